@@ -1,3 +1,4 @@
 pub mod Adding
 pub mod Asking
+pub mod Loading
 pub mod Numbers

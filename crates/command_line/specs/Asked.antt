@@ -13,6 +13,10 @@ use Rattle.command_line.specs.declared.arguments.Options.{Options}
 use Rattle.command_line.specs.declared.arguments.Testing.{Testing}
 use Rattle.command_line.specs.declared.threads.Threading.{Threading}
 use Rattle.host_core.specs.declared.config.Config.{Config}
+use Rattle.workload.specs.Loads.{FitsLoad}
+use Rattle.workload.specs.Patterns.{pattern_named}
+use Rattle.workload.specs.declared.Load.{Load}
+use Rattle.workload.specs.declared.Pattern.{Pattern}
 
 -- The options of a command, by what was found for each: a row of the words' values, or of the usual value
 
@@ -92,6 +96,9 @@ has_jobs rows = has_flag (codes "jobs") rows
 abbrev pub amount_under : Text → List Row → Option ℕ
 amount_under name rows = option_and_then number (one_of name rows)
 
+abbrev pub log_limit_in : List Row → Option ℕ
+log_limit_in rows = amount_under (codes "log-limit") rows
+
 abbrev pub threading_in : List Row → Threading
 threading_in rows = record {
   submitters = submitters_in rows;
@@ -111,12 +118,70 @@ is_limit (Some entries) = nat_le 1 entries
 abbrev pub is_threading : Threading → Bool
 is_threading what = is_within 1 16 what.submitters && (is_within 1 256 what.depth && is_limit what.log_limit)
 
+-- What is loaded
+
+-- what a load is made of, beside its world
+pub record Loaded : Type 0 where
+  pub pattern : Pattern
+  pub command_blocks : ℕ
+  pub submitters : ℕ
+  pub depth : ℕ
+  pub log_limit : Option ℕ
+  pub seed : ℕ
+  pub count : Option ℕ
+  pub runtime : Option ℕ
+  pub verify : Bool
+  pub quiet : Bool
+  pub stats : Option Text
+
+-- commands in all: 10,000 where there is neither a number nor a time
+abbrev pub count_of : Option ℕ → Option ℕ → Option ℕ
+count_of None None = Some 10000
+count_of None (Some seconds) = None
+count_of (Some count) runtime = Some count
+
+abbrev pub count_in : List Row → Option ℕ
+count_in rows = count_of (amount_under (codes "count") rows) (amount_under (codes "runtime") rows)
+
+-- the pattern that is named
+abbrev pub pattern_in : List Row → Option Pattern
+pattern_in rows = option_and_then pattern_named (first_of (codes "rw") rows)
+
+-- blocks, submitters, depth and log lie in their ranges
+abbrev pub are_load_numbers : ℕ → ℕ → ℕ → Option ℕ → Bool
+are_load_numbers blocks submitters depth limit = is_within 1 256 blocks && (is_within 1 16 submitters && (is_within 1 256 depth && is_limit limit))
+
+abbrev pub blocks_in : List Row → ℕ
+blocks_in rows = number_under (codes "bs") 1 rows
+
+abbrev pub numjobs_in : List Row → ℕ
+numjobs_in rows = number_under (codes "numjobs") 1 rows
+
+abbrev pub depth_in : List Row → ℕ
+depth_in rows = number_under (codes "iodepth") 1 rows
+
+abbrev pub loaded_in : List Row → Pattern → Loaded
+loaded_in rows pattern = record {
+  pattern = pattern;
+  command_blocks = blocks_in rows;
+  submitters = numjobs_in rows;
+  depth = depth_in rows;
+  log_limit = log_limit_in rows;
+  seed = number_under (codes "seed") 1 rows;
+  count = count_in rows;
+  runtime = amount_under (codes "runtime") rows;
+  verify = has_flag (codes "verify") rows;
+  quiet = has_flag (codes "quiet") rows;
+  stats = first_of (codes "stats") rows;
+}
+
 -- What is asked for
 
 pub data Asked : Type 0 where
   steps : Given → Asked
   traced : Given → Asked
   threads : Given → Threading → Asked
+  load : Given → Loaded → Asked
   check : Option Text → Asked
   check_jobs : Option Text → ℕ → Asked
   test : Tested → Asked
@@ -155,11 +220,18 @@ abbrev pub check_by : List Row → Option Asked
 check_by rows =
     if has_jobs rows then if_submitters (submitters_in rows) (λ n. check_jobs (script_in rows) n) else Some (check (script_in rows))
 
+-- what `load` with these rows asks for
+abbrev pub load_by : List Row → Option Asked
+load_by rows =
+    if are_load_numbers (blocks_in rows) (numjobs_in rows) (depth_in rows) (log_limit_in rows) then option_map (λ pattern. load (given_in rows) (loaded_in rows pattern)) (pattern_in rows)
+    else None
+
 -- what a named command with these rows asks for
 abbrev pub asked_of_name : Text → List Row → Option Asked
 asked_of_name name rows =
     if bytes_eq name (codes "steps") then Some (steps_by rows)
     else if bytes_eq name (codes "threads") then threads_by rows
+    else if bytes_eq name (codes "load") then load_by rows
     else if bytes_eq name (codes "check") then check_by rows
     else if bytes_eq name (codes "test") then Some (test (tested_in rows))
     else if bytes_eq name (codes "shell") then Some (shell (given_in rows) (has_trace rows))
@@ -192,10 +264,26 @@ given_of options = record { config = options.config; blocks = options.blocks; im
 abbrev pub tested_of : Testing → Tested
 tested_of testing = record { sizes = testing.config; zeros = testing.blocks; updates = testing.updates; files = map (λ f. f.now) testing.files.items }
 
+abbrev pub loaded_of : Load → Loaded
+loaded_of what = record {
+  pattern = what.pattern;
+  command_blocks = what.command_blocks;
+  submitters = what.submitters;
+  depth = what.depth;
+  log_limit = what.log_limit;
+  seed = what.seed;
+  count = what.count;
+  runtime = what.runtime;
+  verify = what.verify;
+  quiet = what.quiet;
+  stats = path_of what.stats;
+}
+
 abbrev pub asked_of : CommandLine → Asked
 asked_of (line.Steps options) = steps (given_of options)
 asked_of (line.Traced options) = traced (given_of options)
 asked_of (line.Threads options what) = threads (given_of options) what
+asked_of (line.Load options what) = load (given_of options) (loaded_of what)
 asked_of (line.Check script) = check (path_of script)
 asked_of (line.CheckJobs script submitters) = check_jobs (path_of script) submitters
 asked_of (line.Test testing) = test (tested_of testing)
@@ -212,11 +300,12 @@ pub record FitsThreading (what : Threading) : Type 0 where
   pub at_least_one : 1 ≤ what.depth
   pub at_most : what.depth ≤ 256
 
--- a command line has as many submitters as there may be, and a depth in its range
+-- a command line has as many submitters as there may be, a depth in its range, and a load that lies in its ranges
 abbrev pub FitsLine : CommandLine → Type 0
 FitsLine (line.Steps options) = ⊤
 FitsLine (line.Traced options) = ⊤
 FitsLine (line.Threads options what) = FitsThreading what
+FitsLine (line.Load options what) = FitsLoad what
 FitsLine (line.Check script) = ⊤
 FitsLine (line.CheckJobs script submitters) = (1 ≤ submitters) × (submitters ≤ 16)
 FitsLine (line.Test testing) = ⊤

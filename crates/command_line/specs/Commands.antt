@@ -66,6 +66,38 @@ with_threading command = with_rule
 abbrev pub threads : App
 threads = with_options (with_threading (new_app (codes "threads")))
 
+-- an option with a value, with its usual value as a text
+abbrev pub text_rule : Text → Text → Rule
+text_rule name usual = record (option_rule name) { defaults = usual ∷ [] }
+
+-- what is loaded, in the order of the help text
+abbrev pub with_amounts : App → App
+with_amounts command = with_rule
+    (with_rule
+    (with_rule
+    (with_rule
+    (with_rule command (text_rule (codes "rw") (codes "read")))
+    (number_rule (codes "bs") (codes "1")))
+    (optional_number_rule (codes "count")))
+    (optional_number_rule (codes "runtime")))
+    (number_rule (codes "numjobs") (codes "1"))
+
+abbrev pub with_checks : App → App
+with_checks command = with_rule
+    (with_rule
+    (with_rule
+    (with_rule
+    (with_rule
+    (with_rule command (number_rule (codes "iodepth") (codes "1")))
+    (optional_number_rule (codes "log-limit")))
+    (number_rule (codes "seed") (codes "1")))
+    (flag_rule (codes "verify")))
+    (option_rule (codes "stats")))
+    (flag_rule (codes "quiet"))
+
+abbrev pub load : App
+load = with_rule (with_sizes (with_checks (with_amounts (new_app (codes "load"))))) (option_rule (codes "image"))
+
 abbrev pub check : App
 check = with_rule
     (with_rule
@@ -97,11 +129,15 @@ grammar = new_app (codes "grammar")
 abbrev pub named : App
 named = record { top = record (new_app (codes "nvmesgl")).top { subcommand_required = true; has_version = true }; subs = [] }
 
+-- with the commands that play a script or a load
+abbrev pub running : App
+running = with_subcommand (with_subcommand (with_subcommand named steps.top) threads.top) load.top
+
 abbrev pub nvmesgl : App
 nvmesgl = with_subcommand
     (with_subcommand
     (with_subcommand
-    (with_subcommand (with_subcommand (with_subcommand (with_subcommand (with_subcommand (with_subcommand named steps.top) threads.top) check.top) test.top) shell.top) draw.top)
+    (with_subcommand (with_subcommand (with_subcommand (with_subcommand running check.top) test.top) shell.top) draw.top)
     explain.top)
     show.top)
     grammar.top

@@ -2,12 +2,13 @@
 
 ghost use Rattle.std.specs.Prelude.{◌≡◌, ◌≤◌, ◌⊎◌, Some, None, IfOk, IfErr, IfSome, IsNone, map, codes, false, true, length};
 ghost use Rattle.clap.specs.Words.{found_of, kind_of, rows_of};
-ghost use Rattle.command_line.specs.Asked.{asked, asked_of, asked_of_name, check_by, given_in, given_of, FitsLine, all_under, are_submitters, has_flag, has_jobs, has_trace, if_submitters, path_of, script_in, steps_by, submitters_in, tested_in, tested_of, threads};
+ghost use Rattle.command_line.specs.Asked.{asked, asked_of, asked_of_name, check_by, given_in, given_of, FitsLine, all_under, amount_under, are_submitters, has_flag, has_jobs, has_trace, if_submitters, path_of, script_in, steps_by, submitters_in, tested_in, tested_of, threads};
 ghost use Rattle.clap.specs.declared.error.kind.ErrorKind.TheVariants.{OutOfMemory};
 
 use crate::commands::{
     BLOCKS, ENTRIES, Number, PAGES, QUEUES, SEGMENT, SUBMITTERS, check_command, command,
 };
+use crate::load::load_line;
 use crate::threads::{Threading, threads_line};
 use clap::error::ErrorKind;
 use clap::{ArgMatches, Command, Error};
@@ -16,6 +17,7 @@ use std::alloc::{AllocError, AllocGlobal, Global};
 use std::convert::AsStr;
 use std::env::Env;
 use std::io;
+use workload::Load;
 
 /// What is said of a word that is not text.
 const NOT_TEXT: &str = "invalid UTF-8 was detected in one or more arguments";
@@ -23,7 +25,7 @@ const NOT_TEXT: &str = "invalid UTF-8 was detected in one or more arguments";
 /// What is said where no command is named.
 const NO_COMMAND: &str = "a command is wanted";
 
-/// The options that `steps`, `threads`, `shell` and `draw` have.
+/// The options that `steps`, `threads`, `load`, `shell` and `draw` have.
 #[derive(Clone, Copy, Debug, PartialEq, Eq)]
 pub struct Options<'a> {
     /// What the world is opened with.
@@ -60,6 +62,8 @@ pub enum CommandLine<'a> {
     Traced(Options<'a>),
     /// To run the jobs of submitters in threads.
     Threads(Options<'a>, Threading),
+    /// To make jobs, and to run them in threads.
+    Load(Options<'a>, Load<'a>),
     /// To tell the faults of a script of steps, by its path as in [`Options`].
     Check(Option<&'a str>),
     /// To tell the faults of a script of jobs, by its path, for so many submitters, 1 to 16.
@@ -106,13 +110,20 @@ fn script<'a>(given: &ArgMatches<'a>) -> Option<&'a str>
 }
 
 /// Whether an option without a value was given.
-fn flag(given: &ArgMatches<'_>, name: &str) -> bool
+pub(crate) fn flag(given: &ArgMatches<'_>, name: &str) -> bool
     ensures { result ≡ has_flag name.now (rows_of (found_of given.now)) }
 {
     match given.get_str(name) {
         Some(text) => text == "true",
         None => false,
     }
+}
+
+/// A number that may be left out.
+pub(crate) fn amount(given: &ArgMatches<'_>, name: &str) -> Option<u32>
+    ensures { result ≡ amount_under name.now (rows_of (found_of given.now)) }
+{
+    given.get_one::<u32>(name)
 }
 
 /// The words that were given under a name.
@@ -226,6 +237,9 @@ fn line_of<'a>(alloc: Global, name: &str, given: &ArgMatches<'a>) -> Result<Comm
     if name == "threads" {
         return threads_line(alloc, given);
     }
+    if name == "load" {
+        return load_line(alloc, given);
+    }
     if name == "check" {
         return check_line(alloc, given);
     }
@@ -256,7 +270,7 @@ impl<'a> CommandLine<'a> {
     /// # Errors
     ///
     /// `OutOfMemory` where memory is refused, and else only where the words ask for no command: where help or the version is
-    /// asked for (`DisplayHelp`, `DisplayVersion`), or by the first fault that is found, the number of submitters last.
+    /// asked for (`DisplayHelp`, `DisplayVersion`), or by the first fault that is found; numbers outside of their ranges and names of patterns last.
     pub fn parse<S: AsStr>(alloc: Global, words: &'a [S]) -> Result<CommandLine<'a>, Error>
         ensures asked { IfOk result (λ line. asked (map S.text words.now) ≡ Some (asked_of line)) }
         ensures fits { IfOk result FitsLine }

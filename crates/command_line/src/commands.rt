@@ -3,7 +3,7 @@
 ghost use Rattle.std.specs.Prelude.{◌≡◌, IfOk, false, codes};
 ghost use Rattle.clap.specs.Words.{app_of, found_of, rows_of, rule_of};
 ghost use Rattle.clap.specs.declared.builder.command.Command.TheViews.{out-Command};
-ghost use Rattle.command_line.specs.Commands.{check, draw, explain, flag_rule, grammar, number_rule, named, nvmesgl, option_rule, optional_number_rule, shell, show, steps, test, threads, with_options, with_sizes, with_threading, word_rule, words_rule};
+ghost use Rattle.command_line.specs.Commands.{check, draw, explain, flag_rule, grammar, number_rule, named, nvmesgl, option_rule, optional_number_rule, running, shell, show, steps, test, threads, with_options, with_sizes, with_threading, word_rule, words_rule};
 ghost use Rattle.command_line.specs.Asked.{number_under};
 
 use crate::help::{
@@ -11,6 +11,7 @@ use crate::help::{
     SHELL_ABOUT, SHELL_AFTER, SHOW_ABOUT, SHOW_AFTER, STEPS_ABOUT, STEPS_AFTER, TEST_ABOUT,
     TEST_AFTER, THREADS_ABOUT, THREADS_AFTER,
 };
+use crate::load_options::load_command;
 use clap::{Arg, ArgAction, ArgMatches, Command, value_parser};
 use std::alloc::{AllocError, Global};
 
@@ -20,12 +21,12 @@ pub const VERSION: &str = "0.1.0";
 /// An option that is a number.
 #[derive(Clone, Copy)]
 pub(crate) struct Number {
-    name: &'static str,
-    usual: u32,
-    shown: &'static str,
+    pub(crate) name: &'static str,
+    pub(crate) usual: u32,
+    pub(crate) shown: &'static str,
     /// The least and the most that it may be.
     pub(crate) range: (u32, u32),
-    help: &'static str,
+    pub(crate) help: &'static str,
 }
 
 pub(crate) const PAGES: Number = Number {
@@ -95,7 +96,7 @@ pub(crate) const LOG_LIMIT: Number = Number {
 
 impl Number {
     /// The option, as the command line has it.
-    fn arg<'a>(&self, alloc: Global) -> Arg<'a>
+    pub(crate) fn arg<'a>(&self, alloc: Global) -> Arg<'a>
         ensures rule { rule_of result ≡ number_rule self.now.name.now self.now.shown.now }
         ensures local { result.global ≡ false }
     {
@@ -104,6 +105,18 @@ impl Number {
             .value_name("N")
             .value_parser(value_parser!(u32))
             .default_value(self.shown)
+            .help(self.help)
+    }
+
+    /// The option where it has no usual value.
+    pub(crate) fn optional_arg<'a>(&self, alloc: Global) -> Arg<'a>
+        ensures rule { rule_of result ≡ optional_number_rule self.now.name.now }
+        ensures local { result.global ≡ false }
+    {
+        Arg::new(alloc, self.name)
+            .long(self.name)
+            .value_name("N")
+            .value_parser(value_parser!(u32))
             .help(self.help)
     }
 
@@ -121,7 +134,7 @@ impl Number {
 }
 
 /// The option that names the file of an image.
-fn image_arg<'a>(alloc: Global) -> Arg<'a>
+pub(crate) fn image_arg<'a>(alloc: Global) -> Arg<'a>
     ensures rule { rule_of result ≡ option_rule (codes "image") }
     ensures local { result.global ≡ false }
 {
@@ -221,7 +234,7 @@ fn update_arg<'a>(alloc: Global) -> Arg<'a>
 }
 
 /// A command with the numbers that a world is opened with.
-fn with_sizes<'a>(alloc: Global, command: Command<'a>) -> Result<Command<'a>, AllocError>
+pub(crate) fn with_sizes<'a>(alloc: Global, command: Command<'a>) -> Result<Command<'a>, AllocError>
     ensures shape { IfOk result (λ whole. app_of whole ≡ with_sizes (app_of command.entry)) }
     ensures local { IfOk result (λ whole. (out-Command whole).has_globals ≡ (out-Command command.entry).has_globals) }
 {
@@ -257,18 +270,6 @@ fn steps_command<'a>(alloc: Global) -> Result<Command<'a>, AllocError>
     with_options(alloc, command)
 }
 
-/// The option that limits a log.
-fn log_limit_arg<'a>(alloc: Global) -> Arg<'a>
-    ensures rule { rule_of result ≡ optional_number_rule (codes "log-limit") }
-    ensures local { result.global ≡ false }
-{
-    Arg::new(alloc, "log-limit")
-        .long("log-limit")
-        .value_name("N")
-        .value_parser(value_parser!(u32))
-        .help(LOG_LIMIT.help)
-}
-
 /// A command with how jobs are run.
 fn with_threading<'a>(alloc: Global, command: Command<'a>) -> Result<Command<'a>, AllocError>
     ensures shape { IfOk result (λ whole. app_of whole ≡ with_threading (app_of command.entry)) }
@@ -277,7 +278,7 @@ fn with_threading<'a>(alloc: Global, command: Command<'a>) -> Result<Command<'a>
     command
         .arg(SUBMITTERS.arg(alloc))?
         .arg(DEPTH.arg(alloc))?
-        .arg(log_limit_arg(alloc))
+        .arg(LOG_LIMIT.optional_arg(alloc))
 }
 
 /// The command that runs jobs in threads.
@@ -395,21 +396,30 @@ fn program<'a>(alloc: Global) -> Result<Command<'a>, AllocError>
     )
 }
 
+/// The program with the commands that play a script or a load.
+fn running<'a>(alloc: Global) -> Result<Command<'a>, AllocError>
+    ensures { IfOk result (λ command. app_of command ≡ running) }
+{
+    let steps = steps_command(alloc)?;
+    let threads = threads_command(alloc)?;
+    let load = load_command(alloc)?;
+    program(alloc)?
+        .subcommand(steps)?
+        .subcommand(threads)?
+        .subcommand(load)
+}
+
 /// The commands and their options.
 pub(crate) fn command<'a>(alloc: Global) -> Result<Command<'a>, AllocError>
     ensures { IfOk result (λ command. app_of command ≡ nvmesgl) }
 {
-    let steps = steps_command(alloc)?;
-    let threads = threads_command(alloc)?;
     let check = check_command(alloc)?;
     let test = test_command(alloc)?;
     let shell = shell_command(alloc)?;
     let draw = draw_command(alloc)?;
     let explain = explain_command(alloc)?;
     let show = show_command(alloc)?;
-    program(alloc)?
-        .subcommand(steps)?
-        .subcommand(threads)?
+    running(alloc)?
         .subcommand(check)?
         .subcommand(test)?
         .subcommand(shell)?

@@ -6,11 +6,12 @@ pub const ABOUT: &str =
 
 It drives no real device. `nvmesgl steps` plays a script over a fresh pool of pages and
 prints what each step answered. `nvmesgl threads` lets several threads do the jobs of a
-script over one pool, and prints how each job ended. `nvmesgl shell` answers one step after
-the other, and `nvmesgl draw` makes a page with a picture of each. `nvmesgl check` tells all
-faults of a script, `nvmesgl test` whether scripts still answer what stands below their steps,
-and `nvmesgl grammar` what a script may say. `nvmesgl explain` tells what the controller makes
-of an entry and its list, and `nvmesgl show` decodes single ones.";
+script over one pool, and prints how each job ended; `nvmesgl load` makes jobs itself and
+measures. `nvmesgl shell` answers one step after the other, and `nvmesgl draw` makes a page
+with a picture of each. `nvmesgl check` tells all faults of a script, `nvmesgl test` whether
+scripts still answer what stands below their steps, and `nvmesgl grammar` what a script may
+say. `nvmesgl explain` tells what the controller makes of an entry and its list, and
+`nvmesgl show` decodes single ones.";
 
 /// What `nvmesgl --help` says last.
 pub const AFTER: &str = "One block, read:
@@ -69,10 +70,11 @@ pub const THREADS_ABOUT: &str = "Runs the jobs of a script, and prints how each 
 
 Each submitter does its jobs in a thread of its own, one after the other in the order of their
 lines; all share one pool. With --depth it has several of them in flight, and takes their ends in
-that order. With --log-limit the jobs are done in rounds, of each submitter one job at least, and
-what is kept of a round to check it by is dropped at its end; what is printed is the same. The script
-is read and checked whole before its first job. A refused job is an answer too: the run goes on,
-and its exit status is 0.";
+that order; those that are in flight together have no order, so a Read may bring what stood there
+before a Write that stands above it. With --log-limit the jobs are done in rounds, of each submitter
+one job at least, and what is kept of a round to check it by is dropped at its end; what is printed is
+the same. The script is read and checked whole before its first job. A refused job is an answer too:
+the run goes on, and its exit status is 0.";
 
 /// What `nvmesgl threads --help` says last.
 pub const THREADS_AFTER: &str = "A script has one job on each line; `#` begins a comment.
@@ -97,6 +99,36 @@ prints
 
 Exit status: 0 done, 1 the script is at fault, 2 the arguments, the image or the opening,
 3 memory, a thread or the output. docs/SCRIPT.md in the repository has all of this in full.";
+
+/// What `nvmesgl load --help` says first.
+pub const LOAD_ABOUT: &str =
+    "Makes commands and lets submitters do them in threads, as many as are asked for.
+
+Each submitter has a part of the blocks, cut into slots of --bs blocks; a command reads or writes
+one slot. `read` and `write` go through the slots in turn, the others pick slots at random, and
+`randrw` reads and writes, each half of the time. What is written is made of the seed, the block
+and how often it was written. A refused command, or one whose status is not 0:00, is counted and
+the run goes on.
+
+The commands are made and done in rounds, and of a round nothing is kept but counts. What is kept to
+check a round by is dropped at its end: --log-limit says how many entries of it there may be.";
+
+/// What `nvmesgl load --help` says last.
+pub const LOAD_AFTER: &str =
+    "With --verify each read is compared with what was written there last, or else with the image, and
+each slot that was written is read once more at the end. One line says how it went:
+  load randrw done 10000 refused 0 failed 0 verified 5012 differ 0
+Without --runtime it is the same for the same words. `done` are commands with status 0:00, and
+`verified` reads that brought what stands there. The reads at the end are none of those `done`.
+
+Times go to standard error: commands and MiB a second, and the latencies, from the submission of a
+command until its pages are free again. --stats writes them as JSON, with the words of fio.
+
+Example:
+  nvmesgl load --rw randrw --bs 8 --count 100000 --numjobs 4 --iodepth 8 --verify --pages 256 --entries 16 --blocks 4096
+
+Exit status: 0 done, 2 the arguments, the image or the opening, 3 memory, a thread, the output or
+the file of the statistics, 4 commands were refused or failed, or bytes differ.";
 
 /// What `nvmesgl check --help` says first.
 pub const CHECK_ABOUT: &str =

@@ -8,6 +8,8 @@
 mod arguments;
 mod commands;
 mod help;
+mod load;
+mod load_options;
 mod ranges;
 mod threads;
 pub mod worked;

@@ -3,9 +3,9 @@
 ghost use Rattle.std.specs.Prelude.{◌≡◌, ◌⊎◌, Some, None, IfOk, IfErr, IsNone, IsSome, true, false};
 ghost use Rattle.clap.specs.Words.{found_of, kind_of, rows_of};
 ghost use Rattle.clap.specs.declared.error.kind.ErrorKind.TheVariants.{OutOfMemory};
-ghost use Rattle.command_line.specs.Asked.{amount_under, asked_of, FitsLine, is_threading, threads_by};
+ghost use Rattle.command_line.specs.Asked.{asked_of, FitsLine, is_threading, threads_by};
 
-use crate::arguments::{CommandLine, Options, out_of_range};
+use crate::arguments::{CommandLine, Options, amount, out_of_range};
 use crate::commands::{DEPTH, LOG_LIMIT, Number, SUBMITTERS, threads_command};
 use clap::{ArgMatches, Error};
 use std::alloc::Global;
@@ -36,13 +36,6 @@ fn first_unfit(submitters: u32, depth: u32, log_limit: Option<u32>) -> Option<(N
         Some(0) => Some((LOG_LIMIT, 0)),
         _ => None,
     }
-}
-
-/// A number that may be left out.
-fn amount(given: &ArgMatches<'_>, name: &str) -> Option<u32>
-    ensures { result ≡ amount_under name.now (rows_of (found_of given.now)) }
-{
-    given.get_one::<u32>(name)
 }
 
 /// What `threads` with these words asks for.

@@ -1,13 +1,16 @@
 -- What is known where the words of a command line are at fault.
-use Rattle.std.proofs.Common.{◌≡◌, ◌⊎◌, Option, Some, None, List, ℕ, refl, sym, subst, inl, inr}
+use Rattle.std.proofs.Common.{◌≡◌, ◌⊎◌, Option, Some, None, List, [], ℕ, refl, sym, subst, inl, inr}
 use Rattle.std.specs.Prelude.{IfErr, Result, Ok, Err, replicate, ◌*◌}
 use Rattle.clap.specs.Words.{kind_of}
 use Rattle.clap.specs.declared.error.Error.{Error}
 use Rattle.clap.specs.declared.error.kind.ErrorKind.TheVariants.{OutOfMemory}
-use Rattle.command_line.specs.Asked.{Asked, check, check_jobs, draw, explain, grammar, shell, show, steps, test, threads, traced}
+use Rattle.command_line.specs.Asked.{Asked, check, check_jobs, draw, explain, grammar, load, shell, show, steps, test, threads, traced}
+use Rattle.load.specs.Lines.{line_text}
+use Rattle.load.specs.Tallies.{no_tally}
 use Rattle.program.specs.Performing.{FailsWith}
 use Rattle.program.specs.declared.fault.Fault.{Fault}
 use Rattle.program.specs.declared.fault.Fault.TheVariants as fault
+use Rattle.script_cli.proofs.Inputs.{appends_none}
 use Rattle.script_cli.specs.declared.fault.RunFault.TheVariants as run
 use Rattle.std.specs.Io.KnownBytes.{Keeps}
 
@@ -19,6 +22,7 @@ kept (Some bytes) = refl
 wanting : (told : Option (List ℕ)) (what : Asked) (bytes : Option (List ℕ)) → FailsWith told (Some what) bytes bytes (fault.Run run.Memory)
 wanting told (steps given) bytes = (replicate (512 * given.blocks) 0, λ none. refl, inl (kept bytes))
 wanting told (threads given what) bytes = (replicate (512 * given.blocks) 0, λ none. refl, inl (kept bytes))
+wanting told (load given what) bytes = ([], (no_tally, (line_text what.pattern no_tally, refl)), appends_none bytes)
 wanting told (check path) bytes = (tt, kept bytes)
 wanting told (check_jobs path submitters) bytes = (tt, kept bytes)
 wanting told (test tested) bytes = tt

@@ -118,6 +118,15 @@ script_fails_jobs : (told : Option (List ℕ)) (given : Given) (what : Threading
 script_fails_jobs told given what image a why f same first unread =
     subst (λ (g : Fault). FailsWith told (Some (threads given what)) a a g) (sym same) (image, first, unread_ends_jobs _ what.submitters given.config image a why unread)
 
+unread_ends : (told : Option (List ℕ)) (config : Config) (image : List ℕ) (a : Option (List ℕ)) (why : RunFault) → (why ≡ run.Unreadable) ⊎ (why ≡ run.Memory) → EndsWith told config image a a why
+unread_ends told config image a why (inl unreadable) = subst (λ (f : RunFault). EndsWith told config image a a f) (sym unreadable) (kept a)
+unread_ends told config image a why (inr memory) = subst (λ (f : RunFault). EndsWith told config image a a f) (sym memory) (inl (kept a))
+
+script_fails : (told : Option (List ℕ)) (given : Given) (image : List ℕ) (a : Option (List ℕ)) (why : RunFault) (f : Fault)
+    → f ≡ fault.Run why → IsFirstImage given image → (why ≡ run.Unreadable) ⊎ (why ≡ run.Memory) → FailsWith told (Some (steps given)) a a f
+script_fails told given image a why f same first unread =
+    subst (λ (g : Fault). FailsWith told (Some (steps given)) a a g) (sym same) (image, first, unread_ends _ given.config image a why unread)
+
 -- Faults that `?` makes of those of a run
 
 pub run_fault_told : {T U : Type 0} (r : Result T U) (fault_of : U → Fault) (why : RunFault) (Holds : RunFault → Type 0)
@@ -130,6 +139,11 @@ pub script_failed_jobs : {T U : Type 0} (r : Result T U) (fault_of : U → Fault
     → IfErr r (λ x. FailsWith told (Some (threads given what)) a a (fault_of x))
 script_failed_jobs (Ok x) fault_of told given what image a why same first unread = tt
 script_failed_jobs (Err x) fault_of told given what image a why same first unread = script_fails_jobs told given what image a why (fault_of x) same first unread
+
+pub script_failed : {T U : Type 0} (r : Result T U) (fault_of : U → Fault) (told : Option (List ℕ)) (given : Given) (image : List ℕ) (a : Option (List ℕ)) (why : RunFault)
+    → IsErrAnd r (λ x. fault_of x ≡ fault.Run why) → IsFirstImage given image → (why ≡ run.Unreadable) ⊎ (why ≡ run.Memory) → IfErr r (λ x. FailsWith told (Some (steps given)) a a (fault_of x))
+script_failed (Ok x) fault_of told given image a why same first unread = tt
+script_failed (Err x) fault_of told given image a why same first unread = script_fails told given image a why (fault_of x) same first unread
 
 -- Images that were not saved
 

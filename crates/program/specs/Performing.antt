@@ -1,14 +1,21 @@
 -- What the program does with what words ask for, a script and a writer.
-use Rattle.std.specs.Prelude.{◌≡◌, ◌⊎◌, ◌<◌, ◌*◌, ℕ, List, Option, Some, None, replicate, codes, IsSome, if◌then◌else◌}
-use Rattle.std.specs.Io.KnownBytes.{Keeps}
+use Rattle.std.specs.Prelude.{◌≡◌, ◌⊎◌, ◌<◌, ◌*◌, ℕ, Bool, true, false, List, Option, Some, None, replicate, codes, IsSome, if◌then◌else◌}
+use Rattle.std.specs.Io.KnownBytes.{Appends, Keeps}
 use Rattle.std.specs.Str.{bytes_eq}
 use Rattle.block_image.specs.Blocks.{most_blocks}
 use Rattle.clap.specs.Words.{Text}
-use Rattle.command_line.specs.Asked.{Asked, Given, check, check_jobs, draw, explain, grammar, shell, show, steps, test, threads, traced}
+use Rattle.command_line.specs.Asked.{Asked, Given, check, check_jobs, draw, explain, grammar, load, shell, show, steps, test, threads, traced}
+use Rattle.workload.specs.declared.Pattern.{Pattern}
 use Rattle.job_cli.specs.JobRuns.{EndsJobsWith, HasJobs, IsJobsText, IsNoJobs, WritesJobs}
 use Rattle.job_cli.specs.declared.jobs.JobLine.{JobLine}
+use Rattle.load.specs.Lines.{IsLineFront, line_text}
+use Rattle.load.specs.Tallies.{is_good}
+use Rattle.load.specs.declared.fault.LoadFault.{LoadFault}
+use Rattle.load.specs.declared.fault.LoadFault.TheVariants as load_fault
+use Rattle.load.specs.declared.tally.Tally.{Tally}
 use Rattle.program.specs.declared.fault.Fault.{Fault}
 use Rattle.program.specs.declared.fault.Fault.TheVariants as fault
+use Rattle.script_cli.specs.Inputs.{Gains}
 use Rattle.script_cli.specs.Runs.{EndsWith, HasScript, IsNoScript, IsRunText, Writes}
 use Rattle.script_cli.specs.declared.fault.RunFault.{RunFault}
 use Rattle.script_cli.specs.declared.fault.RunFault.TheVariants as run
@@ -30,6 +37,16 @@ abbrev pub script_told : Option Text → Option (List ℕ) → Option (List ℕ)
 script_told None told = told
 script_told (Some path) told = if bytes_eq path (codes "-") then told else None
 
+-- the line of a load is written, in which no command was refused or failed and none brought other bytes, or else some
+abbrev pub WritesLine : Pattern → Bool → Option (List ℕ) → Option (List ℕ) → Type 0
+WritesLine pattern good before after = (tally : Tally) × (is_good tally ≡ good) × Appends before after (line_text pattern tally)
+
+-- the fault of a load that did not run to its end: a fault of its opening, of memory and of the output is that of any run
+abbrev pub fault_of_load : LoadFault → Fault
+fault_of_load (load_fault.Run why) = fault.Run why
+fault_of_load (load_fault.TooFewBlocks need blocks) = fault.Load (load_fault.TooFewBlocks need blocks)
+fault_of_load (load_fault.Round why) = fault.Load (load_fault.Round why)
+
 -- What is written where all goes well: the text of a run of the script, over the configuration and the image that are given; nothing where help is asked for, and
 -- nothing of a script that is checked and has no fault. Of what `test`, `shell`, `draw`, `explain`, `show` and `steps --trace` write and of the text of the grammar nothing is said.
 abbrev pub Performs : Option (List ℕ) → Option Asked → Option (List ℕ) → Option (List ℕ) → Type 0
@@ -38,6 +55,7 @@ Performs told (Some (steps given)) before after =
     (image : List ℕ) × IsFirstImage given image × Writes (script_told given.script told) given.config image before after IsRunText
 Performs told (Some (threads given what)) before after =
     (image : List ℕ) × IsFirstImage given image × WritesJobs (script_told given.script told) what.submitters given.config image before after IsJobsText
+Performs told (Some (load given what)) before after = WritesLine what.pattern true before after
 Performs told (Some (check path)) before after = ((script : List Numbered) × HasScript (script_told path told) script) × Keeps before after
 Performs told (Some (check_jobs path submitters)) before after = ((lines : List JobLine) × HasJobs (script_told path told) submitters lines) × Keeps before after
 Performs told (Some (test tested)) before after = Unit {0}
@@ -61,6 +79,9 @@ IsRunFault fault.PipeClosed Holds = ⊥
 IsRunFault fault.NotSaved Holds = ⊥
 IsRunFault (fault.Transcripts tally) Holds = ⊥
 IsRunFault (fault.Bytes why) Holds = ⊥
+IsRunFault (fault.Load why) Holds = ⊥
+IsRunFault (fault.Loaded tally) Holds = ⊥
+IsRunFault fault.NoStats Holds = ⊥
 
 -- why transcripts were not all good, or not all tested
 abbrev pub IsTestFault : Fault → Type 0
@@ -71,6 +92,9 @@ IsTestFault fault.PipeClosed = ⊥
 IsTestFault fault.NotSaved = ⊥
 IsTestFault (fault.Transcripts tally) = Unit {0}
 IsTestFault (fault.Bytes why) = ⊥
+IsTestFault (fault.Load why) = ⊥
+IsTestFault (fault.Loaded tally) = ⊥
+IsTestFault fault.NoStats = ⊥
 
 -- why bytes were not accepted, or not decoded
 abbrev pub IsBytesFault : Fault → Type 0
@@ -81,12 +105,26 @@ IsBytesFault fault.PipeClosed = ⊥
 IsBytesFault fault.NotSaved = ⊥
 IsBytesFault (fault.Transcripts tally) = ⊥
 IsBytesFault (fault.Bytes why) = Unit {0}
+IsBytesFault (fault.Load why) = ⊥
+IsBytesFault (fault.Loaded tally) = ⊥
+IsBytesFault fault.NoStats = ⊥
 
 -- What a fault says, and what was then written: where the image was not saved all that goes before went well, and a file was named for it. Only words that ask for no command are at fault themselves
 abbrev pub FailsWith : Option (List ℕ) → Option Asked → Option (List ℕ) → Option (List ℕ) → Fault → Type 0
 FailsWith told None before after why = Keeps before after
 FailsWith told (Some what) before after (fault.Arguments why) = ⊥
 FailsWith told (Some what) before after fault.PipeClosed = ⊥
+FailsWith told (Some (load given what)) before after (fault.Load why) = Gains before after (IsLineFront what.pattern)
+FailsWith told (Some other) before after (fault.Load why) = ⊥
+FailsWith told (Some (load given what)) before after (fault.Loaded tally) = (is_good tally ≡ false) × Appends before after (line_text what.pattern tally)
+FailsWith told (Some other) before after (fault.Loaded tally) = ⊥
+FailsWith told (Some (load given what)) before after fault.NoStats = WritesLine what.pattern true before after × IsSome what.stats
+FailsWith told (Some other) before after fault.NoStats = ⊥
+FailsWith told (Some (load given what)) before after fault.NotSaved = ⊥
+FailsWith told (Some (load given what)) before after (fault.Transcripts tally) = ⊥
+FailsWith told (Some (load given what)) before after (fault.Bytes why) = ⊥
+FailsWith told (Some (load given what)) before after (fault.Image why) = IsNoFirstImage given why × Keeps before after
+FailsWith told (Some (load given what)) before after (fault.Run why) = Gains before after (IsLineFront what.pattern)
 FailsWith told (Some (steps given)) before after fault.NotSaved = Performs told (Some (steps given)) before after × IsSome given.save
 FailsWith told (Some (threads given what)) before after fault.NotSaved = ⊥
 FailsWith told (Some (check path)) before after fault.NotSaved = ⊥

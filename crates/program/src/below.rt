@@ -1,9 +1,9 @@
 //! What stands below the line of a fault.
 
 use command_line::Options;
-use fault_text::{Grammar, explain, line_at};
 use script_cli::{LineFault, MAX_SCRIPT, RunFault};
 use std::alloc::{AllocError, Global};
+use texts::faults::{Grammar, explain, line_at};
 
 /// The lines of a text; none where memory is refused.
 pub(crate) fn lines_or_none(alloc: Global, text: Result<String, AllocError>) -> String {

@@ -5,12 +5,12 @@ ghost use Rattle.program.specs.Checking.{AreJobs, AreNoJobs, AreNoSteps, AreStep
 
 use crate::below::{below_script, lines_or_none};
 use crate::fault::Told;
-use fault_text::{Grammar, explain};
 use job_cli::read_jobs;
 use script_cli::{
     LineFault, MAX_LINES, RunFault, ScriptFault, read_script, script_at_fault, split_line,
 };
 use std::alloc::{AllocError, Global};
+use texts::faults::{Grammar, explain};
 
 /// The most lines that are told.
 const MOST_TOLD: u32 = 20;

@@ -13,13 +13,13 @@ use crate::bytes::{explain_case, show_words};
 use crate::checking::{check_jobs, check_steps};
 use crate::fault::{Fault, Told};
 use crate::inputs::{open_image, script_text};
+use crate::loading::load_image;
 use crate::pipe::Pipe;
 use crate::printing::print_text;
 use crate::saving::save_image;
 use command_line::{CommandLine, Options, Testing, Threading, words};
 use draw::draw_steps;
 use explain::Layout;
-use fault_text::{Grammar, grammar_text};
 use job_cli::{Pace, run_jobs};
 use script_cli::{MAX_SCRIPT, RunFault, play_steps};
 use shell::{run_shell, trace_steps};
@@ -29,17 +29,35 @@ use std::env::Env;
 use std::io;
 use std::io::{Input, Read, Write};
 use std::process::ExitCode;
-use std::rt::Files;
+use std::rt::{Clock, Files};
 use std::sync::Wait;
 use std::thread::Threads;
+use texts::faults::{Grammar, grammar_text};
 use transcripts::test_files;
 
-/// Does what the command line asks for, over standard input and output, and prompts where it is a terminal. A fault is told on standard error.
-pub fn run<R: AllocGlobal + Env + Eprint + Files + Input + Print + Sync + Threads + Wait>(
+/// Which of the standard files are terminals.
+#[derive(Clone, Copy)]
+pub struct Terminals {
+    /// Standard input: the shell prompts.
+    pub input: bool,
+    /// Standard error: a load says how far it is.
+    pub error: bool,
+}
+
+impl Terminals {
+    /// None is.
+    pub const NONE: Terminals = Terminals {
+        input: false,
+        error: false,
+    };
+}
+
+/// Does what the command line asks for, over standard input and output. A fault is told on standard error.
+pub fn run<R: AllocGlobal + Clock + Env + Eprint + Files + Input + Print + Sync + Threads + Wait>(
     rt: &R,
-    is_terminal: bool,
+    terminals: Terminals,
 ) -> ExitCode {
-    match start(rt, is_terminal) {
+    match start(rt, terminals) {
         Ok(()) => ExitCode::SUCCESS,
         Err(told) => {
             // Where standard error is closed, the exit status alone tells.
@@ -50,9 +68,9 @@ pub fn run<R: AllocGlobal + Env + Eprint + Files + Input + Print + Sync + Thread
 }
 
 /// Performs the words of the command line.
-fn start<R: AllocGlobal + Env + Eprint + Files + Input + Print + Sync + Threads + Wait>(
+fn start<R: AllocGlobal + Clock + Env + Eprint + Files + Input + Print + Sync + Threads + Wait>(
     rt: &R,
-    is_terminal: bool,
+    terminals: Terminals,
 ) -> Result<(), Told<Fault>> {
     let words = match words(rt) {
         Ok(words) => words,
@@ -60,7 +78,7 @@ fn start<R: AllocGlobal + Env + Eprint + Files + Input + Print + Sync + Threads 
     };
     let mut reader = rt.reader();
     let mut writer = Pipe::over(io::writer(rt));
-    let end = perform(rt, words.as_slice(), &mut reader, &mut writer, is_terminal);
+    let end = perform(rt, words.as_slice(), &mut reader, &mut writer, terminals);
     match end {
         Err(
             Told {
@@ -76,17 +94,23 @@ fn start<R: AllocGlobal + Env + Eprint + Files + Input + Print + Sync + Threads 
 }
 
 /// Does what words ask for, with the script of a reader where no file has it. What a run prints goes to the writer, a help text to
-/// standard output. On a terminal the shell prompts.
+/// standard output, and the times of a load to standard error.
 ///
 /// # Errors
 ///
 /// The first fault, of the words, the image, the script, the opening and the run, in this order; `Run(Memory)` also where memory is refused before.
 pub fn perform<
-    R: AllocGlobal + Eprint + Files + Print + Sync + Threads + Wait,
+    R: AllocGlobal + Clock + Eprint + Files + Print + Sync + Threads + Wait,
     S: AsStr,
     I: Read,
     W: Write,
->(rt: &R, words: &[S], reader: &mut I, writer: &mut W, is_terminal: bool) -> Result<(), Told<Fault>>
+>(
+    rt: &R,
+    words: &[S],
+    reader: &mut I,
+    writer: &mut W,
+    terminals: Terminals,
+) -> Result<(), Told<Fault>>
     ensures ran { OnOk result (Performs (I.remaining reader.old) (asked (map S.text words.now)) (W.contents writer.old) (W.contents writer.new)) }
     ensures failed { IfErr result (λ told. FailsWith (I.remaining reader.old) (asked (map S.text words.now)) (W.contents writer.old) (W.contents writer.new) told.fault) }
 {
@@ -96,13 +120,16 @@ pub fn perform<
         Ok(CommandLine::Threads(options, threading)) => {
             run_threads(rt, options, threading, reader, writer)
         }
+        Ok(CommandLine::Load(options, load)) => {
+            load_image(rt, options, load, writer, terminals.error)
+        }
         Ok(CommandLine::Check(path)) => look_at_steps(rt, path, reader),
         Ok(CommandLine::CheckJobs(path, submitters)) => {
             look_at_jobs(rt, path, submitters, reader)
         }
         Ok(CommandLine::Test(testing)) => test(rt, &testing, writer),
         Ok(CommandLine::Shell(options, traces)) => {
-            talk(rt, options, traces, reader, writer, is_terminal)
+            talk(rt, options, traces, reader, writer, terminals.input)
         }
         Ok(CommandLine::Draw(options)) => draw_script(rt, options, reader, writer),
         Ok(CommandLine::Explain(path, objects)) => {

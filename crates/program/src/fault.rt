@@ -7,6 +7,7 @@ ghost use Rattle.script_cli.specs.declared.fault.RunFault.TheVariants as run;
 
 use clap::error::ErrorKind;
 use explain::CaseFault;
+use load::LoadFault;
 use script_cli::{ImageFault, RunFault};
 use std::alloc::{AllocGlobal, Global};
 use std::{fmt, io};
@@ -52,6 +53,12 @@ pub enum Fault {
     Transcripts(Tally),
     /// Bytes that were pasted in are refused, or at fault.
     Bytes(BytesFault),
+    /// A load did not run to its end.
+    Load(LoadFault),
+    /// Commands of a load were refused, failed, or brought other bytes. The output told it.
+    Loaded(load::Tally),
+    /// All went well, but what was measured was not written.
+    NoStats,
 }
 
 /// A fault, and the lines that stand below its own on standard error.
@@ -103,9 +110,13 @@ impl Fault {
             Fault::Arguments(_) => 2,
             Fault::Image(fault) => fault.exit_status(),
             Fault::Run(fault) => fault.exit_status(),
-            Fault::PipeClosed | Fault::NotSaved => RunFault::OutputFailed.exit_status(),
+            Fault::PipeClosed | Fault::NotSaved | Fault::NoStats => {
+                RunFault::OutputFailed.exit_status()
+            }
             Fault::Transcripts(tally) => tally.exit_status(),
             Fault::Bytes(fault) => fault.exit_status(),
+            Fault::Load(fault) => fault.exit_status(),
+            Fault::Loaded(_) => 4,
         }
     }
 }
@@ -127,11 +138,16 @@ impl fmt::Display for Told<Fault> {
             Fault::Image(fault) => write!(f, "{fault}\n")?,
             Fault::Run(fault) => write!(f, "{fault}\n")?,
             Fault::NotSaved => f.write_str("image: not saved\n")?,
+            Fault::NoStats => f.write_str("stats: not written\n")?,
+            Fault::Load(fault) => write!(f, "{fault}\n")?,
             Fault::Bytes(BytesFault::Case(fault)) => write!(f, "{fault}\n")?,
             Fault::Bytes(BytesFault::UnknownKind) => {
                 f.write_str("show: the first word is sqe, cqe or sgl\n")?
             }
-            Fault::PipeClosed | Fault::Transcripts(_) | Fault::Bytes(BytesFault::Refused) => {}
+            Fault::PipeClosed
+            | Fault::Transcripts(_)
+            | Fault::Loaded(_)
+            | Fault::Bytes(BytesFault::Refused) => {}
         }
         f.write_str(self.below.as_str())
     }

@@ -10,9 +10,10 @@ mod checking;
 mod commands;
 mod fault;
 mod inputs;
+mod loading;
 mod pipe;
 mod printing;
 mod saving;
 
-pub use commands::{perform, run};
+pub use commands::{Terminals, perform, run};
 pub use fault::{BytesFault, Fault, Told};

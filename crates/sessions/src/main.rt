@@ -14,7 +14,7 @@ use std::alloc::AllocGlobal;
 use std::env::Env;
 use std::io;
 use std::process::ExitCode;
-use std::rt::Files;
+use std::rt::{Clock, Files};
 use std::sync::Wait;
 use std::thread::Threads;
 
@@ -26,7 +26,7 @@ fn main(rt: HostRuntime) -> ExitCode {
 }
 
 /// Plays the files that the words of the command line name.
-fn start<R: AllocGlobal + Env + Eprint + Files + Print + Sync + Threads + Wait>(
+fn start<R: AllocGlobal + Clock + Env + Eprint + Files + Print + Sync + Threads + Wait>(
     rt: &R,
 ) -> io::Result<()> {
     let files: Vec<String> = std::env::args(rt)?.collect(rt.alloc())?;

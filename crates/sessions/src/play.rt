@@ -2,9 +2,9 @@
 
 use crate::command::{Action, Command, Input};
 use crate::terminal::Terminal;
-use program::perform;
+use program::{Terminals, perform};
 use std::alloc::AllocGlobal;
-use std::rt::Files;
+use std::rt::{Clock, Files};
 use std::sync::Wait;
 use std::thread::Threads;
 use std::{fs, io};
@@ -13,7 +13,7 @@ use std::{fs, io};
 const PROMPT: &str = "nvmesgl> ";
 
 /// Prints the lines of a file, and below each command what it prints.
-pub(crate) fn play_file<R: AllocGlobal + Eprint + Files + Print + Sync + Threads + Wait>(
+pub(crate) fn play_file<R: AllocGlobal + Clock + Eprint + Files + Print + Sync + Threads + Wait>(
     rt: &R,
     file: &str,
 ) -> io::Result<()> {
@@ -40,7 +40,7 @@ pub(crate) fn play_file<R: AllocGlobal + Eprint + Files + Print + Sync + Threads
 }
 
 /// Does what a command says while lines are typed, and prints its exit status where that is asked for.
-fn play<R: AllocGlobal + Eprint + Files + Print + Sync + Threads + Wait>(
+fn play<R: AllocGlobal + Clock + Eprint + Files + Print + Sync + Threads + Wait>(
     rt: &R,
     command: &Command<'_>,
     typed: &str,
@@ -64,7 +64,7 @@ fn play<R: AllocGlobal + Eprint + Files + Print + Sync + Threads + Wait>(
 }
 
 /// Runs the program, and tells its exit status.
-fn run<R: AllocGlobal + Eprint + Files + Print + Sync + Threads + Wait>(
+fn run<R: AllocGlobal + Clock + Eprint + Files + Print + Sync + Threads + Wait>(
     rt: &R,
     words: &[&str],
     input: &Input<'_>,
@@ -81,14 +81,19 @@ fn run<R: AllocGlobal + Eprint + Files + Print + Sync + Threads + Wait>(
 }
 
 /// Runs the program over a reader, and tells its exit status.
-fn status_of<R: AllocGlobal + Eprint + Files + Print + Sync + Threads + Wait, I: io::Read>(
+fn status_of<R: AllocGlobal + Clock + Eprint + Files + Print + Sync + Threads + Wait, I: io::Read>(
     rt: &R,
     words: &[&str],
     reader: &mut I,
     is_terminal: bool,
 ) -> io::Result<u8> {
     let mut writer = io::writer(rt);
-    match perform(rt, words, reader, &mut writer, is_terminal) {
+    // What a load says while it runs is another each time: standard error is no terminal here.
+    let terminals = Terminals {
+        input: is_terminal,
+        ..Terminals::NONE
+    };
+    match perform(rt, words, reader, &mut writer, terminals) {
         Ok(()) => Ok(0),
         Err(told) => {
             print!(rt; "{told}")?;

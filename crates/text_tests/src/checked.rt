@@ -3,15 +3,15 @@
 use crate::expecting::same_at;
 use crate::first_script::SCRIPT;
 use crate::script_runs::Slow;
-use program::perform;
+use program::{Terminals, perform};
 use std::alloc::AllocGlobal;
-use std::rt::Files;
+use std::rt::{Clock, Files};
 use std::sync::Wait;
 use std::test::Fail;
 use std::thread::Threads;
 
 /// All that is told of a script by a command, as it stands on standard error, and the exit status; nothing where it ends well.
-fn told_of<R: AllocGlobal + Eprint + Files + Print + Sync + Threads + Wait>(
+fn told_of<R: AllocGlobal + Clock + Eprint + Files + Print + Sync + Threads + Wait>(
     rt: &R,
     command: &str,
     script: &[u8],
@@ -19,7 +19,7 @@ fn told_of<R: AllocGlobal + Eprint + Files + Print + Sync + Threads + Wait>(
     let mut reader = script;
     let mut writer = Vec::new(rt.alloc());
     let words = ["nvmesgl", command];
-    match perform(rt, &words, &mut reader, &mut writer, false) {
+    match perform(rt, &words, &mut reader, &mut writer, Terminals::NONE) {
         Ok(()) => Ok(String::new(rt.alloc())),
         Err(told) => {
             let status = told.fault.exit_status();
@@ -53,7 +53,7 @@ fn a_failing_reader_is_told(rt: HostRuntime) -> Result<(), Fail> {
             };
             let mut writer = Vec::new(rt.alloc());
             let words = ["nvmesgl", command];
-            let end = perform(&rt, &words, &mut reader, &mut writer, false);
+            let end = perform(&rt, &words, &mut reader, &mut writer, Terminals::NONE);
             let fault = end.err().map(|told| told.fault.exit_status());
             same_at(&rt, cut, (fault, writer.len()), (Some(1), 0));
         }

@@ -1,12 +1,12 @@
 //! What is told of a line is the fault that the parser has: over lines of each form, cut after each byte, with a word left away, doubled, or
 //! another one in its place.
 
-use fault_text::{Grammar, find, form_text};
 use job_cli::read_jobs;
 use script_cli::{LineFault, ScriptFault, VERBS, read_script};
 use std::alloc::{AllocError, Global};
 use std::test::Fail;
 use test_support::Seen;
+use texts::faults::{Grammar, find, form_text};
 
 /// A line of each form of `steps`.
 const STEPS: [&str; 9] = [

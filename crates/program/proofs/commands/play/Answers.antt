@@ -2,7 +2,7 @@ use Rattle.std.proofs.Common.{refl, Some}
 use Rattle.command_line.specs.Asked.{given_of, steps}
 use Rattle.script_cli.proofs.Runs.{run_to_text}
 use Rattle.program.specs.Performing.{Performs}
-use Rattle.program.proofs.Telling.{ends_told, not_saved, ran_anyway, writes_told}
+use Rattle.program.proofs.Telling.{ends_told, not_saved, ran_anyway, script_failed, writes_told}
 use Rattle.script_cli.specs.Runs.{IsRunText}
 use Rattle.program.proofs.commands.play.Goals as goal
 
@@ -31,3 +31,8 @@ returns-clause-failed g c = (
   c.in_ok-image.ensures.image,
   ends_told _ c.in_ok-text.text.items c.args.options.config c.in_ok-image.image _ _ c.in-Err.fault c.in_ok-text.ensures.text (rw c.as_slice-script.ensures.value at c.in-Err.ensures.failed),
 )
+
+pub returns-in_err-text-clause-failed : goal.returns-in_err-text-clause-failed
+returns-in_err-text-clause-failed g c =
+    script_failed c.from_residual-in_err-text.result (λ told. told.fault) (g.I.Read.remaining c.args.reader.now) (given_of c.args.options) c.in_ok-image.image _ c.in_err-text.field-0.0.fault
+    c.from_residual-in_err-text.ensures.1 c.in_ok-image.ensures.image c.in_err-text.ensures.fault

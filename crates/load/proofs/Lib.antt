@@ -1,0 +1,6 @@
+mod Blocks
+mod Buckets
+mod Lists
+mod Pieces
+mod Tallying
+mod Written

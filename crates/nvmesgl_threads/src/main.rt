@@ -1,9 +1,0 @@
-//! `nvmesgl` once more, so that the gate runs its command `threads` too: a crate is run with one list of arguments.
-#![tactic(auto)]
-
-use program::run;
-use std::process::ExitCode;
-
-fn main(rt: HostRuntime) -> ExitCode {
-    run(&rt, false)
-}
