@@ -34,8 +34,8 @@ use Rattle.bench_laws.proofs.KeptValues.{Kind, OfMachine, OfBench, kind}
 use Rattle.sgl_descriptor.specs.declared.Descriptor.{Descriptor}
 use Rattle.io_commands.specs.declared.draft.FillFault.TheVariants.{NotASource, WrongLength}
 use Rattle.io_commands.proofs.Filling.{numbers_of-filled}
-use Rattle.machine_agreement.proofs.Entered.{good_is}
-use Rattle.machine_model.proofs.Refused.{first_fails, rest_fails}
+use Rattle.machine_agreement.proofs.Served.{good_is}
+use Rattle.machine_model.proofs.Steps.{first_fails, rest_fails}
 use Rattle.host_core.proofs.Lists.{all-from}
 use Rattle.step_core.proofs.KeptDrafts.{filled_stays_proper, built_stays_proper}
 use Rattle.bench_laws.proofs.Standing.{find_with, find_with_other, find_without_other}

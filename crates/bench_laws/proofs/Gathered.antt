@@ -12,7 +12,7 @@ use Rattle.machine_model.specs.Trusted.{TrustedRun}
 use Rattle.run_laws.specs.Statuses.{fetches}
 use Rattle.run_laws.specs.Blocks.{is_read}
 use Rattle.machine_model.specs.Script.{Table, finished_at, is_finished}
-use Rattle.machine_agreement.proofs.Members.{all_at_found}
+use Rattle.machine_agreement.proofs.Provided.{all_at_found}
 use Rattle.host_core.proofs.Lists.{found_is}
 use Rattle.run_laws.specs.Submitted.{CollectedCommand, FetchedCommand, was_fetched, bytes_collected}
 use Rattle.run_laws.proofs.DataLaws.{bytes_kept, successes_fetched, prefix_given, blocks_given}

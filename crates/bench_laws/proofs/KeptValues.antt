@@ -32,7 +32,7 @@ use Rattle.step_core.proofs.Lawful.{same_forgery, none_forged}
 use Rattle.machine_model.specs.Trusted.{Steps, TrustedRun}
 use Rattle.step_core.specs.Opening.{opening_of}
 use Rattle.step_core.proofs.RunsOf.{steps_from}
-use Rattle.machine_agreement.proofs.NeverRestored.{ends_unforged}
+use Rattle.machine_agreement.proofs.Frames.{ends_unforged}
 use Rattle.std.specs.Option.{option_map}
 use Rattle.std.specs.Str.{bytes_eq}
 use Rattle.entry_codec.specs.declared.status.TheConstants.Status.{SUCCESS, COMPARE_FAILURE}
@@ -41,9 +41,8 @@ use Rattle.machine_model.specs.After.{final_status}
 use Rattle.run_laws.specs.Statuses.{status_by}
 use Rattle.machine_model.specs.Refusals.{job_at}
 use Rattle.machine_model.specs.Opening.{opening}
-use Rattle.machine_agreement.proofs.Unforged.{unforged_front, unforged_run}
+use Rattle.machine_agreement.proofs.Along.{unforged_front, unforged_run, cut}
 use Rattle.run_laws.proofs.Images.{images_are_runs, compares_told}
-use Rattle.machine_agreement.proofs.Along.{cut}
 use Rattle.bench_laws.specs.Blocks.{benches_write_their_blocks, benches_compare_their_blocks}
 
 -- A step of a bench is a step of the machine, or one of a kept value alone; and the machine's steps of several, one behind the other.

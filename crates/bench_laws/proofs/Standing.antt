@@ -23,10 +23,9 @@ use Rattle.machine_model.specs.State.{State, Record, is_at, record_at, pages_of,
 use Rattle.machine_model.specs.Refusals.{asks_for, is_submitted, is_drafted, is_held, is_collected, is_live, refusal_of, record_is, is_of, in_state, queue_full}
 use Rattle.machine_model.specs.Step.{Step, HostPart, IsController, asked_by, finished_from, pages_with_bytes}
 use Rattle.machine_model.specs.Events.{Event, Reply}
-use Rattle.machine_agreement.proofs.Ended.{io_left}
+use Rattle.machine_agreement.proofs.Along.{io_left}
 use Rattle.machine_model.proofs.Moves.{creates_cq, creates_sq, host_moves, sent_record}
-use Rattle.machine_model.proofs.Steps.{Accepts, part_left}
-use Rattle.machine_model.proofs.Refused.{first_fails, found}
+use Rattle.machine_model.proofs.Steps.{Accepts, part_left, first_fails, found}
 use Rattle.host_core.proofs.Lists.{found_is}
 use Rattle.step_core.proofs.Outstanding.{one_step}
 use Rattle.step_core.proofs.Records.{find_more, find_changed, other_than, off_name, apart, found_with, found_without}

@@ -16,8 +16,8 @@ use Rattle.machine_model.specs.Image.{draft_of, is_draft}
 use Rattle.machine_model.specs.Proper.{IsProperDraft}
 use Rattle.machine_model.specs.Script.{Table, table, filled_draft}
 use Rattle.machine_model.specs.Step.{zeroed, IsReserved}
-use Rattle.machine_agreement.proofs.Entered.{good_is}
-use Rattle.machine_agreement.proofs.Members.{all_at_found}
+use Rattle.machine_agreement.proofs.Served.{good_is}
+use Rattle.machine_agreement.proofs.Provided.{all_at_found}
 use Rattle.step_core.specs.Opening.{opening_of}
 use Rattle.step_core.specs.Bench.{Does, Makes, event_at, told, kept, without_first}
 use Rattle.step_core.specs.Going.{IsTableInOrder}

@@ -8,10 +8,9 @@ use Rattle.machine_agreement.specs.InOrder.{IsInOrder}
 use Rattle.machine_model.specs.Trusted as laws
 use Rattle.machine_model.specs.Trusted.{Steps, TrustedRun}
 use Rattle.machine_model.specs.State.{State}
-use Rattle.machine_agreement.proofs.InOrders.{opens_in_order, order_kept}
-use Rattle.machine_agreement.proofs.Agreed.{agreed_stays}
-use Rattle.machine_agreement.proofs.Unforged.{trusted_end}
-use Rattle.machine_agreement.proofs.NeverRestored.{ends_unforged as trusted_unforged}
+use Rattle.machine_agreement.proofs.Agreed.{opens_in_order, order_kept, agreed_stays}
+use Rattle.machine_agreement.proofs.Along.{trusted_end}
+use Rattle.machine_agreement.proofs.Frames.{ends_unforged as trusted_unforged}
 use Rattle.machine_agreement.specs.Histories as histories
 use Rattle.machine_model.specs.Step as machine_step
 use Rattle.step_core.proofs.Lawful.{same_forgery}

@@ -1,11 +1,14 @@
 -- Submissions that stand in receipts: at the next place of the log, for one seat and for all.
 use Rattle.std.proofs.Common.{◌≡◌, ℕ, zero, suc, ◌+◌, ◌<◌, ◌≤◌, ◌&&◌, ◌||◌, not, Bool, Option, Some, None, List, [], ◌∷◌, length, take, drop, get_or, true, false, true≢false, refl, sym, ap, ◌∙◌, subst, arith, eqb-true, eq-eqb, below_more}
-use Rattle.std.specs.Prelude.{slice_get, is_some, unwrap_or}
+use Rattle.std.specs.Prelude.{slice_get, is_some, unwrap_or, option_map}
 use Rattle.std.specs.List.{list_any}
 use Rattle.std.proofs.lemmas.Option.{get_or_from_slice_get, slice_get-get_or, none-some, same_Some}
 use Rattle.std.proofs.lemmas.List.Sums.{count_by_more_yes, count_by_more_no}
 use Rattle.entry_codec.specs.declared.status.Status.{Status}
-use Rattle.machine_agreement.proofs.Members.{all_at}
+use Rattle.machine_agreement.proofs.Provided.{all_at}
+use Rattle.step_core.specs.Values.{Reply, Step}
+use Rattle.step_core.specs.declared.step.Step.TheVariants as step
+use Rattle.step_log.specs.Keeping.{may_end}
 use Rattle.step_log.specs.Values.{Entry}
 use Rattle.step_log.specs.History.{is_accepted, accepted}
 use Rattle.driver_book.specs.State.{SeatContents, is_seated, AreSeated}
@@ -36,6 +39,20 @@ held_at q cid (y ∷ log) (suc i) x get =
     let far : suc i + 1 ≡ suc (i + 1) = omega arith in
     let next : drop (suc i + 1) (y ∷ log) ≡ drop (i + 1) log = ap (λ (n : ℕ). drop n (y ∷ log)) far in
     held_at q cid log i x get ∙ ap (λ (es : List Entry). first_of (status_by q cid x.step x.answer) (held q cid es)) (sym next)
+
+no_end : (q cid : ℕ) (what : Step) (answer : Reply) → may_end what ≡ false → status_by q cid what answer ≡ None
+no_end q cid (step.Reap of) answer other = absurd (true≢false other)
+no_end q cid (step.Retire of) answer other = absurd (true≢false other)
+no_end q cid step.Reset answer other = absurd (true≢false other)
+no_end q cid what answer other = refl
+
+-- an entry whose step ends no command gives no status
+pub passed_over : (q cid : ℕ) (log : List Entry) (i : ℕ) → option_map (λ (e : Entry). may_end e.step) (slice_get log i) ≡ Some false → held q cid (drop i log) ≡ held q cid (drop (i + 1) log)
+passed_over q cid log i other = go (slice_get log i) refl other
+  where
+    go : (o : Option Entry) → slice_get log i ≡ o → option_map (λ (e : Entry). may_end e.step) o ≡ Some false → held q cid (drop i log) ≡ held q cid (drop (i + 1) log)
+    go None at ends = absurd cc
+    go (Some e) at ends = held_at q cid log i e at ∙ ap (λ (o : Option Status). first_of o (held q cid (drop (i + 1) log))) (no_end q cid e.step e.answer cc)
 
 -- One seat's place in the log: how many submissions came before, and how many of its own; those stand.
 pub record Passed (log : List Entry) (seats : List SeatContents) (seat : Option ℕ) (p number place : ℕ) : Type 0 where

@@ -101,7 +101,9 @@ fn status_behind<A: Allocator>(q: u16, cid: u16, log: &Log<A>, index: usize) -> 
 {
     let end = log.len();
     for i in index + 1..end {
-        let entry = log.at(i);
+        let Some(entry) = log.ending_at(i) else {
+            continue;
+        };
         match status_of_step(q, cid, &entry.step, &entry.answer) {
             Some(status) => return Some(status),
             None => {}

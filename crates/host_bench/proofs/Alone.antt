@@ -4,7 +4,7 @@ use Rattle.host_core.specs.Alone.{HostView, IsOver, alone}
 use Rattle.host_core.specs.Opening.{opened_pages, opened_view}
 use Rattle.host_core.specs.declared.config.Config.{Config}
 use Rattle.host_core.specs.Resetting.{host_reset, pages_reset}
-use Rattle.host_core.proofs.Exact.{writes_leave_over}
+use Rattle.host_core.proofs.Told.{writes_leave_over}
 use Rattle.machine_model.specs.After.{after_reset}
 use Rattle.machine_model.specs.Events as events
 use Rattle.machine_model.specs.State.{State}

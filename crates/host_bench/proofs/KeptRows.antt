@@ -13,7 +13,7 @@ use Rattle.machine_model.specs.Script.{is_finished, is_ticket}
 use Rattle.machine_model.specs.State.{State, HostQueue}
 use Rattle.machine_model.specs.Step.{Step, IsReserved}
 use Rattle.machine_model.proofs.Moves.{drafted_record, live_queue}
-use Rattle.machine_model.proofs.Refused.{unrefused}
+use Rattle.machine_model.proofs.Steps.{unrefused}
 use Rattle.host_core.proofs.Lists.{all-all, all-append, some_is}
 use Rattle.host_core.specs.declared.config.Config.{Config}
 use Rattle.page_memory.specs.declared.page.Half.TheVariants.{Submission, Completion}

@@ -18,11 +18,11 @@ use Rattle.machine_model.specs.Step.{Step, HostPart, IsController, IsReserved, I
 use Rattle.machine_model.specs.After as a
 use Rattle.machine_model.specs.Events as events
 use Rattle.machine_model.specs.Events.{Event, Reply}
-use Rattle.machine_agreement.proofs.Ended.{io_left}
+use Rattle.machine_agreement.proofs.Along.{io_left}
 use Rattle.machine_agreement.proofs.Frames.{host_leaves}
 use Rattle.machine_model.proofs.Moves.{host_moves, drafted_record, sent_record, creates_cq, creates_sq}
 use Rattle.machine_agreement.proofs.PlacesKept.{ids_of}
-use Rattle.machine_model.proofs.Resetting.{reset_length}
+use Rattle.machine_model.proofs.Owned.{reset_length}
 use Rattle.machine_model.proofs.Steps.{Accepts, part_controller, part_left}
 use Rattle.host_core.proofs.Identifiers.{outstanding-among}
 use Rattle.host_core.proofs.Lists.{length-change, some_is}

@@ -20,7 +20,7 @@ use Rattle.machine_model.specs.declared.words.HostState.{HostState}
 use Rattle.machine_model.specs.declared.words.HostState.TheVariants.{Live, Deleting, Retired, Gone, MakingCq, HalfMade, MakingSq}
 use Rattle.machine_model.specs.declared.words.Refusal.{Refusal}
 use Rattle.machine_model.specs.declared.words.Refusal.TheVariants as refusal
-use Rattle.machine_model.proofs.Refused.{first_fails, rest_fails}
+use Rattle.machine_model.proofs.Steps.{first_fails, rest_fails}
 use Rattle.page_ledger.specs.Owners.{pages_from}
 use Rattle.page_ledger.specs.Runs.{lowest_run}
 use Rattle.page_memory.specs.declared.page.Half.{Half}
@@ -33,16 +33,12 @@ use Rattle.host_core.specs.Sending.{CanCreate, Creates, HasSlot, creating, creat
 use Rattle.host_core.specs.Tables.{Tables, host_queue_of, state_of}
 use Rattle.host_core.specs.Whole.{IsWhole}
 use Rattle.host_core.specs.Rows.{Queue}
-use Rattle.host_core.proofs.Creating.{any-count}
+use Rattle.host_core.proofs.Making.{any-count, IsBare, granted-state, half_in, run-within, settled-granted, some-pages, with-some, same-run}
 use Rattle.host_core.proofs.Granting.{in_state-is, next-fresh, next-left, none-left}
 use Rattle.host_core.proofs.Lists.{some_is}
-use Rattle.host_core.proofs.Making.{IsBare, granted-state, half_in, run-within, settled-granted, some-pages, with-some}
-use Rattle.host_core.proofs.Placing.{same-run}
-use Rattle.host_core.proofs.SendChecks.{Next, can-post-to, first-there, past, send-typed}
-use Rattle.host_core.proofs.Sending.{HasHalfIn, first-changed, half-in, sent-exact, sent_in, settled-sent, some-first}
-use Rattle.host_core.proofs.Settled.{Settled, whole-of}
-use Rattle.host_core.proofs.Steps.{host_step, sound_after}
-use Rattle.host_core.proofs.Submitting.{full_is}
+use Rattle.host_core.proofs.Sending.{Next, can-post-to, first-there, past, send-typed, HasHalfIn, first-changed, half-in, sent-exact, sent_in, settled-sent, some-first}
+use Rattle.host_core.proofs.QueueLists.{Settled, whole-of, host_step, sound_after}
+use Rattle.host_core.proofs.Submitted.{full_is}
 
 -- What is against it
 

@@ -1,28 +1,61 @@
--- A world as it opens: its tables stand for the machine's opening, and are whole.
-use Rattle.std.proofs.Common.{Fits, w16, ◌≡◌, ℕ, zero, suc, ◌+◌, ◌-◌, ◌*◌, ◌<◌, ◌≤◌, ◌==◌, ◌||◌, ◌&&◌, nat_le, leb-true, Bool, true, false, Some, None, IfSome, List, [], ◌∷◌, length, map, filter, drop, replicate, slice_get, refl, ap, ap₂, sym, ◌∙◌, arith, subst, eqb-true}
-use Rattle.std.specs.Option.{option_map_or}
+-- Tables that were just opened.
+use Rattle.machine_model.specs.declared.words.Refusal.TheVariants as refusal
+use Rattle.std.proofs.Common.{◌≡◌, ℕ, Option, Some, slice_get, [], ap, sym, ◌∙◌, subst, Fits, w16, zero, suc, ◌+◌, ◌-◌, ◌*◌, ◌<◌, ◌≤◌, ◌==◌, ◌||◌, ◌&&◌, nat_le, leb-true, Bool, true, false, None, IfSome, List, ◌∷◌, length, map, filter, drop, replicate, refl, ap₂, arith, eqb-true}
+use Rattle.std.specs.Option.{option_map, option_map_or}
+use Rattle.std.proofs.lemmas.Option.{slice_get-map}
+use Rattle.machine_model.specs.State.{State, HostQueue}
+use Rattle.machine_model.specs.Refusals.{refusal_of}
+use Rattle.machine_model.specs.declared.words.Refusal.{Refusal}
+use Rattle.host_core.specs.Looks.{cause_of}
+use Rattle.host_core.specs.Ringing.{head_of}
+use Rattle.host_core.specs.Rows.{Queue, Kept}
+use Rattle.machine_model.specs.Events.{Event, Reply}
+use Rattle.machine_model.specs.Step.{Step, Refuses}
+use Rattle.page_memory.specs.Pages.{Pages, page_at, zero_page}
+use Rattle.host_core.specs.Alone.{HostView, HostStep, IsOver, alone}
+use Rattle.host_core.specs.Tables.{Tables, host_queue_of, state_of, view_of}
+use Rattle.host_core.specs.Whole.{IsHost, IsWhole, IsQueue, ClaimsIdentifiers, TellsQueue}
+use Rattle.host_core.proofs.Identifiers.{over_pages, whole_of, alone_sound, host_of, over_of}
 use Rattle.std.proofs.lemmas.Bool.{and_parts, true≢false}
 use Rattle.std.proofs.lemmas.List.{length-replicate, length-map}
 use Rattle.machine_model.specs.Claims.{IsSound}
 use Rattle.machine_model.specs.Opening.{opening, queues_from, is_config}
-use Rattle.machine_model.specs.State.{HostQueue}
-use Rattle.machine_model.proofs.Headline.{runs_are_sound}
-use Rattle.machine_model.proofs.Opening.{fits_pool, in_limits, length-range}
+use Rattle.machine_model.proofs.Headline.{runs_are_sound, fits_pool, in_limits, length-range}
 use Rattle.page_ledger.specs.Owners.{is_among, is_free, is_owned_at, pages_from, free_pages}
 use Rattle.page_ledger.specs.declared.owner.Owner.{Owner}
-use Rattle.page_memory.specs.Pages.{page_at, zero_page}
 use Rattle.page_memory.specs.declared.page.Half.TheVariants.{Submission, Completion}
 use Rattle.page_memory.proofs.Whole.{length-zero_page}
 use Rattle.queue_pair.specs.Memory.{half_pages}
 use Rattle.host_core.specs.Opening.{opened_view, opened_pages, refusal_of_config, sq_from, cq_from, fresh_at, fresh_queue, fresh_queues, IsFreeFrom, HalvesGranted, opened}
-use Rattle.host_core.specs.Alone.{HostView, alone, IsOver}
-use Rattle.host_core.specs.Tables.{Tables, view_of, host_queue_of}
-use Rattle.host_core.proofs.Keeping.{alone_sound, host_of, over_of}
-use Rattle.host_core.specs.Whole.{IsQueue, ClaimsIdentifiers, TellsQueue, IsHost, IsWhole}
 use Rattle.host_core.specs.declared.config.Config.{Config}
 use Rattle.host_core.specs.Parts.{records_of}
-use Rattle.host_core.specs.Rows.{Kept, Queue}
 use Rattle.slot_table.specs.Table.{TableOf}
+
+-- A call's tables, as its host and the pages that it is lent.
+
+-- what a call may lean on
+pub whole_at : (t : Tables) (v : HostView) (pages : Pages) → view_of t ≡ v → IsHost t → IsOver v pages → IsWhole (over_pages t pages)
+whole_at t v pages is host over = whole_of t pages host (subst (λ (x : HostView). IsOver x pages) (sym is) over)
+
+-- and what it answers for
+pub step_at : (t new : Tables) (v : HostView) (e : Event) (reply : Reply) → view_of t ≡ v → Step (state_of t) e reply (state_of new) → HostStep v t.pages e reply (view_of new) new.pages
+step_at t new v e reply is step = subst (λ (x : HostView). HostStep x t.pages e reply (view_of new) new.pages) is step
+
+-- where nothing changed
+pub stays_at : (t : Tables) (v : HostView) (e : Event) (reply : Reply) → view_of t ≡ v → Step (state_of t) e reply (state_of t) → HostStep v t.pages e reply v t.pages
+stays_at t v e reply is step = subst (λ (x : HostView). HostStep x t.pages e reply x t.pages) is step
+
+-- a queue's head as it is shown
+pub head-told : (t : Tables) (q : ℕ) (x : Queue) → slice_get t.queues q ≡ Some x → head_of (view_of t) q ≡ Some x.host.ring.head
+head-told t q x at =
+    ap (λ (o : Option HostQueue). option_map (λ queue. queue.ring.head) o) (slice_get-map host_queue_of t.queues q ∙ ap (λ (o : Option Queue). option_map host_queue_of o) at)
+
+-- a refusal of a host's call, as a cause
+pub cause-told : (s : State) (e : Event) (why : Refusal) → Refuses s e why [] → refusal_of s e ≡ cause_of why
+cause-told s e refusal.Memory h = h.1
+cause-told s e why h = h.0
+
+-- A world as it opens: its tables stand for the machine's opening, and are whole.
 
 -- The state
 

@@ -26,7 +26,7 @@ use Rattle.host_core.specs.Whole.{IsWhole, is_outstanding}
 use Rattle.host_core.specs.Rows.{Queue}
 use Rattle.host_core.proofs.Identifiers.{outstanding-among}
 use Rattle.host_core.proofs.Lists.{some_is}
-use Rattle.host_core.proofs.Pages.{one-le}
+use Rattle.host_core.proofs.PageOwners.{one-le}
 
 -- The host's state of a queue
 

@@ -9,7 +9,7 @@ use Rattle.machine_model.specs.Memory.{with_pages, zeroed_pages}
 use Rattle.machine_model.specs.Refusals.{is_live}
 use Rattle.machine_model.specs.State.{HostQueue}
 use Rattle.machine_model.specs.declared.words.HostState.TheVariants.{Live}
-use Rattle.machine_model.proofs.Emptied.{live_is}
+use Rattle.machine_model.proofs.TokensKept.{live_is}
 use Rattle.page_ledger.specs.Owners.{is_among, owner_at, pages_from}
 use Rattle.page_ledger.specs.declared.owner.Owner.TheVariants as owner
 use Rattle.page_memory.specs.Pages.{Pages, zero_page}
@@ -23,12 +23,10 @@ use Rattle.host_core.specs.Resetting.{admin_reset, with_admin_renewed}
 use Rattle.host_core.specs.Rows.{Queue}
 use Rattle.host_core.specs.Tables.{Tables, host_queue_of, sq_pages_of, cq_pages_of}
 use Rattle.host_core.specs.Whole.{IsWhole}
-use Rattle.host_core.proofs.HalvesGiven.{half-from, half-told}
-use Rattle.host_core.proofs.Lists.{change-at, get-at}
+use Rattle.host_core.proofs.PageOwners.{half-from, half-told, among-from, with-append}
+use Rattle.host_core.proofs.Lists.{change-at-lists as change-at, get-at-lists as get-at}
 use Rattle.host_core.proofs.Making.{can-zero, some-pages, with-some}
-use Rattle.host_core.proofs.Pages.{among-from, with-append}
-use Rattle.host_core.proofs.QueueLists.{queue_page-in}
-use Rattle.host_core.proofs.Seen.{host-at}
+use Rattle.host_core.proofs.QueueLists.{queue_page-in, host-at}
 
 -- Queue 0 is live, so both halves are there.
 

@@ -1,19 +1,117 @@
--- What trusted runs keep: one induction over their steps, as they were made.
-use Rattle.std.proofs.Common.{◌≡◌, ℕ, true, not, List, [], ◌∷◌, ◌++◌, append-nil, append_assoc, refl, ap, sym, ◌∙◌, subst}
-use Rattle.std.proofs.lemmas.Bool.{true≢false}
-use Rattle.machine_model.specs.Proper.{IsProper}
-use Rattle.machine_model.specs.State.{State}
-use Rattle.machine_model.specs.Opening.{Opens, opening}
-use Rattle.machine_model.specs.Step.{Step, HostPart, IsController}
-use Rattle.machine_model.specs.Trusted.{Steps, TrustedRun}
-use Rattle.machine_model.specs.Image.{Made}
+-- What holds along a run.
 use Rattle.machine_model.specs.After as a
 use Rattle.machine_model.specs.Events as events
-use Rattle.machine_model.specs.declared.words.Refusal.{Refusal}
+use Rattle.std.proofs.Common.{◌≡◌, Bool, true, false, not, refl, ap, ◌∙◌, inl, inr, ℕ, List, [], ◌∷◌, ◌++◌, sym, subst, append-nil, append_assoc, Some, filter, find, if◌then◌else◌, ◌||◌, IsTrue, map}
+use Rattle.std.proofs.lemmas.Bool.{true≢false, cases_Bool, or_parts, not-true}
+use Rattle.machine_model.specs.State.{State, Record, is_at}
+use Rattle.machine_model.specs.Step.{Step, IsController, HostPart, forges, resets}
 use Rattle.machine_model.specs.Events.{Event, Reply}
-use Rattle.machine_model.proofs.Steps.{Accepts, part_left, permitted, exact}
-use Rattle.machine_agreement.proofs.Trusted.{forged_untrusted}
-use Rattle.machine_agreement.proofs.Unforged.{Unforged, unforged_next, unforged_front, unforged_back, unforged_run}
+use Rattle.machine_model.specs.Trusted.{forges_by, Steps, TrustedRun, is_forgery}
+use Rattle.machine_model.proofs.Moves.{host_moves}
+use Rattle.machine_model.proofs.Steps.{Accepts, part_controller, part_left, permitted, exact}
+use Rattle.std.specs.List.{list_any}
+use Rattle.std.proofs.lemmas.List.Folds.{list_any-append}
+use Rattle.machine_agreement.specs.Histories.{unforged_runs_end_trusted}
+use Rattle.machine_model.specs.Image.{Made}
+use Rattle.machine_model.specs.Opening.{opening, Opens}
+use Rattle.machine_model.specs.Proper.{IsProper}
+use Rattle.machine_model.specs.declared.words.Refusal.{Refusal}
+use Rattle.machine_agreement.proofs.Standing.{forged_untrusted}
+use Rattle.machine_agreement.specs.Recovering.{resets_leave_io_commands}
+use Rattle.machine_model.proofs.Tokens.{find_map}
+use Rattle.machine_model.proofs.Owned.{io_records, lost_keeps}
+use Rattle.machine_model.specs.Run.{Run}
+use Rattle.machine_agreement.specs.InOrder.{has_forgery, runs_are_made}
+
+-- The flag of trust: no event but a forgery and a reset changes it, and a reset sets it.
+
+-- An event
+
+flag_event : (s : State) (e : Event) (reply : Reply) → Accepts s e reply → IsController e ≡ false → forges e ≡ false → resets e ≡ false → (a.after s e reply).trusted ≡ s.trusted
+flag_event s e reply ok c far other =
+    host_moves (λ (e : Event) (reply : Reply) (t : State). forges e ≡ false → resets e ≡ false → t.trusted ≡ s.trusted) s e reply ok c
+    (record {
+      reserves = λ q request d none is n m. refl;
+      submits = λ d entry r none built its live n m. refl;
+      cancels = λ d r its n m. refl;
+      rings = λ q none n m. refl;
+      rests = λ q is n m. refl;
+      rejects = λ q why is n m. refl;
+      tells = λ q cid st what e r request t heard w n m. refl;
+      hears = λ q cid st what e r adm t heard w quiet unmade n m. refl;
+      notes = λ q cid st what e r k t heard w n m. refl;
+      frees = λ q cid st what e r k queue t heard w at retired good n m. refl;
+      makes_cq = λ q cid st what e r k size base t heard w good n m. refl;
+      unmakes_cq = λ q cid st what e r k size base queue t heard w at bad n m. refl;
+      makes_sq = λ q cid st what e r k size base t heard w good n m. refl;
+      unmakes_sq = λ q cid st what e r k size base queue t heard w at bad n m. refl;
+      collects = λ q cid r f at held is n m. refl;
+      releases = λ f r its n m. refl;
+      aborts = λ q cid id none new n m. refl;
+      asks = λ q id queue none new live n m. refl;
+      drops = λ q id none new n m. refl;
+      creates_cqs = λ q id first queue none new granted n m. refl;
+      creates_sqs = λ q id first queue none new granted n m. refl;
+      retires = λ q queue none at deleted n m. refl;
+      forges = λ q slot bytes queue none at n m. absurd (true≢false n);
+      resets = λ n m. absurd (true≢false m);
+    })
+    far other
+
+flag_after : (s : State) (e : Event) (reply : Reply) → Accepts s e reply → forges e ≡ false → resets e ≡ false → (a.after s e reply).trusted ≡ s.trusted
+flag_after s e reply ok n m = elim (cases_Bool (IsController e)) [
+  | inl c ↦ ap (λ (part : HostPart). part.trusted) (part_controller s e reply c)
+  | inr c ↦ flag_event s e reply ok c n m
+]
+
+-- A step
+
+pub stays_trusted : (old : State) (e : Event) (reply : Reply) (new : State) → Step old e reply new → forges_by e reply ≡ false → old.trusted ≡ true → new.trusted ≡ true
+stays_trusted old e (events.Refused why touched) new step n t = ap (λ (s : State). s.trusted) step.2 ∙ t
+stays_trusted old (events.Forge q slot bytes) events.Accepted new step n t = absurd (true≢false n)
+stays_trusted old (events.Forge q slot bytes) reply new step n t = absurd (permitted _ old.trusted true t step.1).1
+stays_trusted old events.Reset reply new step n t = ap (λ (part : HostPart). part.trusted) (part_left old events.Reset reply new step.2)
+stays_trusted old e (events.Reserved d) new step n t =
+    ap (λ (part : HostPart). part.trusted) (part_left old e (events.Reserved d) new step.2)
+    ∙ flag_after old e (events.Reserved d) (permitted _ old.trusted (not (IsController e)) t step.1) refl refl ∙ t
+stays_trusted old e reply new step n t =
+    ap (λ (part : HostPart). part.trusted) (part_left old e reply new step.2)
+    ∙ flag_after old e reply (permitted _ old.trusted (not (IsController e)) t step.1) refl refl ∙ t
+
+-- Steps that begin in a trusted state and forge nothing: the states between them are trusted.
+
+pub record Unforged (s : State) (made : List Made) : Type 0 where
+  pub trusted : s.trusted ≡ true
+  pub none : list_any is_forgery made ≡ false
+
+-- behind the first of them
+pub unforged_next : (m : Made) (made : List Made) (s mid : State) → Step s m.event m.reply mid → Unforged s (m ∷ made) → Unforged mid made
+unforged_next m made s mid step u =
+    let both = or_parts (is_forgery m) (list_any is_forgery made) u.none in
+    record { trusted = stays_trusted s m.event m.reply mid step both.0 u.trusted; none = both.1 }
+
+pub unforged_end : (made : List Made) (s end : State) → Steps s made end → Unforged s made → end.trusted ≡ true
+unforged_end [] s end steps u = ap (λ (x : State). x.trusted) steps ∙ u.trusted
+unforged_end (m ∷ made) s end (is, mid, step, rest) u = unforged_end made mid end rest (unforged_next m made s mid step u)
+
+-- the first of them, and the rest
+pub unforged_front : (xs ys : List Made) (s : State) → Unforged s (xs ++ ys) → Unforged s xs
+unforged_front xs ys s u =
+    record { trusted = u.trusted; none = (or_parts (list_any is_forgery xs) (list_any is_forgery ys) (sym (list_any-append is_forgery xs ys) ∙ u.none)).0 }
+
+pub unforged_back : (xs ys : List Made) (s mid : State) → Steps s xs mid → Unforged s (xs ++ ys) → Unforged mid ys
+unforged_back [] ys s mid steps u = subst (λ (x : State). Unforged x ys) (sym steps) u
+unforged_back (x ∷ xs) ys s mid (is, next, step, rest) u = unforged_back xs ys next mid rest (unforged_next x (xs ++ ys) s next step u)
+
+-- A run from an opening
+
+pub unforged_run : (image : List ℕ) (made : List Made) (end : State) (run : TrustedRun image made end) → Unforged (opening run.pages run.queues run.entries run.segment image) made
+unforged_run image made end run = record { trusted = refl; none = not-true (list_any is_forgery made) run.unforged }
+
+pub trusted_end : unforged_runs_end_trusted
+trusted_end image made end run = unforged_end made (opening run.pages run.queues run.entries run.segment image) end run.steps (unforged_run image made end run)
+
+-- What trusted runs keep: one induction over their steps, as they were made.
 
 -- One step
 
@@ -110,3 +208,65 @@ pub along_proper : (Q : State → Type 0)
     → (image : List ℕ) (made : List Made) (end : State) → TrustedRun image made end → Q end
 along_proper Q each first image =
     run_along (λ (done : List Made) (s : State). Q s) (λ done m new step t u h. each_proper_step Q each m.before m.event m.reply new step t u h) image (λ pages queues n s opens. first pages queues n s image opens)
+
+-- What a reset leaves of a command.
+
+-- the first record that passes a test is the first of those that pass another, if it does
+found_still : (test keep : Record → Bool) (rs : List Record) (r : Record) → keep r ≡ true → find test rs ≡ Some r → find test (filter keep rs) ≡ Some r
+found_still test keep [] r kept e = absurd cc
+found_still test keep (x ∷ rs) r kept e = go (keep x) (test x) refl refl e (found_still test keep rs r kept)
+  where
+    go : (b c : Bool) → keep x ≡ b → test x ≡ c → (if c then Some x else find test rs) ≡ Some r → (find test rs ≡ Some r → find test (filter keep rs) ≡ Some r)
+        → find test (if b then x ∷ filter keep rs else filter keep rs) ≡ Some r
+    go true true k t e ih = rw t e
+    go true false k t e ih = rw t (ih e)
+    go false true k t e ih = let same : x ≡ r = cc in absurd (true≢false (sym kept ∙ ap keep (sym same) ∙ k))
+    go false false k t e ih = ih e
+
+pub io_left : resets_leave_io_commands
+io_left s q cid r request found w =
+    find_map (is_at q cid) a.lost_anywhere (λ x. rw (lost_keeps.q x, lost_keeps.cid x) refl) (io_records s.host.records) r
+    (found_still (is_at q cid) (λ x. a.is_of_io x.work) s.host.records r (ap a.is_of_io w) found)
+
+-- A run's steps as they were made.
+
+-- the steps of a run from anywhere
+record MadeAs (s : State) (es : List Event) (replies : List Reply) (end : State) : Type 0 where
+  pub made : List Made
+  pub happened : map (λ m. m.event) made ≡ es
+  pub answered : map (λ m. m.reply) made ≡ replies
+  pub steps : Steps s made end
+  pub forged : list_any is_forgery made ≡ has_forgery es replies
+
+run_made_as : (s : State) (es : List Event) (replies : List Reply) (end : State) → Run s es replies end → MadeAs s es replies end
+run_made_as s [] [] end run = record { made = []; happened = refl; answered = refl; steps = run; forged = refl }
+run_made_as s [] (reply ∷ replies) end run = absurd run
+run_made_as s (e ∷ es) [] end run = absurd run
+run_made_as s (e ∷ es) (reply ∷ replies) end run =
+    let rest = run_made_as run.0 es replies end run.2 in
+    record {
+      made = record { before = s; event = e; reply = reply } ∷ rest.made;
+      happened = ap (λ (l : List Event). e ∷ l) rest.happened;
+      answered = ap (λ (l : List Reply). reply ∷ l) rest.answered;
+      steps = (refl, run.0, run.1, rest.steps);
+      forged = ap (λ (b : Bool). forges_by e reply || b) rest.forged;
+    }
+
+pub run_is_made : runs_are_made
+run_is_made pages queues n s image es replies end opens bytes run unforged =
+    let m = run_made_as (opening pages queues n s image) es replies end run in
+    record {
+      made = m.made;
+      happened = m.happened;
+      answered = m.answered;
+      run = record {
+        pages = pages;
+        queues = queues;
+        entries = n;
+        segment = s;
+        opens = opens;
+        is_image = bytes;
+        steps = m.steps;
+        unforged = subst (λ (b : Bool). IsTrue (not b)) (sym m.forged) unforged;
+      };
+    }

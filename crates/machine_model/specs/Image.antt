@@ -7,7 +7,7 @@ use Rattle.sgl_descriptor.specs.Targets.{Target, Place, Discarded, targets}
 use Rattle.io_commands.specs.Requests.{parts_of}
 use Rattle.io_commands.specs.DataBytes.{gathered}
 use Rattle.io_commands.specs.Asked.{Request}
-use Rattle.io_commands.specs.declared.request.Kind.TheVariants.{Read, Write, Compare}
+use Rattle.io_commands.specs.declared.request.Kind.TheVariants.{Write}
 use Rattle.io_commands.specs.declared.request.Kind.{Kind}
 use Rattle.machine_model.specs.State.{State}
 use Rattle.machine_model.specs.Refusals.{job_at}
@@ -24,9 +24,8 @@ pub record Made : Type 0 where
   pub reply : Reply
 
 abbrev pub is_write : Kind → Bool
-is_write Read = false
 is_write Write = true
-is_write Compare = false
+is_write kind = false
 
 -- the drafts as they were submitted, the latest of a queue and identifier first
 abbrev pub submitted_by : Event → Reply → List DraftContents

@@ -16,7 +16,7 @@ use Rattle.io_commands.specs.Values.{FinishedContents, numbers_of, gathered_from
 use Rattle.io_commands.specs.DataBytes.{data_length, filled}
 use Rattle.io_commands.specs.Asked.{Request}
 use Rattle.io_commands.specs.declared.request.Piece.{Piece}
-use Rattle.io_commands.specs.declared.request.Kind.TheVariants.{Read, Write, Compare}
+use Rattle.io_commands.specs.declared.request.Kind.TheVariants.{Read}
 use Rattle.io_commands.specs.declared.request.Kind.{Kind}
 use Rattle.machine_model.specs.Memory.{zeroed_pages}
 use Rattle.page_memory.specs.Pages.{page_at}
@@ -101,8 +101,7 @@ chosen s q r =
 
 abbrev pub is_source : Kind → Bool
 is_source Read = false
-is_source Write = true
-is_source Compare = true
+is_source kind = true
 
 abbrev pub filled_draft : List ℕ → DraftContents → DraftContents
 filled_draft bytes d =

@@ -29,9 +29,9 @@ use Rattle.io_commands.specs.DataBytes.{PagesOut, gathered}
 use Rattle.io_commands.specs.Values.{numbers_of}
 use Rattle.machine_model.specs.Image.{undiscarded}
 use Rattle.run_laws.specs.Blocks.{partly}
-use Rattle.machine_agreement.proofs.Members.{some_is}
-use Rattle.machine_agreement.proofs.Entered.{not_crossing, in_page}
-use Rattle.machine_agreement.proofs.Elsewhere.{bytes_elsewhere}
+use Rattle.machine_agreement.proofs.Provided.{some_is}
+use Rattle.machine_agreement.proofs.Served.{not_crossing, in_page}
+use Rattle.machine_agreement.proofs.Untouched.{bytes_elsewhere}
 use Rattle.entry_codec.specs.declared.status.Status.{Status}
 use Rattle.entry_codec.specs.declared.status.TheConstants.Status.{DATA_TRANSFER_ERROR}
 use Rattle.sgl_descriptor.specs.declared.Descriptor.{Descriptor}

@@ -11,11 +11,10 @@ use Rattle.machine_model.specs.Trusted.{Steps}
 use Rattle.machine_model.specs.Step.{Step, reaped, finished_from, asked_by, pages_with_bytes}
 use Rattle.machine_model.specs.Events.{Event, Reply}
 use Rattle.machine_model.specs.declared.words.Refusal.{Refusal}
-use Rattle.machine_model.proofs.Steps.{Accepts, permitted, exact}
-use Rattle.machine_agreement.proofs.Along.{along, trusted_step_by, cut}
-use Rattle.machine_agreement.proofs.Unforged.{Unforged, unforged_next, unforged_front, unforged_back, unforged_run, unforged_end}
-use Rattle.machine_agreement.proofs.Served.{Stood, answers_at}
-use Rattle.machine_agreement.proofs.WalksKept.{stood_on, stood_at_opening, host_jobs}
+use Rattle.machine_model.proofs.Steps.{Accepts, same_lists, permitted, exact}
+use Rattle.machine_agreement.proofs.Along.{along, trusted_step_by, Unforged, unforged_next, unforged_front, unforged_back, unforged_run, unforged_end, cut}
+use Rattle.machine_agreement.proofs.Served.{Stood, requests_same, answers_at}
+use Rattle.machine_agreement.proofs.NeverFull.{stood_on, stood_at_opening, host_jobs}
 use Rattle.std.specs.Cmp.Lexicographic.{pointwise}
 use Rattle.io_commands.specs.Drafts.{DraftContents}
 use Rattle.io_commands.specs.Values.{numbers_of, FinishedContents}
@@ -25,16 +24,14 @@ use Rattle.machine_model.specs.Claims.{OwnsFit}
 use Rattle.machine_model.specs.declared.words.Phase.{Phase}
 use Rattle.machine_model.specs.declared.words.Phase.TheVariants.{Held}
 use Rattle.machine_model.specs.Refusals.{is_submitted, is_drafted, is_held, is_of, asks_for, refusal_of, job_at, next_rung, device_queue}
-use Rattle.machine_model.proofs.Refused.{same_lists}
-use Rattle.machine_agreement.proofs.Members.{all_at_found, is_found, some_is, In, all_append, sent}
-use Rattle.machine_agreement.proofs.Submitting.{requests_same}
+use Rattle.machine_agreement.proofs.Provided.{all_at_found, is_found, some_is, In, all_append, sent}
 use Rattle.machine_agreement.proofs.PlacesKept.{ids_of, drafted_not, reaped_answer}
 use Rattle.run_laws.proofs.Known.{submit_record, unsent, submitted_stand, stand_still}
-use Rattle.machine_model.proofs.Out.{named, reaped_submitted}
+use Rattle.machine_model.proofs.Sound.{named, reaped_submitted}
 use Rattle.entry_codec.specs.declared.status.TheConstants.Status.{ABORTED_SQ_DELETION}
 use Rattle.run_laws.proofs.Moves.{RecordsMove, records_event, takes, JobsMove, jobs_event, QueueMove, queues_event}
 use Rattle.run_laws.specs.Submitted.{submits, CollectedCommand}
-use Rattle.machine_agreement.proofs.Cases.{option_is}
+use Rattle.machine_model.proofs.Cases.{option_is}
 use Rattle.std.specs.Option.{option_map, option_and_then, option_map_or}
 use Rattle.entry_codec.specs.declared.status.Status.{Status}
 use Rattle.io_commands.specs.Asked.{Request}
@@ -45,11 +42,10 @@ use Rattle.page_ledger.specs.Owners.{is_among}
 use Rattle.entry_codec.specs.declared.submission.SubEntry.{SubEntry}
 use Rattle.machine_model.specs.Memory.{with_pages}
 use Rattle.run_laws.specs.Statuses.{fetches, fetches_by}
-use Rattle.machine_model.proofs.Counting.{one}
-use Rattle.machine_model.proofs.Totals.{total}
-use Rattle.machine_model.proofs.Placed.{is_job, find_sound}
-use Rattle.machine_agreement.proofs.Queues.{list_at}
-use Rattle.machine_agreement.proofs.CommandsKept.{nobody, no_job}
+use Rattle.machine_model.proofs.Counting.{one, total}
+use Rattle.machine_model.proofs.Tokens.{is_job, find_sound}
+use Rattle.machine_agreement.proofs.Standing.{list_at}
+use Rattle.machine_agreement.proofs.Commands.{nobody, no_job}
 use Rattle.run_laws.proofs.Carrying.{Stands}
 use Rattle.run_laws.proofs.ReadsKept.{pages_stay, walks_it}
 use Rattle.run_laws.proofs.ReadsWalked.{first_all}

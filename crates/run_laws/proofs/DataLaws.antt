@@ -18,23 +18,21 @@ use Rattle.machine_model.specs.Image.{Made, is_draft, draft_of, submitted_by}
 use Rattle.machine_model.specs.Trusted.{TrustedRun, Steps, drafts_of}
 use Rattle.run_laws.specs.Statuses.{fetches}
 use Rattle.machine_model.specs.Step.{zeroed, pages_with_bytes, Step}
-use Rattle.machine_agreement.proofs.Members.{all_at_found, some_is}
+use Rattle.machine_agreement.proofs.Provided.{all_at_found, some_is}
 use Rattle.run_laws.proofs.Carrying.{Stands}
 use Rattle.run_laws.proofs.ReadLaws.{reads_give, stopped_reads}
-use Rattle.machine_agreement.proofs.Unforged.{Unforged, unforged_next, unforged_front, unforged_run, unforged_end}
+use Rattle.machine_agreement.proofs.Along.{Unforged, unforged_next, unforged_front, unforged_run, unforged_end, cut}
 use Rattle.run_laws.specs.Submitted.{CollectedCommand, FetchedCommand, submits, was_fetched, unfetched_commands_keep_their_data, unfetched_commands_keep_the_drafts_bytes, unfetched_commands_were_deleted, successful_commands_were_fetched, AreZeros, drafts_of_reserve_are_zero, unfetched_commands_of_zeros_gather_zeros, fetched_commands_have_their_fetch, commands_are_fetched_once, fetched_reads_give_a_prefix, successful_reads_give_their_blocks, collected_commands_were_submitted}
 use Rattle.run_laws.proofs.DataKept.{along_steps, Going, left_step, stood_step, stood_along, IsOfDraft, found_draft, held_goes, goes_on, reaped_on, sub_goes, drafts_same, Unread, Untouched, Waits, unread_step, unread_submit, Course, course, alone_of, at_draft, request_stays, Collects, collects_held}
 use Rattle.run_laws.proofs.DataOnce.{once}
-use Rattle.machine_agreement.proofs.ProperValues.{hosts_own}
+use Rattle.machine_agreement.proofs.Served.{hosts_own, Stood}
 use Rattle.machine_model.specs.Work.{Work}
 use Rattle.machine_model.specs.Claims.{OwnsFit}
 use Rattle.machine_model.specs.Opening.{opening}
 use Rattle.machine_model.specs.Events.{Event, Reply}
 use Rattle.machine_agreement.proofs.PlacesKept.{ids_of}
-use Rattle.machine_agreement.proofs.Served.{Stood}
-use Rattle.machine_agreement.proofs.WalksKept.{stood_at_opening}
+use Rattle.machine_agreement.proofs.NeverFull.{stood_at_opening}
 use Rattle.run_laws.proofs.Moves.{RecordsMove, records_event}
-use Rattle.machine_agreement.proofs.Along.{cut}
 use Rattle.run_laws.proofs.Images.{refused_drafts}
 
 -- What collected commands give back.
@@ -211,7 +209,7 @@ AllDrafted drafts s = AllByRecursion (HasDraft drafts) s.host.records
 
 more_drafts : (q cid : ℕ) (new drafts : List DraftContents) → is_some (draft_of q cid drafts) ≡ true → is_some (draft_of q cid (new ++ drafts)) ≡ true
 more_drafts q cid [] drafts h = h
-more_drafts q cid (d ∷ new) drafts h = let h1 = more_drafts q cid new drafts h in grind arith
+more_drafts q cid (d ∷ new) drafts h = grind (arith, more_drafts q cid new drafts h)
 
 submitted_is : (s : State) (e : Event) (reply : Reply) → Going s e reply → (d : DraftContents) → e ≡ events.Submit d → submitted_by e reply ≡ d ∷ []
 submitted_is s (events.Submit x) events.Accepted g d is = ap (λ (y : DraftContents). y ∷ []) (drafts_same is)

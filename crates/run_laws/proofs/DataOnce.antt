@@ -3,7 +3,7 @@ use Rattle.machine_model.specs.After as a
 use Rattle.machine_model.specs.Events as events
 use Rattle.machine_model.specs.declared.words.Refusal.TheVariants as refusals
 use Rattle.std.proofs.Common.{◌≡◌, ℕ, ◌+◌, ◌-◌, ◌≤◌, ◌==◌, Bool, true, false, ◌&&◌, ◌||◌, Option, Some, None, List, [], ◌∷◌, ◌++◌, drop, slice_get, is_some, if◌then◌else◌, refl, ap, sym, ◌∙◌, arith, subst, eqb-true, eq-eqb, inl, inr, zero, suc, ◌<◌, not, All, is_none, append-nil, append_assoc}
-use Rattle.machine_agreement.proofs.Cases.{option_is}
+use Rattle.machine_model.proofs.Cases.{option_is}
 use Rattle.std.specs.Option.{option_map_or, option_map}
 use Rattle.std.specs.List.{AllByRecursion, list_any}
 use Rattle.std.proofs.lemmas.Bool.{true≢false, and_parts, or_parts, cases_Bool, not-false}
@@ -21,20 +21,18 @@ use Rattle.machine_model.specs.Proper.{IsProper}
 use Rattle.machine_model.specs.Step.{Step}
 use Rattle.machine_model.specs.After.{change}
 use Rattle.machine_model.specs.Events.{Event, Reply}
-use Rattle.machine_model.proofs.Counting.{one}
-use Rattle.machine_model.proofs.Totals.{total}
-use Rattle.machine_agreement.proofs.Members.{all_append, all_drop_one, some_is, In, in_found, all_at_found, all_in_both, sent}
-use Rattle.machine_agreement.proofs.Unforged.{Unforged, unforged_next, unforged_run}
-use Rattle.machine_agreement.proofs.Served.{Stood, unfetched_count, page_below, data_of, chain_of, more_than_only}
-use Rattle.machine_agreement.proofs.Queues.{list_at, less_at}
-use Rattle.machine_agreement.proofs.Placements.{InHand, in_hand, first_is}
-use Rattle.machine_agreement.proofs.PlacesKept.{running_not_past, ids_of, drafted_not}
-use Rattle.machine_agreement.proofs.CommandsKept.{nobody}
+use Rattle.machine_model.proofs.Counting.{one, total}
+use Rattle.machine_agreement.proofs.Provided.{all_append, all_drop_one, some_is, In, in_found, all_at_found, all_in_both, sent}
+use Rattle.machine_agreement.proofs.Along.{Unforged, unforged_next, unforged_run}
+use Rattle.machine_agreement.proofs.Served.{Stood, unfetched_count, page_below, data_of, chain_of, more_than_only, first_read}
+use Rattle.machine_agreement.proofs.Standing.{list_at, less_at, device-posted}
+use Rattle.machine_agreement.proofs.PlacesKept.{InHand, in_hand, first_is, running_not_past, ids_of, drafted_not}
+use Rattle.machine_agreement.proofs.Commands.{nobody, keeps_fetch, keeps_walk, keeps_complete, only_same}
 use Rattle.run_laws.proofs.Causes.{not_conflicting}
 use Rattle.run_laws.proofs.Moves.{QueueMove, queues_event, RecordsMove, records_event}
 use Rattle.run_laws.specs.Submitted.{submits, HasListOf, chains_are_the_drafts}
 use Rattle.run_laws.proofs.DataKept.{Going, one_step, stood_step, left_step, submits_far, IsOfDraft, Found, found_draft, submits_of}
-use Rattle.machine_model.proofs.Steps.{permitted, exact, Accepts}
+use Rattle.machine_model.proofs.Steps.{permitted, exact, Accepts, first_fails, rest_fails}
 use Rattle.run_laws.proofs.ReadsWalked.{sent_few}
 use Rattle.page_ledger.specs.Owners.{is_among}
 use Rattle.page_memory.specs.Pages.{Pages, page_at, byte_at}
@@ -53,14 +51,9 @@ use Rattle.machine_model.specs.Claims.{OwnsFit}
 use Rattle.machine_agreement.specs.Laws.{entries_of}
 use Rattle.machine_model.specs.Opening.{opening}
 use Rattle.machine_model.specs.declared.words.Refusal.{Refusal}
-use Rattle.machine_model.proofs.Refused.{first_fails, rest_fails}
-use Rattle.machine_agreement.proofs.Placing.{device-posted}
-use Rattle.machine_agreement.proofs.Grounds.{pair_at}
-use Rattle.machine_agreement.proofs.Commanding.{keeps_fetch, keeps_walk, keeps_complete, only_same}
-use Rattle.machine_agreement.proofs.Submitting.{first_read}
-use Rattle.machine_agreement.proofs.WalksKept.{host_jobs, stood_on, stood_at_opening}
+use Rattle.machine_agreement.proofs.TiedAll.{pair_at}
+use Rattle.machine_agreement.proofs.NeverFull.{host_jobs, stood_on, stood_at_opening, all_of}
 use Rattle.machine_agreement.proofs.JobLaws.{stay_after, entries_named}
-use Rattle.machine_agreement.proofs.NeverFull.{all_of}
 use Rattle.run_laws.proofs.Known.{unsent, same_draft}
 
 -- A command is fetched once: behind its fetch no entry of it is left to fetch.

@@ -1,5 +1,5 @@
 -- Between two completions of a command it was submitted anew: from its completion on no entry and no job of it is at the controller.
-use Rattle.machine_agreement.proofs.Cases.{none_some}
+use Rattle.machine_model.proofs.Cases.{none_some}
 use Rattle.std.proofs.Common.{◌≡◌, ℕ, ◌<◌, ◌≤◌, ◌==◌, Bool, true, false, not, ◌&&◌, Option, Some, None, List, [], ◌∷◌, ◌++◌, filter, if◌then◌else◌, refl, ap, sym, ◌∙◌, arith, subst, eqb-true, eq-eqb, inl, inr}
 use Rattle.std.specs.Option.{option_map, option_map_or}
 use Rattle.std.specs.List.{AllByRecursion, list_any}
@@ -16,19 +16,17 @@ use Rattle.machine_model.specs.After as a
 use Rattle.machine_model.specs.Events as events
 use Rattle.machine_model.specs.Events.{Event, Reply}
 use Rattle.run_laws.specs.Statuses.{status_by}
-use Rattle.machine_agreement.proofs.Along.{cut}
-use Rattle.machine_agreement.proofs.CommandsKept.{nobody}
-use Rattle.machine_model.proofs.Counting.{one}
+use Rattle.machine_agreement.proofs.Along.{cut, unforged_front}
+use Rattle.machine_agreement.proofs.Commands.{nobody}
+use Rattle.machine_model.proofs.Counting.{one, total}
 use Rattle.machine_agreement.proofs.DeviceMoves.{finished}
-use Rattle.machine_agreement.proofs.Placing.{device-answered}
+use Rattle.machine_agreement.proofs.Standing.{device-answered}
 use Rattle.machine_agreement.proofs.JobLaws.{not_zero as positive}
 use Rattle.run_laws.proofs.Moves.{JobsMove, jobs_event}
-use Rattle.machine_agreement.proofs.Members.{in_found, all_at_found}
-use Rattle.machine_model.proofs.Placed.{find_sound}
+use Rattle.machine_agreement.proofs.Provided.{in_found, all_at_found}
+use Rattle.machine_model.proofs.Tokens.{find_sound}
 use Rattle.machine_agreement.proofs.Served.{Stood, job_weight, unfetched_count}
 use Rattle.machine_model.proofs.Steps.{Accepts}
-use Rattle.machine_model.proofs.Totals.{total}
-use Rattle.machine_agreement.proofs.Unforged.{unforged_front}
 use Rattle.run_laws.specs.Ends.{submits_by, submits, commands_complete_once}
 use Rattle.run_laws.proofs.DataKept.{Going, left_step, along_steps}
 use Rattle.run_laws.proofs.DataOnce.{NoEntry, no_entry_step, none_next}

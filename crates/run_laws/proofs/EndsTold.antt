@@ -29,24 +29,21 @@ use Rattle.machine_model.specs.Events.{Event, Reply}
 use Rattle.machine_model.specs.Image.{Made}
 use Rattle.run_laws.specs.Statuses.{deletes, status_by, status_given}
 use Rattle.machine_agreement.proofs.Along.{made_of, Carried}
-use Rattle.machine_model.proofs.Asked.{asked_at, was_asked}
-use Rattle.machine_model.proofs.AwaitedKept.{asked_as_heard, ring_at}
+use Rattle.machine_model.proofs.Sound.{asked_at, was_asked, named, status_in}
+use Rattle.machine_model.proofs.Kept.{asked_as_heard, ring_at, deleted_serves}
 use Rattle.run_laws.proofs.Causes.{any_longer, any_last}
-use Rattle.machine_agreement.proofs.DeviceMoves.{answer_of, finished, cleared, clears, fetch_by, complete_by}
+use Rattle.machine_agreement.proofs.DeviceMoves.{answer_of, finished, cleared, clears, fetch_by, complete_by, is_over}
 use Rattle.machine_agreement.proofs.Heads.{changed_at}
 use Rattle.run_laws.proofs.Moves.{JobsMove, jobs_event, queues_walk, QueueMove, queues_event, told_entry}
-use Rattle.machine_model.proofs.Lists.{all_at}
-use Rattle.machine_model.proofs.Managed.{managed_by}
-use Rattle.machine_agreement.proofs.Members.{all_at_found, In, all_in, all_in_both, all_map, all_filter, all_with, all_append, all_drop_one, sent, sent_found, some_is}
+use Rattle.machine_model.proofs.Counting.{all_at, one, total}
+use Rattle.machine_model.proofs.Steps.{managed_by, unrefused, Accepts, part_controller, first_fails, found, pages_match}
+use Rattle.machine_agreement.proofs.Provided.{all_at_found, In, all_in, all_in_both, all_map, all_filter, all_with, all_append, all_drop_one, sent, sent_found, some_is}
 use Rattle.machine_model.proofs.Moves.{host_moves, deleted_is, half_made_is, half_from, queue_found, drafted_record, sent_record, creates_cq, creates_sq}
-use Rattle.machine_model.proofs.Owned.{HoldsPart}
-use Rattle.machine_model.proofs.Placed.{gone_at, is_job}
-use Rattle.machine_model.proofs.Refused.{unrefused, first_fails, found, pages_match}
-use Rattle.machine_model.proofs.Resetting.{reset_state, all_reset, lost_by}
+use Rattle.machine_model.proofs.Owned.{HoldsPart, reset_state, all_reset, lost_by}
+use Rattle.machine_model.proofs.Tokens.{gone_at, is_job}
 use Rattle.machine_agreement.proofs.Served.{Stood, answers_at}
-use Rattle.machine_model.proofs.Steps.{Accepts, part_controller}
 use Rattle.machine_agreement.proofs.Tied.{below, deleted_is_gone}
-use Rattle.machine_agreement.proofs.TiedAll.{live_is_there}
+use Rattle.machine_agreement.proofs.TiedAll.{live_is_there, pair_at}
 use Rattle.run_laws.specs.Ends.{renews_by, renews, since_renewed, submits_by, submits, WasLost, WasLostByReset}
 use Rattle.std.proofs.lemmas.List.{append_assoc}
 use Rattle.entry_codec.specs.declared.status.Status.{Status}
@@ -61,16 +58,10 @@ use Rattle.machine_model.specs.declared.words.Reaped.TheVariants.{Empty, Rejecte
 use Rattle.machine_model.specs.Proper.{IsProper}
 use Rattle.machine_model.specs.Opening.{Opens, opening, device_queue as opened}
 use Rattle.machine_model.specs.Claims.{OwnsFit}
-use Rattle.machine_model.proofs.Counting.{one}
-use Rattle.machine_model.proofs.Totals.{total}
-use Rattle.machine_model.proofs.Halves.{deleted_serves}
-use Rattle.machine_agreement.proofs.Paired.{is_over}
-use Rattle.machine_model.proofs.Out.{named, status_in}
-use Rattle.machine_agreement.proofs.Grounds.{pair_at}
-use Rattle.machine_agreement.proofs.Queues.{list_at}
+use Rattle.machine_agreement.proofs.Standing.{list_at}
 use Rattle.machine_agreement.proofs.PlacesKept.{reaped_answer, ids_of}
 use Rattle.run_laws.proofs.ReadsKept.{Member, members}
-use Rattle.machine_agreement.proofs.WalksKept.{stood_on, stood_at_opening}
+use Rattle.machine_agreement.proofs.NeverFull.{stood_on, stood_at_opening}
 use Rattle.run_laws.proofs.OneEnd.{opened_lists}
 
 -- A submission queue that is in service at the host and absent at the controller was deleted: a Delete SQ of it was fetched since it was last retired or asked for anew, and since the controller was last reset.
@@ -86,7 +77,7 @@ since_longer : (q : ℕ) (done : List Made) (m : Made) → renews q m ≡ false 
 since_longer q [] m far = ap (λ (b : Bool). if b then [] else m ∷ []) far
 since_longer q (x ∷ done) m far =
     ap (λ (b : Bool). if b then since_renewed q (done ++ m ∷ []) else if renews q x then done ++ m ∷ [] else x ∷ (done ++ m ∷ [])) (any_more (renews q) done m far)
-    ∙ let h2 = since_longer q done m far in grind arith
+    ∙ grind (arith, since_longer q done m far)
 
 -- a Delete SQ of a queue was fetched since then
 abbrev pub DeletedSince : ℕ → List Made → Type 0

@@ -29,28 +29,25 @@ use Rattle.run_laws.specs.Blocks.{the_image_is_the_runs, blocks_of_request, comp
 use Rattle.machine_model.specs.After.{final_status}
 use Rattle.machine_model.specs.Events.{Event, Reply}
 use Rattle.machine_model.specs.declared.words.Refusal.{Refusal}
-use Rattle.machine_model.proofs.Managed.{managed_by}
-use Rattle.machine_agreement.proofs.Placing.{device-answered}
-use Rattle.machine_model.proofs.Placed.{find_sound}
-use Rattle.machine_model.proofs.Steps.{Accepts, permitted}
-use Rattle.machine_agreement.proofs.Members.{in_found, all_at_found, some_is}
+use Rattle.machine_model.proofs.Steps.{managed_by, Accepts, same_lists, permitted}
+use Rattle.machine_agreement.proofs.Standing.{device-answered}
+use Rattle.machine_model.proofs.Tokens.{find_sound, is_job as is_job_tokens}
+use Rattle.machine_agreement.proofs.Provided.{in_found, all_at_found, some_is}
 use Rattle.machine_agreement.proofs.PlacesKept.{ids_of}
-use Rattle.machine_agreement.proofs.Served.{Stood, JobList, job_list}
-use Rattle.machine_agreement.proofs.WalksKept.{stood_on, stood_at_opening}
+use Rattle.machine_agreement.proofs.Served.{Stood, JobList, job_list, good_is}
+use Rattle.machine_agreement.proofs.NeverFull.{stood_on, stood_at_opening}
 use Rattle.machine_agreement.proofs.Frames.{host_image}
 use Rattle.run_laws.proofs.Causes.{goes_well, cause, CausedIfIo, has_verdict, Traced, traced_before, statuses_have_causes, compare_opcode}
 use Rattle.run_laws.proofs.Known.{OfDraft, OfDraftIfIo, JobKnown, RecordKnown, Known, known_on, all_carried}
 use Rattle.machine_agreement.proofs.DeviceMoves.{fetch_by, walk_by}
 use Rattle.machine_agreement.proofs.Along.{Carried, AtOpenings, Before, keeps, made_of, run_along, run_before}
-use Rattle.machine_agreement.proofs.Cases.{option_is}
+use Rattle.machine_model.proofs.Cases.{option_is}
 use Rattle.std.specs.List.{list_any}
 use Rattle.entry_codec.specs.declared.io_opcode.TheConstants.{COMPARE}
 use Rattle.io_commands.specs.Values.{IsGood}
 use Rattle.machine_model.specs.Status.{same_status}
 use Rattle.machine_model.specs.Step.{Step}
 use Rattle.run_laws.specs.Statuses.{status_by, aborts, deletes, since_fetch, has_cause, is_compare}
-use Rattle.machine_model.proofs.Refused.{same_lists}
-use Rattle.machine_agreement.proofs.Entered.{good_is}
 use Rattle.machine_agreement.proofs.JobLaws.{not_zero as positive}
 use Rattle.run_laws.specs.Walked.{compares_by_their_drafts, compare_failures_are_of_compares}
 
@@ -389,7 +386,7 @@ told_by_draft drafts s q cid j d stood known at latest kind = elim (cases_Bool (
 ]
   where
     its_queue : j.q ≡ q
-    its_queue = eqb-true j.q q (and_parts (j.q == q) (j.entry.cid == cid) (find_sound (is_job q cid) s.device.jobs j at)).0
+    its_queue = eqb-true j.q q (and_parts (j.q == q) (j.entry.cid == cid) (find_sound (is_job_tokens q cid) s.device.jobs j at)).0
 
     no_draft : None ≡ Some d → ⊥
     no_draft e = cc
@@ -410,7 +407,7 @@ pub failures_of_compares : compare_failures_are_of_compares
 failures_of_compares image earlier later m end q cid run io status =
     let b = (imaged_before image earlier later m end run).holds in
     let x = completed_job m.before m.event m.reply q cid COMPARE_FAILURE status in
-    let ids = and_parts (x.0.q == q) (x.0.entry.cid == cid) (find_sound (is_job q cid) m.before.device.jobs x.0 x.1) in
+    let ids = and_parts (x.0.q == q) (x.0.entry.cid == cid) (find_sound (is_job_tokens q cid) m.before.device.jobs x.0 x.1) in
     let other : (x.0.q == 0) ≡ false = ap (λ (n : ℕ). n == 0) (eqb-true x.0.q q ids.0) ∙ positive q io in
     let k = job_draft (drafts_of earlier) m.before q cid x.0 b.stood b.known other x.1 in
     let opcode : (x.0.entry.opcode == COMPARE) ≡ true =

@@ -31,25 +31,20 @@ use Rattle.machine_model.specs.Image.{draft_of, submitted_by}
 use Rattle.machine_model.specs.After.{course_of}
 use Rattle.machine_model.specs.Events.{Event, Reply}
 use Rattle.machine_model.specs.Weights.{one, total, sent}
-use Rattle.machine_model.proofs.Counting.{held_once}
-use Rattle.machine_model.proofs.Steps.{Accepts}
-use Rattle.machine_model.proofs.Refused.{pages_match, same_lists}
+use Rattle.machine_model.proofs.Counting.{held_once, all_at}
+use Rattle.machine_model.proofs.Steps.{Accepts, pages_match, same_lists}
 use Rattle.machine_model.proofs.Owned.{in_record}
-use Rattle.machine_agreement.proofs.Members.{In, sent_found, in_at, all_at_found, some_is}
-use Rattle.machine_agreement.proofs.Elsewhere.{owned_once}
-use Rattle.machine_agreement.proofs.Grounds.{Grounds}
-use Rattle.machine_agreement.proofs.Untouched.{untouched}
+use Rattle.machine_agreement.proofs.Provided.{In, sent_found, in_at, all_at_found, some_is}
+use Rattle.machine_agreement.proofs.Untouched.{owned_once, untouched}
+use Rattle.machine_agreement.proofs.TiedAll.{Grounds}
 use Rattle.machine_agreement.proofs.PlacesKept.{ids_of, drafted_not}
-use Rattle.machine_agreement.proofs.Submitting.{requests_same}
-use Rattle.machine_agreement.proofs.Entered.{entry_direction, good_is}
-use Rattle.machine_agreement.proofs.Served.{Stood, counts_sent, data_of, JobList, job_list, same_list, course_in, CourseWhole, course_whole}
-use Rattle.machine_agreement.proofs.CommandsAll.{walk_writes_to, Walking}
+use Rattle.machine_agreement.proofs.Served.{requests_same, entry_direction, Stood, counts_sent, data_of, good_is, JobList, job_list, same_list, course_in, CourseWhole, course_whole}
+use Rattle.machine_agreement.proofs.Commands.{walk_writes_to, Walking, submitted_pages}
 use Rattle.run_laws.proofs.Causes.{goes_well}
 use Rattle.run_laws.proofs.Carrying.{carried, did, carried_more, carried_same, MovesTo, moves_to, carried_length, carried_byte, Stands, Gathers, IsPlace, gathers_pieces, all_stand, none_discarded, source_places}
 use Rattle.run_laws.proofs.Moves.{RecordsMove, records_event, JobsMove, jobs_event, walked_bytes}
 use Rattle.machine_model.proofs.Moves.{draft_found, draft_lives, posts, posted_is}
-use Rattle.machine_agreement.proofs.CommandsKept.{submitted_pages}
-use Rattle.machine_agreement.proofs.Cases.{none_some}
+use Rattle.machine_model.proofs.Cases.{none_some}
 use Rattle.std.proofs.lemmas.List.{length-replicate}
 use Rattle.sgl_descriptor.specs.declared.Part.{Part}
 use Rattle.sgl_descriptor.specs.Targets.{Target, Place, targets}
@@ -63,7 +58,6 @@ use Rattle.entry_codec.specs.declared.status.TheConstants.Status.{INVALID_OPCODE
 use Rattle.io_commands.specs.declared.request.Kind.{Kind}
 use Rattle.io_commands.specs.declared.request.Kind.TheVariants.{Read, Write, Compare}
 use Rattle.machine_model.specs.Claims.{OwnsFit}
-use Rattle.machine_model.proofs.Lists.{all_at}
 use Rattle.machine_agreement.proofs.JobLaws.{stay_after as lists_stay}
 
 -- What is known of source commands: their data pages hold what their drafts gathered, and their jobs carry it.

@@ -1,12 +1,12 @@
 -- The laws of ends and of Reads.
 use Rattle.machine_model.specs.declared.words.Refusal.TheVariants as refusal
 use Rattle.machine_model.specs.Events as events
-use Rattle.std.proofs.Common.{◌≡◌, ◌⊎◌, inl, inr, ℕ, ◌==◌, nat_lt, Bool, true, false, not, ◌&&◌, ◌||◌, Option, Some, None, List, [], ◌∷◌, ◌++◌, option_and_then, refl, ap, ap₂, sym, ◌∙◌, arith, subst, eqb-true, zero, suc, length, replicate, if◌then◌else◌, eq-eqb, append_assoc}
+use Rattle.std.proofs.Common.{◌≡◌, ◌⊎◌, inl, inr, ℕ, ◌==◌, nat_lt, Bool, true, false, not, ◌&&◌, ◌||◌, Option, Some, None, List, [], ◌∷◌, ◌++◌, option_and_then, refl, ap, ap₂, sym, ◌∙◌, arith, subst, eqb-true, zero, suc, length, replicate, if◌then◌else◌, eq-eqb}
 use Rattle.std.specs.Option.{option_map_or, option_map}
 use Rattle.std.specs.List.{list_any, AllByRecursion}
 use Rattle.std.proofs.lemmas.Bool.{true≢false, and_parts, not-false, or_parts, or_left, or_right, not-true}
 use Rattle.std.proofs.lemmas.Bool.Decides.{nat_tests}
-use Rattle.std.proofs.lemmas.List.{length-replicate}
+use Rattle.std.proofs.lemmas.List.{append_assoc, length-replicate}
 use Rattle.entry_codec.specs.declared.completion.ComEntry.{ComEntry}
 use Rattle.entry_codec.specs.declared.status.Status.{Status}
 use Rattle.entry_codec.specs.declared.status.TheConstants.Status.{SUCCESS, ABORT_REQUESTED, ABORTED_SQ_DELETION, LBA_OUT_OF_RANGE, COMPARE_FAILURE}
@@ -25,18 +25,17 @@ use Rattle.machine_model.specs.Events.{Event, Reply}
 use Rattle.machine_model.specs.Image.{Made, draft_of, image_after, undiscarded}
 use Rattle.machine_model.specs.Trusted.{TrustedRun, drafts_of}
 use Rattle.run_laws.specs.Statuses.{aborts, deletes, since_fetch, passes_image, is_compare, fetches}
-use Rattle.machine_model.proofs.Steps.{Accepts, permitted}
-use Rattle.machine_model.proofs.Refused.{first_fails, rest_fails}
+use Rattle.machine_model.proofs.Steps.{Accepts, permitted, first_fails, rest_fails}
 use Rattle.run_laws.proofs.Causes.{statuses_have_causes}
 use Rattle.machine_agreement.proofs.JobLaws.{not_zero as positive}
 use Rattle.run_laws.proofs.Moves.{told_entry}
-use Rattle.machine_model.proofs.Out.{named, status_in}
-use Rattle.machine_agreement.proofs.Members.{all_at_found, some_is}
+use Rattle.machine_model.proofs.Sound.{named, status_in}
+use Rattle.machine_agreement.proofs.Provided.{all_at_found, some_is}
 use Rattle.machine_agreement.proofs.PlacesKept.{reaped_answer, ids_of}
 use Rattle.run_laws.specs.Ends.{retires_by, WasCompleted, WasLost, WasLostByReset, CauseOfEnd, Succeeded, Aborted, Stopped, Lost, LostByReset, PastImage, Differed, ends_come_from_completions, retired_queues_were_deleted, collects_tell_how_commands_ended, every_collect_has_its_cause}
 use Rattle.machine_agreement.proofs.Along.{Before, keeps, run_before}
 use Rattle.run_laws.proofs.EndsTold.{DeletedSince, CompletedIn, EndedIn, AnswerTold, HeldTold, Told, told_carried, told_at_opening, deleted_before, first_told}
-use Rattle.machine_agreement.proofs.Cases.{option_is}
+use Rattle.machine_model.proofs.Cases.{option_is}
 use Rattle.page_ledger.specs.Owners.{is_among}
 use Rattle.block_image.specs.Blocks.{blocks_at}
 use Rattle.page_memory.specs.Pages.{Pages, page_at}
@@ -48,8 +47,7 @@ use Rattle.io_commands.specs.Requests.{parts_of}
 use Rattle.io_commands.specs.DataBytes.{PagesOut, gathered}
 use Rattle.io_commands.specs.Drafts.{DraftContents}
 use Rattle.run_laws.specs.Blocks.{collected_of, is_read, blocks_of_request, partly, reads_give_their_blocks, stopped_reads_give_a_prefix}
-use Rattle.machine_agreement.proofs.Entered.{good_is}
-use Rattle.machine_agreement.proofs.Served.{Stood}
+use Rattle.machine_agreement.proofs.Served.{good_is, Stood}
 use Rattle.run_laws.proofs.Images.{imaged_before}
 use Rattle.run_laws.proofs.Carrying.{Gathers, Stands, gathers_pieces, all_stand, some_stand}
 use Rattle.run_laws.proofs.ReadsKept.{Images, fetched_in, read_targets, read_blocks, ReadSoFar, ReadIfIo, ReadRecord, Member, members, sized_of, targets_length, blocks_length}

@@ -31,24 +31,21 @@ use Rattle.run_laws.specs.Statuses.{fetches_by}
 use Rattle.machine_model.specs.Standing.{IsSized, StandsAs, CommandStands, unfetched_at, HasEntry}
 use Rattle.machine_model.specs.After.{course_of, final_status}
 use Rattle.machine_model.specs.Events.{Event, Reply}
-use Rattle.machine_model.proofs.Counting.{held_once}
+use Rattle.machine_model.proofs.Counting.{held_once, all_at}
 use Rattle.machine_model.specs.Weights.{total, one}
-use Rattle.machine_model.proofs.Steps.{Accepts}
+use Rattle.machine_model.proofs.Steps.{Accepts, pages_match}
 use Rattle.machine_model.proofs.Owned.{in_record, in_queue}
-use Rattle.machine_model.proofs.Placed.{find_sound}
-use Rattle.machine_agreement.proofs.Members.{In, in_at, in_found, is_found, all_at_found, all_in, all_drop_one, all_append, sent_found, some_is}
-use Rattle.machine_model.proofs.Lists.{all_at}
-use Rattle.machine_agreement.proofs.Elsewhere.{owned_once, among_counts}
-use Rattle.machine_agreement.proofs.Grounds.{Grounds}
-use Rattle.machine_agreement.proofs.Untouched.{Kept, untouched_kept}
-use Rattle.machine_agreement.proofs.Entered.{good_is, entry_direction, parts_count}
-use Rattle.machine_agreement.proofs.Served.{Stood, data_of, JobList, job_list, course_whole}
-use Rattle.machine_agreement.proofs.Queues.{list_at}
-use Rattle.machine_agreement.proofs.CommandsAll.{Walking, walk_writes}
+use Rattle.machine_model.proofs.Tokens.{find_sound}
+use Rattle.machine_agreement.proofs.Provided.{In, in_at, in_found, is_found, all_at_found, all_in, all_drop_one, all_append, sent_found, some_is}
+use Rattle.machine_agreement.proofs.Untouched.{owned_once, among_counts, Kept, untouched_kept}
+use Rattle.machine_agreement.proofs.TiedAll.{Grounds}
+use Rattle.machine_agreement.proofs.Served.{good_is, Stood, data_of, entry_direction, parts_count, JobList, job_list, course_whole}
+use Rattle.machine_agreement.proofs.Standing.{list_at}
+use Rattle.machine_agreement.proofs.Commands.{Walking, walk_writes, in_hand_is}
 use Rattle.run_laws.proofs.Causes.{goes_well, none_found, has_verdict}
 use Rattle.run_laws.proofs.Carrying.{Stands, reach, target_in, list_ordered, all_reached, Received, received_still}
 use Rattle.run_laws.proofs.Moves.{takes, JobsMove, jobs_event, begun_job, QueueMove, queues_event}
-use Rattle.machine_agreement.proofs.Cases.{none_some}
+use Rattle.machine_model.proofs.Cases.{none_some}
 use Rattle.std.specs.Prelude.{unwrap_or}
 use Rattle.std.proofs.lemmas.Bool.Decides.{nat_tests}
 use Rattle.std.proofs.lemmas.Grind.{common_steps}
@@ -63,12 +60,9 @@ use Rattle.io_commands.proofs.Spelled.{carries_entry}
 use Rattle.machine_model.specs.Proper.{IsProper}
 use Rattle.machine_model.specs.Memory.{memory_of}
 use Rattle.machine_model.specs.declared.words.Phase.{Phase}
-use Rattle.machine_agreement.proofs.PlacesKept.{running_not_past}
-use Rattle.machine_agreement.proofs.Placements.{InHand, in_hand, first_is}
-use Rattle.machine_model.proofs.Refused.{pages_match}
-use Rattle.machine_agreement.proofs.Commanding.{in_hand_is}
+use Rattle.machine_agreement.proofs.PlacesKept.{running_not_past, InHand, in_hand, first_is}
 use Rattle.machine_model.specs.Agreeing.{unfetched_count}
-use Rattle.machine_agreement.proofs.HeadsAll.{no_conflict as not_conflicting}
+use Rattle.machine_agreement.proofs.Heads.{no_conflict as not_conflicting}
 use Rattle.run_laws.proofs.Images.{entry_kind, entry_block, entry_blocks}
 use Rattle.run_laws.proofs.Known.{same_draft, submit_record, course_stays, fault_fails}
 

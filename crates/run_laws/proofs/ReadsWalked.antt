@@ -3,7 +3,7 @@ use Rattle.machine_model.specs.After as a
 use Rattle.machine_model.specs.Events as events
 use Rattle.machine_model.specs.declared.words.Reaped.TheVariants as outcome
 use Rattle.std.proofs.Common.{◌≡◌, ℕ, zero, suc, ◌+◌, ◌/◌, ◌%◌, ◌<◌, ◌≤◌, ◌==◌, Bool, true, false, ◌&&◌, Some, None, List, [], ◌∷◌, length, take, drop, slice_get, if◌then◌else◌, refl, ap, sym, ◌∙◌, arith, subst, eqb-true, eq-eqb, inl, inr, nat_eq, ◌||◌, Option, ◌++◌}
-use Rattle.machine_agreement.proofs.Cases.{option_is}
+use Rattle.machine_model.proofs.Cases.{option_is}
 use Rattle.std.specs.Option.{option_and_then, option_map_or}
 use Rattle.std.specs.List.{AllByRecursion}
 use Rattle.std.proofs.lemmas.Bool.{true≢false, and_parts, and_from, eqb-false, cases_Bool}
@@ -34,18 +34,16 @@ use Rattle.machine_model.specs.After.{course_of}
 use Rattle.machine_model.specs.Events.{Event, Reply}
 use Rattle.machine_model.specs.Weights.{one, total, here, sent}
 use Rattle.machine_model.proofs.Counting.{times-append}
-use Rattle.machine_model.proofs.Steps.{Accepts}
+use Rattle.machine_model.proofs.Steps.{Accepts, pages_match, same_lists}
 use Rattle.machine_model.proofs.Owned.{in_record}
-use Rattle.machine_model.proofs.Placed.{find_sound}
+use Rattle.machine_model.proofs.Tokens.{find_sound}
 use Rattle.machine_model.specs.Agreeing.{on_queue, is_out_of_service_at as past_at, unfetched_count, job_weight, answers_at}
-use Rattle.machine_agreement.proofs.Members.{In, in_found, all_in, all_at_found, some_is, all_of, all_in_both}
-use Rattle.machine_agreement.proofs.Elsewhere.{owned_once, bytes_elsewhere}
-use Rattle.machine_agreement.proofs.Grounds.{Grounds}
-use Rattle.machine_agreement.proofs.CommandsKept.{nobody, no_job}
-use Rattle.machine_agreement.proofs.Entered.{entry_direction, good_is}
-use Rattle.machine_agreement.proofs.Served.{Stood, course_in, course_whole}
-use Rattle.machine_agreement.proofs.Queues.{list_at}
-use Rattle.machine_agreement.proofs.CommandsAll.{Walking, walking}
+use Rattle.machine_agreement.proofs.Provided.{In, in_found, all_in, all_at_found, some_is, all_of, all_in_both}
+use Rattle.machine_agreement.proofs.Untouched.{owned_once, bytes_elsewhere}
+use Rattle.machine_agreement.proofs.TiedAll.{Grounds}
+use Rattle.machine_agreement.proofs.Commands.{nobody, Walking, walking, no_job}
+use Rattle.machine_agreement.proofs.Served.{entry_direction, good_is, Stood, course_in, course_whole, requests_same}
+use Rattle.machine_agreement.proofs.Standing.{list_at}
 use Rattle.run_laws.proofs.Causes.{goes_well, Traced, traced_carried, event_keeps}
 use Rattle.run_laws.proofs.Carrying.{MoveTo, MovesTo, moves_to, length_with, reach, reach_more, came, list_ordered, next_above, below_reached, targets_differ, Received, received_more, set_there as set, Stands}
 use Rattle.run_laws.proofs.Known.{course_stays, over_units, page_found, unsent, submitted_stand}
@@ -67,14 +65,12 @@ use Rattle.machine_model.specs.Trusted.{TrustedRun, drafts_of}
 use Rattle.run_laws.specs.Statuses.{fetches_by}
 use Rattle.machine_model.specs.Step.{reaped, reaped_entry}
 use Rattle.machine_model.specs.declared.words.Refusal.{Refusal}
-use Rattle.machine_model.proofs.Refused.{pages_match, same_lists}
 use Rattle.machine_model.proofs.Moves.{named, status_in}
-use Rattle.machine_model.proofs.Out.{reaped_submitted}
+use Rattle.machine_model.proofs.Sound.{reaped_submitted}
 use Rattle.machine_agreement.proofs.PlacesKept.{ids_of, drafted_not, reaped_answer}
-use Rattle.machine_agreement.proofs.Submitting.{requests_same}
 use Rattle.machine_agreement.proofs.Frames.{host_jobs}
 use Rattle.machine_agreement.proofs.Along.{Carried, Before, keeps, made_of, run_before}
-use Rattle.machine_agreement.proofs.WalksKept.{stood_at_opening}
+use Rattle.machine_agreement.proofs.NeverFull.{stood_at_opening}
 
 -- The walk of a Read brings it further.
 

@@ -24,14 +24,13 @@ use Rattle.machine_model.specs.Events.{Event, Reply}
 use Rattle.machine_model.specs.Image.{Made}
 use Rattle.machine_model.specs.Trusted.{TrustedRun, Steps, forges_by}
 use Rattle.run_laws.specs.Statuses.{status_by, fetches, fetches_by}
-use Rattle.machine_model.proofs.Placed.{is_job, find_sound}
-use Rattle.machine_model.proofs.Steps.{Accepts, permitted}
-use Rattle.machine_agreement.proofs.Members.{all_at_found, all_in, only_found, some_is}
-use Rattle.machine_agreement.proofs.Unforged.{Unforged, unforged_front, unforged_back, unforged_run, trusted_end}
+use Rattle.machine_model.proofs.Tokens.{is_job, find_sound}
+use Rattle.machine_model.proofs.Steps.{Accepts, managed_by, permitted}
+use Rattle.machine_agreement.proofs.Provided.{all_at_found, all_in, only_found, some_is}
+use Rattle.machine_agreement.proofs.Along.{Unforged, unforged_front, unforged_back, unforged_run, Carried, keeps, made_of, cut, along_proper, before_step, stays_trusted, trusted_end, trusted_step_by}
 use Rattle.machine_agreement.proofs.Served.{Stood}
-use Rattle.machine_agreement.proofs.WalksKept.{one_job, stood_on, stood_at_opening, some_none, host_jobs}
+use Rattle.machine_agreement.proofs.NeverFull.{one_job, stood_on, stood_at_opening, some_none, host_jobs}
 use Rattle.run_laws.specs.Verdicts.{FoundDifference, first_verdicts_count, jobs_stay, KeepsVerdict, IsRefusedWalk, verdicts_stay, verdicts_end_walks}
-use Rattle.machine_agreement.proofs.Along.{Carried, keeps, made_of, cut, along_proper, before_step, trusted_step_by}
 use Rattle.run_laws.proofs.OneEnd.{none_parts}
 use Rattle.run_laws.proofs.Moves.{JobsMove, jobs_event}
 use Rattle.run_laws.proofs.Causes.{compare_opcode}
@@ -43,9 +42,7 @@ use Rattle.sgl_descriptor.specs.declared.Direction.TheVariants.{Destination, Sou
 use Rattle.entry_codec.specs.declared.admin_opcode.TheConstants.{DELETE_IO_SQ}
 use Rattle.page_memory.specs.Pages.{with_bytes, with_page_bytes, zero_page}
 use Rattle.machine_model.specs.Step.{resets, Step, Refuses}
-use Rattle.machine_model.proofs.Managed.{managed_by}
-use Rattle.machine_agreement.proofs.Placing.{device-answered}
-use Rattle.machine_agreement.proofs.Flag.{stays_trusted}
+use Rattle.machine_agreement.proofs.Standing.{device-answered}
 use Rattle.machine_model.specs.declared.words.Refusal.{Refusal}
 use Rattle.machine_model.specs.declared.words.Refusal.TheVariants.{NoJob, Nothing, Memory}
 use Rattle.machine_agreement.proofs.JobLaws.{stood_after}

@@ -13,14 +13,14 @@ use Rattle.machine_model.specs.Image.{Made}
 use Rattle.run_laws.specs.Statuses.{fetches, fetches_by, since_fetch}
 use Rattle.machine_model.specs.Events.{Event, Reply}
 use Rattle.machine_model.specs.declared.words.Refusal.{Refusal}
-use Rattle.machine_model.proofs.Placed.{is_job, find_sound}
-use Rattle.machine_agreement.proofs.Members.{all_at, all_at_found, all_in, some_is}
+use Rattle.machine_model.proofs.Tokens.{is_job, find_sound}
+use Rattle.machine_agreement.proofs.Provided.{all_at, all_at_found, all_in, some_is}
 use Rattle.machine_agreement.proofs.Served.{Stood}
-use Rattle.machine_agreement.proofs.WalksKept.{stood_on, stood_at_opening, host_jobs}
-use Rattle.machine_agreement.proofs.Placements.{in_hand}
+use Rattle.machine_agreement.proofs.NeverFull.{stood_on, stood_at_opening, host_jobs}
+use Rattle.machine_agreement.proofs.PlacesKept.{in_hand}
 use Rattle.run_laws.proofs.Causes.{since_more, any_longer, any_last, not_conflicting, none_found, refused_no_fetch}
 use Rattle.machine_agreement.proofs.JobLaws.{not_zero as positive, stood_after}
-use Rattle.machine_agreement.proofs.Along.{Carried, keeps, made_of, run_along, cut}
+use Rattle.machine_agreement.proofs.Along.{Carried, keeps, made_of, run_along, Unforged, unforged_next, unforged_front, unforged_back, unforged_run, unforged_end, trusted_end, cut}
 use Rattle.run_laws.proofs.Moves.{JobsMove, jobs_event, is_walked}
 use Rattle.run_laws.specs.Walked.{walks_by, walks_of, times_walked, units_done_count_the_walks, HasJobSo, walks_go_on_without_a_verdict, completes_by, ends_job, ends_walk_by, only_the_last_walk_ends}
 use Rattle.run_laws.proofs.DataKept.{Going, stood_step, stood_along, along_steps}
@@ -40,11 +40,9 @@ use Rattle.page_memory.specs.Pages.{with_page_bytes, with_bytes}
 use Rattle.machine_model.specs.Opening.{opening}
 use Rattle.machine_model.specs.Trusted.{Steps}
 use Rattle.machine_model.specs.Step.{Step, resets, unit_answered}
-use Rattle.machine_model.proofs.Managed.{managed_by}
-use Rattle.machine_agreement.proofs.Placing.{device-answered}
-use Rattle.machine_agreement.proofs.Unforged.{Unforged, unforged_next, unforged_front, unforged_back, unforged_run, unforged_end, trusted_end}
-use Rattle.machine_agreement.proofs.CommandsAll.{walking}
-use Rattle.machine_model.proofs.Steps.{permitted, exact}
+use Rattle.machine_model.proofs.Steps.{managed_by, permitted, exact}
+use Rattle.machine_agreement.proofs.Standing.{device-answered}
+use Rattle.machine_agreement.proofs.Commands.{walking}
 
 -- A job has done as many units as there were walk steps of it since its fetch.
 
@@ -64,7 +62,7 @@ AllCounted earlier s = AllByRecursion (CountedIfIo earlier) s.device.jobs
 
 filtered_more : (test : Made → Bool) (xs : List Made) (m : Made) → length (filter test (xs ++ m ∷ [])) ≡ length (filter test xs) + (if test m then 1 else 0)
 filtered_more test [] m = grind arith
-filtered_more test (x ∷ xs) m = let h1 = filtered_more test xs m in grind arith
+filtered_more test (x ∷ xs) m = grind (arith, filtered_more test xs m)
 
 since_new : (q cid : ℕ) (xs : List Made) (m : Made) → fetches q cid m ≡ true → since_fetch q cid (xs ++ m ∷ []) ≡ []
 since_new q cid [] m h = ap (λ (b : Bool). if b then [] else []) h

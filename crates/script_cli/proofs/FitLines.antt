@@ -5,7 +5,7 @@ use Rattle.std.proofs.lemmas.List.Elements.{All-nil, All-push}
 use Rattle.io_commands.specs.Requests.{FitsPiece}
 use Rattle.io_commands.specs.declared.request.Piece.{Piece}
 use Rattle.io_commands.specs.declared.request.Piece.TheVariants.{Data, Bucket}
-use Rattle.machine_agreement.proofs.Members.{all_append}
+use Rattle.machine_agreement.proofs.Provided.{all_append}
 use Rattle.script_cli.specs.Grammar.{Words, ◌>>=◌, value_or, wanted, number_word, kind_word, hex_word, sixteen_bytes_word, nothing_more, with_piece, pieces_from, reserve_line, fill_line, forge_line, queue_line, command_line, verb_line, begins_comment, known_verb_line, line_of_words, words_of, line_of}
 use Rattle.script_cli.specs.Lines.{lines, before, onward}
 use Rattle.script_cli.specs.Numbers.{digits_from, if_below, number, hex, if_sixteen, sixteen_bytes}

@@ -7,8 +7,8 @@ use Rattle.page_ledger.proofs.Tables.{slice_get-set_same}
 use Rattle.machine_model.specs.Memory.{is_in}
 use Rattle.page_memory.specs.Pages.{Pages, page_at}
 use Rattle.host_core.specs.Alone.{HostView, IsOver}
-use Rattle.host_core.proofs.Exact.{writes_leave_over}
-use Rattle.host_core.proofs.Pages.{set-other, pool-without, pool-with}
+use Rattle.host_core.proofs.Told.{writes_leave_over}
+use Rattle.host_core.proofs.PageOwners.{set-other, pool-without, pool-with}
 use Rattle.sides_tests.specs.Pages.{AreSameIn}
 
 -- a page that is in is one of the pool

@@ -21,7 +21,7 @@ use Rattle.two_sides.specs.Stepping.{forged}
 use Rattle.two_sides.specs.Ties.{IsWorld, first_completion_page}
 use Rattle.step_core.specs.World.{sides_of}
 use Rattle.step_core.proofs.Steps.{Goes, goes}
-use Rattle.two_sides.proofs.Forgery.{forged_stepped, slots_are_in}
+use Rattle.two_sides.proofs.Answering.{forged_stepped, slots_are_in}
 
 -- a place whose byte is there is in the pool
 in_pool : (pages : Pages) (place : ℕ) → IsPool pages → byte_at pages place ≢ None → place < 268435456

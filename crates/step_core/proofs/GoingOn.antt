@@ -9,8 +9,8 @@ use Rattle.machine_model.specs.Image.{is_draft, draft_of}
 use Rattle.machine_model.specs.Proper.{IsProper, IsProperDraft}
 use Rattle.machine_model.specs.Script.{Table, is_finished, finished_at, fill_fault}
 use Rattle.machine_model.specs.declared.words.Refusal.TheVariants as refusal
-use Rattle.machine_agreement.proofs.Answered.{answers_every_event}
-use Rattle.machine_agreement.proofs.Members.{all_at_found}
+use Rattle.machine_agreement.proofs.Agreed.{answers_every_event}
+use Rattle.machine_agreement.proofs.Provided.{all_at_found}
 use Rattle.step_core.specs.Bench.{DoesBy, IsOwn, Fills, Builds, Gathers, event_at, told, kept}
 use Rattle.step_core.specs.Going.{IsTableInOrder, IsFitStep, benches_go_on}
 use Rattle.step_core.specs.Values.{Reply, Step}

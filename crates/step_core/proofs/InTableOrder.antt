@@ -11,9 +11,9 @@ use Rattle.machine_model.specs.Script.{Table, is_finished}
 use Rattle.machine_model.specs.State.{State}
 use Rattle.machine_model.specs.Step as machine
 use Rattle.host_core.proofs.Lists.{all-append}
-use Rattle.machine_agreement.proofs.InOrders.{order_kept}
-use Rattle.machine_agreement.proofs.InOrders as orders
-use Rattle.machine_agreement.proofs.ProperValues.{reserved_is_proper, collected_is_proper}
+use Rattle.machine_agreement.proofs.Agreed.{order_kept}
+use Rattle.machine_agreement.proofs.Agreed as orders
+use Rattle.machine_agreement.proofs.Served.{reserved_is_proper, collected_is_proper}
 use Rattle.step_core.specs.Bench.{without_first, with_first, DoesBy, kept, event_at}
 use Rattle.step_core.specs.Going.{IsTableInOrder, benches_open_in_order, benches_keep_order}
 use Rattle.step_core.specs.Values.{Step}

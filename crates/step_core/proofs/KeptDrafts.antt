@@ -24,8 +24,8 @@ use Rattle.machine_model.specs.Proper.{IsPage, IsProperDraft}
 use Rattle.machine_model.specs.Image.{is_draft, draft_of}
 use Rattle.machine_model.specs.Script.{Table, finished_at, filled_draft}
 use Rattle.machine_model.specs.declared.words.Refusal.TheVariants as refusal
-use Rattle.machine_agreement.proofs.Entered.{good_is}
-use Rattle.machine_agreement.proofs.Lengths.{length_put}
+use Rattle.machine_agreement.proofs.Served.{good_is}
+use Rattle.machine_agreement.proofs.JobLaws.{length_put}
 use Rattle.host_core.proofs.Lists.{all-from, all-to}
 use Rattle.step_core.specs.Bench.{with_first, Fills, Builds, Gathers, IsOwn}
 use Rattle.step_core.specs.Values.{Reply, Step}

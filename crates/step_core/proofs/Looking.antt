@@ -24,8 +24,8 @@ use Rattle.two_sides.specs.Ties.{ShareQueues}
 use Rattle.step_core.specs.Looks.{event_of, has_completion, IsAtRest}
 use Rattle.two_sides.specs.Ties.{IsWorld}
 use Rattle.two_sides.proofs.CompleteSteps.{complete_refused_alike}
-use Rattle.two_sides.proofs.FetchLooks.{refuse_alike}
-use Rattle.two_sides.proofs.Seen.{completions_seen}
+use Rattle.two_sides.proofs.FetchSteps.{refuse_alike}
+use Rattle.two_sides.proofs.Places.{completions_seen}
 use Rattle.two_sides.proofs.WalkSteps.{walk_refused_alike}
 
 -- Completions

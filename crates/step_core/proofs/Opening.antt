@@ -11,7 +11,7 @@ use Rattle.page_memory.specs.declared.page.Half.TheVariants.{Submission, Complet
 use Rattle.queue_pair.specs.Memory.{half_pages}
 use Rattle.two_sides.specs.Opening.{halves_from}
 use Rattle.two_sides.specs.Sides.{Sides, state_of}
-use Rattle.two_sides.proofs.Opened.{opened_are_worlds}
+use Rattle.two_sides.proofs.Resets.{opened_are_worlds}
 use Rattle.step_core.specs.Opening.{opening_of}
 use Rattle.two_sides.specs.Ties.{IsWorld}
 use Rattle.step_core.specs.World.{sides_of}

@@ -17,7 +17,7 @@ use Rattle.queue_pair.specs.Slots.{distance}
 use Rattle.queue_pair.specs.declared.positions.HostPositions.{HostPositions}
 use Rattle.two_sides.specs.Sides.{Sides, state_of, device_queue_of}
 use Rattle.two_sides.specs.Ties.{IsWorld}
-use Rattle.two_sides.proofs.Known.{IsKnown, controller_at, device_at, known, placed, there_ring}
+use Rattle.two_sides.proofs.Frames.{IsKnown, controller_at, device_at, known, placed, there_ring}
 use Rattle.two_sides.proofs.Places.{fetch_slot_is, post_slot_is, shows}
 use Rattle.step_core.specs.Rings.{fetching_of, posting_of, ShowsHalves, TellsRung, TellsFetching, TellsPosting, IsPosting}
 use Rattle.step_core.specs.declared.rings.FetchPositions.{FetchPositions}

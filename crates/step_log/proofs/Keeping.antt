@@ -5,7 +5,7 @@ use Rattle.std.specs.Option.{option_map}
 use Rattle.std.proofs.lemmas.Slice.{between_is}
 use Rattle.std.proofs.lemmas.Option.{slice_get-map, slice_get_read}
 use Rattle.std.specs.Prelude.{slice_get}
-use Rattle.machine_model.proofs.Lists.{all_at}
+use Rattle.machine_model.proofs.Counting.{all_at}
 use Rattle.io_commands.specs.declared.request.Piece.{Piece}
 use Rattle.step_core.specs.Values.{Reply}
 use Rattle.step_core.specs.declared.step.Step.TheVariants as step

@@ -1,5 +1,5 @@
 -- How a log keeps its entries: the pieces of their requests in one list and the numbers of their pages in another, of which each names its part.
-use Rattle.std.specs.Prelude.{ℕ, ◌≤◌, List, [], Option, Some, None, slice_range}
+use Rattle.std.specs.Prelude.{ℕ, ◌≤◌, Bool, true, false, List, [], Option, Some, None, slice_range}
 use Rattle.std.specs.Option.{option_map}
 use Rattle.std.specs.List.{AllByRecursion}
 use Rattle.io_commands.specs.Asked.{Request}
@@ -24,6 +24,14 @@ KeptDraft = declared_draft.LoggedDraft KeptRequest Span
 
 abbrev pub Kept : Type 0
 Kept = declared_entry.Entry KeptRequest (List ℕ) Span
+
+-- Whether a step may end submitted commands: a reap, a retirement and a reset may
+
+abbrev pub may_end : {R B : Type 0} → declared_step.Step R B → Bool
+may_end (step.Reap q) = true
+may_end (step.Retire q) = true
+may_end step.Reset = true
+may_end what = false
 
 -- What is kept stands for
 

@@ -1,9 +1,11 @@
 //! The log itself.
 
-ghost use Rattle.std.specs.Prelude.{◌≡◌, ◌+◌, ◌<◌, ◌^◌, ◌++◌, ◌∷◌, [], ◌==◌, None, Some, OnOk, OnErr, length, slice_get};
+ghost use Rattle.std.specs.Prelude.{◌≡◌, ◌+◌, ◌<◌, ◌^◌, ◌++◌, ◌∷◌, [], ◌==◌, None, Some, false, OnOk, OnErr, IfSome, IfNone, length, slice_get};
+ghost use Rattle.std.specs.Option.{option_map};
+ghost use Rattle.step_log.specs.Values.{Entry as AnEntry};
 ghost use Rattle.machine_model.specs.Events as events;
 ghost use Rattle.step_log.specs.History.{entry, entry_of};
-ghost use Rattle.step_log.specs.Keeping.{HasNoRequest, bare_step};
+ghost use Rattle.step_log.specs.Keeping.{HasNoRequest, bare_step, may_end as may_end_step};
 ghost use Rattle.step_log.specs.Values.{IsNoLess, Takes, Lacks, left, answered};
 
 use crate::entry::{Entry, KeptEntry, KeptStep, NoBytes};
@@ -47,6 +49,13 @@ impl<A: Allocator + Copy> Log<A> {
             pages: Vec::new(alloc),
         }
     }
+}
+
+/// Whether a step may end submitted commands: a reap, a retirement and a reset may.
+fn may_end(step: &KeptStep) -> bool
+    ensures { result ≡ may_end_step step.now }
+{
+    matches!(step, Step::Reap { .. } | Step::Retire { .. } | Step::Reset)
 }
 
 impl<A: Allocator> Log<A> {
@@ -171,6 +180,19 @@ impl<A: Allocator> Log<A> {
         ensures { slice_get self.now.entries index ≡ Some result }
     {
         shown_entry(&self.pieces, &self.pages, &self.kept[index])
+    }
+
+    /// The entry at a place, counted from 0, where its step may end submitted commands: a reap, a retirement or a reset.
+    pub fn ending_at<'a>(&'a self, index: usize) -> Option<ShownEntry<'a>>
+        requires { index < length self.now.entries }
+        ensures ending { IfSome result (λ entry. slice_get self.now.entries index ≡ Some entry) }
+        ensures other { IfNone result (option_map (λ (e : AnEntry). may_end_step e.step) (slice_get self.now.entries index) ≡ Some false) }
+    {
+        if may_end(&self.kept[index].step) {
+            Some(self.at(index))
+        } else {
+            None
+        }
     }
 
     /// The entry at a place, counted from 0, if there is one.

@@ -29,7 +29,7 @@ use Rattle.two_sides.specs.Laws.{behind}
 use Rattle.two_sides.specs.Sides.{Sides, state_of, device_of, device_queue_of, device_queues_of}
 use Rattle.two_sides.specs.Ties.{AllQueuesStand, WalksStand}
 use Rattle.two_sides.proofs.Assembling.{Ties}
-use Rattle.two_sides.proofs.Seen.{told}
+use Rattle.two_sides.proofs.Places.{told}
 
 -- The host's part of a state, as a host has it
 

@@ -1,7 +1,7 @@
 use Rattle.std.proofs.Common.{subst, ◌≡◌, ℕ, ◌+◌, ◌≤◌, List, [], ◌∷◌, ◌++◌, length, map, ap, ap₂, sym, ◌∙◌, arith}
 use Rattle.std.proofs.Math.Nat.{mul-le-mul_right}
 use Rattle.std.proofs.lemmas.List.{length-map, map-append}
-use Rattle.machine_model.proofs.Opening.{length-range}
+use Rattle.machine_model.proofs.Headline.{length-range}
 use Rattle.page_ledger.specs.Owners.{pages_from}
 use Rattle.page_ledger.proofs.Pages.{pages_from-more}
 use Rattle.page_memory.specs.declared.page.Half.TheVariants.{Submission, Completion}

@@ -8,7 +8,7 @@ use Rattle.machine_model.specs.Placement.{placed}
 use Rattle.page_ledger.specs.Owners.{free_pages}
 use Rattle.page_ledger.specs.declared.owner.Counts.{Counts}
 use Rattle.host_core.proofs.Granting.{wanted-placed}
-use Rattle.host_core.proofs.Placing.{placed-run, placed-lowest, least-in-run}
+use Rattle.host_core.proofs.Making.{placed-run, placed-lowest, least-in-run}
 use Rattle.host_core.proofs.place.need_of.Goals as goal
 
 pub overflow_add-result : goal.overflow_add-result

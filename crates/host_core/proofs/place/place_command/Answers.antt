@@ -1,6 +1,6 @@
 use Rattle.std.proofs.Common.{◌≡◌, ◌∙◌, ℕ, List, arith, ap, length, refl}
 use Rattle.machine_model.specs.Placement.{placed, without_numbers}
-use Rattle.machine_model.proofs.FreePages.{length_left, length_placed, placed_times}
+use Rattle.machine_model.proofs.Headline.{length_left, length_placed, placed_times}
 use Rattle.page_ledger.specs.Owners.{free_pages}
 use Rattle.page_ledger.specs.declared.owner.Owner.TheVariants.{Command}
 use Rattle.page_ledger.specs.declared.owner.Role.TheVariants.{Data}

@@ -1,4 +1,4 @@
-use Rattle.machine_agreement.proofs.Agreeing.{opening_agrees, step_keeps_agreement, run_agrees}
+use Rattle.machine_agreement.proofs.Agreed.{opening_agrees, step_keeps_agreement, run_agrees}
 use Rattle.machine_agreement.proofs.agreement.law_of_agreement.Goals as goal
 
 pub returns-clause-openings : goal.returns-clause-openings

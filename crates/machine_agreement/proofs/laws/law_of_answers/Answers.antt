@@ -1,4 +1,4 @@
-use Rattle.machine_agreement.proofs.Answered.{answers_every_event}
+use Rattle.machine_agreement.proofs.Agreed.{answers_every_event}
 use Rattle.machine_agreement.proofs.laws.law_of_answers.Goals as goal
 
 pub returns : goal.returns

@@ -1,6 +1,5 @@
-use Rattle.machine_agreement.proofs.Agreed.{agreed_chains, agreed_chain_pages}
-use Rattle.machine_agreement.proofs.Agreeing.{run_agrees}
-use Rattle.machine_agreement.proofs.Unforged.{trusted_end}
+use Rattle.machine_agreement.proofs.Agreed.{agreed_chains, agreed_chain_pages, run_agrees}
+use Rattle.machine_agreement.proofs.Along.{trusted_end}
 use Rattle.machine_agreement.proofs.laws.law_of_chains.Goals as goal
 
 pub returns-clause-stand : goal.returns-clause-stand

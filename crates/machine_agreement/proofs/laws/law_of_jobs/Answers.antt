@@ -1,9 +1,7 @@
 use Rattle.std.proofs.lemmas.Bool.{not-true}
 use Rattle.machine_model.specs.Trusted.{forges_by}
-use Rattle.machine_agreement.proofs.Agreed.{agreed_jobs, agreed_lists}
-use Rattle.machine_agreement.proofs.Agreeing.{run_agrees}
-use Rattle.machine_agreement.proofs.Flag.{stays_trusted}
-use Rattle.machine_agreement.proofs.Unforged.{trusted_end}
+use Rattle.machine_agreement.proofs.Agreed.{agreed_jobs, agreed_lists, run_agrees}
+use Rattle.machine_agreement.proofs.Along.{stays_trusted, trusted_end}
 use Rattle.machine_agreement.proofs.laws.law_of_jobs.Goals as goal
 
 pub returns-clause-stand : goal.returns-clause-stand

@@ -1,5 +1,4 @@
-use Rattle.machine_agreement.proofs.Agreed.{agreed_there}
-use Rattle.machine_agreement.proofs.Agreeing.{run_agrees}
+use Rattle.machine_agreement.proofs.Agreed.{agreed_there, run_agrees}
 use Rattle.machine_agreement.proofs.laws.law_of_live_queues.Goals as goal
 
 pub returns : goal.returns

@@ -1,4 +1,4 @@
-use Rattle.machine_agreement.proofs.Pools.{reads_the_pool, goes_as_in_the_pool}
+use Rattle.machine_agreement.proofs.Frames.{reads_the_pool, goes_as_in_the_pool}
 use Rattle.machine_agreement.proofs.laws.law_of_memory.Goals as goal
 
 pub returns-clause-memory : goal.returns-clause-memory

@@ -1,5 +1,5 @@
-use Rattle.machine_agreement.proofs.InOrders.{opens_in_order, order_kept}
-use Rattle.machine_agreement.proofs.ProperValues.{reserved_is_proper, collected_is_proper}
+use Rattle.machine_agreement.proofs.Agreed.{opens_in_order, order_kept}
+use Rattle.machine_agreement.proofs.Served.{reserved_is_proper, collected_is_proper}
 use Rattle.machine_agreement.proofs.laws.law_of_order.Goals as goal
 
 pub returns-clause-openings : goal.returns-clause-openings

@@ -1,5 +1,4 @@
-use Rattle.machine_agreement.proofs.Agreed.{agreed_once}
-use Rattle.machine_agreement.proofs.Agreeing.{run_agrees}
+use Rattle.machine_agreement.proofs.Agreed.{agreed_once, run_agrees}
 use Rattle.machine_agreement.proofs.laws.law_of_places.Goals as goal
 
 pub returns : goal.returns

@@ -1,4 +1,4 @@
-use Rattle.machine_agreement.proofs.Positions.{steps_stay_in_rings, runs_stay_in_rings}
+use Rattle.machine_agreement.proofs.DeviceMoves.{steps_stay_in_rings, runs_stay_in_rings}
 use Rattle.machine_agreement.proofs.laws.law_of_positions.Goals as goal
 
 pub returns-clause-steps : goal.returns-clause-steps

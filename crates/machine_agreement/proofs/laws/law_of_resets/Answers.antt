@@ -1,8 +1,6 @@
-use Rattle.machine_agreement.proofs.Agreeing.{reset_recovers}
-use Rattle.machine_agreement.proofs.NeverRestored.{trust_restored}
-use Rattle.machine_agreement.proofs.Recovered.{openings_recover}
-use Rattle.machine_agreement.proofs.InOrders.{runs_recover}
-use Rattle.machine_agreement.proofs.Ended.{io_left}
+use Rattle.machine_agreement.proofs.Agreed.{reset_recovers, openings_recover, runs_recover}
+use Rattle.machine_agreement.proofs.Frames.{trust_restored}
+use Rattle.machine_agreement.proofs.Along.{io_left}
 use Rattle.machine_agreement.proofs.laws.law_of_resets.Goals as goal
 
 pub returns-clause-trust : goal.returns-clause-trust

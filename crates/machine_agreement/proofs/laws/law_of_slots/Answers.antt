@@ -1,4 +1,4 @@
-use Rattle.machine_agreement.proofs.Slots.{entry_pages, answer_pages, entries_stand, answers_stand, entries_written, answers_written}
+use Rattle.machine_agreement.proofs.Frames.{entry_pages, answer_pages, entries_stand, answers_stand, entries_written, answers_written}
 use Rattle.machine_agreement.proofs.laws.law_of_slots.Goals as goal
 
 pub returns-clause-entry_pages : goal.returns-clause-entry_pages

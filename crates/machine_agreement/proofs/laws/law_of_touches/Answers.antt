@@ -1,6 +1,5 @@
-use Rattle.machine_agreement.proofs.Agreed.{agreed_stays}
-use Rattle.machine_agreement.proofs.Agreeing.{run_agrees}
-use Rattle.machine_agreement.proofs.Unforged.{trusted_end}
+use Rattle.machine_agreement.proofs.Agreed.{agreed_stays, run_agrees}
+use Rattle.machine_agreement.proofs.Along.{trusted_end}
 use Rattle.machine_agreement.proofs.laws.law_of_touches.Goals as goal
 
 pub returns : goal.returns

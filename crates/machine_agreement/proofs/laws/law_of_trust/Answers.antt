@@ -1,5 +1,5 @@
-use Rattle.machine_agreement.proofs.NeverRestored.{ends_unforged}
-use Rattle.machine_agreement.proofs.Unforged.{trusted_end}
+use Rattle.machine_agreement.proofs.Frames.{ends_unforged}
+use Rattle.machine_agreement.proofs.Along.{trusted_end}
 use Rattle.machine_agreement.proofs.laws.law_of_trust.Goals as goal
 
 pub returns-clause-ends : goal.returns-clause-ends

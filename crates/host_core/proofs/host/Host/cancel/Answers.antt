@@ -6,8 +6,8 @@ use Rattle.io_commands.specs.Values.{numbers_of}
 use Rattle.host_core.specs.Parts.{tables_of}
 use Rattle.host_core.specs.Tables.{Tables}
 use Rattle.host_core.specs.Whole.{IsWhole}
-use Rattle.host_core.proofs.Calls.{whole_at, step_at, stays_at}
-use Rattle.host_core.proofs.Keeping.{host_of, over_of}
+use Rattle.host_core.proofs.Fresh.{whole_at, step_at, stays_at}
+use Rattle.host_core.proofs.Identifiers.{host_of, over_of}
 use Rattle.host_core.proofs.Ending.{cancel_refused, cancel_made, belongs-from, belongs_brings, ended_apart, brings_apart}
 use Rattle.host_core.proofs.host.Host.cancel.Goals as goal
 

@@ -9,11 +9,11 @@ use Rattle.host_core.specs.Collecting.{StandsAt}
 use Rattle.host_core.specs.Parts.{record_of, tables_of}
 use Rattle.host_core.specs.Tables.{Tables, state_of}
 use Rattle.host_core.specs.Whole.{FitsPhase, IsWhole}
-use Rattle.host_core.proofs.Calls.{whole_at, step_at, stays_at}
-use Rattle.host_core.proofs.Collecting.{collect-nothing, found-at, held_fits}
-use Rattle.host_core.proofs.Keeping.{host_of, over_of}
+use Rattle.host_core.proofs.Fresh.{whole_at, step_at, stays_at}
+use Rattle.host_core.proofs.Ending.{collect-nothing, found-at, held_fits}
+use Rattle.host_core.proofs.Identifiers.{host_of, over_of}
 use Rattle.host_core.proofs.Lists.{some_is}
-use Rattle.host_core.proofs.Steps.{host_step}
+use Rattle.host_core.proofs.QueueLists.{host_step}
 use Rattle.host_core.proofs.host.Host.collect.Goals as goal
 
 pub returns-in-Err-clause-step : goal.returns-in-Err-clause-step

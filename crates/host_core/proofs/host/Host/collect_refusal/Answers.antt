@@ -6,8 +6,8 @@ use Rattle.host_core.specs.Looks.{cause_of}
 use Rattle.host_core.specs.Parts.{tables_of}
 use Rattle.host_core.specs.Tables.{Tables, state_of}
 use Rattle.host_core.specs.Whole.{IsWhole}
-use Rattle.host_core.proofs.Calls.{cause-told, whole_at}
-use Rattle.host_core.proofs.Collecting.{collect-nothing}
+use Rattle.host_core.proofs.Fresh.{cause-told, whole_at}
+use Rattle.host_core.proofs.Ending.{collect-nothing}
 use Rattle.host_core.proofs.host.Host.collect_refusal.Goals as goal
 
 pub returns-in-Ok : goal.returns-in-Ok

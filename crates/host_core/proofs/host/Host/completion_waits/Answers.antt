@@ -4,8 +4,8 @@ use Rattle.host_core.specs.Looks.{completion_waits}
 use Rattle.host_core.specs.Parts.{tables_of}
 use Rattle.host_core.specs.Reaping.{lacks_completion}
 use Rattle.host_core.specs.Tables.{Tables}
-use Rattle.host_core.proofs.Calls.{whole_at}
-use Rattle.host_core.proofs.ReapSteps.{looks, waits-told}
+use Rattle.host_core.proofs.Fresh.{whole_at}
+use Rattle.host_core.proofs.Reaps.{looks, waits-told}
 use Rattle.host_core.proofs.host.Host.completion_waits.Goals as goal
 
 pub see-requires-clause-whole : goal.see-requires-clause-whole

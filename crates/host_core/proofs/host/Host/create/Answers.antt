@@ -5,11 +5,11 @@ use Rattle.host_core.specs.Parts.{tables_of}
 use Rattle.host_core.specs.Sending.{creating}
 use Rattle.host_core.specs.Tables.{Tables}
 use Rattle.host_core.specs.Whole.{IsWhole}
-use Rattle.host_core.proofs.Calls.{whole_at, step_at, stays_at}
+use Rattle.host_core.proofs.Fresh.{whole_at, step_at, stays_at}
 use Rattle.host_core.proofs.Creations.{create-refused, created_made}
 use Rattle.host_core.proofs.Granting.{next-lowest}
-use Rattle.host_core.proofs.Keeping.{host_of, over_of}
-use Rattle.host_core.proofs.Touching.{creating_refused, creating_sent, touches_none}
+use Rattle.host_core.proofs.Identifiers.{host_of, over_of}
+use Rattle.host_core.proofs.Told.{creating_refused, creating_sent, touches_none}
 use Rattle.host_core.proofs.host.Host.create.Goals as goal
 
 pub returns-in-Err-clause-step : goal.returns-in-Err-clause-step

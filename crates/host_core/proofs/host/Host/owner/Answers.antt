@@ -4,7 +4,7 @@ use Rattle.machine_model.specs.Claims.{claims_of, counts_of}
 use Rattle.page_ledger.specs.Counting.{total}
 use Rattle.host_core.specs.Alone.{HostView}
 use Rattle.host_core.specs.Parts.{tables_of}
-use Rattle.host_core.proofs.Keeping.{count_of}
+use Rattle.host_core.proofs.Identifiers.{count_of}
 use Rattle.host_core.proofs.Told.{owner_claims}
 use Rattle.host_core.proofs.host.Host.owner.Goals as goal
 

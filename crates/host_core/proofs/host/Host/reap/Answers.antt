@@ -7,11 +7,10 @@ use Rattle.host_core.specs.Parts.{tables_of}
 use Rattle.host_core.specs.Reaping.{lacks_completion}
 use Rattle.host_core.specs.Tables.{Tables, view_of}
 use Rattle.host_core.specs.Whole.{IsWhole}
-use Rattle.host_core.proofs.Calls.{whole_at, step_at, stays_at, head-told}
-use Rattle.host_core.proofs.Keeping.{host_of, over_of}
-use Rattle.host_core.proofs.QueueLists.{queue-at}
-use Rattle.host_core.proofs.ReapSteps.{looks, reaps-none}
-use Rattle.host_core.proofs.Seen.{completion-inside}
+use Rattle.host_core.proofs.Fresh.{whole_at, step_at, stays_at, head-told}
+use Rattle.host_core.proofs.Identifiers.{host_of, over_of}
+use Rattle.host_core.proofs.QueueLists.{queue-at, completion-inside}
+use Rattle.host_core.proofs.Reaps.{looks, reaps-none}
 use Rattle.host_core.proofs.host.Host.reap.Goals as goal
 
 pub see-requires-clause-whole : goal.see-requires-clause-whole

@@ -8,11 +8,11 @@ use Rattle.host_core.specs.Commands.{Grants}
 use Rattle.host_core.specs.Parts.{tables_of}
 use Rattle.host_core.specs.Tables.{Tables, state_of, view_of}
 use Rattle.host_core.specs.Whole.{IsWhole}
-use Rattle.host_core.proofs.Calls.{whole_at, step_at, stays_at}
+use Rattle.host_core.proofs.Fresh.{whole_at, step_at, stays_at}
 use Rattle.host_core.proofs.Granted.{placed_pages, reserve_made}
 use Rattle.host_core.proofs.Granting.{grant-lowest, refuses-memory}
-use Rattle.host_core.proofs.Keeping.{host_of, over_of}
-use Rattle.host_core.proofs.Steps.{host_step}
+use Rattle.host_core.proofs.Identifiers.{host_of, over_of}
+use Rattle.host_core.proofs.QueueLists.{host_step}
 use Rattle.host_core.proofs.host.Host.reserve.Goals as goal
 
 pub returns-in-Err-clause-step : goal.returns-in-Err-clause-step

@@ -6,7 +6,7 @@ use Rattle.host_core.specs.Looks.{cause_of}
 use Rattle.host_core.specs.Parts.{tables_of}
 use Rattle.host_core.specs.Tables.{Tables, state_of}
 use Rattle.host_core.specs.Whole.{IsWhole}
-use Rattle.host_core.proofs.Calls.{cause-told, whole_at}
+use Rattle.host_core.proofs.Fresh.{cause-told, whole_at}
 use Rattle.host_core.proofs.host.Host.reserve_refusal.Goals as goal
 
 pub returns-in-Ok : goal.returns-in-Ok

@@ -7,9 +7,9 @@ use Rattle.host_core.specs.Parts.{tables_of}
 use Rattle.host_core.specs.Resetting.{tables_reset, with_io_queues_gone, with_records_reset, HasPlaces, ListHalves}
 use Rattle.host_core.specs.Tables.{Tables, view_of}
 use Rattle.host_core.specs.Whole.{IsWhole}
-use Rattle.host_core.proofs.Calls.{whole_at}
-use Rattle.host_core.proofs.Keeping.{host_of, over_of, over_pages}
-use Rattle.host_core.proofs.Resetting.{halves-renewed, places-renewed, view-reset, whole-reset}
+use Rattle.host_core.proofs.Fresh.{whole_at}
+use Rattle.host_core.proofs.Identifiers.{host_of, over_of, over_pages}
+use Rattle.host_core.proofs.Resets.{halves-renewed, places-renewed, view-reset, whole-reset}
 use Rattle.host_core.proofs.host.Host.reset.Goals as goal
 
 pub renew_admin-requires : goal.renew_admin-requires

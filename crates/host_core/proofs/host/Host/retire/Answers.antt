@@ -9,9 +9,9 @@ use Rattle.host_core.specs.Parts.{tables_of}
 use Rattle.host_core.specs.Rows.{Queue}
 use Rattle.host_core.specs.Tables.{Tables, view_of}
 use Rattle.host_core.specs.Whole.{IsWhole}
-use Rattle.host_core.proofs.Calls.{whole_at, step_at, stays_at}
-use Rattle.host_core.proofs.Keeping.{host_of, over_of}
-use Rattle.host_core.proofs.Retired.{retire-half, retire-made, retire-drained}
+use Rattle.host_core.proofs.Fresh.{whole_at, step_at, stays_at}
+use Rattle.host_core.proofs.Identifiers.{host_of, over_of}
+use Rattle.host_core.proofs.Reaps.{retire-half, retire-made, retire-drained}
 use Rattle.host_core.proofs.host.Host.retire.Goals as goal
 
 pub see-requires-clause-whole : goal.see-requires-clause-whole

@@ -6,11 +6,10 @@ use Rattle.host_core.specs.Parts.{tables_of}
 use Rattle.host_core.specs.Sending.{sending}
 use Rattle.host_core.specs.Tables.{Tables}
 use Rattle.host_core.specs.Whole.{IsWhole}
-use Rattle.host_core.proofs.Calls.{whole_at, step_at, stays_at}
-use Rattle.host_core.proofs.Keeping.{host_of, over_of}
-use Rattle.host_core.proofs.SendChecks.{send-typed}
-use Rattle.host_core.proofs.Sending.{send_made, send-refused}
-use Rattle.host_core.proofs.Touching.{sending_refused, sending_sent, touches_none}
+use Rattle.host_core.proofs.Fresh.{whole_at, step_at, stays_at}
+use Rattle.host_core.proofs.Identifiers.{host_of, over_of}
+use Rattle.host_core.proofs.Sending.{send-typed, send_made, send-refused}
+use Rattle.host_core.proofs.Told.{sending_refused, sending_sent, touches_none}
 use Rattle.host_core.proofs.host.Host.send.Goals as goal
 
 pub returns-in-Err-clause-step : goal.returns-in-Err-clause-step

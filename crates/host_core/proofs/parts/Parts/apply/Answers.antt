@@ -5,7 +5,7 @@ use Rattle.host_core.specs.Commands.{passes, state_at}
 use Rattle.host_core.specs.Halves.{HasMeant}
 use Rattle.host_core.specs.Parts.{tables_of}
 use Rattle.host_core.specs.Rows.{Queue}
-use Rattle.host_core.proofs.ReapSteps.{gives-meant, unmade-cq, unmade-sq}
+use Rattle.host_core.proofs.Reaps.{gives-meant, unmade-cq, unmade-sq}
 use Rattle.host_core.proofs.parts.Parts.apply.Goals as goal
 
 pub give_back_completion-requires : goal.give_back_completion-requires

@@ -3,7 +3,7 @@ use Rattle.std.proofs.lemmas.Bool.{ne_eqb}
 use Rattle.host_core.specs.Commands.{state_at}
 use Rattle.host_core.specs.Parts.{tables_of}
 use Rattle.host_core.specs.Rows.{Queue}
-use Rattle.host_core.proofs.Creating.{create_cq-busy, create_cq-free}
+use Rattle.host_core.proofs.Making.{create_cq-busy, create_cq-free}
 use Rattle.host_core.proofs.parts.Parts.check_create_cq.Goals as goal
 
 pub returns-then-has_commands-clause-refused : goal.returns-then-has_commands-clause-refused

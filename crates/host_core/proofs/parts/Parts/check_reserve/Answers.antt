@@ -5,7 +5,7 @@ use Rattle.host_core.specs.Parts.{tables_of}
 use Rattle.host_core.specs.Tables.{Tables, state_of}
 use Rattle.host_core.specs.Rows.{Queue}
 use Rattle.host_core.proofs.Granting.{in_state-is, no_io-is, refuses-no_identifier, refuses-too_few, none-left, next-left, granted, Asked}
-use Rattle.host_core.proofs.Reserved.{queue_there}
+use Rattle.host_core.proofs.Granted.{queue_there}
 use Rattle.host_core.proofs.parts.Parts.check_reserve.Goals as goal
 
 pub returns-in_default-clause-refused : goal.returns-in_default-clause-refused

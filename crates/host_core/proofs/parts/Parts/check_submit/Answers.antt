@@ -7,7 +7,7 @@ use Rattle.host_core.specs.Commands.{passes, state_at}
 use Rattle.host_core.specs.Tables.{Tables, state_of}
 use Rattle.host_core.specs.Rows.{Queue}
 use Rattle.host_core.proofs.Ending.{belongs-from}
-use Rattle.host_core.proofs.Submitting.{live_within, submit_full, submit_gone, submit_ready}
+use Rattle.host_core.proofs.Submitted.{live_within, submit_full, submit_gone, submit_ready}
 use Rattle.host_core.proofs.parts.Parts.check_submit.Goals as goal
 
 pub is_queue_full-requires-clause-there : goal.is_queue_full-requires-clause-there

@@ -17,9 +17,9 @@ use Rattle.page_memory.specs.Pages.{Pages}
 use Rattle.host_core.specs.Commands.{first_placed, then_placed, reserved, CanTake}
 use Rattle.host_core.specs.Parts.{tables_of}
 use Rattle.host_core.specs.Tables.{Tables}
-use Rattle.host_core.proofs.Places.{new-place, new-empty}
+use Rattle.host_core.proofs.Identifiers.{new-place, new-empty}
 use Rattle.host_core.proofs.Granted.{front-size, back-size, length-zeroed, granted_can_take, made_draft, made_pages, reserved_tables}
-use Rattle.host_core.proofs.Touching.{both_parts}
+use Rattle.host_core.proofs.Told.{both_parts}
 use Rattle.host_core.proofs.parts.Parts.commit_reserve.Goals as goal
 
 pub move_out_zeroed-requires-clause-can : goal.move_out_zeroed-requires-clause-can

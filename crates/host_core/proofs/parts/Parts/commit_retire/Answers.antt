@@ -5,7 +5,7 @@ use Rattle.host_core.specs.Halves.{HasHalf}
 use Rattle.host_core.specs.Reaping.{without_submission}
 use Rattle.host_core.specs.Tables.{Tables}
 use Rattle.host_core.specs.Parts.{tables_of}
-use Rattle.host_core.proofs.Sweeping.{places-of}
+use Rattle.host_core.proofs.Identifiers.{places-of}
 use Rattle.host_core.proofs.parts.Parts.commit_retire.Goals as goal
 
 pub lose_commands-requires : goal.lose_commands-requires

@@ -2,7 +2,7 @@ use Rattle.std.proofs.Common.{◌≡◌, ◌+◌, ◌≤◌, ◌==◌, ℕ, Bool
 use Rattle.std.proofs.lemmas.Bool.{eq-eqb, ne_eqb}
 use Rattle.slot_table.proofs.Walks.{step_behind}
 use Rattle.host_core.specs.Rows.{rows_on}
-use Rattle.host_core.proofs.Counted.{all_counted, none_counted, row_counted}
+use Rattle.host_core.proofs.Lists.{all_counted, none_counted, row_counted}
 use Rattle.host_core.proofs.parts.Parts.count_records.Goals as goal
 use Rattle.host_core.proofs.parts.Parts.count_records.Goals.{then-p-q, else-p-q}
 

@@ -4,9 +4,9 @@ use Rattle.host_core.specs.Parts.{record_of, tables_of}
 use Rattle.host_core.specs.Rows.{Queue}
 use Rattle.host_core.specs.Tables.{Tables}
 use Rattle.host_core.proofs.Lists.{some_is}
-use Rattle.host_core.proofs.ReapSteps.{reject-none, reject-phase, submitted-is}
+use Rattle.host_core.proofs.Reaps.{reject-none, reject-phase, submitted-is}
 use Rattle.host_core.proofs.RowRecords.{found-row, no-row}
-use Rattle.host_core.proofs.Seen.{completion-at}
+use Rattle.host_core.proofs.QueueLists.{completion-at}
 use Rattle.host_core.proofs.parts.Parts.find_answered.Goals as goal
 
 pub returns-in_default-clause-rejected : goal.returns-in_default-clause-rejected

@@ -7,7 +7,7 @@ use Rattle.host_core.specs.Rows.{Queue}
 use Rattle.host_core.specs.Tables.{Tables}
 use Rattle.host_core.proofs.Lists.{some_is}
 use Rattle.host_core.proofs.QueueLists.{queue-at}
-use Rattle.host_core.proofs.ResetQueues.{half-absent}
+use Rattle.host_core.proofs.Resets.{half-absent}
 use Rattle.host_core.proofs.parts.Parts.give_back.Goals as goal
 
 pub returns-else-has_half : goal.returns-else-has_half

@@ -3,7 +3,7 @@ use Rattle.machine_model.specs.After.{lost}
 use Rattle.machine_model.specs.State.{Record, with_record}
 use Rattle.host_core.specs.Parts.{tables_of}
 use Rattle.host_core.specs.Tables.{Tables}
-use Rattle.host_core.proofs.Sweeping.{all-lost, none-below, one-lost}
+use Rattle.host_core.proofs.Identifiers.{all-lost, none-below, one-lost}
 use Rattle.host_core.proofs.parts.Parts.lose_commands.Goals as goal
 
 pub loop-cid-init : goal.loop-cid-init

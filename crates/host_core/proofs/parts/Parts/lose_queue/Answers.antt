@@ -5,7 +5,7 @@ use Rattle.page_memory.specs.declared.page.Half.TheVariants.{Submission, Complet
 use Rattle.host_core.specs.Parts.{tables_of}
 use Rattle.host_core.specs.Resetting.{ListsHalf}
 use Rattle.host_core.specs.Tables.{Tables}
-use Rattle.host_core.proofs.ResetQueues.{half-stays, halves-apart, halves_given, queue-lost}
+use Rattle.host_core.proofs.Resets.{half-stays, halves-apart, halves_given, queue-lost}
 use Rattle.host_core.proofs.parts.Parts.lose_queue.Goals as goal
 
 pub give_back-requires-2 : goal.give_back-requires-2

@@ -7,7 +7,7 @@ use Rattle.host_core.specs.Commands.{CanZero}
 use Rattle.host_core.specs.Parts.{tables_of}
 use Rattle.host_core.specs.Tables.{Tables}
 use Rattle.host_core.proofs.ResetAdmin.{admin-renewed, admin-run, run-can_zero, run-few}
-use Rattle.host_core.proofs.Touching.{touches_then}
+use Rattle.host_core.proofs.Told.{touches_then}
 use Rattle.host_core.proofs.parts.Parts.renew_admin.Goals as goal
 
 pub zero_run-requires-clause-few : goal.zero_run-requires-clause-few

@@ -4,7 +4,7 @@ use Rattle.controller_walk.specs.Units.{Moves}
 use Rattle.page_memory.specs.Memory.{Memory, bytes_at, pages_reached}
 use Rattle.page_memory.specs.Pages as store
 use Rattle.page_memory.specs.Pages.{Pages, byte_at}
-use Rattle.two_sides.proofs.ServeSteps.{same_pages}
+use Rattle.two_sides.proofs.Serving.{same_pages}
 use Rattle.two_sides.proofs.Units.{few_touched}
 use Rattle.two_sides.specs.Sides.{state_of}
 use Rattle.two_sides.specs.Ties.{IsWorld}
