@@ -6,7 +6,7 @@
  * anybody may write into it between them: what a call promises it promises for any bytes.
  *
  * Of C nothing more is asked than nvmesgl.h asks (1 to 5 there); a pool overlaps no answer and no handle. What is proved of each call stands in
- * crates/nvmectl_c: a call that is not done changes nothing but the answer.
+ * crates/nvmesgl_c: a call that is not done changes nothing but the answer.
  */
 #ifndef NVMECTL_H
 #define NVMECTL_H

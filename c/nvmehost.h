@@ -7,7 +7,7 @@
  *
  * What each call promises it promises against any device, whatever stands in the pool and whatever is written there between calls: each page has one
  * owner, no identifier of a queue is outstanding twice, and a completion that fits no submitted command is rejected. What is proved of each call stands in
- * crates/nvmehost_c: a call that is not done changes nothing but the answer.
+ * crates/nvmesgl_c: a call that is not done changes nothing but the answer.
  *
  * Of C nothing more is asked than nvmesgl.h asks (1 to 5 there): a handle is all zero bytes before its opening (NVMEHOST_CLOSED), it is never copied, and one
  * call at a time is made on it. Codes, kinds, pieces, answers and owners are those of nvmesgl.h.

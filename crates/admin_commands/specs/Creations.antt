@@ -1,9 +1,7 @@
 -- Creations that pass the rules on the numbers of queues.
 use Rattle.std.specs.Prelude.{◌≡◌, ◌<◌, ◌≤◌, true, false}
 use Rattle.entry_codec.specs.declared.submission.SubEntry.{SubEntry}
-use Rattle.admin_commands.specs.declared.SqState.TheVariants.{Absent}
-use Rattle.admin_commands.specs.declared.DeviceView.{DeviceView}
-use Rattle.admin_commands.specs.Entries.{named_queue, named_completion_queue}
+use Rattle.admin_commands.specs.{Entries.{named_queue, named_completion_queue}, declared.{DeviceView.DeviceView, SqState.TheVariants.Absent}}
 
 -- a Create CQ of an I/O queue that is not there
 pub record CreatesFreeCompletionQueue (entry : SubEntry) (view : DeviceView) : Type 0 where

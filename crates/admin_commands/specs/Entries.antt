@@ -1,12 +1,9 @@
 -- The entries of admin commands, and what they name.
-use Rattle.std.specs.Prelude.{ℕ, ◌+◌, ◌*◌, ◌-◌, ◌/◌, ◌%◌, ◌==◌, Bool, ◌||◌, not, List, ◌++◌, if◌then◌else◌, Result, Ok, Err, replicate, take}
 use Rattle.std.specs.Int.{w64, to_le_bytes, from_le_bytes}
-use Rattle.entry_codec.specs.declared.status.Status.{Status}
-use Rattle.entry_codec.specs.declared.status.TheConstants.Status.{INVALID_OPCODE, INVALID_FIELD}
-use Rattle.entry_codec.specs.declared.submission.SubEntry.{SubEntry}
+use Rattle.std.specs.Prelude.{ℕ, ◌+◌, ◌*◌, ◌-◌, ◌/◌, ◌%◌, ◌==◌, Bool, ◌||◌, not, List, ◌++◌, if◌then◌else◌, Result, Ok, Err, replicate, take}
+use Rattle.entry_codec.specs.declared.{status.{Status.Status, TheConstants.Status.{INVALID_OPCODE, INVALID_FIELD}}, submission.SubEntry.SubEntry}
+use Rattle.admin_commands.specs.declared.AdminKind.{AdminKind, TheVariants.{Abort, DeleteSq, DeleteCq, CreateCq, CreateSq}}
 use Rattle.entry_codec.specs.declared.admin_opcode.TheConstants as opcodes
-use Rattle.admin_commands.specs.declared.AdminKind.{AdminKind}
-use Rattle.admin_commands.specs.declared.AdminKind.TheVariants.{Abort, DeleteSq, DeleteCq, CreateCq, CreateSq}
 
 abbrev pub opcode_of : AdminKind → ℕ
 opcode_of (Abort q cid) = opcodes.ABORT

@@ -1,19 +1,14 @@
 -- What a controller does with an admin entry at its fetch.
-use Rattle.std.specs.Prelude.{ℕ, ◌+◌, ◌/◌, ◌%◌, ◌==◌, nat_lt, nat_le, Bool, true, false, ◌&&◌, ◌||◌, not, Option, Some, None, if◌then◌else◌}
 use Rattle.std.specs.Option.{option_map_or}
-use Rattle.entry_codec.specs.declared.status.Status.{Status}
+use Rattle.std.specs.Prelude.{ℕ, ◌+◌, ◌/◌, ◌%◌, ◌==◌, nat_lt, nat_le, Bool, true, false, ◌&&◌, ◌||◌, not, Option, Some, None, if◌then◌else◌}
+use Rattle.entry_codec.specs.declared.{admin_opcode.TheConstants.{ABORT, DELETE_IO_SQ, DELETE_IO_CQ, CREATE_IO_CQ}, status.Status.Status}
 use Rattle.entry_codec.specs.declared.status.TheConstants.Status.{SUCCESS, INVALID_OPCODE, INVALID_FIELD, INVALID_QUEUE_IDENTIFIER, INVALID_QUEUE_SIZE, INVALID_QUEUE_DELETION, COMPLETION_QUEUE_INVALID}
 use Rattle.entry_codec.specs.declared.submission.SubEntry.{SubEntry}
-use Rattle.entry_codec.specs.declared.admin_opcode.TheConstants.{ABORT, DELETE_IO_SQ, DELETE_IO_CQ, CREATE_IO_CQ}
-use Rattle.page_memory.specs.declared.page.Half.{Half}
-use Rattle.page_memory.specs.declared.page.Half.TheVariants.{Submission, Completion}
+use Rattle.page_memory.specs.declared.page.Half.{Half, TheVariants.{Submission, Completion}}
 use Rattle.queue_pair.specs.Memory.{half_pages}
-use Rattle.admin_commands.specs.declared.SqState.{SqState}
-use Rattle.admin_commands.specs.declared.SqState.TheVariants.{Absent, Live, Stopping}
-use Rattle.admin_commands.specs.declared.DeviceView.{DeviceView}
-use Rattle.admin_commands.specs.declared.AdminVerdict.{AdminVerdict}
-use Rattle.admin_commands.specs.declared.AdminVerdict.TheVariants.{Answer, AbortJob, StopQueue, DropCompletion, MakeCompletion, MakeSubmission}
 use Rattle.admin_commands.specs.Entries.{named_queue, named_command, named_size, named_completion_queue, named_base, is_contiguous, is_opcode}
+use Rattle.admin_commands.specs.declared.AdminVerdict.{AdminVerdict, TheVariants.{Answer, AbortJob, StopQueue, DropCompletion, MakeCompletion, MakeSubmission}}
+use Rattle.admin_commands.specs.declared.{DeviceView.DeviceView, SqState.{SqState, TheVariants.{Absent, Live, Stopping}}}
 
 abbrev pub is_live : SqState → Bool
 is_live Absent = false

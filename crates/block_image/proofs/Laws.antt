@@ -1,7 +1,6 @@
 -- A put of blocks leaves the blocks below it and above it as they were.
 use Rattle.std.proofs.Common.{◌≡◌, ℕ, ◌+◌, ◌*◌, ◌≤◌, List, ◌++◌, length, take, drop, sym, ◌∙◌, ap, arith, append_assoc, length-append, inl, inr}
-use Rattle.std.proofs.lemmas.List.{take-append-drop, take-append-le, drop-append-le, length-take-le, length-drop}
-use Rattle.std.proofs.lemmas.Slice.{drop-append-drop}
+use Rattle.std.proofs.lemmas.{List.{take-append-drop, take-append-le, drop-append-le, length-take-le, length-drop}, Slice.drop-append-drop}
 use Rattle.block_image.specs.Blocks.{PutKeepsOthers}
 
 -- what lies in front of a seam does not see what stands behind it

@@ -1,17 +1,9 @@
 -- A completion is posted.
-use Rattle.std.specs.Prelude.{◌≡◌, ℕ, ◌++◌, ◌∷◌, [], Option, Some, None, List, slice_get, is_none, if◌then◌else◌}
-use Rattle.std.specs.Option.{option_map_or}
-use Rattle.entry_codec.specs.Completion.{completion_bytes, IsComEntry}
-use Rattle.entry_codec.specs.declared.completion.ComEntry.{ComEntry}
-use Rattle.entry_codec.specs.declared.status.Status.{Status}
+use Rattle.std.specs.{Option.option_map_or, Prelude.{◌≡◌, ℕ, ◌++◌, ◌∷◌, [], Option, Some, None, List, slice_get, is_none, if◌then◌else◌}}
+use Rattle.entry_codec.specs.{Completion.{completion_bytes, IsComEntry}, declared.{completion.ComEntry.ComEntry, status.Status.Status}}
 use Rattle.page_memory.specs.Memory.{Memory, written}
-use Rattle.queue_pair.specs.Memory.{completion_page, completion_place, completion_slot}
-use Rattle.queue_pair.specs.Rings.{DeviceSide, answer_posted}
-use Rattle.queue_pair.specs.Slots.{is_full}
-use Rattle.controller_core.specs.Contents.{change}
-use Rattle.controller_core.specs.Doorbells.{with_side}
-use Rattle.controller_core.specs.declared.queue.ControllerQueue.{ControllerQueue}
-use Rattle.controller_core.specs.declared.refusal.Refusal.{Refusal}
+use Rattle.queue_pair.specs.{Memory.{completion_page, completion_place, completion_slot}, Rings.{DeviceSide, answer_posted}, Slots.is_full}
+use Rattle.controller_core.specs.{Contents.change, Doorbells.with_side, declared.{queue.ControllerQueue.ControllerQueue, refusal.Refusal.Refusal}}
 use Rattle.controller_core.specs.declared.refusal.Refusal.TheVariants as refusal
 
 -- what a completion is refused for: the ring is full, or a byte of the slot at the tail is missing

@@ -1,19 +1,13 @@
 -- A fetched command ends, and its completion is posted.
+use Rattle.std.specs.{List.list_any, Option.option_map_or}
 use Rattle.std.specs.Prelude.{◌≡◌, ℕ, ◌==◌, ◌&&◌, ◌||◌, ◌++◌, Bool, false, not, Option, Some, None, List, [], ◌∷◌, filter, find, length, is_none, slice_get, if◌then◌else◌}
-use Rattle.std.specs.List.{list_any}
-use Rattle.std.specs.Option.{option_map_or}
-use Rattle.admin_commands.specs.Entries.{named_queue}
-use Rattle.admin_commands.specs.declared.SqState.TheVariants.{Absent}
-use Rattle.entry_codec.specs.Completion.{IsComEntry}
-use Rattle.entry_codec.specs.declared.admin_opcode.TheConstants.{DELETE_IO_SQ}
-use Rattle.entry_codec.specs.declared.status.Status.{Status}
+use Rattle.admin_commands.specs.{Entries.named_queue, declared.SqState.TheVariants.Absent}
+use Rattle.entry_codec.specs.{Completion.IsComEntry, declared.{admin_opcode.TheConstants.DELETE_IO_SQ, status.Status.Status}}
 use Rattle.io_commands.specs.Jobs.{finished_status, finished_image, is_success}
 use Rattle.page_memory.specs.Memory.{Memory}
-use Rattle.controller_core.specs.Contents.{Contents, FetchedCommand, Work, change, entry_of_work, verdict_of_work, dw0_of_work, is_command, is_deletion}
 use Rattle.controller_core.specs.Answering.{answer_refusal, completion_by, memory_posted, page_posted, with_answer}
-use Rattle.controller_core.specs.declared.command.Work.TheVariants.{Io, Admin}
-use Rattle.controller_core.specs.declared.queue.ControllerQueue.{ControllerQueue}
-use Rattle.controller_core.specs.declared.refusal.Refusal.{Refusal}
+use Rattle.controller_core.specs.Contents.{Contents, FetchedCommand, Work, change, entry_of_work, verdict_of_work, dw0_of_work, is_command, is_deletion}
+use Rattle.controller_core.specs.declared.{command.Work.TheVariants.{Io, Admin}, queue.ControllerQueue.ControllerQueue, refusal.Refusal.Refusal}
 use Rattle.controller_core.specs.declared.refusal.Refusal.TheVariants as refusal
 
 -- whether the identifier of an Abort is that for which a command's completion is awaited

@@ -1,18 +1,15 @@
 -- What a controller keeps, and what always holds of it.
+use Rattle.std.specs.{List.{AllByRecursion, count_by}, Option.option_map}
 use Rattle.std.specs.Prelude.{◌≡◌, ℕ, ◌+◌, ◌<◌, ◌≤◌, ◌==◌, ◌&&◌, Bool, true, false, Option, Some, IfSome, List, find, length}
-use Rattle.std.specs.List.{AllByRecursion, count_by}
-use Rattle.std.specs.Option.{option_map}
 use Rattle.admin_commands.specs.Entries.{named_queue, named_command}
 use Rattle.block_image.specs.Blocks.{block_count}
-use Rattle.entry_codec.specs.declared.status.Status.{Status}
-use Rattle.entry_codec.specs.declared.submission.SubEntry.{SubEntry}
+use Rattle.entry_codec.specs.declared.{status.Status.Status, submission.SubEntry.SubEntry}
 use Rattle.io_commands.specs.Jobs.{JobContents, left_of_walk}
+use Rattle.controller_core.specs.declared.{command.Work.TheVariants.{Io, Admin}, queue.ControllerQueue.ControllerQueue}
 pub use Rattle.io_commands.specs.Ends.{FitsVerdict, is_deletion}
 pub use Rattle.queue_pair.specs.Members.{change}
-use Rattle.controller_core.specs.declared.queue.ControllerQueue.{ControllerQueue}
 use Rattle.controller_core.specs.declared.command.FetchedCommand as command
 use Rattle.controller_core.specs.declared.command.Work as work
-use Rattle.controller_core.specs.declared.command.Work.TheVariants.{Io, Admin}
 
 -- a fetched command as contracts see it: they say nothing of where its bytes are kept
 abbrev pub Work : Type 0

@@ -1,9 +1,7 @@
 -- The doorbells: a value outside its range is ignored.
 use Rattle.std.specs.Prelude.{ℕ, nat_lt, if◌then◌else◌}
-use Rattle.queue_pair.specs.Rings.{DeviceSide, hearing_tail, hearing_head}
-use Rattle.queue_pair.specs.Slots.{is_in_range}
-use Rattle.controller_core.specs.Contents.{Contents, change}
-use Rattle.controller_core.specs.declared.queue.ControllerQueue.{ControllerQueue}
+use Rattle.queue_pair.specs.{Rings.{DeviceSide, hearing_tail, hearing_head}, Slots.is_in_range}
+use Rattle.controller_core.specs.{Contents.{Contents, change}, declared.queue.ControllerQueue.ControllerQueue}
 
 abbrev pub with_side : DeviceSide → ControllerQueue → ControllerQueue
 with_side device queue = record queue { device = device }

@@ -1,19 +1,14 @@
 -- The controller fetches the entry at the head of a queue.
-use Rattle.std.specs.Prelude.{◌≡◌, ◌≢◌, ℕ, ◌==◌, ◌≤◌, ◌++◌, ◌∷◌, [], Bool, true, false, Option, Some, None, Result, Ok, Err, List, find, is_some, slice_get, if◌then◌else◌}
 use Rattle.std.specs.Option.{option_and_then, option_map_or}
+use Rattle.std.specs.Prelude.{◌≡◌, ◌≢◌, ℕ, ◌==◌, ◌≤◌, ◌++◌, ◌∷◌, [], Bool, true, false, Option, Some, None, Result, Ok, Err, List, find, is_some, slice_get, if◌then◌else◌}
 use Rattle.admin_commands.specs.Verdicts.{is_live}
 use Rattle.block_image.specs.Blocks.{block_count}
-use Rattle.entry_codec.specs.declared.status.TheConstants.Status.{COMMAND_ID_CONFLICT}
-use Rattle.entry_codec.specs.declared.submission.SubEntry.{SubEntry}
+use Rattle.entry_codec.specs.declared.{status.TheConstants.Status.COMMAND_ID_CONFLICT, submission.SubEntry.SubEntry}
 use Rattle.io_commands.specs.Jobs.{JobContents, io_fault, bytes_after_check, BeginsWalk, left_of_walk}
 use Rattle.page_memory.specs.Memory.{Memory}
-use Rattle.queue_pair.specs.Memory.{submission_page, entry_at}
-use Rattle.queue_pair.specs.Rings.{DeviceSide}
-use Rattle.controller_core.specs.Answering.{answer_refusal, completion_by, memory_posted, page_posted, with_answer}
-use Rattle.controller_core.specs.Contents.{Contents, change, is_command}
-use Rattle.controller_core.specs.Managing.{with_taken, command_of, managed}
-use Rattle.controller_core.specs.declared.command.Work.TheVariants.{Io}
-use Rattle.controller_core.specs.declared.queue.ControllerQueue.{ControllerQueue}
+use Rattle.queue_pair.specs.{Memory.{submission_page, entry_at}, Rings.DeviceSide}
+use Rattle.controller_core.specs.{Answering.{answer_refusal, completion_by, memory_posted, page_posted, with_answer}, Contents.{Contents, change, is_command}}
+use Rattle.controller_core.specs.{Managing.{with_taken, command_of, managed}, declared.{command.Work.TheVariants.Io, queue.ControllerQueue.ControllerQueue}}
 use Rattle.controller_core.specs.declared.refusal.Refusal.{Refusal}
 use Rattle.controller_core.specs.declared.refusal.Refusal.TheVariants as refusal
 

@@ -3,11 +3,8 @@
 use Rattle.std.specs.Prelude.{◌≡◌, ℕ, None, List, map}
 use Rattle.controller_walk.specs.declared.walk.WalkState.{WalkState}
 use Rattle.page_memory.specs.Memory.{Memory}
-use Rattle.controller_core.specs.Completing.{CompletesTo}
-use Rattle.controller_core.specs.Contents.{Contents, IsController, FetchedCommand, Work}
-use Rattle.controller_core.specs.Fetching.{FetchesTo, RefusedBy, look_refusal}
-use Rattle.controller_core.specs.Walking.{WalksTo}
-use Rattle.controller_core.specs.declared.command.Work.TheVariants.{Io, Admin}
+use Rattle.controller_core.specs.{Completing.CompletesTo, Contents.{Contents, IsController, FetchedCommand, Work}}
+use Rattle.controller_core.specs.{Fetching.{FetchesTo, RefusedBy, look_refusal}, Walking.WalksTo, declared.command.Work.TheVariants.{Io, Admin}}
 use Rattle.controller_core.specs.declared.refusal.Refusal.{Refusal}
 use Rattle.controller_core.specs.declared.refusal.Refusal.TheVariants as refusal
 

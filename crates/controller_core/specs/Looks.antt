@@ -1,17 +1,12 @@
 -- What a look at a controller tells: which of its calls would do something, want of memory left aside.
-use Rattle.std.specs.Prelude.{◌≡◌, ℕ, zero, suc, ◌+◌, ◌<◌, false, List, length, Option, Some, None, is_none, is_some, slice_get, min, if◌then◌else◌}
 use Rattle.std.specs.Option.{option_map, option_map_or}
+use Rattle.std.specs.Prelude.{◌≡◌, ℕ, zero, suc, ◌+◌, ◌<◌, false, List, length, Option, Some, None, is_none, is_some, slice_get, min, if◌then◌else◌}
 use Rattle.entry_codec.specs.declared.submission.SubEntry.{SubEntry}
 use Rattle.page_memory.specs.Memory.{Memory}
 use Rattle.queue_pair.specs.Rings.{DeviceSide}
-use Rattle.controller_core.specs.Answering.{post_refusal}
-use Rattle.controller_core.specs.Completing.{complete_refusal}
-use Rattle.controller_core.specs.Contents.{Contents, FetchedCommand, entry_of_work}
-use Rattle.controller_core.specs.Fetching.{fetch_refusal, look_refusal, rung_entry, is_known}
-use Rattle.controller_core.specs.Walking.{walk_refusal}
-use Rattle.controller_core.specs.declared.look.ControllerStep.{ControllerStep}
-use Rattle.controller_core.specs.declared.queue.ControllerQueue.{ControllerQueue}
-use Rattle.controller_core.specs.declared.look.ControllerStep.TheVariants.{Fetch, Walk, Complete}
+use Rattle.controller_core.specs.{Answering.post_refusal, Completing.complete_refusal, Contents.{Contents, FetchedCommand, entry_of_work}}
+use Rattle.controller_core.specs.{Fetching.{fetch_refusal, look_refusal, rung_entry, is_known}, Walking.walk_refusal}
+use Rattle.controller_core.specs.declared.{look.ControllerStep.{ControllerStep, TheVariants.{Fetch, Walk, Complete}}, queue.ControllerQueue.ControllerQueue}
 use Rattle.controller_core.specs.declared.refusal.Refusal.{Refusal}
 
 -- the queue and the identifier of the command that was fetched behind so many others

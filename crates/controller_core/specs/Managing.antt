@@ -1,20 +1,14 @@
 -- What an entry of queue 0 does as it is fetched.
-use Rattle.std.specs.Prelude.{ℕ, ◌-◌, ◌*◌, ◌^◌, ◌<◌, ◌/◌, ◌==◌, true, false, Some, None, List, [], ◌∷◌, ◌++◌, find, length, is_none, slice_get, map, if◌then◌else◌}
 use Rattle.std.specs.Option.{option_map_or}
-use Rattle.admin_commands.specs.Entries.{named_queue, named_command}
-use Rattle.admin_commands.specs.Verdicts.{decision}
-use Rattle.admin_commands.specs.declared.AdminVerdict.{AdminVerdict}
+use Rattle.std.specs.Prelude.{ℕ, ◌-◌, ◌*◌, ◌^◌, ◌<◌, ◌/◌, ◌==◌, true, false, Some, None, List, [], ◌∷◌, ◌++◌, find, length, is_none, slice_get, map, if◌then◌else◌}
+use Rattle.admin_commands.specs.{Entries.{named_queue, named_command}, Verdicts.decision, declared.AdminVerdict.AdminVerdict}
 use Rattle.admin_commands.specs.declared.AdminVerdict.TheVariants.{Answer, AbortJob, StopQueue, DropCompletion, MakeCompletion, MakeSubmission}
-use Rattle.admin_commands.specs.declared.DeviceView.{DeviceView}
-use Rattle.admin_commands.specs.declared.SqState.TheVariants.{Absent, Live, Stopping}
-use Rattle.entry_codec.specs.declared.status.Status.{Status}
-use Rattle.entry_codec.specs.declared.status.TheConstants.Status.{SUCCESS, ABORT_REQUESTED, ABORTED_SQ_DELETION}
+use Rattle.admin_commands.specs.declared.{DeviceView.DeviceView, SqState.TheVariants.{Absent, Live, Stopping}}
+use Rattle.entry_codec.specs.declared.status.{Status.Status, TheConstants.Status.{SUCCESS, ABORT_REQUESTED, ABORTED_SQ_DELETION}}
 use Rattle.entry_codec.specs.declared.submission.SubEntry.{SubEntry}
 use Rattle.queue_pair.specs.Rings.{entry_taken, fresh_device_ring}
-use Rattle.controller_core.specs.Contents.{Contents, FetchedCommand, Work, change, is_command, verdict_of_work}
-use Rattle.controller_core.specs.Doorbells.{with_side}
-use Rattle.controller_core.specs.declared.command.Work.TheVariants.{Io, Admin}
-use Rattle.controller_core.specs.declared.queue.ControllerQueue.{ControllerQueue}
+use Rattle.controller_core.specs.{Contents.{Contents, FetchedCommand, Work, change, is_command, verdict_of_work}, Doorbells.with_side}
+use Rattle.controller_core.specs.declared.{command.Work.TheVariants.{Io, Admin}, queue.ControllerQueue.ControllerQueue}
 
 -- a queue of which the entry at the head is taken
 abbrev pub with_taken : ControllerQueue → ControllerQueue

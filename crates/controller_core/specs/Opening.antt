@@ -2,9 +2,7 @@
 use Rattle.std.specs.Prelude.{ℕ, suc, true, List, [], ◌∷◌}
 use Rattle.admin_commands.specs.declared.SqState.TheVariants.{Live}
 use Rattle.queue_pair.specs.Rings.{fresh_device_ring}
-use Rattle.controller_core.specs.Contents.{Contents}
-use Rattle.controller_core.specs.declared.queue.ControllerQueue.{ControllerQueue}
-use Rattle.controller_core.specs.declared.queue.QueuePages.{QueuePages}
+use Rattle.controller_core.specs.{Contents.Contents, declared.queue.{ControllerQueue.ControllerQueue, QueuePages.QueuePages}}
 
 -- queue q with n entries in each ring, whose halves begin at these pages
 abbrev pub fresh_queue : ℕ → ℕ → QueuePages → ControllerQueue

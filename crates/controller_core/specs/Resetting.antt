@@ -3,12 +3,8 @@ use Rattle.std.specs.Prelude.{◌≡◌, ℕ, zero, suc, ◌==◌, true, false, 
 use Rattle.admin_commands.specs.declared.SqState.TheVariants.{Absent, Live}
 use Rattle.page_memory.specs.Memory.{Memory}
 use Rattle.queue_pair.specs.Rings.{fresh_device_ring}
-use Rattle.controller_core.specs.Completing.{complete_refusal}
-use Rattle.controller_core.specs.Contents.{Contents}
-use Rattle.controller_core.specs.Doorbells.{head_rung, tail_rung}
-use Rattle.controller_core.specs.Fetching.{fetch_refusal}
-use Rattle.controller_core.specs.Walking.{walk_refusal}
-use Rattle.controller_core.specs.declared.queue.ControllerQueue.{ControllerQueue}
+use Rattle.controller_core.specs.{Completing.complete_refusal, Contents.Contents, Doorbells.{head_rung, tail_rung}, Fetching.fetch_refusal}
+use Rattle.controller_core.specs.{Walking.walk_refusal, declared.queue.ControllerQueue.ControllerQueue}
 use Rattle.controller_core.specs.declared.refusal.Refusal.TheVariants as refusal
 
 -- the queue of a number: queue 0 is live, and no other queue is there; both rings are as they are opened, over the halves that they have

@@ -1,7 +1,6 @@
 -- How fetched commands stand in a table, and are counted. No public clause cites this module.
-use Rattle.std.specs.Prelude.{◌≡◌, ℕ, ◌==◌, List, [], ◌∷◌, get_or}
-use Rattle.std.specs.List.{count_by}
-use Rattle.linked_table.specs.Table.{Row}
+use Rattle.std.specs.{List.count_by, Prelude.{◌≡◌, ℕ, ◌==◌, List, [], ◌∷◌, get_or}}
+use Rattle.slot_table.specs.Rows.{Row}
 use Rattle.controller_core.specs.Contents.{FetchedCommand, entry_of_work}
 
 -- how many queues there are, and the commands that were fetched from them and not completed, in the order of the fetches

@@ -1,12 +1,9 @@
 -- What the step of a command's walk does.
-use Rattle.std.specs.Prelude.{◌≡◌, ℕ, ◌+◌, ◌<◌, Option, Some, None, List, find, is_some, slice_get, slice_set, if◌then◌else◌}
-use Rattle.std.specs.Option.{option_map_or}
-use Rattle.controller_walk.specs.Walks.{DoesFirst, LeavesRest}
-use Rattle.controller_walk.specs.declared.walk.WalkState.{WalkState}
+use Rattle.std.specs.{Option.option_map_or, Prelude.{◌≡◌, ℕ, ◌+◌, ◌<◌, Option, Some, None, List, find, is_some, slice_get, slice_set, if◌then◌else◌}}
+use Rattle.controller_walk.specs.{Walks.{DoesFirst, LeavesRest}, declared.walk.WalkState.WalkState}
 use Rattle.io_commands.specs.Jobs.{JobContents, job_course, direction_of_entry, left_of_walk, verdict_of}
 use Rattle.page_memory.specs.Memory.{Memory}
-use Rattle.controller_core.specs.Contents.{Contents, FetchedCommand, verdict_of_work, is_command}
-use Rattle.controller_core.specs.declared.command.Work.TheVariants.{Io}
+use Rattle.controller_core.specs.{Contents.{Contents, FetchedCommand, verdict_of_work, is_command}, declared.command.Work.TheVariants.Io}
 use Rattle.controller_core.specs.declared.refusal.Refusal.{Refusal}
 use Rattle.controller_core.specs.declared.refusal.Refusal.TheVariants as refusal
 

@@ -1,32 +1,17 @@
 -- A controller for worked runs: an admin queue in the pages 0 and 1, an I/O queue in the pages 2 and 3, four entries in each ring, over an
 -- image of one block of bytes 11h. The first slot of the I/O queue has the entry of a Read of that block to the page at 4000h.
 use Rattle.std.specs.Prelude.{ℕ, ◌∷◌, ◌++◌, [], List, Option, Some, None, true, replicate, slice_range}
-use Rattle.admin_commands.specs.Entries.{admin_entry}
-use Rattle.admin_commands.specs.declared.AdminKind.TheVariants.{Abort, CreateCq, CreateSq}
-use Rattle.admin_commands.specs.declared.SqState.TheVariants.{Live}
-use Rattle.controller_walk.specs.Worked.{eight_pages}
-use Rattle.controller_walk.specs.declared.progress.State.{State}
-use Rattle.controller_walk.specs.declared.progress.State.TheVariants.{First, Data, Over}
-use Rattle.entry_codec.specs.Completion.{completion_bytes}
-use Rattle.entry_codec.specs.Worked.{first_sgl1, first_read, first_read_bytes, first_completion}
-use Rattle.entry_codec.specs.declared.status.Status.{Status}
-use Rattle.entry_codec.specs.declared.status.TheConstants.Status.{SUCCESS}
-use Rattle.entry_codec.specs.declared.submission.SubEntry.{SubEntry}
+use Rattle.admin_commands.specs.{Entries.admin_entry, declared.{AdminKind.TheVariants.{Abort, CreateCq, CreateSq}, SqState.TheVariants.Live}}
+use Rattle.controller_walk.specs.{Worked.eight_pages, declared.progress.State.{State, TheVariants.{First, Data, Over}}}
+use Rattle.entry_codec.specs.{Completion.completion_bytes, Worked.{first_sgl1, first_read, first_read_bytes, first_completion}, declared.status.Status.Status}
+use Rattle.entry_codec.specs.declared.{status.TheConstants.Status.SUCCESS, submission.SubEntry.SubEntry}
 use Rattle.io_commands.specs.Jobs.{JobContents}
 use Rattle.page_memory.specs.Memory.{Memory, written}
 use Rattle.queue_pair.specs.Rings.{fresh_device_ring}
 use Rattle.sgl_descriptor.specs.declared.Direction.TheVariants.{Destination}
-use Rattle.controller_core.specs.Answering.{completion_by}
-use Rattle.controller_core.specs.Completing.{completed, without_submission}
-use Rattle.controller_core.specs.Contents.{Contents, change}
-use Rattle.controller_core.specs.Doorbells.{tail_rung}
-use Rattle.controller_core.specs.Fetching.{begun}
-use Rattle.controller_core.specs.Managing.{command_of, managed, without_completion}
-use Rattle.controller_core.specs.Opening.{opened}
-use Rattle.controller_core.specs.Resetting.{reset}
-use Rattle.controller_core.specs.declared.command.Work.TheVariants.{Io}
-use Rattle.controller_core.specs.declared.queue.ControllerQueue.{ControllerQueue}
-use Rattle.controller_core.specs.declared.queue.QueuePages.{QueuePages}
+use Rattle.controller_core.specs.{Answering.completion_by, Completing.{completed, without_submission}, Contents.{Contents, change}, Doorbells.tail_rung}
+use Rattle.controller_core.specs.{Fetching.begun, Managing.{command_of, managed, without_completion}, Opening.opened, Resetting.reset}
+use Rattle.controller_core.specs.declared.{command.Work.TheVariants.Io, queue.{ControllerQueue.ControllerQueue, QueuePages.QueuePages}}
 
 abbrev pub block : List ℕ
 block = replicate 512 0x11

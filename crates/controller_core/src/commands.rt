@@ -14,8 +14,8 @@ use crate::command::FetchedCommand;
 use controller_walk::WalkState;
 use entry_codec::Status;
 use io_commands::Job;
-use linked_table::LinkedTable;
 use page_memory::Dma;
+use slot_table::LinkedTable;
 use std::alloc::{AllocError, Allocator};
 use std::marker::Model;
 
@@ -30,7 +30,7 @@ pub(crate) struct Commands<A: Allocator> {
 impl<A: Allocator> Model for Commands<A> {
     ghost use Rattle.std.specs.Prelude.{length, map};
     ghost use Rattle.controller_core.specs.Tables.{AreCounted, AreNamed, Outstanding};
-    ghost use Rattle.linked_table.specs.Table.{IsDistinct};
+    ghost use Rattle.slot_table.specs.Rows.{IsDistinct};
 
     ghost Value = { Outstanding };
 

@@ -10,14 +10,14 @@ pub fn walks_go_one_way()
 {}
 
 /// The contract of a completion leaves nothing open.
-#[tactic(auto, using(crate::proofs::OneWay::one_completion))]
+#[tactic(auto, using(crate::proofs::Lists::one_completion))]
 pub fn completions_go_one_way()
     ensures { CompletesOneWay }
 {}
 
 /// The contract of a fetch leaves nothing open but want of memory, and how a walk keeps its place: neither what is answered nor why it is
 /// refused. A fetch that can be served is refused for want of memory alone.
-#[tactic(auto, using(crate::proofs::OneWay::one_fetch, crate::proofs::OneWay::one_refusal, crate::proofs::OneWay::served_unless_memory))]
+#[tactic(auto, using(crate::proofs::Lists::one_fetch, crate::proofs::Lists::one_refusal, crate::proofs::Lists::served_unless_memory))]
 pub fn fetches_go_one_way()
     ensures served { FetchesOneWay }
     ensures refused { RefusesOneWay }
@@ -26,7 +26,7 @@ pub fn fetches_go_one_way()
 
 /// Behind a reset, and behind one head that is rung then, nothing can be fetched, walked or completed, whatever the controller was; and behind
 /// one tail that is rung then, still nothing can be fetched from an I/O queue. The image is as it was. A second reset changes nothing.
-#[tactic(auto, using(crate::proofs::Resets::reset_quiet, crate::proofs::Resets::quiet_until_tail, crate::proofs::Resets::idle_until_created, crate::proofs::Resets::reset_once))]
+#[tactic(auto, using(crate::proofs::ResetQueues::reset_quiet, crate::proofs::ResetQueues::quiet_until_tail, crate::proofs::ResetQueues::idle_until_created, crate::proofs::ResetQueues::reset_once))]
 pub fn a_reset_leaves_nothing_to_do()
     ensures quiet { ResetIsQuiet }
     ensures until_tail { QuietUntilTail }

@@ -1,9 +1,4 @@
-pub mod All
 pub mod Along
-pub mod Counts
 pub mod Courses
-pub mod Moves
-pub mod Reading
 pub mod Same
-pub mod Serving
 pub mod Stands

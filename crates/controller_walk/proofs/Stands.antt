@@ -1,19 +1,13 @@
 -- Where a walk stands in its list, and what a step does there.
 use Rattle.std.proofs.Common.{arith, ◌≡◌, ◌<◌, ◌≤◌, ◌+◌, ◌-◌, ℕ, zero, suc, Bool, true, false, List, Option, Some, None, refl, sym, ap, subst, ◌∙◌, cond, is_some, nat_lt, length, slice_range, inl, inr, add-zero}
-use Rattle.std.specs.List.{slice_get, slice_index}
-use Rattle.std.proofs.lemmas.Bool.{cases_lt}
-use Rattle.std.proofs.lemmas.Bool.Decides.{nat_tests}
-use Rattle.std.proofs.lemmas.Grind.{common_steps}
+use Rattle.std.{proofs.lemmas.{Bool.{cases_lt, Decides.nat_tests}, Grind.common_steps}, specs.List.{slice_get, slice_index}}
 use Rattle.page_memory.specs.Memory.{Memory, bytes_at, written, joined}
-use Rattle.sgl_descriptor.specs.declared.Direction.{Direction}
-use Rattle.sgl_descriptor.specs.declared.Direction.TheVariants.{Destination, Source}
-use Rattle.controller_walk.specs.declared.progress.Progress.{Progress}
-use Rattle.controller_walk.specs.declared.walk.WalkState.{WalkState}
-use Rattle.controller_walk.specs.declared.walk.WalkState.TheVariants.{More, End, Fault}
-use Rattle.controller_walk.specs.Units.{Act, Stays, Reads, Moves, Course, Closes, Does, units, verdict}
-use Rattle.controller_walk.specs.Walks.{course, answer, Effect, DoesFirst, LeavesRest, IfMore, direction_of}
-use Rattle.controller_walk.specs.Laws.{Agree, ReadsWithin, OverwritesNothing, after_units, StandsAfter, StandsAtFirst, answer_at, DoesUnit, StepDoesUnit}
+use Rattle.sgl_descriptor.specs.declared.Direction.{Direction, TheVariants.{Destination, Source}}
 use Rattle.controller_walk.proofs.Same.{list_same, walk_same}
+use Rattle.controller_walk.specs.Laws.{Agree, ReadsWithin, OverwritesNothing, after_units, StandsAfter, StandsAtFirst, answer_at, DoesUnit, StepDoesUnit}
+use Rattle.controller_walk.specs.Units.{Act, Stays, Reads, Moves, Course, Closes, Does, units, verdict}
+use Rattle.controller_walk.specs.{Walks.{course, answer, Effect, DoesFirst, LeavesRest, IfMore, direction_of}, declared.progress.Progress.Progress}
+use Rattle.controller_walk.specs.declared.walk.WalkState.{WalkState, TheVariants.{More, End, Fault}}
 
 agree_sym : (at : ℕ → Bool) (m m' : Memory) → Agree at m m' → Agree at m' m
 agree_sym at m m' agree = record { there = λ q. sym (agree.there q); same = λ q h. sym (agree.same q h) }

@@ -1,15 +1,11 @@
 -- The bytes that a list moves are those that the targets of its parts name.
 use Rattle.std.specs.Prelude.{◌≡◌, ◌<◌, ◌≤◌, ◌⊎◌, ◌+◌, ◌-◌, ◌++◌, [], ◌∷◌, ℕ, List, Option, Some, None, min, slice_get, option_and_then}
 use Rattle.page_memory.specs.Memory.{Memory, bytes_at}
-use Rattle.sgl_descriptor.specs.declared.Descriptor.{Descriptor}
-use Rattle.sgl_descriptor.specs.declared.Descriptor.TheVariants.{DataBlock, BitBucket, Segment, LastSegment}
-use Rattle.sgl_descriptor.specs.declared.Direction.{Direction}
-use Rattle.sgl_descriptor.specs.declared.Part.{Part}
+use Rattle.sgl_descriptor.specs.{Spelling.descriptor_of, Targets.{Place, targets, counted_in}, declared.Descriptor.Descriptor}
+use Rattle.sgl_descriptor.specs.declared.{Descriptor.TheVariants.{DataBlock, BitBucket, Segment, LastSegment}, Direction.Direction, Part.Part}
 use Rattle.sgl_descriptor.specs.declared.Part.TheVariants.{Data, Bucket}
-use Rattle.sgl_descriptor.specs.Spelling.{descriptor_of}
-use Rattle.sgl_descriptor.specs.Targets.{Place, targets, counted_in}
-use Rattle.controller_walk.specs.declared.walk.WalkState.TheVariants.{End}
 use Rattle.controller_walk.specs.Units.{Stays, Reads, Moves, Course, Closes, Does, verdict, course_of_list, verdict_of_list}
+use Rattle.controller_walk.specs.declared.walk.WalkState.TheVariants.{End}
 
 -- the descriptor at a place, if 16 bytes there spell one
 abbrev pub descriptor_at : Memory → ℕ → Option Descriptor

@@ -1,26 +1,16 @@
 -- Which fault ends a walk, and at which descriptor. What a step finds wrong is looked up in the table of faults (`Units`), at the descriptor
 -- that it takes or at the block that it moves; nothing here goes over a list.
-use Rattle.std.specs.Prelude.{◌-◌, ◌&&◌, ◌∷◌, [], ℕ, Bool, false, not, List, Option, Some, None, if◌then◌else◌, nat_eq, is_some}
-use Rattle.std.specs.Option.{option_map}
+use Rattle.std.specs.{Option.option_map, Prelude.{◌-◌, ◌&&◌, ◌∷◌, [], ℕ, Bool, false, not, List, Option, Some, None, if◌then◌else◌, nat_eq, is_some}}
 use Rattle.entry_codec.specs.declared.status.Status.{Status}
 use Rattle.page_memory.specs.Memory.{Memory, bytes_at}
-use Rattle.sgl_descriptor.specs.declared.Descriptor.{Descriptor}
-use Rattle.sgl_descriptor.specs.declared.Descriptor.TheVariants.{DataBlock, BitBucket, Segment, LastSegment}
-use Rattle.sgl_descriptor.specs.declared.Direction.{Direction}
-use Rattle.sgl_descriptor.specs.Spelling.{descriptor_of}
-use Rattle.sgl_descriptor.specs.Targets.{counted}
-use Rattle.controller_walk.specs.declared.cause.DescriptorAt.{DescriptorAt}
+use Rattle.sgl_descriptor.specs.{Spelling.descriptor_of, Targets.counted, declared.Descriptor.Descriptor}
+use Rattle.sgl_descriptor.specs.declared.{Descriptor.TheVariants.{DataBlock, BitBucket, Segment, LastSegment}, Direction.Direction}
+use Rattle.controller_walk.specs.{Units.{cause_status, first_cause, first_passing, first_part, next, entry_cursor}, declared.cause.DescriptorAt.DescriptorAt}
 use Rattle.controller_walk.specs.declared.cause.FaultCause.{FaultCause}
 use Rattle.controller_walk.specs.declared.cause.FaultCause.TheVariants.{TooManyDescriptors, UnreadableDescriptor, UnknownType, UnreadableData, ListTooShort}
-use Rattle.controller_walk.specs.declared.cause.WalkFault.{WalkFault}
-use Rattle.controller_walk.specs.declared.cursor.Cursor.{Cursor}
-use Rattle.controller_walk.specs.declared.progress.Block.{Block}
-use Rattle.controller_walk.specs.declared.progress.State.{State}
-use Rattle.controller_walk.specs.declared.progress.State.TheVariants.{First, Next, Data, Over}
-use Rattle.controller_walk.specs.declared.walk.Walk.{Walk}
-use Rattle.controller_walk.specs.declared.walk.WalkState.{WalkState}
+use Rattle.controller_walk.specs.declared.{cause.WalkFault.WalkFault, cursor.Cursor.Cursor, progress.{Block.Block, State.State}}
+use Rattle.controller_walk.specs.declared.{progress.State.TheVariants.{First, Next, Data, Over}, walk.{Walk.Walk, WalkState.WalkState}}
 use Rattle.controller_walk.specs.declared.walk.WalkState.TheVariants.{More, End, Fault}
-use Rattle.controller_walk.specs.Units.{cause_status, first_cause, first_passing, first_part, next, entry_cursor}
 
 -- the list ends here, and bytes are still wanted
 abbrev pub ends_short : Option Cursor → ℕ → Bool

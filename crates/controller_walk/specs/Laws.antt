@@ -2,14 +2,11 @@
 -- each step of a walk does the next unit of one list while nobody changes those descriptors or which bytes
 -- are missing.
 use Rattle.std.specs.Prelude.{◌≡◌, ◌<◌, ◌+◌, ℕ, zero, suc, Bool, true, false, is_some, List, [], ◌∷◌, Option, Some, None, length, slice_get, if◌then◌else◌, nat_lt}
-use Rattle.sgl_descriptor.specs.declared.Direction.{Direction}
-use Rattle.sgl_descriptor.specs.declared.Direction.TheVariants.{Destination, Source}
+use Rattle.sgl_descriptor.specs.declared.Direction.{Direction, TheVariants.{Destination, Source}}
 use Rattle.page_memory.specs.Memory.{Memory}
-use Rattle.controller_walk.specs.declared.walk.Walk.{Walk}
-use Rattle.controller_walk.specs.declared.walk.WalkState.{WalkState}
-use Rattle.controller_walk.specs.declared.walk.WalkState.TheVariants.{More}
 use Rattle.controller_walk.specs.Units.{Act, Stays, Reads, Moves, Course, Closes, Does, units, verdict, course_of_list}
-use Rattle.controller_walk.specs.Walks.{course, Acts, DoesFirst, LeavesRest, IfMore, direction_of}
+use Rattle.controller_walk.specs.{Walks.{course, Acts, DoesFirst, LeavesRest, IfMore, direction_of}, declared.walk.{Walk.Walk, WalkState.WalkState}}
+use Rattle.controller_walk.specs.declared.walk.WalkState.TheVariants.{More}
 
 -- The same bytes are missing, and those at some places, of which `at` tells, are the same.
 pub record Agree (at : ℕ → Bool) (m m' : Memory) : Type 0 where

@@ -1,12 +1,8 @@
 -- What holds of every walk.
 use Rattle.std.specs.Prelude.{◌≡◌, ◌≤◌, ◌<◌, ◌+◌, ◌*◌, ◌/◌, ◌^◌, ℕ, Option, Some, None}
-use Rattle.sgl_descriptor.specs.declared.Descriptor.{Descriptor}
-use Rattle.sgl_descriptor.specs.declared.Descriptor.TheVariants.{DataBlock, BitBucket, Segment, LastSegment}
-use Rattle.controller_walk.specs.declared.cursor.Cursor.{Cursor}
-use Rattle.controller_walk.specs.declared.progress.Block.{Block}
-use Rattle.controller_walk.specs.declared.progress.State.{State}
+use Rattle.sgl_descriptor.specs.declared.Descriptor.{Descriptor, TheVariants.{DataBlock, BitBucket, Segment, LastSegment}}
+use Rattle.controller_walk.specs.declared.{cursor.Cursor.Cursor, progress.{Block.Block, Progress.Progress, State.State}}
 use Rattle.controller_walk.specs.declared.progress.State.TheVariants.{First, Next, Data, Over}
-use Rattle.controller_walk.specs.declared.progress.Progress.{Progress}
 
 -- one descriptor or more is left in a segment, and all that are left lie below 2 ^ 64
 abbrev pub IsCursor : Cursor → Type 0

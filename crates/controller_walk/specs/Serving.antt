@@ -4,10 +4,8 @@ use Rattle.std.specs.Prelude.{◌≡◌, ◌≢◌, ℕ, List, true, is_some}
 use Rattle.entry_codec.specs.declared.status.TheConstants.Status.{DATA_TRANSFER_ERROR}
 use Rattle.page_memory.specs.Memory.{Memory, bytes_at}
 use Rattle.sgl_descriptor.specs.declared.Direction.{Direction}
-use Rattle.controller_walk.specs.declared.walk.Walk.{Walk}
+use Rattle.controller_walk.specs.{Units.{Stays, Reads, Moves, Course, Closes, Does, course_of_list}, Walks.course, declared.walk.Walk.Walk}
 use Rattle.controller_walk.specs.declared.walk.WalkState.TheVariants.{Fault}
-use Rattle.controller_walk.specs.Units.{Stays, Reads, Moves, Course, Closes, Does, course_of_list}
-use Rattle.controller_walk.specs.Walks.{course}
 
 -- Another memory serves a course that one memory gave: at each descriptor that the course reads both have the same bytes, and
 -- the other misses none of those that it moves. A course that ended for want of a byte is served by no other memory.

@@ -1,20 +1,14 @@
 -- What each step of a walk does, and how the walk ends (NVM Express Base Specification 2.0, "Scatter Gather List (SGL)", section 4.1.2).
-use Rattle.std.specs.Prelude.{◌+◌, ◌-◌, ◌/◌, ◌%◌, ◌^◌, ◌&&◌, ◌||◌, ◌∷◌, [], ℕ, Bool, true, false, not, List, Option, Some, None, if◌then◌else◌, nat_eq, nat_le, nat_lt, zero, suc, min, is_some}
 use Rattle.std.specs.Option.{option_map}
+use Rattle.std.specs.Prelude.{◌+◌, ◌-◌, ◌/◌, ◌%◌, ◌^◌, ◌&&◌, ◌||◌, ◌∷◌, [], ℕ, Bool, true, false, not, List, Option, Some, None, if◌then◌else◌, nat_eq, nat_le, nat_lt, zero, suc, min, is_some}
 use Rattle.entry_codec.specs.declared.status.Status.{Status}
 use Rattle.entry_codec.specs.declared.status.TheConstants.Status.{DATA_TRANSFER_ERROR, INVALID_SGL_SEGMENT, INVALID_SGL_COUNT, DATA_SGL_LENGTH_INVALID, SGL_TYPE_INVALID}
 use Rattle.page_memory.specs.Memory.{Memory, bytes_at, pages_reached}
-use Rattle.sgl_descriptor.specs.declared.Descriptor.{Descriptor}
-use Rattle.sgl_descriptor.specs.declared.Descriptor.TheVariants.{DataBlock, BitBucket, Segment, LastSegment}
-use Rattle.sgl_descriptor.specs.declared.Direction.{Direction}
-use Rattle.sgl_descriptor.specs.Spelling.{descriptor_of, is_link}
-use Rattle.sgl_descriptor.specs.Targets.{counted}
+use Rattle.sgl_descriptor.specs.{Spelling.{descriptor_of, is_link}, Targets.counted, declared.Descriptor.Descriptor}
+use Rattle.sgl_descriptor.specs.declared.{Descriptor.TheVariants.{DataBlock, BitBucket, Segment, LastSegment}, Direction.Direction}
 use Rattle.controller_walk.specs.declared.cause.FaultCause.{FaultCause}
 use Rattle.controller_walk.specs.declared.cause.FaultCause.TheVariants.{TooManyDescriptors, UnreadableDescriptor, UnknownType, LinkInLastSegment, LinkNotLast, MalformedLink, MissingLink, PastEndOfAddresses, UnreadableData, ListTooShort}
-use Rattle.controller_walk.specs.declared.cursor.Named.{Named}
-use Rattle.controller_walk.specs.declared.cursor.Named.TheVariants.{Unnamed, BySegment, ByLastSegment}
-use Rattle.controller_walk.specs.declared.cursor.Cursor.{Cursor}
-use Rattle.controller_walk.specs.declared.walk.WalkState.{WalkState}
+use Rattle.controller_walk.specs.declared.{cursor.{Cursor.Cursor, Named.{Named, TheVariants.{Unnamed, BySegment, ByLastSegment}}}, walk.WalkState.WalkState}
 use Rattle.controller_walk.specs.declared.walk.WalkState.TheVariants.{End, Fault}
 
 -- A unit, which one step does: it reaches no memory, or reads the descriptor at a place, or moves so many bytes

@@ -1,15 +1,10 @@
 -- What a walk still has to do, and what one step does of it.
 use Rattle.std.specs.Prelude.{◌≡◌, ◌+◌, ◌-◌, ◌*◌, ◌/◌, ◌++◌, ℕ, Bool, true, false, List, Some, slice_range, take, drop}
-use Rattle.sgl_descriptor.specs.Spelling.{descriptor_of}
-use Rattle.sgl_descriptor.specs.declared.Direction.{Direction}
-use Rattle.sgl_descriptor.specs.declared.Direction.TheVariants.{Destination, Source}
+use Rattle.sgl_descriptor.specs.{Spelling.descriptor_of, declared.Direction.{Direction, TheVariants.{Destination, Source}}}
 use Rattle.page_memory.specs.Memory.{Memory, bytes_at, written}
-use Rattle.controller_walk.specs.declared.progress.State.{State}
-use Rattle.controller_walk.specs.declared.progress.State.TheVariants.{First, Next, Data, Over}
-use Rattle.controller_walk.specs.declared.walk.Walk.{Walk}
-use Rattle.controller_walk.specs.declared.walk.WalkState.{WalkState}
-use Rattle.controller_walk.specs.declared.walk.WalkState.TheVariants.{More, End, Fault}
 use Rattle.controller_walk.specs.Units.{Act, Stays, Reads, Moves, touched, Course, Closes, Does, after_read, from_place, rest_of, moving, pages_spanned, entry_cursor}
+use Rattle.controller_walk.specs.declared.{progress.State.{State, TheVariants.{First, Next, Data, Over}}, walk.{Walk.Walk, WalkState.WalkState}}
+use Rattle.controller_walk.specs.declared.walk.WalkState.TheVariants.{More, End, Fault}
 
 -- how many bytes the command of a walk moves
 abbrev pub need_of : Walk → ℕ

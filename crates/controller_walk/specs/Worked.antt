@@ -1,8 +1,7 @@
 -- A small memory for worked runs.
 use Rattle.std.specs.Prelude.{◌+◌, [], ◌∷◌, ℕ, List, Some, None, if◌then◌else◌, nat_lt}
 use Rattle.page_memory.specs.Memory.{Memory, written}
-use Rattle.sgl_descriptor.specs.declared.Descriptor.{Descriptor}
-use Rattle.sgl_descriptor.specs.Spelling.{spelling}
+use Rattle.sgl_descriptor.specs.{Spelling.spelling, declared.Descriptor.Descriptor}
 
 -- eight pages of zeros
 abbrev pub eight_pages : Memory

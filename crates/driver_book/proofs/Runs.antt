@@ -1,34 +1,269 @@
--- A log that grows by a step.
-use Rattle.std.proofs.Common.{◌≡◌, ◌⊎◌, inl, inr, ℕ, ◌+◌, ◌-◌, ◌<◌, ◌≤◌, List, [], ◌∷◌, ◌++◌, Option, Some, None, Bool, true, false, not, ◌||◌, cond, Result, Ok, Err, is_ok, is_err, OnOk, OnErr, IfOk, IfErr, length, true≢false, refl, sym, ap, ◌∙◌, subst, arith}
-use Rattle.std.proofs.lemmas.List.{append-nil}
-use Rattle.std.proofs.lemmas.List.Sums.{sum_by_push}
-use Rattle.std.specs.Prelude.{is_some, MatchBool}
-use Rattle.std.specs.Bool.{OnTrue}
-use Rattle.io_commands.specs.Asked.{Request}
-use Rattle.io_commands.specs.Drafts.{DraftContents}
-use Rattle.io_commands.specs.Requests.{data_count, joined_parts}
-use Rattle.io_commands.specs.Values.{TicketContents, numbers_of}
-use Rattle.io_commands.proofs.Building.{joined_parts_few}
-use Rattle.sgl_chain.proofs.Counts.{needed_few}
+-- A log that grows by a step, and the run that it tells of.
 use Rattle.machine_model.specs.Events as events
-use Rattle.machine_model.specs.Events.{Event}
-use Rattle.machine_model.specs.Claims.{IsSound}
-use Rattle.machine_model.specs.State.{State}
-use Rattle.machine_model.specs.Refusals.{refusal_of}
-use Rattle.machine_model.specs.Step as machine
-use Rattle.machine_model.specs.declared.words.Refusal.{Refusal}
-use Rattle.machine_model.specs.declared.words.Refusal.TheVariants as refusal
-use Rattle.driver_book.specs.Calls.{noted, entries, Does, WantsMemoryFor, IsLogFull, MayWorldWant, LacksRoomToReserve, most_of, most_pages}
-use Rattle.machine_model.proofs.Headline.{steps_keep}
-use Rattle.driver_book.proofs.Histories.{leads_further}
-use Rattle.step_log.specs.History.{asked, told, draft_of, entry_of, is_submission, is_accepted, accepted}
-use Rattle.driver_book.specs.State.{BookContents, SeatContents, IsBook, is_seated, AreSeated, is_of_jobs, AreOfJobs}
-use Rattle.step_log.specs.Values.{Entry, Room, LogContents, Takes, Lacks, answered}
-use Rattle.step_log.proofs.Keeping.{answered_last}
-use Rattle.step_core.specs.Replies.{accept_reply, reserve_reply}
+use Rattle.machine_model.specs.Trusted as laws
+use Rattle.two_sides.specs.Histories as histories
 use Rattle.step_core.specs.declared.step.Step.TheVariants as step
-use Rattle.host_core.specs.declared.refused.Refused.{Refused}
-use Rattle.step_core.specs.Touching.{StaysAllowed}
+use Rattle.machine_model.specs.Step as machine
+use Rattle.machine_model.specs.declared.words.Refusal.TheVariants as refusal
+use Rattle.std.proofs.Common.{◌≡◌, ℕ, Bool, true, false, true≢false, not, IsTrue, None, List, [], ◌∷◌, ◌++◌, map, if◌then◌else◌, refl, sym, ap, ◌∙◌, subst, ◌+◌, ◌≤◌, ◌<◌, length, drop, get_or, Option, Some, arith, length-append, ◌⊎◌, inl, inr, ◌-◌, ◌||◌, cond, Result, Ok, Err, is_ok, is_err, OnOk, OnErr, IfOk, IfErr}
+use Rattle.std.proofs.lemmas.{List.{take-append-le, map-append, take_all, drop_at, append-nil, Sums.sum_by_push}, Option.{slice_get-map, slice_get_read}}
+use Rattle.std.{proofs.lemmas.Slice.between_is, specs.{Bool.OnTrue, List.list_any, Option.option_map, Prelude.{slice_get, is_some, MatchBool}}}
+use Rattle.machine_model.{proofs.{Counting.all_at, Headline.steps_keep}, specs.{Claims.IsSound, Events.Event, Image.Made, Refusals.refusal_of, State.State}}
+use Rattle.machine_model.specs.{Trusted.{Steps, TrustedRun}, declared.words.Refusal.Refusal}
+use Rattle.two_sides.proofs.{Agreed.{opens_in_order, order_kept, agreed_stays}, Along.trusted_end, PoolBytes.ends_unforged as trusted_unforged}
+use Rattle.two_sides.specs.InOrder.{IsInOrder}
+use Rattle.step_core.{proofs.Order.same_forgery, specs.{Going.forges_by, Opening.opening_of, Replies.{accept_reply, reserve_reply}, Touching.StaysAllowed}}
+use Rattle.step_core.specs.Values.{Step, Reply as Answer, Reply}
+use Rattle.driver_book.specs.Calls.{noted, entries, Does, WantsMemoryFor, IsLogFull, MayWorldWant, LacksRoomToReserve, most_of, most_pages}
+use Rattle.driver_book.specs.Entries.{Entry, LoggedDraft, answered, Room, LogContents, Takes, Lacks}
+use Rattle.driver_book.specs.History.{asked, told, draft_of, TellsOf, LeadsTo, entry_of, is_submission, is_accepted, accepted}
+use Rattle.driver_book.specs.Keeping.{KeptRequest, KeptStep, KeptDraft, Kept, part_of, shown_request, shown_step, shown_draft, shown, bare_step, HasNoRequest, FitsIn, StepFits, DraftFits, EntryFits, AllFit}
+use Rattle.driver_book.specs.Laws.{IsEntryOf, is_forgery, entries_name_allowed_pages, logs_are_trusted_runs, logs_of_jobs_are_trusted_runs, pieces_are_one_history, resets, is_reset, since_reset, trusted_ends_are_unforged}
+use Rattle.driver_book.specs.{State.{is_of_jobs, AreOfJobs, BookContents, SeatContents, IsBook, is_seated, AreSeated}, declared.entry.Span.Span}
+use Rattle.host_core.specs.{Opening.refusal_of_config, declared.{config.Config.Config, refused.Refused.Refused}}
+use Rattle.block_image.specs.Blocks.{IsImage}
+use Rattle.io_commands.{proofs.Building.joined_parts_few, specs.{Asked.Request, Drafts.DraftContents, Requests.{data_count, joined_parts}}}
+use Rattle.io_commands.specs.{Values.{TicketContents, numbers_of}, declared.request.Piece.Piece}
+use Rattle.sgl_chain.proofs.Spelled.{needed_few}
+
+-- Logs, and the runs that they tell of.
+
+-- one step more
+pub leads_further : (old mid new : State) (log : List Entry) (e : Entry) → LeadsTo old log mid → TellsOf mid e new → LeadsTo old (log ++ e ∷ []) new
+leads_further old mid new [] e same tells = (new, subst (λ (s : State). TellsOf s e new) same tells, refl)
+leads_further old mid new (first ∷ log) e (next, made, rest) tells = (next, made, leads_further next mid new log e rest tells)
+
+-- one log behind the other
+pub leads_on : pieces_are_one_history
+leads_on old [] mid after new same leads = subst (λ (s : State). LeadsTo s after new) same leads
+leads_on old (e ∷ before) mid after new (next, made, rest) leads = (next, made, leads_on next before mid after new rest leads)
+
+-- where a log is cut, there is a state
+leads_apart : (old new : State) (before after : List Entry) → LeadsTo old (before ++ after) new → (mid : State) × LeadsTo old before mid × LeadsTo mid after new
+leads_apart old new [] after leads = (old, refl, leads)
+leads_apart old new (e ∷ before) after (next, made, rest) =
+    let (mid, comes, goes) = leads_apart next new before after rest in (mid, (next, made, comes), goes)
+
+order_along : (old new : State) (log : List Entry) → LeadsTo old log new → IsInOrder old → IsInOrder new
+order_along old new [] same order = subst IsInOrder (sym same) order
+order_along old new (e ∷ log) (next, made, rest) order = order_along next new log rest (order_kept old made.event made.answer next order made.step)
+
+pub entries_stay : entries_name_allowed_pages
+entries_stay config image before e after world opens is_image leads = go (leads_apart (opening_of config image) world before (e ∷ after) leads)
+  where
+    go : (mid : State) × LeadsTo (opening_of config image) before mid × LeadsTo mid (e ∷ after) world → IsEntryOf (opening_of config image) before e after world
+    go (old, comes, (new, tells, goes)) =
+        let order : IsInOrder old = order_along (opening_of config image) old before comes (opens_in_order config.pages config.queues config.entries config.segment image opens is_image) in
+        record {
+          old = old;
+          new = new;
+          comes = comes;
+          tells = tells;
+          goes = goes;
+          stays = λ trusted. agreed_stays old new tells.event tells.answer (order.agree trusted) trusted tells.step;
+        }
+
+-- the steps of a log as they were made
+abbrev made_by : (old new : State) (log : List Entry) → LeadsTo old log new → List Made
+made_by old new [] same = []
+made_by old new (e ∷ log) (next, tells, rest) = record { before = old; event = tells.event; reply = tells.answer } ∷ made_by next new log rest
+
+steps_by : (old new : State) (log : List Entry) (leads : LeadsTo old log new) → Steps old (made_by old new log leads) new
+steps_by old new [] same = same
+steps_by old new (e ∷ log) (next, tells, rest) = (refl, next, tells.step, steps_by next new log rest)
+
+asked_by : (old new : State) (log : List Entry) (leads : LeadsTo old log new) → map (λ e. e.step) log ≡ map (λ m. asked m.event) (made_by old new log leads)
+asked_by old new [] same = refl
+asked_by old new (e ∷ log) (next, tells, rest) = rw (tells.asks, asked_by next new log rest) refl
+
+told_by : (old new : State) (log : List Entry) (leads : LeadsTo old log new) → map (λ e. e.answer) log ≡ map (λ m. told m.reply) (made_by old new log leads)
+told_by old new [] same = refl
+told_by old new (e ∷ log) (next, tells, rest) = rw (tells.tells, told_by next new log rest) refl
+
+drafts_by : (old new : State) (log : List Entry) (leads : LeadsTo old log new) → map (λ e. e.draft) log ≡ map (λ m. draft_of m.event m.reply) (made_by old new log leads)
+drafts_by old new [] same = refl
+drafts_by old new (e ∷ log) (next, tells, rest) = rw (tells.drafts, drafts_by next new log rest) refl
+
+-- an entry is an accepted forgery where the step is of which it tells
+forged_by : (old new : State) (log : List Entry) (leads : LeadsTo old log new) → list_any is_forgery log ≡ list_any laws.is_forgery (made_by old new log leads)
+forged_by old new [] same = refl
+forged_by old new (e ∷ log) (next, tells, rest) = rw (tells.asks, tells.tells, same_forgery tells.event tells.answer, forged_by next new log rest) refl
+
+trusted_run : (config : Config) (image : List ℕ) (log : List Entry) (world : State) → refusal_of_config config ≡ None → IsImage image
+    → (leads : LeadsTo (opening_of config image) log world) → IsTrue (not (list_any is_forgery log)) → TrustedRun image (made_by (opening_of config image) world log leads) world
+trusted_run config image log world opens is_image leads unforged =
+    record {
+      pages = config.pages;
+      queues = config.queues;
+      entries = config.entries;
+      segment = config.segment;
+      opens = opens;
+      is_image = is_image;
+      steps = steps_by (opening_of config image) world log leads;
+      unforged = subst (λ (b : Bool). IsTrue (not b)) (forged_by (opening_of config image) world log leads) unforged;
+    }
+
+pub logs_are_runs : logs_are_trusted_runs
+logs_are_runs config image log world opens is_image leads unforged =
+    let run = trusted_run config image log world opens is_image leads unforged in
+    record {
+      made = made_by (opening_of config image) world log leads;
+      happened = asked_by (opening_of config image) world log leads;
+      answered = told_by (opening_of config image) world log leads;
+      drafts = drafts_by (opening_of config image) world log leads;
+      run = run;
+      trusted = trusted_end image (made_by (opening_of config image) world log leads) world run;
+    }
+
+-- no step of a job is a forgery
+job_forges_nothing : (what : Step) (answer : Answer) → is_of_jobs what ≡ true → forges_by what answer ≡ false
+job_forges_nothing (step.Forge q slot bytes) answer is = absurd (true≢false (sym is))
+job_forges_nothing what answer is = refl
+
+jobs_forge_nothing : (log : List Entry) → AreOfJobs log → list_any is_forgery log ≡ false
+jobs_forge_nothing [] are = refl
+jobs_forge_nothing (e ∷ log) are = rw (job_forges_nothing e.step e.answer are.0, jobs_forge_nothing log are.1) refl
+
+pub logs_of_jobs_are_runs : logs_of_jobs_are_trusted_runs
+logs_of_jobs_are_runs config image log world opens is_image leads are =
+    logs_are_runs config image log world opens is_image leads (rw (jobs_forge_nothing log are) refl)
+
+-- what a log since its last reset has is what its run has
+
+same_reset : (e : Event) → resets (asked e) ≡ machine.resets e
+same_reset events.Reset = refl
+same_reset e = refl
+
+reset_by : (old new : State) (log : List Entry) (leads : LeadsTo old log new) → list_any is_reset log ≡ list_any laws.is_reset (made_by old new log leads)
+reset_by old new [] same = refl
+reset_by old new (e ∷ log) (next, tells, rest) = rw (tells.asks, same_reset tells.event, reset_by next new log rest) refl
+
+forged_since : (old new : State) (log : List Entry) (leads : LeadsTo old log new)
+    → list_any is_forgery (since_reset log) ≡ list_any laws.is_forgery (histories.since_reset (made_by old new log leads))
+forged_since old new [] same = refl
+forged_since old new (e ∷ log) (next, tells, rest) =
+    let made = made_by next new log rest in
+    let later : list_any is_reset log ≡ list_any laws.is_reset made = reset_by next new log rest in
+    let reset : resets e.step ≡ machine.resets tells.event = ap resets tells.asks ∙ same_reset tells.event in
+    let forged : forges_by e.step e.answer ≡ laws.forges_by tells.event tells.answer = rw (tells.asks, tells.tells) (same_forgery tells.event tells.answer) in
+    rw (later, reset) (go (list_any laws.is_reset made) (machine.resets tells.event) forged (forged_by next new log rest) (forged_since next new log rest))
+  where
+    go : (b c : Bool) → forges_by e.step e.answer ≡ laws.forges_by tells.event tells.answer → list_any is_forgery log ≡ list_any laws.is_forgery (made_by next new log rest)
+        → list_any is_forgery (since_reset log) ≡ list_any laws.is_forgery (histories.since_reset (made_by next new log rest))
+        → list_any is_forgery (if b then since_reset log else if c then log else e ∷ log)
+        ≡ list_any laws.is_forgery (if b then histories.since_reset (made_by next new log rest) else if c then made_by next new log rest else record { before = old; event = tells.event; reply = tells.answer } ∷ made_by next new log rest)
+    go true c here all since = since
+    go false true here all since = all
+    go false false here all since = rw (here, all) refl
+
+pub trusted_logs : trusted_ends_are_unforged
+trusted_logs old log world leads trusted =
+    rw (forged_since old world log leads) (trusted_unforged (made_by old world log leads) old world (steps_by old world log leads) trusted)
+
+-- What is kept stands for the same where the lists get longer, and so a log grows by an entry.
+
+-- Parts of a list
+
+pub part_longer : {X : Type 0} (xs ys : List X) (s : Span) → FitsIn (length xs) s → part_of (xs ++ ys) s ≡ part_of xs s
+part_longer {X} xs ys s fits =
+    between_is (xs ++ ys) s.start s.end ∙ ap (λ (zs : List X). drop s.start zs) (take-append-le s.end xs ys fits.1) ∙ sym (between_is xs s.start s.end)
+
+pub part_behind : {X : Type 0} (xs ys : List X) (s : Span) → s.start ≡ length xs → s.end ≡ length xs + length ys → part_of (xs ++ ys) s ≡ ys
+part_behind {X} xs ys s start end =
+    between_is (xs ++ ys) s.start s.end ∙ ap (λ (zs : List X). drop s.start zs) (take_all s.end (xs ++ ys) (omega (arith, end, length-append xs ys))) ∙ drop_at xs ys s.start (sym start)
+
+fits_more : (n m : ℕ) (s : Span) → FitsIn n s → n ≤ m → FitsIn m s
+fits_more n m s fits more = (fits.0, omega (arith, fits.1, more))
+
+-- Steps, drafts and entries
+
+request_longer : (xs ys : List Piece) (r : KeptRequest) → FitsIn (length xs) r.pieces → shown_request (xs ++ ys) r ≡ shown_request xs r
+request_longer xs ys r fits = rw (part_longer xs ys r.pieces fits) refl
+
+step_longer : (xs ys : List Piece) (s : KeptStep) → StepFits (length xs) s → shown_step (xs ++ ys) s ≡ shown_step xs s
+step_longer xs ys (step.Reserve q r) fits = rw (request_longer xs ys r fits) refl
+step_longer xs ys s fits = refl
+
+draft_longer : (xs ys : List Piece) (ps qs : List ℕ) (d : Option KeptDraft) → DraftFits (length xs) (length ps) d
+    → option_map (shown_draft (xs ++ ys) (ps ++ qs)) d ≡ option_map (shown_draft xs ps) d
+draft_longer xs ys ps qs None fits = refl
+draft_longer xs ys ps qs (Some d) fits =
+    rw (request_longer xs ys d.request fits.0, part_longer ps qs d.data_pages fits.1, part_longer ps qs d.chain_pages fits.2) refl
+
+entry_longer : (xs ys : List Piece) (ps qs : List ℕ) (k : Kept) → EntryFits (length xs) (length ps) k → shown (xs ++ ys) (ps ++ qs) k ≡ shown xs ps k
+entry_longer xs ys ps qs k fits = rw (step_longer xs ys k.step fits.0, draft_longer xs ys ps qs k.draft fits.1) refl
+
+all_longer : (xs ys : List Piece) (ps qs : List ℕ) (kept : List Kept) → AllFit (length xs) (length ps) kept
+    → map (shown (xs ++ ys) (ps ++ qs)) kept ≡ map (shown xs ps) kept
+all_longer xs ys ps qs [] fit = refl
+all_longer xs ys ps qs (k ∷ kept) fit = rw (entry_longer xs ys ps qs k fit.0, all_longer xs ys ps qs kept fit.1) refl
+
+step_fits_more : (n m : ℕ) (s : KeptStep) → StepFits n s → n ≤ m → StepFits m s
+step_fits_more n m (step.Reserve q r) fits more = fits_more n m r.pieces fits more
+step_fits_more n m s fits more = tt
+
+draft_fits_more : (n m p q : ℕ) (d : Option KeptDraft) → DraftFits n p d → n ≤ m → p ≤ q → DraftFits m q d
+draft_fits_more n m p q None fits more further = tt
+draft_fits_more n m p q (Some d) fits more further = (fits_more n m d.request.pieces fits.0 more, fits_more p q d.data_pages fits.1 further, fits_more p q d.chain_pages fits.2 further)
+
+-- in longer lists, with one more
+pub all_fit_more : (n m p q : ℕ) (kept : List Kept) (k : Kept) → AllFit n p kept → n ≤ m → p ≤ q → EntryFits m q k → AllFit m q (kept ++ k ∷ [])
+all_fit_more n m p q [] k fit more further fits = (fits, tt)
+all_fit_more n m p q (x ∷ kept) k fit more further fits =
+    ((step_fits_more n m x.step fit.0.0 more, draft_fits_more n m p q x.draft fit.0.1 more further), all_fit_more n m p q kept k fit.1 more further fits)
+
+-- what is kept of a log with one entry more
+pub kept_more : (xs xs2 more : List Piece) (ps ps2 further : List ℕ) (kept : List Kept) (k : Kept) → AllFit (length xs) (length ps) kept → xs2 ≡ xs ++ more → ps2 ≡ ps ++ further
+    → map (shown xs2 ps2) (kept ++ k ∷ []) ≡ map (shown xs ps) kept ++ shown xs2 ps2 k ∷ []
+kept_more xs xs2 more ps ps2 further kept k fit pieces pages =
+    let same : map (shown xs2 ps2) kept ≡ map (shown xs ps) kept = rw (pieces, pages) (all_longer xs more ps further kept fit) in
+    map-append (shown xs2 ps2) kept (k ∷ []) ∙ ap (λ (es : List Entry). es ++ shown xs2 ps2 k ∷ []) same
+
+-- and that it stands in its lists
+pub fit_more : (xs xs2 more : List Piece) (ps ps2 further : List ℕ) (kept : List Kept) (k : Kept) → AllFit (length xs) (length ps) kept → xs2 ≡ xs ++ more → ps2 ≡ ps ++ further
+    → EntryFits (length xs2) (length ps2) k → AllFit (length xs2) (length ps2) (kept ++ k ∷ [])
+fit_more xs xs2 more ps ps2 further kept k fit pieces pages fits =
+    let longer : length xs ≤ length xs2 = omega (arith, ap length pieces, length-append xs more) in
+    let long : length ps ≤ length ps2 = omega (arith, ap length pages, length-append ps further) in
+    all_fit_more (length xs) (length xs2) (length ps) (length ps2) kept k fit longer long fits
+
+-- a draft of which the parts were put behind the lists
+pub kept_draft : (ps : List Piece) (q0 q1 q2 : List ℕ) (d : KeptDraft) (request : Request) (first second : List ℕ) → shown_request ps d.request ≡ request → q1 ≡ q0 ++ first → q2 ≡ q1 ++ second
+    → d.data_pages.start ≡ length q0 → d.data_pages.end ≡ length q1 → d.chain_pages.start ≡ length q1 → d.chain_pages.end ≡ length q2
+    → shown_draft ps q2 d ≡ (let shows : LoggedDraft = record { request = request; data_pages = first; chain_pages = second } in shows)
+kept_draft ps q0 q1 q2 d request first second shows one two from to from2 to2 =
+    let long1 : length q1 ≡ length q0 + length first = ap length one ∙ length-append q0 first in
+    let long2 : length q2 ≡ length q1 + length second = ap length two ∙ length-append q1 second in
+    let p1 : part_of (q1 ++ second) d.data_pages ≡ part_of q1 d.data_pages = part_longer q1 second d.data_pages (omega (arith, from, to, long1), omega (arith, to)) in
+    let p2 : part_of q1 d.data_pages ≡ first = ap (λ (qs : List ℕ). part_of qs d.data_pages) one ∙ part_behind q0 first d.data_pages from (to ∙ long1) in
+    let p3 : part_of q2 d.chain_pages ≡ second = ap (λ (qs : List ℕ). part_of qs d.chain_pages) two ∙ part_behind q1 second d.chain_pages from2 (to2 ∙ long2) in
+    let p4 : part_of q2 d.data_pages ≡ first = ap (λ (qs : List ℕ). part_of qs d.data_pages) two ∙ p1 ∙ p2 in
+    rw (shows, p3, p4) refl
+
+-- The last entry
+
+pub answered_last : (answer : Reply) (es : List Entry) (e : Entry) → answered answer (es ++ e ∷ []) ≡ es ++ (let a : Entry = record e { answer = answer } in a) ∷ []
+answered_last answer [] e = refl
+answered_last answer (x ∷ []) e = refl
+answered_last answer (x ∷ (y ∷ es)) e = rw (answered_last answer (y ∷ es) e) refl
+
+-- a kept list without its last, and with the last as another
+pub kept_last : (xs : List Piece) (ps : List ℕ) (all kept : List Kept) (k other : Kept) (answer : Reply) → all ≡ kept ++ k ∷ [] → shown xs ps other ≡ (let e : Entry = record (shown xs ps k) { answer = answer } in e)
+    → map (shown xs ps) (kept ++ other ∷ []) ≡ answered answer (map (shown xs ps) all)
+kept_last xs ps all kept k other answer is shows =
+    map-append (shown xs ps) kept (other ∷ []) ∙ ap (λ (e : Entry). map (shown xs ps) kept ++ e ∷ []) shows ∙ sym (answered_last answer (map (shown xs ps) kept) (shown xs ps k))
+    ∙ ap (λ (es : List Entry). answered answer es) (sym (map-append (shown xs ps) kept (k ∷ [])) ∙ ap (λ (ks : List Kept). map (shown xs ps) ks) (sym is))
+
+pub fit_last : (n p : ℕ) (all kept : List Kept) (k other : Kept) → all ≡ kept ++ k ∷ [] → AllFit n p all → (EntryFits n p k → EntryFits n p other) → AllFit n p (kept ++ other ∷ [])
+fit_last n p all kept k other is fit same = go kept (subst (λ (ks : List Kept). AllFit n p ks) is fit)
+  where
+    go : (ks : List Kept) → AllFit n p (ks ++ k ∷ []) → AllFit n p (ks ++ other ∷ [])
+    go [] f = (same f.0, tt)
+    go (x ∷ ks) f = (f.0, go ks f.1)
+
+-- An entry at a place
+
+-- A log that grows by a step.
 
 -- Counts
 

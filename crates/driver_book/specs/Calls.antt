@@ -1,24 +1,15 @@
 -- What the calls of a book do: each makes one step of the world, and writes it down, but for one that answers `Memory`.
 use Rattle.std.specs.Prelude.{◌≡◌, ℕ, ◌+◌, ◌==◌, ◌&&◌, Bool, is_none, Option, Some, None, option_and_then, Result, Ok, Err, List, [], ◌∷◌, ◌++◌, length, position, slice_set, slice_index_or}
 use Rattle.entry_codec.specs.declared.status.Status.{Status}
-use Rattle.io_commands.specs.Asked.{Request}
-use Rattle.io_commands.specs.Drafts.{DraftContents}
-use Rattle.io_commands.specs.Requests.{data_count}
-use Rattle.io_commands.specs.Values.{FinishedContents, TicketContents}
-use Rattle.machine_model.specs.Events as events
-use Rattle.machine_model.specs.Events.{Event}
-use Rattle.machine_model.specs.State.{State, Host, record_at}
-use Rattle.machine_model.specs.Refusals.{refusal_of}
-use Rattle.machine_model.specs.Step as machine
-use Rattle.machine_model.specs.declared.words.Refusal.{Refusal}
-use Rattle.machine_model.specs.declared.words.Refusal.TheVariants as refusal
-use Rattle.step_log.specs.History.{told, entry, entry_of, accepted}
-use Rattle.driver_book.specs.State.{BookContents, SeatContents}
-use Rattle.step_log.specs.Values.{Entry, LoggedDraft, Lacks}
-use Rattle.driver_book.specs.declared.log.Receipt.{Receipt}
+use Rattle.io_commands.specs.{Asked.Request, Drafts.DraftContents, Requests.data_count, Values.{FinishedContents, TicketContents}}
+use Rattle.machine_model.specs.{Events.Event, Refusals.refusal_of, State.{State, Host, record_at}, declared.words.Refusal.Refusal}
+use Rattle.driver_book.specs.{Entries.{Entry, LoggedDraft, Lacks}, History.{told, entry, entry_of, accepted}, State.{BookContents, SeatContents}}
+use Rattle.driver_book.specs.declared.report.Receipt.{Receipt}
 use Rattle.host_core.specs.declared.refused.Refused.{Refused}
-use Rattle.step_core.specs.Values.{Reply}
-use Rattle.step_core.specs.Values.{Step}
+use Rattle.step_core.specs.Values.{Reply, Step}
+use Rattle.machine_model.specs.Events as events
+use Rattle.machine_model.specs.Step as machine
+use Rattle.machine_model.specs.declared.words.Refusal.TheVariants as refusal
 
 -- what is written down of a reply: nothing where memory was refused
 abbrev pub noted : events.Reply → Option Reply

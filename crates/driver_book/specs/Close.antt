@@ -1,21 +1,12 @@
 -- What it is to close a book: its log is compared with the receipts of its seats.
-use Rattle.std.specs.Prelude.{◌≡◌, ◌⊎◌, ℕ, ◌+◌, ◌<◌, ◌≤◌, ◌==◌, ◌&&◌, Bool, true, false, Option, Some, None, is_none, List, [], ◌∷◌, length, map, count_by, slice_get, take, drop, sum_by, if◌then◌else◌}
 use Rattle.std.specs.List.{list_any}
-use Rattle.entry_codec.specs.declared.status.Status.{Status}
-use Rattle.entry_codec.specs.declared.status.TheConstants.Status.{ABORTED_SQ_DELETION}
-use Rattle.machine_model.specs.Claims.{counts_of}
-use Rattle.machine_model.specs.Status.{same_status}
-use Rattle.machine_model.specs.declared.words.Reaped.TheVariants.{Done}
-use Rattle.step_log.specs.History.{is_accepted, accepted}
-use Rattle.driver_book.specs.State.{BookContents, SeatContents}
-use Rattle.driver_book.specs.declared.log.CloseFault.{CloseFault}
-use Rattle.driver_book.specs.declared.log.CloseFault.TheVariants.{Missing, SeatOut, StillOut, Memory}
-use Rattle.step_log.specs.Values.{Entry}
-use Rattle.driver_book.specs.declared.log.Receipt.{Receipt}
-use Rattle.driver_book.specs.Values.{Report}
-use Rattle.step_core.specs.Values.{Reply}
+use Rattle.std.specs.Prelude.{◌≡◌, ◌⊎◌, ℕ, ◌+◌, ◌<◌, ◌≤◌, ◌==◌, ◌&&◌, Bool, true, false, Option, Some, None, is_none, List, [], ◌∷◌, length, map, count_by, slice_get, take, drop, sum_by, if◌then◌else◌}
+use Rattle.entry_codec.specs.declared.status.{Status.Status, TheConstants.Status.ABORTED_SQ_DELETION}
+use Rattle.machine_model.specs.{Claims.counts_of, Status.same_status, declared.words.Reaped.TheVariants.Done}
+use Rattle.driver_book.specs.{Entries.Entry, History.{is_accepted, accepted}, Reports.Report, State.{BookContents, SeatContents}}
+use Rattle.driver_book.specs.declared.report.{CloseFault.{CloseFault, TheVariants.{Missing, SeatOut, StillOut, Memory}}, Receipt.Receipt}
+use Rattle.step_core.specs.Values.{Reply, Step}
 use Rattle.step_core.specs.declared.step.Reply.TheVariants as reply
-use Rattle.step_core.specs.Values.{Step}
 use Rattle.step_core.specs.declared.step.Step.TheVariants as step
 
 -- How the log says that a command ended

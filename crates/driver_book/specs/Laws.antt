@@ -1,19 +1,10 @@
 -- What holds of every log that leads from an opening.
-use Rattle.std.specs.Prelude.{◌≡◌, ℕ, Bool, true, false, ◌&&◌, not, IsTrue, None, List, [], ◌∷◌, ◌++◌, map, if◌then◌else◌}
-use Rattle.std.specs.List.{list_any}
+use Rattle.std.specs.{List.list_any, Prelude.{◌≡◌, ℕ, Bool, true, false, ◌&&◌, not, IsTrue, None, List, [], ◌∷◌, ◌++◌, map, if◌then◌else◌}}
 use Rattle.block_image.specs.Blocks.{IsImage}
-use Rattle.machine_model.specs.Image.{Made}
-use Rattle.machine_model.specs.Trusted.{TrustedRun}
-use Rattle.machine_model.specs.State.{State}
-use Rattle.machine_model.specs.Touch.{stays_allowed, stays_own}
-use Rattle.host_core.specs.Opening.{refusal_of_config}
-use Rattle.step_core.specs.Going.{forges_by}
-use Rattle.step_core.specs.Opening.{opening_of}
-use Rattle.host_core.specs.declared.config.Config.{Config}
-use Rattle.step_log.specs.History.{asked, told, draft_of, TellsOf, LeadsTo}
-use Rattle.driver_book.specs.State.{AreOfJobs}
-use Rattle.step_log.specs.Values.{Entry}
-use Rattle.step_core.specs.Values.{Step}
+use Rattle.machine_model.specs.{Image.Made, State.State, Touch.{stays_allowed, stays_own}, Trusted.TrustedRun}
+use Rattle.host_core.specs.{Opening.refusal_of_config, declared.config.Config.Config}
+use Rattle.step_core.specs.{Going.forges_by, Opening.opening_of, Values.Step}
+use Rattle.driver_book.specs.{Entries.Entry, History.{asked, told, draft_of, TellsOf, LeadsTo}, State.AreOfJobs}
 use Rattle.step_core.specs.declared.step.Step.TheVariants as step
 
 -- the states before and behind an entry of a log, and what it tells of: in a trusted world it names allowed

@@ -3,5 +3,8 @@ pub mod Calls
 pub mod Close
 pub mod Laws
 pub mod Passes
-pub mod Values
+pub mod Reports
 pub mod Seats
+pub mod Entries
+pub mod Keeping
+pub mod History

@@ -1,11 +1,7 @@
 -- How the first submission is found that stands in no receipt: apart from the search for statuses, the log is gone through once for the seats' numbers, and
 -- then once for each seat.
-use Rattle.std.specs.Prelude.{◌≡◌, ℕ, ◌<◌, Bool, true, false, Option, Some, List, slice_get}
-use Rattle.std.specs.List.{list_any}
-use Rattle.step_log.specs.History.{is_accepted}
-use Rattle.driver_book.specs.State.{SeatContents}
-use Rattle.driver_book.specs.Close.{same_seat, stands}
-use Rattle.step_log.specs.Values.{Entry}
+use Rattle.std.specs.{List.list_any, Prelude.{◌≡◌, ℕ, ◌<◌, Bool, true, false, Option, Some, List, slice_get}}
+use Rattle.driver_book.specs.{Close.{same_seat, stands}, Entries.Entry, History.is_accepted, State.SeatContents}
 
 -- a seat of this number is among these
 abbrev pub is_known : List SeatContents → Option ℕ → Bool

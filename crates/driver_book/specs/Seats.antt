@@ -1,6 +1,6 @@
 -- What a seat keeps for its searches.
 use Rattle.std.specs.Prelude.{◌≡◌, ℕ, zero, suc, Bool, List, [], ◌∷◌, false, is_none}
-use Rattle.driver_book.specs.declared.log.Receipt.{Receipt}
+use Rattle.driver_book.specs.declared.report.Receipt.{Receipt}
 
 abbrev pub is_without_status : Receipt → Bool
 is_without_status r = is_none r.status

@@ -1,12 +1,7 @@
 -- What contracts see of a book and of a seat, and what holds of every book.
-use Rattle.std.specs.Prelude.{◌≡◌, ℕ, ◌+◌, ◌≤◌, List, Bool, true, false, not, ◌||◌, is_some}
-use Rattle.std.specs.Bool.{OnTrue}
-use Rattle.std.specs.List.{AllByRecursion}
-use Rattle.machine_model.specs.Claims.{IsSound}
-use Rattle.machine_model.specs.State.{State}
-use Rattle.step_log.specs.History.{LeadsTo, is_accepted, accepted}
-use Rattle.step_log.specs.Values.{Entry, Room}
-use Rattle.driver_book.specs.declared.log.Receipt.{Receipt}
+use Rattle.std.specs.{Bool.OnTrue, List.AllByRecursion, Prelude.{◌≡◌, ℕ, ◌+◌, ◌≤◌, List, Bool, true, false, not, ◌||◌, is_some}}
+use Rattle.machine_model.specs.{Claims.IsSound, State.State}
+use Rattle.driver_book.specs.{Entries.{Entry, Room}, History.{LeadsTo, is_accepted, accepted}, declared.report.Receipt.Receipt}
 use Rattle.step_core.specs.Values.{Step}
 use Rattle.step_core.specs.declared.step.Step.TheVariants as step
 

@@ -7,10 +7,11 @@ ghost use Rattle.machine_model.specs.Claims.{claims_of, counts_of, IsSound};
 ghost use Rattle.page_ledger.specs.Counting.{total};
 ghost use Rattle.host_core.specs.Opening.{refusal_of_config, RefusesOpening};
 ghost use Rattle.step_core.specs.Opening.{opening_of};
-ghost use Rattle.step_log.specs.History.{accepted, LeadsTo};
+ghost use Rattle.driver_book.specs.History.{accepted, LeadsTo};
 ghost use Rattle.driver_book.specs.State.{AreOfJobs, BookContents};
 
-use crate::log::NoSeat;
+use crate::Log;
+use crate::report::NoSeat;
 use crate::seat::Seat;
 use block_image::Image;
 use page_ledger::{Counts, Owner};
@@ -20,7 +21,6 @@ use std::marker::{Brand, Model};
 use std::sync::ledger;
 use std::sync::ledger::{Blank, Ledger, Share};
 use step_core::{Config, Ended, OpenRefusal, World};
-use step_log::Log;
 
 /// The brand of one book: its ledger, and what contracts alone know of that book: the state with which it opens, and whether it takes the steps of
 /// jobs alone.

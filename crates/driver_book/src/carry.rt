@@ -2,16 +2,16 @@
 
 ghost use Rattle.std.specs.Prelude.{◌≡◌, ◌≤◌, length, IfOk, IfErr, OnOk};
 ghost use Rattle.machine_model.specs.Claims.{IsSound};
-ghost use Rattle.step_log.specs.History.{LeadsTo, accepted};
+ghost use Rattle.driver_book.specs.History.{LeadsTo, accepted};
 ghost use Rattle.driver_book.specs.Close.{AllStand, receipts_of, IsDone, RefusesClose, Reports};
 
+use crate::Log;
 use crate::book::{Book, LogBrand};
 use crate::close::CloseRefused;
-use crate::log::{CloseFault, ReportIn};
+use crate::report::{CloseFault, ReportIn};
 use crate::seat::Seat;
 use std::alloc::{Allocator, Global};
 use step_core::World;
-use step_log::Log;
 
 /// What is left of a book that was closed: its log, what it said, and its world.
 #[derive(Drop)]

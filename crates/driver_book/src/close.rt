@@ -4,21 +4,21 @@ ghost use Rattle.std.specs.Prelude.{◌≡◌, ℕ, ◌+◌, ◌<◌, ◌≤◌,
 ghost use Rattle.std.specs.List.{list_any};
 ghost use Rattle.machine_model.specs.Claims.{IsSound};
 ghost use Rattle.machine_model.specs.Status.{same_status as same_statuses};
-ghost use Rattle.step_log.specs.History.{LeadsTo, accepted, is_accepted, is_submission as is_step_of_submission};
+ghost use Rattle.driver_book.specs.History.{LeadsTo, accepted, is_accepted, is_submission as is_step_of_submission};
 ghost use Rattle.driver_book.specs.State.{AreSeated};
 ghost use Rattle.driver_book.specs.Close.{status_by, held, same_seat, accepted_of, fits_status, queue_in, identifier_in, is_receipt_of, has, stands, AllStand, IsMissing, receipts_of, has_open, IsDone, RefusesClose, Reports};
 ghost use Rattle.driver_book.specs.Passes.{is_known, StandOf, AreKnown, IsMissingAt};
-ghost use Rattle.driver_book.specs.declared.log.Receipt.{Receipt as AReceipt};
+ghost use Rattle.driver_book.specs.declared.report.Receipt.{Receipt as AReceipt};
 
 use crate::book::{Book, LogBrand};
-use crate::log::{CloseFault, Receipt, Receipts, Report, ReportIn};
+use crate::report::{CloseFault, Receipt, Receipts, Report, ReportIn};
 use crate::seat::Seat;
+use crate::{Log, NoBytes, ShownEntry, ShownStep};
 use entry_codec::Status;
 use machine_model::words::Reaped;
 use std::alloc::{Allocator, Global};
 use std::sync::ledger::{Ledger, Share};
 use step_core::{Reply, Step};
-use step_log::{Log, NoBytes, ShownEntry, ShownStep};
 
 /// A book that was not closed: why, and the seats that were handed in. Nothing changed.
 #[derive(Drop)]
@@ -101,7 +101,9 @@ fn status_behind<A: Allocator>(q: u16, cid: u16, log: &Log<A>, index: usize) -> 
 {
     let end = log.len();
     for i in index + 1..end {
-        let entry = log.at(i);
+        let Some(entry) = log.ending_at(i) else {
+            continue;
+        };
         match status_of_step(q, cid, &entry.step, &entry.answer) {
             Some(status) => return Some(status),
             None => {}

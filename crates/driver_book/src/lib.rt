@@ -12,7 +12,13 @@
 //! World, log, receipts and report stand in the memory of the allocator with which the book was opened, and so does all that is handed in and
 //! out, but for the request of [`Book::least_pages`]. It is [`Global`](std::alloc::Global) where none is named.
 //!
-//! The log is a [`Log`] of `step_log`, which says where it leads. `specs/Calls.antt` says what the calls do, `specs/Close.antt` what it is to close a book.
+//! The log is a [`Log`], a value of its own: it keeps an [`Entry`] for each step, who made it, the step, what it answered, and of a reservation and a submission
+//! what the draft was. The pieces of all requests stand in one list, behind one another, and the page numbers of all drafts in another; an entry
+//! names its part of them. So an entry takes no memory of its own: the three lists grow by [`Log::make_room`], and an entry that has room
+//! is written without more memory.
+//!
+//! `specs/History.antt` says where a log leads, `specs/Entries.antt` what contracts see of it, `specs/Keeping.antt` how entries are kept, `specs/Calls.antt` what the
+//! calls do, `specs/Close.antt` what it is to close a book.
 #![tactic(auto)]
 
 mod admin;
@@ -20,17 +26,24 @@ mod book;
 mod carry;
 mod close;
 mod device;
+mod entry;
 mod full;
 mod host;
+mod keep;
 pub mod laws;
 mod log;
 mod look;
 mod note;
+mod report;
 mod seat;
+mod shown;
 
 pub use book::{Book, BookRefused, FullLogBrand, LogBrand};
 pub use carry::{CarryRefused, ClosedLog};
 pub use close::CloseRefused;
+pub use entry::{Entry, KeptStep, LoggedDraft, NoBytes, Span};
 pub use full::Full;
-pub use log::{CloseFault, NoSeat, Receipt, Receipts, Report, ReportIn};
+pub use log::Log;
+pub use report::{CloseFault, NoSeat, Receipt, Receipts, Report, ReportIn};
 pub use seat::Seat;
+pub use shown::{PageNumbers, PieceList, ShownEntry, ShownStep};

@@ -1,94 +1,208 @@
-//! What a book writes down, and what it hands out.
+//! The log itself.
 
-ghost use Rattle.std.specs.Prelude.{◌≡◌, map};
+ghost use Rattle.std.specs.Prelude.{◌≡◌, ◌+◌, ◌<◌, ◌^◌, ◌++◌, ◌∷◌, [], ◌==◌, None, Some, false, OnOk, OnErr, IfSome, IfNone, length, slice_get};
+ghost use Rattle.std.specs.Option.{option_map};
+ghost use Rattle.driver_book.specs.Entries.{Entry as AnEntry};
+ghost use Rattle.machine_model.specs.Events as events;
+ghost use Rattle.driver_book.specs.History.{entry, entry_of};
+ghost use Rattle.driver_book.specs.Keeping.{HasNoRequest, bare_step, may_end as may_end_step};
+ghost use Rattle.driver_book.specs.Entries.{IsNoLess, Takes, Lacks, left, answered};
 
-use entry_codec::Status;
-use page_ledger::Counts;
-use std::alloc::{Allocator, Global};
+use crate::entry::{Entry, KeptEntry, KeptStep, NoBytes};
+use crate::keep::{keep_draft, keep_request, same_request};
+use crate::shown::{ShownEntry, shown_entry};
+use io_commands::{Draft, Piece, Request};
+use page_memory::PageNo;
+use std::alloc::{AllocError, Allocator, Global};
 use std::marker::Model;
-use thiserror::Error;
+use step_core::{Reply, Step};
 
-/// What a seat knows of a command that it submitted.
-#[derive(Clone, Copy, Debug, PartialEq, Eq)]
-pub struct Receipt {
-    /// Which accepted submission of the book it is, from 0.
-    pub number: u64,
-    /// The command's queue.
-    pub q: u16,
-    /// Its identifier.
-    pub cid: u16,
-    /// How it ended, once it was released.
-    pub status: Option<Status>,
+/// The entries of a world's steps, the oldest first. Contracts see them, with their requests and page numbers, and how many more entries,
+/// pieces and page numbers it takes before its lists have to grow.
+#[derive(Drop)]
+pub struct Log<A: Allocator = Global> {
+    kept: Vec<KeptEntry, A>,
+    pieces: Vec<Piece, A>,
+    pages: Vec<PageNo, A>,
 }
 
-/// No seat was made: 65,535 were.
-#[derive(Clone, Copy, Debug, PartialEq, Eq, Error)]
-#[error("all seats are taken")]
-pub struct NoSeat;
+impl<A: Allocator> Model for Log<A> {
+    ghost use Rattle.std.specs.Prelude.{◌-◌, length, map, vec_len, vec_capacity};
+    ghost use Rattle.driver_book.specs.Entries.{LogContents};
+    ghost use Rattle.driver_book.specs.Keeping.{shown, AllFit};
 
-/// Why a book was not closed: the first of these that holds.
-#[derive(Clone, Copy, Debug, PartialEq, Eq, Error)]
-pub enum CloseFault {
-    /// An accepted submission that stands in no receipt handed in, the first one.
-    #[error("submission {number} of seat {seat} stands in no receipt")]
-    Missing {
-        /// The seat that made it, as the log says.
-        seat: u16,
-        /// Its number.
-        number: u64,
-    },
-    /// Fewer seats were handed in than were made and no earlier close took.
-    #[error("a seat was not handed in")]
-    SeatOut,
-    /// A receipt has no status, or a command is outstanding.
-    #[error("a command is still outstanding")]
-    StillOut,
-    /// Memory was refused.
-    #[error("memory was refused")]
-    Memory,
+    ghost Value = { LogContents };
+
+    ghost view = { λ l. record { entries = map (shown l.pieces.items l.pages.items) l.kept.items; room = record { entries = vec_capacity l.kept - vec_len l.kept; pieces = vec_capacity l.pieces - vec_len l.pieces; pages = vec_capacity l.pages - vec_len l.pages } } };
+
+    ghost invariant = { λ l. AllFit (length l.pieces.items) (length l.pages.items) l.kept.items };
 }
 
-/// The receipts of seats, one list for each. Contracts see these lists.
-#[derive(Debug, Drop)]
-pub struct Receipts<A: Allocator = Global> {
-    lists: Vec<Vec<Receipt, A>, A>,
-}
-
-impl<A: Allocator> Model for Receipts<A> {
-    ghost use Rattle.std.specs.Prelude.{List, map};
-    ghost use Rattle.driver_book.specs.declared.log.Receipt.{Receipt};
-
-    ghost Value = { List (List Receipt) };
-
-    ghost view = { λ r. map (λ list. list.items) r.lists.items };
-}
-
-impl<A: Allocator> Receipts<A> {
-    /// These lists.
-    pub(crate) fn of(lists: Vec<Vec<Receipt, A>, A>) -> Self
-        ensures { result ≡ map (λ list. list.items) lists.items }
+impl<A: Allocator + Copy> Log<A> {
+    /// A log without entries. It takes no memory.
+    pub fn new(alloc: A) -> Self
+        ensures { result ≡ record { entries = []; room = record { entries = 0; pieces = 0; pages = 0 } } }
     {
-        Receipts { lists }
-    }
-
-    /// The lists, one for each seat.
-    pub fn as_slice(&self) -> &[Vec<Receipt, A>]
-        ensures { map (λ list. list.items) result.now ≡ self.now }
-    {
-        &self.lists
+        Log {
+            kept: Vec::new(alloc),
+            pieces: Vec::new(alloc),
+            pages: Vec::new(alloc),
+        }
     }
 }
 
-/// What a closed book says.
-#[derive(Debug, Drop)]
-pub struct Report<R = Receipts> {
-    /// How many submissions were accepted.
-    pub submissions: u64,
-    /// How many pages each class has.
-    pub counts: Counts,
-    /// The receipts of the seats, in the order in which they were handed in.
-    pub receipts: R,
+/// Whether a step may end submitted commands: a reap, a retirement and a reset may.
+fn may_end(step: &KeptStep) -> bool
+    ensures { result ≡ may_end_step step.now }
+{
+    matches!(step, Step::Reap { .. } | Step::Retire { .. } | Step::Reset)
 }
 
-/// A report whose receipts stand in the memory of one allocator.
-pub type ReportIn<A> = Report<Receipts<A>>;
+impl<A: Allocator> Log<A> {
+    /// Makes room for one entry, with so many pieces of requests and so many page numbers of drafts.
+    ///
+    /// # Errors
+    ///
+    /// Where memory is refused. The entries stay; one of the three had too little room. What room there was is there still.
+    pub fn make_room(&mut self, pieces: usize, pages: usize) -> Result<(), AllocError>
+        ensures room { OnOk result (Takes self.new.room pieces pages) }
+        ensures full { OnErr result (Lacks self.old.room pieces pages) }
+        ensures no_less { IsNoLess self.old.room self.new.room }
+        ensures same { self.new.entries ≡ self.old.entries }
+    {
+        self.kept.reserve(1)?;
+        self.pieces.reserve(pieces)?;
+        self.pages.reserve(pages)?;
+        Ok(())
+    }
+
+    /// Writes a step without a request behind the others. It takes no memory.
+    pub fn push(&mut self, seat: Option<u16>, step: KeptStep, answer: Reply<NoBytes>)
+        requires room { 0 < self.old.room.entries }
+        requires bare { HasNoRequest step }
+        ensures entries { self.new.entries ≡ self.old.entries ++ entry seat (bare_step step) answer None ∷ [] }
+        ensures room { self.new.room ≡ left self.old.room 0 0 }
+    {
+        self.kept.push_reserved(Entry {
+            seat,
+            step,
+            answer,
+            draft: None,
+        });
+    }
+
+    /// Writes a reservation of which no draft came behind the others, with its request. It takes no memory.
+    pub fn push_request<B: Allocator>(
+        &mut self,
+        seat: Option<u16>,
+        q: u16,
+        request: &Request<B>,
+        answer: Reply<NoBytes>,
+    )
+        requires { Takes self.old.room (length request.now.pieces) 0 }
+        ensures entries { self.new.entries ≡ self.old.entries ++ entry seat (Step.Reserve q request.now) answer None ∷ [] }
+        ensures room { self.new.room ≡ left self.old.room (length request.now.pieces) 0 }
+    {
+        let request = keep_request(&mut self.pieces, request);
+        self.kept.push_reserved(Entry {
+            seat,
+            step: Step::Reserve { q, request },
+            answer,
+            draft: None,
+        });
+    }
+
+    /// Writes the reservation of which this draft came behind the others. It takes no memory.
+    pub fn push_reservation<B: Allocator>(&mut self, seat: Option<u16>, draft: &Draft<B>)
+        requires { Takes self.old.room (length draft.now.request.pieces) (length draft.now.data_pages + length draft.now.chain_pages) }
+        ensures entries { self.new.entries ≡ self.old.entries ++ entry_of seat (events.Reserve draft.now.q draft.now.request) (events.Reserved draft.now) ∷ [] }
+        ensures room { self.new.room ≡ left self.old.room (length draft.now.request.pieces) (length draft.now.data_pages + length draft.now.chain_pages) }
+    {
+        let kept = keep_draft(&mut self.pieces, &mut self.pages, draft);
+        self.kept.push_reserved(Entry {
+            seat,
+            step: Step::Reserve {
+                q: draft.q(),
+                request: same_request(&kept.request),
+            },
+            answer: Reply::reserved(draft),
+            draft: Some(kept),
+        });
+    }
+
+    /// Writes the submission of a draft behind the others, as one that is accepted ([`Log::answer_last`] says otherwise). It takes no
+    /// memory, so it may be written before the draft is given away.
+    pub fn push_submission<B: Allocator>(&mut self, seat: Option<u16>, draft: &Draft<B>)
+        requires { Takes self.old.room (length draft.now.request.pieces) (length draft.now.data_pages + length draft.now.chain_pages) }
+        ensures entries { self.new.entries ≡ self.old.entries ++ entry_of seat (events.Submit draft.now) events.Accepted ∷ [] }
+        ensures room { self.new.room ≡ left self.old.room (length draft.now.request.pieces) (length draft.now.data_pages + length draft.now.chain_pages) }
+        ensures few { length self.new.entries < 2 ^ 63 }
+    {
+        let kept = keep_draft(&mut self.pieces, &mut self.pages, draft);
+        self.kept.push_reserved(Entry {
+            seat,
+            step: Step::Submit {
+                q: draft.q(),
+                cid: draft.cid(),
+            },
+            answer: Reply::Accepted,
+            draft: Some(kept),
+        });
+    }
+
+    /// Has the last entry say this answer.
+    pub fn answer_last(&mut self, answer: Reply<NoBytes>)
+        ensures entries { self.new.entries ≡ answered answer self.old.entries }
+        ensures room { self.new.room ≡ self.old.room }
+    {
+        if let Some(last) = self.kept.pop() {
+            self.kept.push_reserved(Entry { answer, ..last });
+        }
+    }
+
+    /// How many entries there are.
+    pub fn len(&self) -> usize
+        ensures { result ≡ length self.now.entries }
+    {
+        self.kept.len()
+    }
+
+    /// Whether there is none.
+    pub fn is_empty(&self) -> bool
+        ensures { result ≡ (length self.now.entries == 0) }
+    {
+        self.kept.is_empty()
+    }
+
+    /// The entry at a place, counted from 0.
+    pub fn at<'a>(&'a self, index: usize) -> ShownEntry<'a>
+        requires { index < length self.now.entries }
+        ensures { slice_get self.now.entries index ≡ Some result }
+    {
+        shown_entry(&self.pieces, &self.pages, &self.kept[index])
+    }
+
+    /// The entry at a place, counted from 0, where its step may end submitted commands: a reap, a retirement or a reset.
+    pub fn ending_at<'a>(&'a self, index: usize) -> Option<ShownEntry<'a>>
+        requires { index < length self.now.entries }
+        ensures ending { IfSome result (λ entry. slice_get self.now.entries index ≡ Some entry) }
+        ensures other { IfNone result (option_map (λ (e : AnEntry). may_end_step e.step) (slice_get self.now.entries index) ≡ Some false) }
+    {
+        if may_end(&self.kept[index].step) {
+            Some(self.at(index))
+        } else {
+            None
+        }
+    }
+
+    /// The entry at a place, counted from 0, if there is one.
+    pub fn get<'a>(&'a self, index: usize) -> Option<ShownEntry<'a>>
+        ensures { result ≡ slice_get self.now.entries index }
+    {
+        if index < self.kept.len() {
+            Some(self.at(index))
+        } else {
+            None
+        }
+    }
+}

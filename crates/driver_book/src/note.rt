@@ -3,16 +3,16 @@
 ghost use Rattle.std.specs.Prelude.{◌≡◌, ◌+◌, ◌++◌, ◌∷◌, ◌<◌, [], None, IfOk, IfErr, OnOk, length};
 ghost use Rattle.machine_model.specs.Events as events;
 ghost use Rattle.step_core.specs.Replies.{accept_reply, collect_reply, ring_reply, reap_reply, complete_reply, fetch_reply, walk_reply, send_reply};
-ghost use Rattle.step_log.specs.History.{entry_of, told};
-ghost use Rattle.step_log.specs.Keeping.{HasNoRequest, bare_step};
-ghost use Rattle.step_log.specs.Values.{Takes, answered};
+ghost use Rattle.driver_book.specs.History.{entry_of, told};
+ghost use Rattle.driver_book.specs.Keeping.{HasNoRequest, bare_step};
+ghost use Rattle.driver_book.specs.Entries.{Takes, answered};
 ghost use Rattle.driver_book.specs.Calls.{noted, entries};
 
+use crate::{KeptStep, Log, NoBytes};
 use io_commands::{Draft, Finished, Request, Ticket};
 use machine_model::words::{Reaped, Refusal};
 use std::alloc::Allocator;
 use step_core::{Completed, Fetched, Refused, Reply, Step, StepRefused, Touched, Walked};
-use step_log::{KeptStep, Log, NoBytes};
 
 /// Writes a step down that has no request, if there is something to write. The log has room.
 pub(crate) fn note<A: Allocator>(

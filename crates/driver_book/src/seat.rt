@@ -10,8 +10,8 @@ ghost use Rattle.driver_book.specs.Seats.{AreSettled, is_without_status};
 
 use crate::book::{Book, LogBrand};
 use crate::host::unlogged;
-use crate::log::Receipt;
 use crate::note::{ended, note, note_refused};
+use crate::report::Receipt;
 use entry_codec::Status;
 use io_commands::{Draft, Finished, Ticket};
 use std::alloc::{Allocator, Global};
@@ -94,7 +94,7 @@ fn first_open(receipts: &[Receipt], q: u16, cid: u16) -> Option<usize>
 }
 
 /// Whether a receipt is for this command, and has no status yet; the first `settled` receipts have one.
-#[tactic(auto, using(crate::proofs::Seats::settled_length))]
+#[tactic(auto, using(crate::proofs::StandsInReceipts::settled_length))]
 fn is_awaited(receipts: &[Receipt], settled: usize, q: u16, cid: u16) -> bool
     requires { AreSettled settled receipts.now }
     ensures { result ≡ list_any (is_open_receipt q cid) receipts.now }
@@ -110,7 +110,7 @@ fn first_without_status(receipts: &[Receipt]) -> Option<usize>
 }
 
 /// How many receipts at the head of a list have a status.
-#[tactic(auto, using(crate::proofs::Seats::settled_until, crate::proofs::Seats::all_settled))]
+#[tactic(auto, using(crate::proofs::StandsInReceipts::settled_until, crate::proofs::StandsInReceipts::all_settled))]
 fn settled_head(receipts: &[Receipt]) -> usize
     ensures settled { AreSettled result receipts.now }
     ensures within { result ≤ length receipts.now }
@@ -123,7 +123,7 @@ fn settled_head(receipts: &[Receipt]) -> usize
 
 /// Gives the first receipt for this command without a status the status that the command has. It takes and answers how many receipts at
 /// the head of the list have a status.
-#[tactic(auto, using(crate::proofs::Seats::settled_length))]
+#[tactic(auto, using(crate::proofs::StandsInReceipts::settled_length))]
 fn settle(
     receipts: &mut [Receipt],
     settled: usize,

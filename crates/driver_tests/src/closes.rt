@@ -2,8 +2,8 @@
 
 use crate::looks::{Told, counts, see, tell};
 use driver_book::{CloseFault, FullLogBrand, Report};
-use driver_desk::Desk;
 use entry_codec::Status;
+use job_cli::desk::Desk;
 use std::process::Abort;
 use std::sync::Wait;
 

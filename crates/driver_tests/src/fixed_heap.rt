@@ -3,10 +3,12 @@
 use crate::looks::see;
 use linked_list_allocator::LocalHeap;
 use script_cli::RunFault;
+use script_cli::transcripts::{
+    Difference, OnBench, OpeningFault, Transcript, play, read_transcript,
+};
 use std::alloc::{AllocError, Global};
 use std::process::Abort;
 use std::test::Fail;
-use transcripts::{Difference, OnBench, OpeningFault, Transcript, play, read_transcript};
 
 /// How many commands are outstanding at once.
 const COMMANDS: u16 = 16;

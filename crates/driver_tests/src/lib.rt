@@ -33,6 +33,8 @@ mod resets;
 #[cfg(test)]
 mod runs;
 #[cfg(test)]
+mod shared_worlds;
+#[cfg(test)]
 mod strangers;
 #[cfg(test)]
 mod turned_away;

@@ -5,13 +5,13 @@ use crate::looks::{see, see_at};
 use crate::part::USUAL;
 use page_ledger::{Counts, Owner};
 use page_memory::PageNo;
+use script_cli::transcripts::{Told, Transcript, read_transcript, reply_in, step_in};
 use script_cli::{Line, Verb, append_reply};
 use std::alloc::{AllocError, Global};
 use std::process::Abort;
 use std::test::Fail;
 use step_core::{Bench, Reply, ReplyIn, StepIn};
 use test_support::{Refusal, Refusing};
-use transcripts::{Told, Transcript, read_transcript, reply_in, step_in};
 
 /// Two blocks are read to two pages.
 const TWO_PAGES: &str = "reserve 1 read 5 2 0+512 0+512

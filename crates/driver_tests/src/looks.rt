@@ -3,9 +3,9 @@
 ghost use Rattle.std.specs.Prelude.{◌≡◌, ◌≤◌, length};
 
 use driver_book::{FullLogBrand, Receipt, Seat};
-use driver_desk::Value;
 use entry_codec::Status;
 use io_commands::Finished;
+use job_cli::desk::Value;
 use page_ledger::Counts;
 use std::fmt::Debug;
 use std::process::Abort;

@@ -7,16 +7,16 @@ use crate::closes::{close, close_each, keep_back, stay_open};
 use crate::looks::{Told, alter, has_receipts, see};
 use block_image::Image;
 use driver_book::{Book, CloseFault, Full, FullLogBrand, LogBrand};
-use driver_desk::{Access, Desk};
 use driver_threads::Shared;
 use entry_codec::Status;
+use job_cli::desk::{Access, Desk};
+use script_cli::transcripts::read_transcript;
 use std::alloc::Global;
 use std::marker::Brand;
 use std::process::Abort;
 use std::sync::Wait;
 use std::sync::ledger::Blank;
 use step_core::Config;
-use transcripts::read_transcript;
 
 /// A part of a run at a desk. The last seat acts: it submits and releases.
 #[derive(Clone, Copy)]
@@ -52,7 +52,7 @@ pub(crate) fn play_text<L: FullLogBrand, R: Abort + Wait>(
     let Ok(transcript) = read_transcript(desk.alloc, text) else {
         panic!(rt; "it is no transcript");
     };
-    match transcripts::play(desk.alloc, desk, &transcript) {
+    match script_cli::transcripts::play(desk.alloc, desk, &transcript) {
         Ok(None) => {}
         Ok(Some(difference)) => panic!(rt; "{difference}"),
         Err(_) => panic!(rt; "memory is wanting"),

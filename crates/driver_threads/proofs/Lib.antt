@@ -1,5 +1,1 @@
-pub mod Collected
-pub mod Ended
-pub mod Trusted
 pub mod UnderWay
-pub mod Behinds

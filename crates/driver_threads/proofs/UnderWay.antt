@@ -1,16 +1,130 @@
 -- A submitter under way: commands are taken into flight, and the oldest ones end.
-use Rattle.std.proofs.Common.{◌≡◌, ℕ, ◌-◌, ◌+◌, ◌≤◌, ◌||◌, Bool, true, false, suc, Option, None, List, [], ◌∷◌, ◌++◌, length, refl, sym, ap, ◌∙◌, arith, eq-eqb}
-use Rattle.std.specs.List.{list_any}
-use Rattle.std.proofs.lemmas.List.{append-nil, append_assoc, length-append}
+use Rattle.machine_model.specs.Events as events
+use Rattle.std.proofs.Common.{◌≡◌, ℕ, ◌==◌, Bool, true, false, ◌||◌, Option, Some, None, Result, Ok, Err, find, IfOk, MatchBool, refl, ap, sym, ◌∙◌, ◌+◌, ◌<◌, ◌&&◌, true≢false, OnOk, OnErr, List, [], ◌∷◌, ◌++◌, length, position, arith, eq-eqb, ◌-◌, ◌≤◌, suc, zero, map, get_or, subst}
+use Rattle.std.proofs.{Math.Seq.{get_or-append_seam, set-append_seam}, lemmas.{Bool.{eqb-true, or_parts}, Iterator.Adapters.position_from-zero}}
+use Rattle.std.{proofs.lemmas.{List.{append-nil, length-append, append_assoc, length-map, map-append}, Option.slice_get-get_or}, specs.Bool.OnTrue}
+use Rattle.std.specs.{List.{list_any, position_from}, Option.{option_map, option_map_or}, Prelude.{option_and_then, is_none, slice_get, slice_set}}
+use Rattle.driver_book.proofs.{Runs.logs_of_jobs_are_runs, StandsInReceipts.{both_true, closed_is_another}}
+use Rattle.driver_book.specs.{Calls.{Does, receipt, is_open_for, settled, settled_at}, History.LeadsTo, Laws.IsTrustedLog, Reports.Report}
+use Rattle.driver_book.specs.{State.{BookContents, AreOfJobs}, declared.report.Receipt.Receipt}
 use Rattle.entry_codec.specs.declared.status.Status.{Status}
-use Rattle.io_commands.specs.Values.{TicketContents}
-use Rattle.driver_book.specs.Calls.{receipt, is_open_for, settled}
-use Rattle.driver_book.specs.declared.log.Receipt.{Receipt}
-use Rattle.driver_threads.specs.Ends.{ends_of, statuses_of, status_of, Agree, AwaitEach, Awaits, EndsWith, IsUnderWay}
-use Rattle.driver_threads.specs.Values.{JobEnd}
-use Rattle.driver_threads.specs.declared.jobs.JobRefusal.{JobRefusal}
-use Rattle.driver_threads.specs.declared.jobs.JobEnd.TheVariants.{Refused}
-use Rattle.driver_threads.proofs.Ended.{none_open, settled_oldest, status_is, statuses_push, agree_more, agree_refused}
+use Rattle.io_commands.specs.{Asked.Request, Values.{FinishedContents, TicketContents}}
+use Rattle.machine_model.specs.{State.{State, Record, is_at}, Step.{finished_from, asked_by, pages_with_bytes}}
+use Rattle.step_core.specs.{Opening.opening_of, Replies.collect_reply}
+use Rattle.host_core.{proofs.Lists.found_is, specs.{Opening.refusal_of_config, declared.{config.Config.Config, refused.Refused.Refused}}}
+use Rattle.driver_threads.specs.{Behind.{added, behind}, Ends.{ends_of, statuses_of, status_of, Agree, AwaitEach, Awaits, EndsWith, IsUnderWay}, Runs.RanFrom}
+use Rattle.driver_threads.specs.{Values.JobEnd, declared.jobs.{JobEnd.TheVariants.{Done, Refused as JobEndRefused}, JobRefusal.JobRefusal}}
+use Rattle.block_image.specs.Blocks.{IsImage}
+
+-- A finished command is that of the ticket with which it was collected.
+
+abbrev q_of : Option FinishedContents → ℕ
+q_of f = option_map_or (λ f. f.q) f 0
+
+abbrev cid_of : Option FinishedContents → ℕ
+cid_of f = option_map_or (λ f. f.cid) f 0
+
+-- what is made of a record has its queue and identifier
+made : (s : State) (r : Record) (f : FinishedContents) → finished_from s r ≡ Some f → (f.q ≡ r.q) × (f.cid ≡ r.cid)
+made s r f h = go (asked_by r.work) r.status h
+  where
+    go : (asked : Option Request) (status : Option Status)
+        → option_and_then (λ request. option_map (λ st. record { q = r.q; cid = r.cid; request = request; status = st; data_pages = pages_with_bytes s.memory r.data_pages; chain_pages = pages_with_bytes s.memory r.chain_pages }) status) asked ≡ Some f
+        → (f.q ≡ r.q) × (f.cid ≡ r.cid)
+    go None status h = cc
+    go (Some request) None h = cc
+    go (Some request) (Some st) h = (sym (ap q_of h), sym (ap cid_of h))
+
+named : (s : State) (q cid : ℕ) (f : FinishedContents) → option_and_then (finished_from s) (find (is_at q cid) s.host.records) ≡ Some f → (f.q ≡ q) × (f.cid ≡ cid)
+named s q cid f h = go (find (is_at q cid) s.host.records) (found_is (is_at q cid) s.host.records) h
+  where
+    go : (o : Option Record) → ((r : Record) → o ≡ Some r → is_at q cid r ≡ true) → option_and_then (finished_from s) o ≡ Some f → (f.q ≡ q) × (f.cid ≡ cid)
+    go None is h = cc
+    go (Some r) is h =
+        let both = both_true (r.q == q) (r.cid == cid) (is r refl) in
+        let same = made s r f h in
+        (same.0 ∙ eqb-true r.q q both.0, same.1 ∙ eqb-true r.cid cid both.1)
+
+host_answers : (A B : Type 0) (b : Bool) → MatchBool (b || true) A B → A
+host_answers A B true h = h
+host_answers A B false h = h
+
+pub collects_command : (old new : BookContents) (q cid : ℕ) (result : Result FinishedContents (Refused TicketContents)) → Does old None (events.Collect q cid) (collect_reply result) new
+    → IfOk result (λ f. (f.q ≡ q) × (f.cid ≡ cid))
+collects_command old new q cid (Ok f) does = named old.world q cid f (host_answers _ _ old.world.trusted does.0.1).1
+collects_command old new q cid (Err r) does = tt
+
+-- A job that ended, beside the receipt of its command.
+
+-- Ends
+
+pub ends_push : (ends : List JobEnd) (e : JobEnd) → ends_of (ends ++ e ∷ []) ≡ ends_of ends ++ ends_of (e ∷ [])
+ends_push [] (Done status bytes) = refl
+ends_push [] (JobEndRefused why) = refl
+ends_push (Done status bytes ∷ ends) e = ap (λ (xs : List (Option Status)). Some status ∷ xs) (ends_push ends e)
+ends_push (JobEndRefused why ∷ ends) e = ends_push ends e
+
+all_ended : (ends : List JobEnd) → list_any is_none (ends_of ends) ≡ false
+all_ended [] = refl
+all_ended (Done status bytes ∷ ends) = all_ended ends
+all_ended (JobEndRefused why ∷ ends) = all_ended ends
+
+open_statuses : (receipts : List Receipt) → list_any (λ (r : Receipt). is_none r.status) receipts ≡ list_any is_none (statuses_of receipts)
+open_statuses [] = refl
+open_statuses (r ∷ receipts) = rw (open_statuses receipts) refl
+
+-- receipts that agree with ends have their statuses
+pub none_open : (receipts : List Receipt) (ends : List JobEnd) → Agree receipts ends → list_any (λ (r : Receipt). is_none r.status) receipts ≡ false
+none_open receipts ends agree = open_statuses receipts ∙ ap (λ (xs : List (Option Status)). list_any is_none xs) agree ∙ all_ended ends
+
+-- Receipts
+
+-- the first receipt that is open for a command stands behind those that are not open
+found_from : (q cid number i : ℕ) (old rest : List Receipt) → list_any (λ (r : Receipt). is_none r.status) old ≡ false
+    → position_from (is_open_for q cid) i (old ++ receipt number q cid None ∷ rest) ≡ Some (i + length old)
+found_from q cid number i [] rest none = rw (eq-eqb q q refl, eq-eqb cid cid refl) (ap (λ (n : ℕ). Some n) (omega arith))
+found_from q cid number i (r ∷ old) rest none =
+    let both = or_parts (is_none r.status) (list_any (λ (r : Receipt). is_none r.status) old) none in
+    rw (closed_is_another q cid r both.0) (found_from q cid number (i + 1) old rest both.1 ∙ ap (λ (n : ℕ). Some n) (omega arith))
+
+found_oldest : (q cid number : ℕ) (old rest : List Receipt) → list_any (λ (r : Receipt). is_none r.status) old ≡ false → position (is_open_for q cid) (old ++ receipt number q cid None ∷ rest) ≡ Some (length old)
+found_oldest q cid number old rest none =
+    let first : 0 + length old ≡ length old = omega arith in
+    position_from-zero (is_open_for q cid) (old ++ receipt number q cid None ∷ rest) ∙ (found_from q cid number 0 old rest none ∙ ap (λ (n : ℕ). Some n) first)
+
+pub settled_oldest : (q cid number : ℕ) (status : Option Status) (old rest : List Receipt) → list_any (λ (r : Receipt). is_none r.status) old ≡ false
+    → settled q cid status (old ++ receipt number q cid None ∷ rest) ≡ old ++ receipt number q cid status ∷ rest
+settled_oldest q cid number status old rest none =
+    let waiting : Receipt = receipt number q cid None in
+    let empty : Receipt = receipt 0 0 0 None in
+    ap (λ (i : Option ℕ). settled_at i status (old ++ waiting ∷ rest)) (found_oldest q cid number old rest none)
+    ∙ ap (λ (r : Receipt). slice_set (old ++ waiting ∷ rest) (length old) (record r { status = status })) (get_or-append_seam old waiting rest empty)
+    ∙ set-append_seam old waiting rest (receipt number q cid status)
+
+pub status_is : (old rest : List Receipt) (r : Receipt) → status_of (old ++ r ∷ rest) (length old) ≡ r.status
+status_is old rest r =
+    let long : length (old ++ r ∷ rest) ≡ length old + length (r ∷ rest) = length-append old (r ∷ rest) in
+    let there : slice_get (old ++ r ∷ rest) (length old) ≡ Some r = slice_get-get_or (old ++ r ∷ rest) (length old) r (omega (arith, long)) ∙ ap (λ (x : Receipt). Some x) (get_or-append_seam old r rest r) in
+    ap (λ (x : Option Receipt). option_and_then (λ (y : Receipt). y.status) x) there
+
+pub statuses_push : (old : List Receipt) (r : Receipt) → statuses_of (old ++ r ∷ []) ≡ statuses_of old ++ r.status ∷ []
+statuses_push [] r = refl
+statuses_push (x ∷ old) r = ap (λ (xs : List (Option Status)). x.status ∷ xs) (statuses_push old r)
+
+-- one job more ended ..
+pub agree_more : (old new : List Receipt) (ends : List JobEnd) (e : JobEnd) → Agree old ends → statuses_of new ≡ statuses_of old ++ ends_of (e ∷ []) → Agree new (ends ++ e ∷ [])
+agree_more old new ends e agree more = more ∙ ap (λ (xs : List (Option Status)). xs ++ ends_of (e ∷ [])) agree ∙ sym (ends_push ends e)
+
+-- .. or was refused
+pub agree_refused : (receipts : List Receipt) (ends : List JobEnd) (why : JobRefusal) → Agree receipts ends → Agree receipts (ends ++ JobEndRefused why ∷ [])
+agree_refused receipts ends why agree = agree ∙ sym (ends_push ends (JobEndRefused why) ∙ append-nil (ends_of ends))
+
+-- where each of the jobs has its end, none was cut off
+pub all_carried : {T E : Type 0} (r : Result T E) (many before jobs : ℕ) {A : Type 0} → before ≡ 0 → OnErr r (many < before + jobs) → OnOk r A → many ≡ jobs → A
+all_carried (Ok x) many before jobs none fewer agree same = agree
+all_carried (Err e) many before jobs none fewer agree same = absurd (omega (arith, none, fewer, same))
+
+-- A submitter under way: commands are taken into flight, and the oldest ones end.
 
 -- Nothing is in flight
 
@@ -21,12 +135,12 @@ none_is (t ∷ tickets) n long none = absurd (omega (arith, long, none))
 pub begins : (receipts : List Receipt) (ends : List JobEnd) (tickets : List TicketContents) → receipts ≡ [] → ends ≡ [] → tickets ≡ [] → IsUnderWay receipts ends tickets
 begins receipts ends tickets no_receipts no_ends no_tickets = rw (no_receipts, no_ends, no_tickets) (record { ended = []; awaited = []; receipts_are = refl; agree = refl; await = tt })
 
-all_ended : (awaited ended receipts : List Receipt) (ends : List JobEnd) → receipts ≡ ended ++ awaited → Agree ended ends → AwaitEach awaited [] → Agree receipts ends
-all_ended [] ended receipts ends are agree await = ap statuses_of (are ∙ append-nil ended) ∙ agree
-all_ended (r ∷ awaited) ended receipts ends are agree await = absurd await
+all_ended_under_way : (awaited ended receipts : List Receipt) (ends : List JobEnd) → receipts ≡ ended ++ awaited → Agree ended ends → AwaitEach awaited [] → Agree receipts ends
+all_ended_under_way [] ended receipts ends are agree await = ap statuses_of (are ∙ append-nil ended) ∙ agree
+all_ended_under_way (r ∷ awaited) ended receipts ends are agree await = absurd await
 
 pub landed : (receipts : List Receipt) (ends : List JobEnd) (tickets : List TicketContents) (n : ℕ) → n ≡ length tickets → n ≡ 0 → IsUnderWay receipts ends tickets → Agree receipts ends
-landed receipts ends tickets n long none u = all_ended u.awaited u.ended receipts ends u.receipts_are u.agree (rw (sym (none_is tickets n long none)) u.await)
+landed receipts ends tickets n long none u = all_ended_under_way u.awaited u.ended receipts ends u.receipts_are u.agree (rw (sym (none_is tickets n long none)) u.await)
 
 -- One command more
 
@@ -105,7 +219,7 @@ pub one_ended : (receipts new : List Receipt) (ends : List JobEnd) (t : TicketCo
 one_ended receipts new ends t tickets place end u at ends_with = oldest_ends u.awaited u.ended receipts new ends t tickets place end u.receipts_are u.agree u.await at ends_with
 
 -- a job was refused
-pub one_refused : (receipts : List Receipt) (ends : List JobEnd) (tickets : List TicketContents) (why : JobRefusal) → IsUnderWay receipts ends tickets → IsUnderWay receipts (ends ++ Refused why ∷ []) tickets
+pub one_refused : (receipts : List Receipt) (ends : List JobEnd) (tickets : List TicketContents) (why : JobRefusal) → IsUnderWay receipts ends tickets → IsUnderWay receipts (ends ++ JobEndRefused why ∷ []) tickets
 one_refused receipts ends tickets why u = record {
   ended = u.ended;
   awaited = u.awaited;
@@ -113,3 +227,54 @@ one_refused receipts ends tickets why u = record {
   agree = agree_refused u.ended ends why u.agree;
   await = u.await;
 }
+
+-- Lists of submitters, one behind the other.
+
+pub behind_none : {A : Type 0} (xs : List (List A)) → behind xs [] ≡ xs
+behind_none [] = refl
+behind_none (x ∷ xs) = refl
+
+-- one list more
+pub behind_more : {A : Type 0} (old ys : List (List A)) (y : List A) → behind old (ys ++ y ∷ []) ≡ added (behind old ys) (length ys) y
+behind_more {A} [] [] y = refl
+behind_more {A} [] (z ∷ ys) y = ap (λ (zs : List (List A)). z ∷ zs) (behind_more [] ys y)
+behind_more {A} (x ∷ old) [] y = ap (λ (zs : List (List A)). (x ++ y) ∷ zs) (behind_none old)
+behind_more {A} (x ∷ old) (z ∷ ys) y = ap (λ (zs : List (List A)). (x ++ z) ∷ zs) (behind_more old ys y)
+
+pub behind_long : {A : Type 0} (old ys : List (List A)) → length ys ≤ length (behind old ys)
+behind_long [] ys = omega arith
+behind_long (x ∷ old) [] = omega arith
+behind_long (x ∷ old) (y ∷ ys) = let rest = behind_long old ys in omega arith
+
+-- the list at a place grew
+pub added_there : {X A : Type 0} (items : X → List A) (lists : List X) (i : ℕ) (list new : X) (later : List A) → i < length lists → list ≡ get_or lists i list → items new ≡ items list ++ later
+    → map items (slice_set lists i new) ≡ added (map items lists) i later
+added_there items [] i list new later within is more = absurd (omega (arith, within))
+added_there items (x ∷ lists) zero list new later within is more = ap (λ ys. ys ∷ map items lists) (more ∙ ap (λ y. items y ++ later) is)
+added_there items (x ∷ lists) (suc i) list new later within is more = ap (λ ls. items x ∷ ls) (added_there items lists i list new later (omega (arith, within)) is more)
+
+-- one list more stands behind them
+pub added_last : {X A : Type 0} (items : X → List A) (lists : List X) (i : ℕ) (list : X) → i ≡ length lists → map items (lists ++ list ∷ []) ≡ added (map items lists) i (items list)
+added_last items [] i list at = refl
+added_last items (x ∷ lists) zero list at = absurd (omega (arith, at))
+added_last items (x ∷ lists) (suc i) list at = ap (λ ls. items x ∷ ls) (added_last items lists i list (omega (arith, at)))
+
+pub place_within : {X A : Type 0} (items : X → List A) (lists now came : List X) (n : ℕ) → n ≡ length came → map items now ≡ behind (map items lists) (map items came) → n ≤ length now
+place_within items lists now came n at are =
+    let long = behind_long (map items lists) (map items came) in
+    omega (arith, at, long, ap length are, length-map now items, length-map came items)
+
+pub one_added : {X A : Type 0} (items : X → List A) (lists now new came : List X) (next : X) (n : ℕ) → n ≡ length came → map items now ≡ behind (map items lists) (map items came)
+    → map items new ≡ added (map items now) n (items next) → map items new ≡ behind (map items lists) (map items (came ++ next ∷ []))
+one_added items lists now new came next n at were is =
+    is ∙ (ap (λ ls. added ls n (items next)) were ∙ (ap (λ k. added (behind (map items lists) (map items came)) k (items next)) (at ∙ sym (length-map came items))
+    ∙ (sym (behind_more (map items lists) (map items came) (items next)) ∙ ap (behind (map items lists)) (sym (map-append items came (next ∷ []))))))
+
+-- A run of threads over a book that takes the steps of jobs alone is a trusted one.
+
+pub run_of_jobs : (b : Bool) (config : Config) (image : List ℕ) (report : Report) (book : BookContents) → refusal_of_config config ≡ None → IsImage image → RanFrom (opening_of config image) report book
+    → OnTrue b (AreOfJobs book.log) → OnTrue b (IsTrustedLog image book.log book.world)
+run_of_jobs true config image report book fits is_image ran jobs =
+    let leads : LeadsTo (opening_of config image) book.log book.world = subst (λ (b : BookContents). LeadsTo (opening_of config image) b.log b.world) (sym ran.same) ran.closed.of.legal in
+    logs_of_jobs_are_runs config image book.log book.world fits is_image leads jobs
+run_of_jobs false config image report book fits is_image ran jobs = tt

@@ -2,11 +2,8 @@
 use Rattle.std.specs.Prelude.{◌≡◌, ℕ, Bool, true, false, Option, Some, None, List, [], ◌∷◌, ◌++◌, map, slice_get, option_and_then}
 use Rattle.entry_codec.specs.declared.status.Status.{Status}
 use Rattle.io_commands.specs.Values.{TicketContents}
-use Rattle.driver_book.specs.Calls.{receipt, settled}
-use Rattle.driver_book.specs.declared.log.Receipt.{Receipt}
-use Rattle.driver_threads.specs.Values.{JobEnd}
-use Rattle.driver_threads.specs.declared.jobs.JobEnd.TheVariants.{Done, Refused}
-use Rattle.driver_threads.specs.declared.waits.Halt.{Halt}
+use Rattle.driver_book.specs.{Calls.{receipt, settled}, declared.report.Receipt.Receipt}
+use Rattle.driver_threads.specs.{Values.JobEnd, declared.{jobs.JobEnd.TheVariants.{Done, Refused}, waits.Halt.Halt}}
 use Rattle.driver_threads.specs.declared.waits.Halt.TheVariants as halt
 
 -- how the commands of jobs ended, in order; a refused job had none

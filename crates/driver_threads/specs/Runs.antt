@@ -1,16 +1,10 @@
 -- What a run of threads leaves.
 use Rattle.std.specs.Prelude.{◌≡◌, Some, None, List}
 use Rattle.step_core.specs.World.{WorldContents}
-use Rattle.step_log.specs.History.{accepted}
-use Rattle.step_log.specs.Values.{LogContents}
-use Rattle.driver_book.specs.State.{BookContents, SeatContents}
-use Rattle.driver_book.specs.Values.{Report}
+use Rattle.driver_book.specs.{Entries.LogContents, History.accepted, Reports.Report, State.{BookContents, SeatContents}}
 use Rattle.machine_model.specs.State.{State}
-use Rattle.host_core.specs.Opening.{refusal_of_config}
-use Rattle.host_core.specs.declared.config.Config.{Config}
-use Rattle.driver_threads.specs.Sharing.{Closes}
-use Rattle.driver_threads.specs.declared.jobs.RunFault.{RunFault}
-use Rattle.driver_threads.specs.declared.jobs.RunFault.TheVariants.{Open}
+use Rattle.host_core.specs.{Opening.refusal_of_config, declared.config.Config.Config}
+use Rattle.driver_threads.specs.{Sharing.Closes, declared.jobs.RunFault.{RunFault, TheVariants.Open}}
 
 -- the report is that of this very book, which was closed with some seats and is otherwise as it was
 pub record RanFrom (opening : State) (report : Report) (book : BookContents) : Type 0 where

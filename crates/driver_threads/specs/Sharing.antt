@@ -1,25 +1,13 @@
 -- What a call of a shared book says: that some book of this opening, whose log leads from there to its world, did it.
-use Rattle.std.specs.Prelude.{◌≡◌, ℕ, ◌<◌, ◌≤◌, Bool, true, [], Option, Some, None, List, length, Result, MatchOption}
-use Rattle.std.specs.List.{Contains}
-use Rattle.io_commands.specs.Drafts.{DraftContents}
-use Rattle.io_commands.specs.Values.{FinishedContents, TicketContents}
-use Rattle.machine_model.specs.Agreeing.{SidesAgree}
-use Rattle.machine_model.specs.Claims.{claims_of, counts_of, IsSound}
-use Rattle.machine_model.specs.Events as events
-use Rattle.machine_model.specs.Events.{Event, Reply}
-use Rattle.machine_model.specs.State.{State}
-use Rattle.page_ledger.specs.Counting.{total}
-use Rattle.page_ledger.specs.declared.owner.Counts.{Counts}
-use Rattle.page_ledger.specs.declared.owner.Owner.{Owner}
-use Rattle.driver_book.specs.Calls.{Does, Receives, Settles}
-use Rattle.driver_book.specs.Close.{AllStand, IsDone, RefusesClose, Reports, receipts_of}
-use Rattle.step_log.specs.History.{LeadsTo, accepted}
-use Rattle.driver_book.specs.State.{BookContents, SeatContents}
-use Rattle.driver_book.specs.declared.log.CloseFault.{CloseFault}
-use Rattle.driver_book.specs.Values.{Report}
-use Rattle.step_core.specs.Replies.{accept_reply}
-use Rattle.step_core.specs.Touching.{StaysAllowed}
+use Rattle.std.specs.{List.Contains, Prelude.{◌≡◌, ℕ, ◌<◌, ◌≤◌, Bool, true, [], Option, Some, None, List, length, Result, MatchOption}}
+use Rattle.io_commands.specs.{Drafts.DraftContents, Values.{FinishedContents, TicketContents}}
+use Rattle.machine_model.specs.{Agreeing.SidesAgree, Claims.{claims_of, counts_of, IsSound}, Events.{Event, Reply}, State.State}
+use Rattle.page_ledger.specs.{Counting.total, declared.owner.{Counts.Counts, Owner.Owner}}
+use Rattle.driver_book.specs.{Calls.{Does, Receives, Settles}, Close.{AllStand, IsDone, RefusesClose, Reports, receipts_of}, History.{LeadsTo, accepted}}
+use Rattle.driver_book.specs.{Reports.Report, State.{BookContents, SeatContents}, declared.report.CloseFault.CloseFault}
+use Rattle.step_core.specs.{Replies.accept_reply, Touching.StaysAllowed}
 use Rattle.host_core.specs.declared.refused.Refused.{Refused}
+use Rattle.machine_model.specs.Events as events
 
 -- A book of this opening: its log is that of a run that leads from there to the world as it is, and the world is sound, so each page has one
 -- owner, the counts add up, and the identifiers of a queue are distinct.

@@ -3,13 +3,12 @@
 ghost use Rattle.std.specs.Prelude.{◌≡◌, ◌≤◌, [], map, vec_len, OnOk};
 ghost use Rattle.driver_threads.specs.Behind.{added, behind};
 
-use driver_book::{Book, CloseFault, LogBrand, ReportIn};
+use driver_book::{Book, CloseFault, Log, LogBrand, ReportIn};
 use entry_codec::Status;
 use io_commands::{Request, RequestFault};
 use std::alloc::{AllocError, Allocator, Global};
 use std::marker::Model;
 use step_core::{Bytes, OpenRefusal, World};
-use step_log::Log;
 use thiserror::Error;
 
 /// A command that a submitter carries through.

@@ -94,7 +94,7 @@ fn reserved<L: LogBrand, A: Allocator + Copy>(
 /// # Errors
 ///
 /// Where somebody else has collected it, or memory is refused. The ticket is spent.
-#[tactic(auto, using(crate::proofs::Collected::collects_command))]
+#[tactic(auto, using(crate::proofs::UnderWay::collects_command))]
 fn collected<L: LogBrand, A: Allocator + Copy>(
     book: &mut Book<L, A>,
     ticket: Ticket,

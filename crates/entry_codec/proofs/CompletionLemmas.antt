@@ -1,16 +1,10 @@
 -- Lemmas on the bytes of completion entries.
 use Rattle.std.proofs.Common.{arith, ◌≡◌, ◌↔◌, ℕ, ◌+◌, ◌*◌, ◌%◌, ◌<◌, ◌≤◌, ◌^◌, List, [], ◌∷◌, take, drop, refl, sym, subst, ap, ◌∙◌, get_or}
-use Rattle.std.proofs.lemmas.List.{get_or-take, get_or-drop}
-use Rattle.std.proofs.lemmas.Nat.{from_le_bytes-to_le_bytes_2, from_le_bytes-to_le_bytes_4}
-use Rattle.std.specs.Int.{w16, w32, to_le_bytes, from_le_bytes}
-use Rattle.std.specs.List.{slice_range}
-use Rattle.entry_codec.specs.Bytes.{IsBytes}
-use Rattle.entry_codec.specs.Status.{status_halfword}
-use Rattle.entry_codec.specs.Completion.{completion_bytes, completion_of, FitsCompletion, IsComEntry, IsCompletion, AgreeOutsideIgnored}
-use Rattle.entry_codec.specs.declared.completion.ComEntry.{ComEntry}
-use Rattle.entry_codec.specs.declared.status.Status.{Status}
-use Rattle.entry_codec.proofs.Bits.{bit_fits, fields_of, phase_of, code_of, type_of}
-use Rattle.entry_codec.proofs.Lists.{part_is_bytes, halfword_back, word_back, halfword_fits, word_fits, part_within, same_parts, one_at}
+use Rattle.std.proofs.lemmas.{List.{get_or-take, get_or-drop}, Nat.{from_le_bytes-to_le_bytes_2, from_le_bytes-to_le_bytes_4}}
+use Rattle.std.specs.{Int.{w16, w32, to_le_bytes, from_le_bytes}, List.slice_range}
+use Rattle.entry_codec.proofs.Bits.{bit_fits, fields_of, phase_of, code_of, type_of, part_is_bytes, halfword_back, word_back, halfword_fits, word_fits, part_within, same_parts, one_at}
+use Rattle.entry_codec.specs.{Bytes.IsBytes, Completion.{completion_bytes, completion_of, FitsCompletion, IsComEntry, IsCompletion, AgreeOutsideIgnored}}
+use Rattle.entry_codec.specs.{Status.status_halfword, declared.{completion.ComEntry.ComEntry, status.Status.Status}}
 
 -- 16 bytes spell what is read of them
 pub spells : (bytes : List ℕ) → IsBytes 16 bytes → IsCompletion (completion_of bytes) bytes

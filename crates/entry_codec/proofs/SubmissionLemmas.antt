@@ -3,10 +3,10 @@ use Rattle.std.proofs.Common.{arith, ◌≡◌, ◌↔◌, ℕ, ◌+◌, ◌<◌
 use Rattle.std.proofs.lemmas.List.{take_at, drop_at, drop-drop, drop_all}
 use Rattle.std.proofs.lemmas.Nat.{from_le_bytes-to_le_bytes_2, from_le_bytes-to_le_bytes_4, from_le_bytes-to_le_bytes_8}
 use Rattle.std.specs.Int.{w16, w32, w64, to_le_bytes, from_le_bytes}
+use Rattle.entry_codec.proofs.Bits.{part_is_bytes, halfword_back, word_back, double_back, halfword_fits, word_fits, double_fits, same_from, part_within, same_parts}
 use Rattle.entry_codec.specs.Bytes.{IsBytes}
 use Rattle.entry_codec.specs.Submission.{submission_bytes, submission_of, command_words, FitsSubmission, IsSubEntry, IsSubmission, AgreeOutsideReserved}
 use Rattle.entry_codec.specs.declared.submission.SubEntry.{SubEntry}
-use Rattle.entry_codec.proofs.Lists.{part_is_bytes, halfword_back, word_back, double_back, halfword_fits, word_fits, double_fits, same_from, part_within, same_parts}
 
 -- 64 bytes spell what is read of them
 pub spells : (bytes : List ℕ) → IsBytes 64 bytes → IsSubmission (submission_of bytes) bytes

@@ -1,10 +1,9 @@
 -- The 16 bytes of a completion queue entry (NVM Express Base Specification 2.0, "Common Completion Queue Entry", section
 -- 3.3.3.2). Numbers are little-endian. Bytes 7:4 (DW1) and bits 15:12 of the last halfword (Do Not Retry, More, Command
 -- Retry Delay) are ignored.
-use Rattle.std.specs.Prelude.{◌≡◌, ◌<◌, ◌/◌, ◌%◌, ◌^◌, ◌==◌, ◌++◌, ℕ, List, take, replicate, slice_index, slice_range}
 use Rattle.std.specs.Int.{w16, w32, to_le_bytes, from_le_bytes}
-use Rattle.entry_codec.specs.Status.{status_halfword}
-use Rattle.entry_codec.specs.declared.completion.ComEntry.{ComEntry}
+use Rattle.std.specs.Prelude.{◌≡◌, ◌<◌, ◌/◌, ◌%◌, ◌^◌, ◌==◌, ◌++◌, ℕ, List, take, replicate, slice_index, slice_range}
+use Rattle.entry_codec.specs.{Status.status_halfword, declared.completion.ComEntry.ComEntry}
 
 -- the status code type fits its 3 bits
 pub record FitsCompletion (entry : ComEntry) : Type 0 where

@@ -1,7 +1,5 @@
 -- The halfword of a completion that has its phase and its status, and the text of a status.
-use Rattle.std.specs.Prelude.{ℕ, ◌+◌, ◌*◌, ◌/◌, ◌%◌, Bool, true, List, [], ◌∷◌, ◌++◌, codes}
-use Rattle.std.specs.Fmt.{decimal, digit_glyph}
-use Rattle.std.specs.Int.{from_bool}
+use Rattle.std.specs.{Fmt.{decimal, digit_glyph}, Int.from_bool, Prelude.{ℕ, ◌+◌, ◌*◌, ◌/◌, ◌%◌, Bool, true, List, [], ◌∷◌, ◌++◌, codes}}
 use Rattle.entry_codec.specs.declared.status.Status.{Status}
 
 -- phase bit 0, status code bits 8:1, status code type bits 11:9, and zero above

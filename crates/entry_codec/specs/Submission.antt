@@ -1,10 +1,9 @@
 -- The 64 bytes of a submission queue entry (NVM Express Base Specification 2.0, "Submission Queue Entry", section 3.3.3.1).
 -- Numbers are little-endian. Bits 5:2 of byte 1 (bits 13:10 of the first doubleword), which are reserved, and bytes 15:8
 -- (CDW2 and CDW3) are ignored. "Reserved" below means both.
-use Rattle.std.specs.Prelude.{◌≡◌, ◌<◌, ◌+◌, ◌*◌, ◌/◌, ◌%◌, ◌^◌, ◌++◌, ◌∷◌, [], ℕ, List, drop, replicate, slice_index, slice_range}
 use Rattle.std.specs.Int.{w16, w32, w64, to_le_bytes, from_le_bytes}
-use Rattle.entry_codec.specs.Bytes.{IsBytes}
-use Rattle.entry_codec.specs.declared.submission.SubEntry.{SubEntry}
+use Rattle.std.specs.Prelude.{◌≡◌, ◌<◌, ◌+◌, ◌*◌, ◌/◌, ◌%◌, ◌^◌, ◌++◌, ◌∷◌, [], ℕ, List, drop, replicate, slice_index, slice_range}
+use Rattle.entry_codec.specs.{Bytes.IsBytes, declared.submission.SubEntry.SubEntry}
 
 -- the two fields that have 2 bits of a byte each fit them
 pub record FitsSubmission (entry : SubEntry) : Type 0 where

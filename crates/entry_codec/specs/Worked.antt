@@ -1,9 +1,7 @@
 -- The entries of a first Read, of block 0 to the page at 4000h, and of its completion; and their bytes.
 use Rattle.std.specs.Prelude.{ℕ, List, [], ◌∷◌, ◌++◌, replicate, true}
-use Rattle.entry_codec.specs.declared.status.TheConstants.Status.{SUCCESS}
-use Rattle.entry_codec.specs.declared.io_opcode.TheConstants.{READ}
+use Rattle.entry_codec.specs.declared.{completion.ComEntry.ComEntry, io_opcode.TheConstants.READ, status.TheConstants.Status.SUCCESS}
 use Rattle.entry_codec.specs.declared.submission.SubEntry.{SubEntry}
-use Rattle.entry_codec.specs.declared.completion.ComEntry.{ComEntry}
 
 -- a Data Block of 512 bytes at 4000h
 abbrev pub first_sgl1 : List ℕ

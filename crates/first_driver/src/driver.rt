@@ -1,7 +1,7 @@
 //! The driver: a command from its request to its end.
 
 use crate::device::Device;
-use host_bench::{
+use host_core::{
     Bytes, Call, HostBench, Kind, Piece, Pieces, Reaped, Reply, Request, Status, Unreadable,
 };
 use std::alloc::{AllocError, Global};

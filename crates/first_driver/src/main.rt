@@ -10,7 +10,7 @@ mod driver;
 
 use device::SmallDevice;
 use driver::{Driver, Ended, Failure};
-use host_bench::{Config, HostBench};
+use host_core::{Config, HostBench};
 use std::alloc::AllocGlobal;
 use std::io;
 use std::process::ExitCode;

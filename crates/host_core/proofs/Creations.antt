@@ -1,48 +1,28 @@
 -- The command that makes a half, as it is sent: what is found before it, what is written, and the step of the machine that it is.
 use Rattle.std.proofs.Common.{◌≡◌, ℕ, zero, suc, ◌+◌, ◌*◌, ◌<◌, ◌==◌, ◌||◌, ◌&&◌, nat_lt, ◌++◌, ◌∷◌, [], Bool, true, false, not, Option, Some, None, List, is_none, is_some, length, position, slice_get, slice_index, refl, ap, ap₂, sym, ◌∙◌, subst, arith}
-use Rattle.std.specs.List.{list_any}
+use Rattle.std.{proofs.lemmas.{Bool.{true≢false, and_parts, not-false, or_parts}, Option.{slice_get-map, slice_get_within}}, specs.List.list_any}
 use Rattle.std.specs.Option.{option_map, option_map_or}
-use Rattle.std.proofs.lemmas.Bool.{true≢false, and_parts, not-false, or_parts}
-use Rattle.std.proofs.lemmas.Option.{slice_get-map, slice_get_within}
-use Rattle.admin_commands.specs.Entries.{admin_entry}
-use Rattle.admin_commands.specs.declared.AdminKind.{AdminKind}
-use Rattle.admin_commands.specs.declared.AdminKind.TheVariants.{CreateCq, CreateSq}
+use Rattle.admin_commands.specs.{Entries.admin_entry, declared.AdminKind.{AdminKind, TheVariants.{CreateCq, CreateSq}}}
 use Rattle.controller_walk.specs.Units.{first_passing}
 use Rattle.entry_codec.specs.declared.submission.SubEntry.{SubEntry}
-use Rattle.machine_model.specs.After as a
-use Rattle.machine_model.specs.After.{change}
-use Rattle.machine_model.specs.Events as events
-use Rattle.machine_model.specs.Proper.{IsProper}
+use Rattle.machine_model.{proofs.Steps.{first_fails, rest_fails}, specs.{After.change, Memory.zeroed_pages, Proper.IsProper}}
 use Rattle.machine_model.specs.Refusals.{cq_deletion_outstanding, in_state, is_gone, is_half_made, is_io_queue, is_making, no_identifier, queue_full, refusal_of, run_for}
 use Rattle.machine_model.specs.State.{HostQueue, Record, State, is_at, outstanding_on}
-use Rattle.machine_model.specs.Step.{Answers, IsController, IsNewIdentifier, Refuses, Step, touched_by_refusal}
-use Rattle.machine_model.specs.declared.words.HostState.{HostState}
-use Rattle.machine_model.specs.declared.words.HostState.TheVariants.{Live, Deleting, Retired, Gone, MakingCq, HalfMade, MakingSq}
-use Rattle.machine_model.specs.declared.words.Refusal.{Refusal}
-use Rattle.machine_model.specs.declared.words.Refusal.TheVariants as refusal
-use Rattle.machine_model.proofs.Refused.{first_fails, rest_fails}
-use Rattle.page_ledger.specs.Owners.{pages_from}
-use Rattle.page_ledger.specs.Runs.{lowest_run}
-use Rattle.page_memory.specs.declared.page.Half.{Half}
-use Rattle.page_memory.specs.declared.page.Half.TheVariants.{Submission, Completion}
+use Rattle.machine_model.specs.{Step.{Answers, IsController, IsNewIdentifier, Refuses, Step, touched_by_refusal}, declared.words.HostState.HostState}
+use Rattle.machine_model.specs.declared.words.{HostState.TheVariants.{Live, Deleting, Retired, Gone, MakingCq, HalfMade, MakingSq}, Refusal.Refusal}
+use Rattle.page_ledger.specs.{Owners.pages_from, Runs.lowest_run}
+use Rattle.page_memory.specs.declared.page.Half.{Half, TheVariants.{Submission, Completion}}
 use Rattle.queue_pair.specs.Memory.{half_pages}
-use Rattle.machine_model.specs.Memory.{zeroed_pages}
-use Rattle.host_core.specs.Commands.{ClaimsNext, with_claim}
-use Rattle.host_core.specs.Posting.{CanPostTo, Posts, posted}
+use Rattle.host_core.proofs.{Granting.{in_state-is, next-fresh, next-left, none-left}, Lists.some_is}
+use Rattle.host_core.proofs.Making.{any-count, IsBare, granted-state, half_in, run-within, settled-granted, some-pages, with-some, same-run}
+use Rattle.host_core.proofs.QueueLists.{Settled, whole-of, host_step, sound_after}
+use Rattle.host_core.proofs.Sending.{Next, can-post-to, first-there, past, send-typed, HasHalfIn, first-changed, half-in, sent-exact, sent_in, settled-sent, some-first}
+use Rattle.host_core.{proofs.Submitted.full_is, specs.{Commands.{ClaimsNext, with_claim}, Posting.{CanPostTo, Posts, posted}, Rows.Queue}}
 use Rattle.host_core.specs.Sending.{CanCreate, Creates, HasSlot, creating, creation, granted, half_from, making, named_causes, noted, sent}
-use Rattle.host_core.specs.Tables.{Tables, host_queue_of, state_of}
-use Rattle.host_core.specs.Whole.{IsWhole}
-use Rattle.host_core.specs.Rows.{Queue}
-use Rattle.host_core.proofs.Creating.{any-count}
-use Rattle.host_core.proofs.Granting.{in_state-is, next-fresh, next-left, none-left}
-use Rattle.host_core.proofs.Lists.{some_is}
-use Rattle.host_core.proofs.Making.{IsBare, granted-state, half_in, run-within, settled-granted, some-pages, with-some}
-use Rattle.host_core.proofs.Placing.{same-run}
-use Rattle.host_core.proofs.SendChecks.{Next, can-post-to, first-there, past, send-typed}
-use Rattle.host_core.proofs.Sending.{HasHalfIn, first-changed, half-in, sent-exact, sent_in, settled-sent, some-first}
-use Rattle.host_core.proofs.Settled.{Settled, whole-of}
-use Rattle.host_core.proofs.Steps.{host_step, sound_after}
-use Rattle.host_core.proofs.Submitting.{full_is}
+use Rattle.host_core.specs.{Tables.{Tables, host_queue_of, state_of}, Whole.IsWhole}
+use Rattle.machine_model.specs.After as a
+use Rattle.machine_model.specs.Events as events
+use Rattle.machine_model.specs.declared.words.Refusal.TheVariants as refusal
 
 -- What is against it
 
@@ -259,9 +239,6 @@ create-refused t half q why h = host_step t t (creating half q) (events.Refused 
 
 pub first-within : (t : Tables) (half : Half) (first : ℕ) → IsWhole t → run_for (state_of t) half ≡ Some first → first < 65536
 first-within t half first w run = omega (arith, run-within t half first (half_pages t.entries half) w refl run, some-pages t.entries half w.least_entries)
-
-pub queue-there : (t : Tables) (half : Half) (q cid first : ℕ) → IsWhole t → CanCreate t half q cid first → q < length t.queues
-queue-there t half q cid first w can = let bare = bare-of t half q w can.none in slice_get_within t.queues q bare.queue bare.at
 
 pub granted-there : (t u : Tables) (half : Half) (q cid first : ℕ) → IsWhole t → CanCreate t half q cid first → u ≡ granted half q first t → 0 < length u.queues
 granted-there t u half q cid first w can same =

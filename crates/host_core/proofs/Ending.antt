@@ -1,48 +1,305 @@
--- The end of a command on the tables is the machine's, and leaves them whole.
-use Rattle.std.proofs.Common.{◌≡◌, ℕ, ◌<◌, ◌==◌, Bool, true, false, not, ◌||◌, Option, Some, None, List, [], ◌∷◌, ◌++◌, length, take, drop, find, get_or, slice_set, refl, ap, sym, ◌∙◌, subst, length-set, eqb-true, if◌then◌else◌}
-use Rattle.std.specs.List.{AllByRecursion}
-use Rattle.std.specs.Option.{option_map, option_map_or}
-use Rattle.std.proofs.lemmas.Bool.{true≢false, not-true, not-false, and_parts}
-use Rattle.std.proofs.lemmas.List.{length-map, take_at, drop_at}
-use Rattle.std.proofs.lemmas.Option.{slice_get-map}
-use Rattle.io_commands.specs.DataBytes.{PagesOut}
-use Rattle.io_commands.specs.Drafts.{DraftContents, IsDraft}
-use Rattle.io_commands.specs.Requests.{FitsRequest}
-use Rattle.io_commands.specs.Values.{FinishedContents, numbers_of}
-use Rattle.io_commands.specs.Asked.{Request}
-use Rattle.machine_model.specs.After.{after_end, change}
-use Rattle.machine_model.specs.Claims.{is_away}
+-- Commands that are collected, released and cancelled.
 use Rattle.machine_model.specs.Events as events
-use Rattle.machine_model.specs.Events.{Event}
-use Rattle.machine_model.specs.Memory.{with_pages}
-use Rattle.machine_model.specs.Proper.{IsProperDraft, ArePages}
-use Rattle.machine_model.specs.Refusals.{refusal_of, is_drafted, is_collected, is_of, record_is}
-use Rattle.machine_model.specs.State.{Record, is_at, pages_of, without_record}
-use Rattle.machine_model.specs.Step.{Step}
-use Rattle.machine_model.specs.declared.words.Phase.{Phase}
-use Rattle.machine_model.specs.declared.words.Phase.TheVariants.{Drafted, Submitted, Held, Collected}
-use Rattle.machine_model.specs.declared.words.Refusal.TheVariants as refusal
-use Rattle.machine_model.proofs.Owned.{holds_from_sound}
-use Rattle.machine_model.proofs.Parts.{length-with_pages}
-use Rattle.machine_model.proofs.Refused.{first_fails, found, found_all, pages_match}
-use Rattle.machine_model.proofs.Taken.{is_out}
-use Rattle.machine_model.proofs.Totals.{total, here}
-use Rattle.page_ledger.specs.Owners.{is_among, is_command, is_owned_at, owner_at, given_back}
-use Rattle.page_ledger.specs.Lists.{ListsAll}
-use Rattle.page_ledger.specs.declared.owner.Owner.{Owner}
-use Rattle.page_ledger.specs.declared.owner.Owner.TheVariants.{Free, Command}
-use Rattle.page_ledger.specs.declared.owner.Role.TheVariants.{Data, Chain}
-use Rattle.host_core.specs.Commands.{ended, without_claim, CanPut, Brings, Belongs, Claims, has_record, phase_of_end}
-use Rattle.host_core.specs.Tables.{Tables, state_of}
-use Rattle.host_core.specs.Whole.{IsWhole, TellsCommand, IsRecord}
-use Rattle.page_memory.specs.Pages.{Pages}
 use Rattle.host_core.specs.Rows as declared
+use Rattle.machine_model.specs.declared.words.Refusal.TheVariants as refusal
+use Rattle.std.proofs.Common.{◌≡◌, ℕ, ◌≤◌, Bool, List, Some, length, slice_get, refl, ap, sym, ◌∙◌, subst, true, false, None, find, option_and_then, if◌then◌else◌, zero, suc, ◌==◌, Option, [], ◌∷◌, ◌++◌, slice_set, is_some, ap₂, arith, length-append, eqb-true, ◌<◌, not, ◌||◌, take, drop, get_or, length-set}
+use Rattle.std.proofs.lemmas.{Bool.{true≢false, eqb-false, and_parts, not-true, not-false}, List.{length-map, map-append, take_at, drop_at}}
+use Rattle.std.{proofs.lemmas.Option.slice_get-map, specs.{List.AllByRecursion, Option.{option_map_or, option_map}}}
+use Rattle.machine_model.proofs.{Counting.{total, here}, Headline.steps_keep, Owned.{is_out, holds_from_sound}}
+use Rattle.machine_model.proofs.Steps.{length-without_pages, found_all, length-with_pages, first_fails, found, pages_match}
+use Rattle.machine_model.specs.{After.{change, after_collect, collected, after_end}, Claims.is_away, Events.{Event, Reply}}
+use Rattle.machine_model.specs.{Memory.{is_in, without_pages, with_pages}, Proper.{IsProperDraft, ArePages}}
+use Rattle.machine_model.specs.Refusals.{refusal_of, is_submitted, is_held, is_drafted, is_collected, is_of, record_is}
+use Rattle.machine_model.specs.State.{State, HostQueue, Record, is_at, pages_of, with_record, without_record}
+use Rattle.machine_model.specs.{Step.{Step, finished_from, Refuses, pages_with_bytes}, Work.Work, declared.words.Phase.Phase}
+use Rattle.machine_model.specs.declared.words.{Phase.TheVariants.{Held, Drafted, Submitted, Collected}, Work.TheVariants.{Io, Management}}
+use Rattle.page_ledger.specs.{Lists.ListsAll, Owners.{free_pages, is_among, is_command, is_owned_at, owner_at, given_back}, declared.owner.Owner.Owner}
+use Rattle.page_ledger.specs.declared.owner.{Owner.TheVariants.{Free, Command}, Role.TheVariants.{Data, Chain}}
+use Rattle.page_memory.specs.Pages.{Pages, IsPool, page_at}
 use Rattle.host_core.proofs.Identifiers.{claim-less}
-use Rattle.host_core.proofs.Lists.{all-filter, all-filter_by, all-from, all-to, all-front, all-back, found_is, found_at, found_any}
-use Rattle.host_core.proofs.Moved.{Fits, due, moved_is, moved_whole}
-use Rattle.host_core.proofs.Owners.{command-pages, given-free}
-use Rattle.host_core.proofs.Pages.{can-put, pool-with, record-out, record-inside, times-at}
-use Rattle.host_core.proofs.Steps.{host_step}
+use Rattle.host_core.proofs.Lists.{length-change, map-change, all-map, any-map, change-same, found_at, found_is, all-filter, all-filter_by, all-from, all-to, all-front, all-back, found_any}
+use Rattle.host_core.proofs.PageOwners.{can-take, pool-without, record-in, set-other, without-append, can-put, pool-with, record-out, record-inside, times-at, command-pages, given-free}
+use Rattle.host_core.{proofs.{QueueLists.host_step, RowRecords.{claims_keep_queue, claims_keep_tells, each_claimed}}, specs.Collecting.{taken_pages, StandsAt}}
+use Rattle.host_core.specs.Commands.{claims_changed, taken_out, CanTake, ended, without_claim, CanPut, Brings, Belongs, Claims, has_record, phase_of_end}
+use Rattle.host_core.specs.{Rows.Queue, Tables.{Tables, state_of, host_queue_of}}
+use Rattle.host_core.specs.Whole.{IsWhole, IsQueue, ClaimIdentifiers, TellsQueue, TellsCommand, IsRecord, FitsWork, is_outstanding, FitsPhase}
+use Rattle.io_commands.specs.{Asked.Request, DataBytes.PagesOut, Drafts.{DraftContents, IsDraft}, Requests.{data_count, FitsRequest}}
+use Rattle.io_commands.specs.Values.{FinishedContents, IsGood, data_part, chain_part, numbers_of}
+use Rattle.entry_codec.specs.declared.status.Status.{Status}
+
+-- A call about one command: it moves pages, changes their owners and the records, and claims or frees an identifier.
+
+abbrev pub moved : Tables → ℕ → (List Bool → List Bool) → Pages → List Owner → List Record → Tables
+moved t q f pages owners records = record t { pages = pages; owners = owners; records = records; queues = change q (claims_changed f) t.queues }
+
+-- the state that is due
+abbrev pub due : State → Pages → List Owner → List Record → State
+due s pages owners records = record s { memory = pages; host = record s.host { free = free_pages owners; records = records } }
+
+-- the state that the tables stand for then
+pub moved_is : (t : Tables) (q : ℕ) (f : List Bool → List Bool) (pages : Pages) (owners : List Owner) (records : List Record)
+    → state_of (moved t q f pages owners records) ≡ due (state_of t) pages owners records
+moved_is t q f pages owners records =
+    ap (λ (hs : List HostQueue). record (due (state_of t) pages owners records) { host = record (due (state_of t) pages owners records).host { queues = hs } })
+    (map-change host_queue_of (claims_changed f) (λ x. refl) q t.queues)
+
+-- What such a call has to see to, so that the tables stay whole.
+pub record Fits (t : Tables) (q : ℕ) (f : List Bool → List Bool) (pages : Pages) (owners : List Owner) (records : List Record) : Type 0 where
+  pub pool : IsPool pages
+  pub many : length pages ≡ length t.pages
+  pub table : length owners ≡ length t.owners
+  pub size : (bits : List Bool) → length (f bits) ≡ length bits
+  pub queues_told : (k : ℕ) (queue : Queue) → slice_get t.queues k ≡ Some queue → TellsQueue owners k queue
+  pub commands_told : AllByRecursion (TellsCommand owners) records
+  pub identifiers : ClaimIdentifiers records (change q (claims_changed f) t.queues)
+  pub fit : AllByRecursion (IsRecord (length t.queues)) records
+
+pub moved_whole : (t : Tables) (q : ℕ) (f : List Bool → List Bool) (pages : Pages) (owners : List Owner) (records : List Record) (e : Event) (reply : Reply)
+    → IsWhole t → Fits t q f pages owners records → Step (state_of t) e reply (state_of (moved t q f pages owners records)) → IsWhole (moved t q f pages owners records)
+moved_whole t q f pages owners records e reply whole fits step =
+    let as_many = sym (length-change q (claims_changed f) t.queues) in
+    record {
+      sound = steps_keep (state_of t) e reply (state_of (moved t q f pages owners records)) step whole.sound;
+      pool = fits.pool;
+      table = fits.table ∙ (whole.table ∙ sym fits.many);
+      least_entries = whole.least_entries;
+      most_entries = whole.most_entries;
+      least_segment = whole.least_segment;
+      most_segment = whole.most_segment;
+      some_queues = subst (λ (n : ℕ). 2 ≤ n) as_many whole.some_queues;
+      few_queues = subst (λ (n : ℕ). n ≤ 65) as_many whole.few_queues;
+      record_queues = whole.record_queues ∙ as_many;
+      record_places = whole.record_places;
+      queues = record { each = each_claimed (IsQueue t.entries) f (claims_keep_queue f fits.size t.entries) q t.queues whole.queues.each };
+      identifiers = fits.identifiers;
+      owners = record {
+        queues_told = each_claimed (TellsQueue owners) f (claims_keep_tells f owners) q t.queues fits.queues_told;
+        commands_told = fits.commands_told;
+      };
+      records = subst (λ (n : ℕ). AllByRecursion (IsRecord n) records) as_many fits.fit;
+    }
+
+-- A collection on the tables is the machine's, and leaves them whole.
+
+-- a record that may be changed keeps what its phase says nothing of
+abbrev marked : ℕ → ℕ → Record → Record
+marked q cid r = if is_at q cid r then collected r else r
+
+is_at-marked : (q cid p i : ℕ) (r : Record) → is_at p i (marked q cid r) ≡ is_at p i r
+is_at-marked q cid p i r = go (is_at q cid r)
+  where
+    go : (b : Bool) → is_at p i (if b then collected r else r) ≡ is_at p i r
+    go true = refl
+    go false = refl
+
+tells-marked : (t : Tables) (q cid : ℕ) (r : Record) → TellsCommand t.owners r → TellsCommand t.owners (marked q cid r)
+tells-marked t q cid r tells = go (is_at q cid r)
+  where
+    go : (b : Bool) → TellsCommand t.owners (if b then collected r else r)
+    go true = record { data_pages = tells.data_pages; chain_pages = tells.chain_pages }
+    go false = tells
+
+fits-collected : (w : Work) (r : Record) → FitsWork w r → FitsWork w (collected r)
+fits-collected (Io request) r is = is
+fits-collected (Management kind) r is = tt
+
+fits-marked : (n q cid : ℕ) (r : Record) → IsRecord n r → IsRecord n (marked q cid r)
+fits-marked n q cid r is = go (is_at q cid r)
+  where
+    go : (b : Bool) → IsRecord n (if b then collected r else r)
+    go true = record { queue = is.queue; work = fits-collected r.work r is.work; phase = tt }
+    go false = is
+
+-- the pages of a command that is held
+pub collect_can_take : (t : Tables) (q cid : ℕ) (r : Record) → IsWhole t → find (is_at q cid) t.records ≡ Some r → is_out r.phase ≡ false → CanTake (pages_of r) t.pages
+collect_can_take t q cid r whole was stays =
+    let at = found_at (is_at q cid) t.records r was in
+    can-take (pages_of r) t.pages (record-in (state_of t) whole.sound at.0 r at.1 stays)
+
+taken-due : (t : Tables) (q cid : ℕ) (r : Record) → find (is_at q cid) t.records ≡ Some r
+    → after_collect q cid (state_of t) ≡ due (state_of t) (taken_out q cid (pages_of r) t).pages t.owners (taken_out q cid (pages_of r) t).records
+taken-due t q cid r was = rw was refl
+
+-- the queues are as they were
+taken-moved : (t : Tables) (q cid : ℕ) (r : Record) → moved t q (λ claimed. claimed) (taken_out q cid (pages_of r) t).pages t.owners (taken_out q cid (pages_of r) t).records ≡ taken_out q cid (pages_of r) t
+taken-moved t q cid r =
+    ap (λ (queues : List declared.Queue). record (taken_out q cid (pages_of r) t) { queues = queues })
+    (change-same (claims_changed (λ claimed. claimed)) (λ x. refl) q t.queues)
+
+pub collected_step : (t : Tables) (q cid : ℕ) (r : Record) (f : FinishedContents) → IsWhole t → refusal_of (state_of t) (events.Collect q cid) ≡ None
+    → find (is_at q cid) t.records ≡ Some r → finished_from (state_of t) r ≡ Some f
+    → Step (state_of t) (events.Collect q cid) (events.Collects f) (state_of (taken_out q cid (pages_of r) t))
+collected_step t q cid r f whole none was is =
+    host_step t (taken_out q cid (pages_of r) t) (events.Collect q cid) (events.Collects f) refl tt (
+      none,
+      ap (option_and_then (finished_from (state_of t))) was ∙ is,
+      sym (ap state_of (taken-moved t q cid r))
+          ∙ (moved_is t q (λ claimed. claimed) (taken_out q cid (pages_of r) t).pages t.owners (taken_out q cid (pages_of r) t).records ∙ sym (taken-due t q cid r was)),
+    )
+
+pub collected_whole : (t : Tables) (q cid : ℕ) (r : Record) (f : FinishedContents) → IsWhole t → refusal_of (state_of t) (events.Collect q cid) ≡ None
+    → find (is_at q cid) t.records ≡ Some r → finished_from (state_of t) r ≡ Some f → IsWhole (taken_out q cid (pages_of r) t)
+collected_whole t q cid r f whole none was is =
+    subst (λ (n : Tables). IsWhole n) (taken-moved t q cid r)
+    (moved_whole t q (λ claimed. claimed) (taken_out q cid (pages_of r) t).pages t.owners (taken_out q cid (pages_of r) t).records (events.Collect q cid) (events.Collects f) whole fits
+    (subst (λ (n : Tables). Step (state_of t) (events.Collect q cid) (events.Collects f) (state_of n)) (sym (taken-moved t q cid r)) (collected_step t q cid r f whole none was is)))
+  where
+    same : (p i : ℕ) → is_outstanding (with_record q cid collected t.records) p i ≡ is_outstanding t.records p i
+    same p i = any-map (is_at p i) (marked q cid) (is_at-marked q cid p i) t.records
+
+    claims : ClaimIdentifiers (with_record q cid collected t.records) t.queues
+    claims = record {
+      each = λ p queue e. let old = whole.identifiers.each p queue e in
+          record { told = λ i l. old.told i l ∙ ap Some (sym (same p i)); inside = λ i h. old.inside i (sym (same p i) ∙ h) };
+    }
+
+    fits : Fits t q (λ claimed. claimed) (taken_out q cid (pages_of r) t).pages t.owners (taken_out q cid (pages_of r) t).records
+    fits = record {
+      pool = pool-without (pages_of r) t.pages whole.pool;
+      many = length-without_pages (pages_of r) t.pages;
+      table = refl;
+      size = λ bits. refl;
+      queues_told = whole.owners.queues_told;
+      commands_told = all-map (TellsCommand t.owners) (marked q cid) (tells-marked t q cid) t.records whole.owners.commands_told;
+      identifiers = subst (λ (queues : List declared.Queue). ClaimIdentifiers (with_record q cid collected t.records) queues)
+          (sym (change-same (claims_changed (λ claimed. claimed)) (λ x. refl) q t.queues)) claims;
+      fit = all-map (IsRecord (length t.queues)) (marked q cid) (fits-marked (length t.queues) q cid) t.records whole.records;
+    }
+
+-- Pages taken out one after the other are those of the memory, and the calls of collect.
+
+-- The bytes
+
+taken-append : (a b : List ℕ) (m : Pages) → taken_pages (a ++ b) m ≡ taken_pages a m ++ taken_pages b (without_pages a m)
+taken-append [] b m = refl
+taken-append (p ∷ a) b m = ap (λ (l : PagesOut). (p, option_map_or (λ bytes. bytes) (page_at m p) []) ∷ l) (taken-append a b (slice_set m p None))
+
+set-gone : (m : Pages) (p : ℕ) → is_in (slice_set m p None) p ≡ false
+set-gone [] p = refl
+set-gone (x ∷ m) zero = refl
+set-gone (x ∷ m) (suc p) = set-gone m p
+
+set-stays : (m : Pages) (p q : ℕ) → is_in (slice_set m p None) q ≡ true → page_at (slice_set m p None) q ≡ page_at m q
+set-stays m p q h = go (p == q) refl
+  where
+    go : (b : Bool) → (p == q) ≡ b → page_at (slice_set m p None) q ≡ page_at m q
+    go true e = absurd (true≢false (sym h ∙ subst (λ (k : ℕ). is_in (slice_set m p None) k ≡ false) (eqb-true p q e) (set-gone m p)))
+    go false e = set-other m p q None (eqb-false p q e)
+
+can-in : (ps : List ℕ) (m : Pages) → CanTake ps m → AllByRecursion (λ q. is_in m q ≡ true) ps
+can-in [] m can = tt
+can-in (p ∷ ps) m can = (can.0, back ps (can-in ps (slice_set m p None) can.1))
+  where
+    back : (qs : List ℕ) → AllByRecursion (λ q. is_in (slice_set m p None) q ≡ true) qs → AllByRecursion (λ q. is_in m q ≡ true) qs
+    back [] all = tt
+    back (q ∷ qs) all = (sym (ap is_some (set-stays m p q all.0)) ∙ all.0, back qs all.1)
+
+bytes-stay : (ps : List ℕ) (m m' : Pages) → ((q : ℕ) → is_in m' q ≡ true → page_at m' q ≡ page_at m q) → AllByRecursion (λ q. is_in m' q ≡ true) ps → pages_with_bytes m' ps ≡ pages_with_bytes m ps
+bytes-stay [] m m' same all = refl
+bytes-stay (q ∷ ps) m m' same all =
+    ap₂ (λ (o : Option (List ℕ)) (l : PagesOut). (q, option_map_or (λ bytes. bytes) o []) ∷ l) (same q all.0) (bytes-stay ps m m' same all.1)
+
+pub taken_same : (ps : List ℕ) (m : Pages) → CanTake ps m → taken_pages ps m ≡ pages_with_bytes m ps
+taken_same [] m can = refl
+taken_same (p ∷ ps) m can =
+    ap (λ (l : PagesOut). (p, option_map_or (λ bytes. bytes) (page_at m p) []) ∷ l)
+    (taken_same ps (slice_set m p None) can.1 ∙ bytes-stay ps m (slice_set m p None) (set-stays m p) (can-in ps (slice_set m p None) can.1))
+
+take-parts : (a b : List ℕ) (m : Pages) → CanTake (a ++ b) m → CanTake a m × CanTake b (without_pages a m)
+take-parts [] b m h = (tt, h)
+take-parts (x ∷ a) b m h = let r = take-parts a b (slice_set m x None) h.1 in ((h.0, r.0), r.1)
+
+-- The record that is held
+
+in_store : (r : Record) → r.phase ≡ Held → is_out r.phase ≡ false
+in_store r e = ap is_out e
+
+pub held_can_take : (t : Tables) (q cid : ℕ) → IsWhole t → (is : StandsAt t q cid) → CanTake is.entry.data_pages t.pages × CanTake is.entry.chain_pages (without_pages is.entry.data_pages t.pages)
+held_can_take t q cid whole is =
+    take-parts is.entry.data_pages is.entry.chain_pages t.pages (collect_can_take t q cid is.entry whole is.was (in_store is.entry is.held))
+
+pub held_fits : (t : Tables) (q cid : ℕ) → IsWhole t → (is : StandsAt t q cid) → FitsPhase Held is.entry.work is.entry.status
+held_fits t q cid whole is =
+    let fits = found_all (IsRecord (length t.queues)) (is_at q cid) t.records is.entry is.was whole.records in
+    subst (λ (p : Phase). FitsPhase p is.entry.work is.entry.status) is.held fits.phase
+
+pub held_work : (t : Tables) (q cid : ℕ) (r : Request) → IsWhole t → (is : StandsAt t q cid) → is.entry.work ≡ Io r → IsGood r × (length is.entry.data_pages ≡ data_count r.pieces)
+held_work t q cid r whole is e =
+    let fits = found_all (IsRecord (length t.queues)) (is_at q cid) t.records is.entry is.was whole.records in
+    subst (λ (w : Work). FitsWork w is.entry) e fits.work
+
+-- by equal numbers
+pub found-at : (t : Tables) (q cid q' cid' : ℕ) (r : Record) → q' ≡ q → cid' ≡ cid → find (is_at q' cid') t.records ≡ Some r → find (is_at q cid) t.records ≡ Some r
+found-at t q cid q' cid' r eq ec h = rw (← eq, ← ec) h
+
+-- The refusals
+
+pub collect-none : (t : Tables) (q cid : ℕ) → find (is_at q cid) t.records ≡ None → Refuses (state_of t) (events.Collect q cid) refusal.Stranger []
+collect-none t q cid e = (rw e refl, refl)
+
+pub collect-stranger : (t : Tables) (q cid : ℕ) (r : Record) → find (is_at q cid) t.records ≡ Some r → (is_submitted r.phase ≡ false) → (is_held r.phase ≡ false) → Refuses (state_of t) (events.Collect q cid) refusal.Stranger []
+collect-stranger t q cid r e a b = (rw (e, a, b) refl, refl)
+
+pub collect-not_yet : (t : Tables) (q cid : ℕ) (r : Record) → find (is_at q cid) t.records ≡ Some r → (is_submitted r.phase ≡ true) → Refuses (state_of t) (events.Collect q cid) refusal.NotYet []
+collect-not_yet t q cid r e a = (rw (e, a) refl, refl)
+
+pub collect-nothing : (t : Tables) (q cid : ℕ) → StandsAt t q cid → refusal_of (state_of t) (events.Collect q cid) ≡ None
+collect-nothing t q cid is = rw (is.was, is.held) refl
+
+-- The whole of a collection
+
+pub record Collects (t new : Tables) (q cid : ℕ) (f : FinishedContents) : Type 0 where
+  pub step : Step (state_of t) (events.Collect q cid) (events.Collects f) (state_of new)
+  pub whole : IsWhole new
+
+pub collect_made : (t new : Tables) (q cid : ℕ) (r : Request) (st : Status) (pages : PagesOut) (f : FinishedContents) → IsWhole t → (is : StandsAt t q cid)
+    → is.entry.work ≡ Io r → is.entry.status ≡ Some st
+    → pages ≡ taken_pages is.entry.data_pages t.pages ++ taken_pages is.entry.chain_pages (without_pages is.entry.data_pages t.pages)
+    → f ≡ record { q = q; cid = cid; request = r; status = st; data_pages = data_part r pages; chain_pages = chain_part r pages }
+    → new ≡ taken_out q cid (pages_of is.entry) t → Collects t new q cid f
+collect_made t new q cid r st pages f whole is ew es ep ef en =
+    let a = pages_with_bytes t.pages is.entry.data_pages in
+    let b = pages_with_bytes t.pages is.entry.chain_pages in
+    let can = collect_can_take t q cid is.entry whole is.was (in_store is.entry is.held) in
+    let all : pages ≡ a ++ b =
+    ep ∙ (sym (taken-append is.entry.data_pages is.entry.chain_pages t.pages) ∙ (taken_same (pages_of is.entry) t.pages can ∙ map-append (λ p. (p, option_map_or (λ bytes. bytes) (page_at t.pages p) [])) is.entry.data_pages is.entry.chain_pages)) in
+    let size : length a ≡ data_count r.pieces = length-map is.entry.data_pages (λ p. (p, option_map_or (λ bytes. bytes) (page_at t.pages p) [])) ∙ (held_work t q cid r whole is ew).1 in
+    let at = found_is (is_at q cid) t.records is.entry is.was in
+    let made : f ≡ record { q = is.entry.q; cid = is.entry.cid; request = r; status = st; data_pages = a; chain_pages = b } =
+    ef
+    ∙ (ap₂ (λ (x y : PagesOut). record { q = q; cid = cid; request = r; status = st; data_pages = x; chain_pages = y })
+    (ap (data_part r) all ∙ take_at a b (data_count r.pieces) size) (ap (chain_part r) all ∙ drop_at a b (data_count r.pieces) size)
+    ∙ ap₂ (λ (x y : ℕ). record { q = x; cid = y; request = r; status = st; data_pages = a; chain_pages = b }) (sym (named is.entry q cid at).0) (sym (named is.entry q cid at).1)) in
+    let finishes : finished_from (state_of t) is.entry ≡ Some f = rw (ew, es) (ap Some (sym made)) in
+    let none = collect-nothing t q cid is in
+    record {
+      step = subst (λ (x : Tables). Step (state_of t) (events.Collect q cid) (events.Collects f) (state_of x)) (sym en) (collected_step t q cid is.entry f whole none is.was finishes);
+      whole = subst (λ (x : Tables). IsWhole x) (sym en) (collected_whole t q cid is.entry f whole none is.was finishes);
+    }
+  where
+    named : (r : Record) (q cid : ℕ) → is_at q cid r ≡ true → (r.q ≡ q) × (r.cid ≡ cid)
+    named r q cid h = let both = and_parts (r.q == q) (r.cid == cid) h in (eqb-true r.q q both.0, eqb-true r.cid cid both.1)
+
+pub collected_tables : (t : Tables) (q cid : ℕ) (pages : Pages) → (is : StandsAt t q cid) → pages ≡ without_pages is.entry.chain_pages (without_pages is.entry.data_pages t.pages)
+    → record t { pages = pages; records = with_record q cid collected t.records } ≡ taken_out q cid (pages_of is.entry) t
+collected_tables t q cid pages is ep = rw (ep, without-append is.entry.data_pages is.entry.chain_pages t.pages) refl
+
+pub length-taken : (ps : List ℕ) (m : Pages) → length (taken_pages ps m) ≡ length ps
+length-taken [] m = refl
+length-taken (p ∷ ps) m = ap suc (length-taken ps (slice_set m p None))
+
+pub collect_enough : (t : Tables) (q cid : ℕ) (r : Request) (pages : PagesOut) → IsWhole t → (is : StandsAt t q cid) → is.entry.work ≡ Io r
+    → pages ≡ taken_pages is.entry.data_pages t.pages ++ taken_pages is.entry.chain_pages (without_pages is.entry.data_pages t.pages) → data_count r.pieces ≤ length pages
+collect_enough t q cid r pages whole is ew ep =
+    omega (
+      arith,
+      ap length ep,
+      length-append (taken_pages is.entry.data_pages t.pages) (taken_pages is.entry.chain_pages (without_pages is.entry.data_pages t.pages)),
+      length-taken is.entry.data_pages t.pages,
+      (held_work t q cid r whole is ew).1,
+    )
+
+-- The end of a command on the tables is the machine's, and leaves them whole.
 
 pub at_most_once : (t : Tables) → IsWhole t → (q cid : ℕ) → total (here q cid) t.records < 2
 at_most_once t whole q cid = let h = holds_from_sound (state_of t) whole.sound in h.once q cid

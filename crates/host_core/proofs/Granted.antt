@@ -1,36 +1,205 @@
--- Pages that are placed among the free ones, handed to a command in two parts.
-use Rattle.std.proofs.Common.{◌≡◌, ℕ, ◌+◌, ◌≤◌, nat_lt, Bool, true, false, ◌&&◌, None, List, [], ◌∷◌, ◌++◌, length, All, refl, ap, ap₂, sym, ◌∙◌, arith, subst, slice_set, length-append, if◌then◌else◌}
-use Rattle.std.proofs.lemmas.List.{length-map, take_at, drop_at}
-use Rattle.std.proofs.lemmas.List.Elements.{All-map, All-append}
-use Rattle.io_commands.specs.DataBytes.{PagesOut}
-use Rattle.io_commands.specs.Drafts.{DraftContents}
-use Rattle.io_commands.specs.Requests.{data_count, joined_parts, FitsRequest}
-use Rattle.io_commands.specs.Values.{numbers_of, data_part, chain_part}
-use Rattle.io_commands.specs.Asked.{Request}
-use Rattle.io_commands.specs.Least.{pages_with}
-use Rattle.machine_model.specs.After.{change}
+-- Commands that are reserved.
 use Rattle.machine_model.specs.Events as events
-use Rattle.machine_model.specs.Memory.{without_pages, zeroed_pages}
-use Rattle.machine_model.specs.Placement.{placed, without_numbers, data_placed}
-use Rattle.machine_model.specs.State.{Record}
-use Rattle.machine_model.specs.Step.{Step, IsReserved, times}
-use Rattle.machine_model.proofs.Counting.{times-filter, times-pages, held_once, not_held}
-use Rattle.machine_model.proofs.FreePages.{length_placed, placed_times, two_placed, length_left}
-use Rattle.machine_model.specs.declared.words.Phase.TheVariants.{Drafted}
-use Rattle.machine_model.specs.declared.words.Work.TheVariants.{Io}
-use Rattle.page_ledger.specs.Owners.{is_among, is_free, is_owned_at, free_pages, pages_from, with_owner}
-use Rattle.page_ledger.specs.declared.owner.Owner.{Owner}
-use Rattle.page_ledger.specs.declared.owner.Owner.TheVariants.{Command}
-use Rattle.page_ledger.specs.declared.owner.Role.TheVariants.{Data, Chain}
+use Rattle.machine_model.specs.declared.words.Refusal.TheVariants as refusal
+use Rattle.host_core.specs.Rows as declared
+use Rattle.std.proofs.Common.{◌≡◌, ℕ, ◌<◌, ◌≤◌, ◌==◌, nat_lt, Bool, true, false, ◌&&◌, ◌||◌, Option, Some, None, List, [], ◌∷◌, ◌++◌, length, map, slice_get, slice_set, is_some, is_none, refl, ap, ap₂, sym, ◌∙◌, arith, subst, length-set, if◌then◌else◌, not, ◌+◌, All, length-append}
+use Rattle.std.proofs.lemmas.{Bool.{true≢false, or_parts}, List.{length-map, take_at, drop_at, Elements.{All-map, All-append}}}
+use Rattle.std.{proofs.lemmas.Option.{slice_get-map, slice_get_within}, specs.{List.AllByRecursion, Option.{option_map, option_map_or}}}
+use Rattle.io_commands.specs.{Asked.Request, DataBytes.PagesOut, Drafts.DraftContents, Least.pages_with}
+use Rattle.io_commands.specs.{Requests.{fault_of, data_count, FitsRequest, joined_parts}, Values.{numbers_of, data_part, chain_part}}
+use Rattle.machine_model.proofs.Counting.{times-append, held_once, times-filter, times-pages, not_held}
+use Rattle.machine_model.proofs.{Headline.{length_placed, placed_times, two_placed, length_left}, Moves.queue_known}
+use Rattle.machine_model.{proofs.Steps.{length-without_pages, first_fails, rest_fails}, specs.After.{after_reserve, change}}
+use Rattle.machine_model.specs.{Memory.{without_pages, zeroed_pages}, Placement.{placed, without_numbers, data_placed}}
+use Rattle.machine_model.specs.{Refusals.{refusal_of, no_io_queue, in_state, is_deleting, no_identifier, pages_wanted, in_service}, State.{State, Record}}
+use Rattle.machine_model.specs.{Step.{Step, IsReserved, times}, declared.words.{Phase.TheVariants.Drafted, Refusal.Refusal, Work.TheVariants.Io}}
+use Rattle.page_ledger.proofs.Tables.{length-with_owner, owner-with}
+use Rattle.page_ledger.specs.{Owners.{is_among, owner_at, with_owner, free_pages, is_free, is_owned_at, pages_from}, declared.owner.Owner.Owner}
+use Rattle.page_ledger.specs.declared.owner.{Owner.TheVariants.{Free, Command}, Role.TheVariants.{Data, Chain}}
+use Rattle.host_core.proofs.{Ending.{Fits, due, moved_is, moved_whole}, Identifiers.claim-more, Lists.{all-append, all-all, some_is}}
+use Rattle.host_core.proofs.{PageOwners.{free-owner, granted-free, among-append, pool-without, can-take, free-in, one-le, without-append}, QueueLists.host_step}
+use Rattle.host_core.specs.{Alone.HasPlacedPages, Commands.{reserved, record_of_draft, first_placed, then_placed, with_claim, CanTake, Grants, new_draft}}
+use Rattle.host_core.specs.{Rows.Queue, Tables.{Tables, state_of, host_queue_of, view_of}, Whole.{IsWhole, TellsCommand, HaveOwner, IsRecord}}
 use Rattle.page_memory.specs.Pages.{Pages, zero_page}
 use Rattle.sgl_chain.specs.Chains.{pages_needed}
-use Rattle.host_core.specs.Commands.{first_placed, then_placed, reserved, with_claim, CanTake, Grants, new_draft}
-use Rattle.host_core.specs.Alone.{HasPlacedPages}
-use Rattle.host_core.specs.Tables.{Tables, state_of, view_of}
-use Rattle.host_core.specs.Whole.{IsWhole}
-use Rattle.host_core.specs.Rows.{Queue}
-use Rattle.host_core.proofs.Reserved.{reserved_step, reserved_whole}
-use Rattle.host_core.proofs.Pages.{can-take, free-in, one-le, without-append}
+
+-- A reservation on the tables is the machine's, and leaves them whole.
+
+-- What is known where a reservation isn't refused
+
+record Passes (s : State) (q : ℕ) (r : Request) : Type 0 where
+  queue : no_io_queue s q ≡ false
+  good : fault_of r.kind r.blocks r.pieces ≡ None
+
+is-none : {A : Type 0} (o : Option A) → is_some o ≡ false → o ≡ None
+is-none None h = refl
+is-none (Some x) h = absurd (true≢false h)
+
+passes : (s : State) (q : ℕ) (r : Request) → refusal_of s (events.Reserve q r) ≡ None → Passes s q r
+passes s q r none =
+    let fault = fault_of r.kind r.blocks r.pieces in
+    let last : List (Bool × Refusal) =
+    (no_identifier s q, refusal.NoIdentifier) ∷ (nat_lt (length s.host.free) (pages_wanted s r), refusal.NoPages (pages_wanted s r) (length s.host.free)) ∷ [] in
+    let bad : Bool × Refusal = (is_some fault, option_map_or refusal.Bad fault refusal.NoQueue) in
+    let second = rest_fails (no_io_queue s q) refusal.NoQueue ((in_state is_deleting s q, refusal.Deleting) ∷ bad ∷ last) none in
+    let third = rest_fails (in_state is_deleting s q) refusal.Deleting (bad ∷ last) second in
+    record {
+      queue = first_fails (no_io_queue s q) refusal.NoQueue ((in_state is_deleting s q, refusal.Deleting) ∷ bad ∷ last) none;
+      good = is-none fault (first_fails (is_some fault) (option_map_or refusal.Bad fault refusal.NoQueue) last third);
+    }
+
+pub queue_there : (t : Tables) (q : ℕ) → no_io_queue (state_of t) q ≡ false → (queue : declared.Queue) × (slice_get t.queues q ≡ Some queue)
+queue_there t q known = go (slice_get t.queues q) refl
+  where
+    there : is_none (slice_get (map host_queue_of t.queues) q) ≡ false
+    there = queue_known in_service (state_of t) q (or_parts (q == 0) (not (in_state in_service (state_of t) q)) known).1
+
+    go : (o : Option declared.Queue) → slice_get t.queues q ≡ o → (queue : declared.Queue) × (slice_get t.queues q ≡ Some queue)
+    go (Some queue) e = (queue, e)
+    go None e = absurd (true≢false (sym (ap is_none (slice_get-map host_queue_of t.queues q ∙ ap (option_map host_queue_of) e)) ∙ there))
+
+-- The pages that are reserved
+
+abbrev numbers : DraftContents → List ℕ
+numbers d = numbers_of d.data_pages ++ numbers_of d.chain_pages
+
+-- each is free, and named once
+record Reserving (t : Tables) (d : DraftContents) : Type 0 where
+  free : (p : ℕ) → is_among (numbers d) p ≡ true → owner_at t.owners p ≡ Some Free
+  once : (p : ℕ) → times p (numbers d) ≤ 1
+
+reserving : (t : Tables) (q : ℕ) (r : Request) (d : DraftContents) → IsReserved (state_of t) q r d → Reserving t d
+reserving t q r d is = record {
+  free = λ p h. free-owner t.owners p (some p (is_among (free_pages t.owners) p) refl h);
+  once = λ p. few p (is_among (numbers d) p && is_among (free_pages t.owners) p) (is.free p);
+}
+  where
+    few : (p : ℕ) (b : Bool) → times p (numbers d) ≡ (if b then 1 else 0) → times p (numbers d) ≤ 1
+    few p true e = omega arith
+    few p false e = omega arith
+
+    some : (p : ℕ) (b : Bool) → is_among (free_pages t.owners) p ≡ b → is_among (numbers d) p ≡ true → 0 < times p (free_pages t.owners)
+    some p true e h = held_once p (free_pages t.owners) e
+    some p false e h =
+        let none : times p (numbers d) ≡ 0 = is.free p ∙ ap₂ (λ x y. if x && y then 1 else 0) h e in
+        absurd (omega (arith, held_once p (numbers d) h))
+
+-- their owners
+
+owner-after : (t : Tables) (d : DraftContents) (p : ℕ) → p < length t.owners
+    → owner_at (reserved d t).owners p ≡ (if is_among (numbers_of d.chain_pages) p then Some (Command d.q d.cid Chain)
+    else if is_among (numbers_of d.data_pages) p then Some (Command d.q d.cid Data) else owner_at t.owners p)
+owner-after t d p l =
+    let a = numbers_of d.data_pages in
+    let b = numbers_of d.chain_pages in
+    owner-with (with_owner t.owners a (Command d.q d.cid Data)) b (Command d.q d.cid Chain) p (subst (λ (n : ℕ). p < n) (sym (length-with_owner t.owners a (Command d.q d.cid Data))) l)
+    ∙ ap (λ o. if is_among b p then Some (Command d.q d.cid Chain) else o) (owner-with t.owners a (Command d.q d.cid Data) p l)
+
+-- a page that had an owner keeps it
+owner-stays : (t : Tables) (d : DraftContents) → Reserving t d → (p : ℕ) (x : Owner) → (x ≡ Free → ⊥) → owner_at t.owners p ≡ Some x → owner_at (reserved d t).owners p ≡ Some x
+owner-stays t d is p x busy at = go (is_among (numbers_of d.data_pages) p) refl (is_among (numbers_of d.chain_pages) p) refl
+  where
+    not_free : is_among (numbers d) p ≡ true → ⊥
+    not_free h = busy (some_is (sym at ∙ is.free p h))
+
+    go : (u : Bool) → is_among (numbers_of d.data_pages) p ≡ u → (v : Bool) → is_among (numbers_of d.chain_pages) p ≡ v → owner_at (reserved d t).owners p ≡ Some x
+    go true e v f = absurd (not_free (among-append (numbers_of d.data_pages) (numbers_of d.chain_pages) p ∙ ap (λ b. b || is_among (numbers_of d.chain_pages) p) e))
+    go false e true f = absurd (not_free (among-append (numbers_of d.data_pages) (numbers_of d.chain_pages) p ∙ ap₂ (λ b c. b || c) e f))
+    go false e false f =
+        owner-after t d p (slice_get_within t.owners p x at)
+        ∙ (ap₂ (λ b c. if b then Some (Command d.q d.cid Chain) else if c then Some (Command d.q d.cid Data) else owner_at t.owners p) f e ∙ at)
+
+new-owners : (t : Tables) (d : DraftContents) → Reserving t d → TellsCommand (reserved d t).owners (record_of_draft d)
+new-owners t d is = record { data_pages = front; chain_pages = back }
+  where
+    a : List ℕ
+    a = numbers_of d.data_pages
+
+    b : List ℕ
+    b = numbers_of d.chain_pages
+
+    in_numbers : (p : ℕ) (u v : Bool) → is_among (numbers_of d.data_pages) p ≡ u → is_among (numbers_of d.chain_pages) p ≡ v → (u || v) ≡ true → is_among (numbers d) p ≡ true
+    in_numbers p u v e f h = among-append (numbers_of d.data_pages) (numbers_of d.chain_pages) p ∙ (ap₂ (λ x y. x || y) e f ∙ h)
+
+    within : (p : ℕ) → is_among (numbers d) p ≡ true → p < length t.owners
+    within p h = slice_get_within t.owners p Free (is.free p h)
+
+    or_right : (x y : Bool) → y ≡ true → (x || y) ≡ true
+    or_right true y e = refl
+    or_right false y e = e
+
+    front : HaveOwner (reserved d t).owners (Command d.q d.cid Data) (numbers_of d.data_pages)
+    front p e = go (is_among (numbers_of d.chain_pages) p) refl
+      where
+        go : (v : Bool) → is_among (numbers_of d.chain_pages) p ≡ v → owner_at (reserved d t).owners p ≡ Some (Command d.q d.cid Data)
+        go true f = absurd (omega (arith, is.once p, times-append p (numbers_of d.data_pages) (numbers_of d.chain_pages), held_once p (numbers_of d.data_pages) e, held_once p (numbers_of d.chain_pages) f))
+        go false f =
+            owner-after t d p (within p (in_numbers p true false e f refl))
+            ∙ ap₂ (λ x y. if x then Some (Command d.q d.cid Chain) else if y then Some (Command d.q d.cid Data) else owner_at t.owners p) f e
+
+    back : HaveOwner (reserved d t).owners (Command d.q d.cid Chain) (numbers_of d.chain_pages)
+    back p f =
+        owner-after t d p (within p (in_numbers p (is_among (numbers_of d.data_pages) p) true refl f (or_right (is_among (numbers_of d.data_pages) p) true refl)))
+        ∙ ap (λ x. if x then Some (Command d.q d.cid Chain) else if is_among (numbers_of d.data_pages) p then Some (Command d.q d.cid Data) else owner_at t.owners p) f
+
+-- The state that is due
+
+reserved-due : (t : Tables) (d : DraftContents) → after_reserve d (state_of t) ≡ due (state_of t) (reserved d t).pages (reserved d t).owners (reserved d t).records
+reserved-due t d =
+    let s = state_of t in
+    ap (λ (free : List ℕ). record s { memory = (reserved d t).pages; host = record s.host { free = free; records = (reserved d t).records } })
+    (sym (granted-free t.owners (numbers_of d.data_pages) (numbers_of d.chain_pages) (Command d.q d.cid Data) (Command d.q d.cid Chain) refl refl))
+
+pub reserved_step : (t : Tables) (q : ℕ) (r : Request) (d : DraftContents) → IsWhole t → FitsRequest r → refusal_of (state_of t) (events.Reserve q r) ≡ None → IsReserved (state_of t) q r d
+    → Step (state_of t) (events.Reserve q r) (events.Reserved d) (state_of (reserved d t))
+reserved_step t q r d whole proper none is =
+    host_step t (reserved d t) (events.Reserve q r) (events.Reserved d) refl proper (
+      none,
+      is,
+      moved_is t d.q (λ claimed. slice_set claimed d.cid true) (reserved d t).pages (reserved d t).owners (reserved d t).records ∙ sym (reserved-due t d),
+    )
+
+commands-told : (t : Tables) (d : DraftContents) → Reserving t d → AllByRecursion (TellsCommand t.owners) t.records → AllByRecursion (TellsCommand (reserved d t).owners) (reserved d t).records
+commands-told t d is told =
+    all-append (TellsCommand (reserved d t).owners) t.records (record_of_draft d)
+    (all-all (TellsCommand t.owners) (TellsCommand (reserved d t).owners) (λ x tells. record {
+      data_pages = λ p h. owner-stays t d is p (Command x.q x.cid Data) (λ e. cc) (tells.data_pages p h);
+      chain_pages = λ p h. owner-stays t d is p (Command x.q x.cid Chain) (λ e. cc) (tells.chain_pages p h);
+    }) t.records told)
+    (new-owners t d is)
+
+pub reserved_whole : (t : Tables) (q : ℕ) (r : Request) (d : DraftContents) → IsWhole t → FitsRequest r → refusal_of (state_of t) (events.Reserve q r) ≡ None → IsReserved (state_of t) q r d → IsWhole (reserved d t)
+reserved_whole t q r d whole proper none is =
+    moved_whole t d.q (λ claimed. slice_set claimed d.cid true) (reserved d t).pages (reserved d t).owners (reserved d t).records
+    (events.Reserve q r) (events.Reserved d) whole fits (reserved_step t q r d whole proper none is)
+  where
+    known : Passes (state_of t) q r
+    known = passes (state_of t) q r none
+
+    at : (queue : declared.Queue) × (slice_get t.queues d.q ≡ Some queue)
+    at = queue_there t d.q (subst (λ (k : ℕ). no_io_queue (state_of t) k ≡ false) (sym is.queue) known.queue)
+
+    fits : Fits t d.q (λ claimed. slice_set claimed d.cid true) (reserved d t).pages (reserved d t).owners (reserved d t).records
+    fits = record {
+      pool = pool-without (numbers d) t.pages whole.pool;
+      many = length-without_pages (numbers d) t.pages;
+      table = length-with_owner (with_owner t.owners (numbers_of d.data_pages) (Command d.q d.cid Data)) (numbers_of d.chain_pages) (Command d.q d.cid Chain) ∙ length-with_owner t.owners (numbers_of d.data_pages) (Command d.q d.cid Data);
+      size = λ bits. length-set bits d.cid true;
+      queues_told = λ k queue e. let tells = whole.owners.queues_told k queue e in record {
+        submission = λ p h. owner-stays t d (reserving t q r d is) p _ (λ f. cc) (tells.submission p h);
+        completion = λ p h. owner-stays t d (reserving t q r d is) p _ (λ f. cc) (tells.completion p h);
+      };
+      commands_told = commands-told t d (reserving t q r d is) whole.owners.commands_told;
+      identifiers = claim-more t.records t.queues (record_of_draft d) whole.identifiers
+          (λ queue e. let side = (whole.queues.each d.q queue e) in omega (arith, is.identifier.in_range, side.host_side.identifiers, side.entries));
+      fit = all-append (IsRecord (length t.queues)) t.records (record_of_draft d) whole.records (record {
+        queue = slice_get_within t.queues d.q at.0 at.1;
+        work = (subst (λ (x : Request). fault_of x.kind x.blocks x.pieces ≡ None) (sym is.request) known.good, length-map d.data_pages (λ page. page.0) ∙ (is.data_pages ∙ ap (λ (x : Request). data_count x.pieces) (sym is.request)));
+        phase = tt;
+      });
+    }
+
+-- Pages that are placed among the free ones, handed to a command in two parts.
 
 -- What is taken of the free pages
 

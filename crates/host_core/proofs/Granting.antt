@@ -1,32 +1,18 @@
 -- What a request is refused for, and what it gets.
 use Rattle.std.proofs.Common.{◌≡◌, ℕ, zero, suc, ◌+◌, ◌-◌, ◌<◌, ◌≤◌, ◌==◌, ◌⊎◌, inl, inr, nat_lt, nat_le, Bool, true, false, not, ◌||◌, Option, Some, None, List, [], ◌∷◌, length, position, slice_get, refl, ap, sym, ◌∙◌, arith, subst, if◌then◌else◌, lt-ltb, le-ltb, ltb-true, ltb-false, eqb-true, eq-eqb}
+use Rattle.std.proofs.lemmas.{Bool.{true≢false, eqb-false, cases_lt, Decides.nat_tests}, Option.{slice_get-map, slice_get_within}}
 use Rattle.std.specs.Option.{option_map, option_map_or}
-use Rattle.std.proofs.lemmas.Bool.{true≢false, eqb-false, cases_lt}
-use Rattle.std.proofs.lemmas.Bool.Decides.{nat_tests}
-use Rattle.std.proofs.lemmas.Option.{slice_get-map, slice_get_within}
-use Rattle.io_commands.specs.Requests.{fault_of, data_count}
-use Rattle.io_commands.specs.Asked.{Request}
-use Rattle.io_commands.specs.Least.{least_pages}
-use Rattle.io_commands.specs.declared.request.Piece.{Piece}
-use Rattle.io_commands.specs.declared.request.RequestFault.{RequestFault}
-use Rattle.machine_model.specs.Events as events
+use Rattle.io_commands.specs.{Asked.Request, Least.least_pages, Requests.{fault_of, data_count}, declared.request.{Piece.Piece, RequestFault.RequestFault}}
+use Rattle.machine_model.{proofs.Counting.{one, times-cons, held_once, not_held}, specs.Placement.{wanted_of, chain_wanted}}
 use Rattle.machine_model.specs.Refusals.{refusal_of, no_io_queue, in_state, is_deleting, no_identifier, pages_wanted, in_service}
-use Rattle.machine_model.specs.State.{State, outstanding_on}
-use Rattle.machine_model.specs.Step.{IsNewIdentifier, Refuses, times}
-use Rattle.machine_model.specs.declared.words.HostState.{HostState}
-use Rattle.machine_model.specs.declared.words.Refusal.TheVariants as refusal
-use Rattle.machine_model.proofs.Counting.{one, times-cons, held_once, not_held}
+use Rattle.machine_model.specs.{State.{State, outstanding_on}, Step.{IsNewIdentifier, Refuses, times}, declared.words.HostState.HostState}
 use Rattle.page_ledger.specs.Owners.{is_among, free_pages}
-use Rattle.queue_pair.proofs.Identifiers.{found_within, found_free, all_claimed, lower_claimed}
-use Rattle.machine_model.specs.Placement.{wanted_of, chain_wanted}
-use Rattle.host_core.specs.Commands.{state_at, passes, takes_no_io, Grants}
-use Rattle.host_core.specs.Alone.{IsLowest}
-use Rattle.host_core.specs.Tables.{Tables, state_of, view_of, host_queue_of}
+use Rattle.queue_pair.proofs.Halves.{found_within, found_free, all_claimed, lower_claimed}
+use Rattle.host_core.{proofs.{Identifiers.outstanding-among, Lists.some_is, PageOwners.one-le}, specs.Alone.IsLowest}
+use Rattle.host_core.specs.{Commands.{state_at, passes, takes_no_io, Grants}, Rows.Queue, Tables.{Tables, state_of, view_of, host_queue_of}}
 use Rattle.host_core.specs.Whole.{IsWhole, is_outstanding}
-use Rattle.host_core.specs.Rows.{Queue}
-use Rattle.host_core.proofs.Identifiers.{outstanding-among}
-use Rattle.host_core.proofs.Lists.{some_is}
-use Rattle.host_core.proofs.Pages.{one-le}
+use Rattle.machine_model.specs.Events as events
+use Rattle.machine_model.specs.declared.words.Refusal.TheVariants as refusal
 
 -- The host's state of a queue
 
@@ -156,16 +142,6 @@ none-left t whole q queue at next = le_yes (t.entries - 1) (length (outstanding_
 
 -- The refusals
 
-pub refuses-no_queue : (s : State) (q : ℕ) (r : Request) → no_io_queue s q ≡ true → Refuses s (events.Reserve q r) refusal.NoQueue []
-refuses-no_queue s q r a = (rw a refl, refl)
-
-pub refuses-deleting : (s : State) (q : ℕ) (r : Request) → no_io_queue s q ≡ false → in_state is_deleting s q ≡ true → Refuses s (events.Reserve q r) refusal.Deleting []
-refuses-deleting s q r a b = (rw (a, b) refl, refl)
-
-pub refuses-bad : (s : State) (q : ℕ) (r : Request) (fault : RequestFault) → no_io_queue s q ≡ false → in_state is_deleting s q ≡ false → fault_of r.kind r.blocks r.pieces ≡ Some fault
-    → Refuses s (events.Reserve q r) (refusal.Bad fault) []
-refuses-bad s q r fault a b c = (rw (a, b, c) refl, refl)
-
 pub refuses-no_identifier : (s : State) (q : ℕ) (r : Request) → no_io_queue s q ≡ false → in_state is_deleting s q ≡ false → fault_of r.kind r.blocks r.pieces ≡ None → no_identifier s q ≡ true
     → Refuses s (events.Reserve q r) refusal.NoIdentifier []
 refuses-no_identifier s q r a b c d = (rw (a, b, c, d) refl, refl)
@@ -200,10 +176,6 @@ pub record Asked (t : Tables) (q : ℕ) (r : Request) : Type 0 where
 -- where the data has room, the pages of the placement are wanted
 pub wanted-placed : (free : List ℕ) (segment : ℕ) (pieces : List Piece) → data_count pieces ≤ length free → wanted_of free segment pieces ≡ data_count pieces + chain_wanted free segment pieces
 wanted-placed free segment pieces room = ap (λ (b : Bool). if b then least_pages pieces segment else data_count pieces + chain_wanted free segment pieces) (le-ltb (length free) (data_count pieces) room)
-
--- else the fewest
-pub wanted-least : (free : List ℕ) (segment : ℕ) (pieces : List Piece) → length free < data_count pieces → wanted_of free segment pieces ≡ least_pages pieces segment
-wanted-least free segment pieces few = ap (λ (b : Bool). if b then least_pages pieces segment else data_count pieces + chain_wanted free segment pieces) (lt-ltb (length free) (data_count pieces) few)
 
 pub granted : (t : Tables) (q : ℕ) (r : Request) (cid front back : ℕ) → IsWhole t → (asked : Asked t q r) → position not asked.queue.host.claimed ≡ Some cid
     → front ≡ data_count r.pieces → back ≡ chain_wanted (free_pages t.owners) t.segment r.pieces → front + back ≤ length (free_pages t.owners) → Grants t q r cid front back

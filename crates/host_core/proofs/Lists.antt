@@ -1,7 +1,67 @@
+-- Lists of the host's tables.
+use Rattle.std.proofs.Common.{◌≡◌, ◌≢◌, ℕ, zero, suc, ◌<◌, ◌≤◌, List, [], ◌∷◌, Some, length, slice_get, slice_set, get_or, refl, ap, sym, ◌∙◌, arith, Bool, true, false, ◌&&◌, Option, IfSome, IfNone, ◌⊎◌, inl, inr, cond, ◌||◌, None, ◌++◌, map, filter, find, All, ap₂, subst, ◌+◌, ◌==◌, drop, if◌then◌else◌}
+use Rattle.std.{proofs.lemmas.Option.none-some, specs.{List.{AllByRecursion, list_any}, Option.option_map_or}}
+use Rattle.machine_model.specs.{After.change, Refusals.{same_piece, same_pieces}, State.Record}
+use Rattle.io_commands.specs.declared.request.Piece.{Piece}
+use Rattle.slot_table.specs.Rows.{Row, first_place}
+use Rattle.host_core.specs.{Parts.{record_of, records_of}, Rows.{Kept, rows_on}}
+
+-- A member of a list that is changed, by its place.
+
+pub change-other : {A : Type 0} (j k : ℕ) (f : A → A) (xs : List A) → j ≢ k → slice_get (change j f xs) k ≡ slice_get xs k
+change-other j k f [] far = refl
+change-other zero zero f (x ∷ xs) far = absurd (far refl)
+change-other zero (suc k) f (x ∷ xs) far = refl
+change-other (suc j) zero f (x ∷ xs) far = refl
+change-other (suc j) (suc k) f (x ∷ xs) far = change-other j k f xs (λ e. far (ap suc e))
+
+at_place : {A : Type 0} (q : ℕ) (f : A → A) (xs : List A) (x y : A) → q < length xs → x ≡ get_or xs q x → y ≡ f x → slice_set xs q y ≡ change q f xs
+at_place q f [] x y l e h = absurd (omega arith)
+at_place {A = A} zero f (z ∷ xs) x y l e h = ap (λ (w : A). w ∷ xs) (h ∙ ap f e)
+at_place {A = A} (suc q) f (z ∷ xs) x y l e h = ap (λ (w : List A). z ∷ w) (at_place q f xs x y (omega arith) e h)
+
+-- a write at a place that was reached by an equal number
+pub change-at : {A : Type 0} (q i : ℕ) (f : A → A) (xs : List A) (x y : A) → i ≡ q → i < length xs → x ≡ get_or xs i x → y ≡ f x → slice_set xs i y ≡ change q f xs
+change-at q i f xs x y same l e h = at_place i f xs x y l e h ∙ ap (λ (k : ℕ). change k f xs) same
+
+past_end : {A : Type 0} (q : ℕ) (f : A → A) (xs : List A) → length xs ≤ q → xs ≡ change q f xs
+past_end q f [] l = refl
+past_end zero f (z ∷ xs) l = absurd (omega arith)
+past_end {A = A} (suc q) f (z ∷ xs) l = ap (λ (w : List A). z ∷ w) (past_end q f xs (omega arith))
+
+pub change-past : {A : Type 0} (q i : ℕ) (f : A → A) (xs : List A) → i ≡ q → length xs ≤ i → xs ≡ change q f xs
+change-past q i f xs same l = past_end i f xs l ∙ ap (λ (k : ℕ). change k f xs) same
+
+pub get-at : {A : Type 0} (q : ℕ) (xs : List A) (x : A) → q < length xs → x ≡ get_or xs q x → slice_get xs q ≡ Some x
+get-at q [] x l e = absurd (omega arith)
+get-at {A = A} zero (z ∷ xs) x l e = ap (λ (w : A). Some w) (sym e)
+get-at (suc q) (z ∷ xs) x l e = get-at q xs x (omega arith) e
+
+-- changes that are the same where the member stands
+pub change-agree : {A : Type 0} (k : ℕ) (f g : A → A) (xs : List A) (x : A) → slice_get xs k ≡ Some x → f x ≡ g x → change k f xs ≡ change k g xs
+change-agree k f g [] x at e = refl
+change-agree zero f g (y ∷ xs) x at e = let same : y ≡ x = cc in ap (λ z. z ∷ xs) (ap f same ∙ e ∙ ap g (sym same))
+change-agree (suc k) f g (y ∷ xs) x at e = ap (λ ys. y ∷ ys) (change-agree k f g xs x at e)
+
+-- the member itself
+pub change-here : {A : Type 0} (k : ℕ) (f : A → A) (xs : List A) (x : A) → slice_get xs k ≡ Some x → slice_get (change k f xs) k ≡ Some (f x)
+change-here k f [] x e = cc
+change-here zero f (y ∷ xs) x e = let same : y ≡ x = cc in ap (λ z. Some (f z)) same
+change-here (suc k) f (y ∷ xs) x e = change-here k f xs x e
+
+-- Lists that are compared.
+
+and_false : (b : Bool) → (b && false) ≡ false
+and_false true = refl
+and_false false = refl
+
+pub pieces-differ : (a b : List Piece) → length a ≢ length b → same_pieces a b ≡ false
+pieces-differ [] [] h = absurd (h refl)
+pieces-differ [] (y ∷ b) h = refl
+pieces-differ (x ∷ a) [] h = refl
+pieces-differ (x ∷ a) (y ∷ b) h = ap (λ c. same_piece x y && c) (pieces-differ a b (λ e. h (ap suc e))) ∙ and_false (same_piece x y)
+
 -- Lists of which one member is changed, and lists that agree member by member.
-use Rattle.std.proofs.Common.{Option, IfSome, IfNone, ◌≡◌, ◌≢◌, ℕ, zero, suc, ◌<◌, ◌⊎◌, inl, inr, Bool, true, false, cond, ◌||◌, Some, None, List, [], ◌∷◌, ◌++◌, length, map, filter, find, All, get_or, slice_get, slice_set, refl, ap, ap₂, sym, ◌∙◌, arith, subst}
-use Rattle.std.specs.List.{AllByRecursion, list_any}
-use Rattle.machine_model.specs.After.{change}
 
 pub some_is : {A : Type 0} {x y : A} → Some x ≡ Some y → x ≡ y
 some_is e = cc
@@ -115,15 +175,15 @@ change-same f same zero (x ∷ xs) = ap (λ y. y ∷ xs) (same x)
 change-same f same (suc k) (x ∷ xs) = ap (λ ys. x ∷ ys) (change-same f same k xs)
 
 -- a member written where it stands
-pub change-at : {A : Type 0} (q : ℕ) (f : A → A) (xs : List A) (x y : A) → q < length xs → x ≡ get_or xs q x → y ≡ f x → slice_set xs q y ≡ change q f xs
-change-at q f [] x y l e h = absurd (omega arith)
-change-at {A = A} zero f (z ∷ xs) x y l e h = ap (λ (w : A). w ∷ xs) (h ∙ ap f e)
-change-at {A = A} (suc q) f (z ∷ xs) x y l e h = ap (λ (w : List A). z ∷ w) (change-at q f xs x y (omega arith) e h)
+pub change-at-lists : {A : Type 0} (q : ℕ) (f : A → A) (xs : List A) (x y : A) → q < length xs → x ≡ get_or xs q x → y ≡ f x → slice_set xs q y ≡ change q f xs
+change-at-lists q f [] x y l e h = absurd (omega arith)
+change-at-lists {A = A} zero f (z ∷ xs) x y l e h = ap (λ (w : A). w ∷ xs) (h ∙ ap f e)
+change-at-lists {A = A} (suc q) f (z ∷ xs) x y l e h = ap (λ (w : List A). z ∷ w) (change-at-lists q f xs x y (omega arith) e h)
 
-pub get-at : {A : Type 0} (q : ℕ) (xs : List A) (x : A) → q < length xs → x ≡ get_or xs q x → slice_get xs q ≡ Some x
-get-at q [] x l e = absurd (omega arith)
-get-at {A = A} zero (z ∷ xs) x l e = ap (λ (w : A). Some w) (sym e)
-get-at (suc q) (z ∷ xs) x l e = get-at q xs x (omega arith) e
+pub get-at-lists : {A : Type 0} (q : ℕ) (xs : List A) (x : A) → q < length xs → x ≡ get_or xs q x → slice_get xs q ≡ Some x
+get-at-lists q [] x l e = absurd (omega arith)
+get-at-lists {A = A} zero (z ∷ xs) x l e = ap (λ (w : A). Some w) (sym e)
+get-at-lists (suc q) (z ∷ xs) x l e = get-at-lists q xs x (omega arith) e
 
 pub all-to : {A : Type 0} (P : A → Type 0) (xs : List A) → AllByRecursion P xs → All P xs
 all-to P [] all k d l = absurd (omega arith)
@@ -147,3 +207,44 @@ if_some-then (Some x) more h = more x h
 pub if_none-then : {A P Q : Type 0} (o : Option A) → (P → Q) → IfNone o P → IfNone o Q
 if_none-then None more h = more h
 if_none-then (Some x) more h = tt
+
+-- The records of a queue, counted from row to row.
+
+-- the rows of a queue are its outstanding commands
+pub rows_on-outstanding : (q : ℕ) (rows : List (Row Kept)) → rows_on q rows ≡ length (map (λ (r : Record). r.cid) (filter (λ (r : Record). r.q == q) (records_of rows)))
+rows_on-outstanding q [] = refl
+rows_on-outstanding q (row ∷ rows) = go (row.q == q) (rows_on-outstanding q rows)
+  where
+    others : List Record
+    others = filter (λ (r : Record). r.q == q) (records_of rows)
+
+    go : (b : Bool) → rows_on q rows ≡ length (map (λ (r : Record). r.cid) others)
+        → (if b then rows_on q rows + 1 else rows_on q rows) ≡ length (map (λ (r : Record). r.cid) (cond b (record_of row.q row.cid row.value ∷ others) others))
+    go true ih = omega (arith, ih)
+    go false ih = ih
+
+-- the row at which a walk stands, and those behind it
+one_more : (q n p cid : ℕ) (rows : List (Row Kept)) → first_place (drop n rows) ≡ Some (p, cid)
+    → rows_on q (drop n rows) ≡ (if p == q then rows_on q (drop (suc n) rows) + 1 else rows_on q (drop (suc n) rows))
+one_more q zero p cid [] at = absurd (none-some _ at)
+one_more q (suc n) p cid [] at = absurd (none-some _ at)
+one_more q zero p cid (row ∷ rows) at =
+    let own : row.q ≡ p = ap (λ (o : Option (ℕ × ℕ)). option_map_or (λ (place : ℕ × ℕ). place.0) o p) at in ap (λ (k : ℕ). if k == q then rows_on q rows + 1 else rows_on q rows) own
+one_more q (suc n) p cid (row ∷ rows) at = one_more q n p cid rows at
+
+pub row_counted : (q n p cid : ℕ) (rows : List (Row Kept)) → first_place (drop n rows) ≡ Some (p, cid)
+    → rows_on q (drop n rows) ≡ (if p == q then rows_on q (drop (n + 1) rows) + 1 else rows_on q (drop (n + 1) rows))
+row_counted q n p cid rows at =
+    let more : suc n ≡ n + 1 = omega arith in
+    one_more q n p cid rows at ∙ ap (λ (k : ℕ). if p == q then rows_on q (drop k rows) + 1 else rows_on q (drop k rows)) more
+
+-- no row is left
+pub none_counted : (q : ℕ) (rows : List (Row Kept)) → first_place rows ≡ None → rows_on q rows ≡ 0
+none_counted q [] none = refl
+none_counted q (row ∷ rows) none = absurd (none-some _ (sym none))
+
+pub all_counted : (q n : ℕ) (rows : List (Row Kept)) → length rows ≤ n → rows_on q (drop n rows) ≡ 0
+all_counted q zero [] past = refl
+all_counted q (suc n) [] past = refl
+all_counted q zero (row ∷ rows) past = absurd (omega arith)
+all_counted q (suc n) (row ∷ rows) past = all_counted q n rows (omega arith)

@@ -1,46 +1,127 @@
--- A queue is granted a half: the tables behind it, and the machine that they stand for.
-use Rattle.std.proofs.Common.{◌≡◌, ℕ, zero, suc, ◌+◌, ◌-◌, ◌<◌, ◌≤◌, ◌==◌, Bool, true, false, ◌||◌, Option, Some, None, IsSome, List, [], ◌∷◌, length, replicate, slice_get, slice_set, is_some, refl, ap, ap₂, sym, ◌∙◌, arith, subst, eqb-true, eq-eqb, if◌then◌else◌}
-use Rattle.std.specs.List.{AllByRecursion}
-use Rattle.std.proofs.lemmas.Bool.{true≢false, eqb-false}
-use Rattle.std.proofs.lemmas.List.{length-replicate}
-use Rattle.std.proofs.lemmas.Option.{slice_get_within}
+-- Halves of queues that are made.
+use Rattle.machine_model.specs.Events as events
+use Rattle.machine_model.specs.declared.words.Refusal.TheVariants as refusal
 use Rattle.machine_model.specs.After as a
-use Rattle.machine_model.specs.After.{change}
-use Rattle.machine_model.specs.Memory.{is_in, with_pages, zeroed_pages}
-use Rattle.machine_model.specs.Placement.{is_run}
-use Rattle.machine_model.specs.Refusals.{has_sq, run_for}
-use Rattle.machine_model.specs.State.{HostQueue, Record, State}
-use Rattle.machine_model.specs.declared.words.HostState.{HostState}
-use Rattle.machine_model.specs.declared.words.HostState.TheVariants.{Gone, HalfMade, MakingCq, MakingSq}
-use Rattle.machine_model.proofs.Counting.{one, held_once}
-use Rattle.machine_model.proofs.Lists.{find_sound}
-use Rattle.machine_model.proofs.Parts.{length-with_pages}
-use Rattle.machine_model.proofs.Runs.{all_among}
-use Rattle.page_ledger.specs.Owners.{free_pages, is_among, owner_at, pages_from, with_owner}
-use Rattle.page_ledger.specs.declared.owner.Owner.{Owner}
 use Rattle.page_ledger.specs.declared.owner.Owner.TheVariants as owner
-use Rattle.page_ledger.specs.declared.owner.Role.TheVariants.{Data, Chain}
-use Rattle.page_ledger.specs.Runs.{lowest_run}
-use Rattle.page_ledger.proofs.FreeRuns.{lowest_run-within}
-use Rattle.page_ledger.proofs.Tables.{free-others, length-with_owner, owner-with}
-use Rattle.page_memory.specs.Pages.{Pages, page_at, zero_page}
-use Rattle.page_memory.specs.declared.page.Half.{Half}
-use Rattle.page_memory.proofs.Whole.{length-zero_page}
-use Rattle.page_memory.specs.declared.page.Half.TheVariants.{Submission, Completion}
-use Rattle.queue_pair.specs.Memory.{half_pages}
-use Rattle.queue_pair.specs.Rings.{IsHostSide, fresh_host_ring, none_claimed}
-use Rattle.host_core.specs.Commands.{CanZero}
-use Rattle.host_core.specs.Sending.{granted, half_from, making}
-use Rattle.host_core.specs.Tables.{Tables, cq_pages_of, host_queue_of, sq_pages_of, state_of}
+use Rattle.std.proofs.Common.{◌≡◌, ℕ, zero, suc, ◌+◌, ◌<◌, Bool, true, false, Option, Some, None, List, [], ◌∷◌, length, take, filter, find, refl, ap, sym, ◌∙◌, arith, lt-ltb, if◌then◌else◌, ◌==◌, ◌||◌, nat_lt, cond, map, slice_get, ◌-◌, ◌≤◌, IsSome, replicate, slice_set, is_some, ap₂, subst, eqb-true, eq-eqb}
+use Rattle.std.proofs.lemmas.{Bool.{true≢false, and_parts, eqb-false}, List.length-replicate, Option.{slice_get_within, slice_get-map}}
+use Rattle.std.specs.{List.{list_all, range_with_len, list_any, AllByRecursion}, Option.{option_map_or, option_map}}
+use Rattle.io_commands.{proofs.Fewest.same_anywhere, specs.{Asked.Request, Least.{least_pages, pages_with}, Requests.{data_count, joined_parts}, Values.IsGood}}
+use Rattle.machine_model.proofs.{Counting.{one, times-filter, times-pages, held_once, not_held, find_sound, all_among}, Steps.length-with_pages}
+use Rattle.machine_model.specs.{After.change, Memory.{is_in, with_pages, zeroed_pages}, Placement.{is_run, first_of_run, placed, chain_wanted}}
+use Rattle.machine_model.specs.{Refusals.{refusal_of, has_sq, run_for}, State.{Record, HostQueue, State}, Step.{times, Refuses}}
+use Rattle.machine_model.specs.declared.words.HostState.{HostState, TheVariants.{Gone, HalfMade, MakingCq, MakingSq}}
+use Rattle.page_ledger.proofs.{Pages.lowest_run-within, Tables.{free-others, length-with_owner, owner-with}}
+use Rattle.page_ledger.specs.{Owners.{is_among, is_free, is_owned_at, owner_at, free_pages, pages_from, with_owner}, Runs.{is_free_run, lowest_run}}
+use Rattle.page_ledger.specs.declared.owner.{Owner.{Owner, TheVariants.Free}, Role.TheVariants.{Data, Chain}}
+use Rattle.host_core.proofs.{Lists.{some_is, all-all}, PageOwners.{free-owner, free-in, pool-with, set-other, set-there}}
+use Rattle.host_core.{proofs.QueueLists.{each-change, map-change, Settled, settled-of, length-change}, specs.{Commands.{state_at, CanZero}, Rows.Queue}}
+use Rattle.host_core.specs.{Sending.{named_causes, granted, half_from, making}, Tables.{Tables, state_of, host_queue_of, cq_pages_of, sq_pages_of}}
 use Rattle.host_core.specs.Whole.{ClaimsIdentifiers, HaveOwner, IsQueue, IsRecord, IsWhole, TellsCommand, TellsQueue, is_outstanding}
-use Rattle.host_core.specs.Rows.{Queue}
-use Rattle.host_core.proofs.Lists.{all-all, some_is}
-use Rattle.host_core.proofs.Owners.{free-owner}
-use Rattle.host_core.proofs.Pages.{free-in, pool-with, set-other, set-there}
-use Rattle.host_core.proofs.Placing.{same-run}
-use Rattle.host_core.proofs.QueueLists.{each-change, map-change}
-use Rattle.host_core.proofs.Settled.{Settled, settled-of}
-use Rattle.host_core.proofs.Steps.{length-change}
+use Rattle.admin_commands.specs.declared.AdminKind.TheVariants.{CreateCq}
+use Rattle.controller_walk.specs.Units.{first_passing}
+use Rattle.page_memory.{proofs.Bytes.length-zero_page, specs.{Pages.{Pages, page_at, zero_page}, declared.page.Half.Half}}
+use Rattle.page_memory.specs.declared.page.Half.TheVariants.{Submission, Completion}
+use Rattle.queue_pair.specs.{Memory.half_pages, Rings.{IsHostSide, fresh_host_ring, none_claimed}}
+
+-- Placed pages by their owners: the lowest run of free pages is the one that a ledger finds.
+
+owned-free : (owners : List Owner) (p : ℕ) → owner_at owners p ≡ Some Free → is_owned_at is_free owners p ≡ true
+owned-free owners p at = ap (λ (o : Option Owner). option_map_or is_free o false) at
+
+owned-within : (owners : List Owner) (p : ℕ) → is_owned_at is_free owners p ≡ true → p < length owners
+owned-within owners p h = go (owner_at owners p) refl h
+  where
+    go : (o : Option Owner) → owner_at owners p ≡ o → option_map_or is_free o false ≡ true → p < length owners
+    go None at h = absurd (true≢false (sym h))
+    go (Some x) at h = slice_get_within owners p x at
+
+among-free : (owners : List Owner) (p : ℕ) → is_among (free_pages owners) p ≡ is_owned_at is_free owners p
+among-free owners p = go (is_among (free_pages owners) p) refl (is_owned_at is_free owners p) refl
+  where
+    count : times p (free_pages owners) ≡ (if is_owned_at is_free owners p then times p (pages_from 0 (length owners)) else 0)
+    count = times-filter p (is_owned_at is_free owners) (pages_from 0 (length owners))
+
+    go : (b : Bool) → is_among (free_pages owners) p ≡ b → (c : Bool) → is_owned_at is_free owners p ≡ c → b ≡ c
+    go true e true f = refl
+    go false e false f = refl
+    go true e false f = absurd (true≢false (sym (owned-free owners p (free-owner owners p (held_once p (free_pages owners) e))) ∙ f))
+    go false e true f =
+        let all : times p (free_pages owners) ≡ times p (pages_from 0 (length owners)) = rw f at count in
+        absurd (omega (arith, not_held p (free_pages owners) e, all, times-pages p (length owners), ap one (lt-ltb p (length owners) (owned-within owners p f))))
+
+all-among : (owners : List Owner) (pages : List ℕ) → list_all (is_among (free_pages owners)) pages ≡ list_all (is_owned_at is_free owners) pages
+all-among owners [] = refl
+all-among owners (p ∷ pages) = rw (among-free owners p, all-among owners pages) refl
+
+find-alike : (f g : ℕ → Bool) → ((p : ℕ) → f p ≡ g p) → (pages : List ℕ) → find f pages ≡ find g pages
+find-alike f g same [] = refl
+find-alike f g same (p ∷ pages) = rw (same p, find-alike f g same pages) refl
+
+-- a search for what a filter keeps finds the same in the filtered list
+find-kept : (f g : ℕ → Bool) → ((p : ℕ) → f p ≡ true → g p ≡ true) → (pages : List ℕ) → find f (filter g pages) ≡ find f pages
+find-kept f g keeps [] = refl
+find-kept f g keeps (p ∷ pages) = go (g p) refl (f p) refl (find-kept f g keeps pages)
+  where
+    go : (b : Bool) → g p ≡ b → (c : Bool) → f p ≡ c → find f (filter g pages) ≡ find f pages → find f (if b then p ∷ filter g pages else filter g pages) ≡ (if c then Some p else find f pages)
+    go true e true h ih = rw h refl
+    go true e false h ih = rw h ih
+    go false e true h ih = absurd (true≢false (sym (keeps p h) ∙ e))
+    go false e false h ih = ih
+
+run-begins : (k : ℕ) (owners : List Owner) (p : ℕ) → 0 < k → is_free_run k owners p ≡ true → is_owned_at is_free owners p ≡ true
+run-begins zero owners p some h = absurd (omega (arith, some))
+run-begins (suc k) owners p some h = (and_parts (is_owned_at is_free owners p) (list_all (is_owned_at is_free owners) (pages_from (p + 1) k)) h).0
+
+pub same-run : (owners : List Owner) (k : ℕ) → 0 < k → first_of_run (free_pages owners) k ≡ lowest_run k owners
+same-run owners k some =
+    find-alike (is_run (free_pages owners) k) (is_free_run k owners) (λ p. all-among owners (pages_from p k)) (free_pages owners)
+    ∙ find-kept (is_free_run k owners) (is_owned_at is_free owners) (λ p h. run-begins k owners p some h) (pages_from 0 (length owners))
+
+pub placed-run : (owners : List Owner) (k first : ℕ) → 0 < k → Some first ≡ lowest_run k owners → placed (free_pages owners) k ≡ pages_from first k
+placed-run owners k first some is = ap (λ (o : Option ℕ). option_map_or (λ first. pages_from first k) o (take k (free_pages owners))) (same-run owners k some ∙ sym is)
+
+pub placed-lowest : (owners : List Owner) (k : ℕ) → 0 < k → None ≡ lowest_run k owners → placed (free_pages owners) k ≡ take k (free_pages owners)
+placed-lowest owners k some is = ap (λ (o : Option ℕ). option_map_or (λ first. pages_from first k) o (take k (free_pages owners))) (same-run owners k some ∙ sym is)
+
+-- Consecutive pages by either spelling
+pub same-pages : (first k : ℕ) → pages_from first k ≡ range_with_len first k
+same-pages first zero = refl
+same-pages first (suc k) = ap (λ (ps : List ℕ). first ∷ ps) (same-pages (first + 1) k)
+
+-- where the data is placed in consecutive pages, a request wants the fewest that it can take
+pub least-in-run : (free : List ℕ) (segment first : ℕ) (request : Request) → IsGood request → placed free (data_count request.pieces) ≡ pages_from first (data_count request.pieces)
+    → data_count request.pieces + chain_wanted free segment request.pieces ≡ least_pages request.pieces segment
+least-in-run free segment first request good is =
+    ap (λ (ps : List ℕ). pages_with request.pieces segment (joined_parts request.pieces ps)) (is ∙ same-pages first (data_count request.pieces))
+    ∙ same_anywhere request segment first good
+
+-- What is against the creation of a completion queue.
+
+pub any-count : (q : ℕ) (rs : List Record) → nat_lt 0 (length (map (λ (r : Record). r.cid) (filter (λ (r : Record). r.q == q) rs))) ≡ list_any (λ (r : Record). r.q == q) rs
+any-count q [] = refl
+any-count q (x ∷ rs) = go (x.q == q) (any-count q rs)
+  where
+    go : (b : Bool) → nat_lt 0 (length (map (λ (r : Record). r.cid) (filter (λ (r : Record). r.q == q) rs))) ≡ list_any (λ (r : Record). r.q == q) rs
+        → nat_lt 0 (length (map (λ (r : Record). r.cid) (cond b (x ∷ filter (λ (r : Record). r.q == q) rs) (filter (λ (r : Record). r.q == q) rs)))) ≡ (b || list_any (λ (r : Record). r.q == q) rs)
+    go true ih = lt-ltb 0 _ (omega arith)
+    go false ih = ih
+
+pub create_cq-free : (t : Tables) (q : ℕ) → (q == 0) ≡ false → state_at t.queues q ≡ Some Gone → list_any (λ (r : Record). r.q == q) t.records ≡ false → first_passing (named_causes (state_of t) (CreateCq q 0 0)) ≡ None
+create_cq-free t q zeroth gone free = go (slice_get t.queues q) refl gone
+  where
+    go : (o : Option Queue) → slice_get t.queues q ≡ o → option_map (λ (queue : Queue). queue.state) o ≡ Some Gone → first_passing (named_causes (state_of t) (CreateCq q 0 0)) ≡ None
+    go None at h = cc
+    go (Some x) at h = rw (zeroth, slice_get-map host_queue_of t.queues q, at, some_is h, any-count q t.records, free) refl
+
+pub create_cq-busy : (t : Tables) (q : ℕ) → (q == 0) ≡ false → state_at t.queues q ≡ Some Gone → list_any (λ (r : Record). r.q == q) t.records ≡ true → Refuses (state_of t) (events.CreateCq q) refusal.Outstanding []
+create_cq-busy t q zeroth gone busy = (go (slice_get t.queues q) refl gone, refl)
+  where
+    go : (o : Option Queue) → slice_get t.queues q ≡ o → option_map (λ (queue : Queue). queue.state) o ≡ Some Gone → refusal_of (state_of t) (events.CreateCq q) ≡ Some refusal.Outstanding
+    go None at h = cc
+    go (Some x) at h = rw (zeroth, slice_get-map host_queue_of t.queues q, at, some_is h, any-count q t.records, busy) refl
+
+-- A queue is granted a half: the tables behind it, and the machine that they stand for.
 
 -- The queue that gets a half: it is in the state for it, is not queue 0, and has no command.
 

@@ -1,14 +1,18 @@
--- The rows of the table of records, as records.
-use Rattle.std.proofs.Common.{is_some, ◌≡◌, ℕ, ◌==◌, Bool, true, false, not, cond, Option, Some, None, IfSome, List, [], ◌∷◌, ◌++◌, find, if◌then◌else◌, refl, ap, ap₂, sym, ◌∙◌, subst, eqb-true, option_map}
-use Rattle.std.proofs.lemmas.Bool.{and_parts}
-use Rattle.std.proofs.lemmas.List.{map-append}
+-- Records, and what a change of one leaves.
+use Rattle.slot_table.specs.Rows as table
+use Rattle.page_ledger.specs.declared.owner.Owner.TheVariants as owner
+use Rattle.std.proofs.Common.{is_some, ◌≡◌, ℕ, ◌==◌, Bool, true, false, not, cond, Option, Some, None, IfSome, List, [], ◌∷◌, ◌++◌, find, if◌then◌else◌, refl, ap, ap₂, sym, ◌∙◌, subst, eqb-true, option_map, ◌+◌, ◌-◌, ◌≤◌, nat_lt, ◌&&◌, filter, map, arith, lt-ltb, inl, inr, length, slice_get}
+use Rattle.std.{proofs.lemmas.{Bool.{and_parts, true≢false, Decides.nat_tests}, List.map-append}, specs.List.AllByRecursion}
+use Rattle.machine_model.{proofs.{Owned.{lost_by, lost_keeps}, Sound.changed}, specs.After.{is_of_io, lost, lost_anywhere, change}}
 use Rattle.machine_model.specs.State.{Record, is_at, with_record, without_record}
-use Rattle.slot_table.specs.Table.{Row, TableOf, value_at, without, with_value, NoneAt, IsDistinct}
-use Rattle.slot_table.specs.Table as table
-use Rattle.host_core.specs.Parts.{record_of, records_of, tables_of, Becomes}
-use Rattle.host_core.specs.declared.parts.Parts.{Parts}
-use Rattle.host_core.specs.Rows.{Kept}
-use Rattle.host_core.proofs.Lists.{some_is, none_is_not}
+use Rattle.slot_table.specs.{Rows.{Row, value_at, without, with_value, NoneAt, IsDistinct}, Table.TableOf}
+use Rattle.host_core.{proofs.Lists.{some_is, none_is_not, all-filter, all-map, any-map, changed_at, Changed}, specs.Commands.claims_changed}
+use Rattle.host_core.specs.{Parts.{record_of, records_of, tables_of, Becomes}, Resetting.{HasPlaces, IsPlaced}, Rows.{Kept, Queue}, Tables.Tables}
+use Rattle.host_core.specs.{Whole.{ClaimIdentifiers, IsRecord, TellsCommand, is_outstanding, IsQueue, TellsQueue}, declared.parts.Parts.Parts}
+use Rattle.page_ledger.specs.{Owners.owner_at, declared.owner.Owner.Owner}
+use Rattle.page_memory.specs.{Pages.{Pages, page_at}, declared.page.Half.Half}
+
+-- The rows of the table of records, as records.
 
 -- the row of a place
 named : (row : Row Kept) (q cid : ℕ) → table.is_at row q cid ≡ true → record_of row.q row.cid row.value ≡ record_of q cid row.value
@@ -105,9 +109,6 @@ taken-row rows q cid None at distinct =
     ap records_of (without-none rows q cid none) ∙ sym (none-without rows q cid none)
 taken-row rows q cid (Some value) at distinct = without-row rows q cid distinct
 
-pub one-more : (rows : List (Row Kept)) (q cid : ℕ) (value : Kept) → records_of (rows ++ record { q = q; cid = cid; value = value } ∷ []) ≡ records_of rows ++ record_of q cid value ∷ []
-one-more rows q cid value = map-append (λ row. record_of row.q row.cid row.value) rows (record { q = q; cid = cid; value = value } ∷ [])
-
 -- so are those of the host's parts
 
 pub changed-rows : {A : Type 0} (parts : Parts A) (rows : List (Row Kept)) (f : List Record → List Record) → records_of rows ≡ f (records_of parts.records.rows)
@@ -120,3 +121,234 @@ pub taken-becomes : {A : Type 0} (parts : Parts A) (q cid : ℕ) (o : Option Kep
 taken-becomes parts q cid o left at distinct is = λ pages.
     ap (λ (table : TableOf Kept). tables_of (record parts { records = table }) pages) is
     ∙ changed-rows parts (without parts.records.rows q cid) (without_record q cid) (taken-row parts.records.rows q cid o at distinct) pages
+
+-- The records at a reset: the admin commands are forgotten, and the I/O commands lost queue by queue.
+
+-- The admin commands, one identifier after the other
+
+-- whether a record is kept once the identifiers of queue 0 below this one are forgotten
+abbrev pub is_kept : ℕ → Record → Bool
+is_kept n r = not ((r.q == 0) && nat_lt r.cid n)
+
+abbrev is_io : Record → Bool
+is_io r = is_of_io r.work
+
+pub none-forgotten : (rs : List Record) → rs ≡ filter (is_kept 0) rs
+none-forgotten [] = refl
+none-forgotten (r ∷ rs) = rw kept (ap (λ (xs : List Record). r ∷ xs) (none-forgotten rs))
+  where
+    no : (b : Bool) → not (b && false) ≡ true
+    no true = refl
+    no false = refl
+
+    kept : is_kept 0 r ≡ true
+    kept = let above : nat_lt r.cid 0 ≡ false = grind (arith, nat_tests) in ap (λ b. not ((r.q == 0) && b)) above ∙ no (r.q == 0)
+
+-- the next identifier
+next-kept : (n : ℕ) (r : Record) → (is_kept n r && not (is_at 0 n r)) ≡ is_kept (n + 1) r
+next-kept n r = go (r.q == 0) (nat_lt r.cid n) (r.cid == n) refl refl
+  where
+    below : nat_lt r.cid n ≡ true → nat_lt r.cid (n + 1) ≡ true
+    below e = grind (arith, nat_tests)
+
+    here : (r.cid == n) ≡ true → nat_lt r.cid (n + 1) ≡ true
+    here e = grind (arith, nat_tests)
+
+    above : nat_lt r.cid n ≡ false → (r.cid == n) ≡ false → nat_lt r.cid (n + 1) ≡ false
+    above e f = grind (arith, nat_tests)
+
+    go : (a b c : Bool) → nat_lt r.cid n ≡ b → (r.cid == n) ≡ c → (not (a && b) && not (a && c)) ≡ not (a && nat_lt r.cid (n + 1))
+    go false b c e f = refl
+    go true true c e f = ap (λ x. not x) (sym (below e))
+    go true false true e f = ap (λ x. not x) (sym (here f))
+    go true false false e f = ap (λ x. not x) (sym (above e f))
+
+pub one-forgotten : (n : ℕ) (rs : List Record) → without_record 0 n (filter (is_kept n) rs) ≡ filter (is_kept (n + 1)) rs
+one-forgotten n [] = refl
+one-forgotten n (r ∷ rs) = go (is_kept n r) (next-kept n r) (one-forgotten n rs)
+  where
+    go : (b : Bool) → (b && not (is_at 0 n r)) ≡ is_kept (n + 1) r → without_record 0 n (filter (is_kept n) rs) ≡ filter (is_kept (n + 1)) rs
+        → without_record 0 n (cond b (r ∷ filter (is_kept n) rs) (filter (is_kept n) rs)) ≡ cond (is_kept (n + 1) r) (r ∷ filter (is_kept (n + 1)) rs) (filter (is_kept (n + 1)) rs)
+    go true e ih = ap₂ (λ (c : Bool) (xs : List Record). cond c (r ∷ xs) xs) e ih
+    go false e ih = ap₂ (λ (c : Bool) (xs : List Record). cond c (r ∷ xs) xs) e ih
+
+-- each identifier lies below the last
+pub all-forgotten : (entries queues n : ℕ) (rs : List Record) → AllByRecursion (IsPlaced entries queues) rs → entries - 1 ≤ n → filter (is_kept n) rs ≡ filter is_io rs
+all-forgotten entries queues n [] all size = refl
+all-forgotten entries queues n (r ∷ rs) all size = ap₂ (λ (c : Bool) (xs : List Record). cond c (r ∷ xs) xs) kept (all-forgotten entries queues n rs all.1 size)
+  where
+    alone : (b : Bool) → not (b && true) ≡ not b
+    alone true = refl
+    alone false = refl
+
+    kept : is_kept n r ≡ is_io r
+    kept =
+        let below : nat_lt r.cid n ≡ true = lt-ltb r.cid n (omega (arith, all.0.identifier, size)) in
+        ap (λ b. not ((r.q == 0) && b)) below ∙ (alone (r.q == 0) ∙ sym all.0.work)
+
+-- The I/O commands, one queue after the other
+
+-- a record, lost if its queue is below this one
+abbrev pub lost_in : ℕ → Record → Record
+lost_in q r = if nat_lt r.q q then lost_anywhere r else r
+
+-- what is lost keeps its queue
+same-queue : (r : Record) → (lost_anywhere r).q ≡ r.q
+same-queue r = lost_keeps.q r
+
+-- those that are left are of I/O queues
+pub none-lost : (entries queues : ℕ) (rs : List Record) → AllByRecursion (IsPlaced entries queues) rs → filter is_io rs ≡ map (lost_in 1) (filter is_io rs)
+none-lost entries queues [] all = refl
+none-lost entries queues (r ∷ rs) all = go (is_io r) refl (none-lost entries queues rs all.1)
+  where
+    stays : (b : Bool) → (r.q == 0) ≡ b → not b ≡ true → r ≡ lost_in 1 r
+    stays true e h = absurd (true≢false (sym h))
+    stays false e h = let above : nat_lt r.q 1 ≡ false = grind (arith, nat_tests) in rw above refl
+
+    go : (b : Bool) → is_io r ≡ b → filter is_io rs ≡ map (lost_in 1) (filter is_io rs) → cond b (r ∷ filter is_io rs) (filter is_io rs) ≡ map (lost_in 1) (cond b (r ∷ filter is_io rs) (filter is_io rs))
+    go true e ih = ap₂ (λ (x : Record) (xs : List Record). x ∷ xs) (stays (r.q == 0) refl (sym all.0.work ∙ e)) ih
+    go false e ih = ih
+
+next-lost : (q : ℕ) (r : Record) → lost q (lost_in q r) ≡ lost_in (q + 1) r
+next-lost q r = go (nat_lt r.q q) (r.q == q) refl refl
+  where
+    below : nat_lt r.q q ≡ true → nat_lt r.q (q + 1) ≡ true
+    below e = grind (arith, nat_tests)
+
+    apart : nat_lt r.q q ≡ true → (r.q == q) ≡ false
+    apart e = grind (arith, nat_tests)
+
+    here : (r.q == q) ≡ true → nat_lt r.q (q + 1) ≡ true
+    here e = grind (arith, nat_tests)
+
+    above : nat_lt r.q q ≡ false → (r.q == q) ≡ false → nat_lt r.q (q + 1) ≡ false
+    above e f = grind (arith, nat_tests)
+
+    others : (x : Record) → (x.q == q) ≡ false → lost q x ≡ x
+    others x h = rw h refl
+
+    go : (a b : Bool) → nat_lt r.q q ≡ a → (r.q == q) ≡ b → lost q (if a then lost_anywhere r else r) ≡ lost_in (q + 1) r
+    go true b e f = rw (below e) (others (lost_anywhere r) (ap (λ (k : ℕ). k == q) (same-queue r) ∙ apart e))
+    go false true e f = rw (here f, f) refl
+    go false false e f = rw (above e f) (others r f)
+
+pub one-queue_lost : (q : ℕ) (rs : List Record) → map (lost q) (map (lost_in q) rs) ≡ map (lost_in (q + 1)) rs
+one-queue_lost q [] = refl
+one-queue_lost q (r ∷ rs) = ap₂ (λ (x : Record) (xs : List Record). x ∷ xs) (next-lost q r) (one-queue_lost q rs)
+
+-- each queue lies below the last
+pub all-queues_lost : (entries queues q : ℕ) (rs : List Record) → AllByRecursion (IsPlaced entries queues) rs → queues ≤ q → map (lost_in q) rs ≡ map lost_anywhere rs
+all-queues_lost entries queues q [] all size = refl
+all-queues_lost entries queues q (r ∷ rs) all size = ap₂ (λ (x : Record) (xs : List Record). x ∷ xs) lost-here (all-queues_lost entries queues q rs all.1 size)
+  where
+    lost-here : lost_in q r ≡ lost_anywhere r
+    lost-here = let below : nat_lt r.q q ≡ true = lt-ltb r.q q (omega (arith, all.0.queue, size)) in ap (λ b. if b then lost_anywhere r else r) below
+
+-- Each command stays in its place.
+
+abbrev pub with_records : Tables → List Record → Tables
+with_records t rs = record t { records = rs }
+
+place-kept : (entries queues q : ℕ) (r : Record) → IsPlaced entries queues r → IsPlaced entries queues (lost_in q r)
+place-kept entries queues q r h = go (nat_lt r.q q)
+  where
+    go : (b : Bool) → IsPlaced entries queues (if b then lost_anywhere r else r)
+    go true = lost_by (IsPlaced entries queues) r (λ e. h) (λ e. record { queue = h.queue; identifier = h.identifier; work = h.work })
+    go false = h
+
+pub io_placed : (entries queues : ℕ) (rs : List Record) → AllByRecursion (IsPlaced entries queues) rs → AllByRecursion (IsPlaced entries queues) (filter is_io rs)
+io_placed entries queues rs all = all-filter (IsPlaced entries queues) is_io rs all
+
+pub places-lost : (t : Tables) → HasPlaces t → (q : ℕ) → HasPlaces (with_records t (map (lost_in q) (filter is_io t.records)))
+places-lost t h q =
+    record {
+      some_entries = h.some_entries;
+      few_queues = h.few_queues;
+      commands = all-map (IsPlaced t.entries _) (lost_in q) (λ r p. place-kept t.entries _ q r p) (filter is_io t.records) (all-filter (IsPlaced t.entries _) is_io t.records h.commands);
+    }
+
+-- A record that is marked: what holds of the records holds as before.
+
+-- a mark changes a phase or a status alone
+pub record Marks (f : Record → Record) : Type 0 where
+  pub at : (q cid : ℕ) (r : Record) → is_at q cid (f r) ≡ is_at q cid r
+  pub tells : (owners : List Owner) (r : Record) → TellsCommand owners r → TellsCommand owners (f r)
+
+marked-at : (f : Record → Record) → Marks f → (q cid p i : ℕ) (r : Record) → is_at p i (changed q cid f r) ≡ is_at p i r
+marked-at f marks q cid p i r = go (is_at q cid r)
+  where
+    go : (b : Bool) → is_at p i (if b then f r else r) ≡ is_at p i r
+    go true = marks.at p i r
+    go false = refl
+
+pub marked-outstanding : (f : Record → Record) → Marks f → (records : List Record) (q cid p i : ℕ) → is_outstanding (with_record q cid f records) p i ≡ is_outstanding records p i
+marked-outstanding f marks records q cid p i = any-map (is_at p i) (changed q cid f) (marked-at f marks q cid p i) records
+
+pub marked-tells : (f : Record → Record) → Marks f → (owners : List Owner) (records : List Record) (q cid : ℕ) → AllByRecursion (TellsCommand owners) records → AllByRecursion (TellsCommand owners) (with_record q cid f records)
+marked-tells f marks owners records q cid all = all-map (TellsCommand owners) (changed q cid f) each records all
+  where
+    each : (r : Record) → TellsCommand owners r → TellsCommand owners (changed q cid f r)
+    each r h = go (is_at q cid r)
+      where
+        go : (b : Bool) → TellsCommand owners (if b then f r else r)
+        go true = marks.tells owners r h
+        go false = h
+
+-- where what is changed still is one that fits
+pub marked-records : (f : Record → Record) (n : ℕ) (records : List Record) (q cid : ℕ) → ((r : Record) → is_at q cid r ≡ true → IsRecord n r → IsRecord n (f r)) → AllByRecursion (IsRecord n) records
+    → AllByRecursion (IsRecord n) (with_record q cid f records)
+marked-records f n records q cid fits all = all-map (IsRecord n) (changed q cid f) each records all
+  where
+    each : (r : Record) → IsRecord n r → IsRecord n (changed q cid f r)
+    each r h = go (is_at q cid r) refl
+      where
+        go : (b : Bool) → is_at q cid r ≡ b → IsRecord n (if b then f r else r)
+        go true at = fits r at h
+        go false at = h
+
+pub marked-claims : (f : Record → Record) → Marks f → (records : List Record) (queues : List Queue) (q cid : ℕ) → ClaimIdentifiers records queues → ClaimIdentifiers (with_record q cid f records) queues
+marked-claims f marks records queues q cid claims =
+    record {
+      each = λ p queue e. let old = claims.each p queue e in
+          record {
+            told = λ i l. old.told i l ∙ ap (λ (b : Bool). Some b) (sym (marked-outstanding f marks records q cid p i));
+            inside = λ i h. old.inside i (sym (marked-outstanding f marks records q cid p i) ∙ h);
+          };
+    }
+
+-- Calls that leave the queues' halves alone, and calls that change the claims of a queue alone.
+
+-- The pages of the queues' halves are the same in another pool.
+pub record Spares (t : Tables) (pages : Pages) : Type 0 where
+  pub same : (q : ℕ) (half : Half) (p : ℕ) → owner_at t.owners p ≡ Some (owner.Queue q half) → page_at pages p ≡ page_at t.pages p
+
+-- Other claimed identifiers change nothing else of a queue.
+
+pub claims_keep_queue : (f : List Bool → List Bool) → ((bits : List Bool) → length (f bits) ≡ length bits) → (n q : ℕ) (queue : Queue) → IsQueue n q queue → IsQueue n q (claims_changed f queue)
+claims_keep_queue f size n q queue is =
+    record {
+      number = is.number;
+      entries = is.entries;
+      host_side = record {
+        least = is.host_side.least;
+        most = is.host_side.most;
+        head = is.host_side.head;
+        known_head = is.host_side.known_head;
+        tail = is.host_side.tail;
+        identifiers = ap (λ (k : ℕ). k + 1) (size queue.host.claimed) ∙ is.host_side.identifiers;
+      };
+    }
+
+pub claims_keep_tells : (f : List Bool → List Bool) (owners : List Owner) (q : ℕ) (queue : Queue) → TellsQueue owners q queue → TellsQueue owners q (claims_changed f queue)
+claims_keep_tells f owners q queue tells = record { submission = tells.submission; completion = tells.completion }
+
+-- what holds of each queue holds of each after one got other claims
+pub each_claimed : (P : ℕ → Queue → Type 0) (f : List Bool → List Bool) → ((q : ℕ) (queue : Queue) → P q queue → P q (claims_changed f queue)) → (k : ℕ) (queues : List Queue)
+    → ((q : ℕ) (queue : Queue) → slice_get queues q ≡ Some queue → P q queue) → (q : ℕ) (queue : Queue) → slice_get (change k (claims_changed f) queues) q ≡ Some queue → P q queue
+each_claimed P f keeps k queues each q queue e = go (changed_at k (claims_changed f) queues q queue e)
+  where
+    go : Changed Queue k (claims_changed f) queues q queue → P q queue
+    go c = elim c.is [
+      | inl h ↦ subst (λ (x : Queue). P q x) (sym h.1) (keeps q c.was (each q c.was c.at))
+      | inr h ↦ subst (λ (x : Queue). P q x) (sym h.1) (each q c.was c.at)
+    ]

@@ -1,48 +1,26 @@
--- An admin command that is sent on the tables is the machine's, and leaves them whole.
-use Rattle.std.proofs.Common.{◌≡◌, ℕ, IsSome, ◌+◌, ◌<◌, ◌≤◌, ◌/◌, ◌%◌, ◌==◌, ◌++◌, ◌∷◌, [], Bool, true, false, Option, Some, None, List, length, slice_get, slice_set, refl, ap, sym, ◌∙◌, subst, arith, length-set, not}
-use Rattle.std.specs.List.{AllByRecursion}
-use Rattle.std.specs.Option.{option_map, option_map_or}
-use Rattle.std.proofs.lemmas.Bool.{or_parts, not-false}
-use Rattle.std.proofs.lemmas.Option.{slice_get-map}
-use Rattle.admin_commands.specs.Entries.{admin_entry}
-use Rattle.admin_commands.specs.declared.AdminKind.{AdminKind}
-use Rattle.admin_commands.specs.declared.AdminKind.TheVariants.{Abort, DeleteSq, DeleteCq, CreateCq, CreateSq}
-use Rattle.entry_codec.specs.Submission.{submission_bytes, FitsSubmission}
-use Rattle.entry_codec.specs.declared.submission.SubEntry.{SubEntry}
+-- Admin commands that are sent.
 use Rattle.machine_model.specs.After as a
-use Rattle.machine_model.specs.After.{change}
 use Rattle.machine_model.specs.Events as events
-use Rattle.machine_model.specs.Proper.{IsProper}
-use Rattle.machine_model.specs.Refusals.{in_state, is_deleting, no_identifier, no_io_queue, queue_full, refusal_of, has_sq, in_service}
-use Rattle.machine_model.specs.State.{HostQueue, State}
-use Rattle.machine_model.specs.Step.{Answers, IsController, IsNewIdentifier, Refuses, Step}
-use Rattle.machine_model.specs.declared.words.Refusal.{Refusal}
-use Rattle.machine_model.specs.declared.words.HostState.TheVariants.{Deleting}
 use Rattle.machine_model.specs.declared.words.Refusal.TheVariants as refusal
-use Rattle.machine_model.proofs.Refused.{first_fails}
-use Rattle.page_memory.specs.Pages.{page_at}
-use Rattle.page_memory.specs.declared.page.Half.TheVariants.{Submission}
-use Rattle.queue_pair.specs.Memory.{half_pages}
-use Rattle.queue_pair.proofs.Identifiers.{found_within}
-use Rattle.host_core.specs.Commands.{with_claim}
-use Rattle.host_core.specs.Exact.{Exactly}
-use Rattle.host_core.specs.Posting.{CanPost, posted, tail_place, with_tail_moved}
-use Rattle.host_core.specs.Sending.{CanSend, HasSlot, Sends, asked, grants_none, noted, record_of_admin, sending, sent}
-use Rattle.host_core.specs.Tables.{Tables, state_of, host_queue_of}
-use Rattle.host_core.specs.Whole.{ClaimsIdentifiers, IsQueue, IsRecord, IsWhole, TellsCommand, TellsQueue}
-use Rattle.host_core.specs.Rows.{Queue}
-use Rattle.host_core.proofs.AdminReaped.{state-set}
-use Rattle.host_core.proofs.Entries.{posted-exact, posted-queue, submission_length, tail-fits, tail-in}
-use Rattle.host_core.proofs.Slots.{pool-with_bytes}
-use Rattle.host_core.proofs.Granting.{next-fresh}
-use Rattle.host_core.proofs.Identifiers.{claim-more}
-use Rattle.host_core.proofs.Lists.{all-append, map-change, some_is}
-use Rattle.host_core.proofs.Submitting.{admin_live}
-use Rattle.host_core.proofs.QueueLists.{each-change, submission_page-in}
-use Rattle.host_core.proofs.Settled.{Settled, settled-of, settled-state, settled-with, whole-of}
-use Rattle.host_core.proofs.Spared.{claims_keep_queue, claims_keep_tells, each_claimed}
-use Rattle.host_core.proofs.Steps.{host_step, length-change, sound_after}
-use Rattle.machine_model.proofs.Halves.{live_has_sq, service_has_sq}
+use Rattle.std.proofs.Common.{◌≡◌, ℕ, IsSome, ◌+◌, ◌<◌, ◌≤◌, ◌/◌, ◌%◌, ◌==◌, ◌++◌, ◌∷◌, [], Bool, true, false, Option, Some, None, List, length, slice_get, slice_set, refl, ap, sym, ◌∙◌, subst, arith, length-set, not, position}
+use Rattle.std.{proofs.lemmas.{Bool.{or_parts, not-false}, Option.slice_get-map}, specs.{List.AllByRecursion, Option.{option_map, option_map_or}}}
+use Rattle.admin_commands.specs.{Entries.admin_entry, declared.AdminKind.{AdminKind, TheVariants.{Abort, DeleteSq, DeleteCq, CreateCq, CreateSq}}}
+use Rattle.entry_codec.specs.{Submission.{submission_bytes, FitsSubmission}, declared.submission.SubEntry.SubEntry}
+use Rattle.machine_model.{proofs.{Kept.{live_has_sq, service_has_sq}, Steps.first_fails}, specs.{After.change, Proper.IsProper}}
+use Rattle.machine_model.specs.Refusals.{in_state, is_deleting, no_identifier, no_io_queue, queue_full, refusal_of, has_sq, in_service}
+use Rattle.machine_model.specs.{State.{HostQueue, State}, Step.{Answers, IsController, IsNewIdentifier, Refuses, Step, touched_by_refusal}}
+use Rattle.machine_model.specs.declared.words.{HostState.TheVariants.Deleting, Refusal.Refusal}
+use Rattle.page_memory.specs.{Pages.page_at, declared.page.Half.TheVariants.Submission}
+use Rattle.queue_pair.{proofs.Halves.found_within, specs.Memory.half_pages}
+use Rattle.host_core.proofs.{Granting.{next-fresh, next-left, none-left}, Identifiers.claim-more, Lists.{all-append, map-change, some_is}}
+use Rattle.host_core.proofs.QueueLists.{posted-exact, posted-queue, submission_length, tail-fits, tail-in, pool-with_bytes, each-change, submission_page-in, Settled, settled-of, settled-state, settled-with, whole-of, host_step, length-change, sound_after}
+use Rattle.host_core.proofs.{Reaping.state-set, RowRecords.{claims_keep_queue, claims_keep_tells, each_claimed}, Submitted.{admin_live, full_is}}
+use Rattle.host_core.specs.{Commands.with_claim, Exact.Exactly, Posting.{CanPost, posted, tail_place, with_tail_moved, CanPostTo, Posts}, Rows.Queue}
+use Rattle.host_core.specs.Sending.{CanSend, HasSlot, Sends, asked, grants_none, noted, record_of_admin, sending, sent, named_causes}
+use Rattle.host_core.specs.{Tables.{Tables, state_of, host_queue_of}, Whole.{ClaimsIdentifiers, IsQueue, IsRecord, IsWhole, TellsCommand, TellsQueue}}
+use Rattle.controller_walk.specs.Units.{first_passing}
+
+-- An admin command that is sent on the tables is the machine's, and leaves them whole.
 
 -- The first of a list, and a change of it
 
@@ -275,3 +253,96 @@ send_made t new kind cid w can is sends = subst (λ (y : Tables). SendsTo t kind
 
 pub send-refused : (t : Tables) (kind : AdminKind) (why : Refusal) → Refuses (state_of t) (sending kind) why [] → Step (state_of t) (sending kind) (events.Refused why []) (state_of t)
 send-refused t kind why h = host_step t t (sending kind) (events.Refused why []) (is-hosts kind) (is-proper kind) (h, refl)
+
+-- A sending as it is made: what is found before it, and what is written.
+
+-- What is against it
+
+abbrev room_causes : State → List (Bool × Refusal)
+room_causes s = (no_identifier s 0, refusal.NoIdentifier) ∷ (queue_full s 0, refusal.QueueFull) ∷ []
+
+by-name : (s : State) (kind : AdminKind) → grants_none kind ≡ true → refusal_of s (sending kind) ≡ first_passing (named_causes s kind ++ room_causes s)
+by-name s (Abort q cid) plain = refl
+by-name s (DeleteSq q) plain = refl
+by-name s (DeleteCq q) plain = refl
+by-name s (CreateCq q n base) plain = cc
+by-name s (CreateSq q n base) plain = cc
+
+pub past : (xs ys : List (Bool × Refusal)) → first_passing xs ≡ None → first_passing (xs ++ ys) ≡ first_passing ys
+past [] ys h = refl
+past ((true, x) ∷ xs) ys h = cc
+past ((false, x) ∷ xs) ys h = past xs ys h
+
+behind : (s : State) (kind : AdminKind) → grants_none kind ≡ true → first_passing (named_causes s kind) ≡ None → refusal_of s (sending kind) ≡ first_passing (room_causes s)
+behind s kind plain free = by-name s kind plain ∙ past (named_causes s kind) (room_causes s) free
+
+untouched-identifier : (s : State) (kind : AdminKind) → [] ≡ touched_by_refusal s (sending kind) refusal.NoIdentifier
+untouched-identifier s (Abort q cid) = refl
+untouched-identifier s (DeleteSq q) = refl
+untouched-identifier s (DeleteCq q) = refl
+untouched-identifier s (CreateCq q n base) = refl
+untouched-identifier s (CreateSq q n base) = refl
+
+untouched-full : (s : State) (kind : AdminKind) → [] ≡ touched_by_refusal s (sending kind) refusal.QueueFull
+untouched-full s (Abort q cid) = refl
+untouched-full s (DeleteSq q) = refl
+untouched-full s (DeleteCq q) = refl
+untouched-full s (CreateCq q n base) = refl
+untouched-full s (CreateSq q n base) = refl
+
+pub first-there : (xs : List Queue) → 2 ≤ length xs → (x : Queue) × (slice_get xs 0 ≡ Some x)
+first-there [] l = absurd (omega (arith, l))
+first-there (x ∷ xs) l = (x, refl)
+
+-- what queue 0 tells of its next identifier
+abbrev pub Next : List Queue → Option ℕ → Type 0
+Next queues o = (x : Queue) → slice_get queues 0 ≡ Some x → o ≡ position not x.host.claimed
+
+pub send-no_identifier : (t : Tables) (kind : AdminKind) (queues : List Queue) → IsWhole t → grants_none kind ≡ true → first_passing (named_causes (state_of t) kind) ≡ None → queues ≡ t.queues → Next queues None
+    → Refuses (state_of t) (sending kind) refusal.NoIdentifier []
+send-no_identifier t kind queues w plain free same next =
+    let x = first-there t.queues w.some_queues in
+    let none = none-left t w 0 x.0 x.1 (sym (next x.0 (ap (λ (qs : List Queue). slice_get qs 0) same ∙ x.1))) in
+    (behind (state_of t) kind plain free ∙ rw none refl, untouched-identifier (state_of t) kind)
+
+pub send-full : (t : Tables) (kind : AdminKind) (queues : List Queue) (cid : ℕ) → IsWhole t → grants_none kind ≡ true → first_passing (named_causes (state_of t) kind) ≡ None → queues ≡ t.queues → Next queues (Some cid)
+    → queue_full (state_of t) 0 ≡ true → Refuses (state_of t) (sending kind) refusal.QueueFull []
+send-full t kind queues cid w plain free same next full =
+    let x = first-there t.queues w.some_queues in
+    let left = next-left t w 0 cid x.0 x.1 (sym (next x.0 (ap (λ (qs : List Queue). slice_get qs 0) same ∙ x.1))) in
+    (behind (state_of t) kind plain free ∙ rw (left, full) refl, untouched-full (state_of t) kind)
+
+pub send-ready : (t : Tables) (kind : AdminKind) (queues : List Queue) (cid : ℕ) → IsWhole t → grants_none kind ≡ true → first_passing (named_causes (state_of t) kind) ≡ None → queues ≡ t.queues → Next queues (Some cid)
+    → queue_full (state_of t) 0 ≡ false → CanSend t kind cid
+send-ready t kind queues cid w plain free same next room =
+    let x = first-there t.queues w.some_queues in
+    let is = sym (next x.0 (ap (λ (qs : List Queue). slice_get qs 0) same ∙ x.1)) in
+    record {
+      plain = plain;
+      none = behind (state_of t) kind plain free ∙ rw (next-left t w 0 cid x.0 x.1 is, room) refl;
+      slot = record { queue = x.0; at = x.1; next = is; room = full_is t w.queues 0 x.0 x.1 ∙ room };
+    }
+
+-- What is written
+
+pub noted-there : (t u : Tables) (kind : AdminKind) (cid : ℕ) → CanSend t kind cid → u ≡ noted kind cid t → 0 < length u.queues
+noted-there t u kind cid can same =
+    subst (λ (v : Tables). 0 < length v.queues) (sym same) (some-first (noted kind cid t).queues (with_claim cid can.slot.queue) (first-changed (with_claim cid) t.queues can.slot.queue can.slot.at))
+
+pub send-typed : (kind : AdminKind) (cid : ℕ) → IsTyped (admin_entry kind cid)
+send-typed kind cid = record { sgl1 = refl; fits = record { fuse = omega arith; psdt = omega arith } }
+
+pub can-post-to : (t u : Tables) (kind : AdminKind) (cid : ℕ) (entry : SubEntry) → Settled t → (slot : HasSlot t cid) → HasHalfIn t slot.queue → u ≡ noted kind cid t → entry ≡ admin_entry kind cid → CanPostTo u 0 entry
+can-post-to t u kind cid entry s slot half same is =
+    subst (λ (v : Tables). CanPostTo v 0 entry) (sym same)
+    (subst (λ (e : SubEntry). CanPostTo (noted kind cid t) 0 e) (sym is)
+    (λ y at. subst (λ (z : Queue). CanPost (noted kind cid t) 0 z (admin_entry kind cid)) (some_is (sym (first-changed (with_claim cid) t.queues slot.queue slot.at) ∙ at))
+    (can-send t kind cid s slot half (send-typed kind cid))))
+
+pub send_can_post : (t u : Tables) (kind : AdminKind) (cid : ℕ) (entry : SubEntry) → IsWhole t → CanSend t kind cid → u ≡ noted kind cid t → entry ≡ admin_entry kind cid → CanPostTo u 0 entry
+send_can_post t u kind cid entry w can same is = can-post-to t u kind cid entry (settled-of t w) can.slot (half-in t cid w can.slot) same is
+
+pub sends_apart : (t u v new : Tables) (kind : AdminKind) (cid : ℕ) (entry : SubEntry) → u ≡ noted kind cid t → entry ≡ admin_entry kind cid → Posts u 0 entry v → new ≡ asked kind v → Sends t kind cid new
+sends_apart t u v new kind cid entry same is posts left = λ x at.
+    let there = subst (λ (y : Tables). Posts y 0 entry v) same posts (with_claim cid x) (first-changed (with_claim cid) t.queues x at) in
+    left ∙ ap (asked kind) (there ∙ ap (λ (e : SubEntry). posted 0 (with_claim cid x) e (noted kind cid t)) is)

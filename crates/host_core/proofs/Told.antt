@@ -1,26 +1,28 @@
--- What the table of owners tells of the machine's claims: whose each page is, and how many pages each class has.
-use Rattle.std.proofs.Common.{◌≡◌, ℕ, suc, ◌+◌, ◌<◌, ◌==◌, nat_lt, Bool, true, false, not, ◌||◌, Option, Some, None, List, [], ◌∷◌, ◌++◌, length, map, flat_map, filter, sum_by, slice_get, refl, ap, ap₂, sym, ◌∙◌, arith, subst, eqb-true, eq-eqb, lt-ltb, length-append, if◌then◌else◌}
-use Rattle.std.specs.List.{AllByRecursion, Contains}
-use Rattle.std.specs.Option.{option_map_or}
-use Rattle.std.proofs.lemmas.Bool.{true≢false}
-use Rattle.std.proofs.lemmas.List.Sums.{sum_by-cons}
-use Rattle.machine_model.specs.Claims.{claimed, claims_of, claims_of_queues, claims_of_record, counts_of}
-use Rattle.machine_model.specs.State.{HostQueue, Record}
-use Rattle.machine_model.specs.Step.{times}
-use Rattle.machine_model.proofs.Headline.{firsts}
-use Rattle.machine_model.proofs.Counting.{one, times-cons, times-append, times-filter, times-pages, held_once, length_of_all}
+-- What a call tells.
 use Rattle.page_ledger.specs.Counting as table
-use Rattle.page_ledger.specs.Counting.{is_queue_page, is_chain_page, is_data_page}
-use Rattle.page_ledger.specs.Owners.{is_among, is_free, is_owned_at, owner_at, pages_from, pages_owned, free_pages}
-use Rattle.page_ledger.specs.declared.owner.Counts.{Counts}
-use Rattle.page_ledger.specs.declared.owner.Owner.{Owner}
-use Rattle.page_ledger.specs.declared.owner.Owner.TheVariants.{Free, Queue, Command}
-use Rattle.page_ledger.specs.declared.owner.Role.TheVariants.{Data, Chain}
-use Rattle.page_memory.specs.declared.page.Half.{Half}
-use Rattle.page_memory.specs.declared.page.Half.TheVariants.{Submission, Completion}
-use Rattle.host_core.specs.Tables.{Tables, state_of, host_queue_of, sq_pages_of, cq_pages_of}
-use Rattle.host_core.specs.Whole.{HaveOwner, TellsCommand, TellsQueue, IsHost}
 use Rattle.host_core.specs.Rows as declared
+use Rattle.machine_model.specs.Events as events
+use Rattle.machine_model.specs.declared.words.Refusal.TheVariants as refusal
+use Rattle.admin_commands.specs.declared.AdminKind.TheVariants as kinds
+use Rattle.std.proofs.Common.{◌≡◌, ℕ, suc, ◌+◌, ◌<◌, ◌==◌, nat_lt, Bool, true, false, not, ◌||◌, Option, Some, None, List, [], ◌∷◌, ◌++◌, length, map, flat_map, filter, sum_by, slice_get, refl, ap, ap₂, sym, ◌∙◌, arith, subst, eqb-true, eq-eqb, lt-ltb, length-append, if◌then◌else◌, ◌&&◌, MatchBool}
+use Rattle.std.{proofs.lemmas.{Bool.true≢false, List.{take-append-drop, Sums.sum_by-cons}}, specs.{List.{AllByRecursion, Contains}, Option.option_map_or}}
+use Rattle.machine_model.proofs.{Counting.{one, times-cons, times-append, times-filter, times-pages, held_once, length_of_all}, Headline.firsts}
+use Rattle.machine_model.specs.{After.after, Claims.{claimed, claims_of, claims_of_queues, claims_of_record, counts_of}, Events.{Event, Reply}}
+use Rattle.machine_model.specs.{Refusals.refusal_of, State.{HostQueue, Record, State}}
+use Rattle.machine_model.specs.Step.{times, IsController, HostPart, Leaves, LeavesByController, LeavesByHost, MayRefuse, Refuses, forges, resets}
+use Rattle.machine_model.specs.declared.words.Refusal.{Refusal}
+use Rattle.page_ledger.specs.Counting.{is_queue_page, is_chain_page, is_data_page}
+use Rattle.page_ledger.specs.{Owners.{is_among, is_free, is_owned_at, owner_at, pages_from, pages_owned, free_pages}, declared.owner.Counts.Counts}
+use Rattle.page_ledger.specs.declared.owner.{Owner.{Owner, TheVariants.{Free, Queue, Command}}, Role.TheVariants.{Data, Chain}}
+use Rattle.page_memory.specs.{Pages.{Pages, Contents}, declared.page.Half.{Half, TheVariants.{Submission, Completion}}}
+use Rattle.host_core.specs.{Alone.{HostView, alone}, Laws.{shown, LeavesJust, LeavesOne, RefusesJust, WritesLeaveOver}}
+use Rattle.host_core.specs.{Sending.{sending, creating, grants_none}, Tables.{Tables, state_of, host_queue_of, sq_pages_of, cq_pages_of}}
+use Rattle.host_core.specs.{Touching.{TouchesBy, refused_touches, sent_touches}, Whole.{HaveOwner, TellsCommand, TellsQueue, IsHost}}
+use Rattle.admin_commands.specs.declared.AdminKind.{AdminKind}
+use Rattle.io_commands.specs.{Asked.Request, DataBytes.PagesOut, Requests.data_count, Values.{data_part, chain_part}}
+use Rattle.queue_pair.specs.Memory.{half_pages}
+
+-- What the table of owners tells of the machine's claims: whose each page is, and how many pages each class has.
 
 -- Each claim has its owner in the table
 
@@ -248,3 +250,93 @@ table_counts t w =
     (omega (arith, class_counts is_queue_page t w, classed-host is_queue_page t false true false false refl (λ q half. refl) (λ q cid. refl) (λ q cid. refl)))
     (omega (arith, class_counts is_chain_page t w, classed-host is_chain_page t false false false true refl (λ q half. refl) (λ q cid. refl) (λ q cid. refl)))
     (omega (arith, class_counts is_data_page t w, classed-host is_data_page t false false true false refl (λ q half. refl) (λ q cid. refl) (λ q cid. refl)))
+
+-- What a step of the host leaves, and why one is refused.
+
+abbrev of_part : HostPart → HostView
+of_part part = record { entries = part.entries; segment = part.segment; host = part.host }
+
+abbrev Just : State → HostView → Pages → Type 0
+Just next v pages = (v ≡ shown next) × (pages ≡ next.memory)
+
+by-leaving : (r f c : Bool) (s next : State) (v : HostView) (pages : Pages) → c ≡ false
+    → MatchBool (r || (not f && false)) (alone v pages ≡ next) (MatchBool c (LeavesByController s next (alone v pages)) (LeavesByHost s next (alone v pages))) → Just next v pages
+by-leaving true f c s next v pages e h = (ap shown h, ap (λ (x : State). x.memory) h)
+by-leaving false f true s next v pages e h = cc
+by-leaving false true false s next v pages e h = (ap of_part h.part, h.memory)
+by-leaving false false false s next v pages e h = (ap of_part h.part, h.memory)
+
+just : (v v' : HostView) (pages pages' : Pages) (e : Event) (reply : Reply) → IsController e ≡ false → Leaves (alone v pages) e reply (alone v' pages') → Just (after (alone v pages) e reply) v' pages'
+just v v' pages pages' e (events.Refused why touched) c h = (ap shown h, ap (λ (s : State). s.memory) h)
+just v v' pages pages' e reply c h = by-leaving (resets e) (forges e) (IsController e) (alone v pages) (after (alone v pages) e reply) v' pages' c h
+
+pub leaves_just : LeavesJust
+leaves_just v v' pages pages' e reply c step = just v v' pages pages' e reply c step.2
+
+pub leaves_one : LeavesOne
+leaves_one v v' v'' pages pages' pages'' e reply c one other =
+    let a = just v v' pages pages' e reply c one.2 in
+    let b = just v v'' pages pages'' e reply c other.2 in
+    (a.0 ∙ sym b.0, a.1 ∙ sym b.1)
+
+by-refusing : (c : Bool) (A B : Type 0) → c ≡ false → MatchBool (not c) A B → A
+by-refusing true A B e h = cc
+by-refusing false A B e h = h
+
+memory-cause : (s : State) (e : Event) (why : Refusal) → Refuses s e why [] → why ≡ refusal.Memory → refusal_of s e ≡ None
+memory-cause s e why h is = let m : Refuses s e refusal.Memory [] = subst (λ (w : Refusal). Refuses s e w []) is h in m.1
+
+other-cause : (s : State) (e : Event) (why : Refusal) → Refuses s e why [] → (why ≡ refusal.Memory → ⊥) → refusal_of s e ≡ Some why
+other-cause s e refusal.Memory h not' = absurd (not' refl)
+other-cause s e why h not' = h.0
+
+pub refuses_just : RefusesJust
+refuses_just v v' pages pages' e why c step =
+    let refuses = by-refusing (IsController e) (Refuses (alone v pages) e why []) (MayRefuse e why []) c step.1 in
+    let left = just v v' pages pages' e (events.Refused why []) c step.2 in
+    (left.0, left.1, other-cause (alone v pages) e why refuses, memory-cause (alone v pages) e why refuses)
+
+pub writes_leave_over : WritesLeaveOver
+writes_leave_over v pages pages' over pool size same =
+    record {
+      pool = pool;
+      size = size ∙ over.size;
+      out = λ p l. same p ∙ over.out p (subst (λ (n : ℕ). p < n) size l);
+    }
+
+-- Touches that follow one another, and the pages of which they are.
+
+pub touches_none : (s : Contents) → TouchesBy 0 s s
+touches_none s = omega arith
+
+pub touches_then : (n m : ℕ) (a b c : Contents) → TouchesBy n a b → TouchesBy m b c → TouchesBy (n + m) a c
+touches_then n m a b c first second = omega (arith, first, second)
+
+-- the pages of a command are those of its data and those of its chain
+pub both_parts : (request : Request) (pages : PagesOut) → length (data_part request pages) + length (chain_part request pages) ≡ length pages
+both_parts request pages =
+    sym (length-append (data_part request pages) (chain_part request pages)) ∙ ap length (take-append-drop (data_count request.pieces) pages)
+
+-- a refused admin command touches nothing
+pub sending_refused : (kind : AdminKind) (why : Refusal) → refused_touches (sending kind) why ≡ 0
+sending_refused (kinds.Abort q cid) why = refl
+sending_refused (kinds.DeleteSq q) why = refl
+sending_refused (kinds.DeleteCq q) why = refl
+sending_refused (kinds.CreateCq q n base) why = refl
+sending_refused (kinds.CreateSq q n base) why = refl
+
+pub creating_refused : (half : Half) (q : ℕ) (why : Refusal) → refused_touches (creating half q) why ≡ 0
+creating_refused Completion q why = refl
+creating_refused Submission q why = refl
+
+-- one that is sent touches the page of its entry, and the pages of the half that is granted with it
+pub sending_sent : (n : ℕ) (kind : AdminKind) → grants_none kind ≡ true → sent_touches n (sending kind) ≡ 1
+sending_sent n (kinds.Abort q cid) plain = refl
+sending_sent n (kinds.DeleteSq q) plain = refl
+sending_sent n (kinds.DeleteCq q) plain = refl
+sending_sent n (kinds.CreateCq q k base) plain = absurd (true≢false (sym plain))
+sending_sent n (kinds.CreateSq q k base) plain = absurd (true≢false (sym plain))
+
+pub creating_sent : (n : ℕ) (half : Half) (q : ℕ) → sent_touches n (creating half q) ≡ half_pages n half + 1
+creating_sent n Completion q = refl
+creating_sent n Submission q = refl

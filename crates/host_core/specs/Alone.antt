@@ -1,18 +1,11 @@
 -- The host alone: the machine with no controller, in which nothing is trusted. What a call of the host answers and leaves is decided by
 -- the host and by the bytes in memory.
-use Rattle.std.specs.Prelude.{◌≡◌, ◌<◌, true, ℕ, false, [], length}
-use Rattle.page_ledger.specs.Counting.{total}
+use Rattle.std.specs.{List.AllByRecursion, Prelude.{◌≡◌, ◌<◌, true, ℕ, false, [], length}}
+use Rattle.page_ledger.specs.{Counting.total, Owners.is_among}
 use Rattle.page_memory.specs.Pages.{Pages, IsPool}
-use Rattle.machine_model.specs.Claims.{HasOneOwner, IdentifiersDiffer, IsOutWithItsCommand, counts_of}
-use Rattle.machine_model.specs.Events.{Event, Reply}
-use Rattle.machine_model.specs.Placement.{data_placed, chain_placed}
-use Rattle.machine_model.specs.Positions.{IsInRing}
-use Rattle.io_commands.specs.Drafts.{DraftContents}
-use Rattle.io_commands.specs.Values.{numbers_of}
-use Rattle.page_ledger.specs.Owners.{is_among}
-use Rattle.machine_model.specs.State.{State, Host, Device, outstanding_on}
-use Rattle.machine_model.specs.Step.{Step}
-use Rattle.std.specs.List.{AllByRecursion}
+use Rattle.machine_model.specs.{Claims.{HasOneOwner, IdentifiersDiffer, IsOutWithItsCommand, counts_of}, Events.{Event, Reply}}
+use Rattle.machine_model.specs.{Placement.{data_placed, chain_placed}, Positions.IsInRing, State.{State, Host, Device, outstanding_on}, Step.Step}
+use Rattle.io_commands.specs.{Drafts.DraftContents, Values.numbers_of}
 
 -- what contracts see of a host: the entries of each ring, the descriptors of a full segment, and the machine's host
 pub record HostView : Type 0 where

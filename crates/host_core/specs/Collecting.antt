@@ -1,12 +1,8 @@
 -- A held command's pages are taken out.
-use Rattle.std.specs.Prelude.{◌≡◌, ℕ, None, Some, List, [], ◌∷◌, ◌+◌, ◌≤◌, find, length, slice_set}
-use Rattle.std.specs.Option.{option_map_or}
+use Rattle.std.specs.{Option.option_map_or, Prelude.{◌≡◌, ℕ, None, Some, List, [], ◌∷◌, ◌+◌, ◌≤◌, find, length, slice_set}}
 use Rattle.entry_codec.specs.declared.status.Status.{Status}
-use Rattle.io_commands.specs.DataBytes.{PagesOut}
-use Rattle.io_commands.specs.Asked.{Request}
-use Rattle.machine_model.specs.State.{Record, is_at}
-use Rattle.machine_model.specs.declared.words.Phase.TheVariants.{Held}
-use Rattle.machine_model.specs.declared.words.Work.TheVariants.{Io}
+use Rattle.io_commands.specs.{Asked.Request, DataBytes.PagesOut}
+use Rattle.machine_model.specs.{State.{Record, is_at}, declared.words.{Phase.TheVariants.Held, Work.TheVariants.Io}}
 use Rattle.page_memory.specs.Pages.{Pages, page_at}
 use Rattle.host_core.specs.Tables.{Tables}
 

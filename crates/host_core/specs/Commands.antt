@@ -1,30 +1,16 @@
 -- What the calls about a command leave of the tables.
-use Rattle.std.specs.Prelude.{◌≡◌, ℕ, ◌+◌, ◌<◌, ◌≤◌, ◌==◌, ◌||◌, not, Bool, true, false, Option, Some, None, IsSome, position, find, length, List, [], ◌∷◌, ◌++◌, slice_get, slice_set}
 use Rattle.std.specs.Option.{option_map, option_map_or}
-use Rattle.io_commands.specs.DataBytes.{PagesOut}
-use Rattle.io_commands.specs.Drafts.{DraftContents}
-use Rattle.io_commands.specs.Requests.{data_count}
-use Rattle.io_commands.specs.Values.{numbers_of, IsGood}
-use Rattle.io_commands.specs.Asked.{Request}
-use Rattle.machine_model.specs.After.{change, collected}
-use Rattle.machine_model.specs.Events as events
-use Rattle.machine_model.specs.Memory.{without_pages, with_pages, zeroed_pages}
-use Rattle.machine_model.specs.Placement.{placed, without_numbers, chain_wanted}
-use Rattle.machine_model.specs.State.{Record, is_at, pages_of, with_record, without_record}
-use Rattle.machine_model.specs.Refusals.{refusal_of, is_drafted, is_collected, is_of, in_service}
-use Rattle.machine_model.specs.Claims.{is_away}
-use Rattle.machine_model.specs.Step.{IsNewIdentifier}
-use Rattle.machine_model.specs.declared.words.HostState.{HostState}
-use Rattle.machine_model.specs.declared.words.Phase.{Phase}
-use Rattle.machine_model.specs.declared.words.Phase.TheVariants.{Drafted}
-use Rattle.machine_model.specs.declared.words.Work.TheVariants.{Io}
-use Rattle.page_ledger.specs.Owners.{with_owner, given_back, is_command, free_pages}
-use Rattle.page_ledger.specs.declared.owner.Owner.{Owner}
-use Rattle.page_ledger.specs.declared.owner.Owner.TheVariants.{Command}
+use Rattle.std.specs.Prelude.{◌≡◌, ℕ, ◌+◌, ◌<◌, ◌≤◌, ◌==◌, ◌||◌, not, Bool, true, false, Option, Some, None, IsSome, position, find, length, List, [], ◌∷◌, ◌++◌, slice_get, slice_set}
+use Rattle.io_commands.specs.{Asked.Request, DataBytes.PagesOut, Drafts.DraftContents, Requests.data_count, Values.{numbers_of, IsGood}}
+use Rattle.machine_model.specs.{After.{change, collected}, Claims.is_away, Memory.{without_pages, with_pages, zeroed_pages}}
+use Rattle.machine_model.specs.{Placement.{placed, without_numbers, chain_wanted}, Refusals.{refusal_of, is_drafted, is_collected, is_of, in_service}}
+use Rattle.machine_model.specs.{State.{Record, is_at, pages_of, with_record, without_record}, Step.IsNewIdentifier, declared.words.HostState.HostState}
+use Rattle.machine_model.specs.declared.words.{Phase.{Phase, TheVariants.Drafted}, Work.TheVariants.Io}
+use Rattle.page_ledger.specs.{Owners.{with_owner, given_back, is_command, free_pages}, declared.owner.Owner.{Owner, TheVariants.Command}}
 use Rattle.page_ledger.specs.declared.owner.Role.TheVariants.{Data, Chain}
 use Rattle.page_memory.specs.Pages.{Pages, page_at, zero_page}
-use Rattle.host_core.specs.Tables.{Tables, state_of}
-use Rattle.host_core.specs.Rows.{Queue}
+use Rattle.host_core.specs.{Rows.Queue, Tables.{Tables, state_of}}
+use Rattle.machine_model.specs.Events as events
 
 -- a queue with its claimed identifiers changed
 abbrev pub claims_changed : (List Bool → List Bool) → Queue → Queue

@@ -1,11 +1,7 @@
 -- Steps that are exact.
 use Rattle.std.specs.Prelude.{◌≡◌, None}
-use Rattle.machine_model.specs.After.{after}
+use Rattle.machine_model.specs.{After.after, Events.{Event, Reply}, Refusals.refusal_of, State.State, Step.{Answers, Refuses}}
 use Rattle.machine_model.specs.Events as events
-use Rattle.machine_model.specs.Events.{Event, Reply}
-use Rattle.machine_model.specs.Refusals.{refusal_of}
-use Rattle.machine_model.specs.State.{State}
-use Rattle.machine_model.specs.Step.{Answers, Refuses}
 
 -- A step whose reply and state are exactly what the machine gives.
 abbrev pub Exactly : State → Event → Reply → State → Type 0

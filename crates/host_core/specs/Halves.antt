@@ -1,18 +1,11 @@
 -- The halves that a host gives back.
 use Rattle.std.specs.Prelude.{◌≡◌, ℕ, Bool, true, Some, List, slice_get}
-use Rattle.admin_commands.specs.declared.AdminKind.{AdminKind}
-use Rattle.admin_commands.specs.declared.AdminKind.TheVariants.{Abort, DeleteSq, DeleteCq, CreateCq, CreateSq}
-use Rattle.machine_model.specs.Refusals.{has_cq, has_cq_alone, has_sq}
-use Rattle.machine_model.specs.declared.words.HostState.{HostState}
-use Rattle.page_ledger.specs.Lists.{ListsAll}
-use Rattle.page_ledger.specs.Owners.{is_half, pages_from}
-use Rattle.page_memory.specs.declared.page.Half.{Half}
-use Rattle.page_memory.specs.declared.page.Half.TheVariants.{Submission, Completion}
-use Rattle.queue_pair.specs.Memory.{half_pages}
-use Rattle.queue_pair.specs.Rings.{first_page_of}
-use Rattle.host_core.specs.Commands.{passes, state_at}
-use Rattle.host_core.specs.Rows.{Queue}
-use Rattle.host_core.specs.Tables.{Tables, cq_pages_of, sq_pages_of}
+use Rattle.admin_commands.specs.declared.AdminKind.{AdminKind, TheVariants.{Abort, DeleteSq, DeleteCq, CreateCq, CreateSq}}
+use Rattle.machine_model.specs.{Refusals.{has_cq, has_cq_alone, has_sq}, declared.words.HostState.HostState}
+use Rattle.page_ledger.specs.{Lists.ListsAll, Owners.{is_half, pages_from}}
+use Rattle.page_memory.specs.declared.page.Half.{Half, TheVariants.{Submission, Completion}}
+use Rattle.queue_pair.specs.{Memory.half_pages, Rings.first_page_of}
+use Rattle.host_core.specs.{Commands.{passes, state_at}, Rows.Queue, Tables.{Tables, cq_pages_of, sq_pages_of}}
 
 -- whether the host has a half of a queue in this state
 abbrev pub has_half : Half → HostState → Bool

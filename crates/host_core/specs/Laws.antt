@@ -1,16 +1,11 @@
 -- What the definitions of the host alone give.
 use Rattle.std.specs.Prelude.{◌≡◌, ℕ, [], false, length, Some, None}
-use Rattle.machine_model.specs.After.{after}
-use Rattle.machine_model.specs.Events as events
-use Rattle.machine_model.specs.Events.{Event, Reply}
+use Rattle.machine_model.specs.{After.after, Events.{Event, Reply}, Memory.is_in, Refusals.refusal_of, State.State, Step.IsController}
 use Rattle.machine_model.specs.declared.words.Refusal.{Refusal}
-use Rattle.machine_model.specs.Memory.{is_in}
-use Rattle.machine_model.specs.Refusals.{refusal_of}
-use Rattle.machine_model.specs.State.{State}
-use Rattle.machine_model.specs.Step.{IsController}
-use Rattle.machine_model.specs.declared.words.Refusal.TheVariants as refusal
 use Rattle.page_memory.specs.Pages.{Pages, IsPool}
 use Rattle.host_core.specs.Alone.{HostView, HostStep, IsOver, alone}
+use Rattle.machine_model.specs.Events as events
+use Rattle.machine_model.specs.declared.words.Refusal.TheVariants as refusal
 
 -- the host of a state
 abbrev pub shown : State → HostView

@@ -20,3 +20,9 @@ pub mod Laws
 pub mod Worked
 pub mod Sending
 pub mod Submitting
+pub mod Values
+pub mod Doorbells
+pub mod Calls
+pub mod CommandValues
+pub mod Kept
+pub mod Pool

@@ -1,11 +1,9 @@
 -- What looks at a host tell: what would be answered, want of memory left aside, and where a completion ring begins.
 use Rattle.std.specs.Prelude.{ℕ, ◌*◌, Bool, ◌&&◌, is_none, is_some, Option, Some, None, option_and_then, option_map, slice_get, if◌then◌else◌}
-use Rattle.machine_model.specs.Events as events
-use Rattle.machine_model.specs.Refusals.{refusal_of, seen_entry, is_reaped}
-use Rattle.machine_model.specs.State.{State}
-use Rattle.machine_model.specs.declared.words.Refusal.{Refusal}
-use Rattle.machine_model.specs.declared.words.Refusal.TheVariants as refusal
+use Rattle.machine_model.specs.{Refusals.{refusal_of, seen_entry, is_reaped}, State.State, declared.words.Refusal.Refusal}
 use Rattle.host_core.specs.Alone.{HostView}
+use Rattle.machine_model.specs.Events as events
+use Rattle.machine_model.specs.declared.words.Refusal.TheVariants as refusal
 
 -- whether a reap would take a completion
 abbrev pub completion_waits : State → ℕ → Bool

@@ -1,20 +1,11 @@
 -- A host as it opens: the halves of its queues are its lowest pages, one queue's behind the other's, and all pages behind them are free.
 use Rattle.std.specs.Prelude.{◌≡◌, ◌⊎◌, ℕ, ◌+◌, ◌-◌, ◌*◌, ◌<◌, ◌≤◌, false, Option, Some, None, List, [], length, map, replicate}
-use Rattle.machine_model.specs.Opening.{opening, open_refusal}
-use Rattle.machine_model.specs.declared.words.HostState.TheVariants.{Live}
-use Rattle.machine_model.specs.declared.words.OpenRefusal.{OpenRefusal}
-use Rattle.machine_model.specs.declared.words.OpenRefusal.TheVariants.{Memory}
-use Rattle.page_ledger.specs.Owners.{is_free, is_owned_at, owner_at, pages_from}
-use Rattle.page_ledger.specs.declared.owner.Owner.{Owner}
+use Rattle.machine_model.specs.{Opening.{opening, open_refusal}, declared.words.{HostState.TheVariants.Live, OpenRefusal.{OpenRefusal, TheVariants.Memory}}}
+use Rattle.page_ledger.specs.{Owners.{is_free, is_owned_at, owner_at, pages_from}, declared.owner.Owner.Owner}
+use Rattle.page_memory.specs.{Pages.{Pages, zero_page}, declared.page.Half.TheVariants.{Submission, Completion}}
+use Rattle.queue_pair.specs.{Memory.half_pages, Rings.{fresh_host_ring, none_claimed}}
+use Rattle.host_core.specs.{Alone.HostView, Rows.Queue, Tables.Tables, declared.config.Config.Config}
 use Rattle.page_ledger.specs.declared.owner.Owner.TheVariants as owner
-use Rattle.page_memory.specs.Pages.{Pages, zero_page}
-use Rattle.page_memory.specs.declared.page.Half.TheVariants.{Submission, Completion}
-use Rattle.queue_pair.specs.Memory.{half_pages}
-use Rattle.queue_pair.specs.Rings.{fresh_host_ring, none_claimed}
-use Rattle.host_core.specs.Alone.{HostView}
-use Rattle.host_core.specs.Tables.{Tables}
-use Rattle.host_core.specs.declared.config.Config.{Config}
-use Rattle.host_core.specs.Rows.{Queue}
 
 -- the refusal of a configuration
 abbrev pub refusal_of_config : Config → Option OpenRefusal

@@ -2,11 +2,8 @@
 use Rattle.std.specs.Prelude.{◌≡◌, ℕ, List, map}
 use Rattle.machine_model.specs.State.{Record}
 use Rattle.page_memory.specs.Pages.{Pages}
-use Rattle.slot_table.specs.Table.{Row}
-use Rattle.host_core.specs.Rows.{Kept}
-use Rattle.host_core.specs.Tables.{Tables}
-use Rattle.host_core.specs.Whole.{IsWhole}
-use Rattle.host_core.specs.declared.parts.Parts.{Parts}
+use Rattle.slot_table.specs.Rows.{Row}
+use Rattle.host_core.specs.{Rows.Kept, Tables.Tables, Whole.IsWhole, declared.parts.Parts.Parts}
 
 -- a command's record, by the place where it stands
 abbrev pub record_of : ℕ → ℕ → Kept → Record

@@ -1,17 +1,10 @@
 -- The host posts an entry.
 use Rattle.std.specs.Prelude.{◌≡◌, ℕ, ◌<◌, ◌+◌, ◌/◌, ◌%◌, List, false, Some, IsSome, length, slice_get, true}
-use Rattle.entry_codec.specs.Submission.{submission_bytes, FitsSubmission}
-use Rattle.entry_codec.specs.declared.submission.SubEntry.{SubEntry}
-use Rattle.machine_model.specs.After.{change}
-use Rattle.machine_model.specs.Refusals.{has_sq}
-use Rattle.page_memory.specs.Pages.{IsPool, page_at, with_page_bytes}
-use Rattle.page_memory.specs.declared.page.Half.TheVariants.{Submission}
-use Rattle.queue_pair.specs.Memory.{half_pages, submission_place}
-use Rattle.queue_pair.specs.Rings.{next_tail}
-use Rattle.queue_pair.specs.Slots.{is_full}
-use Rattle.host_core.specs.Tables.{Tables}
-use Rattle.host_core.specs.Whole.{AreQueues}
-use Rattle.host_core.specs.Rows.{Queue}
+use Rattle.entry_codec.specs.{Submission.{submission_bytes, FitsSubmission}, declared.submission.SubEntry.SubEntry}
+use Rattle.machine_model.specs.{After.change, Refusals.has_sq}
+use Rattle.page_memory.specs.{Pages.{IsPool, page_at, with_page_bytes}, declared.page.Half.TheVariants.Submission}
+use Rattle.queue_pair.specs.{Memory.{half_pages, submission_place}, Rings.next_tail, Slots.is_full}
+use Rattle.host_core.specs.{Rows.Queue, Tables.Tables, Whole.AreQueues}
 
 -- the tables with these bytes in memory, from a place on, all in one page
 abbrev pub overwritten : ℕ → List ℕ → Tables → Tables

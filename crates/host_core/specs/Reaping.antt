@@ -1,31 +1,16 @@
 -- The host reaps a completion.
-use Rattle.std.specs.Prelude.{◌≡◌, ℕ, ◌<◌, ◌&&◌, Bool, true, false, Option, Some, None, List, find, slice_get, if◌then◌else◌, not}
-use Rattle.std.specs.Option.{option_map_or}
-use Rattle.admin_commands.specs.declared.AdminKind.{AdminKind}
-use Rattle.admin_commands.specs.declared.AdminKind.TheVariants.{Abort, DeleteSq, DeleteCq, CreateCq, CreateSq}
-use Rattle.entry_codec.specs.declared.completion.ComEntry.{ComEntry}
-use Rattle.entry_codec.specs.declared.status.Status.{Status}
+use Rattle.std.specs.{Option.option_map_or, Prelude.{◌≡◌, ℕ, ◌<◌, ◌&&◌, Bool, true, false, Option, Some, None, List, find, slice_get, if◌then◌else◌, not}}
+use Rattle.admin_commands.specs.declared.AdminKind.{AdminKind, TheVariants.{Abort, DeleteSq, DeleteCq, CreateCq, CreateSq}}
+use Rattle.entry_codec.specs.declared.{completion.ComEntry.ComEntry, status.Status.Status}
 use Rattle.io_commands.specs.Jobs.{is_success}
-use Rattle.machine_model.specs.After.{change, held}
-use Rattle.machine_model.specs.Events as events
-use Rattle.machine_model.specs.Refusals.{has_cq_alone, is_reaped, seen_entry}
-use Rattle.machine_model.specs.State.{Record, is_at, with_record, without_record}
-use Rattle.machine_model.specs.Step.{Step}
-use Rattle.machine_model.specs.declared.words.HostState.{HostState}
-use Rattle.machine_model.specs.declared.words.HostState.TheVariants.{Live, Deleting, Gone, HalfMade}
-use Rattle.machine_model.specs.declared.words.Phase.TheVariants.{Submitted}
-use Rattle.machine_model.specs.declared.words.Reaped.{Reaped}
-use Rattle.machine_model.specs.Work.{Work}
-use Rattle.machine_model.specs.declared.words.Work.TheVariants.{Io, Management}
+use Rattle.machine_model.specs.{After.{change, held}, Refusals.{has_cq_alone, is_reaped, seen_entry}, State.{Record, is_at, with_record, without_record}}
+use Rattle.machine_model.specs.{Step.Step, Work.Work, declared.words.HostState.{HostState, TheVariants.{Live, Deleting, Gone, HalfMade}}}
+use Rattle.machine_model.specs.declared.words.{Phase.TheVariants.Submitted, Reaped.Reaped, Work.TheVariants.{Io, Management}}
 use Rattle.page_ledger.specs.Owners.{given_back, is_half}
 use Rattle.page_memory.specs.declared.page.Half.TheVariants.{Submission, Completion}
-use Rattle.queue_pair.specs.Memory.{completion_place}
-use Rattle.queue_pair.specs.Rings.{knowing, next_head}
-use Rattle.queue_pair.specs.Slots.{is_in_range}
-use Rattle.host_core.specs.Commands.{passes, state_at, without_claim}
-use Rattle.host_core.specs.Tables.{Tables, state_of}
-use Rattle.host_core.specs.Whole.{IsWhole}
-use Rattle.host_core.specs.Rows.{Queue}
+use Rattle.queue_pair.specs.{Memory.completion_place, Rings.{knowing, next_head}, Slots.is_in_range}
+use Rattle.host_core.specs.{Commands.{passes, state_at, without_claim}, Rows.Queue, Tables.{Tables, state_of}, Whole.IsWhole}
+use Rattle.machine_model.specs.Events as events
 
 -- no queue of a number has completions that are reaped
 abbrev pub lacks_completion : Option Queue → Bool

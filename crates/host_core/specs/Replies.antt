@@ -1,13 +1,9 @@
 -- The machine's reply that an answer of a call is.
 use Rattle.std.specs.Prelude.{ℕ, [], Result, Ok, Err}
-use Rattle.io_commands.specs.Drafts.{DraftContents}
-use Rattle.io_commands.specs.Values.{FinishedContents, TicketContents}
-use Rattle.io_commands.specs.Asked.{Request}
+use Rattle.io_commands.specs.{Asked.Request, Drafts.DraftContents, Values.{FinishedContents, TicketContents}}
+use Rattle.machine_model.specs.{Events.Reply, declared.words.Refusal.Refusal}
+use Rattle.host_core.specs.declared.{reap.Reap.Reap, refused.Refused.Refused}
 use Rattle.machine_model.specs.Events as events
-use Rattle.machine_model.specs.Events.{Reply}
-use Rattle.machine_model.specs.declared.words.Refusal.{Refusal}
-use Rattle.host_core.specs.declared.refused.Refused.{Refused}
-use Rattle.host_core.specs.declared.reap.Reap.{Reap}
 
 abbrev pub reserve_reply : Result DraftContents (Refused Request) → Reply
 reserve_reply (Ok d) = events.Reserved d

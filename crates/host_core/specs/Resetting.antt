@@ -1,23 +1,12 @@
 -- A controller reset, at the host.
-use Rattle.std.specs.Prelude.{◌≡◌, ◌<◌, ◌≤◌, ◌-◌, ℕ, ◌==◌, Bool, false, not, List, [], ◌∷◌, Some, length, map, slice_get}
-use Rattle.std.specs.List.{AllByRecursion}
-use Rattle.machine_model.specs.After.{admin_pages, after_reset, change, is_of_io, reset_records}
-use Rattle.machine_model.specs.Memory.{with_pages, zeroed_pages}
-use Rattle.machine_model.specs.State.{Record}
+use Rattle.std.specs.{List.AllByRecursion, Prelude.{◌≡◌, ◌<◌, ◌≤◌, ◌-◌, ℕ, ◌==◌, Bool, false, not, List, [], ◌∷◌, Some, length, map, slice_get}}
+use Rattle.machine_model.specs.{After.{admin_pages, after_reset, change, is_of_io, reset_records}, Memory.{with_pages, zeroed_pages}, State.Record}
 use Rattle.machine_model.specs.declared.words.HostState.TheVariants.{Gone}
-use Rattle.page_ledger.specs.Lists.{ListsAll}
-use Rattle.page_ledger.specs.Owners.{given_back, is_half, is_queue, owner_at}
-use Rattle.page_ledger.specs.declared.owner.Owner.{Owner}
-use Rattle.page_ledger.specs.declared.owner.Owner.TheVariants as owner
-use Rattle.page_memory.specs.Pages.{Pages}
-use Rattle.page_memory.specs.declared.page.Half.{Half}
+use Rattle.page_ledger.specs.{Lists.ListsAll, Owners.{given_back, is_half, is_queue, owner_at}, declared.owner.Owner.Owner}
+use Rattle.page_memory.specs.{Pages.Pages, declared.page.Half.Half}
 use Rattle.queue_pair.specs.Rings.{fresh_host_ring}
-use Rattle.host_core.specs.Alone.{HostView, alone}
-use Rattle.host_core.specs.Halves.{half_of}
-use Rattle.host_core.specs.Laws.{shown}
-use Rattle.host_core.specs.Rows.{Queue}
-use Rattle.host_core.specs.Sending.{renewed}
-use Rattle.host_core.specs.Tables.{Tables, view_of}
+use Rattle.host_core.specs.{Alone.{HostView, alone}, Halves.half_of, Laws.shown, Rows.Queue, Sending.renewed, Tables.{Tables, view_of}}
+use Rattle.page_ledger.specs.declared.owner.Owner.TheVariants as owner
 
 -- What contracts see: the host and the pages that the machine with no controller has behind a reset
 abbrev pub host_reset : HostView → Pages → HostView

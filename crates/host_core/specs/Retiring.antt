@@ -1,9 +1,7 @@
 -- The host gives the submission half of a deleted queue back.
 use Rattle.std.specs.Prelude.{ℕ, map}
-use Rattle.machine_model.specs.After.{lost}
-use Rattle.machine_model.specs.declared.words.HostState.TheVariants.{Retired}
-use Rattle.host_core.specs.Reaping.{without_submission}
-use Rattle.host_core.specs.Tables.{Tables}
+use Rattle.machine_model.specs.{After.lost, declared.words.HostState.TheVariants.Retired}
+use Rattle.host_core.specs.{Reaping.without_submission, Tables.Tables}
 
 -- a queue's commands that were never answered are lost
 abbrev pub with_lost : ℕ → Tables → Tables

@@ -1,11 +1,7 @@
 -- The values that a host hands to the doorbells.
-use Rattle.std.specs.Prelude.{ℕ, Bool, Option, None, false, slice_get, option_map, not}
-use Rattle.std.specs.Option.{option_map_or}
-use Rattle.machine_model.specs.Refusals.{in_service}
-use Rattle.machine_model.specs.declared.words.Reaped.{Reaped}
-use Rattle.machine_model.specs.declared.words.Reaped.TheVariants.{Empty, Done, AdminDone, Rejected}
-use Rattle.host_core.specs.Alone.{HostView}
-use Rattle.host_core.specs.Rows.{Queue}
+use Rattle.std.specs.{Option.option_map_or, Prelude.{ℕ, Bool, Option, None, false, slice_get, option_map, not}}
+use Rattle.machine_model.specs.{Refusals.in_service, declared.words.Reaped.{Reaped, TheVariants.{Empty, Done, AdminDone, Rejected}}}
+use Rattle.host_core.specs.{Alone.HostView, Rows.Queue}
 
 -- no queue of a number is in service
 abbrev pub lacks_submission : Option Queue → Bool

@@ -1,10 +1,9 @@
 -- A queue and a command of the host's tables, as contracts see them.
 use Rattle.std.specs.Prelude.{ℕ, ◌+◌, ◌==◌, Option, List, [], ◌∷◌, if◌then◌else◌}
 use Rattle.entry_codec.specs.declared.status.Status.{Status}
-use Rattle.machine_model.specs.Work.{Work}
-use Rattle.machine_model.specs.declared.words.Phase.{Phase}
+use Rattle.machine_model.specs.{Work.Work, declared.words.Phase.Phase}
 use Rattle.queue_pair.specs.Rings.{HostSide}
-use Rattle.slot_table.specs.Table.{Row}
+use Rattle.slot_table.specs.Rows.{Row}
 use Rattle.host_core.specs.declared.queue.Queue as queue
 
 -- they say nothing of where a queue's lists were made

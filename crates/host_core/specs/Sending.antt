@@ -1,32 +1,17 @@
 -- The host sends an admin command.
 use Rattle.std.specs.Prelude.{◌≡◌, ◌++◌, ◌∷◌, ◌*◌, ◌-◌, ◌==◌, ◌||◌, ◌&&◌, [], ℕ, Bool, List, Option, None, Some, true, false, nat_lt, not, length, position, slice_get}
-use Rattle.admin_commands.specs.Entries.{admin_entry}
-use Rattle.admin_commands.specs.declared.AdminKind.{AdminKind}
-use Rattle.admin_commands.specs.declared.AdminKind.TheVariants.{Abort, DeleteSq, DeleteCq, CreateCq, CreateSq}
-use Rattle.machine_model.specs.After.{change}
-use Rattle.machine_model.specs.Events as events
-use Rattle.machine_model.specs.Events.{Event}
+use Rattle.admin_commands.specs.{Entries.admin_entry, declared.AdminKind.{AdminKind, TheVariants.{Abort, DeleteSq, DeleteCq, CreateCq, CreateSq}}}
+use Rattle.machine_model.specs.{After.change, Events.Event, Memory.{with_pages, zeroed_pages}}
 use Rattle.machine_model.specs.Refusals.{cq_deletion_outstanding, in_state, is_changing, is_deleting, is_gone, is_half_made, is_io_queue, is_submitted, has_cq, has_cq_alone, no_io_queue, record_is, refusal_of, run_for}
-use Rattle.machine_model.specs.Memory.{with_pages, zeroed_pages}
-use Rattle.machine_model.specs.State.{Record, State, outstanding_on}
+use Rattle.machine_model.specs.{State.{Record, State, outstanding_on}, declared.words.HostState.{HostState, TheVariants.{Deleting, MakingCq, MakingSq}}}
+use Rattle.machine_model.specs.declared.words.{Phase.TheVariants.Submitted, Refusal.Refusal, Work.TheVariants.Management}
 use Rattle.page_ledger.specs.Owners.{pages_from, with_owner}
+use Rattle.page_memory.specs.declared.page.Half.{Half, TheVariants.{Submission, Completion}}
+use Rattle.queue_pair.specs.{Memory.half_pages, Rings.{HostSide, fresh_host_ring, none_claimed}, Slots.is_full}
+use Rattle.host_core.specs.{Commands.{passes, with_claim}, Posting.posted, Reaping.with_state, Rows.Queue, Tables.{Tables, state_of}}
+use Rattle.machine_model.specs.Events as events
 use Rattle.page_ledger.specs.declared.owner.Owner.TheVariants as owner
-use Rattle.page_memory.specs.declared.page.Half.{Half}
-use Rattle.page_memory.specs.declared.page.Half.TheVariants.{Submission, Completion}
-use Rattle.queue_pair.specs.Memory.{half_pages}
-use Rattle.queue_pair.specs.Rings.{HostSide, fresh_host_ring, none_claimed}
-use Rattle.machine_model.specs.declared.words.HostState.{HostState}
-use Rattle.machine_model.specs.declared.words.HostState.TheVariants.{Deleting, MakingCq, MakingSq}
-use Rattle.machine_model.specs.declared.words.Phase.TheVariants.{Submitted}
-use Rattle.machine_model.specs.declared.words.Refusal.{Refusal}
 use Rattle.machine_model.specs.declared.words.Refusal.TheVariants as refusal
-use Rattle.machine_model.specs.declared.words.Work.TheVariants.{Management}
-use Rattle.queue_pair.specs.Slots.{is_full}
-use Rattle.host_core.specs.Commands.{passes, with_claim}
-use Rattle.host_core.specs.Posting.{posted}
-use Rattle.host_core.specs.Reaping.{with_state}
-use Rattle.host_core.specs.Tables.{Tables, state_of}
-use Rattle.host_core.specs.Rows.{Queue}
 
 -- the call that sends a command
 abbrev pub sending : AdminKind → Event

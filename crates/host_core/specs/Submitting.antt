@@ -1,19 +1,12 @@
 -- The host submits a draft.
 use Rattle.std.specs.Prelude.{◌≡◌, ◌++◌, true, false, None, Some, slice_get}
-use Rattle.entry_codec.specs.Submission.{FitsSubmission}
-use Rattle.entry_codec.specs.declared.submission.SubEntry.{SubEntry}
+use Rattle.entry_codec.specs.{Submission.FitsSubmission, declared.submission.SubEntry.SubEntry}
 use Rattle.io_commands.specs.Drafts.{DraftContents}
+use Rattle.machine_model.specs.{Memory.with_pages, Proper.IsProperDraft, Refusals.{refusal_of, is_live}, State.with_record}
+use Rattle.queue_pair.specs.Slots.{is_full}
+use Rattle.host_core.specs.{Commands.BelongsToDraft, Posting.posted, Rows.Queue, Tables.{Tables, state_of}}
 use Rattle.machine_model.specs.After as a
 use Rattle.machine_model.specs.Events as events
-use Rattle.machine_model.specs.Memory.{with_pages}
-use Rattle.machine_model.specs.Proper.{IsProperDraft}
-use Rattle.machine_model.specs.Refusals.{refusal_of, is_live}
-use Rattle.machine_model.specs.State.{with_record}
-use Rattle.queue_pair.specs.Slots.{is_full}
-use Rattle.host_core.specs.Commands.{BelongsToDraft}
-use Rattle.host_core.specs.Posting.{posted}
-use Rattle.host_core.specs.Tables.{Tables, state_of}
-use Rattle.host_core.specs.Rows.{Queue}
 
 -- a draft's pages come in with its bytes, and its command is submitted
 abbrev pub brought_in : DraftContents → Tables → Tables

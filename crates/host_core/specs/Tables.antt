@@ -1,14 +1,10 @@
 -- What a host keeps, as plain lists, with the pages that it is lent, and the machine that both stand for.
 use Rattle.std.specs.Prelude.{ℕ, List, [], map, if◌then◌else◌}
-use Rattle.machine_model.specs.Refusals.{has_cq, has_sq}
-use Rattle.machine_model.specs.State.{State, Record, HostQueue}
-use Rattle.page_ledger.specs.Owners.{free_pages, pages_from}
-use Rattle.page_ledger.specs.declared.owner.Owner.{Owner}
-use Rattle.page_memory.specs.Pages.{Pages}
-use Rattle.page_memory.specs.declared.page.Half.TheVariants.{Submission, Completion}
+use Rattle.machine_model.specs.{Refusals.{has_cq, has_sq}, State.{State, Record, HostQueue}}
+use Rattle.page_ledger.specs.{Owners.{free_pages, pages_from}, declared.owner.Owner.Owner}
+use Rattle.page_memory.specs.{Pages.Pages, declared.page.Half.TheVariants.{Submission, Completion}}
 use Rattle.queue_pair.specs.Memory.{half_pages}
-use Rattle.host_core.specs.Alone.{HostView, alone}
-use Rattle.host_core.specs.Rows.{Queue}
+use Rattle.host_core.specs.{Alone.{HostView, alone}, Rows.Queue}
 
 -- the tables of a host: who owns each page, the outstanding commands, with how many queues they have places for and how many places of
 -- each, and the queues; beside them how many entries each ring and how many descriptors a full segment

@@ -1,13 +1,10 @@
 -- How many pages an event of the host touches, whose rings have n entries: the answer tells it.
 use Rattle.std.specs.Prelude.{◌≡◌, ℕ, ◌+◌, ◌≤◌, [], length}
-use Rattle.machine_model.specs.Events as events
-use Rattle.machine_model.specs.Events.{Event, Reply}
-use Rattle.machine_model.specs.declared.words.Refusal.{Refusal}
-use Rattle.machine_model.specs.declared.words.Refusal.TheVariants as refusal
-use Rattle.page_memory.specs.Memory.{TouchesMore}
-use Rattle.page_memory.specs.Pages.{Contents}
-use Rattle.page_memory.specs.declared.page.Half.TheVariants.{Submission, Completion}
+use Rattle.machine_model.specs.{Events.{Event, Reply}, declared.words.Refusal.Refusal}
+use Rattle.page_memory.specs.{Memory.TouchesMore, Pages.Contents, declared.page.Half.TheVariants.{Submission, Completion}}
 use Rattle.queue_pair.specs.Memory.{half_pages}
+use Rattle.machine_model.specs.Events as events
+use Rattle.machine_model.specs.declared.words.Refusal.TheVariants as refusal
 
 -- One page is written where an entry is posted, and one is read where a completion ring is looked at: by a reap, and by a retirement
 -- that ends, or finds the ring not drained. Each page counts that is taken out: for a draft or a finished command, and to be made zero, as

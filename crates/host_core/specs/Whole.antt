@@ -1,24 +1,15 @@
 -- What holds of a host's tables between its calls.
-use Rattle.std.specs.Prelude.{◌≡◌, ℕ, ◌+◌, ◌<◌, ◌≤◌, Bool, true, Option, Some, None, List, length, slice_get}
-use Rattle.std.specs.List.{AllByRecursion, list_any}
+use Rattle.std.specs.{List.{AllByRecursion, list_any}, Prelude.{◌≡◌, ℕ, ◌+◌, ◌<◌, ◌≤◌, Bool, true, Option, Some, None, List, length, slice_get}}
 use Rattle.entry_codec.specs.declared.status.Status.{Status}
-use Rattle.io_commands.specs.Requests.{data_count}
-use Rattle.io_commands.specs.Values.{IsGood}
+use Rattle.io_commands.specs.{Requests.data_count, Values.IsGood}
 use Rattle.machine_model.specs.Claims.{IsSound, HasOneOwner, IdentifiersDiffer, DeletionsFit, CreationsFit, NewQueuesAreBare, AdminLives, OwnsFit}
-use Rattle.machine_model.specs.State.{Record, is_at, pages_of}
-use Rattle.machine_model.specs.Work.{Work}
-use Rattle.machine_model.specs.declared.words.Phase.{Phase}
-use Rattle.machine_model.specs.declared.words.Phase.TheVariants.{Drafted, Submitted, Held, Collected}
+use Rattle.machine_model.specs.{State.{Record, is_at, pages_of}, Work.Work, declared.words.Phase.{Phase, TheVariants.{Drafted, Submitted, Held, Collected}}}
 use Rattle.machine_model.specs.declared.words.Work.TheVariants.{Io, Management}
-use Rattle.page_ledger.specs.Owners.{is_among, owner_at}
-use Rattle.page_ledger.specs.declared.owner.Owner.{Owner}
-use Rattle.page_ledger.specs.declared.owner.Owner.TheVariants as owner
-use Rattle.page_ledger.specs.declared.owner.Role.TheVariants.{Data, Chain}
-use Rattle.page_memory.specs.Pages.{IsPool}
-use Rattle.page_memory.specs.declared.page.Half.TheVariants.{Submission, Completion}
+use Rattle.page_ledger.specs.{Owners.{is_among, owner_at}, declared.owner.{Owner.Owner, Role.TheVariants.{Data, Chain}}}
+use Rattle.page_memory.specs.{Pages.IsPool, declared.page.Half.TheVariants.{Submission, Completion}}
 use Rattle.queue_pair.specs.Rings.{IsHostSide}
-use Rattle.host_core.specs.Rows.{Queue}
-use Rattle.host_core.specs.Tables.{Tables, state_of, view_of, sq_pages_of, cq_pages_of}
+use Rattle.host_core.specs.{Rows.Queue, Tables.{Tables, state_of, view_of, sq_pages_of, cq_pages_of}}
+use Rattle.page_ledger.specs.declared.owner.Owner.TheVariants as owner
 
 -- a queue speaks of its own rings, with its positions inside
 pub record IsQueue (n q : ℕ) (queue : Queue) : Type 0 where

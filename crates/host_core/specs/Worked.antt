@@ -1,16 +1,9 @@
 -- A host for worked runs: an admin queue in the pages 0 and 1, an I/O queue in the pages 2 and 3, four entries in each ring. A Read of one
 -- block into page 4 was submitted to the I/O queue as its first entry, and waits for its completion.
 use Rattle.std.specs.Prelude.{[], ◌∷◌, None, Some, replicate, true}
-use Rattle.entry_codec.specs.Completion.{completion_bytes}
-use Rattle.entry_codec.specs.declared.completion.ComEntry.{ComEntry}
-use Rattle.entry_codec.specs.declared.status.TheConstants.Status.{SUCCESS}
-use Rattle.io_commands.specs.Asked.{Request}
-use Rattle.io_commands.specs.declared.request.Kind.TheVariants.{Read}
-use Rattle.io_commands.specs.declared.request.Piece.TheVariants.{Data}
-use Rattle.machine_model.specs.State.{HostQueue, Record}
-use Rattle.machine_model.specs.declared.words.HostState.TheVariants.{Live}
-use Rattle.machine_model.specs.declared.words.Phase.TheVariants.{Submitted}
-use Rattle.machine_model.specs.declared.words.Work.TheVariants.{Io}
+use Rattle.entry_codec.specs.{Completion.completion_bytes, declared.{completion.ComEntry.ComEntry, status.TheConstants.Status.SUCCESS}}
+use Rattle.io_commands.specs.{Asked.Request, declared.request.{Kind.TheVariants.Read, Piece.TheVariants.Data}}
+use Rattle.machine_model.specs.{State.{HostQueue, Record}, declared.words.{HostState.TheVariants.Live, Phase.TheVariants.Submitted, Work.TheVariants.Io}}
 use Rattle.page_memory.specs.Pages.{Pages, with_page_bytes, zero_page}
 use Rattle.queue_pair.specs.Rings.{fresh_host_ring}
 use Rattle.host_core.specs.Alone.{HostView}

@@ -5,7 +5,8 @@ ghost use Rattle.std.specs.Option.{option_map_or};
 ghost use Rattle.machine_model.specs.After.{collected, held, lost, submitted};
 ghost use Rattle.machine_model.specs.Refusals.{is_submitted};
 ghost use Rattle.machine_model.specs.State.{is_at, with_record, without_record};
-ghost use Rattle.slot_table.specs.Table.{IsPlace, value_at};
+ghost use Rattle.slot_table.specs.Table.{IsPlace};
+ghost use Rattle.slot_table.specs.Rows.{value_at};
 ghost use Rattle.host_core.specs.Parts.{record_of, records_of, Becomes};
 
 use crate::parts::Parts;

@@ -1,27 +1,42 @@
--- What building a draft rests on.
-use Rattle.std.proofs.Common.{◌≡◌, ◌≤◌, ◌<◌, ◌+◌, ◌*◌, ℕ, zero, suc, List, [], ◌∷◌, ◌++◌, Some, None, refl, ap, subst, ◌∙◌, length, take, drop, length-append, arith}
-use Rattle.std.proofs.lemmas.List.{length-map, length-drop, length-take-le, get_or_append_left}
-use Rattle.std.proofs.Math.Seq.{take-append_seam, drop-append_seam}
+-- What building a draft rests on, and what its entry and pages say.
+use Rattle.sgl_descriptor.specs.declared.Part.TheVariants as part
+use Rattle.std.proofs.Common.{◌≡◌, ℕ, suc, List, [], ◌∷◌, refl, ap, length, arith, ◌≤◌, ◌<◌, ◌+◌, ◌*◌, zero, ◌++◌, Some, None, subst, ◌∙◌, take, drop, length-append, Option, sym, ◌-◌, ◌^◌, Bool, true, false, nat_le, All, if◌then◌else◌}
+use Rattle.std.proofs.{Math.Seq.{take-append_seam, drop-append_seam}, lemmas.{Bool.Decides.nat_tests, Grind.common_steps}}
+use Rattle.std.proofs.lemmas.List.{length-map, length-drop, length-take-le, get_or_append_left, length-take, Elements.{All-head, All-tail, All-nil, All-cons}}
+use Rattle.sgl_descriptor.specs.{Spelling.Fits, Targets.descriptor_of_part, declared.{Descriptor.Descriptor, Part.Part}}
+use Rattle.sgl_chain.{proofs.Joins.{joined_few, joined_from, from_list}, specs.Chains.{segment_bytes, Sgl, pages_needed, segments_on}}
+use Rattle.sgl_chain.specs.{Joining.{joined, joins, both}, Laws.LaidChainsSpell, Spells.{Holds, IsLaid, SpellsWhereLaid}}
+use Rattle.page_memory.specs.{Memory.Memory, Pages.with_bytes}
+use Rattle.io_commands.specs.{Asked.Request, DataBytes.{PagesOut, filled}}
+use Rattle.io_commands.specs.Drafts.{laid, DraftContents, IsDraft, built, draft_segments, draft_parts, draft_first, draft_entry, HoldsPages, SpellsItsParts, IsBuiltIfAny, IsBuilt, DraftsCarryTheirEntry, BuiltDraftsSpell}
+use Rattle.io_commands.specs.{Requests.{fault_of, data_count, parts_of, joined_parts, FitsPiece}, Values.{numbers_of, IsGood}, declared.request.Kind.Kind}
+use Rattle.io_commands.specs.declared.request.Piece.{Piece, TheVariants.{Data, Bucket}}
 use Rattle.entry_codec.specs.declared.submission.SubEntry.{SubEntry}
-use Rattle.sgl_descriptor.specs.declared.Descriptor.{Descriptor}
-use Rattle.std.proofs.lemmas.Grind.{common_steps}
-use Rattle.std.proofs.lemmas.Bool.Decides.{nat_tests}
-use Rattle.io_commands.specs.declared.request.Kind.{Kind}
-use Rattle.io_commands.specs.declared.request.Piece.{Piece}
-use Rattle.io_commands.specs.declared.request.Piece.TheVariants.{Data, Bucket}
-use Rattle.io_commands.specs.Asked.{Request}
-use Rattle.sgl_descriptor.specs.declared.Part.{Part}
-use Rattle.sgl_chain.specs.Chains.{Sgl, segment_bytes}
-use Rattle.sgl_chain.specs.Joining.{joined}
-use Rattle.sgl_chain.proofs.JoinedLists.{joined_few}
-use Rattle.sgl_chain.specs.Spells.{Holds, IsLaid, SpellsWhereLaid}
-use Rattle.page_memory.specs.Memory.{Memory}
-use Rattle.page_memory.specs.Pages.{with_bytes}
-use Rattle.io_commands.specs.Requests.{fault_of, data_count, parts_of, joined_parts}
-use Rattle.io_commands.specs.DataBytes.{PagesOut}
-use Rattle.io_commands.specs.Values.{numbers_of, IsGood}
-use Rattle.io_commands.specs.Drafts.{DraftContents, IsDraft, laid, built, draft_segments, draft_parts, draft_first, draft_entry, HoldsPages, SpellsItsParts}
-use Rattle.io_commands.proofs.Laying.{same_numbers, laid-laid, length-laid}
+
+-- Laying a chain in a draft's own pages.
+
+-- laying a chain again changes nothing
+twice : (page image : List ℕ) → with_bytes (with_bytes page 0 image) 0 image ≡ with_bytes page 0 image
+twice page image = grind (arith, common_steps)
+
+pub same_numbers : (segments : List (List Descriptor)) (pages : PagesOut) → length segments ≡ length pages → numbers_of (laid segments pages) ≡ numbers_of pages
+same_numbers [] [] same = refl
+same_numbers [] (page ∷ pages) same = absurd (omega (arith, same))
+same_numbers (s ∷ segments) [] same = absurd (omega (arith, same))
+same_numbers (s ∷ segments) (page ∷ pages) same = ap (λ (numbers : List ℕ). page.0 ∷ numbers) (same_numbers segments pages (omega (arith, same)))
+
+pub laid-laid : (segments : List (List Descriptor)) (pages : PagesOut) → laid segments (laid segments pages) ≡ laid segments pages
+laid-laid [] pages = refl
+laid-laid (s ∷ segments) [] = refl
+laid-laid (s ∷ segments) (page ∷ pages) = rw (twice page.1 (segment_bytes s), laid-laid segments pages) refl
+
+pub length-laid : (segments : List (List Descriptor)) (pages : PagesOut) → length segments ≡ length pages → length (laid segments pages) ≡ length pages
+length-laid [] [] same = refl
+length-laid [] (page ∷ pages) same = refl
+length-laid (s ∷ segments) [] same = refl
+length-laid (s ∷ segments) (page ∷ pages) same = ap suc (length-laid segments pages (omega (arith, same)))
+
+-- What building a draft rests on.
 
 pub some_pieces : (kind : Kind) (blocks : ℕ) (pieces : List Piece) → fault_of kind blocks pieces ≡ None → 0 < length pieces
 some_pieces kind zero [] h = cc
@@ -114,3 +129,141 @@ pub built_spells : (d : DraftContents) (chain : Sgl) → length (draft_segments 
 built_spells d chain count segments first spells = λ m held.
     rw (same_numbers (draft_segments d) d.chain_pages count, ← first)
     (spells m (rw segments (held_laid m (draft_segments d) d.chain_pages (omega (arith, count)) held)))
+
+-- Filling a draft's data pages.
+
+pub length-filled : (pieces : List Piece) (pages : PagesOut) (bytes : List ℕ) → length (filled pieces pages bytes) ≡ length pages
+length-filled [] pages bytes = refl
+length-filled (Bucket len ∷ pieces) pages bytes = length-filled pieces pages bytes
+length-filled (Data offset len ∷ pieces) [] bytes = refl
+length-filled (Data offset len ∷ pieces) (page ∷ pages) bytes = omega (arith, length-filled pieces pages (drop len bytes))
+
+pub numbers_of-filled : (pieces : List Piece) (pages : PagesOut) (bytes : List ℕ) → numbers_of (filled pieces pages bytes) ≡ numbers_of pages
+numbers_of-filled [] pages bytes = refl
+numbers_of-filled (Bucket len ∷ pieces) pages bytes = numbers_of-filled pieces pages bytes
+numbers_of-filled (Data offset len ∷ pieces) [] bytes = refl
+numbers_of-filled (Data offset len ∷ pieces) (page ∷ pages) bytes = ap (λ (numbers : List ℕ). page.0 ∷ numbers) (numbers_of-filled pieces pages (drop len bytes))
+
+-- the first pages are filled, and those behind stay
+pub front : (pieces : List Piece) (n : ℕ) (pages : PagesOut) (bytes : List ℕ) → n ≤ length pages →
+    take n (filled pieces (take n pages) bytes ++ drop n pages) ≡ filled pieces (take n pages) bytes
+front pieces n pages bytes few =
+    let count : length (filled pieces (take n pages) bytes) ≡ n = length-filled pieces (take n pages) bytes ∙ length-take-le n pages few in
+    subst (λ (k : ℕ). take k (filled pieces (take n pages) bytes ++ drop n pages) ≡ filled pieces (take n pages) bytes) count (take-append_seam (filled pieces (take n pages) bytes) (drop n pages))
+
+pub behind : (pieces : List Piece) (n : ℕ) (pages : PagesOut) (bytes : List ℕ) → n ≤ length pages →
+    drop n (filled pieces (take n pages) bytes ++ drop n pages) ≡ drop n pages
+behind pieces n pages bytes few =
+    let count : length (filled pieces (take n pages) bytes) ≡ n = length-filled pieces (take n pages) bytes ∙ length-take-le n pages few in
+    subst (λ (k : ℕ). drop k (filled pieces (take n pages) bytes ++ drop n pages) ≡ drop n pages) count (drop-append_seam (filled pieces (take n pages) bytes) (drop n pages))
+
+-- a draft whose data pages are filled
+built_filled : (d : DraftContents) (pages : PagesOut) (entry : Option SubEntry) → numbers_of pages ≡ numbers_of d.data_pages → IsBuiltIfAny d entry → IsBuiltIfAny (record d { data_pages = pages }) entry
+built_filled d pages None same h = tt
+built_filled d pages (Some e) same h = rw same (ap (λ (x : DraftContents). record x { data_pages = pages }) h)
+
+pub fill_keeps : (d : DraftContents) (bytes : List ℕ) → IsDraft d → IsDraft (record d { data_pages = filled d.request.pieces d.data_pages bytes })
+fill_keeps d bytes h =
+    record {
+      good = h.good;
+      low = h.low;
+      high = h.high;
+      pieces_have_pages = length-filled d.request.pieces d.data_pages bytes ∙ h.pieces_have_pages;
+      chain_has_pages = h.chain_has_pages
+          ∙ ap (λ (numbers : List ℕ). pages_needed (length (joined_parts d.request.pieces numbers)) d.segment) (sym (numbers_of-filled d.request.pieces d.data_pages bytes));
+      built = built_filled d (filled d.request.pieces d.data_pages bytes) d.entry (numbers_of-filled d.request.pieces d.data_pages bytes) h.built;
+    }
+
+-- a draft has its data pages
+pub enough_pages : (d : DraftContents) (pages : PagesOut) (n : ℕ) → n ≡ data_count d.request.pieces → length (take (data_count d.request.pieces) pages) ≡ data_count d.request.pieces → n ≤ length pages
+enough_pages d pages n is h = omega (arith, is, h, length-take (data_count d.request.pieces) pages)
+
+-- a draft's contents, once the first of its pages are filled
+pub filled_contents : (d : DraftContents) (items new : PagesOut) (n : ℕ) (bytes : List ℕ) → n ≡ data_count d.request.pieces → n ≤ length items → d.data_pages ≡ take n items → d.chain_pages ≡ drop n items →
+    new ≡ filled d.request.pieces (take n items) bytes ++ drop n items →
+    ◌≡◌ {A = DraftContents} (record d { data_pages = take (data_count d.request.pieces) new; chain_pages = drop (data_count d.request.pieces) new }) (record d { data_pages = filled d.request.pieces d.data_pages bytes })
+filled_contents d items new n bytes is few in_data in_chain wrote =
+    rw (← is, wrote, front d.request.pieces n items bytes few, behind d.request.pieces n items bytes few, in_data, ← in_chain) refl
+
+-- What a built draft's entry and pages say.
+
+-- a draft with an entry is built
+is_built : (d : DraftContents) (o : Option SubEntry) (entry : SubEntry) → o ≡ Some entry → IsBuiltIfAny d o → IsBuilt d
+is_built d None entry e h = absurd cc
+is_built d (Some other) entry e h = h
+
+pub carries_entry : DraftsCarryTheirEntry
+carries_entry d entry h e =
+    let same : built d ≡ d = is_built d d.entry entry e h.built in
+    let named : Some (draft_entry d) ≡ Some entry = ap (λ (x : DraftContents). x.entry) same ∙ e in
+    cc
+
+-- no chain has more segments than pages
+few_of : (b : Bool) (one more : List Descriptor) (rest : List (List Descriptor)) (n : ℕ) → length rest ≤ n → length (if b then one ∷ [] else more ∷ rest) ≤ suc n
+few_of true one more rest n few = omega arith
+few_of false one more rest n few = omega arith
+
+segments_few : (s : ℕ) (pages : List ℕ) (parts : List Part) → length (segments_on s pages parts) ≤ length pages
+segments_few s [] parts = omega arith
+segments_few s (page ∷ pages) parts = few_of (nat_le (length parts) s) _ _ _ (length pages) (segments_few s pages (drop (s - 1) parts))
+
+pub few_pieces : (kind : Kind) (blocks : ℕ) (pieces : List Piece) → fault_of kind blocks pieces ≡ None → length pieces ≤ 1024
+few_pieces kind blocks pieces h = grind (arith, nat_tests)
+
+-- the fields of a draft's parts fit their types
+abbrev FitsPart : Part → Type 0
+FitsPart part = Fits (descriptor_of_part part)
+
+parts_fit : (pieces : List Piece) (numbers : List ℕ) → All FitsPiece pieces → All (λ page. page < 2 ^ 32) numbers → All FitsPart (parts_of pieces numbers)
+parts_fit [] numbers fit low = All-nil FitsPart
+parts_fit (Bucket len ∷ pieces) numbers fit low =
+    All-cons FitsPart (part.Bucket len) (parts_of pieces numbers) (All-head FitsPiece (Bucket len) pieces fit) (parts_fit pieces numbers (All-tail FitsPiece (Bucket len) pieces fit) low)
+parts_fit (Data offset len ∷ pieces) [] fit low = All-nil FitsPart
+parts_fit (Data offset len ∷ pieces) (n ∷ numbers) fit low =
+    let here = All-head FitsPiece (Data offset len) pieces fit in
+    let page : n < 2 ^ 32 = All-head (λ page. page < 2 ^ 32) n numbers low in
+    All-cons FitsPart (part.Data (4096 * n + offset) len) (parts_of pieces numbers) (omega (arith, here.0), here.1)
+    (parts_fit pieces numbers (All-tail FitsPiece (Data offset len) pieces fit) (All-tail (λ page. page < 2 ^ 32) n numbers low))
+
+-- and so do those of the joined ones: what two become is where the first is, and their lengths together fit
+both_fits : (part next : Part) → joins part next ≡ true → FitsPart part → FitsPart (both part next)
+both_fits (part.Data addr len) (part.Data next more) is fit = (fit.0, grind (arith, nat_tests))
+both_fits (part.Data addr len) (part.Bucket more) is fit = fit
+both_fits (part.Bucket len) next is fit = fit
+
+either_fit : (b : Bool) (xs ys : List Part) → (b ≡ true → All FitsPart xs) → All FitsPart ys → All FitsPart (if b then xs else ys)
+either_fit true xs ys p q = p refl
+either_fit false xs ys p q = q
+
+from_fit : (part : Part) (parts : List Part) → FitsPart part → All FitsPart parts → All FitsPart (joined_from part parts)
+from_fit part [] fit fits = All-cons FitsPart part [] fit fits
+from_fit part (next ∷ parts) fit fits =
+    let here = All-head FitsPart next parts fits in
+    let behind = All-tail FitsPart next parts fits in
+    either_fit (joins part next) (joined_from (both part next) parts) (part ∷ joined_from next parts)
+    (λ is. from_fit (both part next) parts (both_fits part next is fit) behind)
+    (All-cons FitsPart part (joined_from next parts) fit (from_fit next parts here behind))
+
+joined_fit : (parts : List Part) → All FitsPart parts → All FitsPart (joined parts)
+joined_fit [] fits = All-nil FitsPart
+joined_fit (part ∷ parts) fits =
+    subst (All FitsPart) (sym (from_list part parts)) (from_fit part parts (All-head FitsPart part parts fits) (All-tail FitsPart part parts fits))
+
+pub built_drafts_spell : ((s : ℕ) → LaidChainsSpell s) → BuiltDraftsSpell
+built_drafts_spell law d entry h fits e = λ m held.
+    let enough : data_count d.request.pieces ≤ length (numbers_of d.data_pages) = omega (arith, length-map d.data_pages (λ page. page.0), h.pieces_have_pages) in
+    let laid_there : laid (draft_segments d) d.chain_pages ≡ d.chain_pages = ap (λ (x : DraftContents). x.chain_pages) (is_built d d.entry entry e h.built) in
+    let few : length (draft_segments d) ≤ length d.chain_pages = omega (arith, segments_few d.segment (numbers_of d.chain_pages) (draft_parts d), length-map d.chain_pages (λ page. page.0)) in
+    law d.segment (numbers_of d.chain_pages) (draft_parts d)
+    (record {
+      low = h.low;
+      high = h.high;
+      some = some_parts d.request (numbers_of d.data_pages) h.good enough;
+      needed = length-map d.chain_pages (λ page. page.0) ∙ h.chain_has_pages;
+    })
+    (record {
+      pages_fit = fits.chain_pages;
+      parts_fit = joined_fit (parts_of d.request.pieces (numbers_of d.data_pages)) (parts_fit d.request.pieces (numbers_of d.data_pages) fits.request.pieces fits.data_pages);
+    })
+    (omega (arith, joined_parts_few d.request.pieces (numbers_of d.data_pages), few_pieces d.request.kind d.request.blocks d.request.pieces h.good))
+    m (held_laid m (draft_segments d) d.chain_pages few (subst (HoldsPages m) (sym laid_there) held))

@@ -1,8 +1,7 @@
 -- The bytes of a command's data pages: how they are filled, and how they are gathered, piece by piece.
 use Rattle.std.specs.Prelude.{ℕ, ◌+◌, List, [], ◌∷◌, ◌++◌, take, drop, slice_range}
 use Rattle.page_memory.specs.Pages.{with_bytes}
-use Rattle.io_commands.specs.declared.request.Piece.{Piece}
-use Rattle.io_commands.specs.declared.request.Piece.TheVariants.{Data, Bucket}
+use Rattle.io_commands.specs.declared.request.Piece.{Piece, TheVariants.{Data, Bucket}}
 
 -- pages outside the store: their numbers and their bytes
 abbrev pub PagesOut : Type 0

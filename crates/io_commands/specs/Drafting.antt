@@ -1,8 +1,5 @@
 -- Drafts as their type keeps them.
-use Rattle.io_commands.specs.declared.draft.Draft.TheInside.{Inside}
-use Rattle.io_commands.specs.Requests.{FitsRequest}
-use Rattle.io_commands.specs.Values.{data_part, chain_part}
-use Rattle.io_commands.specs.Drafts.{DraftContents, IsDraft}
+use Rattle.io_commands.specs.{Drafts.{DraftContents, IsDraft}, Requests.FitsRequest, Values.{data_part, chain_part}, declared.draft.Draft.TheInside.Inside}
 
 abbrev pub contents_of : {A : Type 0} → Inside A → DraftContents
 contents_of d =

@@ -1,17 +1,10 @@
 -- Drafts: a command that is being prepared outside the store.
 use Rattle.std.specs.Prelude.{◌≡◌, ◌≤◌, ◌<◌, ◌*◌, ◌-◌, ◌/◌, ◌%◌, ◌^◌, ℕ, Option, None, Some, List, [], ◌∷◌, length, All}
-use Rattle.sgl_descriptor.specs.declared.Descriptor.{Descriptor}
-use Rattle.sgl_descriptor.specs.declared.Part.{Part}
-use Rattle.sgl_descriptor.specs.Spelling.{spelling}
-use Rattle.sgl_chain.specs.Chains.{pages_needed, first_of, segments_on, segment_bytes}
-use Rattle.sgl_chain.specs.Spells.{Spells, Holds}
-use Rattle.page_memory.specs.Memory.{Memory}
-use Rattle.page_memory.specs.Pages.{with_bytes}
+use Rattle.sgl_descriptor.specs.{Spelling.spelling, declared.{Descriptor.Descriptor, Part.Part}}
+use Rattle.sgl_chain.specs.{Chains.{pages_needed, first_of, segments_on, segment_bytes}, Spells.{Spells, Holds}}
+use Rattle.page_memory.specs.{Memory.Memory, Pages.with_bytes}
 use Rattle.entry_codec.specs.declared.submission.SubEntry.{SubEntry}
-use Rattle.io_commands.specs.Asked.{Request}
-use Rattle.io_commands.specs.Requests.{opcode_of, data_count, joined_parts, FitsRequest}
-use Rattle.io_commands.specs.DataBytes.{PagesOut}
-use Rattle.io_commands.specs.Values.{numbers_of, IsGood}
+use Rattle.io_commands.specs.{Asked.Request, DataBytes.PagesOut, Requests.{opcode_of, data_count, joined_parts, FitsRequest}, Values.{numbers_of, IsGood}}
 
 -- a draft: its pages with their bytes, one for each data piece and those of the chain, and its entry once it is built
 pub record DraftContents : Type 0 where

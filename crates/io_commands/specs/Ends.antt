@@ -1,8 +1,6 @@
 -- How commands may end.
 use Rattle.std.specs.Prelude.{◌<◌, ◌==◌, ◌&&◌, Bool, Option, IfSome}
-use Rattle.entry_codec.specs.declared.admin_opcode.TheConstants.{DELETE_IO_SQ}
-use Rattle.entry_codec.specs.declared.status.Status.{Status}
-use Rattle.entry_codec.specs.declared.submission.SubEntry.{SubEntry}
+use Rattle.entry_codec.specs.declared.{admin_opcode.TheConstants.DELETE_IO_SQ, status.Status.Status, submission.SubEntry.SubEntry}
 use Rattle.io_commands.specs.Jobs.{is_success}
 
 -- a status that a completion can carry

@@ -1,8 +1,6 @@
 -- Finished commands as their type keeps them.
 use Rattle.std.specs.Prelude.{◌≤◌, length}
-use Rattle.io_commands.specs.declared.finished.Finished.TheInside.{Inside}
-use Rattle.io_commands.specs.Requests.{data_count}
-use Rattle.io_commands.specs.Values.{FinishedContents, IsGood, data_part, chain_part}
+use Rattle.io_commands.specs.{Requests.data_count, Values.{FinishedContents, IsGood, data_part, chain_part}, declared.finished.Finished.TheInside.Inside}
 
 abbrev pub contents_of : {A : Type 0} → Inside A → FinishedContents
 contents_of f =

@@ -3,21 +3,15 @@
 use Rattle.std.specs.Prelude.{◌≡◌, ◌↔◌, ◌≤◌, ◌+◌, ◌*◌, ◌-◌, ◌/◌, ◌%◌, ◌^◌, ◌==◌, ◌||◌, ◌&&◌, ℕ, Bool, false, not, nat_lt, is_none, IsSome, List, [], ◌∷◌, length, replicate, Option, Some, None, if◌then◌else◌}
 use Rattle.std.specs.Str.{bytes_eq}
 use Rattle.block_image.specs.Blocks.{blocks_at, with_blocks}
-use Rattle.controller_walk.specs.declared.walk.Walk.{Walk}
-use Rattle.controller_walk.specs.declared.walk.WalkState.{WalkState}
+use Rattle.controller_walk.specs.{Units.{Course, Closes, course_of_list, first_passing}, declared.walk.{Walk.Walk, WalkState.WalkState}}
 use Rattle.controller_walk.specs.declared.walk.WalkState.TheVariants.{More, End, Fault}
-use Rattle.controller_walk.specs.Units.{Course, Closes, course_of_list, first_passing}
-use Rattle.controller_walk.specs.Walks as walks
-use Rattle.entry_codec.specs.declared.io_opcode.TheConstants.{READ, WRITE, COMPARE}
-use Rattle.entry_codec.specs.declared.status.Status.{Status}
+use Rattle.entry_codec.specs.declared.{io_opcode.TheConstants.{READ, WRITE, COMPARE}, status.Status.Status}
 use Rattle.entry_codec.specs.declared.status.TheConstants.Status.{SUCCESS, INVALID_OPCODE, INVALID_FIELD, INVALID_NAMESPACE, LBA_OUT_OF_RANGE, COMPARE_FAILURE}
 use Rattle.entry_codec.specs.declared.submission.SubEntry.{SubEntry}
 use Rattle.page_memory.specs.Memory.{Memory}
-use Rattle.sgl_descriptor.specs.declared.Direction.{Direction}
-use Rattle.sgl_descriptor.specs.declared.Direction.TheVariants.{Source}
-use Rattle.io_commands.specs.declared.request.Kind.{Kind}
-use Rattle.io_commands.specs.declared.request.Kind.TheVariants.{Read, Write, Compare}
-use Rattle.io_commands.specs.Requests.{direction_of}
+use Rattle.sgl_descriptor.specs.declared.Direction.{Direction, TheVariants.Source}
+use Rattle.io_commands.specs.{Requests.direction_of, declared.request.Kind.{Kind, TheVariants.{Read, Write, Compare}}}
+use Rattle.controller_walk.specs.Walks as walks
 
 abbrev pub kind_of_opcode : ℕ → Option Kind
 kind_of_opcode opcode = first_passing ((opcode == WRITE, Write) ∷ (opcode == READ, Read) ∷ (opcode == COMPARE, Compare) ∷ [])

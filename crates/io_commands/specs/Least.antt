@@ -1,13 +1,8 @@
 -- The fewest pages that a request takes: those of its data, and those of its chain where its data pages are consecutive ones.
-use Rattle.std.specs.Prelude.{◌≡◌, ◌≢◌, ◌≤◌, ◌<◌, ◌+◌, ℕ, List, length, slice_index}
-use Rattle.std.specs.List.{range_with_len}
+use Rattle.std.specs.{List.range_with_len, Prelude.{◌≡◌, ◌≢◌, ◌≤◌, ◌<◌, ◌+◌, ℕ, List, length, slice_index}}
 use Rattle.sgl_descriptor.specs.declared.Part.{Part}
-use Rattle.sgl_chain.specs.Chains.{pages_needed}
-use Rattle.sgl_chain.specs.Joining.{joined}
-use Rattle.io_commands.specs.declared.request.Piece.{Piece}
-use Rattle.io_commands.specs.Asked.{Request}
-use Rattle.io_commands.specs.Requests.{data_count, parts_of, joined_parts}
-use Rattle.io_commands.specs.Values.{IsGood}
+use Rattle.sgl_chain.specs.{Chains.pages_needed, Joining.joined}
+use Rattle.io_commands.specs.{Asked.Request, Requests.{data_count, parts_of, joined_parts}, Values.IsGood, declared.request.Piece.Piece}
 
 -- the parts of pieces in consecutive pages, from one on
 abbrev pub parts_in_a_run : List Piece → ℕ → List Part

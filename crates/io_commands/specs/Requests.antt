@@ -1,20 +1,13 @@
 -- What a host asks for: which blocks, in which direction, and the pieces of memory that take part.
+use Rattle.std.specs.List.{list_any}
 use Rattle.std.specs.Prelude.{ℕ, ◌+◌, ◌*◌, ◌^◌, ◌<◌, ◌==◌, nat_lt, Bool, true, false, ◌||◌, not, Option, List, [], ◌∷◌, length, sum_by, count_by, All}
 use Rattle.controller_walk.specs.Units.{first_passing}
-use Rattle.std.specs.List.{list_any}
-use Rattle.sgl_descriptor.specs.declared.Direction.{Direction}
-use Rattle.sgl_descriptor.specs.declared.Direction.TheVariants.{Destination, Source}
-use Rattle.sgl_descriptor.specs.declared.Part.{Part}
-use Rattle.sgl_descriptor.specs.declared.Part.TheVariants as part
+use Rattle.sgl_descriptor.specs.declared.{Direction.{Direction, TheVariants.{Destination, Source}}, Part.Part}
 use Rattle.sgl_chain.specs.Joining.{joined}
 use Rattle.entry_codec.specs.declared.io_opcode.TheConstants.{READ, WRITE, COMPARE}
-use Rattle.io_commands.specs.declared.request.Kind.{Kind}
-use Rattle.io_commands.specs.declared.request.Kind.TheVariants.{Read, Write, Compare}
-use Rattle.io_commands.specs.declared.request.Piece.{Piece}
-use Rattle.io_commands.specs.declared.request.Piece.TheVariants.{Data, Bucket}
-use Rattle.io_commands.specs.Asked.{Request}
-use Rattle.io_commands.specs.declared.request.RequestFault.{RequestFault}
-use Rattle.io_commands.specs.declared.request.RequestFault.TheVariants.{TooManyPieces, EmptyPiece, CrossesPage, BadCount, LengthMismatch}
+use Rattle.io_commands.specs.{Asked.Request, declared.request.{Kind.{Kind, TheVariants.{Read, Write, Compare}}, Piece.{Piece, TheVariants.{Data, Bucket}}}}
+use Rattle.io_commands.specs.declared.request.RequestFault.{RequestFault, TheVariants.{TooManyPieces, EmptyPiece, CrossesPage, BadCount, LengthMismatch}}
+use Rattle.sgl_descriptor.specs.declared.Part.TheVariants as part
 
 -- a Read brings data to the host's pages, a Write and a Compare take it from them
 abbrev pub direction_of : Kind → Direction

@@ -1,12 +1,8 @@
 -- What tickets and finished commands are.
 use Rattle.std.specs.Prelude.{◌≡◌, ℕ, None, List, [], map, take, drop, sum_by}
 use Rattle.entry_codec.specs.declared.status.Status.{Status}
-use Rattle.io_commands.specs.Asked.{Request}
-use Rattle.io_commands.specs.declared.request.Piece.{Piece}
-use Rattle.io_commands.specs.declared.request.Kind.{Kind}
-use Rattle.io_commands.specs.declared.request.Kind.TheVariants.{Read, Write, Compare}
-use Rattle.io_commands.specs.Requests.{data_count, fault_of}
-use Rattle.io_commands.specs.DataBytes.{PagesOut, data_length, gathered}
+use Rattle.io_commands.specs.{Asked.Request, DataBytes.{PagesOut, data_length, gathered}, Requests.{data_count, fault_of}, declared.request.Kind.Kind}
+use Rattle.io_commands.specs.declared.request.{Kind.TheVariants.{Read, Write, Compare}, Piece.Piece}
 
 -- a submitted command
 pub record TicketContents : Type 0 where

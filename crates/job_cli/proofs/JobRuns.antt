@@ -1,36 +1,130 @@
 -- Runs of scripts of jobs: who does which job, what is printed, and how a run ends.
-use Rattle.std.proofs.Common.{arith, ◌≡◌, ◌<◌, ◌==◌, ◌⊎◌, inl, inr, ℕ, Bool, true, false, Option, Some, None, Result, Ok, Err, List, [], ◌∷◌, ◌++◌, append_assoc, is_some, length, length-set, length-append, get_or, map, replicate, slice_get, slice_set, if◌then◌else◌, refl, sym, ap, ◌∙◌, subst, eqb-true, zero, suc, ◌+◌, option_and_then}
-use Rattle.std.specs.Prelude.{All, IfErr, IsErrAnd, OnErr, OnOk}
-use Rattle.std.specs.Io.KnownBytes.{Appends, Keeps}
-use Rattle.std.proofs.lemmas.Bool.{eqb-false, eq-eqb}
-use Rattle.std.proofs.lemmas.Grind.{common_steps}
-use Rattle.std.proofs.lemmas.List.{append-nil, length-replicate, get_or-map, get_or-replicate, get_or_at, map-set}
-use Rattle.std.proofs.lemmas.Option.{slice_get-get_or, get_or_from_slice_get}
-use Rattle.driver_threads.specs.Runs.{RefusesRun}
-use Rattle.driver_threads.specs.Values.{Job, JobEnd}
+use Rattle.script_cli.specs.declared.fault.ScriptFault.TheVariants as fault
 use Rattle.driver_threads.specs.declared.jobs.RunFault as threads_fault
 use Rattle.driver_threads.specs.declared.jobs.RunFault.TheVariants as threads
-use Rattle.driver_book.specs.declared.log.CloseFault.TheVariants as closing
+use Rattle.driver_book.specs.declared.report.CloseFault.TheVariants as closing
 use Rattle.machine_model.specs.declared.words.OpenRefusal.TheVariants as opening
-use Rattle.page_ledger.specs.declared.owner.Counts.{Counts}
-use Rattle.page_ledger.specs.declared.owner.Owner.{Owner}
-use Rattle.page_ledger.proofs.Tables.{slice_get-set_same, slice_get-set_other}
-use Rattle.script_cli.proofs.Inputs.{appends_more, keeps_then}
-use Rattle.script_cli.proofs.Limits.{same_if_short}
-use Rattle.job_cli.specs.Faults.{fault_of_threads}
-use Rattle.script_cli.specs.Faults.{fault_of_script}
-use Rattle.job_cli.specs.Headings.{heading_at, heading, headings_from, end_at, headed_text, headed_lines}
-use Rattle.script_cli.specs.Inputs.{AreFirstOf, Gains, IsFront}
-use Rattle.job_cli.specs.JobRuns.{is_of, jobs_for, AreListsOf, end_of, ended_text, job_lines, all_ended, closing_text, IsLeftFrom, IsJobsText, HasJobs, HasJobFault, IsNoJobs, IsNoRun, WritesJobs, EndsJobsWith}
-use Rattle.job_cli.specs.Jobs.{jobs_in, jobs_of, IsReadAs}
-use Rattle.script_cli.specs.declared.fault.RunFault.{RunFault}
 use Rattle.script_cli.specs.declared.fault.RunFault.TheVariants as run
+use Rattle.std.proofs.Common.{arith, ℕ, ◌≡◌, ◌≤◌, ◌+◌, List, ◌∷◌, Bool, true, false, nat_lt, Option, Result, Ok, Err, length, refl, ◌<◌, ◌^◌, Some, None, [], codes, if◌then◌else◌, ◌==◌, ◌⊎◌, inl, inr, ◌++◌, append_assoc, is_some, length-set, length-append, get_or, map, replicate, slice_get, slice_set, sym, ap, ◌∙◌, subst, eqb-true, zero, suc, option_and_then, true≢false, not}
+use Rattle.std.proofs.lemmas.{Bool.{ltb-true, eqb-false, eq-eqb, or_parts}, Grind.common_steps}
+use Rattle.std.proofs.lemmas.List.{append-nil, length-replicate, get_or-map, get_or-replicate, get_or_at, map-set, length-map, map-append}
+use Rattle.std.{proofs.lemmas.{List.Elements.{All-nil, All-push}, Option.{slice_get-get_or, get_or_from_slice_get}}, specs.Io.KnownBytes.{Appends, Keeps}}
+use Rattle.std.specs.{List.list_any, Prelude.{All, IfOk, IfSome, IfErr, IsErrAnd, OnErr, OnOk}, Str.bytes_eq}
+use Rattle.job_cli.specs.{Faults.fault_of_threads, GoneOn.{Round, GoOn, HasGoneOn, logs_of, receipts_of}}
+use Rattle.job_cli.specs.Headings.{heading_at, heading, headings_from, end_at, headed_text, headed_lines}
+use Rattle.job_cli.specs.JobRuns.{is_of, jobs_for, AreListsOf, end_of, ended_text, job_lines, all_ended, closing_text, IsLeftFrom, IsJobsText, HasJobs, HasJobFault, IsNoJobs, IsNoRun, WritesJobs, EndsJobsWith, IsWanting}
+use Rattle.job_cli.specs.Jobs.{numbered_job, with_job, jobs_from, jobs_in, jobs_of, IsReadAs, head_words, data_words, job_words, some_job, job_of_words, job_of_line, at_line, then_jobs}
+use Rattle.job_cli.specs.declared.{job_runs.Heading.Heading, jobs.JobLine.JobLine}
+use Rattle.script_cli.{proofs.{Runs.{number_fits, then_fits, whatever_fits}, Texts.{appends_more, keeps_then, same_if_short}}, specs.Faults.fault_of_script}
+use Rattle.script_cli.specs.{Grammar.{Words, number_word, kind_word, pieces_from, begins_comment, words_of}, Inputs.{AreFirstOf, Gains, IsFront}, Lines.lines}
+use Rattle.script_cli.specs.{Runs.AreOwners, declared.fault.{LineFault.{LineFault, TheVariants.{UnknownVerb, TooManyLines}}, RunFault.RunFault}}
 use Rattle.script_cli.specs.declared.fault.ScriptFault.{ScriptFault}
-use Rattle.script_cli.specs.declared.fault.ScriptFault.TheVariants as fault
-use Rattle.job_cli.specs.declared.job_runs.Heading.{Heading}
-use Rattle.job_cli.specs.declared.jobs.JobLine.{JobLine}
-use Rattle.step_core.specs.Opening.{opening_of}
-use Rattle.host_core.specs.declared.config.Config.{Config}
+use Rattle.driver_threads.{proofs.UnderWay.{behind_none, behind_long}, specs.{Behind.behind, Ends.{AllAgree, ends_of, statuses_of}}}
+use Rattle.driver_threads.specs.{Runs.{RefusesRun, EndsRound, IsAfterOpening}, Values.{Job, JobEnd}, declared.jobs.JobEnd.TheVariants.{Done, Refused}}
+use Rattle.page_ledger.{proofs.Tables.{slice_get-set_same, slice_get-set_other}, specs.declared.owner.{Counts.Counts, Owner.Owner}}
+use Rattle.step_core.specs.{Opening.opening_of, World.WorldContents}
+use Rattle.host_core.specs.{Opening.refusal_of_config, declared.config.Config.Config}
+use Rattle.block_image.specs.Blocks.{IsImage}
+use Rattle.driver_book.{proofs.Runs.{leads_on, logs_of_jobs_are_runs}, specs.{Entries.{Entry, LogContents}, History.LeadsTo, State.AreOfJobs}}
+use Rattle.driver_book.specs.declared.report.Receipt.{Receipt}
+use Rattle.machine_model.specs.{Claims.counts_of, State.State}
+
+-- A script of jobs is read line by line.
+
+-- a line without a fault
+pub job_is_next : (submitters : ℕ) (so_far : List JobLine) (number : ℕ) (bytes : List ℕ) (rest : List (List ℕ)) (what : Option JobLine) → numbered_job submitters number bytes ≡ Ok what →
+    jobs_from submitters so_far number (bytes ∷ rest) ≡ jobs_from submitters (with_job so_far what) (number + 1) rest
+job_is_next submitters so_far number bytes rest what good = rw good refl
+
+-- the first line with a fault
+pub fault_ends : (submitters : ℕ) (so_far : List JobLine) (number : ℕ) (bytes : List ℕ) (rest : List (List ℕ)) (text : List ℕ) (why : ScriptFault) → IsReadAs (numbered_job submitters number bytes) (Err why) →
+    jobs_from submitters so_far number (bytes ∷ rest) ≡ jobs_in submitters text → IsReadAs (jobs_in submitters text) (Err why)
+fault_ends submitters so_far number bytes rest text fault.TooLong bad same = rw (← same) (rw bad refl)
+fault_ends submitters so_far number bytes rest text (fault.Line at why) bad same = rw (← same) (rw bad refl)
+fault_ends submitters so_far number bytes rest text fault.Memory bad same = tt
+
+pub jobs_are_read : (submitters : ℕ) (text : List ℕ) (read : Result (List JobLine) ScriptFault) → length text ≤ 1048576 → IsReadAs (jobs_in submitters text) read → IsReadAs (jobs_of submitters text) read
+jobs_are_read submitters text read small lined = go (nat_lt 1048576 (length text)) refl read lined
+  where
+    go : (v : Bool) → nat_lt 1048576 (length text) ≡ v → (read : Result (List JobLine) ScriptFault) → IsReadAs (jobs_in submitters text) read → IsReadAs (jobs_of submitters text) read
+    go true e read lined = absurd (omega (arith, ltb-true 1048576 (length text) e))
+    go false e (Ok script) lined = rw e lined
+    go false e (Err fault.TooLong) lined = rw e lined
+    go false e (Err (fault.Line number why)) lined = rw e lined
+    go false e (Err fault.Memory) lined = tt
+
+-- Each job of a script is of one of its submitters.
+
+-- a line of a submitter below a number
+abbrev IsBelow : ℕ → JobLine → Type 0
+IsBelow n line = line.submitter < n
+
+abbrev IsJobBelow : ℕ → Option JobLine → Type 0
+IsJobBelow n found = IfSome found (IsBelow n)
+
+head_below : (n : ℕ) (ws : Words) → IfOk (head_words n ws) (λ r. r.0.submitter < n)
+unfolding head_words
+head_below n ws =
+    then_fits (λ k. k.0 < n) (λ r. r.0.submitter < n) (number_word n ws) _ (number_fits n ws) λ submitter low.
+    whatever_fits (λ r. r.0.submitter < n) (number_word (2 ^ 16) submitter.1) _ λ q.
+    whatever_fits (λ r. r.0.submitter < n) (kind_word q.1) _ λ kind.
+    whatever_fits (λ r. r.0.submitter < n) (number_word (2 ^ 64) kind.1) _ λ slba.
+    whatever_fits (λ r. r.0.submitter < n) (number_word (2 ^ 32) slba.1) _ λ blocks.
+    low
+
+job_below : (n number : ℕ) (ws : Words) → IfOk (job_words n number ws) (IsBelow n)
+unfolding job_words
+job_below n number ws =
+    then_fits (λ r. r.0.submitter < n) (IsBelow n) (head_words n ws) _ (head_below n ws) λ head low.
+    whatever_fits (IsBelow n) (data_words head.0.kind head.1) _ λ bytes.
+    whatever_fits (IsBelow n) (pieces_from [] bytes.1) _ λ pieces.
+    low
+
+some_below : (n : ℕ) (r : Result JobLine LineFault) → IfOk r (IsBelow n) → IfOk (some_job r) (IsJobBelow n)
+some_below n (Ok line) below = below
+some_below n (Err why) below = tt
+
+words_below : (n number : ℕ) (ws : Words) → IfOk (job_of_words n number ws) (IsJobBelow n)
+words_below n number [] = tt
+words_below n number (first ∷ rest) = go (begins_comment first) (bytes_eq first (codes "job"))
+  where
+    go : (a b : Bool) → IfOk (if a then Ok None else if b then some_job (job_words n number rest) else Err UnknownVerb) (IsJobBelow n)
+    go true b = tt
+    go false true = some_below n (job_words n number rest) (job_below n number rest)
+    go false false = tt
+
+line_below : (n number : ℕ) (bytes : List ℕ) → IfOk (job_of_line n number bytes) (IsJobBelow n)
+line_below n number bytes = whatever_fits (IsJobBelow n) (words_of bytes) (job_of_words n number) (words_below n number)
+
+at_line_below : (n number : ℕ) (r : Result (Option JobLine) LineFault) → IfOk r (IsJobBelow n) → IfOk (at_line number r) (IsJobBelow n)
+at_line_below n number (Ok found) below = below
+at_line_below n number (Err why) below = tt
+
+numbered_below : (n number : ℕ) (bytes : List ℕ) → IfOk (numbered_job n number bytes) (IsJobBelow n)
+numbered_below n number bytes = go (nat_lt 65536 number)
+  where
+    go : (b : Bool) → IfOk (if b then Err (fault.Line number TooManyLines) else at_line number (job_of_line n number bytes)) (IsJobBelow n)
+    go true = tt
+    go false = at_line_below n number (job_of_line n number bytes) (line_below n number bytes)
+
+with_job_below : (n : ℕ) (so_far : List JobLine) (found : Option JobLine) → All (IsBelow n) so_far → IsJobBelow n found → All (IsBelow n) (with_job so_far found)
+with_job_below n so_far None all below = all
+with_job_below n so_far (Some line) all below = All-push (IsBelow n) so_far line all below
+
+lines_below : (n : ℕ) (so_far : List JobLine) (number : ℕ) (bytes : List (List ℕ)) → All (IsBelow n) so_far → IfOk (jobs_from n so_far number bytes) (All (IsBelow n))
+lines_below n so_far number [] all = all
+lines_below n so_far number (bytes ∷ rest) all = go (numbered_job n number bytes) (numbered_below n number bytes) (λ more below. lines_below n more (number + 1) rest below)
+  where
+    go : (r : Result (Option JobLine) ScriptFault) → IfOk r (IsJobBelow n) → ((more : List JobLine) → All (IsBelow n) more → IfOk (jobs_from n more (number + 1) rest) (All (IsBelow n)))
+        → IfOk (then_jobs so_far (λ more. jobs_from n more (number + 1) rest) r) (All (IsBelow n))
+    go (Ok found) below onward = onward (with_job so_far found) (with_job_below n so_far found all below)
+    go (Err why) below onward = tt
+
+pub jobs_are_below : (n : ℕ) (text : List ℕ) (read : Result (List JobLine) ScriptFault) → IsReadAs (jobs_in n text) read → IfOk read (All (λ line. line.submitter < n))
+jobs_are_below n text (Ok found) e = rw e at (lines_below n [] 1 (lines text) (All-nil (IsBelow n)))
+jobs_are_below n text (Err why) e = tt
+
+-- Runs of scripts of jobs: who does which job, what is printed, and how a run ends.
 
 -- One job more
 
@@ -218,18 +312,6 @@ keeps_itself : (k : Option (List ℕ)) → Keeps k k
 keeps_itself None = _
 keeps_itself (Some bytes) = refl
 
-pub no_run : (config : Config) (why : threads_fault.RunFault) → RefusesRun config why → IsNoRun config (fault_of_threads why)
-no_run config (threads.Open opening.BadConfig) refuses = refuses
-no_run config (threads.Open (opening.NoPages need free)) refuses = refuses
-no_run config (threads.Open opening.Memory) refuses = tt
-no_run config threads.NoThread fits = fits
-no_run config (threads.GateClosed worker) fits = fits
-no_run config (threads.Close (closing.Missing seat number)) fits = fits
-no_run config (threads.Close closing.SeatOut) fits = fits
-no_run config (threads.Close closing.StillOut) fits = fits
-no_run config (threads.Close closing.Memory) fits = tt
-no_run config threads.Memory fits = tt
-
 -- before anything was written
 pub no_run_ends : (told : Option (List ℕ)) (n : ℕ) (config : Config) (image : List ℕ) (k : Option (List ℕ)) (lines : List JobLine) (why : RunFault)
     → HasJobs told n lines → IsNoRun config why → EndsJobsWith told n config image k k why
@@ -273,3 +355,137 @@ pub run_is_cut : {T : Type 0} (r : Result T RunFault) (told : Option (List ℕ))
 run_is_cut (Ok done) told n config image a b lines whole has text cut says = _
 run_is_cut (Err why) told n config image a b lines whole has text (front, is, written) (inl e) = rw e (inr (lines, has, (front, (whole, text, is), written)))
 run_is_cut (Err why) told n config image a b lines whole has text (front, is, written) (inr e) = rw e (lines, has, (front, (whole, text, is), written))
+
+-- Rounds of jobs, one behind the other.
+
+-- Lists of submitters
+
+pub behind_assoc : {A : Type 0} (a b c : List (List A)) → behind (behind a b) c ≡ behind a (behind b c)
+behind_assoc [] b c = refl
+behind_assoc (x ∷ a) [] c = refl
+behind_assoc (x ∷ a) (y ∷ b) [] = refl
+behind_assoc (x ∷ a) (y ∷ b) (z ∷ c) = rw (append_assoc x y z, behind_assoc a b c) refl
+
+map_behind : {A B : Type 0} (f : List A → List B) → ((xs ys : List A) → f (xs ++ ys) ≡ f xs ++ f ys) → (a b : List (List A)) → map f (behind a b) ≡ behind (map f a) (map f b)
+map_behind f joins [] b = refl
+map_behind f joins (x ∷ a) [] = refl
+map_behind f joins (x ∷ a) (y ∷ b) = rw (joins x y, map_behind f joins a b) refl
+
+-- lists that are as long as others stay so
+pub lengths_behind : {A B : Type 0} (a c : List (List A)) (b d : List (List B)) → map length a ≡ map length b → map length c ≡ map length d → map length (behind a c) ≡ map length (behind b d)
+lengths_behind [] c [] d first second = second
+lengths_behind [] c (y ∷ b) d first second = absurd cc
+lengths_behind (x ∷ a) c [] d first second = absurd cc
+lengths_behind (x ∷ a) [] (y ∷ b) [] first second = first
+lengths_behind (x ∷ a) [] (y ∷ b) (w ∷ d) first second = absurd cc
+lengths_behind (x ∷ a) (z ∷ c) (y ∷ b) [] first second = absurd cc
+lengths_behind (x ∷ a) (z ∷ c) (y ∷ b) (w ∷ d) first second =
+    let one : length x ≡ length y = cc in
+    let two : length z ≡ length w = cc in
+    let rest : map length a ≡ map length b = cc in
+    let others : map length c ≡ map length d = cc in
+    let head : length (x ++ z) ≡ length (y ++ w) = omega (arith, length-append x z, length-append y w, one, two) in
+    rw (head, lengths_behind a c b d rest others) refl
+
+empty_behind : (xs ys : List Job) → not (length ys == 0) ≡ false → xs ++ ys ≡ xs
+empty_behind xs [] none = append-nil xs
+empty_behind xs (y ∷ ys) none = absurd (go (length (y ∷ ys) == 0) refl none)
+  where
+    go : (b : Bool) → (length (y ∷ ys) == 0) ≡ b → not b ≡ false → ⊥
+    go true is isnt = let zero_long : length (y ∷ ys) ≡ 0 = eqb-true (length (y ∷ ys)) 0 is in absurd (omega (arith, zero_long))
+    go false is isnt = absurd (true≢false isnt)
+
+-- where no jobs are left, those that were done are all
+pub none_left : {X : Type 0} (items : X → List Job) (done : List (List Job)) (left : List X) → length left ≤ length done → list_any (λ queue. not (length (items queue) == 0)) left ≡ false
+    → behind done (map items left) ≡ done
+none_left items done [] few none = behind_none done
+none_left items [] (q ∷ left) few none = absurd (omega arith)
+none_left items (x ∷ done) (q ∷ left) few none =
+    let both = or_parts (not (length (items q) == 0)) (list_any (λ queue. not (length (items queue) == 0)) left) none in
+    rw (empty_behind x (items q) both.0, none_left items done left (omega arith) both.1) refl
+
+-- the jobs of a round more are done
+pub more_done : {X Y : Type 0} (items_of : Y → List Job) (items : X → List Job) (jobs left rest : List X) (round : List Y) (done : List (List Job)) → behind done (map items left) ≡ map items jobs
+    → behind (map items_of round) (map items rest) ≡ map items left → behind (behind done (map items_of round)) (map items rest) ≡ map items jobs
+more_done items_of items jobs left rest round done all taken = behind_assoc done (map items_of round) (map items rest) ∙ (ap (behind done) taken ∙ all)
+
+-- and those are all where none are left
+pub all_done : {X Y : Type 0} (items_of : Y → List Job) (items : X → List Job) (jobs left rest : List X) (round : List Y) (done : List (List Job)) → behind done (map items left) ≡ map items jobs
+    → behind (map items_of round) (map items rest) ≡ map items left → length rest ≤ length round → list_any (λ queue. not (length (items queue) == 0)) rest ≡ false
+    → behind done (map items_of round) ≡ map items jobs
+all_done items_of items jobs left rest round done all taken few none =
+    let long = behind_long done (map items_of round) in
+    sym (none_left items (behind done (map items_of round)) rest (omega (arith, long, few, length-map round items_of)) none) ∙ more_done items_of items jobs left rest round done all taken
+
+-- one submitter's jobs more were taken
+pub one_taken : {X : Type 0} (items : X → List Job) (round : List (List Job)) (left : List X) (place : ℕ) (queue rest : X) (jobs : List Job) → length round ≡ place → place < length left → queue ≡ get_or left place queue
+    → jobs ++ items rest ≡ items queue → behind (round ++ jobs ∷ []) (map items (slice_set left place rest)) ≡ behind round (map items left)
+one_taken items [] [] place queue rest jobs at within is all = absurd (omega (arith, at, within))
+one_taken items [] (x ∷ left) zero queue rest jobs at within is all = ap (λ (js : List Job). js ∷ map items left) (all ∙ ap items is)
+one_taken items [] (x ∷ left) (suc place) queue rest jobs at within is all = absurd (omega (arith, at))
+one_taken items (r ∷ round) [] place queue rest jobs at within is all = absurd (omega (arith, within))
+one_taken items (r ∷ round) (x ∷ left) zero queue rest jobs at within is all = absurd (omega (arith, at))
+one_taken items (r ∷ round) (x ∷ left) (suc place) queue rest jobs at within is all =
+    ap (λ (lists : List (List Job)). (r ++ items x) ∷ lists) (one_taken items round left place queue rest jobs (omega (arith, at)) (omega (arith, within)) is all)
+
+-- What rounds leave
+
+logs_more : (rounds : List Round) (round : Round) → logs_of (rounds ++ round ∷ []) ≡ logs_of rounds ++ round.log.entries
+logs_more [] round = append-nil round.log.entries
+logs_more (first ∷ rounds) round =
+    ap (λ (es : List Entry). first.log.entries ++ es) (logs_more rounds round) ∙ sym (append_assoc first.log.entries (logs_of rounds) round.log.entries)
+
+receipts_more : (rounds : List Round) (round : Round) → receipts_of (rounds ++ round ∷ []) ≡ behind (receipts_of rounds) round.report.receipts
+receipts_more [] round = behind_none round.report.receipts
+receipts_more (first ∷ rounds) round =
+    ap (behind first.report.receipts) (receipts_more rounds round) ∙ sym (behind_assoc first.report.receipts (receipts_of rounds) round.report.receipts)
+
+go_on_more : (before mid : State) (rounds : List Round) (round : Round) → GoOn before rounds mid → EndsRound mid round.log round.report round.world → GoOn before (rounds ++ round ∷ []) round.world.state
+go_on_more before mid [] round same ends = (subst (λ (s : State). EndsRound s round.log round.report round.world) same ends, refl)
+go_on_more before mid (first ∷ rounds) round (one, rest) ends = (one, go_on_more first.world.state mid rounds round rest ends)
+
+jobs_on : (log more : List Entry) → AreOfJobs log → AreOfJobs more → AreOfJobs (log ++ more)
+jobs_on [] more before after = after
+jobs_on (e ∷ log) more before after = (before.0, jobs_on log more before.1 after)
+
+ends_append : (xs ys : List JobEnd) → ends_of (xs ++ ys) ≡ ends_of xs ++ ends_of ys
+ends_append [] ys = refl
+ends_append (Done status bytes ∷ xs) ys = rw (ends_append xs ys) refl
+ends_append (Refused why ∷ xs) ys = ends_append xs ys
+
+agree_behind : (receipts more : List (List Receipt)) (ends later : List (List JobEnd)) → AllAgree receipts ends → AllAgree more later → AllAgree (behind receipts more) (behind ends later)
+agree_behind receipts more ends later first second =
+    map_behind statuses_of (map-append (λ (r : Receipt). r.status)) receipts more ∙ rw (first, second) refl ∙ sym (map_behind ends_of ends_append ends later)
+
+-- one round more
+pub one_gone_on : (before mid : State) (ends later : List (List JobEnd)) (round : Round) → HasGoneOn before ends mid → EndsRound mid round.log round.report round.world
+    → AllAgree round.report.receipts later → AreOfJobs round.log.entries → HasGoneOn before (behind ends later) round.world.state
+one_gone_on before mid ends later round gone ended agree jobs = record {
+  rounds = gone.rounds ++ round ∷ [];
+  go_on = go_on_more before mid gone.rounds round gone.go_on ended;
+  agree = rw (receipts_more gone.rounds round) (agree_behind (receipts_of gone.rounds) round.report.receipts ends later gone.agree agree);
+  jobs = rw (logs_more gone.rounds round) (jobs_on (logs_of gone.rounds) round.log.entries gone.jobs jobs);
+}
+
+round_leads : (before : State) (round : Round) → EndsRound before round.log round.report round.world → LeadsTo before round.log.entries round.world.state
+round_leads before round ended =
+    subst (λ (log : LogContents). LeadsTo before log.entries round.world.state) (sym ended.same_log)
+    (subst (λ (world : WorldContents). LeadsTo before ended.book.log world.state) (sym ended.same_world) ended.closed.of.legal)
+
+all_lead : (before after : State) (rounds : List Round) → GoOn before rounds after → LeadsTo before (logs_of rounds) after
+all_lead before after [] same = same
+all_lead before after (round ∷ rounds) (ended, rest) =
+    leads_on before round.log.entries round.world.state (logs_of rounds) after (round_leads before round ended) (all_lead round.world.state after rounds rest)
+
+-- what rounds over an opening left
+pub left_from : (config : Config) (image : List ℕ) (ends : List (List JobEnd)) (owners : List Owner) (counts : Counts) (after : State) → refusal_of_config config ≡ None → IsImage image
+    → HasGoneOn (opening_of config image) ends after → AreOwners after owners → counts ≡ counts_of after.host → IsLeftFrom (opening_of config image) image ends owners counts
+left_from config image ends owners counts after fits is_image gone owned counted = record {
+  world = after;
+  gone_on = gone;
+  trusted = logs_of_jobs_are_runs config image (logs_of gone.rounds) after fits is_image (all_lead (opening_of config image) after gone.rounds gone.go_on) gone.jobs;
+  owned = owned;
+  counted = counted;
+}
+
+-- How rounds fail

@@ -1,4 +1,3 @@
-mod JobReading
 pub mod JobRuns
-mod Submitters
-pub mod GoneOn
+pub mod Loads
+pub mod LoadCounts

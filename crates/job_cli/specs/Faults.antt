@@ -1,11 +1,9 @@
 -- Which fault of a run is which of its threads, and of the close of their book.
-use Rattle.driver_book.specs.declared.log.CloseFault.{CloseFault}
-use Rattle.driver_book.specs.declared.log.CloseFault.TheVariants as closing
+use Rattle.driver_book.specs.declared.report.CloseFault.{CloseFault}
+use Rattle.script_cli.specs.{Faults.fault_of_opening, declared.fault.{NotClosed.TheVariants.{Missing, SeatOut, StillOut, GateClosed}, RunFault.RunFault}}
+use Rattle.driver_book.specs.declared.report.CloseFault.TheVariants as closing
 use Rattle.driver_threads.specs.declared.jobs.RunFault as threads_fault
 use Rattle.driver_threads.specs.declared.jobs.RunFault.TheVariants as threads
-use Rattle.script_cli.specs.Faults.{fault_of_opening}
-use Rattle.script_cli.specs.declared.fault.NotClosed.TheVariants.{Missing, SeatOut, StillOut, GateClosed}
-use Rattle.script_cli.specs.declared.fault.RunFault.{RunFault}
 use Rattle.script_cli.specs.declared.fault.RunFault.TheVariants as run
 
 abbrev pub fault_of_closing : CloseFault → RunFault

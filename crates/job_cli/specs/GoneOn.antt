@@ -1,15 +1,9 @@
 -- Jobs that are done in rounds, each over the world to which the one before led.
 use Rattle.std.specs.Prelude.{◌≡◌, ◌⊎◌, ◌≤◌, ◌+◌, ◌*◌, ℕ, List, [], ◌∷◌, ◌++◌, length, min, sum_by}
-use Rattle.driver_book.specs.State.{AreOfJobs}
-use Rattle.driver_book.specs.Values.{Report}
-use Rattle.driver_book.specs.declared.log.Receipt.{Receipt}
-use Rattle.driver_threads.specs.Behind.{behind}
-use Rattle.driver_threads.specs.Ends.{AllAgree}
-use Rattle.driver_threads.specs.Runs.{EndsRound}
-use Rattle.driver_threads.specs.Values.{Job, JobEnd}
+use Rattle.driver_book.specs.{Entries.{Entry, LogContents}, Reports.Report, State.AreOfJobs, declared.report.Receipt.Receipt}
+use Rattle.driver_threads.specs.{Behind.behind, Ends.AllAgree, Runs.EndsRound, Values.{Job, JobEnd}}
 use Rattle.machine_model.specs.State.{State}
 use Rattle.step_core.specs.World.{WorldContents}
-use Rattle.step_log.specs.Values.{Entry, LogContents}
 
 -- A round: the log of its book, what that said as it was closed, and the world to which the log leads.
 pub record Round : Type 0 where

@@ -1,10 +1,7 @@
 -- What is kept of the lines of jobs while these run.
 use Rattle.std.specs.Prelude.{ℕ, Option, Some, None, option_and_then, List, [], ◌∷◌, ◌++◌, length, slice_get}
 use Rattle.driver_threads.specs.Values.{JobEnd}
-use Rattle.job_cli.specs.JobLines.{job_text}
-use Rattle.job_cli.specs.JobRuns.{jobs_for}
-use Rattle.job_cli.specs.declared.job_runs.Heading.{Heading}
-use Rattle.job_cli.specs.declared.jobs.JobLine.{JobLine}
+use Rattle.job_cli.specs.{JobLines.job_text, JobRuns.jobs_for, declared.{job_runs.Heading.Heading, jobs.JobLine.JobLine}}
 
 -- the heading of a job that has this place among the jobs of its submitter
 abbrev pub heading_at : ℕ → JobLine → Heading

@@ -1,15 +1,11 @@
 -- The text of how jobs ended.
-use Rattle.std.specs.Prelude.{ℕ, List, [], ◌∷◌, ◌++◌, codes}
-use Rattle.std.specs.Fmt.{decimal}
-use Rattle.driver_threads.specs.Values.{JobEnd}
-use Rattle.driver_threads.specs.declared.jobs.JobEnd.TheVariants as end
-use Rattle.driver_threads.specs.declared.jobs.JobRefusal.{JobRefusal}
-use Rattle.driver_threads.specs.declared.jobs.JobRefusal.TheVariants as refusal
+use Rattle.std.specs.{Fmt.decimal, Prelude.{ℕ, List, [], ◌∷◌, ◌++◌, codes}}
+use Rattle.driver_threads.specs.{Values.JobEnd, declared.jobs.JobRefusal.JobRefusal}
 use Rattle.entry_codec.specs.Status.{status_text}
-use Rattle.io_commands.specs.declared.draft.FillFault.TheVariants.{WrongLength}
-use Rattle.io_commands.specs.declared.request.Kind.{Kind}
-use Rattle.io_commands.specs.declared.request.Kind.TheVariants.{Read, Write, Compare}
+use Rattle.io_commands.specs.declared.{draft.FillFault.TheVariants.WrongLength, request.Kind.{Kind, TheVariants.{Read, Write, Compare}}}
 use Rattle.script_cli.specs.Replies.{gathered_text, request_fault_name, fill_fault_name}
+use Rattle.driver_threads.specs.declared.jobs.JobEnd.TheVariants as end
+use Rattle.driver_threads.specs.declared.jobs.JobRefusal.TheVariants as refusal
 
 abbrev pub kind_text : Kind → List ℕ
 kind_text Read = codes "read"

@@ -1,28 +1,18 @@
 -- What a run of a script of jobs prints, and how it may end.
-use Rattle.std.specs.Prelude.{◌≡◌, ◌<◌, ◌⊎◌, ◌==◌, ◌&&◌, ℕ, Bool, true, Option, Some, None, is_some, option_and_then, Ok, Err, List, [], ◌∷◌, ◌++◌, length, slice_get, if◌then◌else◌}
 use Rattle.std.specs.Io.KnownBytes.{Keeps}
+use Rattle.std.specs.Prelude.{◌≡◌, ◌<◌, ◌⊎◌, ◌==◌, ◌&&◌, ℕ, Bool, true, Option, Some, None, is_some, option_and_then, Ok, Err, List, [], ◌∷◌, ◌++◌, length, slice_get, if◌then◌else◌}
 use Rattle.driver_book.specs.Laws.{IsTrustedLog}
 use Rattle.driver_threads.specs.Values.{Job, JobEnd}
-use Rattle.machine_model.specs.Claims.{counts_of}
-use Rattle.machine_model.specs.State.{State}
-use Rattle.machine_model.specs.declared.words.OpenRefusal.{OpenRefusal}
-use Rattle.machine_model.specs.declared.words.OpenRefusal.TheVariants as opening
-use Rattle.page_ledger.specs.declared.owner.Counts.{Counts}
-use Rattle.page_ledger.specs.declared.owner.Owner.{Owner}
-use Rattle.script_cli.specs.Inputs.{IsTold, Gains, IsFront}
-use Rattle.job_cli.specs.JobLines.{job_text}
-use Rattle.job_cli.specs.Jobs.{jobs_of}
-use Rattle.job_cli.specs.GoneOn.{HasGoneOn, logs_of}
-use Rattle.script_cli.specs.Owners.{owners_text, counts_line}
-use Rattle.script_cli.specs.Runs.{AreOwners}
-use Rattle.script_cli.specs.declared.fault.RunFault.{RunFault}
-use Rattle.script_cli.specs.declared.fault.RunFault.TheVariants as run
+use Rattle.machine_model.specs.{Claims.counts_of, State.State, declared.words.OpenRefusal.OpenRefusal}
+use Rattle.page_ledger.specs.declared.owner.{Counts.Counts, Owner.Owner}
+use Rattle.script_cli.specs.{Inputs.{IsTold, Gains, IsFront}, Owners.{owners_text, counts_line}, Runs.AreOwners, declared.fault.RunFault.RunFault}
 use Rattle.script_cli.specs.declared.fault.ScriptFault.{ScriptFault}
-use Rattle.script_cli.specs.declared.fault.ScriptFault.TheVariants as fault
-use Rattle.job_cli.specs.declared.jobs.JobLine.{JobLine}
-use Rattle.host_core.specs.Opening.{refusal_of_config}
+use Rattle.job_cli.specs.{GoneOn.{HasGoneOn, logs_of}, JobLines.job_text, Jobs.jobs_of, declared.jobs.JobLine.JobLine}
+use Rattle.host_core.specs.{Opening.refusal_of_config, declared.config.Config.Config}
 use Rattle.step_core.specs.Opening.{opening_of}
-use Rattle.host_core.specs.declared.config.Config.{Config}
+use Rattle.machine_model.specs.declared.words.OpenRefusal.TheVariants as opening
+use Rattle.script_cli.specs.declared.fault.RunFault.TheVariants as run
+use Rattle.script_cli.specs.declared.fault.ScriptFault.TheVariants as fault
 
 -- Who does which job
 

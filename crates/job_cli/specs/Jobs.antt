@@ -1,17 +1,10 @@
 -- What a script of jobs is, or its first fault. Its lines and words are cut, and stand for values, as those of a script of steps.
-use Rattle.std.specs.Prelude.{ℕ, ◌^◌, ◌+◌, ◌≡◌, nat_lt, Option, Some, None, Result, Ok, Err, List, [], ◌∷◌, ◌++◌, length, codes, if◌then◌else◌}
-use Rattle.std.specs.Str.{bytes_eq}
-use Rattle.io_commands.specs.declared.request.Kind.{Kind}
-use Rattle.io_commands.specs.declared.request.Kind.TheVariants.{Read, Write, Compare}
-use Rattle.io_commands.specs.declared.request.Piece.{Piece}
-use Rattle.script_cli.specs.Grammar.{Words, ◌>>=◌, number_word, kind_word, hex_word, pieces_from, request_of, begins_comment, words_of}
-use Rattle.script_cli.specs.Lines.{lines}
-use Rattle.script_cli.specs.declared.fault.LineFault.{LineFault}
-use Rattle.script_cli.specs.declared.fault.LineFault.TheVariants.{UnknownVerb, TooManyLines}
-use Rattle.script_cli.specs.declared.fault.ScriptFault.{ScriptFault}
+use Rattle.std.specs.{Prelude.{ℕ, ◌^◌, ◌+◌, ◌≡◌, nat_lt, Option, Some, None, Result, Ok, Err, List, [], ◌∷◌, ◌++◌, length, codes, if◌then◌else◌}, Str.bytes_eq}
+use Rattle.io_commands.specs.declared.request.{Kind.{Kind, TheVariants.{Read, Write, Compare}}, Piece.Piece}
+use Rattle.script_cli.specs.{Grammar.{Words, ◌>>=◌, number_word, kind_word, hex_word, pieces_from, request_of, begins_comment, words_of}, Lines.lines}
+use Rattle.script_cli.specs.declared.fault.{LineFault.{LineFault, TheVariants.{UnknownVerb, TooManyLines}}, ScriptFault.ScriptFault}
+use Rattle.job_cli.specs.declared.jobs.{JobHead.JobHead, JobLine.JobLine}
 use Rattle.script_cli.specs.declared.fault.ScriptFault.TheVariants as fault
-use Rattle.job_cli.specs.declared.jobs.JobHead.{JobHead}
-use Rattle.job_cli.specs.declared.jobs.JobLine.{JobLine}
 
 -- Lines
 

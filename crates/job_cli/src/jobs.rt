@@ -197,7 +197,7 @@ fn push_job(jobs: &mut Vec<JobLine>, job: Option<JobLine>) -> Result<(), AllocEr
 }
 
 /// The jobs of a text.
-#[tactic(auto, using(script_cli::proofs::Reading::lines_are_cut, script_cli::proofs::Reading::after_is_shorter, crate::proofs::JobReading::job_is_next))]
+#[tactic(auto, using(script_cli::proofs::Reading::lines_are_cut, script_cli::proofs::Reading::after_is_shorter, crate::proofs::JobRuns::job_is_next))]
 fn read_job_lines(alloc: Global, text: &[u8], submitters: u16) -> Result<JobScript, ScriptFault>
     requires { length text.now ≤ 1048576 }
     ensures { IsReadAs (jobs_in submitters text.now) result }
@@ -227,7 +227,7 @@ fn read_job_lines(alloc: Global, text: &[u8], submitters: u16) -> Result<JobScri
 ///
 /// [`ScriptFault::TooLong`] before any line is looked at, else the first fault of the first line that has one; and
 /// [`ScriptFault::Memory`] where memory is refused.
-#[tactic(auto, using(crate::proofs::JobReading::jobs_are_read))]
+#[tactic(auto, using(crate::proofs::JobRuns::jobs_are_read))]
 pub fn read_jobs(alloc: Global, text: &[u8], submitters: u16) -> Result<JobScript, ScriptFault>
     ensures script { IsReadAs (jobs_of submitters text.now) result }
     ensures below { IfOk result (All (λ line. line.submitter < submitters)) }

@@ -1,15 +1,49 @@
+-- Claims are counted.
+use Rattle.std.proofs.Common.{◌≡◌, ℕ, zero, suc, Bool, true, Some, List, [], ◌∷◌, find, slice_get, refl, ap, subst, inl, inr, ◌+◌, ◌<◌, ◌≤◌, ◌==◌, nat_lt, false, not, ◌&&◌, ◌||◌, ◌++◌, length, filter, if◌then◌else◌, sym, ◌∙◌, arith, eqb-true, eq-eqb, ltb-true, ltb-false, lt-ltb, le-ltb, map}
+use Rattle.std.{proofs.lemmas.Bool.{cases_Bool, eqb-false, true≢false, and_parts}, specs.List.{AllByRecursion, list_all}}
+use Rattle.machine_model.specs.{After.{change, joined_in_order}, Memory.zeroed_pages, Placement.{without_numbers, is_run, first_of_run}}
+use Rattle.machine_model.specs.{State.{Record, is_at, without_record, with_record}, Step.times}
+use Rattle.page_ledger.{proofs.Pages.pages_from-suc, specs.Owners.{is_among, pages_from}}
+use Rattle.io_commands.specs.Values.{numbers_of}
+pub use Rattle.machine_model.specs.Weights.{one, total, here}
+
+-- What holds of all in a list, of one that is found, and as one is changed.
+
+-- what is found passes the test
+pub find_sound : {A : Type 0} (test : A → Bool) (xs : List A) (x : A) → find test xs ≡ Some x → test x ≡ true
+find_sound test [] x e = absurd cc
+find_sound test (y ∷ xs) x e = elim (cases_Bool (test y)) [
+  | inl t ↦ let e = rw t at e in let same : y ≡ x = cc in subst (λ z. test z ≡ true) same t
+  | inr t ↦ let e = rw t at e in let ih = find_sound test xs x in ih e
+]
+
+pub all_at : {A : Type 0} (P : A → Type 0) (xs : List A) (k : ℕ) (x : A) → slice_get xs k ≡ Some x → AllByRecursion P xs → P x
+all_at P [] k x e h = absurd cc
+all_at P (y ∷ xs) zero x e h = let same : y ≡ x = cc in subst P same h.0
+all_at P (y ∷ xs) (suc k) x e h = all_at P xs k x e h.1
+
+pub all_changed : {A : Type 0} (P : A → Type 0) (k : ℕ) (f : A → A) (xs : List A) → ((x : A) → slice_get xs k ≡ Some x → P x → P (f x)) → AllByRecursion P xs → AllByRecursion P (change k f xs)
+all_changed P k f [] each h = tt
+all_changed P zero f (x ∷ xs) each h = (each x refl h.0, h.1)
+all_changed P (suc k) f (x ∷ xs) each h = (h.0, all_changed P k f xs each h.1)
+
+-- one that is changed, and another
+pub get_changed : {A : Type 0} (k : ℕ) (f : A → A) (xs : List A) (x : A) → slice_get xs k ≡ Some x → slice_get (change k f xs) k ≡ Some (f x)
+get_changed k f [] x e = absurd cc
+get_changed zero f (y ∷ xs) x e = let same : y ≡ x = cc in ap (λ z. Some (f z)) same
+get_changed (suc k) f (y ∷ xs) x e = get_changed k f xs x e
+
+pub get_other : {A : Type 0} (k : ℕ) (f : A → A) (xs : List A) (q : ℕ) → (k ≡ q → ⊥) → slice_get (change k f xs) q ≡ slice_get xs q
+get_other k f [] q far = refl
+get_other zero f (y ∷ xs) zero far = absurd (far refl)
+get_other zero f (y ∷ xs) (suc q) far = refl
+get_other (suc k) f (y ∷ xs) zero far = refl
+get_other (suc k) f (y ∷ xs) (suc q) far = get_other k f xs q (λ e. far (ap suc e))
+
 -- How often a number stands in a list.
-use Rattle.std.proofs.Common.{◌≡◌, ℕ, zero, suc, ◌+◌, ◌<◌, ◌≤◌, ◌==◌, nat_lt, Bool, true, false, not, ◌&&◌, ◌||◌, List, [], ◌∷◌, ◌++◌, length, filter, if◌then◌else◌, refl, ap, sym, ◌∙◌, arith, eqb-true, eq-eqb, ltb-true, ltb-false, lt-ltb, le-ltb}
-use Rattle.std.proofs.lemmas.Bool.{eqb-false, true≢false}
-use Rattle.page_ledger.specs.Owners.{is_among, pages_from}
-use Rattle.machine_model.specs.Step.{times}
-use Rattle.machine_model.specs.After.{joined_in_order}
-use Rattle.machine_model.specs.Placement.{without_numbers}
-pub use Rattle.machine_model.specs.Weights.{one}
 
 counted : (b : Bool) (n : ℕ) → (if b then 1 + n else n) ≡ one b + n
-counted true n = refl
-counted false n = omega arith
+counted b n = grind arith
 
 pub times-cons : (p x : ℕ) (xs : List ℕ) → times p (x ∷ xs) ≡ one (x == p) + times p xs
 times-cons p x xs = counted (x == p) (times p xs)
@@ -39,45 +73,25 @@ kept p x f xs true false fb xe ih = rw xe ih
 kept p x f xs false false fb xe ih = rw xe ih
 
 pub times-filter : (p : ℕ) (f : ℕ → Bool) (xs : List ℕ) → times p (filter f xs) ≡ (if f p then times p xs else 0)
-times-filter p f [] = nothing (f p)
-  where
-    nothing : (b : Bool) → ◌≡◌ {A = ℕ} 0 (if b then 0 else 0)
-    nothing true = refl
-    nothing false = refl
+times-filter p f [] = grind arith
 times-filter p f (x ∷ xs) = kept p x f xs (f x) (x == p) refl refl (times-filter p f xs)
 
 -- a list holds a number where it stands in it at least once
 pub held_once : (p : ℕ) (xs : List ℕ) → is_among xs p ≡ true → 0 < times p xs
 held_once p [] h = absurd (true≢false (sym h))
-held_once p (x ∷ xs) h = go (x == p) refl (held_once p xs)
-  where
-    go : (b : Bool) → (x == p) ≡ b → (is_among xs p ≡ true → 0 < times p xs) → 0 < times p (x ∷ xs)
-    go true e ih = rw e (omega arith)
-    go false e ih = rw e (ih (rw e at h))
+held_once p (x ∷ xs) h = grind (arith, held_once p xs)
 
 pub not_held : (p : ℕ) (xs : List ℕ) → is_among xs p ≡ false → times p xs ≡ 0
 not_held p [] h = refl
-not_held p (x ∷ xs) h = go (x == p) refl (not_held p xs)
-  where
-    go : (b : Bool) → (x == p) ≡ b → (is_among xs p ≡ false → times p xs ≡ 0) → times p (x ∷ xs) ≡ 0
-    go true e ih = absurd (true≢false (rw e at h))
-    go false e ih = rw e (ih (rw e at h))
+not_held p (x ∷ xs) h = grind (arith, not_held p xs)
 
 pub none_below : (p : ℕ) → one (nat_lt p 0) ≡ 0
 none_below p = ap one (le-ltb p 0 (omega arith))
 
--- the numbers below a bound, each once
-pages_last : (p n : ℕ) → pages_from p (suc n) ≡ pages_from p n ++ (p + n) ∷ []
-pages_last p zero = ap (λ (q : ℕ). q ∷ []) (omega arith)
-pages_last p (suc n) = ap (λ (l : List ℕ). p ∷ l) (pages_last (p + 1) n ∙ ap (λ (q : ℕ). pages_from (p + 1) n ++ q ∷ []) (omega arith))
-
 pub times-pages : (p count : ℕ) → times p (pages_from 0 count) ≡ one (nat_lt p count)
 times-pages p zero = sym (none_below p)
-times-pages p (suc n) = ap (times p) last ∙ go (n == p) refl (times-pages p n)
+times-pages p (suc n) = ap (times p) (pages_from-suc 0 n ∙ ap (λ (q : ℕ). pages_from 0 n ++ q ∷ []) (omega arith)) ∙ go (n == p) refl (times-pages p n)
   where
-    last : pages_from 0 (suc n) ≡ pages_from 0 n ++ n ∷ []
-    last = pages_last 0 n ∙ ap (λ (q : ℕ). pages_from 0 n ++ q ∷ []) (omega arith)
-
     go : (b : Bool) → (n == p) ≡ b → times p (pages_from 0 n) ≡ one (nat_lt p n) → times p (pages_from 0 n ++ n ∷ []) ≡ one (nat_lt p (suc n))
     go true e ih =
         let h : n ≡ p = eqb-true n p e in
@@ -130,8 +144,7 @@ times_joined p count pages free few = go (is_among free p) (is_among pages p) (n
         whole ∙ none (is_among free p || is_among pages p) u ∙ omega arith
       where
         none : (c : Bool) → times p (pages_from 0 count) ≡ 0 → (if c then times p (pages_from 0 count) else 0) ≡ 0
-        none true u = u
-        none false u = refl
+        none c u = grind arith
     go true b true ef eb el =
         let few' : times p free + times p pages ≤ 1 = rw el at few in
         let u : times p (pages_from 0 count) ≡ 1 = rw el at (times-pages p count) in
@@ -149,10 +162,7 @@ times_joined p count pages free few = go (is_among free p) (is_among pages p) (n
 -- numbers that are those below a bound, each once, are as many
 pub length_of_all : (count : ℕ) (xs : List ℕ) → ((p : ℕ) → times p xs ≡ one (nat_lt p count)) → length xs ≡ count
 length_of_all zero [] h = refl
-length_of_all zero (x ∷ xs) h = absurd (some_here (h x ∙ none_below x))
-  where
-    some_here : times x (x ∷ xs) ≡ 0 → ⊥
-    some_here e = let t = times_here x x xs (eq-eqb x x refl) in omega arith
+length_of_all zero (x ∷ xs) h = absurd (let e = h x ∙ none_below x in let t = times_here x x xs (eq-eqb x x refl) in omega arith)
 length_of_all (suc n) xs h = omega (arith, cut, each (length_of_all n (filter (λ x. not (x == n)) xs)))
   where
     length_cut : (n : ℕ) (ys : List ℕ) → length (filter (λ x. not (x == n)) ys) + times n ys ≡ length ys
@@ -161,8 +171,7 @@ length_of_all (suc n) xs h = omega (arith, cut, each (length_of_all n (filter (�
       where
         step : (b : Bool) → length (filter (λ x. not (x == n)) ys) + times n ys ≡ length ys
             → length (if not b then y ∷ filter (λ x. not (x == n)) ys else filter (λ x. not (x == n)) ys) + (if b then 1 + times n ys else times n ys) ≡ suc (length ys)
-        step true e = omega arith
-        step false e = omega arith
+        step b e = grind arith
 
     cut : length (filter (λ x. not (x == n)) xs) + 1 ≡ length xs
     cut = let l : nat_lt n (suc n) ≡ true = lt-ltb n (suc n) (omega arith) in omega (arith, length_cut n xs, h n ∙ ap one l)
@@ -186,3 +195,135 @@ length_of_all (suc n) xs h = omega (arith, cut, each (length_of_all n (filter (�
                 let far : p ≡ n → ⊥ = eqb-false p n e in
                 let le : n ≤ p = ltb-false p n l in
                 le-ltb p (suc n) (omega (arith, far)) ∙ sym l
+
+-- Sums over the records of a host.
+
+pub total-append : {A : Type 0} (w : A → ℕ) (xs ys : List A) → total w (xs ++ ys) ≡ total w xs + total w ys
+total-append w [] ys = omega arith
+total-append w (x ∷ xs) ys = omega (arith, total-append w xs ys)
+
+pub total-map : {A : Type 0} (w : A → ℕ) (f : A → A) → ((x : A) → w (f x) ≡ w x) → (xs : List A) → total w (map f xs) ≡ total w xs
+total-map w f same [] = refl
+total-map w f same (x ∷ xs) = omega (arith, same x, total-map w f same xs)
+
+pub times-outstanding : (cid q : ℕ) (records : List Record) → times cid (map (λ r. r.cid) (filter (λ r. r.q == q) records)) ≡ total (here q cid) records
+times-outstanding cid q [] = refl
+times-outstanding cid q (r ∷ records) = go (r.q == q) (times-outstanding cid q records)
+  where
+    go : (b : Bool) → times cid (map (λ r. r.cid) (filter (λ r. r.q == q) records)) ≡ total (here q cid) records
+        → times cid (map (λ r. r.cid) (if b then r ∷ filter (λ r. r.q == q) records else filter (λ r. r.q == q) records)) ≡ one (b && (r.cid == cid)) + total (here q cid) records
+    go true ih = times-cons cid r.cid (map (λ r. r.cid) (filter (λ r. r.q == q) records)) ∙ ap (λ n. one (r.cid == cid) + n) ih
+    go false ih = omega (arith, ih)
+
+-- where none is there, nothing is changed or left out
+none_without : (q cid : ℕ) (records : List Record) → total (here q cid) records ≡ 0 → without_record q cid records ≡ records
+none_without q cid [] none = refl
+none_without q cid (r ∷ records) none = go (is_at q cid r) refl (none_without q cid records)
+  where
+    go : (b : Bool) → is_at q cid r ≡ b → (total (here q cid) records ≡ 0 → without_record q cid records ≡ records) → without_record q cid (r ∷ records) ≡ r ∷ records
+    go true e ih = let h = rw e at none in absurd (omega arith)
+    go false e ih = let h : 0 + total (here q cid) records ≡ 0 = rw e at none in rw e (ap (λ rs. r ∷ rs) (ih (omega arith)))
+
+none_with : (q cid : ℕ) (f : Record → Record) (records : List Record) → total (here q cid) records ≡ 0 → with_record q cid f records ≡ records
+none_with q cid f [] none = refl
+none_with q cid f (r ∷ records) none = go (is_at q cid r) refl (none_with q cid f records)
+  where
+    go : (b : Bool) → is_at q cid r ≡ b → (total (here q cid) records ≡ 0 → with_record q cid f records ≡ records) → with_record q cid f (r ∷ records) ≡ r ∷ records
+    go true e ih = let h = rw e at none in absurd (omega arith)
+    go false e ih = let h : 0 + total (here q cid) records ≡ 0 = rw e at none in rw e (ap (λ rs. r ∷ rs) (ih (omega arith)))
+
+some_is : {A : Type 0} {x y : A} → Some x ≡ Some y → x ≡ y
+some_is e = cc
+
+-- the sum without one record, and with one changed, where its identifier is outstanding once
+pub total_without : (w : Record → ℕ) (q cid : ℕ) (records : List Record) (r : Record) → find (is_at q cid) records ≡ Some r → total (here q cid) records < 2
+    → total w (without_record q cid records) + w r ≡ total w records
+total_without w q cid [] r found once = absurd cc
+total_without w q cid (x ∷ records) r found once = elim (cases_Bool (is_at q cid x)) [
+  | inl e ↦
+      let same : x ≡ r = some_is (rw e at found) in
+      let few : 1 + total (here q cid) records < 2 = rw e at once in
+      let rest : total w (without_record q cid records) ≡ total w records = ap (total w) (none_without q cid records (omega arith)) in
+      rw e (omega (arith, rest, ap w same))
+  | inr e ↦
+      let ih = total_without w q cid records r in
+      let few : 0 + total (here q cid) records < 2 = rw e at once in
+      let rest = ih (rw e at found) (omega arith) in
+      rw e (omega arith)
+]
+
+pub total_with : (w : Record → ℕ) (q cid : ℕ) (f : Record → Record) (records : List Record) (r : Record) → find (is_at q cid) records ≡ Some r → total (here q cid) records < 2
+    → total w (with_record q cid f records) + w r ≡ total w records + w (f r)
+total_with w q cid f [] r found once = absurd cc
+total_with w q cid f (x ∷ records) r found once = elim (cases_Bool (is_at q cid x)) [
+  | inl e ↦
+      let same : x ≡ r = some_is (rw e at found) in
+      let few : 1 + total (here q cid) records < 2 = rw e at once in
+      let rest : total w (with_record q cid f records) ≡ total w records = ap (total w) (none_with q cid f records (omega arith)) in
+      rw e (omega (arith, rest, ap w same, ap (λ y. w (f y)) same))
+  | inr e ↦
+      let ih = total_with w q cid f records r in
+      let few : 0 + total (here q cid) records < 2 = rw e at once in
+      let rest = ih (rw e at found) (omega arith) in
+      rw e (omega arith)
+]
+
+-- a filter lessens a sum
+pub total-filter : {A : Type 0} (w : A → ℕ) (f : A → Bool) (xs : List A) → total w (filter f xs) ≤ total w xs
+total-filter w f [] = omega arith
+total-filter w f (x ∷ xs) = grind (arith, total-filter w f xs)
+
+-- a sum over queues as one is changed
+pub total-change_same : {A : Type 0} (w : A → ℕ) (f : A → A) → ((x : A) → w (f x) ≡ w x) → (k : ℕ) (xs : List A) → total w (change k f xs) ≡ total w xs
+total-change_same w f same k [] = refl
+total-change_same w f same zero (x ∷ xs) = ap (λ n. n + total w xs) (same x)
+total-change_same w f same (suc k) (x ∷ xs) = ap (λ n. w x + n) (total-change_same w f same k xs)
+
+pub total-change : {A : Type 0} (w : A → ℕ) (f : A → A) (k : ℕ) (xs : List A) (x : A) → slice_get xs k ≡ Some x → total w (change k f xs) + w x ≡ total w xs + w (f x)
+total-change w f k [] x e = absurd cc
+total-change w f zero (y ∷ xs) x e =
+    let same : y ≡ x = some_is e in
+    omega (arith, ap w same, ap (λ z. w (f z)) same)
+total-change w f (suc k) (y ∷ xs) x e = omega (arith, total-change w f k xs x e)
+
+-- Runs of free pages: each page of a run is free and stands in it once.
+
+-- none of them stands twice
+none_before : (p first count : ℕ) → p < first → times p (pages_from first count) ≡ 0
+none_before p first zero l = refl
+none_before p first (suc count) l = omega (arith, times-cons p first (pages_from (first + 1) count), differ (first == p) refl, none_before p (first + 1) count (omega (arith, l)))
+  where
+    differ : (b : Bool) → (first == p) ≡ b → one (first == p) ≡ 0
+    differ b e = grind arith
+
+pub once_in_run : (p first count : ℕ) → times p (pages_from first count) ≤ 1
+once_in_run p first zero = omega arith
+once_in_run p first (suc count) = elim (cases_Bool (first == p)) [
+  | inl e ↦
+      let same = eqb-true first p e in
+      omega (arith, times-cons p first (pages_from (first + 1) count), ap one e, none_before p (first + 1) count (omega (arith, same)))
+  | inr e ↦ let ih = once_in_run p (first + 1) count in omega (arith, times-cons p first (pages_from (first + 1) count), ap one e, ih)
+]
+
+pub all_among : (pages free : List ℕ) (p : ℕ) → list_all (is_among free) pages ≡ true → is_among pages p ≡ true → is_among free p ≡ true
+all_among [] free p all h = absurd (true≢false (sym h))
+all_among (x ∷ pages) free p all h = elim (cases_Bool (x == p)) [
+  | inl e ↦ ap (is_among free) (sym (eqb-true x p e)) ∙ parts.0
+  | inr e ↦ let ih = all_among pages free p parts.1 in ih (rw e at h)
+]
+  where
+    parts : (is_among free x ≡ true) × (list_all (is_among free) pages ≡ true)
+    parts = and_parts (is_among free x) (list_all (is_among free) pages) all
+
+-- the lowest run of free pages takes free pages, each once
+pub run_times : (free : List ℕ) (count first : ℕ) → first_of_run free count ≡ Some first → (p : ℕ)
+    → times p (pages_from first count) ≡ (if is_among (pages_from first count) p && is_among free p then 1 else 0)
+run_times free count first is p = elim (cases_Bool (is_among (pages_from first count) p)) [
+  | inl e ↦ rw e (rw (all_among (pages_from first count) free p (find_sound (is_run free count) free first is) e) (let some = held_once p (pages_from first count) e in omega (arith, some, once_in_run p first count)))
+  | inr e ↦ rw e (not_held p (pages_from first count) e)
+]
+
+-- pages of zeros have the numbers that they were made with
+pub zeroed_numbers : (pages : List ℕ) → numbers_of (zeroed_pages pages) ≡ pages
+zeroed_numbers [] = refl
+zeroed_numbers (p ∷ pages) = ap (λ (more : List ℕ). p ∷ more) (zeroed_numbers pages)

@@ -1,21 +1,235 @@
--- The laws.
-use Rattle.std.proofs.Common.{◌≡◌, ℕ, suc, ◌+◌, List, [], ◌∷◌, ◌++◌, length, map, flat_map, sum_by, refl, ap, sym, ◌∙◌, arith, length-append, subst}
-use Rattle.std.proofs.lemmas.List.Sums.{sum_by-cons}
-use Rattle.page_ledger.specs.declared.owner.Role.TheVariants.{Data, Chain}
-use Rattle.page_memory.specs.declared.page.Half.TheVariants.{Submission, Completion}
-use Rattle.page_ledger.specs.declared.owner.Owner.TheVariants.{Free, Queue, Command}
-use Rattle.page_ledger.specs.declared.owner.Owner.{Owner}
-use Rattle.page_ledger.specs.Counting.{total}
-use Rattle.machine_model.specs.State.{State, Host, HostQueue, Record}
-use Rattle.machine_model.specs.Step.{host_part}
+-- The headline of a state.
+use Rattle.std.proofs.Common.{◌≡◌, ℕ, zero, suc, ◌+◌, ◌≤◌, ◌==◌, Bool, true, false, not, Option, Some, None, List, [], ◌∷◌, ◌++◌, length, take, filter, if◌then◌else◌, refl, ap, ◌∙◌, arith, eqb-true, eq-eqb, inl, inr, ◌-◌, ◌*◌, ◌<◌, nat_lt, ltb-false, nat_le, leb-true, ◌&&◌, drop, replicate, slice_get, ap₂, sym, zero-mul, zero-add, map, flat_map, sum_by, length-append, subst}
+use Rattle.std.{proofs.lemmas.{Bool.{cases_Bool, not-false, and_parts}, List.{length-replicate, Sums.sum_by-cons}}, specs.Option.option_map_or}
+use Rattle.machine_model.proofs.Cases.{option_is}
+use Rattle.machine_model.proofs.Counting.{one, times-cons, times-append, times-filter, held_once, not_held, times-pages, length_of_all, find_sound, once_in_run, all_among, total}
+use Rattle.machine_model.proofs.Kept.{bare_at_opening, halves_at_opening, zero_opened}
+use Rattle.machine_model.proofs.Owned.{in_queue, HoldsPart, holds_from_sound, owners_from_holds, identifiers_from_holds, Taken, out_from_taken, taken_from_out}
+use Rattle.machine_model.proofs.Sound.{deletions_at_opening, creations_at_opening, Both, both_events}
+use Rattle.machine_model.proofs.Steps.{first_fails, rest_fails, in_store, length-in_store, each_step, each_run}
 use Rattle.machine_model.specs.Claims.{each_step_keeps, every_run_is_sound, every_run_takes_out, counts_add_up, claimed, claims_of, claims_of_queues, claims_of_record, IsSound, HasOneOwner, counts_of}
-use Rattle.machine_model.proofs.Counting.{length_of_all}
-use Rattle.machine_model.proofs.Parts.{length-in_store}
-use Rattle.machine_model.proofs.Steps.{each_step, each_run}
-use Rattle.machine_model.proofs.Owned.{holds_from_sound, owners_from_holds, identifiers_from_holds}
-use Rattle.machine_model.proofs.Opening.{fits_pool, holds_at_opening, taken_at_opening}
-use Rattle.machine_model.proofs.Taken.{out_from_taken, taken_from_out}
-use Rattle.machine_model.proofs.Out.{Both, both_events}
+use Rattle.machine_model.specs.Opening.{opening, queues_from, pages_of_queues, is_config, Opens, BadConfig, NoPages}
+use Rattle.machine_model.specs.Placement.{is_run, first_of_run, placed, without_numbers, data_placed, chain_wanted, chain_placed, wanted_of}
+use Rattle.machine_model.specs.{State.{State, Host, HostQueue, Record}, Step.{times, host_part}}
+use Rattle.page_ledger.{proofs.Pages.length-pages_from as length_run, specs.{Counting.total as total_counting, Owners.{is_among, pages_from}}}
+use Rattle.page_ledger.specs.declared.owner.{Owner.{Owner, TheVariants.{Free, Queue, Command}}, Role.TheVariants.{Data, Chain}}
+use Rattle.io_commands.specs.{Requests.data_count, declared.request.Piece.Piece}
+use Rattle.page_memory.specs.{Pages.zero_page, declared.page.Half.TheVariants.{Submission, Completion}}
+use Rattle.queue_pair.specs.Memory.{half_pages}
+
+-- What is placed are free pages, each once, and as many as are wanted where there are so many.
+
+-- Pages that are placed
+
+take_times : (p n : ℕ) (xs : List ℕ) → times p (take n xs) ≤ times p xs
+take_times p zero xs = omega arith
+take_times p (suc n) [] = omega arith
+take_times p (suc n) (x ∷ xs) = omega (arith, times-cons p x (take n xs), times-cons p x xs, take_times p n xs)
+
+length_taken : (n : ℕ) (xs : List ℕ) → n ≤ length xs → length (take n xs) ≡ n
+length_taken zero xs h = refl
+length_taken (suc n) [] h = absurd (omega (arith, h))
+length_taken (suc n) (x ∷ xs) h = ap suc (length_taken n xs (omega (arith, h)))
+
+pub length_placed : (free : List ℕ) (count : ℕ) → count ≤ length free → length (placed free count) ≡ count
+length_placed free count enough = go (first_of_run free count)
+  where
+    go : (o : Option ℕ) → length (option_map_or (λ first. pages_from first count) o (take count free)) ≡ count
+    go None = length_taken count free enough
+    go (Some first) = length_run first count
+
+pub placed_times : (p : ℕ) (free : List ℕ) (count : ℕ) → times p (placed free count) ≤ times p free
+placed_times p free count = elim (option_is (first_of_run free count)) [
+  | inl e ↦ rw e (take_times p count free)
+  | inr (first, e) ↦ rw e (run first (find_sound (is_run free count) free first e) (is_among (pages_from first count) p) refl)
+]
+  where
+    run : (first : ℕ) → is_run free count first ≡ true → (b : Bool) → is_among (pages_from first count) p ≡ b → times p (pages_from first count) ≤ times p free
+    run first is true e = omega (arith, once_in_run p first count, held_once p free (all_among (pages_from first count) free p is e))
+    run first is false e = omega (arith, not_held p (pages_from first count) e)
+
+-- of free pages, some and then some of those that are left
+pub two_placed : (p : ℕ) (pages free more : List ℕ) → times p pages ≤ times p free → times p more ≤ times p (without_numbers pages free) → times p (pages ++ more) ≤ times p free
+two_placed p pages free more some rest = elim (cases_Bool (is_among pages p)) [
+  | inl e ↦
+      let none : times p (without_numbers pages free) ≡ 0 = rw e at left in
+      omega (arith, times-append p pages more, some, rest, none)
+  | inr e ↦
+      let all : times p (without_numbers pages free) ≡ times p free = rw e at left in
+      omega (arith, times-append p pages more, not_held p pages e, rest, all)
+]
+  where
+    left : times p (without_numbers pages free) ≡ (if not (is_among pages p) then times p free else 0)
+    left = times-filter p (λ x. not (is_among pages x)) free
+
+-- How many are left
+
+one_less : (d : ℕ) (free : List ℕ) → length (filter (λ p. not (d == p)) free) + times d free ≡ length free
+one_less d [] = refl
+one_less d (x ∷ free) = grind (arith, one_less d free)
+
+left_in_turn : (d : ℕ) (pages free : List ℕ) → without_numbers (d ∷ pages) free ≡ without_numbers pages (filter (λ p. not (d == p)) free)
+left_in_turn d pages [] = refl
+left_in_turn d pages (x ∷ free) = grind (arith, left_in_turn d pages free)
+
+pub length_left : (pages free : List ℕ) → ((p : ℕ) → times p pages ≤ times p free) → ((p : ℕ) → times p free ≤ 1) → length (without_numbers pages free) + length pages ≡ length free
+length_left [] free some once = omega (arith, all free)
+  where
+    all : (xs : List ℕ) → length (without_numbers [] xs) ≡ length xs
+    all [] = refl
+    all (x ∷ xs) = ap suc (all xs)
+length_left (d ∷ pages) free some once =
+    let one_there : 1 ≤ times d free = omega (arith, here, some d) in
+    omega (arith, ap length (left_in_turn d pages free), length_left pages others fewer few, one_less d free, one_there, once d)
+  where
+    others : List ℕ
+    others = filter (λ p. not (d == p)) free
+
+    here : times d (d ∷ pages) ≡ 1 + times d pages
+    here = times-cons d d pages ∙ ap (λ (k : ℕ). k + times d pages) (ap one (eq-eqb d d refl))
+
+    fewer : (p : ℕ) → times p pages ≤ times p others
+    fewer p = go (d == p) refl
+      where
+        kept : times p others ≡ (if not (d == p) then times p free else 0)
+        kept = times-filter p (λ x. not (d == x)) free
+
+        go : (b : Bool) → (d == p) ≡ b → times p pages ≤ times p others
+        go true e =
+            let same : d ≡ p = eqb-true d p e in
+            let gone : times d pages ≡ 0 = omega (arith, here, some d, once d) in
+            omega (arith, ap (λ (x : ℕ). times x pages) same, gone)
+        go false e =
+            let all : times p others ≡ times p free = rw e at kept in
+            omega (arith, all, some p, times-cons p d pages)
+
+    few : (p : ℕ) → times p others ≤ 1
+    few p = go (not (d == p)) (times-filter p (λ x. not (d == x)) free)
+      where
+        go : (b : Bool) → times p others ≡ (if b then times p free else 0) → times p others ≤ 1
+        go b e = grind arith
+
+-- A request's pages
+
+pub placement_times : (p : ℕ) (free : List ℕ) (segment : ℕ) (pieces : List Piece) → times p (data_placed free pieces ++ chain_placed free segment pieces) ≤ times p free
+placement_times p free segment pieces =
+    two_placed p (data_placed free pieces) free (chain_placed free segment pieces) (placed_times p free (data_count pieces))
+    (placed_times p (without_numbers (data_placed free pieces) free) (chain_wanted free segment pieces))
+
+pub length_chain : (free : List ℕ) (segment : ℕ) (pieces : List Piece) → ((p : ℕ) → times p free ≤ 1) → data_count pieces + chain_wanted free segment pieces ≤ length free
+    → length (chain_placed free segment pieces) ≡ chain_wanted free segment pieces
+length_chain free segment pieces once enough =
+    let front : length (data_placed free pieces) ≡ data_count pieces = length_placed free (data_count pieces) (omega (arith, enough)) in
+    let left = length_left (data_placed free pieces) free (λ p. placed_times p free (data_count pieces)) once in
+    length_placed (without_numbers (data_placed free pieces) free) (chain_wanted free segment pieces) (omega (arith, front, left, enough))
+
+-- where as many pages are free as a request wants, its data has room, and its chain behind it
+pub room_for : (free : List ℕ) (segment : ℕ) (pieces : List Piece) → wanted_of free segment pieces ≤ length free → data_count pieces + chain_wanted free segment pieces ≤ length free
+room_for free segment pieces enough = grind arith
+
+-- The opening state keeps the invariant.
+
+range_split : (a c d n : ℕ) → c + d ≡ n → pages_from a n ≡ pages_from a c ++ pages_from (a + c) d
+range_split a zero d n e = ap₂ pages_from (omega arith) (omega arith)
+range_split a (suc c) d zero e = absurd (omega arith)
+range_split a (suc c) d (suc n) e =
+    ap (λ xs. a ∷ xs) (range_split (a + 1) c d n (omega arith) ∙ ap (λ k. pages_from (a + 1) c ++ pages_from k d) (omega arith))
+
+pub length-range : (a n : ℕ) → length (pages_from a n) ≡ n
+length-range a zero = refl
+length-range a (suc n) = ap suc (length-range (a + 1) n)
+
+drop_front : (xs ys : List ℕ) → drop (length xs) (xs ++ ys) ≡ ys
+drop_front [] ys = refl
+drop_front (x ∷ xs) ys = drop_front xs ys
+
+free_pages : (k n : ℕ) → k ≤ n → drop k (pages_from 0 n) ≡ pages_from k (n - k)
+free_pages k n le =
+    let split : pages_from 0 n ≡ pages_from 0 k ++ pages_from (0 + k) (n - k) = range_split 0 k (n - k) n (omega arith) in
+    let at : length (pages_from 0 k) ≡ k = length-range 0 k in
+    ap (drop k) split ∙ ap (λ i. drop i (pages_from 0 k ++ pages_from (0 + k) (n - k))) (sym at) ∙ drop_front (pages_from 0 k) (pages_from (0 + k) (n - k)) ∙ ap (λ a. pages_from a (n - k)) (zero-add k)
+
+three : (p page a b count rest : ℕ) → rest ≡ times p (pages_from (page + a + b) (count * (a + b)))
+    → times p (pages_from page a) + times p (pages_from (page + a) b) + rest ≡ times p (pages_from page (suc count * (a + b)))
+three p page a b count rest e =
+    let first = range_split page a (b + count * (a + b)) (suc count * (a + b)) (omega arith) in
+    let second = range_split (page + a) b (count * (a + b)) (b + count * (a + b)) refl in
+    omega (arith, e, ap (times p) first, times-append p (pages_from page a) (pages_from (page + a) (b + count * (a + b))), ap (times p) second, times-append p (pages_from (page + a) b) (pages_from (page + a + b) (count * (a + b))))
+
+queue_pages : (p page n count : ℕ) → total (in_queue p) (queues_from page n count) ≡ times p (pages_from page (count * (half_pages n Submission + half_pages n Completion)))
+queue_pages p page n zero = ap (λ k. times p (pages_from page k)) (sym (zero-mul (half_pages n Submission + half_pages n Completion)))
+queue_pages p page n (suc count) = three p page (half_pages n Submission) (half_pages n Completion) count _ (queue_pages p (page + half_pages n Submission + half_pages n Completion) n count)
+
+whole : (p pages k : ℕ) {q : ℕ} → k ≤ pages → q ≡ times p (pages_from 0 k) → times p (drop k (pages_from 0 pages)) + (q + 0) ≡ one (nat_lt p pages)
+whole p pages k le e =
+    omega (
+      arith,
+      ap (times p) (free_pages k pages le),
+      e,
+      ap (times p) (range_split 0 k (pages - k) pages (omega arith)),
+      times-append p (pages_from 0 k) (pages_from (0 + k) (pages - k)),
+      ap (λ a. times p (pages_from a (pages - k))) (zero-add k),
+      times-pages p pages,
+    )
+
+abbrev pub FitsPool : (pages queues n : ℕ) → Type 0
+FitsPool pages queues n = pages_of_queues queues n ≤ pages
+
+-- what opens has pages enough, and its limits
+pub fits_pool : (pages queues n s : ℕ) → Opens pages queues n s → FitsPool pages queues n
+fits_pool pages queues n s opens =
+    ltb-false pages (pages_of_queues queues n)
+    (first_fails (nat_lt pages (pages_of_queues queues n)) (NoPages (pages_of_queues queues n) pages) []
+    (rest_fails (not (is_config pages queues n s)) BadConfig ((nat_lt pages (pages_of_queues queues n), NoPages (pages_of_queues queues n) pages) ∷ []) opens))
+
+pub in_limits : (pages queues n s : ℕ) → Opens pages queues n s → is_config pages queues n s ≡ true
+in_limits pages queues n s opens =
+    not-false _ (first_fails (not (is_config pages queues n s)) BadConfig ((nat_lt pages (pages_of_queues queues n), NoPages (pages_of_queues queues n) pages) ∷ []) opens)
+
+pub record Limits (pages queues n s : ℕ) : Type 0 where
+  pub pages_most : pages ≤ 65536
+  pub queues_most : queues ≤ 64
+  pub entries_least : 2 ≤ n
+  pub segment_least : 2 ≤ s
+  pub segment_most : s ≤ 256
+
+pub limits_of : (pages queues n s : ℕ) → is_config pages queues n s ≡ true → Limits pages queues n s
+limits_of pages queues n s h =
+    let a = and_parts (nat_le 8 pages && nat_le pages 65536 && nat_le 1 queues && nat_le queues 64 && nat_le 2 n && nat_le n 1024 && nat_le 2 s) (nat_le s 256) h in
+    let b = and_parts (nat_le 8 pages && nat_le pages 65536 && nat_le 1 queues && nat_le queues 64 && nat_le 2 n && nat_le n 1024) (nat_le 2 s) a.0 in
+    let c = and_parts (nat_le 8 pages && nat_le pages 65536 && nat_le 1 queues && nat_le queues 64 && nat_le 2 n) (nat_le n 1024) b.0 in
+    let d = and_parts (nat_le 8 pages && nat_le pages 65536 && nat_le 1 queues && nat_le queues 64) (nat_le 2 n) c.0 in
+    let e = and_parts (nat_le 8 pages && nat_le pages 65536 && nat_le 1 queues) (nat_le queues 64) d.0 in
+    let f = and_parts (nat_le 8 pages && nat_le pages 65536) (nat_le 1 queues) e.0 in
+    let g = and_parts (nat_le 8 pages) (nat_le pages 65536) f.0 in
+    record { pages_most = leb-true pages 65536 g.1; queues_most = leb-true queues 64 e.1; entries_least = leb-true 2 n d.1; segment_least = leb-true 2 s b.1; segment_most = leb-true s 256 a.1 }
+
+pub limits_say : (pages queues n s : ℕ) → is_config pages queues n s ≡ true → (0 < n) × (queues < 65536)
+limits_say pages queues n s h = let l = limits_of pages queues n s h in (omega (arith, l.entries_least), omega (arith, l.queues_most))
+
+pub holds_at_opening : (pages queues n s : ℕ) (image : List ℕ) → FitsPool pages queues n → HoldsPart (host_part (opening pages queues n s image))
+holds_at_opening pages queues n s image fits =
+    let count : length (in_store (replicate pages (Some zero_page))) ≡ pages = length-in_store (replicate pages (Some zero_page)) ∙ length-replicate pages (Some zero_page) in
+    record {
+      owner = λ p. whole p pages ((queues + 1) * (half_pages n Submission + half_pages n Completion)) fits (queue_pages p 0 n (queues + 1)) ∙ ap (λ k. one (nat_lt p k)) (sym count);
+      once = λ q cid. omega arith;
+      admins = tt;
+      deletions = deletions_at_opening pages queues n s image;
+      creations = creations_at_opening pages queues n s image;
+      bare = bare_at_opening pages queues n s image;
+      halves = halves_at_opening 0 n (queues + 1);
+      admin = zero_opened 0 n (queues + 1);
+    }
+
+pub taken_at_opening : (pages queues n s : ℕ) (image : List ℕ) → Taken (in_store (opening pages queues n s image).memory) []
+taken_at_opening pages queues n s image p l = all_in pages p (omega (arith, length-in_store (replicate pages (Some zero_page)), length-replicate pages (Some zero_page)))
+  where
+    all_in : (pages p : ℕ) → p < pages → slice_get (in_store (replicate pages (Some zero_page))) p ≡ Some true
+    all_in zero p l = absurd (omega arith)
+    all_in (suc pages) zero l = refl
+    all_in (suc pages) (suc p) l = all_in pages p (omega arith)
+
+-- The laws.
 
 -- The four counts are the lengths of the claims
 
@@ -45,7 +259,7 @@ in_commands (r ∷ records) =
     let b = claimed (Command r.q r.cid Chain) r.chain_pages in
     omega (arith, length-append (a ++ b) (flat_map claims_of_record records), length-append a b, length_claimed (Command r.q r.cid Data) r.data_pages, length_claimed (Command r.q r.cid Chain) r.chain_pages, in_commands records, sum_by-cons (λ (x : Record). length x.chain_pages) r records, sum_by-cons (λ (x : Record). length x.data_pages) r records)
 
-all_claims : (h : Host) → length (firsts (claims_of h)) ≡ total (counts_of h)
+all_claims : (h : Host) → length (firsts (claims_of h)) ≡ total_counting (counts_of h)
 all_claims h =
     let a = claimed Free h.free in
     let b = claims_of_queues 0 h.queues in

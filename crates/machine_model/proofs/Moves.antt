@@ -1,39 +1,21 @@
 -- What an accepted event of the host finds and leaves, case by case: a statement that holds of what each case leaves holds after the event. An
 -- event more is a case more here, and in each proof that is made by these cases.
-use Rattle.std.proofs.Common.{◌≡◌, ℕ, ◌==◌, Bool, true, false, not, ◌&&◌, ◌||◌, Option, Some, None, List, [], ◌∷◌, ◌++◌, map, is_none, is_some, slice_get, eqb-true, if◌then◌else◌, refl, ap, ap₂, sym, ◌∙◌, subst, nat_eq}
+use Rattle.std.proofs.Common.{◌≡◌, ℕ, ◌==◌, Bool, true, false, not, ◌&&◌, ◌||◌, Option, Some, None, List, [], ◌∷◌, ◌++◌, map, is_none, is_some, slice_get, eqb-true, if◌then◌else◌, refl, ap, ap₂, sym, ◌∙◌, subst, nat_eq, inl, inr, arith}
+use Rattle.std.{proofs.lemmas.{Bool.{true≢false, not-false, and_parts, or_parts}, List.map-append}, specs.Cmp.Lexicographic.pointwise}
 use Rattle.std.specs.Option.{option_map, option_map_or, option_and_then}
-use Rattle.std.specs.Cmp.Lexicographic.{pointwise}
-use Rattle.std.proofs.lemmas.Bool.{true≢false, not-false, and_parts, or_parts}
-use Rattle.std.proofs.lemmas.List.{map-append}
-use Rattle.admin_commands.specs.Entries.{admin_entry}
-use Rattle.admin_commands.specs.declared.AdminKind.TheVariants.{Abort, DeleteSq, DeleteCq, CreateCq, CreateSq}
-use Rattle.admin_commands.specs.declared.AdminKind.{AdminKind}
-use Rattle.entry_codec.specs.Submission.{submission_bytes}
-use Rattle.entry_codec.specs.declared.completion.ComEntry.{ComEntry}
-use Rattle.entry_codec.specs.declared.submission.SubEntry.{SubEntry}
-use Rattle.entry_codec.specs.declared.status.Status.{Status}
-use Rattle.io_commands.specs.Asked.{Request}
-use Rattle.io_commands.specs.Drafts.{DraftContents}
-use Rattle.io_commands.specs.Jobs.{is_success}
-use Rattle.io_commands.specs.Values.{FinishedContents, numbers_of}
-use Rattle.page_memory.specs.Pages.{Pages, with_page_bytes}
-use Rattle.queue_pair.specs.Rings.{next_tail}
-use Rattle.queue_pair.specs.Memory.{half_pages}
-use Rattle.page_ledger.specs.Owners.{pages_from}
-use Rattle.page_memory.specs.declared.page.Half.{Half}
-use Rattle.page_memory.specs.declared.page.Half.TheVariants.{Submission, Completion}
-use Rattle.machine_model.specs.Claims.{is_away}
-use Rattle.machine_model.specs.Memory.{with_pages, without_pages}
-use Rattle.machine_model.specs.Commands.{Work, Io, Management}
-use Rattle.machine_model.specs.State.{State, Answer, HostQueue, HostState, Live, Deleting, Retired, Gone, MakingCq, HalfMade, MakingSq, Record, Phase, Drafted, Submitted, Held, Collected, record_at, with_record, without_record, pages_of}
+use Rattle.machine_model.proofs.{Cases.option_is, Steps.{Accepts, unrefused, first_fails, found, same_lists, in_store, in_store-with_bytes}}
+use Rattle.machine_model.specs.{Claims.is_away, Commands.{Work, Io, Management}, Events.{Event, Reply, Reaped}, Memory.{with_pages, without_pages}}
 use Rattle.machine_model.specs.Refusals.{device_queue, first_answer, entry_of, refusal_of, host_queue, seen_entry, is_of, asks_for, is_drafted, is_submitted, is_held, is_collected, is_live, is_deleting, is_deleted, is_gone, is_half_made, is_asked, is_making_cq, is_making_sq, has_cq_alone, in_service, is_reaped, run_for, in_state, record_is, no_io_queue, is_io_queue, deletes_sq_of, creates_cq_of, creates_sq_of, slot_page, slot_offset}
+use Rattle.machine_model.specs.State.{State, Answer, HostQueue, HostState, Live, Deleting, Gone, MakingCq, HalfMade, MakingSq, Record, Phase, Drafted, Submitted, Held, Collected, record_at, with_record, without_record, pages_of}
 use Rattle.machine_model.specs.Step.{IsController, IsReserved, IsNewIdentifier, Answers, finished_from, reaped, reaped_entry, reaped_as, fits_ring}
+use Rattle.admin_commands.specs.{Entries.admin_entry, declared.AdminKind.{AdminKind, TheVariants.{Abort, DeleteSq, DeleteCq, CreateCq, CreateSq}}}
+use Rattle.entry_codec.specs.{Submission.submission_bytes, declared.{completion.ComEntry.ComEntry, status.Status.Status, submission.SubEntry.SubEntry}}
+use Rattle.io_commands.specs.{Asked.Request, Drafts.DraftContents, Jobs.is_success, Values.{FinishedContents, numbers_of}}
+use Rattle.page_memory.specs.{Pages.{Pages, with_page_bytes}, declared.page.Half.{Half, TheVariants.{Submission, Completion}}}
+use Rattle.queue_pair.specs.{Memory.half_pages, Rings.next_tail}
+use Rattle.page_ledger.specs.Owners.{pages_from}
 use Rattle.machine_model.specs.After as a
 use Rattle.machine_model.specs.Events as events
-use Rattle.machine_model.specs.Events.{Event, Reply, Reaped}
-use Rattle.machine_model.proofs.Steps.{Accepts}
-use Rattle.machine_model.proofs.Refused.{unrefused, first_fails, found, same_lists}
-use Rattle.machine_model.proofs.Parts.{in_store, in_store-with_bytes}
 
 -- What a posted entry leaves: the memory alone hangs on whether the queue is there
 
@@ -129,16 +111,14 @@ pub record IsHeard (s : State) (q cid : ℕ) (st : Status) (e : ComEntry) (r : R
 
 -- how a command is told: by an I/O reply or an admin one
 abbrev pub named : Reaped → Option ℕ
-named events.Empty = None
-named (events.Rejected why) = None
 named (events.Done cid st) = Some cid
 named (events.AdminDone cid st dw0) = Some cid
+named x = None
 
 abbrev pub status_in : Reaped → Option Status
-status_in events.Empty = None
-status_in (events.Rejected why) = None
 status_in (events.Done cid st) = Some st
 status_in (events.AdminDone cid st dw0) = Some st
+status_in x = None
 
 pub record Tells (s : State) (q cid : ℕ) (st : Status) (what : Reaped) : Type 0 where
   pub is : what ≡ reaped s q
@@ -243,11 +223,10 @@ draft_lives s d none = not-false _ (unrefused s (events.Submit d) none).1.1.0
 
 -- a queue whose state passes a test
 pub queue_found : (test : HostState → Bool) (s : State) (q : ℕ) → in_state test s q ≡ true → (queue : HostQueue) × (host_queue s q ≡ Some queue) × (test queue.state ≡ true)
-queue_found test s q h = go (host_queue s q) refl h
-  where
-    go : (o : Option HostQueue) → host_queue s q ≡ o → option_map_or (λ queue. test queue.state) o false ≡ true → (queue : HostQueue) × (host_queue s q ≡ Some queue) × (test queue.state ≡ true)
-    go None e h = absurd (true≢false (sym h))
-    go (Some queue) e h = (queue, e, h)
+queue_found test s q h = elim (option_is (host_queue s q)) [
+  | inl e ↦ let h = rw e at h in absurd (true≢false (sym h))
+  | inr (queue, e) ↦ let h = rw e at h in (queue, e, h)
+]
 
 -- then it is known
 pub queue_known : (test : HostState → Bool) (s : State) (q : ℕ) → not (in_state test s q) ≡ false → is_none (host_queue s q) ≡ false
@@ -260,83 +239,32 @@ live_queue s q known deleting =
     (x.0, record { there = x.1; live = live x.0.state x.2 (sym (ap (λ (o : Option HostQueue). option_map_or (λ queue. is_deleting queue.state) o false) x.1) ∙ deleting); other = known.0 })
   where
     live : (st : HostState) → in_service st ≡ true → is_deleting st ≡ false → st ≡ Live
-    live Live h d = refl
-    live (Deleting noted) h d = absurd (true≢false d)
-    live Retired h d = absurd (true≢false (sym h))
-    live Gone h d = absurd (true≢false (sym h))
-    live MakingCq h d = absurd (true≢false (sym h))
-    live HalfMade h d = absurd (true≢false (sym h))
-    live MakingSq h d = absurd (true≢false (sym h))
+    live st h d = grind arith
 
 pub deleted_is : (st : HostState) → is_deleted st ≡ true → st ≡ Deleting true
-deleted_is Live e = absurd (true≢false (sym e))
-deleted_is (Deleting noted) e = ap Deleting e
-deleted_is Retired e = absurd (true≢false (sym e))
-deleted_is Gone e = absurd (true≢false (sym e))
-deleted_is MakingCq e = absurd (true≢false (sym e))
-deleted_is HalfMade e = absurd (true≢false (sym e))
-deleted_is MakingSq e = absurd (true≢false (sym e))
+deleted_is st e = grind arith
 
 pub gone_is : (st : HostState) → is_gone st ≡ true → st ≡ Gone
-gone_is Live e = absurd (true≢false (sym e))
-gone_is (Deleting noted) e = absurd (true≢false (sym e))
-gone_is Retired e = absurd (true≢false (sym e))
-gone_is Gone e = refl
-gone_is MakingCq e = absurd (true≢false (sym e))
-gone_is HalfMade e = absurd (true≢false (sym e))
-gone_is MakingSq e = absurd (true≢false (sym e))
+gone_is st e = grind arith
 
 pub half_made_is : (st : HostState) → is_half_made st ≡ true → st ≡ HalfMade
-half_made_is Live e = absurd (true≢false (sym e))
-half_made_is (Deleting noted) e = absurd (true≢false (sym e))
-half_made_is Retired e = absurd (true≢false (sym e))
-half_made_is Gone e = absurd (true≢false (sym e))
-half_made_is MakingCq e = absurd (true≢false (sym e))
-half_made_is HalfMade e = refl
-half_made_is MakingSq e = absurd (true≢false (sym e))
+half_made_is st e = grind arith
 
 pub asked_is : (st : HostState) → is_asked st ≡ true → st ≡ Deleting false
-asked_is Live e = absurd (true≢false (sym e))
-asked_is (Deleting true) e = absurd (true≢false (sym e))
-asked_is (Deleting false) e = refl
-asked_is Retired e = absurd (true≢false (sym e))
-asked_is Gone e = absurd (true≢false (sym e))
-asked_is MakingCq e = absurd (true≢false (sym e))
-asked_is HalfMade e = absurd (true≢false (sym e))
-asked_is MakingSq e = absurd (true≢false (sym e))
+asked_is st e = grind arith
 
 pub making_cq_is : (st : HostState) → is_making_cq st ≡ true → st ≡ MakingCq
-making_cq_is Live e = absurd (true≢false (sym e))
-making_cq_is (Deleting noted) e = absurd (true≢false (sym e))
-making_cq_is Retired e = absurd (true≢false (sym e))
-making_cq_is Gone e = absurd (true≢false (sym e))
-making_cq_is MakingCq e = refl
-making_cq_is HalfMade e = absurd (true≢false (sym e))
-making_cq_is MakingSq e = absurd (true≢false (sym e))
+making_cq_is st e = grind arith
 
 pub making_sq_is : (st : HostState) → is_making_sq st ≡ true → st ≡ MakingSq
-making_sq_is Live e = absurd (true≢false (sym e))
-making_sq_is (Deleting noted) e = absurd (true≢false (sym e))
-making_sq_is Retired e = absurd (true≢false (sym e))
-making_sq_is Gone e = absurd (true≢false (sym e))
-making_sq_is MakingCq e = absurd (true≢false (sym e))
-making_sq_is HalfMade e = absurd (true≢false (sym e))
-making_sq_is MakingSq e = refl
+making_sq_is st e = grind arith
 
 pub io_queue : (s : State) (q : ℕ) → not (is_io_queue s q) ≡ false → (q == 0) ≡ false
-io_queue s q h = go (q == 0) (and_parts (not (q == 0)) (is_some (host_queue s q)) (not-false _ h)).0
-  where
-    go : (b : Bool) → not b ≡ true → b ≡ false
-    go true e = absurd (true≢false (sym e))
-    go false e = refl
+io_queue s q h = let h1 = (and_parts (not (q == 0)) (is_some (host_queue s q)) (not-false _ h)).0 in grind arith
 
 -- where a run is free, it begins somewhere
 pub run_found : (s : State) (half : Half) → is_none (run_for s half) ≡ false → (first : ℕ) × (run_for s half ≡ Some first)
-run_found s half h = go (run_for s half) refl h
-  where
-    go : (o : Option ℕ) → run_for s half ≡ o → is_none o ≡ false → (first : ℕ) × (run_for s half ≡ Some first)
-    go None e h = absurd (true≢false h)
-    go (Some first) e h = (first, e)
+run_found s half h = elim (option_is (run_for s half)) [ inl e ↦ let h = rw e at h in absurd (true≢false h) | inr (first, e) ↦ (first, e) ]
 
 pub heard_of : (s : State) (q cid : ℕ) (st : Status) (what : Reaped) → Tells s q cid st what → (e : ComEntry) × (r : Record) × IsHeard s q cid st e r
 heard_of s q cid st what t = go (seen_entry s q) refl (ap named (sym t.is) ∙ t.names) (ap status_in (sym t.is) ∙ t.status)
@@ -396,15 +324,13 @@ answer_heard s q cid st e r t heard = go (option_and_then (λ queue. first_answe
 -- Each event of the host is one of the cases
 
 no_refused : (s : State) (e : Event) (why : events.Refusal) (touched : List ℕ) → Answers s e (events.Refused why touched) → ⊥
-no_refused s (events.Collect q cid) why touched h = h
-no_refused s e why touched h = h
+no_refused s e why touched h = grind arith
 
 nobody : (hs : List HostQueue) (z k : ℕ) → (k == z) ≡ true → slice_get hs k ≡ None → slice_get hs z ≡ None
 nobody hs z k is at = subst (λ (n : ℕ). slice_get hs n ≡ None) (eqb-true k z is) at
 
 alone : (b : Bool) → (b || false) ≡ true → b ≡ true
-alone true h = refl
-alone false h = h
+alone b h = grind arith
 
 told : (P : Event → Reply → State → Type 0) (s : State) (q cid : ℕ) (st : Status) (what : Reaped) → HostMoves P s → Tells s q cid st what
     → P (events.Reap q) (events.Reaps what) (option_map_or (λ r. a.after_work r.work q cid st (option_map_or (λ e. a.heard q e s) (seen_entry s q) s)) (record_at s.host q cid) s)
@@ -486,11 +412,9 @@ host_moves P s (events.Release f) events.Accepted ok c move =
     let r = is_of_found s is_collected f.request f.q f.cid f.data_pages f.chain_pages collected_away (first_fails _ events.Stranger [] ok.0) in move.releases f r.0 r.1
 host_moves P s (events.Abort q cid) (events.Sent id) ok c move = subst (P (events.Abort q cid) (events.Sent id)) (posted_is 0 (admin_entry (Abort q cid) id) (a.on_records (λ records. records ++ sent_record (Abort q cid) id ∷ []) s)) (move.aborts q cid id ok.0 ok.1)
 host_moves P s (events.DeleteSq q) (events.Sent id) ok c move =
+    let live : (queue : HostQueue) × IsLiveQueue s q queue = let fails = unrefused s (events.DeleteSq q) ok.0 in live_queue s q fails.0 fails.1.0 in
     subst (λ (t : State). P (events.DeleteSq q) (events.Sent id) (a.on_host_queue q a.deleting t)) (posted_is 0 (admin_entry (DeleteSq q) id) (a.on_records (λ records. records ++ sent_record (DeleteSq q) id ∷ []) s))
     (move.asks q id live.0 ok.0 ok.1 live.1)
-  where
-    live : (queue : HostQueue) × IsLiveQueue s q queue
-    live = let fails = unrefused s (events.DeleteSq q) ok.0 in live_queue s q fails.0 fails.1.0
 host_moves P s (events.DeleteCq q) (events.Sent id) ok c move = subst (P (events.DeleteCq q) (events.Sent id)) (posted_is 0 (admin_entry (DeleteCq q) id) (a.on_records (λ records. records ++ sent_record (DeleteCq q) id ∷ []) s)) (move.drops q id ok.0 ok.1)
 host_moves P s (events.CreateCq q) (events.Sent id) ok c move =
     let fails = unrefused s (events.CreateCq q) ok.0 in

@@ -1,10 +1,8 @@
 -- A Read that was never fetched, computed: it is longer than what a search goes through.
 use Rattle.std.specs.Prelude.{◌≡◌, [], ◌∷◌, refl}
-use Rattle.page_memory.specs.Pages.{zero_page}
-use Rattle.page_memory.specs.Memory.{bytes_at}
+use Rattle.page_memory.specs.{Memory.bytes_at, Pages.zero_page}
 use Rattle.sgl_descriptor.specs.Spelling.{descriptor_of}
-use Rattle.entry_codec.specs.Submission.{submission_bytes, submission_of}
-use Rattle.entry_codec.specs.Completion.{completion_bytes, completion_of}
+use Rattle.entry_codec.specs.{Completion.{completion_bytes, completion_of}, Submission.{submission_bytes, submission_of}}
 use Rattle.controller_walk.specs.Units.{moving, from_place}
 use Rattle.machine_model.specs.WorkedLaws.{blocks_drafted}
 

@@ -1,18 +1,20 @@
--- Every page has one owner, and no identifier is outstanding twice: what each host event does to that.
-use Rattle.std.proofs.Common.{◌≡◌, ℕ, ◌+◌, ◌<◌, ◌==◌, nat_lt, Bool, true, false, not, Some, List, [], ◌∷◌, ◌++◌, length, map, filter, flat_map, if◌then◌else◌, refl, ap, sym, ◌∙◌, arith, eqb-true, subst}
-use Rattle.std.specs.List.{AllByRecursion}
-use Rattle.std.proofs.lemmas.Bool.{and_parts}
-use Rattle.std.proofs.lemmas.List.{map-append}
-use Rattle.page_ledger.specs.declared.owner.Role.TheVariants.{Data, Chain}
-use Rattle.page_memory.specs.declared.page.Half.TheVariants.{Submission, Completion}
-use Rattle.page_ledger.specs.declared.owner.Owner.TheVariants.{Queue, Free, Command}
-use Rattle.page_ledger.specs.declared.owner.Owner.{Owner}
-use Rattle.machine_model.specs.State.{State, Host, HostQueue, Record, is_at, record_at, pages_of, without_record}
+-- One owner for each page.
+use Rattle.machine_model.specs.After as a
+use Rattle.std.proofs.Common.{◌≡◌, ℕ, ◌+◌, ◌<◌, ◌==◌, nat_lt, Bool, true, false, not, Some, List, [], ◌∷◌, ◌++◌, length, map, filter, flat_map, if◌then◌else◌, refl, ap, sym, ◌∙◌, arith, eqb-true, subst, inl, inr, zero, suc, ◌≤◌, ◌&&◌, ◌||◌, Option, None, slice_get, slice_set, is_some, length-set, find}
+use Rattle.std.{proofs.lemmas.{Bool.{and_parts, cases_Bool, true≢false, eqb-false, or_parts}, List.map-append}, specs.List.{AllByRecursion, list_any}}
+use Rattle.std.specs.Option.{option_map_or}
+use Rattle.page_ledger.specs.{Owners.is_among, declared.owner.{Owner.{Owner, TheVariants.{Queue, Free, Command}}, Role.TheVariants.{Data, Chain}}}
+use Rattle.page_memory.specs.{Pages.Pages, declared.page.Half.TheVariants.{Submission, Completion}}
+use Rattle.machine_model.proofs.Counting.{one, times-append, times-cons, held_once, not_held, total, total-append, total-map, total_without, total-filter, here, times-outstanding}
+use Rattle.machine_model.{proofs.Steps.{length-in_store, in_store}, specs.{After.change, Agreeing.{waiting, answering, AdminCommandsStand}}}
+use Rattle.machine_model.specs.Claims.{claims_of, claimed, claims_of_queues, claims_of_record, IsSound, HasOneOwner, IdentifiersDiffer, OwnsFit, DeletionsFit, CreationsFit, NewQueuesAreBare, HasNoOtherPages, AdminLives, is_away, IsOutWithItsCommand}
+use Rattle.machine_model.specs.{Commands.{Work, Io, Management}, Memory.{is_in, with_pages, without_pages}, Refusals.is_submitted}
+use Rattle.machine_model.specs.State.{State, Host, HostQueue, Record, is_at, record_at, pages_of, without_record, Phase, Submitted, Held, HostState, with_record, Live, Gone, DeviceQueue}
 use Rattle.machine_model.specs.Step.{times, HostPart, host_part}
-use Rattle.machine_model.specs.Claims.{claims_of, claimed, claims_of_queues, claims_of_record, IsSound, HasOneOwner, IdentifiersDiffer, OwnsFit, DeletionsFit, CreationsFit, NewQueuesAreBare, HasNoOtherPages, AdminLives}
-use Rattle.machine_model.proofs.Counting.{one, times-append, times-cons}
-use Rattle.machine_model.proofs.Parts.{length-in_store}
-use Rattle.machine_model.proofs.Totals.{total, total-append, total-map, total_without, total-filter, here, times-outstanding}
+use Rattle.io_commands.specs.Values.{numbers_of}
+use Rattle.entry_codec.specs.declared.status.TheConstants.Status.{ABORTED_SQ_DELETION}
+
+-- Every page has one owner, and no identifier is outstanding twice: what each host event does to that.
 
 abbrev pub in_queue : ℕ → HostQueue → ℕ
 in_queue p queue = times p queue.sq_pages + times p queue.cq_pages
@@ -134,16 +136,15 @@ owns_map count h f keeps owns = record {
 -- one record more
 once_more : (records : List Record) (new : Record) → total (here new.q new.cid) records ≡ 0 → ((q cid : ℕ) → total (here q cid) records < 2)
     → (q cid : ℕ) → total (here q cid) (records ++ new ∷ []) < 2
-once_more records new unused once q cid = go (is_at q cid new) refl
-  where
-    go : (b : Bool) → is_at q cid new ≡ b → total (here q cid) (records ++ new ∷ []) < 2
-    go true e =
-        let both = and_parts (new.q == q) (new.cid == cid) e in
-        let eq : new.q ≡ q = eqb-true new.q q both.0 in
-        let ec : new.cid ≡ cid = eqb-true new.cid cid both.1 in
-        let none : total (here q cid) records ≡ 0 = subst (λ (k : ℕ). total (here k cid) records ≡ 0) eq (subst (λ (k : ℕ). total (here new.q k) records ≡ 0) ec unused) in
-        omega (arith, total-append (here q cid) records (new ∷ []), none, ap one e)
-    go false e = omega (arith, total-append (here q cid) records (new ∷ []), once q cid, ap one e)
+once_more records new unused once q cid = elim (cases_Bool (is_at q cid new)) [
+  | inl e ↦
+      let both = and_parts (new.q == q) (new.cid == cid) e in
+      let eq : new.q ≡ q = eqb-true new.q q both.0 in
+      let ec : new.cid ≡ cid = eqb-true new.cid cid both.1 in
+      let none : total (here q cid) records ≡ 0 = subst (λ (k : ℕ). total (here k cid) records ≡ 0) eq (subst (λ (k : ℕ). total (here new.q k) records ≡ 0) ec unused) in
+      omega (arith, total-append (here q cid) records (new ∷ []), none, ap one e)
+  | inr e ↦ omega (arith, total-append (here q cid) records (new ∷ []), once q cid, ap one e)
+]
 
 admins_more : (records : List Record) (new : Record) → OwnsFit new.q new.work (pages_of new)
     → AllByRecursion (λ r. OwnsFit r.q r.work (pages_of r)) records → AllByRecursion (λ r. OwnsFit r.q r.work (pages_of r)) (records ++ new ∷ [])
@@ -176,3 +177,376 @@ owns_less count h q cid r free found moved owns = record {
   once = λ q' cid'. omega (arith, owns.once q' cid', total-filter (here q' cid') (λ r'. not (is_at q cid r')) h.records);
   admins = admins-filter (λ r'. not (is_at q cid r')) h.records owns.admins;
 }
+
+-- A page is out where a drafted or collected command has it: what each host event does to that.
+
+-- Pages set
+
+set_same : (m : Pages) (k p : ℕ) (x : Option (List ℕ)) → k ≡ p → p < length m → slice_get (in_store (slice_set m k x)) p ≡ Some (is_some x)
+set_same [] k p x e l = absurd (omega arith)
+set_same (y ∷ m) zero zero x e l = refl
+set_same (y ∷ m) zero (suc p) x e l = absurd (omega arith)
+set_same (y ∷ m) (suc k) zero x e l = absurd (omega arith)
+set_same (y ∷ m) (suc k) (suc p) x e l = set_same m k p x (omega arith) (omega arith)
+
+set_other : (m : Pages) (k p : ℕ) (x : Option (List ℕ)) → (k ≡ p → ⊥) → slice_get (in_store (slice_set m k x)) p ≡ slice_get (in_store m) p
+set_other [] k p x e = refl
+set_other (y ∷ m) zero zero x e = absurd (e refl)
+set_other (y ∷ m) zero (suc p) x e = refl
+set_other (y ∷ m) (suc k) zero x e = refl
+set_other (y ∷ m) (suc k) (suc p) x e = set_other m k p x (λ h. e (ap suc h))
+
+pub out_other : (ps : List ℕ) (m : Pages) (p : ℕ) → is_among ps p ≡ false → slice_get (in_store (without_pages ps m)) p ≡ slice_get (in_store m) p
+out_other [] m p h = refl
+out_other (k ∷ ps) m p h =
+    let both = or_parts (k == p) (is_among ps p) h in
+    out_other ps (slice_set m k None) p both.1 ∙ set_other m k p None (eqb-false k p both.0)
+
+pub out_same : (ps : List ℕ) (m : Pages) (p : ℕ) → is_among ps p ≡ true → p < length m → slice_get (in_store (without_pages ps m)) p ≡ Some false
+out_same [] m p h l = absurd (true≢false (sym h))
+out_same (k ∷ ps) m p h l = go (is_among ps p) refl (out_same ps (slice_set m k None) p)
+  where
+    room : p < length (slice_set m k None)
+    room = omega (arith, length-set m k None)
+
+    go : (b : Bool) → is_among ps p ≡ b → (is_among ps p ≡ true → p < length (slice_set m k None) → slice_get (in_store (without_pages ps (slice_set m k None))) p ≡ Some false)
+        → slice_get (in_store (without_pages ps (slice_set m k None))) p ≡ Some false
+    go true e ih = ih e room
+    go false e ih = out_other ps (slice_set m k None) p e ∙ set_same m k p None (eqb-true k p (here_it (k == p) (is_among ps p) h e)) l
+      where
+        here_it : (x y : Bool) → (x || y) ≡ true → y ≡ false → x ≡ true
+        here_it x y a b = grind arith
+
+pub in_other : (pages : List (ℕ × List ℕ)) (m : Pages) (p : ℕ) → is_among (numbers_of pages) p ≡ false → slice_get (in_store (with_pages pages m)) p ≡ slice_get (in_store m) p
+in_other [] m p h = refl
+in_other (page ∷ pages) m p h =
+    let both = or_parts (page.0 == p) (is_among (numbers_of pages) p) h in
+    in_other pages (slice_set m page.0 (Some page.1)) p both.1 ∙ set_other m page.0 p (Some page.1) (eqb-false page.0 p both.0)
+
+pub in_same : (pages : List (ℕ × List ℕ)) (m : Pages) (p : ℕ) → is_among (numbers_of pages) p ≡ true → p < length m → slice_get (in_store (with_pages pages m)) p ≡ Some true
+in_same [] m p h l = absurd (true≢false (sym h))
+in_same (page ∷ pages) m p h l = go (is_among (numbers_of pages) p) refl (in_same pages (slice_set m page.0 (Some page.1)) p)
+  where
+    room : p < length (slice_set m page.0 (Some page.1))
+    room = omega (arith, length-set m page.0 (Some page.1))
+
+    go : (b : Bool) → is_among (numbers_of pages) p ≡ b → (is_among (numbers_of pages) p ≡ true → p < length (slice_set m page.0 (Some page.1)) → slice_get (in_store (with_pages pages (slice_set m page.0 (Some page.1)))) p ≡ Some true)
+        → slice_get (in_store (with_pages pages (slice_set m page.0 (Some page.1)))) p ≡ Some true
+    go true e ih = ih e room
+    go false e ih = in_other pages (slice_set m page.0 (Some page.1)) p e ∙ set_same m page.0 p (Some page.1) (eqb-true page.0 p (here_it (page.0 == p) (is_among (numbers_of pages) p) h e)) l
+      where
+        here_it : (x y : Bool) → (x || y) ≡ true → y ≡ false → x ≡ true
+        here_it x y a b = grind arith
+
+-- How many taken commands have a page
+
+abbrev pub is_out : Phase → Bool
+is_out Submitted = false
+is_out Held = false
+is_out phase = true
+
+abbrev pub taken : ℕ → Record → ℕ
+taken p r = if is_out r.phase then in_record p r else 0
+
+abbrev pub none : ℕ → Bool
+none zero = true
+none (suc n) = false
+
+pub none_here : (n : ℕ) → n ≡ 0 → none n ≡ true
+none_here zero e = refl
+none_here (suc n) e = absurd (omega arith)
+
+pub some_here : (n : ℕ) → 0 < n → none n ≡ false
+some_here zero e = absurd (omega arith)
+some_here (suc n) e = refl
+
+pub taken_le : (p : ℕ) (records : List Record) → total (taken p) records ≤ total (in_record p) records
+taken_le p [] = omega arith
+taken_le p (r ∷ records) = grind (arith, taken_le p records)
+
+-- the invariant
+abbrev pub Taken : List Bool → List Record → Type 0
+Taken bits records = (p : ℕ) → p < length bits → slice_get bits p ≡ Some (none (total (taken p) records))
+
+-- as the public statement says it
+
+pub in_is : (m : Pages) (p : ℕ) → p < length m → slice_get (in_store m) p ≡ Some (is_in m p)
+in_is [] p l = absurd (omega arith)
+in_is (None ∷ m) zero l = refl
+in_is (Some bytes ∷ m) zero l = refl
+in_is (page ∷ m) (suc p) l = in_is m p (omega arith)
+
+away_is : (r : Record) → is_away r ≡ is_out r.phase
+away_is r = grind arith
+
+abbrev has_away : ℕ → Record → Bool
+has_away p r = is_away r && is_among (pages_of r) p
+
+any_is : (p : ℕ) (records : List Record) → not (list_any (has_away p) records) ≡ none (total (taken p) records)
+any_is p [] = refl
+any_is p (r ∷ records) = rw (away_is r) (go (is_out r.phase) (is_among (pages_of r) p) refl (any_is p records))
+  where
+    go : (b c : Bool) → is_among (pages_of r) p ≡ c → not (list_any (has_away p) records) ≡ none (total (taken p) records)
+        → not ((b && c) || list_any (has_away p) records) ≡ none ((if b then in_record p r else 0) + total (taken p) records)
+    go false c e ih = ih ∙ ap none (omega arith)
+    go true true e ih = sym (some_here _ (omega (arith, held_once p (pages_of r) e)))
+    go true false e ih = ih ∙ ap none (omega (arith, not_held p (pages_of r) e))
+
+some_same : {x y : Bool} → Some x ≡ Some y → x ≡ y
+some_same e = cc
+
+pub out_from_taken : (s : State) → Taken (in_store s.memory) s.host.records → IsOutWithItsCommand s
+out_from_taken s h p l =
+    some_same (sym (in_is s.memory p l) ∙ h p (omega (arith, length-in_store s.memory))) ∙ sym (any_is p s.host.records)
+
+pub taken_from_out : (s : State) → IsOutWithItsCommand s → Taken (in_store s.memory) s.host.records
+taken_from_out s h p l =
+    let l' : p < length s.memory = omega (arith, length-in_store s.memory) in
+    in_is s.memory p l' ∙ ap Some (h p l' ∙ any_is p s.host.records)
+
+-- A command that the host waits for is outstanding once where its queue's state waits for it, and nowhere else: what changes of records and queues do to that.
+
+-- whether a queue's state passes the test
+abbrev pub awaited_at : (HostState → Bool) → List HostQueue → ℕ → Bool
+awaited_at test hs q = option_map_or (λ h. test h.state) (slice_get hs q) false
+
+-- 1 for a command of that queue which it waits for
+abbrev pub awaits : (ℕ → Work → Bool) → ℕ → Record → ℕ
+awaits of q r = one (of q r.work)
+
+abbrev pub Awaited : (ℕ → Work → Bool) → (HostState → Bool) → List Record → List HostQueue → Type 0
+Awaited of test rs hs = (q : ℕ) → total (awaits of q) rs ≡ one (awaited_at test hs q)
+
+-- as the public statement counts them
+pub length_awaits : (of : ℕ → Work → Bool) (q : ℕ) (rs : List Record) → length (filter (λ r. of q r.work) rs) ≡ total (awaits of q) rs
+length_awaits of q [] = refl
+length_awaits of q (r ∷ rs) = grind (arith, length_awaits of q rs)
+
+-- Queues that change
+
+pub at_other : (test : HostState → Bool) (f : HostQueue → HostQueue) (k : ℕ) (hs : List HostQueue) (q : ℕ) → (k ≡ q → ⊥) → awaited_at test (change k f hs) q ≡ awaited_at test hs q
+at_other test f k [] q far = refl
+at_other test f zero (h ∷ hs) zero far = absurd (far refl)
+at_other test f zero (h ∷ hs) (suc q) far = refl
+at_other test f (suc k) (h ∷ hs) zero far = refl
+at_other test f (suc k) (h ∷ hs) (suc q) far = at_other test f k hs q (λ e. far (ap suc e))
+
+pub at_found : (test : HostState → Bool) (hs : List HostQueue) (k : ℕ) (x : HostQueue) → slice_get hs k ≡ Some x → awaited_at test hs k ≡ test x.state
+at_found test hs k x e = ap (λ (o : Option HostQueue). option_map_or (λ h. test h.state) o false) e
+
+pub at_changed : (test : HostState → Bool) (f : HostQueue → HostQueue) (k : ℕ) (hs : List HostQueue) (x : HostQueue) → slice_get hs k ≡ Some x → awaited_at test (change k f hs) k ≡ test (f x).state
+at_changed test f k [] x e = absurd cc
+at_changed test f zero (h ∷ hs) x e = let same : h ≡ x = cc in ap (λ (y : HostQueue). test (f y).state) same
+at_changed test f (suc k) (h ∷ hs) x e = at_changed test f k hs x e
+
+pub at_nobody : (test : HostState → Bool) (f : HostQueue → HostQueue) (k : ℕ) (hs : List HostQueue) → slice_get hs k ≡ None → awaited_at test (change k f hs) k ≡ false
+at_nobody test f k [] e = refl
+at_nobody test f zero (h ∷ hs) e = absurd cc
+at_nobody test f (suc k) (h ∷ hs) e = at_nobody test f k hs e
+
+-- where the test says the same of what a queue becomes
+pub at_same : (test : HostState → Bool) (f : HostQueue → HostQueue) (k : ℕ) (hs : List HostQueue) → ((h : HostQueue) → slice_get hs k ≡ Some h → test (f h).state ≡ test h.state) → (q : ℕ) → awaited_at test (change k f hs) q ≡ awaited_at test hs q
+at_same test f k [] same q = refl
+at_same test f zero (h ∷ hs) same zero = same h refl
+at_same test f zero (h ∷ hs) same (suc q) = refl
+at_same test f (suc k) (h ∷ hs) same zero = refl
+at_same test f (suc k) (h ∷ hs) same (suc q) = at_same test f k hs same q
+
+pub awaited_same : (of : ℕ → Work → Bool) (test : HostState → Bool) (rs : List Record) (f : HostQueue → HostQueue) (k : ℕ) (hs : List HostQueue)
+    → ((h : HostQueue) → slice_get hs k ≡ Some h → test (f h).state ≡ test h.state) → Awaited of test rs hs → Awaited of test rs (change k f hs)
+awaited_same of test rs f k hs same h q = h q ∙ ap one (sym (at_same test f k hs same q))
+
+-- Records that change
+
+pub with_awaits : (of : ℕ → Work → Bool) (k c : ℕ) (f : Record → Record) → ((r : Record) → (f r).work ≡ r.work) → (rs : List Record) (q : ℕ) → total (awaits of q) (with_record k c f rs) ≡ total (awaits of q) rs
+with_awaits of k c f same rs q = total-map (awaits of q) (λ r. if is_at k c r then f r else r) (λ r. grind arith) rs
+
+pub lost_awaits : (of : ℕ → Work → Bool) (k : ℕ) (rs : List Record) (q : ℕ) → total (awaits of q) (map (a.lost k) rs) ≡ total (awaits of q) rs
+lost_awaits of k rs q = total-map (awaits of q) (a.lost k) (λ r. grind arith) rs
+
+-- a command that no queue waits for comes or goes
+pub awaited_more : (of : ℕ → Work → Bool) (test : HostState → Bool) (rs : List Record) (hs : List HostQueue) (new : Record) → ((q : ℕ) → of q new.work ≡ false) → Awaited of test rs hs → Awaited of test (rs ++ new ∷ []) hs
+awaited_more of test rs hs new quiet h q = omega (arith, h q, total-append (awaits of q) rs (new ∷ []), ap one (quiet q))
+
+pub awaited_less : (of : ℕ → Work → Bool) (test : HostState → Bool) (rs : List Record) (hs : List HostQueue) (at c : ℕ) (r : Record) → find (is_at at c) rs ≡ Some r → total (here at c) rs < 2 → ((q : ℕ) → of q r.work ≡ false)
+    → Awaited of test rs hs → Awaited of test (without_record at c rs) hs
+awaited_less of test rs hs at c r is once quiet h q = omega (arith, h q, total_without (awaits of q) at c rs r is once, ap one (quiet q))
+
+-- Commands that queues wait for
+
+-- where such a command is outstanding, its queue waits for it
+pub was_awaited : (of : ℕ → Work → Bool) (test : HostState → Bool) (rs : List Record) (hs : List HostQueue) (k at c : ℕ) (r : Record) → find (is_at at c) rs ≡ Some r → of k r.work ≡ true → total (here at c) rs < 2
+    → Awaited of test rs hs → awaited_at test hs k ≡ true
+was_awaited of test rs hs k at c r is its once h = elim (cases_Bool (awaited_at test hs k)) [
+  | inl e ↦ e
+  | inr e ↦ absurd (omega (arith, total_without (awaits of k) at c rs r is once, ap one its, h k, ap one e))
+]
+
+pub awaited_is : (test : HostState → Bool) (hs : List HostQueue) (k : ℕ) (x : HostQueue) → awaited_at test hs k ≡ true → slice_get hs k ≡ Some x → test x.state ≡ true
+awaited_is test hs k x h e = sym (at_found test hs k x e) ∙ h
+
+-- one is sent, and its queue waits for it
+pub awaited_starts : (of : ℕ → Work → Bool) (test : HostState → Bool) (rs : List Record) (hs : List HostQueue) (f : HostQueue → HostQueue) (k : ℕ) (new : Record) (x : HostQueue) → slice_get hs k ≡ Some x
+    → ((q : ℕ) → (k == q) ≡ false → of q new.work ≡ false) → one (test (f x).state) ≡ one (test x.state) + one (of k new.work) → Awaited of test rs hs → Awaited of test (rs ++ new ∷ []) (change k f hs)
+awaited_starts of test rs hs f k new x there others moves h q = elim (cases_Bool (k == q)) [
+  | inl e ↦ subst (λ (z : ℕ). total (awaits of z) (rs ++ new ∷ []) ≡ one (awaited_at test (change k f hs) z)) (eqb-true k q e) own
+  | inr e ↦ omega (arith, h q, total-append (awaits of q) rs (new ∷ []), ap one (others q e), ap one (at_other test f k hs q (eqb-false k q e)))
+]
+  where
+    own : total (awaits of k) (rs ++ new ∷ []) ≡ one (awaited_at test (change k f hs) k)
+    own = omega (arith, h k, total-append (awaits of k) rs (new ∷ []), ap one (at_found test hs k x there), ap one (at_changed test f k hs x there), moves)
+
+-- one is answered, and its queue waits no longer
+pub awaited_ends : (of : ℕ → Work → Bool) (test : HostState → Bool) (rs : List Record) (hs : List HostQueue) (f : HostQueue → HostQueue) (k at c : ℕ) (r : Record) → find (is_at at c) rs ≡ Some r → total (here at c) rs < 2
+    → ((q : ℕ) → (k == q) ≡ false → of q r.work ≡ false) → ((x : HostQueue) → slice_get hs k ≡ Some x → one (test (f x).state) + one (of k r.work) ≡ one (test x.state))
+    → Awaited of test rs hs → Awaited of test (without_record at c rs) (change k f hs)
+awaited_ends of test rs hs f k at c r is once others moves h q = elim (cases_Bool (k == q)) [
+  | inl e ↦ subst (λ (z : ℕ). total (awaits of z) (without_record at c rs) ≡ one (awaited_at test (change k f hs) z)) (eqb-true k q e) (own (slice_get hs k) refl)
+  | inr e ↦ omega (arith, h q, total_without (awaits of q) at c rs r is once, ap one (others q e), ap one (at_other test f k hs q (eqb-false k q e)))
+]
+  where
+    own : (o : Option HostQueue) → slice_get hs k ≡ o → total (awaits of k) (without_record at c rs) ≡ one (awaited_at test (change k f hs) k)
+    own None e = omega (arith, h k, total_without (awaits of k) at c rs r is once, ap one (ap (λ (o : Option HostQueue). option_map_or (λ h. test h.state) o false) e), ap one (at_nobody test f k hs e))
+    own (Some x) e = omega (arith, h k, total_without (awaits of k) at c rs r is once, ap one (at_found test hs k x e), ap one (at_changed test f k hs x e), moves x e)
+
+-- What a reset makes of records and queues: how their sums and what holds of all of them change.
+
+-- One record
+
+pub lost_keeps : KeepsRecord a.lost_anywhere
+lost_keeps = record {
+  q = λ r. (elim (is_submitted r.phase) as (λ b. (if b then record r { phase = Held; status = Some ABORTED_SQ_DELETION } else r).q ≡ r.q) [ true ↦ refl | false ↦ refl ]);
+  cid = λ r. (elim (is_submitted r.phase) as (λ b. (if b then record r { phase = Held; status = Some ABORTED_SQ_DELETION } else r).cid ≡ r.cid) [ true ↦ refl | false ↦ refl ]);
+  work = λ r. (elim (is_submitted r.phase) as (λ b. (if b then record r { phase = Held; status = Some ABORTED_SQ_DELETION } else r).work ≡ r.work) [ true ↦ refl | false ↦ refl ]);
+  pages = λ r. (elim (is_submitted r.phase) as (λ b. pages_of (if b then record r { phase = Held; status = Some ABORTED_SQ_DELETION } else r) ≡ pages_of r) [ true ↦ refl | false ↦ refl ]);
+}
+
+-- a record either stays or is held with one status, with the same pages for the same work
+pub lost_by : (P : Record → Type 0) (r : Record) → (is_submitted r.phase ≡ false → P r) → (is_submitted r.phase ≡ true → P (record r { phase = Held; status = Some ABORTED_SQ_DELETION })) → P (a.lost_anywhere r)
+lost_by P r stays lost = elim (cases_Bool (is_submitted r.phase)) [ inl e ↦ rw e (lost e) | inr e ↦ rw e (stays e) ]
+
+pub lost_quiet : (r : Record) → is_submitted (a.lost_anywhere r).phase ≡ false
+lost_quiet r = lost_by (λ x. is_submitted x.phase ≡ false) r (λ e. e) (λ e. refl)
+
+pub submitted_in : (ph : Phase) → is_submitted ph ≡ true → is_out ph ≡ false
+submitted_in ph e = grind arith
+
+pub lost_taken : (p : ℕ) (r : Record) → taken p (a.lost_anywhere r) ≡ taken p r
+lost_taken p r = lost_by (λ x. taken p x ≡ taken p r) r (λ e. refl) (λ e. sym (ap (λ b. if b then in_record p r else 0) (submitted_in r.phase e)))
+
+-- All records
+
+abbrev pub io_records : List Record → List Record
+io_records rs = filter (λ r. a.is_of_io r.work) rs
+
+pub reset_total : (w : Record → ℕ) → ((r : Record) → w (a.lost_anywhere r) ≡ w r) → (rs : List Record) → total w (a.reset_records rs) ≡ total w (io_records rs)
+reset_total w same rs = total-map w a.lost_anywhere same (io_records rs)
+
+pub reset_fewer : (w : Record → ℕ) → ((r : Record) → w (a.lost_anywhere r) ≡ w r) → (rs : List Record) → total w (a.reset_records rs) ≤ total w rs
+reset_fewer w same rs = omega (arith, reset_total w same rs, total-filter w (λ r. a.is_of_io r.work) rs)
+
+-- what weighs nothing of an admin command weighs as much as before
+pub io_total : (P : Record → Type 0) (w : Record → ℕ) → ((r : Record) → P r → a.is_of_io r.work ≡ false → w r ≡ 0) → (rs : List Record) → AllByRecursion P rs → total w (io_records rs) ≡ total w rs
+io_total P w none [] all = refl
+io_total P w none (r ∷ rs) all = grind (arith, io_total P w none rs all.1)
+
+-- and what weighs nothing of an I/O command weighs nothing
+pub admin_total : (w : Record → ℕ) → ((r : Record) → w (a.lost_anywhere r) ≡ w r) → ((r : Record) → a.is_of_io r.work ≡ true → w r ≡ 0) → (rs : List Record) → total w (a.reset_records rs) ≡ 0
+admin_total w same none rs = reset_total w same rs ∙ nothing rs
+  where
+    nothing : (rs : List Record) → total w (io_records rs) ≡ 0
+    nothing [] = refl
+    nothing (r ∷ rs) = go (a.is_of_io r.work) refl (nothing rs)
+      where
+        go : (b : Bool) → a.is_of_io r.work ≡ b → total w (io_records rs) ≡ 0 → total w (if b then r ∷ io_records rs else io_records rs) ≡ 0
+        go b e ih = grind arith
+
+pub all_reset : (P Q : Record → Type 0) → ((r : Record) → a.is_of_io r.work ≡ true → P r → Q (a.lost_anywhere r)) → (rs : List Record) → AllByRecursion P rs → AllByRecursion Q (a.reset_records rs)
+all_reset P Q each [] all = tt
+all_reset P Q each (r ∷ rs) all = elim (cases_Bool (a.is_of_io r.work)) [
+  | inl e ↦ let rest = all_reset P Q each rs all.1 in rw e (each r e all.0, rest)
+  | inr e ↦ let rest = all_reset P Q each rs all.1 in rw e rest
+]
+
+-- its pages: an admin command has none
+pub reset_pages : (p : ℕ) (rs : List Record) → AllByRecursion (λ r. OwnsFit r.q r.work (pages_of r)) rs → total (in_record p) (a.reset_records rs) ≡ total (in_record p) rs
+reset_pages p rs fit =
+    reset_total (in_record p) (λ r. ap (times p) (lost_keeps.pages r)) rs
+    ∙ io_total (λ r. OwnsFit r.q r.work (pages_of r)) (in_record p) (λ r f adm. grind arith) rs fit
+
+pub reset_taken : (p : ℕ) (rs : List Record) → AllByRecursion (λ r. OwnsFit r.q r.work (pages_of r)) rs → total (taken p) (a.reset_records rs) ≡ total (taken p) rs
+reset_taken p rs fit =
+    reset_total (taken p) (lost_taken p) rs
+    ∙ io_total (λ r. OwnsFit r.q r.work (pages_of r)) (taken p) (λ r f adm. no_pages p r.q r.work r.phase (pages_of r) f adm) rs fit
+  where
+    no_pages : (p q : ℕ) (w : Work) (ph : Phase) (pages : List ℕ) → OwnsFit q w pages → a.is_of_io w ≡ false → (if is_out ph then times p pages else 0) ≡ 0
+    no_pages p q (Io request) ph pages f kind = absurd (true≢false kind)
+    no_pages p q (Management adm) ph pages f kind = go (is_out ph)
+      where
+        go : (b : Bool) → (if b then times p pages else 0) ≡ 0
+        go b = grind arith
+
+-- Queues
+
+-- a test that a live queue and one that is gone both fail, no queue passes
+pub reset_state : (test : HostState → Bool) → test Live ≡ false → test Gone ≡ false → (hs : List HostQueue) (q : ℕ) → awaited_at test (a.reset_queues hs) q ≡ false
+reset_state test live gone [] q = refl
+reset_state test live gone (x ∷ hs) zero = live
+reset_state test live gone (x ∷ hs) (suc q) = rest hs q
+  where
+    rest : (hs : List HostQueue) (q : ℕ) → awaited_at test (map (λ other. a.no_queue) hs) q ≡ false
+    rest [] q = refl
+    rest (x ∷ hs) zero = gone
+    rest (x ∷ hs) (suc q) = rest hs q
+
+-- queue 0 and the others
+pub all_reset_queues : (P Q : HostQueue → Type 0) (hs : List HostQueue) → ((x : HostQueue) → slice_get hs 0 ≡ Some x → P x → Q (a.reset_admin x)) → Q a.no_queue → AllByRecursion P hs → AllByRecursion Q (a.reset_queues hs)
+all_reset_queues P Q [] admin gone all = tt
+all_reset_queues P Q (x ∷ hs) admin gone all = (admin x refl all.0, rest hs)
+  where
+    rest : (hs : List HostQueue) → AllByRecursion Q (map (λ other. a.no_queue) hs)
+    rest [] = tt
+    rest (x ∷ hs) = (gone, rest hs)
+
+pub reset_length : (hs : List HostQueue) → length (a.reset_queues hs) ≡ length hs
+reset_length [] = refl
+reset_length (x ∷ hs) = ap suc (rest hs)
+  where
+    rest : (hs : List HostQueue) → length (map (λ other. a.no_queue) hs) ≡ length hs
+    rest [] = refl
+    rest (x ∷ hs) = ap suc (rest hs)
+
+pub reset_device_length : (ds : List DeviceQueue) → length (a.reset_device_queues ds) ≡ length ds
+reset_device_length [] = refl
+reset_device_length (x ∷ ds) = ap suc (rest ds)
+  where
+    rest : (ds : List DeviceQueue) → length (map (λ other. a.no_device_queue) ds) ≡ length ds
+    rest [] = refl
+    rest (x ∷ ds) = ap suc (rest ds)
+
+-- the pages of the I/O queues leave them
+pub reset_halves : (p : ℕ) (hs : List HostQueue) → total (in_queue p) (a.reset_queues hs) + times p (a.io_pages hs) ≡ total (in_queue p) hs
+reset_halves p [] = refl
+reset_halves p (x ∷ hs) = omega (arith, rest hs)
+  where
+    rest : (hs : List HostQueue) → total (in_queue p) (map (λ other. a.no_queue) hs) + times p (flat_map a.halves_of hs) ≡ total (in_queue p) hs
+    rest [] = refl
+    rest (x ∷ hs) = omega (arith, rest hs, times-append p (a.halves_of x) (flat_map a.halves_of hs), times-append p x.sq_pages x.cq_pages)
+
+-- the pages of queue 0 are its own
+pub admin_has : (p : ℕ) (hs : List HostQueue) → times p (a.admin_pages hs) ≤ total (in_queue p) hs
+admin_has p [] = omega arith
+admin_has p (x ∷ hs) = omega (arith, times-append p x.sq_pages x.cq_pages)
+
+-- Nothing waits at the controller, so no admin command stands there
+
+pub no_waiting : (ds : List DeviceQueue) → waiting (a.reset_device_queues ds) ≡ []
+no_waiting [] = refl
+no_waiting (d ∷ ds) = refl
+
+pub no_answering : (ds : List DeviceQueue) → answering (a.reset_device_queues ds) ≡ []
+no_answering [] = refl
+no_answering (d ∷ ds) = refl
+
+pub reset_admin_commands : (rs : List Record) → AdminCommandsStand rs [] [] []
+reset_admin_commands rs = record { places = λ c. omega arith; entries = tt; jobs = tt; answers = tt }

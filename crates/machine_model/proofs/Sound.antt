@@ -1,47 +1,168 @@
--- Each event of the host keeps the invariant.
-use Rattle.std.proofs.Common.{◌≡◌, ℕ, ◌+◌, ◌≤◌, ◌==◌, nat_lt, Bool, true, false, ◌&&◌, Some, None, List, [], ◌∷◌, ◌++◌, length, map, is_some, if◌then◌else◌, refl, ap, sym, ◌∙◌, arith, subst, length-set, not}
-use Rattle.std.specs.Option.{option_map_or}
-use Rattle.std.proofs.lemmas.Bool.{not-true, or_parts}
-use Rattle.page_ledger.specs.Owners.{is_among}
-use Rattle.admin_commands.specs.Entries.{admin_entry}
-use Rattle.io_commands.specs.Values.{numbers_of}
-use Rattle.entry_codec.specs.declared.completion.ComEntry.{ComEntry}
-use Rattle.entry_codec.specs.declared.submission.SubEntry.{SubEntry}
-use Rattle.admin_commands.specs.declared.AdminKind.TheVariants.{Abort, DeleteSq, DeleteCq, CreateCq, CreateSq}
-use Rattle.admin_commands.specs.declared.AdminKind.{AdminKind}
-use Rattle.io_commands.specs.Asked.{Request}
-use Rattle.io_commands.specs.Requests.{fault_of}
-use Rattle.page_memory.specs.declared.page.Half.TheVariants.{Submission, Completion}
-use Rattle.queue_pair.specs.Memory.{half_pages}
-use Rattle.page_memory.specs.Pages.{Pages, with_page_bytes}
-use Rattle.entry_codec.specs.declared.status.TheConstants.Status.{ABORTED_SQ_DELETION}
-use Rattle.io_commands.specs.Jobs.{is_success}
-use Rattle.machine_model.specs.Memory.{with_pages, without_pages, zeroed_pages}
-use Rattle.machine_model.specs.Commands.{Io, Management}
-use Rattle.machine_model.specs.State.{State, Host, HostQueue, Record, Held, Drafted, Live, Deleting, is_at, record_at, pages_of, with_record, without_record, outstanding_on}
-use Rattle.machine_model.specs.Placement.{without_numbers}
-use Rattle.machine_model.specs.Refusals.{slot_page, slot_offset, host_queue, refusal_of, is_submitted, is_deleting, has_sq, has_cq, in_service, in_state, no_io_queue, no_identifier, pages_wanted}
-use Rattle.machine_model.specs.Step.{host_part, IsController, IsNewIdentifier, times}
+-- A sound state stays sound.
 use Rattle.machine_model.specs.After as a
-use Rattle.machine_model.specs.Claims.{OwnsFit, HasNoOtherPages}
 use Rattle.machine_model.specs.Events as events
-use Rattle.io_commands.specs.Drafts.{DraftContents}
-use Rattle.machine_model.specs.Events.{Event, Reply}
-use Rattle.machine_model.proofs.Counting.{one, times_granted, times_joined, not_held}
-use Rattle.machine_model.proofs.Totals.{total, total-change_same, total-change, total_without, here, times-outstanding}
-use Rattle.machine_model.proofs.Parts.{in_store, length-in_store, length-with_pages, length-without_pages}
-use Rattle.machine_model.proofs.Steps.{Accepts, IsKept}
-use Rattle.machine_model.proofs.Refused.{first_fails, found_all}
-use Rattle.machine_model.proofs.Owned.{in_queue, in_record, Owns, OwnsPart, HoldsPart, owns_of, owns_queues, KeepsRecord, owns_map, owns_more, owns_less}
-use Rattle.queue_pair.specs.Rings.{HostRing, next_tail, next_head, knowing}
-use Rattle.machine_model.proofs.Resetting.{lost_keeps, all_reset, reset_fewer, reset_pages, reset_halves}
-use Rattle.machine_model.proofs.Moves.{host_moves, posts, posted_bytes, posted_bits, sent_record, sends, heard_without, half_from, creates_cq, creates_sq, grants_cq, grants_sq}
-use Rattle.machine_model.proofs.Asked.{deletions_event, creations_event}
-use Rattle.machine_model.proofs.BareKept.{bare_event}
-use Rattle.machine_model.proofs.HalvesKept.{halves_event}
-use Rattle.machine_model.proofs.Zero.{zero_host}
-use Rattle.machine_model.proofs.Lists.{all_at}
-use Rattle.machine_model.proofs.Runs.{run_times}
+use Rattle.std.proofs.Common.{◌≡◌, ℕ, zero, suc, ◌+◌, ◌<◌, Bool, true, false, ◌||◌, Some, List, [], find, slice_get, refl, ap, sym, ◌∙◌, arith, eq-eqb, ◌≤◌, ◌==◌, nat_lt, ◌&&◌, None, ◌∷◌, ◌++◌, length, map, is_some, if◌then◌else◌, subst, length-set, not, inl, inr}
+use Rattle.std.{proofs.lemmas.Bool.{not-true, or_parts, true≢false, cases_Bool}, specs.Option.option_map_or}
+use Rattle.entry_codec.specs.declared.{completion.ComEntry.ComEntry, status.{Status.Status, TheConstants.Status.ABORTED_SQ_DELETION}}
+use Rattle.entry_codec.specs.declared.submission.SubEntry.{SubEntry}
+use Rattle.admin_commands.specs.{Entries.admin_entry, declared.AdminKind.{AdminKind, TheVariants.{DeleteSq, Abort, DeleteCq, CreateCq, CreateSq}}}
+use Rattle.page_memory.specs.{Pages.{Pages, with_page_bytes}, declared.page.Half.TheVariants.{Submission, Completion}}
+use Rattle.queue_pair.specs.{Memory.half_pages, Rings.{HostRing, next_tail, next_head, knowing}}
+use Rattle.machine_model.proofs.Counting.{one, times_granted, times_joined, not_held, held_once, total, here, total-change_same, total-change, total_without, times-outstanding, total-append, total-map, total_with, all_at, run_times, zeroed_numbers}
+use Rattle.machine_model.proofs.Kept.{Waits, awaited_event, asked_as_heard, ring_at, deletions_awaited, completions_awaited, submissions_awaited, deletions_fit, creations_fit, bare_event, halves_event, zero_host}
+use Rattle.machine_model.proofs.Moves.{IsLiveQueue, IsHeard, host_moves, posts, posted_bytes, posted_bits, sent_record, sends, heard_without, half_from, creates_cq, creates_sq, grants_cq, grants_sq, drafted_record, heard_of, Tells}
+use Rattle.machine_model.proofs.Owned.{HoldsPart, in_queue, in_record, Owns, OwnsPart, owns_of, owns_queues, KeepsRecord, owns_map, owns_more, owns_less, awaited_at, was_awaited as was_awaited_for, lost_keeps, all_reset, reset_fewer, reset_pages, reset_halves, reset_taken, admin_has, submitted_in, Taken, taken, is_out, none, none_here, some_here, taken_le, out_same, out_other, in_same, in_other}
+use Rattle.machine_model.proofs.Steps.{Accepts, IsKept, in_store, length-in_store, length-with_pages, length-without_pages, in_store-with_bytes, first_fails, found_all}
+use Rattle.machine_model.specs.{After.change, Claims.{DeletionsFit, CreationsFit, OwnsFit, HasNoOtherPages}, Commands.{Work, Management, Io}}
+use Rattle.machine_model.specs.{Events.{Event, Reply, Reaped}, Memory.{with_pages, without_pages, zeroed_pages}, Opening.{opening, queues_from}}
+use Rattle.machine_model.specs.Placement.{without_numbers}
+use Rattle.machine_model.specs.Refusals.{is_asked, is_making_cq, is_making_sq, deletes_sq_of, creates_cq_of, creates_sq_of, slot_page, slot_offset, host_queue, refusal_of, is_submitted, is_deleting, has_sq, has_cq, in_service, in_state, no_io_queue, no_identifier, pages_wanted, is_drafted, is_collected, is_held}
+use Rattle.machine_model.specs.State.{State, Host, HostQueue, HostState, Live, Record, is_at, Held, Drafted, Deleting, record_at, pages_of, with_record, without_record, outstanding_on, Phase}
+use Rattle.machine_model.specs.Step.{HostPart, host_part, IsController, IsNewIdentifier, times, reaped}
+use Rattle.page_ledger.specs.Owners.{is_among}
+use Rattle.io_commands.specs.{Asked.Request, Drafts.DraftContents, Jobs.is_success, Requests.fault_of, Values.numbers_of}
+pub use Rattle.machine_model.proofs.Moves.{named, status_in}
+
+-- One deletion of a queue's submission side is outstanding where the host waits for it, and one creation of a half where it waits for that: each event of the host keeps it so.
+
+-- Deletions
+
+abbrev pub asked_at : List HostQueue → ℕ → Bool
+asked_at hs q = awaited_at is_asked hs q
+
+abbrev pub asks_work : ℕ → Work → ℕ
+asks_work q w = one (deletes_sq_of q w)
+
+abbrev pub asks : ℕ → Record → ℕ
+asks q r = asks_work q r.work
+
+abbrev pub Asked : List Record → List HostQueue → Type 0
+Asked rs hs = (q : ℕ) → total (asks q) rs ≡ one (asked_at hs q)
+
+abbrev pub AskedPart : HostPart → Type 0
+AskedPart part = Asked part.host.records part.host.queues
+
+abbrev pub AskedS : State → Type 0
+AskedS s = AskedPart (host_part s)
+
+pub asked_from_fit : (h : Host) → DeletionsFit h → Asked h.records h.queues
+asked_from_fit h fit = deletions_awaited h fit
+
+-- where a deletion is outstanding, its queue waits for it
+pub was_asked : (rs : List Record) (hs : List HostQueue) (k at c : ℕ) (r : Record) → find (is_at at c) rs ≡ Some r → r.work ≡ Management (DeleteSq k) → total (here at c) rs < 2
+    → Asked rs hs → asked_at hs k ≡ true
+was_asked rs hs k at c r is work once asked = was_awaited_for deletes_sq_of is_asked rs hs k at c r is (ap (deletes_sq_of k) work ∙ eq-eqb k k refl) once asked
+
+pub asked_note : (s : State) (q cid : ℕ) (st : Status) (e : ComEntry) (r : Record) (k : ℕ) → HoldsPart (host_part s) → AskedS s → IsHeard s q cid st e r → r.work ≡ Management (DeleteSq k)
+    → (x : HostQueue) → slice_get (a.heard q e s).host.queues k ≡ Some x → is_asked x.state ≡ true
+asked_note s q cid st e r k holds f heard w x ex = ap is_asked (asked_as_heard s q cid st e r k holds heard w x ex)
+
+-- a live queue behind a move of a ring
+pub still_live : (s : State) (q k : ℕ) (g : HostRing → HostRing) (queue y : HostQueue) → IsLiveQueue s q queue → slice_get (change k (λ x. record x { ring = g x.ring }) s.host.queues) q ≡ Some y → y.state ≡ Live
+still_live s q k g queue y live e =
+    let x = ring_at k q g s.host.queues y e in
+    let same : queue ≡ x.0 = cc (live.there, x.1) in
+    x.2 ∙ ap (λ (z : HostQueue). z.state) (sym same) ∙ live.live
+
+-- What waits for what
+
+first_of : (x y : Bool) → x ≡ true → (x || y) ≡ true
+first_of x y h = grind arith
+
+second_of : (x y : Bool) → y ≡ true → (x || y) ≡ true
+second_of x y h = grind arith
+
+deletions_wait : Waits deletes_sq_of is_asked
+deletions_wait = record {
+  io = λ z request. refl;
+  aborts = λ z k cid. refl;
+  drops = λ z k. refl;
+  deletes = λ z k far. far;
+  creates_cq = λ z k n base far. refl;
+  creates_sq = λ z k n base far. refl;
+  kinds = λ z w is. first_of (deletes_sq_of z w) _ is;
+  asked = λ k. eq-eqb k k refl;
+  making_cq = λ k n base. refl;
+  making_sq = λ k n base. refl;
+  live = refl;
+  noted = refl;
+  retired = refl;
+  gone = refl;
+  half_made = refl;
+}
+
+completions_wait : Waits creates_cq_of is_making_cq
+completions_wait = record {
+  io = λ z request. refl;
+  aborts = λ z k cid. refl;
+  drops = λ z k. refl;
+  deletes = λ z k far. refl;
+  creates_cq = λ z k n base far. far;
+  creates_sq = λ z k n base far. refl;
+  kinds = λ z w is. second_of (deletes_sq_of z w) _ (first_of (creates_cq_of z w) _ is);
+  asked = λ k. refl;
+  making_cq = λ k n base. eq-eqb k k refl;
+  making_sq = λ k n base. refl;
+  live = refl;
+  noted = refl;
+  retired = refl;
+  gone = refl;
+  half_made = refl;
+}
+
+submissions_wait : Waits creates_sq_of is_making_sq
+submissions_wait = record {
+  io = λ z request. refl;
+  aborts = λ z k cid. refl;
+  drops = λ z k. refl;
+  deletes = λ z k far. refl;
+  creates_cq = λ z k n base far. refl;
+  creates_sq = λ z k n base far. far;
+  kinds = λ z w is. second_of (deletes_sq_of z w) _ (second_of (creates_cq_of z w) _ is);
+  asked = λ k. refl;
+  making_cq = λ k n base. refl;
+  making_sq = λ k n base. eq-eqb k k refl;
+  live = refl;
+  noted = refl;
+  retired = refl;
+  gone = refl;
+  half_made = refl;
+}
+
+-- Each event
+
+pub asked_event : (s : State) (e : Event) (reply : Reply) → Accepts s e reply → IsController e ≡ false → HoldsPart (host_part s) → AskedS s → AskedS (a.after s e reply)
+asked_event s e reply ok c holds h = awaited_event deletes_sq_of is_asked deletions_wait s e reply ok c holds h
+
+pub deletions_event : (s : State) (e : Event) (reply : Reply) → Accepts s e reply → IsController e ≡ false → HoldsPart (host_part s) → DeletionsFit (a.after s e reply).host
+deletions_event s e reply ok c holds = deletions_fit (a.after s e reply).host (asked_event s e reply ok c holds (deletions_awaited s.host holds.deletions))
+
+pub creations_event : (s : State) (e : Event) (reply : Reply) → Accepts s e reply → IsController e ≡ false → HoldsPart (host_part s) → CreationsFit (a.after s e reply).host
+creations_event s e reply ok c holds =
+    creations_fit (a.after s e reply).host (awaited_event creates_cq_of is_making_cq completions_wait s e reply ok c holds (completions_awaited s.host holds.creations))
+    (awaited_event creates_sq_of is_making_sq submissions_wait s e reply ok c holds (submissions_awaited s.host holds.creations))
+
+-- As it opens
+
+pub opened_waits_not : (test : HostState → Bool) → test Live ≡ false → (page n count q : ℕ) → awaited_at test (queues_from page n count) q ≡ false
+opened_waits_not test live page n zero q = refl
+opened_waits_not test live page n (suc count) zero = live
+opened_waits_not test live page n (suc count) (suc q) = opened_waits_not test live (page + half_pages n Submission + half_pages n Completion) n count q
+
+pub opened_quiet : (page n count q : ℕ) → asked_at (queues_from page n count) q ≡ false
+opened_quiet page n count q = opened_waits_not is_asked refl page n count q
+
+pub asked_at_opening : (page n count : ℕ) → Asked [] (queues_from page n count)
+asked_at_opening page n count q = sym (ap one (opened_quiet page n count q))
+
+pub deletions_at_opening : (pages queues n s : ℕ) (image : List ℕ) → DeletionsFit (opening pages queues n s image).host
+deletions_at_opening pages queues n s image = deletions_fit (opening pages queues n s image).host (asked_at_opening 0 n (queues + 1))
+
+pub creations_at_opening : (pages queues n s : ℕ) (image : List ℕ) → CreationsFit (opening pages queues n s image).host
+creations_at_opening pages queues n s image =
+    creations_fit (opening pages queues n s image).host (λ q. sym (ap one (opened_waits_not is_making_cq refl 0 n (queues + 1) q))) (λ q. sym (ap one (opened_waits_not is_making_sq refl 0 n (queues + 1) q)))
+
+-- Each event of the host keeps the invariant.
 
 -- The invariant of a state
 
@@ -92,8 +213,7 @@ few_free : (count p : ℕ) (h : Host) → Owns count h → times p h.free ≤ on
 few_free count p h holds = omega (arith, holds.owner p)
 
 at_most_one : (b : Bool) → one b ≤ 1
-at_most_one true = omega arith
-at_most_one false = omega arith
+at_most_one b = grind arith
 
 ok-reserve : (s : State) (d : DraftContents) → (d.q == 0) ≡ false → IsNewIdentifier s d.q d.cid
     → ((p : ℕ) → times p (numbers_of d.data_pages ++ numbers_of d.chain_pages) ≡ (if is_among (numbers_of d.data_pages ++ numbers_of d.chain_pages) p && is_among s.host.free p then 1 else 0))
@@ -284,3 +404,187 @@ host_event s e reply ok c holds =
       halves = halves_event s e reply ok c holds;
       admin = zero_host s e reply ok c holds;
     }
+
+-- Each event of the host keeps which pages are out.
+
+abbrev pub TakenPart : HostPart → Type 0
+TakenPart part = Taken part.in_store part.host.records
+
+abbrev pub Both : HostPart → Type 0
+Both part = HoldsPart part × TakenPart part
+
+abbrev Fits : State → Type 0
+Fits s = TakenPart (host_part s)
+
+fits-posted : (q : ℕ) (entry : SubEntry) (s : State) → Fits s → Fits (posts q entry s)
+fits-posted q entry s h = subst (λ bits. Taken bits s.host.records) (sym (posted_bits q entry s)) h
+
+pub small : (b : Bool) → one b ≤ 1
+small b = grind arith
+
+-- of a taken record at most one page is there, so what is left of a sum without it is none
+at_most : (s : State) (p : ℕ) → HoldsPart (host_part s) → total (taken p) s.host.records ≤ 1
+at_most s p h = omega (arith, taken_le p s.host.records, h.owner p, small (nat_lt p (length (in_store s.memory))))
+
+-- pages go out with a command that is then taken
+taken_out : (s : State) (pages : List ℕ) (records : List Record) → ((p : ℕ) → total (taken p) records ≡ total (taken p) s.host.records + times p pages)
+    → Fits s → Taken (in_store (without_pages pages s.memory)) records
+taken_out s pages records more h p l = elim (cases_Bool (is_among pages p)) [
+  | inl e ↦ out_same pages s.memory p e l' ∙ ap Some (sym (some_here _ (omega (arith, more p, held_once p pages e))))
+  | inr e ↦ out_other pages s.memory p e ∙ h p (omega (arith, l', length-in_store s.memory)) ∙ ap (λ n. Some (none n)) (omega (arith, more p, not_held p pages e))
+]
+  where
+    l' : p < length s.memory
+    l' = omega (arith, length-in_store (without_pages pages s.memory), length-without_pages pages s.memory)
+
+-- pages come in with a command that was taken and no longer is
+brought_in : (s : State) (pages : List (ℕ × List ℕ)) (records : List Record) → ((p : ℕ) → total (taken p) records + times p (numbers_of pages) ≡ total (taken p) s.host.records)
+    → HoldsPart (host_part s) → Fits s → Taken (in_store (with_pages pages s.memory)) records
+brought_in s pages records less holds h p l = elim (cases_Bool (is_among (numbers_of pages) p)) [
+  | inl e ↦ in_same pages s.memory p e l' ∙ ap Some (sym (none_here _ (omega (arith, less p, held_once p (numbers_of pages) e, at_most s p holds))))
+  | inr e ↦ in_other pages s.memory p e ∙ h p (omega (arith, l', length-in_store s.memory)) ∙ ap (λ n. Some (none n)) (omega (arith, less p, not_held p (numbers_of pages) e))
+]
+  where
+    l' : p < length s.memory
+    l' = omega (arith, length-in_store (with_pages pages s.memory), length-with_pages pages s.memory)
+
+-- free pages are in, and stay in as a half is granted
+zeroed_in : (s : State) (pages : List ℕ) → ((p : ℕ) → times p pages ≡ (if is_among pages p && is_among s.host.free p then 1 else 0)) → HoldsPart (host_part s) → Fits s → Taken (in_store (with_pages (zeroed_pages pages) s.memory)) s.host.records
+zeroed_in s pages are holds h p l = elim (cases_Bool (is_among pages p)) [
+  | inl e ↦ in_same (zeroed_pages pages) s.memory p (among ∙ e) l' ∙ ap Some (sym (none_here _ (untaken e)))
+  | inr e ↦ in_other (zeroed_pages pages) s.memory p (among ∙ e) ∙ h p (omega (arith, l', length-in_store s.memory))
+]
+  where
+    l' : p < length s.memory
+    l' = omega (arith, length-in_store (with_pages (zeroed_pages pages) s.memory), length-with_pages (zeroed_pages pages) s.memory)
+
+    among : is_among (numbers_of (zeroed_pages pages)) p ≡ is_among pages p
+    among = ap (λ (ps : List ℕ). is_among ps p) (zeroed_numbers pages)
+
+    -- a page of the run is free, so no command has it
+    untaken : is_among pages p ≡ true → total (taken p) s.host.records ≡ 0
+    untaken e = elim (cases_Bool (is_among s.host.free p)) [
+      | inl f ↦ omega (arith, taken_le p s.host.records, holds.owner p, held_once p s.host.free f, small (nat_lt p (length (in_store s.memory))))
+      | inr f ↦ let none : times p pages ≡ 0 = rw (e, f) at (are p) in absurd (omega (arith, none, held_once p pages e))
+    ]
+
+-- the pages of queue 0 are in, and stay in as they are made zero; the admin commands that go had no page
+reset_in : (s : State) → HoldsPart (host_part s) → Fits s → Fits (a.after_reset s)
+reset_in s holds h p l =
+    let l' : p < length s.memory = omega (arith, length-in_store (with_pages (zeroed_pages pages) s.memory), length-with_pages (zeroed_pages pages) s.memory) in
+    let among : is_among (numbers_of (zeroed_pages pages)) p ≡ is_among pages p = ap (λ (ps : List ℕ). is_among ps p) (zeroed_numbers pages) in
+    elim (cases_Bool (is_among pages p)) [
+      | inl e ↦ in_same (zeroed_pages pages) s.memory p (among ∙ e) l' ∙ ap Some (sym (none_here _ (untaken e)))
+      | inr e ↦ in_other (zeroed_pages pages) s.memory p (among ∙ e) ∙ h p (omega (arith, l', length-in_store s.memory)) ∙ ap (λ n. Some (none n)) (sym (reset_taken p s.host.records holds.admins))
+    ]
+  where
+    pages : List ℕ
+    pages = a.admin_pages s.host.queues
+
+    untaken : is_among pages p ≡ true → total (taken p) (a.reset_records s.host.records) ≡ 0
+    untaken e =
+        reset_taken p s.host.records holds.admins
+        ∙ omega (arith, taken_le p s.host.records, holds.owner p, held_once p pages e, admin_has p s.host.queues, small (nat_lt p (length (in_store s.memory))))
+
+-- records change and the store doesn't
+same_taken : (s : State) (records : List Record) → ((p : ℕ) → total (taken p) records ≡ total (taken p) s.host.records) → Fits s → Taken (in_store s.memory) records
+same_taken s records same h p l = h p l ∙ ap (λ n. Some (none n)) (sym (same p))
+
+-- what a record in a phase has taken
+taken_when : (p : ℕ) (r : Record) (b : Bool) → is_out r.phase ≡ b → taken p r ≡ (if b then in_record p r else 0)
+taken_when p r b e = rw e refl
+
+drafted_out : (ph : Phase) → is_drafted ph ≡ true → is_out ph ≡ true
+drafted_out ph e = grind arith
+
+collected_out : (ph : Phase) → is_collected ph ≡ true → is_out ph ≡ true
+collected_out ph e = grind arith
+
+held_in : (ph : Phase) → is_held ph ≡ true → is_out ph ≡ false
+held_in ph e = grind arith
+
+-- What a reap finds is submitted
+
+abbrev pub IsSubmittedAt : State → ℕ → ℕ → Type 0
+IsSubmittedAt s q cid = (r : Record) × (record_at s.host q cid ≡ Some r) × (is_submitted r.phase ≡ true)
+
+pub reaped_submitted : (s : State) (q cid : ℕ) → named (reaped s q) ≡ Some cid → IsSubmittedAt s q cid
+reaped_submitted s q cid h = go (reaped s q) refl h
+  where
+    of : (st : Status) (what : Reaped) → Tells s q cid st what → IsSubmittedAt s q cid
+    of st what t = let x = heard_of s q cid st what t in (x.1, x.2.found, x.2.submitted)
+
+    go : (what : Reaped) → reaped s q ≡ what → named what ≡ Some cid → IsSubmittedAt s q cid
+    go events.Empty is n = absurd cc
+    go (events.Rejected why) is n = absurd cc
+    go (events.Done c st) is n = of st (events.Done c st) (record { is = sym is; names = n; status = refl })
+    go (events.AdminDone c st dw0) is n = of st (events.AdminDone c st dw0) (record { is = sym is; names = n; status = refl })
+
+-- Each event
+
+fits-lost : (p q : ℕ) (r : Record) → taken p (a.lost q r) ≡ taken p r
+fits-lost p q r = go ((r.q == q) && is_submitted r.phase) (λ e. submitted_in r.phase (and_right' (r.q == q) (is_submitted r.phase) e)) refl
+  where
+    and_right' : (x y : Bool) → (x && y) ≡ true → y ≡ true
+    and_right' true y e = e
+    and_right' false y e = absurd (true≢false (sym e))
+
+    go : (b : Bool) → (((r.q == q) && is_submitted r.phase) ≡ true → is_out r.phase ≡ false) → ((r.q == q) && is_submitted r.phase) ≡ b
+        → taken p (if b then record r { phase = Held; status = Some ABORTED_SQ_DELETION } else r) ≡ taken p r
+    go b out e = grind arith
+
+fits_event : (s : State) (e : Event) (reply : Reply) → Accepts s e reply → IsController e ≡ false → Both (host_part s) → Fits (a.after s e reply)
+fits_event s e reply ok c h =
+    host_moves (λ (e : Event) (reply : Reply) (t : State). Fits t) s e reply ok c
+    (record {
+      reserves = λ q request d none is.
+          taken_out s (numbers_of d.data_pages ++ numbers_of d.chain_pages) (s.host.records ++ drafted_record d ∷ []) (λ p. omega (arith, total-append (taken p) s.host.records (drafted_record d ∷ []))) h.1;
+      submits = λ d entry r none built its live.
+          fits-posted d.q entry (a.on_records (with_record d.q d.cid a.submitted) (a.on_memory (with_pages (d.data_pages ++ d.chain_pages)) s))
+          (brought_in s (d.data_pages ++ d.chain_pages) (with_record d.q d.cid a.submitted s.host.records)
+          (λ p. omega (arith, total_with (taken p) d.q d.cid a.submitted s.host.records r its.found (h.0.once d.q d.cid), taken_when p r true (drafted_out r.phase its.phase), ap (times p) its.pages)) h.0 h.1);
+      cancels = λ d r its. ended d.q d.cid r (d.data_pages ++ d.chain_pages) its.found (drafted_out r.phase its.phase) its.pages;
+      rings = λ q none. h.1;
+      rests = λ q is. h.1;
+      rejects = λ q why is. h.1;
+      tells = λ q cid st what e r request t heard w.
+          same_taken s (with_record q cid (a.held st) s.host.records)
+          (λ p. omega (arith, total_with (taken p) q cid (a.held st) s.host.records r heard.found (h.0.once q cid), taken_when p r false (submitted_in r.phase heard.submitted))) h.1;
+      hears = λ q cid st what e r adm t heard w quiet unmade. without q cid r heard.found heard.submitted;
+      notes = λ q cid st what e r k t heard w. without q cid r heard.found heard.submitted;
+      frees = λ q cid st what e r k queue t heard w at retired good. without q cid r heard.found heard.submitted;
+      makes_cq = λ q cid st what e r k n base t heard w good. without q cid r heard.found heard.submitted;
+      unmakes_cq = λ q cid st what e r k n base queue t heard w at bad. without q cid r heard.found heard.submitted;
+      makes_sq = λ q cid st what e r k n base t heard w good. without q cid r heard.found heard.submitted;
+      unmakes_sq = λ q cid st what e r k n base queue t heard w at bad. without q cid r heard.found heard.submitted;
+      collects = λ q cid r f at held is.
+          taken_out s (pages_of r) (with_record q cid a.collected s.host.records)
+          (λ p. omega (arith, total_with (taken p) q cid a.collected s.host.records r at (h.0.once q cid), taken_when p r false (held_in r.phase held))) h.1;
+      releases = λ f r its. ended f.q f.cid r (f.data_pages ++ f.chain_pages) its.found (collected_out r.phase its.phase) its.pages;
+      aborts = λ q cid id none new. sent (Abort q cid) id s h.1;
+      asks = λ q id queue none new live. sent (DeleteSq q) id s h.1;
+      drops = λ q id none new. sent (DeleteCq q) id s h.1;
+      creates_cqs = λ q id first queue none new granted.
+          sent (creates_cq q first s) id (grants_cq q first s) (zeroed_in s (half_from Completion first s) (run_times s.host.free (half_pages s.entries Completion) first granted.run) h.0 h.1);
+      creates_sqs = λ q id first queue none new granted.
+          sent (creates_sq q first s) id (grants_sq q first s) (zeroed_in s (half_from Submission first s) (run_times s.host.free (half_pages s.entries Submission) first granted.run) h.0 h.1);
+      retires = λ q queue none at deleted. same_taken s (map (a.lost q) s.host.records) (λ p. total-map (taken p) (a.lost q) (fits-lost p q) s.host.records) h.1;
+      forges = λ q slot bytes queue none at. subst (λ bits. Taken bits s.host.records) (sym (in_store-with_bytes s.memory (slot_page queue.cq_pages 16 slot) (slot_offset 16 slot) bytes)) h.1;
+      resets = reset_in s h.0 h.1;
+    })
+  where
+    ended : (q cid : ℕ) (r : Record) (pages : List (ℕ × List ℕ)) → record_at s.host q cid ≡ Some r → is_out r.phase ≡ true → numbers_of pages ≡ pages_of r → Taken (in_store (with_pages pages s.memory)) (without_record q cid s.host.records)
+    ended q cid r pages at out same =
+        brought_in s pages (without_record q cid s.host.records) (λ p. omega (arith, total_without (taken p) q cid s.host.records r at (h.0.once q cid), taken_when p r true out, ap (times p) same)) h.0 h.1
+
+    without : (q cid : ℕ) (r : Record) → record_at s.host q cid ≡ Some r → is_submitted r.phase ≡ true → Taken (in_store s.memory) (without_record q cid s.host.records)
+    without q cid r at sub =
+        same_taken s (without_record q cid s.host.records) (λ p. omega (arith, total_without (taken p) q cid s.host.records r at (h.0.once q cid), taken_when p r false (submitted_in r.phase sub))) h.1
+
+    sent : (adm : AdminKind) (id : ℕ) (s : State) → Fits s → Fits (sends adm id s)
+    sent adm id s h =
+        fits-posted 0 (admin_entry adm id) (a.on_records (λ records. records ++ sent_record adm id ∷ []) s)
+        (same_taken s (s.host.records ++ sent_record adm id ∷ []) (λ p. omega (arith, total-append (taken p) s.host.records (sent_record adm id ∷ []))) h)
+
+pub both_events : (s : State) (e : Event) (reply : Reply) → Accepts s e reply → IsController e ≡ false → IsKept Both s e reply
+both_events s e reply ok c h = (host_event s e reply ok c h.0, fits_event s e reply ok c h)

@@ -1,20 +1,281 @@
--- How many admin commands of a kind stand at the controller, and how their answers go: what each change does to those counts.
-use Rattle.std.proofs.Common.{◌≡◌, ℕ, ◌+◌, ◌*◌, ◌-◌, ◌%◌, ◌≤◌, ◌==◌, Bool, true, false, not, ◌&&◌, Option, Some, None, option_and_then, List, [], ◌∷◌, find, map, if◌then◌else◌, refl, ap, sym, ◌∙◌, arith, subst, eqb-true, eq-eqb}
-use Rattle.std.specs.Option.{option_map_or}
-use Rattle.std.specs.List.{AllByRecursion}
-use Rattle.std.proofs.lemmas.Bool.{true≢false, and_parts}
-use Rattle.admin_commands.specs.Entries.{admin_entry, named_queue}
-use Rattle.admin_commands.specs.declared.AdminKind.{AdminKind}
-use Rattle.admin_commands.specs.declared.AdminKind.TheVariants.{Abort, DeleteSq, DeleteCq, CreateCq, CreateSq}
-use Rattle.entry_codec.specs.declared.admin_opcode.TheConstants.{DELETE_IO_SQ, DELETE_IO_CQ, CREATE_IO_CQ, CREATE_IO_SQ}
+-- Places of commands, and tokens.
+use Rattle.std.proofs.Common.{◌≡◌, ℕ, ◌+◌, ◌<◌, ◌≤◌, ◌==◌, Bool, true, false, not, Some, List, [], ◌∷◌, ◌++◌, map, filter, find, if◌then◌else◌, refl, ap, sym, ◌∙◌, arith, subst, eqb-true, eq-eqb, inl, inr, ◌&&◌, Option, option_and_then}
+use Rattle.std.{proofs.lemmas.Bool.{true≢false, and_parts, cases_Bool}, specs.{List.AllByRecursion, Option.option_map_or}}
+use Rattle.admin_commands.specs.{Entries.{admin_entry, named_queue}, declared.AdminKind.AdminKind}
+use Rattle.entry_codec.specs.declared.{admin_opcode.TheConstants.{DELETE_IO_SQ, DELETE_IO_CQ, CREATE_IO_CQ, CREATE_IO_SQ}, status.Status.Status}
 use Rattle.entry_codec.specs.declared.submission.SubEntry.{SubEntry}
 use Rattle.io_commands.specs.Jobs.{is_success}
-use Rattle.machine_model.specs.Commands.{Work, Io, Management}
-use Rattle.machine_model.specs.State.{Record, Job, Answer, is_at, without_record}
-use Rattle.machine_model.proofs.Counting.{one}
-use Rattle.machine_model.proofs.Totals.{total}
-use Rattle.machine_model.proofs.Placed.{Placed, Knows, EntryKnown, JobKnown, AnswerKnown, find_sound}
-pub use Rattle.machine_model.specs.Agreeing.{kind_of, kind_at, is_kind, succeeds, unmade, answered_well, done_well, deletes_sq, deletes_cq, creates_cq, creates_sq}
+use Rattle.machine_model.proofs.{Cases.option_is, Counting.{one, total, total-append, total_without, total-filter, here}}
+use Rattle.machine_model.specs.{Commands.{Management, Work, Io}, State.{Record, Job, Answer, is_at, without_record}}
+pub use Rattle.machine_model.specs.Refusals.{is_job}
+pub use Rattle.machine_model.specs.Agreeing.{is_absent_at as gone_at, has_completions_at as there_at, Knows, DeletesIo, EntryKnown, JobKnown, AnswerKnown, entry_is, job_is, answer_is, AdminCommandsStand as Placed, kind_of, kind_at, is_kind, succeeds, unmade, answered_well, done_well, deletes_sq, deletes_cq, creates_cq, creates_sq}
+
+-- Where nothing was forged: each admin command's entry is in one place, and says what its record says.
+
+all-map : {A : Type 0} (P Q : A → Type 0) → ((x : A) → P x → Q x) → (xs : List A) → AllByRecursion P xs → AllByRecursion Q xs
+all-map P Q f [] all = tt
+all-map P Q f (x ∷ xs) all = (f x all.0, all-map P Q f xs all.1)
+
+all-more : {A : Type 0} (P : A → Type 0) (xs : List A) (x : A) → AllByRecursion P xs → P x → AllByRecursion P (xs ++ x ∷ [])
+all-more P [] x all h = (h, tt)
+all-more P (y ∷ xs) x all h = (all.0, all-more P xs x all.1 h)
+
+pub placed_records : (rs rs' : List Record) (un : List SubEntry) (js : List Job) (ans : List Answer)
+    → ((c : ℕ) → total (here 0 c) rs ≤ total (here 0 c) rs') → ((c : ℕ) (adm : AdminKind) → Knows rs c adm → Knows rs' c adm)
+    → Placed rs un js ans → Placed rs' un js ans
+placed_records rs rs' un js ans more tells h = record {
+  places = λ c. omega (arith, h.places c, more c);
+  entries = all-map (EntryKnown rs) (EntryKnown rs') (λ e k. (k.0, tells e.cid k.0 k.1, k.2)) un h.entries;
+  jobs = all-map (JobKnown rs) (JobKnown rs') (λ j k z. let w = k z in (w.0, tells j.entry.cid w.0 w.1, w.2, w.3)) js h.jobs;
+  answers = all-map (AnswerKnown rs) (AnswerKnown rs') (λ an k. (k.0, tells an.cid k.0 k.1)) ans h.answers;
+}
+
+-- jobs change without coming nearer to a success
+pub record MildJob (f : Job → Job) : Type 0 where
+  pub q : (j : Job) → (f j).q ≡ j.q
+  pub entry : (j : Job) → (f j).entry ≡ j.entry
+  pub verdict : (j : Job) (st : Status) → j.q ≡ 0 → (f j).verdict ≡ Some st → is_success st ≡ true → j.verdict ≡ Some st
+
+jobs-map : (rs : List Record) (f : Job → Job) → MildJob f → (js : List Job) → AllByRecursion (JobKnown rs) js → AllByRecursion (JobKnown rs) (map f js)
+jobs-map rs f mild [] all = tt
+jobs-map rs f mild (j ∷ js) all = (
+  λ z. let z' : j.q ≡ 0 = sym (mild.q j) ∙ z in let w = all.0 z' in
+      (w.0, rw (mild.entry j) w.1, rw (mild.entry j) w.2, λ st v ok. w.3 st (mild.verdict j st z' v ok) ok),
+  jobs-map rs f mild js all.1,
+)
+
+total_jobs-map : (c : ℕ) (f : Job → Job) → MildJob f → (js : List Job) → total (job_is c) (map f js) ≡ total (job_is c) js
+total_jobs-map c f mild [] = refl
+total_jobs-map c f mild (j ∷ js) =
+    let first : job_is c (f j) ≡ job_is c j = rw (mild.q j, mild.entry j) refl in
+    omega (arith, first, total_jobs-map c f mild js)
+
+pub placed_jobs : (rs : List Record) (un : List SubEntry) (js : List Job) (ans : List Answer) (f : Job → Job)
+    → MildJob f → Placed rs un js ans → Placed rs un (map f js) ans
+placed_jobs rs un js ans f mild h = record {
+  places = λ c. omega (arith, h.places c, total_jobs-map c f mild js);
+  entries = h.entries;
+  jobs = jobs-map rs f mild js h.jobs;
+  answers = h.answers;
+}
+
+-- What is known as records change
+
+pub find_more : (test : Record → Bool) (rs : List Record) (new r : Record) → find test rs ≡ Some r → find test (rs ++ new ∷ []) ≡ Some r
+find_more test [] new r e = absurd cc
+find_more test (x ∷ rs) new r e = go (test x) e (find_more test rs new r)
+  where
+    go : (b : Bool) → (if b then Some x else find test rs) ≡ Some r → (find test rs ≡ Some r → find test (rs ++ new ∷ []) ≡ Some r) → (if b then Some x else find test (rs ++ new ∷ [])) ≡ Some r
+    go true e ih = e
+    go false e ih = ih e
+
+pub find_new : (test : Record → Bool) (rs : List Record) (new : Record) → total (λ r. one (test r)) rs ≡ 0 → test new ≡ true → find test (rs ++ new ∷ []) ≡ Some new
+find_new test [] new none e = rw e refl
+find_new test (x ∷ rs) new none e = go (test x) none (find_new test rs new)
+  where
+    go : (b : Bool) → one b + total (λ r. one (test r)) rs ≡ 0 → (total (λ r. one (test r)) rs ≡ 0 → test new ≡ true → find test (rs ++ new ∷ []) ≡ Some new)
+        → (if b then Some x else find test (rs ++ new ∷ [])) ≡ Some new
+    go true none ih = absurd (omega arith)
+    go false none ih = ih (omega arith) e
+
+pub find_map : (test : Record → Bool) (f : Record → Record) → ((r : Record) → test (f r) ≡ test r) → (rs : List Record) (r : Record) → find test rs ≡ Some r → find test (map f rs) ≡ Some (f r)
+find_map test f same [] r e = absurd cc
+find_map test f same (x ∷ rs) r e = rw (same x) (go (test x) e (find_map test f same rs r))
+  where
+    go : (b : Bool) → (if b then Some x else find test rs) ≡ Some r → (find test rs ≡ Some r → find test (map f rs) ≡ Some (f r)) → (if b then Some (f x) else find test (map f rs)) ≡ Some (f r)
+    go true e ih = let x≡r : x ≡ r = cc in ap (λ y. Some (f y)) x≡r
+    go false e ih = ih e
+
+-- a filter that keeps each record that passes
+pub find_filter : (test keep : Record → Bool) → ((r : Record) → test r ≡ true → keep r ≡ true) → (rs : List Record) (r : Record) → find test rs ≡ Some r → find test (filter keep rs) ≡ Some r
+find_filter test keep all [] r e = absurd cc
+find_filter test keep all (x ∷ rs) r e = go (test x) (keep x) refl refl e (find_filter test keep all rs r)
+  where
+    go : (b k : Bool) → test x ≡ b → keep x ≡ k → (if b then Some x else find test rs) ≡ Some r → (find test rs ≡ Some r → find test (filter keep rs) ≡ Some r)
+        → find test (if k then x ∷ filter keep rs else filter keep rs) ≡ Some r
+    go true true eb ek e ih = rw eb e
+    go true false eb ek e ih = absurd (true≢false (sym (all x eb) ∙ ek))
+    go false true eb ek e ih = rw eb (ih e)
+    go false false eb ek e ih = ih e
+
+-- Sending an admin command
+
+pub placed_sent : (rs : List Record) (un : List SubEntry) (js : List Job) (ans : List Answer) (adm : AdminKind) (id : ℕ) (new : Record)
+    → total (here 0 id) rs ≡ 0 → is_at 0 id new ≡ true → new.work ≡ Management adm
+    → Placed rs un js ans → Placed (rs ++ new ∷ []) (un ++ admin_entry adm id ∷ []) js ans
+placed_sent rs un js ans adm id new none at work h =
+    let both : (new.q ≡ 0) × (new.cid ≡ id) = let p = and_parts (new.q == 0) (new.cid == id) at in (eqb-true new.q 0 p.0, eqb-true new.cid id p.1) in
+    let wide : Placed (rs ++ new ∷ []) un js ans = placed_records rs (rs ++ new ∷ []) un js ans (λ c. omega (arith, total-append (here 0 c) rs (new ∷ [])))
+    (λ c a k. (k.0, find_more (is_at 0 c) rs new k.0 k.1, k.2)) h in
+    record {
+      places = λ c. more c (id == c) refl (total-append (here 0 c) rs (new ∷ [])) (total-append (entry_is c) un (admin_entry adm id ∷ []));
+      entries = all-more (EntryKnown (rs ++ new ∷ [])) un (admin_entry adm id) wide.entries (adm, (new, find_new (is_at 0 id) rs new none at, work), refl);
+      jobs = wide.jobs;
+      answers = wide.answers;
+    }
+  where
+    more : (c : ℕ) (b : Bool) → (id == c) ≡ b
+        → total (here 0 c) (rs ++ new ∷ []) ≡ total (here 0 c) rs + (here 0 c new + 0)
+        → total (entry_is c) (un ++ admin_entry adm id ∷ []) ≡ total (entry_is c) un + (one (id == c) + 0)
+        → total (entry_is c) (un ++ admin_entry adm id ∷ []) + (total (job_is c) js + total (answer_is c) ans) ≤ total (here 0 c) (rs ++ new ∷ [])
+    more c true e r u =
+        let same : id ≡ c = eqb-true id c e in
+        let h' : here 0 c new ≡ 1 = subst (λ (k : ℕ). one (is_at 0 k new) ≡ 1) same (ap one at) in
+        omega (arith, r, u, h.places c, ap one e, h')
+    more c false e r u = omega (arith, r, u, h.places c, ap one e)
+
+-- Fetching one
+
+pub placed_decided : (rs : List Record) (e : SubEntry) (un : List SubEntry) (js : List Job) (ans : List Answer) (j : Job) (st : Status)
+    → j.q ≡ 0 → j.entry ≡ e → j.verdict ≡ Some st
+    → ((adm : AdminKind) → e ≡ admin_entry adm e.cid → is_success st ≡ true → DeletesIo adm)
+    → Placed rs (e ∷ un) js ans → Placed rs un (js ++ j ∷ []) ans
+placed_decided rs e un js ans j st jq je jv promise h =
+    let k = h.entries.0 in
+    record {
+      places = λ c.
+          let one_job : job_is c j ≡ entry_is c e = rw (jq, je) refl in
+          omega (arith, h.places c, total-append (job_is c) js (j ∷ []), one_job);
+      entries = h.entries.1;
+      jobs = all-more (JobKnown rs) js j h.jobs
+          (λ z. (k.0, rw je k.1, rw je k.2, λ st' v ok. let same : st ≡ st' = cc (jv, v) in promise k.0 k.2 (rw same ok)));
+      answers = h.answers;
+    }
+
+-- an entry that is answered at once, without success
+pub placed_conflict : (rs : List Record) (e : SubEntry) (un : List SubEntry) (js : List Job) (ans : List Answer) (an : Answer)
+    → an.cid ≡ e.cid → Placed rs (e ∷ un) js ans → Placed rs un js (ans ++ an ∷ [])
+placed_conflict rs e un js ans an same h = record {
+  places = λ c.
+      let one' : answer_is c an ≡ entry_is c e = rw same refl in
+      omega (arith, h.places c, total-append (answer_is c) ans (an ∷ []), one');
+  entries = h.entries.1;
+  jobs = h.jobs;
+  answers = all-more (AnswerKnown rs) ans an h.answers (h.entries.0.0, rw same h.entries.0.1);
+}
+
+-- Reaping one
+
+others : {A : Type 0} (w : A → ℕ) (id : A → ℕ) (c : ℕ) → ((x : A) → w x ≡ one (id x == c)) → (xs : List A) → total w xs ≡ 0 → AllByRecursion (λ x. id x ≡ c → ⊥) xs
+others w id c same [] none = tt
+others w id c same (x ∷ xs) none =
+    (λ e. let w1 : w x ≡ 1 = same x ∙ ap one (eq-eqb (id x) c e) in absurd (omega arith), others w id c same xs (omega arith))
+
+all-both : {A : Type 0} (P Q R : A → Type 0) → ((x : A) → P x → Q x → R x) → (xs : List A) → AllByRecursion P xs → AllByRecursion Q xs → AllByRecursion R xs
+all-both P Q R f [] p q = tt
+all-both P Q R f (x ∷ xs) p q = (f x p.0 q.0, all-both P Q R f xs p.1 q.1)
+
+pub find_sound : {A : Type 0} (test : A → Bool) (xs : List A) (x : A) → find test xs ≡ Some x → test x ≡ true
+find_sound test [] x e = absurd cc
+find_sound test (y ∷ xs) x e = elim (cases_Bool (test y)) [
+  | inl t ↦ let e = rw t at e in let same : y ≡ x = cc in ap test (sym same) ∙ t
+  | inr t ↦ let e = rw t at e in let ih = find_sound test xs x in ih e
+]
+
+pub find_all : {A : Type 0} (P : A → Type 0) (test : A → Bool) (xs : List A) (x : A) → find test xs ≡ Some x → AllByRecursion P xs → P x
+find_all P test [] x e all = absurd cc
+find_all P test (y ∷ xs) x e all = go (test y) e (λ d. find_all P test xs x d all.1)
+  where
+    go : (b : Bool) → (if b then Some y else find test xs) ≡ Some x → (find test xs ≡ Some x → P x) → P x
+    go true e ih = let same : y ≡ x = cc in subst P same all.0
+    go false e ih = ih e
+
+all-filter : {A : Type 0} (P : A → Type 0) (keep : A → Bool) (xs : List A) → AllByRecursion P xs → AllByRecursion P (filter keep xs)
+all-filter P keep [] all = tt
+all-filter P keep (x ∷ xs) all = go (keep x) (all-filter P keep xs all.1)
+  where
+    go : (b : Bool) → AllByRecursion P (filter keep xs) → AllByRecursion P (if b then x ∷ filter keep xs else filter keep xs)
+    go true rest = (all.0, rest)
+    go false rest = rest
+
+jobs_others : (c : ℕ) (js : List Job) → total (job_is c) js ≡ 0 → AllByRecursion (λ j. j.q ≡ 0 → j.entry.cid ≡ c → ⊥) js
+jobs_others c [] none = tt
+jobs_others c (j ∷ js) none =
+    (λ z e. let w : job_is c j ≡ 1 = rw (eq-eqb j.q 0 z, eq-eqb j.entry.cid c e) refl in absurd (omega arith), jobs_others c js (omega arith))
+
+pub placed_reaped : (rs : List Record) (un : List SubEntry) (js : List Job) (an : Answer) (ans : List Answer)
+    → total (here 0 an.cid) rs < 2 → Placed rs un js (an ∷ ans) → Placed (without_record 0 an.cid rs) un js ans
+placed_reaped rs un js an ans once h =
+    let knows = h.answers.0.1 in
+    let r = knows.0 in
+    let at = and_parts (r.q == 0) (r.cid == an.cid) (find_sound (is_at 0 an.cid) rs r knows.1) in
+    let rq : r.q ≡ 0 = eqb-true r.q 0 at.0 in
+    let rc : r.cid ≡ an.cid = eqb-true r.cid an.cid at.1 in
+    let mine : (c : ℕ) → here 0 c r ≡ answer_is c an = λ c. rw (rq, rc) refl in
+    let own : answer_is an.cid an ≡ 1 = ap one (eq-eqb an.cid an.cid refl) in
+    let few = h.places an.cid in
+    let no_entry = others (entry_is an.cid) (λ (e : SubEntry). e.cid) an.cid (λ e. refl) un (omega arith) in
+    let no_job = jobs_others an.cid js (omega arith) in
+    let no_answer = others (answer_is an.cid) (λ (a : Answer). a.cid) an.cid (λ a. refl) ans (omega arith) in
+    record {
+      places = λ c. omega (arith, h.places c, total_without (here 0 c) 0 an.cid rs r knows.1 once, mine c);
+      entries = all-both (EntryKnown rs) (λ e. e.cid ≡ an.cid → ⊥) (EntryKnown (without_record 0 an.cid rs)) (λ e k far. (k.0, still e.cid k.0 far k.1, k.2)) un h.entries no_entry;
+      jobs = all-both (JobKnown rs) (λ j. j.q ≡ 0 → j.entry.cid ≡ an.cid → ⊥) (JobKnown (without_record 0 an.cid rs))
+          (λ j k far z. let w = k z in (w.0, still j.entry.cid w.0 (far z) w.1, w.2, w.3)) js h.jobs no_job;
+      answers = all-both (AnswerKnown rs) (λ a. a.cid ≡ an.cid → ⊥) (AnswerKnown (without_record 0 an.cid rs)) (λ a k far. (k.0, still a.cid k.0 far k.1)) ans h.answers.1 no_answer;
+    }
+  where
+    still : (c : ℕ) (adm : AdminKind) → (c ≡ an.cid → ⊥) → Knows rs c adm → Knows (without_record 0 an.cid rs) c adm
+    still c adm far k = (k.0, find_filter (is_at 0 c) (λ r. not (is_at 0 an.cid r)) (λ r t. keeps r t (is_at 0 an.cid r) refl) rs k.0 k.1, k.2)
+      where
+        keeps : (r : Record) → is_at 0 c r ≡ true → (b : Bool) → is_at 0 an.cid r ≡ b → not b ≡ true
+        keeps r t true e =
+            let a1 = and_parts (r.q == 0) (r.cid == c) t in
+            let a2 = and_parts (r.q == 0) (r.cid == an.cid) e in
+            absurd (far (sym (eqb-true r.cid c a1.1) ∙ eqb-true r.cid an.cid a2.1))
+        keeps r t false e = refl
+
+-- Completing one
+
+pub total_gone : {A : Type 0} (w : A → ℕ) (test : A → Bool) (xs : List A) (x : A) → find test xs ≡ Some x → total w (filter (λ y. not (test y)) xs) + w x ≤ total w xs
+total_gone w test [] x e = absurd cc
+total_gone w test (y ∷ xs) x e = go (test y) e (total_gone w test xs x)
+  where
+    go : (b : Bool) → (if b then Some y else find test xs) ≡ Some x → (find test xs ≡ Some x → total w (filter (λ y. not (test y)) xs) + w x ≤ total w xs)
+        → total w (if not b then y ∷ filter (λ y. not (test y)) xs else filter (λ y. not (test y)) xs) + w x ≤ w y + total w xs
+    go true e ih =
+        let same : y ≡ x = cc in
+        omega (arith, ap w same, total-filter w (λ y. not (test y)) xs)
+    go false e ih = omega (arith, ih e)
+
+pub placed_completed : (rs : List Record) (un : List SubEntry) (js : List Job) (ans : List Answer) (cid : ℕ) (j : Job) (an : Answer)
+    → find (is_job 0 cid) js ≡ Some j → an.cid ≡ cid → Placed rs un js ans → Placed rs un (filter (λ k. not (is_job 0 cid k)) js) (ans ++ an ∷ [])
+placed_completed rs un js ans cid j an found same h =
+    let at = and_parts (j.q == 0) (j.entry.cid == cid) (find_sound (is_job 0 cid) js j found) in
+    let jq : j.q ≡ 0 = eqb-true j.q 0 at.0 in
+    let jc : j.entry.cid ≡ cid = eqb-true j.entry.cid cid at.1 in
+    let k = find_all (JobKnown rs) (is_job 0 cid) js j found h.jobs jq in
+    let ac : an.cid ≡ j.entry.cid = same ∙ sym jc in
+    record {
+      places = λ c.
+          let mine : job_is c j ≡ answer_is c an = rw (jq, jc, same) refl in
+          omega (arith, h.places c, total_gone (job_is c) (is_job 0 cid) js j found, mine, total-append (answer_is c) ans (an ∷ []));
+      entries = h.entries;
+      jobs = all-filter (JobKnown rs) (λ k'. not (is_job 0 cid k')) js h.jobs;
+      answers = all-more (AnswerKnown rs) ans an h.answers (k.0, rw ac k.1);
+    }
+
+-- Jobs of other queues
+
+pub placed_job_more : (rs : List Record) (un : List SubEntry) (js : List Job) (ans : List Answer) (j : Job) → (j.q == 0) ≡ false
+    → Placed rs un js ans → Placed rs un (js ++ j ∷ []) ans
+placed_job_more rs un js ans j other h = record {
+  places = λ c. let none : job_is c j ≡ 0 = rw other refl in omega (arith, h.places c, total-append (job_is c) js (j ∷ []), none);
+  entries = h.entries;
+  jobs = all-more (JobKnown rs) js j h.jobs (λ z. absurd (true≢false (sym (eq-eqb j.q 0 z) ∙ other)));
+  answers = h.answers;
+}
+
+pub placed_job_less : (rs : List Record) (un : List SubEntry) (js : List Job) (ans : List Answer) (keep : Job → Bool)
+    → Placed rs un js ans → Placed rs un (filter keep js) ans
+placed_job_less rs un js ans keep h = record {
+  places = λ c. omega (arith, h.places c, total-filter (job_is c) keep js);
+  entries = h.entries;
+  jobs = all-filter (JobKnown rs) keep js h.jobs;
+  answers = h.answers;
+}
+
+-- How many admin commands of a kind stand at the controller, and how their answers go: what each change does to those counts.
 
 -- Sums
 
@@ -46,47 +307,27 @@ kind_known test rs c adm k =
 
 -- what an identifier's command is for, if it passes
 pub kind_found : (test : AdminKind → Bool) (rs : List Record) (c : ℕ) → is_kind test rs c ≡ true → (adm : AdminKind) × Knows rs c adm × (test adm ≡ true)
-kind_found test rs c h = go (find (is_at 0 c) rs) refl h
+kind_found test rs c h = elim (option_is (find (is_at 0 c) rs)) [
+  | inl e ↦ let t = rw e at h in absurd (true≢false (sym t))
+  | inr (r, e) ↦ let t = rw e at h in of r e r.work refl t
+]
   where
     of : (r : Record) → find (is_at 0 c) rs ≡ Some r → (w : Work) → r.work ≡ w → option_map_or test (kind_of w) false ≡ true → (adm : AdminKind) × Knows rs c adm × (test adm ≡ true)
     of r e (Io request) is t = absurd (true≢false (sym t))
     of r e (Management adm) is t = (adm, (r, e, is), t)
 
-    go : (o : Option Record) → find (is_at 0 c) rs ≡ o → option_map_or test (option_and_then (λ r. kind_of r.work) o) false ≡ true → (adm : AdminKind) × Knows rs c adm × (test adm ≡ true)
-    go None e t = absurd (true≢false (sym t))
-    go (Some r) e t = of r e r.work refl t
-
-low : (q m : ℕ) → (q + 65536 * m) % 65536 ≡ q % 65536
-low q m = omega arith
-
 -- what an entry's opcode and queue say of it
 pub names_sq_deletion : (q c : ℕ) (adm : AdminKind) → deletes_sq q adm ≡ (((admin_entry adm c).opcode == DELETE_IO_SQ) && (named_queue (admin_entry adm c) == q))
-names_sq_deletion q c (Abort a cid) = refl
-names_sq_deletion q c (DeleteSq a) = refl
-names_sq_deletion q c (DeleteCq a) = refl
-names_sq_deletion q c (CreateCq a n base) = refl
-names_sq_deletion q c (CreateSq a n base) = refl
+names_sq_deletion q c adm = grind arith
 
 pub names_cq_deletion : (q c : ℕ) (adm : AdminKind) → deletes_cq q adm ≡ (((admin_entry adm c).opcode == DELETE_IO_CQ) && (named_queue (admin_entry adm c) == q))
-names_cq_deletion q c (Abort a cid) = refl
-names_cq_deletion q c (DeleteSq a) = refl
-names_cq_deletion q c (DeleteCq a) = refl
-names_cq_deletion q c (CreateCq a n base) = refl
-names_cq_deletion q c (CreateSq a n base) = refl
+names_cq_deletion q c adm = grind arith
 
 pub names_cq_creation : (q c : ℕ) (adm : AdminKind) → creates_cq q adm ≡ (((admin_entry adm c).opcode == CREATE_IO_CQ) && (named_queue (admin_entry adm c) == q))
-names_cq_creation q c (Abort a cid) = refl
-names_cq_creation q c (DeleteSq a) = refl
-names_cq_creation q c (DeleteCq a) = refl
-names_cq_creation q c (CreateCq a n base) = ap (λ (z : ℕ). z == q) (sym (low a (n - 1)))
-names_cq_creation q c (CreateSq a n base) = refl
+names_cq_creation q c adm = grind arith
 
 pub names_sq_creation : (q c : ℕ) (adm : AdminKind) → creates_sq q adm ≡ (((admin_entry adm c).opcode == CREATE_IO_SQ) && (named_queue (admin_entry adm c) == q))
-names_sq_creation q c (Abort a cid) = refl
-names_sq_creation q c (DeleteSq a) = refl
-names_sq_creation q c (DeleteCq a) = refl
-names_sq_creation q c (CreateCq a n base) = refl
-names_sq_creation q c (CreateSq a n base) = ap (λ (z : ℕ). z == q) (sym (low a (n - 1)))
+names_sq_creation q c adm = grind arith
 
 -- the kinds of a known entry
 pub record Named (rs : List Record) (e : SubEntry) : Type 0 where

@@ -1,19 +1,12 @@
 -- What the second step of a walk may answer, computed.
 use Rattle.std.proofs.Common.{◌≡◌, ℕ, Option, Some, None, MatchOption, List, [], ◌∷◌, refl, subst}
-use Rattle.page_memory.specs.Pages.{zero_page}
-use Rattle.page_memory.specs.Memory.{bytes_at}
+use Rattle.page_memory.specs.{Memory.bytes_at, Pages.zero_page}
 use Rattle.sgl_descriptor.specs.Spelling.{descriptor_of}
-use Rattle.entry_codec.specs.Submission.{submission_bytes, submission_of}
-use Rattle.entry_codec.specs.Completion.{completion_bytes, completion_of}
-use Rattle.controller_walk.specs.Units.{moving, from_place}
-use Rattle.controller_walk.specs.declared.walk.WalkState.TheVariants.{More}
-use Rattle.controller_walk.specs.declared.walk.WalkState.{WalkState}
-use Rattle.machine_model.specs.State.{State, Job}
-use Rattle.machine_model.specs.Refusals.{job_at}
-use Rattle.machine_model.specs.After.{next_unit, next_answer}
-use Rattle.machine_model.specs.Step.{Answers, unit_answered}
-use Rattle.machine_model.specs.Events as events
+use Rattle.entry_codec.specs.{Completion.{completion_bytes, completion_of}, Submission.{submission_bytes, submission_of}}
+use Rattle.controller_walk.specs.{Units.{moving, from_place}, declared.walk.WalkState.{WalkState, TheVariants.More}}
+use Rattle.machine_model.specs.{After.{next_unit, next_answer}, Refusals.job_at, State.{State, Job}, Step.{Answers, unit_answered}}
 use Rattle.machine_model.specs.WorkedLaws.{walking, SecondStepTouches}
+use Rattle.machine_model.specs.Events as events
 
 abbrev AnswersOf : State → WalkState → List ℕ → Option Job → Type 0
 AnswersOf s outcome pages o = MatchOption o ⊥ (λ j. unit_answered (next_unit s j) (next_answer s j) outcome pages)

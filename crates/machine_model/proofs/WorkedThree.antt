@@ -1,17 +1,11 @@
 -- The draft of three pieces and its segments in memory, computed.
 use Rattle.std.proofs.Common.{refl, [], ◌∷◌, lit≤, lit<}
-use Rattle.page_memory.specs.Pages.{byte_at, zero_page}
-use Rattle.page_memory.specs.Memory.{bytes_at}
-use Rattle.sgl_descriptor.specs.Spelling.{spelling, descriptor_of}
-use Rattle.sgl_descriptor.specs.declared.Descriptor.TheVariants.{DataBlock, LastSegment}
-use Rattle.sgl_descriptor.specs.declared.Part.TheVariants.{Data}
+use Rattle.page_memory.specs.{Memory.bytes_at, Pages.{byte_at, zero_page}}
+use Rattle.sgl_descriptor.specs.{Spelling.{spelling, descriptor_of}, declared.{Descriptor.TheVariants.{DataBlock, LastSegment}, Part.TheVariants.Data}}
 use Rattle.sgl_chain.specs.Spells.{IsSegment}
-use Rattle.entry_codec.specs.Submission.{submission_bytes, submission_of}
-use Rattle.entry_codec.specs.Completion.{completion_bytes, completion_of}
+use Rattle.entry_codec.specs.{Completion.{completion_bytes, completion_of}, Submission.{submission_bytes, submission_of}}
 use Rattle.controller_walk.specs.Units.{moving, from_place}
-use Rattle.machine_model.specs.Script.{left_by}
-use Rattle.machine_model.specs.WorkedChains.{small_segments, two_segments}
-use Rattle.machine_model.specs.WorkedLaws.{IsBuiltOfThree, SegmentsNamed, segments_of_three}
+use Rattle.machine_model.specs.{Script.left_by, WorkedChains.{small_segments, two_segments}, WorkedLaws.{IsBuiltOfThree, SegmentsNamed, segments_of_three}}
 
 pub is_built : IsBuiltOfThree
 unfolding zero_page

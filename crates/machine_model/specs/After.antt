@@ -1,49 +1,30 @@
 -- What an accepted event leaves: the state is a function of the state before, the event and the reply, which names what was chosen.
+use Rattle.std.specs.{List.flat_map, Option.option_map_or}
 use Rattle.std.specs.Prelude.{ℕ, ◌+◌, ◌*◌, ◌-◌, ◌/◌, ◌%◌, ◌==◌, Bool, true, false, ◌&&◌, ◌||◌, not, Option, Some, None, List, [], ◌∷◌, ◌++◌, length, map, filter, take, drop, is_none, slice_get, slice_index, if◌then◌else◌, unwrap_or}
-use Rattle.std.specs.Option.{option_map_or}
-use Rattle.std.specs.List.{flat_map}
 use Rattle.page_ledger.specs.Owners.{is_among, pages_from}
-use Rattle.controller_walk.specs.Laws.{after_units}
-use Rattle.controller_walk.specs.Walks.{answer}
-use Rattle.controller_walk.specs.Units.{Act, Stays, Reads, Moves, Course, course_of_list, units}
-use Rattle.admin_commands.specs.declared.SqState.{SqState}
-use Rattle.admin_commands.specs.declared.AdminVerdict.TheVariants.{Answer as Answered, AbortJob, StopQueue, DropCompletion, MakeCompletion, MakeSubmission}
-use Rattle.admin_commands.specs.declared.AdminVerdict.{AdminVerdict}
-use Rattle.admin_commands.specs.declared.DeviceView.{DeviceView}
-use Rattle.block_image.specs.Blocks.{block_count}
+use Rattle.controller_walk.specs.{Laws.after_units, Units.{Act, Stays, Reads, Moves, Course, course_of_list, units}, Walks.answer}
 use Rattle.controller_walk.specs.declared.walk.WalkState.{WalkState}
-use Rattle.sgl_descriptor.specs.declared.Direction.TheVariants.{Destination, Source}
-use Rattle.sgl_descriptor.specs.declared.Direction.{Direction}
-use Rattle.entry_codec.specs.Completion.{completion_bytes}
-use Rattle.entry_codec.specs.Submission.{submission_bytes}
-use Rattle.admin_commands.specs.declared.SqState.TheVariants.{Absent, Live as Running, Stopping}
-use Rattle.admin_commands.specs.Verdicts.{decision}
-use Rattle.admin_commands.specs.Entries.{admin_entry, named_queue, named_command}
-use Rattle.io_commands.specs.Values.{numbers_of}
-use Rattle.admin_commands.specs.declared.AdminKind.TheVariants.{Abort, DeleteSq, DeleteCq, CreateCq, CreateSq}
-use Rattle.admin_commands.specs.declared.AdminKind.{AdminKind}
-use Rattle.entry_codec.specs.declared.completion.ComEntry.{ComEntry}
-use Rattle.entry_codec.specs.declared.submission.SubEntry.{SubEntry}
-use Rattle.page_memory.specs.Pages.{Pages, page_at, with_page_bytes, with_bytes}
+use Rattle.admin_commands.specs.{Entries.{admin_entry, named_queue, named_command}, Verdicts.decision, declared.AdminKind.AdminKind}
+use Rattle.admin_commands.specs.declared.{AdminKind.TheVariants.{Abort, DeleteSq, DeleteCq, CreateCq, CreateSq}, AdminVerdict.AdminVerdict}
+use Rattle.admin_commands.specs.declared.AdminVerdict.TheVariants.{Answer as Answered, AbortJob, StopQueue, DropCompletion, MakeCompletion, MakeSubmission}
+use Rattle.admin_commands.specs.declared.{DeviceView.DeviceView, SqState.{SqState, TheVariants.{Absent, Live as Running, Stopping}}}
+use Rattle.block_image.specs.Blocks.{block_count}
+use Rattle.sgl_descriptor.specs.declared.Direction.{Direction, TheVariants.{Destination, Source}}
+use Rattle.entry_codec.specs.{Completion.completion_bytes, Submission.submission_bytes, declared.admin_opcode.TheConstants.DELETE_IO_SQ}
+use Rattle.entry_codec.specs.declared.{completion.ComEntry.ComEntry, status.Status.Status}
 use Rattle.entry_codec.specs.declared.status.TheConstants.Status.{SUCCESS, COMMAND_ID_CONFLICT, ABORT_REQUESTED, ABORTED_SQ_DELETION}
-use Rattle.entry_codec.specs.declared.status.Status.{Status}
+use Rattle.entry_codec.specs.declared.submission.SubEntry.{SubEntry}
+use Rattle.io_commands.specs.{Drafts.DraftContents, Jobs.{io_fault, bytes_after_check, need_of_entry, direction_of_entry, verdict_of, is_success}}
+use Rattle.io_commands.specs.Values.{numbers_of}
+use Rattle.page_memory.specs.{Pages.{Pages, page_at, with_page_bytes, with_bytes}, declared.page.Half.{Half, TheVariants.{Submission, Completion}}}
+use Rattle.machine_model.specs.{Commands.{Work, Io, Management}, Events.{Event, Reply, Reaped}, Memory.{without_pages, with_pages, zeroed_pages, memory_of}}
 use Rattle.machine_model.specs.Placement.{without_numbers}
-use Rattle.page_memory.specs.declared.page.Half.{Half}
-use Rattle.page_memory.specs.declared.page.Half.TheVariants.{Submission, Completion}
-use Rattle.queue_pair.specs.Memory.{half_pages}
-use Rattle.machine_model.specs.Memory.{without_pages, with_pages, zeroed_pages, memory_of}
-use Rattle.machine_model.specs.Commands.{Work, Io, Management}
-use Rattle.machine_model.specs.State.{State, Host, Device, HostQueue, Live, Deleting, Retired, Gone, MakingCq, HalfMade, MakingSq, DeviceQueue, Record, Drafted, Submitted, Held, Collected, Job, Answer, record_at, without_record, with_record, pages_of}
 use Rattle.machine_model.specs.Refusals.{host_queue, device_queue, slot_page, slot_offset, seen_entry, is_job, job_at, next_rung, post_slot, fetch_slot, conflicts, is_submitted, has_cq_alone, run_for}
+use Rattle.machine_model.specs.State.{State, Host, Device, HostQueue, Live, Deleting, Retired, Gone, MakingCq, HalfMade, MakingSq, DeviceQueue, Record, Drafted, Submitted, Held, Collected, Job, Answer, record_at, without_record, with_record, pages_of}
+use Rattle.queue_pair.specs.{Lists.expected_phase, Memory.half_pages, Rings.{HostRing, fresh_host_ring, next_tail, next_head, knowing}}
 use Rattle.machine_model.specs.Events as events
-use Rattle.io_commands.specs.Drafts.{DraftContents}
-use Rattle.machine_model.specs.Events.{Event, Reply, Reaped}
 pub use Rattle.queue_pair.specs.Members.{change}
-use Rattle.queue_pair.specs.Rings.{HostRing, fresh_host_ring, next_tail, next_head, knowing}
-use Rattle.queue_pair.specs.Lists.{expected_phase}
 use Rattle.io_commands.specs.Jobs as jobs
-use Rattle.io_commands.specs.Jobs.{io_fault, bytes_after_check, need_of_entry, direction_of_entry, verdict_of, is_success}
-use Rattle.entry_codec.specs.declared.admin_opcode.TheConstants.{DELETE_IO_SQ}
 
 -- Changing one member of a list, one queue, one job
 

@@ -1,25 +1,14 @@
 -- What holds of a state where nothing was forged: the host's side and the controller's agree.
+use Rattle.std.specs.{List.AllByRecursion, Option.option_map_or}
 use Rattle.std.specs.Prelude.{◌≡◌, ℕ, ◌+◌, ◌-◌, ◌%◌, ◌<◌, ◌≤◌, ◌==◌, Bool, true, false, not, ◌&&◌, Option, Some, None, option_and_then, List, [], ◌∷◌, length, find, slice_get, if◌then◌else◌}
-use Rattle.std.specs.List.{AllByRecursion}
-use Rattle.std.specs.Option.{option_map_or}
-use Rattle.admin_commands.specs.Entries.{admin_entry}
-use Rattle.admin_commands.specs.Verdicts.{is_absent}
-use Rattle.admin_commands.specs.declared.AdminKind.{AdminKind}
-use Rattle.admin_commands.specs.declared.AdminKind.TheVariants.{Abort, DeleteSq, DeleteCq, CreateCq, CreateSq}
-use Rattle.entry_codec.specs.declared.status.Status.{Status}
-use Rattle.entry_codec.specs.declared.submission.SubEntry.{SubEntry}
+use Rattle.admin_commands.specs.{Entries.admin_entry, Verdicts.is_absent, declared.AdminKind.{AdminKind, TheVariants.{DeleteSq, DeleteCq, CreateCq, CreateSq}}}
+use Rattle.entry_codec.specs.declared.{status.Status.Status, submission.SubEntry.SubEntry}
 use Rattle.io_commands.specs.Jobs.{is_success}
-use Rattle.page_memory.specs.Pages.{Pages}
-use Rattle.page_memory.specs.declared.page.Half.TheVariants.{Submission, Completion}
-use Rattle.queue_pair.specs.Memory.{half_pages}
-use Rattle.queue_pair.specs.Rings.{fresh_host_ring}
-use Rattle.queue_pair.specs.Slots.{distance}
-use Rattle.machine_model.specs.Claims.{IsSound}
-use Rattle.machine_model.specs.Commands.{Work, Io, Management}
-use Rattle.machine_model.specs.Positions.{StandsInRings}
-use Rattle.machine_model.specs.Refusals.{has_sq, has_cq, in_service, is_gone, is_making, is_live}
-use Rattle.machine_model.specs.Standing.{CommandStands, HasUnitLeft, unfetched_at}
-use Rattle.machine_model.specs.State.{State, HostQueue, HostState, Live, Deleting, Retired, Gone, MakingCq, HalfMade, MakingSq, DeviceQueue, Record, Job, Answer, is_at}
+use Rattle.page_memory.specs.{Pages.Pages, declared.page.Half.TheVariants.{Submission, Completion}}
+use Rattle.queue_pair.specs.{Memory.half_pages, Rings.fresh_host_ring, Slots.distance}
+use Rattle.machine_model.specs.{Claims.IsSound, Commands.{Work, Io, Management}, Positions.StandsInRings}
+use Rattle.machine_model.specs.{Refusals.{has_sq, has_cq, in_service, is_gone, is_making, is_live}, Standing.{CommandStands, HasUnitLeft, unfetched_at}}
+use Rattle.machine_model.specs.State.{State, HostQueue, HostState, Live, Deleting, MakingSq, DeviceQueue, Record, Job, Answer, is_at}
 use Rattle.machine_model.specs.Weights.{one, total, here, sent}
 
 -- A queue on both sides
@@ -28,11 +17,8 @@ use Rattle.machine_model.specs.Weights.{one, total, here, sent}
 abbrev pub is_known_deleted : HostState → Bool
 is_known_deleted Live = false
 is_known_deleted (Deleting noted) = noted
-is_known_deleted Retired = true
-is_known_deleted Gone = true
-is_known_deleted MakingCq = true
-is_known_deleted HalfMade = true
 is_known_deleted MakingSq = false
+is_known_deleted state = true
 
 -- what the host knows of a queue fits what the controller has of it
 pub record QueueFits (n : ℕ) (h : HostQueue) (d : DeviceQueue) : Type 0 where
@@ -75,11 +61,8 @@ Knows rs c adm = (r : Record) × (find (is_at 0 c) rs ≡ Some r) × (r.work ≡
 
 -- only an I/O queue is deleted
 abbrev pub DeletesIo : AdminKind → Type 0
-DeletesIo (Abort q cid) = Unit {0}
 DeletesIo (DeleteSq q) = (q % 65536 == 0) ≡ false
-DeletesIo (DeleteCq q) = Unit {0}
-DeletesIo (CreateCq q n base) = Unit {0}
-DeletesIo (CreateSq q n base) = Unit {0}
+DeletesIo adm = Unit {0}
 
 -- an entry that was not fetched is that of its record
 abbrev pub EntryKnown : List Record → SubEntry → Type 0
@@ -130,32 +113,20 @@ kind_at rs c = option_and_then (λ r. kind_of r.work) (find (is_at 0 c) rs)
 
 -- whether a command deletes or makes the submission queue or the completion queue of a number
 abbrev pub deletes_sq : ℕ → AdminKind → Bool
-deletes_sq q (Abort a cid) = false
 deletes_sq q (DeleteSq a) = a % 65536 == q
-deletes_sq q (DeleteCq a) = false
-deletes_sq q (CreateCq a n base) = false
-deletes_sq q (CreateSq a n base) = false
+deletes_sq q adm = false
 
 abbrev pub deletes_cq : ℕ → AdminKind → Bool
-deletes_cq q (Abort a cid) = false
-deletes_cq q (DeleteSq a) = false
 deletes_cq q (DeleteCq a) = a % 65536 == q
-deletes_cq q (CreateCq a n base) = false
-deletes_cq q (CreateSq a n base) = false
+deletes_cq q adm = false
 
 abbrev pub creates_cq : ℕ → AdminKind → Bool
-creates_cq q (Abort a cid) = false
-creates_cq q (DeleteSq a) = false
-creates_cq q (DeleteCq a) = false
 creates_cq q (CreateCq a n base) = a % 65536 == q
-creates_cq q (CreateSq a n base) = false
+creates_cq q adm = false
 
 abbrev pub creates_sq : ℕ → AdminKind → Bool
-creates_sq q (Abort a cid) = false
-creates_sq q (DeleteSq a) = false
-creates_sq q (DeleteCq a) = false
-creates_sq q (CreateCq a n base) = false
 creates_sq q (CreateSq a n base) = a % 65536 == q
+creates_sq q adm = false
 
 -- whether the command of an identifier is such a one
 abbrev pub is_kind : (AdminKind → Bool) → List Record → ℕ → Bool

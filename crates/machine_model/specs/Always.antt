@@ -1,17 +1,12 @@
 -- What the host has whatever was forged: each queue its halves until it gives them back, and each command what it was reserved with.
-use Rattle.std.specs.Prelude.{◌≡◌, ℕ, ◌*◌, ◌-◌, ◌<◌, true, Some, List, length, slice_get, if◌then◌else◌}
+use Rattle.std.specs.{List.AllByRecursion, Prelude.{◌≡◌, ℕ, ◌*◌, ◌-◌, ◌<◌, true, Some, List, length, slice_get, if◌then◌else◌}}
 use Rattle.admin_commands.specs.declared.AdminKind.TheVariants.{Abort, DeleteSq, DeleteCq, CreateCq, CreateSq}
 use Rattle.page_ledger.specs.Owners.{pages_from}
-use Rattle.page_memory.specs.declared.page.Half.{Half}
-use Rattle.std.specs.List.{AllByRecursion}
+use Rattle.page_memory.specs.declared.page.Half.{Half, TheVariants.{Submission, Completion}}
 use Rattle.io_commands.specs.Requests.{data_count, joined_parts}
-use Rattle.page_memory.specs.declared.page.Half.TheVariants.{Submission, Completion}
-use Rattle.queue_pair.specs.Memory.{half_pages}
-use Rattle.queue_pair.specs.Rings.{fresh_host_ring}
+use Rattle.queue_pair.specs.{Memory.half_pages, Rings.fresh_host_ring}
 use Rattle.sgl_chain.specs.Chains.{pages_needed}
-use Rattle.machine_model.specs.Commands.{Work, Io, Management}
-use Rattle.machine_model.specs.Refusals.{has_sq, has_cq, is_making}
-use Rattle.machine_model.specs.State.{Host, HostQueue, Record}
+use Rattle.machine_model.specs.{Commands.{Work, Io, Management}, Refusals.{has_sq, has_cq, is_making}, State.{Host, HostQueue, Record}}
 
 -- so many pages, one after the other
 abbrev pub LieTogether : ℕ → List ℕ → Type 0

@@ -1,22 +1,12 @@
 -- Who claims which page.
+use Rattle.std.specs.{List.{flat_map, list_any, AllByRecursion}, Option.option_map_or}
 use Rattle.std.specs.Prelude.{◌≡◌, ℕ, ◌+◌, ◌<◌, ◌==◌, nat_lt, true, false, Bool, not, ◌&&◌, ◌||◌, List, [], ◌∷◌, ◌++◌, length, map, filter, slice_get, sum_by, if◌then◌else◌}
-use Rattle.std.specs.List.{flat_map, list_any, AllByRecursion}
-use Rattle.std.specs.Option.{option_map_or}
-use Rattle.page_ledger.specs.Owners.{is_among}
-use Rattle.machine_model.specs.Run.{Run}
-use Rattle.page_ledger.specs.Counting.{total}
-use Rattle.page_ledger.specs.declared.owner.Counts.{Counts}
-use Rattle.page_memory.specs.declared.page.Half.TheVariants.{Submission, Completion}
+use Rattle.page_ledger.specs.{Counting.total, Owners.is_among, declared.owner.{Counts.Counts, Owner.{Owner, TheVariants.{Free, Queue, Command}}}}
 use Rattle.page_ledger.specs.declared.owner.Role.TheVariants.{Data, Chain}
-use Rattle.page_ledger.specs.declared.owner.Owner.TheVariants.{Free, Queue, Command}
-use Rattle.page_ledger.specs.declared.owner.Owner.{Owner}
-use Rattle.machine_model.specs.Memory.{is_in}
-use Rattle.machine_model.specs.State.{State, Host, HostQueue, Record, outstanding_on, pages_of}
+use Rattle.machine_model.specs.{Commands.{Work, Io, Management}, Events.{Event, Reply}, Memory.is_in, Opening.{opening, Opens}}
 use Rattle.machine_model.specs.Refusals.{is_drafted, is_collected, is_asked, is_live, is_making, is_making_cq, is_making_sq, has_sq, has_cq, deletes_sq_of, creates_cq_of, creates_sq_of}
-use Rattle.machine_model.specs.Step.{Step, times}
-use Rattle.machine_model.specs.Opening.{opening, Opens}
-use Rattle.machine_model.specs.Commands.{Work, Io, Management}
-use Rattle.machine_model.specs.Events.{Event, Reply}
+use Rattle.machine_model.specs.{Run.Run, State.{State, Host, HostQueue, Record, outstanding_on, pages_of}, Step.{Step, times}}
+use Rattle.page_memory.specs.declared.page.Half.TheVariants.{Submission, Completion}
 
 abbrev pub claimed : Owner → List ℕ → List (ℕ × Owner)
 claimed owner pages = map (λ p. (p, owner)) pages

@@ -1,9 +1,7 @@
 -- What may happen, and what is answered.
 use Rattle.std.specs.Prelude.{ℕ, List}
 use Rattle.controller_walk.specs.declared.walk.WalkState.{WalkState}
-use Rattle.io_commands.specs.Drafts.{DraftContents}
-use Rattle.io_commands.specs.Values.{FinishedContents}
-use Rattle.io_commands.specs.Asked.{Request}
+use Rattle.io_commands.specs.{Asked.Request, Drafts.DraftContents, Values.FinishedContents}
 pub use Rattle.machine_model.specs.declared.words.Refusal.{Refusal}
 pub use Rattle.machine_model.specs.declared.words.Refusal.TheVariants.{NoQueue, Deleting, Bad, NoIdentifier, NoPages, Memory, Stranger, NotBuilt, QueueGone, QueueFull, NotYet, WrongState, NoSuchCommand, NotDeleted, NotDrained, Outstanding, NoRun, NoSlot, Idle, SlotOut, Full, NoJob, Nothing, Walking, Waits}
 pub use Rattle.machine_model.specs.declared.words.RejectedFor.{RejectedFor}

@@ -1,21 +1,11 @@
 -- The image of a run, and what a read gives.
-use Rattle.std.specs.Prelude.{ℕ, ◌==◌, Bool, true, false, ◌&&◌, Option, List, [], ◌∷◌, ◌++◌, find, if◌then◌else◌}
-use Rattle.std.specs.Option.{option_map_or}
+use Rattle.std.specs.{Option.option_map_or, Prelude.{ℕ, ◌==◌, Bool, true, false, ◌&&◌, Option, List, [], ◌∷◌, ◌++◌, find, if◌then◌else◌}}
 use Rattle.block_image.specs.Blocks.{blocks_at, with_blocks}
-use Rattle.sgl_descriptor.specs.declared.Direction.TheVariants.{Destination}
-use Rattle.sgl_descriptor.specs.Targets.{Target, Place, Discarded, targets}
-use Rattle.io_commands.specs.Requests.{parts_of}
-use Rattle.io_commands.specs.DataBytes.{gathered}
-use Rattle.io_commands.specs.Asked.{Request}
-use Rattle.io_commands.specs.declared.request.Kind.TheVariants.{Read, Write, Compare}
-use Rattle.io_commands.specs.declared.request.Kind.{Kind}
-use Rattle.machine_model.specs.State.{State}
-use Rattle.machine_model.specs.Refusals.{job_at}
-use Rattle.machine_model.specs.After.{final_status}
+use Rattle.sgl_descriptor.specs.{Targets.{Target, Place, Discarded, targets}, declared.Direction.TheVariants.Destination}
+use Rattle.io_commands.specs.{Asked.Request, DataBytes.gathered, Drafts.DraftContents, Jobs.is_success, Requests.parts_of, declared.request.Kind.Kind}
+use Rattle.io_commands.specs.declared.request.Kind.TheVariants.{Write}
+use Rattle.machine_model.specs.{After.final_status, Events.{Event, Reply}, Refusals.job_at, State.State}
 use Rattle.machine_model.specs.Events as events
-use Rattle.io_commands.specs.Drafts.{DraftContents}
-use Rattle.machine_model.specs.Events.{Event, Reply}
-use Rattle.io_commands.specs.Jobs.{is_success}
 
 -- a step as it was made: the state before it, the event and the reply
 pub record Made : Type 0 where
@@ -24,9 +14,8 @@ pub record Made : Type 0 where
   pub reply : Reply
 
 abbrev pub is_write : Kind → Bool
-is_write Read = false
 is_write Write = true
-is_write Compare = false
+is_write kind = false
 
 -- the drafts as they were submitted, the latest of a queue and identifier first
 abbrev pub submitted_by : Event → Reply → List DraftContents

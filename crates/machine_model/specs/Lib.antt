@@ -19,7 +19,6 @@ pub mod Trusted
 pub mod Linked
 pub mod Standing
 pub mod Script
-pub mod Rings
 pub mod WorkedReads
 pub mod WorkedChains
 pub mod WorkedWalks

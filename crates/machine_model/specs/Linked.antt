@@ -1,11 +1,7 @@
 -- What ties the controller's queues and jobs to the host's where nothing was forged.
-use Rattle.std.specs.Prelude.{◌≡◌, ℕ, ◌<◌, Bool, true, false, Some, length, is_some}
-use Rattle.std.specs.Option.{option_map_or}
+use Rattle.std.specs.{Option.option_map_or, Prelude.{◌≡◌, ℕ, ◌<◌, Bool, true, false, Some, length, is_some}}
 use Rattle.admin_commands.specs.Verdicts.{is_absent}
-use Rattle.machine_model.specs.After.{cq_there}
-use Rattle.machine_model.specs.State.{State, HostQueue}
-use Rattle.machine_model.specs.Refusals.{device_queue, host_queue, job_at}
-use Rattle.machine_model.specs.Positions.{IsInRing}
+use Rattle.machine_model.specs.{After.cq_there, Positions.IsInRing, Refusals.{device_queue, host_queue, job_at}, State.{State, HostQueue}}
 use Rattle.page_memory.specs.declared.page.Half.TheVariants.{Submission, Completion}
 use Rattle.queue_pair.specs.Memory.{half_pages}
 

@@ -1,8 +1,7 @@
 -- Pages of a pool taken out, and brought in with their bytes.
 use Rattle.std.specs.Prelude.{ℕ, Some, None, List, [], ◌∷◌, slice_set, map, Bool, is_some, ◌%◌, slice_index, option_map}
 use Rattle.io_commands.specs.DataBytes.{PagesOut}
-use Rattle.page_memory.specs.Memory.{Memory, page_of}
-use Rattle.page_memory.specs.Pages.{Pages, page_at, zero_page}
+use Rattle.page_memory.specs.{Memory.{Memory, page_of}, Pages.{Pages, page_at, zero_page}}
 
 abbrev pub is_in : Pages → ℕ → Bool
 is_in pages p = is_some (page_at pages p)

@@ -3,13 +3,11 @@ use Rattle.std.specs.Prelude.{◌≡◌, ℕ, zero, suc, ◌+◌, ◌*◌, nat_l
 use Rattle.page_ledger.specs.Owners.{pages_from}
 use Rattle.admin_commands.specs.declared.SqState.TheVariants.{Live as Running}
 use Rattle.controller_walk.specs.Units.{first_passing}
-use Rattle.page_memory.specs.Pages.{zero_page}
+use Rattle.page_memory.specs.{Pages.zero_page, declared.page.Half.TheVariants.{Submission, Completion}}
+use Rattle.machine_model.specs.State.{State, HostQueue, DeviceQueue, Live}
+use Rattle.queue_pair.specs.{Memory.half_pages, Rings.fresh_host_ring}
 pub use Rattle.machine_model.specs.declared.words.OpenRefusal.{OpenRefusal}
 pub use Rattle.machine_model.specs.declared.words.OpenRefusal.TheVariants.{BadConfig, NoPages, Memory}
-use Rattle.machine_model.specs.State.{State, HostQueue, DeviceQueue, Live}
-use Rattle.queue_pair.specs.Memory.{half_pages}
-use Rattle.queue_pair.specs.Rings.{fresh_host_ring}
-use Rattle.page_memory.specs.declared.page.Half.TheVariants.{Submission, Completion}
 
 abbrev pub queues_from : ℕ → ℕ → ℕ → List HostQueue
 queues_from page n zero = []

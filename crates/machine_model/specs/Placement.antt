@@ -1,13 +1,9 @@
 -- Where the pages of a command are placed: its data in a run of consecutive free pages where there is one, else in the lowest free pages;
 -- its chain in the same way among those that are left.
-use Rattle.std.specs.Prelude.{◌+◌, ℕ, Bool, Option, List, length, filter, find, not, take, nat_lt, if◌then◌else◌}
-use Rattle.std.specs.List.{list_all}
-use Rattle.std.specs.Option.{option_map_or}
+use Rattle.std.specs.{List.list_all, Option.option_map_or, Prelude.{◌+◌, ℕ, Bool, Option, List, length, filter, find, not, take, nat_lt, if◌then◌else◌}}
 use Rattle.page_ledger.specs.Owners.{is_among, pages_from}
 use Rattle.sgl_chain.specs.Chains.{pages_needed}
-use Rattle.io_commands.specs.declared.request.Piece.{Piece}
-use Rattle.io_commands.specs.Requests.{data_count, joined_parts}
-use Rattle.io_commands.specs.Least.{least_pages}
+use Rattle.io_commands.specs.{Least.least_pages, Requests.{data_count, joined_parts}, declared.request.Piece.Piece}
 
 -- whether so many pages from p on are free
 abbrev pub is_run : (free : List ℕ) (count : ℕ) → ℕ → Bool

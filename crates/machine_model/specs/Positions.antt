@@ -1,6 +1,5 @@
 -- Where the host stands in its rings.
-use Rattle.std.specs.Prelude.{ℕ, ◌<◌}
-use Rattle.std.specs.List.{AllByRecursion}
+use Rattle.std.specs.{List.AllByRecursion, Prelude.{ℕ, ◌<◌}}
 use Rattle.queue_pair.specs.Rings.{HostRing}
 use Rattle.machine_model.specs.State.{State}
 

@@ -1,10 +1,9 @@
 -- What each value that a caller hands in is, whatever made it: whole pages, and a draft as its type keeps it. That a byte is a byte is
 -- said by its type alone.
 use Rattle.std.specs.Prelude.{◌≡◌, ℕ, List, length, All}
-use Rattle.io_commands.specs.Requests.{FitsRequest}
-use Rattle.io_commands.specs.Drafts.{DraftContents, IsDraft}
-use Rattle.machine_model.specs.Events as events
+use Rattle.io_commands.specs.{Drafts.{DraftContents, IsDraft}, Requests.FitsRequest}
 use Rattle.machine_model.specs.Events.{Event}
+use Rattle.machine_model.specs.Events as events
 
 -- pages with all their bytes
 abbrev pub IsPage : List ℕ → Type 0

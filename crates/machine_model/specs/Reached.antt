@@ -1,15 +1,11 @@
 -- What the list of a command makes its walk do, where memory spells the command's parts from the list's first descriptor.
-use Rattle.std.specs.Prelude.{◌≡◌, ◌<◌, ◌≤◌, ◌+◌, ◌%◌, ◌^◌, ◌||◌, ℕ, Bool, true, false, Some, None, List, is_some, if◌then◌else◌}
 use Rattle.std.specs.List.{list_all, AllByRecursion}
+use Rattle.std.specs.Prelude.{◌≡◌, ◌<◌, ◌≤◌, ◌+◌, ◌%◌, ◌^◌, ◌||◌, ℕ, Bool, true, false, Some, None, List, is_some, if◌then◌else◌}
 use Rattle.page_ledger.specs.Owners.{is_among}
 use Rattle.page_memory.specs.Memory.{Memory, page_of}
-use Rattle.sgl_descriptor.specs.declared.Descriptor.{Descriptor}
-use Rattle.sgl_descriptor.specs.declared.Part.{Part}
-use Rattle.sgl_descriptor.specs.declared.Part.TheVariants.{Data, Bucket}
-use Rattle.sgl_descriptor.specs.Spelling.{descriptor_of}
+use Rattle.sgl_descriptor.specs.{Spelling.descriptor_of, declared.{Descriptor.Descriptor, Part.{Part, TheVariants.{Data, Bucket}}}}
 use Rattle.sgl_chain.specs.Spells.{Spells}
-use Rattle.controller_walk.specs.Units.{Act, Stays, Reads, Moves, Course, Closes, Does, touched, units}
-use Rattle.controller_walk.specs.Laws.{ReadsWithin, MovesOutside}
+use Rattle.controller_walk.specs.{Laws.{ReadsWithin, MovesOutside}, Units.{Act, Stays, Reads, Moves, Course, Closes, Does, touched, units}}
 
 -- of a memory only the bytes at some places
 abbrev pub only : (ℕ → Bool) → Memory → Memory

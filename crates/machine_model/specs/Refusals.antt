@@ -1,36 +1,17 @@
 -- Which refusal an event meets: the first cause that holds, in the order of the checks.
+use Rattle.std.specs.{Cmp.Lexicographic.pointwise, List.list_any, Option.{option_map, option_map_or}}
 use Rattle.std.specs.Prelude.{ℕ, ◌+◌, ◌*◌, ◌-◌, ◌/◌, ◌%◌, ◌==◌, nat_lt, nat_le, Bool, true, false, ◌&&◌, ◌||◌, not, Option, Some, None, List, [], ◌∷◌, length, find, is_some, is_none, slice_get, slice_index, slice_range, option_and_then, if◌then◌else◌, nat_eq}
-use Rattle.std.specs.List.{list_any}
-use Rattle.std.specs.Option.{option_map, option_map_or}
-use Rattle.machine_model.specs.Placement.{wanted_of, first_of_run}
-use Rattle.page_memory.specs.declared.page.Half.{Half}
-use Rattle.page_memory.specs.declared.page.Half.TheVariants.{Submission, Completion}
-use Rattle.entry_codec.specs.Completion.{completion_of}
-use Rattle.admin_commands.specs.Verdicts.{is_live as is_running}
-use Rattle.io_commands.specs.Values.{numbers_of}
-use Rattle.admin_commands.specs.declared.AdminKind.TheVariants.{Abort, DeleteSq, DeleteCq, CreateCq, CreateSq}
-use Rattle.entry_codec.specs.declared.completion.ComEntry.{ComEntry}
-use Rattle.entry_codec.specs.declared.submission.SubEntry.{SubEntry}
-use Rattle.io_commands.specs.Requests.{fault_of}
-use Rattle.controller_walk.specs.Units.{first_passing}
-use Rattle.io_commands.specs.declared.request.RequestFault.{RequestFault}
-use Rattle.io_commands.specs.Asked.{Request}
-use Rattle.io_commands.specs.declared.request.Piece.TheVariants.{Data, Bucket}
-use Rattle.io_commands.specs.declared.request.Piece.{Piece}
-use Rattle.io_commands.specs.declared.request.Kind.TheVariants.{Read, Write, Compare}
-use Rattle.io_commands.specs.declared.request.Kind.{Kind}
-use Rattle.page_memory.specs.Pages.{Pages, page_at}
-use Rattle.machine_model.specs.Memory.{is_in}
-use Rattle.machine_model.specs.Commands.{Work, Io, Management}
+use Rattle.machine_model.specs.{Commands.{Work, Io, Management}, Events.{Event, Refusal}, Memory.is_in, Placement.{wanted_of, first_of_run}}
 use Rattle.machine_model.specs.State.{State, HostQueue, HostState, Live, Deleting, Retired, Gone, MakingCq, HalfMade, MakingSq, DeviceQueue, Record, Phase, Drafted, Submitted, Held, Collected, Job, Answer, record_at, outstanding_on}
+use Rattle.page_memory.specs.{Pages.{Pages, page_at}, declared.page.Half.{Half, TheVariants.{Submission, Completion}}}
+use Rattle.entry_codec.specs.{Completion.completion_of, declared.{admin_opcode.TheConstants.DELETE_IO_SQ, completion.ComEntry.ComEntry}}
+use Rattle.entry_codec.specs.declared.submission.SubEntry.{SubEntry}
+use Rattle.admin_commands.specs.{Entries.named_queue, Verdicts.is_live as is_running, declared.AdminKind.TheVariants.{DeleteSq, DeleteCq, CreateCq, CreateSq}}
+use Rattle.io_commands.specs.{Asked.Request, Jobs.is_success, Requests.fault_of, Values.numbers_of, declared.request.Kind.Kind}
+use Rattle.io_commands.specs.declared.request.{Kind.TheVariants.{Read, Write, Compare}, Piece.{Piece, TheVariants.{Data, Bucket}}, RequestFault.RequestFault}
+use Rattle.controller_walk.specs.Units.{first_passing}
+use Rattle.queue_pair.specs.{Memory.{with_phase, half_pages}, Slots.{is_full, moved}}
 use Rattle.machine_model.specs.Events as events
-use Rattle.machine_model.specs.Events.{Event, Refusal}
-use Rattle.queue_pair.specs.Memory.{with_phase, half_pages}
-use Rattle.queue_pair.specs.Slots.{is_full, moved}
-use Rattle.io_commands.specs.Jobs.{is_success}
-use Rattle.entry_codec.specs.declared.admin_opcode.TheConstants.{DELETE_IO_SQ}
-use Rattle.admin_commands.specs.Entries.{named_queue}
-use Rattle.std.specs.Cmp.Lexicographic.{pointwise}
 
 -- Looking things up
 
@@ -42,183 +23,105 @@ device_queue s q = slice_get s.device.queues q
 
 abbrev pub is_live : HostState → Bool
 is_live Live = true
-is_live (Deleting noted) = false
-is_live Retired = false
-is_live Gone = false
-is_live MakingCq = false
-is_live HalfMade = false
-is_live MakingSq = false
+is_live state = false
 
 abbrev pub is_deleting : HostState → Bool
-is_deleting Live = false
 is_deleting (Deleting noted) = true
-is_deleting Retired = false
-is_deleting Gone = false
-is_deleting MakingCq = false
-is_deleting HalfMade = false
-is_deleting MakingSq = false
+is_deleting state = false
 
 abbrev pub is_deleted : HostState → Bool
-is_deleted Live = false
 is_deleted (Deleting noted) = noted
-is_deleted Retired = false
-is_deleted Gone = false
-is_deleted MakingCq = false
-is_deleted HalfMade = false
-is_deleted MakingSq = false
+is_deleted state = false
 
 -- its deletion was asked for and not answered
 abbrev pub is_asked : HostState → Bool
-is_asked Live = false
 is_asked (Deleting noted) = not noted
-is_asked Retired = false
-is_asked Gone = false
-is_asked MakingCq = false
-is_asked HalfMade = false
-is_asked MakingSq = false
+is_asked state = false
 
 abbrev pub is_retired : HostState → Bool
-is_retired Live = false
-is_retired (Deleting noted) = false
 is_retired Retired = true
-is_retired Gone = false
-is_retired MakingCq = false
-is_retired HalfMade = false
-is_retired MakingSq = false
+is_retired state = false
 
 abbrev pub is_gone : HostState → Bool
-is_gone Live = false
-is_gone (Deleting noted) = false
-is_gone Retired = false
 is_gone Gone = true
-is_gone MakingCq = false
-is_gone HalfMade = false
-is_gone MakingSq = false
+is_gone state = false
 
 -- the creation of its completion queue was asked for and not answered, and so that of its submission queue
 abbrev pub is_making_cq : HostState → Bool
-is_making_cq Live = false
-is_making_cq (Deleting noted) = false
-is_making_cq Retired = false
-is_making_cq Gone = false
 is_making_cq MakingCq = true
-is_making_cq HalfMade = false
-is_making_cq MakingSq = false
+is_making_cq state = false
 
 abbrev pub is_half_made : HostState → Bool
-is_half_made Live = false
-is_half_made (Deleting noted) = false
-is_half_made Retired = false
-is_half_made Gone = false
-is_half_made MakingCq = false
 is_half_made HalfMade = true
-is_half_made MakingSq = false
+is_half_made state = false
 
 abbrev pub is_making_sq : HostState → Bool
-is_making_sq Live = false
-is_making_sq (Deleting noted) = false
-is_making_sq Retired = false
-is_making_sq Gone = false
-is_making_sq MakingCq = false
-is_making_sq HalfMade = false
 is_making_sq MakingSq = true
+is_making_sq state = false
 
 -- whether the host has its submission half
 abbrev pub has_sq : HostState → Bool
 has_sq Live = true
 has_sq (Deleting noted) = true
-has_sq Retired = false
-has_sq Gone = false
-has_sq MakingCq = false
-has_sq HalfMade = false
 has_sq MakingSq = true
+has_sq state = false
 
 -- whether the host has its completion half
 abbrev pub has_cq : HostState → Bool
-has_cq Live = true
-has_cq (Deleting noted) = true
-has_cq Retired = true
 has_cq Gone = false
-has_cq MakingCq = true
-has_cq HalfMade = true
-has_cq MakingSq = true
+has_cq state = true
 
 -- whether its I/O commands are taken or known: it was made, and its submission half is not given back
 abbrev pub in_service : HostState → Bool
 in_service Live = true
 in_service (Deleting noted) = true
-in_service Retired = false
-in_service Gone = false
-in_service MakingCq = false
-in_service HalfMade = false
-in_service MakingSq = false
+in_service state = false
 
 -- whether its completions are reaped: it was made, and its completion half is not given back
 abbrev pub is_reaped : HostState → Bool
 is_reaped Live = true
 is_reaped (Deleting noted) = true
 is_reaped Retired = true
-is_reaped Gone = false
-is_reaped MakingCq = false
-is_reaped HalfMade = false
-is_reaped MakingSq = false
+is_reaped state = false
 
 -- whether its rings are made and not both in use yet
 abbrev pub is_making : HostState → Bool
-is_making Live = false
-is_making (Deleting noted) = false
-is_making Retired = false
-is_making Gone = false
 is_making MakingCq = true
 is_making HalfMade = true
 is_making MakingSq = true
+is_making state = false
 
 -- whether it waits for the end of a deletion or a creation, and whether it has its completion half alone
 abbrev pub is_changing : HostState → Bool
-is_changing Live = false
 is_changing (Deleting noted) = true
-is_changing Retired = false
-is_changing Gone = false
 is_changing MakingCq = true
-is_changing HalfMade = false
 is_changing MakingSq = true
+is_changing state = false
 
 abbrev pub has_cq_alone : HostState → Bool
-has_cq_alone Live = false
-has_cq_alone (Deleting noted) = false
 has_cq_alone Retired = true
-has_cq_alone Gone = false
-has_cq_alone MakingCq = false
 has_cq_alone HalfMade = true
-has_cq_alone MakingSq = false
+has_cq_alone state = false
 
 -- whether the host's state of a queue passes a test; an unknown queue passes none
 abbrev pub in_state : (HostState → Bool) → State → ℕ → Bool
 in_state test s q = option_map_or (λ queue. test queue.state) (host_queue s q) false
 
 abbrev pub is_submitted : Phase → Bool
-is_submitted Drafted = false
 is_submitted Submitted = true
-is_submitted Held = false
-is_submitted Collected = false
+is_submitted phase = false
 
 abbrev pub is_drafted : Phase → Bool
 is_drafted Drafted = true
-is_drafted Submitted = false
-is_drafted Held = false
-is_drafted Collected = false
+is_drafted phase = false
 
 abbrev pub is_held : Phase → Bool
-is_held Drafted = false
-is_held Submitted = false
 is_held Held = true
-is_held Collected = false
+is_held phase = false
 
 abbrev pub is_collected : Phase → Bool
-is_collected Drafted = false
-is_collected Submitted = false
-is_collected Held = false
 is_collected Collected = true
+is_collected phase = false
 
 -- whether the record of a command, where there is one, passes a test
 abbrev pub record_is : (Record → Bool) → State → ℕ → ℕ → Bool
@@ -228,9 +131,8 @@ record_is test s q cid = option_map_or test (record_at s.host q cid) false
 
 abbrev pub same_piece : Piece → Piece → Bool
 same_piece (Data o n) (Data p m) = (o == p) && (n == m)
-same_piece (Data o n) (Bucket m) = false
-same_piece (Bucket n) (Data p m) = false
 same_piece (Bucket n) (Bucket m) = n == m
+same_piece a b = false
 
 abbrev pub same_pieces : List Piece → List Piece → Bool
 same_pieces [] [] = true
@@ -240,14 +142,9 @@ same_pieces (x ∷ xs) (y ∷ ys) = same_piece x y && same_pieces xs ys
 
 abbrev pub same_kind : Kind → Kind → Bool
 same_kind Read Read = true
-same_kind Read Write = false
-same_kind Read Compare = false
-same_kind Write Read = false
 same_kind Write Write = true
-same_kind Write Compare = false
-same_kind Compare Read = false
-same_kind Compare Write = false
 same_kind Compare Compare = true
+same_kind a b = false
 
 abbrev pub same_request : Request → Request → Bool
 same_request a b = same_kind a.kind b.kind && (a.slba == b.slba) && (a.blocks == b.blocks) && same_pieces a.pieces b.pieces
@@ -281,36 +178,20 @@ abbrev pub queue_full : State → ℕ → Bool
 queue_full s q = option_map_or (λ queue. is_full s.entries queue.ring.known_head queue.ring.tail) (host_queue s q) true
 
 abbrev pub deletes_cq_of : ℕ → Work → Bool
-deletes_cq_of q (Io r) = false
-deletes_cq_of q (Management (Abort a b)) = false
-deletes_cq_of q (Management (DeleteSq a)) = false
 deletes_cq_of q (Management (DeleteCq a)) = a == q
-deletes_cq_of q (Management (CreateCq a n base)) = false
-deletes_cq_of q (Management (CreateSq a n base)) = false
+deletes_cq_of q work = false
 
 abbrev pub deletes_sq_of : ℕ → Work → Bool
-deletes_sq_of q (Io r) = false
-deletes_sq_of q (Management (Abort a b)) = false
 deletes_sq_of q (Management (DeleteSq a)) = a == q
-deletes_sq_of q (Management (DeleteCq a)) = false
-deletes_sq_of q (Management (CreateCq a n base)) = false
-deletes_sq_of q (Management (CreateSq a n base)) = false
+deletes_sq_of q work = false
 
 abbrev pub creates_cq_of : ℕ → Work → Bool
-creates_cq_of q (Io r) = false
-creates_cq_of q (Management (Abort a b)) = false
-creates_cq_of q (Management (DeleteSq a)) = false
-creates_cq_of q (Management (DeleteCq a)) = false
 creates_cq_of q (Management (CreateCq a n base)) = a == q
-creates_cq_of q (Management (CreateSq a n base)) = false
+creates_cq_of q work = false
 
 abbrev pub creates_sq_of : ℕ → Work → Bool
-creates_sq_of q (Io r) = false
-creates_sq_of q (Management (Abort a b)) = false
-creates_sq_of q (Management (DeleteSq a)) = false
-creates_sq_of q (Management (DeleteCq a)) = false
-creates_sq_of q (Management (CreateCq a n base)) = false
 creates_sq_of q (Management (CreateSq a n base)) = a == q
+creates_sq_of q work = false
 
 abbrev pub cq_deletion_outstanding : State → ℕ → Bool
 cq_deletion_outstanding s q = list_any (λ r. deletes_cq_of q r.work) s.host.records

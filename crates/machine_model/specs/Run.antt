@@ -1,8 +1,6 @@
 -- Runs: steps, one after the other.
 use Rattle.std.specs.Prelude.{◌≡◌, List, [], ◌∷◌}
-use Rattle.machine_model.specs.State.{State}
-use Rattle.machine_model.specs.Events.{Event, Reply}
-use Rattle.machine_model.specs.Step.{Step}
+use Rattle.machine_model.specs.{Events.{Event, Reply}, State.State, Step.Step}
 
 -- events and replies of which each is a step from where the one before led
 abbrev pub Run : State → List Event → List Reply → State → Type 0

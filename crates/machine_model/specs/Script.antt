@@ -1,32 +1,18 @@
 -- Scripts, played: the choices are the lowest free identifier and the first placement of pages, and drafts, tickets and finished commands are kept beside the machine.
+use Rattle.std.specs.{List.{list_all, list_any}, Option.{option_map_or, option_map}}
 use Rattle.std.specs.Prelude.{ℕ, zero, suc, ◌+◌, ◌-◌, ◌==◌, Bool, true, false, nat_lt, ◌&&◌, not, Option, Some, None, List, [], ◌∷◌, ◌++◌, length, take, drop, replicate, filter, find, sum_by, option_and_then, if◌then◌else◌}
-use Rattle.std.specs.Option.{option_map_or, option_map}
-use Rattle.machine_model.specs.State.{State, record_at, outstanding_on, Job}
-use Rattle.machine_model.specs.Opening.{opening}
-use Rattle.machine_model.specs.After.{after, next_unit, next_answer}
-use Rattle.machine_model.specs.Step.{reaped, touched_by_fetch, touched_by_refusal, finished_from}
-use Rattle.machine_model.specs.Image.{Made, is_draft, draft_of}
-use Rattle.std.specs.List.{list_all, list_any}
+use Rattle.machine_model.specs.{After.{after, next_unit, next_answer}, Events.{Event, Reply, Refusal, Reaped}, Image.{Made, is_draft, draft_of}}
+use Rattle.machine_model.specs.{Memory.zeroed_pages, Opening.opening, Placement.{data_placed, chain_placed}}
+use Rattle.machine_model.specs.{Refusals.{refusal_of, next_rung, job_at, post_page}, State.{State, record_at, outstanding_on, Job}}
+use Rattle.machine_model.specs.{Step.{reaped, touched_by_fetch, touched_by_refusal, finished_from}, Touch.{stays_allowed, stays_own}}
 use Rattle.page_ledger.specs.Owners.{is_among, pages_from}
-use Rattle.controller_walk.specs.Units.{touched as pages_touched, first_passing}
-use Rattle.machine_model.specs.Touch.{stays_allowed, stays_own}
-use Rattle.controller_walk.specs.declared.walk.WalkState.{WalkState}
-use Rattle.machine_model.specs.Placement.{data_placed, chain_placed}
-use Rattle.io_commands.specs.Values.{FinishedContents, numbers_of, gathered_from}
-use Rattle.io_commands.specs.DataBytes.{data_length, filled}
-use Rattle.io_commands.specs.Asked.{Request}
-use Rattle.io_commands.specs.declared.request.Piece.{Piece}
-use Rattle.io_commands.specs.declared.request.Kind.TheVariants.{Read, Write, Compare}
-use Rattle.io_commands.specs.declared.request.Kind.{Kind}
-use Rattle.machine_model.specs.Memory.{zeroed_pages}
+use Rattle.controller_walk.specs.{Units.{touched as pages_touched, first_passing}, declared.walk.WalkState.WalkState}
+use Rattle.io_commands.specs.{Asked.Request, DataBytes.{data_length, filled}, Drafts.{DraftContents, built}}
+use Rattle.io_commands.specs.{Values.{FinishedContents, numbers_of, gathered_from}, declared.draft.FillFault.{FillFault, TheVariants.{NotASource, WrongLength}}}
+use Rattle.io_commands.specs.declared.request.{Kind.{Kind, TheVariants.Read}, Piece.Piece}
 use Rattle.page_memory.specs.Pages.{page_at}
 use Rattle.entry_codec.specs.declared.status.Status.{Status}
-use Rattle.machine_model.specs.Refusals.{refusal_of, next_rung, job_at, post_page}
 use Rattle.machine_model.specs.Events as events
-use Rattle.io_commands.specs.Drafts.{DraftContents, built}
-use Rattle.io_commands.specs.declared.draft.FillFault.{FillFault}
-use Rattle.io_commands.specs.declared.draft.FillFault.TheVariants.{NotASource, WrongLength}
-use Rattle.machine_model.specs.Events.{Event, Reply, Refusal, Reaped}
 
 -- A script's lines
 
@@ -101,8 +87,7 @@ chosen s q r =
 
 abbrev pub is_source : Kind → Bool
 is_source Read = false
-is_source Write = true
-is_source Compare = true
+is_source kind = true
 
 abbrev pub filled_draft : List ℕ → DraftContents → DraftContents
 filled_draft bytes d =

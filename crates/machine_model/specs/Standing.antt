@@ -1,24 +1,14 @@
 -- What stands while nothing is forged: a submitted I/O command's list stands in its chain pages; wherever the controller has an entry of its
 -- queue and identifier, that entry is the command's own; and a job's walk is within its list.
-use Rattle.std.specs.Prelude.{◌≡◌, ◌<◌, ◌==◌, ℕ, true, false, Some, None, List, [], length, slice_get}
-use Rattle.std.specs.List.{AllByRecursion}
-use Rattle.std.specs.Option.{option_map_or}
-use Rattle.sgl_descriptor.specs.declared.Descriptor.{Descriptor}
-use Rattle.sgl_descriptor.specs.Spelling.{spelling, descriptor_of}
+use Rattle.std.specs.{List.AllByRecursion, Option.option_map_or, Prelude.{◌≡◌, ◌<◌, ◌==◌, ℕ, true, false, Some, None, List, [], length, slice_get}}
+use Rattle.sgl_descriptor.specs.{Spelling.{spelling, descriptor_of}, declared.Descriptor.Descriptor}
 use Rattle.sgl_chain.specs.Spells.{Spells}
-use Rattle.controller_walk.specs.declared.walk.WalkState.TheVariants.{End}
-use Rattle.controller_walk.specs.Units.{units, verdict}
+use Rattle.controller_walk.specs.{Units.{units, verdict}, declared.walk.WalkState.TheVariants.End}
 use Rattle.entry_codec.specs.declared.submission.SubEntry.{SubEntry}
-use Rattle.io_commands.specs.Asked.{Request}
-use Rattle.io_commands.specs.Requests.{data_count, joined_parts, FitsRequest}
-use Rattle.io_commands.specs.Drafts.{io_entry}
-use Rattle.io_commands.specs.Values.{IsGood}
+use Rattle.io_commands.specs.{Asked.Request, Drafts.io_entry, Requests.{data_count, joined_parts, FitsRequest}, Values.IsGood}
 use Rattle.page_memory.specs.Pages.{Pages, byte_at}
-use Rattle.machine_model.specs.Commands.{Work, Io, Management}
+use Rattle.machine_model.specs.{After.course_of, Commands.{Work, Io, Management}, Reached.{only, on_pages, KeepsToPages}, Refusals.is_submitted}
 use Rattle.machine_model.specs.State.{State, DeviceQueue, Record, Job, record_at}
-use Rattle.machine_model.specs.Refusals.{is_submitted}
-use Rattle.machine_model.specs.After.{course_of}
-use Rattle.machine_model.specs.Reached.{only, on_pages, KeepsToPages}
 
 -- a command's request fits its types and passes its check, and the command has a page for each data piece
 pub record IsSized (r : Record) (request : Request) : Type 0 where

@@ -1,15 +1,14 @@
 -- The machine as lists.
 use Rattle.std.specs.Prelude.{ℕ, ◌==◌, Bool, ◌&&◌, not, Option, List, ◌++◌, map, filter, if◌then◌else◌, find}
 use Rattle.admin_commands.specs.declared.SqState.{SqState}
-use Rattle.entry_codec.specs.declared.submission.SubEntry.{SubEntry}
+use Rattle.entry_codec.specs.declared.{status.Status.Status, submission.SubEntry.SubEntry}
 use Rattle.page_memory.specs.Pages.{Pages}
-use Rattle.entry_codec.specs.declared.status.Status.{Status}
 use Rattle.machine_model.specs.Commands.{Work}
+use Rattle.queue_pair.specs.Rings.{HostRing}
 pub use Rattle.machine_model.specs.declared.words.Phase.{Phase}
 pub use Rattle.machine_model.specs.declared.words.Phase.TheVariants.{Drafted, Submitted, Held, Collected}
 pub use Rattle.machine_model.specs.declared.words.HostState.{HostState}
 pub use Rattle.machine_model.specs.declared.words.HostState.TheVariants.{Live, Deleting, Retired, Gone, MakingCq, HalfMade, MakingSq}
-use Rattle.queue_pair.specs.Rings.{HostRing}
 
 -- an outstanding command. One of queue 0 owns no page and is submitted from its sending on
 pub record Record : Type 0 where

@@ -1,25 +1,18 @@
 -- One step of the machine: which reply it may give, and which state that leads to.
-use Rattle.std.specs.Prelude.{◌≡◌, ℕ, ◌+◌, ◌-◌, ◌<◌, ◌==◌, Bool, true, false, ◌&&◌, ◌||◌, not, Option, Some, None, List, [], ◌∷◌, ◌++◌, length, map, is_some, option_and_then, IsTrue, MatchBool, if◌then◌else◌, All}
 use Rattle.std.specs.Option.{option_map, option_map_or}
+use Rattle.std.specs.Prelude.{◌≡◌, ℕ, ◌+◌, ◌-◌, ◌<◌, ◌==◌, Bool, true, false, ◌&&◌, ◌||◌, not, Option, Some, None, List, [], ◌∷◌, ◌++◌, length, map, is_some, option_and_then, IsTrue, MatchBool, if◌then◌else◌, All}
 use Rattle.page_ledger.specs.Owners.{is_among}
-use Rattle.controller_walk.specs.Units.{Act, touched}
-use Rattle.controller_walk.specs.declared.walk.WalkState.{WalkState}
+use Rattle.controller_walk.specs.{Units.{Act, touched}, declared.walk.WalkState.WalkState}
 use Rattle.sgl_chain.specs.Chains.{pages_needed}
-use Rattle.io_commands.specs.Values.{FinishedContents, numbers_of}
-use Rattle.io_commands.specs.Requests.{data_count, joined_parts}
+use Rattle.io_commands.specs.{Asked.Request, Drafts.DraftContents, Requests.{data_count, joined_parts}, Values.{FinishedContents, numbers_of}}
 use Rattle.entry_codec.specs.declared.completion.ComEntry.{ComEntry}
-use Rattle.io_commands.specs.Asked.{Request}
 use Rattle.page_memory.specs.Pages.{Pages, page_at, zero_page, AreWhole}
-use Rattle.machine_model.specs.Memory.{is_in}
+use Rattle.machine_model.specs.{After.{after, next_unit, next_answer}, Commands.{Work, Io, Management}, Events.{Event, Reply, Refusal, Reaped}, Memory.is_in}
 use Rattle.machine_model.specs.Proper.{IsProper}
-use Rattle.machine_model.specs.Commands.{Work, Io, Management}
-use Rattle.machine_model.specs.State.{State, Host, Record, record_at, outstanding_on, Job}
 use Rattle.machine_model.specs.Refusals.{refusal_of, seen_entry, host_queue, conflicts, fetch_page, post_page, next_rung, job_at, is_submitted}
-use Rattle.machine_model.specs.After.{after, next_unit, next_answer}
-use Rattle.machine_model.specs.Events as events
-use Rattle.io_commands.specs.Drafts.{DraftContents}
-use Rattle.machine_model.specs.Events.{Event, Reply, Refusal, Reaped}
+use Rattle.machine_model.specs.State.{State, Host, Record, record_at, outstanding_on, Job}
 use Rattle.queue_pair.specs.Slots.{is_in_range}
+use Rattle.machine_model.specs.Events as events
 
 -- What may be chosen
 

@@ -1,13 +1,9 @@
 -- Which pages the controller may touch, and which pages a reply says it touched.
-use Rattle.std.specs.Prelude.{ℕ, Bool, is_some, List, [], ◌∷◌, ◌++◌, if◌then◌else◌}
-use Rattle.std.specs.List.{flat_map, list_all}
-use Rattle.std.specs.Option.{option_map_or}
+use Rattle.std.specs.{List.{flat_map, list_all}, Option.option_map_or, Prelude.{ℕ, Bool, is_some, List, [], ◌∷◌, ◌++◌, if◌then◌else◌}}
 use Rattle.page_ledger.specs.Owners.{is_among}
 use Rattle.admin_commands.specs.Verdicts.{is_absent}
-use Rattle.machine_model.specs.State.{State, HostQueue, DeviceQueue, pages_of, record_at}
-use Rattle.machine_model.specs.Refusals.{job_at, host_queue}
+use Rattle.machine_model.specs.{Events.{Event, Reply}, Refusals.{job_at, host_queue}, State.{State, HostQueue, DeviceQueue, pages_of, record_at}}
 use Rattle.machine_model.specs.Events as events
-use Rattle.machine_model.specs.Events.{Event, Reply}
 
 -- The pages that the controller may touch: of queues that it has, and of commands that are jobs
 

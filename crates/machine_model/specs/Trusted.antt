@@ -1,14 +1,9 @@
 -- Trusted runs: steps from an opening, as they were made, of which none is an accepted forgery.
-use Rattle.std.specs.Prelude.{◌≡◌, ℕ, Bool, true, false, not, IsTrue, List, [], ◌∷◌, ◌++◌}
-use Rattle.std.specs.List.{list_any}
-use Rattle.machine_model.specs.State.{State}
+use Rattle.std.specs.{List.list_any, Prelude.{◌≡◌, ℕ, Bool, true, false, not, IsTrue, List, [], ◌∷◌, ◌++◌}}
+use Rattle.machine_model.specs.{Events.{Event, Reply}, Image.{Made, submitted_by}, Opening.{opening, Opens}, State.State, Step.{Step, resets}}
 use Rattle.block_image.specs.Blocks.{IsImage}
-use Rattle.machine_model.specs.Opening.{opening, Opens}
-use Rattle.machine_model.specs.Step.{Step, resets}
-use Rattle.machine_model.specs.Image.{Made, submitted_by}
-use Rattle.machine_model.specs.Events as events
 use Rattle.io_commands.specs.Drafts.{DraftContents}
-use Rattle.machine_model.specs.Events.{Event, Reply}
+use Rattle.machine_model.specs.Events as events
 
 -- the steps, one after the other, from a state to a state
 abbrev pub Steps : State → List Made → State → Type 0

@@ -1,7 +1,6 @@
 -- How often something stands in a list, as sums of what its elements weigh.
 use Rattle.std.specs.Prelude.{ℕ, ◌+◌, ◌==◌, ◌&&◌, Bool, List, [], ◌∷◌, if◌then◌else◌}
-use Rattle.machine_model.specs.State.{Record, is_at}
-use Rattle.machine_model.specs.Refusals.{is_submitted}
+use Rattle.machine_model.specs.{Refusals.is_submitted, State.{Record, is_at}}
 
 -- what a test weighs: 1 where it holds
 abbrev pub one : Bool → ℕ

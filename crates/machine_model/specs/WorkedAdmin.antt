@@ -1,12 +1,10 @@
 -- Worked runs of Abort and of the deletion of queues.
 use Rattle.std.specs.Prelude.{ℕ, List, [], ◌∷◌}
 use Rattle.controller_walk.specs.declared.walk.WalkState.TheVariants.{More, End}
-use Rattle.io_commands.specs.declared.request.Piece.TheVariants.{Data}
-use Rattle.io_commands.specs.declared.request.Kind.TheVariants.{Read}
-use Rattle.io_commands.specs.declared.request.Kind.{Kind}
+use Rattle.io_commands.specs.declared.request.{Kind.{Kind, TheVariants.Read}, Piece.TheVariants.Data}
 use Rattle.entry_codec.specs.declared.status.TheConstants.Status.{SUCCESS, ABORTED_SQ_DELETION, ABORT_REQUESTED, INVALID_QUEUE_DELETION}
-use Rattle.machine_model.specs.Events as events
 use Rattle.machine_model.specs.Script.{Line, Said, reserve, build, submit, cancel, ring, fetch, walk, complete, reap, collect, release, abort, delete_sq, delete_cq, retire, ok, reserved, fetched, walked, completed, reaps, held, sent, refused}
+use Rattle.machine_model.specs.Events as events
 
 abbrev pub block : ℕ → Kind → Line
 block q kind = reserve q kind 0 1 (Data 0 512 ∷ [])

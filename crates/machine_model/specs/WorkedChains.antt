@@ -1,14 +1,12 @@
 -- Worked runs of chains.
 use Rattle.std.specs.Prelude.{ℕ, List, [], ◌∷◌, ◌++◌, take}
 use Rattle.controller_walk.specs.declared.walk.WalkState.TheVariants.{More, End}
+use Rattle.io_commands.specs.declared.request.{Kind.{Kind, TheVariants.{Read, Write}}, Piece.TheVariants.{Data, Bucket}}
 use Rattle.io_commands.specs.declared.request.RequestFault.TheVariants.{LengthMismatch}
-use Rattle.io_commands.specs.declared.request.Piece.TheVariants.{Data, Bucket}
-use Rattle.io_commands.specs.declared.request.Kind.TheVariants.{Read, Write}
-use Rattle.io_commands.specs.declared.request.Kind.{Kind}
 use Rattle.entry_codec.specs.declared.status.TheConstants.Status.{SUCCESS}
-use Rattle.machine_model.specs.Events as events
-use Rattle.machine_model.specs.WorkedReads.{ordinary}
 use Rattle.machine_model.specs.Script.{Line, Said, Table, defaults, left_by, shown, carried, walks, reserve, build, submit, cancel, ring, fetch, gather, release, ok, reserved, fetched, walked, completed, reaps, held, gathered, refused}
+use Rattle.machine_model.specs.WorkedReads.{ordinary}
+use Rattle.machine_model.specs.Events as events
 
 -- three pieces, with two descriptors in a segment: two segments
 abbrev pub small_segments : Table

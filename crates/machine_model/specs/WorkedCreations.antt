@@ -1,12 +1,11 @@
 -- Worked runs of queues that are made again.
-use Rattle.std.specs.Prelude.{ℕ, List, [], ◌∷◌, ◌++◌, ◌*◌, slice_get, replicate}
-use Rattle.std.specs.Option.{option_map_or}
+use Rattle.std.specs.{Option.option_map_or, Prelude.{ℕ, List, [], ◌∷◌, ◌++◌, ◌*◌, slice_get, replicate}}
 use Rattle.controller_walk.specs.declared.walk.WalkState.TheVariants.{More, End}
 use Rattle.entry_codec.specs.declared.status.TheConstants.Status.{SUCCESS}
 use Rattle.io_commands.specs.declared.request.Kind.TheVariants.{Read}
-use Rattle.machine_model.specs.Events as events
 use Rattle.machine_model.specs.Script.{Line, Said, Table, left_by, shown, carried, ring, fetch, complete, reap, abort, delete_sq, delete_cq, create_cq, create_sq, retire, forge, ok, reserved, fetched, walked, completed, reaps, held, sent, refused}
-use Rattle.machine_model.specs.WorkedAdmin.{block, queue_deletion, queue_deletion_said}
+use Rattle.machine_model.specs.WorkedAdmin.{block}
+use Rattle.machine_model.specs.Events as events
 
 -- an admin command carried from its call to its reaping
 abbrev pub managed : Line → List Line
@@ -24,12 +23,6 @@ creation_said =
     managed_said ++ managed_said
     ++ reserved 1 0 (4 ∷ []) [] ∷ ok ∷ ok ∷ ok ∷ fetched 0 (3 ∷ []) ∷ walked More [] ∷ walked End (4 ∷ []) ∷ completed (2 ∷ []) ∷ reaps (events.Done 0 SUCCESS) ∷ held SUCCESS
     ∷ refused events.WrongState ∷ []
-
-abbrev pub deleted_and_made : List Line
-deleted_and_made = queue_deletion ++ creation
-
-abbrev pub deleted_and_made_said : List Said
-deleted_and_made_said = queue_deletion_said ++ creation_said
 
 -- the bytes of the two entries, in the slots where the tail of queue 0 stands
 abbrev pub admin_tail : Table → ℕ

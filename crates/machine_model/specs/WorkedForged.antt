@@ -2,12 +2,11 @@
 use Rattle.std.specs.Prelude.{ℕ, List, [], ◌∷◌, ◌++◌, map, replicate, false, if◌then◌else◌}
 use Rattle.controller_walk.specs.declared.walk.WalkState.TheVariants.{More, End, Fault}
 use Rattle.admin_commands.specs.declared.SqState.TheVariants.{Absent}
-use Rattle.io_commands.specs.declared.request.Piece.TheVariants.{Data}
-use Rattle.io_commands.specs.declared.request.Kind.TheVariants.{Read}
+use Rattle.io_commands.specs.declared.request.{Kind.TheVariants.Read, Piece.TheVariants.Data}
 use Rattle.entry_codec.specs.declared.status.TheConstants.Status.{SUCCESS, DATA_TRANSFER_ERROR}
+use Rattle.machine_model.specs.Script.{line, Line, Said, Table, defaults, walks, reserve, build, submit, cancel, ring, fetch, walk, complete, reap, collect, release, delete_sq, retire, forge, ok, reserved, fetched, walked, completed, reaps, held, sent, refused}
 use Rattle.machine_model.specs.State.{Device, DeviceQueue, Answer}
 use Rattle.machine_model.specs.Events as events
-use Rattle.machine_model.specs.Script.{line, Line, Said, Table, defaults, walks, reserve, build, submit, cancel, ring, fetch, walk, complete, reap, collect, release, delete_sq, retire, forge, ok, reserved, fetched, walked, completed, reaps, held, sent, refused}
 
 abbrev pub block : ℕ → Line
 block q = reserve q Read 0 1 (Data 0 512 ∷ [])
@@ -45,13 +44,6 @@ abbrev pub head_held_back_said : List Said
 head_held_back_said =
     ok ∷ reaps (events.Done 0 SUCCESS) ∷ held SUCCESS ∷ ok ∷ reserved 1 0 (4 ∷ []) [] ∷ ok ∷ refused events.QueueFull ∷ ok ∷ []
 
--- the same with the controller's own rings, to its end
-abbrev pub exact_collected_while_walking : List Line
-exact_collected_while_walking = collected_while_walking ++ complete 1 0 ∷ reap 1 ∷ []
-
-abbrev pub exact_collected_while_walking_said : List Said
-exact_collected_while_walking_said = collected_while_walking_said ++ completed (3 ∷ []) ∷ reaps events.Empty ∷ []
-
 -- a forged entry holds a command that is a job: its identifier is reserved again and meets it at the controller. Up to the reap after the full ring
 abbrev pub identifier_of_a_job : List Line
 identifier_of_a_job =
@@ -76,31 +68,6 @@ forged_deletion =
 abbrev pub forged_deletion_said : List Said
 forged_deletion_said =
     reserved 1 0 (6 ∷ []) [] ∷ ok ∷ ok ∷ ok ∷ sent 0 ∷ ok ∷ reaps (events.AdminDone 0 SUCCESS 0) ∷ ok ∷ reserved 2 0 (2 ∷ []) [] ∷ ok ∷ []
-
-abbrev pub exact_identifier_of_a_job : List Line
-exact_identifier_of_a_job = three_submitted ++ identifier_of_a_job ++ reap 1 ∷ complete 1 2 ∷ []
-
-abbrev pub said_three : List Said
-said_three =
-    reserved 1 0 (4 ∷ []) [] ∷ reserved 1 1 (5 ∷ []) [] ∷ reserved 1 2 (6 ∷ []) [] ∷ ok ∷ ok ∷ ok ∷ ok ∷ ok ∷ ok ∷ ok ∷ []
-
-abbrev pub exact_identifier_of_a_job_said : List Said
-exact_identifier_of_a_job_said = said_three ++ identifier_of_a_job_said ++ reaps (events.Done 0 SUCCESS) ∷ completed (3 ∷ []) ∷ []
-
-abbrev pub head_run_ahead : List Line
-head_run_ahead = three_submitted ++ forge 1 0 (forged 3 1 0) ∷ reap 1 ∷ collect 1 0 ∷ release 1 0 ∷ block 1 ∷ build 1 0 ∷ submit 1 0 ∷ ring 1 ∷ fetch 1 ∷ []
-
-abbrev pub head_run_ahead_said : List Said
-head_run_ahead_said =
-    said_three ++ ok ∷ reaps (events.Done 0 SUCCESS) ∷ held SUCCESS ∷ ok ∷ reserved 1 0 (4 ∷ []) [] ∷ ok ∷ ok ∷ ok ∷ refused events.Idle ∷ []
-
-abbrev pub exact_forged_deletion : List Line
-exact_forged_deletion =
-    block 1 ∷ build 1 0 ∷ submit 1 0 ∷ ring 1 ∷ delete_sq 1 ∷ forge 0 0 (forged 0 0 0) ∷ reap 0 ∷ retire 1 ∷ block 2 ∷ fetch 1 ∷ cancel 2 0 ∷ fetch 1 ∷ []
-
-abbrev pub exact_forged_deletion_said : List Said
-exact_forged_deletion_said =
-    reserved 1 0 (6 ∷ []) [] ∷ ok ∷ ok ∷ ok ∷ sent 0 ∷ ok ∷ reaps (events.AdminDone 0 SUCCESS 0) ∷ ok ∷ reserved 2 0 (2 ∷ []) [] ∷ refused events.SlotOut ∷ ok ∷ fetched 0 (2 ∷ []) ∷ []
 
 -- Once something was forged, the controller's part is open: here it is another one after each line, and the host's answers stay
 abbrev pub played_over : (Device → Device) → Table → List Line → List Said

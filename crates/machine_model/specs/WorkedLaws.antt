@@ -1,29 +1,16 @@
 -- What worked runs show of the laws: the image of a run, chains that spell their parts, entries read back.
-use Rattle.std.specs.Prelude.{ℕ, Option, MatchOption, List, [], ◌∷◌, map, replicate, take, drop, slice_index}
-use Rattle.std.specs.Option.{option_map, option_map_or}
+use Rattle.std.specs.{Option.{option_map, option_map_or}, Prelude.{ℕ, Option, MatchOption, List, [], ◌∷◌, map, replicate, take, drop, slice_index}}
 use Rattle.controller_walk.specs.declared.walk.WalkState.TheVariants.{More, End}
-use Rattle.sgl_descriptor.specs.declared.Part.{Part}
-use Rattle.entry_codec.specs.Submission.{submission_bytes, submission_of}
-use Rattle.sgl_descriptor.specs.Spelling.{spelling}
-use Rattle.sgl_descriptor.specs.declared.Descriptor.TheVariants.{DataBlock, Segment, LastSegment}
-use Rattle.sgl_descriptor.specs.declared.Descriptor.{Descriptor}
-use Rattle.entry_codec.specs.declared.submission.SubEntry.{SubEntry}
-use Rattle.io_commands.specs.declared.request.Piece.TheVariants.{Data, Bucket}
-use Rattle.io_commands.specs.declared.request.Kind.TheVariants.{Read}
-use Rattle.sgl_descriptor.specs.declared.Part.TheVariants as parts
-use Rattle.sgl_chain.specs.Chains.{parts_from}
-use Rattle.io_commands.specs.Drafts.{DraftContents, IsDraft, io_entry, built}
-use Rattle.machine_model.specs.Image.{image_after, read_of, draft_of}
-use Rattle.machine_model.specs.Trusted.{drafts_of}
-use Rattle.machine_model.specs.Events as events
+use Rattle.sgl_descriptor.specs.{Spelling.spelling, declared.{Descriptor.{Descriptor, TheVariants.{DataBlock, Segment, LastSegment}}, Part.Part}}
+use Rattle.entry_codec.specs.{Submission.{submission_bytes, submission_of}, declared.submission.SubEntry.SubEntry}
+use Rattle.io_commands.specs.{Drafts.{DraftContents, IsDraft, io_entry, built}, declared.request.{Kind.TheVariants.Read, Piece.TheVariants.{Data, Bucket}}}
+use Rattle.sgl_chain.specs.{Chains.parts_from, Spells.Spells}
+use Rattle.machine_model.specs.{Image.{image_after, read_of, draft_of}, Opening.opening}
 use Rattle.machine_model.specs.Script.{collect, release, delete_sq, retire, Table, Line, Said, table, defaults, left_by, made_by, walks, reserve, build, submit, ring, fetch, walk, complete, reap, ok, fetched, walked, completed, reaps, refused}
-use Rattle.machine_model.specs.Opening.{opening}
-use Rattle.machine_model.specs.WorkedReads.{ordinary, first_write}
-use Rattle.machine_model.specs.WorkedChains.{small_segments, two_segments}
-use Rattle.sgl_chain.specs.Spells.{Spells}
+use Rattle.machine_model.specs.{State.State, Step.Answers, Trusted.drafts_of, WorkedChains.{small_segments, two_segments}, WorkedReads.{ordinary, first_write}}
 use Rattle.page_memory.specs.Pages.{byte_at}
-use Rattle.machine_model.specs.State.{State}
-use Rattle.machine_model.specs.Step.{Answers}
+use Rattle.sgl_descriptor.specs.declared.Part.TheVariants as parts
+use Rattle.machine_model.specs.Events as events
 
 -- the first Write, over eight blocks
 abbrev pub eight_blocks : Table

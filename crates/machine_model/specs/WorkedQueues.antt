@@ -1,18 +1,14 @@
 -- Worked runs of queues: slots, identifiers, pages, refusals, and how commands end.
-use Rattle.std.specs.Prelude.{ℕ, List, [], ◌∷◌, ◌++◌, replicate, Option, slice_get, true, false}
-use Rattle.std.specs.Option.{option_map}
+use Rattle.std.specs.{Option.option_map, Prelude.{ℕ, List, [], ◌∷◌, ◌++◌, replicate, Option, slice_get, true, false}}
 use Rattle.controller_walk.specs.declared.walk.WalkState.TheVariants.{More, End}
 use Rattle.machine_model.specs.After.{on_ring}
-use Rattle.io_commands.specs.declared.draft.FillFault.TheVariants.{NotASource, WrongLength}
-use Rattle.io_commands.specs.declared.request.RequestFault.TheVariants.{LengthMismatch}
-use Rattle.io_commands.specs.declared.request.Piece.TheVariants.{Data}
-use Rattle.io_commands.specs.declared.request.Kind.TheVariants.{Read, Compare, Write}
-use Rattle.io_commands.specs.declared.request.Kind.{Kind}
-use Rattle.entry_codec.specs.declared.status.TheConstants.Status.{SUCCESS, COMPARE_FAILURE, LBA_OUT_OF_RANGE}
-use Rattle.machine_model.specs.Events as events
-use Rattle.machine_model.specs.WorkedReads.{ordinary}
 use Rattle.machine_model.specs.Script.{Line, Said, Table, defaults, played, left_by, carried, reserve, fill, build, submit, cancel, ring, fetch, walk, complete, reap, collect, gather, release, abort, retire, ok, reserved, fetched, walked, completed, reaps, held, refused, not_filled, no_value}
+use Rattle.machine_model.specs.WorkedReads.{ordinary}
+use Rattle.io_commands.specs.declared.{draft.FillFault.TheVariants.{NotASource, WrongLength}, request.Kind.{Kind, TheVariants.{Read, Compare, Write}}}
+use Rattle.io_commands.specs.declared.request.{Piece.TheVariants.Data, RequestFault.TheVariants.LengthMismatch}
+use Rattle.entry_codec.specs.declared.status.TheConstants.Status.{SUCCESS, COMPARE_FAILURE, LBA_OUT_OF_RANGE}
 use Rattle.queue_pair.specs.Rings.{HostRing}
+use Rattle.machine_model.specs.Events as events
 
 abbrev pub block : Kind → ℕ → Line
 block kind slba = reserve 1 kind slba 1 (Data 0 512 ∷ [])

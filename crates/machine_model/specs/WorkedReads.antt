@@ -1,11 +1,10 @@
 -- Worked runs of one block: a Read and a Write through one Data Block, and a Read through two that an Abort stops between them.
 use Rattle.std.specs.Prelude.{List, [], ◌∷◌, ◌++◌}
 use Rattle.controller_walk.specs.declared.walk.WalkState.TheVariants.{More, End}
-use Rattle.io_commands.specs.declared.request.Piece.TheVariants.{Data}
-use Rattle.io_commands.specs.declared.request.Kind.TheVariants.{Read, Write}
+use Rattle.io_commands.specs.declared.request.{Kind.TheVariants.{Read, Write}, Piece.TheVariants.Data}
 use Rattle.entry_codec.specs.declared.status.TheConstants.Status.{SUCCESS, ABORT_REQUESTED}
-use Rattle.machine_model.specs.Events as events
 use Rattle.machine_model.specs.Script.{Line, Said, Table, defaults, carried, reserve, fill, build, submit, ring, fetch, walk, complete, reap, collect, gather, release, abort, ok, reserved, fetched, walked, completed, reaps, held, gathered, sent, refused}
+use Rattle.machine_model.specs.Events as events
 
 abbrev pub ordinary : Table
 ordinary = defaults 16 1 4 256

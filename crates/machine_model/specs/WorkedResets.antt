@@ -3,11 +3,9 @@ use Rattle.std.specs.Prelude.{Bool, List, [], ◌∷◌, ◌++◌}
 use Rattle.controller_walk.specs.declared.walk.WalkState.TheVariants.{More, End}
 use Rattle.entry_codec.specs.declared.status.TheConstants.Status.{SUCCESS, ABORTED_SQ_DELETION}
 use Rattle.io_commands.specs.declared.request.Kind.TheVariants.{Read}
-use Rattle.machine_model.specs.Events as events
 use Rattle.machine_model.specs.Script.{Line, Said, Table, carried, build, submit, cancel, ring, fetch, walk, complete, reap, collect, release, delete_sq, create_cq, reset, forge, ok, reserved, fetched, walked, completed, reaps, held, sent, refused}
-use Rattle.machine_model.specs.WorkedAdmin.{block}
-use Rattle.machine_model.specs.WorkedCreations.{creation, creation_said}
-use Rattle.machine_model.specs.WorkedForged.{forged}
+use Rattle.machine_model.specs.{WorkedAdmin.block, WorkedCreations.{creation, creation_said}, WorkedForged.forged}
+use Rattle.machine_model.specs.Events as events
 
 -- a command that is collected, one that is held, and one that is a job; one that is a draft, and one that is submitted and not fetched; and a deletion that is not fetched
 abbrev pub one_of_each : List Line

@@ -1,21 +1,13 @@
 -- One owner for each page, the counts and the identifiers, computed in each state before a step of worked runs, and the two machines on a longer script.
-use Rattle.std.specs.Prelude.{ℕ, Bool, true, false, ◌==◌, ◌&&◌, not, List, [], ◌∷◌, ◌++◌, map, filter, length, if◌then◌else◌}
-use Rattle.machine_model.specs.State.{State}
-use Rattle.machine_model.specs.Events as events
+use Rattle.std.specs.{List.{list_all, list_any}, Prelude.{ℕ, Bool, true, false, ◌==◌, ◌&&◌, not, List, [], ◌∷◌, ◌++◌, map, filter, length, if◌then◌else◌}}
+use Rattle.machine_model.specs.{Claims.{claims_of, is_away, counts_of}, Image.Made, Memory.is_in, Refusals.{deletes_sq_of, is_asked, is_live, in_state}}
 use Rattle.machine_model.specs.Script.{Line, Said, Table, defaults, walks, reserve, build, submit, ring, fetch, complete, reap, collect, release, abort, ok, reserved, fetched, walked, completed, reaps, held, sent, refused}
-use Rattle.std.specs.List.{list_all, list_any}
-use Rattle.page_ledger.specs.Owners.{is_among, pages_from}
-use Rattle.page_ledger.specs.Counting.{total}
+use Rattle.machine_model.specs.{State.{State, Host, outstanding_on, pages_of}, Step.times}
+use Rattle.page_ledger.specs.{Counting.total, Owners.{is_among, pages_from}}
 use Rattle.controller_walk.specs.declared.walk.WalkState.TheVariants.{More, End}
-use Rattle.io_commands.specs.declared.request.Piece.TheVariants.{Data}
-use Rattle.io_commands.specs.declared.request.Kind.TheVariants.{Read}
+use Rattle.io_commands.specs.declared.request.{Kind.TheVariants.Read, Piece.TheVariants.Data}
 use Rattle.entry_codec.specs.declared.status.TheConstants.Status.{SUCCESS}
-use Rattle.machine_model.specs.State.{Host, outstanding_on, pages_of}
-use Rattle.machine_model.specs.Memory.{is_in}
-use Rattle.machine_model.specs.Refusals.{deletes_sq_of, is_asked, is_live, in_state}
-use Rattle.machine_model.specs.Step.{times}
-use Rattle.machine_model.specs.Claims.{claims_of, is_away, counts_of}
-use Rattle.machine_model.specs.Image.{Made}
+use Rattle.machine_model.specs.Events as events
 
 abbrev pub one_each : List ℕ → Bool
 one_each xs = list_all (λ x. times x xs == 1) xs

@@ -1,14 +1,10 @@
 -- Worked walks over a store of 8 pages, beside those of controller_walk.
 use Rattle.std.specs.Prelude.{ℕ, slice_set, Some, None, List, [], ◌∷◌, replicate, take, drop}
 use Rattle.machine_model.specs.Memory.{memory_of}
-use Rattle.controller_walk.specs.Walks.{answer}
-use Rattle.controller_walk.specs.Units.{Stays, Course, Closes, Does, course_of_list, touched, after_read, entry_cursor, rest_of}
+use Rattle.controller_walk.specs.{Units.{Stays, Course, Closes, Does, course_of_list, touched, after_read, entry_cursor, rest_of}, Walks.answer}
+use Rattle.controller_walk.specs.declared.walk.WalkState.{WalkState, TheVariants.{More, End, Fault}}
+use Rattle.sgl_descriptor.specs.{Spelling.{spelling, descriptor_of}, declared.Descriptor.{Descriptor, TheVariants.{DataBlock, BitBucket, Segment, LastSegment}}}
 use Rattle.sgl_descriptor.specs.declared.Direction.TheVariants.{Destination, Source}
-use Rattle.controller_walk.specs.declared.walk.WalkState.TheVariants.{More, End, Fault}
-use Rattle.controller_walk.specs.declared.walk.WalkState.{WalkState}
-use Rattle.sgl_descriptor.specs.Spelling.{spelling, descriptor_of}
-use Rattle.sgl_descriptor.specs.declared.Descriptor.TheVariants.{DataBlock, BitBucket, Segment, LastSegment}
-use Rattle.sgl_descriptor.specs.declared.Descriptor.{Descriptor}
 use Rattle.page_memory.specs.Pages.{Pages, zero_page, with_page_bytes}
 use Rattle.entry_codec.specs.declared.status.TheConstants.Status.{DATA_SGL_LENGTH_INVALID, DATA_TRANSFER_ERROR, INVALID_SGL_COUNT, INVALID_SGL_SEGMENT}
 

@@ -2,8 +2,8 @@
 //! events may answer and leave, and laws of what the host owns.
 //!
 //! There is no code here but the types of [`words`]. Each public function does nothing, and its clauses are what is proved: in [`laws`] laws of
-//! every step or run, in [`worked`] whole runs that are computed from the definitions. `machine_agreement` and `run_laws`, above, have the other
-//! laws. A reader begins with `docs/MACHINE.md`.
+//! every step or run, in [`worked`] whole runs that are computed from the definitions. `two_sides` and `run_laws`, above, have the other
+//! laws. A reader begins with the crate's `README.md`.
 //!
 //! - `specs/State.antt` is the state, `specs/Events.antt` the events, replies and refusals.
 //! - `specs/Refusals.antt` says which refusal an event meets, `specs/After.antt` what an accepted one leaves, and

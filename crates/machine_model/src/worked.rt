@@ -6,7 +6,6 @@
 ghost use Rattle.std.specs.Prelude.{◌≡◌, [], ◌∷◌, Some, true, length};
 ghost use Rattle.machine_model.specs.Events as events;
 ghost use Rattle.machine_model.specs.Opening as opens;
-ghost use Rattle.machine_model.specs.Rings.{bench, played_exactly};
 ghost use Rattle.machine_model.specs.Script.{played, left_by, made_by, all_allowed, free_of, build};
 ghost use Rattle.machine_model.specs.Script as script;
 ghost use Rattle.machine_model.specs.WorkedAdmin as admin;
@@ -75,6 +74,7 @@ pub fn worked_queues()
     ensures stranger { queues.stranger ≡ (script.refused events.Stranger ∷ script.ok ∷ []) }
     ensures refusals_in_order { played ordinary queues.refusals_in_order ≡ queues.refusals_in_order_said }
     ensures fills { played ordinary queues.fills ≡ queues.fills_said }
+    ensures turns { played sound.three_entries sound.turns ≡ sound.said_turns }
 {}
 
 /// Admin commands: three Aborts, the deletion of a queue with work left, an Abort sent for an earlier command of the same
@@ -116,11 +116,9 @@ pub fn worked_forged()
 /// in each state before a step.
 pub fn worked_resets()
     ensures reset_run { played forged.two_queues resets.reset_run ≡ resets.reset_run_said }
-    ensures reset_run_exactly { played_exactly (bench forged.two_queues) resets.reset_run ≡ resets.reset_run_said }
     ensures free_before_reset { free_of (left_by forged.two_queues resets.one_of_each) ≡ 5 }
     ensures free_after_all { free_of (left_by (left_by forged.two_queues resets.one_of_each) resets.after_all) ≡ 14 }
     ensures forged_and_reset { played ordinary resets.forged_and_reset ≡ resets.forged_and_reset_said }
-    ensures forged_and_reset_exactly { played_exactly (bench ordinary) resets.forged_and_reset ≡ resets.forged_and_reset_said }
     ensures trusted_again { resets.is_trusted (left_by ordinary resets.forged_and_reset) ≡ true }
     ensures sound { sound.all_sound (made_by forged.two_queues resets.reset_run) ≡ true }
     ensures forged_sound { sound.all_sound (made_by ordinary resets.forged_and_reset) ≡ true }
@@ -173,24 +171,6 @@ pub fn worked_drafts()
 pub fn worked_never_fetched()
     ensures before_the_fetch { laws.blocks_drafted 4 ≡ (1 ∷ []) }
     ensures before_the_collect { laws.blocks_drafted 20 ≡ (2 ∷ []) }
-{}
-
-/// The same machine with the controller's own rings: runs that a forged entry leaves open, and trusted ones.
-pub fn worked_rings()
-    ensures collected_while_walking { played_exactly (bench ordinary) forged.exact_collected_while_walking ≡ forged.exact_collected_while_walking_said }
-    ensures identifier_of_a_job { played_exactly (bench ordinary) forged.exact_identifier_of_a_job ≡ forged.exact_identifier_of_a_job_said }
-    ensures head_run_ahead { played_exactly (bench ordinary) forged.head_run_ahead ≡ forged.head_run_ahead_said }
-    ensures forged_deletion { played_exactly (bench forged.two_queues) forged.exact_forged_deletion ≡ forged.exact_forged_deletion_said }
-    ensures three_rejections { played_exactly (bench ordinary) forged.three_rejections ≡ forged.three_rejections_said }
-    ensures three_aborts { played_exactly (bench ordinary) admin.three_aborts ≡ admin.three_aborts_said }
-    ensures queue_deletion { played_exactly (bench ordinary) admin.queue_deletion ≡ admin.queue_deletion_said }
-    ensures creation { played_exactly (bench ordinary) creations.deleted_and_made ≡ creations.deleted_and_made_said }
-    ensures abort_of_reused_identifier { played_exactly (bench ordinary) admin.abort_of_reused_identifier ≡ admin.abort_of_reused_identifier_said }
-    ensures identifiers_run_out { played_exactly (bench ordinary) queues.identifiers_run_out ≡ queues.identifiers_run_out_said }
-    ensures two_compares { played_exactly (bench ordinary) queues.two_compares ≡ queues.two_compares_said }
-    ensures two_segments { played_exactly (bench small_segments) chains.two_segments ≡ chains.two_segments_said }
-    ensures turns { played_exactly (bench sound.three_entries) sound.turns ≡ sound.said_turns }
-    ensures turns_by_lists { played sound.three_entries sound.turns ≡ sound.said_turns }
 {}
 
 /// In each state before a step of these runs every page has one owner, the counts add up, identifiers differ, and pages are out with

@@ -1,32 +1,65 @@
--- What C is told of each reply besides its code.
-use Rattle.std.specs.Prelude.{ℕ, Option, Some, None, length}
-use Rattle.c_words.specs.Answers as words
-use Rattle.c_words.specs.Answers.{nothing, touching, ended, walked, reaped, refused}
-use Rattle.c_words.specs.declared.answer.Answer.{Answer}
-use Rattle.nvmesgl_c.specs.declared.options.NotOpened.{NotOpened}
-use Rattle.nvmesgl_c.specs.declared.options.NotOpened.TheVariants as not_opened
-use Rattle.step_core.specs.Values.{Reply}
-use Rattle.step_core.specs.declared.step.Reply.TheVariants as reply
+-- What C is told besides a code.
+use Rattle.std.specs.Prelude.{ℕ, List, [], ◌∷◌, length, min, slice_get, unwrap_or}
+use Rattle.controller_walk.specs.declared.walk.WalkState.{WalkState}
+use Rattle.entry_codec.specs.declared.status.Status.{Status}
+use Rattle.machine_model.specs.declared.words.{OpenRefusal.OpenRefusal, Reaped.Reaped, Refusal.Refusal, RejectedFor.RejectedFor}
+use Rattle.nvmesgl_c.specs.declared.words.answer.Answer.{Answer}
+use Rattle.controller_walk.specs.declared.walk.WalkState.TheVariants as walk_state
+use Rattle.machine_model.specs.declared.words.OpenRefusal.TheVariants as open_refusal
+use Rattle.machine_model.specs.declared.words.Reaped.TheVariants as reaps
+use Rattle.machine_model.specs.declared.words.Refusal.TheVariants as refusal
+use Rattle.machine_model.specs.declared.words.RejectedFor.TheVariants as rejected_for
 
-abbrev pub told_of : Reply → Answer
-told_of (reply.Reserved q cid front back) = record nothing { cid = cid; data_pages = front; chain_pages = back }
-told_of (reply.Fetched cid pages) = record (touching pages) { cid = cid }
-told_of (reply.Walked state pages) = walked state pages
-told_of (reply.Completed pages) = touching pages
-told_of (reply.Reaps what) = reaped what
-told_of (reply.Collected status) = ended status
-told_of (reply.Gathered bytes) = record nothing { bytes = length bytes }
-told_of (reply.Sent cid) = record nothing { cid = cid }
-told_of (reply.Refused why pages) = refused why pages
-told_of reply.Accepted = nothing
-told_of reply.NoValue = nothing
-told_of (reply.NotFilled why) = nothing
+abbrev pub nothing : Answer
+nothing =
+    record {
+      state = 0;
+      dw0 = 0;
+      need = 0;
+      free = 0;
+      data_pages = 0;
+      chain_pages = 0;
+      bytes = 0;
+      touched = 0 ∷ 0 ∷ 0 ∷ 0 ∷ [];
+      touched_count = 0;
+      cid = 0;
+      sct = 0;
+      sc = 0;
+    }
 
--- of a step whose handle was closed there is no reply
-abbrev pub told : Option Reply → Answer
-told (Some answer) = told_of answer
-told None = nothing
+-- the first four pages, with 0 behind them
+abbrev pub first_pages : List ℕ → List ℕ
+first_pages pages =
+    unwrap_or (slice_get pages 0) 0 ∷ unwrap_or (slice_get pages 1) 0 ∷ unwrap_or (slice_get pages 2) 0 ∷ unwrap_or (slice_get pages 3) 0 ∷ []
 
-abbrev pub told_not_opened : NotOpened → Answer
-told_not_opened (not_opened.Refused why) = words.not_opened why
-told_not_opened why = nothing
+abbrev pub touching : List ℕ → Answer
+touching pages = record nothing { touched = first_pages pages; touched_count = min (length pages) 4 }
+
+abbrev pub ended : Status → Answer
+ended status = record nothing { sct = status.sct; sc = status.sc }
+
+abbrev pub walked : WalkState → List ℕ → Answer
+walked walk_state.More pages = record (touching pages) { state = 1 }
+walked walk_state.End pages = record (touching pages) { state = 2 }
+walked (walk_state.Fault status) pages = record (touching pages) { state = 3; sct = status.sct; sc = status.sc }
+
+abbrev pub rejected : RejectedFor → Answer
+rejected rejected_for.WrongQueue = record nothing { state = 7 }
+rejected rejected_for.BadHead = record nothing { state = 8 }
+rejected rejected_for.UnknownId = record nothing { state = 9 }
+
+abbrev pub reaped : Reaped → Answer
+reaped reaps.Empty = record nothing { state = 4 }
+reaped (reaps.Done cid status) = record (ended status) { state = 5; cid = cid }
+reaped (reaps.AdminDone cid status dw0) = record (ended status) { state = 6; cid = cid; dw0 = dw0 }
+reaped (reaps.Rejected why) = rejected why
+
+abbrev pub refused : Refusal → List ℕ → Answer
+refused (refusal.NoPages need free) pages = record (touching pages) { need = need; free = free }
+refused (refusal.NoRun need) pages = record (touching pages) { need = need }
+refused why pages = touching pages
+
+abbrev pub not_opened : OpenRefusal → Answer
+not_opened (open_refusal.NoPages need free) = record nothing { need = need; free = free }
+not_opened open_refusal.BadConfig = nothing
+not_opened open_refusal.Memory = nothing

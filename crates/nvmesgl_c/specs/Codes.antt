@@ -1,22 +1,51 @@
--- The code of each answer.
-use Rattle.std.specs.Prelude.{ℕ, Option, Some, None}
-use Rattle.c_words.specs.Codes.{code_of_refusal, code_of_fill_fault, code_of_open_refusal}
-use Rattle.nvmesgl_c.specs.declared.options.NotOpened.{NotOpened}
-use Rattle.nvmesgl_c.specs.declared.options.NotOpened.TheVariants as not_opened
-use Rattle.step_core.specs.Values.{Reply}
-use Rattle.step_core.specs.declared.step.Reply.TheVariants as reply
+-- The codes. They are those of `c/nvmesgl.h`.
+use Rattle.std.specs.Prelude.{ℕ}
+use Rattle.io_commands.specs.declared.{draft.FillFault.FillFault, request.RequestFault.RequestFault}
+use Rattle.machine_model.specs.declared.words.{OpenRefusal.OpenRefusal, Refusal.Refusal}
+use Rattle.io_commands.specs.declared.draft.FillFault.TheVariants as fill_fault
+use Rattle.io_commands.specs.declared.request.RequestFault.TheVariants as request_fault
+use Rattle.machine_model.specs.declared.words.OpenRefusal.TheVariants as open_refusal
+use Rattle.machine_model.specs.declared.words.Refusal.TheVariants as refusal
 
--- of a step whose handle was closed there is no reply
-abbrev pub code_of_reply : Option Reply → ℕ
-code_of_reply None = 1
-code_of_reply (Some (reply.Refused why touched)) = code_of_refusal why
-code_of_reply (Some reply.NoValue) = 3
-code_of_reply (Some (reply.NotFilled why)) = code_of_fill_fault why
-code_of_reply (Some answer) = 0
+abbrev pub code_of_request_fault : RequestFault → ℕ
+code_of_request_fault request_fault.TooManyPieces = 40
+code_of_request_fault request_fault.EmptyPiece = 41
+code_of_request_fault request_fault.CrossesPage = 42
+code_of_request_fault request_fault.BadCount = 43
+code_of_request_fault request_fault.LengthMismatch = 44
 
-abbrev pub code_of_not_opened : NotOpened → ℕ
-code_of_not_opened not_opened.BadSize = 7
-code_of_not_opened not_opened.BadOption = 8
-code_of_not_opened not_opened.BadImage = 9
-code_of_not_opened not_opened.Memory = 15
-code_of_not_opened (not_opened.Refused why) = code_of_open_refusal why
+abbrev pub code_of_refusal : Refusal → ℕ
+code_of_refusal refusal.NoQueue = 10
+code_of_refusal refusal.Deleting = 11
+code_of_refusal (refusal.Bad fault) = code_of_request_fault fault
+code_of_refusal refusal.NoIdentifier = 13
+code_of_refusal (refusal.NoPages need free) = 14
+code_of_refusal refusal.Memory = 15
+code_of_refusal refusal.Stranger = 16
+code_of_refusal refusal.NotBuilt = 17
+code_of_refusal refusal.QueueGone = 18
+code_of_refusal refusal.QueueFull = 19
+code_of_refusal refusal.NotYet = 20
+code_of_refusal refusal.WrongState = 21
+code_of_refusal refusal.NoSuchCommand = 22
+code_of_refusal refusal.NotDeleted = 23
+code_of_refusal refusal.NotDrained = 24
+code_of_refusal refusal.Outstanding = 25
+code_of_refusal (refusal.NoRun need) = 26
+code_of_refusal refusal.NoSlot = 27
+code_of_refusal refusal.Idle = 28
+code_of_refusal refusal.SlotOut = 29
+code_of_refusal refusal.Full = 30
+code_of_refusal refusal.NoJob = 31
+code_of_refusal refusal.Nothing = 32
+code_of_refusal refusal.Walking = 33
+code_of_refusal refusal.Waits = 34
+
+abbrev pub code_of_fill_fault : FillFault → ℕ
+code_of_fill_fault fill_fault.NotASource = 45
+code_of_fill_fault fill_fault.WrongLength = 46
+
+abbrev pub code_of_open_refusal : OpenRefusal → ℕ
+code_of_open_refusal open_refusal.BadConfig = 12
+code_of_open_refusal (open_refusal.NoPages need free) = 14
+code_of_open_refusal open_refusal.Memory = 15

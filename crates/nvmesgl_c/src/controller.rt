@@ -1,59 +1,20 @@
-//! The controller's calls.
+//! The controller alone over the caller's bytes, for C: `c/nvmectl.h` declares what is exported here.
+//!
+//! A [`Handle`] is a [`controller_core::Controller`] that C keeps between its calls, or none. A call that reaches memory is lent the pool, as a slice, until it
+//! returns. Each export states the clause of the controller's call in one relation: what stands in the handle and in the pool before and
+//! after, the code, and the [`crate::words::Answer`] that is written. A call that is not done changes nothing.
 
-ghost use Rattle.nvmesgl_c.specs.Calls.{Says};
-ghost use Rattle.step_core.specs.declared.step.Step.TheVariants as step;
+mod calls;
+mod code;
+mod doorbells;
+mod handle;
+mod looks;
+mod next;
+mod opening;
+mod options;
+mod over;
 
-use crate::handle::Handle;
-use crate::steps::say;
-use c_words::Answer;
-use std::alloc::Global;
-use step_core::Step;
-
-/// The controller fetches an entry. Its identifier is told.
-#[unsafe(no_mangle)]
-pub extern "C" fn nvmesgl_fetch(
-    alloc: Global,
-    handle: &mut Handle,
-    q: u16,
-    answer: &mut Answer,
-) -> u32
-    ensures { Says handle.old.bench (step.Fetch q) result answer.new handle.new.bench }
-{
-    say(alloc, handle, Step::Fetch { q }, answer)
-}
-
-/// The controller does a unit of a command's list. How the list stands is told.
-#[unsafe(no_mangle)]
-pub extern "C" fn nvmesgl_walk(
-    alloc: Global,
-    handle: &mut Handle,
-    q: u16,
-    cid: u16,
-    answer: &mut Answer,
-) -> u32
-    ensures { Says handle.old.bench (step.Walk q cid) result answer.new handle.new.bench }
-{
-    say(alloc, handle, Step::Walk { q, cid }, answer)
-}
-
-/// The controller completes a command.
-#[unsafe(no_mangle)]
-pub extern "C" fn nvmesgl_complete(
-    alloc: Global,
-    handle: &mut Handle,
-    q: u16,
-    cid: u16,
-    answer: &mut Answer,
-) -> u32
-    ensures { Says handle.old.bench (step.Complete q cid) result answer.new handle.new.bench }
-{
-    say(alloc, handle, Step::Complete { q, cid }, answer)
-}
-
-/// Resets the controller.
-#[unsafe(no_mangle)]
-pub extern "C" fn nvmesgl_reset(alloc: Global, handle: &mut Handle, answer: &mut Answer) -> u32
-    ensures { Says handle.old.bench step.Reset result answer.new handle.new.bench }
-{
-    say(alloc, handle, Step::Reset, answer)
-}
+pub use handle::Handle;
+pub use looks::CCommand;
+pub use next::CStep;
+pub use options::{CQueue, NotOpened, Options};

@@ -1,21 +1,14 @@
-//! Both sides over one pool, for C: `c/nvmesgl.h` declares what is exported here.
+//! What C calls: both sides over one pool, the controller alone, and the host alone. `c/nvmesgl.h`, `c/nvmectl.h` and `c/nvmehost.h` declare what is exported here.
 //!
-//! A [`Handle`] is a [`step_core::Bench`] that C keeps between its calls, or none. Each call that is a step is that step of the bench, and
-//! its contract says so in one relation: what stands in the handle before and after, the code, and the [`c_words::Answer`] that is written. A call that is not done changes nothing.
+//! Each [`machine::Handle`] is a [`step_core::Bench`], each [`controller::Handle`] a [`controller_core::Controller`], each [`host::Handle`] a [`host_core::HostBench`] that C
+//! keeps between its calls, or none. A call that is a step is that step of what is kept, and its contract says so in one relation: what stands in the handle
+//! before and after, the code, and the [`words::Answer`] that is written. A call that is not done changes nothing.
+//!
+//! In [`words`] stands what the three share: codes, answers and requests as C writes them, and memory that C lends. A [`crate::held::Held`] is a box by its pointer, or none.
 #![tactic(auto)]
 
-mod answer;
-mod code;
-mod commands;
-mod controller;
-mod desk;
-mod handle;
-mod looks;
-mod opening;
-mod options;
-mod queues;
-mod steps;
-
-pub use handle::Handle;
-pub use looks::CCounts;
-pub use options::{NotOpened, Options};
+pub mod controller;
+pub mod held;
+pub mod host;
+pub mod machine;
+pub mod words;

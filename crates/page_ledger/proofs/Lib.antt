@@ -1,4 +1,2 @@
 pub mod Pages
 pub mod Tables
-pub mod Numbers
-pub mod FreeRuns

@@ -1,10 +1,7 @@
 -- How many pages each of the four classes has: free, of a queue, of a chain, of data.
 use Rattle.std.specs.Prelude.{◌+◌, Bool, true, false, List, ℕ, length}
-use Rattle.page_ledger.specs.declared.owner.Counts.{Counts}
-use Rattle.page_ledger.specs.declared.owner.Owner.{Owner}
-use Rattle.page_ledger.specs.declared.owner.Owner.TheVariants.{Free, Queue, Command}
+use Rattle.page_ledger.specs.{Owners.{free_pages, pages_owned}, declared.owner.{Counts.Counts, Owner.{Owner, TheVariants.{Free, Queue, Command}}}}
 use Rattle.page_ledger.specs.declared.owner.Role.TheVariants.{Data, Chain}
-use Rattle.page_ledger.specs.Owners.{free_pages, pages_owned}
 
 -- whether a queue owns the page
 abbrev pub is_queue_page : Owner → Bool

@@ -1,6 +1,6 @@
 -- The free pages of a pool by a Bool for each page.
 use Rattle.std.specs.Prelude.{Bool, List, ℕ, filter, length}
-use Rattle.bit_list.specs.Places.{is_true_at}
+use Rattle.slot_table.specs.Places.{is_true_at}
 use Rattle.page_ledger.specs.Owners.{pages_from}
 
 -- the free pages, in rising order

@@ -1,9 +1,7 @@
 -- The owners whose pages one give-back frees.
 use Rattle.std.specs.Prelude.{Bool}
-use Rattle.page_ledger.specs.declared.owner.Group.{Group}
+use Rattle.page_ledger.specs.{Owners.{is_command, is_half, is_queue}, declared.owner.{Group.Group, Owner.Owner}}
 use Rattle.page_ledger.specs.declared.owner.Group.TheVariants as group
-use Rattle.page_ledger.specs.declared.owner.Owner.{Owner}
-use Rattle.page_ledger.specs.Owners.{is_command, is_half, is_queue}
 
 -- whether one of these owners owns the page
 abbrev pub is_member : Group → Owner → Bool

@@ -1,11 +1,8 @@
 -- What holds of every list of owners.
-use Rattle.std.specs.Prelude.{◌≡◌, ◌+◌, ◌<◌, ◌≤◌, ◌↔◌, ◌||◌, Bool, true, false, List, Contains, ℕ, Some, None, drop, filter, not, length, take}
 use Rattle.std.specs.List.Sorted.{IsStrictlyIncreasing}
-use Rattle.page_ledger.specs.declared.owner.Owner.{Owner}
-use Rattle.page_ledger.specs.declared.owner.Owner.TheVariants.{Free}
-use Rattle.page_ledger.specs.Owners.{is_among, owner_at, is_free, is_owned_at, free_pages, pages_owned, with_owner, given_back}
-use Rattle.page_ledger.specs.Counting.{counts_of, total}
-use Rattle.page_ledger.specs.Runs.{lowest_run}
+use Rattle.std.specs.Prelude.{◌≡◌, ◌+◌, ◌<◌, ◌≤◌, ◌↔◌, ◌||◌, Bool, true, false, List, Contains, ℕ, Some, None, drop, filter, not, length, take}
+use Rattle.page_ledger.specs.{Counting.{counts_of, total}, Owners.{is_among, owner_at, is_free, is_owned_at, free_pages, pages_owned, with_owner, given_back}}
+use Rattle.page_ledger.specs.{Runs.lowest_run, declared.owner.Owner.{Owner, TheVariants.Free}}
 
 -- What is listed are the pages whose owner passes, each once, in rising order.
 pub record ListsOwned (test : Owner → Bool) (owners : List Owner) : Type 0 where

@@ -1,11 +1,8 @@
 -- Who owns each page of a pool: the owner of page p stands at place p of a list.
+use Rattle.std.specs.{List.list_any, Option.option_map_or}
 use Rattle.std.specs.Prelude.{◌+◌, ◌==◌, ◌&&◌, Bool, true, false, List, [], ◌∷◌, ℕ, zero, suc, Option, filter, if◌then◌else◌, length, map, slice_get, slice_set}
-use Rattle.std.specs.List.{list_any}
-use Rattle.std.specs.Option.{option_map_or}
-use Rattle.page_memory.specs.declared.page.Half.{Half}
-use Rattle.page_memory.specs.declared.page.Half.TheVariants.{Submission, Completion}
-use Rattle.page_ledger.specs.declared.owner.Owner.{Owner}
-use Rattle.page_ledger.specs.declared.owner.Owner.TheVariants.{Free, Queue, Command}
+use Rattle.page_memory.specs.declared.page.Half.{Half, TheVariants.{Submission, Completion}}
+use Rattle.page_ledger.specs.declared.owner.Owner.{Owner, TheVariants.{Free, Queue, Command}}
 
 -- the owner of a page, or nothing outside the pool
 abbrev pub owner_at : List Owner → ℕ → Option Owner

@@ -1,8 +1,6 @@
 -- Runs of consecutive free pages.
-use Rattle.std.specs.Prelude.{Bool, List, ℕ, Option, find, length}
-use Rattle.std.specs.List.{list_all}
-use Rattle.page_ledger.specs.declared.owner.Owner.{Owner}
-use Rattle.page_ledger.specs.Owners.{is_free, is_owned_at, pages_from}
+use Rattle.std.specs.{List.list_all, Prelude.{Bool, List, ℕ, Option, find, length}}
+use Rattle.page_ledger.specs.{Owners.{is_free, is_owned_at, pages_from}, declared.owner.Owner.Owner}
 
 -- whether the k pages from p on are free
 abbrev pub is_free_run : ℕ → List Owner → ℕ → Bool

@@ -1,9 +1,6 @@
 -- The counts as one page changes its owner.
 use Rattle.std.specs.Prelude.{◌+◌, ◌-◌, ℕ}
-use Rattle.page_ledger.specs.declared.owner.Counts.{Counts}
-use Rattle.page_ledger.specs.declared.owner.Owner.{Owner}
-use Rattle.page_ledger.specs.declared.owner.Owner.TheVariants.{Free, Queue, Command}
-use Rattle.page_ledger.specs.declared.owner.Role.TheVariants.{Data, Chain}
+use Rattle.page_ledger.specs.declared.owner.{Counts.Counts, Owner.{Owner, TheVariants.{Free, Queue, Command}}, Role.TheVariants.{Data, Chain}}
 
 -- how many pages of an owner's class are counted
 abbrev pub counted : Counts → Owner → ℕ

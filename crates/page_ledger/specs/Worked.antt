@@ -1,9 +1,7 @@
 -- The pool of the worked runs.
 use Rattle.std.specs.Prelude.{List, [], ◌∷◌}
 use Rattle.page_memory.specs.declared.page.Half.TheVariants.{Submission, Completion}
-use Rattle.page_ledger.specs.declared.owner.Owner.{Owner}
-use Rattle.page_ledger.specs.declared.owner.Owner.TheVariants.{Free, Queue, Command}
-use Rattle.page_ledger.specs.declared.owner.Role.TheVariants.{Data, Chain}
+use Rattle.page_ledger.specs.declared.owner.{Owner.{Owner, TheVariants.{Free, Queue, Command}}, Role.TheVariants.{Data, Chain}}
 
 -- eight pages: queue 1 has pages 0 and 7, command 9 of queue 1 has pages 2 and 3, and 1, 4, 5 and 6 are free
 abbrev pub small_pool : List Owner

@@ -10,8 +10,8 @@ ghost use Rattle.page_ledger.specs.Runs.{lowest_run as spec_lowest_run};
 
 use crate::owner::{Counts, Group, NoPages, Owner};
 use arrayvec::ArrayVec;
-use bit_list::BitList;
 use page_memory::{Half, OpenFault, PageNo};
+use slot_table::BitList;
 use std::alloc::{Allocator, Global};
 use std::marker::Model;
 

@@ -1,2 +1,3 @@
-pub mod Refusing
 pub mod Telling
+pub mod Asking
+pub mod Shown

@@ -1,32 +1,60 @@
 -- What is known of a run over bytes that were read is known of those that the reader had.
-use Rattle.std.proofs.Common.{◌≡◌, ◌⊎◌, ◌∙◌, refl, ap, sym, subst, Option, None, Some, List, ℕ, inl, inr}
-use Rattle.std.specs.Borrow.{Bor}
-use Rattle.std.specs.Prelude.{IfErr, IsErrAnd, IsSome, OnOk, Result, Ok, Err}
-use Rattle.clap.specs.Words.{Text}
-use Rattle.command_line.specs.Asked.{Given, path_of, steps, threads}
-use Rattle.command_line.specs.declared.threads.Threading.{Threading}
-use Rattle.host_core.specs.declared.config.Config.{Config}
-use Rattle.job_cli.proofs.JobRuns.{jobs_are_told, no_jobs_are_told}
-use Rattle.job_cli.specs.JobRuns.{EndsJobsWith, EndsUnwritten, HasJobFault, HasJobs, IsCutJobsText, IsNoJobs, WritesJobs}
-use Rattle.job_cli.specs.Jobs.{jobs_of}
-use Rattle.job_cli.specs.declared.jobs.JobLine.{JobLine}
-use Rattle.machine_model.specs.Script.{Table}
-use Rattle.machine_model.specs.State.{State}
-use Rattle.machine_model.specs.declared.words.OpenRefusal.{OpenRefusal}
-use Rattle.program.proofs.Refusing.{kept}
-use Rattle.program.specs.Checking.{AreJobs, AreNoJobs, AreNoSteps, AreSteps}
-use Rattle.program.specs.Performing.{FailsWith, IsFirstImage, IsRunFault, Performs}
-use Rattle.program.specs.declared.fault.Fault.{Fault}
 use Rattle.program.specs.declared.fault.Fault.TheVariants as fault
-use Rattle.script_cli.proofs.Runs.{no_script_is_told, script_is_told}
-use Rattle.script_cli.specs.Inputs.{AreFirstOf}
-use Rattle.script_cli.specs.Runs.{EndsWith, HasFault, HasScript, IsCutText, IsNoScript, IsNotOpened, Writes}
-use Rattle.script_cli.specs.Scripts.{script_of}
-use Rattle.script_cli.specs.declared.fault.LineFault.{LineFault}
-use Rattle.script_cli.specs.declared.fault.RunFault.{RunFault}
 use Rattle.script_cli.specs.declared.fault.RunFault.TheVariants as run
 use Rattle.script_cli.specs.declared.fault.ScriptFault.TheVariants as cause
-use Rattle.script_cli.specs.declared.script.Numbered.{Numbered}
+use Rattle.std.{proofs.Common.{◌≡◌, ◌⊎◌, Option, Some, None, List, [], ℕ, refl, sym, subst, inl, inr, ◌∙◌, ap}, specs.{Borrow.Bor, Io.KnownBytes.Keeps}}
+use Rattle.std.specs.Prelude.{IfErr, Result, Ok, Err, replicate, ◌*◌, IsErrAnd, IsSome, OnOk}
+use Rattle.clap.specs.{Words.{kind_of, Text}, declared.error.{Error.Error, kind.ErrorKind.TheVariants.OutOfMemory}}
+use Rattle.program.specs.Asked.{Asked, check, check_jobs, draw, explain, grammar, load, shell, show, steps, test, threads, traced, Given, path_of}
+use Rattle.program.specs.{Checking.{AreJobs, AreNoJobs, AreNoSteps, AreSteps}, Performing.{FailsWith, IsFirstImage, IsRunFault, Performs}}
+use Rattle.program.specs.declared.{command_line.threads.Threading.Threading, fault.Fault.Fault}
+use Rattle.job_cli.proofs.JobRuns.{jobs_are_told, no_jobs_are_told}
+use Rattle.job_cli.specs.{JobRuns.{EndsJobsWith, EndsUnwritten, HasJobFault, HasJobs, IsCutJobsText, IsNoJobs, WritesJobs}, Jobs.jobs_of, Lines.line_text}
+use Rattle.job_cli.specs.{Tallies.no_tally, declared.jobs.JobLine.JobLine}
+use Rattle.script_cli.{proofs.{Runs.{no_script_is_told, script_is_told}, Texts.appends_none}, specs.Inputs.AreFirstOf}
+use Rattle.script_cli.specs.{Runs.{EndsWith, HasFault, HasScript, IsCutText, IsNoScript, IsNotOpened, Writes}, Scripts.script_of}
+use Rattle.script_cli.specs.declared.{fault.{LineFault.LineFault, RunFault.RunFault}, script.Numbered.Numbered}
+use Rattle.host_core.specs.declared.config.Config.{Config}
+use Rattle.machine_model.specs.{Script.Table, State.State, declared.words.OpenRefusal.OpenRefusal}
+
+-- What is known where the words of a command line are at fault.
+
+pub kept : (bytes : Option (List ℕ)) → Keeps bytes bytes
+kept None = tt
+kept (Some bytes) = refl
+
+-- want of memory, before anything is written
+wanting : (told : Option (List ℕ)) (what : Asked) (bytes : Option (List ℕ)) → FailsWith told (Some what) bytes bytes (fault.Run run.Memory)
+wanting told (steps given) bytes = (replicate (512 * given.blocks) 0, λ none. refl, inl (kept bytes))
+wanting told (threads given what) bytes = (replicate (512 * given.blocks) 0, λ none. refl, inl (kept bytes))
+wanting told (load given what) bytes = ([], (no_tally, (line_text what.pattern no_tally, refl)), appends_none bytes)
+wanting told (check path) bytes = (tt, kept bytes)
+wanting told (check_jobs path submitters) bytes = (tt, kept bytes)
+wanting told (test tested) bytes = tt
+wanting told (shell given traces) bytes = tt
+wanting told (draw given) bytes = tt
+wanting told (traced given) bytes = tt
+wanting told (explain path objects) bytes = tt
+wanting told (show words) bytes = tt
+wanting told grammar bytes = inl refl
+
+refused : (told : Option (List ℕ)) (what : Option Asked) (bytes : Option (List ℕ)) (e : Error) (why : Fault) → (kind_of e ≡ OutOfMemory) ⊎ (what ≡ None)
+    → (kind_of e ≡ OutOfMemory → why ≡ fault.Run run.Memory) → FailsWith told what bytes bytes why
+refused told None bytes e why cause memory = kept bytes
+refused told (Some what) bytes e why (inl wants) memory = subst (λ (f : Fault). FailsWith told (Some what) bytes bytes f) (sym (memory wants)) (wanting told what bytes)
+refused told (Some what) bytes e why (inr nothing) memory = absurd (no_some what nothing)
+  where
+    no_some : (x : Asked) → Some x ≡ None → ⊥
+    no_some x e = cc
+
+-- where an error of the words is shown: they ask for nothing, or memory is wanting, and nothing is written
+pub shown : {T U : Type 0} (told : Option (List ℕ)) (what : Option Asked) (bytes : Option (List ℕ)) (e : Error) (r : Result T U) (fault_of : U → Fault)
+    → (kind_of e ≡ OutOfMemory) ⊎ (what ≡ None) → IfErr r (λ why. kind_of e ≡ OutOfMemory → fault_of why ≡ fault.Run run.Memory)
+    → IfErr r (λ why. FailsWith told what bytes bytes (fault_of why))
+shown told what bytes e (Ok x) fault_of cause memory = tt
+shown told what bytes e (Err why) fault_of cause memory = refused told what bytes e (fault_of why) cause memory
+
+-- What is known of a run over bytes that were read is known of those that the reader had.
 
 -- Scripts of steps
 

@@ -1,11 +1,7 @@
 -- What is said of a script that is checked.
 use Rattle.std.specs.Prelude.{◌≡◌, ℕ, List, Ok, Err}
-use Rattle.job_cli.specs.Jobs.{IsReadAs, jobs_of}
-use Rattle.job_cli.specs.declared.jobs.JobLine.{JobLine}
-use Rattle.script_cli.specs.Faults.{fault_of_script}
-use Rattle.script_cli.specs.Scripts.{IsReading, script_of}
-use Rattle.script_cli.specs.declared.fault.RunFault.{RunFault}
-use Rattle.script_cli.specs.declared.fault.ScriptFault.{ScriptFault}
+use Rattle.job_cli.specs.{Jobs.{IsReadAs, jobs_of}, declared.jobs.JobLine.JobLine}
+use Rattle.script_cli.specs.{Faults.fault_of_script, Scripts.{IsReading, script_of}, declared.fault.{RunFault.RunFault, ScriptFault.ScriptFault}}
 use Rattle.script_cli.specs.declared.script.Numbered.{Numbered}
 
 -- a text is a script of steps without faults

@@ -8,10 +8,10 @@ use crate::fault::{BytesFault, Fault, Told};
 use crate::inputs::script_text;
 use crate::printing::print_text;
 use entry_codec::Status;
-use explain::{Answer, CaseFault, Layout, Shown, explain_text, fault_lines, show};
 use std::alloc::{AllocError, AllocGlobal, Global};
 use std::io::{Read, Write};
 use std::rt::Files;
+use texts::explain::{Answer, CaseFault, Layout, Shown, explain_text, fault_lines, show};
 
 /// What is told of a text that is no case.
 fn at_fault(alloc: Global, text: &[u8], fault: CaseFault) -> Told<Fault>

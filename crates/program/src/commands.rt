@@ -1,7 +1,7 @@
 //! The program's commands.
 
 ghost use Rattle.std.specs.Prelude.{◌≡◌, ◌≤◌, List, Some, IfErr, OnOk, map};
-ghost use Rattle.command_line.specs.Asked.{asked, draw, given_of, path_of, shell, steps, threads, traced};
+ghost use Rattle.program.specs.Asked.{asked, draw, given_of, path_of, shell, steps, threads, traced};
 ghost use Rattle.job_cli.specs.JobRuns.{HasJobs, IsNoJobs};
 ghost use Rattle.job_cli.specs.declared.jobs.JobLine.{JobLine};
 ghost use Rattle.program.specs.Performing.{FailsWith, IsNoGrammar, IsRunFault, IsTestFault, Performs, script_told};
@@ -11,18 +11,17 @@ ghost use Rattle.script_cli.specs.declared.script.Numbered.{Numbered};
 use crate::below::below_run;
 use crate::bytes::{explain_case, show_words};
 use crate::checking::{check_jobs, check_steps};
+use crate::command_line::{CommandLine, Options, Testing, Threading, words};
 use crate::fault::{Fault, Told};
 use crate::inputs::{open_image, script_text};
 use crate::loading::load_image;
 use crate::pipe::Pipe;
 use crate::printing::print_text;
 use crate::saving::save_image;
-use command_line::{CommandLine, Options, Testing, Threading, words};
-use draw::draw_steps;
-use explain::Layout;
+use crate::shell::{run_shell, trace_steps};
 use job_cli::{Pace, run_jobs};
+use script_cli::transcripts::test_files;
 use script_cli::{MAX_SCRIPT, RunFault, play_steps};
-use shell::{run_shell, trace_steps};
 use std::alloc::{AllocGlobal, Global};
 use std::convert::AsStr;
 use std::env::Env;
@@ -32,8 +31,9 @@ use std::process::ExitCode;
 use std::rt::{Clock, Files};
 use std::sync::Wait;
 use std::thread::Threads;
+use texts::draw::draw_steps;
+use texts::explain::Layout;
 use texts::faults::{Grammar, grammar_text};
-use transcripts::test_files;
 
 /// Which of the standard files are terminals.
 #[derive(Clone, Copy)]
@@ -282,7 +282,7 @@ fn test<R: AllocGlobal + Files, W: Write>(
 ) -> Result<(), Told<Fault>>
     ensures fault { IfErr result (λ told. IsTestFault told.fault) }
 {
-    let usual = transcripts::Options {
+    let usual = script_cli::transcripts::Options {
         config: testing.config,
         blocks: testing.blocks,
     };

@@ -6,12 +6,12 @@ ghost use Rattle.clap.specs.declared.error.kind.ErrorKind.TheVariants.{OutOfMemo
 ghost use Rattle.script_cli.specs.declared.fault.RunFault.TheVariants as run;
 
 use clap::error::ErrorKind;
-use explain::CaseFault;
-use load::LoadFault;
+use job_cli::load::LoadFault;
+use script_cli::transcripts::Tally;
 use script_cli::{ImageFault, RunFault};
 use std::alloc::{AllocGlobal, Global};
 use std::{fmt, io};
-use transcripts::Tally;
+use texts::explain::CaseFault;
 
 /// Why bytes that were pasted in did not end well.
 #[derive(Clone, Copy, Debug, PartialEq, Eq)]
@@ -56,7 +56,7 @@ pub enum Fault {
     /// A load did not run to its end.
     Load(LoadFault),
     /// Commands of a load were refused, failed, or brought other bytes. The output told it.
-    Loaded(load::Tally),
+    Loaded(job_cli::load::Tally),
     /// All went well, but what was measured was not written.
     NoStats,
 }

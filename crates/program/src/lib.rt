@@ -7,6 +7,7 @@
 mod below;
 mod bytes;
 mod checking;
+pub mod command_line;
 mod commands;
 mod fault;
 mod inputs;
@@ -14,6 +15,7 @@ mod loading;
 mod pipe;
 mod printing;
 mod saving;
+pub mod shell;
 
 pub use commands::{Terminals, perform, run};
 pub use fault::{BytesFault, Fault, Told};

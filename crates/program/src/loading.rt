@@ -1,23 +1,23 @@
 //! A load, and what is told of it.
 
 ghost use Rattle.std.specs.Prelude.{◌≡◌, IfErr, IsSome, None, OnOk, Some};
-ghost use Rattle.command_line.specs.Asked.{given_of, load, loaded_of};
-ghost use Rattle.workload.specs.Loads.{FitsLoad};
+ghost use Rattle.program.specs.Asked.{given_of, load, loaded_of};
+ghost use Rattle.job_cli.specs.Loads.{FitsLoad};
 ghost use Rattle.program.specs.Performing.{FailsWith, fault_of_load, Performs};
 
 use crate::below::{below_run, lines_or_none};
+use crate::command_line::Options;
 use crate::fault::{Fault, Told};
 use crate::inputs::open_image;
-use command_line::Options;
-use load::{Bad, LoadFault, Ran, run_load};
+use job_cli::load::workload::Load;
+use job_cli::load::{Bad, LoadFault, Ran, run_load};
+use script_cli::transcripts::{not_written, replace_file};
 use std::alloc::{AllocGlobal, Global};
 use std::io::Write;
 use std::rt::{Clock, Files};
 use std::sync::Wait;
 use std::thread::Threads;
 use texts::faults::Grammar;
-use transcripts::{not_written, replace_file};
-use workload::Load;
 
 /// Says on standard error what was measured.
 fn tell_times<R: AllocGlobal + Eprint>(rt: &R, ran: &Ran) {

@@ -5,9 +5,9 @@ ghost use Rattle.std.specs.Prelude.{◌≡◌, IfErr, IsSome};
 use crate::below::lines_or_none;
 use crate::fault::{Fault, Told};
 use block_image::Image;
+use script_cli::transcripts::{not_written, replace_file};
 use std::alloc::AllocGlobal;
 use std::rt::Files;
-use transcripts::{not_written, replace_file};
 
 /// Writes an image into the file that is named for it, if there is one. Where this fails, the file is as it was.
 pub(crate) fn save_image<R: AllocGlobal + Files>(

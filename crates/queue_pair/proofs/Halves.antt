@@ -1,19 +1,18 @@
--- A half in memory, and its slots.
-use Rattle.std.proofs.Common.{◌≡◌, ◌≢◌, inl, inr, ℕ, zero, suc, ◌+◌, ◌*◌, ◌<◌, ◌≤◌, Bool, true, false, IsSome, List, Option, Some, None, length, replicate, get_or, refl, sym, ap, ◌∙◌, subst, arith}
-use Rattle.std.specs.Option.{option_map}
-use Rattle.page_memory.specs.Memory.{Memory, written}
+-- A half in memory and in a pool of pages; and the lowest identifier that is not claimed.
+use Rattle.std.proofs.Common.{◌≡◌, ◌≢◌, inl, inr, ℕ, zero, suc, ◌+◌, ◌*◌, ◌<◌, ◌≤◌, Bool, true, false, IsSome, List, Option, Some, None, length, replicate, get_or, refl, sym, ap, ◌∙◌, subst, arith, ◌/◌, ◌%◌, is_some, IfSome, ◌∷◌, slice_set, not, cond, ltb, map}
+use Rattle.std.proofs.lemmas.{Bool.{cases_lt, lt-ltb, le-ltb, Decides.nat_tests}, List.{get_or-map, length-map, map-set, Quantifiers.position-Some}}
+use Rattle.std.{proofs.lemmas.{List.Sums.{fails_before_first, position_or_len_is}, Option.slice_get-get_or}, specs.List.{slice_get, position, position_or_len}}
+use Rattle.std.specs.Option.{option_map, option_and_then}
+use Rattle.page_memory.proofs.Bytes.{bytes_held, bytes_some, written_before, written_after, byte_in, page_of_place, offset_of_place, length-zero_page}
+use Rattle.page_memory.specs.{Memory.{Memory, written}, Pages.{Pages, page_at, byte_at, zero_page, AreWhole}}
 use Rattle.page_memory.specs.declared.page.Half.TheVariants.{Submission, Completion}
-use Rattle.page_memory.proofs.Reading.{bytes_held, bytes_some}
-use Rattle.page_memory.proofs.Writing.{written_before, written_after}
-use Rattle.entry_codec.specs.declared.completion.ComEntry.{ComEntry}
-use Rattle.entry_codec.specs.Submission.{submission_of}
-use Rattle.entry_codec.specs.Completion.{completion_of}
-use Rattle.queue_pair.specs.Memory.{submission_place, completion_place, submission_page, completion_page, submission_slot, completion_slot, half_pages, entry_at, completion_at}
+use Rattle.entry_codec.specs.{Completion.completion_of, Submission.submission_of, declared.completion.ComEntry.ComEntry}
+use Rattle.queue_pair.{proofs.Rings.{see_alike, bytes_agree, phase_from}, specs.Halves.{IsIn, IsZero, Agree, IsOutside, AreApart}}
 use Rattle.queue_pair.specs.Lists.{entries_between, answers_between, PhasesStand}
-use Rattle.queue_pair.specs.Halves.{IsIn, IsZero, Agree, IsOutside, AreApart}
-use Rattle.queue_pair.proofs.Order.{see_alike}
-use Rattle.queue_pair.proofs.Bytes.{bytes_agree}
-use Rattle.queue_pair.proofs.Phases.{phase_from}
+use Rattle.queue_pair.specs.Memory.{submission_place, completion_place, submission_page, completion_page, submission_slot, completion_slot, half_pages, entry_at, completion_at}
+use Rattle.slot_table.{proofs.Places.first-inside, specs.{Places.is_true_at, Searches.{IsFirstFrom, IsNoneFrom}}}
+
+-- A half in memory, and its slots.
 
 -- the slots lie in the half's pages, each in one page
 pub submission_within : (n slot : ℕ) → slot < n → 64 * slot + 64 ≤ 4096 * half_pages n Submission
@@ -124,3 +123,126 @@ zeros_stand m cq n h =
           ap (λ (b : Option (List ℕ)). option_map (λ (entry : ComEntry). entry.phase) (option_map completion_of b)) (zero_slot m cq n slot h s)
           ∙ ap (λ (b : Bool). Some b) (zero_phase ∙ sym (phase_from 0 slot true (omega arith)));
     }
+
+-- The halves in a pool of pages.
+
+-- a place of the half, by its page and its offset
+place_of : (page k : ℕ) → 4096 * page + k ≡ 4096 * (page + k / 4096) + k % 4096
+place_of page k = omega arith
+
+offset_fits : (k : ℕ) → k % 4096 < 4096
+offset_fits k = omega arith
+
+page_fits : (k pages : ℕ) → k < 4096 * pages → k / 4096 < pages
+page_fits k pages h = omega arith
+
+byte_there : (pool : Pages) (p at : ℕ) (o : Option (List ℕ)) → page_at pool p ≡ o → IsSome o → IfSome o (λ page. length page ≡ 4096) → at < 4096 → IsSome (byte_at pool (4096 * p + at))
+byte_there pool p at None found there whole fits = cc
+byte_there pool p at (Some page) found there whole fits =
+    let some : byte_at pool (4096 * p + at) ≡ Some (get_or page at 0) = byte_in pool p at page found fits ∙ slice_get-get_or page at 0 (subst (λ (n : ℕ). at < n) (sym whole) fits) in
+    ap is_some some
+
+pub pages_in : (pool : Pages) (page pages : ℕ) → AreWhole pool → ((p : ℕ) → p < pages → IsSome (page_at pool (page + p))) → IsIn (byte_at pool) page pages
+pages_in pool page pages whole there =
+    record {
+      there = λ k lt. subst (λ (q : ℕ). IsSome (byte_at pool q)) (sym (place_of page k))
+          (byte_there pool (page + k / 4096) (k % 4096) (page_at pool (page + k / 4096)) refl (there (k / 4096) (page_fits k pages lt)) (whole (page + k / 4096)) (offset_fits k));
+    }
+
+zeros_pools : (n k : ℕ) → get_or (replicate {A = ℕ} n 0) k 0 ≡ 0
+zeros_pools zero k = refl
+zeros_pools (suc n) zero = refl
+zeros_pools (suc n) (suc k) = zeros_pools n k
+
+zero_shown : (at : ℕ) → get_or zero_page at 0 ≡ 0
+unfolding zero_page
+zero_shown at = zeros_pools 4096 at
+
+zero_byte : (at : ℕ) → at < 4096 → slice_get zero_page at ≡ Some 0
+zero_byte at fits =
+    slice_get-get_or zero_page at 0 (subst (λ (n : ℕ). at < n) (sym length-zero_page) fits) ∙ ap (λ (b : ℕ). Some b) (zero_shown at)
+
+pub pages_zero : (pool : Pages) (page pages : ℕ) → ((p : ℕ) → p < pages → page_at pool (page + p) ≡ Some zero_page) → IsZero (byte_at pool) page pages
+pages_zero pool page pages blank =
+    record {
+      zero_there = λ k lt.
+          ap (byte_at pool) (place_of page k) ∙ byte_in pool (page + k / 4096) (k % 4096) zero_page (blank (k / 4096) (page_fits k pages lt)) (offset_fits k) ∙ zero_byte (k % 4096) (offset_fits k);
+    }
+
+byte_of_page : (pool : Pages) (p at : ℕ) → at < 4096 → byte_at pool (4096 * p + at) ≡ option_and_then (λ bytes. slice_get bytes at) (page_at pool p)
+byte_of_page pool p at fits = rw (page_of_place p at fits, offset_of_place p at fits) refl
+
+pub pages_agree : (pool other : Pages) (page pages : ℕ) → ((p : ℕ) → p < pages → page_at pool (page + p) ≡ page_at other (page + p)) → Agree (byte_at pool) (byte_at other) page pages
+pages_agree pool other page pages same =
+    record {
+      same = λ k lt.
+          ap (byte_at pool) (place_of page k)
+          ∙ byte_of_page pool (page + k / 4096) (k % 4096) (offset_fits k)
+          ∙ ap (option_and_then (λ bytes. slice_get bytes (k % 4096))) (same (k / 4096) (page_fits k pages lt))
+          ∙ sym (byte_of_page other (page + k / 4096) (k % 4096) (offset_fits k))
+          ∙ ap (byte_at other) (sym (place_of page k));
+    }
+
+-- The lowest identifier that is not claimed.
+
+is_true : (b : Bool) → not b ≡ false → b ≡ true
+is_true true e = refl
+is_true false e = cc
+
+is_false : (b : Bool) → not b ≡ true → b ≡ false
+is_false true e = cc
+is_false false e = refl
+
+pub found_within : (claimed : List Bool) (cid : ℕ) → position not claimed ≡ Some cid → cid < length claimed
+found_within claimed cid e = (position-Some not claimed cid false e).0
+
+pub found_free : (claimed : List Bool) (cid : ℕ) → position not claimed ≡ Some cid → slice_get claimed cid ≡ Some false
+found_free claimed cid e =
+    let h = position-Some not claimed cid false e in
+    slice_get-get_or claimed cid false h.0 ∙ ap (λ (b : Bool). Some b) (is_false (get_or claimed cid false) h.1)
+
+pub lower_claimed : (claimed : List Bool) (cid lower : ℕ) → position not claimed ≡ Some cid → lower < cid → slice_get claimed lower ≡ Some true
+lower_claimed claimed cid lower e below =
+    let h = position-Some not claimed cid false e in
+    slice_get-get_or claimed lower false (omega (arith, h.0)) ∙ ap (λ (b : Bool). Some b) (is_true (get_or claimed lower false) (h.2 lower below))
+
+none_below : (i n : ℕ) → cond (ltb i n) (Some i) None ≡ None → n ≤ i
+none_below i n e = elim (cases_lt i n) [ inl lt ↦ let some : cond (ltb i n) (Some i) None ≡ Some i = grind (arith, nat_tests) in cc | inr le ↦ le ]
+
+pub all_claimed : (claimed : List Bool) (cid : ℕ) → position not claimed ≡ None → cid < length claimed → slice_get claimed cid ≡ Some true
+all_claimed claimed cid e within =
+    let past : length claimed ≤ position_or_len not claimed = none_below (position_or_len not claimed) (length claimed) e in
+    slice_get-get_or claimed cid false within ∙ ap (λ (b : Bool). Some b) (is_true (get_or claimed cid false) (fails_before_first not claimed cid false (omega arith)))
+
+-- the identifiers that are not claimed as a list of their own
+
+free-at : (free : List Bool) (i : ℕ) → i < length free → not (get_or (map not free) i false) ≡ is_true_at free i
+free-at free i within = ap not (get_or-map not free i false false within) ∙ twice (get_or free i false)
+  where
+    twice : (b : Bool) → not (not b) ≡ b
+    twice true = refl
+    twice false = refl
+
+pub lowest_free : (free : List Bool) (cid : ℕ) → IsFirstFrom (is_true_at free) 0 cid → position not (map not free) ≡ Some cid
+lowest_free free cid first =
+    let within : cid < length free = first-inside free first in
+    let size : length (map not free) ≡ length free = length-map free not in
+    let place : position_or_len not (map not free) ≡ cid =
+    position_or_len_is not (map not free) cid false (omega arith) (λ k below. free-at free k (omega arith) ∙ first.before k (omega arith) below)
+    (λ inside. free-at free cid within ∙ first.passes) in
+    ap (λ (n : ℕ). cond (ltb n (length (map not free))) (Some n) None) place ∙ ap (λ c. cond c (Some cid) None) (lt-ltb cid (length (map not free)) (omega arith))
+
+pub none_free : (free : List Bool) → IsNoneFrom (is_true_at free) 0 → position not (map not free) ≡ None
+none_free free none =
+    let size : length (map not free) ≡ length free = length-map free not in
+    let many : ℕ = length (map not free) in
+    let place : position_or_len not (map not free) ≡ many =
+    position_or_len_is not (map not free) many false (omega arith) (λ k below. free-at free k (omega arith) ∙ none.fails k (omega arith)) (λ past. absurd (omega arith)) in
+    ap (λ (n : ℕ). cond (ltb n many) (Some n) None) place ∙ ap (λ c. cond c (Some many) None) (le-ltb many many (omega arith))
+
+pub claims-none : (n : ℕ) → map not (replicate n true) ≡ replicate n false
+claims-none zero = refl
+claims-none (suc n) = ap (λ l. false ∷ l) (claims-none n)
+
+pub claims-set : (free now : List Bool) (cid : ℕ) (b : Bool) → now ≡ slice_set free cid b → map not now ≡ slice_set (map not free) cid (not b)
+claims-set free now cid b is = ap (map not) is ∙ map-set not free cid b

@@ -1,11 +1,8 @@
 -- Each ring as a list, and the phases of the completion ring.
 use Rattle.std.specs.Prelude.{◌≡◌, ℕ, ◌<◌, Bool, not, List, [], ◌∷◌, Option, Some, None, option_map, map, nat_le, nat_lt, if◌then◌else◌}
 use Rattle.page_memory.specs.Memory.{Memory}
-use Rattle.entry_codec.specs.declared.submission.SubEntry.{SubEntry}
-use Rattle.entry_codec.specs.declared.completion.ComEntry.{ComEntry}
-use Rattle.queue_pair.specs.Slots.{slots_between}
-use Rattle.queue_pair.specs.Rings.{HostSide, DeviceSide}
-use Rattle.queue_pair.specs.Memory.{entry_at, completion_at}
+use Rattle.entry_codec.specs.declared.{completion.ComEntry.ComEntry, submission.SubEntry.SubEntry}
+use Rattle.queue_pair.specs.{Memory.{entry_at, completion_at}, Rings.{HostSide, DeviceSide}, Slots.slots_between}
 
 -- the submission entries in the slots from one position to another, in ring order
 abbrev pub entries_between : Memory → ℕ → ℕ → ℕ → ℕ → List (Option SubEntry)

@@ -1,14 +1,8 @@
 -- The slots of a queue's halves in memory. A submission slot has 64 bytes and a completion slot 16, and each half begins
 -- at a page, so that no slot lies in two pages.
-use Rattle.std.specs.Prelude.{ℕ, ◌+◌, ◌*◌, ◌/◌, Bool, List, Option, Some, None, option_map, option_and_then, if◌then◌else◌}
-use Rattle.std.specs.Bool.{beq}
-use Rattle.page_memory.specs.Memory.{Memory, bytes_at}
-use Rattle.page_memory.specs.declared.page.Half.{Half}
-use Rattle.page_memory.specs.declared.page.Half.TheVariants.{Submission, Completion}
-use Rattle.entry_codec.specs.declared.submission.SubEntry.{SubEntry}
-use Rattle.entry_codec.specs.declared.completion.ComEntry.{ComEntry}
-use Rattle.entry_codec.specs.Submission.{submission_of}
-use Rattle.entry_codec.specs.Completion.{completion_of}
+use Rattle.std.specs.{Bool.beq, Prelude.{ℕ, ◌+◌, ◌*◌, ◌/◌, Bool, List, Option, Some, None, option_map, option_and_then, if◌then◌else◌}}
+use Rattle.page_memory.specs.{Memory.{Memory, bytes_at}, declared.page.Half.{Half, TheVariants.{Submission, Completion}}}
+use Rattle.entry_codec.specs.{Completion.completion_of, Submission.submission_of, declared.{completion.ComEntry.ComEntry, submission.SubEntry.SubEntry}}
 
 -- the first place of a slot of a half that begins at a page
 abbrev pub submission_place : ℕ → ℕ → ℕ

@@ -1,7 +1,5 @@
 -- Where each side stands in its rings, as a look tells it.
-use Rattle.queue_pair.specs.Rings.{HostRing, DeviceRing}
-use Rattle.queue_pair.specs.declared.positions.HostPositions.{HostPositions}
-use Rattle.queue_pair.specs.declared.positions.DevicePositions.{DevicePositions}
+use Rattle.queue_pair.specs.{Rings.{HostRing, DeviceRing}, declared.positions.{DevicePositions.DevicePositions, HostPositions.HostPositions}}
 
 abbrev pub host_positions : HostRing → HostPositions
 host_positions ring = record { submission_tail = ring.tail; submission_head = ring.known_head; completion_head = ring.head; phase = ring.phase }

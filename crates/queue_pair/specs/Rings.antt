@@ -1,7 +1,6 @@
 -- What each side of a queue pair knows of its two rings.
 use Rattle.std.specs.Prelude.{◌≡◌, ℕ, ◌+◌, ◌<◌, ◌≤◌, ◌==◌, Bool, true, false, not, List, length, replicate, if◌then◌else◌}
-use Rattle.page_memory.specs.declared.page.Half.{Half}
-use Rattle.page_memory.specs.declared.page.Half.TheVariants.{Submission, Completion}
+use Rattle.page_memory.specs.declared.page.Half.{Half, TheVariants.{Submission, Completion}}
 use Rattle.queue_pair.specs.Slots.{next_slot}
 
 -- the host: where it reads the completion ring and which phase a new entry has there; the submission head that it was

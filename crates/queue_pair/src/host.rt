@@ -13,9 +13,9 @@ use crate::fault::{BadHead, QueueFull};
 use crate::image::submission_image;
 use crate::positions::HostPositions;
 use crate::slots::{completion_address, lies_between, phase_after, slot_after, submission_address};
-use bit_list::BitList;
 use entry_codec::{ComEntry, SubEntry};
 use page_memory::{Dma, Half, PageNo};
+use slot_table::BitList;
 use std::alloc::{AllocError, Allocator, Global};
 use std::marker::Model;
 

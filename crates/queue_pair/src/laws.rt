@@ -13,7 +13,7 @@ ghost use Rattle.queue_pair.specs.Halves.{IsIn, IsZero, Agree, IsOutside, AreApa
 
 /// The order of a ring of n slots is that of the remainders by n: so after so many takes a head is its start and their number,
 /// modulo n.
-#[tactic(auto, using(crate::proofs::Order::next_is_remainder, crate::proofs::Order::distance_is_remainder, crate::proofs::Order::moved_is_remainder))]
+#[tactic(auto, using(crate::proofs::Rings::next_is_remainder, crate::proofs::Rings::distance_is_remainder, crate::proofs::Rings::moved_is_remainder))]
 pub fn order_is_modular()
     ensures next { (n slot : ℕ) → slot < n → next_slot n slot ≡ (slot + 1) % n }
     ensures distance { (n from to : ℕ) → from < n → to < n → distance n from to ≡ (to + n - from) % n }
@@ -22,7 +22,7 @@ pub fn order_is_modular()
 
 /// Moves stay inside the ring, and n of them come round: the slot from which so many moves lead to another lies the rest of the ring
 /// ahead of that.
-#[tactic(auto, using(crate::proofs::Round::moved_below, crate::proofs::Round::comes_round, crate::proofs::Round::comes_apart, crate::proofs::Round::tail_moved, crate::proofs::Round::head_moved))]
+#[tactic(auto, using(crate::proofs::Rings::moved_below, crate::proofs::Rings::comes_round, crate::proofs::Rings::comes_apart, crate::proofs::Rings::tail_moved, crate::proofs::Rings::head_moved))]
 pub fn moves_come_round()
     ensures inside { (n slot many : ℕ) → slot < n → moved n slot many < n }
     ensures round { (n slot many : ℕ) → slot < n → many ≤ n → moved n (moved n slot (n - many)) many ≡ slot }
@@ -33,7 +33,7 @@ pub fn moves_come_round()
 
 /// A ring is full where the slot after its tail is its head. Where a head is ahead of the one that is known, there is room as soon
 /// as the known one leaves room.
-#[tactic(auto, using(crate::proofs::Order::full_exactly, crate::proofs::Order::room_ahead))]
+#[tactic(auto, using(crate::proofs::Rings::full_exactly, crate::proofs::Rings::room_ahead))]
 pub fn room_is_known()
     ensures full { (n head tail : ℕ) → head < n → tail < n → ((is_full n head tail ≡ true) ↔ (next_slot n tail ≡ head)) }
     ensures ahead { (n known head tail : ℕ) → known < n → tail < n → is_in_range n known tail head ≡ true → is_full n known tail ≡ false → is_full n head tail ≡ false }
@@ -114,7 +114,7 @@ pub fn moves_stay_inside()
 
 /// Where two positions lie so many slots apart, each tells the other; and the phase that the host expects tells the controller's,
 /// by whether the answers that are left reach past the wrap. Each side tells the other's phase alike.
-#[tactic(auto, using(crate::proofs::Order::tail_is_remainder, crate::proofs::Order::head_is_remainder, crate::proofs::Phases::phase_told, crate::proofs::Round::told_alike))]
+#[tactic(auto, using(crate::proofs::Rings::tail_is_remainder, crate::proofs::Rings::head_is_remainder, crate::proofs::Rings::phase_told, crate::proofs::Rings::told_alike))]
 pub fn positions_follow_lists()
     ensures tail { (n head tail : ℕ) → head < n → tail < n → tail ≡ (head + distance n head tail) % n }
     ensures head { (n head tail : ℕ) → head < n → tail < n → head ≡ (tail + n - distance n head tail) % n }

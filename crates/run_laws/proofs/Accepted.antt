@@ -3,55 +3,28 @@ use Rattle.machine_model.specs.declared.words.Refusal.TheVariants as refusals
 use Rattle.machine_model.specs.Events as events
 use Rattle.machine_model.specs.After as a
 use Rattle.std.proofs.Common.{◌≡◌, ℕ, suc, ◌≤◌, Bool, true, false, ◌&&◌, List, [], ◌∷◌, ◌++◌, length, if◌then◌else◌, refl, ap, arith, ◌⊎◌, inl, inr, ◌+◌, nat_lt, not, ◌||◌, Option, Some, None, is_some, is_none, MatchBool, ap₂, sym, ◌∙◌, subst, ◌==◌, map, eqb-true}
-use Rattle.std.proofs.lemmas.List.Elements.{All-nil, All-cons, All-append}
+use Rattle.std.proofs.lemmas.{Bool.{true≢false, not-false, not-true, and_parts, Decides.nat_tests}, List.Elements.{All-nil, All-cons, All-append}}
+use Rattle.std.specs.{List.AllByRecursion, Option.{option_map, option_and_then, option_map_or}}
 use Rattle.page_ledger.specs.Owners.{is_among}
 use Rattle.page_memory.specs.Pages.{zero_page}
-use Rattle.machine_model.specs.Memory.{zeroed_pages, is_in}
-use Rattle.machine_model.specs.Step.{times, zeroed, Permits, Refuses, Leaves, Answers, AnswersAnything, IsController, IsReserved, IsNewIdentifier, is_exact, reaped, touched_by_fetch, finished_from, asked_by, pages_with_bytes, Step, HostPart}
-use Rattle.machine_model.proofs.Counting.{held_once, not_held}
-use Rattle.std.specs.Option.{option_map, option_and_then, option_map_or}
-use Rattle.std.proofs.lemmas.Bool.{true≢false, not-false, not-true, and_parts}
-use Rattle.std.proofs.lemmas.Bool.Decides.{nat_tests}
-use Rattle.sgl_chain.specs.Chains.{pages_needed}
-use Rattle.controller_walk.specs.declared.walk.WalkState.TheVariants.{More}
-use Rattle.controller_walk.specs.Units.{touched}
-use Rattle.entry_codec.specs.declared.status.Status.{Status}
-use Rattle.entry_codec.specs.declared.submission.SubEntry.{SubEntry}
-use Rattle.io_commands.specs.Asked.{Request}
-use Rattle.io_commands.specs.Requests.{data_count, joined_parts}
-use Rattle.io_commands.specs.Drafts.{DraftContents}
-use Rattle.io_commands.specs.Values.{FinishedContents}
-use Rattle.machine_model.specs.Placement.{data_placed, chain_placed, chain_wanted}
-use Rattle.machine_model.specs.declared.words.Refusal.{Refusal}
-use Rattle.machine_model.specs.State.{State, Record, is_at, record_at, HostQueue, pages_of, with_record, without_record}
+use Rattle.machine_model.proofs.{Cases.option_is, Counting.{held_once, not_held, zeroed_numbers as numbers_zeroed}}
+use Rattle.machine_model.proofs.Headline.{length_placed, length_chain, placement_times, room_for}
+use Rattle.machine_model.proofs.{Moves.{host_moves, drafted_record, sent_record, creates_cq, creates_sq}, Owned.{holds_from_sound, all_reset, lost_by}}
+use Rattle.machine_model.proofs.{Steps.{part_controller, surely, first_fails, rest_fails, unrefused, Accepts, part_left}, Tokens.find_sound}
+use Rattle.machine_model.specs.{After.next_answer, Claims.{IsSound, OwnsFit, AdminLives}, Events.{Event, Reply}, Memory.{zeroed_pages, is_in}}
+use Rattle.machine_model.specs.{Placement.{data_placed, chain_placed, chain_wanted}, Proper.IsProper}
 use Rattle.machine_model.specs.Refusals.{refusal_of, host_queue, next_rung, post_page, fetch_page, conflicts, answers_full, record_is, is_submitted, is_held, no_identifier, pages_wanted, is_live}
-use Rattle.machine_model.specs.Proper.{IsProper}
-use Rattle.machine_model.specs.Claims.{IsSound, OwnsFit, AdminLives}
-use Rattle.machine_agreement.specs.InOrder.{IsInOrder}
-use Rattle.machine_model.specs.After.{next_answer}
-use Rattle.machine_model.specs.Events.{Event, Reply}
-use Rattle.machine_model.proofs.Steps.{part_controller, surely, Accepts, part_left}
-use Rattle.machine_model.proofs.Owned.{holds_from_sound}
-use Rattle.machine_agreement.proofs.Elsewhere.{owned_once}
-use Rattle.machine_model.proofs.Refused.{first_fails, rest_fails, unrefused}
-use Rattle.machine_agreement.proofs.Members.{all_at_found, all_map, all_filter, all_append, all_in_both}
-use Rattle.machine_agreement.proofs.Answered.{IsJudged, host_judged, judged, unjudged, done, new_identifier, walk_allowed, has_unit}
-use Rattle.machine_agreement.proofs.Cases.{option_is}
+use Rattle.machine_model.specs.State.{State, Record, is_at, record_at, HostQueue, pages_of, with_record, without_record}
+use Rattle.machine_model.specs.Step.{times, zeroed, Permits, Refuses, Leaves, Answers, AnswersAnything, IsController, IsReserved, IsNewIdentifier, is_exact, reaped, touched_by_fetch, finished_from, asked_by, pages_with_bytes, Step, HostPart}
+use Rattle.machine_model.specs.{Work.Work, declared.words.{HostState.TheVariants.Deleting, Phase.TheVariants.Held, Refusal.Refusal, Work.TheVariants.Io}}
+use Rattle.sgl_chain.specs.Chains.{pages_needed}
+use Rattle.controller_walk.specs.{Units.touched, declared.walk.WalkState.TheVariants.More}
+use Rattle.entry_codec.specs.declared.{status.{Status.Status, TheConstants.Status.ABORTED_SQ_DELETION}, submission.SubEntry.SubEntry}
+use Rattle.io_commands.specs.{Asked.Request, Drafts.DraftContents, Requests.{data_count, joined_parts}, Values.FinishedContents}
+use Rattle.two_sides.proofs.Agreed.{IsJudged, host_judged, judged, unjudged, done, new_identifier, walk_allowed, has_unit, opens_in_order, order_kept}
+use Rattle.two_sides.{proofs.{Provided.{all_at_found, all_map, all_filter, all_append, all_in_both}, Untouched.owned_once}, specs.InOrder.IsInOrder}
 use Rattle.run_laws.specs.Accepted.{HasEnded, EndedIfHeld, IsReady, IsAccepted, is_refusal, every_event_is_accepted_or_has_a_cause, every_reset_is_accepted, IsAcceptedReset, resets_have_one_answer, queue_of, forged_worlds_accept_the_controller, forged_worlds_know_their_queues, openings_are_ready, steps_keep_ready}
-use Rattle.machine_model.proofs.FreePages.{length_placed, length_chain, placement_times, room_for}
-use Rattle.machine_model.proofs.Runs.{zeroed_numbers as numbers_zeroed}
-use Rattle.std.specs.List.{AllByRecursion}
-use Rattle.admin_commands.specs.declared.AdminKind.TheVariants.{Abort, DeleteSq, DeleteCq}
-use Rattle.admin_commands.specs.declared.AdminKind.{AdminKind}
-use Rattle.entry_codec.specs.declared.status.TheConstants.Status.{ABORTED_SQ_DELETION}
-use Rattle.machine_model.specs.Work.{Work}
-use Rattle.machine_model.specs.declared.words.Work.TheVariants.{Io}
-use Rattle.machine_model.specs.declared.words.Phase.TheVariants.{Held}
-use Rattle.machine_model.specs.declared.words.HostState.TheVariants.{Deleting}
-use Rattle.machine_model.proofs.Placed.{find_sound}
-use Rattle.machine_agreement.proofs.InOrders.{opens_in_order, order_kept}
-use Rattle.machine_model.proofs.Resetting.{all_reset, lost_by}
-use Rattle.machine_model.proofs.Moves.{host_moves, drafted_record, sent_record, creates_cq, creates_sq}
+use Rattle.admin_commands.specs.declared.AdminKind.{AdminKind, TheVariants.{Abort, DeleteSq, DeleteCq}}
 
 -- Where pages do not run out, there are free ones.
 

@@ -1,48 +1,23 @@
 -- What a run carries from step to step: gathered bytes, what is received, and in which order.
 use Rattle.sgl_descriptor.specs.declared.Part.TheVariants as part
 use Rattle.std.proofs.Common.{◌≡◌, ◌⊎◌, inl, inr, ℕ, zero, suc, ◌+◌, ◌-◌, ◌%◌, ◌<◌, ◌≤◌, nat_lt, Bool, true, false, Option, Some, List, [], ◌∷◌, ◌++◌, length, take, drop, slice_get, refl, ap, sym, ◌∙◌, arith, subst, add-zero, append_assoc, ◌*◌, map, slice_range, replicate, ◌/◌, ◌==◌, slice_set, None, min, nat_eq, is_some, cond, eq-eqb}
-use Rattle.std.specs.Option.{option_map_or, option_and_then}
-use Rattle.std.proofs.lemmas.Bool.Decides.{nat_tests}
-use Rattle.std.proofs.lemmas.Grind.{common_steps}
-use Rattle.std.proofs.lemmas.Option.{slice_get_within}
+use Rattle.std.proofs.lemmas.{Bool.{or_parts, eqb-false, cases_Bool, or_left, or_right, Decides.nat_tests}, Grind.common_steps, List.Concat.flat_map-cons}
+use Rattle.std.{proofs.lemmas.Option.slice_get_within, specs.{List.{AllByRecursion, list_any, range_with_len}, Option.{option_map_or, option_and_then}}}
 use Rattle.page_ledger.specs.Owners.{is_among}
-use Rattle.page_memory.specs.Memory.{Memory, page_of, bytes_at}
-use Rattle.page_memory.specs.Pages.{Pages, page_at, byte_at, with_bytes, with_page_bytes}
-use Rattle.sgl_descriptor.specs.declared.Direction.{Direction}
-use Rattle.sgl_descriptor.specs.declared.Part.{Part}
-use Rattle.sgl_descriptor.specs.Targets.{Target, Place, targets, Discarded, targets_of_part, counted}
-use Rattle.sgl_descriptor.proofs.Counts.{targets-append}
+use Rattle.page_memory.{proofs.Bytes.byte_in, specs.{Memory.{Memory, page_of, bytes_at}, Pages.{Pages, page_at, byte_at, with_bytes, with_page_bytes}}}
+use Rattle.sgl_descriptor.{proofs.Counts.targets-append, specs.{Spelling.descriptor_of, Targets.{Target, Place, targets, Discarded, targets_of_part, counted}}}
+use Rattle.sgl_descriptor.specs.declared.{Descriptor.{Descriptor, TheVariants.{DataBlock, BitBucket, Segment, LastSegment}}, Direction.Direction}
+use Rattle.sgl_descriptor.specs.declared.{Direction.TheVariants.{Destination, Source}, Part.Part}
+use Rattle.controller_walk.{proofs.{Along.more_parts, Courses.part_most}, specs.Along.{MovesAlong, MovesByte, taken, parts_taken, descriptor_at}}
 use Rattle.controller_walk.specs.Units.{Act, Stays, Reads, Moves, Course, Closes, Does, units, after_read, read_at, from_place, behind, goes_on, unless_fault, first_fault, moving, first_part, pages_spanned, entry_cursor, next, course_of_list}
-use Rattle.controller_walk.specs.Along.{MovesAlong, MovesByte, taken, parts_taken, descriptor_at}
-use Rattle.controller_walk.proofs.All.{more_parts}
-use Rattle.machine_model.specs.After.{page_bytes}
-use Rattle.machine_model.specs.Reached.{on_pages, CourseIn}
-use Rattle.std.specs.List.{AllByRecursion, list_any, range_with_len}
-use Rattle.std.proofs.lemmas.Bool.{or_parts, eqb-false, cases_Bool, or_left, or_right}
-use Rattle.std.proofs.lemmas.List.Concat.{flat_map-cons}
-use Rattle.page_memory.proofs.Reading.{byte_in}
-use Rattle.sgl_descriptor.specs.declared.Direction.TheVariants.{Destination, Source}
-use Rattle.io_commands.specs.declared.request.Piece.{Piece}
-use Rattle.io_commands.specs.declared.request.Piece.TheVariants.{Data, Bucket}
-use Rattle.io_commands.specs.Requests.{parts_of, crosses_page}
-use Rattle.io_commands.specs.DataBytes.{PagesOut, gathered}
-use Rattle.io_commands.specs.Values.{numbers_of}
-use Rattle.machine_model.specs.Image.{undiscarded}
-use Rattle.run_laws.specs.Blocks.{partly}
-use Rattle.machine_agreement.proofs.Members.{some_is}
-use Rattle.machine_agreement.proofs.Entered.{not_crossing, in_page}
-use Rattle.machine_agreement.proofs.Elsewhere.{bytes_elsewhere}
-use Rattle.entry_codec.specs.declared.status.Status.{Status}
-use Rattle.entry_codec.specs.declared.status.TheConstants.Status.{DATA_TRANSFER_ERROR}
-use Rattle.sgl_descriptor.specs.declared.Descriptor.{Descriptor}
-use Rattle.sgl_descriptor.specs.declared.Descriptor.TheVariants.{DataBlock, BitBucket, Segment, LastSegment}
-use Rattle.sgl_descriptor.specs.Spelling.{descriptor_of}
-use Rattle.controller_walk.specs.declared.cursor.Cursor.{Cursor}
-use Rattle.controller_walk.specs.declared.walk.WalkState.TheVariants.{End, Fault}
-use Rattle.controller_walk.proofs.Courses.{part_most}
-use Rattle.machine_model.specs.Step.{times}
+use Rattle.controller_walk.specs.declared.{cursor.Cursor.Cursor, walk.WalkState.TheVariants.{End, Fault}}
+use Rattle.machine_model.{proofs.Counting.{times-cons, held_once}, specs.{After.page_bytes, Image.undiscarded, Reached.{on_pages, CourseIn}, Step.times}}
 use Rattle.machine_model.specs.Weights.{one}
-use Rattle.machine_model.proofs.Counting.{times-cons, held_once}
+use Rattle.io_commands.specs.{DataBytes.{PagesOut, gathered}, Requests.{parts_of, crosses_page}, Values.numbers_of, declared.request.Piece.Piece}
+use Rattle.io_commands.specs.declared.request.Piece.TheVariants.{Data, Bucket}
+use Rattle.run_laws.specs.Blocks.{partly}
+use Rattle.two_sides.proofs.{Provided.some_is, Served.{not_crossing, in_page}, Untouched.bytes_elsewhere}
+use Rattle.entry_codec.specs.declared.status.{Status.Status, TheConstants.Status.DATA_TRANSFER_ERROR}
 
 -- What the units of a course carry from memory to a source command's bytes: at its end the bytes of its data pages.
 

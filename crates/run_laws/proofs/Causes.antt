@@ -3,74 +3,36 @@ use Rattle.machine_model.specs.After as a
 use Rattle.machine_model.specs.Events as events
 use Rattle.io_commands.specs.Jobs as jobs
 use Rattle.machine_model.specs.declared.words.Refusal.TheVariants as refusal
-use Rattle.machine_agreement.proofs.Cases.{none_some}
-use Rattle.std.proofs.Common.{◌≡◌, ℕ, zero, suc, ◌+◌, ◌-◌, ◌%◌, ◌≤◌, ◌==◌, nat_lt, Bool, true, false, ◌&&◌, ◌||◌, Option, Some, None, List, [], ◌∷◌, ◌++◌, length, if◌then◌else◌, refl, ap, sym, ◌∙◌, arith, subst, eqb-true, eq-eqb, inl, inr, not, map, filter, find, is_some, is_none, ◌/◌}
-use Rattle.std.specs.Option.{option_map_or, option_map}
-use Rattle.std.specs.List.{AllByRecursion, list_any}
-use Rattle.std.proofs.lemmas.Bool.{true≢false, and_parts, cases_Bool}
-use Rattle.std.proofs.lemmas.Bool.Decides.{nat_tests}
-use Rattle.std.proofs.lemmas.List.{length-replicate}
-use Rattle.controller_walk.specs.Units.{Course, Closes, Does, verdict, Act, Stays, Reads, Moves}
-use Rattle.controller_walk.specs.Walks.{answer}
-use Rattle.controller_walk.specs.Laws.{after_units}
-use Rattle.controller_walk.specs.declared.walk.WalkState.{WalkState}
-use Rattle.controller_walk.specs.declared.walk.WalkState.TheVariants.{End}
-use Rattle.sgl_descriptor.specs.Spelling.{spelling}
-use Rattle.entry_codec.specs.declared.submission.SubEntry.{SubEntry}
-use Rattle.entry_codec.specs.declared.status.Status.{Status}
-use Rattle.entry_codec.specs.declared.status.TheConstants.Status.{SUCCESS, ABORT_REQUESTED, ABORTED_SQ_DELETION, LBA_OUT_OF_RANGE, COMPARE_FAILURE}
-use Rattle.io_commands.specs.Asked.{Request}
-use Rattle.io_commands.specs.declared.request.Kind.{Kind}
-use Rattle.io_commands.specs.declared.request.Kind.TheVariants.{Write, Read, Compare}
-use Rattle.io_commands.specs.Values.{IsGood}
-use Rattle.io_commands.specs.Drafts.{io_entry}
-use Rattle.io_commands.specs.Jobs.{is_success, verdict_of, io_fault, bytes_after_check, first_block, block_number, need_of_entry, kind_of_opcode, direction_of_entry}
-use Rattle.machine_model.specs.Status.{same_status}
-use Rattle.machine_model.specs.Work.{Work}
-use Rattle.machine_model.specs.declared.words.Work.TheVariants.{Io, Management}
-use Rattle.machine_model.specs.Claims.{OwnsFit}
-use Rattle.machine_model.specs.State.{State, DeviceQueue, Record, Job, is_at, pages_of}
+use Rattle.machine_model.proofs.{Cases.none_some, Steps.{Accepts, managed_by, permitted, first_fails, rest_fails}, Tokens.find_sound}
+use Rattle.machine_model.specs.{After.{course_of, walks, final_status}, Agreeing.unfetched_count, Claims.OwnsFit, Events.{Event, Reply}, Image.Made}
+use Rattle.machine_model.specs.{Memory.is_in, Proper.IsProper}
 use Rattle.machine_model.specs.Refusals.{is_submitted, next_rung, job_at, is_job, refusal_of, job_is, waits, answers_full, post_page}
-use Rattle.machine_model.specs.After.{course_of, walks, final_status}
-use Rattle.machine_model.specs.Image.{Made}
+use Rattle.machine_model.specs.{Standing.{unfetched_at, HasEntry, StandsAs, CommandStands}, State.{State, DeviceQueue, Record, Job, is_at, pages_of}}
+use Rattle.machine_model.specs.{Status.same_status, Step.{IsController, resets, Step}, Trusted.TrustedRun, Weights.{one, total}, Work.Work}
+use Rattle.machine_model.specs.declared.words.{Refusal.Refusal, Work.TheVariants.{Io, Management}}
+use Rattle.std.proofs.Common.{◌≡◌, ℕ, zero, suc, ◌+◌, ◌-◌, ◌%◌, ◌≤◌, ◌==◌, nat_lt, Bool, true, false, ◌&&◌, ◌||◌, Option, Some, None, List, [], ◌∷◌, ◌++◌, length, if◌then◌else◌, refl, ap, sym, ◌∙◌, arith, subst, eqb-true, eq-eqb, inl, inr, not, map, filter, find, is_some, is_none, ◌/◌}
+use Rattle.std.{proofs.lemmas.{Bool.{true≢false, and_parts, cases_Bool, Decides.nat_tests}, List.length-replicate}, specs.List.{AllByRecursion, list_any}}
+use Rattle.std.specs.{Option.{option_map_or, option_map}, Prelude.unwrap_or, Str.bytes_eq}
+use Rattle.controller_walk.specs.{Laws.after_units, Units.{Course, Closes, Does, verdict, Act, Stays, Reads, Moves}, Walks.answer}
+use Rattle.controller_walk.specs.declared.walk.WalkState.{WalkState, TheVariants.End}
+use Rattle.sgl_descriptor.specs.{Spelling.spelling, declared.Direction.{Direction, TheVariants.{Destination, Source}}}
+use Rattle.entry_codec.specs.declared.{admin_opcode.TheConstants.{ABORT, DELETE_IO_SQ}, io_opcode.TheConstants.COMPARE, status.Status.Status}
+use Rattle.entry_codec.specs.declared.status.TheConstants.Status.{SUCCESS, ABORT_REQUESTED, ABORTED_SQ_DELETION, LBA_OUT_OF_RANGE, COMPARE_FAILURE}
+use Rattle.entry_codec.specs.declared.submission.SubEntry.{SubEntry}
+use Rattle.io_commands.specs.{Asked.Request, Drafts.io_entry}
+use Rattle.io_commands.specs.Jobs.{is_success, verdict_of, io_fault, bytes_after_check, first_block, block_number, need_of_entry, kind_of_opcode, direction_of_entry}
+use Rattle.io_commands.specs.{Values.IsGood, declared.request.Kind.{Kind, TheVariants.{Write, Read, Compare}}}
 use Rattle.run_laws.specs.Statuses.{fetches, aborts, deletes, since_fetch, fetches_by, managed_entry, status_by, has_cause, passes_image, is_compare, every_status_has_its_cause}
-use Rattle.machine_model.specs.Standing.{unfetched_at, HasEntry, StandsAs, CommandStands}
-use Rattle.machine_model.specs.Weights.{one, total}
-use Rattle.machine_model.proofs.Placed.{find_sound}
-use Rattle.machine_agreement.proofs.Members.{all_at_found, sent_found, some_is, all_map, all_append, all_filter, all_of, all_in_both, only_found}
-use Rattle.machine_agreement.proofs.Served.{Stood, course_ends}
-use Rattle.machine_model.specs.Agreeing.{unfetched_count}
-use Rattle.machine_agreement.proofs.Placements.{InHand, first_is, in_hand}
-use Rattle.machine_agreement.proofs.PlacesKept.{running_not_past}
-use Rattle.machine_agreement.proofs.Commanding.{in_hand_is}
-use Rattle.machine_agreement.proofs.Entered.{good_is}
-use Rattle.admin_commands.specs.Entries.{named_queue, named_command}
-use Rattle.admin_commands.specs.declared.SqState.TheVariants.{Stopping}
-use Rattle.sgl_descriptor.specs.declared.Direction.{Direction}
-use Rattle.sgl_descriptor.specs.declared.Direction.TheVariants.{Destination, Source}
-use Rattle.entry_codec.specs.declared.admin_opcode.TheConstants.{ABORT, DELETE_IO_SQ}
-use Rattle.machine_model.specs.Events.{Event, Reply}
-use Rattle.machine_model.specs.declared.words.Refusal.{Refusal}
+use Rattle.two_sides.proofs.{Along.{Carried, Before, keeps, made_of, run_before}, Commands.{in_hand_is, Walking, walking}}
+use Rattle.two_sides.proofs.{DeviceMoves.{unit_bytes, unit_done, finished, fetch_of, walk_by, complete_by}, JobLaws.{moved_length, blocks_put, not_zero}}
+use Rattle.two_sides.proofs.{NeverFull.{one_job, stood_on, stood_at_opening}, PlacesKept.{InHand, first_is, running_not_past, in_hand}}
+use Rattle.two_sides.proofs.PoolBytes.{host_jobs, host_image}
+use Rattle.two_sides.proofs.Provided.{all_at_found, sent_found, some_is, all_map, all_append, all_filter, all_of, all_in_both, only_found}
+use Rattle.two_sides.proofs.Served.{Stood, good_is, course_ends}
+use Rattle.admin_commands.specs.{Entries.{named_queue, named_command}, declared.SqState.TheVariants.Stopping}
 use Rattle.page_memory.specs.Pages.{with_bytes}
-use Rattle.machine_model.specs.Step.{IsController, resets, Step}
-use Rattle.machine_model.proofs.Steps.{Accepts, permitted}
-use Rattle.machine_agreement.proofs.CommandsAll.{Walking, walking}
-use Rattle.machine_agreement.proofs.WalksKept.{one_job, stood_on, stood_at_opening}
-use Rattle.machine_agreement.proofs.Frames.{host_jobs, host_image}
-use Rattle.machine_agreement.proofs.Lengths.{moved_length, blocks_put}
-pub use Rattle.machine_agreement.proofs.HeadsAll.{no_conflict as not_conflicting}
-use Rattle.machine_model.proofs.Managed.{managed_by}
-use Rattle.machine_agreement.proofs.DeviceMoves.{unit_bytes, unit_done, finished, fetch_of, walk_by, complete_by}
-use Rattle.machine_model.specs.Trusted.{TrustedRun}
-use Rattle.entry_codec.specs.declared.io_opcode.TheConstants.{COMPARE}
 use Rattle.block_image.specs.Blocks.{blocks_at}
-use Rattle.machine_model.specs.Proper.{IsProper}
-use Rattle.machine_model.specs.Memory.{is_in}
-use Rattle.machine_model.proofs.Refused.{first_fails, rest_fails}
-use Rattle.std.specs.Str.{bytes_eq}
-use Rattle.std.specs.Prelude.{unwrap_or}
-use Rattle.machine_agreement.proofs.Along.{Carried, Before, keeps, made_of, run_before}
-use Rattle.machine_agreement.proofs.JobLaws.{not_zero}
+pub use Rattle.two_sides.proofs.Heads.{no_conflict as not_conflicting}
 
 -- Each verdict of an I/O job has its cause in the run: what steps do to that.
 
@@ -78,7 +40,7 @@ use Rattle.machine_agreement.proofs.JobLaws.{not_zero}
 
 any_more : (f : Made → Bool) (xs : List Made) (m : Made) → list_any f (xs ++ m ∷ []) ≡ (list_any f xs || f m)
 any_more f [] m = grind arith
-any_more f (x ∷ xs) m = let h1 = any_more f xs m in grind arith
+any_more f (x ∷ xs) m = grind (arith, any_more f xs m)
 
 pub any_longer : (f : Made → Bool) (xs : List Made) (m : Made) → list_any f xs ≡ true → list_any f (xs ++ m ∷ []) ≡ true
 any_longer f xs m h = any_more f xs m ∙ ap (λ (b : Bool). b || f m) h

@@ -2,57 +2,25 @@
 use Rattle.machine_model.specs.After as a
 use Rattle.machine_model.specs.Events as events
 use Rattle.std.proofs.Common.{◌≡◌, ℕ, Bool, true, false, List, [], ◌∷◌, refl, ap, sym, ◌∙◌, subst, ◌==◌, nat_eq, ◌&&◌, ◌||◌, Some, eqb-true, eq-eqb, arith, Option, None, ◌++◌, inl, inr, drop}
-use Rattle.std.specs.List.{list_any, AllByRecursion}
-use Rattle.std.proofs.lemmas.Bool.{or_parts, true≢false, and_parts, not-true}
-use Rattle.machine_model.specs.State.{State, Record, is_at, record_at, pages_of, Job, Answer, with_record}
-use Rattle.machine_model.specs.Proper.{IsProper}
-use Rattle.machine_model.specs.Image.{Made, submitted_by}
-use Rattle.machine_model.specs.Trusted.{Steps}
-use Rattle.machine_model.specs.Step.{Step, reaped, finished_from, asked_by, pages_with_bytes}
-use Rattle.machine_model.specs.Events.{Event, Reply}
-use Rattle.machine_model.specs.declared.words.Refusal.{Refusal}
-use Rattle.machine_model.proofs.Steps.{Accepts, permitted, exact}
-use Rattle.machine_agreement.proofs.Along.{along, trusted_step_by, cut}
-use Rattle.machine_agreement.proofs.Unforged.{Unforged, unforged_next, unforged_front, unforged_back, unforged_run, unforged_end}
-use Rattle.machine_agreement.proofs.Served.{Stood, answers_at}
-use Rattle.machine_agreement.proofs.WalksKept.{stood_on, stood_at_opening, host_jobs}
-use Rattle.std.specs.Cmp.Lexicographic.{pointwise}
-use Rattle.io_commands.specs.Drafts.{DraftContents}
-use Rattle.io_commands.specs.Values.{numbers_of, FinishedContents}
-use Rattle.machine_model.specs.Work.{Work}
-use Rattle.machine_model.specs.declared.words.Work.TheVariants.{Io, Management}
-use Rattle.machine_model.specs.Claims.{OwnsFit}
-use Rattle.machine_model.specs.declared.words.Phase.{Phase}
-use Rattle.machine_model.specs.declared.words.Phase.TheVariants.{Held}
-use Rattle.machine_model.specs.Refusals.{is_submitted, is_drafted, is_held, is_of, asks_for, refusal_of, job_at, next_rung, device_queue}
-use Rattle.machine_model.proofs.Refused.{same_lists}
-use Rattle.machine_agreement.proofs.Members.{all_at_found, is_found, some_is, In, all_append, sent}
-use Rattle.machine_agreement.proofs.Submitting.{requests_same}
-use Rattle.machine_agreement.proofs.PlacesKept.{ids_of, drafted_not, reaped_answer}
-use Rattle.run_laws.proofs.Known.{submit_record, unsent, submitted_stand, stand_still}
-use Rattle.machine_model.proofs.Out.{named, reaped_submitted}
-use Rattle.entry_codec.specs.declared.status.TheConstants.Status.{ABORTED_SQ_DELETION}
-use Rattle.run_laws.proofs.Moves.{RecordsMove, records_event, takes, JobsMove, jobs_event, QueueMove, queues_event}
-use Rattle.run_laws.specs.Submitted.{submits, CollectedCommand}
-use Rattle.machine_agreement.proofs.Cases.{option_is}
+use Rattle.std.{proofs.lemmas.Bool.{or_parts, true≢false, and_parts, not-true}, specs.{Cmp.Lexicographic.pointwise, List.{list_any, AllByRecursion}}}
 use Rattle.std.specs.Option.{option_map, option_and_then, option_map_or}
-use Rattle.entry_codec.specs.declared.status.Status.{Status}
-use Rattle.io_commands.specs.Asked.{Request}
-use Rattle.run_laws.specs.Blocks.{collected_of}
-use Rattle.machine_model.specs.Opening.{opening}
-use Rattle.run_laws.proofs.ReadLaws.{held_where_collected, with_numbers}
+use Rattle.machine_model.proofs.{Cases.option_is, Counting.{one, total}, HostLeaves.ids_of, Sound.{named, reaped_submitted}}
+use Rattle.machine_model.{proofs.{Steps.{Accepts, same_lists, permitted, exact}, Tokens.{is_job, find_sound}}, specs.{Claims.OwnsFit, Events.{Event, Reply}}}
+use Rattle.machine_model.specs.{Image.{Made, submitted_by}, Memory.with_pages, Opening.opening, Proper.IsProper}
+use Rattle.machine_model.specs.Refusals.{is_submitted, is_drafted, is_held, is_of, asks_for, refusal_of, job_at, next_rung, device_queue}
+use Rattle.machine_model.specs.State.{State, Record, is_at, record_at, pages_of, Job, Answer, with_record}
+use Rattle.machine_model.specs.{Step.{Step, reaped, finished_from, asked_by, pages_with_bytes}, Trusted.Steps, Work.Work, declared.words.Phase.Phase}
+use Rattle.machine_model.specs.declared.words.{Phase.TheVariants.Held, Refusal.Refusal, Work.TheVariants.{Io, Management}}
+use Rattle.two_sides.proofs.Along.{along, trusted_step_by, Unforged, unforged_next, unforged_front, unforged_back, unforged_run, unforged_end, cut}
+use Rattle.two_sides.proofs.{Commands.{nobody, no_job}, NeverFull.{stood_on, stood_at_opening, host_jobs}, PlacesKept.{drafted_not, reaped_answer}}
+use Rattle.two_sides.proofs.{Provided.{all_at_found, is_found, some_is, In, all_append, sent}, Served.{Stood, requests_same, answers_at}, Standing.list_at}
+use Rattle.io_commands.specs.{Asked.Request, Drafts.DraftContents, Values.{numbers_of, FinishedContents}}
+use Rattle.run_laws.proofs.{Carrying.Stands, Known.{submit_record, unsent, submitted_stand, stand_still}}
+use Rattle.run_laws.proofs.Moves.{RecordsMove, records_event, takes, JobsMove, jobs_event, QueueMove, queues_event}
+use Rattle.run_laws.{proofs.{ReadLaws.{held_where_collected, with_numbers}, ReadsKept.{pages_stay, walks_it}, ReadsWalked.first_all}, specs.Blocks.collected_of}
+use Rattle.run_laws.specs.{Statuses.{fetches, fetches_by}, Submitted.{submits, CollectedCommand}}
+use Rattle.entry_codec.specs.declared.{status.{Status.Status, TheConstants.Status.ABORTED_SQ_DELETION}, submission.SubEntry.SubEntry}
 use Rattle.page_ledger.specs.Owners.{is_among}
-use Rattle.entry_codec.specs.declared.submission.SubEntry.{SubEntry}
-use Rattle.machine_model.specs.Memory.{with_pages}
-use Rattle.run_laws.specs.Statuses.{fetches, fetches_by}
-use Rattle.machine_model.proofs.Counting.{one}
-use Rattle.machine_model.proofs.Totals.{total}
-use Rattle.machine_model.proofs.Placed.{is_job, find_sound}
-use Rattle.machine_agreement.proofs.Queues.{list_at}
-use Rattle.machine_agreement.proofs.CommandsKept.{nobody, no_job}
-use Rattle.run_laws.proofs.Carrying.{Stands}
-use Rattle.run_laws.proofs.ReadsKept.{pages_stay, walks_it}
-use Rattle.run_laws.proofs.ReadsWalked.{first_all}
 
 -- What steps of a trusted run keep, where each passes a test of the step.
 

@@ -1,41 +1,22 @@
 -- What submitted data becomes.
 use Rattle.machine_model.specs.Events as events
 use Rattle.std.proofs.Common.{◌≡◌, ℕ, ◌+◌, ◌-◌, ◌==◌, Bool, true, false, not, ◌&&◌, ◌||◌, Option, Some, List, [], ◌∷◌, ◌++◌, take, drop, if◌then◌else◌, refl, ap, sym, ◌∙◌, subst, eq-eqb, append_assoc, append-nil, inl, inr, is_some, eqb-true, arith}
-use Rattle.std.specs.Option.{option_map_or}
-use Rattle.std.specs.List.{AllByRecursion, list_any}
 use Rattle.std.proofs.lemmas.Bool.{true≢false, or_parts, cases_Bool, not-true as not_any, and_parts}
 use Rattle.std.proofs.lemmas.List.Elements.{All-head, All-tail, All-append, All-take, All-drop, All-replicate, All-nil, All-cons}
+use Rattle.std.specs.{List.{AllByRecursion, list_any}, Option.option_map_or}
 use Rattle.page_memory.specs.Pages.{Pages, page_at, zero_page}
-use Rattle.io_commands.specs.declared.request.Piece.{Piece}
-use Rattle.io_commands.specs.declared.request.Piece.TheVariants.{Data, Bucket}
-use Rattle.io_commands.specs.DataBytes.{PagesOut, gathered}
-use Rattle.io_commands.specs.Drafts.{DraftContents}
-use Rattle.io_commands.specs.Values.{numbers_of}
-use Rattle.io_commands.specs.Asked.{Request}
-use Rattle.io_commands.specs.Jobs.{is_success}
-use Rattle.machine_model.specs.State.{is_at, State, Record, pages_of}
-use Rattle.machine_model.specs.Image.{Made, is_draft, draft_of, submitted_by}
-use Rattle.machine_model.specs.Trusted.{TrustedRun, Steps, drafts_of}
-use Rattle.run_laws.specs.Statuses.{fetches}
-use Rattle.machine_model.specs.Step.{zeroed, pages_with_bytes, Step}
-use Rattle.machine_agreement.proofs.Members.{all_at_found, some_is}
+use Rattle.io_commands.specs.{Asked.Request, DataBytes.{PagesOut, gathered}, Drafts.DraftContents, Jobs.is_success, Values.numbers_of}
+use Rattle.io_commands.specs.declared.request.Piece.{Piece, TheVariants.{Data, Bucket}}
+use Rattle.machine_model.{proofs.HostLeaves.ids_of, specs.{Claims.OwnsFit, Events.{Event, Reply}, Image.{Made, is_draft, draft_of, submitted_by}}}
+use Rattle.machine_model.specs.{Opening.opening, State.{is_at, State, Record, pages_of}, Step.{zeroed, pages_with_bytes, Step}}
+use Rattle.machine_model.specs.{Trusted.{TrustedRun, Steps, drafts_of}, Work.Work}
 use Rattle.run_laws.proofs.Carrying.{Stands}
-use Rattle.run_laws.proofs.ReadLaws.{reads_give, stopped_reads}
-use Rattle.machine_agreement.proofs.Unforged.{Unforged, unforged_next, unforged_front, unforged_run, unforged_end}
-use Rattle.run_laws.specs.Submitted.{CollectedCommand, FetchedCommand, submits, was_fetched, unfetched_commands_keep_their_data, unfetched_commands_keep_the_drafts_bytes, unfetched_commands_were_deleted, successful_commands_were_fetched, AreZeros, drafts_of_reserve_are_zero, unfetched_commands_of_zeros_gather_zeros, fetched_commands_have_their_fetch, commands_are_fetched_once, fetched_reads_give_a_prefix, successful_reads_give_their_blocks, collected_commands_were_submitted}
 use Rattle.run_laws.proofs.DataKept.{along_steps, Going, left_step, stood_step, stood_along, IsOfDraft, found_draft, held_goes, goes_on, reaped_on, sub_goes, drafts_same, Unread, Untouched, Waits, unread_step, unread_submit, Course, course, alone_of, at_draft, request_stays, Collects, collects_held}
-use Rattle.run_laws.proofs.DataOnce.{once}
-use Rattle.machine_agreement.proofs.ProperValues.{hosts_own}
-use Rattle.machine_model.specs.Work.{Work}
-use Rattle.machine_model.specs.Claims.{OwnsFit}
-use Rattle.machine_model.specs.Opening.{opening}
-use Rattle.machine_model.specs.Events.{Event, Reply}
-use Rattle.machine_agreement.proofs.PlacesKept.{ids_of}
-use Rattle.machine_agreement.proofs.Served.{Stood}
-use Rattle.machine_agreement.proofs.WalksKept.{stood_at_opening}
-use Rattle.run_laws.proofs.Moves.{RecordsMove, records_event}
-use Rattle.machine_agreement.proofs.Along.{cut}
-use Rattle.run_laws.proofs.Images.{refused_drafts}
+use Rattle.run_laws.proofs.{DataOnce.once, Images.refused_drafts, Moves.{RecordsMove, records_event}, ReadLaws.{reads_give, stopped_reads}}
+use Rattle.run_laws.specs.Statuses.{fetches}
+use Rattle.run_laws.specs.Submitted.{CollectedCommand, FetchedCommand, submits, was_fetched, unfetched_commands_keep_their_data, unfetched_commands_keep_the_drafts_bytes, unfetched_commands_were_deleted, successful_commands_were_fetched, AreZeros, drafts_of_reserve_are_zero, unfetched_commands_of_zeros_gather_zeros, fetched_commands_have_their_fetch, commands_are_fetched_once, fetched_reads_give_a_prefix, successful_reads_give_their_blocks, collected_commands_were_submitted}
+use Rattle.two_sides.proofs.{Along.{Unforged, unforged_next, unforged_front, unforged_run, unforged_end, cut}, NeverFull.stood_at_opening}
+use Rattle.two_sides.proofs.{Provided.{all_at_found, some_is}, Served.{hosts_own, Stood}}
 
 -- What collected commands give back.
 
@@ -211,7 +192,7 @@ AllDrafted drafts s = AllByRecursion (HasDraft drafts) s.host.records
 
 more_drafts : (q cid : ℕ) (new drafts : List DraftContents) → is_some (draft_of q cid drafts) ≡ true → is_some (draft_of q cid (new ++ drafts)) ≡ true
 more_drafts q cid [] drafts h = h
-more_drafts q cid (d ∷ new) drafts h = let h1 = more_drafts q cid new drafts h in grind arith
+more_drafts q cid (d ∷ new) drafts h = grind (arith, more_drafts q cid new drafts h)
 
 submitted_is : (s : State) (e : Event) (reply : Reply) → Going s e reply → (d : DraftContents) → e ≡ events.Submit d → submitted_by e reply ≡ d ∷ []
 submitted_is s (events.Submit x) events.Accepted g d is = ap (λ (y : DraftContents). y ∷ []) (drafts_same is)

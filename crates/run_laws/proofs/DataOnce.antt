@@ -3,65 +3,31 @@ use Rattle.machine_model.specs.After as a
 use Rattle.machine_model.specs.Events as events
 use Rattle.machine_model.specs.declared.words.Refusal.TheVariants as refusals
 use Rattle.std.proofs.Common.{◌≡◌, ℕ, ◌+◌, ◌-◌, ◌≤◌, ◌==◌, Bool, true, false, ◌&&◌, ◌||◌, Option, Some, None, List, [], ◌∷◌, ◌++◌, drop, slice_get, is_some, if◌then◌else◌, refl, ap, sym, ◌∙◌, arith, subst, eqb-true, eq-eqb, inl, inr, zero, suc, ◌<◌, not, All, is_none, append-nil, append_assoc}
-use Rattle.machine_agreement.proofs.Cases.{option_is}
+use Rattle.std.{proofs.lemmas.Bool.{true≢false, and_parts, or_parts, cases_Bool, not-false}, specs.List.{AllByRecursion, list_any}}
 use Rattle.std.specs.Option.{option_map_or, option_map}
-use Rattle.std.specs.List.{AllByRecursion, list_any}
-use Rattle.std.proofs.lemmas.Bool.{true≢false, and_parts, or_parts, cases_Bool, not-false}
-use Rattle.entry_codec.specs.declared.submission.SubEntry.{SubEntry}
-use Rattle.entry_codec.specs.declared.status.TheConstants.Status.{COMMAND_ID_CONFLICT}
-use Rattle.io_commands.specs.Drafts.{DraftContents, draft_first, draft_entry, io_entry}
-use Rattle.io_commands.proofs.Spelled.{carries_entry}
-use Rattle.machine_model.specs.State.{State, DeviceQueue, Device, Record, Job, is_at, record_at, with_record, pages_of}
+use Rattle.machine_model.proofs.{Cases.option_is, Counting.{one, total}, HostLeaves.ids_of, Steps.{permitted, exact, Accepts, first_fails, rest_fails}}
+use Rattle.machine_model.specs.{After.change, Claims.OwnsFit, Events.{Event, Reply}, Image.{Made, draft_of, submitted_by}, Memory.with_pages, Opening.opening}
+use Rattle.machine_model.specs.{Proper.IsProper, Reached.{only, on_pages}}
 use Rattle.machine_model.specs.Refusals.{next_rung, job_at, conflicts, host_queue, is_submitted, is_drafted, is_live, in_state, is_of, queue_full, record_is}
 use Rattle.machine_model.specs.Standing.{unfetched_at, HasEntry, ListStands, StandsAs, CommandStands}
-use Rattle.machine_model.specs.Image.{Made, draft_of, submitted_by}
-use Rattle.machine_model.specs.Trusted.{Steps, drafts_of}
-use Rattle.run_laws.specs.Statuses.{fetches, fetches_by}
-use Rattle.machine_model.specs.Proper.{IsProper}
-use Rattle.machine_model.specs.Step.{Step}
-use Rattle.machine_model.specs.After.{change}
-use Rattle.machine_model.specs.Events.{Event, Reply}
-use Rattle.machine_model.proofs.Counting.{one}
-use Rattle.machine_model.proofs.Totals.{total}
-use Rattle.machine_agreement.proofs.Members.{all_append, all_drop_one, some_is, In, in_found, all_at_found, all_in_both, sent}
-use Rattle.machine_agreement.proofs.Unforged.{Unforged, unforged_next, unforged_run}
-use Rattle.machine_agreement.proofs.Served.{Stood, unfetched_count, page_below, data_of, chain_of, more_than_only}
-use Rattle.machine_agreement.proofs.Queues.{list_at, less_at}
-use Rattle.machine_agreement.proofs.Placements.{InHand, in_hand, first_is}
-use Rattle.machine_agreement.proofs.PlacesKept.{running_not_past, ids_of, drafted_not}
-use Rattle.machine_agreement.proofs.CommandsKept.{nobody}
-use Rattle.run_laws.proofs.Causes.{not_conflicting}
-use Rattle.run_laws.proofs.Moves.{QueueMove, queues_event, RecordsMove, records_event}
-use Rattle.run_laws.specs.Submitted.{submits, HasListOf, chains_are_the_drafts}
-use Rattle.run_laws.proofs.DataKept.{Going, one_step, stood_step, left_step, submits_far, IsOfDraft, Found, found_draft, submits_of}
-use Rattle.machine_model.proofs.Steps.{permitted, exact, Accepts}
-use Rattle.run_laws.proofs.ReadsWalked.{sent_few}
+use Rattle.machine_model.specs.{State.{State, DeviceQueue, Device, Record, Job, is_at, record_at, with_record, pages_of}, Step.Step, Trusted.{Steps, drafts_of}}
+use Rattle.machine_model.specs.{Work.Work, declared.words.{Refusal.Refusal, Work.TheVariants.{Io, Management}}}
+use Rattle.entry_codec.specs.declared.{status.TheConstants.Status.COMMAND_ID_CONFLICT, submission.SubEntry.SubEntry}
+use Rattle.io_commands.{proofs.Building.carries_entry, specs.{Asked.Request, Drafts.{DraftContents, draft_first, draft_entry, io_entry}, Requests.joined_parts}}
+use Rattle.io_commands.specs.Values.{numbers_of}
+use Rattle.run_laws.proofs.{Causes.not_conflicting, DataKept.{Going, one_step, stood_step, left_step, submits_far, IsOfDraft, Found, found_draft, submits_of}}
+use Rattle.run_laws.proofs.{Known.{unsent, same_draft}, Moves.{QueueMove, queues_event, RecordsMove, records_event}, ReadsWalked.sent_few}
+use Rattle.run_laws.specs.{Statuses.{fetches, fetches_by}, Submitted.{submits, HasListOf, chains_are_the_drafts}}
+use Rattle.two_sides.proofs.{Along.{Unforged, unforged_next, unforged_run}, Commands.{nobody, keeps_fetch, keeps_walk, keeps_complete, only_same}}
+use Rattle.two_sides.proofs.{JobLaws.{stay_after, entries_named}, NeverFull.{host_jobs, stood_on, stood_at_opening, all_of}}
+use Rattle.two_sides.proofs.PlacesKept.{InHand, in_hand, first_is, running_not_past, drafted_not}
+use Rattle.two_sides.proofs.Provided.{all_append, all_drop_one, some_is, In, in_found, all_at_found, all_in_both, sent}
+use Rattle.two_sides.proofs.Served.{Stood, unfetched_count, page_below, data_of, chain_of, more_than_only, first_read}
+use Rattle.two_sides.{proofs.{Standing.{list_at, less_at, device-posted}, TiedAll.pair_at}, specs.MachineLaws.entries_of}
 use Rattle.page_ledger.specs.Owners.{is_among}
 use Rattle.page_memory.specs.Pages.{Pages, page_at, byte_at}
-use Rattle.sgl_descriptor.specs.declared.Descriptor.{Descriptor}
-use Rattle.sgl_descriptor.specs.Spelling.{spelling, descriptor_of}
-use Rattle.sgl_chain.specs.Spells.{Spells}
-use Rattle.sgl_chain.proofs.Larger.{spells_there}
-use Rattle.io_commands.specs.Asked.{Request}
-use Rattle.io_commands.specs.Requests.{joined_parts}
-use Rattle.io_commands.specs.Values.{numbers_of}
-use Rattle.machine_model.specs.Memory.{with_pages}
-use Rattle.machine_model.specs.Work.{Work}
-use Rattle.machine_model.specs.declared.words.Work.TheVariants.{Io, Management}
-use Rattle.machine_model.specs.Reached.{only, on_pages}
-use Rattle.machine_model.specs.Claims.{OwnsFit}
-use Rattle.machine_agreement.specs.Laws.{entries_of}
-use Rattle.machine_model.specs.Opening.{opening}
-use Rattle.machine_model.specs.declared.words.Refusal.{Refusal}
-use Rattle.machine_model.proofs.Refused.{first_fails, rest_fails}
-use Rattle.machine_agreement.proofs.Placing.{device-posted}
-use Rattle.machine_agreement.proofs.Grounds.{pair_at}
-use Rattle.machine_agreement.proofs.Commanding.{keeps_fetch, keeps_walk, keeps_complete, only_same}
-use Rattle.machine_agreement.proofs.Submitting.{first_read}
-use Rattle.machine_agreement.proofs.WalksKept.{host_jobs, stood_on, stood_at_opening}
-use Rattle.machine_agreement.proofs.JobLaws.{stay_after, entries_named}
-use Rattle.machine_agreement.proofs.NeverFull.{all_of}
-use Rattle.run_laws.proofs.Known.{unsent, same_draft}
+use Rattle.sgl_descriptor.specs.{Spelling.{spelling, descriptor_of}, declared.Descriptor.Descriptor}
+use Rattle.sgl_chain.{proofs.Back.spells_there, specs.Spells.Spells}
 
 -- A command is fetched once: behind its fetch no entry of it is left to fetch.
 

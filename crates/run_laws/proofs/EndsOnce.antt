@@ -1,40 +1,17 @@
 -- Between two completions of a command it was submitted anew: from its completion on no entry and no job of it is at the controller.
-use Rattle.machine_agreement.proofs.Cases.{none_some}
+use Rattle.machine_model.{proofs.{Cases.none_some, Counting.{one, total}, Steps.Accepts, Tokens.find_sound}, specs.{Agreeing.on_queue, Events.{Event, Reply}}}
+use Rattle.machine_model.specs.{Refusals.{is_job, job_at, next_rung}, Standing.unfetched_at, State.{State, Device, Job}, declared.words.Refusal.Refusal}
 use Rattle.std.proofs.Common.{◌≡◌, ℕ, ◌<◌, ◌≤◌, ◌==◌, Bool, true, false, not, ◌&&◌, Option, Some, None, List, [], ◌∷◌, ◌++◌, filter, if◌then◌else◌, refl, ap, sym, ◌∙◌, arith, subst, eqb-true, eq-eqb, inl, inr}
-use Rattle.std.specs.Option.{option_map, option_map_or}
-use Rattle.std.specs.List.{AllByRecursion, list_any}
-use Rattle.std.proofs.lemmas.Bool.{true≢false, and_parts, cases_Bool}
-use Rattle.entry_codec.specs.declared.status.Status.{Status}
-use Rattle.entry_codec.specs.declared.submission.SubEntry.{SubEntry}
+use Rattle.std.{proofs.lemmas.Bool.{true≢false, and_parts, cases_Bool}, specs.{List.{AllByRecursion, list_any}, Option.{option_map, option_map_or}}}
+use Rattle.entry_codec.specs.declared.{status.Status.Status, submission.SubEntry.SubEntry}
 use Rattle.io_commands.specs.Drafts.{DraftContents}
-use Rattle.machine_model.specs.declared.words.Refusal.{Refusal}
-use Rattle.machine_model.specs.Agreeing.{on_queue}
-use Rattle.machine_model.specs.Standing.{unfetched_at}
-use Rattle.machine_model.specs.State.{State, Device, Job}
-use Rattle.machine_model.specs.Refusals.{is_job, job_at, next_rung}
+use Rattle.run_laws.proofs.{DataKept.{Going, left_step, along_steps}, DataOnce.{NoEntry, no_entry_step, none_next}, Moves.{JobsMove, jobs_event}}
+use Rattle.run_laws.proofs.{OneEnd.{submit_at, At, at_step}, ReadsWalked.sent_few as sent_less, Verdicts.given_job}
+use Rattle.run_laws.specs.{Ends.{submits_by, submits, commands_complete_once}, Statuses.status_by}
+use Rattle.two_sides.proofs.{Along.{cut, unforged_front}, Commands.nobody, DeviceMoves.finished, JobLaws.not_zero as positive}
+use Rattle.two_sides.proofs.{Provided.{in_found, all_at_found}, Served.{Stood, job_weight, unfetched_count}, Standing.device-answered}
 use Rattle.machine_model.specs.After as a
 use Rattle.machine_model.specs.Events as events
-use Rattle.machine_model.specs.Events.{Event, Reply}
-use Rattle.run_laws.specs.Statuses.{status_by}
-use Rattle.machine_agreement.proofs.Along.{cut}
-use Rattle.machine_agreement.proofs.CommandsKept.{nobody}
-use Rattle.machine_model.proofs.Counting.{one}
-use Rattle.machine_agreement.proofs.DeviceMoves.{finished}
-use Rattle.machine_agreement.proofs.Placing.{device-answered}
-use Rattle.machine_agreement.proofs.JobLaws.{not_zero as positive}
-use Rattle.run_laws.proofs.Moves.{JobsMove, jobs_event}
-use Rattle.machine_agreement.proofs.Members.{in_found, all_at_found}
-use Rattle.machine_model.proofs.Placed.{find_sound}
-use Rattle.machine_agreement.proofs.Served.{Stood, job_weight, unfetched_count}
-use Rattle.machine_model.proofs.Steps.{Accepts}
-use Rattle.machine_model.proofs.Totals.{total}
-use Rattle.machine_agreement.proofs.Unforged.{unforged_front}
-use Rattle.run_laws.specs.Ends.{submits_by, submits, commands_complete_once}
-use Rattle.run_laws.proofs.DataKept.{Going, left_step, along_steps}
-use Rattle.run_laws.proofs.DataOnce.{NoEntry, no_entry_step, none_next}
-use Rattle.run_laws.proofs.ReadsWalked.{sent_few as sent_less}
-use Rattle.run_laws.proofs.OneEnd.{submit_at, At, at_step}
-use Rattle.run_laws.proofs.Verdicts.{given_job}
 
 -- no job of a command is left
 abbrev IsOther : ℕ → ℕ → Job → Type 0

@@ -3,75 +3,33 @@ use Rattle.machine_model.specs.After as a
 use Rattle.machine_model.specs.Events as events
 use Rattle.machine_model.specs.declared.words.Refusal.TheVariants as refusal
 use Rattle.std.proofs.Common.{◌≡◌, ◌⊎◌, inl, inr, ℕ, ◌-◌, ◌%◌, ◌<◌, ◌==◌, Bool, true, false, ◌&&◌, ◌||◌, Option, Some, List, [], ◌∷◌, ◌++◌, length, drop, slice_get, if◌then◌else◌, refl, ap, sym, ◌∙◌, arith, subst, eqb-true, eq-eqb, zero, suc, ◌+◌, ◌≤◌, not, None, replicate, is_none, option_and_then}
-use Rattle.std.specs.Option.{option_map_or}
-use Rattle.std.specs.List.{AllByRecursion, list_any}
-use Rattle.std.proofs.lemmas.Bool.{true≢false, and_parts, or_parts, not-false, ne_eqb, cases_Bool, not-true}
-use Rattle.admin_commands.specs.Entries.{admin_entry, named_queue}
-use Rattle.admin_commands.specs.Verdicts.{is_absent}
-use Rattle.admin_commands.specs.declared.AdminKind.{AdminKind}
-use Rattle.admin_commands.specs.declared.AdminKind.TheVariants.{Abort, DeleteSq, DeleteCq, CreateCq, CreateSq}
-use Rattle.admin_commands.specs.declared.SqState.TheVariants.{Stopping}
-use Rattle.entry_codec.specs.declared.completion.ComEntry.{ComEntry}
-use Rattle.entry_codec.specs.declared.submission.SubEntry.{SubEntry}
-use Rattle.entry_codec.specs.declared.status.TheConstants.Status.{COMMAND_ID_CONFLICT, ABORTED_SQ_DELETION}
-use Rattle.entry_codec.specs.declared.admin_opcode.TheConstants.{DELETE_IO_SQ}
-use Rattle.io_commands.specs.Jobs.{is_success}
+use Rattle.std.proofs.lemmas.{Bool.{true≢false, and_parts, or_parts, not-false, ne_eqb, cases_Bool, not-true}, List.append_assoc}
+use Rattle.std.specs.{List.{AllByRecursion, list_any}, Option.option_map_or}
+use Rattle.admin_commands.specs.{Entries.{admin_entry, named_queue}, Verdicts.is_absent, declared.AdminKind.AdminKind}
+use Rattle.admin_commands.specs.declared.{AdminKind.TheVariants.{Abort, DeleteSq, DeleteCq, CreateCq, CreateSq}, SqState.TheVariants.Stopping}
+use Rattle.entry_codec.specs.declared.{admin_opcode.TheConstants.DELETE_IO_SQ, completion.ComEntry.ComEntry, status.Status.Status}
+use Rattle.entry_codec.specs.declared.{status.TheConstants.Status.{COMMAND_ID_CONFLICT, ABORTED_SQ_DELETION}, submission.SubEntry.SubEntry}
+use Rattle.io_commands.specs.{Asked.Request, Jobs.is_success, Values.numbers_of}
 use Rattle.page_memory.specs.declared.page.Half.TheVariants.{Submission, Completion}
 use Rattle.queue_pair.specs.Rings.{HostRing, next_tail, next_head, knowing}
-use Rattle.machine_model.specs.declared.words.HostState.{HostState}
-use Rattle.machine_model.specs.declared.words.HostState.TheVariants.{Live, Deleting}
-use Rattle.machine_model.specs.Agreeing.{JobKnown, Knows}
-use Rattle.machine_model.specs.State.{State, HostQueue, DeviceQueue, Job, Record, Answer, is_at, record_at, with_record, without_record, pages_of}
-use Rattle.machine_model.specs.Step.{IsController, HostPart, resets, host_part, reaped, reaped_entry}
-use Rattle.machine_model.specs.Refusals.{host_queue, next_rung, job_at, is_live, is_deleting, is_deleted, is_half_made, is_asked, in_service, queue_full, is_submitted, is_drafted, is_held, in_state, first_answer, entry_of, record_is, is_of, refusal_of}
-use Rattle.machine_model.specs.After.{change}
-use Rattle.machine_model.specs.Events.{Event, Reply}
-use Rattle.machine_model.specs.Image.{Made}
-use Rattle.run_laws.specs.Statuses.{deletes, status_by, status_given}
-use Rattle.machine_agreement.proofs.Along.{made_of, Carried}
-use Rattle.machine_model.proofs.Asked.{asked_at, was_asked}
-use Rattle.machine_model.proofs.AwaitedKept.{asked_as_heard, ring_at}
-use Rattle.run_laws.proofs.Causes.{any_longer, any_last}
-use Rattle.machine_agreement.proofs.DeviceMoves.{answer_of, finished, cleared, clears, fetch_by, complete_by}
-use Rattle.machine_agreement.proofs.Heads.{changed_at}
-use Rattle.run_laws.proofs.Moves.{JobsMove, jobs_event, queues_walk, QueueMove, queues_event, told_entry}
-use Rattle.machine_model.proofs.Lists.{all_at}
-use Rattle.machine_model.proofs.Managed.{managed_by}
-use Rattle.machine_agreement.proofs.Members.{all_at_found, In, all_in, all_in_both, all_map, all_filter, all_with, all_append, all_drop_one, sent, sent_found, some_is}
+use Rattle.machine_model.proofs.{Counting.{all_at, one, total}, HostLeaves.ids_of, Kept.{asked_as_heard, ring_at, deleted_serves}}
 use Rattle.machine_model.proofs.Moves.{host_moves, deleted_is, half_made_is, half_from, queue_found, drafted_record, sent_record, creates_cq, creates_sq}
-use Rattle.machine_model.proofs.Owned.{HoldsPart}
-use Rattle.machine_model.proofs.Placed.{gone_at, is_job}
-use Rattle.machine_model.proofs.Refused.{unrefused, first_fails, found, pages_match}
-use Rattle.machine_model.proofs.Resetting.{reset_state, all_reset, lost_by}
-use Rattle.machine_agreement.proofs.Served.{Stood, answers_at}
-use Rattle.machine_model.proofs.Steps.{Accepts, part_controller}
-use Rattle.machine_agreement.proofs.Tied.{below, deleted_is_gone}
-use Rattle.machine_agreement.proofs.TiedAll.{live_is_there}
-use Rattle.run_laws.specs.Ends.{renews_by, renews, since_renewed, submits_by, submits, WasLost, WasLostByReset}
-use Rattle.std.proofs.lemmas.List.{append_assoc}
-use Rattle.entry_codec.specs.declared.status.Status.{Status}
-use Rattle.io_commands.specs.Asked.{Request}
-use Rattle.io_commands.specs.Values.{numbers_of}
-use Rattle.machine_model.specs.Work.{Work}
-use Rattle.machine_model.specs.declared.words.Work.TheVariants.{Io}
-use Rattle.machine_model.specs.declared.words.Phase.{Phase}
-use Rattle.machine_model.specs.declared.words.Phase.TheVariants.{Held}
-use Rattle.machine_model.specs.declared.words.Refusal.{Refusal}
-use Rattle.machine_model.specs.declared.words.Reaped.TheVariants.{Empty, Rejected}
-use Rattle.machine_model.specs.Proper.{IsProper}
-use Rattle.machine_model.specs.Opening.{Opens, opening, device_queue as opened}
-use Rattle.machine_model.specs.Claims.{OwnsFit}
-use Rattle.machine_model.proofs.Counting.{one}
-use Rattle.machine_model.proofs.Totals.{total}
-use Rattle.machine_model.proofs.Halves.{deleted_serves}
-use Rattle.machine_agreement.proofs.Paired.{is_over}
-use Rattle.machine_model.proofs.Out.{named, status_in}
-use Rattle.machine_agreement.proofs.Grounds.{pair_at}
-use Rattle.machine_agreement.proofs.Queues.{list_at}
-use Rattle.machine_agreement.proofs.PlacesKept.{reaped_answer, ids_of}
-use Rattle.run_laws.proofs.ReadsKept.{Member, members}
-use Rattle.machine_agreement.proofs.WalksKept.{stood_on, stood_at_opening}
-use Rattle.run_laws.proofs.OneEnd.{opened_lists}
+use Rattle.machine_model.proofs.{Owned.{HoldsPart, reset_state, all_reset, lost_by}, Sound.{asked_at, was_asked, named, status_in}}
+use Rattle.machine_model.proofs.{Steps.{managed_by, unrefused, Accepts, part_controller, first_fails, found, pages_match}, Tokens.{gone_at, is_job}}
+use Rattle.machine_model.specs.{After.change, Agreeing.{JobKnown, Knows}, Claims.OwnsFit, Events.{Event, Reply}, Image.Made}
+use Rattle.machine_model.specs.{Opening.{Opens, opening, device_queue as opened}, Proper.IsProper}
+use Rattle.machine_model.specs.Refusals.{host_queue, next_rung, job_at, is_live, is_deleting, is_deleted, is_half_made, is_asked, in_service, queue_full, is_submitted, is_drafted, is_held, in_state, first_answer, entry_of, record_is, is_of, refusal_of}
+use Rattle.machine_model.specs.State.{State, HostQueue, DeviceQueue, Job, Record, Answer, is_at, record_at, with_record, without_record, pages_of}
+use Rattle.machine_model.specs.{Step.{IsController, HostPart, resets, host_part, reaped, reaped_entry}, Work.Work, declared.words.HostState.HostState}
+use Rattle.machine_model.specs.declared.words.{HostState.TheVariants.{Live, Deleting}, Phase.{Phase, TheVariants.Held}, Reaped.TheVariants.{Empty, Rejected}}
+use Rattle.machine_model.specs.declared.words.{Refusal.Refusal, Work.TheVariants.Io}
+use Rattle.run_laws.proofs.{Causes.{any_longer, any_last}, Moves.{JobsMove, jobs_event, queues_walk, QueueMove, queues_event, told_entry}, OneEnd.opened_lists}
+use Rattle.run_laws.{proofs.ReadsKept.{Member, members}, specs.Ends.{renews_by, renews, since_renewed, submits_by, submits, WasLost, WasLostByReset}}
+use Rattle.run_laws.specs.Statuses.{deletes, status_by, status_given}
+use Rattle.two_sides.proofs.{Along.{made_of, Carried}, DeviceMoves.{answer_of, finished, cleared, clears, fetch_by, complete_by, is_over}, Heads.changed_at}
+use Rattle.two_sides.proofs.{NeverFull.{stood_on, stood_at_opening}, PlacesKept.reaped_answer}
+use Rattle.two_sides.proofs.Provided.{all_at_found, In, all_in, all_in_both, all_map, all_filter, all_with, all_append, all_drop_one, sent, sent_found, some_is}
+use Rattle.two_sides.proofs.{Served.{Stood, answers_at}, Standing.list_at, Tied.{below, deleted_is_gone}, TiedAll.{live_is_there, pair_at}}
 
 -- A submission queue that is in service at the host and absent at the controller was deleted: a Delete SQ of it was fetched since it was last retired or asked for anew, and since the controller was last reset.
 
@@ -86,7 +44,7 @@ since_longer : (q : ℕ) (done : List Made) (m : Made) → renews q m ≡ false 
 since_longer q [] m far = ap (λ (b : Bool). if b then [] else m ∷ []) far
 since_longer q (x ∷ done) m far =
     ap (λ (b : Bool). if b then since_renewed q (done ++ m ∷ []) else if renews q x then done ++ m ∷ [] else x ∷ (done ++ m ∷ [])) (any_more (renews q) done m far)
-    ∙ let h2 = since_longer q done m far in grind arith
+    ∙ grind (arith, since_longer q done m far)
 
 -- a Delete SQ of a queue was fetched since then
 abbrev pub DeletedSince : ℕ → List Made → Type 0

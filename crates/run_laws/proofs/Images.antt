@@ -1,58 +1,38 @@
--- Images, and what Compares find in them.
+-- Images, and what Compares find in them; runs that get longer; and a draft's pages.
 use Rattle.io_commands.specs.Jobs as jobs
 use Rattle.machine_model.specs.After as a
 use Rattle.machine_model.specs.Events as events
-use Rattle.std.proofs.Common.{◌≡◌, ℕ, ◌==◌, Bool, true, false, Option, Some, None, List, [], ◌∷◌, ◌++◌, is_some, if◌then◌else◌, refl, ap, sym, ◌∙◌, arith, subst, eqb-true, append-nil, append_assoc, ◌+◌, nat_lt, not, ◌&&◌, ◌||◌, ap₂, inl, inr}
-use Rattle.std.specs.Option.{option_map_or, option_map}
-use Rattle.std.specs.Prelude.{unwrap_or}
-use Rattle.std.specs.Str.{bytes_eq}
-use Rattle.std.proofs.lemmas.Bool.{true≢false, and_parts, cases_Bool}
+use Rattle.std.proofs.Common.{◌≡◌, ℕ, ◌==◌, Bool, true, false, Option, Some, None, List, [], ◌∷◌, ◌++◌, is_some, if◌then◌else◌, refl, ap, sym, ◌∙◌, arith, subst, eqb-true, append-nil, append_assoc, ◌+◌, nat_lt, not, ◌&&◌, ◌||◌, ap₂, inl, inr, ◌≢◌, ◌*◌, ◌<◌, ◌≤◌, length, slice_set, option_and_then, eq-eqb, length-set}
+use Rattle.std.proofs.lemmas.{Bool.{true≢false, and_parts, cases_Bool, eqb-false}, List.{Elements.{All-head, All-tail}, Folds.list_any-append}}
+use Rattle.std.{proofs.lemmas.Option.slice_get-get_or, specs.{List.list_any, Option.{option_map_or, option_map}, Prelude.unwrap_or, Str.bytes_eq}}
 use Rattle.block_image.specs.Blocks.{blocks_at, with_blocks}
-use Rattle.sgl_descriptor.specs.declared.Direction.TheVariants.{Source}
-use Rattle.sgl_descriptor.specs.Spelling.{spelling}
-use Rattle.entry_codec.specs.declared.submission.SubEntry.{SubEntry}
-use Rattle.entry_codec.specs.declared.status.Status.{Status}
+use Rattle.sgl_descriptor.specs.{Spelling.spelling, declared.Direction.TheVariants.Source}
+use Rattle.entry_codec.specs.declared.{io_opcode.TheConstants.COMPARE, status.Status.Status}
 use Rattle.entry_codec.specs.declared.status.TheConstants.Status.{SUCCESS, COMPARE_FAILURE, ABORT_REQUESTED, ABORTED_SQ_DELETION, LBA_OUT_OF_RANGE}
-use Rattle.io_commands.specs.Asked.{Request}
-use Rattle.io_commands.specs.declared.request.Kind.{Kind}
-use Rattle.io_commands.specs.declared.request.Kind.TheVariants.{Read, Write, Compare}
-use Rattle.io_commands.specs.Requests.{direction_of}
-use Rattle.io_commands.specs.DataBytes.{gathered}
-use Rattle.io_commands.specs.Drafts.{DraftContents, io_entry}
-use Rattle.io_commands.specs.Jobs.{is_success, verdict_of, direction_of_entry, direction_by, kind_of_opcode, first_block, block_number}
-use Rattle.machine_model.specs.Proper.{IsProper}
-use Rattle.machine_model.specs.State.{State, Device, Job, is_at}
-use Rattle.machine_model.specs.Refusals.{refusal_of, job_at, is_job}
-use Rattle.machine_model.specs.Image.{Made, is_write, draft_of, submitted_by, written_by, succeeds, image_by, image_from}
-use Rattle.machine_model.specs.Trusted.{TrustedRun, drafts_of}
-use Rattle.run_laws.specs.Blocks.{the_image_is_the_runs, blocks_of_request, compares_tell_equality}
-use Rattle.machine_model.specs.After.{final_status}
-use Rattle.machine_model.specs.Events.{Event, Reply}
+use Rattle.entry_codec.specs.declared.submission.SubEntry.{SubEntry}
+use Rattle.io_commands.specs.{Asked.Request, DataBytes.gathered, Drafts.{DraftContents, io_entry, FitsDraft, HoldsPages, BuiltDraftsSpell}}
+use Rattle.io_commands.specs.{Jobs.{is_success, verdict_of, direction_of_entry, direction_by, kind_of_opcode, first_block, block_number}, Requests.direction_of}
+use Rattle.io_commands.specs.{Values.{IsGood, numbers_of}, declared.request.Kind.{Kind, TheVariants.{Read, Write, Compare}}}
+use Rattle.machine_model.proofs.{Cases.option_is, Counting.times-cons, HostLeaves.ids_of, Steps.{managed_by, Accepts, same_lists, permitted}}
+use Rattle.machine_model.{proofs.Tokens.{find_sound, is_job as is_job_tokens}, specs.{After.final_status, Events.{Event, Reply}}}
+use Rattle.machine_model.specs.{Image.{Made, is_write, draft_of, submitted_by, written_by, succeeds, image_by, image_from}, Memory.with_pages, Opening.opening}
+use Rattle.machine_model.specs.{Proper.{IsProper, IsPage, ArePages}, Refusals.{refusal_of, job_at, is_job}, State.{State, Device, Job, is_at}}
+use Rattle.machine_model.specs.{Status.same_status, Step.{Step, times}, Trusted.{TrustedRun, drafts_of, Steps, forges_by, is_forgery}, Weights.one}
 use Rattle.machine_model.specs.declared.words.Refusal.{Refusal}
-use Rattle.machine_model.proofs.Managed.{managed_by}
-use Rattle.machine_agreement.proofs.Placing.{device-answered}
-use Rattle.machine_model.proofs.Placed.{find_sound}
-use Rattle.machine_model.proofs.Steps.{Accepts, permitted}
-use Rattle.machine_agreement.proofs.Members.{in_found, all_at_found, some_is}
-use Rattle.machine_agreement.proofs.PlacesKept.{ids_of}
-use Rattle.machine_agreement.proofs.Served.{Stood, JobList, job_list}
-use Rattle.machine_agreement.proofs.WalksKept.{stood_on, stood_at_opening}
-use Rattle.machine_agreement.proofs.Frames.{host_image}
 use Rattle.run_laws.proofs.Causes.{goes_well, cause, CausedIfIo, has_verdict, Traced, traced_before, statuses_have_causes, compare_opcode}
 use Rattle.run_laws.proofs.Known.{OfDraft, OfDraftIfIo, JobKnown, RecordKnown, Known, known_on, all_carried}
-use Rattle.machine_agreement.proofs.DeviceMoves.{fetch_by, walk_by}
-use Rattle.machine_agreement.proofs.Along.{Carried, AtOpenings, Before, keeps, made_of, run_along, run_before}
-use Rattle.machine_agreement.proofs.Cases.{option_is}
-use Rattle.std.specs.List.{list_any}
-use Rattle.entry_codec.specs.declared.io_opcode.TheConstants.{COMPARE}
-use Rattle.io_commands.specs.Values.{IsGood}
-use Rattle.machine_model.specs.Status.{same_status}
-use Rattle.machine_model.specs.Step.{Step}
+use Rattle.run_laws.specs.{Blocks.{the_image_is_the_runs, blocks_of_request, compares_tell_equality}, Built.{built_drafts_spell_in_store, LieIn, AreDistinct}}
 use Rattle.run_laws.specs.Statuses.{status_by, aborts, deletes, since_fetch, has_cause, is_compare}
-use Rattle.machine_model.proofs.Refused.{same_lists}
-use Rattle.machine_agreement.proofs.Entered.{good_is}
-use Rattle.machine_agreement.proofs.JobLaws.{not_zero as positive}
 use Rattle.run_laws.specs.Walked.{compares_by_their_drafts, compare_failures_are_of_compares}
+use Rattle.two_sides.proofs.Along.{Carried, AtOpenings, Before, keeps, made_of, run_along, run_before, unforged_run, trusted_end}
+use Rattle.two_sides.proofs.{DeviceMoves.{fetch_by, walk_by}, JobLaws.not_zero as positive, NeverFull.{stood_on, stood_at_opening}}
+use Rattle.two_sides.proofs.{PoolBytes.{host_image, trusted_or_reset, unforged_step}, Provided.{in_found, all_at_found, some_is}}
+use Rattle.two_sides.proofs.{Served.{Stood, JobList, job_list, good_is}, Standing.device-answered}
+use Rattle.two_sides.specs.Histories.{openings_have_histories, steps_make_histories}
+use Rattle.sgl_chain.specs.Spells.{Holds}
+use Rattle.page_memory.{proofs.Bytes.{byte_in, slice_get-set_other, slice_get-set_same}, specs.Pages.{Pages, page_at, byte_at}}
+
+-- Images, and what Compares find in them.
 
 -- The image of a run is the opening's, changed by the writes that succeeded.
 
@@ -389,7 +369,7 @@ told_by_draft drafts s q cid j d stood known at latest kind = elim (cases_Bool (
 ]
   where
     its_queue : j.q ≡ q
-    its_queue = eqb-true j.q q (and_parts (j.q == q) (j.entry.cid == cid) (find_sound (is_job q cid) s.device.jobs j at)).0
+    its_queue = eqb-true j.q q (and_parts (j.q == q) (j.entry.cid == cid) (find_sound (is_job_tokens q cid) s.device.jobs j at)).0
 
     no_draft : None ≡ Some d → ⊥
     no_draft e = cc
@@ -410,7 +390,7 @@ pub failures_of_compares : compare_failures_are_of_compares
 failures_of_compares image earlier later m end q cid run io status =
     let b = (imaged_before image earlier later m end run).holds in
     let x = completed_job m.before m.event m.reply q cid COMPARE_FAILURE status in
-    let ids = and_parts (x.0.q == q) (x.0.entry.cid == cid) (find_sound (is_job q cid) m.before.device.jobs x.0 x.1) in
+    let ids = and_parts (x.0.q == q) (x.0.entry.cid == cid) (find_sound (is_job_tokens q cid) m.before.device.jobs x.0 x.1) in
     let other : (x.0.q == 0) ≡ false = ap (λ (n : ℕ). n == 0) (eqb-true x.0.q q ids.0) ∙ positive q io in
     let k = job_draft (drafts_of earlier) m.before q cid x.0 b.stood b.known other x.1 in
     let opcode : (x.0.entry.opcode == COMPARE) ≡ true =
@@ -419,3 +399,85 @@ failures_of_compares image earlier later m end q cid run io status =
       k.latest,
       ap (λ (r : Request). r.kind) k.of.asked ∙ compare_kind x.0.entry.opcode k.list.request.kind opcode k.kind,
     )
+
+-- A run is made longer by one step.
+
+steps_more : (s : State) (made : List Made) (mid : State) (e : Event) (reply : Reply) (new : State) → Steps s made mid → Step mid e reply new
+    → Steps s (made ++ record { before = mid; event = e; reply = reply } ∷ []) new
+steps_more s [] mid e reply new steps step = (steps, new, subst (λ (x : State). Step x e reply new) steps step, refl)
+steps_more s (m ∷ made) mid e reply new steps step = (steps.0, steps.1, steps.2, steps_more steps.1 made mid e reply new steps.3 step)
+
+unforged_more : (made : List Made) (s : State) (e : Event) (reply : Reply) → list_any is_forgery made ≡ false → forges_by e reply ≡ false
+    → not (list_any is_forgery (made ++ record { before = s; event = e; reply = reply } ∷ [])) ≡ true
+unforged_more made s e reply none far =
+    ap not (list_any-append is_forgery made (record { before = s; event = e; reply = reply } ∷ []) ∙ ap₂ (λ (x y : Bool). x || (y || false)) none far)
+
+pub histories_open : openings_have_histories
+histories_open pages queues n s image opens bytes = record {
+  image = image;
+  made = [];
+  run = record { pages = pages; queues = queues; entries = n; segment = s; opens = opens; is_image = bytes; steps = refl; unforged = refl };
+}
+
+pub histories_grow : steps_make_histories
+histories_grow old e reply new step trusted = (
+  trusted_or_reset old e reply new step trusted,
+  λ h. record {
+    image = h.image;
+    made = h.made ++ record { before = old; event = e; reply = reply } ∷ [];
+    run = record {
+      pages = h.run.pages;
+      queues = h.run.queues;
+      entries = h.run.entries;
+      segment = h.run.segment;
+      opens = h.run.opens;
+      is_image = h.run.is_image;
+      steps = steps_more (opening h.run.pages h.run.queues h.run.entries h.run.segment h.image) h.made old e reply new h.run.steps step;
+      unforged = unforged_more h.made old e reply (unforged_run h.image h.made old h.run).none (unforged_step old e reply new step (trusted_end h.image h.made old h.run) trusted);
+    };
+  },
+)
+
+-- A built draft's pages, brought in.
+
+-- a page that is not brought in stays
+page_stays : (pages : List (ℕ × List ℕ)) (m : Pages) (p : ℕ) → times p (numbers_of pages) ≡ 0 → page_at (with_pages pages m) p ≡ page_at m p
+page_stays [] m p none = refl
+page_stays (page ∷ more) m p none = elim (cases_Bool (page.0 == p)) [
+  | inl e ↦ let here : one (page.0 == p) ≡ 1 = ap one e in absurd (omega (arith, parts))
+  | inr e ↦
+      let ih = page_stays more (slice_set m page.0 (Some page.1)) p in
+      let other : p ≢ page.0 = λ same. eqb-false page.0 p e (sym same) in
+      ih (omega (arith, parts)) ∙ ap (option_and_then (λ slot. slot)) (slice_get-set_other m page.0 p (Some page.1) other)
+]
+  where
+    parts : one (page.0 == p) + times p (numbers_of more) ≡ 0
+    parts = sym (times-cons p page.0 (numbers_of more)) ∙ none
+
+-- a page that is in stands in memory
+stands : (m : Pages) (p : ℕ) (page : List ℕ) → page_at m p ≡ Some page → length page ≡ 4096 → Holds (byte_at m) (4096 * p) page
+stands m p page found whole k lt = byte_in m p k page found (omega (arith, whole)) ∙ slice_get-get_or page k 0 lt
+
+brought_in : (pages : List (ℕ × List ℕ)) (m : Pages) → AreDistinct (numbers_of pages) → LieIn (length m) (numbers_of pages) → ArePages pages → HoldsPages (byte_at (with_pages pages m)) pages
+brought_in [] m distinct low whole = tt
+brought_in (page ∷ more) m distinct low whole =
+    let m' = slice_set m page.0 (Some page.1) in
+    let once : one (page.0 == page.0) + times page.0 (numbers_of more) ≤ 1 = omega (arith, distinct page.0, times-cons page.0 page.0 (numbers_of more)) in
+    let mine : one (page.0 == page.0) ≡ 1 = ap one (eq-eqb page.0 page.0 refl) in
+    let below : page.0 < length m = All-head (λ p. p < length m) page.0 (numbers_of more) low in
+    let there : page_at (slice_set m page.0 (Some page.1)) page.0 ≡ Some page.1 = ap (option_and_then (λ slot. slot)) (slice_get-set_same m page.0 (Some page.1) below) in
+    let longer : length (slice_set m page.0 (Some page.1)) ≡ length m = length-set m page.0 (Some page.1) in (
+      stands (with_pages more m') page.0 page.1 (page_stays more m' page.0 (omega (arith, once, mine)) ∙ there) (All-head (λ page. IsPage page.1) page more whole),
+      brought_in more m' (λ p. omega (arith, distinct p, times-cons p page.0 (numbers_of more)))
+          (subst (λ (n : ℕ). LieIn n (numbers_of more)) (sym longer) (All-tail (λ p. p < length m) page.0 (numbers_of more) low))
+          (All-tail (λ page. IsPage page.1) page more whole),
+    )
+
+pub built_in_store : BuiltDraftsSpell → built_drafts_spell_in_store
+built_in_store law d entry pages h e few low_data low_chain distinct =
+    let fits : FitsDraft d = record {
+      request = h.request;
+      data_pages = λ k p lt. omega (arith, low_data k p lt, few);
+      chain_pages = λ k p lt. omega (arith, low_chain k p lt, few);
+    } in
+    law d entry h.draft fits e (byte_at (with_pages d.chain_pages pages)) (brought_in d.chain_pages pages distinct low_chain h.chain_pages)

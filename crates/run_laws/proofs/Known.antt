@@ -2,69 +2,31 @@
 use Rattle.machine_model.specs.After as a
 use Rattle.machine_model.specs.Events as events
 use Rattle.std.proofs.Common.{◌≡◌, ℕ, zero, suc, ◌+◌, ◌≤◌, ◌==◌, Bool, true, false, ◌&&◌, Option, Some, None, List, [], ◌∷◌, ◌++◌, length, take, replicate, nat_eq, if◌then◌else◌, refl, ap, sym, ◌∙◌, arith, subst, eqb-true, eq-eqb, inl, inr, nat_lt, not, ◌||◌, slice_get, is_none}
-use Rattle.std.specs.Option.{option_map_or}
-use Rattle.std.specs.List.{AllByRecursion}
-use Rattle.std.specs.Cmp.Lexicographic.{pointwise}
-use Rattle.std.proofs.lemmas.Bool.{true≢false, and_parts, or_left, or_right, cases_Bool}
-use Rattle.std.proofs.lemmas.List.Elements.{All-head, All-tail}
+use Rattle.std.proofs.lemmas.{Bool.{true≢false, and_parts, or_left, or_right, cases_Bool}, List.{length-replicate, Elements.{All-head, All-tail}}}
+use Rattle.std.specs.{Cmp.Lexicographic.pointwise, List.AllByRecursion, Option.option_map_or}
 use Rattle.page_ledger.specs.Owners.{is_among}
 use Rattle.page_memory.specs.Pages.{Pages, page_at}
-use Rattle.sgl_descriptor.specs.declared.Direction.{Direction}
-use Rattle.sgl_descriptor.specs.declared.Direction.TheVariants.{Destination, Source}
-use Rattle.sgl_descriptor.specs.Spelling.{spelling, descriptor_of}
-use Rattle.controller_walk.specs.Units.{units, Act, Course, Closes, Does, first_passing}
+use Rattle.sgl_descriptor.{proofs.Counts.length-targets, specs.{Spelling.{spelling, descriptor_of}, Targets.{Target, Place, targets}}}
+use Rattle.sgl_descriptor.specs.declared.{Direction.{Direction, TheVariants.{Destination, Source}}, Part.Part}
+use Rattle.controller_walk.{proofs.Along.{list_moves_along, list_moves_all}, specs.{Along.{taken, MovesByte}, Laws.after_units}}
+use Rattle.controller_walk.specs.{Units.{units, Act, Course, Closes, Does, first_passing}, Walks.answer}
+use Rattle.entry_codec.specs.declared.status.{Status.Status, TheConstants.Status.{INVALID_OPCODE, INVALID_FIELD, INVALID_NAMESPACE, LBA_OUT_OF_RANGE}}
 use Rattle.entry_codec.specs.declared.submission.SubEntry.{SubEntry}
-use Rattle.entry_codec.specs.declared.status.Status.{Status}
-use Rattle.io_commands.specs.Asked.{Request}
-use Rattle.io_commands.specs.Requests.{direction_of, parts_of}
-use Rattle.io_commands.specs.DataBytes.{PagesOut, gathered}
-use Rattle.io_commands.specs.Drafts.{DraftContents}
-use Rattle.io_commands.specs.Values.{numbers_of}
+use Rattle.io_commands.specs.{Asked.Request, DataBytes.{PagesOut, gathered}, Drafts.DraftContents}
 use Rattle.io_commands.specs.Jobs.{need_of_entry, direction_of_entry, is_success, verdict_of, io_fault, bytes_after_check, first_bytes, direction_by, kind_of_opcode, block_number, first_block}
-use Rattle.machine_model.specs.Proper.{IsProper, IsPage, ArePages}
-use Rattle.machine_model.specs.Memory.{with_pages, memory_of}
-use Rattle.machine_model.specs.Work.{Work}
-use Rattle.machine_model.specs.declared.words.Work.TheVariants.{Io, Management}
-use Rattle.machine_model.specs.State.{State, Record, Job, record_at, pages_of, with_record, is_at}
+use Rattle.io_commands.specs.{Requests.{direction_of, parts_of}, Values.numbers_of, declared.request.Kind.{Kind, TheVariants.{Read, Write, Compare}}}
+use Rattle.machine_model.proofs.{Cases.none_some, Counting.{held_once, all_at}, HostLeaves.ids_of, Moves.{draft_found, draft_lives, posts, posted_is}}
+use Rattle.machine_model.{proofs.{Owned.in_record, Steps.{Accepts, pages_match, same_lists}}, specs.{After.course_of, Claims.OwnsFit, Events.{Event, Reply}}}
+use Rattle.machine_model.specs.{Image.{draft_of, submitted_by}, Memory.{with_pages, memory_of}, Proper.{IsProper, IsPage, ArePages}}
 use Rattle.machine_model.specs.Refusals.{is_submitted, is_drafted, refusal_of, is_of, asks_for}
-use Rattle.machine_model.specs.Image.{draft_of, submitted_by}
-use Rattle.machine_model.specs.After.{course_of}
-use Rattle.machine_model.specs.Events.{Event, Reply}
-use Rattle.machine_model.specs.Weights.{one, total, sent}
-use Rattle.machine_model.proofs.Counting.{held_once}
-use Rattle.machine_model.proofs.Steps.{Accepts}
-use Rattle.machine_model.proofs.Refused.{pages_match, same_lists}
-use Rattle.machine_model.proofs.Owned.{in_record}
-use Rattle.machine_agreement.proofs.Members.{In, sent_found, in_at, all_at_found, some_is}
-use Rattle.machine_agreement.proofs.Elsewhere.{owned_once}
-use Rattle.machine_agreement.proofs.Grounds.{Grounds}
-use Rattle.machine_agreement.proofs.Untouched.{untouched}
-use Rattle.machine_agreement.proofs.PlacesKept.{ids_of, drafted_not}
-use Rattle.machine_agreement.proofs.Submitting.{requests_same}
-use Rattle.machine_agreement.proofs.Entered.{entry_direction, good_is}
-use Rattle.machine_agreement.proofs.Served.{Stood, counts_sent, data_of, JobList, job_list, same_list, course_in, CourseWhole, course_whole}
-use Rattle.machine_agreement.proofs.CommandsAll.{walk_writes_to, Walking}
-use Rattle.run_laws.proofs.Causes.{goes_well}
+use Rattle.machine_model.specs.{State.{State, Record, Job, record_at, pages_of, with_record, is_at}, Weights.{one, total, sent}, Work.Work}
+use Rattle.machine_model.specs.declared.words.Work.TheVariants.{Io, Management}
+use Rattle.two_sides.proofs.{Commands.{walk_writes_to, Walking, submitted_pages}, JobLaws.stay_after as lists_stay, PlacesKept.drafted_not}
+use Rattle.two_sides.proofs.Provided.{In, sent_found, in_at, all_at_found, some_is}
+use Rattle.two_sides.proofs.Served.{requests_same, entry_direction, Stood, counts_sent, data_of, good_is, JobList, job_list, same_list, course_in, CourseWhole, course_whole}
+use Rattle.two_sides.proofs.{TiedAll.Grounds, Untouched.{owned_once, untouched}}
 use Rattle.run_laws.proofs.Carrying.{carried, did, carried_more, carried_same, MovesTo, moves_to, carried_length, carried_byte, Stands, Gathers, IsPlace, gathers_pieces, all_stand, none_discarded, source_places}
-use Rattle.run_laws.proofs.Moves.{RecordsMove, records_event, JobsMove, jobs_event, walked_bytes}
-use Rattle.machine_model.proofs.Moves.{draft_found, draft_lives, posts, posted_is}
-use Rattle.machine_agreement.proofs.CommandsKept.{submitted_pages}
-use Rattle.machine_agreement.proofs.Cases.{none_some}
-use Rattle.std.proofs.lemmas.List.{length-replicate}
-use Rattle.sgl_descriptor.specs.declared.Part.{Part}
-use Rattle.sgl_descriptor.specs.Targets.{Target, Place, targets}
-use Rattle.sgl_descriptor.proofs.Counts.{length-targets}
-use Rattle.controller_walk.specs.Walks.{answer}
-use Rattle.controller_walk.specs.Laws.{after_units}
-use Rattle.controller_walk.specs.Along.{taken, MovesByte}
-use Rattle.controller_walk.proofs.Along.{list_moves_along}
-use Rattle.controller_walk.proofs.All.{list_moves_all}
-use Rattle.entry_codec.specs.declared.status.TheConstants.Status.{INVALID_OPCODE, INVALID_FIELD, INVALID_NAMESPACE, LBA_OUT_OF_RANGE}
-use Rattle.io_commands.specs.declared.request.Kind.{Kind}
-use Rattle.io_commands.specs.declared.request.Kind.TheVariants.{Read, Write, Compare}
-use Rattle.machine_model.specs.Claims.{OwnsFit}
-use Rattle.machine_model.proofs.Lists.{all_at}
-use Rattle.machine_agreement.proofs.JobLaws.{stay_after as lists_stay}
+use Rattle.run_laws.proofs.{Causes.goes_well, Moves.{RecordsMove, records_event, JobsMove, jobs_event, walked_bytes}}
 
 -- What is known of source commands: their data pages hold what their drafts gathered, and their jobs carry it.
 

@@ -9,11 +9,14 @@ pub mod DataLaws
 pub mod Images
 pub mod Walked
 pub mod Accepted
-pub mod Built
 pub mod Moves
 pub mod Causes
-pub mod Histories
 pub mod Carrying
 pub mod Known
 pub mod ReadsKept
 pub mod ReadsWalked
+pub mod Standing
+pub mod KeptValues
+pub mod Filled
+pub mod DraftsStand
+pub mod WorkedBench

@@ -4,47 +4,27 @@ use Rattle.machine_model.specs.Events as events
 use Rattle.machine_model.specs.declared.words.RejectedFor.TheVariants as rejected
 use Rattle.machine_model.specs.declared.words.Reaped.TheVariants as reaped
 use Rattle.std.proofs.Common.{filter, ◌≡◌, is_some, ap, ℕ, ◌+◌, ◌==◌, Bool, true, false, not, ◌&&◌, Option, Some, None, List, [], ◌∷◌, ◌++◌, map, slice_get, is_none, if◌then◌else◌, refl, sym, ◌∙◌, subst, inl, inr, arith, zero, suc, ◌-◌, length, drop}
-use Rattle.machine_agreement.proofs.Cases.{option_is}
-use Rattle.std.specs.Option.{option_map_or}
-use Rattle.std.specs.List.{AllByRecursion}
-use Rattle.std.proofs.lemmas.Bool.{true≢false, and_parts, cases_Bool}
-use Rattle.admin_commands.specs.Entries.{named_queue, named_command, admin_entry}
+use Rattle.std.{proofs.lemmas.Bool.{true≢false, and_parts, cases_Bool}, specs.{List.AllByRecursion, Option.option_map_or}}
+use Rattle.machine_model.proofs.{Cases.option_is, Counting.all_at, Moves.{host_moves, creates_cq, creates_sq, named, status_in, drafted_record, sent_record}}
+use Rattle.machine_model.{proofs.{Owned.{all_reset, lost_by}, Steps.{Accepts, managed_by, part_controller}}, specs.Events.{Event, Reply}}
+use Rattle.machine_model.specs.Refusals.{next_rung, job_at, is_job, fetch_slot, is_submitted, is_drafted, is_of}
+use Rattle.machine_model.specs.State.{State, Job, DeviceQueue, Record, is_at, record_at, without_record}
+use Rattle.machine_model.specs.{Step.{IsController, HostPart, reaped, reaped_as, reaped_entry, submitted_at, fits_ring}, Work.Work}
+use Rattle.machine_model.specs.declared.words.{Phase.TheVariants.{Drafted, Held}, Work.TheVariants.Io}
+use Rattle.admin_commands.specs.{Entries.{named_queue, named_command, admin_entry}, declared.AdminKind.{AdminKind, TheVariants.{Abort, DeleteSq, DeleteCq}}}
+use Rattle.admin_commands.specs.declared.SqState.TheVariants.{Absent, Stopping}
 use Rattle.controller_walk.specs.Units.{Act}
 use Rattle.sgl_descriptor.specs.declared.Direction.{Direction}
-use Rattle.entry_codec.specs.declared.submission.SubEntry.{SubEntry}
-use Rattle.entry_codec.specs.declared.status.Status.{Status}
-use Rattle.entry_codec.specs.declared.status.TheConstants.Status.{SUCCESS, ABORT_REQUESTED, ABORTED_SQ_DELETION}
-use Rattle.io_commands.specs.Jobs.{is_success, verdict_of, io_fault, bytes_after_check, direction_of_entry}
-use Rattle.machine_model.specs.State.{State, Job, DeviceQueue, Record, is_at, record_at, without_record}
-use Rattle.machine_model.specs.Refusals.{next_rung, job_at, is_job, fetch_slot, is_submitted, is_drafted, is_of}
-use Rattle.machine_model.specs.Events.{Event, Reply}
-use Rattle.machine_agreement.proofs.HeadsAll.{no_conflict, no_conflict as not_conflicting}
-use Rattle.machine_agreement.proofs.Placements.{in_hand}
-use Rattle.machine_model.proofs.Steps.{Accepts, part_controller}
-use Rattle.machine_agreement.proofs.Members.{all_indexed, all_map, all_filter, all_append, only_found, In, all_in, all_with}
-use Rattle.machine_model.proofs.Lists.{all_at}
-use Rattle.machine_agreement.proofs.Served.{Stood}
-use Rattle.machine_agreement.proofs.CommandsAll.{Walking, walking}
-use Rattle.machine_agreement.proofs.WalksKept.{one_job}
-use Rattle.machine_agreement.proofs.Frames.{host_jobs}
-use Rattle.machine_agreement.proofs.DeviceMoves.{unit_bytes, unit_done, walk_is, fetch_by, complete_by, answers, answer_of, finished, cleared, walk_by}
-use Rattle.machine_model.proofs.Managed.{managed_by}
-use Rattle.admin_commands.specs.declared.SqState.TheVariants.{Absent, Stopping}
-use Rattle.admin_commands.specs.declared.AdminKind.TheVariants.{Abort, DeleteSq, DeleteCq}
-use Rattle.admin_commands.specs.declared.AdminKind.{AdminKind}
-use Rattle.io_commands.specs.Drafts.{DraftContents}
-use Rattle.queue_pair.specs.Members.{change}
-use Rattle.machine_agreement.proofs.Queues.{list_at, all_list}
-use Rattle.machine_model.proofs.Moves.{host_moves, creates_cq, creates_sq, named, status_in, drafted_record, sent_record}
+use Rattle.entry_codec.specs.declared.{completion.ComEntry.ComEntry, status.Status.Status}
+use Rattle.entry_codec.specs.declared.{status.TheConstants.Status.{SUCCESS, ABORT_REQUESTED, ABORTED_SQ_DELETION}, submission.SubEntry.SubEntry}
+use Rattle.io_commands.specs.{Asked.Request, Drafts.DraftContents, Jobs.{is_success, verdict_of, io_fault, bytes_after_check, direction_of_entry}}
 use Rattle.io_commands.specs.Values.{numbers_of}
-use Rattle.io_commands.specs.Asked.{Request}
-use Rattle.machine_model.specs.declared.words.Work.TheVariants.{Io}
-use Rattle.machine_model.specs.declared.words.Phase.TheVariants.{Drafted, Held}
-use Rattle.machine_model.specs.Step.{IsController, HostPart, reaped, reaped_as, reaped_entry, submitted_at, fits_ring}
-use Rattle.machine_agreement.proofs.Grounds.{Grounds}
-use Rattle.machine_model.proofs.Resetting.{all_reset, lost_by}
-use Rattle.entry_codec.specs.declared.completion.ComEntry.{ComEntry}
-use Rattle.machine_model.specs.Work.{Work}
+use Rattle.two_sides.proofs.Commands.{Walking, walking}
+use Rattle.two_sides.proofs.DeviceMoves.{unit_bytes, unit_done, walk_is, fetch_by, complete_by, answers, answer_of, finished, cleared, walk_by}
+use Rattle.two_sides.proofs.{Heads.{no_conflict, no_conflict as not_conflicting}, NeverFull.one_job, PlacesKept.in_hand, PoolBytes.host_jobs}
+use Rattle.two_sides.proofs.{Provided.{all_indexed, all_map, all_filter, all_append, only_found, In, all_in, all_with}, Served.Stood}
+use Rattle.two_sides.proofs.{Standing.{list_at, all_list}, TiedAll.Grounds}
+use Rattle.queue_pair.specs.Members.{change}
 
 -- What each event does to the controller's jobs, one by one: an Abort and a deletion mark only jobs that have no verdict, and the job of an admin command is of the entry that was next.
 

@@ -3,72 +3,34 @@ use Rattle.machine_model.specs.After as a
 use Rattle.machine_model.specs.Events as events
 use Rattle.machine_model.specs.declared.words.Refusal.TheVariants as refusal
 use Rattle.std.proofs.Common.{◌≡◌, ◌⊎◌, inl, inr, ℕ, zero, suc, ◌-◌, ◌<◌, ◌≤◌, false, Some, List, [], ◌∷◌, ◌++◌, length, drop, slice_get, replicate, refl, ap, sym, arith, subst, ◌+◌, ◌==◌, nat_lt, nat_le, Bool, true, not, ◌&&◌, Option, None, is_some, is_none, option_and_then, if◌then◌else◌, ◌∙◌, eq-eqb, ◌||◌, eqb-true, map}
-use Rattle.std.proofs.lemmas.Bool.{eqb-false, true≢false, and_parts, not-false, cases_Bool}
+use Rattle.std.proofs.lemmas.{Bool.{eqb-false, true≢false, and_parts, not-false, cases_Bool, Decides.nat_tests}, List.append_assoc}
+use Rattle.std.specs.{List.{AllByRecursion, list_any}, Option.{option_map_or, option_map}}
+use Rattle.queue_pair.{proofs.Rings.{distance_below, distance_grows, distance_is}, specs.Rings.{HostRing, next_tail, next_head, knowing, fresh_host_ring}}
 use Rattle.queue_pair.specs.Slots.{next_slot, distance, is_full, moved, is_in_range}
-use Rattle.queue_pair.specs.Rings.{HostRing, next_tail, next_head, knowing, fresh_host_ring}
-use Rattle.queue_pair.proofs.Order.{distance_below, distance_grows, distance_is}
-use Rattle.machine_model.specs.Opening.{device_queue as opened, Opens, opening}
-use Rattle.machine_model.specs.Positions.{IsInRing}
-use Rattle.machine_model.specs.State.{HostQueue, DeviceQueue, Answer, State, Record, is_at, record_at, pages_of, with_record}
-use Rattle.machine_model.specs.After.{change}
-use Rattle.machine_agreement.proofs.Heads.{changed_at, head_at}
-use Rattle.machine_agreement.proofs.Cases.{option_is}
-use Rattle.std.specs.Option.{option_map_or, option_map}
-use Rattle.std.proofs.lemmas.Bool.Decides.{nat_tests}
-use Rattle.admin_commands.specs.Entries.{admin_entry, named_queue}
-use Rattle.admin_commands.specs.declared.AdminKind.TheVariants.{Abort, DeleteSq, DeleteCq}
-use Rattle.admin_commands.specs.declared.SqState.TheVariants.{Stopping}
-use Rattle.entry_codec.specs.declared.submission.SubEntry.{SubEntry}
-use Rattle.entry_codec.specs.declared.completion.ComEntry.{ComEntry}
-use Rattle.entry_codec.specs.declared.status.Status.{Status}
-use Rattle.io_commands.specs.Jobs.{is_success}
-use Rattle.machine_model.specs.Work.{Work}
-use Rattle.machine_model.specs.declared.words.Work.TheVariants.{Io, Management}
-use Rattle.machine_model.specs.Claims.{OwnsFit}
-use Rattle.machine_model.specs.Proper.{IsProper}
-use Rattle.machine_model.specs.Refusals.{is_submitted, host_queue, device_queue, next_rung, job_at, first_answer, entry_of, queue_full, fetch_slot, in_service, is_reaped, is_held, record_is, seen_entry}
-use Rattle.machine_model.specs.Step.{HostPart, reaped, reaped_as, reaped_entry, submitted_at, fits_ring, IsController, Step, finished_from, asked_by, pages_with_bytes}
-use Rattle.machine_model.specs.Events.{Event, Reply}
-use Rattle.machine_model.specs.declared.words.HostState.TheVariants.{Live, Deleting}
-use Rattle.machine_model.specs.declared.words.Reaped.TheVariants.{Empty, Done, AdminDone, Rejected}
-use Rattle.machine_model.specs.declared.words.RejectedFor.TheVariants.{WrongQueue, BadHead, UnknownId}
-use Rattle.machine_model.specs.Image.{Made}
-use Rattle.machine_model.specs.Trusted.{TrustedRun, Steps}
-use Rattle.machine_model.proofs.Counting.{one}
-use Rattle.machine_model.proofs.Totals.{total}
-use Rattle.machine_model.proofs.Steps.{Accepts, part_controller, permitted}
-use Rattle.machine_model.proofs.Managed.{managed_by}
-use Rattle.machine_agreement.proofs.DeviceMoves.{answers, answer_of, finished, cleared, fetch_by, complete_by}
-use Rattle.machine_model.proofs.Lists.{get_other}
-use Rattle.machine_model.proofs.Refused.{unrefused, first_fails, found}
-use Rattle.page_memory.specs.declared.page.Half.TheVariants.{Submission, Completion}
-use Rattle.machine_agreement.proofs.Standing.{seen_trusted}
-use Rattle.machine_agreement.proofs.Members.{sent_found, all_at_found, some_is, all_of}
-use Rattle.machine_agreement.proofs.Along.{along_proper, made_of, Carried, Before, keeps, cut, each_proper_step, trusted_step_by, before_step}
-use Rattle.machine_model.proofs.Emptied.{no_answers_at, no_unfetched}
-use Rattle.machine_agreement.proofs.Grounds.{Grounds, ring_in, pair_at}
-use Rattle.machine_agreement.proofs.Served.{Stood, answers_at}
-use Rattle.machine_agreement.proofs.PlacesKept.{ids_of}
-use Rattle.machine_agreement.proofs.Placements.{in_hand}
-use Rattle.run_laws.proofs.Moves.{queues_walk, RecordsMove, records_event}
-use Rattle.machine_agreement.proofs.WalksKept.{stood_on, stood_at_opening}
-use Rattle.machine_agreement.proofs.HeadsAll.{no_conflict}
-use Rattle.machine_agreement.proofs.Unforged.{trusted_end, Unforged, unforged_next, unforged_front, unforged_back, unforged_run}
-use Rattle.run_laws.specs.Ends.{answers_of, front, reaps_answer_the_front, nothing_conflicts, submits_by, submits, ends_by, ends_are_told_once, commands_are_collected_once, submitted_commands_end_once}
+use Rattle.machine_model.proofs.{Cases.option_is, Counting.{one, total, get_other}, HostLeaves.ids_of}
 use Rattle.machine_model.proofs.Moves.{host_moves, queue_known, sends, half_from, creates_cq, creates_sq, IsHeard, answer_heard}
-use Rattle.std.specs.List.{AllByRecursion, list_any}
-use Rattle.io_commands.specs.Drafts.{DraftContents}
-use Rattle.machine_model.specs.declared.words.Phase.{Phase}
-use Rattle.machine_model.specs.declared.words.Phase.TheVariants.{Drafted, Submitted, Held, Collected}
-use Rattle.machine_model.proofs.Out.{reaped_submitted, named}
-use Rattle.std.proofs.lemmas.List.{append_assoc}
-use Rattle.entry_codec.specs.declared.status.TheConstants.Status.{ABORTED_SQ_DELETION}
-use Rattle.io_commands.specs.Values.{FinishedContents}
-use Rattle.machine_model.specs.declared.words.Refusal.{Refusal}
-use Rattle.machine_model.specs.Memory.{without_pages}
-use Rattle.machine_model.proofs.Placed.{find_sound}
-use Rattle.machine_model.proofs.Resetting.{all_reset, lost_quiet}
-use Rattle.machine_agreement.proofs.JobLaws.{not_zero as positive}
+use Rattle.machine_model.proofs.{Owned.{all_reset, lost_quiet}, Sound.{reaped_submitted, named}}
+use Rattle.machine_model.proofs.{Steps.{Accepts, part_controller, permitted, managed_by, unrefused, first_fails, found}, Tokens.find_sound}
+use Rattle.machine_model.{proofs.TokensKept.{no_answers_at, no_unfetched}, specs.{After.change, Claims.OwnsFit, Events.{Event, Reply}, Image.Made}}
+use Rattle.machine_model.specs.{Memory.without_pages, Opening.{device_queue as opened, Opens, opening}, Positions.IsInRing, Proper.IsProper}
+use Rattle.machine_model.specs.Refusals.{is_submitted, host_queue, device_queue, next_rung, job_at, first_answer, entry_of, queue_full, fetch_slot, in_service, is_reaped, is_held, record_is, seen_entry}
+use Rattle.machine_model.specs.State.{HostQueue, DeviceQueue, Answer, State, Record, is_at, record_at, pages_of, with_record}
+use Rattle.machine_model.specs.Step.{HostPart, reaped, reaped_as, reaped_entry, submitted_at, fits_ring, IsController, Step, finished_from, asked_by, pages_with_bytes}
+use Rattle.machine_model.specs.{Trusted.{TrustedRun, Steps}, Work.Work, declared.words.{HostState.TheVariants.{Live, Deleting}, Phase.Phase}}
+use Rattle.machine_model.specs.declared.words.{Phase.TheVariants.{Drafted, Submitted, Held, Collected}, Reaped.TheVariants.{Empty, Done, AdminDone, Rejected}}
+use Rattle.machine_model.specs.declared.words.{Refusal.Refusal, RejectedFor.TheVariants.{WrongQueue, BadHead, UnknownId}, Work.TheVariants.{Io, Management}}
+use Rattle.two_sides.proofs.Along.{along_proper, trusted_end, made_of, Carried, Unforged, unforged_next, unforged_front, unforged_back, unforged_run, Before, keeps, cut, each_proper_step, trusted_step_by, before_step}
+use Rattle.two_sides.proofs.{DeviceMoves.{answers, answer_of, finished, cleared, fetch_by, complete_by}, Heads.{changed_at, head_at, no_conflict}}
+use Rattle.two_sides.proofs.{JobLaws.not_zero as positive, NeverFull.{stood_on, stood_at_opening}, PlacesKept.in_hand}
+use Rattle.two_sides.proofs.{Provided.{sent_found, all_at_found, some_is, all_of}, Served.{Stood, answers_at}, Standing.seen_trusted}
+use Rattle.two_sides.proofs.TiedAll.{Grounds, ring_in, pair_at}
+use Rattle.admin_commands.specs.{Entries.{admin_entry, named_queue}, declared.{AdminKind.TheVariants.{Abort, DeleteSq, DeleteCq}, SqState.TheVariants.Stopping}}
+use Rattle.entry_codec.specs.declared.{completion.ComEntry.ComEntry, status.{Status.Status, TheConstants.Status.ABORTED_SQ_DELETION}}
+use Rattle.entry_codec.specs.declared.submission.SubEntry.{SubEntry}
+use Rattle.io_commands.specs.{Drafts.DraftContents, Jobs.is_success, Values.FinishedContents}
+use Rattle.page_memory.specs.declared.page.Half.TheVariants.{Submission, Completion}
+use Rattle.run_laws.proofs.Moves.{queues_walk, RecordsMove, records_event}
+use Rattle.run_laws.specs.Ends.{answers_of, front, reaps_answer_the_front, nothing_conflicts, submits_by, submits, ends_by, ends_are_told_once, commands_are_collected_once, submitted_commands_end_once}
 
 -- The heads that the answers of a queue tell never come back: each is as near to the tail as the one before it, the first as the head that the host knows, and what is not fetched is nearer than all.
 
@@ -408,7 +370,7 @@ runs_have_no_conflicts image made s q run = elim (option_is (next_rung s q)) [
 
 -- a head between the known head and the tail is in range
 near_tail : (n known head tail : ℕ) → known < n → head < n → tail < n → distance n head tail ≤ distance n known tail → distance n known head ≤ distance n known tail
-near_tail n known head tail k h t le = let h0 = distance_is n head tail in let h1 = distance_is n known tail in let h2 = distance_is n known head in grind arith
+near_tail n known head tail k h t le = grind (arith, distance_is n head tail, distance_is n known tail, distance_is n known head)
 
 in_range : (n known head tail : ℕ) → head < n → distance n known head ≤ distance n known tail → is_in_range n known tail head ≡ true
 in_range n known head tail h le = both (nat_lt head n) (nat_le (distance n known head) (distance n known tail)) (below head n h) (grind (arith, nat_tests, le))

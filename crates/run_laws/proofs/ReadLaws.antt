@@ -1,59 +1,32 @@
 -- The laws of ends and of Reads.
 use Rattle.machine_model.specs.declared.words.Refusal.TheVariants as refusal
 use Rattle.machine_model.specs.Events as events
-use Rattle.std.proofs.Common.{◌≡◌, ◌⊎◌, inl, inr, ℕ, ◌==◌, nat_lt, Bool, true, false, not, ◌&&◌, ◌||◌, Option, Some, None, List, [], ◌∷◌, ◌++◌, option_and_then, refl, ap, ap₂, sym, ◌∙◌, arith, subst, eqb-true, zero, suc, length, replicate, if◌then◌else◌, eq-eqb, append_assoc}
-use Rattle.std.specs.Option.{option_map_or, option_map}
-use Rattle.std.specs.List.{list_any, AllByRecursion}
-use Rattle.std.proofs.lemmas.Bool.{true≢false, and_parts, not-false, or_parts, or_left, or_right, not-true}
-use Rattle.std.proofs.lemmas.Bool.Decides.{nat_tests}
-use Rattle.std.proofs.lemmas.List.{length-replicate}
-use Rattle.entry_codec.specs.declared.completion.ComEntry.{ComEntry}
-use Rattle.entry_codec.specs.declared.status.Status.{Status}
+use Rattle.std.proofs.Common.{◌≡◌, ◌⊎◌, inl, inr, ℕ, ◌==◌, nat_lt, Bool, true, false, not, ◌&&◌, ◌||◌, Option, Some, None, List, [], ◌∷◌, ◌++◌, option_and_then, refl, ap, ap₂, sym, ◌∙◌, arith, subst, eqb-true, zero, suc, length, replicate, if◌then◌else◌, eq-eqb}
+use Rattle.std.proofs.lemmas.Bool.{true≢false, and_parts, not-false, or_parts, or_left, or_right, not-true, Decides.nat_tests}
+use Rattle.std.{proofs.lemmas.List.{append_assoc, length-replicate}, specs.{List.{list_any, AllByRecursion}, Option.{option_map_or, option_map}}}
+use Rattle.entry_codec.specs.declared.{completion.ComEntry.ComEntry, status.Status.Status}
 use Rattle.entry_codec.specs.declared.status.TheConstants.Status.{SUCCESS, ABORT_REQUESTED, ABORTED_SQ_DELETION, LBA_OUT_OF_RANGE, COMPARE_FAILURE}
-use Rattle.io_commands.specs.Jobs.{is_success}
-use Rattle.io_commands.specs.Values.{FinishedContents, numbers_of}
-use Rattle.machine_model.specs.Status.{same_status}
-use Rattle.machine_model.specs.Work.{Work}
-use Rattle.machine_model.specs.declared.words.Work.TheVariants.{Io, Management}
-use Rattle.machine_model.specs.declared.words.Phase.{Phase}
-use Rattle.machine_model.specs.declared.words.Reaped.TheVariants.{Empty, Done}
-use Rattle.machine_model.specs.Claims.{OwnsFit}
-use Rattle.machine_model.specs.State.{State, Record, is_at, record_at, pages_of}
-use Rattle.machine_model.specs.Refusals.{is_submitted, is_held, record_is, entry_of, refusal_of}
-use Rattle.machine_model.specs.Step.{Step, reaped_entry, finished_from, asked_by, pages_with_bytes}
-use Rattle.machine_model.specs.Events.{Event, Reply}
-use Rattle.machine_model.specs.Image.{Made, draft_of, image_after, undiscarded}
-use Rattle.machine_model.specs.Trusted.{TrustedRun, drafts_of}
-use Rattle.run_laws.specs.Statuses.{aborts, deletes, since_fetch, passes_image, is_compare, fetches}
-use Rattle.machine_model.proofs.Steps.{Accepts, permitted}
-use Rattle.machine_model.proofs.Refused.{first_fails, rest_fails}
-use Rattle.run_laws.proofs.Causes.{statuses_have_causes}
-use Rattle.machine_agreement.proofs.JobLaws.{not_zero as positive}
-use Rattle.run_laws.proofs.Moves.{told_entry}
-use Rattle.machine_model.proofs.Out.{named, status_in}
-use Rattle.machine_agreement.proofs.Members.{all_at_found, some_is}
-use Rattle.machine_agreement.proofs.PlacesKept.{reaped_answer, ids_of}
-use Rattle.run_laws.specs.Ends.{retires_by, WasCompleted, WasLost, WasLostByReset, CauseOfEnd, Succeeded, Aborted, Stopped, Lost, LostByReset, PastImage, Differed, ends_come_from_completions, retired_queues_were_deleted, collects_tell_how_commands_ended, every_collect_has_its_cause}
-use Rattle.machine_agreement.proofs.Along.{Before, keeps, run_before}
+use Rattle.io_commands.specs.{Asked.Request, DataBytes.{PagesOut, gathered}, Drafts.DraftContents, Jobs.is_success, Requests.parts_of}
+use Rattle.io_commands.specs.{Values.{FinishedContents, numbers_of}, declared.request.Kind.TheVariants.Read}
+use Rattle.machine_model.proofs.{Cases.option_is, HostLeaves.ids_of, Sound.{named, status_in}, Steps.{Accepts, permitted, first_fails, rest_fails}}
+use Rattle.machine_model.specs.{Claims.OwnsFit, Events.{Event, Reply}, Image.{Made, draft_of, image_after, undiscarded}}
+use Rattle.machine_model.specs.{Refusals.{is_submitted, is_held, record_is, entry_of, refusal_of}, State.{State, Record, is_at, record_at, pages_of}}
+use Rattle.machine_model.specs.{Status.same_status, Step.{Step, reaped_entry, finished_from, asked_by, pages_with_bytes}, Trusted.{TrustedRun, drafts_of}}
+use Rattle.machine_model.specs.{Work.Work, declared.words.{Phase.Phase, Reaped.TheVariants.{Empty, Done}, Work.TheVariants.{Io, Management}}}
+use Rattle.run_laws.proofs.{Carrying.{Gathers, Stands, gathers_pieces, all_stand, some_stand}, Causes.statuses_have_causes}
 use Rattle.run_laws.proofs.EndsTold.{DeletedSince, CompletedIn, EndedIn, AnswerTold, HeldTold, Told, told_carried, told_at_opening, deleted_before, first_told}
-use Rattle.machine_agreement.proofs.Cases.{option_is}
+use Rattle.run_laws.proofs.{Images.imaged_before, Moves.told_entry}
+use Rattle.run_laws.proofs.ReadsKept.{Images, fetched_in, read_targets, read_blocks, ReadSoFar, ReadIfIo, ReadRecord, Member, members, sized_of, targets_length, blocks_length}
+use Rattle.run_laws.proofs.ReadsWalked.{ReadsSo, images_of, images_append, reads_before}
+use Rattle.run_laws.specs.Blocks.{collected_of, is_read, blocks_of_request, partly, reads_give_their_blocks, stopped_reads_give_a_prefix}
+use Rattle.run_laws.specs.Ends.{retires_by, WasCompleted, WasLost, WasLostByReset, CauseOfEnd, Succeeded, Aborted, Stopped, Lost, LostByReset, PastImage, Differed, ends_come_from_completions, retired_queues_were_deleted, collects_tell_how_commands_ended, every_collect_has_its_cause}
+use Rattle.run_laws.specs.Statuses.{aborts, deletes, since_fetch, passes_image, is_compare, fetches}
+use Rattle.two_sides.proofs.{Along.{Before, keeps, run_before}, JobLaws.not_zero as positive, PlacesKept.reaped_answer, Provided.{all_at_found, some_is}}
+use Rattle.two_sides.proofs.Served.{good_is, Stood}
 use Rattle.page_ledger.specs.Owners.{is_among}
 use Rattle.block_image.specs.Blocks.{blocks_at}
 use Rattle.page_memory.specs.Pages.{Pages, page_at}
-use Rattle.sgl_descriptor.specs.declared.Direction.TheVariants.{Destination}
-use Rattle.sgl_descriptor.specs.Targets.{targets}
-use Rattle.io_commands.specs.Asked.{Request}
-use Rattle.io_commands.specs.declared.request.Kind.TheVariants.{Read}
-use Rattle.io_commands.specs.Requests.{parts_of}
-use Rattle.io_commands.specs.DataBytes.{PagesOut, gathered}
-use Rattle.io_commands.specs.Drafts.{DraftContents}
-use Rattle.run_laws.specs.Blocks.{collected_of, is_read, blocks_of_request, partly, reads_give_their_blocks, stopped_reads_give_a_prefix}
-use Rattle.machine_agreement.proofs.Entered.{good_is}
-use Rattle.machine_agreement.proofs.Served.{Stood}
-use Rattle.run_laws.proofs.Images.{imaged_before}
-use Rattle.run_laws.proofs.Carrying.{Gathers, Stands, gathers_pieces, all_stand, some_stand}
-use Rattle.run_laws.proofs.ReadsKept.{Images, fetched_in, read_targets, read_blocks, ReadSoFar, ReadIfIo, ReadRecord, Member, members, sized_of, targets_length, blocks_length}
-use Rattle.run_laws.proofs.ReadsWalked.{ReadsSo, images_of, images_append, reads_before}
+use Rattle.sgl_descriptor.specs.{Targets.targets, declared.Direction.TheVariants.Destination}
 
 -- How commands end, in each trusted run.
 

@@ -3,74 +3,35 @@ use Rattle.machine_model.specs.After as a
 use Rattle.machine_model.specs.Events as events
 use Rattle.io_commands.specs.Jobs as jobs
 use Rattle.std.proofs.Common.{◌≡◌, ℕ, suc, ◌+◌, ◌%◌, ◌<◌, ◌≤◌, ◌==◌, Bool, true, false, not, ◌||◌, Some, List, [], ◌∷◌, length, take, slice_get, if◌then◌else◌, refl, ap, sym, ◌∙◌, arith, subst, inl, inr, ◌*◌, ◌/◌, nat_lt, ◌&&◌, Option, None, ◌++◌, drop, is_some, is_none, eqb-true, eq-eqb}
-use Rattle.std.specs.Option.{option_and_then, option_map_or, option_map}
-use Rattle.std.specs.List.{AllByRecursion}
-use Rattle.std.proofs.lemmas.Bool.{true≢false, cases_Bool, and_parts, and_from}
+use Rattle.std.{proofs.lemmas.{Bool.{true≢false, cases_Bool, and_parts, and_from, Decides.nat_tests}, Grind.common_steps}, specs.List.AllByRecursion}
+use Rattle.std.specs.{Option.{option_and_then, option_map_or, option_map}, Prelude.unwrap_or}
 use Rattle.page_ledger.specs.Owners.{is_among}
 use Rattle.block_image.specs.Blocks.{blocks_at}
-use Rattle.page_memory.specs.Memory.{page_of}
-use Rattle.page_memory.specs.Pages.{Pages, page_at, byte_at}
+use Rattle.page_memory.specs.{Memory.page_of, Pages.{Pages, page_at, byte_at}}
+use Rattle.sgl_descriptor.{proofs.Counts.length-targets, specs.{Spelling.spelling, Targets.{Target, Place, targets, counted_in}, declared.Direction.Direction}}
 use Rattle.sgl_descriptor.specs.declared.Direction.TheVariants.{Destination}
-use Rattle.sgl_descriptor.specs.Targets.{Target, Place, targets, counted_in}
-use Rattle.controller_walk.specs.Units.{units, Course, first_passing}
+use Rattle.controller_walk.{proofs.Along.list_moves_all, specs.{Along.MovesByte, Units.{units, Course, first_passing}}}
+use Rattle.entry_codec.specs.declared.status.{Status.Status, TheConstants.Status.{SUCCESS, INVALID_OPCODE, INVALID_FIELD, INVALID_NAMESPACE, LBA_OUT_OF_RANGE}}
 use Rattle.entry_codec.specs.declared.submission.SubEntry.{SubEntry}
-use Rattle.entry_codec.specs.declared.status.Status.{Status}
-use Rattle.io_commands.specs.Asked.{Request}
-use Rattle.io_commands.specs.declared.request.Kind.TheVariants.{Read}
-use Rattle.io_commands.specs.Requests.{parts_of, direction_of}
-use Rattle.io_commands.specs.Drafts.{DraftContents, io_entry}
-use Rattle.io_commands.specs.Values.{numbers_of}
+use Rattle.io_commands.{proofs.Building.carries_entry, specs.{Asked.Request, Drafts.{DraftContents, io_entry}}}
 use Rattle.io_commands.specs.Jobs.{is_success, verdict_of, io_fault, bytes_after_check, need_of_entry, direction_of_entry, direction_by, kind_of_opcode, first_block, block_number}
-use Rattle.machine_model.specs.Work.{Work}
-use Rattle.machine_model.specs.declared.words.Work.TheVariants.{Io, Management}
-use Rattle.machine_model.specs.Claims.{OwnsFit}
-use Rattle.machine_model.specs.State.{State, Record, Job, Answer, is_at, record_at, pages_of, DeviceQueue}
+use Rattle.io_commands.specs.{Requests.{parts_of, direction_of}, Values.numbers_of, declared.request.Kind.{Kind, TheVariants.Read}}
+use Rattle.machine_model.proofs.{Cases.none_some, Counting.{held_once, all_at}, Owned.{in_record, in_queue}, Steps.{Accepts, pages_match}, Tokens.find_sound}
+use Rattle.machine_model.specs.{After.{course_of, final_status}, Agreeing.unfetched_count, Claims.OwnsFit, Events.{Event, Reply}}
+use Rattle.machine_model.specs.{Image.{draft_of, submitted_by}, Memory.memory_of, Proper.IsProper}
 use Rattle.machine_model.specs.Refusals.{is_submitted, is_held, is_drafted, next_rung, refusal_of, job_at, is_job}
-use Rattle.machine_model.specs.Image.{draft_of, submitted_by}
-use Rattle.run_laws.specs.Statuses.{fetches_by}
 use Rattle.machine_model.specs.Standing.{IsSized, StandsAs, CommandStands, unfetched_at, HasEntry}
-use Rattle.machine_model.specs.After.{course_of, final_status}
-use Rattle.machine_model.specs.Events.{Event, Reply}
-use Rattle.machine_model.proofs.Counting.{held_once}
-use Rattle.machine_model.specs.Weights.{total, one}
-use Rattle.machine_model.proofs.Steps.{Accepts}
-use Rattle.machine_model.proofs.Owned.{in_record, in_queue}
-use Rattle.machine_model.proofs.Placed.{find_sound}
-use Rattle.machine_agreement.proofs.Members.{In, in_at, in_found, is_found, all_at_found, all_in, all_drop_one, all_append, sent_found, some_is}
-use Rattle.machine_model.proofs.Lists.{all_at}
-use Rattle.machine_agreement.proofs.Elsewhere.{owned_once, among_counts}
-use Rattle.machine_agreement.proofs.Grounds.{Grounds}
-use Rattle.machine_agreement.proofs.Untouched.{Kept, untouched_kept}
-use Rattle.machine_agreement.proofs.Entered.{good_is, entry_direction, parts_count}
-use Rattle.machine_agreement.proofs.Served.{Stood, data_of, JobList, job_list, course_whole}
-use Rattle.machine_agreement.proofs.Queues.{list_at}
-use Rattle.machine_agreement.proofs.CommandsAll.{Walking, walk_writes}
-use Rattle.run_laws.proofs.Causes.{goes_well, none_found, has_verdict}
+use Rattle.machine_model.specs.{State.{State, Record, Job, Answer, is_at, record_at, pages_of, DeviceQueue}, Weights.{total, one}, Work.Work}
+use Rattle.machine_model.specs.declared.words.{Phase.Phase, Work.TheVariants.{Io, Management}}
 use Rattle.run_laws.proofs.Carrying.{Stands, reach, target_in, list_ordered, all_reached, Received, received_still}
-use Rattle.run_laws.proofs.Moves.{takes, JobsMove, jobs_event, begun_job, QueueMove, queues_event}
-use Rattle.machine_agreement.proofs.Cases.{none_some}
-use Rattle.std.specs.Prelude.{unwrap_or}
-use Rattle.std.proofs.lemmas.Bool.Decides.{nat_tests}
-use Rattle.std.proofs.lemmas.Grind.{common_steps}
-use Rattle.sgl_descriptor.specs.declared.Direction.{Direction}
-use Rattle.sgl_descriptor.specs.Spelling.{spelling}
-use Rattle.sgl_descriptor.proofs.Counts.{length-targets}
-use Rattle.controller_walk.specs.Along.{MovesByte}
-use Rattle.controller_walk.proofs.All.{list_moves_all}
-use Rattle.entry_codec.specs.declared.status.TheConstants.Status.{SUCCESS, INVALID_OPCODE, INVALID_FIELD, INVALID_NAMESPACE, LBA_OUT_OF_RANGE}
-use Rattle.io_commands.specs.declared.request.Kind.{Kind}
-use Rattle.io_commands.proofs.Spelled.{carries_entry}
-use Rattle.machine_model.specs.Proper.{IsProper}
-use Rattle.machine_model.specs.Memory.{memory_of}
-use Rattle.machine_model.specs.declared.words.Phase.{Phase}
-use Rattle.machine_agreement.proofs.PlacesKept.{running_not_past}
-use Rattle.machine_agreement.proofs.Placements.{InHand, in_hand, first_is}
-use Rattle.machine_model.proofs.Refused.{pages_match}
-use Rattle.machine_agreement.proofs.Commanding.{in_hand_is}
-use Rattle.machine_model.specs.Agreeing.{unfetched_count}
-use Rattle.machine_agreement.proofs.HeadsAll.{no_conflict as not_conflicting}
-use Rattle.run_laws.proofs.Images.{entry_kind, entry_block, entry_blocks}
+use Rattle.run_laws.proofs.{Causes.{goes_well, none_found, has_verdict}, Images.{entry_kind, entry_block, entry_blocks}}
 use Rattle.run_laws.proofs.Known.{same_draft, submit_record, course_stays, fault_fails}
+use Rattle.run_laws.{proofs.Moves.{takes, JobsMove, jobs_event, begun_job, QueueMove, queues_event}, specs.Statuses.fetches_by}
+use Rattle.two_sides.proofs.{Commands.{Walking, walk_writes, in_hand_is}, Heads.no_conflict as not_conflicting}
+use Rattle.two_sides.proofs.PlacesKept.{running_not_past, InHand, in_hand, first_is}
+use Rattle.two_sides.proofs.Provided.{In, in_at, in_found, is_found, all_at_found, all_in, all_drop_one, all_append, sent_found, some_is}
+use Rattle.two_sides.proofs.{Served.{good_is, Stood, data_of, entry_direction, parts_count, JobList, job_list, course_whole}, Standing.list_at, TiedAll.Grounds}
+use Rattle.two_sides.proofs.Untouched.{owned_once, among_counts, Kept, untouched_kept}
 
 -- What is known of Reads: so many of their blocks' bytes stand in their data pages, and the draft's own behind them.
 

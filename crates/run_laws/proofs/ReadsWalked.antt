@@ -3,78 +3,36 @@ use Rattle.machine_model.specs.After as a
 use Rattle.machine_model.specs.Events as events
 use Rattle.machine_model.specs.declared.words.Reaped.TheVariants as outcome
 use Rattle.std.proofs.Common.{◌≡◌, ℕ, zero, suc, ◌+◌, ◌/◌, ◌%◌, ◌<◌, ◌≤◌, ◌==◌, Bool, true, false, ◌&&◌, Some, None, List, [], ◌∷◌, length, take, drop, slice_get, if◌then◌else◌, refl, ap, sym, ◌∙◌, arith, subst, eqb-true, eq-eqb, inl, inr, nat_eq, ◌||◌, Option, ◌++◌}
-use Rattle.machine_agreement.proofs.Cases.{option_is}
-use Rattle.std.specs.Option.{option_and_then, option_map_or}
-use Rattle.std.specs.List.{AllByRecursion}
-use Rattle.std.proofs.lemmas.Bool.{true≢false, and_parts, and_from, eqb-false, cases_Bool}
-use Rattle.std.proofs.lemmas.Grind.{common_steps}
+use Rattle.std.{proofs.lemmas.{Bool.{true≢false, and_parts, and_from, eqb-false, cases_Bool}, Grind.common_steps}, specs.Cmp.Lexicographic.pointwise}
+use Rattle.std.specs.{List.AllByRecursion, Option.{option_and_then, option_map_or}}
+use Rattle.machine_model.proofs.{Cases.option_is, Counting.times-append, HostLeaves.ids_of, Moves.{named, status_in}, Owned.in_record, Sound.reaped_submitted}
+use Rattle.machine_model.{proofs.{Steps.{Accepts, pages_match, same_lists}, Tokens.find_sound}, specs.After.course_of}
+use Rattle.machine_model.specs.{Agreeing.{on_queue, is_out_of_service_at as past_at, unfetched_count, job_weight, answers_at}, Events.{Event, Reply}}
+use Rattle.machine_model.specs.{Image.{Made, submitted_by}, Memory.{memory_of, with_pages}, Proper.IsProper}
+use Rattle.machine_model.specs.Refusals.{is_submitted, refusal_of, job_at, is_job, is_drafted, is_held, is_of, asks_for, entry_of, first_answer, device_queue}
+use Rattle.machine_model.specs.{Standing.unfetched_at, State.{State, DeviceQueue, Record, Job, is_at, Answer, record_at, with_record}}
+use Rattle.machine_model.specs.{Step.{reaped, reaped_entry}, Trusted.{TrustedRun, drafts_of}, Weights.{one, total, here, sent}, Work.Work}
+use Rattle.machine_model.specs.declared.words.{Phase.{Phase, TheVariants.Held}, Refusal.Refusal, Work.TheVariants.{Io, Management}}
 use Rattle.page_ledger.specs.Owners.{is_among}
 use Rattle.page_memory.specs.Pages.{Pages, page_at, with_bytes, with_page_bytes}
-use Rattle.sgl_descriptor.specs.declared.Direction.{Direction}
-use Rattle.sgl_descriptor.specs.declared.Direction.TheVariants.{Destination}
-use Rattle.sgl_descriptor.specs.Spelling.{spelling, descriptor_of}
-use Rattle.sgl_descriptor.specs.Targets.{Target, Place, targets}
-use Rattle.controller_walk.specs.Units.{Act, Stays, Reads, Moves, Course, Closes, Does, units}
-use Rattle.controller_walk.specs.Along.{MovesByte, taken}
-use Rattle.controller_walk.proofs.Along.{list_moves_along}
-use Rattle.controller_walk.proofs.All.{list_moves_all}
-use Rattle.controller_walk.specs.declared.walk.WalkState.{WalkState}
+use Rattle.sgl_descriptor.specs.{Spelling.{spelling, descriptor_of}, Targets.{Target, Place, targets}, declared.Direction.{Direction, TheVariants.Destination}}
+use Rattle.controller_walk.{proofs.Along.{list_moves_along, list_moves_all}, specs.Along.{MovesByte, taken}}
+use Rattle.controller_walk.specs.{Units.{Act, Stays, Reads, Moves, Course, Closes, Does, units}, declared.walk.WalkState.WalkState}
+use Rattle.entry_codec.specs.declared.{completion.ComEntry.ComEntry, status.{Status.Status, TheConstants.Status.ABORTED_SQ_DELETION}}
 use Rattle.entry_codec.specs.declared.submission.SubEntry.{SubEntry}
-use Rattle.io_commands.specs.Asked.{Request}
-use Rattle.io_commands.specs.declared.request.Kind.TheVariants.{Read}
-use Rattle.io_commands.specs.Requests.{parts_of, direction_of}
-use Rattle.io_commands.specs.Drafts.{DraftContents}
-use Rattle.io_commands.specs.Jobs.{need_of_entry, direction_of_entry, is_success}
-use Rattle.machine_model.specs.Memory.{memory_of, with_pages}
-use Rattle.machine_model.specs.declared.words.Work.TheVariants.{Io, Management}
-use Rattle.machine_model.specs.State.{State, DeviceQueue, Record, Job, is_at, Answer, record_at, with_record}
-use Rattle.machine_model.specs.Refusals.{is_submitted, refusal_of, job_at, is_job, is_drafted, is_held, is_of, asks_for, entry_of, first_answer, device_queue}
-use Rattle.machine_model.specs.Standing.{unfetched_at}
-use Rattle.machine_model.specs.After.{course_of}
-use Rattle.machine_model.specs.Events.{Event, Reply}
-use Rattle.machine_model.specs.Weights.{one, total, here, sent}
-use Rattle.machine_model.proofs.Counting.{times-append}
-use Rattle.machine_model.proofs.Steps.{Accepts}
-use Rattle.machine_model.proofs.Owned.{in_record}
-use Rattle.machine_model.proofs.Placed.{find_sound}
-use Rattle.machine_model.specs.Agreeing.{on_queue, is_out_of_service_at as past_at, unfetched_count, job_weight, answers_at}
-use Rattle.machine_agreement.proofs.Members.{In, in_found, all_in, all_at_found, some_is, all_of, all_in_both}
-use Rattle.machine_agreement.proofs.Elsewhere.{owned_once, bytes_elsewhere}
-use Rattle.machine_agreement.proofs.Grounds.{Grounds}
-use Rattle.machine_agreement.proofs.CommandsKept.{nobody, no_job}
-use Rattle.machine_agreement.proofs.Entered.{entry_direction, good_is}
-use Rattle.machine_agreement.proofs.Served.{Stood, course_in, course_whole}
-use Rattle.machine_agreement.proofs.Queues.{list_at}
-use Rattle.machine_agreement.proofs.CommandsAll.{Walking, walking}
-use Rattle.run_laws.proofs.Causes.{goes_well, Traced, traced_carried, event_keeps}
+use Rattle.io_commands.specs.{Asked.Request, Drafts.DraftContents, Jobs.{need_of_entry, direction_of_entry, is_success}, Requests.{parts_of, direction_of}}
+use Rattle.io_commands.specs.{Values.numbers_of, declared.request.Kind.TheVariants.Read}
+use Rattle.two_sides.proofs.{Along.{Carried, Before, keeps, made_of, run_before}, Commands.{nobody, Walking, walking, no_job}}
+use Rattle.two_sides.proofs.{DeviceMoves.{unit_memory, walk_is}, NeverFull.stood_at_opening, PlacesKept.{drafted_not, reaped_answer}, PoolBytes.host_jobs}
+use Rattle.two_sides.proofs.Provided.{In, in_found, all_in, all_at_found, some_is, all_of, all_in_both}
+use Rattle.two_sides.proofs.{Served.{entry_direction, good_is, Stood, course_in, course_whole, requests_same}, Standing.list_at, TiedAll.Grounds}
+use Rattle.two_sides.proofs.Untouched.{owned_once, bytes_elsewhere}
 use Rattle.run_laws.proofs.Carrying.{MoveTo, MovesTo, moves_to, length_with, reach, reach_more, came, list_ordered, next_above, below_reached, targets_differ, Received, received_more, set_there as set, Stands}
+use Rattle.run_laws.proofs.{Causes.{goes_well, Traced, traced_carried, event_keeps}, Images.{walk_image, drafts_more}}
 use Rattle.run_laws.proofs.Known.{course_stays, over_units, page_found, unsent, submitted_stand}
-use Rattle.run_laws.proofs.Images.{walk_image, drafts_more}
 use Rattle.run_laws.proofs.Moves.{JobsMove, jobs_event, walked, walked_bytes, queues_walk, QueueMove, queues_event, RecordsMove, records_event, takes, told_entry}
 use Rattle.run_laws.proofs.ReadsKept.{Images, read_targets, read_blocks, Reading, ReadingIf, UnreadEntry, FullAnswer, ReadSoFar, Member, sized_of, queue_of, fetched_in, Full, InImage, ReadIfIo, ReadRecord, members, job_request, quiet_on}
-use Rattle.machine_agreement.proofs.DeviceMoves.{unit_memory, walk_is}
-use Rattle.std.specs.Cmp.Lexicographic.{pointwise}
-use Rattle.entry_codec.specs.declared.completion.ComEntry.{ComEntry}
-use Rattle.entry_codec.specs.declared.status.Status.{Status}
-use Rattle.entry_codec.specs.declared.status.TheConstants.Status.{ABORTED_SQ_DELETION}
-use Rattle.io_commands.specs.Values.{numbers_of}
-use Rattle.machine_model.specs.Proper.{IsProper}
-use Rattle.machine_model.specs.Work.{Work}
-use Rattle.machine_model.specs.declared.words.Phase.{Phase}
-use Rattle.machine_model.specs.declared.words.Phase.TheVariants.{Held}
-use Rattle.machine_model.specs.Image.{Made, submitted_by}
-use Rattle.machine_model.specs.Trusted.{TrustedRun, drafts_of}
 use Rattle.run_laws.specs.Statuses.{fetches_by}
-use Rattle.machine_model.specs.Step.{reaped, reaped_entry}
-use Rattle.machine_model.specs.declared.words.Refusal.{Refusal}
-use Rattle.machine_model.proofs.Refused.{pages_match, same_lists}
-use Rattle.machine_model.proofs.Moves.{named, status_in}
-use Rattle.machine_model.proofs.Out.{reaped_submitted}
-use Rattle.machine_agreement.proofs.PlacesKept.{ids_of, drafted_not, reaped_answer}
-use Rattle.machine_agreement.proofs.Submitting.{requests_same}
-use Rattle.machine_agreement.proofs.Frames.{host_jobs}
-use Rattle.machine_agreement.proofs.Along.{Carried, Before, keeps, made_of, run_before}
-use Rattle.machine_agreement.proofs.WalksKept.{stood_at_opening}
 
 -- The walk of a Read brings it further.
 

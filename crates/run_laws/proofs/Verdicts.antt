@@ -3,59 +3,29 @@ use Rattle.io_commands.specs.Jobs as jobs
 use Rattle.machine_model.specs.Events as events
 use Rattle.machine_model.specs.After as a
 use Rattle.std.proofs.Common.{◌≡◌, ◌⊎◌, inl, inr, ℕ, ◌==◌, Bool, true, false, not, ◌&&◌, Option, Some, None, List, [], ◌∷◌, ◌++◌, if◌then◌else◌, refl, ap, ap₂, sym, ◌∙◌, subst, eqb-true, eq-eqb, unwrap_or, ◌+◌, ◌/◌, ◌%◌, map, filter, find, take, drop, is_some, is_none, ◌||◌}
-use Rattle.std.specs.Option.{option_map, option_map_or}
-use Rattle.std.specs.List.{AllByRecursion, list_any}
-use Rattle.std.specs.Str.{bytes_eq}
-use Rattle.std.proofs.lemmas.Bool.{true≢false, and_parts, not-true, cases_Bool}
-use Rattle.std.proofs.lemmas.List.{append_assoc}
+use Rattle.std.{proofs.lemmas.{Bool.{true≢false, and_parts, not-true, cases_Bool}, List.append_assoc}, specs.List.{AllByRecursion, list_any}}
+use Rattle.std.specs.{Option.{option_map, option_map_or}, Str.bytes_eq}
 use Rattle.block_image.specs.Blocks.{blocks_at}
-use Rattle.entry_codec.specs.declared.io_opcode.TheConstants.{COMPARE}
-use Rattle.entry_codec.specs.declared.status.Status.{Status}
+use Rattle.entry_codec.specs.{Completion.{completion_bytes, completion_of}, Submission.{submission_bytes, submission_of}}
+use Rattle.entry_codec.specs.declared.{admin_opcode.TheConstants.DELETE_IO_SQ, io_opcode.TheConstants.COMPARE, status.Status.Status}
 use Rattle.entry_codec.specs.declared.status.TheConstants.Status.{SUCCESS, COMPARE_FAILURE, COMMAND_ID_CONFLICT, ABORT_REQUESTED, ABORTED_SQ_DELETION}
 use Rattle.entry_codec.specs.declared.submission.SubEntry.{SubEntry}
-use Rattle.io_commands.specs.declared.request.Kind.{Kind}
+use Rattle.io_commands.specs.{Jobs.{is_success, kind_of_opcode, first_block, block_number, verdict_of, direction_of_entry}, declared.request.Kind.Kind}
 use Rattle.io_commands.specs.declared.request.Kind.TheVariants.{Read, Write, Compare}
-use Rattle.io_commands.specs.Jobs.{is_success, kind_of_opcode, first_block, block_number, verdict_of, direction_of_entry}
-use Rattle.machine_model.specs.Opening.{opening}
-use Rattle.machine_model.specs.State.{State, Job, Device}
-use Rattle.machine_model.specs.Refusals.{job_at, next_rung, conflicts, refusal_of}
-use Rattle.machine_model.specs.After.{final_status}
-use Rattle.machine_model.specs.Events.{Event, Reply}
-use Rattle.machine_model.specs.Image.{Made}
-use Rattle.machine_model.specs.Trusted.{TrustedRun, Steps, forges_by}
-use Rattle.run_laws.specs.Statuses.{status_by, fetches, fetches_by}
-use Rattle.machine_model.proofs.Placed.{is_job, find_sound}
-use Rattle.machine_model.proofs.Steps.{Accepts, permitted}
-use Rattle.machine_agreement.proofs.Members.{all_at_found, all_in, only_found, some_is}
-use Rattle.machine_agreement.proofs.Unforged.{Unforged, unforged_front, unforged_back, unforged_run, trusted_end}
-use Rattle.machine_agreement.proofs.Served.{Stood}
-use Rattle.machine_agreement.proofs.WalksKept.{one_job, stood_on, stood_at_opening, some_none, host_jobs}
+use Rattle.machine_model.{proofs.{Steps.{Accepts, managed_by, permitted}, Tokens.{is_job, find_sound}}, specs.{After.final_status, Events.{Event, Reply}}}
+use Rattle.machine_model.specs.{Image.Made, Opening.opening, Refusals.{job_at, next_rung, conflicts, refusal_of}, Script.{played, left_by}}
+use Rattle.machine_model.specs.{State.{State, Job, Device}, Step.{resets, Step, Refuses}, Trusted.{TrustedRun, Steps, forges_by}, WorkedReads.ordinary}
+use Rattle.machine_model.specs.declared.words.Refusal.{Refusal, TheVariants.{NoJob, Nothing, Memory}}
+use Rattle.run_laws.{proofs.{Causes.compare_opcode, Moves.{JobsMove, jobs_event}, OneEnd.none_parts}, specs.Statuses.{status_by, fetches, fetches_by}}
 use Rattle.run_laws.specs.Verdicts.{FoundDifference, first_verdicts_count, jobs_stay, KeepsVerdict, IsRefusedWalk, verdicts_stay, verdicts_end_walks}
-use Rattle.machine_agreement.proofs.Along.{Carried, keeps, made_of, cut, along_proper, before_step, trusted_step_by}
-use Rattle.run_laws.proofs.OneEnd.{none_parts}
-use Rattle.run_laws.proofs.Moves.{JobsMove, jobs_event}
-use Rattle.run_laws.proofs.Causes.{compare_opcode}
-use Rattle.admin_commands.specs.Entries.{named_queue, named_command}
-use Rattle.admin_commands.specs.declared.SqState.TheVariants.{Absent}
-use Rattle.controller_walk.specs.Units.{Act, Stays, Reads, Moves, first_passing, moving, from_place}
-use Rattle.sgl_descriptor.specs.declared.Direction.{Direction}
-use Rattle.sgl_descriptor.specs.declared.Direction.TheVariants.{Destination, Source}
-use Rattle.entry_codec.specs.declared.admin_opcode.TheConstants.{DELETE_IO_SQ}
-use Rattle.page_memory.specs.Pages.{with_bytes, with_page_bytes, zero_page}
-use Rattle.machine_model.specs.Step.{resets, Step, Refuses}
-use Rattle.machine_model.proofs.Managed.{managed_by}
-use Rattle.machine_agreement.proofs.Placing.{device-answered}
-use Rattle.machine_agreement.proofs.Flag.{stays_trusted}
-use Rattle.machine_model.specs.declared.words.Refusal.{Refusal}
-use Rattle.machine_model.specs.declared.words.Refusal.TheVariants.{NoJob, Nothing, Memory}
-use Rattle.machine_agreement.proofs.JobLaws.{stood_after}
-use Rattle.page_memory.specs.Memory.{bytes_at}
-use Rattle.sgl_descriptor.specs.Spelling.{descriptor_of}
-use Rattle.entry_codec.specs.Submission.{submission_bytes, submission_of}
-use Rattle.entry_codec.specs.Completion.{completion_bytes, completion_of}
-use Rattle.machine_model.specs.Script.{played, left_by}
-use Rattle.machine_model.specs.WorkedReads.{ordinary}
 use Rattle.run_laws.specs.WorkedVerdicts.{one_aborted, deleted_under, deleted_under_said}
+use Rattle.two_sides.proofs.Along.{Unforged, unforged_front, unforged_back, unforged_run, Carried, keeps, made_of, cut, along_proper, before_step, stays_trusted, trusted_end, trusted_step_by}
+use Rattle.two_sides.proofs.{JobLaws.stood_after, NeverFull.{one_job, stood_on, stood_at_opening, some_none, host_jobs}}
+use Rattle.two_sides.proofs.{Provided.{all_at_found, all_in, only_found, some_is}, Served.Stood, Standing.device-answered}
+use Rattle.admin_commands.specs.{Entries.{named_queue, named_command}, declared.SqState.TheVariants.Absent}
+use Rattle.controller_walk.specs.Units.{Act, Stays, Reads, Moves, first_passing, moving, from_place}
+use Rattle.sgl_descriptor.specs.{Spelling.descriptor_of, declared.Direction.{Direction, TheVariants.{Destination, Source}}}
+use Rattle.page_memory.specs.{Memory.bytes_at, Pages.{with_bytes, with_page_bytes, zero_page}}
 
 -- A command completes with its first verdict.
 

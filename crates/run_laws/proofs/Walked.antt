@@ -2,49 +2,25 @@
 use Rattle.machine_model.specs.Events as events
 use Rattle.machine_model.specs.After as a
 use Rattle.std.proofs.Common.{◌≡◌, ℕ, ◌+◌, ◌==◌, Bool, true, false, ◌&&◌, Some, List, [], ◌∷◌, ◌++◌, length, filter, slice_get, if◌then◌else◌, refl, ap, sym, ◌∙◌, arith, eqb-true, eq-eqb, ◌/◌, ◌%◌, not, Option, None, map, find, take, drop, is_some, is_none, subst, inl, inr}
+use Rattle.std.{proofs.lemmas.Bool.{true≢false, and_parts, or_parts, cases_Bool, not-true, Decides.nat_tests}, specs.List.{AllByRecursion, list_any}}
 use Rattle.std.specs.Option.{option_map, option_map_or}
-use Rattle.std.specs.List.{AllByRecursion, list_any}
-use Rattle.std.proofs.lemmas.Bool.{true≢false, and_parts, or_parts, cases_Bool, not-true}
-use Rattle.std.proofs.lemmas.Bool.Decides.{nat_tests}
-use Rattle.entry_codec.specs.declared.submission.SubEntry.{SubEntry}
-use Rattle.machine_model.specs.State.{State, Job, Device}
-use Rattle.machine_model.specs.Refusals.{next_rung, job_at, conflicts}
-use Rattle.machine_model.specs.Image.{Made}
-use Rattle.run_laws.specs.Statuses.{fetches, fetches_by, since_fetch}
-use Rattle.machine_model.specs.Events.{Event, Reply}
-use Rattle.machine_model.specs.declared.words.Refusal.{Refusal}
-use Rattle.machine_model.proofs.Placed.{is_job, find_sound}
-use Rattle.machine_agreement.proofs.Members.{all_at, all_at_found, all_in, some_is}
-use Rattle.machine_agreement.proofs.Served.{Stood}
-use Rattle.machine_agreement.proofs.WalksKept.{stood_on, stood_at_opening, host_jobs}
-use Rattle.machine_agreement.proofs.Placements.{in_hand}
+use Rattle.entry_codec.specs.declared.{admin_opcode.TheConstants.DELETE_IO_SQ, status.Status.Status}
+use Rattle.entry_codec.specs.declared.{status.TheConstants.Status.{COMMAND_ID_CONFLICT, ABORT_REQUESTED, ABORTED_SQ_DELETION}, submission.SubEntry.SubEntry}
+use Rattle.machine_model.{proofs.{Steps.{managed_by, permitted, exact}, Tokens.{is_job, find_sound}}, specs.{Events.{Event, Reply}, Image.Made}}
+use Rattle.machine_model.specs.{Opening.opening, Refusals.{next_rung, job_at, conflicts}, State.{State, Job, Device}, Step.{Step, resets, unit_answered}}
+use Rattle.machine_model.specs.{Trusted.Steps, declared.words.Refusal.Refusal}
 use Rattle.run_laws.proofs.Causes.{since_more, any_longer, any_last, not_conflicting, none_found, refused_no_fetch}
-use Rattle.machine_agreement.proofs.JobLaws.{not_zero as positive, stood_after}
-use Rattle.machine_agreement.proofs.Along.{Carried, keeps, made_of, run_along, cut}
-use Rattle.run_laws.proofs.Moves.{JobsMove, jobs_event, is_walked}
+use Rattle.run_laws.proofs.{DataKept.{Going, stood_step, stood_along, along_steps}, DataOnce.fetched_entry, Moves.{JobsMove, jobs_event, is_walked}}
+use Rattle.run_laws.specs.Statuses.{fetches, fetches_by, since_fetch}
 use Rattle.run_laws.specs.Walked.{walks_by, walks_of, times_walked, units_done_count_the_walks, HasJobSo, walks_go_on_without_a_verdict, completes_by, ends_job, ends_walk_by, only_the_last_walk_ends}
-use Rattle.run_laws.proofs.DataKept.{Going, stood_step, stood_along, along_steps}
-use Rattle.run_laws.proofs.DataOnce.{fetched_entry}
-use Rattle.admin_commands.specs.Entries.{named_queue, named_command}
-use Rattle.admin_commands.specs.declared.SqState.TheVariants.{Absent}
-use Rattle.controller_walk.specs.Units.{Act, Stays, Reads, Moves}
-use Rattle.controller_walk.specs.Walks.{is_more}
-use Rattle.controller_walk.specs.declared.walk.WalkState.{WalkState}
-use Rattle.sgl_descriptor.specs.declared.Direction.{Direction}
-use Rattle.sgl_descriptor.specs.declared.Direction.TheVariants.{Destination, Source}
-use Rattle.entry_codec.specs.declared.status.Status.{Status}
-use Rattle.entry_codec.specs.declared.status.TheConstants.Status.{COMMAND_ID_CONFLICT, ABORT_REQUESTED, ABORTED_SQ_DELETION}
-use Rattle.entry_codec.specs.declared.admin_opcode.TheConstants.{DELETE_IO_SQ}
+use Rattle.two_sides.proofs.Along.{Carried, keeps, made_of, run_along, Unforged, unforged_next, unforged_front, unforged_back, unforged_run, unforged_end, trusted_end, cut}
+use Rattle.two_sides.proofs.{Commands.walking, JobLaws.{not_zero as positive, stood_after}, NeverFull.{stood_on, stood_at_opening, host_jobs}}
+use Rattle.two_sides.proofs.{PlacesKept.in_hand, Provided.{all_at, all_at_found, all_in, some_is}, Served.Stood, Standing.device-answered}
+use Rattle.admin_commands.specs.{Entries.{named_queue, named_command}, declared.SqState.TheVariants.Absent}
+use Rattle.controller_walk.specs.{Units.{Act, Stays, Reads, Moves}, Walks.is_more, declared.walk.WalkState.WalkState}
+use Rattle.sgl_descriptor.specs.declared.Direction.{Direction, TheVariants.{Destination, Source}}
 use Rattle.io_commands.specs.Jobs.{is_success, verdict_of, direction_of_entry}
 use Rattle.page_memory.specs.Pages.{with_page_bytes, with_bytes}
-use Rattle.machine_model.specs.Opening.{opening}
-use Rattle.machine_model.specs.Trusted.{Steps}
-use Rattle.machine_model.specs.Step.{Step, resets, unit_answered}
-use Rattle.machine_model.proofs.Managed.{managed_by}
-use Rattle.machine_agreement.proofs.Placing.{device-answered}
-use Rattle.machine_agreement.proofs.Unforged.{Unforged, unforged_next, unforged_front, unforged_back, unforged_run, unforged_end, trusted_end}
-use Rattle.machine_agreement.proofs.CommandsAll.{walking}
-use Rattle.machine_model.proofs.Steps.{permitted, exact}
 
 -- A job has done as many units as there were walk steps of it since its fetch.
 
@@ -64,7 +40,7 @@ AllCounted earlier s = AllByRecursion (CountedIfIo earlier) s.device.jobs
 
 filtered_more : (test : Made → Bool) (xs : List Made) (m : Made) → length (filter test (xs ++ m ∷ [])) ≡ length (filter test xs) + (if test m then 1 else 0)
 filtered_more test [] m = grind arith
-filtered_more test (x ∷ xs) m = let h1 = filtered_more test xs m in grind arith
+filtered_more test (x ∷ xs) m = grind (arith, filtered_more test xs m)
 
 since_new : (q cid : ℕ) (xs : List Made) (m : Made) → fetches q cid m ≡ true → since_fetch q cid (xs ++ m ∷ []) ≡ []
 since_new q cid [] m h = ap (λ (b : Bool). if b then [] else []) h

@@ -1,16 +1,10 @@
 -- Events that are accepted: an event that no cause refuses may happen, with a reply that is no refusal.
-use Rattle.std.specs.Prelude.{◌≡◌, ℕ, Bool, true, false, ◌||◌, not, IsTrue, None, List, is_some}
-use Rattle.std.specs.List.{AllByRecursion}
+use Rattle.std.specs.{List.AllByRecursion, Prelude.{◌≡◌, ℕ, Bool, true, false, ◌||◌, not, IsTrue, None, List, is_some}}
 use Rattle.block_image.specs.Blocks.{IsImage}
-use Rattle.machine_model.specs.State.{State, Record}
-use Rattle.machine_model.specs.Refusals.{host_queue, is_held, refusal_of}
-use Rattle.machine_agreement.specs.InOrder.{IsInOrder}
-use Rattle.machine_model.specs.Opening.{opening, Opens}
-use Rattle.machine_model.specs.Proper.{IsProper}
-use Rattle.machine_model.specs.After.{after_reset}
-use Rattle.machine_model.specs.Step.{Step, IsController, asked_by}
+use Rattle.machine_model.specs.{After.after_reset, Events.{Event, Reply}, Opening.{opening, Opens}, Proper.IsProper, Refusals.{host_queue, is_held, refusal_of}}
+use Rattle.machine_model.specs.{State.{State, Record}, Step.{Step, IsController, asked_by}}
+use Rattle.two_sides.specs.InOrder.{IsInOrder}
 use Rattle.machine_model.specs.Events as events
-use Rattle.machine_model.specs.Events.{Event, Reply}
 
 -- a command that is held is an I/O command, and has its status
 pub record HasEnded (r : Record) : Type 0 where

@@ -1,23 +1,13 @@
 -- What becomes of blocks where nothing was forged: the image is the run's, Compares tell equality, and Reads gather from the image at their fetch.
-use Rattle.std.specs.Prelude.{◌≡◌, ℕ, zero, suc, Bool, true, false, ◌||◌, not, IsTrue, Option, Some, None, List, [], ◌∷◌, ◌++◌, if◌then◌else◌}
-use Rattle.std.specs.List.{list_any}
-use Rattle.block_image.specs.Blocks.{blocks_at}
-use Rattle.sgl_descriptor.specs.declared.Direction.TheVariants.{Destination}
-use Rattle.io_commands.specs.Requests.{parts_of}
-use Rattle.sgl_descriptor.specs.Targets.{Target, Place, Discarded, targets}
-use Rattle.io_commands.specs.DataBytes.{gathered}
-use Rattle.io_commands.specs.Values.{FinishedContents, numbers_of}
-use Rattle.io_commands.specs.Asked.{Request}
-use Rattle.io_commands.specs.declared.request.Kind.TheVariants.{Read, Write, Compare}
-use Rattle.entry_codec.specs.declared.status.TheConstants.Status.{SUCCESS, ABORT_REQUESTED, ABORTED_SQ_DELETION, LBA_OUT_OF_RANGE, COMPARE_FAILURE}
-use Rattle.entry_codec.specs.declared.status.Status.{Status}
-use Rattle.machine_model.specs.Status.{same_status}
-use Rattle.machine_model.specs.State.{State}
-use Rattle.machine_model.specs.Image.{Made, image_after, read_of, draft_of}
-use Rattle.io_commands.specs.Drafts.{DraftContents}
-use Rattle.machine_model.specs.Events.{Event, Reply}
-use Rattle.io_commands.specs.Jobs.{is_success}
+use Rattle.std.specs.{List.list_any, Prelude.{◌≡◌, ℕ, zero, suc, Bool, true, false, ◌||◌, not, IsTrue, Option, Some, None, List, [], ◌∷◌, ◌++◌, if◌then◌else◌}}
 use Rattle.std.specs.Str.{bytes_eq}
+use Rattle.block_image.specs.Blocks.{blocks_at}
+use Rattle.sgl_descriptor.specs.{Targets.{Target, Place, Discarded, targets}, declared.Direction.TheVariants.Destination}
+use Rattle.io_commands.specs.{Asked.Request, DataBytes.gathered, Drafts.DraftContents, Jobs.is_success, Requests.parts_of}
+use Rattle.io_commands.specs.{Values.{FinishedContents, numbers_of}, declared.request.Kind.TheVariants.{Read, Write, Compare}}
+use Rattle.entry_codec.specs.declared.status.Status.{Status}
+use Rattle.entry_codec.specs.declared.status.TheConstants.Status.{SUCCESS, ABORT_REQUESTED, ABORTED_SQ_DELETION, LBA_OUT_OF_RANGE, COMPARE_FAILURE}
+use Rattle.machine_model.specs.{Events.{Event, Reply}, Image.{Made, image_after, read_of, draft_of}, State.State, Status.same_status}
 use Rattle.machine_model.specs.Trusted.{TrustedRun, drafts_of}
 use Rattle.run_laws.specs.Statuses.{status_given, fetches, is_compare}
 use Rattle.machine_model.specs.Events as events

@@ -3,11 +3,8 @@ use Rattle.std.specs.Prelude.{◌≡◌, ℕ, ◌<◌, ◌≤◌, Some, List, le
 use Rattle.entry_codec.specs.declared.submission.SubEntry.{SubEntry}
 use Rattle.sgl_chain.specs.Spells.{Spells}
 use Rattle.page_memory.specs.Pages.{Pages, byte_at}
-use Rattle.io_commands.specs.Values.{numbers_of}
-use Rattle.io_commands.specs.Drafts.{DraftContents, draft_first, draft_parts}
-use Rattle.machine_model.specs.Memory.{with_pages}
-use Rattle.machine_model.specs.Proper.{IsProperDraft}
-use Rattle.machine_model.specs.Step.{times}
+use Rattle.io_commands.specs.{Drafts.{DraftContents, draft_first, draft_parts}, Values.numbers_of}
+use Rattle.machine_model.specs.{Memory.with_pages, Proper.IsProperDraft, Step.times}
 
 -- page numbers of a pool of so many pages
 abbrev pub LieIn : ℕ → List ℕ → Type 0

@@ -1,20 +1,13 @@
 -- How commands end where nothing was forged: what a reap and a collect answer, and where that comes from.
+use Rattle.std.specs.{List.list_any, Option.option_map_or}
 use Rattle.std.specs.Prelude.{◌≡◌, ◌⊎◌, ℕ, ◌==◌, nat_lt, Bool, true, false, ◌&&◌, not, IsTrue, Some, List, [], ◌∷◌, ◌++◌, if◌then◌else◌}
-use Rattle.std.specs.List.{list_any}
-use Rattle.std.specs.Option.{option_map_or}
 use Rattle.entry_codec.specs.declared.status.Status.{Status}
 use Rattle.entry_codec.specs.declared.status.TheConstants.Status.{SUCCESS, ABORT_REQUESTED, ABORTED_SQ_DELETION, LBA_OUT_OF_RANGE, COMPARE_FAILURE}
 use Rattle.io_commands.specs.Values.{FinishedContents}
-use Rattle.machine_model.specs.State.{State, Answer}
-use Rattle.machine_model.specs.Refusals.{device_queue, conflicts, record_is, is_submitted}
-use Rattle.machine_model.specs.Step.{Step}
-use Rattle.machine_model.specs.Image.{Made}
-use Rattle.machine_model.specs.Trusted.{TrustedRun, is_reset}
+use Rattle.machine_model.specs.{Events.{Event, Reply}, Image.Made, Refusals.{device_queue, conflicts, record_is, is_submitted}, State.{State, Answer}}
+use Rattle.machine_model.specs.{Step.Step, Trusted.{TrustedRun, is_reset}, declared.words.Reaped.{Reaped, TheVariants.{Empty, Done, AdminDone}}}
 use Rattle.run_laws.specs.Statuses.{status_given, has_cause, since_fetch, aborts, deletes, passes_image, is_compare}
 use Rattle.machine_model.specs.Events as events
-use Rattle.machine_model.specs.Events.{Event, Reply}
-use Rattle.machine_model.specs.declared.words.Reaped.{Reaped}
-use Rattle.machine_model.specs.declared.words.Reaped.TheVariants.{Empty, Done, AdminDone}
 
 -- What a reap answers: the oldest answer of the queue, and never a rejection
 abbrev pub answers_of : State → ℕ → List Answer

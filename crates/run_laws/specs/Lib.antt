@@ -10,3 +10,8 @@ pub mod Accepted
 pub mod Built
 pub mod Statuses
 pub mod Blocks
+pub mod Values
+pub mod Gathering
+pub mod DraftBlocks
+pub mod Drafts
+pub mod WorkedDrafts

@@ -1,21 +1,13 @@
 -- The statuses that completions give, each with its cause, told by the steps before.
+use Rattle.std.specs.{List.list_any, Option.{option_map, option_map_or}}
 use Rattle.std.specs.Prelude.{◌≡◌, ℕ, ◌+◌, ◌==◌, nat_lt, Bool, false, ◌&&◌, ◌||◌, IsTrue, Option, Some, None, List, [], ◌∷◌, ◌++◌, if◌then◌else◌}
-use Rattle.std.specs.List.{list_any}
-use Rattle.std.specs.Option.{option_map, option_map_or}
 use Rattle.admin_commands.specs.Entries.{named_queue, named_command}
-use Rattle.entry_codec.specs.declared.submission.SubEntry.{SubEntry}
+use Rattle.entry_codec.specs.declared.{admin_opcode.TheConstants.{ABORT, DELETE_IO_SQ}, io_opcode.TheConstants.COMPARE, status.Status.Status}
 use Rattle.entry_codec.specs.declared.status.TheConstants.Status.{ABORT_REQUESTED, ABORTED_SQ_DELETION, LBA_OUT_OF_RANGE, COMPARE_FAILURE}
-use Rattle.entry_codec.specs.declared.status.Status.{Status}
-use Rattle.machine_model.specs.Status.{same_status}
-use Rattle.machine_model.specs.State.{State, Job}
-use Rattle.machine_model.specs.Refusals.{job_at, next_rung}
-use Rattle.machine_model.specs.After.{final_status, walks, image_blocks}
-use Rattle.machine_model.specs.Image.{Made}
-use Rattle.machine_model.specs.Events.{Event, Reply}
+use Rattle.entry_codec.specs.declared.submission.SubEntry.{SubEntry}
+use Rattle.machine_model.specs.{After.{final_status, walks, image_blocks}, Events.{Event, Reply}, Image.Made, Refusals.{job_at, next_rung}, State.{State, Job}}
+use Rattle.machine_model.specs.{Status.same_status, Trusted.TrustedRun}
 use Rattle.io_commands.specs.Jobs.{first_block, block_number, is_success}
-use Rattle.entry_codec.specs.declared.admin_opcode.TheConstants.{ABORT, DELETE_IO_SQ}
-use Rattle.entry_codec.specs.declared.io_opcode.TheConstants.{COMPARE}
-use Rattle.machine_model.specs.Trusted.{TrustedRun}
 use Rattle.machine_model.specs.Events as events
 
 -- What a step is

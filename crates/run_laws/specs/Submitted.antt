@@ -1,27 +1,15 @@
 -- What a command gives back, said of the run from its own submission to its collection.
-use Rattle.std.specs.Prelude.{◌≡◌, ℕ, Bool, not, IsTrue, is_some, Some, List, [], ◌∷◌, ◌++◌, All}
-use Rattle.std.specs.List.{list_any}
-use Rattle.sgl_descriptor.specs.declared.Direction.TheVariants.{Destination}
-use Rattle.sgl_descriptor.specs.Targets.{targets}
+use Rattle.std.specs.{List.list_any, Prelude.{◌≡◌, ℕ, Bool, not, IsTrue, is_some, Some, List, [], ◌∷◌, ◌++◌, All}}
+use Rattle.sgl_descriptor.specs.{Spelling.spelling, Targets.targets, declared.Direction.TheVariants.Destination}
 use Rattle.entry_codec.specs.declared.status.TheConstants.Status.{ABORTED_SQ_DELETION}
-use Rattle.io_commands.specs.Requests.{parts_of, joined_parts}
-use Rattle.io_commands.specs.DataBytes.{gathered}
-use Rattle.io_commands.specs.Drafts.{DraftContents, draft_first}
+use Rattle.io_commands.specs.{Asked.Request, DataBytes.gathered, Drafts.{DraftContents, draft_first}, Jobs.is_success, Requests.{parts_of, joined_parts}}
 use Rattle.io_commands.specs.Values.{FinishedContents, numbers_of}
-use Rattle.io_commands.specs.Jobs.{is_success}
-use Rattle.io_commands.specs.Asked.{Request}
 use Rattle.page_memory.specs.Pages.{byte_at}
 use Rattle.sgl_chain.specs.Spells.{Spells}
-use Rattle.sgl_descriptor.specs.Spelling.{spelling}
-use Rattle.machine_model.specs.declared.words.Work.TheVariants.{Io}
-use Rattle.machine_model.specs.Refusals.{is_submitted}
-use Rattle.machine_model.specs.State.{State, Record, record_at}
-use Rattle.machine_model.specs.Image.{Made, is_draft, draft_of, submitted_by, image_after, read_of}
-use Rattle.machine_model.specs.Trusted.{TrustedRun, drafts_of}
-use Rattle.machine_agreement.specs.Laws.{entries_of}
-use Rattle.run_laws.specs.Statuses.{fetches}
-use Rattle.run_laws.specs.Blocks.{collected_of, is_read, blocks_of_request, partly}
-use Rattle.machine_model.specs.Step.{Step, zeroed}
+use Rattle.machine_model.specs.{Image.{Made, is_draft, draft_of, submitted_by, image_after, read_of}, Refusals.is_submitted, State.{State, Record, record_at}}
+use Rattle.machine_model.specs.{Step.{Step, zeroed}, Trusted.{TrustedRun, drafts_of}, declared.words.Work.TheVariants.Io}
+use Rattle.two_sides.specs.MachineLaws.{entries_of}
+use Rattle.run_laws.specs.{Blocks.{collected_of, is_read, blocks_of_request, partly}, Statuses.fetches}
 use Rattle.machine_model.specs.Events as events
 
 -- whether a step is an accepted submission of this queue and identifier

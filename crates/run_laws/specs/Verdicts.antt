@@ -1,17 +1,10 @@
 -- Only the first verdict of a command counts.
-use Rattle.std.specs.Prelude.{◌≡◌, ◌⊎◌, ℕ, not, IsTrue, Some, None, List, [], ◌∷◌, ◌++◌, is_some}
-use Rattle.std.specs.List.{list_any}
-use Rattle.entry_codec.specs.declared.status.Status.{Status}
-use Rattle.entry_codec.specs.declared.status.TheConstants.Status.{SUCCESS, COMPARE_FAILURE}
-use Rattle.machine_model.specs.State.{State, Job}
-use Rattle.machine_model.specs.Refusals.{job_at}
-use Rattle.machine_model.specs.Step.{Step, resets}
-use Rattle.machine_model.specs.Image.{Made}
-use Rattle.machine_model.specs.Trusted.{TrustedRun, forges_by}
+use Rattle.std.specs.{List.list_any, Prelude.{◌≡◌, ◌⊎◌, ℕ, not, IsTrue, Some, None, List, [], ◌∷◌, ◌++◌, is_some}}
+use Rattle.entry_codec.specs.declared.status.{Status.Status, TheConstants.Status.{SUCCESS, COMPARE_FAILURE}}
+use Rattle.machine_model.specs.{Events.{Event, Reply}, Image.Made, Refusals.job_at, State.{State, Job}, Step.{Step, resets}, Trusted.{TrustedRun, forges_by}}
+use Rattle.machine_model.specs.declared.words.Refusal.TheVariants.{Nothing}
 use Rattle.run_laws.specs.Statuses.{status_by, status_given, fetches, is_compare}
 use Rattle.machine_model.specs.Events as events
-use Rattle.machine_model.specs.Events.{Event, Reply}
-use Rattle.machine_model.specs.declared.words.Refusal.TheVariants.{Nothing}
 
 -- A job is there until it completes, or the controller is reset
 abbrev pub jobs_stay : Type 0

@@ -1,24 +1,15 @@
 -- What walk steps answer, and how many a job has done; and what a Compare tells.
-use Rattle.std.specs.Prelude.{◌≡◌, ℕ, nat_lt, ◌==◌, Bool, false, ◌&&◌, ◌||◌, not, IsTrue, Some, List, ◌∷◌, ◌++◌, length, filter, is_none, if◌then◌else◌}
 use Rattle.std.specs.List.{list_any}
+use Rattle.std.specs.Prelude.{◌≡◌, ℕ, nat_lt, ◌==◌, Bool, false, ◌&&◌, ◌||◌, not, IsTrue, Some, List, ◌∷◌, ◌++◌, length, filter, is_none, if◌then◌else◌}
 use Rattle.std.specs.Str.{bytes_eq}
-use Rattle.controller_walk.specs.Walks.{is_more}
-use Rattle.controller_walk.specs.declared.walk.WalkState.{WalkState}
+use Rattle.controller_walk.specs.{Walks.is_more, declared.walk.WalkState.WalkState}
 use Rattle.entry_codec.specs.declared.status.Status.{Status}
 use Rattle.entry_codec.specs.declared.status.TheConstants.Status.{SUCCESS, ABORT_REQUESTED, ABORTED_SQ_DELETION, LBA_OUT_OF_RANGE, COMPARE_FAILURE}
-use Rattle.io_commands.specs.declared.request.Kind.TheVariants.{Compare}
-use Rattle.io_commands.specs.DataBytes.{gathered}
-use Rattle.io_commands.specs.Drafts.{DraftContents}
-use Rattle.machine_model.specs.Status.{same_status}
-use Rattle.machine_model.specs.State.{State, Job}
-use Rattle.machine_model.specs.Refusals.{job_at}
-use Rattle.machine_model.specs.Image.{Made, draft_of}
+use Rattle.io_commands.specs.{DataBytes.gathered, Drafts.DraftContents, declared.request.Kind.TheVariants.Compare}
+use Rattle.machine_model.specs.{Events.{Event, Reply}, Image.{Made, draft_of}, Refusals.job_at, State.{State, Job}, Status.same_status, Step.Step}
 use Rattle.machine_model.specs.Trusted.{TrustedRun, is_reset, drafts_of}
-use Rattle.run_laws.specs.Statuses.{since_fetch, status_given}
-use Rattle.run_laws.specs.Blocks.{blocks_of_request}
-use Rattle.machine_model.specs.Step.{Step}
+use Rattle.run_laws.specs.{Blocks.blocks_of_request, Statuses.{since_fetch, status_given}}
 use Rattle.machine_model.specs.Events as events
-use Rattle.machine_model.specs.Events.{Event, Reply}
 
 abbrev pub walks_by : ℕ → ℕ → Event → Reply → Bool
 walks_by q cid (events.Walk q' cid') (events.Walked outcome touched) = (q' == q) && (cid' == cid)

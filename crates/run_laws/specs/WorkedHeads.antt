@@ -4,9 +4,8 @@ use Rattle.std.specs.Prelude.{ℕ, true, List, [], ◌∷◌, ◌++◌}
 use Rattle.controller_walk.specs.declared.walk.WalkState.TheVariants.{More, End}
 use Rattle.io_commands.specs.declared.request.Kind.TheVariants.{Read}
 use Rattle.entry_codec.specs.declared.status.TheConstants.Status.{SUCCESS}
-use Rattle.machine_model.specs.declared.words.Reaped.TheVariants.{Done}
 use Rattle.machine_model.specs.Script.{Line, Said, build, submit, ring, fetch, walk, complete, reap, ok, reserved, fetched, walked, completed, reaps}
-use Rattle.machine_model.specs.WorkedQueues.{block}
+use Rattle.machine_model.specs.{WorkedQueues.block, declared.words.Reaped.TheVariants.Done}
 use Rattle.queue_pair.specs.Rings.{HostRing}
 
 -- the first Read is fetched and walked; the second is submitted, and its bell is not rung; then the first is completed

@@ -4,11 +4,9 @@ use Rattle.std.specs.Prelude.{ℕ, List, [], ◌∷◌, ◌++◌, length, filter
 use Rattle.controller_walk.specs.declared.walk.WalkState.TheVariants.{More, End}
 use Rattle.io_commands.specs.declared.request.Kind.TheVariants.{Read}
 use Rattle.entry_codec.specs.declared.status.TheConstants.Status.{ABORTED_SQ_DELETION}
-use Rattle.machine_model.specs.declared.words.Refusal.TheVariants.{NoQueue, NoJob}
 use Rattle.machine_model.specs.Image.{Made}
 use Rattle.machine_model.specs.Script.{Line, Said, build, submit, ring, fetch, walk, complete, delete_sq, reset, reap, collect, ok, fetched, walked, completed, held, refused}
-use Rattle.machine_model.specs.WorkedAdmin.{block, said_block}
-use Rattle.machine_model.specs.WorkedCreations.{managed}
+use Rattle.machine_model.specs.{WorkedAdmin.{block, said_block}, WorkedCreations.managed, declared.words.Refusal.TheVariants.{NoQueue, NoJob}}
 use Rattle.run_laws.specs.Ends.{ends}
 
 abbrev pub reset_under : List Line

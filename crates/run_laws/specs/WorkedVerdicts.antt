@@ -1,15 +1,11 @@
 -- A queue that is deleted under two commands that have their verdicts: one was aborted, one walked to its end.
-use Rattle.std.specs.Prelude.{ℕ, Option, None, List, [], ◌∷◌}
-use Rattle.std.specs.Option.{option_map_or}
+use Rattle.std.specs.{Option.option_map_or, Prelude.{ℕ, Option, None, List, [], ◌∷◌}}
 use Rattle.controller_walk.specs.declared.walk.WalkState.TheVariants.{More, End}
 use Rattle.io_commands.specs.declared.request.Kind.TheVariants.{Read}
-use Rattle.entry_codec.specs.declared.status.Status.{Status}
-use Rattle.entry_codec.specs.declared.status.TheConstants.Status.{SUCCESS, ABORT_REQUESTED}
-use Rattle.machine_model.specs.declared.words.Reaped.TheVariants.{Done, AdminDone}
-use Rattle.machine_model.specs.declared.words.Refusal.TheVariants.{Nothing, Waits}
+use Rattle.entry_codec.specs.declared.status.{Status.Status, TheConstants.Status.{SUCCESS, ABORT_REQUESTED}}
 use Rattle.machine_model.specs.Refusals.{job_at}
 use Rattle.machine_model.specs.Script.{Line, Said, Table, build, submit, ring, fetch, walk, complete, reap, collect, abort, delete_sq, ok, fetched, walked, completed, reaps, held, sent, refused}
-use Rattle.machine_model.specs.WorkedAdmin.{block, said_block}
+use Rattle.machine_model.specs.{WorkedAdmin.{block, said_block}, declared.words.{Reaped.TheVariants.{Done, AdminDone}, Refusal.TheVariants.{Nothing, Waits}}}
 
 -- the verdict of a job, where there is one
 abbrev pub verdict_at : ℕ → ℕ → Table → Option Status

@@ -1,8 +1,8 @@
 //! What trusted runs leave: statuses, the image, what Compares and Reads find, and histories. Each function does nothing.
 
 ghost use Rattle.run_laws.specs.Built.{built_drafts_spell_in_store};
-ghost use Rattle.machine_agreement.specs.Histories.{openings_have_histories, steps_make_histories};
-ghost use Rattle.machine_agreement.specs.InOrder.{runs_are_made};
+ghost use Rattle.two_sides.specs.Histories.{openings_have_histories, steps_make_histories};
+ghost use Rattle.two_sides.specs.InOrder.{runs_are_made};
 ghost use Rattle.run_laws.specs.Statuses.{every_status_has_its_cause};
 ghost use Rattle.run_laws.specs.Blocks.{the_image_is_the_runs, compares_tell_equality, reads_give_their_blocks, stopped_reads_give_a_prefix};
 

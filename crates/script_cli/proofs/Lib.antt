@@ -1,11 +1,2 @@
-pub mod Cuts
-pub mod Digits
-pub mod Inputs
-pub mod Limits
-pub mod Reading
+pub mod Texts
 pub mod Runs
-pub mod FitLines
-pub mod OwnersThere
-pub mod GoingOn
-pub mod Gathered
-pub mod Names

@@ -1,26 +1,340 @@
--- Runs of scripts.
-use Rattle.std.proofs.Common.{arith, ◌≡◌, ◌+◌, ◌⊎◌, inl, inr, ℕ, Option, None, Result, Ok, Err, List, [], ◌∷◌, ◌++◌, take, refl, sym, ◌∙◌, subst}
-use Rattle.std.specs.Prelude.{OnOk, OnErr, IfErr}
-use Rattle.std.specs.Io.KnownBytes.{Appends, Keeps}
-use Rattle.std.proofs.lemmas.Grind.{common_steps}
-use Rattle.block_image.specs.Blocks.{IsImage}
-use Rattle.machine_model.specs.Script.{Table, table}
-use Rattle.script_cli.proofs.GoingOn.{cut_is_front}
-use Rattle.script_cli.proofs.Limits.{same_if_short}
-use Rattle.script_cli.proofs.Inputs.{appends_more, appends_none, keeps_then}
-use Rattle.script_cli.specs.Faults.{fault_of_script}
-use Rattle.script_cli.specs.Inputs.{AreFirstOf, Gains, IsFront}
-use Rattle.script_cli.specs.Runs.{PrintsLine, Prints, last_line, IsRunText, IsRunTo, IsFrontOfFirst, HasScript, HasFault, IsNoScript, EndsWith, Writes}
-use Rattle.script_cli.specs.Lines.{lines}
-use Rattle.script_cli.specs.Scripts.{script_from, script_of, IsReading}
-use Rattle.script_cli.specs.declared.fault.RunFault.{RunFault}
-use Rattle.script_cli.specs.declared.fault.RunFault.TheVariants as run
-use Rattle.script_cli.specs.declared.fault.ScriptFault.{ScriptFault}
+-- Runs of scripts, and from where a run was cut off, the rest of the script.
 use Rattle.script_cli.specs.declared.fault.ScriptFault.TheVariants as fault
-use Rattle.script_cli.specs.declared.script.Numbered.{Numbered}
-use Rattle.host_core.specs.Opening.{refusal_of_config}
-use Rattle.step_core.specs.Opening.{opening_of}
-use Rattle.host_core.specs.declared.config.Config.{Config}
+use Rattle.script_cli.specs.declared.script.Line.TheVariants as line
+use Rattle.script_cli.specs.declared.verb.CommandVerb.TheVariants as command
+use Rattle.script_cli.specs.declared.verb.QueueVerb.TheVariants as queue
+use Rattle.step_core.specs.declared.step.Step.TheVariants as step
+use Rattle.script_cli.specs.declared.fault.RunFault.TheVariants as run
+use Rattle.std.proofs.Common.{◌≡◌, ◌<◌, ◌+◌, ◌^◌, ◌==◌, ◌&&◌, ℕ, Bool, true, false, nat_lt, nat_le, Option, Some, None, Result, Ok, Err, List, [], ◌∷◌, ◌++◌, length, option_and_then, if◌then◌else◌, refl, subst, eqb-true, ltb-true, arith, zero, suc, map, slice_get, ap, lt-ltb, append_assoc, sym, ◌∙◌, ◌⊎◌, inl, inr, take}
+use Rattle.std.{proofs.lemmas.{Grind.common_steps, List.Elements.{All-nil, All-push, Contains-append_right}}, specs.Io.KnownBytes.{Appends, Keeps}}
+use Rattle.std.specs.{List.Contains, Prelude.{All, IfOk, OnOk, OnErr, IfErr}}
+use Rattle.io_commands.specs.{Requests.FitsPiece, declared.request.Piece.{Piece, TheVariants.{Data, Bucket}}}
+use Rattle.two_sides.proofs.Provided.{all_append}
+use Rattle.script_cli.{proofs.Texts.{same_if_short, appends_more, appends_none, keeps_then}, specs.Faults.fault_of_script}
+use Rattle.script_cli.specs.Grammar.{Words, ◌>>=◌, value_or, wanted, number_word, kind_word, hex_word, sixteen_bytes_word, nothing_more, with_piece, pieces_from, reserve_line, fill_line, forge_line, queue_line, command_line, verb_line, begins_comment, known_verb_line, line_of_words, words_of, line_of}
+use Rattle.script_cli.specs.{Inputs.{IsFront, AreFirstOf, Gains}, Lines.{lines, before, onward}}
+use Rattle.script_cli.specs.{Numbers.{digits_from, if_below, number, hex, if_sixteen, sixteen_bytes}, Owners.owners_text}
+use Rattle.script_cli.specs.{Pieces.{number32, is_plus, data_of, data_piece, bucket_piece, piece}, Replies.reply_line}
+use Rattle.script_cli.specs.Runs.{IsFitLine, AreFitLines, AreOwners, PrintsLine, Prints, last_line, IsFrontOfFirst, IsCutText, HasScript, IsRunText, IsRunTo, HasFault, IsNoScript, EndsWith, Writes}
+use Rattle.script_cli.specs.Scripts.{numbered_line, numbered, with_line, then_lines, script_from, script_of, IsReading}
+use Rattle.script_cli.specs.{Verbs.{verb_named, queue_step, command_step, verb_of}, declared.fault.LineFault.{LineFault, TheVariants.TooManyLines}}
+use Rattle.script_cli.specs.declared.{fault.{RunFault.RunFault, ScriptFault.ScriptFault}, script.{Line.Line, Numbered.Numbered}, verb.CommandVerb.CommandVerb}
+use Rattle.script_cli.specs.declared.verb.{QueueVerb.QueueVerb, Verb.{Verb, TheVariants.{Reserve, Fill, Forge, Reset, Owners, OnQueue, OnCommand}}}
+use Rattle.machine_model.specs.{Claims.{claims_of, IsSound}, Script.{Table, table}, State.State, Step.times}
+use Rattle.page_ledger.specs.declared.owner.Owner.{Owner}
+use Rattle.block_image.specs.Blocks.{IsImage}
+use Rattle.step_core.{proofs.Order.{goes_on, bench_opens, bench_keeps}, specs.{Going.IsTableInOrder, Opening.opening_of}}
+use Rattle.host_core.specs.{Opening.refusal_of_config, declared.config.Config.Config}
+
+-- The lines of a script have numbers that fit.
+
+-- Single words
+
+below : (limit : ℕ) (o : Option ℕ) (n : ℕ) → if_below limit o ≡ Some n → n < limit
+below limit None n e = absurd cc
+below limit (Some m) n e = go (nat_lt m limit) refl e
+  where
+    go : (b : Bool) → nat_lt m limit ≡ b → (if b then Some m else None) ≡ Some n → n < limit
+    go true less e = let same : m ≡ n = cc in subst (λ k. k < limit) same (ltb-true m limit less)
+    go false less e = absurd cc
+
+number_is_below : (limit : ℕ) (word : List ℕ) (n : ℕ) → number limit word ≡ Some n → n < limit
+number_is_below limit word n e = go (nat_lt 0 (length word) && nat_le (length word) 20) e
+  where
+    go : (b : Bool) → (if b then if_below limit (digits_from 0 word) else None) ≡ Some n → n < limit
+    go true e = below limit (digits_from 0 word) n e
+    go false e = absurd cc
+
+sixteen : (o : Option (List ℕ)) (bytes : List ℕ) → if_sixteen o ≡ Some bytes → length bytes ≡ 16
+sixteen None bytes e = absurd cc
+sixteen (Some found) bytes e = go (length found == 16) refl e
+  where
+    go : (b : Bool) → (length found == 16) ≡ b → (if b then Some found else None) ≡ Some bytes → length bytes ≡ 16
+    go true long e = let same : found ≡ bytes = cc in subst (λ (xs : List ℕ). length xs ≡ 16) same (eqb-true (length found) 16 long)
+    go false long e = absurd cc
+
+bucket_fits : (word : List ℕ) (p : Piece) → bucket_piece word ≡ Some p → FitsPiece p
+bucket_fits word p e = go (number32 word) refl e
+  where
+    go : (o : Option ℕ) → number32 word ≡ o → option_and_then (λ len. Some (Bucket len)) o ≡ Some p → FitsPiece p
+    go None f e = absurd cc
+    go (Some len) f e = let same : Bucket len ≡ p = cc in subst FitsPiece same (number_is_below (2 ^ 32) word len f)
+
+data_fits : (first last : List ℕ) (p : Piece) → data_of (number32 first) (number32 last) ≡ Some p → FitsPiece p
+data_fits first last p e = go (number32 first) (number32 last) refl refl e
+  where
+    go : (a b : Option ℕ) → number32 first ≡ a → number32 last ≡ b → data_of a b ≡ Some p → FitsPiece p
+    go None b f g e = absurd cc
+    go (Some offset) None f g e = absurd cc
+    go (Some offset) (Some len) f g e =
+        let same : Data offset len ≡ p = cc in
+        subst FitsPiece same (number_is_below (2 ^ 32) first offset f, number_is_below (2 ^ 32) last len g)
+
+parts_fit : (offset rest : List ℕ) (p : Piece) → data_piece offset rest ≡ Some p → FitsPiece p
+parts_fit offset [] p e = absurd cc
+parts_fit offset (plus ∷ len) p e = data_fits offset len p e
+
+piece_fits : (word : List ℕ) (p : Piece) → piece word ≡ Some p → FitsPiece p
+piece_fits [] p e = absurd cc
+piece_fits (b ∷ bs) p e = go (b == 120) e
+  where
+    go : (v : Bool) → (if v then bucket_piece bs else data_piece (before is_plus (b ∷ bs)) (onward is_plus (b ∷ bs))) ≡ Some p → FitsPiece p
+    go true e = bucket_fits bs p e
+    go false e = parts_fit (before is_plus (b ∷ bs)) (onward is_plus (b ∷ bs)) p e
+
+-- Words in their order
+
+value_fits : {A : Type 0} (P : A → Type 0) (fault : LineFault) (rest : Words) (value : Option A) → ((a : A) → value ≡ Some a → P a) → IfOk (value_or fault rest value) (λ r. P r.0)
+value_fits P fault rest None holds = tt
+value_fits P fault rest (Some a) holds = holds a refl
+
+word_fits : {A : Type 0} (P : A → Type 0) (fault : LineFault) (value : List ℕ → Option A) (ws : Words) → ((word : List ℕ) (a : A) → value word ≡ Some a → P a) → IfOk (wanted fault value ws) (λ r. P r.0)
+word_fits P fault value [] holds = tt
+word_fits P fault value (word ∷ rest) holds = value_fits P fault rest (value word) (holds word)
+
+pub number_fits : (limit : ℕ) (ws : Words) → IfOk (number_word limit ws) (λ r. r.0 < limit)
+unfolding number_word
+number_fits limit ws = word_fits (λ n. n < limit) _ (number limit) ws (number_is_below limit)
+
+bytes_fit : (ws : Words) → IfOk (sixteen_bytes_word ws) (λ r. length r.0 ≡ 16)
+unfolding sixteen_bytes_word
+bytes_fit ws = word_fits (λ (bytes : List ℕ). length bytes ≡ 16) _ sixteen_bytes ws (λ word. sixteen (hex word))
+
+pieces_fit : (so_far : List Piece) (ws : Words) → All FitsPiece so_far → IfOk (pieces_from so_far ws) (All FitsPiece)
+unfolding pieces_from
+pieces_fit so_far [] fit = fit
+pieces_fit so_far (word ∷ rest) fit = go (piece word) (piece_fits word) (λ more fits. pieces_fit more rest fits)
+  where
+    go : (o : Option Piece) → ((p : Piece) → o ≡ Some p → FitsPiece p) → ((more : List Piece) → All FitsPiece more → IfOk (pieces_from more rest) (All FitsPiece))
+        → IfOk (with_piece so_far (λ pieces. pieces_from pieces rest) o) (All FitsPiece)
+    go None fits onward = tt
+    go (Some p) fits onward = onward (so_far ++ (p ∷ [])) (All-push FitsPiece so_far p fit (fits p refl))
+
+-- what holds of a word is known where the words after it are read
+pub then_fits : {A B : Type 0} (P : A → Type 0) (Q : B → Type 0) (r : Result A LineFault) (next : A → Result B LineFault) → IfOk r P → ((a : A) → P a → IfOk (next a) Q) → IfOk (r >>= next) Q
+then_fits P Q (Ok a) next holds onward = onward a holds
+then_fits P Q (Err fault) next holds onward = tt
+
+pub whatever_fits : {A B : Type 0} (Q : B → Type 0) (r : Result A LineFault) (next : A → Result B LineFault) → ((a : A) → IfOk (next a) Q) → IfOk (r >>= next) Q
+whatever_fits Q (Ok a) next onward = onward a
+whatever_fits Q (Err fault) next onward = tt
+
+no_more_fits : (ws : Words) (what : Line) → IsFitLine what → IfOk (nothing_more ws what) IsFitLine
+unfolding nothing_more
+no_more_fits [] what fit = fit
+no_more_fits (word ∷ rest) what fit = tt
+
+-- Lines by their verbs
+
+reserve_fits : (ws : Words) → IfOk (reserve_line ws) IsFitLine
+reserve_fits ws =
+    whatever_fits IsFitLine (number_word (2 ^ 16) ws) _ λ q.
+    whatever_fits IsFitLine (kind_word q.1) _ λ kind.
+    then_fits (λ n. n.0 < 2 ^ 64) IsFitLine (number_word (2 ^ 64) kind.1) _ (number_fits (2 ^ 64) kind.1) λ slba low.
+    then_fits (λ n. n.0 < 2 ^ 32) IsFitLine (number_word (2 ^ 32) slba.1) _ (number_fits (2 ^ 32) slba.1) λ blocks few.
+    then_fits (All FitsPiece) IsFitLine (pieces_from [] blocks.1) _ (pieces_fit [] blocks.1 (All-nil FitsPiece)) λ pieces fit.
+    record { slba = low; blocks = few; pieces = fit }
+
+fill_fits : (ws : Words) → IfOk (fill_line ws) IsFitLine
+fill_fits ws =
+    whatever_fits IsFitLine (number_word (2 ^ 16) ws) _ λ q.
+    whatever_fits IsFitLine (number_word (2 ^ 16) q.1) _ λ cid.
+    whatever_fits IsFitLine (hex_word cid.1) _ λ bytes.
+    no_more_fits bytes.1 _ tt
+
+forge_fits : (ws : Words) → IfOk (forge_line ws) IsFitLine
+forge_fits ws =
+    whatever_fits IsFitLine (number_word (2 ^ 16) ws) _ λ q.
+    whatever_fits IsFitLine (number_word (2 ^ 16) q.1) _ λ slot.
+    then_fits (λ (r : List ℕ × Words). length r.0 ≡ 16) IsFitLine (sixteen_bytes_word slot.1) _ (bytes_fit slot.1) λ bytes long.
+    no_more_fits bytes.1 _ long
+
+queue_step_fits : (verb : QueueVerb) (q : ℕ) → IsFitLine (line.Step (queue_step verb q))
+queue_step_fits queue.Ring q = tt
+queue_step_fits queue.Reap q = tt
+queue_step_fits queue.Fetch q = tt
+queue_step_fits queue.Retire q = tt
+queue_step_fits queue.DeleteSq q = tt
+queue_step_fits queue.DeleteCq q = tt
+queue_step_fits queue.CreateCq q = tt
+queue_step_fits queue.CreateSq q = tt
+
+queue_fits : (verb : QueueVerb) (ws : Words) → IfOk (queue_line verb ws) IsFitLine
+queue_fits verb ws =
+    whatever_fits IsFitLine (number_word (2 ^ 16) ws) _ λ q.
+    no_more_fits q.1 _ (queue_step_fits verb q.0)
+
+command_step_fits : (verb : CommandVerb) (q cid : ℕ) → IsFitLine (line.Step (command_step verb q cid))
+command_step_fits command.Build q cid = tt
+command_step_fits command.Submit q cid = tt
+command_step_fits command.Cancel q cid = tt
+command_step_fits command.Collect q cid = tt
+command_step_fits command.Gather q cid = tt
+command_step_fits command.Release q cid = tt
+command_step_fits command.Walk q cid = tt
+command_step_fits command.Complete q cid = tt
+command_step_fits command.Abort q cid = tt
+
+command_fits : (verb : CommandVerb) (ws : Words) → IfOk (command_line verb ws) IsFitLine
+command_fits verb ws =
+    whatever_fits IsFitLine (number_word (2 ^ 16) ws) _ λ q.
+    whatever_fits IsFitLine (number_word (2 ^ 16) q.1) _ λ cid.
+    no_more_fits cid.1 _ (command_step_fits verb q.0 cid.0)
+
+verb_fits : (ws : Words) (verb : Verb) → IfOk (verb_line ws verb) IsFitLine
+verb_fits ws Reserve = reserve_fits ws
+verb_fits ws Fill = fill_fits ws
+verb_fits ws Forge = forge_fits ws
+verb_fits ws Reset = no_more_fits ws (line.Step step.Reset) tt
+verb_fits ws Owners = no_more_fits ws line.Owners tt
+verb_fits ws (OnQueue verb) = queue_fits verb ws
+verb_fits ws (OnCommand verb) = command_fits verb ws
+
+known_verb_fits : (ws : Words) (verb : Option Verb) → IfOk (known_verb_line ws verb) IsFitLine
+known_verb_fits ws None = tt
+known_verb_fits ws (Some verb) = verb_fits ws verb
+
+words_fit : (ws : Words) → IfOk (line_of_words ws) IsFitLine
+words_fit [] = tt
+words_fit (first ∷ rest) = go (begins_comment first)
+  where
+    go : (b : Bool) → IfOk (if b then Ok line.Nothing else known_verb_line rest (verb_named first)) IsFitLine
+    go true = tt
+    go false = known_verb_fits rest (verb_named first)
+
+line_fits : (bytes : List ℕ) → IfOk (line_of bytes) IsFitLine
+line_fits bytes = whatever_fits IsFitLine (words_of bytes) line_of_words words_fit
+
+numbered_fits : (n : ℕ) (bytes : List ℕ) → IfOk (numbered_line n bytes) IsFitLine
+numbered_fits n bytes = go (nat_lt 65536 n)
+  where
+    go : (b : Bool) → IfOk (if b then Err TooManyLines else line_of bytes) IsFitLine
+    go true = tt
+    go false = line_fits bytes
+
+-- Scripts
+
+with_line_fits : (so_far : List Numbered) (n : ℕ) (what : Line) → AreFitLines so_far → IsFitLine what → AreFitLines (with_line so_far n what)
+with_line_fits so_far n (line.Step what) all fit = all_append (λ (numbered : Numbered). IsFitLine numbered.line) so_far (numbered n (line.Step what) ∷ []) all (fit, tt)
+with_line_fits so_far n line.Owners all fit = all_append (λ (numbered : Numbered). IsFitLine numbered.line) so_far (numbered n line.Owners ∷ []) all (tt, tt)
+with_line_fits so_far n line.Nothing all fit = all
+
+lines_fit : (so_far : List Numbered) (n : ℕ) (bytes : List (List ℕ)) → AreFitLines so_far → IfOk (script_from so_far n bytes) AreFitLines
+lines_fit so_far n [] all = all
+lines_fit so_far n (bytes ∷ rest) all = go (numbered_line n bytes) (numbered_fits n bytes) (λ more fits. lines_fit more (n + 1) rest fits)
+  where
+    go : (r : Result Line LineFault) → IfOk r IsFitLine → ((more : List Numbered) → AreFitLines more → IfOk (script_from more (n + 1) rest) AreFitLines)
+        → IfOk (then_lines so_far n (λ more. script_from more (n + 1) rest) r) AreFitLines
+    go (Ok what) fit onward = onward (with_line so_far n what) (with_line_fits so_far n what all fit)
+    go (Err why) fit onward = tt
+
+-- each step of a script without faults has numbers that fit
+pub scripts_are_fit : (text : List ℕ) (script : List Numbered) → script_of text ≡ Ok script → AreFitLines script
+scripts_are_fit text script e = go (nat_lt 1048576 (length text)) e
+  where
+    go : (b : Bool) → (if b then Err fault.TooLong else script_from [] 1 (lines text)) ≡ Ok script → AreFitLines script
+    go true e = absurd cc
+    go false e = rw e at (lines_fit [] 1 (lines text) tt)
+
+-- Where each page of a pool stands in a claim, there is a list of the owners of all pages.
+
+-- a page that claims count stands in one of them
+claim_found : (p : ℕ) (claims : List (ℕ × Owner)) → 0 < times p (map (λ claim. claim.0) claims) → (owner : Owner) × Contains claims (p, owner)
+claim_found p [] some = absurd (omega arith)
+claim_found p ((page, owner) ∷ claims) some = go (page == p) refl some (claim_found p claims)
+  where
+    go : (b : Bool) → (page == p) ≡ b → 0 < (if b then 1 + times p (map (λ claim. claim.0) claims) else times p (map (λ claim. claim.0) claims))
+        → (0 < times p (map (λ claim. claim.0) claims) → (o : Owner) × Contains claims (p, o)) → (o : Owner) × Contains ((page, owner) ∷ claims) (p, o)
+    go true e some ih = (owner, (0, omega arith, ap (λ (n : ℕ). (n, owner)) (eqb-true page p e)))
+    go false e some ih = let found = ih some in (found.0, Contains-append_right ((page, owner) ∷ []) claims (p, found.0) found.1)
+
+-- owners of which each is one of its page
+record AreListed (IsOf : ℕ → Owner → Type 0) (count : ℕ) : Type 0 where
+  owners : List Owner
+  all : length owners ≡ count
+  each : (p : ℕ) (owner : Owner) → slice_get owners p ≡ Some owner → IsOf p owner
+
+listed : (IsOf : ℕ → Owner → Type 0) (count : ℕ) → ((p : ℕ) → p < count → (owner : Owner) × IsOf p owner) → AreListed IsOf count
+listed IsOf zero there = record { owners = []; all = refl; each = λ p owner e. absurd cc }
+listed IsOf (suc n) there = go (there 0 (omega arith)) (listed (λ p owner. IsOf (suc p) owner) n (λ p less. there (suc p) (omega arith)))
+  where
+    at : (first : Owner) (rest : List Owner) → IsOf 0 first → ((p : ℕ) (owner : Owner) → slice_get rest p ≡ Some owner → IsOf (suc p) owner)
+        → (p : ℕ) (owner : Owner) → slice_get (first ∷ rest) p ≡ Some owner → IsOf p owner
+    at first rest here more zero owner e = let same : first ≡ owner = cc in subst (IsOf 0) same here
+    at first rest here more (suc p) owner e = more p owner e
+
+    go : (owner : Owner) × IsOf 0 owner → AreListed (λ p owner. IsOf (suc p) owner) n → AreListed IsOf (suc n)
+    go (first, here) rest = record { owners = first ∷ rest.owners; all = ap suc rest.all; each = at first rest.owners here rest.each }
+
+pub owners_there : (s : State) → IsSound s → (owners : List Owner) × AreOwners s owners
+owners_there s sound = go (listed (λ p owner. Contains (claims_of s.host) (p, owner)) (length s.memory) claimed)
+  where
+    claimed : (p : ℕ) → p < length s.memory → (owner : Owner) × Contains (claims_of s.host) (p, owner)
+    claimed p less =
+        let one : times p (map (λ claim. claim.0) (claims_of s.host)) ≡ 1 = rw (lt-ltb p (length s.memory) less) at (sound.owners p) in
+        claim_found p (claims_of s.host) (omega (arith, one))
+
+    go : AreListed (λ p owner. Contains (claims_of s.host) (p, owner)) (length s.memory) → (owners : List Owner) × AreOwners s owners
+    go found = (found.owners, record { all = found.all; claim = found.each })
+
+-- From where a run of a script was cut off, the rest of the script can be run.
+
+-- each line prints something
+pub line_goes_on : (t : Table) (n : ℕ) (what : Line) → IsTableInOrder t → IsFitLine what → (said : List ℕ) × (new : Table) × PrintsLine t n what said new
+line_goes_on t n (line.Step what) order fit = let next = goes_on t what order fit in (reply_line n (verb_of what) next.answer, next.left, (next.answer, next.does, refl))
+line_goes_on t n line.Owners order fit = let found = owners_there t.world order.world.sound in (owners_text found.0, t, (found.0, found.1, refl, refl))
+line_goes_on t n line.Nothing order fit = ([], t, (refl, refl))
+
+line_keeps_order : (t : Table) (n : ℕ) (what : Line) (said : List ℕ) (new : Table) → IsTableInOrder t → PrintsLine t n what said new → IsTableInOrder new
+line_keeps_order t n (line.Step what) said new order (answer, does, text) = bench_keeps t what answer new order does
+line_keeps_order t n line.Owners said new order (owners, are, text, stays) = subst IsTableInOrder (sym stays) order
+line_keeps_order t n line.Nothing said new order (text, stays) = subst IsTableInOrder (sym stays) order
+
+pub prints_keep_order : (t : Table) (done : List Numbered) (said : List ℕ) (new : Table) → IsTableInOrder t → Prints t done said new → IsTableInOrder new
+prints_keep_order t [] said new order (text, stays) = subst IsTableInOrder (sym stays) order
+prints_keep_order t (first ∷ rest) said new order (mid, one, others, says, run, text) =
+    prints_keep_order mid rest others new (line_keeps_order t first.number first.line one mid order says) run
+
+pub lines_go_on : (t : Table) (left : List Numbered) → IsTableInOrder t → AreFitLines left → (said : List ℕ) × (new : Table) × Prints t left said new
+lines_go_on t [] order fit = ([], t, (refl, refl))
+lines_go_on t (first ∷ rest) order fit =
+    let (one, mid, says) = line_goes_on t first.number first.line order fit.0 in
+    let (others, new, run) = lines_go_on mid rest (line_keeps_order t first.number first.line one mid order says) fit.1 in
+    (one ++ others, new, (mid, one, others, says, run, refl))
+
+-- what lines print, and then what others do
+pub joins : (t : Table) (done left : List Numbered) (said others : List ℕ) (mid new : Table) → Prints t done said mid → Prints mid left others new → Prints t (done ++ left) (said ++ others) new
+joins t [] left said others mid new (none, stays) run =
+    subst (λ (text : List ℕ). Prints t left text new) (sym (ap (λ (xs : List ℕ). xs ++ others) none)) (subst (λ (from : Table). Prints from left others new) stays run)
+joins t (first ∷ rest) left said others mid new (after, one, more, says, run, text) next =
+    (after, one, more ++ others, says, joins after rest left more others mid new run next, ap (λ (xs : List ℕ). xs ++ others) text ∙ append_assoc one more others)
+
+fit_after : (done left : List Numbered) → AreFitLines (done ++ left) → AreFitLines left
+fit_after [] left fit = fit
+fit_after (first ∷ rest) left fit = fit_after rest left fit.1
+
+-- what the lines done print begins the text of a run of all lines
+pub front_of_first_is_cut : (t : Table) (script : List Numbered) (text : List ℕ) → IsTableInOrder t → AreFitLines script → IsFrontOfFirst t script text → IsCutText t script text
+front_of_first_is_cut t script text order fit (done, left, last, said, split, run, front) = go left split front
+  where
+    go : (left : List Numbered) → script ≡ done ++ left → IsFront text (said ++ last_line left last) → IsCutText t script text
+    go [] split front =
+        let all : script ≡ done = grind (arith, common_steps) in
+        (said ++ last_line [] last, (last, said, rw all run, refl), front)
+    go (next ∷ others) split (rest, joined) =
+        let (more, new, onward) = lines_go_on last (next ∷ others) (prints_keep_order t done said last order run) (fit_after done (next ∷ others) (subst AreFitLines split fit)) in (
+          (said ++ more) ++ last_line [] new,
+          (new, said ++ more, rw split (joins t done (next ∷ others) said more last new run onward), refl),
+          (rest ++ (more ++ last_line [] new), grind (arith, common_steps)),
+        )
+
+-- over a world that opens, for a script that was read
+pub cut_is_front : (told : Option (List ℕ)) (config : Config) (image : List ℕ) (script : List Numbered) (text : List ℕ)
+    → HasScript told script → refusal_of_config config ≡ None → IsImage image → IsFrontOfFirst (table (opening_of config image)) script text → IsCutText (table (opening_of config image)) script text
+cut_is_front told config image script text (bytes, is_told, read) fits good front =
+    front_of_first_is_cut (table (opening_of config image)) script text (bench_opens config image fits good) (scripts_are_fit bytes script read) front
+
+-- Runs of scripts.
 
 -- The script of the first bytes is that of all
 
@@ -56,13 +370,10 @@ HasPrinted t done now a b = Gains a b (λ said. Prints t done said now)
 abbrev pub IsFrontOf : List ℕ → List ℕ → Type 0
 IsFrontOf whole front = IsFront front whole
 
-pub nothing_printed : (t : Table) (a : Option (List ℕ)) → HasPrinted t [] t a a
-nothing_printed t a = ([], (refl, refl), appends_none a)
-
 pub printed_more : (t : Table) (done : List Numbered) (mid : Table) (next : Numbered) (text : List ℕ) (new : Table) (a b c : Option (List ℕ)) →
     HasPrinted t done mid a b → PrintsLine mid next.number next.line text new → Appends b c text → HasPrinted t (done ++ next ∷ []) new a c
-printed_more t done mid next text new a b c (said, run, first) line then =
-    (said ++ text, prints_more t done said mid next text new run line, appends_more a b c said text first then)
+printed_more t done mid next text new a b c (said, run, first) line second =
+    (said ++ text, prints_more t done said mid next text new run line, appends_more a b c said text first second)
 
 -- between lines
 pub cut_between : (t : Table) (script done left : List Numbered) (mid : Table) (a b : Option (List ℕ)) → done ++ left ≡ script → HasPrinted t done mid a b → Gains a b (IsFrontOfFirst t script)
@@ -71,7 +382,7 @@ cut_between t script done left mid a b split (said, run, first) = (said, (done, 
 -- inside what a line prints
 pub cut_inside : (t : Table) (script done left : List Numbered) (mid : Table) (next : Numbered) (text : List ℕ) (new : Table) (a b c : Option (List ℕ)) → done ++ next ∷ left ≡ script →
     HasPrinted t done mid a b → PrintsLine mid next.number next.line text new → Gains b c (IsFrontOf text) → Gains a c (IsFrontOfFirst t script)
-cut_inside t script done left mid next text new a b c split (said, run, first) line (front, (rest, joined), then) = (
+cut_inside t script done left mid next text new a b c split (said, run, first) line (front, (rest, joined), second) = (
   said ++ front,
   (
     done ++ next ∷ [],
@@ -82,24 +393,24 @@ cut_inside t script done left mid next text new a b c split (said, run, first) l
     prints_more t done said mid next text new run line,
     (rest ++ last_line left new, grind (arith, common_steps)),
   ),
-  appends_more a b c said front first then,
+  appends_more a b c said front first second,
 )
 
 -- inside the counts
 pub cut_in_counts : (t : Table) (script : List Numbered) (last : Table) (a b c : Option (List ℕ)) →
     HasPrinted t script last a b → Gains b c (IsFrontOf (last_line [] last)) → Gains a c (IsFrontOfFirst t script)
-cut_in_counts t script last a b c (said, run, first) (front, (rest, joined), then) =
-    (said ++ front, (script, [], last, said, grind (arith, common_steps), run, (rest, grind (arith, common_steps))), appends_more a b c said front first then)
+cut_in_counts t script last a b c (said, run, first) (front, (rest, joined), second) =
+    (said ++ front, (script, [], last, said, grind (arith, common_steps), run, (rest, grind (arith, common_steps))), appends_more a b c said front first second)
 
 -- all was written
 pub whole_text : (t : Table) (script : List Numbered) (last : Table) (a b c : Option (List ℕ)) →
     HasPrinted t script last a b → Appends b c (last_line [] last) → Gains a c (IsRunText t script)
-whole_text t script last a b c (said, run, first) then = (said ++ last_line [] last, (last, said, run, refl), appends_more a b c said (last_line [] last) first then)
+whole_text t script last a b c (said, run, first) second = (said ++ last_line [] last, (last, said, run, refl), appends_more a b c said (last_line [] last) first second)
 
 -- and by the table that was left
 pub whole_run : (t : Table) (script : List Numbered) (last : Table) (a b c : Option (List ℕ)) →
     HasPrinted t script last a b → Appends b c (last_line [] last) → Gains a c (IsRunTo last t script)
-whole_run t script last a b c (said, run, first) then = (said ++ last_line [] last, (said, run, refl), appends_more a b c said (last_line [] last) first then)
+whole_run t script last a b c (said, run, first) second = (said ++ last_line [] last, (said, run, refl), appends_more a b c said (last_line [] last) first second)
 
 pub run_to_text : (told : Option (List ℕ)) (config : Config) (image : List ℕ) (last : Table) (a b : Option (List ℕ)) → Writes told config image a b (IsRunTo last) → Writes told config image a b IsRunText
 run_to_text told config image last a b (script, has, fits, (text, (said, run, joined), gained)) = (script, has, fits, (text, (last, said, run, joined), gained))

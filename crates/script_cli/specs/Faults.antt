@@ -1,12 +1,10 @@
 -- The faults of a run, and the exit statuses of a program.
 use Rattle.std.specs.Prelude.{ℕ}
 use Rattle.machine_model.specs.declared.words.OpenRefusal.{OpenRefusal}
+use Rattle.script_cli.specs.declared.{fault.{RunFault.RunFault, ScriptFault.ScriptFault}, input.ImageFault.ImageFault}
 use Rattle.machine_model.specs.declared.words.OpenRefusal.TheVariants as opening
-use Rattle.script_cli.specs.declared.fault.RunFault.{RunFault}
 use Rattle.script_cli.specs.declared.fault.RunFault.TheVariants as run
-use Rattle.script_cli.specs.declared.fault.ScriptFault.{ScriptFault}
 use Rattle.script_cli.specs.declared.fault.ScriptFault.TheVariants as fault
-use Rattle.script_cli.specs.declared.input.ImageFault.{ImageFault}
 use Rattle.script_cli.specs.declared.input.ImageFault.TheVariants as image_fault
 
 abbrev pub fault_of_script : ScriptFault → RunFault

@@ -1,22 +1,14 @@
 -- What a line of a script is, or its first fault. A word that is wanted is taken from the words that are left; what a definition of such
 -- a word gives is the word's value, and the words after it.
-use Rattle.std.specs.Prelude.{ℕ, ◌^◌, ◌==◌, nat_lt, nat_le, Bool, false, Option, Some, None, Result, Ok, Err, List, [], ◌∷◌, ◌++◌, length, if◌then◌else◌}
 use Rattle.std.specs.List.{list_any}
-use Rattle.io_commands.specs.declared.request.Kind.{Kind}
-use Rattle.io_commands.specs.declared.request.Piece.{Piece}
-use Rattle.io_commands.specs.Asked.{Request}
-use Rattle.script_cli.specs.Lines.{words}
-use Rattle.script_cli.specs.Numbers.{number, hex, sixteen_bytes, kind}
-use Rattle.script_cli.specs.Pieces.{piece}
-use Rattle.script_cli.specs.Verbs.{verb_named, queue_step, command_step}
+use Rattle.std.specs.Prelude.{ℕ, ◌^◌, ◌==◌, nat_lt, nat_le, Bool, false, Option, Some, None, Result, Ok, Err, List, [], ◌∷◌, ◌++◌, length, if◌then◌else◌}
+use Rattle.io_commands.specs.{Asked.Request, declared.request.{Kind.Kind, Piece.Piece}}
+use Rattle.script_cli.specs.{Lines.words, Numbers.{number, hex, sixteen_bytes, kind}, Pieces.piece, Verbs.{verb_named, queue_step, command_step}}
 use Rattle.script_cli.specs.declared.fault.LineFault.{LineFault}
 use Rattle.script_cli.specs.declared.fault.LineFault.TheVariants.{LongLine, NotAscii, UnknownVerb, MissingWord, BadKind, BadNumber, BadHex, BadPiece, ExtraWord}
-use Rattle.script_cli.specs.declared.script.Line.{Line}
-use Rattle.script_cli.specs.declared.script.Line.TheVariants as line
-use Rattle.script_cli.specs.declared.verb.CommandVerb.{CommandVerb}
-use Rattle.script_cli.specs.declared.verb.QueueVerb.{QueueVerb}
-use Rattle.script_cli.specs.declared.verb.Verb.{Verb}
+use Rattle.script_cli.specs.declared.{script.Line.Line, verb.{CommandVerb.CommandVerb, QueueVerb.QueueVerb, Verb.Verb}}
 use Rattle.script_cli.specs.declared.verb.Verb.TheVariants.{Reserve, Fill, Forge, Reset, Owners, OnQueue, OnCommand}
+use Rattle.script_cli.specs.declared.script.Line.TheVariants as line
 use Rattle.step_core.specs.declared.step.Step.TheVariants as step
 
 abbrev pub Words : Type 0

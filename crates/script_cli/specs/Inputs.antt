@@ -1,6 +1,5 @@
 -- What is read of a reader and what goes to a writer, where these tell their bytes; of others nothing is known.
-use Rattle.std.specs.Prelude.{◌≡◌, ℕ, ◌+◌, Option, Some, None, List, take, ◌++◌}
-use Rattle.std.specs.Io.KnownBytes.{Appends}
+use Rattle.std.specs.{Io.KnownBytes.Appends, Prelude.{◌≡◌, ℕ, ◌+◌, Option, Some, None, List, take, ◌++◌}}
 use Rattle.block_image.specs.Blocks.{IsImage}
 use Rattle.script_cli.specs.declared.input.ImageFault.{ImageFault}
 use Rattle.script_cli.specs.declared.input.ImageFault.TheVariants as image_fault

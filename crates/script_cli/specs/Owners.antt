@@ -1,14 +1,8 @@
 -- The text of the owners of all pages, and of the counts.
-use Rattle.std.specs.Prelude.{ℕ, ◌+◌, ◌==◌, ◌&&◌, Bool, true, false, List, [], ◌∷◌, ◌++◌, codes, if◌then◌else◌}
-use Rattle.std.specs.Fmt.{decimal}
-use Rattle.page_ledger.specs.Owners.{is_same_half}
-use Rattle.page_ledger.specs.declared.owner.Counts.{Counts}
-use Rattle.page_ledger.specs.declared.owner.Owner.{Owner}
-use Rattle.page_ledger.specs.declared.owner.Owner.TheVariants.{Free, Queue, Command}
-use Rattle.page_ledger.specs.declared.owner.Role.{Role}
+use Rattle.std.specs.{Fmt.decimal, Prelude.{ℕ, ◌+◌, ◌==◌, ◌&&◌, Bool, true, false, List, [], ◌∷◌, ◌++◌, codes, if◌then◌else◌}}
+use Rattle.page_ledger.specs.{Owners.is_same_half, declared.owner.{Counts.Counts, Owner.{Owner, TheVariants.{Free, Queue, Command}}, Role.Role}}
 use Rattle.page_ledger.specs.declared.owner.Role.TheVariants.{Data, Chain}
-use Rattle.page_memory.specs.declared.page.Half.{Half}
-use Rattle.page_memory.specs.declared.page.Half.TheVariants.{Submission, Completion}
+use Rattle.page_memory.specs.declared.page.Half.{Half, TheVariants.{Submission, Completion}}
 
 abbrev pub is_same_role : Role → Role → Bool
 is_same_role Data Data = true

@@ -1,9 +1,7 @@
 -- The pieces that words stand for: `OFFSET+LEN` is data, `xLEN` is a bucket.
 use Rattle.std.specs.Prelude.{ℕ, ◌^◌, ◌==◌, Bool, Option, Some, None, List, [], ◌∷◌, option_and_then, if◌then◌else◌}
-use Rattle.io_commands.specs.declared.request.Piece.{Piece}
-use Rattle.io_commands.specs.declared.request.Piece.TheVariants.{Data, Bucket}
-use Rattle.script_cli.specs.Lines.{before, onward}
-use Rattle.script_cli.specs.Numbers.{number}
+use Rattle.io_commands.specs.declared.request.Piece.{Piece, TheVariants.{Data, Bucket}}
+use Rattle.script_cli.specs.{Lines.{before, onward}, Numbers.number}
 
 abbrev pub number32 : List ℕ → Option ℕ
 number32 word = number (2 ^ 32) word

@@ -1,22 +1,14 @@
 -- The text of what a step answered.
-use Rattle.std.specs.Prelude.{ℕ, ◌+◌, ◌/◌, ◌%◌, ◌==◌, true, List, [], ◌∷◌, ◌++◌, codes, if◌then◌else◌}
-use Rattle.std.specs.Fmt.{decimal, digit_glyph}
-use Rattle.controller_walk.specs.declared.walk.WalkState.{WalkState}
-use Rattle.controller_walk.specs.declared.walk.WalkState.TheVariants.{More, End, Fault}
+use Rattle.std.specs.{Fmt.{decimal, digit_glyph}, Prelude.{ℕ, ◌+◌, ◌/◌, ◌%◌, ◌==◌, true, List, [], ◌∷◌, ◌++◌, codes, if◌then◌else◌}}
+use Rattle.controller_walk.specs.declared.walk.WalkState.{WalkState, TheVariants.{More, End, Fault}}
 use Rattle.entry_codec.specs.Status.{status_text}
-use Rattle.io_commands.specs.declared.draft.FillFault.{FillFault}
-use Rattle.io_commands.specs.declared.draft.FillFault.TheVariants.{NotASource, WrongLength}
-use Rattle.io_commands.specs.declared.request.RequestFault.{RequestFault}
+use Rattle.io_commands.specs.declared.{draft.FillFault.{FillFault, TheVariants.{NotASource, WrongLength}}, request.RequestFault.RequestFault}
 use Rattle.io_commands.specs.declared.request.RequestFault.TheVariants.{TooManyPieces, EmptyPiece, CrossesPage, BadCount, LengthMismatch}
-use Rattle.machine_model.specs.declared.words.Reaped.{Reaped}
-use Rattle.machine_model.specs.declared.words.Reaped.TheVariants.{Empty, Done, AdminDone, Rejected}
-use Rattle.machine_model.specs.declared.words.Refusal.{Refusal}
-use Rattle.machine_model.specs.declared.words.Refusal.TheVariants as refusal
-use Rattle.machine_model.specs.declared.words.RejectedFor.{RejectedFor}
+use Rattle.machine_model.specs.declared.words.{Reaped.{Reaped, TheVariants.{Empty, Done, AdminDone, Rejected}}, Refusal.Refusal, RejectedFor.RejectedFor}
 use Rattle.machine_model.specs.declared.words.RejectedFor.TheVariants.{WrongQueue, BadHead, UnknownId}
-use Rattle.script_cli.specs.Verbs.{verb_text}
-use Rattle.script_cli.specs.declared.verb.Verb.{Verb}
+use Rattle.script_cli.specs.{Verbs.verb_text, declared.verb.Verb.Verb}
 use Rattle.step_core.specs.Values.{Reply}
+use Rattle.machine_model.specs.declared.words.Refusal.TheVariants as refusal
 use Rattle.step_core.specs.declared.step.Reply.TheVariants as reply
 
 -- Lists

@@ -1,32 +1,15 @@
 -- What a run of a script prints, and how it may end.
-use Rattle.std.specs.Prelude.{◌≡◌, ◌⊎◌, ℕ, Option, Some, None, Ok, Err, List, [], ◌∷◌, ◌++◌, length}
-use Rattle.std.specs.List.{AllByRecursion, Contains}
-use Rattle.std.specs.Io.KnownBytes.{Keeps}
-use Rattle.machine_model.specs.Claims.{claims_of, counts_of}
-use Rattle.machine_model.specs.Script.{Table, table}
-use Rattle.machine_model.specs.State.{State}
-use Rattle.machine_model.specs.declared.words.OpenRefusal.{OpenRefusal}
+use Rattle.std.specs.{Io.KnownBytes.Keeps, List.{AllByRecursion, Contains}, Prelude.{◌≡◌, ◌⊎◌, ℕ, Option, Some, None, Ok, Err, List, [], ◌∷◌, ◌++◌, length}}
+use Rattle.machine_model.specs.{Claims.{claims_of, counts_of}, Script.{Table, table}, State.State, declared.words.OpenRefusal.OpenRefusal}
+use Rattle.page_ledger.specs.{Owners.owner_at, declared.owner.Owner.Owner}
+use Rattle.script_cli.specs.{Inputs.{IsTold, Gains, IsFront}, Owners.{owners_text, counts_line}, Replies.reply_line, Scripts.script_of, Verbs.verb_of}
+use Rattle.script_cli.specs.declared.{fault.{RunFault.RunFault, ScriptFault.ScriptFault}, script.{Line.Line, Numbered.Numbered}}
+use Rattle.step_core.specs.{Bench.Does, Going.IsFitStep, Opening.opening_of, Values.{Step, Reply}}
+use Rattle.host_core.specs.{Opening.refusal_of_config, declared.config.Config.Config}
 use Rattle.machine_model.specs.declared.words.OpenRefusal.TheVariants as opening
-use Rattle.page_ledger.specs.Owners.{owner_at}
-use Rattle.page_ledger.specs.declared.owner.Owner.{Owner}
-use Rattle.script_cli.specs.Inputs.{IsTold, Gains, IsFront}
-use Rattle.script_cli.specs.Owners.{owners_text, counts_line}
-use Rattle.script_cli.specs.Replies.{reply_line}
-use Rattle.script_cli.specs.Scripts.{script_of}
-use Rattle.script_cli.specs.Verbs.{verb_of}
-use Rattle.script_cli.specs.declared.fault.RunFault.{RunFault}
 use Rattle.script_cli.specs.declared.fault.RunFault.TheVariants as run
-use Rattle.script_cli.specs.declared.fault.ScriptFault.{ScriptFault}
 use Rattle.script_cli.specs.declared.fault.ScriptFault.TheVariants as fault
-use Rattle.script_cli.specs.declared.script.Line.{Line}
 use Rattle.script_cli.specs.declared.script.Line.TheVariants as line
-use Rattle.script_cli.specs.declared.script.Numbered.{Numbered}
-use Rattle.step_core.specs.Bench.{Does}
-use Rattle.step_core.specs.Going.{IsFitStep}
-use Rattle.step_core.specs.Values.{Reply}
-use Rattle.host_core.specs.Opening.{refusal_of_config}
-use Rattle.step_core.specs.Opening.{opening_of}
-use Rattle.host_core.specs.declared.config.Config.{Config}
 
 -- Lines whose numbers fit, a request's and the 16 bytes of an entry, as those of each script without faults do
 
@@ -48,6 +31,10 @@ AreFirstOwners s owners = (p : ℕ) (owner : Owner) → owner_at owners p ≡ So
 pub record AreOwners (s : State) (owners : List Owner) : Type 0 where
   pub all : length owners ≡ length s.memory
   pub claim : AreFirstOwners s owners
+
+-- what a step answers, its line, and what it leaves
+abbrev pub PrintsAnswer : Table → ℕ → Step → Reply → List ℕ → Table → Type 0
+PrintsAnswer t number what answer text new = Does t what answer new × (text ≡ reply_line number (verb_of what) answer)
 
 -- what a line of a script prints, and what it leaves
 abbrev pub PrintsLine : Table → ℕ → Line → List ℕ → Table → Type 0

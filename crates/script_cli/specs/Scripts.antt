@@ -1,16 +1,10 @@
 -- What a script is, or its first fault.
-use Rattle.std.specs.Prelude.{ℕ, ◌+◌, nat_lt, Option, Result, Ok, Err, List, [], ◌∷◌, ◌++◌, length, ◌≡◌, if◌then◌else◌}
-use Rattle.std.specs.Result.{result_err}
-use Rattle.script_cli.specs.Grammar.{line_of}
-use Rattle.script_cli.specs.Lines.{lines}
-use Rattle.script_cli.specs.declared.fault.LineFault.{LineFault}
-use Rattle.script_cli.specs.declared.fault.LineFault.TheVariants.{TooManyLines}
-use Rattle.script_cli.specs.declared.fault.ScriptFault.{ScriptFault}
-use Rattle.script_cli.specs.declared.fault.ScriptFault.TheVariants as fault
-use Rattle.script_cli.specs.declared.script.Line.{Line}
-use Rattle.script_cli.specs.declared.script.Line.TheVariants as line
-use Rattle.script_cli.specs.declared.script.Numbered.{Numbered}
+use Rattle.std.specs.{Prelude.{ℕ, ◌+◌, nat_lt, Option, Result, Ok, Err, List, [], ◌∷◌, ◌++◌, length, ◌≡◌, if◌then◌else◌}, Result.result_err}
+use Rattle.script_cli.specs.{Grammar.line_of, Lines.lines, declared.fault.{LineFault.{LineFault, TheVariants.TooManyLines}, ScriptFault.ScriptFault}}
+use Rattle.script_cli.specs.declared.script.{Line.Line, Numbered.Numbered}
 use Rattle.step_core.specs.Values.{Step}
+use Rattle.script_cli.specs.declared.fault.ScriptFault.TheVariants as fault
+use Rattle.script_cli.specs.declared.script.Line.TheVariants as line
 
 -- the line of this number
 abbrev pub numbered_line : ℕ → List ℕ → Result Line LineFault

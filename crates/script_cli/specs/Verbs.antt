@@ -1,13 +1,10 @@
 -- The verbs, their words, and the steps of those that are told a queue or a command alone.
-use Rattle.std.specs.Prelude.{ℕ, Option, Some, None, List, [], ◌∷◌, codes, if◌then◌else◌}
-use Rattle.std.specs.Str.{bytes_eq}
-use Rattle.script_cli.specs.declared.verb.CommandVerb.{CommandVerb}
-use Rattle.script_cli.specs.declared.verb.CommandVerb.TheVariants as command
-use Rattle.script_cli.specs.declared.verb.QueueVerb.{QueueVerb}
-use Rattle.script_cli.specs.declared.verb.QueueVerb.TheVariants as queue
-use Rattle.script_cli.specs.declared.verb.Verb.{Verb}
+use Rattle.std.specs.{Prelude.{ℕ, Option, Some, None, List, [], ◌∷◌, codes, if◌then◌else◌}, Str.bytes_eq}
+use Rattle.script_cli.specs.declared.verb.{CommandVerb.CommandVerb, QueueVerb.QueueVerb, Verb.Verb}
 use Rattle.script_cli.specs.declared.verb.Verb.TheVariants.{Reserve, Fill, Forge, Reset, Owners, OnQueue, OnCommand}
 use Rattle.step_core.specs.Values.{Step}
+use Rattle.script_cli.specs.declared.verb.CommandVerb.TheVariants as command
+use Rattle.script_cli.specs.declared.verb.QueueVerb.TheVariants as queue
 use Rattle.step_core.specs.declared.step.Step.TheVariants as step
 
 abbrev pub queue_verb_text : QueueVerb → List ℕ

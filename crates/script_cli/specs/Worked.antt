@@ -1,8 +1,6 @@
 -- Worked texts.
 use Rattle.std.specs.Prelude.{ℕ, List, [], ◌∷◌, ◌++◌, codes}
-use Rattle.page_ledger.specs.declared.owner.Owner.{Owner}
-use Rattle.page_ledger.specs.declared.owner.Owner.TheVariants.{Free, Queue, Command}
-use Rattle.page_ledger.specs.declared.owner.Role.TheVariants.{Data}
+use Rattle.page_ledger.specs.declared.owner.{Owner.{Owner, TheVariants.{Free, Queue, Command}}, Role.TheVariants.Data}
 use Rattle.page_memory.specs.declared.page.Half.TheVariants.{Submission, Completion}
 
 -- a line with its line feed

@@ -20,6 +20,7 @@ mod owners;
 mod reply;
 mod run;
 mod script;
+pub mod transcripts;
 mod values;
 mod verb;
 mod words;

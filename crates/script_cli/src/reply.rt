@@ -66,7 +66,7 @@ fn behind_eight(byte: u8, bytes: &[u8]) -> Option<&[u8]>
 }
 
 /// Puts bytes as their longest runs.
-#[tactic(auto, using(crate::proofs::Gathered::eight_more, crate::proofs::Gathered::eight_fewer))]
+#[tactic(auto, using(crate::proofs::Texts::eight_more, crate::proofs::Texts::eight_fewer))]
 pub fn put_gathered(out: &mut String, bytes: &[u8]) -> Result<(), AllocError>
     ensures { OnOk result (string_bytes out.new ≡ string_bytes out.old ++ gathered_text bytes.now) }
 {

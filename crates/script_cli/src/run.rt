@@ -6,7 +6,7 @@ ghost use Rattle.machine_model.specs.Claims.{counts_of};
 ghost use Rattle.machine_model.specs.Script.{table};
 ghost use Rattle.script_cli.specs.Inputs.{Gains};
 ghost use Rattle.script_cli.specs.Owners.{counts_line};
-ghost use Rattle.script_cli.specs.Runs.{AreFirstOwners, PrintsLine, IsRunText, IsRunTo, IsFrontOfFirst, HasScript, IsNoScript, IsNoOpening, Writes, EndsWith};
+ghost use Rattle.script_cli.specs.Runs.{AreFirstOwners, PrintsAnswer, PrintsLine, IsRunText, IsRunTo, IsFrontOfFirst, HasScript, IsNoScript, IsNoOpening, Writes, EndsWith};
 ghost use Rattle.script_cli.specs.declared.fault.RunFault.TheVariants as run;
 ghost use Rattle.script_cli.specs.declared.script.Line.TheVariants as line;
 ghost use Rattle.host_core.specs.Opening.{refusal_of_config};
@@ -64,7 +64,7 @@ pub fn play_step(
     text: &mut String,
 ) -> Result<Reply, AllocError>
     requires empty { string_bytes text.old ≡ [] }
-    ensures { OnOk result (PrintsLine bench.old.table number (line.Step step) (string_bytes text.new) bench.new.table) }
+    ensures { IfOk result (λ reply. PrintsAnswer bench.old.table number step reply (string_bytes text.new) bench.new.table) }
 {
     let verb = Verb::of(&step);
     let reply = bench.step(step);

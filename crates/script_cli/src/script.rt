@@ -100,7 +100,7 @@ fn push_line(lines: &mut Vec<Numbered>, number: u32, line: Line) -> Result<(), A
 }
 
 /// The lines of a text that do something.
-#[tactic(auto, using(crate::proofs::Reading::lines_are_cut, crate::proofs::Reading::after_is_shorter, crate::proofs::Reading::line_is_next))]
+#[tactic(auto, using(crate::proofs::Texts::lines_are_cut, crate::proofs::Texts::after_is_shorter, crate::proofs::Texts::line_is_next))]
 fn read_lines(alloc: Global, text: &[u8]) -> Result<Script, ScriptFault>
     requires { length text.now ≤ 1048576 }
     ensures { AreLines text.now result }
@@ -129,7 +129,7 @@ fn read_lines(alloc: Global, text: &[u8]) -> Result<Script, ScriptFault>
 ///
 /// [`ScriptFault::TooLong`] before any line is looked at, else the first fault of the first line that has one; and
 /// [`ScriptFault::Memory`] where memory is refused.
-#[tactic(auto, using(crate::proofs::Reading::lines_are_read))]
+#[tactic(auto, using(crate::proofs::Texts::lines_are_read))]
 pub fn read_script(alloc: Global, text: &[u8]) -> Result<Script, ScriptFault>
     ensures { IsReading text.now result }
 {

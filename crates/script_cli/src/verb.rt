@@ -166,7 +166,7 @@ pub const VERBS: [Verb; 22] = [
 ];
 
 /// Whether a word is this name. Most names differ from it in their length or their first byte.
-#[tactic(auto, using(crate::proofs::Names::other_length))]
+#[tactic(auto, using(crate::proofs::Texts::other_length))]
 fn is_name(name: &[u8], word: &[u8]) -> bool
     ensures { result ≡ bytes_eq name.now word.now }
 {

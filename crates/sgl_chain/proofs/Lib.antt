@@ -1,13 +1,3 @@
 pub mod Back
-pub mod Built
-pub mod Counts
-pub mod Cuts
-pub mod JoinedLists
-pub mod Joins
-pub mod Larger
-pub mod Laying
-pub mod Numbered
-pub mod Reading
 pub mod Spelled
-pub mod Unique
-pub mod WorkedList
+pub mod Joins

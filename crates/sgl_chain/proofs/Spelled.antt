@@ -1,23 +1,211 @@
 -- The segments of parts, laid in their pages, spell the parts.
-use Rattle.std.proofs.Common.{subst, sym, ◌∙◌, arith, ◌≡◌, ◌≤◌, ◌<◌, ◌+◌, ◌-◌, ◌*◌, ◌^◌, ◌++◌, ℕ, suc, refl, ap, add-zero, inl, inr, List, [], ◌∷◌, Some, All, length, map, take, drop, get_or, length-append, lit≤}
-use Rattle.std.proofs.lemmas.Bool.{cases_lt}
-use Rattle.std.proofs.lemmas.Bool.Decides.{nat_tests}
-use Rattle.std.proofs.lemmas.List.{get_or_append_left, get_or-append-add, length-map, take-append-drop, length-take-le, length-drop}
-use Rattle.std.proofs.lemmas.List.Elements.{All-head, All-tail, All-nil, All-cons, All-map, All-push, All-take, All-drop}
-use Rattle.sgl_descriptor.proofs.Spells.{spells_itself}
-use Rattle.sgl_descriptor.specs.declared.Descriptor.{Descriptor}
-use Rattle.sgl_descriptor.specs.declared.Descriptor.TheVariants.{Segment, LastSegment}
-use Rattle.sgl_descriptor.specs.declared.Part.{Part}
-use Rattle.sgl_descriptor.specs.declared.Part.TheVariants.{Data, Bucket}
-use Rattle.sgl_descriptor.specs.Spelling.{Fits, spelling, IsLink}
-use Rattle.sgl_descriptor.specs.Targets.{descriptor_of_part}
-use Rattle.page_memory.specs.Memory.{Memory, bytes_at}
-use Rattle.sgl_chain.specs.Chains.{link, segments_on, segment_bytes, first_of, pages_needed, AllFit}
-use Rattle.sgl_chain.specs.Spells.{IsSegment, SpellsBy, Stand, IsLaid, Holds, Spells, descriptors_in}
-use Rattle.sgl_chain.specs.Laws.{HasPages, AreTyped}
-use Rattle.sgl_chain.proofs.Counts.{needed_one}
-use Rattle.sgl_chain.proofs.Cuts.{IsCut, cut_of, cut_rest, one_alone, on_one, on_more, one_page}
-use Rattle.sgl_chain.proofs.Laying.{length-spelling}
+use Rattle.std.proofs.Common.{arith, ◌≡◌, ◌≤◌, ◌<◌, ◌+◌, ◌-◌, ◌*◌, ◌/◌, ℕ, zero, suc, ap, sym, ◌∙◌, inl, inr, subst, ◌++◌, refl, List, [], ◌∷◌, length, map, take, drop, get_or, length-append, ◌^◌, add-zero, Some, All, lit≤}
+use Rattle.std.proofs.{Math.{Nat.{add-div_right, div-eq_of_lt, div-mul-le_self}, Seq.{take-append_seam, drop-append-add}}, lemmas.Bool.cases_lt}
+use Rattle.std.proofs.lemmas.{Bool.Decides.nat_tests, Grind.{common_steps, flat_map-append}}
+use Rattle.std.proofs.lemmas.List.{length-drop, take_more, append-nil, length-take-le, drop-drop, take_all, get_or_append_left, get_or-append-add, length-map, take-append-drop}
+use Rattle.std.proofs.lemmas.{List.Elements.{All-head, All-tail, All-nil, All-cons, All-map, All-push, All-take, All-drop}, Nat.le-div}
+use Rattle.sgl_chain.specs.Chains.{segments_within, pages_needed, link, segments_on, segment_bytes, first_of, AllFit, segment_at, Linked, segments_from}
+use Rattle.sgl_chain.specs.{Laws.{HasPages, AreTyped}, Spells.{IsSegment, SpellsBy, Stand, IsLaid, Holds, Spells, descriptors_in}}
+use Rattle.sgl_descriptor.{proofs.Spells.spells_itself, specs.{Spelling.{spelling, Fits, IsLink}, Targets.descriptor_of_part, declared.Descriptor.Descriptor}}
+use Rattle.sgl_descriptor.specs.declared.{Descriptor.TheVariants.{DataBlock, BitBucket, Segment, LastSegment}, Part.{Part, TheVariants.{Data, Bucket}}}
+use Rattle.page_memory.specs.{Memory.{Memory, bytes_at}, Pages.with_bytes}
+
+-- How many segments parts need.
+
+-- the bound on the recursion doesn't matter
+pub within_same : (b c k s : ℕ) → 2 ≤ s → 1 ≤ k → k ≤ b → k ≤ c → segments_within b k s ≡ segments_within c k s
+within_same zero c k s two some p q = absurd (omega arith)
+within_same (suc b) zero k s two some p q = absurd (omega arith)
+within_same (suc b) (suc c) k s two some p q =
+    let again : 1 ≤ k - (s - 1) → k - (s - 1) ≤ b → k - (s - 1) ≤ c → segments_within b (k - (s - 1)) s ≡ segments_within c (k - (s - 1)) s = within_same b c (k - (s - 1)) s two in
+    grind (arith, nat_tests)
+
+pub within_some : (b k s : ℕ) → 1 ≤ k → k ≤ b → 1 ≤ segments_within b k s
+within_some zero k s some p = absurd (omega arith)
+within_some (suc b) k s some p = grind (arith, nat_tests)
+
+pub within_one : (b k s : ℕ) → 1 ≤ k → k ≤ b → k ≤ s → segments_within b k s ≡ 1
+within_one zero k s some p q = absurd (omega arith)
+within_one (suc b) k s some p q = grind (arith, nat_tests)
+
+-- of more parts than stand in one segment, the rest needs one segment less
+pub within_rest : (k s : ℕ) → 2 ≤ s → s < k → segments_within k k s ≡ 1 + segments_within (k - (s - 1)) (k - (s - 1)) s
+within_rest zero s two more = absurd (omega arith)
+within_rest (suc k) s two more =
+    let same : segments_within k (suc k - (s - 1)) s ≡ segments_within (suc k - (s - 1)) (suc k - (s - 1)) s = within_same k (suc k - (s - 1)) (suc k - (s - 1)) s two (omega arith) (omega arith) (omega arith) in
+    grind (arith, nat_tests)
+
+-- no more segments than parts
+pub within_few : (b k s : ℕ) → segments_within b k s ≤ b
+within_few zero k s = omega arith
+within_few (suc b) k s =
+    let again : segments_within b (k - (s - 1)) s ≤ b = within_few b (k - (s - 1)) s in
+    grind (arith, nat_tests)
+
+-- two parts or more need a page for each segment
+pub needed_many : (k s : ℕ) → 2 ≤ k → pages_needed k s ≡ segments_within k k s
+needed_many k s two = grind (arith, nat_tests)
+
+-- one part needs no page
+pub needed_one : (k s : ℕ) → k ≤ 1 → pages_needed k s ≡ 0
+needed_one k s one = grind (arith, nat_tests)
+
+pub needed_few : (k s : ℕ) → pages_needed k s ≤ k
+needed_few k s = let few : segments_within k k s ≤ k = within_few k k s in grind (arith, nat_tests)
+
+-- the number of segments by a division
+within_divided : (b k s : ℕ) → 2 ≤ s → 2 ≤ k → k ≤ b → segments_within b k s ≡ (k - 2) / (s - 1) + 1
+within_divided zero k s low two p = absurd (omega arith)
+within_divided (suc b) k s low two p = elim (cases_lt s k) [
+  | inl more ↦
+      let again : segments_within b (k - (s - 1)) s ≡ (k - (s - 1) - 2) / (s - 1) + 1 = within_divided b (k - (s - 1)) s low (omega arith) (omega arith) in
+      let whole : k - (s - 1) - 2 + (s - 1) ≡ k - 2 = omega arith in
+      let step : (k - (s - 1) - 2 + (s - 1)) / (s - 1) ≡ (k - (s - 1) - 2) / (s - 1) + 1 = add-div_right (k - (s - 1) - 2) (omega arith) in
+      let divided : (k - 2) / (s - 1) ≡ (k - (s - 1) - 2) / (s - 1) + 1 = ap (λ (n : ℕ). n / (s - 1)) (sym whole) ∙ step in
+      grind (arith, nat_tests)
+  | inr few ↦
+      let none : (k - 2) / (s - 1) ≡ 0 = div-eq_of_lt (omega arith) in
+      within_one (suc b) k s (omega arith) p few ∙ sym (ap (λ (n : ℕ). n + 1) none)
+]
+
+pub needed_divided : (k s : ℕ) → 2 ≤ s → 2 ≤ k → pages_needed k s ≡ (k - 2) / (s - 1) + 1
+needed_divided k s low two = needed_many k s two ∙ within_divided k k s low two (omega arith)
+
+-- more parts need no fewer pages
+pub needed_more : (j k s : ℕ) → 2 ≤ s → j ≤ k → pages_needed j s ≤ pages_needed k s
+needed_more j k s low more = elim (cases_lt 1 j) [
+  | inl two ↦
+      let few : (j - 2) / (s - 1) ≤ (k - 2) / (s - 1) = le-div ((j - 2) / (s - 1)) (k - 2) (s - 1) (omega arith) (let part : (j - 2) / (s - 1) * (s - 1) ≤ j - 2 = div-mul-le_self (j - 2) (s - 1) in omega arith) in
+      let those : pages_needed j s ≡ (j - 2) / (s - 1) + 1 = needed_divided j s low (omega arith) in
+      let these : pages_needed k s ≡ (k - 2) / (s - 1) + 1 = needed_divided k s low (omega arith) in
+      omega arith
+  | inr one ↦ let none : pages_needed j s ≡ 0 = needed_one j s one in omega arith
+]
+
+-- The segments of parts, by the length of both lists.
+
+-- parts with a page for each of their segments, of which there is one at least
+pub record IsCut (s : ℕ) (pages : List ℕ) (parts : List Part) : Type 0 where
+  pub low : 2 ≤ s
+  pub high : s ≤ 256
+  pub some : 0 < length parts
+  pub needed : length pages ≡ segments_within (length parts) (length parts) s
+
+pub cut_of : (s : ℕ) (pages : List ℕ) (parts : List Part) → HasPages s pages parts → 2 ≤ length parts → IsCut s pages parts
+cut_of s pages parts has two = record { low = has.low; high = has.high; some = has.some; needed = has.needed ∙ needed_many (length parts) s two }
+
+pub on_one : (s : ℕ) (pages : List ℕ) (parts : List Part) → 1 ≤ length pages → length parts ≤ s → segments_on s pages parts ≡ map descriptor_of_part parts ∷ []
+on_one s [] parts some few = absurd (omega arith)
+on_one s (page ∷ pages) parts some few = grind (arith, nat_tests)
+
+pub on_more : (s : ℕ) (pages : List ℕ) (parts : List Part) (d : ℕ) → 2 ≤ length pages → s < length parts →
+    segments_on s pages parts ≡ (map descriptor_of_part (take (s - 1) parts) ++ link s (get_or pages 1 d) (length parts - (s - 1)) ∷ []) ∷ segments_on s (drop 1 pages) (drop (s - 1) parts)
+on_more s [] parts d two more = absurd (omega arith)
+on_more s (page ∷ []) parts d two more = absurd (omega arith)
+on_more s (page ∷ next ∷ pages) parts d two more = grind (arith, nat_tests)
+
+-- two pages at least, where the parts are more than stand in one segment
+pub two_pages : (s k n : ℕ) → 2 ≤ s → s < k → n ≡ segments_within k k s → 2 ≤ n
+two_pages s k n low more is =
+    let rest : segments_within k k s ≡ 1 + segments_within (k - (s - 1)) (k - (s - 1)) s = within_rest k s low more in
+    let some : 1 ≤ segments_within (k - (s - 1)) (k - (s - 1)) s = within_some (k - (s - 1)) (k - (s - 1)) s (omega arith) (omega arith) in
+    omega arith
+
+pub one_page : (s k n : ℕ) → 0 < k → n ≡ segments_within k k s → 1 ≤ n
+one_page s k n some is = let one : 1 ≤ segments_within k k s = within_some k k s (omega arith) (omega arith) in omega arith
+
+length_later : (xs : List ℕ) → length (take (length xs - 1) (drop 1 xs)) ≡ length xs - 1
+length_later xs = grind (arith, common_steps)
+
+-- the pages of the rest are as many as it needs
+pub pages_of_rest : (s k r : ℕ) (pages : List ℕ) → 2 ≤ s → s < k → length pages ≡ segments_within k k s → r + (s - 1) ≡ k → length (take (length pages - 1) (drop 1 pages)) ≡ segments_within r r s
+pages_of_rest s k r pages low more is rest =
+    let e : segments_within k k s ≡ 1 + segments_within (k - (s - 1)) (k - (s - 1)) s = within_rest k s low more in
+    let same : k - (s - 1) ≡ r = omega arith in
+    let f : segments_within k k s ≡ 1 + segments_within r r s = subst (λ (x : ℕ). segments_within k k s ≡ 1 + segments_within x x s) same e in
+    length_later pages ∙ omega arith
+
+-- the premises for the rest
+pub cut_rest : (s page : ℕ) (pages : List ℕ) (parts : List Part) → IsCut s (page ∷ pages) parts → s < length parts → IsCut s pages (drop (s - 1) parts)
+cut_rest s page pages parts cut more =
+    let rest : length (drop (s - 1) parts) ≡ length parts - (s - 1) = length-drop (s - 1) parts in
+    let low : 2 ≤ s = cut.low in
+    let e : segments_within (length parts) (length parts) s ≡ 1 + segments_within (length parts - (s - 1)) (length parts - (s - 1)) s = within_rest (length parts) s cut.low more in
+    let n : suc (length pages) ≡ segments_within (length parts) (length parts) s = cut.needed in
+    record {
+      low = cut.low;
+      high = cut.high;
+      some = omega arith;
+      needed = rw rest (omega arith);
+    }
+
+-- no second segment, where there is one page
+pub one_alone : (s page : ℕ) (parts : List Part) → IsCut s (page ∷ []) parts → length parts ≤ s
+one_alone s page parts cut = elim (cases_lt s (length parts)) [
+  | inl more ↦ absurd (let two : 2 ≤ 1 = two_pages s (length parts) 1 cut.low more cut.needed in omega arith)
+  | inr few ↦ few
+]
+
+-- one segment on each page
+pub length-segments_on : (s : ℕ) (pages : List ℕ) (parts : List Part) → IsCut s pages parts → length (segments_on s pages parts) ≡ length pages
+length-segments_on s [] parts cut = refl
+length-segments_on s (page ∷ []) parts cut = ap length (on_one s (page ∷ []) parts (omega arith) (one_alone s page parts cut))
+length-segments_on s (page ∷ next ∷ pages) parts cut = elim (cases_lt s (length parts)) [
+  | inl more ↦
+      let again : length (segments_on s (next ∷ pages) (drop (s - 1) parts)) ≡ length (next ∷ pages) = length-segments_on s (next ∷ pages) (drop (s - 1) parts) (cut_rest s page (next ∷ pages) parts cut more) in
+      ap length (on_more s (page ∷ next ∷ pages) parts next (omega arith) more) ∙ ap suc again
+  | inr few ↦
+      let one : segments_within (length parts) (length parts) s ≡ 1 = within_one (length parts) (length parts) s cut.some (omega arith) few in
+      let n : suc (suc (length pages)) ≡ segments_within (length parts) (length parts) s = cut.needed in
+      absurd (omega arith)
+]
+
+-- Segments laid in pages.
+
+pub length-spelling : (d : Descriptor) → length (spelling d) ≡ 16
+length-spelling (DataBlock addr len) = refl
+length-spelling (BitBucket len) = refl
+length-spelling (Segment addr len) = refl
+length-spelling (LastSegment addr len) = refl
+
+pub length-segment_bytes : (descriptors : List Descriptor) → length (segment_bytes descriptors) ≡ 16 * length descriptors
+length-segment_bytes [] = refl
+length-segment_bytes (d ∷ descriptors) = length-append (spelling d) (segment_bytes descriptors) ∙ omega (arith, length-spelling d, length-segment_bytes descriptors)
+
+drop_again : (i : ℕ) (bytes : List ℕ) → drop 16 (drop (16 * i) bytes) ≡ drop (16 * (i + 1)) bytes
+drop_again i bytes = drop-drop 16 (16 * i) bytes ∙ ap (λ (n : ℕ). drop n bytes) (omega arith)
+
+bytes_more : (descriptors : List Descriptor) (i : ℕ) (d : Descriptor) → i < length descriptors → segment_bytes (take (i + 1) descriptors) ≡ segment_bytes (take i descriptors) ++ spelling (get_or descriptors i d)
+bytes_more descriptors i d lt =
+    ap segment_bytes (take_more descriptors i d lt) ∙ flat_map-append spelling (take i descriptors) (get_or descriptors i d ∷ [])
+    ∙ ap (λ (x : List ℕ). segment_bytes (take i descriptors) ++ x) (append-nil (spelling (get_or descriptors i d)))
+
+take_seam : (n : ℕ) (a b : List ℕ) → length a ≡ n → take n (a ++ b) ≡ a
+take_seam n a b len = subst (λ (x : ℕ). take x (a ++ b) ≡ a) len (take-append_seam a b)
+
+drop_seam : (n k : ℕ) (a b : List ℕ) → length a ≡ n → drop (n + k) (a ++ b) ≡ drop k b
+drop_seam n k a b len = subst (λ (x : ℕ). drop (x + k) (a ++ b) ≡ drop k b) len (drop-append-add a b k)
+
+-- one more descriptor laid
+pub lay_more : (descriptors : List Descriptor) (i n : ℕ) (d : Descriptor) (start page : List ℕ) → i < length descriptors → n ≡ 16 →
+    page ≡ segment_bytes (take i descriptors) ++ drop (16 * i) start →
+    (take (16 * i) page ++ spelling (get_or descriptors i d)) ++ drop (16 * i + n) page ≡ segment_bytes (take (i + 1) descriptors) ++ drop (16 * (i + 1)) start
+lay_more descriptors i n d start page lt sixteen is =
+    let len : length (segment_bytes (take i descriptors)) ≡ 16 * i = length-segment_bytes (take i descriptors) ∙ ap (λ (x : ℕ). 16 * x) (length-take-le i descriptors (omega arith)) in
+    let front : take (16 * i) page ≡ segment_bytes (take i descriptors) = rw is (take_seam (16 * i) (segment_bytes (take i descriptors)) (drop (16 * i) start) len) in
+    let back : drop (16 * i + n) page ≡ drop (16 * (i + 1)) start =
+    (rw is (drop_seam (16 * i) n (segment_bytes (take i descriptors)) (drop (16 * i) start) len)) ∙ ap (λ (x : ℕ). drop x (drop (16 * i) start)) sixteen ∙ drop_again i start in
+    rw (front, back, bytes_more descriptors i d lt) refl
+
+-- all descriptors laid
+pub lay_all : (descriptors : List Descriptor) (i : ℕ) (start page : List ℕ) → i ≤ length descriptors → length descriptors ≤ i →
+    page ≡ segment_bytes (take i descriptors) ++ drop (16 * i) start → page ≡ with_bytes start 0 (segment_bytes descriptors)
+lay_all descriptors i start page le ge is =
+    let whole : take i descriptors ≡ descriptors = take_all i descriptors ge in
+    let len : 16 * i ≡ 0 + length (segment_bytes descriptors) = omega (arith, length-segment_bytes descriptors) in
+    is ∙ rw (whole, len) refl
+
+-- The segments of parts, laid in their pages, spell the parts.
 
 -- bytes that stand somewhere are read there
 bytes_held : (m : Memory) (place : ℕ) (bytes : List ℕ) → Holds m place bytes → bytes_at m place (length bytes) ≡ Some bytes
@@ -166,14 +354,6 @@ spells_alone : (m : Memory) (part : Part) → Spells m (descriptor_of_part part)
 spells_alone m (Data addr len) = ([], lit≤ tt, refl)
 spells_alone m (Bucket len) = ([], lit≤ tt, refl)
 
--- no page, where there is one part
-pub no_pages : (s : ℕ) (pages : List ℕ) (parts : List Part) → HasPages s pages parts → length parts ≤ 1 → pages ≡ []
-no_pages s [] parts has one = refl
-no_pages s (page ∷ pages) parts has one =
-    let none : pages_needed (length parts) s ≡ 0 = needed_one (length parts) s one in
-    let n : suc (length pages) ≡ pages_needed (length parts) s = has.needed in
-    absurd (omega arith)
-
 -- no second segment, where there is no page for a first
 pub one_part : (s : ℕ) (parts : List Part) → HasPages s [] parts → length parts ≤ 1
 one_part s parts has = elim (cases_lt 1 (length parts)) [
@@ -209,3 +389,35 @@ spells m s pages parts has typed most laid = spells_built m s pages parts has mo
     any_fit : (s : ℕ) (pages : List ℕ) (parts : List Part) → HasPages s pages parts → AreTyped pages parts → AllFit (segments_on s pages parts)
     any_fit s [] parts has typed = All-nil (λ descriptors. All Fits descriptors)
     any_fit s (page ∷ pages) parts has typed = segments_fit s (page ∷ pages) parts (cut_of s (page ∷ pages) parts has (two_parts s page pages parts has)) typed
+
+-- Laid segments, by their numbers.
+
+pub laid_each : (m : Memory) (pages : List ℕ) (segments : List (List Descriptor)) → IsLaid m pages segments → (i : ℕ) → i < length segments →
+    Holds m (4096 * get_or pages i 0) (segment_bytes (segment_at segments i))
+laid_each m pages [] laid i lt = absurd (omega arith)
+laid_each m [] (descriptors ∷ segments) laid i lt = absurd laid
+laid_each m (page ∷ pages) (descriptors ∷ segments) laid zero lt = laid.0
+laid_each m (page ∷ pages) (descriptors ∷ segments) laid (suc i) lt = laid_each m pages segments laid.1 i (omega arith)
+
+pub laid_all : (m : Memory) (pages : List ℕ) (segments : List (List Descriptor)) → length segments ≤ length pages →
+    ((i : ℕ) → i < length segments → Holds m (4096 * get_or pages i 0) (segment_bytes (segment_at segments i))) → IsLaid m pages segments
+laid_all m [] [] few each = tt
+laid_all m (page ∷ pages) [] few each = tt
+laid_all m [] (descriptors ∷ segments) few each = absurd (omega arith)
+laid_all m (page ∷ pages) (descriptors ∷ segments) few each = (each 0 (omega arith), laid_all m pages segments (omega arith) (λ i lt. each (suc i) (omega arith)))
+
+-- A segment by its number.
+
+pub found_descriptors : (segments : List (List Descriptor)) (i : ℕ) (segment : Linked) → i < length segments → segments_from segment ≡ drop i segments → segment.descriptors ≡ segment_at segments i
+found_descriptors [] i segment lt is = absurd (omega arith)
+found_descriptors (descriptors ∷ segments) zero segment lt is = cc
+found_descriptors (descriptors ∷ segments) (suc i) segment lt is = found_descriptors segments i segment (omega arith) is
+
+pub found_behind : (segments : List (List Descriptor)) (i : ℕ) (segment : Linked) → i < length segments → segments_from segment ≡ drop i segments → segment.behind ≡ drop (i + 1) segments
+found_behind [] i segment lt is = absurd (omega arith)
+found_behind (descriptors ∷ segments) zero segment lt is = cc
+found_behind (descriptors ∷ segments) (suc i) segment lt is =
+    found_behind segments i segment (omega arith) is ∙ ap (λ (n : ℕ). drop n (descriptors ∷ segments)) (next i)
+  where
+    next : (i : ℕ) → suc (i + 1) ≡ suc i + 1
+    next i = omega arith

@@ -1,12 +1,8 @@
 -- How the parts of a transfer are cut into segments, one on each page, and how the segments are linked.
-use Rattle.std.specs.Prelude.{◌+◌, ◌-◌, ◌*◌, ◌≤◌, ◌++◌, ◌∷◌, [], ℕ, zero, suc, List, Option, Some, None, if◌then◌else◌, nat_le, length, map, take, drop, slice_get, unwrap_or, All}
 use Rattle.std.specs.List.{filter_map, flat_map}
-use Rattle.sgl_descriptor.specs.declared.Descriptor.{Descriptor}
-use Rattle.sgl_descriptor.specs.declared.Descriptor.TheVariants.{DataBlock, BitBucket, Segment, LastSegment}
-use Rattle.sgl_descriptor.specs.declared.Part.{Part}
-use Rattle.sgl_descriptor.specs.declared.Part.TheVariants.{Data, Bucket}
-use Rattle.sgl_descriptor.specs.Spelling.{spelling, Fits}
-use Rattle.sgl_descriptor.specs.Targets.{descriptor_of_part}
+use Rattle.std.specs.Prelude.{◌+◌, ◌-◌, ◌*◌, ◌≤◌, ◌++◌, ◌∷◌, [], ℕ, zero, suc, List, Option, Some, None, if◌then◌else◌, nat_le, length, map, take, drop, slice_get, unwrap_or, All}
+use Rattle.sgl_descriptor.specs.{Spelling.{spelling, Fits}, Targets.descriptor_of_part, declared.Descriptor.Descriptor}
+use Rattle.sgl_descriptor.specs.declared.{Descriptor.TheVariants.{DataBlock, BitBucket, Segment, LastSegment}, Part.{Part, TheVariants.{Data, Bucket}}}
 
 -- Up to s parts stand in one segment. Of more, s - 1 stand in the first, and the rest in those behind it. The first
 -- argument bounds the recursion: there are never more segments than parts.

@@ -1,7 +1,6 @@
 -- Neighbouring parts as one: which parts join, and what a list of parts becomes.
 use Rattle.std.specs.Prelude.{◌≡◌, ◌+◌, ◌^◌, ◌==◌, ◌&&◌, ◌++◌, ◌∷◌, [], ℕ, zero, suc, Bool, false, List, if◌then◌else◌, nat_lt, length}
-use Rattle.sgl_descriptor.specs.declared.Part.{Part}
-use Rattle.sgl_descriptor.specs.declared.Part.TheVariants.{Data, Bucket}
+use Rattle.sgl_descriptor.specs.declared.Part.{Part, TheVariants.{Data, Bucket}}
 
 -- Two neighbours join where both are data, the first ends at the place where the second begins, and their lengths
 -- together fit 32 bits. Places are whole numbers: none is where a part ends that ends with the last place.

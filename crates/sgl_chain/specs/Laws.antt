@@ -1,11 +1,7 @@
 -- What holds of every chain.
 use Rattle.std.specs.Prelude.{◌≡◌, ◌↔◌, ◌≤◌, ◌<◌, ◌*◌, ◌^◌, ℕ, List, Some, All, length, slice_index}
-use Rattle.sgl_descriptor.specs.declared.Descriptor.{Descriptor}
-use Rattle.sgl_descriptor.specs.declared.Part.{Part}
-use Rattle.sgl_descriptor.specs.Spelling.{Fits}
-use Rattle.sgl_descriptor.specs.Targets.{descriptor_of_part}
-use Rattle.page_memory.specs.Memory.{Memory}
-use Rattle.page_memory.specs.Pages.{Pages, page_at, byte_at, with_bytes}
+use Rattle.sgl_descriptor.specs.{Spelling.Fits, Targets.descriptor_of_part, declared.{Descriptor.Descriptor, Part.Part}}
+use Rattle.page_memory.specs.{Memory.Memory, Pages.{Pages, page_at, byte_at, with_bytes}}
 use Rattle.sgl_chain.specs.Chains.{Sgl, pages_needed, first_of, segments_on, segment_at, segment_bytes, parts_of}
 use Rattle.sgl_chain.specs.Spells.{Spells, SpellsWhereLaid, Holds, IsLaid}
 

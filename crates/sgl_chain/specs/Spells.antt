@@ -1,12 +1,8 @@
 -- What an SGL says: the parts that a descriptor spells over a memory, by whole segments that stand there
 -- (NVM Express Base Specification 2.0, "Scatter Gather List (SGL)", section 4.1.2).
 use Rattle.std.specs.Prelude.{◌≡◌, ◌≤◌, ◌<◌, ◌+◌, ◌*◌, ◌%◌, ◌++◌, ◌∷◌, [], ℕ, List, Some, length, slice_index, map}
-use Rattle.sgl_descriptor.specs.declared.Descriptor.{Descriptor}
-use Rattle.sgl_descriptor.specs.declared.Descriptor.TheVariants.{DataBlock, BitBucket, Segment, LastSegment}
-use Rattle.sgl_descriptor.specs.declared.Part.{Part}
-use Rattle.sgl_descriptor.specs.declared.Part.TheVariants.{Data, Bucket}
-use Rattle.sgl_descriptor.specs.Spelling.{IsSpelling, IsLink}
-use Rattle.sgl_descriptor.specs.Targets.{descriptor_of_part}
+use Rattle.sgl_descriptor.specs.{Spelling.{IsSpelling, IsLink}, Targets.descriptor_of_part, declared.Descriptor.Descriptor}
+use Rattle.sgl_descriptor.specs.declared.{Descriptor.TheVariants.{DataBlock, BitBucket, Segment, LastSegment}, Part.{Part, TheVariants.{Data, Bucket}}}
 use Rattle.page_memory.specs.Memory.{Memory, bytes_at}
 use Rattle.sgl_chain.specs.Chains.{Sgl, segment_bytes}
 

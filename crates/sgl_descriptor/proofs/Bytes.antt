@@ -1,10 +1,7 @@
 -- Each byte of a spelling is below 256.
-use Rattle.std.proofs.Common.{arith, ◌<◌, ◌++◌, ℕ, zero, suc, List, [], ◌∷◌, get_or, refl}
-use Rattle.std.specs.Int.{w32, w64, to_le_bytes, bytes_low_first, byte_at}
-use Rattle.sgl_descriptor.specs.declared.Descriptor.{Descriptor}
+use Rattle.std.{proofs.Common.{arith, ◌<◌, ◌++◌, ℕ, zero, suc, List, [], ◌∷◌, get_or, refl}, specs.Int.{w32, w64, to_le_bytes, bytes_low_first, byte_at}}
+use Rattle.sgl_descriptor.specs.{Laws.IsSixteenBytes, Spelling.{spelling, descriptor_bytes}, declared.Descriptor.Descriptor}
 use Rattle.sgl_descriptor.specs.declared.Descriptor.TheVariants.{DataBlock, BitBucket, Segment, LastSegment}
-use Rattle.sgl_descriptor.specs.Spelling.{spelling, descriptor_bytes}
-use Rattle.sgl_descriptor.specs.Laws.{IsSixteenBytes}
 
 -- each item is below 256
 abbrev AreBytes : List ℕ → Type 0

@@ -1,15 +1,8 @@
 -- Lemmas on the targets of parts.
-use Rattle.std.proofs.Common.{arith, ◌≡◌, ◌+◌, List, [], ◌∷◌, ◌++◌, length, refl, ◌∙◌, ap, length-append}
-use Rattle.std.proofs.lemmas.List.{length-replicate}
-use Rattle.std.proofs.lemmas.List.FromFn.{length-map-range_with_len}
-use Rattle.std.proofs.lemmas.List.Concat.{flat_map-cons}
-use Rattle.std.proofs.lemmas.Grind.{flat_map-append}
-use Rattle.sgl_descriptor.specs.declared.Part.{Part}
-use Rattle.sgl_descriptor.specs.declared.Part.TheVariants.{Data, Bucket}
-use Rattle.sgl_descriptor.specs.declared.Direction.{Direction}
-use Rattle.sgl_descriptor.specs.declared.Direction.TheVariants.{Destination, Source}
-use Rattle.sgl_descriptor.specs.Targets.{Place, Discarded, targets, targets_of_part, counted, counted_in, descriptor_of_part}
-use Rattle.sgl_descriptor.specs.Laws.{TargetsJoin}
+use Rattle.std.proofs.{Common.{arith, ◌≡◌, ◌+◌, List, [], ◌∷◌, ◌++◌, length, refl, ◌∙◌, ap, length-append}, lemmas.Grind.flat_map-append}
+use Rattle.std.proofs.lemmas.List.{length-replicate, Concat.flat_map-cons, FromFn.length-map-range_with_len}
+use Rattle.sgl_descriptor.specs.{Laws.TargetsJoin, Targets.{Place, Discarded, targets, targets_of_part, counted, counted_in, descriptor_of_part}}
+use Rattle.sgl_descriptor.specs.declared.{Direction.{Direction, TheVariants.{Destination, Source}}, Part.{Part, TheVariants.{Data, Bucket}}}
 
 -- one target for each byte that the part counts
 pub length-targets_of_part : (dir : Direction) (part : Part) → length (targets_of_part dir part) ≡ counted dir (descriptor_of_part part)

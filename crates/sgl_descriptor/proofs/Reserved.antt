@@ -1,14 +1,10 @@
 -- Two strings that are read alike, and the bytes that their type reserves.
 use Rattle.std.proofs.Common.{arith, ◌≡◌, ◌≢◌, ◌⊎◌, inl, inr, ◌<◌, ◌≤◌, ◌+◌, ◌-◌, ℕ, List, None, get_or, take, drop, length, refl, sym, ◌∙◌, subst, ap, length-drop}
+use Rattle.std.proofs.lemmas.{Bool.{cases_lt, cases_eq}, List.{get_or-take, get_or-drop, get_or_past, length-take-le, ext_get_or}, Nat.{le_bytes_8, le_bytes_4}}
 use Rattle.std.specs.Int.{w32, w64, to_le_bytes, from_le_bytes}
-use Rattle.std.proofs.lemmas.Nat.{le_bytes_8, le_bytes_4}
-use Rattle.std.proofs.lemmas.Bool.{cases_lt, cases_eq}
-use Rattle.std.proofs.lemmas.List.{get_or-take, get_or-drop, get_or_past, length-take-le, ext_get_or}
-use Rattle.sgl_descriptor.specs.declared.Descriptor.{Descriptor}
-use Rattle.sgl_descriptor.specs.declared.Descriptor.TheVariants.{DataBlock, BitBucket, Segment, LastSegment}
+use Rattle.sgl_descriptor.{proofs.Spells.{found, spelled, nothing}, specs.Laws.{IsSixteenBytes, ReadAlike}}
 use Rattle.sgl_descriptor.specs.Spelling.{IsSpelling, descriptor_of, address_of, length_of, type_of, subtype_of, HasValidType, HasInvalidType, IsReserved, AgreeOutsideReserved}
-use Rattle.sgl_descriptor.specs.Laws.{IsSixteenBytes, ReadAlike}
-use Rattle.sgl_descriptor.proofs.Spells.{found, spelled, nothing}
+use Rattle.sgl_descriptor.specs.declared.Descriptor.{Descriptor, TheVariants.{DataBlock, BitBucket, Segment, LastSegment}}
 
 -- Below, a piece is n bytes from the k-th on.
 

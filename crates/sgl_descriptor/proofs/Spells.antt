@@ -1,11 +1,8 @@
 -- Lemmas on the spelling of descriptors.
-use Rattle.std.proofs.Common.{arith, ◌≡◌, ◌≢◌, ◌⊎◌, inl, inr, ℕ, List, Some, None, get_or, refl, subst}
+use Rattle.std.proofs.{Common.{arith, ◌≡◌, ◌≢◌, ◌⊎◌, inl, inr, ℕ, List, Some, None, get_or, refl, subst}, lemmas.Bool.cases_eq}
 use Rattle.std.proofs.lemmas.Nat.{from_le_bytes-to_le_bytes_8, from_le_bytes-to_le_bytes_4}
-use Rattle.std.proofs.lemmas.Bool.{cases_eq}
-use Rattle.sgl_descriptor.specs.declared.Descriptor.{Descriptor}
+use Rattle.sgl_descriptor.specs.{Laws.OneSpelling, Spelling.{IsSpelling, spelling, Fits, descriptor_of, address_of, length_of}, declared.Descriptor.Descriptor}
 use Rattle.sgl_descriptor.specs.declared.Descriptor.TheVariants.{DataBlock, BitBucket, Segment, LastSegment}
-use Rattle.sgl_descriptor.specs.Spelling.{IsSpelling, spelling, Fits, descriptor_of, address_of, length_of}
-use Rattle.sgl_descriptor.specs.Laws.{OneSpelling}
 
 -- what is written of a descriptor whose fields fit spells it
 pub spells_itself : (d : Descriptor) → Fits d → IsSpelling d (spelling d)

@@ -1,10 +1,7 @@
 -- What holds of every spelling and of all targets.
 use Rattle.std.specs.Prelude.{◌≡◌, ◌↔◌, ◌<◌, ◌+◌, ◌++◌, ℕ, List, Some, length, slice_index}
-use Rattle.sgl_descriptor.specs.declared.Descriptor.{Descriptor}
-use Rattle.sgl_descriptor.specs.declared.Part.{Part}
-use Rattle.sgl_descriptor.specs.declared.Direction.{Direction}
 use Rattle.sgl_descriptor.specs.Spelling.{IsSpelling, spelling, descriptor_of, HasValidType, HasInvalidType, AgreeOutsideReserved}
-use Rattle.sgl_descriptor.specs.Targets.{targets, counted_in}
+use Rattle.sgl_descriptor.specs.{Targets.{targets, counted_in}, declared.{Descriptor.Descriptor, Direction.Direction, Part.Part}}
 
 -- 16 bytes
 pub record IsSixteenBytes (bytes : List ℕ) : Type 0 where

@@ -1,8 +1,7 @@
 -- SGL descriptors as 16 bytes (NVM Express Base Specification 2.0, "Scatter Gather List (SGL)", section 4.1.2), least significant byte first.
-use Rattle.std.specs.Prelude.{if◌then◌else◌, nat_eq, ◌≡◌, ◌≢◌, ◌⊎◌, ◌<◌, ◌≤◌, ◌/◌, ◌%◌, ◌^◌, ◌++◌, ◌∷◌, [], ℕ, Bool, true, false, IsTrue, List, Option, Some, None, take, drop, slice_index}
 use Rattle.std.specs.Int.{w32, w64, to_le_bytes, from_le_bytes}
-use Rattle.sgl_descriptor.specs.declared.Descriptor.{Descriptor}
-use Rattle.sgl_descriptor.specs.declared.Descriptor.TheVariants.{DataBlock, BitBucket, Segment, LastSegment}
+use Rattle.std.specs.Prelude.{if◌then◌else◌, nat_eq, ◌≡◌, ◌≢◌, ◌⊎◌, ◌<◌, ◌≤◌, ◌/◌, ◌%◌, ◌^◌, ◌++◌, ◌∷◌, [], ℕ, Bool, true, false, IsTrue, List, Option, Some, None, take, drop, slice_index}
+use Rattle.sgl_descriptor.specs.declared.Descriptor.{Descriptor, TheVariants.{DataBlock, BitBucket, Segment, LastSegment}}
 
 -- the type of a descriptor, the high half of byte 15
 abbrev pub type_of : List ℕ → ℕ

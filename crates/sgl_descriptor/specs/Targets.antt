@@ -1,12 +1,7 @@
 -- The parts of a data transfer, and where each of its bytes goes to or comes from.
-use Rattle.std.specs.Prelude.{◌+◌, [], ◌∷◌, ℕ, List, map, replicate, flat_map}
-use Rattle.std.specs.List.{range_with_len}
-use Rattle.sgl_descriptor.specs.declared.Descriptor.{Descriptor}
-use Rattle.sgl_descriptor.specs.declared.Descriptor.TheVariants.{DataBlock, BitBucket, Segment, LastSegment}
-use Rattle.sgl_descriptor.specs.declared.Part.{Part}
-use Rattle.sgl_descriptor.specs.declared.Part.TheVariants.{Data, Bucket}
-use Rattle.sgl_descriptor.specs.declared.Direction.{Direction}
-use Rattle.sgl_descriptor.specs.declared.Direction.TheVariants.{Destination, Source}
+use Rattle.std.specs.{List.range_with_len, Prelude.{◌+◌, [], ◌∷◌, ℕ, List, map, replicate, flat_map}}
+use Rattle.sgl_descriptor.specs.declared.{Descriptor.{Descriptor, TheVariants.{DataBlock, BitBucket, Segment, LastSegment}}, Direction.Direction}
+use Rattle.sgl_descriptor.specs.declared.{Direction.TheVariants.{Destination, Source}, Part.{Part, TheVariants.{Data, Bucket}}}
 
 -- the descriptor of a part: a Data Block or a Bit Bucket
 abbrev pub descriptor_of_part : Part → Descriptor

@@ -6,3 +6,14 @@ pub mod Steps
 pub mod Walks
 pub mod Opened
 pub mod Written
+pub mod Words
+pub mod Sets
+pub mod Places
+pub mod Runs
+pub mod LinkedOrders
+pub mod LinkedThreads
+pub mod LinkedRows
+pub mod LinkedWhole
+pub mod Changes
+pub mod Looks
+pub mod LinkedSteps

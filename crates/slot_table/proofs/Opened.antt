@@ -1,8 +1,7 @@
 -- A table with no record.
 use Rattle.std.proofs.Common.{◌≡◌, ℕ, zero, suc, ◌+◌, ◌*◌, ◌<◌, ◌≤◌, List, [], length, get_or, Option, None, is_some, IsSome, count_by, replicate, refl, sym, ap, subst, ◌∙◌, arith, true≢false}
 use Rattle.std.proofs.lemmas.List.{length-replicate, get_or-replicate}
-use Rattle.slot_table.specs.declared.link.Link.{Link}
-use Rattle.slot_table.specs.Links.{after_of, before_of, IsThreaded}
+use Rattle.slot_table.specs.{Links.{after_of, before_of, IsThreaded}, declared.link.Link.Link}
 
 none_counted : (R : Type 0) (n : ℕ) → count_by is_some (replicate {A = Option R} n None) ≡ 0
 none_counted R zero = refl

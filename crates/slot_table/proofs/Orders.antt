@@ -1,6 +1,5 @@
 -- Lists of places: which are among them, and in what order.
-use Rattle.std.proofs.Common.{◌≡◌, ◌≢◌, ◌⊎◌, ℕ, ◌<◌, ◌≤◌, List, [], ◌∷◌, ◌++◌, sym, ap, inl, inr, arith}
-use Rattle.std.proofs.lemmas.Bool.{cases_eq}
+use Rattle.std.proofs.{Common.{◌≡◌, ◌≢◌, ◌⊎◌, ℕ, ◌<◌, ◌≤◌, List, [], ◌∷◌, ◌++◌, sym, ap, inl, inr, arith}, lemmas.Bool.cases_eq}
 use Rattle.slot_table.specs.Links.{Lacks, AreDistinct, AreBelow}
 
 -- the first of these places, or the end

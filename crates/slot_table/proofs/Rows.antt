@@ -1,11 +1,9 @@
 -- The rows of a list of places.
 use Rattle.std.proofs.Common.{◌≡◌, ◌≢◌, ℕ, zero, suc, ◌+◌, ◌*◌, ◌/◌, ◌%◌, ◌<◌, true, false, List, [], ◌∷◌, ◌++◌, length, get_or, set, Option, Some, None, IsSome, IfSome, refl, sym, ap, subst, ◌∙◌, inl, inr, arith, true≢false}
-use Rattle.std.proofs.lemmas.Bool.{eq-eqb, ne_eqb}
-use Rattle.std.proofs.lemmas.Bool.Decides.{eqb_tells}
-use Rattle.std.proofs.lemmas.List.{get_or-set_other}
+use Rattle.std.proofs.lemmas.{Bool.{eq-eqb, ne_eqb, Decides.eqb_tells}, List.get_or-set_other}
 use Rattle.std.proofs.lemmas.Nat.{div-add-mod', div-mul-add, mod-mul-add, div_below, mod_below}
-use Rattle.slot_table.specs.Table.{Row, is_at, value_at, with_value, without, NoneAt, IsDistinct, AreInside}
 use Rattle.slot_table.specs.Links.{rows_of, row_before, Lacks, AreDistinct, AreBelow, AreHeld}
+use Rattle.slot_table.specs.{Rows.{Row, is_at, value_at, with_value, without, NoneAt, IsDistinct}, Table.AreInside}
 
 module _ {R : Type 0} where
   -- the row of a place with this record

@@ -1,14 +1,10 @@
 -- The first row of a table, and the row behind another.
 use Rattle.std.proofs.Common.{◌≡◌, ℕ, ◌+◌, ◌*◌, ◌<◌, ◌≤◌, false, List, [], ◌∷◌, ◌++◌, length, get_or, Option, Some, None, is_some, IsSome, refl, sym, ap, subst, ◌∙◌, arith, true≢false}
-use Rattle.std.proofs.lemmas.Bool.{eq-eqb, ne_eqb}
-use Rattle.std.proofs.lemmas.List.{get_or_read}
-use Rattle.slot_table.specs.declared.link.Link.{Link}
-use Rattle.slot_table.specs.Table.{Row, first_place, place_behind, NoneAt}
-use Rattle.slot_table.specs.Links.{after_of, Leads, AreBelow, AreHeld, rows_of, row_before, place_of, IsThreaded}
-use Rattle.slot_table.proofs.Orders.{first_or, first_or-below, AreBelow-back}
-use Rattle.slot_table.proofs.Threads.{Leads-after, Leads-back}
-use Rattle.slot_table.proofs.Rows.{is_at-own}
+use Rattle.std.proofs.lemmas.{Bool.{eq-eqb, ne_eqb}, List.get_or_read}
+use Rattle.slot_table.proofs.{Orders.{first_or, first_or-below, AreBelow-back}, Rows.is_at-own, Threads.{Leads-after, Leads-back}}
 use Rattle.slot_table.proofs.Whole.{rows_in, rows-order, rows-parts, front-none, between, place_below, none_left, read_link}
+use Rattle.slot_table.specs.Links.{after_of, Leads, AreBelow, AreHeld, rows_of, row_before, place_of, IsThreaded}
+use Rattle.slot_table.specs.{Rows.{Row, first_place, place_behind, NoneAt}, declared.link.Link.Link}
 
 module _ {R : Type 0} where
   none_is : (o : Option R) → is_some o ≡ false → o ≡ None

@@ -1,9 +1,8 @@
 -- How the links lead through the places, as links change.
 use Rattle.std.proofs.Common.{◌≡◌, ◌≢◌, ℕ, zero, suc, ◌≤◌, List, [], ◌∷◌, ◌++◌, length, refl, sym, ap, subst, ◌∙◌, arith, append-nil}
 use Rattle.std.proofs.lemmas.Bool.{eq-eqb, ne_eqb}
-use Rattle.slot_table.specs.declared.link.Link.{Link}
-use Rattle.slot_table.specs.Links.{after_of, before_of, Rejoins, Leads, walk, Lacks, AreDistinct}
 use Rattle.slot_table.proofs.Orders.{first_or, last_or, Lacks-front, Lacks-back, Lacks-before, Lacks-last_or, last_or-other, AreDistinct-front, AreDistinct-back, AreDistinct-without}
+use Rattle.slot_table.specs.{Links.{after_of, before_of, Rejoins, Leads, walk, Lacks, AreDistinct}, declared.link.Link.Link}
 
 pub Leads-after : (ls : List Link) (x : ℕ) (xs : List ℕ) (end : ℕ) → Leads ls x xs end → after_of ls x ≡ first_or end xs
 Leads-after ls x [] end l = l.0

@@ -1,13 +1,9 @@
 -- Rows one behind the other: what a walk meets, and what a put and a take leave.
 use Rattle.std.proofs.Common.{◌≡◌, ℕ, zero, suc, ◌≤◌, ◌==◌, true, false, List, [], ◌∷◌, ◌++◌, length, Some, None, take, drop, ◌+◌, refl, sym, ap, subst, ◌∙◌, inl, inr, arith, append_assoc}
-use Rattle.std.proofs.lemmas.Bool.{eq-eqb, ne_eqb, cases_Bool}
-use Rattle.std.proofs.lemmas.Bool.Decides.{eqb_tells}
-use Rattle.std.proofs.lemmas.Option.{none-some}
-use Rattle.std.proofs.lemmas.List.{append-nil, take-append-drop, drop-drop}
-use Rattle.slot_table.specs.Table.{Row, TableOf, is_at, first_place, place_behind, value_at, with_row, without, NoneAt, IsDistinct}
+use Rattle.std.proofs.lemmas.{Bool.{eq-eqb, ne_eqb, cases_Bool, Decides.eqb_tells}, List.{append-nil, take-append-drop, drop-drop}, Option.none-some}
+use Rattle.slot_table.proofs.{Rows.{value_at-behind, without-behind}, Steps.place_behind-behind}
+use Rattle.slot_table.specs.{Rows.{Row, is_at, first_place, place_behind, value_at, without, NoneAt, IsDistinct}, Table.{TableOf, with_row}}
 use Rattle.slot_table.specs.Walks.{places_of, walk_from}
-use Rattle.slot_table.proofs.Rows.{value_at-behind, without-behind}
-use Rattle.slot_table.proofs.Steps.{place_behind-behind}
 
 eqb-turned : (a b : ℕ) → (a == b) ≡ (b == a)
 eqb-turned a b =

@@ -1,16 +1,12 @@
 -- How each change of the table keeps its list, and what it makes of the rows.
 use Rattle.std.proofs.Common.{◌≡◌, ◌≢◌, ℕ, ◌+◌, ◌-◌, ◌*◌, ◌<◌, ◌≤◌, cond, List, [], ◌∷◌, ◌++◌, length, get_or, set, Option, Some, None, is_some, IsSome, refl, sym, ap, subst, ◌∙◌, inl, inr, arith, true≢false, length-set, length-append}
-use Rattle.std.proofs.lemmas.Bool.{cases_eq}
-use Rattle.std.proofs.lemmas.List.{get_or-set_same, get_or-set_other, get_or_read, set-get_or}
-use Rattle.std.proofs.lemmas.List.Sums.{sum_by-set, count_by-le-length}
-use Rattle.std.proofs.lemmas.Nat.{div-mul-add, mod-mul-add}
-use Rattle.std.proofs.Math.Nat.{mul-le-mul_left}
-use Rattle.slot_table.specs.declared.link.Link.{Link}
-use Rattle.slot_table.specs.Table.{Row, value_at, with_value, without, NoneAt, IsDistinct, AreInside}
-use Rattle.slot_table.specs.Links.{after_of, before_of, Rejoins, Leads, walk, Lacks, AreDistinct, AreBelow, AreHeld, rows_of, row_before, IsThreaded}
+use Rattle.std.proofs.{Math.Nat.mul-le-mul_left, lemmas.{Bool.cases_eq, List.{get_or-set_same, get_or-set_other, get_or_read, set-get_or}}}
+use Rattle.std.proofs.lemmas.{List.Sums.{sum_by-set, count_by-le-length}, Nat.{div-mul-add, mod-mul-add}}
 use Rattle.slot_table.proofs.Orders.{first_or, last_or, Lacks-append, Lacks-front, Lacks-back, Lacks-before, AreDistinct-push, AreDistinct-without, AreDistinct-back, AreBelow-push, AreBelow-without, AreBelow-lacks, AreBelow-front, AreBelow-back, last_or-below, first_or-below, IsBetween, find_place}
-use Rattle.slot_table.proofs.Threads.{Leads-after, Leads-before, Leads-front, Leads-back, Leads-push, Leads-without, walk-leads}
 use Rattle.slot_table.proofs.Rows.{is_at-own, value_at-behind, value_at-none, without-behind, rows_of-append, rows_of-set, rows_of-none_at, rows_of-distinct, rows_of-inside, AreInside-none_at, length-rows_of}
+use Rattle.slot_table.proofs.Threads.{Leads-after, Leads-before, Leads-front, Leads-back, Leads-push, Leads-without, walk-leads}
+use Rattle.slot_table.specs.Links.{after_of, before_of, Rejoins, Leads, walk, Lacks, AreDistinct, AreBelow, AreHeld, rows_of, row_before, IsThreaded}
+use Rattle.slot_table.specs.{Rows.{Row, value_at, with_value, without, NoneAt, IsDistinct}, Table.AreInside, declared.link.Link.Link}
 
 -- the index of a place is below the number of places
 pub place_below : (queues places q cid : ℕ) → q < queues → cid < places → q * places + cid < queues * places

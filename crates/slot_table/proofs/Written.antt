@@ -1,14 +1,9 @@
 -- A record written over another in its place.
 use Rattle.std.proofs.Common.{◌≡◌, ℕ, ◌+◌, ◌*◌, ◌<◌, cond, List, ◌∷◌, ◌++◌, length, get_or, set, Option, Some, None, is_some, IsSome, refl, sym, ap, subst, ◌∙◌, inl, inr, arith, length-set}
-use Rattle.std.proofs.lemmas.Bool.{cases_eq}
-use Rattle.std.proofs.lemmas.List.{get_or-set_same, get_or-set_other, get_or_read}
-use Rattle.std.proofs.lemmas.List.Sums.{sum_by-set}
-use Rattle.slot_table.specs.declared.link.Link.{Link}
-use Rattle.slot_table.specs.Table.{with_value}
-use Rattle.slot_table.specs.Links.{Leads, AreDistinct, AreBelow, rows_of, row_before, IsThreaded}
-use Rattle.slot_table.proofs.Orders.{Lacks-before, AreDistinct-back}
-use Rattle.slot_table.proofs.Rows.{with_value-behind, rows_of-append, rows_of-set}
+use Rattle.std.proofs.lemmas.{Bool.cases_eq, List.{get_or-set_same, get_or-set_other, get_or_read, Sums.sum_by-set}}
+use Rattle.slot_table.proofs.{Orders.{Lacks-before, AreDistinct-back}, Rows.{with_value-behind, rows_of-append, rows_of-set}}
 use Rattle.slot_table.proofs.Whole.{place_below, rows_in, rows-order, rows-parts, front-none, between, AreHeld-write, with_value-row_before}
+use Rattle.slot_table.specs.{Links.{Leads, AreDistinct, AreBelow, rows_of, row_before, IsThreaded}, Rows.with_value, declared.link.Link.Link}
 
 module _ {R : Type 0} (queues places len : ℕ) (records : List (Option R)) (links : List Link) (t : IsThreaded queues places len records links) where
   -- the links and the order stay

@@ -1,10 +1,7 @@
 -- What a table ends as, where a `&mut` to one of its records is returned.
-use Rattle.std.specs.Prelude.{ℕ, Option, Some}
-use Rattle.std.specs.Borrow.{Lends, LendsIf, Fml, RattleType, MutBor}
-use Rattle.std.specs.declared.alloc.Allocator.{Ghosts}
+use Rattle.std.specs.{Borrow.{Lends, LendsIf, Fml, RattleType, MutBor}, Prelude.{ℕ, List, Option, Some}, declared.alloc.Allocator.Ghosts}
+use Rattle.slot_table.specs.{Rows.{with_value, Row}, Table.TableOf, contracts.{linked_table.LinkedTable.the_row as linked_row, table.SlotTable.the_row}}
 use Rattle.std.specs.contracts.option.Option as std_option
-use Rattle.slot_table.specs.Table.{TableOf, with_value}
-use Rattle.slot_table.specs.contracts.table.SlotTable.{the_row}
 
 -- the place ends with the last record written through r
 abbrev pub lends_content : (R : RattleType) → MutBor (Option R.Denot) → MutBor R.Denot → Fml
@@ -20,3 +17,8 @@ module _ (R A : RattleType) (alloc : Ghosts A.Denot) (s : MutBor (TableOf R.Deno
   abbrev pub lends_get : Option (MutBor R.Denot) → Fml
   lends_get r =
       LendsIf (the_row R A alloc) R s r (λ value. record s.now { rows = with_value s.now.rows q cid value }) s.now
+
+module _ (R A : RattleType) (alloc : Ghosts A.Denot) (s : MutBor (List (Row R.Denot))) (q cid : ℕ) where
+  -- the same of a linked table
+  abbrev pub lends_linked : Option (MutBor R.Denot) → Fml
+  lends_linked r = LendsIf (linked_row R A alloc) R s r (λ value. with_value s.now q cid value) s.now

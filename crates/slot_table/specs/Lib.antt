@@ -1,5 +1,10 @@
+pub mod Rows
 pub mod Table
 pub mod Links
 pub mod Lends
 pub mod Walks
 pub mod Worked
+pub mod Bits
+pub mod Places
+pub mod Searches
+pub mod Nodes

@@ -1,7 +1,6 @@
 -- How a table threads its list through the places. No public clause cites this module.
 use Rattle.std.specs.Prelude.{◌≡◌, ◌≢◌, ℕ, zero, suc, ◌+◌, ◌*◌, ◌/◌, ◌%◌, ◌<◌, ◌≤◌, ◌==◌, if◌then◌else◌, List, [], ◌∷◌, length, Option, Some, None, is_some, IsSome, count_by, slice_index_or}
-use Rattle.slot_table.specs.Table.{Row}
-use Rattle.slot_table.specs.declared.link.Link.{Link}
+use Rattle.slot_table.specs.{Rows.Row, declared.link.Link.Link}
 
 -- the place after this one
 abbrev pub after_of : List Link → ℕ → ℕ

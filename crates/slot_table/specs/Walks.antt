@@ -1,6 +1,6 @@
 -- A walk over the rows of a table, from the first on, each time to the row behind.
 use Rattle.std.specs.Prelude.{ℕ, zero, suc, List, [], ◌∷◌, map, Option, Some, None}
-use Rattle.slot_table.specs.Table.{Row, place_behind}
+use Rattle.slot_table.specs.Rows.{Row, place_behind}
 
 module _ {R : Type 0} where
   -- the places of rows

@@ -1,6 +1,6 @@
 -- A small table: two queues of three places, with numbers as records.
 use Rattle.std.specs.Prelude.{ℕ, []}
-use Rattle.slot_table.specs.Table.{Row, TableOf, with_row, without}
+use Rattle.slot_table.specs.{Rows.{Row, without}, Table.{TableOf, with_row}}
 
 abbrev pub row_of : ℕ → ℕ → ℕ → Row ℕ
 row_of q cid value = record { q = q; cid = cid; value = value }

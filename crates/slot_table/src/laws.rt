@@ -2,7 +2,8 @@
 //! the laws.
 
 ghost use Rattle.std.specs.Prelude.{◌≡◌, ℕ, ◌+◌, ◌≤◌, List, [], ◌∷◌, ◌++◌, length, drop, Some, None};
-ghost use Rattle.slot_table.specs.Table.{Row, TableOf, IsDistinct, first_place, place_behind, value_at, with_row, without};
+ghost use Rattle.slot_table.specs.Table.{TableOf, with_row};
+ghost use Rattle.slot_table.specs.Rows.{Row, IsDistinct, first_place, place_behind, value_at, without};
 ghost use Rattle.slot_table.specs.Walks.{places_of, walk_from};
 ghost use Rattle.slot_table.specs.Worked.{row_of, opened, two_put, one_taken, put_again};
 

@@ -1,14 +1,18 @@
-//! A table of records by queue and identifier, in which every call but the opening takes no memory and has no loop.
+//! Tables of records by queue and identifier, and lists of Bools as words.
 //!
-//! A [`SlotTable`] has so many places for each of its queues, one for each identifier, and each place holds a record or is empty.
-//! The records stand in one list through all queues, in the order in which they were put.
-//!
-//! Contracts see a table as a record of how many queues it has, how many places each has, and the list of its rows; how the list is
-//! threaded through the places is hidden.
+//! A [`SlotTable`] has places for all records from its opening on, so no call but the opening takes memory or has a loop. A [`LinkedTable`] is for places that are
+//! too many for that: a hash map, which grows. Both keep their records in one list through all queues, in the order in which they were put, and contracts see that
+//! list of rows; how it is threaded is hidden. A [`BitList`] has a bit for each place, and a summary that has one for each word.
 #![tactic(auto)]
 
+mod bit_list;
+mod bits;
 pub mod laws;
 mod link;
+mod linked_table;
+mod nodes;
 mod table;
 
+pub use bit_list::BitList;
+pub use linked_table::LinkedTable;
 pub use table::SlotTable;

@@ -3,7 +3,8 @@
 ghost use Rattle.std.specs.Prelude.{◌≡◌, ℕ, ◌+◌, ◌-◌, ◌*◌, ◌<◌, ◌≤◌, ◌==◌, [], ◌∷◌, ◌++◌, length, None, Some, IsSome, IfNone, IfSome, IfOk, IfErr, MatchOption};
 ghost use Rattle.std.specs.Option.{option_copied, option_copied_mut};
 ghost use Rattle.std.specs.Borrow.{sem};
-ghost use Rattle.slot_table.specs.Table.{AreInside, IsDistinct, IsPlace, first_place, place_behind, value_at, with_row, without, NoneAt};
+ghost use Rattle.slot_table.specs.Table.{AreInside, IsPlace, with_row};
+ghost use Rattle.slot_table.specs.Rows.{IsDistinct, first_place, place_behind, value_at, without, NoneAt};
 ghost use Rattle.slot_table.specs.Lends.{lends_content};
 
 use crate::link::Link;

@@ -1,31 +1,25 @@
--- What the small calls on kept values do is what a step of a bench does, and the bench stays tied to its world.
-use Rattle.std.proofs.Common.{◌≡◌, ℕ, Bool, true, false, ◌||◌, Option, Some, None, List, [], ◌∷◌, ◌++◌, length, ◌==◌, ◌&&◌, find, cond, refl, ap, ap₂, sym, ◌∙◌, subst}
-use Rattle.std.specs.List.{list_any}
-use Rattle.std.specs.Option.{option_and_then}
-use Rattle.std.proofs.lemmas.List.{append-nil}
-use Rattle.std.proofs.lemmas.List.Elements.{filter_map-append}
-use Rattle.entry_codec.specs.declared.status.Status.{Status}
-use Rattle.io_commands.specs.Asked.{Request}
-use Rattle.io_commands.specs.Drafts.{DraftContents, built}
-use Rattle.io_commands.specs.Values.{FinishedContents, TicketContents, gathered_from}
+-- What the small calls on kept values do is what a step of a bench does; and runs of a bench.
 use Rattle.machine_model.specs.Events as events
-use Rattle.machine_model.specs.State.{State}
 use Rattle.machine_model.specs.Step as machine
-use Rattle.machine_model.specs.Image.{draft_of, is_draft}
-use Rattle.machine_model.specs.Script.{Table, finished_at, is_ticket, filled_draft, is_finished}
-use Rattle.machine_model.specs.declared.words.Refusal.{Refusal}
 use Rattle.machine_model.specs.declared.words.Refusal.TheVariants as refusal
-use Rattle.slot_table.specs.Table.{Row, TableOf, IsPlace, value_at, with_row, with_value, without}
-use Rattle.step_core.specs.Bench.{Does, without_first, with_first, Fills, Builds, Gathers}
-use Rattle.step_core.specs.Kept.{as_draft, as_ticket, as_finished, picked, table_with, IsBench, IsOut, FillsDraft, BuildsDraft}
-use Rattle.step_core.specs.Values.{Reply}
-use Rattle.step_core.specs.declared.kept.Value.{Value}
-use Rattle.step_core.specs.declared.kept.Value.TheVariants as value
+use Rattle.host_core.specs.declared.values.CommandValue.TheVariants as value
 use Rattle.step_core.specs.declared.step.Reply.TheVariants as reply
 use Rattle.step_core.specs.declared.step.Step.TheVariants as step
-use Rattle.step_core.proofs.KeptRows.{drafts_named, tickets_named, finished_named, named_there, place_free, put_back, put_same, put_next, reserved, row_dropped, renewed, followed, ended, goes_on}
-use Rattle.step_core.proofs.Outstanding.{collected_named}
-use Rattle.step_core.proofs.Rows.{found_at, changed_at, changed_other, taken_at, taken_other}
+use Rattle.std.proofs.Common.{◌≡◌, ℕ, Bool, true, false, ◌||◌, Option, Some, None, List, [], ◌∷◌, ◌++◌, length, ◌==◌, ◌&&◌, find, cond, refl, ap, ap₂, sym, ◌∙◌, subst, ◌+◌}
+use Rattle.std.{proofs.lemmas.List.{append-nil, Elements.filter_map-append}, specs.{List.list_any, Option.option_and_then}}
+use Rattle.entry_codec.specs.declared.status.Status.{Status}
+use Rattle.io_commands.specs.{Asked.Request, Drafts.{DraftContents, built}, Values.{FinishedContents, TicketContents, gathered_from}}
+use Rattle.machine_model.specs.{Image.{draft_of, is_draft}, Script.{Table, finished_at, is_ticket, filled_draft, is_finished}, State.State}
+use Rattle.machine_model.specs.declared.words.Refusal.{Refusal}
+use Rattle.slot_table.specs.{Rows.{Row, value_at, with_value, without}, Table.{TableOf, IsPlace, with_row}}
+use Rattle.step_core.specs.{Bench.{Does, Fills, Builds, Gathers, DoesAll}, Kept.{FillsDraft, BuildsDraft, BenchContents}, Touching.{StepTouches, last_pages}}
+use Rattle.step_core.specs.{TouchingAll.TouchAll, Values.{Reply, Step}}
+use Rattle.host_core.proofs.KeptRows.{drafts_named, tickets_named, finished_named, named_there, place_free, put_back, put_same, put_next, reserved, row_dropped, renewed, followed, ended, goes_on, found_at, changed_at, changed_other, taken_at, taken_other}
+use Rattle.host_core.proofs.Outstanding.{collected_named}
+use Rattle.host_core.specs.CommandValues.{without_first, with_first, as_draft, as_ticket, as_finished, picked, table_with, IsBench, IsOut}
+use Rattle.host_core.specs.declared.values.CommandValue.{CommandValue}
+
+-- What the small calls on kept values do is what a step of a bench does, and the bench stays tied to its world.
 
 -- whether one passes is whether one is found
 any_found : {X : Type 0} (p : X → Bool) (xs : List X) (o : Option X) → find p xs ≡ o → list_any p xs ≡ elim o [ None ↦ false | Some x ↦ true ]
@@ -46,7 +40,7 @@ tables_same world drafts ds tickets ts finished fs d t f =
     ∙ ap₂ (λ (x : List (ℕ × ℕ)) (y : List FinishedContents). table_of_parts world ds x y) t f
 
 abbrev Values : Type 0 → Type 0
-Values A = TableOf (Option (Value A))
+Values A = TableOf (Option (CommandValue A))
 
 module _ {A : Type 0} where
   -- What is found under a name
@@ -71,14 +65,14 @@ module _ {A : Type 0} where
       step = made;
       keeps = ap (table_with world) is
           ∙ tables_same world _ _ _ _ _ _
-          (filter_map-append (λ (r : Row (Option (Value A))). as_draft r.value) old.rows (row ∷ []))
-          (filter_map-append (λ (r : Row (Option (Value A))). as_ticket r.value) old.rows (row ∷ []) ∙ append-nil (picked as_ticket old.rows))
-          (filter_map-append (λ (r : Row (Option (Value A))). as_finished r.value) old.rows (row ∷ []) ∙ append-nil (picked as_finished old.rows));
+          (filter_map-append (λ (r : Row (Option (CommandValue A))). as_draft r.value) old.rows (row ∷ []))
+          (filter_map-append (λ (r : Row (Option (CommandValue A))). as_ticket r.value) old.rows (row ∷ []) ∙ append-nil (picked as_ticket old.rows))
+          (filter_map-append (λ (r : Row (Option (CommandValue A))). as_finished r.value) old.rows (row ∷ []) ∙ append-nil (picked as_finished old.rows));
     }),
     subst (IsBench world) (sym is) (reserved s world q request d old made b),
   )
     where
-      row : Row (Option (Value A))
+      row : Row (Option (CommandValue A))
       row = record { q = q; cid = d.cid; value = Some (value.Draft d) }
 
       is : new ≡ with_row old q d.cid (Some (value.Draft d))
@@ -162,22 +156,22 @@ module _ {A : Type 0} where
         pair : (ticket.q ≡ q) × (ticket.cid ≡ cid)
         pair = (ap (λ (t : TicketContents). t.q) is ∙ name.0, ap (λ (t : TicketContents). t.cid) is ∙ name.1)
 
-        row : Row (Option (Value A))
+        row : Row (Option (CommandValue A))
         row = record { q = q; cid = cid; value = Some (value.Ticket ticket) }
 
         drafts : picked as_draft (without old.rows q cid ++ row ∷ []) ≡ without_first (is_draft q cid) (picked as_draft old.rows)
         drafts =
-            filter_map-append (λ (r : Row (Option (Value A))). as_draft r.value) (without old.rows q cid) (row ∷ []) ∙ append-nil (picked as_draft (without old.rows q cid))
+            filter_map-append (λ (r : Row (Option (CommandValue A))). as_draft r.value) (without old.rows q cid) (row ∷ []) ∙ append-nil (picked as_draft (without old.rows q cid))
             ∙ taken_at as_draft is_draft old.rows q cid b.distinct (drafts_named s old b)
 
         tickets : picked as_ticket (without old.rows q cid ++ row ∷ []) ≡ picked as_ticket old.rows ++ (q, cid) ∷ []
         tickets =
-            filter_map-append (λ (r : Row (Option (Value A))). as_ticket r.value) (without old.rows q cid) (row ∷ [])
+            filter_map-append (λ (r : Row (Option (CommandValue A))). as_ticket r.value) (without old.rows q cid) (row ∷ [])
             ∙ ap₂ (λ (xs : List (ℕ × ℕ)) (x : ℕ × ℕ). xs ++ x ∷ []) (taken_other as_ticket old.rows q cid (Some (value.Draft d)) out.there refl) (ap₂ (λ (k n : ℕ). (k, n)) pair.0 pair.1)
 
         finished : picked as_finished (without old.rows q cid ++ row ∷ []) ≡ picked as_finished old.rows
         finished =
-            filter_map-append (λ (r : Row (Option (Value A))). as_finished r.value) (without old.rows q cid) (row ∷ []) ∙ append-nil (picked as_finished (without old.rows q cid))
+            filter_map-append (λ (r : Row (Option (CommandValue A))). as_finished r.value) (without old.rows q cid) (row ∷ []) ∙ append-nil (picked as_finished (without old.rows q cid))
             ∙ taken_other as_finished old.rows q cid (Some (value.Draft d)) out.there refl
 
     pub submit_refused : (world : State) (x : DraftContents) (why : Refusal) (answer : Reply) (new : Values A) → machine.Step s (events.Submit d) (events.Refused why []) world → x ≡ d → answer ≡ reply.Refused why []
@@ -222,7 +216,7 @@ module _ {A : Type 0} where
 
     last_finished : (f : FinishedContents) → picked as_finished (without old.rows q cid ++ record { q = q; cid = cid; value = Some (value.Finished f) } ∷ []) ≡ picked as_finished old.rows ++ f ∷ []
     last_finished f =
-        filter_map-append (λ (r : Row (Option (Value A))). as_finished r.value) (without old.rows q cid) (record { q = q; cid = cid; value = Some (value.Finished f) } ∷ [])
+        filter_map-append (λ (r : Row (Option (CommandValue A))). as_finished r.value) (without old.rows q cid) (record { q = q; cid = cid; value = Some (value.Finished f) } ∷ [])
         ∙ ap (λ (xs : List FinishedContents). xs ++ f ∷ []) (taken_other as_finished old.rows q cid (Some (value.Ticket ticket)) out.there refl)
 
     -- the finished command stands behind the others
@@ -247,17 +241,17 @@ module _ {A : Type 0} where
         name : (f.q ≡ q) × (f.cid ≡ cid)
         name = collected_named s world q cid f (by_name (events.Collects f) world step)
 
-        row : Row (Option (Value A))
+        row : Row (Option (CommandValue A))
         row = record { q = q; cid = cid; value = Some (value.Finished f) }
 
         drafts : picked as_draft (without old.rows q cid ++ row ∷ []) ≡ picked as_draft old.rows
         drafts =
-            filter_map-append (λ (r : Row (Option (Value A))). as_draft r.value) (without old.rows q cid) (row ∷ []) ∙ append-nil (picked as_draft (without old.rows q cid))
+            filter_map-append (λ (r : Row (Option (CommandValue A))). as_draft r.value) (without old.rows q cid) (row ∷ []) ∙ append-nil (picked as_draft (without old.rows q cid))
             ∙ taken_other as_draft old.rows q cid (Some (value.Ticket ticket)) out.there refl
 
         tickets : picked as_ticket (without old.rows q cid ++ row ∷ []) ≡ without_first (is_ticket q cid) (picked as_ticket old.rows)
         tickets =
-            filter_map-append (λ (r : Row (Option (Value A))). as_ticket r.value) (without old.rows q cid) (row ∷ []) ∙ append-nil (picked as_ticket (without old.rows q cid))
+            filter_map-append (λ (r : Row (Option (CommandValue A))). as_ticket r.value) (without old.rows q cid) (row ∷ []) ∙ append-nil (picked as_ticket (without old.rows q cid))
             ∙ taken_at as_ticket is_ticket old.rows q cid b.distinct (tickets_named s old b)
 
     pub collect_refused : (world : State) (x : TicketContents) (why : Refusal) (answer : Reply) (new : Values A) → machine.Step s (events.Collect ticket.q ticket.cid) (events.Refused why []) world → x ≡ ticket → answer ≡ reply.Refused why []
@@ -304,3 +298,28 @@ module _ {A : Type 0} where
           rw (found_finished, says) (record { reply = events.Refused why []; tells = refl; step = step; keeps = ap (table_with world) stays }),
           subst (IsBench world) (sym stays) (goes_on s (events.Release f) (events.Refused why []) world old step (λ k n. refl) b),
         )
+
+-- Runs of a bench.
+
+-- one step more
+pub does_more : (t mid new : Table) (steps : List Step) (answers : List Reply) (step : Step) (answer : Reply) → DoesAll t steps answers mid → Does mid step answer new
+    → DoesAll t (steps ++ step ∷ []) (answers ++ answer ∷ []) new
+does_more t mid new [] [] step answer so does = (new, subst (λ (x : Table). Does x step answer new) so does, refl)
+does_more t mid new [] (first ∷ answers) step answer so does = absurd so
+does_more t mid new (what ∷ steps) [] step answer so does = absurd so
+does_more t mid new (what ∷ steps) (first ∷ answers) step answer so does = (so.0, so.1, does_more so.0 mid new steps answers step answer so.2 does)
+
+-- one step more, with what it touches
+pub touch_more : (b mid new : BenchContents) (steps : List Step) (answers : List Reply) (step : Step) (answer : Reply) → TouchAll b steps answers mid → Does mid.table step answer new.table
+    → StepTouches mid.table.world.entries mid.touches step answer new.table new.touches → TouchAll b (steps ++ step ∷ []) (answers ++ answer ∷ []) new
+touch_more b mid new [] [] step answer so does touches =
+    (new, subst (λ (x : BenchContents). Does x.table step answer new.table) so does, subst (λ (x : BenchContents). StepTouches x.table.world.entries x.touches step answer new.table new.touches) so touches, refl)
+touch_more b mid new [] (first ∷ answers) step answer so does touches = absurd so
+touch_more b mid new (what ∷ steps) [] step answer so does touches = absurd so
+touch_more b mid new (what ∷ steps) (first ∷ answers) step answer so does touches = (so.0, so.1, so.2, touch_more so.0 mid new steps answers step answer so.3 does touches)
+
+-- the pages of the command behind others
+pub pages_of_last : (others : List FinishedContents) (f : FinishedContents) → last_pages (others ++ f ∷ []) ≡ length f.data_pages + length f.chain_pages
+pages_of_last [] f = refl
+pages_of_last (g ∷ []) f = refl
+pages_of_last (g ∷ h ∷ others) f = pages_of_last (h ∷ others) f

@@ -1,43 +1,31 @@
 -- Each call of a world is a step of the machine, behind which both sides are tied.
-use Rattle.std.proofs.Common.{◌≡◌, ℕ, Bool, true, false, Option, Some, List, [], Result, Ok, Err, OnErr, IfOk, length, refl, ap, sym, ◌∙◌, subst, rules}
-use Rattle.std.specs.Result.{result_err}
-use Rattle.std.specs.Option.{option_map_or}
-use Rattle.std.proofs.lemmas.Bool.{true≢false, OnTrue_at, OnTrue_from}
-use Rattle.controller_core.specs.Completing.{CompletesTo, complete_refusal}
-use Rattle.controller_core.specs.Contents.{Contents, IsController}
-use Rattle.controller_core.specs.Doorbells.{tail_rung, head_rung}
-use Rattle.controller_core.specs.Fetching.{Fetches}
-use Rattle.controller_core.specs.Walking.{WalksTo, walk_refusal}
 use Rattle.controller_core.specs.declared.refusal.Refusal as refusing
-use Rattle.controller_walk.specs.declared.walk.WalkState.{WalkState}
-use Rattle.host_core.specs.Alone.{HostView, HostStep, IsOver}
 use Rattle.host_core.specs.Ringing as ringing
-use Rattle.host_core.specs.Ringing.{tail_of}
-use Rattle.machine_model.specs.declared.words.Reaped.{Reaped}
-use Rattle.machine_model.specs.declared.words.Refusal.{Refusal}
-use Rattle.machine_model.specs.Claims.{IsSound}
 use Rattle.machine_model.specs.Events as events
-use Rattle.machine_model.specs.Events.{Event, Reply}
-use Rattle.machine_model.specs.State.{State}
 use Rattle.machine_model.specs.Step as machine
-use Rattle.machine_model.specs.Step.{Step, forges}
-use Rattle.machine_agreement.proofs.Agreed.{agreed_stays}
-use Rattle.page_memory.specs.Memory.{Memory, counted}
 use Rattle.page_memory.specs.Pages as store
-use Rattle.page_memory.specs.Pages.{Pages, byte_at, AreWhole}
-use Rattle.two_sides.specs.Hearing.{heard}
-use Rattle.two_sides.specs.Laws.{behind}
-use Rattle.two_sides.specs.Serving.{Walks, Completes, fetch_reply, walk_reply, complete_reply}
-use Rattle.two_sides.specs.Sides.{Sides, state_of}
-use Rattle.two_sides.specs.Stepping.{StepsTo, LeavesPages}
-use Rattle.step_core.specs.Replies.{ring_reply}
-use Rattle.step_core.specs.Touching.{StaysAllowed}
-use Rattle.two_sides.specs.Ties.{IsWorld}
-use Rattle.step_core.specs.World.{sides_of}
-use Rattle.two_sides.proofs.CompleteSteps.{complete_steps}
-use Rattle.two_sides.proofs.FetchSteps.{fetches}
-use Rattle.two_sides.proofs.HostSteps.{hosts_stepped}
-use Rattle.two_sides.proofs.WalkSteps.{walk_steps}
+use Rattle.machine_model.specs.declared.words.Refusal.TheVariants as refusal
+use Rattle.controller_core.specs.Opening as controller
+use Rattle.std.proofs.Common.{◌≡◌, ℕ, Bool, true, false, Option, Some, List, [], Result, Ok, Err, OnErr, IfOk, length, refl, ap, sym, ◌∙◌, subst, rules, ◌≢◌, ◌+◌, ◌*◌, ◌<◌, ◌≤◌, ◌||◌, MatchBool, None, ◌∷◌, ap₂, arith, ◌⊎◌, inl, inr, get_or, zero, suc, ◌++◌}
+use Rattle.std.{proofs.lemmas.{Bool.{true≢false, OnTrue_at, OnTrue_from, lt-leb, le-leb}, Option.slice_get_cases}, specs.Option.{option_map_or, option_map}}
+use Rattle.std.specs.{Prelude.{slice_get, slice_index, option_and_then, if◌then◌else◌}, Result.result_err}
+use Rattle.controller_core.specs.{Completing.{CompletesTo, complete_refusal}, Contents.{Contents, IsController}, Doorbells.{tail_rung, head_rung}}
+use Rattle.controller_core.specs.{Fetching.Fetches, Resetting.reset, Walking.{WalksTo, walk_refusal}, declared.queue.QueuePages.QueuePages}
+use Rattle.controller_walk.specs.declared.walk.WalkState.{WalkState}
+use Rattle.host_core.specs.{Alone.{HostView, HostStep, IsOver, alone}, Looks.completion_base, Opening.{refusal_of_config, opened_view, opened_pages}}
+use Rattle.host_core.specs.{Resetting.{host_reset, pages_reset}, Ringing.tail_of, declared.config.Config.Config}
+use Rattle.machine_model.specs.{Agreeing.SidesAgree, Claims.IsSound, Events.{Event, Reply}, Refusals.{refusal_of, in_state, is_reaped}}
+use Rattle.machine_model.specs.{State.{State, HostQueue}, Step.{Step, forges, Refuses}, declared.words.{Reaped.Reaped, Refusal.Refusal}}
+use Rattle.two_sides.proofs.{Agreed.agreed_stays, Answering.{forged_stepped, slots_are_in}, CompleteSteps.complete_steps, FetchSteps.fetches}
+use Rattle.two_sides.{proofs.{HostSteps.hosts_stepped, Resets.{reset_stepped, opened_are_worlds}, WalkSteps.walk_steps}, specs.{Hearing.heard, Laws.behind}}
+use Rattle.two_sides.specs.{Opening.halves_from, Serving.{Walks, Completes, fetch_reply, walk_reply, complete_reply}, Sides.{Sides, state_of}}
+use Rattle.two_sides.specs.{Stepping.{StepsTo, LeavesPages, forged, reset_sides}, Ties.{IsWorld, first_completion_page}}
+use Rattle.page_memory.{proofs.Bytes.none_at, specs.{Memory.{Memory, counted, bytes_at, page_of, written}, Pages.{Pages, byte_at, AreWhole, IsPool}}}
+use Rattle.page_memory.specs.declared.page.Half.TheVariants.{Submission, Completion}
+use Rattle.step_core.specs.{Opening.opening_of, Replies.ring_reply, Touching.StaysAllowed, World.sides_of}
+use Rattle.queue_pair.specs.Memory.{completion_place, completion_slot, half_pages}
+
+-- Each call of a world is a step of the machine, behind which both sides are tied.
 
 pub record Goes (s : Sides) (e : Event) (reply : Reply) (new : Sides) : Type 0 where
   pub step : Step (state_of s) e reply (state_of new)
@@ -169,3 +157,130 @@ complete_goes host controller c old cleared new trusted q cid result l is ok who
     (complete_steps s q cid result c new.pages new.touched l ok (leaves old cleared new is whole count)
     (subst (λ (x : store.Contents). Completes controller (byte_at x.pages) x.touched q cid result c (byte_at new.pages) new.touched) is
     (completes_by controller (byte_at cleared.pages) cleared.touched q cid result c (byte_at new.pages) new.touched why stays completes))))
+
+-- Where a forged completion goes.
+
+-- a place whose byte is there is in the pool
+in_pool : (pages : Pages) (place : ℕ) → IsPool pages → byte_at pages place ≢ None → place < 268435456
+in_pool pages place pool there = go (slice_get_cases pages (page_of place)).1
+  where
+    go : ((x : Option (List ℕ)) × (page_of place < length pages) × (slice_get pages (page_of place) ≡ Some x) × (get_or pages (page_of place) x ≡ x)) ⊎ ((length pages ≤ page_of place) × (slice_get pages (page_of place) ≡ None)) → place < 268435456
+    go (inl (x, within, at, same)) = let few = pool.few in omega (arith, within, few)
+    go (inr (beyond, none)) = absurd (there (rw none refl))
+
+-- what a forged completion's place is
+pub record IsSlot (s : Sides) (q slot place : ℕ) : Type 0 where
+  pub queue : HostQueue
+  pub here : slice_get s.host.host.queues q ≡ Some queue
+  pub is : place ≡ completion_place (first_completion_page queue) slot
+  pub there : completion_slot (byte_at s.pages) (first_completion_page queue) slot ≢ None
+  pub fits : place < 268435456
+
+-- a ring begins at the first page of its half
+begins_at : (reaped : Bool) (pages : List ℕ) (base : ℕ) → (if reaped then option_map (λ page. 4096 * page) (slice_get pages 0) else None) ≡ Some base → base ≡ 4096 * slice_index pages 0
+begins_at false pages base is = absurd cc
+begins_at true [] base is = absurd cc
+begins_at true (page ∷ pages) base is = cc
+
+pub forges_none : (s : Sides) (q slot : ℕ) (bytes : List ℕ) → in_state is_reaped (alone s.host []) q ≡ true → slot < s.host.entries → refusal_of (state_of s) (events.Forge q slot bytes) ≡ None
+forges_none s q slot bytes reaped below = rw (reaped, lt-leb s.host.entries slot below) refl
+
+pub slot_is : (s : Sides) (q slot base : ℕ) (bytes : List ℕ) → IsWorld s → Some base ≡ completion_base s.host q → in_state is_reaped (alone s.host []) q ≡ true → slot < s.host.entries → IsSlot s q slot (base + 16 * slot)
+slot_is s q slot base bytes l at reaped below = go (slice_get s.host.host.queues q) refl (sym at)
+  where
+    go : (o : Option HostQueue) → slice_get s.host.host.queues q ≡ o
+        → option_and_then (λ queue. if is_reaped queue.state then option_map (λ page. 4096 * page) (slice_get queue.cq_pages 0) else None) o ≡ Some base → IsSlot s q slot (base + 16 * slot)
+    go None here is = absurd cc
+    go (Some h) here is =
+        let first = first_completion_page h in
+        let place : base + 16 * slot ≡ completion_place first slot = ap (λ (n : ℕ). n + 16 * slot) (begins_at (is_reaped h.state) h.cq_pages base is) in
+        let there = slots_are_in s q slot bytes h l (forges_none s q slot bytes reaped below) here in
+        record {
+          queue = h;
+          here = here;
+          is = place;
+          there = there;
+          fits = subst (λ (n : ℕ). n < 268435456) (sym place) (in_pool s.pages (completion_place first slot) l.sides.over.pool (λ none. there (none_at (byte_at s.pages) (completion_place first slot) 16 none (omega arith))));
+        }
+
+-- The call: its place, counted from where the ring begins, and what it leaves
+
+pub slot_at : (s : Sides) (q slot base from count : ℕ) → IsWorld s → Some base ≡ completion_base s.host q → true ≡ in_state is_reaped (alone s.host []) q → slot < count → count ≡ s.host.entries → from ≡ slot
+    → IsSlot s q slot (base + 16 * from)
+slot_at s q slot base from count l at live below entries same =
+    subst (λ (from : ℕ). IsSlot s q slot (base + 16 * from)) (sym same) (slot_is s q slot base [] l at (sym live) (subst (λ (n : ℕ). slot < n) entries below))
+
+pub never_out : (s : Sides) (q slot place : ℕ) (cleared : Pages) (bytes : List ℕ) → IsSlot s q slot place → byte_at cleared ≡ byte_at s.pages → length bytes ≡ 16 → bytes_at (byte_at cleared) place (length bytes) ≡ None → ⊥
+never_out s q slot place cleared bytes at same many out =
+    at.there (sym (ap (λ (place : ℕ). bytes_at (byte_at s.pages) place 16) at.is) ∙ (sym (ap₂ (λ (m : Memory) (n : ℕ). bytes_at m place n) same many) ∙ out))
+
+pub forge_goes : (s : Sides) (q slot place count : ℕ) (bytes : List ℕ) (cleared new : Pages) → IsWorld s → true ≡ in_state is_reaped (alone s.host []) q → slot < count → count ≡ s.host.entries → IsSlot s q slot place
+    → length bytes ≡ 16 → byte_at cleared ≡ byte_at s.pages → length cleared ≡ length s.pages → AreWhole new → length new ≡ length cleared → byte_at new ≡ written (byte_at cleared) place bytes
+    → Goes s (events.Forge q slot bytes) events.Accepted (sides_of s.host s.controller new false)
+forge_goes s q slot place count bytes cleared new l live below entries at many same size whole size' is =
+    goes s (events.Forge q slot bytes) events.Accepted (forged s new) l
+    (forged_stepped s q slot bytes at.queue new l many (forges_none s q slot bytes (sym live) (subst (λ (n : ℕ). slot < n) entries below)) at.here
+    (record { whole = whole; count = size' ∙ size })
+    (is ∙ ap₂ (λ (m : Memory) (place : ℕ). written m place bytes) same at.is))
+
+-- What it is refused for
+
+-- A reset of both sides is a step of the machine, behind which they agree.
+
+-- no command is left at the controller
+reset_controller : (c : Contents) → IsController (reset c)
+reset_controller c = record { commands = record { each = tt; differ = λ q cid. omega arith }; awaited = tt }
+
+pub reset_goes : (s : Sides) (host : HostView) (controller : Contents) (pages : Pages) → IsWorld s → host ≡ host_reset s.host s.pages → pages ≡ pages_reset s.host s.pages → IsOver host pages → controller ≡ reset s.controller
+    → Goes s events.Reset events.Accepted (sides_of host controller pages true)
+reset_goes s host controller pages l is_host is_pages over is_controller =
+    subst (λ (host : HostView). Goes s events.Reset events.Accepted (sides_of host controller pages true)) (sym is_host)
+    (subst (λ (pages : Pages). Goes s events.Reset events.Accepted (sides_of (host_reset s.host s.pages) controller pages true)) (sym is_pages)
+    (subst (λ (controller : Contents). Goes s events.Reset events.Accepted (sides_of (host_reset s.host s.pages) controller (pages_reset s.host s.pages) true)) (sym is_controller)
+    (goes s events.Reset events.Accepted (reset_sides s) l (reset_stepped s l (reset_controller s.controller) over_both))))
+  where
+    over_both : IsOver (host_reset s.host s.pages) (pages_reset s.host s.pages)
+    over_both = subst (λ (pages : Pages). IsOver (host_reset s.host s.pages) pages) is_pages (subst (λ (host : HostView). IsOver host pages) is_host over)
+
+-- where a step leads to a trusted world, both sides agree
+pub agree_behind : {s new : Sides} {e : Event} {reply : Reply} → Goes s e reply new → new.trusted ≡ true → SidesAgree (state_of new)
+agree_behind g trusted = (OnTrue_at trusted g.world.tied).agree
+
+-- A world as it opens.
+
+-- Where halves begin, a queue more
+
+abbrev pub at_page : ℕ → ℕ → QueuePages
+at_page n page = record { sq = page; cq = page + half_pages n Submission }
+
+pub halves_more : (n page k : ℕ) → halves_from page n (suc k) ≡ halves_from page n k ++ at_page n (page + k * (half_pages n Submission + half_pages n Completion)) ∷ []
+halves_more n page zero = ap (λ (p : ℕ). at_page n p ∷ []) (omega arith)
+halves_more n page (suc k) =
+    ap (λ (rest : List QueuePages). at_page n page ∷ rest)
+    (halves_more n (page + half_pages n Submission + half_pages n Completion) k
+    ∙ ap (λ (p : ℕ). halves_from (page + half_pages n Submission + half_pages n Completion) n k ++ at_page n p ∷ []) (further page (half_pages n Submission) (half_pages n Completion) k))
+  where
+    further : (page a b k : ℕ) → page + a + b + k * (a + b) ≡ page + suc k * (a + b)
+    further page a b k = omega arith
+
+pub next_halves : (n k first a b : ℕ) (old new : List QueuePages) → a ≡ half_pages n Submission → b ≡ half_pages n Completion → first ≡ k * (a + b) → old ≡ halves_from 0 n k
+    → new ≡ old ++ record { sq = first; cq = first + a } ∷ [] → new ≡ halves_from 0 n (k + 1)
+next_halves n k first a b old new is_a is_b is_first is_old is_new =
+    let start : k * (half_pages n Submission + half_pages n Completion) ≡ 0 + k * (half_pages n Submission + half_pages n Completion) = omega arith in
+    let next : suc k ≡ k + 1 = omega arith in
+    is_new
+    ∙ (ap₂ (λ (old : List QueuePages) (pages : QueuePages). old ++ pages ∷ []) is_old
+    (ap₂ (λ (first a : ℕ). record { sq = first; cq = first + a }) (is_first ∙ ap₂ (λ (a b : ℕ). k * (a + b)) is_a is_b) is_a)
+    ∙ (ap (λ (p : ℕ). halves_from 0 n k ++ at_page n p ∷ []) start ∙ sym (halves_more n 0 k) ∙ ap (λ (k : ℕ). halves_from 0 n k) next))
+
+-- Both sides as they open
+
+pub opened_as_world : (c : Config) (image : List ℕ) (host : HostView) (pages : Pages) (halves : List QueuePages) (contents : Contents) → refusal_of_config c ≡ None → host ≡ opened_view c → pages ≡ opened_pages c
+    → halves ≡ halves_from 0 c.entries (c.queues + 1) → contents ≡ controller.opened c.entries halves image
+    → IsWorld (sides_of host contents pages true) × (state_of (sides_of host contents pages true) ≡ opening_of c image)
+opened_as_world c image host pages halves contents fits is_host is_pages is_halves is_contents =
+    subst (λ (s : Sides). IsWorld s × (state_of s ≡ opening_of c image))
+    (sym (ap (λ (host : HostView). sides_of host contents pages true) is_host
+    ∙ (ap (λ (pages : Pages). sides_of (opened_view c) contents pages true) is_pages
+    ∙ ap (λ (contents : Contents). sides_of (opened_view c) contents (opened_pages c) true) (is_contents ∙ ap (λ (halves : List QueuePages). controller.opened c.entries halves image) is_halves))))
+    (let world = opened_are_worlds c image fits in (world.1, world.0))

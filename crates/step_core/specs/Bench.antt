@@ -1,30 +1,16 @@
 -- A bench: a world, with the drafts, the tickets and the finished commands that are about. What each of its steps may answer, and what it leaves.
-use Rattle.std.specs.Prelude.{◌≡◌, ℕ, Bool, true, false, Option, Some, None, List, [], ◌∷◌, ◌++◌, length, if◌then◌else◌}
-use Rattle.std.specs.List.{list_any}
-use Rattle.std.specs.Option.{option_map}
-use Rattle.io_commands.specs.Drafts.{DraftContents, built}
-use Rattle.io_commands.specs.Values.{FinishedContents, gathered_from}
+use Rattle.host_core.specs.CommandValues.{without_first, with_first}
+use Rattle.std.specs.{List.list_any, Option.option_map, Prelude.{◌≡◌, ℕ, Bool, true, false, Option, Some, None, List, [], ◌∷◌, ◌++◌, length, if◌then◌else◌}}
+use Rattle.io_commands.specs.{Drafts.{DraftContents, built}, Values.{FinishedContents, gathered_from}}
+use Rattle.machine_model.specs.{Events.Event, Image.{is_draft, draft_of}, Script.{Table, is_finished, finished_at, is_ticket, fill_fault, filled_draft}}
+use Rattle.step_core.specs.Values.{Step, Reply}
 use Rattle.machine_model.specs.Events as events
-use Rattle.machine_model.specs.Events.{Event}
-use Rattle.machine_model.specs.Image.{is_draft, draft_of}
-use Rattle.machine_model.specs.Script.{Table, is_finished, finished_at, is_ticket, fill_fault, filled_draft}
 use Rattle.machine_model.specs.declared.words.Refusal.TheVariants as refusal
 use Rattle.machine_model.specs.Step as machine
-use Rattle.step_core.specs.Values.{Step}
 use Rattle.step_core.specs.declared.step.Step.TheVariants as step
-use Rattle.step_core.specs.Values.{Reply}
 use Rattle.step_core.specs.declared.step.Reply.TheVariants as reply
 
 -- Kept values
-
--- a list without the first value that passes a test, and with the first one changed
-abbrev pub without_first : {X : Type 0} → (X → Bool) → List X → List X
-without_first p [] = []
-without_first p (x ∷ xs) = if p x then xs else x ∷ without_first p xs
-
-abbrev pub with_first : {X : Type 0} → (X → Bool) → (X → X) → List X → List X
-with_first p f [] = []
-with_first p f (x ∷ xs) = if p x then f x ∷ xs else x ∷ with_first p f xs
 
 -- The machine's steps
 

@@ -1,24 +1,15 @@
 -- Benches go on: each step whose numbers fit has an answer, from each table that steps of a bench lead to; what they tell of its controller;
 -- and which of their runs are trusted.
-use Rattle.std.specs.Prelude.{◌≡◌, ℕ, Bool, true, false, ◌&&◌, ◌||◌, not, IsTrue, None, List, ◌∷◌, length}
-use Rattle.std.specs.List.{AllByRecursion}
+use Rattle.std.specs.{List.AllByRecursion, Prelude.{◌≡◌, ℕ, Bool, true, false, ◌&&◌, ◌||◌, not, IsTrue, None, List, ◌∷◌, length}}
 use Rattle.block_image.specs.Blocks.{IsImage}
 use Rattle.io_commands.specs.Requests.{FitsRequest}
+use Rattle.machine_model.specs.{Events.Event, Proper.{IsProper, IsProperDraft}, Script.{Table, table}, Touch.{stays_allowed, stays_own}, Trusted.TrustedRun}
+use Rattle.two_sides.specs.InOrder.{IsInOrder}
+use Rattle.step_core.specs.{Bench.{Does, DoesAll, asked, told}, Laws.made_by, Opening.opening_of, Values.{Reply, Step}}
+use Rattle.host_core.specs.{Opening.refusal_of_config, declared.config.Config.Config}
 use Rattle.machine_model.specs.Events as events
-use Rattle.machine_model.specs.Events.{Event}
-use Rattle.machine_agreement.specs.InOrder.{IsInOrder}
-use Rattle.machine_model.specs.Trusted.{TrustedRun}
-use Rattle.machine_model.specs.Proper.{IsProper, IsProperDraft}
-use Rattle.machine_model.specs.Script.{Table, table}
-use Rattle.machine_model.specs.Touch.{stays_allowed, stays_own}
-use Rattle.step_core.specs.Bench.{Does, DoesAll, asked, told}
-use Rattle.step_core.specs.Laws.{made_by}
-use Rattle.step_core.specs.Values.{Reply, Step}
 use Rattle.step_core.specs.declared.step.Step.TheVariants as step
 use Rattle.step_core.specs.declared.step.Reply.TheVariants as reply
-use Rattle.host_core.specs.Opening.{refusal_of_config}
-use Rattle.step_core.specs.Opening.{opening_of}
-use Rattle.host_core.specs.declared.config.Config.{Config}
 
 -- a step whose numbers fit: a request's, and the 16 bytes of an entry
 abbrev pub IsFitStep : Step → Type 0

@@ -1,72 +1,12 @@
 -- A bench's world and kept values, as a table.
-use Rattle.std.specs.Prelude.{◌≡◌, ℕ, ◌-◌, None, Some, Option, List, [], length, filter_map, find, Result, Ok, Err}
-use Rattle.std.specs.List.{AllByRecursion}
-use Rattle.io_commands.specs.Asked.{Request}
-use Rattle.io_commands.specs.Drafts.{DraftContents, built}
-use Rattle.io_commands.specs.Values.{FinishedContents, TicketContents}
-use Rattle.machine_model.specs.declared.words.Work.TheVariants.{Io}
-use Rattle.machine_model.specs.Script.{Table, fill_fault, filled_draft}
-use Rattle.machine_model.specs.State.{State, Record, is_at}
+use Rattle.std.specs.{List.AllByRecursion, Prelude.{◌≡◌, ℕ, ◌-◌, None, Some, Option, List, [], length, filter_map, find, Result, Ok, Err}}
+use Rattle.io_commands.specs.{Asked.Request, Drafts.{DraftContents, built}, Values.{FinishedContents, TicketContents}}
+use Rattle.machine_model.specs.{Script.{Table, fill_fault, filled_draft}, State.{State, Record, is_at}, declared.words.Work.TheVariants.Io}
+use Rattle.slot_table.specs.{Rows.{Row, IsDistinct, value_at, with_value}, Table.{TableOf, AreInside}}
+use Rattle.host_core.specs.CommandValues.{table_with}
+use Rattle.step_core.specs.{Values.Reply, declared.kept.Kept.Kept}
 use Rattle.machine_model.specs.declared.words.Refusal.TheVariants as refusal
-use Rattle.slot_table.specs.Table.{Row, TableOf, AreInside, IsDistinct, value_at, with_value}
-use Rattle.step_core.specs.declared.kept.Kept.{Kept}
-use Rattle.step_core.specs.declared.kept.Value.{Value}
-use Rattle.step_core.specs.declared.kept.Value.TheVariants as value
-use Rattle.step_core.specs.Values.{Reply}
 use Rattle.step_core.specs.declared.step.Reply.TheVariants as reply
-
--- Values by kind
-
-module _ {A : Type 0} where
-  abbrev pub as_draft : Option (Value A) → Option DraftContents
-  as_draft (Some (value.Draft draft)) = Some draft
-  as_draft v = None
-
-  abbrev pub as_ticket : Option (Value A) → Option (ℕ × ℕ)
-  as_ticket (Some (value.Ticket ticket)) = Some (ticket.q, ticket.cid)
-  as_ticket v = None
-
-  abbrev pub as_finished : Option (Value A) → Option FinishedContents
-  as_finished (Some (value.Finished finished)) = Some finished
-  as_finished v = None
-
-  abbrev pub queue_of : Value A → ℕ
-  queue_of (value.Draft draft) = draft.q
-  queue_of (value.Ticket ticket) = ticket.q
-  queue_of (value.Finished finished) = finished.q
-
-  abbrev pub identifier_of : Value A → ℕ
-  identifier_of (value.Draft draft) = draft.cid
-  identifier_of (value.Ticket ticket) = ticket.cid
-  identifier_of (value.Finished finished) = finished.cid
-
-module _ {A : Type 0} where
-  -- a value is given as the one of its kind, or as it was
-  abbrev pub IsDraftOf : Value A → Result DraftContents (Value A) → Type 0
-  IsDraftOf v (Ok draft) = v ≡ value.Draft draft
-  IsDraftOf v (Err other) = (other ≡ v) × (as_draft (Some v) ≡ None)
-
-  abbrev pub IsTicketOf : Value A → Result TicketContents (Value A) → Type 0
-  IsTicketOf v (Ok ticket) = v ≡ value.Ticket ticket
-  IsTicketOf v (Err other) = (other ≡ v) × (as_ticket (Some v) ≡ None)
-
-  abbrev pub IsFinishedOf : Value A → Result FinishedContents (Value A) → Type 0
-  IsFinishedOf v (Ok finished) = v ≡ value.Finished finished
-  IsFinishedOf v (Err other) = (other ≡ v) × (as_finished (Some v) ≡ None)
-
--- the values of rows that are of a kind, in their order
-abbrev pub picked : {V X : Type 0} → (V → Option X) → List (Row V) → List X
-picked pick rows = filter_map (λ row. pick row.value) rows
-
--- a world with these values
-abbrev pub table_with : {A : Type 0} → State → TableOf (Option (Value A)) → Table
-table_with world values =
-    record {
-      world = world;
-      drafts = picked as_draft values.rows;
-      tickets = picked as_ticket values.rows;
-      finished = picked as_finished values.rows;
-    }
 
 abbrev pub table_of : {A : Type 0} → Kept A → Table
 table_of kept = table_with kept.world.state kept.values
@@ -78,33 +18,6 @@ pub record BenchContents : Type 0 where
 
 abbrev pub contents_of : {A : Type 0} → Kept A → BenchContents
 contents_of kept = record { table = table_of kept; touches = kept.world.touches }
-
--- What ties the values to the world
-
--- an I/O command is outstanding under a name
-abbrev pub IsOutstanding : ℕ → ℕ → List Record → Type 0
-IsOutstanding q cid records = (r : Record) × (find (is_at q cid) records ≡ Some r) × (asked : Request) × (r.work ≡ Io asked)
-
--- a row has a value of its own name, whose command is outstanding
-pub record IsHeld {A : Type 0} (records : List Record) (row : Row (Option (Value A))) : Type 0 where
-  pub value : Value A
-  pub held : row.value ≡ Some value
-  pub queue : queue_of value ≡ row.q
-  pub identifier : identifier_of value ≡ row.cid
-  pub outstanding : IsOutstanding row.q row.cid records
-
--- the values of a bench: one at most of each command that is outstanding, and a place for each that may be
-pub record IsBench {A : Type 0} (s : State) (values : TableOf (Option (Value A))) : Type 0 where
-  pub queues : values.queues ≡ length s.host.queues
-  pub places : values.places ≡ s.entries - 1
-  pub inside : AreInside values.queues values.places values.rows
-  pub distinct : IsDistinct values.rows
-  pub held : AllByRecursion (IsHeld s.host.records) values.rows
-
--- a value is taken out of its row, which stays
-pub record IsOut {A : Type 0} (old : TableOf (Option (Value A))) (q cid : ℕ) (v : Value A) (new : TableOf (Option (Value A))) : Type 0 where
-  pub there : value_at old.rows q cid ≡ Some (Some v)
-  pub left : new ≡ record old { rows = with_value old.rows q cid None }
 
 -- what filling a draft answers, and what it leaves of it
 abbrev pub FillsDraft : DraftContents → List ℕ → Reply → DraftContents → Type 0

@@ -1,11 +1,7 @@
 -- What a bench does is a run of the machine.
 use Rattle.std.specs.Prelude.{Option, Some, None, List, [], ◌∷◌}
-use Rattle.machine_model.specs.Events.{Event}
-use Rattle.machine_model.specs.Image.{Made}
-use Rattle.machine_model.specs.Script.{Table}
-use Rattle.machine_model.specs.Trusted.{Steps}
-use Rattle.step_core.specs.Bench.{DoesBy, DoesAll, event_at}
-use Rattle.step_core.specs.Values.{Reply, Step}
+use Rattle.machine_model.specs.{Events.Event, Image.Made, Script.Table, Trusted.Steps}
+use Rattle.step_core.specs.{Bench.{DoesBy, DoesAll, event_at}, Values.{Reply, Step}}
 
 -- the machine's steps from a step on: it is one more where it is an event, with the reply of which its answer tells
 abbrev pub made_from : (event : Option Event) (t : Table) (what : Step) (answer : Reply) (new : Table) → DoesBy event t what answer new → List Made → List Made

@@ -1,11 +1,8 @@
 -- What looks at a world tell: what would be answered, want of memory left aside.
 use Rattle.std.specs.Prelude.{◌≡◌, ℕ, Bool, false, ◌&&◌, is_none, is_some}
-use Rattle.controller_core.specs.declared.look.ControllerStep.{ControllerStep}
-use Rattle.controller_core.specs.declared.look.ControllerStep.TheVariants.{Fetch, Walk, Complete}
+use Rattle.controller_core.specs.declared.look.ControllerStep.{ControllerStep, TheVariants.{Fetch, Walk, Complete}}
+use Rattle.machine_model.specs.{Events.Event, Refusals.{refusal_of, seen_entry}, State.State}
 use Rattle.machine_model.specs.Events as events
-use Rattle.machine_model.specs.Events.{Event}
-use Rattle.machine_model.specs.Refusals.{refusal_of, seen_entry}
-use Rattle.machine_model.specs.State.{State}
 
 -- whether nothing is against an event
 abbrev pub is_possible : State → Event → Bool

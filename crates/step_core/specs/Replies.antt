@@ -1,13 +1,8 @@
 -- The machine's reply that an answer of a call is.
 use Rattle.std.specs.Prelude.{[], Result, Ok, Err}
+use Rattle.machine_model.specs.{Events.Reply, declared.words.{Reaped.Reaped, Refusal.Refusal}}
+use Rattle.step_core.specs.declared.refused.{Completed.Completed, Fetched.Fetched, StepRefused.StepRefused, Walked.Walked}
 use Rattle.machine_model.specs.Events as events
-use Rattle.machine_model.specs.Events.{Reply}
-use Rattle.machine_model.specs.declared.words.Reaped.{Reaped}
-use Rattle.machine_model.specs.declared.words.Refusal.{Refusal}
-use Rattle.step_core.specs.declared.refused.Completed.{Completed}
-use Rattle.step_core.specs.declared.refused.Fetched.{Fetched}
-use Rattle.step_core.specs.declared.refused.Walked.{Walked}
-use Rattle.step_core.specs.declared.refused.StepRefused.{StepRefused}
 pub use Rattle.host_core.specs.Replies.{reserve_reply, accept_reply, collect_reply, ring_reply, send_reply}
 
 abbrev pub reap_reply : Result Reaped Refusal → Reply

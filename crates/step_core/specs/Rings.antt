@@ -1,16 +1,10 @@
 -- What a look at the rings of a queue tells of the machine's state.
-use Rattle.std.specs.Prelude.{◌≡◌, ℕ, not, Option, Some, None, IfSome, is_some, slice_get, if◌then◌else◌}
-use Rattle.std.specs.Option.{option_map_or}
+use Rattle.std.specs.{Option.option_map_or, Prelude.{◌≡◌, ℕ, not, Option, Some, None, IfSome, is_some, slice_get, if◌then◌else◌}}
 use Rattle.admin_commands.specs.Verdicts.{is_absent}
 use Rattle.controller_core.specs.declared.queue.ControllerQueue.{ControllerQueue}
-use Rattle.machine_model.specs.Agreeing.{has_completions_at, is_absent_at}
-use Rattle.machine_model.specs.Refusals.{fetch_slot, post_slot}
-use Rattle.machine_model.specs.State.{State}
-use Rattle.queue_pair.specs.Lists.{expected_phase}
-use Rattle.queue_pair.specs.Slots.{distance}
-use Rattle.step_core.specs.declared.rings.FetchPositions.{FetchPositions}
-use Rattle.step_core.specs.declared.rings.PostPositions.{PostPositions}
-use Rattle.step_core.specs.declared.rings.Rings.{Rings}
+use Rattle.machine_model.specs.{Agreeing.{has_completions_at, is_absent_at}, Refusals.{fetch_slot, post_slot}, State.State}
+use Rattle.queue_pair.specs.{Lists.expected_phase, Slots.distance}
+use Rattle.step_core.specs.declared.rings.{FetchPositions.FetchPositions, PostPositions.PostPositions, Rings.Rings}
 
 -- where a queue of the controller stands, as far as it is there
 abbrev pub fetching_of : ControllerQueue → Option FetchPositions

@@ -1,19 +1,13 @@
 -- What a step of the controller may touch, where the world is trusted; how many pages each event touches, always; and what a look may.
-use Rattle.std.specs.Prelude.{◌≡◌, ℕ, zero, suc, ◌+◌, ◌≤◌, ◌&&◌, IsTrue, List, [], ◌∷◌, length}
-use Rattle.std.specs.Bool.{OnTrue}
+use Rattle.std.specs.{Bool.OnTrue, Prelude.{◌≡◌, ℕ, zero, suc, ◌+◌, ◌≤◌, ◌&&◌, IsTrue, List, [], ◌∷◌, length}}
 use Rattle.host_core.specs.Touching.{host_touches}
 use Rattle.io_commands.specs.Values.{FinishedContents}
-use Rattle.machine_model.specs.Events as events
-use Rattle.machine_model.specs.Events.{Event, Reply}
-use Rattle.machine_model.specs.State.{State}
-use Rattle.machine_model.specs.Touch.{stays_allowed, stays_own, touched_by}
-use Rattle.machine_model.specs.Script.{Table}
-use Rattle.machine_model.specs.declared.words.Refusal.{Refusal}
-use Rattle.machine_model.specs.declared.words.Refusal.TheVariants as refusal
-use Rattle.page_memory.specs.Memory.{counted}
-use Rattle.page_memory.specs.declared.page.Half.TheVariants.{Submission, Completion}
+use Rattle.machine_model.specs.{Events.{Event, Reply}, Script.Table, State.State, Touch.{stays_allowed, stays_own, touched_by}, declared.words.Refusal.Refusal}
+use Rattle.page_memory.specs.{Memory.counted, declared.page.Half.TheVariants.{Submission, Completion}}
 use Rattle.queue_pair.specs.Memory.{half_pages}
 use Rattle.step_core.specs.Values.{Step}
+use Rattle.machine_model.specs.Events as events
+use Rattle.machine_model.specs.declared.words.Refusal.TheVariants as refusal
 use Rattle.step_core.specs.declared.step.Step.TheVariants as step
 use Rattle.step_core.specs.Values as values
 use Rattle.step_core.specs.declared.step.Reply.TheVariants as reply

@@ -12,7 +12,8 @@ ghost use Rattle.page_memory.specs.Pages.{byte_at};
 ghost use Rattle.queue_pair.specs.Positions.{host_positions};
 ghost use Rattle.page_ledger.specs.Counting.{total};
 ghost use Rattle.step_core.specs.Bench.{Does, DoesAll};
-ghost use Rattle.step_core.specs.Kept.{table_of, contents_of, IsBench};
+ghost use Rattle.step_core.specs.Kept.{table_of, contents_of};
+ghost use Rattle.host_core.specs.CommandValues.{IsBench};
 ghost use Rattle.step_core.specs.Rings.{ShowsHalves, TellsRung, TellsFetching, TellsPosting};
 ghost use Rattle.host_core.specs.Opening.{refusal_of_config, RefusesOpening};
 ghost use Rattle.step_core.specs.Opening.{opening_of};
@@ -41,7 +42,8 @@ pub struct Bench<A: Allocator = Global> {
 }
 
 impl<A: Allocator> Model for Bench<A> {
-    ghost use Rattle.step_core.specs.Kept.{BenchContents, contents_of, IsBench};
+    ghost use Rattle.step_core.specs.Kept.{BenchContents, contents_of};
+    ghost use Rattle.host_core.specs.CommandValues.{IsBench};
 
     ghost Value = { BenchContents };
 

@@ -2,17 +2,18 @@
 
 ghost use Rattle.std.specs.Prelude.{◌≡◌, [], length};
 ghost use Rattle.step_core.specs.Bench.{Does};
-ghost use Rattle.step_core.specs.Kept.{table_of, IsBench};
+ghost use Rattle.step_core.specs.Kept.{table_of};
+ghost use Rattle.host_core.specs.CommandValues.{IsBench};
 ghost use Rattle.step_core.specs.Touching.{StepTouches};
 
 use crate::fill::{build_draft, fill_draft, no_memory};
-use crate::kept::{Kept, Value};
-use crate::kept_values::{
-    drop_row, finished_in, put_back, put_next, take_draft, take_finished, take_ticket,
-};
+use crate::kept::Kept;
 use crate::refused::{StepRefused, none_touched};
 use crate::step::{Bytes, Reply, ReplyIn, Step, StepIn};
 use host_core::Refused;
+use host_core::values::{
+    CommandValue, drop_row, finished_in, put_back, put_next, take_draft, take_finished, take_ticket,
+};
 use io_commands::Request;
 use machine_model::words::Refusal;
 use std::alloc::Allocator;
@@ -49,7 +50,7 @@ impl<A: Allocator + Copy> Kept<A> {
             Ok(draft) => {
                 let reply = Reply::reserved(&draft);
                 let cid = draft.cid();
-                self.values.put(q, cid, Some(Value::Draft(draft)));
+                self.values.put(q, cid, Some(CommandValue::Draft(draft)));
                 reply
             }
             Err(Refused { value: _, why }) => refused(why),
@@ -67,7 +68,7 @@ impl<A: Allocator + Copy> Kept<A> {
             return Reply::NoValue;
         };
         let reply = fill_draft(&mut draft, bytes);
-        put_back(&mut self.values, q, cid, Value::Draft(draft));
+        put_back(&mut self.values, q, cid, CommandValue::Draft(draft));
         reply
     }
 
@@ -82,7 +83,7 @@ impl<A: Allocator + Copy> Kept<A> {
             return Reply::NoValue;
         };
         let reply = build_draft(&mut draft, self.alloc);
-        put_back(&mut self.values, q, cid, Value::Draft(draft));
+        put_back(&mut self.values, q, cid, CommandValue::Draft(draft));
         reply
     }
 
@@ -98,11 +99,11 @@ impl<A: Allocator + Copy> Kept<A> {
         };
         match self.world.submit(draft) {
             Ok(ticket) => {
-                put_next(&mut self.values, q, cid, Value::Ticket(ticket));
+                put_next(&mut self.values, q, cid, CommandValue::Ticket(ticket));
                 Reply::Accepted
             }
             Err(Refused { value, why }) => {
-                put_back(&mut self.values, q, cid, Value::Draft(value));
+                put_back(&mut self.values, q, cid, CommandValue::Draft(value));
                 refused(why)
             }
         }
@@ -124,7 +125,7 @@ impl<A: Allocator + Copy> Kept<A> {
                 Reply::Accepted
             }
             Err(Refused { value, why }) => {
-                put_back(&mut self.values, q, cid, Value::Draft(value));
+                put_back(&mut self.values, q, cid, CommandValue::Draft(value));
                 refused(why)
             }
         }
@@ -216,11 +217,11 @@ impl<A: Allocator + Copy> Kept<A> {
         match self.world.collect(ticket) {
             Ok(finished) => {
                 let status = finished.status();
-                put_next(&mut self.values, q, cid, Value::Finished(finished));
+                put_next(&mut self.values, q, cid, CommandValue::Finished(finished));
                 Reply::Collected(status)
             }
             Err(Refused { value, why }) => {
-                put_back(&mut self.values, q, cid, Value::Ticket(value));
+                put_back(&mut self.values, q, cid, CommandValue::Ticket(value));
                 refused(why)
             }
         }
@@ -258,7 +259,7 @@ impl<A: Allocator + Copy> Kept<A> {
                 Reply::Accepted
             }
             Err(Refused { value, why }) => {
-                put_back(&mut self.values, q, cid, Value::Finished(value));
+                put_back(&mut self.values, q, cid, CommandValue::Finished(value));
                 refused(why)
             }
         }

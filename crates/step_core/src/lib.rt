@@ -24,7 +24,6 @@ mod ended;
 mod fill;
 mod forge;
 mod kept;
-mod kept_values;
 pub mod laws;
 mod look;
 mod open;

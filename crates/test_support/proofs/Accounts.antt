@@ -1,23 +1,13 @@
 -- The three functions that write the account, at a call: what each is handed, and what a caller has of it. Assumes `Logic`.
 use Rattle.std.proofs.Common.{◌≡◌, ◌^◌, ◌<◌, Bool, ℕ, List, [], ◌∷◌, refl, ap, w64}
 use seplogic.Ra.Ura.{Ura}
-use mir.Syntax.{Body}
-use mir.Val.{Val, vbool, vint, vunit, vptr}
-use base.Logic.{SProp, ent, sep, guard, ex, id⊢}
-use base.Fml.{Lft, Share, ftrue, fsep, flft}
-use prog.Memory.{Memory}
-use prog.Routine.{Routine}
-use prog.Wp.{Env, Calls, Loops, Wp, after_seq}
+use mir.{Syntax.Body, Val.{Val, vbool, vint, vunit, vptr}}
+use base.{Fml.{Lft, Share, ftrue, fsep, flft}, Logic.{SProp, ent, sep, guard, ex, id⊢}}
+use prog.{Memory.Memory, Routine.Routine, Wp.{Env, Calls, Loops, Wp, after_seq}}
+use types.Kit.{Post, any_q, post, ‵, raw, ◌⊛◌, some, later, ◌$◌, ◌∵◌, !, qed, move, keep, use1, split, join, pick, fjoin, feq_i, feq_l, flt_i, check, show, await, updating, now as at_once, done}
 use types.Logic.{Logic, sem}
 use contract.Monad.{Fun}
-use types.Kit.{Post, any_q, post, ‵, raw, ◌⊛◌, some, later, ◌$◌, ◌∵◌, !, qed, move, keep, use1, split, join, pick, fjoin, feq_i, feq_l, flt_i, check, show, await, updating, now as at_once, done}
-use denote.RattleType.{RattleType}
-use denote.Memory.{hidden_shr}
-use denote.Builtin.{bool, unit}
-use denote.Steps.{nothing, only}
-use denote.RattleType.{RowLaws}
-use denote.Triple.Statement.{Contract}
-use denote.Triple.Spec.{triple_of}
+use denote.{Builtin.{bool, unit}, Memory.hidden_shr, RattleType.{RattleType, RowLaws}, Steps.{nothing, only}, Triple.{Spec.triple_of, Statement.Contract}}
 use Rattle.test_support.proofs.allocator.Account.TheLaws as account_laws
 use Rattle.test_support.specs.contracts.allocator.Account as account
 use Rattle.test_support.specs.contracts.allocator.refuses_call as ask

@@ -1,7 +1,6 @@
 -- Which calls for memory are refused.
 use Rattle.std.specs.Prelude.{◌≡◌, ◌≤◌, ◌<◌, ◌^◌, ◌↔◌, ℕ}
-use Rattle.test_support.specs.declared.refusal.Refusal.{Refusal}
-use Rattle.test_support.specs.declared.refusal.Refusal.TheVariants.{Never, Nth, NthOn}
+use Rattle.test_support.specs.declared.refusal.Refusal.{Refusal, TheVariants.{Never, Nth, NthOn}}
 
 -- the call of this number, counted from 1, is refused
 abbrev pub IsRefused : Refusal → ℕ → Type 0

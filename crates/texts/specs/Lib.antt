@@ -1,2 +1,4 @@
 pub mod Found
 pub mod Slots
+pub mod Ending
+pub mod Taking

@@ -1,15 +1,9 @@
 -- What is said of an entry in a slot of a queue: the bytes that stand there in the world.
+use Rattle.std.specs.{Fmt.{decimal, digit_glyph, digits}, List.Contains}
 use Rattle.std.specs.Prelude.{◌≡◌, ◌≢◌, ◌⊎◌, ℕ, zero, suc, ◌+◌, ◌*◌, ◌/◌, ◌%◌, ◌<◌, true, Option, Some, None, List, [], ◌∷◌, ◌++◌, codes, take, drop, length}
-use Rattle.std.specs.Fmt.{decimal, digit_glyph, digits}
-use Rattle.std.specs.List.{Contains}
-use Rattle.machine_model.specs.Claims.{claims_of}
-use Rattle.machine_model.specs.State.{State}
-use Rattle.page_ledger.specs.declared.owner.Owner.{Owner}
-use Rattle.page_ledger.specs.declared.owner.Owner.TheVariants.{Queue}
-use Rattle.page_memory.specs.Memory.{bytes_at}
-use Rattle.page_memory.specs.Pages.{byte_at}
-use Rattle.page_memory.specs.declared.page.Half.{Half}
-use Rattle.page_memory.specs.declared.page.Half.TheVariants.{Submission, Completion}
+use Rattle.machine_model.specs.{Claims.claims_of, State.State}
+use Rattle.page_ledger.specs.declared.owner.Owner.{Owner, TheVariants.Queue}
+use Rattle.page_memory.specs.{Memory.bytes_at, Pages.byte_at, declared.page.Half.{Half, TheVariants.{Submission, Completion}}}
 
 -- a page has an owner in the world, and that is not this half of a queue
 abbrev pub IsOfAnother : State → ℕ → Half → ℕ → Type 0

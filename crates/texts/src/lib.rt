@@ -2,6 +2,8 @@
 #![tactic(auto)]
 
 pub mod byte_runs;
+pub mod draw;
+pub mod explain;
 pub mod faults;
 pub mod statuses;
 pub mod traces;

@@ -1,46 +1,129 @@
--- Queue 0 keeps its halves on both sides, whatever was forged: no event of the host gives them back, and no entry makes it anew at the controller.
-use Rattle.std.proofs.Common.{◌≡◌, ℕ, zero, suc, ◌==◌, nat_lt, Bool, true, false, Option, Some, None, List, [], ◌∷◌, slice_get, if◌then◌else◌, refl, ap, sym, ◌∙◌, subst, arith}
-use Rattle.std.specs.Option.{option_map_or}
-use Rattle.std.proofs.lemmas.Bool.{cond_both, true≢false}
-use Rattle.admin_commands.specs.Entries.{named_queue}
-use Rattle.admin_commands.specs.Verdicts.{decision}
-use Rattle.admin_commands.specs.declared.AdminVerdict.{AdminVerdict}
-use Rattle.admin_commands.specs.declared.AdminVerdict.TheVariants.{Answer, AbortJob, StopQueue, DropCompletion, MakeCompletion, MakeSubmission}
+-- What is decided of admin commands.
+use Rattle.machine_model.specs.After as a
+use Rattle.machine_model.specs.Events as events
+use Rattle.std.proofs.Common.{◌≡◌, ℕ, zero, suc, ◌+◌, ◌/◌, ◌%◌, ◌==◌, nat_lt, Bool, true, false, not, ◌&&◌, ◌||◌, Option, refl, arith, Some, None, List, [], ◌∷◌, slice_get, if◌then◌else◌, ap, sym, ◌∙◌, subst}
+use Rattle.std.{proofs.lemmas.Bool.{not-false, or_parts, and_parts, cond_both, true≢false}, specs.Option.option_map_or}
+use Rattle.admin_commands.specs.Entries.{named_queue, named_command, named_size, named_base, named_completion_queue, is_contiguous, is_opcode}
+use Rattle.admin_commands.specs.Verdicts.{create_cq_verdict, create_sq_verdict, decision, delete_cq_verdict, delete_sq_verdict, half_fault, is_absent, is_io_queue, is_live}
+use Rattle.admin_commands.specs.declared.AdminVerdict.{AdminVerdict, TheVariants.{Answer, AbortJob, StopQueue, DropCompletion, MakeCompletion, MakeSubmission}}
 use Rattle.admin_commands.specs.declared.DeviceView.{DeviceView}
-use Rattle.controller_core.specs.Completing.{queues_of_end, without_submission}
-use Rattle.controller_core.specs.Contents.{Contents, Work, is_deletion}
+use Rattle.entry_codec.specs.declared.{admin_opcode.TheConstants.{ABORT, DELETE_IO_SQ, DELETE_IO_CQ, CREATE_IO_CQ, CREATE_IO_SQ}, completion.ComEntry.ComEntry}
+use Rattle.entry_codec.specs.declared.{status.Status.Status, submission.SubEntry.SubEntry}
+use Rattle.two_sides.{proofs.Standing.far_suc as ne_zero, specs.{Hearing.heard, Sides.Sides, Ties.SharesAdmin}}
+use Rattle.page_memory.specs.{Pages.Pages, declared.page.Half.{Half, TheVariants.{Submission, Completion}}}
+use Rattle.queue_pair.specs.{Memory.half_pages, Rings.{HostRing, hearing_head, hearing_tail, knowing, next_head, next_tail}, Slots.is_in_range}
+use Rattle.controller_core.specs.{Completing.{queues_of_end, without_submission}, Contents.{Contents, Work, is_deletion}}
 use Rattle.controller_core.specs.Doorbells.{with_side, with_tail, with_head}
 use Rattle.controller_core.specs.Managing.{queues_after, stopping, with_completion, with_submission, without_completion}
-use Rattle.controller_core.specs.declared.command.Work.TheVariants.{Io, Admin}
-use Rattle.controller_core.specs.declared.queue.ControllerQueue.{ControllerQueue}
-use Rattle.entry_codec.specs.declared.completion.ComEntry.{ComEntry}
-use Rattle.entry_codec.specs.declared.submission.SubEntry.{SubEntry}
-use Rattle.host_core.specs.Alone.{HostView, HostStep, alone}
-use Rattle.host_core.specs.Ringing.{tail_of, head_rung}
-use Rattle.machine_model.specs.After as a
-use Rattle.machine_model.specs.After.{change}
-use Rattle.machine_model.specs.Claims.{AdminLives, IsSound}
-use Rattle.machine_model.specs.Events as events
-use Rattle.machine_model.specs.Events.{Event, Reply}
-use Rattle.machine_model.specs.Refusals.{has_cq_alone, is_live}
-use Rattle.machine_model.specs.State.{State, HostQueue}
-use Rattle.machine_model.specs.Step.{HostPart, IsController, host_part}
+use Rattle.controller_core.specs.declared.{command.Work.TheVariants.{Io, Admin}, queue.ControllerQueue.ControllerQueue}
+use Rattle.host_core.specs.{Alone.{HostView, HostStep, alone}, Ringing.{tail_of, head_rung}}
+use Rattle.machine_model.proofs.{Kept.{making_cq_as_heard, making_sq_as_heard}, Moves.{half_from, host_moves}, Owned.{HoldsPart, holds_from_sound}}
+use Rattle.machine_model.{proofs.Steps.{Accepts, kept_anyway, part_left}, specs.{After.change, Claims.{AdminLives, IsSound}, Events.{Event, Reply}}}
+use Rattle.machine_model.specs.{Refusals.{has_cq_alone, is_live as is_live_refusals}, State.{State, HostQueue}, Step.{HostPart, IsController, host_part}}
 use Rattle.machine_model.specs.declared.words.HostState.{HostState}
-use Rattle.machine_model.specs.declared.words.HostState.TheVariants as states
-use Rattle.machine_model.proofs.AwaitedKept.{making_cq_as_heard, making_sq_as_heard}
-use Rattle.machine_model.proofs.Moves.{half_from, host_moves}
-use Rattle.machine_model.proofs.Owned.{HoldsPart, holds_from_sound}
-use Rattle.machine_model.proofs.Steps.{Accepts, kept_anyway, part_left}
 use Rattle.page_ledger.specs.Owners.{pages_from}
-use Rattle.page_memory.specs.Pages.{Pages}
-use Rattle.page_memory.specs.declared.page.Half.TheVariants.{Submission, Completion}
-use Rattle.queue_pair.specs.Memory.{half_pages}
-use Rattle.queue_pair.specs.Rings.{HostRing, hearing_head, hearing_tail, knowing, next_head, next_tail}
-use Rattle.queue_pair.specs.Slots.{is_in_range}
-use Rattle.two_sides.specs.Hearing.{heard}
-use Rattle.two_sides.specs.Sides.{Sides}
-use Rattle.two_sides.specs.Ties.{SharesAdmin}
-use Rattle.two_sides.proofs.Decisions.{Decides, decides}
+
+-- What the rule of an admin entry saw where it decided so.
+
+-- a creation of a completion queue that is not there, and one of a submission queue that is not there beside its completion queue; neither is queue 0
+pub record MakesFree (e : SubEntry) (view : DeviceView) (q base : ℕ) : Type 0 where
+  pub opcode : (e.opcode == CREATE_IO_CQ) ≡ true
+  pub queue : q ≡ named_queue e
+  pub other : (q == 0) ≡ false
+  pub begins : base ≡ named_base e
+  pub free : view.cq_there ≡ false
+
+pub record MakesPaired (e : SubEntry) (view : DeviceView) (q base : ℕ) : Type 0 where
+  pub opcode : (e.opcode == CREATE_IO_SQ) ≡ true
+  pub queue : q ≡ named_queue e
+  pub other : (q == 0) ≡ false
+  pub begins : base ≡ named_base e
+  pub free : is_absent view.sq ≡ true
+  pub there : view.cq_there ≡ true
+
+-- the job that an Abort stops walks, and the queue that is stopped runs
+abbrev pub Decides : SubEntry → DeviceView → AdminVerdict → Type 0
+Decides e view (Answer st dw0) = Unit {0}
+Decides e view (AbortJob q cid) = (q ≡ named_queue e) × (cid ≡ named_command e) × (view.target_walks ≡ true)
+Decides e view (StopQueue q) = (q ≡ named_queue e) × (is_live view.sq ≡ true)
+Decides e view (DropCompletion q) = (e.opcode == DELETE_IO_CQ) ≡ true × (q ≡ named_queue e) × (view.cq_there ≡ true) × (is_absent view.sq ≡ true)
+Decides e view (MakeCompletion q base) = MakesFree e view q base
+Decides e view (MakeSubmission q base) = MakesPaired e view q base
+
+last : (u v w x y : Bool) → u ≡ false → v ≡ false → w ≡ false → x ≡ false → (u || v || w || x || y) ≡ true → y ≡ true
+last u v w x y eu ev ew ex h = grind arith
+
+-- an I/O queue isn't queue 0
+not_admin : (q : ℕ) (view : DeviceView) → not (is_io_queue q view) ≡ false → (q == 0) ≡ false
+not_admin zero view e = absurd (true≢false e)
+not_admin (suc q) view e = ne_zero q
+
+pub decides : (e : SubEntry) (view : DeviceView) → Decides e view (decision e view)
+decides e view =
+    cond_both (not (is_opcode e.opcode)) _ _ Q (λ c. tt)
+    (λ known. cond_both (not (e.fuse == 0)) _ _ Q (λ c. tt)
+    (λ unfused. cond_both (e.opcode == ABORT) _ _ Q (λ is8. (cond_both (view.target_walks && not (q == 0)) _ _ Q (λ w. (refl, refl, (and_parts view.target_walks (not (q == 0)) w).0)) (λ w. tt)))
+    (λ not8. cond_both (e.opcode == DELETE_IO_SQ) _ _ Q (λ is0. stopping)
+    (λ not0. cond_both (e.opcode == DELETE_IO_CQ) _ _ Q dropping
+    (λ not4. cond_both (e.opcode == CREATE_IO_CQ) _ _ Q completing
+    (λ not5. submitting (last (e.opcode == ABORT) (e.opcode == DELETE_IO_SQ) (e.opcode == DELETE_IO_CQ) (e.opcode == CREATE_IO_CQ) (e.opcode == CREATE_IO_SQ) not8 not0 not4 not5 (not-false _ known))))))))
+  where
+    Q : AdminVerdict → Type 0
+    Q v = Decides e view v
+
+    q : ℕ
+    q = named_queue e
+
+    stopping : Q (delete_sq_verdict q view)
+    stopping = cond_both ((q == 0) || not (is_live view.sq)) _ _ Q (λ w. tt) (λ w. (refl, not-false (is_live view.sq) (or_parts (q == 0) (not (is_live view.sq)) w).1))
+
+    dropping : (e.opcode == DELETE_IO_CQ) ≡ true → Q (delete_cq_verdict q view)
+    dropping is4 =
+        cond_both ((q == 0) || not view.cq_there) _ _ Q (λ w. tt)
+        (λ w. cond_both (not (is_absent view.sq)) _ _ Q (λ x. tt) (λ x. (is4, refl, not-false view.cq_there (or_parts (q == 0) (not view.cq_there) w).1, not-false (is_absent view.sq) x)))
+
+    -- a half that has a fault, and one that has none
+    halving : (half : Half) (v : AdminVerdict) → Q v → Q (option_map_or (λ fault. Answer fault 0) (half_fault half e view) v)
+    halving half v sound =
+        cond_both (not (named_size e == view.entries)) _ _ R (λ c. tt)
+        (λ sized. cond_both (not (is_contiguous e)) _ _ R (λ c. tt)
+        (λ whole. cond_both (not (named_base e % 4096 == 0)) _ _ R (λ c. tt)
+        (λ paged. cond_both (nat_lt view.pages (named_base e / 4096 + half_pages view.entries half)) _ _ R (λ c. tt) (λ inside. sound))))
+      where
+        R : Option Status → Type 0
+        R o = Q (option_map_or (λ fault. Answer fault 0) o v)
+
+    completing : (e.opcode == CREATE_IO_CQ) ≡ true → Q (create_cq_verdict e view)
+    completing is5 =
+        cond_both (not (is_io_queue q view) || view.cq_there) _ _ Q (λ w. tt)
+        (λ w. halving Completion (MakeCompletion q (named_base e)) (record {
+          opcode = is5;
+          queue = refl;
+          other = not_admin q view (or_parts (not (is_io_queue q view)) view.cq_there w).0;
+          begins = refl;
+          free = (or_parts (not (is_io_queue q view)) view.cq_there w).1;
+        }))
+
+    submitting : (e.opcode == CREATE_IO_SQ) ≡ true → Q (create_sq_verdict e view)
+    submitting is1 =
+        cond_both (not (is_io_queue q view) || not (is_absent view.sq)) _ _ Q (λ w. tt)
+        (λ w. cond_both (not (is_io_queue (named_completion_queue e) view)) _ _ Q (λ c. tt)
+        (λ known. cond_both (not view.cq_there || not (named_completion_queue e == q)) _ _ Q (λ c. tt)
+        (λ v. halving Submission (MakeSubmission q (named_base e))
+        (record {
+          opcode = is1;
+          queue = refl;
+          other = not_admin q view (or_parts (not (is_io_queue q view)) (not (is_absent view.sq)) w).0;
+          begins = refl;
+          free = not-false (is_absent view.sq) (or_parts (not (is_io_queue q view)) (not (is_absent view.sq)) w).1;
+          there = not-false view.cq_there (or_parts (not view.cq_there) (not (named_completion_queue e == q)) v).0;
+        }))))
+
+-- The size of the rings is looked at where an I/O queue is named.
+pub same_decision : (e : SubEntry) (view : DeviceView) (n : ℕ) → (is_io_queue (named_queue e) view ≡ true → view.entries ≡ n) → decision e view ≡ decision e (record view { entries = n })
+same_decision e view n same = grind arith
+
+-- Queue 0 keeps its halves on both sides, whatever was forged: no event of the host gives them back, and no entry makes it anew at the controller.
 
 -- The host's queues
 
@@ -61,7 +144,7 @@ shares_left n (suc k) f (x ∷ hs) [] leaves h = h
 shares_left n (suc k) f (x ∷ hs) (c ∷ cs) leaves h = h
 
 -- or a change of a queue that is not live, so it isn't queue 0
-shares_past : (n k : ℕ) (f : HostQueue → HostQueue) (hs : List HostQueue) (cs : List ControllerQueue) → ((x : HostQueue) → slice_get hs k ≡ Some x → is_live x.state ≡ false)
+shares_past : (n k : ℕ) (f : HostQueue → HostQueue) (hs : List HostQueue) (cs : List ControllerQueue) → ((x : HostQueue) → slice_get hs k ≡ Some x → is_live_refusals x.state ≡ false)
     → AdminStands n hs cs → SharesAdmin n (change k f hs) cs
 shares_past n k f [] cs past h = h.shares
 shares_past n zero f (x ∷ hs) cs past h = absurd (true≢false (sym h.lives ∙ past x refl))
@@ -76,7 +159,7 @@ lives_ring (suc k) g (x ∷ hs) h = h
 stands_ring : (n k : ℕ) (g : HostRing → HostRing) (hs : List HostQueue) (cs : List ControllerQueue) → AdminStands n hs cs → AdminStands n (change k (λ x. record x { ring = g x.ring }) hs) cs
 stands_ring n k g hs cs h = record { lives = lives_ring k g hs h.lives; shares = shares_left n k (λ x. record x { ring = g x.ring }) hs cs (λ x. (refl, refl)) h.shares }
 
-alone_past : (st : HostState) → has_cq_alone st ≡ true → is_live st ≡ false
+alone_past : (st : HostState) → has_cq_alone st ≡ true → is_live_refusals st ≡ false
 alone_past st e = grind arith
 
 event : (cs : List ControllerQueue) (s : State) (e : Event) (reply : Reply) → Accepts s e reply → IsController e ≡ false → HoldsPart (host_part s)
@@ -96,9 +179,9 @@ event cs s e reply ok c holds share =
       notes = λ q cid st what e r k t heard w. shares_left n k (λ x. record x { state = _ }) (a.heard q e s).host.queues cs (λ x. (refl, refl)) (told q e).shares;
       frees = λ q cid st what e r k queue t heard w at alone good. behind q e k a.gone (λ x ex. same at ex (alone_past queue.state alone));
       makes_cq = λ q cid st what e r k size base t heard w good. shares_left n k a.half_made (a.heard q e s).host.queues cs (λ x. (refl, refl)) (told q e).shares;
-      unmakes_cq = λ q cid st what e r k size base queue t heard w at bad. behind q e k a.gone (λ x ex. ap is_live (making_cq_as_heard s q cid st e r k size base holds heard w x ex));
+      unmakes_cq = λ q cid st what e r k size base queue t heard w at bad. behind q e k a.gone (λ x ex. ap is_live_refusals (making_cq_as_heard s q cid st e r k size base holds heard w x ex));
       makes_sq = λ q cid st what e r k size base t heard w good. shares_left n k a.live (a.heard q e s).host.queues cs (λ x. (refl, refl)) (told q e).shares;
-      unmakes_sq = λ q cid st what e r k size base queue t heard w at bad. behind q e k a.unmade_sq (λ x ex. ap is_live (making_sq_as_heard s q cid st e r k size base holds heard w x ex));
+      unmakes_sq = λ q cid st what e r k size base queue t heard w at bad. behind q e k a.unmade_sq (λ x ex. ap is_live_refusals (making_sq_as_heard s q cid st e r k size base holds heard w x ex));
       collects = λ q cid r f at held is. share;
       releases = λ f r its. share;
       aborts = λ q cid id none new. sent.shares;
@@ -106,11 +189,11 @@ event cs s e reply ok c holds share =
       drops = λ q id none new. sent.shares;
       creates_cqs = λ q id first queue none new granted.
           shares_left n 0 (λ x. record x { ring = next_tail n x.ring }) (change q (a.making_cq (half_from Completion first s)) hs) cs (λ x. (refl, refl))
-          (shares_past n q (a.making_cq (half_from Completion first s)) hs cs (λ x ex. same granted.there ex (ap is_live granted.state)) h);
+          (shares_past n q (a.making_cq (half_from Completion first s)) hs cs (λ x ex. same granted.there ex (ap is_live_refusals granted.state)) h);
       creates_sqs = λ q id first queue none new granted.
           shares_left n 0 (λ x. record x { ring = next_tail n x.ring }) (change q (a.making_sq (half_from Submission first s)) hs) cs (λ x. (refl, refl))
-          (shares_past n q (a.making_sq (half_from Submission first s)) hs cs (λ x ex. same granted.there ex (ap is_live granted.state)) h);
-      retires = λ q queue none at deleted. shares_past n q a.retired hs cs (λ x ex. same at ex (ap is_live deleted)) h;
+          (shares_past n q (a.making_sq (half_from Submission first s)) hs cs (λ x ex. same granted.there ex (ap is_live_refusals granted.state)) h);
+      retires = λ q queue none at deleted. shares_past n q a.retired hs cs (λ x ex. same at ex (ap is_live_refusals deleted)) h;
       forges = λ q slot bytes queue none at. share;
       resets = reset hs cs share;
     })
@@ -127,10 +210,10 @@ event cs s e reply ok c holds share =
     told : (q : ℕ) (e : ComEntry) → AdminStands n (a.heard q e s).host.queues cs
     told q e = stands_ring n q (knowing e.sqhd) (change q (λ x. record x { ring = next_head n x.ring }) hs) cs (stands_ring n q (next_head n) hs cs h)
 
-    same : {o : Option HostQueue} {x y : HostQueue} → o ≡ Some x → o ≡ Some y → is_live x.state ≡ false → is_live y.state ≡ false
-    same {o} {x} {y} at ex past = let is : x ≡ y = cc (at, ex) in subst (λ (z : HostQueue). is_live z.state ≡ false) is past
+    same : {o : Option HostQueue} {x y : HostQueue} → o ≡ Some x → o ≡ Some y → is_live_refusals x.state ≡ false → is_live_refusals y.state ≡ false
+    same {o} {x} {y} at ex past = let is : x ≡ y = cc (at, ex) in subst (λ (z : HostQueue). is_live_refusals z.state ≡ false) is past
 
-    behind : (q : ℕ) (e : ComEntry) (k : ℕ) (f : HostQueue → HostQueue) → ((x : HostQueue) → slice_get (a.heard q e s).host.queues k ≡ Some x → is_live x.state ≡ false)
+    behind : (q : ℕ) (e : ComEntry) (k : ℕ) (f : HostQueue → HostQueue) → ((x : HostQueue) → slice_get (a.heard q e s).host.queues k ≡ Some x → is_live_refusals x.state ≡ false)
         → SharesAdmin n (change k f (a.heard q e s).host.queues) cs
     behind q e k f past = shares_past n k f (a.heard q e s).host.queues cs past (told q e)
 

@@ -1,49 +1,36 @@
--- A completion that the controller posts is the machine's answer, and leaves rings that stand.
-use Rattle.std.proofs.Common.{◌≡◌, ◌≢◌, ℕ, ◌+◌, ◌*◌, ◌/◌, ◌%◌, ◌<◌, Bool, true, false, Option, Some, None, IsSome, List, [], ◌∷◌, ◌++◌, length, map, is_none, is_some, slice_get, if◌then◌else◌, refl, ap, ap₂, sym, ◌∙◌, arith, subst, lt-ltb, le-leb, inl, inr}
-use Rattle.machine_agreement.proofs.Cases.{option_is}
-use Rattle.std.specs.List.{AllByRecursion}
-use Rattle.std.specs.Option.{option_and_then}
-use Rattle.std.proofs.lemmas.Bool.{true≢false}
-use Rattle.admin_commands.specs.Verdicts.{is_absent}
-use Rattle.controller_core.specs.Answering.{completion_by, memory_posted, page_posted, post_refusal, with_answer}
-use Rattle.controller_core.specs.declared.queue.ControllerQueue.{ControllerQueue}
+-- Completions that are posted, taken and forged.
 use Rattle.controller_core.specs.declared.refusal.Refusal.TheVariants as refusal
-use Rattle.entry_codec.specs.Completion.{completion_bytes, FitsCompletion, IsComEntry}
-use Rattle.entry_codec.specs.declared.completion.ComEntry.{ComEntry}
-use Rattle.entry_codec.specs.declared.status.Status.{Status}
-use Rattle.entry_codec.specs.declared.submission.SubEntry.{SubEntry}
-use Rattle.entry_codec.proofs.CompletionLemmas.{round_trip}
-use Rattle.machine_model.specs.After.{answered, change}
-use Rattle.machine_model.specs.Memory.{is_in}
-use Rattle.machine_model.specs.Refusals.{fetch_slot, host_queue, in_service, post_slot, slot_offset, slot_page}
-use Rattle.machine_model.specs.State.{State, HostQueue, Answer}
-use Rattle.machine_agreement.proofs.Elsewhere.{bytes_elsewhere}
-use Rattle.machine_agreement.proofs.Members.{all_append}
-use Rattle.page_ledger.specs.Owners.{is_among}
-use Rattle.page_memory.specs.Memory.{Memory, written, bytes_at}
-use Rattle.page_memory.specs.Pages.{Pages, IsPool, byte_at, page_at, with_page_bytes}
-use Rattle.page_memory.proofs.Reading.{bytes_missing}
-use Rattle.host_core.proofs.Pages.{among-from}
-use Rattle.host_core.proofs.Slots.{page-written, place-written}
+use Rattle.machine_model.specs.Events as events
+use Rattle.std.proofs.Common.{◌≡◌, ◌≢◌, ℕ, ◌+◌, ◌*◌, ◌/◌, ◌%◌, ◌<◌, Bool, true, false, Option, Some, None, IsSome, List, [], ◌∷◌, ◌++◌, length, map, is_none, slice_get, if◌then◌else◌, refl, ap, ap₂, sym, ◌∙◌, arith, subst, inl, inr, zero, suc, drop, nat_le, is_some}
+use Rattle.std.{proofs.lemmas.Bool.{true≢false, not-false, Decides.nat_tests}, specs.{List.AllByRecursion, Option.{option_map, option_map_or}}}
+use Rattle.machine_model.proofs.{Cases.option_is, Counting.held_once, Kept.reaped_has_cq, Steps.{in_store-with_bytes, unrefused}}
+use Rattle.machine_model.specs.{After.{answered, change, after, on_memory}, Always.HasHalves, Memory.is_in}
+use Rattle.machine_model.specs.Refusals.{fetch_slot, host_queue, in_service, post_slot, slot_offset, slot_page, entry_of, is_reaped, seen_entry, refusal_of}
+use Rattle.machine_model.specs.{State.{State, HostQueue, Answer, DeviceQueue}, Step.{Step, host_part}}
+use Rattle.admin_commands.specs.Verdicts.{is_absent}
+use Rattle.controller_core.specs.{Answering.{completion_by, memory_posted, page_posted, post_refusal, with_answer}, Doorbells.{with_side, with_head}}
+use Rattle.controller_core.specs.declared.queue.ControllerQueue.{ControllerQueue}
+use Rattle.entry_codec.{proofs.CompletionLemmas.round_trip, specs.{Completion.{completion_bytes, FitsCompletion, IsComEntry}, declared.completion.ComEntry.ComEntry}}
+use Rattle.entry_codec.specs.declared.{status.Status.Status, submission.SubEntry.SubEntry}
+use Rattle.two_sides.proofs.{Agreed.recovery_kept, Assembling.{ends_in_range, sides_served, into}}
+use Rattle.two_sides.proofs.Frames.{SparesQueue, SparesSubmitted, apart_from_queues, halves_apart, own_halves_apart, one_queue, one_stands, IsKnown, queue_ring, controller_at, known, reaped_ring, half_in, half_lies, tied_of, queue_page_in}
+use Rattle.two_sides.proofs.JobLaws.{length-completion_bytes}
+use Rattle.two_sides.proofs.Places.{Shows, map-append, fetch_slot_is, post_slot_is, own_page, in_ring, completion_slot_page, heads_heard, HasAnswer, answer_there, has_answer, head_below, seen_first, seen_none}
+use Rattle.two_sides.proofs.{Provided.{all_append, all_at}, Shared.length-device, Untouched.bytes_elsewhere}
+use Rattle.two_sides.specs.Sides.{Sides, answer_of, completions_between, device_queue_of, present, unfetched_between, state_of, device_queues_of}
+use Rattle.two_sides.specs.Stepping.{LeavesPages, completion_slots_are_in, forged, forged_entries_step, served}
+use Rattle.two_sides.specs.Ties.{HeadsFollow, IsWorld, QueueStands, RingsStand, ShareQueue, has_ring, AllQueuesStand, AreTied, AreSides, first_completion_page}
+use Rattle.page_ledger.specs.Owners.{is_among, pages_from}
+use Rattle.page_memory.{proofs.Bytes.bytes_missing, specs.{Memory.{Memory, written, bytes_at}, Pages.{Pages, IsPool, byte_at, page_at, with_page_bytes}}}
 use Rattle.page_memory.specs.declared.page.Half.TheVariants.{Submission, Completion}
-use Rattle.queue_pair.specs.Lists.{HasPhases, answers_between, expected_phase}
+use Rattle.host_core.proofs.{PageOwners.among-from, QueueLists.{page-written, place-written}}
+use Rattle.queue_pair.proofs.Halves.{entries_agree, completion_there, pages_agree}
+use Rattle.queue_pair.proofs.Rings.{answers_append, next_below, phases_kept, tie_kept_by_post, tie_kept_by_advance, told_alike}
+use Rattle.queue_pair.specs.{Lists.{HasPhases, answers_between, expected_phase}, Members.change as change_members}
 use Rattle.queue_pair.specs.Memory.{half_pages, completion_page, completion_place, completion_slot}
-use Rattle.queue_pair.specs.Rings.{DeviceSide}
-use Rattle.queue_pair.specs.Slots.{distance, is_full, is_in_range}
-use Rattle.queue_pair.proofs.Halves.{entries_agree}
-use Rattle.queue_pair.proofs.Lists.{answers_append}
-use Rattle.queue_pair.proofs.Order.{next_below}
-use Rattle.queue_pair.proofs.Phases.{phases_kept, tie_kept_by_post}
-use Rattle.queue_pair.proofs.Pools.{pages_agree}
-use Rattle.queue_pair.proofs.Round.{told_alike}
-use Rattle.two_sides.specs.Sides.{Sides, answer_of, completions_between, device_queue_of, present, unfetched_between}
-use Rattle.two_sides.specs.Stepping.{LeavesPages}
-use Rattle.two_sides.specs.Ties.{HeadsFollow, IsWorld, QueueStands, RingsStand, ShareQueue, has_ring}
-use Rattle.two_sides.proofs.Frames.{SparesQueue, SparesSubmitted, apart_from_queues, halves_apart, own_halves_apart}
-use Rattle.two_sides.proofs.Known.{IsKnown, queue_ring}
-use Rattle.two_sides.proofs.Places.{Shows, map-append, fetch_slot_is, post_slot_is, own_page, in_ring}
-use Rattle.two_sides.proofs.Quiet.{ends_in_range}
-use Rattle.machine_agreement.proofs.WholePages.{length-completion_bytes}
+use Rattle.queue_pair.specs.{Rings.{DeviceSide, hearing_head, knowing, next_head, next_phase}, Slots.{is_full, is_in_range, next_slot}}
+
+-- A completion that the controller posts is the machine's answer, and leaves rings that stand.
 
 -- The pages, whatever was forged: a slot that is not missing is in, and what is written to it are those bytes of its page.
 
@@ -264,3 +251,256 @@ answer_is u s q cid st dw0 h c shown memory can =
     }) (sym memory)
     ∙ answered_as u q cid st dw0 h ring.head ring.tail (page_posted c.device) ring.phase shown.host (fetch_slot_is u s q h c shown can.known can.there) (post_slot_is u s q h c shown can.known (can.known.fits.half can.there)) (own_page s q h c can.known has)
     (ap (expected_phase h.ring.head ring.tail) (rings_of s q h c e can).expected ∙ sym (told_alike h.ring.head ring.tail ring.phase))
+
+-- A completion is taken from a ring, and its head is rung.
+
+-- Positions: what is in range from a later position is so from an earlier one, and the other way round
+
+range_before : (n from mid to s : ℕ) → from < n → to < n → is_in_range n from to mid ≡ true → is_in_range n mid to s ≡ true → is_in_range n from to s ≡ true
+range_before n from mid to s lf lt hm hs = grind (arith, nat_tests)
+
+range_behind : (n from mid to s : ℕ) → from < n → to < n → is_in_range n from to s ≡ true → is_in_range n from s mid ≡ true → is_in_range n mid to s ≡ true
+range_behind n from mid to s lf lt hs hm = grind (arith, nat_tests)
+
+-- heads that follow from a later head follow from an earlier one
+follow_before : (n from mid to : ℕ) (es : List ComEntry) → from < n → to < n → is_in_range n from to mid ≡ true → HeadsFollow n mid to es → HeadsFollow n from to es
+follow_before n from mid to [] lf lt hm h = ends_in_range n from to lt
+follow_before n from mid to (e ∷ es) lf lt hm h = (range_before n from mid to e.sqhd lf lt hm h.0, h.1)
+
+-- What is known where the host sees an entry
+
+-- the queue on both sides, and the answer at its head
+pub record Sees (s : Sides) (q : ℕ) (h : HostQueue) (c : ControllerQueue) : Type 0 where
+  pub at : slice_get s.host.host.queues q ≡ Some h
+  pub there : slice_get s.controller.queues q ≡ Some c
+  pub has : has_ring h c ≡ true
+  pub cq : c.cq_there ≡ true
+  pub known : IsKnown s q h c
+  pub apart : h.ring.head ≢ c.device.ring.tail
+  pub answer : HasAnswer (byte_at s.pages) h c
+
+-- the entries behind that answer
+abbrev pub behind : Memory → HostQueue → ControllerQueue → List ComEntry
+behind m h c = present (answers_between m c.device.cq c.device.entries (next_slot c.device.entries h.ring.head) c.device.ring.tail)
+
+pub sees : (s : Sides) → IsWorld s → s.trusted ≡ true → (q : ℕ) (h : HostQueue) (e : ComEntry) → slice_get s.host.host.queues q ≡ Some h → is_reaped h.state ≡ true → seen_entry (state_of s) q ≡ Some e
+    → (c : ControllerQueue) × (x : Sees s q h c) × (x.answer.entry.sqhd ≡ e.sqhd)
+sees s world t q h e at reaped seen =
+    let c = controller_at s world q h at in
+    let k = known s world t q h c.0 at c.1 in
+    let has = reaped_ring h c.0 reaped in
+    let apart : h.ring.head ≢ c.0.device.ring.tail = λ same. let none : None ≡ Some e = sym (seen_none s q h c.0 t at c.1 same) ∙ seen in absurd cc in
+    let cq = answer_there s q h c.0 k has apart in
+    let answer = has_answer s q h c.0 k has apart in
+    let first : Some (entry_of q (answer_of answer.entry)) ≡ Some e = sym (seen_first s q h c.0 t at c.1 cq answer) ∙ seen in
+    let same : entry_of q (answer_of answer.entry) ≡ e = cc in
+    (c.0, record { at = at; there = c.1; has = has; cq = cq; known = k; apart = apart; answer = answer }, ap (λ (x : ComEntry). x.sqhd) same)
+
+-- A submission head that the host may take for the controller's: the answers that are left follow from it.
+pub record Follows (h : HostQueue) (c : ControllerQueue) (m : Memory) (head : ℕ) : Type 0 where
+  pub fetched : is_in_range c.device.entries head h.ring.tail c.device.ring.head ≡ true
+  pub heads : HeadsFollow c.device.entries head c.device.ring.head (behind m h c)
+
+first_follows : (s : Sides) (q : ℕ) (h : HostQueue) (c : ControllerQueue) → (x : Sees s q h c)
+    → HeadsFollow c.device.entries h.ring.known_head c.device.ring.head (x.answer.entry ∷ behind (byte_at s.pages) h c)
+first_follows s q h c x = subst (λ (es : List ComEntry). HeadsFollow c.device.entries h.ring.known_head c.device.ring.head es) x.answer.list (x.known.rings x.has).follow
+
+-- the head that it knows, and the one that the answer tells
+pub known_follows : (s : Sides) (q : ℕ) (h : HostQueue) (c : ControllerQueue) → Sees s q h c → Follows h c (byte_at s.pages) h.ring.known_head
+known_follows s q h c x =
+    let first = first_follows s q h c x in
+    let known : h.ring.known_head < c.device.entries = subst (λ (n : ℕ). h.ring.known_head < n) (sym x.known.placed.share.entries) x.known.placed.ring.known_head in
+    record {
+      fetched = (x.known.rings x.has).fetched;
+      heads = follow_before c.device.entries h.ring.known_head x.answer.entry.sqhd c.device.ring.head (behind (byte_at s.pages) h c) known x.known.placed.share.side.head first.0 first.1;
+    }
+
+pub answer_follows : (s : Sides) (q : ℕ) (h : HostQueue) (c : ControllerQueue) → (x : Sees s q h c) → Follows h c (byte_at s.pages) x.answer.entry.sqhd
+answer_follows s q h c x =
+    let first = first_follows s q h c x in
+    let n : c.device.entries ≡ s.host.entries = x.known.placed.share.entries in
+    let known : h.ring.known_head < c.device.entries = subst (λ (n : ℕ). h.ring.known_head < n) (sym n) x.known.placed.ring.known_head in
+    let tail : h.ring.tail < c.device.entries = subst (λ (n : ℕ). h.ring.tail < n) (sym n) x.known.placed.ring.tail in
+    record { fetched = range_behind c.device.entries h.ring.known_head x.answer.entry.sqhd h.ring.tail c.device.ring.head known tail (x.known.rings x.has).fetched first.0; heads = first.1 }
+
+-- The queue without that answer
+
+abbrev pub taken : ℕ → ℕ → HostQueue → HostQueue
+taken n head h = record h { ring = knowing head (next_head n h.ring) }
+
+abbrev pub one_fewer : DeviceQueue → DeviceQueue
+one_fewer at = record at { answers = drop 1 at.answers }
+
+-- the controller's queue, once it heard the head
+abbrev heard : ℕ → ControllerQueue → ControllerQueue
+heard v c = with_side (record c.device { ring = hearing_head v c.device.ring }) c
+
+taken_seen : (m : Memory) (head : ℕ) (h : HostQueue) (c : ControllerQueue) → c.cq_there ≡ true → HasAnswer m h c
+    → device_queue_of m (taken c.device.entries head h).ring (heard (next_slot c.device.entries h.ring.head) c) ≡ one_fewer (device_queue_of m h.ring c)
+taken_seen m head h c cq a =
+    ap (λ (b : Bool). with_answers (if b then map answer_of (behind m h c) else [])) cq
+    ∙ ap (λ (es : List ComEntry). with_answers (drop 1 (map answer_of es))) (sym a.list)
+    ∙ sym (ap (λ (b : Bool). with_answers (drop 1 (if b then map answer_of (completions_between m h.ring c.device) else []))) cq)
+  where
+    with_answers : List Answer → DeviceQueue
+    with_answers answers = record (device_queue_of m h.ring c) { answers = answers }
+
+taken_stands : (s : Sides) (q head : ℕ) (h : HostQueue) (c : ControllerQueue) → Sees s q h c → Follows h c (byte_at s.pages) head
+    → RingsStand (byte_at s.pages) q (taken c.device.entries head h) (heard (next_slot c.device.entries h.ring.head) c)
+taken_stands s q head h c x follows =
+    let rings = x.known.rings x.has in
+    record {
+      fetched = follows.fetched;
+      rung = rings.rung;
+      heard = refl;
+      expected = ap (next_phase c.device.entries h.ring.head) rings.expected
+          ∙ tie_kept_by_advance c.device.entries h.ring.head c.device.ring.tail c.device.ring.phase (head_below s q h c x.known.placed) x.known.placed.share.side.tail x.apart;
+      phases = rings.phases;
+      owned = (subst (λ (es : List ComEntry). AllByRecursion (λ e. e.sqid ≡ q) es) x.answer.list rings.owned).1;
+      follow = follows.heads;
+      drained = λ over. absurd (x.apart (rings.drained over));
+    }
+
+queue_taken : (s : Sides) (q head : ℕ) (h : HostQueue) (c : ControllerQueue) → Sees s q h c → Follows h c (byte_at s.pages) head
+    → QueueStands s.host.entries (byte_at s.pages) q (taken c.device.entries head h) (heard (next_slot c.device.entries h.ring.head) c)
+queue_taken s q head h c x follows =
+    record {
+      halves = record { submission = x.known.submission; completion = x.known.completion };
+      rings = λ has. taken_stands s q head h c x follows;
+      granted = x.known.granted;
+    }
+
+-- All queues, once the answer is taken and its head is heard
+
+pub record IsTaken (s : Sides) (q v : ℕ) (hs : List HostQueue) : Type 0 where
+  pub device : device_queues_of (byte_at s.pages) hs (change_members q (with_head v) s.controller.queues) ≡ change_members q one_fewer (device_queues_of (byte_at s.pages) s.host.host.queues s.controller.queues)
+  pub queues : AllQueuesStand s.host.entries (byte_at s.pages) zero hs (change_members q (with_head v) s.controller.queues)
+  pub head : option_map (λ h. h.ring.head) (slice_get hs q) ≡ Some v
+
+-- what holds of one pair of queues holds of the pair at that number
+only : {A B : Type 0} (P : A → B → Type 0) (xs : List A) (ys : List B) (q : ℕ) (x : A) (y : B) → slice_get xs q ≡ Some x → slice_get ys q ≡ Some y → P x y
+    → (x' : A) (y' : B) → slice_get xs q ≡ Some x' → slice_get ys q ≡ Some y' → P x' y'
+only {A = A} {B = B} P xs ys q x y at there p x' y' at' there' =
+    let first : x ≡ x' = cc in
+    let second : y ≡ y' = cc in
+    subst (λ (b : B). P x' b) second (subst (λ (a : A). P a y) first p)
+
+at_changed : (f : HostQueue → HostQueue) (q : ℕ) (hs : List HostQueue) (h : HostQueue) → slice_get hs q ≡ Some h → slice_get (change_members q f hs) q ≡ Some (f h)
+at_changed f q [] h e = absurd cc
+at_changed f zero (x ∷ hs) h e = ap (option_map f) e
+at_changed f (suc q) (x ∷ hs) h e = at_changed f q hs h e
+
+pub takes : (s : Sides) → IsWorld s → AreTied s → (q head : ℕ) (h : HostQueue) (c : ControllerQueue) (f : HostQueue → HostQueue) → Sees s q h c → Follows h c (byte_at s.pages) head
+    → f h ≡ taken s.host.entries head h → IsTaken s q (next_slot s.host.entries h.ring.head) (change_members q f s.host.host.queues)
+takes s world tied q head h c f x follows is =
+    let m : Memory = byte_at s.pages in
+    let hs : List HostQueue = s.host.host.queues in
+    let cs : List ControllerQueue = s.controller.queues in
+    let v : ℕ = next_slot s.host.entries h.ring.head in
+    let n : c.device.entries ≡ s.host.entries = x.known.placed.share.entries in
+    let heard_here : with_head v c ≡ heard v c = heads_heard s q h c world.sides tied x.at x.there x.has x.apart in
+    record {
+      device = one_queue m m q f (with_head v) one_fewer hs cs
+          (only (λ (y : HostQueue) (d : ControllerQueue). device_queue_of m (f y).ring (with_head v d) ≡ one_fewer (device_queue_of m y.ring d)) hs cs q h c x.at x.there
+          (subst (λ (y : HostQueue). device_queue_of m y.ring (with_head v c) ≡ one_fewer (device_queue_of m h.ring c)) (sym is)
+          (subst (λ (d : ControllerQueue). device_queue_of m (taken s.host.entries head h).ring d ≡ one_fewer (device_queue_of m h.ring c)) (sym heard_here)
+          (subst (λ (n : ℕ). device_queue_of m (taken n head h).ring (heard (next_slot n h.ring.head) c) ≡ one_fewer (device_queue_of m h.ring c)) n (taken_seen m head h c x.cq x.answer)))))
+          (λ i y d far at there. refl);
+      queues = one_stands s.host.entries m m q f (with_head v) hs cs
+          (only (λ (y : HostQueue) (d : ControllerQueue). QueueStands s.host.entries m q y d → QueueStands s.host.entries m q (f y) (with_head v d)) hs cs q h c x.at x.there
+          (λ stands. subst (λ (y : HostQueue). QueueStands s.host.entries m q y (with_head v c)) (sym is)
+          (subst (λ (d : ControllerQueue). QueueStands s.host.entries m q (taken s.host.entries head h) d) (sym heard_here)
+          (subst (λ (n : ℕ). QueueStands s.host.entries m q (taken n head h) (heard (next_slot n h.ring.head) c)) n (queue_taken s q head h c x follows)))))
+          (λ i y d far at there stands. stands) tied.queues;
+      head = ap (option_map (λ y. y.ring.head)) (at_changed f q hs h x.at) ∙ ap (λ (y : HostQueue). Some y.ring.head) is;
+    }
+
+-- An entry is forged in a completion slot that the host still has.
+
+-- A slot that may be forged: the host has the completion half, whose pages lie together, and the slot is one of it.
+record IsSlot (s : Sides) (slot : ℕ) (h : HostQueue) : Type 0 where
+  below : slot < s.host.entries
+  half : h.cq_pages ≡ pages_from (first_completion_page h) (half_pages s.host.entries Completion)
+
+slot_of : (s : Sides) (q slot : ℕ) (bytes : List ℕ) (h : HostQueue) → IsWorld s → refusal_of (state_of s) (events.Forge q slot bytes) ≡ None → slice_get s.host.host.queues q ≡ Some h → IsSlot s slot h
+slot_of s q slot bytes h world none at =
+    let causes = unrefused (state_of s) (events.Forge q slot bytes) none in
+    let reaped : is_reaped h.state ≡ true = sym (ap (λ (o : Option HostQueue). option_map_or (λ queue. is_reaped queue.state) o false) at) ∙ not-false _ causes.0 in
+    let below = within s.host.entries slot causes.1.0 in
+    record {
+      below = below;
+      half = half_lies s.host.entries h (omega (arith, below)) (all_at (HasHalves s.host.entries) s.host.host.queues q h at world.sides.provided.queues) (reaped_has_cq h.state reaped);
+    }
+  where
+    within : (n slot : ℕ) → nat_le n slot ≡ false → slot < n
+    within n slot l = grind (arith, nat_tests)
+
+pub slots_are_in : completion_slots_are_in
+slots_are_in s q slot bytes h world none at out =
+    let is = slot_of s q slot bytes h world none at in
+    grind (arith, completion_there (byte_at s.pages) (first_completion_page h) s.host.entries slot (half_in s world q h at h.cq_pages (λ p l. omega (arith, l)) (first_completion_page h) (half_pages s.host.entries Completion) is.half) is.below)
+
+-- Its page is in, and the bytes are written there.
+
+page_is_in_forgery : (s : Sides) (q slot : ℕ) (h : HostQueue) → IsWorld s → slice_get s.host.host.queues q ≡ Some h → IsSlot s slot h → IsSome (page_at s.pages (completion_page (first_completion_page h) slot))
+page_is_in_forgery s q slot h world at is =
+    let first = first_completion_page h in
+    let own : is_among h.cq_pages (completion_page first slot) ≡ true =
+    ap (λ (ps : List ℕ). is_among ps (completion_page first slot)) is.half ∙ among-from first (half_pages s.host.entries Completion) (slot / 256) (page_below s.host.entries slot is.below) in
+    queue_page_in s world.sides q h (completion_page first slot) at (omega (arith, held_once (completion_page first slot) h.cq_pages own))
+  where
+    page_below : (n slot : ℕ) → slot < n → slot / 256 < half_pages n Completion
+    page_below n slot l = omega arith
+
+slot_place_forgery : (cq slot : ℕ) → completion_place cq slot ≡ 4096 * completion_page cq slot + slot_offset 16 slot
+slot_place_forgery cq slot = omega arith
+
+pages_forged : (s : Sides) (q slot : ℕ) (bytes : List ℕ) (h : HostQueue) (pages : Pages) → IsWorld s → slice_get s.host.host.queues q ≡ Some h → IsSlot s slot h → length bytes ≡ 16 → LeavesPages s.pages pages
+    → byte_at pages ≡ written (byte_at s.pages) (completion_place (first_completion_page h) slot) bytes → pages ≡ with_page_bytes s.pages (slot_page h.cq_pages 16 slot) (slot_offset 16 slot) bytes
+pages_forged s q slot bytes h pages world at is count leaves wrote =
+    let first = first_completion_page h in
+    let page : slot_page h.cq_pages 16 slot ≡ completion_page first slot = ap (λ (ps : List ℕ). slot_page ps 16 slot) is.half ∙ completion_slot_page first s.host.entries slot is.below in
+    page-written s.pages pages (completion_page first slot) (slot_offset 16 slot) bytes (page_is_in_forgery s q slot h world at is) (omega (arith, count)) world.sides.over.pool leaves.whole leaves.count
+    (wrote ∙ ap (λ (place : ℕ). written (byte_at s.pages) place bytes) (slot_place_forgery first slot))
+    ∙ ap (λ (p : ℕ). with_page_bytes s.pages p (slot_offset 16 slot) bytes) (sym page)
+
+pub forged_stepped : forged_entries_step
+forged_stepped s q slot bytes h pages world count none at leaves wrote =
+    let memory : pages ≡ with_page_bytes s.pages (slot_page h.cq_pages 16 slot) (slot_offset 16 slot) bytes =
+    pages_forged s q slot bytes h pages world at (slot_of s q slot bytes h world none at) count leaves wrote in
+    let sides : AreSides (served s s.controller pages) = sides_served s s.controller pages world.sides (record {
+      leaves = leaves;
+      in_store = ap (λ (m : Pages). map is_some m) memory ∙ in_store-with_bytes s.pages (slot_page h.cq_pages 16 slot) (slot_offset 16 slot) bytes;
+      controller = world.sides.controller;
+      queues = world.sides.queues;
+      admin = world.sides.admin;
+      image = refl;
+    }) in
+    let step : Step (state_of s) (events.Forge q slot bytes) events.Accepted (state_of (forged s pages)) = (
+      count,
+      into _ s.trusted false refl (none, tt),
+      record {
+        part = ap (λ (m : Pages). host_part (state_of (forged s m))) memory ∙ sym (ap host_part due);
+        memory = memory ∙ sym (ap (λ (x : State). x.memory) due);
+        device = record {
+          image = refl;
+          queues = length-device (byte_at pages) s.host.entries 0 s.host.host.queues s.controller.queues world.sides.queues
+              ∙ sym (length-device (byte_at s.pages) s.host.entries 0 s.host.host.queues s.controller.queues world.sides.queues);
+        };
+      },
+    ) in (
+      step,
+      record {
+        sides = record { over = sides.over; sound = sides.sound; kept = sides.kept; provided = sides.provided; controller = sides.controller; queues = sides.queues; admin = sides.admin };
+        recovers = recovery_kept (state_of s) (events.Forge q slot bytes) events.Accepted (state_of (forged s pages)) step (λ t. (tied_of s world t).agree) world.recovers;
+        tied = tt;
+      },
+    )
+  where
+    forges_at : (u : State) (h : HostQueue) → host_queue u q ≡ Some h
+        → after u (events.Forge q slot bytes) events.Accepted ≡ record (on_memory (λ m. with_page_bytes m (slot_page h.cq_pages 16 slot) (slot_offset 16 slot) bytes) u) { trusted = false }
+    forges_at u h e = rw e refl
+
+    due : after (state_of s) (events.Forge q slot bytes) events.Accepted
+        ≡ record (on_memory (λ m. with_page_bytes m (slot_page h.cq_pages 16 slot) (slot_offset 16 slot) bytes) (state_of s)) { trusted = false }
+    due = forges_at (state_of s) h at

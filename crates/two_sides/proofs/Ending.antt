@@ -1,138 +1,615 @@
--- How a command ends: on both sides, and at the machine.
-use Rattle.std.proofs.Common.{◌≡◌, ℕ, zero, ◌<◌, Bool, true, false, not, Option, Some, None, List, map, filter, slice_get, if◌then◌else◌, refl, ap₂, sym, ◌∙◌, arith, inl, inr}
-use Rattle.std.proofs.lemmas.Bool.{eqb-false, true≢false, cases_Bool}
-use Rattle.admin_commands.specs.Entries.{named_queue}
-use Rattle.controller_core.specs.Completing.{image_of_end, queues_of_end, status_of_end, without_command, without_submission}
-use Rattle.controller_core.specs.Contents.{FetchedCommand, FitsVerdict, FitsWork, Work, is_deletion}
-use Rattle.controller_core.specs.declared.command.Work.TheVariants.{Io, Admin}
-use Rattle.controller_core.specs.declared.queue.ControllerQueue.{ControllerQueue}
-use Rattle.controller_core.proofs.Lists.{change-change}
-use Rattle.entry_codec.specs.declared.status.Status.{Status}
-use Rattle.entry_codec.specs.declared.status.TheConstants.Status.{SUCCESS, COMPARE_FAILURE}
-use Rattle.entry_codec.specs.declared.submission.SubEntry.{SubEntry}
-use Rattle.host_core.proofs.Changing.{change-other}
-use Rattle.io_commands.specs.Jobs.{kind_of_opcode, is_success, status_after, status_by}
-use Rattle.io_commands.specs.declared.request.Kind.{Kind}
-use Rattle.io_commands.specs.declared.request.Kind.TheVariants.{Read, Write, Compare}
-use Rattle.machine_model.specs.After.{change, deletion_done, final_status, image_completed, on_device, without_job}
-use Rattle.machine_model.specs.State.{State, DeviceQueue, HostQueue, Job}
-use Rattle.machine_agreement.proofs.DeviceMoves.{cleared}
-use Rattle.machine_model.proofs.Placed.{is_job}
-use Rattle.page_memory.specs.Memory.{Memory}
-use Rattle.two_sides.specs.Sides.{Sides, state_of, device_of, device_queues_of, job_of}
-use Rattle.two_sides.specs.Ties.{AllQueuesStand, QueueStands, ShareQueue, ShareQueues}
-use Rattle.two_sides.proofs.Changed.{devices_changed, stands_changed}
-use Rattle.two_sides.proofs.Jobs.{filter-map}
-use Rattle.two_sides.proofs.ServeSteps.{with_served}
-use Rattle.two_sides.proofs.Shared.{belled}
+-- How a walk ends.
+use Rattle.std.proofs.Common.{arith, ◌≡◌, ◌<◌, ◌≤◌, ◌⊎◌, inl, inr, ◌+◌, ◌-◌, ◌*◌, ◌%◌, ◌++◌, ◌∷◌, [], ℕ, zero, suc, Bool, true, false, List, Option, Some, None, refl, sym, ap, subst, ◌∙◌, cond, is_some, length, map, min, nat_eq, nat_lt, add-zero, if◌then◌else◌, ◌≢◌, ◌^◌, ◌&&◌, not, replicate, take, append-nil, append_assoc, ◌||◌}
+use Rattle.std.proofs.lemmas.{Bool.{true≢false, cases_lt, cases_Bool, or_left, or_right, Decides.nat_tests}, List.{take_all, take-replicate, length-replicate}}
+use Rattle.std.proofs.lemmas.List.{Concat.flat_map-cons, FromFn.{length-map-range_with_len, take-map-range_with_len}}
+use Rattle.std.specs.{List.{AllByRecursion, range_with_len, list_all}, Option.option_and_then}
+use Rattle.entry_codec.specs.declared.status.{Status.Status, TheConstants.Status.DATA_TRANSFER_ERROR}
+use Rattle.page_memory.specs.Memory.{Memory, bytes_at, joined, page_of, pages_reached}
+use Rattle.sgl_descriptor.proofs.{Counts.{length-targets, length-targets_of_part, targets-append}, Spells.found}
+use Rattle.sgl_descriptor.specs.Spelling.{IsLink, descriptor_of, is_link}
+use Rattle.sgl_descriptor.specs.Targets.{descriptor_of_part, Target, Place, Discarded, counted, counted_in, targets, targets_of_part}
+use Rattle.sgl_descriptor.specs.declared.{Descriptor.{Descriptor, TheVariants.{DataBlock, BitBucket, Segment, LastSegment}}, Direction.Direction}
+use Rattle.sgl_descriptor.specs.declared.{Direction.TheVariants.{Destination, Source}, Part.{Part, TheVariants.{Data, Bucket}}}
+use Rattle.sgl_chain.specs.Spells.{SpellsBy, Stand, Spells, descriptors_in}
+use Rattle.controller_walk.proofs.{Along.{is_wanted, still_wanted, bucket_front, count_one}, Courses.{pages_step, from_read, part_most, still_wants}}
+use Rattle.controller_walk.specs.{Along.{taken, parts_taken}, Laws.{ReadsWithin, MovesOutside}}
+use Rattle.controller_walk.specs.Units.{Stays, Reads, Moves, Course, Closes, Does, after_read, from_place, rest_of, goes_on, unless_fault, first_fault, moving, first_part, pages_spanned, entry_cursor, next, segment_start, course_of_list, named_on, named_last, verdict, names_no_segment, passes_end, Act, touched, units}
+use Rattle.controller_walk.specs.declared.cursor.{Cursor.Cursor, Named.{Named, TheVariants.{Unnamed, BySegment, ByLastSegment}}}
+use Rattle.controller_walk.specs.declared.walk.WalkState.TheVariants.{End, Fault}
+use Rattle.machine_model.specs.Reached.{only, LiesIn, CourseIn, IsThere, on_pages, ActIn}
+use Rattle.two_sides.specs.Lists.{lists_end_well, long_lists_end_well, lists_keep_to_their_pages}
+use Rattle.page_ledger.specs.Owners.{is_among}
 
--- A completion can carry each end.
+-- The walk of a list that spells parts reads where its segments lie, and moves where its parts lie.
 
-by_kind : (image : List ℕ) (e : SubEntry) (bytes : List ℕ) (kind : Option Kind) → (status_by image e bytes kind).sct < 8
-by_kind image e bytes kind = grind arith
+-- Bytes at some places of a memory
 
-by_verdict : (image : List ℕ) (e : SubEntry) (bytes : List ℕ) (v : Option Status) → FitsVerdict v → (status_after image e bytes v).sct < 8
-by_verdict image e bytes None fits = omega arith
-by_verdict image e bytes (Some v) fits = go (is_success v)
+pub only_bytes : (chain : ℕ → Bool) (m : Memory) (n place : ℕ) (bytes : List ℕ) → bytes_at (only chain m) place n ≡ Some bytes → bytes_at m place n ≡ Some bytes
+unfolding bytes_at
+only_bytes chain m zero place bytes e = e
+only_bytes chain m (suc n) place bytes e = grind (arith, only_bytes chain m n (place + 1))
+
+only_places : (chain : ℕ → Bool) (m : Memory) (n place : ℕ) (bytes : List ℕ) → bytes_at (only chain m) place n ≡ Some bytes → (k : ℕ) → k < n → chain (place + k) ≡ true
+unfolding bytes_at
+only_places chain m zero place bytes e k lt = absurd (omega arith)
+only_places chain m (suc n) place bytes e zero lt = rw (add-zero place) (grind arith)
+only_places chain m (suc n) place bytes e (suc k) lt =
+    let rest = go (if chain place then m place else None) (bytes_at (only chain m) (place + 1) n) e in
+    subst (λ (q : ℕ). chain q ≡ true) (one_more place k) (only_places chain m n (place + 1) rest.0 rest.1 k (omega arith))
   where
-    go : (b : Bool) → (if b then status_by image e bytes (kind_of_opcode e.opcode) else v).sct < 8
-    go true = by_kind image e bytes (kind_of_opcode e.opcode)
-    go false = fits
+    go : (o : Option ℕ) (r : Option (List ℕ)) → joined o r ≡ Some bytes → (bs : List ℕ) × (r ≡ Some bs)
+    go (Some byte) (Some bs) e = (bs, refl)
+    go (Some byte) None e = absurd cc
+    go None r e = absurd cc
 
-pub end_fits : (blocks q done : ℕ) (image : List ℕ) (work : Work) → FitsWork blocks q done work → (status_of_end image work).sct < 8
-end_fits blocks q done image (Io job) fits = by_verdict image job.entry job.bytes job.verdict fits.2
-end_fits blocks q done image (Admin entry status dw0) fits = fits.1
+    one_more : (place k : ℕ) → place + 1 + k ≡ place + suc k
+    one_more place k = omega arith
 
--- The queues
+-- What stands ahead: so many descriptors of a segment, which spell parts with the segments behind it
 
--- the machine's queues behind the end of a command
-abbrev pub devices_of_end : Work → List DeviceQueue → List DeviceQueue
-devices_of_end (Io job) queues = queues
-devices_of_end (Admin entry status dw0) queues = if is_deletion entry status then change (named_queue entry) cleared queues else queues
+abbrev pub Ahead : Memory → Named → List Descriptor → List (List Descriptor) → List Part → Type 0
+Ahead m named ds segments parts =
+    ((named_on named ≡ false) × (segments ≡ []) × (ds ≡ map descriptor_of_part parts))
+    ⊎ ((named_last named ≡ false) × (front : List Part) × (last : Descriptor) × (rest : List Part)
+    × (ds ≡ map descriptor_of_part front ++ last ∷ []) × IsLink last × (parts ≡ front ++ rest) × SpellsBy m last segments rest)
 
-pub devices_ended : (m : Memory) (work : Work) (hs : List HostQueue) (cs : List ControllerQueue) → device_queues_of m hs (queues_of_end work cs) ≡ devices_of_end work (device_queues_of m hs cs)
-devices_ended m (Io job) hs cs = refl
-devices_ended m (Admin entry status dw0) hs cs = go (is_deletion entry status)
+-- the first descriptor is a part, with the others ahead
+pub record PartFirst (m : Memory) (named : Named) (d : Descriptor) (ds : List Descriptor) (segments : List (List Descriptor)) (parts : List Part) : Type 0 where
+  pub part : Part
+  pub parts' : List Part
+  pub is : d ≡ descriptor_of_part part
+  pub all : parts ≡ part ∷ parts'
+  pub behind_it : ds ≡ [] → (named_on named ≡ false) × (segments ≡ []) × (parts' ≡ [])
+  pub ahead : Ahead m named ds segments parts'
+
+-- or it is the link to the next segment, the last of its own
+pub record LinkFirst (m : Memory) (named : Named) (d : Descriptor) (ds : List Descriptor) (segments : List (List Descriptor)) (parts : List Part) : Type 0 where
+  pub is_last : ds ≡ []
+  pub named_so : named_last named ≡ false
+  pub link : IsLink d
+  pub by : SpellsBy m d segments parts
+
+pub first_ahead : (m : Memory) (named : Named) (d : Descriptor) (ds : List Descriptor) (segments : List (List Descriptor)) (parts : List Part)
+    → Ahead m named (d ∷ ds) segments parts → PartFirst m named d ds segments parts ⊎ LinkFirst m named d ds segments parts
+first_ahead m named d ds segments [] (inl e) = absurd (let e = e.2 in cc)
+first_ahead m named d ds segments (p ∷ ps) (inl (by, none, e)) =
+    inl (record { part = p; parts' = ps; is = cc; all = refl; behind_it = λ z. (by, none, no_parts ps (others e ∙ z)); ahead = inl (by, none, cc) })
   where
-    go : (b : Bool) → device_queues_of m hs (if b then change (named_queue entry) without_submission cs else cs) ≡ (if b then change (named_queue entry) cleared (device_queues_of m hs cs) else device_queues_of m hs cs)
-    go true = devices_changed m m (named_queue entry) without_submission cleared hs cs (λ h c e f. refl) (λ i h c other e f. refl)
-    go false = refl
+    others : d ∷ ds ≡ descriptor_of_part p ∷ map descriptor_of_part ps → map descriptor_of_part ps ≡ ds
+    others e = cc
 
-pub stands_ended : (n : ℕ) (m : Memory) (work : Work) (hs : List HostQueue) (cs : List ControllerQueue) → AllQueuesStand n m zero hs cs → AllQueuesStand n m zero hs (queues_of_end work cs)
-stands_ended n m (Io job) hs cs all = all
-stands_ended n m (Admin entry status dw0) hs cs all = go (is_deletion entry status)
-  where
-    without : (q : ℕ) (h : HostQueue) (c : ControllerQueue) → QueueStands n m q h c → QueueStands n m q h (without_submission c)
-    without q h c stands =
-        record {
-          halves = record { submission = λ there. absurd (true≢false there); completion = stands.halves.completion };
-          rings = λ has. let r = stands.rings has in
-              record { fetched = r.fetched; rung = r.rung; heard = r.heard; expected = r.expected; phases = r.phases; owned = r.owned; follow = r.follow; drained = r.drained };
-          granted = stands.granted;
-        }
-
-    go : (b : Bool) → AllQueuesStand n m zero hs (if b then change (named_queue entry) without_submission cs else cs)
-    go true = stands_changed n m m (named_queue entry) without_submission hs cs (λ h c e f stands. without (named_queue entry) h c stands) (λ i h c other e f stands. stands) all
-    go false = all
-
-pub share_ended : (n : ℕ) (work : Work) (hs : List HostQueue) (cs : List ControllerQueue) → ShareQueues n zero hs cs → ShareQueues n zero hs (queues_of_end work cs)
-share_ended n (Io job) hs cs share = share
-share_ended n (Admin entry status dw0) hs cs share = go (is_deletion entry status)
-  where
-    one : (i : ℕ) (h : HostQueue) (c : ControllerQueue) → ShareQueue n i h c → ShareQueue n i h (without_submission c)
-    one i h c s = record { number = s.number; entries = s.entries; side = s.side }
-
-    go : (b : Bool) → ShareQueues n zero hs (if b then change (named_queue entry) without_submission cs else cs)
-    go true = belled n zero (named_queue entry) without_submission hs cs one share
-    go false = share
-
--- A command's own queue isn't the one that it deletes.
-pub devices_end_elsewhere : (blocks q done : ℕ) (work : Work) (queues : List DeviceQueue) → FitsWork blocks q done work → slice_get (devices_of_end work queues) q ≡ slice_get queues q
-devices_end_elsewhere blocks q done (Io job) queues fits = refl
-devices_end_elsewhere blocks q done (Admin entry status dw0) queues fits = elim (cases_Bool (is_deletion entry status)) [
-  | inl e ↦ rw e (change-other (named_queue entry) q cleared queues (λ same. eqb-false (named_queue entry) 0 (fits.2 e) (same ∙ fits.0)))
-  | inr e ↦ rw e refl
-]
-
--- Another change of a queue bears it.
-pub devices_end_behind : (work : Work) (q : ℕ) (f : DeviceQueue → DeviceQueue) (queues : List DeviceQueue) → ((at : DeviceQueue) → cleared (f at) ≡ f (cleared at))
-    → devices_of_end work (change q f queues) ≡ change q f (devices_of_end work queues)
-devices_end_behind (Io job) q f queues bears = refl
-devices_end_behind (Admin entry status dw0) q f queues bears = go (is_deletion entry status)
-  where
-    go : (b : Bool) → (if b then change (named_queue entry) cleared (change q f queues) else change q f queues) ≡ change q f (if b then change (named_queue entry) cleared queues else queues)
-    go true = change-change (named_queue entry) q cleared f bears queues
-    go false = refl
-
--- At the machine
-
-pub status_seen : (s : State) (k : FetchedCommand) (blocks : ℕ) → FitsWork blocks k.q k.units_done k.work → final_status s (job_of k) ≡ status_of_end s.device.image k.work
-status_seen s k blocks fits = grind arith
-
-image_seen : (image : List ℕ) (k : FetchedCommand) (blocks : ℕ) → FitsWork blocks k.q k.units_done k.work → image_completed (job_of k) image ≡ image_of_end image k.work
-image_seen image k blocks fits = grind arith
-
-deletion_seen : (s : State) (image : List ℕ) (k : FetchedCommand) (blocks : ℕ) → FitsWork blocks k.q k.units_done k.work
-    → deletion_done (job_of k) (status_of_end image k.work) s ≡ with_served s s.memory (devices_of_end k.work s.device.queues) s.device.jobs s.device.image
-deletion_seen s image k blocks fits = go k.q k.units_done k.waiting_abort k.work fits
-  where
-    go : (q done : ℕ) (waiting : Option ℕ) (work : Work) → FitsWork blocks q done work
-        → deletion_done (job_of (record { q = q; units_done = done; waiting_abort = waiting; work = work })) (status_of_end image work) s ≡ with_served s s.memory (devices_of_end work s.device.queues) s.device.jobs s.device.image
-    go q done waiting (Io job) fits = rw fits.0 refl
-    go q done waiting (Admin entry status dw0) fits = rw fits.0 (by (is_deletion entry status))
+    no_parts : (ps : List Part) → map descriptor_of_part ps ≡ [] → ps ≡ []
+    no_parts [] e = refl
+    no_parts (p ∷ ps) e = absurd (far e)
       where
-        by : (b : Bool) → (if b then record s { device = record s.device { queues = change (named_queue entry) cleared s.device.queues } } else s)
-            ≡ with_served s s.memory (if b then change (named_queue entry) cleared s.device.queues else s.device.queues) s.device.jobs s.device.image
-        by true = refl
-        by false = refl
+        far : descriptor_of_part p ∷ map descriptor_of_part ps ≡ [] → ⊥
+        far e = cc
+first_ahead m named d ds segments parts (inr (by, [], last, rest, e, link, all, spells)) =
+    let same : last ≡ d = cc in
+    inr (record { is_last = cc; named_so = by; link = subst IsLink same link; by = subst (λ (x : Descriptor). SpellsBy m x segments parts) same (subst (λ (ps : List Part). SpellsBy m last segments ps) (sym all) spells) })
+first_ahead m named d ds segments parts (inr (by, f ∷ fs, last, rest, e, link, all, spells)) =
+    inl (record { part = f; parts' = fs ++ rest; is = cc; all = all; behind_it = λ z. absurd (some fs (sym (others e) ∙ z)); ahead = inr (by, fs, last, rest, others e, link, refl, spells) })
+  where
+    others : d ∷ ds ≡ descriptor_of_part f ∷ (map descriptor_of_part fs ++ last ∷ []) → ds ≡ map descriptor_of_part fs ++ last ∷ []
+    others e = cc
 
-pub jobs-without : (q cid : ℕ) (commands : List FetchedCommand) → map job_of (without_command q cid commands) ≡ filter (λ j. not (is_job q cid j)) (map job_of commands)
-jobs-without q cid commands = sym (filter-map job_of (λ (j : Job). not (is_job q cid j)) commands)
+    some : (fs : List Part) → map descriptor_of_part fs ++ last ∷ [] ≡ [] → ⊥
+    some [] e = cc
+    some (f ∷ fs) e = cc
 
--- the machine's state behind the end of a command, before its completion is posted
-pub ended : (s : Sides) (q cid : ℕ) (k : FetchedCommand) (blocks : ℕ) → FitsWork blocks k.q k.units_done k.work
-    → with_served (state_of s) s.pages (devices_of_end k.work (device_of s).queues) (map job_of (without_command q cid s.controller.commands)) (image_of_end s.controller.image k.work)
-    ≡ deletion_done (job_of k) (status_of_end s.controller.image k.work) (on_device (λ d. record d { image = image_completed (job_of k) d.image }) (without_job q cid (state_of s)))
-ended s q cid k blocks fits =
-    ap₂ (with_served (state_of s) s.pages (devices_of_end k.work (device_of s).queues)) (jobs-without q cid s.controller.commands) (sym (image_seen s.controller.image k blocks fits))
-    ∙ sym (deletion_seen (on_device (λ d. record d { image = image_completed (job_of k) d.image }) (without_job q cid (state_of s))) s.controller.image k blocks fits)
+-- the parts that a link leads to, from the first descriptor of its segment on
+pub record LinkedTo (m : Memory) (named : Named) (addr len : ℕ) (behind : List (List Descriptor)) (parts : List Part) : Type 0 where
+  pub first : Descriptor
+  pub others : List Descriptor
+  pub segments : List (List Descriptor)
+  pub are : behind ≡ (first ∷ others) ∷ segments
+  pub whole : len ≡ 16 * length (first ∷ others)
+  pub aligned : addr % 8 ≡ 0
+  pub stand : Stand m addr (first ∷ others)
+  pub ahead : Ahead m named (first ∷ others) segments parts
+
+pub linked_last : (m : Memory) (addr len : ℕ) (segments : List (List Descriptor)) (parts : List Part) → SpellsBy m (LastSegment addr len) segments parts → LinkedTo m ByLastSegment addr len segments parts
+linked_last m addr len [] parts by = absurd by
+linked_last m addr len ([] ∷ []) parts by = absurd (omega (arith, by.0.1, by.0.2))
+linked_last m addr len ((d ∷ ds) ∷ []) parts by =
+    record { first = d; others = ds; segments = []; are = refl; whole = by.0.2; aligned = by.0.0; stand = by.0.3; ahead = inl (refl, refl, by.1) }
+linked_last m addr len (x ∷ y ∷ xs) parts by = absurd by
+
+pub linked_on : (m : Memory) (addr len : ℕ) (segments : List (List Descriptor)) (parts : List Part) → SpellsBy m (Segment addr len) segments parts → LinkedTo m BySegment addr len segments parts
+linked_on m addr len [] parts by = absurd by
+linked_on m addr len ([] ∷ xs) parts by = absurd (omega (arith, by.0.1, by.0.2))
+linked_on m addr len ((d ∷ ds) ∷ xs) parts (segment, (front, last, rest, is, link, all, spells)) =
+    record { first = d; others = ds; segments = xs; are = refl; whole = segment.2; aligned = segment.0; stand = segment.3; ahead = inr (refl, front, last, rest, is, link, all, spells) }
+
+-- Where a walk is in such a list
+
+moves_in : (chain own : ℕ → Bool) (m : Memory) (rest : Course) → CourseIn chain own rest → (n place len offset : ℕ) → n ≡ pages_spanned place len
+    → ((k : ℕ) → k < len → own (place + k) ≡ true) → CourseIn chain own (moving m n place len offset rest)
+unfolding moving
+moves_in chain own m rest h zero place len offset pages lies = h
+moves_in chain own m rest h (suc n) place len offset pages lies =
+    let less : n ≡ pages_spanned (place + first_part place len) (len - first_part place len) = omega (arith, pages, pages_step place len (some place len n pages)) in
+    both (is_some (bytes_at m place (first_part place len))) _
+    (moves_in chain own m rest h n (place + first_part place len) (len - first_part place len) (offset + first_part place len) less
+    (λ k lt. subst (λ (q : ℕ). own q ≡ true) (sum place (first_part place len) k) (lies (first_part place len + k) (omega arith))))
+  where
+    some : (place len n : ℕ) → suc n ≡ pages_spanned place len → 0 < len
+    some place len n e = grind (arith, nat_tests)
+
+    sum : (a b c : ℕ) → a + (b + c) ≡ a + b + c
+    sum a b c = omega arith
+
+    part : (place len : ℕ) → 0 < len → (0 < first_part place len) × (first_part place len ≤ len) × (place % 4096 + first_part place len ≤ 4096)
+    part place len some = grind (arith, nat_tests)
+
+    both : (b : Bool) (c : Course) → CourseIn chain own c → CourseIn chain own (cond b (Does (Moves place (first_part place len) offset) c) (Does Stays (Closes (Fault DATA_TRANSFER_ERROR))))
+    both true c h = let p = part place len (some place len n pages) in ((p.0, p.2, λ k lt. lies k (omega (arith, p.1))), h)
+    both false c h = (tt, tt)
+
+abbrev FromIn : (chain own : ℕ → Bool) → Memory → Direction → ℕ → ℕ → Type 0
+FromIn chain own m dir need k =
+    (c : Cursor) (wanted : ℕ) (d : Descriptor) (ds : List Descriptor) (segments : List (List Descriptor)) (parts : List Part)
+    → c.left ≡ length (d ∷ ds) → Stand (only chain m) c.place (d ∷ ds) → Ahead (only chain m) c.named (d ∷ ds) segments parts → AllByRecursion (LiesIn own) parts
+    → CourseIn chain own (from_place k m dir need c wanted)
+
+-- a descriptor is next, if bytes are still wanted
+wanted_in : (chain own : ℕ → Bool) (m : Memory) (dir : Direction) (need k : ℕ) (c : Cursor) (wanted : ℕ) → CourseIn chain own (from_place k m dir need c wanted) → CourseIn chain own (rest_of k m dir need (Some c) wanted)
+wanted_in chain own m dir need k c wanted h = either (nat_eq wanted 0)
+  where
+    either : (b : Bool) → CourseIn chain own (cond b (Closes End) (from_place k m dir need c wanted))
+    either true = tt
+    either false = h
+
+-- behind a part: the next descriptor of its segment, or the end
+next_in : (chain own : ℕ → Bool) (m : Memory) (dir : Direction) (need k : ℕ) → FromIn chain own m dir need k
+    → (c : Cursor) (wanted : ℕ) (d : Descriptor) (ds : List Descriptor) (segments : List (List Descriptor)) (parts : List Part)
+    → c.left ≡ length (d ∷ ds) → Stand (only chain m) (c.place + 16) ds → Ahead (only chain m) c.named ds segments parts → AllByRecursion (LiesIn own) parts
+    → CourseIn chain own (rest_of k m dir need (next c) wanted)
+next_in chain own m dir need k from c wanted d [] segments parts left stand ahead lie =
+    subst (λ (n : ℕ). CourseIn chain own (rest_of k m dir need (if nat_lt 1 n then Some (record { place = c.place + 16; left = c.left - 1; named = c.named }) else None) wanted)) (sym left) tt
+next_in chain own m dir need k from c wanted d (e ∷ es) segments parts left stand ahead lie =
+    subst (λ (b : Bool). CourseIn chain own (rest_of k m dir need (if b then Some (record { place = c.place + 16; left = c.left - 1; named = c.named }) else None) wanted)) (sym (more c.left (length es) left))
+    (wanted_in chain own m dir need k (record { place = c.place + 16; left = c.left - 1; named = c.named }) wanted
+    (from (record { place = c.place + 16; left = c.left - 1; named = c.named }) wanted e es segments parts (omega (arith, left)) stand ahead lie))
+  where
+    more : (n l : ℕ) → n ≡ suc (suc l) → nat_lt 1 n ≡ true
+    more n l e = grind (arith, nat_tests)
+
+unless_in : (chain own : ℕ → Bool) (f : Option Status) (c : Course) → CourseIn chain own c → CourseIn chain own (unless_fault f c)
+unless_in chain own (Some status) c h = tt
+unless_in chain own None c h = h
+
+-- what follows a part
+part_in : (chain own : ℕ → Bool) (m : Memory) (dir : Direction) (need k : ℕ) (c : Cursor) (wanted : ℕ) (part : Part) → LiesIn own part
+    → ((w : ℕ) → CourseIn chain own (rest_of k m dir need (next c) w))
+    → CourseIn chain own (goes_on m dir need c wanted (rest_of k m dir need) (descriptor_of_part part))
+part_in chain own m dir need k c wanted (Data addr len) lies later =
+    moves_in chain own m _ (later (wanted - len)) (pages_spanned addr (min len wanted)) addr (min len wanted) (need - wanted) refl (λ i lt. lies i (omega arith))
+part_in chain own m dir need k c wanted (Bucket len) lies later = later _
+
+start_in : (chain own : ℕ → Bool) (m : Memory) (dir : Direction) (need k : ℕ) → FromIn chain own m dir need k → (named : Named) (addr len wanted : ℕ) (segments : List (List Descriptor)) (parts : List Part)
+    → LinkedTo (only chain m) named addr len segments parts → AllByRecursion (LiesIn own) parts → CourseIn chain own (rest_of k m dir need (Some (segment_start named addr len)) wanted)
+start_in chain own m dir need k from named addr len wanted segments parts to lie =
+    wanted_in chain own m dir need k (segment_start named addr len) wanted (from (segment_start named addr len) wanted to.first to.others to.segments parts (omega (arith, to.whole)) to.stand to.ahead lie)
+
+-- what follows a link
+link_in : (chain own : ℕ → Bool) (m : Memory) (dir : Direction) (need k : ℕ) → FromIn chain own m dir need k → (c : Cursor) (wanted : ℕ) (d : Descriptor) (segments : List (List Descriptor)) (parts : List Part)
+    → IsLink d → SpellsBy (only chain m) d segments parts → AllByRecursion (LiesIn own) parts → CourseIn chain own (goes_on m dir need c wanted (rest_of k m dir need) d)
+link_in chain own m dir need k from c wanted (DataBlock addr len) segments parts link by lie = absurd (true≢false (sym link))
+link_in chain own m dir need k from c wanted (BitBucket len) segments parts link by lie = absurd (true≢false (sym link))
+link_in chain own m dir need k from c wanted (Segment addr len) segments parts link by lie = start_in chain own m dir need k from BySegment addr len wanted segments parts (linked_on (only chain m) addr len segments parts by) lie
+link_in chain own m dir need k from c wanted (LastSegment addr len) segments parts link by lie = start_in chain own m dir need k from ByLastSegment addr len wanted segments parts (linked_last (only chain m) addr len segments parts by) lie
+
+read_in : (chain own : ℕ → Bool) (m : Memory) (dir : Direction) (need k : ℕ) → FromIn chain own m dir need k → (c : Cursor) (wanted : ℕ) (d : Descriptor) (ds : List Descriptor) (segments : List (List Descriptor)) (parts : List Part)
+    → c.left ≡ length (d ∷ ds) → Stand (only chain m) (c.place + 16) ds → Ahead (only chain m) c.named (d ∷ ds) segments parts → AllByRecursion (LiesIn own) parts
+    → CourseIn chain own (after_read m dir need c wanted (rest_of k m dir need) (Some d))
+read_in chain own m dir need k from c wanted d ds segments parts left stand ahead lie = unless_in chain own (first_fault c d) _ (go (first_ahead (only chain m) c.named d ds segments parts ahead))
+  where
+    go : PartFirst (only chain m) c.named d ds segments parts ⊎ LinkFirst (only chain m) c.named d ds segments parts → CourseIn chain own (goes_on m dir need c wanted (rest_of k m dir need) d)
+    go (inl p) =
+        let lie' : AllByRecursion (LiesIn own) (p.part ∷ p.parts') = subst (AllByRecursion (LiesIn own)) p.all lie in
+        subst (λ (x : Descriptor). CourseIn chain own (goes_on m dir need c wanted (rest_of k m dir need) x)) (sym p.is)
+        (part_in chain own m dir need k c wanted p.part lie'.0 (λ w. next_in chain own m dir need k from c w d ds segments p.parts' left stand p.ahead lie'.1))
+    go (inr l) = link_in chain own m dir need k from c wanted d segments parts l.link l.by lie
+
+from_in : (chain own : ℕ → Bool) (m : Memory) (dir : Direction) (need k : ℕ) → FromIn chain own m dir need k
+unfolding from_place
+from_in chain own m dir need zero c wanted d ds segments parts left stand ahead lie = (tt, tt)
+from_in chain own m dir need (suc k) c wanted d ds segments parts left ((bytes, there, is), stand) ahead lie =
+    subst (CourseIn chain own) (sym (from_read (suc k) m dir need c wanted bytes (omega arith) (only_bytes chain m 16 c.place bytes there)))
+    (subst (λ (n : ℕ). CourseIn chain own (Does (Reads c.place) (after_read m dir need c wanted (rest_of n m dir need) (descriptor_of bytes)))) (sym (sub_suc k))
+    (subst (λ (o : Option Descriptor). CourseIn chain own (Does (Reads c.place) (after_read m dir need c wanted (rest_of k m dir need) o))) (sym (found bytes d is))
+    (only_places chain m 16 c.place bytes there, read_in chain own m dir need k (from_in chain own m dir need k) c wanted d ds segments parts left stand ahead lie)))
+  where
+    sub_suc : (k : ℕ) → suc k - 1 ≡ k
+    sub_suc k = omega arith
+
+-- a list's first descriptor stands in a segment of one
+pub spells_ahead : (m : Memory) (d : Descriptor) (segments : List (List Descriptor)) (parts : List Part) → SpellsBy m d segments parts → Ahead m Unnamed (d ∷ []) segments parts
+spells_ahead m (DataBlock addr len) [] parts by = inl (refl, refl, ap (map descriptor_of_part) (sym by))
+spells_ahead m (DataBlock addr len) (x ∷ xs) parts by = absurd by
+spells_ahead m (BitBucket len) [] parts by = inl (refl, refl, ap (map descriptor_of_part) (sym by))
+spells_ahead m (BitBucket len) (x ∷ xs) parts by = absurd by
+spells_ahead m (Segment addr len) segments parts by = inr (refl, [], Segment addr len, parts, refl, refl, refl, by)
+spells_ahead m (LastSegment addr len) segments parts by = inr (refl, [], LastSegment addr len, parts, refl, refl, refl, by)
+
+pub list_in : (chain own : ℕ → Bool) (m : Memory) (sgl1 : List ℕ) (first : Descriptor) (parts : List Part) (dir : Direction) (need : ℕ)
+    → descriptor_of sgl1 ≡ Some first → Spells (only chain m) first parts → AllByRecursion (LiesIn own) parts → CourseIn chain own (course_of_list m sgl1 dir need)
+list_in chain own m sgl1 first parts dir need spelled (segments, few, by) lie = (
+  tt,
+  subst (λ (o : Option Descriptor). CourseIn chain own (after_read m dir need entry_cursor need (rest_of 4095 m dir need) o)) (sym spelled)
+      (read_in chain own m dir need 4095 (from_in chain own m dir need 4095) entry_cursor need first [] segments parts refl tt (spells_ahead (only chain m) first segments parts by) lie),
+)
+
+-- The walk of a list that spells parts which are there, and count what is moved or more, ends without a fault.
+
+-- Bytes that are there
+
+pub bytes_there : (m : Memory) (n place : ℕ) → ((k : ℕ) → k < n → is_some (m (place + k)) ≡ true) → is_some (bytes_at m place n) ≡ true
+unfolding bytes_at
+bytes_there m zero place there = refl
+bytes_there m (suc n) place there =
+    go (m place) (bytes_at m (place + 1) n) (subst (λ (q : ℕ). is_some (m q) ≡ true) (add-zero place) (there 0 (omega arith)))
+    (bytes_there m n (place + 1) (λ k lt. subst (λ (q : ℕ). is_some (m q) ≡ true) (one_more place k) (there (suc k) (omega arith))))
+  where
+    one_more : (place k : ℕ) → place + suc k ≡ place + 1 + k
+    one_more place k = omega arith
+
+    go : (a : Option ℕ) (b : Option (List ℕ)) → is_some a ≡ true → is_some b ≡ true → is_some (joined a b) ≡ true
+    go a b e f = grind arith
+
+last_there : (m : Memory) (n place : ℕ) (bytes : List ℕ) → bytes_at m place (suc n) ≡ Some bytes → is_some (m (place + n)) ≡ true
+unfolding bytes_at
+last_there m zero place bytes e = rw (add-zero place) (grind arith)
+last_there m (suc n) place bytes e =
+    let rest = go (m place) (bytes_at m (place + 1) (suc n)) e in
+    subst (λ (q : ℕ). is_some (m q) ≡ true) (one_more place n) (last_there m n (place + 1) rest.0 rest.1)
+  where
+    go : (a : Option ℕ) (b : Option (List ℕ)) → joined a b ≡ Some bytes → (bs : List ℕ) × (b ≡ Some bs)
+    go (Some x) (Some xs) e = (xs, refl)
+    go (Some x) None e = absurd cc
+    go None b e = absurd cc
+
+    one_more : (place n : ℕ) → place + 1 + n ≡ place + suc n
+    one_more place n = omega arith
+
+-- where descriptors stand, their last byte does
+end_of_stand : (m : Memory) (place : ℕ) (d : Descriptor) (ds : List Descriptor) → Stand m place (d ∷ ds) → is_some (m (place + 16 * length ds + 15)) ≡ true
+end_of_stand m place d [] ((bytes, there, is), stand) = subst (λ (q : ℕ). is_some (m q) ≡ true) (omega arith) (last_there m 15 place bytes there)
+end_of_stand m place d (e ∷ es) (first, stand) = subst (λ (q : ℕ). is_some (m q) ≡ true) (omega arith) (end_of_stand m (place + 16) e es stand)
+
+-- The table of faults, where none applies
+
+no_fault : (c : Cursor) (d : Descriptor)
+    → (is_link d && named_last c.named) ≡ false → (is_link d && nat_lt 1 c.left) ≡ false → (is_link d && names_no_segment d) ≡ false
+    → (not (is_link d) && named_on c.named && nat_eq c.left 1) ≡ false → passes_end d ≡ false → first_fault c d ≡ None
+no_fault c d a b e f h = rw (a, b, e, f, h) refl
+
+not_less : (a b : ℕ) → b ≤ a → nat_lt a b ≡ false
+not_less a b h = grind (arith, nat_tests)
+
+fourth_row : (named : Named) (left : ℕ) → (left ≡ 1 → named_on named ≡ false) → (named_on named && nat_eq left 1) ≡ false
+fourth_row Unnamed left h = refl
+fourth_row ByLastSegment left h = refl
+fourth_row BySegment left h = other left (λ e. true≢false (h e))
+  where
+    other : (left : ℕ) → (left ≡ 1 → ⊥) → nat_eq left 1 ≡ false
+    other left h = grind (arith, nat_tests)
+
+part_fits : (m : Memory) (part : Part) → IsThere m part → passes_end (descriptor_of_part part) ≡ false
+part_fits m (Data addr len) there = not_less (2 ^ 64) (addr + len) there.0
+part_fits m (Bucket len) there = not_less (2 ^ 64) (0 + len) (omega (arith, there))
+
+no_link : (part : Part) → is_link (descriptor_of_part part) ≡ false
+no_link part = grind arith
+
+no_fault_of_part : (c : Cursor) (m : Memory) (part : Part) → IsThere m part → (c.left ≡ 1 → named_on c.named ≡ false) → first_fault c (descriptor_of_part part) ≡ None
+no_fault_of_part c m part there last =
+    no_fault c (descriptor_of_part part)
+    (subst (λ (b : Bool). (b && named_last c.named) ≡ false) (sym (no_link part)) refl)
+    (subst (λ (b : Bool). (b && nat_lt 1 c.left) ≡ false) (sym (no_link part)) refl)
+    (subst (λ (b : Bool). (b && names_no_segment (descriptor_of_part part)) ≡ false) (sym (no_link part)) refl)
+    (subst (λ (b : Bool). (not b && named_on c.named && nat_eq c.left 1) ≡ false) (sym (no_link part)) (fourth_row c.named c.left last))
+    (part_fits m part there)
+
+-- the fault of a link that names a whole segment, from the last place of one that no Last Segment descriptor names
+names_one : (addr len l : ℕ) → addr % 8 ≡ 0 → len ≡ 16 * suc l → names_no_segment (Segment addr len) ≡ false
+names_one addr len l aligned whole = grind (arith, nat_tests)
+
+no_fault_of_link : (c : Cursor) (addr len l : ℕ) → named_last c.named ≡ false → c.left ≡ 1 → addr % 8 ≡ 0 → len ≡ 16 * suc l → addr + len ≤ 2 ^ 64
+    → (first_fault c (Segment addr len) ≡ None) × (first_fault c (LastSegment addr len) ≡ None)
+no_fault_of_link c addr len l named left aligned whole ends = (
+  no_fault c (Segment addr len) named (not_less 1 c.left (omega (arith, left))) (names_one addr len l aligned whole) refl (not_less (2 ^ 64) (addr + len) ends),
+  no_fault c (LastSegment addr len) named (not_less 1 c.left (omega (arith, left))) (names_one addr len l aligned whole) refl (not_less (2 ^ 64) (addr + len) ends),
+)
+
+-- The front of a part has the first of its targets
+
+abbrev front_of : ℕ → Part → Part
+front_of wanted (Data addr len) = Data addr (min len wanted)
+front_of wanted (Bucket len) = Bucket (min len wanted)
+
+range_front : (addr len wanted : ℕ) → map (λ place. Place place) (range_with_len addr (min len wanted)) ≡ take wanted (map (λ place. Place place) (range_with_len addr len))
+range_front addr len wanted = elim (cases_lt wanted len) [
+  | inl less ↦ ap (λ (n : ℕ). map (λ place. Place place) (range_with_len addr n)) (shorter less) ∙ sym (take-map-range_with_len (λ place. Place place) addr len wanted (omega arith))
+  | inr most ↦ ap (λ (n : ℕ). map (λ place. Place place) (range_with_len addr n)) (whole most)
+      ∙ sym (take_all wanted (map (λ place. Place place) (range_with_len addr len)) (omega (arith, length-map-range_with_len (λ place. Place place) addr len)))
+]
+  where
+    shorter : wanted < len → min len wanted ≡ wanted
+    shorter less = omega arith
+
+    whole : len ≤ wanted → min len wanted ≡ len
+    whole most = omega arith
+
+discarded_front : (len wanted : ℕ) → replicate (min len wanted) Discarded ≡ take wanted (replicate len Discarded)
+discarded_front len wanted = elim (cases_lt wanted len) [
+  | inl less ↦ ap (λ (n : ℕ). replicate n Discarded) (shorter less) ∙ sym (take-replicate wanted len Discarded (omega arith))
+  | inr most ↦ ap (λ (n : ℕ). replicate n Discarded) (whole most) ∙ sym (take_all wanted (replicate len Discarded) (omega (arith, length-replicate len Discarded)))
+]
+  where
+    shorter : wanted < len → min len wanted ≡ wanted
+    shorter less = omega arith
+
+    whole : len ≤ wanted → min len wanted ≡ len
+    whole most = omega arith
+
+front_targets : (dir : Direction) (wanted : ℕ) (part : Part) → targets_of_part dir (front_of wanted part) ≡ take wanted (targets_of_part dir part)
+front_targets dir wanted (Data addr len) = range_front addr len wanted
+front_targets Destination wanted (Bucket len) = discarded_front len wanted
+front_targets Source wanted (Bucket len) = sym (take_all wanted [] (omega arith))
+
+take_front : (n k : ℕ) (xs ys : List Target) → k ≡ n - length xs → take n (xs ++ ys) ≡ take n xs ++ take k ys
+take_front zero k [] ys e = let none : k ≡ 0 = omega (arith, e) in rw none refl
+take_front (suc n) k [] ys e = let all : k ≡ suc n = omega (arith, e) in rw all refl
+take_front zero k (x ∷ xs) ys e = let none : k ≡ 0 = omega (arith, e) in rw none refl
+take_front (suc n) k (x ∷ xs) ys e = ap (λ (ts : List Target). x ∷ ts) (take_front n k xs ys (omega (arith, e)))
+
+front_and_rest : (dir : Direction) (wanted : ℕ) (part : Part) (parts : List Part)
+    → targets dir (front_of wanted part ∷ []) ++ take (wanted - counted dir (descriptor_of_part part)) (targets dir parts) ≡ take wanted (targets dir (part ∷ parts))
+front_and_rest dir wanted part parts =
+    ap (λ (ts : List Target). ts ++ take (wanted - counted dir (descriptor_of_part part)) (targets dir parts))
+    (flat_map-cons (targets_of_part dir) (front_of wanted part) [] ∙ append-nil (targets_of_part dir (front_of wanted part)) ∙ front_targets dir wanted part)
+    ∙ sym (take_front wanted (wanted - counted dir (descriptor_of_part part)) (targets_of_part dir part) (targets dir parts) (ap (λ (n : ℕ). wanted - n) (sym (length-targets_of_part dir part))))
+    ∙ ap (take wanted) (sym (flat_map-cons (targets_of_part dir) part parts))
+
+fronts_join : (dir : Direction) (before : List Part) (wanted : ℕ) (part : Part) (parts : List Part)
+    → targets dir (before ++ front_of wanted part ∷ []) ++ take (wanted - counted dir (descriptor_of_part part)) (targets dir parts) ≡ targets dir before ++ take wanted (targets dir (part ∷ parts))
+fronts_join dir before wanted part parts =
+    ap (λ (ts : List Target). ts ++ take (wanted - counted dir (descriptor_of_part part)) (targets dir parts)) (targets-append dir before (front_of wanted part ∷ []))
+    ∙ append_assoc (targets dir before) (targets dir (front_of wanted part ∷ [])) (take (wanted - counted dir (descriptor_of_part part)) (targets dir parts))
+    ∙ ap (λ (ts : List Target). targets dir before ++ ts) (front_and_rest dir wanted part parts)
+
+-- Courses that end
+
+-- The course ends without a fault, and what it takes behind other parts has the wanted front of the targets of these.
+record EndsWith (m : Memory) (dir : Direction) (need wanted : ℕ) (parts : List Part) (c : Course) : Type 0 where
+  ends : verdict c ≡ End
+  takes : (before : List Part) → counted_in dir before + wanted ≡ need → targets dir (parts_taken m dir need before c) ≡ targets dir before ++ take wanted (targets dir parts)
+
+moves_on : (m : Memory) (dir : Direction) (need wanted : ℕ) (parts : List Part) (rest : Course) → EndsWith m dir need wanted parts rest → (n place len offset : ℕ) → n ≡ pages_spanned place len
+    → ((k : ℕ) → k < len → is_some (m (place + k)) ≡ true) → EndsWith m dir need wanted parts (moving m n place len offset rest)
+unfolding moving
+moves_on m dir need wanted parts rest h zero place len offset pages there = h
+moves_on m dir need wanted parts rest h (suc n) place len offset pages there =
+    subst (λ (b : Bool). EndsWith m dir need wanted parts (cond b (Does (Moves place (first_part place len) offset) (moving m n (place + first_part place len) (len - first_part place len) (offset + first_part place len) rest)) (Does Stays (Closes (Fault DATA_TRANSFER_ERROR)))))
+    (sym (bytes_there m (first_part place len) place (λ k lt. there k (omega (arith, (part_most place len).0)))))
+    (moved (moves_on m dir need wanted parts rest h n (place + first_part place len) (len - first_part place len) (offset + first_part place len) less
+    (λ k lt. subst (λ (q : ℕ). is_some (m q) ≡ true) (sum place (first_part place len) k) (there (first_part place len + k) (omega arith)))))
+  where
+    less : n ≡ pages_spanned (place + first_part place len) (len - first_part place len)
+    less = omega (arith, pages, pages_step place len (grind (arith, nat_tests)))
+
+    sum : (a b c : ℕ) → a + (b + c) ≡ a + b + c
+    sum a b c = omega arith
+
+    moved : {c : Course} → EndsWith m dir need wanted parts c → EndsWith m dir need wanted parts (Does (Moves place (first_part place len) offset) c)
+    moved h = record { ends = h.ends; takes = h.takes }
+
+-- where no byte is wanted any more, the course is over
+over_ends : (m : Memory) (dir : Direction) (need k : ℕ) (after : Option Cursor) (wanted : ℕ) (parts : List Part) → wanted ≡ 0 → EndsWith m dir need wanted parts (rest_of k m dir need after wanted)
+over_ends m dir need k None wanted parts none = rw none (record { ends = refl; takes = λ before sum. sym (append-nil (targets dir before)) })
+over_ends m dir need k (Some c) wanted parts none = rw none (record { ends = refl; takes = λ before sum. sym (append-nil (targets dir before)) })
+
+-- else the descriptor is next
+wanted_ends : (m : Memory) (dir : Direction) (need k : ℕ) (c : Cursor) (wanted : ℕ) (parts : List Part) → 0 < wanted → EndsWith m dir need wanted parts (from_place k m dir need c wanted)
+    → EndsWith m dir need wanted parts (rest_of k m dir need (Some c) wanted)
+wanted_ends m dir need k c wanted parts some h =
+    subst (λ (b : Bool). EndsWith m dir need wanted parts (cond b (Closes End) (from_place k m dir need c wanted))) (sym (still_wants wanted (nonzero wanted some))) h
+  where
+    nonzero : (n : ℕ) → 0 < n → n ≢ 0
+    nonzero n some none = omega (arith, some, none)
+
+abbrev FromEnds : Memory → Direction → ℕ → ℕ → Type 0
+FromEnds m dir need k =
+    (c : Cursor) (wanted : ℕ) (d : Descriptor) (ds : List Descriptor) (segments : List (List Descriptor)) (parts : List Part)
+    → c.left ≡ length (d ∷ ds) → Stand m c.place (d ∷ ds) → Ahead m c.named (d ∷ ds) segments parts → length (d ∷ ds) + descriptors_in segments ≤ k
+    → wanted ≤ counted_in dir parts → AllByRecursion (IsThere m) parts → EndsWith m dir need wanted parts (from_place k m dir need c wanted)
+
+next_ends : (m : Memory) (dir : Direction) (need k : ℕ) → FromEnds m dir need k
+    → (c : Cursor) (wanted : ℕ) (d : Descriptor) (ds : List Descriptor) (segments : List (List Descriptor)) (parts : List Part)
+    → c.left ≡ length (d ∷ ds) → Stand m (c.place + 16) ds → Ahead m c.named ds segments parts → (ds ≡ [] → parts ≡ []) → length ds + descriptors_in segments ≤ k
+    → wanted ≤ counted_in dir parts → AllByRecursion (IsThere m) parts → EndsWith m dir need wanted parts (rest_of k m dir need (next c) wanted)
+next_ends m dir need k from c wanted d [] segments parts left stand ahead none few count there =
+    let zero' : counted_in dir parts ≡ 0 = ap (counted_in dir) (none refl) in over_ends m dir need k (next c) wanted parts (omega (arith, count, zero'))
+next_ends m dir need k from c wanted d (e ∷ es) segments parts left stand ahead none few count there = elim (cases_Bool (nat_eq wanted 0)) [
+  | inl z ↦ over_ends m dir need k (next c) wanted parts ((is_wanted wanted).0 z)
+  | inr z ↦
+      subst (λ (b : Bool). EndsWith m dir need wanted parts (rest_of k m dir need (if b then Some (record { place = c.place + 16; left = c.left - 1; named = c.named }) else None) wanted)) (sym (more c.left (length es) left))
+      (wanted_ends m dir need k (record { place = c.place + 16; left = c.left - 1; named = c.named }) wanted parts ((is_wanted wanted).1 z)
+      (from (record { place = c.place + 16; left = c.left - 1; named = c.named }) wanted e es segments parts (omega (arith, left)) stand ahead few count there))
+]
+  where
+    more : (n l : ℕ) → n ≡ suc (suc l) → nat_lt 1 n ≡ true
+    more n l e = grind (arith, nat_tests)
+
+-- a part's course, its descriptor taken already
+abbrev EndsBehind : Memory → Direction → ℕ → ℕ → Descriptor → List Part → Course → Type 0
+EndsBehind m dir need wanted d parts c =
+    (verdict c ≡ End)
+    × ((before : List Part) → counted_in dir before + wanted ≡ need → targets dir (parts_taken m dir need (taken dir need before (Some d)) c) ≡ targets dir before ++ take wanted (targets dir parts))
+
+part_ends : (m : Memory) (dir : Direction) (need k : ℕ) (c : Cursor) (wanted : ℕ) (part : Part) (parts : List Part) → IsThere m part
+    → EndsWith m dir need (wanted - counted dir (descriptor_of_part part)) parts (rest_of k m dir need (next c) (wanted - counted dir (descriptor_of_part part)))
+    → EndsBehind m dir need wanted (descriptor_of_part part) (part ∷ parts) (goes_on m dir need c wanted (rest_of k m dir need) (descriptor_of_part part))
+part_ends m dir need k c wanted (Data addr len) parts there h =
+    let on = moves_on m dir need (wanted - len) parts _ h (pages_spanned addr (min len wanted)) addr (min len wanted) (need - wanted) refl (λ i lt. there.1 i (omega arith)) in (
+      on.ends,
+      λ before sum.
+          subst
+          (λ (w : ℕ). targets dir (parts_taken m dir need (before ++ Data addr (min len w) ∷ []) (goes_on m dir need c wanted (rest_of k m dir need) (DataBlock addr len))) ≡ targets dir before ++ take wanted (targets dir (Data addr len ∷ parts)))
+          (sym (still_wanted dir before wanted need sum))
+          (on.takes (before ++ Data addr (min len wanted) ∷ []) (count_one dir before (Data addr (min len wanted)) len wanted need (omega arith) sum) ∙ fronts_join dir before wanted (Data addr len) parts),
+    )
+part_ends m dir need k c wanted (Bucket len) parts there h = (
+  h.ends,
+  λ before sum.
+      subst
+      (λ (w : ℕ). targets dir (parts_taken m dir need (before ++ Bucket (min len w) ∷ []) (goes_on m dir need c wanted (rest_of k m dir need) (BitBucket len))) ≡ targets dir before ++ take wanted (targets dir (Bucket len ∷ parts)))
+      (sym (still_wanted dir before wanted need sum))
+      (h.takes (before ++ Bucket (min len wanted) ∷ []) (count_one dir before (Bucket (min len wanted)) (counted dir (BitBucket len)) wanted need (bucket_front dir len wanted) sum) ∙ fronts_join dir before wanted (Bucket len) parts),
+)
+
+below_end : (m : Memory) → ((place : ℕ) → is_some (m place) ≡ true → place < 2 ^ 64) → (addr len : ℕ) (d : Descriptor) (ds : List Descriptor) → len ≡ 16 * length (d ∷ ds) → Stand m addr (d ∷ ds) → addr + len ≤ 2 ^ 64
+below_end m low addr len d ds whole stand = let last = low (addr + 16 * length ds + 15) (end_of_stand m addr d ds stand) in omega (arith, whole, last)
+
+start_ends : (m : Memory) (dir : Direction) (need k : ℕ) → FromEnds m dir need k → (named : Named) (addr len wanted : ℕ) (segments : List (List Descriptor)) (parts : List Part)
+    → LinkedTo m named addr len segments parts → descriptors_in segments ≤ k → wanted ≤ counted_in dir parts → AllByRecursion (IsThere m) parts
+    → EndsWith m dir need wanted parts (rest_of k m dir need (Some (segment_start named addr len)) wanted)
+start_ends m dir need k from named addr len wanted segments parts to few count there =
+    elim (cases_Bool (nat_eq wanted 0)) [
+      | inl z ↦ over_ends m dir need k (Some (segment_start named addr len)) wanted parts ((is_wanted wanted).0 z)
+      | inr z ↦
+          wanted_ends m dir need k (segment_start named addr len) wanted parts ((is_wanted wanted).1 z)
+          (from (segment_start named addr len) wanted to.first to.others to.segments parts (omega (arith, to.whole)) to.stand to.ahead
+          (subst (λ (xs : List (List Descriptor)). descriptors_in xs ≤ k) to.are few) count there)
+    ]
+
+unless_ends : (m : Memory) (dir : Direction) (need wanted : ℕ) (d : Descriptor) (parts : List Part) (f : Option Status) (c : Course) → f ≡ None → EndsBehind m dir need wanted d parts c → EndsBehind m dir need wanted d parts (unless_fault f c)
+unless_ends m dir need wanted d parts f c none h = rw none h
+
+link_ends : (m : Memory) (dir : Direction) (need k : ℕ) → ((place : ℕ) → is_some (m place) ≡ true → place < 2 ^ 64) → FromEnds m dir need k
+    → (c : Cursor) (wanted : ℕ) (d : Descriptor) (segments : List (List Descriptor)) (parts : List Part)
+    → IsLink d → named_last c.named ≡ false → c.left ≡ 1 → SpellsBy m d segments parts → descriptors_in segments ≤ k → wanted ≤ counted_in dir parts → AllByRecursion (IsThere m) parts
+    → EndsBehind m dir need wanted d parts (unless_fault (first_fault c d) (goes_on m dir need c wanted (rest_of k m dir need) d))
+link_ends m dir need k low from c wanted (DataBlock addr len) segments parts link named left by few count there = absurd (true≢false (sym link))
+link_ends m dir need k low from c wanted (BitBucket len) segments parts link named left by few count there = absurd (true≢false (sym link))
+link_ends m dir need k low from c wanted (Segment addr len) segments parts link named left by few count there =
+    let to = linked_on m addr len segments parts by in
+    let ends = start_ends m dir need k from BySegment addr len wanted segments parts to few count there in
+    unless_ends m dir need wanted (Segment addr len) parts (first_fault c (Segment addr len)) (rest_of k m dir need (Some (segment_start BySegment addr len)) wanted)
+    (no_fault_of_link c addr len (length to.others) named left to.aligned to.whole (below_end m low addr len to.first to.others to.whole to.stand)).0
+    (ends.ends, ends.takes)
+link_ends m dir need k low from c wanted (LastSegment addr len) segments parts link named left by few count there =
+    let to = linked_last m addr len segments parts by in
+    let ends = start_ends m dir need k from ByLastSegment addr len wanted segments parts to few count there in
+    unless_ends m dir need wanted (LastSegment addr len) parts (first_fault c (LastSegment addr len)) (rest_of k m dir need (Some (segment_start ByLastSegment addr len)) wanted)
+    (no_fault_of_link c addr len (length to.others) named left to.aligned to.whole (below_end m low addr len to.first to.others to.whole to.stand)).1
+    (ends.ends, ends.takes)
+
+read_ends : (m : Memory) (dir : Direction) (need k : ℕ) → ((place : ℕ) → is_some (m place) ≡ true → place < 2 ^ 64) → FromEnds m dir need k
+    → (c : Cursor) (wanted : ℕ) (d : Descriptor) (ds : List Descriptor) (segments : List (List Descriptor)) (parts : List Part)
+    → c.left ≡ length (d ∷ ds) → Stand m (c.place + 16) ds → Ahead m c.named (d ∷ ds) segments parts → length ds + descriptors_in segments ≤ k
+    → wanted ≤ counted_in dir parts → AllByRecursion (IsThere m) parts
+    → EndsBehind m dir need wanted d parts (after_read m dir need c wanted (rest_of k m dir need) (Some d))
+read_ends m dir need k low from c wanted d ds segments parts left stand ahead few count there = go (first_ahead m c.named d ds segments parts ahead)
+  where
+    go : PartFirst m c.named d ds segments parts ⊎ LinkFirst m c.named d ds segments parts → EndsBehind m dir need wanted d parts (after_read m dir need c wanted (rest_of k m dir need) (Some d))
+    go (inl p) =
+        let there' : AllByRecursion (IsThere m) (p.part ∷ p.parts') = subst (AllByRecursion (IsThere m)) p.all there in
+        let count' : counted_in dir parts ≡ counted dir (descriptor_of_part p.part) + counted_in dir p.parts' = ap (counted_in dir) p.all in
+        subst (λ (x : Descriptor). EndsBehind m dir need wanted x parts (after_read m dir need c wanted (rest_of k m dir need) (Some x))) (sym p.is)
+        (subst (λ (ps : List Part). EndsBehind m dir need wanted (descriptor_of_part p.part) ps (after_read m dir need c wanted (rest_of k m dir need) (Some (descriptor_of_part p.part)))) (sym p.all)
+        (unless_ends m dir need wanted (descriptor_of_part p.part) (p.part ∷ p.parts') (first_fault c (descriptor_of_part p.part)) (goes_on m dir need c wanted (rest_of k m dir need) (descriptor_of_part p.part))
+        (no_fault_of_part c m p.part there'.0 (λ one. (p.behind_it (alone ds (sym left ∙ one))).0))
+        (part_ends m dir need k c wanted p.part p.parts' there'.0
+        (next_ends m dir need k from c (wanted - counted dir (descriptor_of_part p.part)) d ds segments p.parts' left stand p.ahead (λ z. (p.behind_it z).2) few (omega (arith, count, count')) there'.1))))
+      where
+        alone : (ds : List Descriptor) → suc (length ds) ≡ 1 → ds ≡ []
+        alone [] e = refl
+        alone (x ∷ xs) e = absurd (omega (arith, e))
+    go (inr l) =
+        link_ends m dir need k low from c wanted d segments parts l.link l.named_so (left ∙ ap (λ (xs : List Descriptor). suc (length xs)) l.is_last) l.by (omega (arith, few)) count there
+
+from_ends : (m : Memory) (dir : Direction) (need : ℕ) → ((place : ℕ) → is_some (m place) ≡ true → place < 2 ^ 64) → (k : ℕ) → FromEnds m dir need k
+from_ends m dir need low zero c wanted d ds segments parts left stand ahead few count there = absurd (omega (arith, few))
+from_ends m dir need low (suc k) c wanted d ds segments parts left ((bytes, is_there, is), stand) ahead few count there =
+    subst (EndsWith m dir need wanted parts) (sym (from_read (suc k) m dir need c wanted bytes (omega arith) is_there))
+    (subst (λ (n : ℕ). EndsWith m dir need wanted parts (Does (Reads c.place) (after_read m dir need c wanted (rest_of n m dir need) (descriptor_of bytes)))) (sym (sub_suc k))
+    (let ends = read_ends m dir need k low (from_ends m dir need low k) c wanted d ds segments parts left stand ahead (omega (arith, few)) count there in
+    record {
+      ends = subst (λ (o : Option Descriptor). verdict (after_read m dir need c wanted (rest_of k m dir need) o) ≡ End) (sym (found bytes d is)) ends.0;
+      takes = λ before sum.
+          subst (λ (o : Option (List ℕ)). targets dir (parts_taken m dir need (taken dir need before (option_and_then descriptor_of o)) (after_read m dir need c wanted (rest_of k m dir need) (descriptor_of bytes))) ≡ targets dir before ++ take wanted (targets dir parts)) (sym is_there)
+          (subst (λ (o : Option Descriptor). targets dir (parts_taken m dir need (taken dir need before o) (after_read m dir need c wanted (rest_of k m dir need) o)) ≡ targets dir before ++ take wanted (targets dir parts)) (sym (found bytes d is)) (ends.1 before sum));
+    }))
+  where
+    sub_suc : (k : ℕ) → suc k - 1 ≡ k
+    sub_suc k = omega arith
+
+pub long_lists_end : long_lists_end_well
+long_lists_end m sgl1 first parts dir need low spelled (segments, few, by) there count =
+    let ends = read_ends m dir need 4095 low (from_ends m dir need low 4095) entry_cursor need first [] segments parts refl tt (spells_ahead m first segments parts by) (omega (arith, few)) count there in (
+      subst (λ (o : Option Descriptor). verdict (after_read m dir need entry_cursor need (rest_of 4095 m dir need) o) ≡ End) (sym spelled) ends.0,
+      subst (λ (o : Option Descriptor). targets dir (parts_taken m dir need (taken dir need [] o) (after_read m dir need entry_cursor need (rest_of 4095 m dir need) o)) ≡ take need (targets dir parts)) (sym spelled)
+          (ends.1 [] (omega arith)),
+    )
+
+pub lists_end : lists_end_well
+lists_end m sgl1 first parts dir need low spelled spells there count =
+    let both = long_lists_end m sgl1 first parts dir need low spelled spells there (omega (arith, count)) in
+    (both.0, both.1 ∙ take_all need (targets dir parts) (omega (arith, count, length-targets dir parts)))
+
+-- A walk that reads in the chain pages and moves in the data pages: what it touches.
+
+pub reads_in : (chain own : ℕ → Bool) (c : Course) → CourseIn chain own c → ReadsWithin chain c
+reads_in chain own (Closes v) h = tt
+reads_in chain own (Does Stays rest) h = reads_in chain own rest h.1
+reads_in chain own (Does (Reads place) rest) h = (h.0, reads_in chain own rest h.1)
+reads_in chain own (Does (Moves place n offset) rest) h = reads_in chain own rest h.1
+
+pub moves_out : (chain own : ℕ → Bool) → ((place : ℕ) → own place ≡ true → chain place ≡ false) → (c : Course) → CourseIn chain own c → MovesOutside chain c
+moves_out chain own apart (Closes v) h = tt
+moves_out chain own apart (Does Stays rest) h = moves_out chain own apart rest h.1
+moves_out chain own apart (Does (Reads place) rest) h = moves_out chain own apart rest h.1
+moves_out chain own apart (Does (Moves place n offset) rest) h = (λ k lt. apart (place + k) (h.0.2 k lt), moves_out chain own apart rest h.1)
+
+-- the pages of a range whose first and last byte lie on pages that pass a test
+range_pages : (f : ℕ → Bool) (place n : ℕ) → f (page_of place) ≡ true → f (page_of (place + n - 1)) ≡ true → list_all f (pages_reached place n) ≡ true
+range_pages f place n first last = grind arith
+
+abbrev of_either : List ℕ → List ℕ → ℕ → Bool
+of_either chain_pages data_pages p = is_among chain_pages p || is_among data_pages p
+
+pub act_touches : (chain_pages data_pages : List ℕ) (a : Act) → ActIn (on_pages chain_pages) (on_pages data_pages) a → list_all (of_either chain_pages data_pages) (touched a) ≡ true
+act_touches chain_pages data_pages Stays h = refl
+act_touches chain_pages data_pages (Reads place) h =
+    range_pages (of_either chain_pages data_pages) place 16
+    (or_left _ _ (subst (λ (q : ℕ). on_pages chain_pages q ≡ true) (add-zero place) (h 0 (omega arith))))
+    (or_left _ _ (subst (λ (q : ℕ). on_pages chain_pages q ≡ true) (last place) (h 15 (omega arith))))
+  where
+    last : (place : ℕ) → place + 15 ≡ place + 16 - 1
+    last place = omega arith
+act_touches chain_pages data_pages (Moves place n offset) h =
+    range_pages (of_either chain_pages data_pages) place n
+    (or_right _ _ (subst (λ (q : ℕ). on_pages data_pages q ≡ true) (add-zero place) (h.2 0 h.0)))
+    (or_right _ _ (subst (λ (q : ℕ). on_pages data_pages q ≡ true) (last place n h.0) (h.2 (n - 1) (omega (arith, h.0)))))
+  where
+    last : (place n : ℕ) → 0 < n → place + (n - 1) ≡ place + n - 1
+    last place n some = omega arith
+
+touches_in : (chain_pages data_pages : List ℕ) (c : Course) → CourseIn (on_pages chain_pages) (on_pages data_pages) c
+    → AllByRecursion (λ a. list_all (λ p. is_among chain_pages p || is_among data_pages p) (touched a) ≡ true) (units c)
+touches_in chain_pages data_pages (Closes v) h = tt
+touches_in chain_pages data_pages (Does a rest) h = (act_touches chain_pages data_pages a h.0, touches_in chain_pages data_pages rest h.1)
+
+pub lists_keep : lists_keep_to_their_pages
+lists_keep chain_pages data_pages m sgl1 parts dir need apart list =
+    let c = course_of_list m sgl1 dir need in
+    let inside : CourseIn (on_pages chain_pages) (on_pages data_pages) c = list_in (on_pages chain_pages) (on_pages data_pages) m sgl1 list.first parts dir need list.spelled list.spells list.parts_lie in
+    record {
+      reads = reads_in (on_pages chain_pages) (on_pages data_pages) c inside;
+      moves = moves_out (on_pages chain_pages) (on_pages data_pages) (λ place own. apart (page_of place) own) c inside;
+      units_in = inside;
+      touches = touches_in chain_pages data_pages c inside;
+    }

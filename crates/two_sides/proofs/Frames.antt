@@ -1,44 +1,295 @@
--- What a change of one queue, or of the memory outside the halves, leaves of the machine's queues and of the rings and halves.
-use Rattle.std.proofs.Common.{◌≡◌, ◌≢◌, ℕ, zero, suc, ◌+◌, ◌<◌, Bool, true, false, Option, Some, List, [], ◌∷◌, map, slice_get, is_some, if◌then◌else◌, refl, ap, ap₂, sym, ◌∙◌, arith, subst}
-use Rattle.std.specs.List.{AllByRecursion}
-use Rattle.admin_commands.specs.Verdicts.{is_absent}
-use Rattle.controller_core.specs.declared.queue.ControllerQueue.{ControllerQueue}
-use Rattle.entry_codec.specs.declared.completion.ComEntry.{ComEntry}
-use Rattle.entry_codec.specs.declared.submission.SubEntry.{SubEntry}
-use Rattle.host_core.proofs.Pages.{among-from}
-use Rattle.machine_model.specs.After.{after}
-use Rattle.machine_model.specs.Events.{Event, Reply}
-use Rattle.machine_model.specs.Memory.{memory_of}
-use Rattle.machine_model.specs.State.{Answer, HostQueue, DeviceQueue, Record, pages_of}
-use Rattle.machine_model.specs.Refusals.{in_service, is_making_cq, is_submitted}
-use Rattle.machine_model.specs.declared.words.HostState.{HostState}
-use Rattle.machine_agreement.proofs.JobLaws.{stay_after}
-use Rattle.machine_agreement.proofs.Served.{counts_sent, page_there}
-use Rattle.machine_agreement.proofs.Touching.{holds_left as among_left, holds_right as among_right}
-use Rattle.machine_model.proofs.Steps.{Accepts}
-use Rattle.machine_model.proofs.Totals.{total}
-use Rattle.machine_model.specs.Step.{times}
-use Rattle.machine_model.proofs.Counting.{held_once, not_held}
-use Rattle.machine_agreement.proofs.Elsewhere.{among_counts, sent_page}
-use Rattle.machine_agreement.proofs.Members.{in_at}
-use Rattle.machine_model.proofs.Owned.{in_queue, in_record}
+-- What a call of one side leaves of the other.
+use Rattle.std.proofs.Common.{◌≡◌, ◌≢◌, ℕ, zero, suc, ◌+◌, ◌<◌, ◌≤◌, nat_lt, Bool, true, false, Some, List, [], ◌∷◌, length, slice_get, refl, ap, sym, ◌∙◌, arith, subst, ltb-true, ◌||◌, if◌then◌else◌, ◌==◌, Option, None, map, is_some, ap₂}
+use Rattle.std.{proofs.lemmas.{Bool.OnTrue_at, Option.slice_get-map}, specs.{List.AllByRecursion, Option.option_map, Prelude.slice_index}}
+use Rattle.host_core.{proofs.{PageOwners.among-from, QueueLists.index-from}, specs.Alone.alone}
+use Rattle.machine_model.proofs.Counting.{one, held_once, total, not_held}
+use Rattle.machine_model.proofs.Owned.{in_queue, in_record, owned, owned_is, none_here, in_is, taken, taken_le, taken_from_out}
+use Rattle.machine_model.{proofs.Steps.{length-in_store, Accepts}, specs.{After.{course_of, after}, Agreeing.{QueueFits, QueuesFit}, Always.HasHalves}}
+use Rattle.machine_model.specs.{Events.{Event, Reply}, Memory.{is_in, memory_of}, Positions.IsInRing}
+use Rattle.machine_model.specs.Refusals.{has_cq, in_service, is_making_cq, is_reaped, device_queue, is_submitted}
+use Rattle.machine_model.specs.{State.{HostQueue, Record, pages_of, DeviceQueue, State, Job, Answer}, Step.times, declared.words.HostState.HostState}
+use Rattle.two_sides.proofs.{Agreed.stood_of, JobLaws.stay_after, NeverFull.ListsStay, Provided.{In, in_at, some_is, all_at, all_indexed}}
+use Rattle.two_sides.proofs.{Served.{Stood, job_list, serves_in, course_in, course_ends, counts_sent, page_there}, TiedAll.small as at_most_one}
+use Rattle.two_sides.proofs.Untouched.{among_counts, holds_left as among_left, holds_right as among_right, sent_page}
+use Rattle.two_sides.specs.Sides.{Sides, state_of, device_queue_of, device_queues_of, job_of, present, answer_of, unfetched_between, completions_between}
+use Rattle.two_sides.specs.Ties.{AreSides, AreTied, IsWorld, ShareQueue, ShareQueues, RingsStand, QueueStands, AllQueuesStand, first_completion_page, has_ring, WalkStands, WalksStand, HeadsFollow, ShareHalves}
 use Rattle.page_ledger.specs.Owners.{is_among, pages_from}
-use Rattle.page_memory.specs.Memory.{Memory}
-use Rattle.page_memory.specs.Pages.{Pages, byte_at, page_at}
-use Rattle.page_memory.specs.declared.page.Half.TheVariants.{Submission, Completion}
-use Rattle.queue_pair.specs.Halves.{Agree}
-use Rattle.queue_pair.specs.Lists.{PhasesStand, answers_between}
-use Rattle.queue_pair.specs.Members.{change}
-use Rattle.queue_pair.specs.Memory.{half_pages}
-use Rattle.queue_pair.specs.Rings.{HostRing, DeviceSide}
-use Rattle.queue_pair.proofs.Halves.{entries_agree, answers_agree, phases_agree}
-use Rattle.queue_pair.proofs.Lists.{answers_none}
-use Rattle.queue_pair.proofs.Pools.{pages_agree}
-use Rattle.two_sides.specs.Sides.{Sides, state_of, present, answer_of, unfetched_between, completions_between, device_queue_of, device_queues_of}
-use Rattle.two_sides.specs.Ties.{IsWorld, HeadsFollow, RingsStand, ShareHalves, QueueStands, AllQueuesStand, WalksStand, first_completion_page, has_ring}
-use Rattle.two_sides.proofs.Known.{IsKnown, known, from_zero, stands_of, there_ring, tied_of}
-use Rattle.two_sides.proofs.Walks.{still_stands, stood}
-use Rattle.two_sides.proofs.Owning.{owned_once, both_count, commands_apart}
+use Rattle.admin_commands.specs.Verdicts.{is_absent}
+use Rattle.controller_core.specs.{Contents.{FetchedCommand, FitsCommand, FitsWork, Work}, declared.command.Work.TheVariants.{Io, Admin}}
+use Rattle.controller_core.specs.declared.queue.ControllerQueue.{ControllerQueue}
+use Rattle.page_memory.specs.{Memory.Memory, Pages.{byte_at, Pages, page_at}, declared.page.Half.TheVariants.{Submission, Completion}}
+use Rattle.queue_pair.{proofs.{Halves.{pages_in, pages_agree, entries_agree, answers_agree, phases_agree}, Rings.answers_none}, specs.Halves.{IsIn, Agree}}
+use Rattle.queue_pair.specs.{Lists.{PhasesStand, answers_between}, Members.change, Memory.half_pages, Rings.{HostRing, DeviceSide}}
+use Rattle.block_image.specs.Blocks.{block_count}
+use Rattle.controller_walk.{proofs.Same.{list_served, walk_served}, specs.{Laws.after_units, Serving.Serves}}
+use Rattle.controller_walk.specs.{Units.{Stays, Reads, Moves, Course, Closes, Does, course_of_list}, declared.walk.Walk.Walk}
+use Rattle.io_commands.specs.Jobs.{JobContents, job_course, course_of_walk, direction_of_entry, need_of_entry}
+use Rattle.entry_codec.specs.declared.{completion.ComEntry.ComEntry, submission.SubEntry.SubEntry}
+
+-- Each page of the pool is free, or of one queue's half, or of one command.
+
+-- how often a page is owned: once in the pool, and never outside
+owned_as : (s : Sides) → AreSides s → (p : ℕ) → owned p s.host.host ≡ one (nat_lt p (length s.pages))
+owned_as s sides p = sym (owned_is p s.host.host) ∙ sides.kept.owners p
+
+pub owned_once : (s : Sides) → AreSides s → (p : ℕ) → owned p s.host.host ≤ 1
+owned_once s sides p = omega (arith, owned_as s sides p, at_most_one (nat_lt p (length s.pages)))
+
+-- two members of a list count no more than all of it
+pub both_count : {A : Type 0} (w : A → ℕ) (xs : List A) (i j : ℕ) (x y : A) → slice_get xs i ≡ Some x → slice_get xs j ≡ Some y → i ≢ j → w x + w y ≤ total w xs
+both_count w [] i j x y e f apart = absurd cc
+both_count w (z ∷ xs) zero zero x y e f apart = absurd (apart refl)
+both_count w (z ∷ xs) zero (suc j) x y e f apart = let same : z ≡ x = cc in omega (arith, ap w same, in_at xs j y f w)
+both_count w (z ∷ xs) (suc i) zero x y e f apart = let same : z ≡ y = cc in omega (arith, ap w same, in_at xs i x e w)
+both_count w (z ∷ xs) (suc i) (suc j) x y e f apart = omega (arith, both_count w xs i j x y e f (λ h. apart (ap suc h)))
+
+-- the pages of a command are none of a queue's halves
+pub commands_apart : (s : Sides) → AreSides s → (q : ℕ) (h : HostQueue) (r : Record) (p : ℕ) → slice_get s.host.host.queues q ≡ Some h → In r s.host.host.records → is_among (pages_of r) p ≡ true
+    → (is_among h.sq_pages p ≡ false) × (is_among h.cq_pages p ≡ false)
+commands_apart s sides q h r p e within among =
+    let own = held_once p (pages_of r) among in
+    let none' : in_queue p h ≡ 0 = omega (arith, own, owned_once s sides p, within (in_record p), in_at s.host.host.queues q h e (in_queue p)) in
+    (among_counts p h.sq_pages (omega (arith, none')), among_counts p h.cq_pages (omega (arith, none')))
+
+-- a page of a queue's half is in
+pub queue_page_in : (s : Sides) → AreSides s → (q : ℕ) (h : HostQueue) (p : ℕ) → slice_get s.host.host.queues q ≡ Some h → 0 < in_queue p h → is_in s.pages p ≡ true
+queue_page_in s sides q h p e some =
+    let count = in_at s.host.host.queues q h e (in_queue p) in
+    let none' : total (taken p) s.host.host.records ≡ 0 = omega (arith, owned_once s sides p, some, count, taken_le p s.host.host.records) in
+    let inside : p < length s.pages = within (nat_lt p (length s.pages)) refl (omega (arith, owned_as s sides p, some, count)) in
+    some_is (sym (in_is s.pages p inside)
+    ∙ (taken_from_out (alone s.host s.pages) sides.kept.out p (subst (λ (n : ℕ). p < n) (sym (length-in_store s.pages)) inside)
+    ∙ ap (λ (b : Bool). Some b) (none_here _ none')))
+  where
+    within : (b : Bool) → nat_lt p (length s.pages) ≡ b → 0 < one b → p < length s.pages
+    within true e l = ltb-true p (length s.pages) e
+    within false e l = absurd (omega (arith, l))
+
+-- a free page is one of the pool
+pub free_below : (s : Sides) → AreSides s → (p : ℕ) → is_among s.host.host.free p ≡ true → p < length s.pages
+free_below s sides p free = within (nat_lt p (length s.pages)) refl (omega (arith, owned_as s sides p, held_once p s.host.host.free free))
+  where
+    within : (b : Bool) → nat_lt p (length s.pages) ≡ b → 0 < one b → p < length s.pages
+    within true e l = ltb-true p (length s.pages) e
+    within false e l = absurd (omega (arith, l))
+
+-- What is known of a queue on both sides, where nothing was forged.
+
+-- whatever was forged
+pub record IsPlaced (s : Sides) (q : ℕ) (h : HostQueue) (c : ControllerQueue) : Type 0 where
+  pub share : ShareQueue s.host.entries q h c
+  pub ring : IsInRing s.host.entries h.ring
+
+pub record IsKnown (s : Sides) (q : ℕ) (h : HostQueue) (c : ControllerQueue) : Type 0 where
+  pub placed : IsPlaced s q h c
+  -- the submission half lies where both sides have it as long as the controller has the queue, and the completion half as long as its ring is in use; both are in
+  pub submission : is_absent c.state ≡ false → h.sq_pages ≡ pages_from c.device.sq (half_pages s.host.entries Submission)
+  pub completion : has_ring h c ≡ true → h.cq_pages ≡ pages_from c.device.cq (half_pages s.host.entries Completion)
+  pub submission_in : is_absent c.state ≡ false → IsIn (byte_at s.pages) c.device.sq (half_pages s.host.entries Submission)
+  pub completion_in : has_ring h c ≡ true → IsIn (byte_at s.pages) c.device.cq (half_pages s.host.entries Completion)
+  -- its rings stand, and the ring that is granted for one is as it was granted
+  pub rings : has_ring h c ≡ true → RingsStand (byte_at s.pages) q h c
+  pub granted : is_making_cq h.state ≡ true → c.cq_there ≡ false → PhasesStand (byte_at s.pages) (first_completion_page h) s.host.entries 0 true
+  pub granted_pages : is_making_cq h.state ≡ true → h.cq_pages ≡ pages_from (first_completion_page h) (half_pages s.host.entries Completion)
+  pub fits : QueueFits s.host.entries h (device_queue_of (byte_at s.pages) h.ring c)
+  pub served : in_service h.state ≡ true → c.cq_there ≡ true
+
+-- A completion ring is in use where the host reaps it, where the controller has it, and so where the controller has the submission queue.
+
+pub reaped_ring : (h : HostQueue) (c : ControllerQueue) → is_reaped h.state ≡ true → has_ring h c ≡ true
+reaped_ring h c e = ap (λ (b : Bool). b || c.cq_there) e
+
+pub there_ring : (h : HostQueue) (c : ControllerQueue) → c.cq_there ≡ true → has_ring h c ≡ true
+there_ring h c e = grind arith
+
+pub queue_ring : (s : Sides) (q : ℕ) (h : HostQueue) (c : ControllerQueue) → IsKnown s q h c → is_absent c.state ≡ false → has_ring h c ≡ true
+queue_ring s q h c known there = there_ring h c (known.fits.half there)
+
+-- As many queues on either side
+
+controller_of : (n i k : ℕ) (hs : List HostQueue) (cs : List ControllerQueue) (h : HostQueue) → ShareQueues n i hs cs → slice_get hs k ≡ Some h → (c : ControllerQueue) × (slice_get cs k ≡ Some c)
+controller_of n i k [] cs h share e = absurd cc
+controller_of n i k (x ∷ hs) [] h share e = absurd share
+controller_of n i zero (x ∷ hs) (c ∷ cs) h share e = (c, refl)
+controller_of n i (suc k) (x ∷ hs) (c ∷ cs) h share e = controller_of n (suc i) k hs cs h share.1 e
+
+pub controller_at : (s : Sides) → IsWorld s → (q : ℕ) (h : HostQueue) → slice_get s.host.host.queues q ≡ Some h → (c : ControllerQueue) × (slice_get s.controller.queues q ≡ Some c)
+controller_at s world q h e = controller_of s.host.entries 0 q s.host.host.queues s.controller.queues h world.sides.queues e
+
+host_of : (n i k : ℕ) (hs : List HostQueue) (cs : List ControllerQueue) (c : ControllerQueue) → ShareQueues n i hs cs → slice_get cs k ≡ Some c → (h : HostQueue) × (slice_get hs k ≡ Some h)
+host_of n i k [] [] c share e = absurd cc
+host_of n i k [] (x ∷ cs) c share e = absurd share
+host_of n i k (h ∷ hs) [] c share e = absurd share
+host_of n i zero (h ∷ hs) (x ∷ cs) c share e = (h, refl)
+host_of n i (suc k) (h ∷ hs) (x ∷ cs) c share e = host_of n (suc i) k hs cs c share.1 e
+
+pub host_at : (s : Sides) → IsWorld s → (q : ℕ) (c : ControllerQueue) → slice_get s.controller.queues q ≡ Some c → (h : HostQueue) × (slice_get s.host.host.queues q ≡ Some h)
+host_at s world q c e = host_of s.host.entries 0 q s.host.host.queues s.controller.queues c world.sides.queues e
+
+-- What holds of each of them
+
+device_of : (m : Memory) (q : ℕ) (hs : List HostQueue) (cs : List ControllerQueue) (h : HostQueue) (c : ControllerQueue) → slice_get hs q ≡ Some h → slice_get cs q ≡ Some c
+    → slice_get (device_queues_of m hs cs) q ≡ Some (device_queue_of m h.ring c)
+device_of m q [] cs h c e f = absurd cc
+device_of m q (x ∷ hs) [] h c e f = absurd cc
+device_of m zero (x ∷ hs) (y ∷ cs) h c e f =
+    let host : x ≡ h = cc in
+    let controller : y ≡ c = cc in
+    ap (λ (z : HostQueue). Some (device_queue_of m z.ring y)) host ∙ ap (λ (z : ControllerQueue). Some (device_queue_of m h.ring z)) controller
+device_of m (suc q) (x ∷ hs) (y ∷ cs) h c e f = device_of m q hs cs h c e f
+
+pub device_at : (s : Sides) (q : ℕ) (h : HostQueue) (c : ControllerQueue) → slice_get s.host.host.queues q ≡ Some h → slice_get s.controller.queues q ≡ Some c
+    → device_queue (state_of s) q ≡ Some (device_queue_of (byte_at s.pages) h.ring c)
+device_at s q h c e f = device_of (byte_at s.pages) q s.host.host.queues s.controller.queues h c e f
+
+-- one of all pairs, by what holds of each
+pub from_zero : (q : ℕ) → 0 + q ≡ q
+from_zero q = omega arith
+
+pub share_of : (n i q : ℕ) (hs : List HostQueue) (cs : List ControllerQueue) (h : HostQueue) (c : ControllerQueue) → ShareQueues n i hs cs → slice_get hs q ≡ Some h → slice_get cs q ≡ Some c → ShareQueue n (i + q) h c
+share_of n i q [] cs h c share e f = absurd cc
+share_of n i q (x ∷ hs) [] h c share e f = absurd cc
+share_of n i zero (x ∷ hs) (y ∷ cs) h c share e f =
+    let host : x ≡ h = cc in
+    let controller : y ≡ c = cc in
+    let here : i ≡ i + 0 = omega arith in
+    subst (λ (k : ℕ). ShareQueue n k h c) here (subst (λ (z : ControllerQueue). ShareQueue n i h z) controller (subst (λ (z : HostQueue). ShareQueue n i z y) host share.0))
+share_of n i (suc q) (x ∷ hs) (y ∷ cs) h c share e f =
+    let next : suc i + q ≡ i + suc q = omega arith in
+    subst (λ (k : ℕ). ShareQueue n k h c) next (share_of n (suc i) q hs cs h c share.1 e f)
+
+pub stands_of : (n : ℕ) (m : Memory) (i q : ℕ) (hs : List HostQueue) (cs : List ControllerQueue) (h : HostQueue) (c : ControllerQueue)
+    → AllQueuesStand n m i hs cs → slice_get hs q ≡ Some h → slice_get cs q ≡ Some c → QueueStands n m (i + q) h c
+stands_of n m i q [] cs h c all e f = absurd cc
+stands_of n m i q (x ∷ hs) [] h c all e f = absurd cc
+stands_of n m i zero (x ∷ hs) (y ∷ cs) h c all e f =
+    let host : x ≡ h = cc in
+    let controller : y ≡ c = cc in
+    let here : i ≡ i + 0 = omega arith in
+    subst (λ (k : ℕ). QueueStands n m k h c) here (subst (λ (z : ControllerQueue). QueueStands n m i h z) controller (subst (λ (z : HostQueue). QueueStands n m i z y) host all.0))
+stands_of n m i (suc q) (x ∷ hs) (y ∷ cs) h c all e f =
+    let next : suc i + q ≡ i + suc q = omega arith in
+    subst (λ (k : ℕ). QueueStands n m k h c) next (stands_of n m (suc i) q hs cs h c all.1 e f)
+
+pub fits_of : (n q : ℕ) (hs : List HostQueue) (ds : List DeviceQueue) (h : HostQueue) (d : DeviceQueue) → QueuesFit n hs ds → slice_get hs q ≡ Some h → slice_get ds q ≡ Some d → QueueFits n h d
+fits_of n q [] ds h d fits e f = absurd cc
+fits_of n q (x ∷ hs) [] h d fits e f = absurd cc
+fits_of n zero (x ∷ hs) (y ∷ ds) h d fits e f =
+    let host : x ≡ h = cc in
+    let device : y ≡ d = cc in
+    subst (λ (z : DeviceQueue). QueueFits n h z) device (subst (λ (z : HostQueue). QueueFits n z y) host fits.0)
+fits_of n (suc q) (x ∷ hs) (y ∷ ds) h d fits e f = fits_of n q hs ds h d fits.1 e f
+
+pub placed : (s : Sides) → IsWorld s → (q : ℕ) (h : HostQueue) (c : ControllerQueue)
+    → slice_get s.host.host.queues q ≡ Some h → slice_get s.controller.queues q ≡ Some c → IsPlaced s q h c
+placed s world q h c e f =
+    record {
+      share = subst (λ (k : ℕ). ShareQueue s.host.entries k h c) (from_zero q) (share_of s.host.entries 0 q s.host.host.queues s.controller.queues h c world.sides.queues e f);
+      ring = all_at _ s.host.host.queues q h e world.sides.sound.positions;
+    }
+
+-- a half is in, wherever its pages begin
+pub half_in : (s : Sides) → IsWorld s → (q : ℕ) (h : HostQueue) → slice_get s.host.host.queues q ≡ Some h → (pages : List ℕ) → ((p : ℕ) → 0 < times p pages → 0 < in_queue p h)
+    → (first many : ℕ) → pages ≡ pages_from first many → IsIn (byte_at s.pages) first many
+half_in s world q h e pages part first many same =
+    pages_in s.pages first many world.sides.over.pool.whole
+    (λ p l. queue_page_in s world.sides q h (first + p) e
+    (part (first + p) (held_once (first + p) pages (ap (λ (ps : List ℕ). is_among ps (first + p)) same ∙ among-from first many p l))))
+
+-- a half that has pages begins with the first of them
+pub first_of_half : (n first : ℕ) (h : HostQueue) → 0 < n → h.cq_pages ≡ pages_from first (half_pages n Completion) → first_completion_page h ≡ first
+first_of_half n first h some same = ap (λ (ps : List ℕ). slice_index ps 0) same ∙ index-from (half_pages n Completion) first 0 (omega (arith, some)) ∙ no_more first
+  where
+    no_more : (k : ℕ) → k + 0 ≡ k
+    no_more k = omega arith
+
+-- a completion half that lies together lies from the first of its pages
+lies_from_first : (n first : ℕ) (h : HostQueue) → 0 < n → has_cq h.state ≡ true → h.cq_pages ≡ pages_from first (if has_cq h.state then half_pages n Completion else 0)
+    → h.cq_pages ≡ pages_from (first_completion_page h) (half_pages n Completion)
+lies_from_first n first h some there lies =
+    let whole : h.cq_pages ≡ pages_from first (half_pages n Completion) = lies ∙ ap (λ (b : Bool). pages_from first (if b then half_pages n Completion else 0)) there in
+    whole ∙ ap (λ (k : ℕ). pages_from k (half_pages n Completion)) (sym (first_of_half n first h some whole))
+
+pub half_lies : (n : ℕ) (h : HostQueue) → 0 < n → HasHalves n h → has_cq h.state ≡ true → h.cq_pages ≡ pages_from (first_completion_page h) (half_pages n Completion)
+half_lies n h some halves there = lies_from_first n halves.completion.0 h some there halves.completion.1
+
+making_has_cq : (st : HostState) → is_making_cq st ≡ true → has_cq st ≡ true
+making_has_cq st e = grind arith
+
+pub tied_of : (s : Sides) → IsWorld s → s.trusted ≡ true → AreTied s
+tied_of s world t = OnTrue_at t world.tied
+
+pub known : (s : Sides) → IsWorld s → s.trusted ≡ true → (q : ℕ) (h : HostQueue) (c : ControllerQueue)
+    → slice_get s.host.host.queues q ≡ Some h → slice_get s.controller.queues q ≡ Some c → IsKnown s q h c
+known s world t q h c e f =
+    let m = byte_at s.pages in
+    let n = s.host.entries in
+    let tied = tied_of s world t in
+    let place = placed s world q h c e f in
+    let some : 0 < n = omega (arith, place.share.entries, place.share.side.least) in
+    let stands : QueueStands n m q h c = subst (λ (k : ℕ). QueueStands n m k h c) (from_zero q) (stands_of n m 0 q s.host.host.queues s.controller.queues h c tied.queues e f) in
+    record {
+      placed = place;
+      submission = stands.halves.submission;
+      completion = stands.halves.completion;
+      submission_in = λ there. half_in s world q h e h.sq_pages (λ p l. omega (arith, l)) c.device.sq (half_pages n Submission) (stands.halves.submission there);
+      completion_in = λ has. half_in s world q h e h.cq_pages (λ p l. omega (arith, l)) c.device.cq (half_pages n Completion) (stands.halves.completion has);
+      rings = stands.rings;
+      granted = stands.granted;
+      granted_pages = λ making. half_lies n h some (all_at (HasHalves n) s.host.host.queues q h e world.sides.provided.queues) (making_has_cq h.state making);
+      fits = fits_of n q s.host.host.queues (device_queues_of m s.host.host.queues s.controller.queues) h _ tied.agree.pairs e (device_at s q h c e f);
+      served = tied.serve.serves q h _ e (device_at s q h c e f);
+    }
+
+-- The walks stay where they stand in their lists, in a memory that keeps the lists.
+
+pub stood : (s : Sides) → IsWorld s → s.trusted ≡ true → Stood (state_of s)
+stood s world t = stood_of (state_of s) (tied_of s world t).agree
+
+-- What serves a course serves what is left of it.
+
+serves_after : (m other : Memory) (n : ℕ) (c : Course) → Serves m other c → Serves m other (after_units n c)
+serves_after m other zero c s = s
+serves_after m other (suc n) (Closes v) s = s
+serves_after m other (suc n) (Does Stays rest) s = serves_after m other n rest s
+serves_after m other (suc n) (Does (Reads place) rest) s = serves_after m other n rest s.1
+serves_after m other (suc n) (Does (Moves place count offset) rest) s = serves_after m other n rest s.1
+
+walk_again : (m other : Memory) (o : Option Walk) → Serves m other (course_of_walk m o) → course_of_walk other o ≡ course_of_walk m o
+walk_again m other None s = refl
+walk_again m other (Some w) s = walk_served m other w s
+
+-- the course of a job's whole list
+abbrev pub whole_course : Memory → JobContents → Course
+whole_course m job = course_of_list m job.entry.sgl1 (direction_of_entry job.entry) (need_of_entry job.entry)
+
+-- what a memory that serves the list leaves of a walk
+pub stands_again : (m other : Memory) (done : ℕ) (job : JobContents) → Serves m other (whole_course m job) → job_course m job ≡ after_units done (whole_course m job)
+    → job_course other job ≡ after_units done (whole_course other job)
+stands_again m other done job serves stands =
+    walk_again m other job.walk (subst (Serves m other) (sym stands) (serves_after m other done _ serves))
+    ∙ stands ∙ sym (ap (after_units done) (list_served m other job.entry.sgl1 (direction_of_entry job.entry) (need_of_entry job.entry) serves))
+
+-- a memory that keeps the lists serves the list of each job
+pub job_served : (s : State) (m : Pages) (k : ℕ) (j : Job) → Stood s → ListsStay s m → slice_get s.device.jobs k ≡ Some j → (j.q == 0) ≡ false → Serves (memory_of s.memory) (memory_of m) (course_of s j)
+job_served s m k j stood stay at other =
+    let l = job_list s stood j (in_at s.device.jobs k j at) other (λ P all. all_at P s.device.jobs k j at all) in
+    serves_in s.memory m l.command.chain_pages l.command.data_pages (stay.chains l.command l.within l.phase) (stay.own l.command l.within l.phase) (course_of s j) (course_in s j l) (course_ends s stood j l)
+
+pub still_stands : (s : Sides) (pages : Pages) → IsWorld s → s.trusted ≡ true → ListsStay (state_of s) pages → WalksStand (memory_of pages) s.controller.commands
+still_stands s pages world t stay =
+    all_indexed (λ (k : FetchedCommand). WalkStands (memory_of s.pages) k.units_done k.work) (λ (k : FetchedCommand). WalkStands (memory_of pages) k.units_done k.work) s.controller.commands
+    (λ i k at. one k.q k.waiting_abort k.work k.units_done (all_at (FitsCommand (block_count s.controller.image) (length s.controller.queues)) s.controller.commands i k at world.sides.controller.commands.each).1
+    (job_served (state_of s) pages i (job_of k) (stood s world t) stay (slice_get-map job_of s.controller.commands i ∙ ap (option_map job_of) at)))
+    (tied_of s world t).walks
+  where
+    one : (q : ℕ) (waiting : Option ℕ) (work : Work) (done : ℕ) → FitsWork (block_count s.controller.image) q done work
+        → (let j : Job = job_of (record { q = q; units_done = done; waiting_abort = waiting; work = work }) in (j.q == 0) ≡ false → Serves (memory_of s.pages) (memory_of pages) (course_of (state_of s) j))
+        → WalkStands (memory_of s.pages) done work → WalkStands (memory_of pages) done work
+    one q waiting (Io job) done fits serves stands = λ none. stands_again (memory_of s.pages) (memory_of pages) done job (serves fits.0) (stands none)
+    one q waiting (Admin entry status dw0) done fits serves stands = tt
+
+-- What a change of one queue, or of the memory outside the halves, leaves of the machine's queues and of the rings and halves.
 
 no_more : (n : ℕ) → n + 0 ≡ n
 no_more n = omega arith
@@ -104,11 +355,6 @@ one_stands n m m' q f g hs cs here there all =
     (λ h c e d. subst (λ (j : ℕ). QueueStands n m j h c → QueueStands n m' j (f h) (g c)) (sym (from_zero q)) (here h c e d))
     (λ i h c other e d. subst (λ (j : ℕ). QueueStands n m j h c → QueueStands n m' j h c) (sym (from_zero i)) (there i h c other e d)) all
 
--- what holds of each queue, from what holds of all
-pub each_stands : (n : ℕ) (m : Memory) (hs : List HostQueue) (cs : List ControllerQueue) → AllQueuesStand n m zero hs cs
-    → (q : ℕ) (h : HostQueue) (c : ControllerQueue) → slice_get hs q ≡ Some h → slice_get cs q ≡ Some c → QueueStands n m q h c
-each_stands n m hs cs all q h c e f = subst (λ (k : ℕ). QueueStands n m k h c) (from_zero q) (stands_of n m 0 q hs cs h c all e f)
-
 -- The host changes one of its queues over the same memory.
 
 pub unchanged : {A : Type 0} (k : ℕ) (xs : List A) → change k (λ x. x) xs ≡ xs
@@ -170,11 +416,6 @@ completion_agrees s pages q h c known spares has =
 
 turned : (m m' : Memory) (first many : ℕ) → Agree m' m first many → Agree m m' first many
 turned m m' first many agree = record { same = λ k l. sym (agree.same k l) }
-
--- no completion stands where both positions are the same
-pub none_stand : (m : Memory) (ring : HostRing) (device : DeviceSide) → ring.head ≡ device.ring.tail → completions_between m ring device ≡ []
-none_stand m ring device same =
-    subst (λ (to : ℕ). present (answers_between m device.cq device.entries ring.head to) ≡ []) same (ap present (answers_none m device.cq device.entries ring.head))
 
 -- the completions of each queue are the same
 completions_stay : (s : Sides) (pages : Pages) (q : ℕ) (h : HostQueue) (c : ControllerQueue) → IsKnown s q h c → SparesQueue s.pages pages h → has_ring h c ≡ true

@@ -1,26 +1,21 @@
--- A half that the host grants a queue: free pages, which come in as zeros.
-use Rattle.std.proofs.Common.{◌≡◌, ℕ, zero, suc, ◌+◌, ◌<◌, ◌==◌, ◌||◌, ◌&&◌, Bool, true, false, Some, List, [], ◌∷◌, length, length-set, slice_set, if◌then◌else◌, refl, ap, sym, ◌∙◌, subst, arith, eqb-true, inl, inr}
-use Rattle.std.specs.List.{AllByRecursion}
-use Rattle.std.proofs.lemmas.Bool.{eqb-false, true≢false, cases_Bool}
-use Rattle.host_core.proofs.Pages.{among-from, pool-with, set-other}
-use Rattle.machine_model.specs.Memory.{with_pages, zeroed_pages}
-use Rattle.machine_model.specs.Placement.{first_of_run}
-use Rattle.machine_model.specs.Step.{times}
-use Rattle.machine_model.proofs.Counting.{held_once}
-use Rattle.machine_agreement.proofs.Elsewhere.{with_elsewhere}
-use Rattle.machine_model.proofs.Runs.{run_times, zeroed_numbers}
+-- Queues that are granted and reset.
+use Rattle.machine_model.specs.After as a
+use Rattle.std.proofs.Common.{◌≡◌, ℕ, zero, suc, ◌+◌, ◌<◌, ◌==◌, ◌||◌, ◌&&◌, Bool, true, false, Some, List, [], ◌∷◌, length, length-set, slice_set, if◌then◌else◌, refl, ap, sym, ◌∙◌, subst, arith, eqb-true, inl, inr, nat_lt, lt-ltb, ◌++◌, map, slice_get}
+use Rattle.std.{proofs.lemmas.Bool.{eqb-false, true≢false, cases_Bool}, specs.List.AllByRecursion}
+use Rattle.host_core.proofs.PageOwners.{among-from, pool-with, set-other, among-append}
+use Rattle.machine_model.{proofs.Counting.{held_once, run_times, zeroed_numbers}, specs.{Memory.{with_pages, zeroed_pages}, Placement.first_of_run}}
+use Rattle.machine_model.specs.{State.{HostQueue, DeviceQueue}, Step.times}
+use Rattle.two_sides.proofs.{Frames.{Spares, SparesSubmitted, free_apart_from_commands, free_apart_from_queues, free_below}, Untouched.with_elsewhere}
+use Rattle.two_sides.specs.Sides.{Sides, device_queues_of}
+use Rattle.two_sides.specs.Ties.{IsWorld, AllQueuesStand, QueueStands, RingsStand, ShareAdmin, ShareQueue, ShareQueues, SharesAdmin}
 use Rattle.page_ledger.specs.Owners.{is_among, pages_from}
-use Rattle.page_memory.specs.Pages.{AreWhole, Pages, byte_at, page_at, zero_page}
-use Rattle.page_memory.proofs.Whole.{length-zero_page}
+use Rattle.page_memory.{proofs.Bytes.length-zero_page, specs.{Memory.Memory, Pages.{AreWhole, Pages, byte_at, page_at, zero_page}}}
 use Rattle.page_memory.specs.declared.page.Half.TheVariants.{Completion}
-use Rattle.queue_pair.specs.Lists.{PhasesStand}
-use Rattle.queue_pair.specs.Memory.{half_pages}
-use Rattle.queue_pair.proofs.Halves.{zeros_stand}
-use Rattle.queue_pair.proofs.Pools.{pages_zero}
-use Rattle.two_sides.specs.Sides.{Sides}
-use Rattle.two_sides.specs.Ties.{IsWorld}
-use Rattle.two_sides.proofs.Frames.{Spares, SparesSubmitted, free_apart_from_commands, free_apart_from_queues}
-use Rattle.two_sides.proofs.Owning.{free_below}
+use Rattle.queue_pair.{proofs.Halves.{zeros_stand, pages_zero}, specs.{Halves.IsZero, Lists.PhasesStand, Memory.half_pages}}
+use Rattle.queue_pair.specs.Rings.{IsDeviceSide, fresh_device_ring}
+use Rattle.controller_core.specs.{Resetting.{queue_reset, queues_reset}, declared.queue.ControllerQueue.ControllerQueue}
+
+-- A half that the host grants a queue: free pages, which come in as zeros.
 
 -- The pages come in as zeros
 
@@ -88,3 +83,98 @@ module _ (s : Sides) (world : IsWorld s) (count first : ℕ) (run : first_of_run
 -- A completion half of zeros has no slot that is new
 pub zeros_granted : (pages : Pages) (n first : ℕ) → ((k : ℕ) → k < half_pages n Completion → page_at pages (first + k) ≡ Some zero_page) → PhasesStand (byte_at pages) first n 0 true
 zeros_granted pages n first zeros = zeros_stand (byte_at pages) first n (pages_zero pages first (half_pages n Completion) zeros)
+
+-- Both sides' queues behind a reset: queue 0 with fresh rings over zero pages, and no other queue.
+
+-- What the machine has of them
+
+no_devices : (m m' : Memory) (q : ℕ) (hs : List HostQueue) (cs : List ControllerQueue)
+    → device_queues_of m' (map (λ other. a.no_queue) hs) (queues_reset (suc q) cs) ≡ map (λ other. a.no_device_queue) (device_queues_of m hs cs)
+no_devices m m' q [] cs = refl
+no_devices m m' q (h ∷ hs) [] = refl
+no_devices m m' q (h ∷ hs) (c ∷ cs) = ap (λ (ds : List DeviceQueue). a.no_device_queue ∷ ds) (no_devices m m' (suc q) hs cs)
+
+pub devices_reset : (m m' : Memory) (hs : List HostQueue) (cs : List ControllerQueue) → device_queues_of m' (a.reset_queues hs) (queues_reset 0 cs) ≡ a.reset_device_queues (device_queues_of m hs cs)
+devices_reset m m' [] cs = refl
+devices_reset m m' (h ∷ hs) [] = refl
+devices_reset m m' (h ∷ hs) (c ∷ cs) = ap (λ (ds : List DeviceQueue). a.reset_device_admin ∷ ds) (no_devices m m' 0 hs cs)
+
+-- What both sides share
+
+ring_reset : (n q i : ℕ) (h h' : HostQueue) (c : ControllerQueue) → ShareQueue n q h c → ShareQueue n q h' (queue_reset i c)
+ring_reset n q i h h' c share = go i
+  where
+    fresh : IsDeviceSide (record c.device { ring = fresh_device_ring })
+    fresh = record { least = share.side.least; most = share.side.most; head = omega (arith, share.side.least); bell = omega (arith, share.side.least); tail = omega (arith, share.side.least); known_head = omega (arith, share.side.least) }
+
+    go : (i : ℕ) → ShareQueue n q h' (queue_reset i c)
+    go zero = record { number = share.number; entries = share.entries; side = fresh }
+    go (suc i) = record { number = share.number; entries = share.entries; side = fresh }
+
+no_queues_shared : (n q : ℕ) (hs : List HostQueue) (cs : List ControllerQueue) → ShareQueues n q hs cs → ShareQueues n q (map (λ other. a.no_queue) hs) (queues_reset q cs)
+no_queues_shared n q [] [] share = tt
+no_queues_shared n q [] (c ∷ cs) share = absurd share
+no_queues_shared n q (h ∷ hs) [] share = absurd share
+no_queues_shared n q (h ∷ hs) (c ∷ cs) share = (ring_reset n q q h a.no_queue c share.0, no_queues_shared n (suc q) hs cs share.1)
+
+pub shared_reset : (n : ℕ) (hs : List HostQueue) (cs : List ControllerQueue) → ShareQueues n 0 hs cs → ShareQueues n 0 (a.reset_queues hs) (queues_reset 0 cs)
+shared_reset n [] [] share = tt
+shared_reset n [] (c ∷ cs) share = absurd share
+shared_reset n (h ∷ hs) [] share = absurd share
+shared_reset n (h ∷ hs) (c ∷ cs) share = (ring_reset n 0 0 h (a.reset_admin h) c share.0, no_queues_shared n 1 hs cs share.1)
+
+pub admin_reset : (n : ℕ) (hs : List HostQueue) (cs : List ControllerQueue) → SharesAdmin n hs cs → SharesAdmin n (a.reset_queues hs) (queues_reset 0 cs)
+admin_reset n [] cs share = tt
+admin_reset n (h ∷ hs) [] share = tt
+admin_reset n (h ∷ hs) (c ∷ cs) share = record { submission = share.submission; completion = share.completion }
+
+-- The rings of queue 0 stand over zero pages
+
+among_behind : (ps qs : List ℕ) (p : ℕ) → is_among qs p ≡ true → is_among (ps ++ qs) p ≡ true
+among_behind ps qs p e = among-append ps qs p ∙ grind arith
+
+fresh_rings : (n : ℕ) (m : Memory) (h : HostQueue) (c : ControllerQueue) → ShareQueue n 0 h c → IsZero m c.device.cq (half_pages n Completion) → RingsStand m 0 (a.reset_admin h) (queue_reset 0 c)
+fresh_rings n m h c share zeros =
+    let inside : (nat_lt 0 c.device.entries && true) ≡ true = rw (lt-ltb 0 c.device.entries (omega (arith, share.side.least))) refl in
+    record {
+      fetched = inside;
+      rung = inside;
+      heard = refl;
+      expected = refl;
+      phases = zeros_stand m c.device.cq c.device.entries (subst (λ (k : ℕ). IsZero m c.device.cq (half_pages k Completion)) (sym share.entries) zeros);
+      owned = tt;
+      follow = inside;
+      drained = λ e. refl;
+    }
+
+admin_stands : (n : ℕ) (m : Memory) (h : HostQueue) (c : ControllerQueue) → ShareQueue n 0 h c → ShareAdmin n h c → IsZero m c.device.cq (half_pages n Completion) → QueueStands n m 0 (a.reset_admin h) (queue_reset 0 c)
+admin_stands n m h c share admin zeros =
+    record { halves = record { submission = λ e. admin.submission; completion = λ e. admin.completion }; rings = λ e. fresh_rings n m h c share zeros; granted = λ making. absurd (true≢false (sym making)) }
+
+none_stand : (n : ℕ) (m : Memory) (q : ℕ) (hs : List HostQueue) (cs : List ControllerQueue) → AllQueuesStand n m (suc q) (map (λ other. a.no_queue) hs) (queues_reset (suc q) cs)
+none_stand n m q [] cs = tt
+none_stand n m q (h ∷ hs) [] = tt
+none_stand n m q (h ∷ hs) (c ∷ cs) = (
+  record {
+    halves = record { submission = λ e. absurd (true≢false e); completion = λ e. absurd (true≢false (sym e)) };
+    rings = λ e. absurd (true≢false (sym e));
+    granted = λ making. absurd (true≢false (sym making));
+  },
+  none_stand n m (suc q) hs cs,
+)
+
+pub stands_reset : (n : ℕ) (pages : Pages) (hs : List HostQueue) (cs : List ControllerQueue) → ShareQueues n 0 hs cs → SharesAdmin n hs cs
+    → ((h : HostQueue) (p : ℕ) → slice_get hs 0 ≡ Some h → is_among h.cq_pages p ≡ true → p < length pages)
+    → AllQueuesStand n (byte_at (with_pages (zeroed_pages (a.admin_pages hs)) pages)) 0 (a.reset_queues hs) (queues_reset 0 cs)
+stands_reset n pages [] cs share admin inside = tt
+stands_reset n pages (h ∷ hs) [] share admin inside = tt
+stands_reset n pages (h ∷ hs) (c ∷ cs) share admin inside =
+    let own : List ℕ = h.sq_pages ++ h.cq_pages in
+    let zeroed : Pages = with_pages (zeroed_pages own) pages in
+    let zeros : IsZero (byte_at zeroed) c.device.cq (half_pages n Completion) =
+    pages_zero zeroed c.device.cq (half_pages n Completion)
+    (λ p l. let mine : is_among h.cq_pages (c.device.cq + p) ≡ true =
+    ap (λ (ps : List ℕ). is_among ps (c.device.cq + p)) admin.completion ∙ among-from c.device.cq (half_pages n Completion) p l in
+    zeroed_there own pages (c.device.cq + p) (inside h (c.device.cq + p) refl mine)
+    (λ none. absurd (true≢false (sym (among_behind h.sq_pages h.cq_pages (c.device.cq + p) mine) ∙ none)))) in
+    (admin_stands n (byte_at zeroed) h c share.0 admin zeros, none_stand n (byte_at zeroed) 0 hs cs)

@@ -1,35 +1,20 @@
 -- The calls that look at a completion ring: what they leave of the host does not hang on the controller, and a queue's new state leaves its ring.
 use Rattle.std.proofs.Common.{◌≡◌, ℕ, zero, suc, Bool, true, false, ◌&&◌, Option, Some, None, List, [], ◌∷◌, map, slice_get, if◌then◌else◌, refl, ap, ap₂, sym, ◌∙◌, subst, arith}
 use Rattle.std.specs.Option.{option_map, option_map_or}
-use Rattle.admin_commands.specs.declared.AdminKind.{AdminKind}
-use Rattle.admin_commands.specs.declared.AdminKind.TheVariants.{Abort, DeleteSq, DeleteCq, CreateCq, CreateSq}
+use Rattle.admin_commands.specs.declared.AdminKind.{AdminKind, TheVariants.{Abort, DeleteSq, DeleteCq, CreateCq, CreateSq}}
 use Rattle.controller_core.specs.declared.queue.ControllerQueue.{ControllerQueue}
-use Rattle.entry_codec.specs.declared.completion.ComEntry.{ComEntry}
-use Rattle.entry_codec.specs.declared.status.Status.{Status}
+use Rattle.entry_codec.specs.declared.{completion.ComEntry.ComEntry, status.Status.Status}
 use Rattle.host_core.specs.Alone.{HostView, alone, nothing}
 use Rattle.io_commands.specs.Jobs.{is_success}
+use Rattle.machine_model.specs.{After.{after, after_admin, after_reap, after_retire, after_work}, Events.{Event, Reply}, Memory.memory_of}
+use Rattle.machine_model.specs.{Refusals.{has_cq_alone, host_queue, seen_entry}, State.{State, Device, HostQueue, Record, record_at, without_record}}
+use Rattle.machine_model.specs.{Step.{HostPart, LeavesByHost, Permits}, Work.Work, declared.words.{Reaped.Reaped, Work.TheVariants.{Io, Management}}}
+use Rattle.page_memory.specs.{Memory.Memory, Pages.{Pages, byte_at}}
+use Rattle.queue_pair.specs.{Members.change, Memory.phased, Rings.knowing}
+use Rattle.two_sides.{proofs.{Assembling.Ties, Places.told}, specs.{Hearing.heard, Laws.behind}}
+use Rattle.two_sides.specs.{Sides.{Sides, state_of, device_of, device_queue_of, device_queues_of}, Ties.{AllQueuesStand, WalksStand}}
 use Rattle.machine_model.specs.After as a
-use Rattle.machine_model.specs.After.{after, after_admin, after_reap, after_retire, after_work}
-use Rattle.machine_model.specs.Events.{Event, Reply}
-use Rattle.machine_model.specs.Memory.{memory_of}
-use Rattle.machine_model.specs.Refusals.{has_cq_alone, host_queue, seen_entry}
-use Rattle.machine_model.specs.State.{State, Device, HostQueue, Record, record_at, without_record}
-use Rattle.machine_model.specs.Step.{HostPart, LeavesByHost, Permits}
-use Rattle.machine_model.specs.Work.{Work}
-use Rattle.machine_model.specs.declared.words.Reaped.{Reaped}
 use Rattle.machine_model.specs.declared.words.Reaped.TheVariants as found
-use Rattle.machine_model.specs.declared.words.Work.TheVariants.{Io, Management}
-use Rattle.page_memory.specs.Memory.{Memory}
-use Rattle.page_memory.specs.Pages.{Pages, byte_at}
-use Rattle.queue_pair.specs.Members.{change}
-use Rattle.queue_pair.specs.Memory.{phased}
-use Rattle.queue_pair.specs.Rings.{knowing}
-use Rattle.two_sides.specs.Hearing.{heard}
-use Rattle.two_sides.specs.Laws.{behind}
-use Rattle.two_sides.specs.Sides.{Sides, state_of, device_of, device_queue_of, device_queues_of}
-use Rattle.two_sides.specs.Ties.{AllQueuesStand, WalksStand}
-use Rattle.two_sides.proofs.Assembling.{Ties}
-use Rattle.two_sides.proofs.Seen.{told}
 
 -- The host's part of a state, as a host has it
 

@@ -1,23 +1,36 @@
--- Where the controller stands in its rings: the machine tells it from its lists, where nothing was forged.
-use Rattle.std.proofs.Common.{◌≡◌, ℕ, zero, suc, ◌*◌, ◌-◌, ◌/◌, ◌<◌, ◌==◌, Bool, true, false, Option, Some, None, IsSome, List, [], ◌∷◌, ◌++◌, length, map, slice_get, if◌then◌else◌, refl, ap, sym, ◌∙◌, arith}
-use Rattle.std.specs.Prelude.{slice_index}
-use Rattle.std.specs.Option.{option_map}
-use Rattle.admin_commands.specs.Verdicts.{is_absent}
-use Rattle.controller_core.specs.declared.queue.ControllerQueue.{ControllerQueue}
-use Rattle.host_core.proofs.Slots.{index-from}
-use Rattle.machine_model.specs.Refusals.{answers_full, device_queue, fetch_page, fetch_slot, host_queue, post_page, post_slot, slot_page}
-use Rattle.machine_model.specs.State.{State, HostQueue, DeviceQueue}
+-- What stands at a place, and who sees it.
+use Rattle.machine_model.specs.After as a
+use Rattle.std.proofs.Common.{◌≡◌, ℕ, zero, suc, ◌*◌, ◌-◌, ◌/◌, ◌<◌, ◌==◌, Bool, true, false, Option, Some, None, IsSome, List, [], ◌∷◌, ◌++◌, length, map, slice_get, if◌then◌else◌, refl, ap, sym, ◌∙◌, arith, ◌≢◌, inl, inr, is_some, subst, ◌||◌, cond, filter, find, slice_set, ap₂, eqb-true, lt-ltb, ◌%◌, ◌≤◌, ◌&&◌, not, eq-eqb}
+use Rattle.std.{proofs.lemmas.Bool.{cases_eq, cases_Bool, and_parts, true≢false, Decides.nat_tests}, specs.List.{AllByRecursion, list_any, count_by}}
+use Rattle.std.specs.{Option.{option_map, option_and_then, option_map_or}, Prelude.slice_index}
+use Rattle.admin_commands.specs.{Verdicts.is_absent, declared.AdminKind.{AdminKind, TheVariants.{DeleteCq, CreateCq, CreateSq}}}
+use Rattle.controller_core.{proofs.Lists.{count-cons, here_counted, one}, specs.Contents.{FetchedCommand, FitsCommand, Work, entry_of_work, is_command}}
+use Rattle.controller_core.specs.declared.{command.Work.TheVariants.Io, queue.ControllerQueue.ControllerQueue}
+use Rattle.host_core.{proofs.{Lists.change-same, QueueLists.index-from}, specs.Alone.alone}
+use Rattle.machine_model.proofs.{Cases.option_is, Counting.one as one_counting, Kept.service_is_reaped as served_reaped}
+use Rattle.machine_model.proofs.{Moves.{seen_trusted, IsHeard, answer_heard}, Tokens.{find_sound, is_job, kind_known}}
+use Rattle.machine_model.specs.Agreeing.{SidesAgree, answered_well, answering, creates_sq, has_completions_at, is_absent_at, is_kind, is_known_deleted, unmade, waiting}
+use Rattle.machine_model.specs.Positions.{IsInRing}
+use Rattle.machine_model.specs.Refusals.{answers_full, device_queue, fetch_page, fetch_slot, host_queue, post_page, post_slot, slot_page, entry_of, first_answer, in_service, is_reaped, seen_entry, slot_bytes, slot_entry, job_at, is_gone, is_live, is_making_cq}
+use Rattle.machine_model.specs.{State.{State, HostQueue, DeviceQueue, Job, Answer, Record}, declared.words.HostState.HostState}
+use Rattle.machine_model.specs.declared.words.{HostState.TheVariants.{Live, Retired, HalfMade}, Work.TheVariants.Management}
 use Rattle.page_ledger.specs.Owners.{pages_from}
-use Rattle.page_memory.specs.Pages.{byte_at}
-use Rattle.page_memory.specs.declared.page.Half.TheVariants.{Submission, Completion}
-use Rattle.queue_pair.specs.Memory.{half_pages, entry_at, completion_at, submission_page, completion_page}
-use Rattle.queue_pair.specs.Slots.{distance, is_full, moved, slots_from, next_slot}
-use Rattle.queue_pair.proofs.Halves.{submission_there, completion_there}
-use Rattle.queue_pair.proofs.Order.{next_below}
-use Rattle.queue_pair.proofs.Round.{tail_moved, head_moved}
-use Rattle.two_sides.specs.Sides.{Sides, state_of, answer_of, completions_between, device_queue_of, present, unfetched_between}
-use Rattle.two_sides.specs.Ties.{has_ring}
-use Rattle.two_sides.proofs.Known.{IsKnown, device_at, there_ring}
+use Rattle.page_memory.specs.{Memory.Memory, Pages.byte_at, declared.page.Half.TheVariants.{Submission, Completion}}
+use Rattle.queue_pair.proofs.{Halves.{submission_there, completion_there}, Rings.{next_below, tail_moved, head_moved, answers_none, answers_pop, new_is_front}}
+use Rattle.queue_pair.specs.{Lists.{answers_between, expected_phase, front}, Members.change}
+use Rattle.queue_pair.specs.Memory.{half_pages, entry_at, completion_at, submission_page, completion_page, completion_slot, new_completion_at, phased, with_phase}
+use Rattle.queue_pair.specs.Slots.{distance, is_full, moved, slots_from, next_slot, is_in_range}
+use Rattle.two_sides.proofs.{Agreed.{agreed_there, stood_of}, DeviceMoves.all_at}
+use Rattle.two_sides.proofs.Frames.{IsKnown, device_at, there_ring, IsPlaced, controller_at, known, reaped_ring, host_at, share_of, stands_of, tied_of, one_queue, one_stands, state_stands}
+use Rattle.two_sides.proofs.{PoolBytes.answers_stand, Provided.all_at_found, Standing.{admin_zero, answering_rest}, Tied.{deleted_is_gone, freed_is_gone}}
+use Rattle.two_sides.specs.Laws.{tails_are_heard, heads_are_heard}
+use Rattle.two_sides.specs.Sides.{Sides, state_of, answer_of, completions_between, device_queue_of, present, unfetched_between, job_of, device_queues_of}
+use Rattle.two_sides.specs.{Stepping.completions_are_seen, Ties.{has_ring, IsWorld, RingsStand, AllQueuesStand, QueueStands}}
+use Rattle.entry_codec.specs.{Completion.completion_of, declared.{completion.ComEntry.ComEntry, status.Status.Status}}
+use Rattle.block_image.specs.Blocks.{block_count}
+use Rattle.io_commands.specs.Jobs.{JobContents, is_success}
+
+-- Where the controller stands in its rings: the machine tells it from its lists, where nothing was forged.
 
 -- Lists of slots that are there
 
@@ -148,3 +161,389 @@ fetch_page_is u s q h c shown known there =
 pub post_page_is : (u : State) (s : Sides) (q : ℕ) (h : HostQueue) (c : ControllerQueue) → Shows u s q h c → IsKnown s q h c → c.cq_there ≡ true → post_page u q ≡ completion_page c.device.cq c.device.ring.tail
 post_page_is u s q h c shown known there =
     post_page-by u q h c.device.ring.tail shown.host (post_slot_is u s q h c shown known there) ∙ own_page s q h c known (there_ring h c there)
+
+-- What the host sees at the head of a completion ring is the machine's first answer.
+
+-- A completion as it says of its command: its phase left aside.
+abbrev pub told : Option ComEntry → Option ComEntry
+told o = option_map (phased true) o
+
+-- What the slot at the head holds
+
+then_map : {X Y Z : Type 0} (f : Y → Option Z) (g : X → Y) (o : Option X) → option_and_then (λ x. f (g x)) o ≡ option_and_then f (option_map g o)
+then_map f g o = grind arith
+
+slot_below : (n slot : ℕ) → slot < n → slot < 256 * half_pages n Completion
+slot_below n slot l = omega arith
+
+seen_alone : (s : Sides) → IsWorld s → (q : ℕ) (h : HostQueue) (c : ControllerQueue) → slice_get s.host.host.queues q ≡ Some h → IsKnown s q h c → has_ring h c ≡ true
+    → seen_entry (alone s.host s.pages) q ≡ new_completion_at (byte_at s.pages) c.device.cq h.ring.head h.ring.phase
+seen_alone s world q h c e k has =
+    ap (option_and_then (slot_entry s.pages)) e
+    ∙ ap (λ (pages : List ℕ). at_head (slot_bytes s.pages pages 16 h.ring.head)) (k.completion has)
+    ∙ ap at_head (answers_stand s.pages c.device.cq (half_pages s.host.entries Completion) h.ring.head world.sides.over.pool.whole (slot_below s.host.entries h.ring.head k.placed.ring.head))
+    ∙ then_map (with_phase h.ring.phase) completion_of (completion_slot (byte_at s.pages) c.device.cq h.ring.head)
+  where
+    at_head : Option (List ℕ) → Option ComEntry
+    at_head o = option_and_then (λ bytes. with_phase h.ring.phase (completion_of bytes)) o
+
+-- Where nothing was forged, the answers in the ring
+
+no_answer : (m : Memory) (h : HostQueue) (c : ControllerQueue) → h.ring.head ≡ c.device.ring.tail → completions_between m h.ring c.device ≡ []
+no_answer m h c same =
+    ap (λ (head : ℕ). present (answers_between m c.device.cq c.device.entries head c.device.ring.tail)) same
+    ∙ ap present (answers_none m c.device.cq c.device.entries c.device.ring.tail)
+
+-- the answer at the head, and those behind it
+pub record HasAnswer (m : Memory) (h : HostQueue) (c : ControllerQueue) : Type 0 where
+  pub entry : ComEntry
+  pub front : front (answers_between m c.device.cq c.device.entries h.ring.head c.device.ring.tail) ≡ Some entry
+  pub list : completions_between m h.ring c.device ≡ entry ∷ present (answers_between m c.device.cq c.device.entries (next_slot c.device.entries h.ring.head) c.device.ring.tail)
+
+pub head_below : (s : Sides) (q : ℕ) (h : HostQueue) (c : ControllerQueue) → IsPlaced s q h c → h.ring.head < c.device.entries
+head_below s q h c p = subst (λ (n : ℕ). h.ring.head < n) (sym p.share.entries) p.ring.head
+
+pub has_answer : (s : Sides) (q : ℕ) (h : HostQueue) (c : ControllerQueue) → IsKnown s q h c → has_ring h c ≡ true → h.ring.head ≢ c.device.ring.tail → HasAnswer (byte_at s.pages) h c
+has_answer s q h c k has apart =
+    let m : Memory = byte_at s.pages in
+    let below : h.ring.head < c.device.entries = head_below s q h c k.placed in
+    let behind : List (Option ComEntry) = answers_between m c.device.cq c.device.entries (next_slot c.device.entries h.ring.head) c.device.ring.tail in
+    let popped : answers_between m c.device.cq c.device.entries h.ring.head c.device.ring.tail ≡ completion_at m c.device.cq h.ring.head ∷ behind =
+    answers_pop m c.device.cq c.device.entries h.ring.head c.device.ring.tail below k.placed.share.side.tail apart in
+    elim (option_is (completion_at m c.device.cq h.ring.head)) [
+      | inl is ↦ let phase = rw is at ((k.rings has).phases.stands h.ring.head below) in absurd cc
+      | inr (entry, is) ↦
+          let all = popped ∙ ap (λ (o : Option ComEntry). o ∷ behind) is in
+          record { entry = entry; front = ap front all; list = ap present all }
+    ]
+
+-- a queue whose completion ring is in use and has an answer has its completion queue at the controller
+pub answer_there : (s : Sides) (q : ℕ) (h : HostQueue) (c : ControllerQueue) → IsKnown s q h c → has_ring h c ≡ true → h.ring.head ≢ c.device.ring.tail → c.cq_there ≡ true
+answer_there s q h c k has apart = elim (cases_Bool (in_service h.state)) [ inl e ↦ k.served e | inr e ↦ absurd (apart ((k.rings has).drained e)) ]
+
+-- the machine sees the first of its answers
+seen_of : (s : Sides) (q : ℕ) (h : HostQueue) (c : ControllerQueue) (b : Bool) → s.trusted ≡ true → slice_get s.host.host.queues q ≡ Some h → slice_get s.controller.queues q ≡ Some c → c.cq_there ≡ b
+    → seen_entry (state_of s) q ≡ option_map (entry_of q) (first_answer (if b then map answer_of (completions_between (byte_at s.pages) h.ring c.device) else []))
+seen_of s q h c b t e f there =
+    seen_trusted (state_of s) q t
+    ∙ ap (λ (o : Option DeviceQueue). option_map (entry_of q) (option_and_then (λ queue. first_answer queue.answers) o)) (device_at s q h c e f)
+    ∙ ap (λ (b : Bool). option_map (entry_of q) (first_answer (if b then map answer_of (completions_between (byte_at s.pages) h.ring c.device) else []))) there
+
+pub seen_none : (s : Sides) (q : ℕ) (h : HostQueue) (c : ControllerQueue) → s.trusted ≡ true → slice_get s.host.host.queues q ≡ Some h → slice_get s.controller.queues q ≡ Some c
+    → h.ring.head ≡ c.device.ring.tail → seen_entry (state_of s) q ≡ None
+seen_none s q h c t e f same = elim (cases_Bool c.cq_there) [
+  | inl there ↦ seen_of s q h c true t e f there ∙ ap (λ (xs : List ComEntry). option_map (entry_of q) (first_answer (map answer_of xs))) (no_answer (byte_at s.pages) h c same)
+  | inr there ↦ seen_of s q h c false t e f there
+]
+
+pub seen_first : (s : Sides) (q : ℕ) (h : HostQueue) (c : ControllerQueue) → s.trusted ≡ true → slice_get s.host.host.queues q ≡ Some h → slice_get s.controller.queues q ≡ Some c
+    → c.cq_there ≡ true → (a : HasAnswer (byte_at s.pages) h c) → seen_entry (state_of s) q ≡ Some (entry_of q (answer_of a.entry))
+seen_first s q h c t e f there a =
+    seen_of s q h c true t e f there ∙ ap (λ (xs : List ComEntry). option_map (entry_of q) (first_answer (map answer_of xs))) a.list
+
+owned_first : (q : ℕ) (e : ComEntry) → e.sqid ≡ q → told (Some e) ≡ told (Some (entry_of q (answer_of e)))
+owned_first q e own = ap (λ (i : ℕ). Some (record { dw0 = e.dw0; sqhd = e.sqhd; sqid = i; cid = e.cid; phase = true; status = e.status })) own
+
+-- Both see the same
+
+trusted_alike : (s : Sides) → IsWorld s → s.trusted ≡ true → (q : ℕ) (h : HostQueue) (c : ControllerQueue) → slice_get s.host.host.queues q ≡ Some h → slice_get s.controller.queues q ≡ Some c → is_reaped h.state ≡ true
+    → told (seen_entry (alone s.host s.pages) q) ≡ told (seen_entry (state_of s) q)
+trusted_alike s world t q h c e f reaped =
+    ap told (seen_alone s world q h c e k has ∙ ap (new_completion_at m c.device.cq h.ring.head) rings.expected ∙ newest)
+    ∙ elim (cases_eq h.ring.head c.device.ring.tail) [
+      | inl same ↦ ap (λ (head : ℕ). told (front (answers_between m c.device.cq c.device.entries head c.device.ring.tail))) same
+          ∙ ap (λ (xs : List (Option ComEntry)). told (front xs)) (answers_none m c.device.cq c.device.entries c.device.ring.tail)
+          ∙ sym (ap told (seen_none s q h c t e f same))
+      | inr apart ↦ there (answer_there s q h c k has apart) (has_answer s q h c k has apart)
+    ]
+  where
+    m : Memory
+    m = byte_at s.pages
+
+    k : IsKnown s q h c
+    k = known s world t q h c e f
+
+    has : has_ring h c ≡ true
+    has = reaped_ring h c reaped
+
+    rings : RingsStand m q h c
+    rings = k.rings has
+
+    newest : new_completion_at m c.device.cq h.ring.head (expected_phase h.ring.head c.device.ring.tail c.device.ring.phase) ≡ front (answers_between m c.device.cq c.device.entries h.ring.head c.device.ring.tail)
+    newest = new_is_front m c.device.cq c.device.entries h.ring.head c.device.ring.tail c.device.ring.phase (head_below s q h c k.placed) k.placed.share.side.tail rings.phases
+
+    there : c.cq_there ≡ true → HasAnswer m h c → told (front (answers_between m c.device.cq c.device.entries h.ring.head c.device.ring.tail)) ≡ told (seen_entry (state_of s) q)
+    there cq a =
+        let own = subst (λ (xs : List ComEntry). AllByRecursion (λ e. e.sqid ≡ q) xs) a.list rings.owned in
+        ap told a.front ∙ owned_first q a.entry own.0 ∙ sym (ap told (seen_first s q h c t e f cq a))
+
+pub seen_alike : (s : Sides) → IsWorld s → (q : ℕ) (h : HostQueue) → slice_get s.host.host.queues q ≡ Some h → is_reaped h.state ≡ true
+    → told (seen_entry (alone s.host s.pages) q) ≡ told (seen_entry (state_of s) q)
+seen_alike s world q h e reaped = elim (cases_Bool s.trusted) [
+  | inl t ↦ let c = controller_at s world q h e in trusted_alike s world t q h c.0 e c.1 reaped
+  | inr t ↦ rw t refl
+]
+
+some_told : (o : Option ComEntry) → is_some (told o) ≡ is_some o
+some_told o = grind arith
+
+pub completions_seen : completions_are_seen
+completions_seen s q h world e live =
+    sym (some_told (seen_entry (alone s.host s.pages) q)) ∙ ap is_some (seen_alike s world q h e live) ∙ some_told (seen_entry (state_of s) q)
+
+-- The controller's commands as the machine's jobs.
+
+-- Lists that are seen member by member
+
+pub find-map : {A B : Type 0} (f : A → B) (p : B → Bool) (xs : List A) → find p (map f xs) ≡ option_map f (find (λ x. p (f x)) xs)
+find-map f p [] = refl
+find-map f p (x ∷ xs) = grind (arith, find-map f p xs)
+
+pub filter-map : {A B : Type 0} (f : A → B) (p : B → Bool) (xs : List A) → filter p (map f xs) ≡ map f (filter (λ x. p (f x)) xs)
+filter-map f p [] = refl
+filter-map f p (x ∷ xs) = grind (arith, filter-map f p xs)
+
+pub any-map : {A B : Type 0} (f : A → B) (p : B → Bool) (xs : List A) → list_any p (map f xs) ≡ list_any (λ x. p (f x)) xs
+any-map f p [] = refl
+any-map f p (x ∷ xs) = ap (λ b. p (f x) || b) (any-map f p xs)
+
+-- where what is found stands
+pub find_place : {A : Type 0} (test : A → Bool) (xs : List A) (x : A) → find test xs ≡ Some x → (i : ℕ) × (slice_get xs i ≡ Some x)
+find_place test [] x e = cc
+find_place {A = A} test (y ∷ xs) x e = go (test y) e (find_place test xs x)
+  where
+    go : (b : Bool) → cond b (Some y) (find test xs) ≡ Some x → (find test xs ≡ Some x → (i : ℕ) × (slice_get xs i ≡ Some x)) → (i : ℕ) × (slice_get (y ∷ xs) i ≡ Some x)
+    go true e later = (zero, e)
+    go false e later = let (i, at) = later e in (suc i, at)
+
+none_named : {A B : Type 0} (named : A → Bool) (h : B → B) (g : A → B) (xs : List A) → count_by named xs ≡ 0 → ((a : A) → named a ≡ false → h (g a) ≡ g a) → map h (map g xs) ≡ map g xs
+none_named named h g [] none others = refl
+none_named {A = A} {B = B} named h g (x ∷ xs) none others = go (named x) refl (λ rest. none_named named h g xs rest others)
+  where
+    go : (b : Bool) → named x ≡ b → (count_by named xs ≡ 0 → map h (map g xs) ≡ map g xs) → map h (map g (x ∷ xs)) ≡ map g (x ∷ xs)
+    go true e later = absurd (omega (arith, none, count-cons named x xs, ap one e))
+    go false e later = ap₂ (λ (y : B) (ys : List B). y ∷ ys) (others x e) (later (omega (arith, none, count-cons named x xs)))
+
+-- a change of all that are named so is a change of the only one
+pub map_one : {A B : Type 0} (named : A → Bool) (h : B → B) (g : A → B) (xs : List A) (i : ℕ) (x y : A) → slice_get xs i ≡ Some x → named x ≡ true → count_by named xs < 2
+    → h (g x) ≡ g y → ((a : A) → named a ≡ false → h (g a) ≡ g a) → map h (map g xs) ≡ map g (slice_set xs i y)
+map_one named h g [] i x y at is few e others = refl
+map_one {A = A} {B = B} named h g (z ∷ xs) zero x y at is few e others =
+    let same : z ≡ x = cc in
+    let t : named z ≡ true = subst (λ (a : A). named a ≡ true) (sym same) is in
+    ap₂ (λ (y : B) (ys : List B). y ∷ ys) (ap (λ (a : A). h (g a)) same ∙ e) (none_named named h g xs (omega (arith, few, count-cons named z xs, ap one t)) others)
+map_one {A = A} {B = B} named h g (z ∷ xs) (suc i) x y at is few e others = go (named z) refl (λ rest. map_one named h g xs i x y at is rest e others)
+  where
+    go : (b : Bool) → named z ≡ b → (count_by named xs < 2 → map h (map g xs) ≡ map g (slice_set xs i y)) → map h (map g (z ∷ xs)) ≡ map g (slice_set (z ∷ xs) (suc i) y)
+    go true t later = absurd (omega (arith, few, count-cons named z xs, ap one t, here_counted named xs i x at is))
+    go false t later = ap₂ (λ (y : B) (ys : List B). y ∷ ys) (others z t) (later (omega (arith, few, count-cons named z xs)))
+
+-- The jobs of the machine
+
+pub job-at : (s : Sides) (q cid : ℕ) → job_at (state_of s) q cid ≡ option_map job_of (find (is_command q cid) s.controller.commands)
+job-at s q cid = find-map job_of (is_job q cid) s.controller.commands
+
+pub job-found : (s : Sides) (q cid : ℕ) (k : FetchedCommand) → find (is_command q cid) s.controller.commands ≡ Some k → job_at (state_of s) q cid ≡ Some (job_of k)
+job-found s q cid k e = job-at s q cid ∙ ap (option_map job_of) e
+
+-- a command as the machine's job, where its work is known
+abbrev pub with_work : FetchedCommand → Work → FetchedCommand
+with_work k work = record k { work = work }
+
+abbrev pub seen : FetchedCommand → JobContents → Job
+seen k job = job_of (with_work k (Io job))
+
+pub seen_is : (k : FetchedCommand) (job : JobContents) → k.work ≡ Io job → job_of k ≡ seen k job
+seen_is k job e = ap (λ (work : Work). job_of (with_work k work)) e
+
+-- what is known of a command that is found: it fits, and its queue is there
+pub record IsFound (s : Sides) (q cid : ℕ) (k : FetchedCommand) : Type 0 where
+  pub named : is_command q cid k ≡ true
+  pub its_queue : k.q ≡ q
+  pub fits : FitsCommand (block_count s.controller.image) (length s.controller.queues) k
+  pub queue : ControllerQueue
+  pub queue_here : slice_get s.controller.queues q ≡ Some queue
+  pub host : HostQueue
+  pub host_here : slice_get s.host.host.queues q ≡ Some host
+
+there : {A : Type 0} (xs : List A) (i : ℕ) → i < length xs → (x : A) × (slice_get xs i ≡ Some x)
+there [] i l = absurd (omega (arith, l))
+there (x ∷ xs) zero l = (x, refl)
+there (x ∷ xs) (suc i) l = there xs i (omega (arith, l))
+
+pub is_found : (s : Sides) → IsWorld s → (q cid : ℕ) (k : FetchedCommand) → find (is_command q cid) s.controller.commands ≡ Some k → IsFound s q cid k
+is_found s world q cid k e =
+    let named = find_sound (is_command q cid) s.controller.commands k e in
+    let same : k.q ≡ q = eqb-true k.q q (and_parts (k.q == q) ((entry_of_work k.work).cid == cid) named).0 in
+    let fits = all_at_found (FitsCommand (block_count s.controller.image) (length s.controller.queues)) (is_command q cid) s.controller.commands k e world.sides.controller.commands.each in
+    let (c, here) = there s.controller.queues q (subst (λ (n : ℕ). n < length s.controller.queues) same fits.0) in
+    let (h, at) = host_at s world q c here in
+    record { named = named; its_queue = same; fits = fits; queue = c; queue_here = here; host = h; host_here = at }
+
+-- The doorbells that the host rings are heard.
+
+pub tails_heard : tails_are_heard
+tails_heard s q h c sides e f =
+    let share = share_of s.host.entries 0 q s.host.host.queues s.controller.queues h c sides.queues e f in
+    let inside = all_at (λ (queue : HostQueue). IsInRing s.host.entries queue.ring) s.host.host.queues q h e sides.sound.positions in
+    let below : h.ring.tail < c.device.entries = subst (λ (n : ℕ). h.ring.tail < n) (sym share.entries) inside.tail in
+    rw (lt-ltb h.ring.tail c.device.entries below) refl
+
+next_in_range : (n head tail : ℕ) → head < n → tail < n → head ≢ tail → is_in_range n head tail (next_slot n head) ≡ true
+next_in_range n head tail h t apart = grind (arith, nat_tests)
+
+pub heads_heard : heads_are_heard
+heads_heard s q h c sides tied e f has apart =
+    let share = share_of s.host.entries 0 q s.host.host.queues s.controller.queues h c sides.queues e f in
+    let stands = stands_of s.host.entries (byte_at s.pages) 0 q s.host.host.queues s.controller.queues h c tied.queues e f in
+    let rings = stands.rings has in
+    let inside = all_at (λ (queue : HostQueue). IsInRing s.host.entries queue.ring) s.host.host.queues q h e sides.sound.positions in
+    let tail : c.device.ring.tail < s.host.entries = subst (λ (n : ℕ). c.device.ring.tail < n) share.entries share.side.tail in
+    let fits = next_in_range s.host.entries h.ring.head c.device.ring.tail inside.head tail apart in
+    let here : is_in_range c.device.entries c.device.ring.known_head c.device.ring.tail (next_slot s.host.entries h.ring.head) ≡ true = rw (share.entries, rings.heard) fits in
+    rw here refl
+
+-- What the host's state of a queue, and an answer that it hears, tell of the controller's queue, where nothing was forged.
+
+-- of the machine's queue at a number
+pub absent_is : (s : Sides) (q : ℕ) (h : HostQueue) (c : ControllerQueue) (b : Bool) → slice_get s.host.host.queues q ≡ Some h → slice_get s.controller.queues q ≡ Some c
+    → is_absent_at (state_of s).device.queues q ≡ b → is_absent c.state ≡ b
+absent_is s q h c b at there is = sym (ap (λ (o : Option DeviceQueue). option_map_or (λ x. is_absent x.state) o true) (device_at s q h c at there)) ∙ is
+
+pub completions_is : (s : Sides) (q : ℕ) (h : HostQueue) (c : ControllerQueue) (b : Bool) → slice_get s.host.host.queues q ≡ Some h → slice_get s.controller.queues q ≡ Some c
+    → has_completions_at (state_of s).device.queues q ≡ b → c.cq_there ≡ b
+completions_is s q h c b at there is = sym (ap (λ (o : Option DeviceQueue). option_map_or (λ x. x.cq_there) o false) (device_at s q h c at there)) ∙ is
+
+pub known_absent : (s : Sides) → IsWorld s → s.trusted ≡ true → (q : ℕ) (h : HostQueue) (c : ControllerQueue) → slice_get s.host.host.queues q ≡ Some h → slice_get s.controller.queues q ≡ Some c
+    → is_known_deleted h.state ≡ true → is_absent c.state ≡ true
+known_absent s world t q h c at there is = absent_is s q h c true at there (deleted_is_gone (state_of s) (stood_of (state_of s) (tied_of s world t).agree).grounds.fit q h at is)
+
+pub known_gone : (s : Sides) → IsWorld s → s.trusted ≡ true → (q : ℕ) (h : HostQueue) (c : ControllerQueue) → slice_get s.host.host.queues q ≡ Some h → slice_get s.controller.queues q ≡ Some c
+    → is_gone h.state ≡ true → c.cq_there ≡ false
+known_gone s world t q h c at there is = completions_is s q h c false at there (freed_is_gone (state_of s) (stood_of (state_of s) (tied_of s world t).agree).grounds.fit q h at is)
+
+pub known_live : (s : Sides) → IsWorld s → s.trusted ≡ true → (q : ℕ) (h : HostQueue) (c : ControllerQueue) → slice_get s.host.host.queues q ≡ Some h → slice_get s.controller.queues q ≡ Some c
+    → is_live h.state ≡ true → is_absent c.state ≡ false
+known_live s world t q h c at there is = absent_is s q h c false at there (agreed_there (state_of s) q h (tied_of s world t).agree at is)
+
+-- What an answer tells that is heard: it counts among the answers
+
+pub record Carries (s : State) (adm : AdminKind) (ok : Bool) : Type 0 where
+  pub answered : (test : AdminKind → Bool) → one_counting (test adm && ok) ≤ answered_well test s.host.records (answering s.device.queues)
+  pub unmade : (test : AdminKind → Bool) → one_counting (test adm && not ok) ≤ unmade test s.host.records (waiting s.device.queues) s.device.jobs (answering s.device.queues)
+
+pub carried : (s : State) (q cid : ℕ) (st : Status) (e : ComEntry) (r : Record) (adm : AdminKind) → s.trusted ≡ true → SidesAgree s → IsHeard s q cid st e r → r.work ≡ Management adm → Carries s adm (is_success st)
+carried s q cid st e r adm t agree heard w =
+    at_zero (subst (λ (z : ℕ). IsHeard s z cid st e r) (admin_zero s q cid r adm (stood_of s agree).grounds.stands.0 heard.found w) heard)
+  where
+    rs : List Record
+    rs = s.host.records
+
+    at_zero : IsHeard s 0 cid st e r → Carries s adm (is_success st)
+    at_zero heard =
+        let an = answer_heard s 0 cid st e r t heard in
+        let first = answering_rest s.device.queues an.answer an.first in
+        let kind : (test : AdminKind → Bool) → is_kind test rs an.answer.cid ≡ test adm = λ test. ap (is_kind test rs) an.its_id ∙ kind_known test rs cid adm (r, heard.found, w) in
+        record {
+          answered = λ test. subst (λ (xs : List Answer). one_counting (test adm && is_success st) ≤ answered_well test rs xs) (sym first)
+              (omega (arith, ap (λ (b : Bool). one_counting (b && is_success an.answer.status)) (kind test), ap (λ (x : Status). one_counting (test adm && is_success x)) an.its_status));
+          unmade = λ test. subst (λ (xs : List Answer). one_counting (test adm && not (is_success st)) ≤ unmade test rs (waiting s.device.queues) s.device.jobs xs) (sym first)
+              (omega (arith, ap (λ (b : Bool). one_counting (b && not (is_success an.answer.status))) (kind test), ap (λ (x : Status). one_counting (test adm && not (is_success x))) an.its_status));
+        }
+
+-- a number of a queue is what its command names
+named_so : (k : ℕ) (b : Bool) → k < 65536 → b ≡ true → ((k % 65536 == k) && b) ≡ true
+named_so k b l is = ap (λ (x : Bool). x && b) (eq-eqb (k % 65536) k (omega (arith, l))) ∙ is
+
+-- a completion queue that was deleted, or not made, is not there
+pub freed_not_there : (s : State) (k : ℕ) (ok : Bool) → SidesAgree s → k < 65536 → ok ≡ true → Carries s (DeleteCq k) ok → has_completions_at s.device.queues k ≡ false
+freed_not_there s k ok agree l good says = grind arith
+
+pub unmade_not_there : (s : State) (k n base : ℕ) (ok : Bool) → SidesAgree s → k < 65536 → ok ≡ false → Carries s (CreateCq k n base) ok → has_completions_at s.device.queues k ≡ false
+unmade_not_there s k n base ok agree l bad says = grind arith
+
+-- a submission queue that was not made is absent, and one_counting that was made is not
+pub unmade_absent : (s : State) (k n base : ℕ) (ok : Bool) → SidesAgree s → k < 65536 → ok ≡ false → Carries s (CreateSq k n base) ok → is_absent_at s.device.queues k ≡ true
+unmade_absent s k n base ok agree l bad says = grind arith
+
+pub made_there : (s : State) (k n base : ℕ) (ok : Bool) → SidesAgree s → k < length s.host.queues → ok ≡ true → Carries s (CreateSq k n base) ok → is_absent_at s.device.queues k ≡ false
+made_there s k n base ok agree l good says =
+    agree.tokens.there k l (omega (arith, says.answered (creates_sq k), ap one_counting (named_so k ok (omega (arith, l, agree.few_queues)) good)))
+
+-- What a call of the controller makes of the machine's queues, and of the rings and halves, where it changes one of its queues.
+
+pub devices_changed : (m m' : Memory) (q : ℕ) (g : ControllerQueue → ControllerQueue) (k : DeviceQueue → DeviceQueue) (hs : List HostQueue) (cs : List ControllerQueue)
+    → ((h : HostQueue) (c : ControllerQueue) → slice_get hs q ≡ Some h → slice_get cs q ≡ Some c → device_queue_of m' h.ring (g c) ≡ k (device_queue_of m h.ring c))
+    → ((i : ℕ) (h : HostQueue) (c : ControllerQueue) → i ≢ q → slice_get hs i ≡ Some h → slice_get cs i ≡ Some c → device_queue_of m' h.ring c ≡ device_queue_of m h.ring c)
+    → device_queues_of m' hs (change q g cs) ≡ change q k (device_queues_of m hs cs)
+devices_changed m m' q g k hs cs here there =
+    subst (λ (xs : List HostQueue). device_queues_of m' xs (change q g cs) ≡ change q k (device_queues_of m hs cs)) (change-same (λ h. h) (λ h. refl) q hs)
+    (one_queue m m' q (λ h. h) g k hs cs here there)
+
+pub stands_changed : (n : ℕ) (m m' : Memory) (q : ℕ) (g : ControllerQueue → ControllerQueue) (hs : List HostQueue) (cs : List ControllerQueue)
+    → ((h : HostQueue) (c : ControllerQueue) → slice_get hs q ≡ Some h → slice_get cs q ≡ Some c → QueueStands n m q h c → QueueStands n m' q h (g c))
+    → ((i : ℕ) (h : HostQueue) (c : ControllerQueue) → i ≢ q → slice_get hs i ≡ Some h → slice_get cs i ≡ Some c → QueueStands n m i h c → QueueStands n m' i h c)
+    → AllQueuesStand n m zero hs cs → AllQueuesStand n m' zero hs (change q g cs)
+stands_changed n m m' q g hs cs here there all =
+    subst (λ (xs : List HostQueue). AllQueuesStand n m' zero xs (change q g cs)) (change-same (λ h. h) (λ h. refl) q hs) (one_stands n m m' q (λ h. h) g hs cs here there all)
+
+-- A queue of the host gets another state: it stands, by what the controller has of it.
+
+-- in service before and after
+pub still_serves : (n : ℕ) (m : Memory) (q : ℕ) (h : HostQueue) (c : ControllerQueue) (st : HostState) → in_service h.state ≡ true → in_service st ≡ true → is_making_cq st ≡ false
+    → QueueStands n m q h c → QueueStands n m q (record h { state = st }) c
+still_serves n m q h c st served serves made stands =
+    let has = reaped_ring h c (served_reaped h.state served) in
+    record {
+      halves = record { submission = stands.halves.submission; completion = λ x. stands.halves.completion has };
+      rings = λ x. state_stands m q h c st h.sq_pages h.cq_pages (stands.rings has) (λ e. absurd (true≢false (sym serves ∙ e)));
+      granted = λ making absent. absurd (true≢false (sym making ∙ made));
+    }
+
+-- its submission half is given back: it is absent, and nothing waits
+pub retires_half : (n : ℕ) (m : Memory) (q : ℕ) (h : HostQueue) (c : ControllerQueue) → in_service h.state ≡ true → is_absent c.state ≡ true → h.ring.head ≡ c.device.ring.tail
+    → QueueStands n m q h c → QueueStands n m q (a.retired h) c
+retires_half n m q h c served absent drained stands =
+    let has = reaped_ring h c (served_reaped h.state served) in
+    record {
+      halves = record { submission = λ e. absurd (true≢false (sym absent ∙ e)); completion = λ x. stands.halves.completion has };
+      rings = λ x. state_stands m q h c Retired [] h.cq_pages (stands.rings has) (λ e. drained);
+      granted = λ making absent. absurd (true≢false (sym making));
+    }
+
+-- its completion half is given back: there is no completion queue
+pub frees_half : (n : ℕ) (m : Memory) (q : ℕ) (h : HostQueue) (c : ControllerQueue) → c.cq_there ≡ false → QueueStands n m q h c → QueueStands n m q (a.gone h) c
+frees_half n m q h c none stands =
+    record {
+      halves = record { submission = stands.halves.submission; completion = λ e. absurd (true≢false (sym e ∙ none)) };
+      rings = λ e. absurd (true≢false (sym e ∙ none));
+      granted = λ making absent. absurd (true≢false (sym making));
+    }
+
+-- a completion queue that was being made is half a queue
+pub makes_half : (n : ℕ) (m : Memory) (q : ℕ) (h : HostQueue) (c : ControllerQueue) → in_service h.state ≡ false → QueueStands n m q h c → QueueStands n m q (a.half_made h) c
+makes_half n m q h c out stands =
+    record {
+      halves = record { submission = stands.halves.submission; completion = λ e. stands.halves.completion (there_ring h c e) };
+      rings = λ e. let rings = stands.rings (there_ring h c e) in state_stands m q h c HalfMade h.sq_pages h.cq_pages rings (λ x. rings.drained out);
+      granted = λ making absent. absurd (true≢false (sym making));
+    }
+
+-- and is so again, once its submission queue is not made
+pub unmakes_half : (n : ℕ) (m : Memory) (q : ℕ) (h : HostQueue) (c : ControllerQueue) → in_service h.state ≡ false → is_absent c.state ≡ true → QueueStands n m q h c → QueueStands n m q (a.unmade_sq h) c
+unmakes_half n m q h c out absent stands =
+    record {
+      halves = record { submission = λ e. absurd (true≢false (sym absent ∙ e)); completion = λ e. stands.halves.completion (there_ring h c e) };
+      rings = λ e. let rings = stands.rings (there_ring h c e) in state_stands m q h c HalfMade [] h.cq_pages rings (λ x. rings.drained out);
+      granted = λ making absent. absurd (true≢false (sym making));
+    }
+
+-- a queue with both halves comes into service
+pub comes_live : (n : ℕ) (m : Memory) (q : ℕ) (h : HostQueue) (c : ControllerQueue) → c.cq_there ≡ true → QueueStands n m q h c → QueueStands n m q (a.live h) c
+comes_live n m q h c there stands =
+    let has = there_ring h c there in
+    record {
+      halves = record { submission = stands.halves.submission; completion = λ x. stands.halves.completion has };
+      rings = λ x. state_stands m q h c Live h.sq_pages h.cq_pages (stands.rings has) (λ e. absurd (true≢false e));
+      granted = λ making absent. absurd (true≢false (sym making));
+    }

@@ -1,58 +1,36 @@
--- The host's calls that post an entry, where nothing was forged: the machine's lists follow, and the rings and the walks stand.
-use Rattle.std.proofs.Common.{◌≡◌, ℕ, zero, suc, ◌+◌, ◌*◌, ◌-◌, ◌^◌, ◌<◌, ◌≤◌, ◌==◌, ◌++◌, ◌∷◌, [], Bool, true, false, not, Option, Some, None, is_none, List, length, map, slice_get, refl, ap, ap₂, sym, ◌∙◌, subst, arith, eqb-true, inl, inr}
-use Rattle.machine_agreement.proofs.Cases.{option_is}
-use Rattle.std.specs.List.{position_or_len}
-use Rattle.std.specs.Option.{option_map_or}
-use Rattle.std.proofs.lemmas.Bool.{true≢false, not-false, and_parts, or_parts, OnTrue_at}
-use Rattle.std.proofs.lemmas.List.Folds.{find_at}
-use Rattle.std.proofs.lemmas.Option.{slice_get_within}
-use Rattle.admin_commands.specs.Entries.{admin_entry, named_by, qualified_by}
-use Rattle.admin_commands.specs.declared.AdminKind.TheVariants.{Abort, DeleteSq, DeleteCq}
-use Rattle.admin_commands.specs.declared.AdminKind.{AdminKind}
-use Rattle.controller_core.specs.Contents.{Contents}
-use Rattle.controller_core.specs.declared.queue.ControllerQueue.{ControllerQueue}
-use Rattle.entry_codec.specs.declared.submission.SubEntry.{SubEntry}
-use Rattle.host_core.specs.Alone.{HostView, HostStep, alone, nothing}
-use Rattle.host_core.proofs.Ending.{joined-pages}
-use Rattle.host_core.proofs.Lists.{all-from}
-use Rattle.host_core.proofs.Pages.{pool-with}
-use Rattle.io_commands.specs.Drafts.{DraftContents}
+-- What the host posts.
 use Rattle.machine_model.specs.After as a
-use Rattle.machine_model.specs.After.{after}
-use Rattle.machine_model.specs.Always.{IsProvided}
 use Rattle.machine_model.specs.Events as events
-use Rattle.machine_model.specs.Events.{Event, Reply}
-use Rattle.machine_model.specs.Memory.{memory_of, with_pages}
-use Rattle.machine_model.specs.Refusals.{has_cq, host_queue, in_service, in_state, is_drafted, is_live, is_submitted, queue_full, refusal_of}
-use Rattle.machine_model.specs.Placement.{first_of_run}
-use Rattle.machine_model.specs.Proper.{IsProperDraft}
-use Rattle.machine_model.specs.declared.words.HostState.{HostState}
-use Rattle.machine_model.specs.declared.words.HostState.TheVariants.{Deleting}
+use Rattle.machine_model.specs.declared.words.HostState.TheVariants as states
+use Rattle.std.proofs.Common.{◌≡◌, ℕ, zero, suc, ◌+◌, ◌*◌, ◌-◌, ◌^◌, ◌<◌, ◌≤◌, ◌==◌, ◌++◌, ◌∷◌, [], Bool, true, false, not, Option, Some, None, is_none, List, length, map, slice_get, refl, ap, ap₂, sym, ◌∙◌, subst, arith, eqb-true, inl, inr}
+use Rattle.std.proofs.lemmas.{Bool.{true≢false, not-false, and_parts, or_parts, OnTrue_at}, List.Folds.find_at, Option.slice_get_within}
+use Rattle.std.specs.{List.position_or_len, Option.option_map_or}
+use Rattle.machine_model.proofs.{Cases.option_is, Kept.service_is_reaped as served_reaped}
+use Rattle.machine_model.proofs.{Moves.{IsOf, draft_found, draft_lives, queue_found, sent_record, io_queue, run_found}, Steps.{found, unrefused}}
+use Rattle.machine_model.{proofs.Tokens.find_sound, specs.{After.after, Agreeing.is_known_deleted, Always.IsProvided, Events.{Event, Reply}}}
+use Rattle.machine_model.specs.{Memory.{memory_of, with_pages}, Placement.first_of_run, Proper.IsProperDraft}
+use Rattle.machine_model.specs.Refusals.{has_cq, host_queue, in_service, in_state, is_drafted, is_live, is_submitted, queue_full, refusal_of, is_gone, is_half_made, is_making}
 use Rattle.machine_model.specs.State.{Device, DeviceQueue, HostQueue, Record, State, is_at, pages_of, record_at, with_record}
-use Rattle.machine_model.specs.Step.{HostPart, LeavesByHost, Permits}
-use Rattle.machine_agreement.proofs.Elsewhere.{with_elsewhere}
-use Rattle.machine_agreement.proofs.Members.{all_at_found}
-use Rattle.machine_model.proofs.Moves.{IsOf, draft_found, draft_lives, queue_found, sent_record}
-use Rattle.machine_model.proofs.Placed.{find_sound}
-use Rattle.machine_model.proofs.Refused.{found, unrefused}
-use Rattle.page_ledger.specs.Owners.{is_among, pages_from}
-use Rattle.page_memory.specs.Memory.{Memory}
-use Rattle.page_memory.specs.Pages.{IsWhole, Pages, byte_at, page_at}
-use Rattle.queue_pair.specs.Members.{change}
-use Rattle.queue_pair.specs.Rings.{next_tail}
-use Rattle.queue_pair.specs.Slots.{is_full}
-use Rattle.two_sides.specs.Hearing.{heard}
+use Rattle.machine_model.specs.{Step.{HostPart, LeavesByHost, Permits}, declared.words.HostState.{HostState, TheVariants.{Deleting, MakingSq}}}
+use Rattle.admin_commands.specs.{Entries.{admin_entry, named_by, qualified_by}, Verdicts.is_absent, declared.AdminKind.AdminKind}
+use Rattle.admin_commands.specs.declared.AdminKind.TheVariants.{Abort, DeleteSq, DeleteCq, CreateCq, CreateSq}
+use Rattle.controller_core.specs.{Contents.Contents, declared.queue.ControllerQueue.ControllerQueue}
+use Rattle.entry_codec.specs.declared.submission.SubEntry.{SubEntry}
+use Rattle.host_core.{proofs.{Ending.joined-pages, Lists.all-from, PageOwners.{pool-with, among-from}}, specs.Alone.{HostView, HostStep, alone, nothing}}
+use Rattle.io_commands.specs.Drafts.{DraftContents}
+use Rattle.two_sides.proofs.Assembling.{Ties, answer_as_machine}
+use Rattle.two_sides.proofs.Frames.{Spares, SparesSubmitted, apart_from_commands, apart_from_queues, host_lists, host_stands, state_stands, free_apart_from_queues, controller_at, placed, reaped_ring, first_of_half, known, there_ring}
+use Rattle.two_sides.proofs.Granting.{granted_pool, granted_spares, granted_submitted, granted_whole, free, granted_zero, zeros_granted}
+use Rattle.two_sides.proofs.Places.{known_live, known_absent, known_gone}
+use Rattle.two_sides.proofs.Posted.{CanPost, post_queues, post_stands, post_walks, slot_written, tail_moved, with_entry, elsewhere, IsTyped, admin_typed, draft_typed}
+use Rattle.two_sides.{proofs.{Provided.all_at_found, Untouched.with_elsewhere}, specs.Hearing.heard}
 use Rattle.two_sides.specs.Sides.{Sides, state_of, device_of, device_queue_of, device_queues_of, job_of}
-use Rattle.two_sides.specs.Ties.{AllQueuesStand, IsWorld, QueueStands, WalksStand}
-use Rattle.two_sides.proofs.Assembling.{Ties}
-use Rattle.two_sides.proofs.Frames.{Spares, SparesSubmitted, apart_from_commands, apart_from_queues, host_lists, host_stands, state_stands}
-use Rattle.two_sides.proofs.Granting.{granted_pool, granted_spares, granted_submitted, granted_whole}
-use Rattle.two_sides.proofs.Known.{controller_at, placed, reaped_ring}
-use Rattle.machine_model.proofs.Halves.{service_is_reaped as served_reaped}
-use Rattle.two_sides.proofs.Posted.{CanPost, post_queues, post_stands, post_walks, slot_written, tail_moved, with_entry}
-use Rattle.two_sides.proofs.PostedEntries.{IsTyped, admin_typed, draft_typed}
-use Rattle.two_sides.proofs.Refusing.{answer_as_machine}
-use Rattle.two_sides.proofs.Tokens.{known_live}
+use Rattle.two_sides.specs.Ties.{AllQueuesStand, IsWorld, QueueStands, WalksStand, RingsStand, first_completion_page}
+use Rattle.page_ledger.specs.Owners.{is_among, pages_from}
+use Rattle.page_memory.specs.{Memory.Memory, Pages.{IsWhole, Pages, byte_at, page_at}, declared.page.Half.TheVariants.{Submission, Completion}}
+use Rattle.queue_pair.specs.{Lists.PhasesStand, Members.change, Memory.half_pages, Rings.{next_tail, HostRing, fresh_host_ring}, Slots.is_full}
+
+-- The host's calls that post an entry, where nothing was forged: the machine's lists follow, and the rings and the walks stand.
 
 -- A live queue with room can be posted to
 
@@ -381,3 +359,122 @@ made_ties s e kind id host pages q count first f world t io run free new named q
         → after (seen_by s d b) e (events.Sent id)
         ≡ a.on_ring 0 (next_tail s.host.entries) (a.on_device_queue 0 (with_entry (admin_entry kind id)) (a.on_memory (slot_written h (admin_entry kind id)) (noted (granted_to d b))))
     leaves_of h at d b = is d b ∙ after_posts 0 (admin_entry kind id) h (noted (granted_to d b)) (first_stays f q s.host.host.queues io ∙ at)
+
+-- A queue is made again: the host grants it a half, and posts the command that makes it.
+
+-- States
+
+gone_known : (st : HostState) → is_gone st ≡ true → is_known_deleted st ≡ true
+gone_known st e = grind arith
+
+half_known : (st : HostState) → is_half_made st ≡ true → (is_known_deleted st ≡ true) × (is_making st ≡ true) × (in_service st ≡ false)
+half_known states.HalfMade e = (refl, refl, refl)
+half_known st e = absurd (true≢false (sym e))
+
+-- the queue of a number is the one that was found
+found_here : (P : HostQueue → Type 0) (hs : List HostQueue) (q : ℕ) (h x : HostQueue) → slice_get hs q ≡ Some h → slice_get hs q ≡ Some x → P h → P x
+found_here P hs q h x at at' p = let same : h ≡ x = cc (at, at') in subst P same p
+
+-- The completion half
+
+-- a queue of which the controller has neither half shows the machine the same, whatever the host's positions are
+absent_alike : (m : Memory) (r r' : HostRing) (c : ControllerQueue) → is_absent c.state ≡ true → c.cq_there ≡ false → device_queue_of m r c ≡ device_queue_of m r' c
+absent_alike m r r' c absent gone = rw (absent, gone) refl
+
+-- no slot of the new half is new, once the entry is posted
+half_is_granted : (s : Sides) (world : IsWorld s) (first : ℕ) (run : first_of_run s.host.host.free (half_pages s.host.entries Completion) ≡ Some first) (entry : SubEntry) (h x : HostQueue) (c : ControllerQueue)
+    → CanPost s (granted_pool s world (half_pages s.host.entries Completion) first run) 0 h c entry → 0 < s.host.entries
+    → PhasesStand (byte_at (slot_written h entry (granted_pool s world (half_pages s.host.entries Completion) first run)))
+    (first_completion_page (a.making_cq (pages_from first (half_pages s.host.entries Completion)) x)) s.host.entries 0 true
+half_is_granted s world first run entry h x c can some =
+    let n = s.host.entries in
+    let count = half_pages n Completion in
+    let mid = granted_pool s world count first run in
+    subst (λ (p : ℕ). PhasesStand (byte_at (slot_written h entry mid)) p n 0 true) (sym (first_of_half n first (a.making_cq (pages_from first count) x) some refl))
+    (zeros_granted (slot_written h entry mid) n first
+    (λ k l. elsewhere s mid 0 h c entry can (first + k) (free_apart_from_queues s world 0 h (first + k) can.at (free s world count first run (first + k) (among-from first count k l))).0
+    ∙ granted_zero s world count first run k l))
+
+pub create_cq_ties : (s : Sides) (q id : ℕ) (host : HostView) (pages : Pages) → IsWorld s → s.trusted ≡ true → HostStep s.host s.pages (events.CreateCq q) (events.Sent id) host pages
+    → Ties s (events.CreateCq q) (events.Sent id) host pages
+create_cq_ties s q id host pages world t step =
+    let causes = unrefused (state_of s) (events.CreateCq q) step.1.0 in
+    let io = io_queue (state_of s) q causes.0 in
+    let its = queue_found is_gone (state_of s) q (not-false _ causes.1.0) in
+    let run = run_found (state_of s) Completion causes.1.1.1.1.0 in
+    let n = s.host.entries in
+    let half : List ℕ = pages_from run.0 (half_pages n Completion) in
+    let kind : AdminKind = CreateCq q n (a.base_of half) in
+    let few = few_entries s world q its.0 its.1 in
+    let below = queue_below s world t is_gone q (not-false _ causes.1.0) in
+    made_ties s (events.CreateCq q) kind id host pages q (half_pages n Completion) run.0 (a.making_cq half) world t io run.1 causes.1.1.1.1.1.0 step.1.1.in_range (omega (arith, below, few)) (omega arith)
+    (λ d b. ap (λ (o : Option ℕ). sends d b (option_map_or (λ first. pages_from first (half_pages n Completion)) o [])) run.1)
+    (answer_as_machine s (events.CreateCq q) (events.Sent id) host pages refl refl step) refl step.2
+    (λ h c can. record {
+      lists = λ x y at there. let gone = is_gone_here its x at in
+          absent_alike (byte_at (slot_written h (admin_entry kind id) (granted_pool s world (half_pages n Completion) run.0 run.1))) fresh_host_ring x.ring y
+          (known_absent s world t q x y at there (gone_known x.state gone)) (known_gone s world t q x y at there gone);
+      stands = λ x y at there stands.
+          let gone = is_gone_here its x at in
+          let absent = known_absent s world t q x y at there (gone_known x.state gone) in
+          let none = known_gone s world t q x y at there gone in
+          record {
+            halves = record { submission = λ e. absurd (true≢false (sym absent ∙ e)); completion = λ e. absurd (true≢false (sym e ∙ none)) };
+            rings = λ e. absurd (true≢false (sym e ∙ none));
+            granted = λ making e. half_is_granted s world run.0 run.1 (admin_entry kind id) h x c can (omega (arith, step.1.1.in_range));
+          };
+    })
+  where
+    sends : Device → Bool → List ℕ → State
+    sends d b ps = a.sent (CreateCq q s.host.entries (a.base_of ps)) id (admin_entry (CreateCq q s.host.entries (a.base_of ps)) id) (a.on_host_queue q (a.making_cq ps) (a.half_granted ps (seen_by s d b)))
+
+    is_gone_here : ((x : HostQueue) × (slice_get s.host.host.queues q ≡ Some x) × (is_gone x.state ≡ true)) → (x : HostQueue) → slice_get s.host.host.queues q ≡ Some x → is_gone x.state ≡ true
+    is_gone_here its x at = found_here (λ y. is_gone y.state ≡ true) s.host.host.queues q its.0 x its.1 at its.2
+
+-- The submission half
+
+-- the rings of a half made queue are as they open, and its submission queue is absent
+half_gets_submission : (s : Sides) → IsWorld s → s.trusted ≡ true → (m : Memory) (q : ℕ) (h : HostQueue) (c : ControllerQueue) (half : List ℕ) → slice_get s.host.host.queues q ≡ Some h → slice_get s.controller.queues q ≡ Some c
+    → is_half_made h.state ≡ true → h.ring ≡ fresh_host_ring → QueueStands s.host.entries m q h c → QueueStands s.host.entries m q (a.making_sq half h) c
+half_gets_submission s world t m q h c half at there made fresh stands =
+    record {
+      halves = record {
+        submission = λ e. absurd (true≢false (sym (known_absent s world t q h c at there (half_known h.state made).0) ∙ e));
+        completion = λ e. stands.halves.completion (there_ring h c e);
+      };
+      rings = λ e. subst (λ (r : HostRing). RingsStand m q (record h { state = MakingSq; ring = r; sq_pages = half }) c) fresh
+          (state_stands m q h c MakingSq half h.cq_pages (stands.rings (there_ring h c e)) (λ x. (stands.rings (there_ring h c e)).drained (half_known h.state made).2));
+      granted = λ making e. absurd (true≢false (sym making));
+    }
+
+pub create_sq_ties : (s : Sides) (q id : ℕ) (host : HostView) (pages : Pages) → IsWorld s → s.trusted ≡ true → HostStep s.host s.pages (events.CreateSq q) (events.Sent id) host pages
+    → Ties s (events.CreateSq q) (events.Sent id) host pages
+create_sq_ties s q id host pages world t step =
+    let causes = unrefused (state_of s) (events.CreateSq q) step.1.0 in
+    let io = io_queue (state_of s) q causes.0 in
+    let is = not-false _ (or_parts (not (in_state is_half_made (state_of s) q)) _ causes.1.0).0 in
+    let its = queue_found is_half_made (state_of s) q is in
+    let run = run_found (state_of s) Submission causes.1.1.1.0 in
+    let n = s.host.entries in
+    let half : List ℕ = pages_from run.0 (half_pages n Submission) in
+    let kind : AdminKind = CreateSq q n (a.base_of half) in
+    let few = few_entries s world q its.0 its.1 in
+    let below = queue_below s world t is_half_made q is in
+    made_ties s (events.CreateSq q) kind id host pages q (half_pages n Submission) run.0 (a.making_sq half) world t io run.1 causes.1.1.1.1.0 step.1.1.in_range (omega (arith, below, few)) (omega (arith, below))
+    (λ d b. ap (λ (o : Option ℕ). sends d b (option_map_or (λ first. pages_from first (half_pages n Submission)) o [])) run.1)
+    (answer_as_machine s (events.CreateSq q) (events.Sent id) host pages refl refl step) refl step.2
+    (λ h c can.
+    let m = byte_at (slot_written h (admin_entry kind id) (granted_pool s world (half_pages n Submission) run.0 run.1)) in
+    record {
+      lists = λ x y at there. ap (λ (r : HostRing). device_queue_of m r y) (sym (fresh its x y at there));
+      stands = λ x y at there stands. half_gets_submission s world t m q x y half at there (here its x at) (fresh its x y at there) stands;
+    })
+  where
+    sends : Device → Bool → List ℕ → State
+    sends d b ps = a.sent (CreateSq q s.host.entries (a.base_of ps)) id (admin_entry (CreateSq q s.host.entries (a.base_of ps)) id) (a.on_host_queue q (a.making_sq ps) (a.half_granted ps (seen_by s d b)))
+
+    here : ((x : HostQueue) × (slice_get s.host.host.queues q ≡ Some x) × (is_half_made x.state ≡ true)) → (x : HostQueue) → slice_get s.host.host.queues q ≡ Some x → is_half_made x.state ≡ true
+    here its x at = found_here (λ y. is_half_made y.state ≡ true) s.host.host.queues q its.0 x its.1 at its.2
+
+    fresh : ((x : HostQueue) × (slice_get s.host.host.queues q ≡ Some x) × (is_half_made x.state ≡ true)) → (x : HostQueue) (y : ControllerQueue) → slice_get s.host.host.queues q ≡ Some x → slice_get s.controller.queues q ≡ Some y → x.ring ≡ fresh_host_ring
+    fresh its x y at there = (known s world t q x y at there).fits.fresh (half_known x.state (here its x at)).1

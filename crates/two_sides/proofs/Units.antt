@@ -1,32 +1,20 @@
 -- What the first unit of a walk does to a pool and to the command's bytes, as the machine writes it.
 use Rattle.std.proofs.Common.{◌≡◌, ℕ, zero, suc, ◌+◌, ◌-◌, ◌*◌, ◌/◌, ◌%◌, ◌<◌, ◌≤◌, ◌++◌, Bool, true, false, cond, Option, Some, None, IfSome, IsSome, is_some, List, [], ◌∷◌, length, take, drop, slice_get, slice_range, nat_le, nat_eq, leb-true, append_assoc, refl, ap, ap₂, sym, ◌∙◌, arith, subst, inl, inr}
-use Rattle.machine_agreement.proofs.Cases.{option_is}
-use Rattle.std.proofs.lemmas.Bool.{cases_Bool}
-use Rattle.std.specs.Option.{option_map_or}
-use Rattle.std.proofs.lemmas.List.{length-take-le, length-drop}
+use Rattle.std.{proofs.lemmas.{Bool.cases_Bool, List.{length-take-le, length-drop}}, specs.Option.option_map_or}
+use Rattle.machine_model.{proofs.{Cases.option_is, Steps.{in_store, in_store-with_bytes}}, specs.{After.page_bytes, State.{State, Job}}}
 use Rattle.controller_walk.specs.Laws.{after_units}
 use Rattle.controller_walk.specs.Units.{Act, Stays, Reads, Moves, Course, Closes, Does, units, touched, read_at, from_place, behind, moving, first_part, pages_spanned}
-use Rattle.controller_walk.specs.Walks.{Effect, DoesFirst, LeavesRest, IfMore, answer, course_in}
-use Rattle.controller_walk.specs.declared.cursor.Cursor.{Cursor}
-use Rattle.controller_walk.specs.declared.progress.Progress.{Progress}
-use Rattle.controller_walk.specs.declared.progress.State as progress
-use Rattle.controller_walk.specs.declared.progress.State.TheVariants.{First, Next, Data, Over}
-use Rattle.controller_walk.specs.declared.walk.Walk.{Walk}
-use Rattle.controller_walk.specs.declared.walk.WalkState.{WalkState}
+use Rattle.controller_walk.specs.{Walks.{Effect, DoesFirst, LeavesRest, IfMore, answer, course_in}, declared.{cursor.Cursor.Cursor, progress.Progress.Progress}}
+use Rattle.controller_walk.specs.declared.{progress.State.TheVariants.{First, Next, Data, Over}, walk.{Walk.Walk, WalkState.WalkState}}
 use Rattle.controller_walk.specs.declared.walk.WalkState.TheVariants.{End, Fault}
 use Rattle.entry_codec.specs.declared.status.TheConstants.Status.{DATA_TRANSFER_ERROR}
-use Rattle.host_core.proofs.Slots.{page-written}
+use Rattle.host_core.proofs.QueueLists.{page-written}
 use Rattle.io_commands.specs.Jobs.{course_of_walk}
-use Rattle.machine_model.specs.After.{page_bytes}
-use Rattle.machine_model.specs.State.{State, Job}
-use Rattle.machine_agreement.proofs.DeviceMoves.{unit_bytes, unit_memory}
-use Rattle.machine_model.proofs.Parts.{in_store, in_store-with_bytes}
-use Rattle.page_memory.specs.Memory.{Memory, bytes_at, pages_reached, page_of, written}
+use Rattle.two_sides.proofs.DeviceMoves.{unit_bytes, unit_memory}
+use Rattle.page_memory.{proofs.Bytes.{bytes_within, bytes_missing, told}, specs.Memory.{Memory, bytes_at, pages_reached, written}}
 use Rattle.page_memory.specs.Pages.{Pages, page_at, byte_at, AreWhole, IsPool}
-use Rattle.page_memory.proofs.Reading.{bytes_within, bytes_missing}
-use Rattle.page_memory.proofs.Whole.{told}
-use Rattle.sgl_descriptor.specs.declared.Direction.{Direction}
-use Rattle.sgl_descriptor.specs.declared.Direction.TheVariants.{Destination, Source}
+use Rattle.sgl_descriptor.specs.declared.Direction.{Direction, TheVariants.{Destination, Source}}
+use Rattle.controller_walk.specs.declared.progress.State as progress
 
 -- The first unit
 

@@ -1,54 +1,32 @@
 -- The step of a walk is a step of the machine, and leaves both sides tied.
 use Rattle.std.proofs.Common.{◌≡◌, ℕ, ◌+◌, ◌<◌, ◌==◌, ◌||◌, Bool, true, false, Option, Some, None, Ok, Err, IfSome, is_some, List, [], length, find, map, slice_get, if◌then◌else◌, refl, ap, ap₂, sym, ◌∙◌, subst, inl, inr, arith}
-use Rattle.machine_agreement.proofs.Cases.{option_is}
-use Rattle.std.specs.Option.{option_map, option_map_or}
-use Rattle.std.proofs.lemmas.Bool.{true≢false}
-use Rattle.std.proofs.lemmas.Option.{slice_get-map}
+use Rattle.std.{proofs.lemmas.{Bool.true≢false, Option.slice_get-map}, specs.Option.{option_map, option_map_or}}
+use Rattle.machine_model.{proofs.{Cases.option_is, Steps.in_store, Tokens.is_job}, specs.After.{after_walk, course_of, next_answer, next_unit}}
+use Rattle.machine_model.specs.{Memory.memory_of, Refusals.{job_at, refusal_of}, State.{State, DeviceQueue, Job, Record, is_at, pages_of}}
+use Rattle.machine_model.specs.Step.{Permits, unit_answered}
 use Rattle.block_image.specs.Blocks.{block_count}
+use Rattle.controller_core.proofs.Lists.{all-at, all_set}
 use Rattle.controller_core.specs.Contents.{Contents, FetchedCommand, FitsWork, IsController, Work, is_command, verdict_of_work}
-use Rattle.controller_core.specs.Walking.{WalksTo, ended_refusal, stepped, walk_refusal}
-use Rattle.controller_core.specs.declared.command.Work.TheVariants.{Io, Admin}
+use Rattle.controller_core.specs.{Walking.{WalksTo, ended_refusal, stepped, walk_refusal}, declared.command.Work.TheVariants.{Io, Admin}}
+use Rattle.controller_walk.specs.{Laws.after_units, Units.Act, Walks.{IfMore, answer}, declared.walk.WalkState.{WalkState, TheVariants.{More, End, Fault}}}
+use Rattle.entry_codec.specs.declared.{status.Status.Status, submission.SubEntry.SubEntry}
+use Rattle.io_commands.specs.Jobs.{job_course, direction_of_entry, verdict_of}
+use Rattle.two_sides.proofs.{Assembling.{ServesOver, serve_refused, served_stepped}, Commands.{Walking, walk_writes}}
+use Rattle.two_sides.proofs.DeviceMoves.{unit_bytes, unit_done, unit_memory, walk_is}
+use Rattle.two_sides.proofs.Frames.{Spares, all_stand_still, apart_from_queues, queues_stay, tied_of, job_served, stands_again, still_stands, stood, whole_course}
+use Rattle.two_sides.proofs.{NeverFull.{ListsStay, stay_walk}, Places.{find_place, is_found, job-at, job-found, map_one, seen, seen_is}}
+use Rattle.two_sides.proofs.{PoolBytes.reads_the_pool, Served.data_of, Serving.{either_by, same_pages, with_served}}
+use Rattle.two_sides.{proofs.Units.{FirstUnit, HeadInPage, effect_told, few_touched, first_unit, head_in_page, next_done, unit_stays}, specs.Serving.why_of}
+use Rattle.two_sides.specs.{Sides.{Sides, state_of, device_queues_of, job_of}, Stepping.{LeavesPages, StepsTo, served, walks_step, walks_refuse_alike}}
+use Rattle.two_sides.specs.Ties.{IsWorld, ShareQueues, SharesAdmin, AllQueuesStand, WalkStands, WalksStand}
+use Rattle.page_ledger.specs.Owners.{is_among}
+use Rattle.page_memory.specs.{Memory.Memory, Pages.{Pages, byte_at, page_at, AreWhole}}
+use Rattle.sgl_descriptor.specs.declared.Direction.{Direction}
 use Rattle.controller_core.specs.declared.refusal.Refusal as controller
 use Rattle.controller_core.specs.declared.refusal.Refusal.TheVariants as because
-use Rattle.controller_core.proofs.Lists.{all-at, all_set}
-use Rattle.controller_walk.specs.Laws.{after_units}
 use Rattle.controller_walk.specs.Serving as serving
-use Rattle.controller_walk.specs.Units.{Act}
-use Rattle.controller_walk.specs.Walks.{IfMore, answer}
-use Rattle.controller_walk.specs.declared.walk.WalkState.{WalkState}
-use Rattle.controller_walk.specs.declared.walk.WalkState.TheVariants.{More, End, Fault}
-use Rattle.entry_codec.specs.declared.status.Status.{Status}
-use Rattle.entry_codec.specs.declared.submission.SubEntry.{SubEntry}
-use Rattle.io_commands.specs.Jobs.{job_course, direction_of_entry, verdict_of}
-use Rattle.machine_model.specs.After.{after_walk, course_of, next_answer, next_unit}
 use Rattle.machine_model.specs.Events as events
-use Rattle.machine_model.specs.Memory.{memory_of}
-use Rattle.machine_model.specs.Refusals.{job_at, refusal_of}
-use Rattle.machine_model.specs.State.{State, DeviceQueue, Job, Record, is_at, pages_of}
-use Rattle.machine_model.specs.Step.{Permits, unit_answered}
 use Rattle.machine_model.specs.declared.words.Refusal.TheVariants as refusal
-use Rattle.machine_agreement.proofs.CommandsAll.{Walking, walk_writes}
-use Rattle.machine_agreement.proofs.DeviceMoves.{unit_bytes, unit_done, unit_memory, walk_is}
-use Rattle.machine_model.proofs.Parts.{in_store}
-use Rattle.machine_model.proofs.Placed.{is_job}
-use Rattle.machine_agreement.proofs.Pools.{reads_the_pool}
-use Rattle.machine_agreement.proofs.Served.{data_of}
-use Rattle.machine_agreement.proofs.WalksKept.{ListsStay, stay_walk}
-use Rattle.page_ledger.specs.Owners.{is_among}
-use Rattle.page_memory.specs.Memory.{Memory}
-use Rattle.page_memory.specs.Pages.{Pages, byte_at, page_at, AreWhole}
-use Rattle.sgl_descriptor.specs.declared.Direction.{Direction}
-use Rattle.two_sides.specs.Serving.{why_of}
-use Rattle.two_sides.specs.Sides.{Sides, state_of, device_queues_of, job_of}
-use Rattle.two_sides.specs.Stepping.{LeavesPages, StepsTo, served, walks_step, walks_refuse_alike}
-use Rattle.two_sides.specs.Ties.{IsWorld, ShareQueues, SharesAdmin, AllQueuesStand, WalkStands, WalksStand}
-use Rattle.two_sides.proofs.Assembling.{ServesOver, serve_refused, served_stepped}
-use Rattle.two_sides.proofs.Frames.{Spares, all_stand_still, apart_from_queues, queues_stay}
-use Rattle.two_sides.proofs.Jobs.{find_place, is_found, job-at, job-found, map_one, seen, seen_is}
-use Rattle.two_sides.proofs.Known.{tied_of}
-use Rattle.two_sides.proofs.ServeSteps.{either_by, same_pages, with_served}
-use Rattle.two_sides.proofs.Units.{FirstUnit, HeadInPage, effect_told, few_touched, first_unit, head_in_page, next_done, unit_stays}
-use Rattle.two_sides.proofs.Walks.{job_served, stands_again, still_stands, stood, whole_course}
 
 -- The refusals
 

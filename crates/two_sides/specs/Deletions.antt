@@ -1,13 +1,9 @@
 -- A queue that the host has in service keeps its completion queue at the controller. The controller deletes none that has a submission queue. An entry that asks for one's
 -- deletion is fetched before the entry that asks for that of the submission queue, since behind the latter the host sends no such entry.
-use Rattle.std.specs.Prelude.{◌≡◌, ℕ, ◌==◌, Bool, true, ◌&&◌, Some, List, [], ◌∷◌}
-use Rattle.std.specs.List.{list_any}
+use Rattle.std.specs.{List.list_any, Prelude.{◌≡◌, ℕ, ◌==◌, Bool, true, ◌&&◌, Some, List, [], ◌∷◌}}
 use Rattle.admin_commands.specs.Entries.{named_queue}
-use Rattle.entry_codec.specs.declared.admin_opcode.TheConstants.{DELETE_IO_SQ, DELETE_IO_CQ}
-use Rattle.entry_codec.specs.declared.submission.SubEntry.{SubEntry}
-use Rattle.machine_model.specs.Agreeing.{waiting}
-use Rattle.machine_model.specs.Refusals.{device_queue, host_queue, in_service, is_deleting}
-use Rattle.machine_model.specs.State.{State, HostQueue, DeviceQueue}
+use Rattle.entry_codec.specs.declared.{admin_opcode.TheConstants.{DELETE_IO_SQ, DELETE_IO_CQ}, submission.SubEntry.SubEntry}
+use Rattle.machine_model.specs.{Agreeing.waiting, Refusals.{device_queue, host_queue, in_service, is_deleting}, State.{State, HostQueue, DeviceQueue}}
 
 -- whether an entry asks for the deletion of the completion queue of a number, or of the submission queue
 abbrev pub asks_cq_deletion : ℕ → SubEntry → Bool

@@ -1,11 +1,10 @@
 -- What the controller hears of a call of the host.
 use Rattle.std.specs.Option.{option_map_or}
 use Rattle.controller_core.specs.Contents.{Contents}
-use Rattle.controller_core.specs.Doorbells as controller
-use Rattle.host_core.specs.Alone.{HostView}
-use Rattle.host_core.specs.Ringing.{tail_of, head_rung}
-use Rattle.machine_model.specs.Events as events
+use Rattle.host_core.specs.{Alone.HostView, Ringing.{tail_of, head_rung}}
 use Rattle.machine_model.specs.Events.{Event, Reply}
+use Rattle.controller_core.specs.Doorbells as controller
+use Rattle.machine_model.specs.Events as events
 
 -- A tail is rung by its call, and a head by a reap that took a completion; nothing else is heard.
 abbrev pub heard : Event → Reply → HostView → Contents → Contents

@@ -1,19 +1,12 @@
 -- That both sides together are the machine.
 use Rattle.std.specs.Prelude.{◌≡◌, ◌≢◌, ℕ, Bool, true, false, List, Some, slice_get}
 use Rattle.host_core.specs.Alone.{HostView, HostStep}
-use Rattle.machine_model.specs.Events as events
-use Rattle.machine_model.specs.Events.{Event, Reply}
-use Rattle.machine_model.specs.declared.words.Refusal.{Refusal}
-use Rattle.machine_model.specs.Step.{Step, Permits, IsController}
+use Rattle.machine_model.specs.{Events.{Event, Reply}, State.HostQueue, Step.{Step, Permits, IsController}, declared.words.Refusal.Refusal}
 use Rattle.page_memory.specs.Pages.{Pages}
-use Rattle.controller_core.specs.Doorbells.{with_side, with_tail, with_head}
-use Rattle.controller_core.specs.declared.queue.ControllerQueue.{ControllerQueue}
-use Rattle.machine_model.specs.State.{HostQueue}
-use Rattle.queue_pair.specs.Rings.{hearing_tail, hearing_head}
-use Rattle.queue_pair.specs.Slots.{next_slot}
-use Rattle.two_sides.specs.Hearing.{heard}
-use Rattle.two_sides.specs.Sides.{Sides, state_of}
-use Rattle.two_sides.specs.Ties.{AreSides, AreTied, ShareQueues, has_ring}
+use Rattle.controller_core.specs.{Doorbells.{with_side, with_tail, with_head}, declared.queue.ControllerQueue.ControllerQueue}
+use Rattle.queue_pair.specs.{Rings.{hearing_tail, hearing_head}, Slots.next_slot}
+use Rattle.two_sides.specs.{Hearing.heard, Sides.{Sides, state_of}, Ties.{AreSides, AreTied, ShareQueues, has_ring}}
+use Rattle.machine_model.specs.Events as events
 
 -- both sides behind a call of the host
 abbrev pub behind : Sides → Event → Reply → HostView → Pages → Sides

@@ -6,3 +6,11 @@ pub mod Opening
 pub mod Laws
 pub mod Serving
 pub mod Stepping
+pub mod Slots
+pub mod Histories
+pub mod Recovering
+pub mod AgreeingLaws
+pub mod InOrder
+pub mod MachineLaws
+pub mod Lists
+pub mod Provided

@@ -1,14 +1,11 @@
 -- Both sides as they open.
 use Rattle.std.specs.Prelude.{◌≡◌, ℕ, zero, suc, ◌+◌, true, None, List, [], ◌∷◌}
-use Rattle.controller_core.specs.Opening.{opened}
-use Rattle.controller_core.specs.declared.queue.QueuePages.{QueuePages}
-use Rattle.host_core.specs.Opening.{refusal_of_config, opened_view, opened_pages}
-use Rattle.host_core.specs.declared.config.Config.{Config}
+use Rattle.controller_core.specs.{Opening.opened, declared.queue.QueuePages.QueuePages}
+use Rattle.host_core.specs.{Opening.{refusal_of_config, opened_view, opened_pages}, declared.config.Config.Config}
 use Rattle.machine_model.specs.Opening.{opening}
 use Rattle.page_memory.specs.declared.page.Half.TheVariants.{Submission, Completion}
 use Rattle.queue_pair.specs.Memory.{half_pages}
-use Rattle.two_sides.specs.Sides.{Sides, state_of}
-use Rattle.two_sides.specs.Ties.{IsWorld}
+use Rattle.two_sides.specs.{Sides.{Sides, state_of}, Ties.IsWorld}
 
 -- where the halves of so many queues begin, one queue's behind the other's, from a page on
 abbrev pub halves_from : ℕ → ℕ → ℕ → List QueuePages

@@ -1,16 +1,13 @@
 -- What the controller answers, in the machine's words.
 use Rattle.std.specs.Prelude.{◌≡◌, ℕ, Some, None, List, Result, Ok, Err}
-use Rattle.controller_core.specs.Completing.{CompletesTo, complete_refusal}
-use Rattle.controller_core.specs.Contents.{Contents}
-use Rattle.controller_core.specs.Walking.{WalksTo, walk_refusal}
+use Rattle.controller_core.specs.{Completing.{CompletesTo, complete_refusal}, Contents.Contents, Walking.{WalksTo, walk_refusal}}
+use Rattle.controller_walk.specs.declared.walk.WalkState.{WalkState}
+use Rattle.machine_model.specs.{Events.Reply, declared.words.Refusal.Refusal}
+use Rattle.page_memory.specs.Memory.{Memory}
 use Rattle.controller_core.specs.declared.refusal.Refusal as controller
 use Rattle.controller_core.specs.declared.refusal.Refusal.TheVariants as because
-use Rattle.controller_walk.specs.declared.walk.WalkState.{WalkState}
 use Rattle.machine_model.specs.Events as events
-use Rattle.machine_model.specs.Events.{Reply}
-use Rattle.machine_model.specs.declared.words.Refusal.{Refusal}
 use Rattle.machine_model.specs.declared.words.Refusal.TheVariants as refusal
-use Rattle.page_memory.specs.Memory.{Memory}
 
 -- why the controller refused
 abbrev pub why_of : controller.Refusal → Refusal

@@ -3,18 +3,13 @@
 use Rattle.std.specs.Prelude.{ℕ, Bool, Option, Some, None, List, [], ◌∷◌, map, if◌then◌else◌}
 use Rattle.admin_commands.specs.Verdicts.{is_absent}
 use Rattle.controller_core.specs.Contents.{Contents, FetchedCommand, Work, entry_of_work, verdict_of_work, dw0_of_work}
-use Rattle.controller_core.specs.declared.command.Work.TheVariants.{Io, Admin}
-use Rattle.controller_core.specs.declared.queue.ControllerQueue.{ControllerQueue}
-use Rattle.entry_codec.specs.declared.completion.ComEntry.{ComEntry}
-use Rattle.entry_codec.specs.declared.submission.SubEntry.{SubEntry}
+use Rattle.controller_core.specs.declared.{command.Work.TheVariants.{Io, Admin}, queue.ControllerQueue.ControllerQueue}
+use Rattle.entry_codec.specs.declared.{completion.ComEntry.ComEntry, submission.SubEntry.SubEntry}
 use Rattle.host_core.specs.Alone.{HostView}
-use Rattle.machine_model.specs.State as machine
 use Rattle.machine_model.specs.State.{State, Device, Answer, HostQueue, DeviceQueue}
-use Rattle.page_memory.specs.Memory.{Memory}
-use Rattle.page_memory.specs.Pages.{Pages, byte_at}
-use Rattle.queue_pair.specs.Lists.{entries_between, answers_between}
-use Rattle.queue_pair.specs.Rings.{HostRing, DeviceSide}
-use Rattle.queue_pair.specs.Slots.{distance}
+use Rattle.page_memory.specs.{Memory.Memory, Pages.{Pages, byte_at}}
+use Rattle.queue_pair.specs.{Lists.{entries_between, answers_between}, Rings.{HostRing, DeviceSide}, Slots.distance}
+use Rattle.machine_model.specs.State as machine
 
 -- both sides, the pages that they share, and whether nothing was forged since the last reset
 pub record Sides : Type 0 where

@@ -1,28 +1,17 @@
 -- Each call of one side, with what the other hears of it, is a step of the machine, and leaves both tied as they were.
-use Rattle.std.specs.Prelude.{◌≡◌, ◌≢◌, ℕ, Some, None, true, false, List, [], Result, length, is_some, slice_get}
-use Rattle.std.specs.Option.{option_map}
-use Rattle.controller_core.specs.Completing.{complete_refusal}
-use Rattle.controller_core.specs.Contents.{Contents, IsController}
-use Rattle.controller_core.specs.Fetching.{Fetches, fetch_refusal}
-use Rattle.controller_core.specs.Resetting.{reset as controller_reset}
-use Rattle.controller_core.specs.Walking.{walk_refusal}
-use Rattle.controller_core.specs.declared.refusal.Refusal as controller
+use Rattle.std.specs.{Option.option_map, Prelude.{◌≡◌, ◌≢◌, ℕ, Some, None, true, false, List, [], Result, length, is_some, slice_get}}
+use Rattle.controller_core.specs.{Completing.complete_refusal, Contents.{Contents, IsController}, Fetching.{Fetches, fetch_refusal}}
+use Rattle.controller_core.specs.{Resetting.reset as controller_reset, Walking.walk_refusal}
 use Rattle.controller_walk.specs.declared.walk.WalkState.{WalkState}
-use Rattle.host_core.specs.Alone.{HostView, HostStep, IsOver, alone}
-use Rattle.host_core.specs.Resetting.{host_reset, pages_reset}
-use Rattle.machine_model.specs.Events as events
-use Rattle.machine_model.specs.Events.{Event, Reply}
-use Rattle.machine_model.specs.Refusals.{refusal_of, seen_entry, is_reaped}
-use Rattle.machine_model.specs.State.{HostQueue}
-use Rattle.machine_model.specs.Step as machine
-use Rattle.machine_model.specs.Step.{Step, forges}
-use Rattle.page_memory.specs.Memory.{written}
-use Rattle.page_memory.specs.Pages.{Pages, byte_at, AreWhole}
+use Rattle.host_core.specs.{Alone.{HostView, HostStep, IsOver, alone}, Resetting.{host_reset, pages_reset}}
+use Rattle.machine_model.specs.{Events.{Event, Reply}, Refusals.{refusal_of, seen_entry, is_reaped}, State.HostQueue, Step.{Step, forges}}
+use Rattle.page_memory.specs.{Memory.written, Pages.{Pages, byte_at, AreWhole}}
 use Rattle.queue_pair.specs.Memory.{completion_place, completion_slot}
-use Rattle.two_sides.specs.Laws.{behind}
-use Rattle.two_sides.specs.Serving.{Walks, Completes, why_of, fetch_reply, walk_reply, complete_reply}
-use Rattle.two_sides.specs.Sides.{Sides, state_of}
+use Rattle.two_sides.specs.{Laws.behind, Serving.{Walks, Completes, why_of, fetch_reply, walk_reply, complete_reply}, Sides.{Sides, state_of}}
 use Rattle.two_sides.specs.Ties.{IsWorld, first_completion_page}
+use Rattle.controller_core.specs.declared.refusal.Refusal as controller
+use Rattle.machine_model.specs.Events as events
+use Rattle.machine_model.specs.Step as machine
 
 -- A step of the machine, behind which both sides are tied as a world's are.
 abbrev pub StepsTo : Sides → Event → Reply → Sides → Type 0

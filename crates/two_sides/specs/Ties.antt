@@ -1,33 +1,18 @@
 -- What holds of a host and a controller over one pool of pages: always, and as long as nothing was forged.
-use Rattle.std.specs.Prelude.{◌≡◌, ◌||◌, Bool, ℕ, suc, true, false, None, List, [], ◌∷◌, IsTrue, slice_index}
+use Rattle.std.specs.{Bool.OnTrue, List.AllByRecursion, Prelude.{◌≡◌, ◌||◌, Bool, ℕ, suc, true, false, None, List, [], ◌∷◌, IsTrue, slice_index}}
 use Rattle.admin_commands.specs.Verdicts.{is_absent}
-use Rattle.std.specs.Bool.{OnTrue}
-use Rattle.std.specs.List.{AllByRecursion}
-use Rattle.controller_core.specs.Contents.{FetchedCommand, IsController, Work}
-use Rattle.controller_core.specs.declared.command.Work.TheVariants.{Io, Admin}
+use Rattle.controller_core.specs.{Contents.{FetchedCommand, IsController, Work}, declared.command.Work.TheVariants.{Io, Admin}}
 use Rattle.controller_core.specs.declared.queue.ControllerQueue.{ControllerQueue}
-use Rattle.controller_walk.specs.Laws.{after_units}
-use Rattle.controller_walk.specs.Units.{course_of_list}
+use Rattle.controller_walk.specs.{Laws.after_units, Units.course_of_list}
 use Rattle.entry_codec.specs.declared.completion.ComEntry.{ComEntry}
 use Rattle.host_core.specs.Alone.{IsOver, IsSoundHost, alone}
 use Rattle.io_commands.specs.Jobs.{job_course, direction_of_entry, need_of_entry}
-use Rattle.machine_model.specs.Agreeing.{SidesAgree}
-use Rattle.machine_model.specs.Always.{IsHostProvided}
-use Rattle.machine_model.specs.Claims.{IsSound}
-use Rattle.machine_model.specs.Memory.{memory_of}
-use Rattle.machine_agreement.specs.Recovering.{CanRecover}
-use Rattle.machine_model.specs.Refusals.{in_service, is_making_cq, is_reaped}
+use Rattle.machine_model.specs.{Agreeing.SidesAgree, Always.IsHostProvided, Claims.IsSound, Memory.memory_of, Refusals.{in_service, is_making_cq, is_reaped}}
 use Rattle.machine_model.specs.State.{HostQueue}
+use Rattle.two_sides.specs.{Deletions.CompletionsServe, Recovering.CanRecover, Sides.{Sides, state_of, completions_between}}
 use Rattle.page_ledger.specs.Owners.{pages_from}
-use Rattle.page_memory.specs.Memory.{Memory}
-use Rattle.page_memory.specs.Pages.{byte_at}
-use Rattle.page_memory.specs.declared.page.Half.TheVariants.{Submission, Completion}
-use Rattle.queue_pair.specs.Lists.{HasPhases, PhasesStand, expected_phase}
-use Rattle.queue_pair.specs.Memory.{half_pages}
-use Rattle.queue_pair.specs.Rings.{IsDeviceSide}
-use Rattle.queue_pair.specs.Slots.{is_in_range}
-use Rattle.two_sides.specs.Deletions.{CompletionsServe}
-use Rattle.two_sides.specs.Sides.{Sides, state_of, completions_between}
+use Rattle.page_memory.specs.{Memory.Memory, Pages.byte_at, declared.page.Half.TheVariants.{Submission, Completion}}
+use Rattle.queue_pair.specs.{Lists.{HasPhases, PhasesStand, expected_phase}, Memory.half_pages, Rings.IsDeviceSide, Slots.is_in_range}
 
 -- The controller's side of queue q has n entries in each ring, as the host's has. Where the halves of an I/O queue lie is said where nothing was forged: after a
 -- forged entry a controller may have fetched an old entry that makes a queue somewhere else.

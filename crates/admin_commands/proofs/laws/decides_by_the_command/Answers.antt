@@ -1,14 +1,8 @@
 use Rattle.std.proofs.Common.{arith, ◌≡◌, ◌≢◌, ◌∙◌, sym, ap, Bool, true, false, Result, Ok, Err}
-use Rattle.entry_codec.specs.declared.submission.SubEntry.{SubEntry}
-use Rattle.entry_codec.specs.declared.status.Status.{Status}
-use Rattle.entry_codec.specs.declared.status.TheConstants.Status.{INVALID_OPCODE}
-use Rattle.admin_commands.specs.declared.AdminKind.{AdminKind}
-use Rattle.admin_commands.specs.declared.AdminKind.TheVariants.{Abort, DeleteSq, DeleteCq, CreateCq, CreateSq}
-use Rattle.admin_commands.specs.declared.AdminVerdict.{AdminVerdict}
-use Rattle.admin_commands.specs.declared.AdminVerdict.TheVariants.{Answer}
-use Rattle.admin_commands.specs.declared.DeviceView.{DeviceView}
-use Rattle.admin_commands.specs.Entries.{kind_or_fault}
-use Rattle.admin_commands.specs.Verdicts.{decision, abort_verdict, delete_sq_verdict, delete_cq_verdict}
+use Rattle.entry_codec.specs.declared.{status.{Status.Status, TheConstants.Status.INVALID_OPCODE}, submission.SubEntry.SubEntry}
+use Rattle.admin_commands.specs.{Entries.kind_or_fault, Verdicts.{decision, abort_verdict, delete_sq_verdict, delete_cq_verdict}, declared.AdminKind.AdminKind}
+use Rattle.admin_commands.specs.declared.{AdminKind.TheVariants.{Abort, DeleteSq, DeleteCq, CreateCq, CreateSq}, AdminVerdict.AdminVerdict}
+use Rattle.admin_commands.specs.declared.{AdminVerdict.TheVariants.Answer, DeviceView.DeviceView}
 use Rattle.admin_commands.proofs.laws.decides_by_the_command.Goals as goal
 
 -- whether what an entry asks for is the creation of a queue

@@ -1,4 +1,4 @@
-use Rattle.controller_core.proofs.Ready.{posts_by}
+use Rattle.controller_core.proofs.Rows.{posts_by}
 use Rattle.controller_core.proofs.answer.answer.Goals as goal
 
 pub returns-clause-posts : goal.returns-clause-posts

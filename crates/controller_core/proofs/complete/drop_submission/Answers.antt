@@ -1,6 +1,5 @@
 use Rattle.std.proofs.Common.{arith, refl}
-use Rattle.controller_core.specs.Completing.{without_submission}
-use Rattle.controller_core.proofs.Lists.{change-at, change-past}
+use Rattle.controller_core.{proofs.Lists.{change-at, change-past}, specs.Completing.without_submission}
 use Rattle.controller_core.proofs.complete.drop_submission.Goals as goal
 
 pub returns-then-from-len : goal.returns-then-from-len

@@ -1,6 +1,5 @@
 use Rattle.std.proofs.Common.{◌++◌, ◌∷◌, [], length, List, ap, ap₂, sym, ◌∙◌, arith}
-use Rattle.controller_core.specs.declared.queue.ControllerQueue.{ControllerQueue}
-use Rattle.controller_core.proofs.Opened.{many_taken, queues-more}
+use Rattle.controller_core.{proofs.ResetQueues.{many_taken, queues-more}, specs.declared.queue.ControllerQueue.ControllerQueue}
 use Rattle.controller_core.proofs.controller.open_queues.Goals as goal
 
 pub push_reserved-requires : goal.push_reserved-requires

@@ -1,6 +1,5 @@
 use Rattle.std.proofs.Common.{arith}
-use Rattle.controller_core.specs.Doorbells.{with_head}
-use Rattle.controller_core.proofs.Lists.{change-at, change-past}
+use Rattle.controller_core.{proofs.Lists.{change-at, change-past}, specs.Doorbells.with_head}
 use Rattle.controller_core.proofs.doorbell.hear_head_of.Goals as goal
 
 pub returns-then-from-len : goal.returns-then-from-len

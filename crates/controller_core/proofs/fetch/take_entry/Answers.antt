@@ -1,8 +1,6 @@
 use Rattle.std.proofs.Common.{ap, arith}
 use Rattle.queue_pair.specs.Rings.{DeviceSide}
-use Rattle.controller_core.specs.Doorbells.{with_side}
-use Rattle.controller_core.specs.Managing.{with_taken}
-use Rattle.controller_core.proofs.Lists.{change-at}
+use Rattle.controller_core.{proofs.Lists.change-at, specs.{Doorbells.with_side, Managing.with_taken}}
 use Rattle.controller_core.proofs.fetch.take_entry.Goals as goal
 
 pub returns : goal.returns

@@ -1,6 +1,5 @@
 use Rattle.std.proofs.Common.{arith, refl}
-use Rattle.controller_core.specs.Managing.{without_completion}
-use Rattle.controller_core.proofs.Lists.{change-at, change-past}
+use Rattle.controller_core.{proofs.Lists.{change-at, change-past}, specs.Managing.without_completion}
 use Rattle.controller_core.proofs.manage.drop_completion.Goals as goal
 
 pub returns-then-from-len : goal.returns-then-from-len

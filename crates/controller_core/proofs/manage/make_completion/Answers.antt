@@ -1,6 +1,5 @@
 use Rattle.std.proofs.Common.{arith}
-use Rattle.controller_core.specs.Managing.{with_completion}
-use Rattle.controller_core.proofs.Lists.{change-at, change-past}
+use Rattle.controller_core.{proofs.Lists.{change-at, change-past}, specs.Managing.with_completion}
 use Rattle.controller_core.proofs.manage.make_completion.Goals as goal
 
 pub returns-then-from-len : goal.returns-then-from-len

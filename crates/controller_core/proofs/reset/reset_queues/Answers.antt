@@ -1,5 +1,5 @@
 use Rattle.std.proofs.Common.{◌∙◌, ◌≡◌, ℕ, length, slice_set, ap, arith}
-use Rattle.controller_core.proofs.Resets.{all_reset, first_reset, reset_next}
+use Rattle.controller_core.proofs.ResetQueues.{all_reset, first_reset, reset_next}
 use Rattle.controller_core.proofs.reset.reset_queues.Goals as goal
 
 pub loop-q-preserved : goal.loop-q-preserved

@@ -1,4 +1,4 @@
-use Rattle.controller_core.proofs.FirstCreations.{completion_fetched, submission_fetched}
+use Rattle.controller_core.proofs.WorkedReads.{completion_fetched, submission_fetched}
 use Rattle.controller_core.proofs.worked.worked_creations.Goals as goal
 
 pub returns-clause-completion : goal.returns-clause-completion

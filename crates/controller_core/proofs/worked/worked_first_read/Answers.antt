@@ -1,4 +1,4 @@
-use Rattle.controller_core.proofs.FirstRead.{first_fetch, first_unit, second_unit, first_completion}
+use Rattle.controller_core.proofs.WorkedReads.{first_fetch, first_unit, second_unit, first_completion}
 use Rattle.controller_core.proofs.worked.worked_first_read.Goals as goal
 
 pub returns-clause-fetch : goal.returns-clause-fetch

@@ -1,4 +1,4 @@
-use Rattle.controller_walk.proofs.All.{list_moves_all}
+use Rattle.controller_walk.proofs.Along.{list_moves_all}
 use Rattle.controller_walk.proofs.laws.lists_move_all_bytes.Goals as goal
 
 pub returns : goal.returns

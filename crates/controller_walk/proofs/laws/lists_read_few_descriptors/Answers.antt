@@ -1,4 +1,4 @@
-use Rattle.controller_walk.proofs.Counts.{few_in_list}
+use Rattle.controller_walk.proofs.Courses.{few_in_list}
 use Rattle.controller_walk.proofs.laws.lists_read_few_descriptors.Goals as goal
 
 pub returns : goal.returns

@@ -1,4 +1,4 @@
-use Rattle.controller_walk.proofs.Moves.{on_ok, on_ok_both, wrote_moved, read_moved, length_mid, found_of}
+use Rattle.controller_walk.proofs.Courses.{on_ok, on_ok_both, wrote_moved, read_moved, length_mid, found_of}
 use Rattle.controller_walk.proofs.progress.transfer.Goals as goal
 
 pub returns-in-Source-clause-moved : goal.returns-in-Source-clause-moved

@@ -1,9 +1,6 @@
-use Rattle.std.proofs.Common.{◌≡◌, true, false, arith, sym, ap, ◌∙◌}
-use Rattle.std.proofs.lemmas.List.Sums.{count_by_more_yes, count_by_more_no}
-use Rattle.step_log.specs.History.{is_accepted}
-use Rattle.driver_book.proofs.Standing.{here_at}
+use Rattle.std.proofs.{Common.{◌≡◌, true, false, arith, sym, ap, ◌∙◌}, lemmas.List.Sums.{count_by_more_yes, count_by_more_no}}
+use Rattle.driver_book.{proofs.{StandsInReceipts.here_at, close.accepted_before.Goals.{then-is_submission, else-is_submission}}, specs.History.is_accepted}
 use Rattle.driver_book.proofs.close.accepted_before.Goals as goal
-use Rattle.driver_book.proofs.close.accepted_before.Goals.{then-is_submission, else-is_submission}
 
 pub loop-p-preserved : goal.loop-p-preserved
 loop-p-preserved g c =

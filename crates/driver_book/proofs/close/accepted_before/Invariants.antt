@@ -1,5 +1,5 @@
 use Rattle.std.proofs.Common.{◌≡◌, take}
-use Rattle.step_log.specs.History.{accepted}
+use Rattle.driver_book.specs.History.{accepted}
 use Rattle.driver_book.proofs.close.accepted_before.Given as goal
 
 abbrev pub invariant-loop-p : goal.invariant-loop-p

@@ -1,7 +1,7 @@
 use Rattle.std.proofs.Common.{true≢false, sym, ◌∙◌}
-use Rattle.driver_book.proofs.Standing.{here_at, known_here, unknown_here}
-use Rattle.driver_book.proofs.close.known_until.Goals as goal
+use Rattle.driver_book.proofs.StandsInReceipts.{here_at, known_here, unknown_here}
 use Rattle.driver_book.proofs.close.known_until.Goals.{then-is_submission+else-not-has_seat, else-is_submission}
+use Rattle.driver_book.proofs.close.known_until.Goals as goal
 
 pub returns-then-not-has_seat-clause-missing : goal.returns-then-not-has_seat-clause-missing
 returns-then-not-has_seat-clause-missing g c =

@@ -1,10 +1,7 @@
 use Rattle.std.proofs.Common.{◌≡◌, Some, take, arith, rules, subst}
-use Rattle.step_log.specs.History.{accepted}
-use Rattle.driver_book.specs.Passes.{StandOf}
-use Rattle.driver_book.specs.State.{SeatContents}
-use Rattle.driver_book.proofs.Standing.{here_at, all_before, first_missing, search_all, search_less}
+use Rattle.driver_book.proofs.{StandsInReceipts.{here_at, all_before, first_missing, search_all, search_less}, close.missing.Goals.{in-Some, in-None}}
+use Rattle.driver_book.specs.{History.accepted, Passes.StandOf, State.SeatContents}
 use Rattle.driver_book.proofs.close.missing.Goals as goal
-use Rattle.driver_book.proofs.close.missing.Goals.{in-Some, in-None}
 
 pub returns-then-end-len : goal.returns-then-end-len
 returns-then-end-len g c =

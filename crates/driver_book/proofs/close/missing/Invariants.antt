@@ -1,4 +1,4 @@
-use Rattle.driver_book.proofs.Standing.{Searched}
+use Rattle.driver_book.proofs.StandsInReceipts.{Searched}
 use Rattle.driver_book.proofs.close.missing.Given as goal
 
 -- the seats so far were gone through

@@ -1,7 +1,7 @@
 use Rattle.std.proofs.Common.{Some, arith, sym, ◌∙◌}
-use Rattle.driver_book.proofs.Standing.{here_at, pass_own, pass_other, pass_none, place_of_own, missing_here}
-use Rattle.driver_book.proofs.close.missing_of.Goals as goal
+use Rattle.driver_book.proofs.StandsInReceipts.{here_at, pass_own, pass_other, pass_none, place_of_own, missing_here}
 use Rattle.driver_book.proofs.close.missing_of.Goals.{then-is_submission, then-is_same_seat+else-not-does_stand, else-is_same_seat, else-is_submission}
+use Rattle.driver_book.proofs.close.missing_of.Goals as goal
 
 pub does_stand-requires-clause-place : goal.does_stand-requires-clause-place
 does_stand-requires-clause-place g c =

@@ -1,5 +1,5 @@
 use Rattle.std.proofs.Common.{Some}
-use Rattle.driver_book.proofs.Standing.{Passed}
+use Rattle.driver_book.proofs.StandsInReceipts.{Passed}
 use Rattle.driver_book.proofs.close.missing_of.Given as goal
 
 -- the log was gone through up to here

@@ -1,4 +1,4 @@
-use Rattle.driver_book.proofs.Histories.{logs_of_jobs_are_runs}
+use Rattle.driver_book.proofs.Runs.{logs_of_jobs_are_runs}
 use Rattle.driver_book.proofs.laws.law_of_logs_of_jobs.Goals as goal
 
 pub returns : goal.returns

@@ -1,5 +1,5 @@
 use Rattle.std.proofs.Common.{ap, ◌∙◌, is_some}
-use Rattle.driver_book.proofs.Seats.{any_in_tail}
+use Rattle.driver_book.proofs.StandsInReceipts.{any_in_tail}
 use Rattle.driver_book.proofs.seat.is_awaited.Goals as goal
 
 pub returns : goal.returns

@@ -1,6 +1,5 @@
 use Rattle.std.proofs.Common.{Some, None, Option, ℕ, ap, sym}
-use Rattle.driver_book.specs.Calls.{settled_at}
-use Rattle.driver_book.proofs.Seats.{found_in_tail, more_in_tail, settled_set}
+use Rattle.driver_book.{proofs.StandsInReceipts.{found_in_tail, more_in_tail, settled_set}, specs.Calls.settled_at}
 use Rattle.driver_book.proofs.seat.settle.Goals as goal
 
 pub returns-in_default-clause-receipts : goal.returns-in_default-clause-receipts

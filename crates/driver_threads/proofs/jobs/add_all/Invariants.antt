@@ -1,6 +1,5 @@
 -- the lists that came stand behind those that were there
-use Rattle.std.proofs.Common.{◌≡◌, ◌+◌, length, map, vec_len}
-use Rattle.std.specs.Vec.Iter.{into_iter_len}
+use Rattle.std.{proofs.Common.{◌≡◌, ◌+◌, length, map, vec_len}, specs.Vec.Iter.into_iter_len}
 use Rattle.driver_threads.specs.Behind.{behind}
 use Rattle.driver_threads.proofs.jobs.add_all.Given as goal
 

@@ -1,6 +1,6 @@
 -- The list of the submitter grew, or there is one list more.
 use Rattle.std.proofs.Common.{arith, ap, map, ◌∙◌}
-use Rattle.driver_threads.proofs.Behinds.{added_there, added_last}
+use Rattle.driver_threads.proofs.UnderWay.{added_there, added_last}
 use Rattle.driver_threads.proofs.jobs.add_ends.Goals as goal
 
 pub returns-in_ok-append : goal.returns-in_ok-append

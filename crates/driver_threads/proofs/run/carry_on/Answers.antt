@@ -1,12 +1,8 @@
 -- The ends of a round are told as lists of ends, which are as long as the lists that hold them.
-use Rattle.std.proofs.Common.{ap, length, map, subst, sym, ◌∙◌}
-use Rattle.std.specs.Bool.{OnTrue}
-use Rattle.driver_book.specs.State.{AreOfJobs, SeatContents}
+use Rattle.std.{proofs.{Common.{ap, length, map, subst, sym, ◌∙◌}, lemmas.Simd.map-map}, specs.Bool.OnTrue}
+use Rattle.driver_book.specs.{Entries.LogContents, History.LeadsTo, State.{AreOfJobs, SeatContents}}
 use Rattle.driver_threads.specs.Ends.{ends_of, statuses_of}
 use Rattle.machine_model.specs.State.{State}
-use Rattle.step_log.specs.History.{LeadsTo}
-use Rattle.step_log.specs.Values.{LogContents}
-use Rattle.std.proofs.lemmas.Simd.{map-map}
 use Rattle.driver_threads.proofs.run.carry_on.Goals as goal
 
 pub returns-in-Ok-clause-ends : goal.returns-in-Ok-clause-ends

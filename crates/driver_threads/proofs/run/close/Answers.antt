@@ -1,10 +1,8 @@
 -- The ends of a run are told as lists of ends, which are as long as the lists that hold them.
-use Rattle.std.proofs.Common.{ap, length, map, subst, ◌∙◌}
-use Rattle.driver_book.specs.State.{SeatContents}
+use Rattle.std.proofs.{Common.{ap, length, map, subst, ◌∙◌}, lemmas.Simd.map-map}
+use Rattle.driver_book.specs.{History.LeadsTo, State.SeatContents}
 use Rattle.driver_threads.specs.Ends.{ends_of, statuses_of}
 use Rattle.machine_model.specs.State.{State}
-use Rattle.step_log.specs.History.{LeadsTo}
-use Rattle.std.proofs.lemmas.Simd.{map-map}
 use Rattle.driver_threads.proofs.run.close.Goals as goal
 
 pub returns-in-Ok-clause-ends : goal.returns-in-Ok-clause-ends

@@ -1,7 +1,6 @@
 -- A run over a book that takes the steps of jobs alone is trusted.
 use Rattle.std.proofs.Common.{subst}
-use Rattle.driver_threads.proofs.Trusted.{run_of_jobs}
-use Rattle.driver_threads.specs.Runs.{RanFrom}
+use Rattle.driver_threads.{proofs.UnderWay.run_of_jobs, specs.Runs.RanFrom}
 use Rattle.machine_model.specs.State.{State}
 use Rattle.step_core.specs.Opening.{opening_of}
 use Rattle.driver_threads.proofs.run.run_threads.Goals as goal

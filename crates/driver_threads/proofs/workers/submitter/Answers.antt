@@ -1,5 +1,5 @@
 -- Where each job has its end, none was cut off.
-use Rattle.driver_threads.proofs.Ended.{all_carried}
+use Rattle.driver_threads.proofs.UnderWay.{all_carried}
 use Rattle.driver_threads.proofs.workers.submitter.Goals as goal
 
 pub returns-clause-agree : goal.returns-clause-agree

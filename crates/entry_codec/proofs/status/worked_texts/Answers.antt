@@ -1,6 +1,5 @@
 -- The types are computed as decimal text.
-use Rattle.std.proofs.Common.{refl}
-use Rattle.std.specs.Fmt.{digits}
+use Rattle.std.{proofs.Common.refl, specs.Fmt.digits}
 use Rattle.entry_codec.proofs.status.worked_texts.Goals as goal
 
 pub returns : goal.returns

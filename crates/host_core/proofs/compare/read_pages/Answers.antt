@@ -1,6 +1,4 @@
-use Rattle.std.proofs.Common.{◌≡◌, ℕ, List, length, take, sym, subst}
-use Rattle.std.proofs.lemmas.List.{take_all}
-use Rattle.std.proofs.lemmas.List.Elements.{All-more, All-same}
+use Rattle.std.proofs.{Common.{◌≡◌, ℕ, List, length, take, sym, subst}, lemmas.List.{take_all, Elements.{All-more, All-same}}}
 use Rattle.host_core.proofs.compare.read_pages.Goals as goal
 
 pub loop-page-preserved : goal.loop-page-preserved

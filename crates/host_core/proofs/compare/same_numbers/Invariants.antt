@@ -1,5 +1,4 @@
-use Rattle.std.proofs.Common.{◌≡◌, drop, nat_eq}
-use Rattle.std.specs.Cmp.Lexicographic.{pointwise}
+use Rattle.std.{proofs.Common.{◌≡◌, drop, nat_eq}, specs.Cmp.Lexicographic.pointwise}
 use Rattle.io_commands.specs.Values.{numbers_of}
 use Rattle.host_core.proofs.compare.same_numbers.Given as goal
 

@@ -1,5 +1,5 @@
 use Rattle.std.proofs.Common.{sym}
-use Rattle.host_core.proofs.Comparing.{pieces-differ}
+use Rattle.host_core.proofs.Lists.{pieces-differ}
 use Rattle.host_core.proofs.compare.same_pieces.Goals as goal
 
 pub returns-then-a-b : goal.returns-then-a-b

@@ -1,7 +1,6 @@
 use Rattle.std.proofs.Common.{◌≡◌, length, drop}
 use Rattle.machine_model.specs.Memory.{with_pages}
-use Rattle.host_core.specs.Commands.{CanPut}
-use Rattle.host_core.specs.Touching.{TouchesBy}
+use Rattle.host_core.specs.{Commands.CanPut, Touching.TouchesBy}
 use Rattle.host_core.proofs.moving.move_in.Given as goal
 
 abbrev pub invariant-loop-number : goal.invariant-loop-number

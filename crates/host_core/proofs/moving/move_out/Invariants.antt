@@ -1,8 +1,6 @@
 use Rattle.std.proofs.Common.{◌≡◌, ◌++◌, ◌+◌, drop, vec_len, vec_capacity}
 use Rattle.machine_model.specs.Memory.{without_pages}
-use Rattle.host_core.specs.Collecting.{taken_pages}
-use Rattle.host_core.specs.Commands.{CanTake}
-use Rattle.host_core.specs.Touching.{TouchesBy}
+use Rattle.host_core.specs.{Collecting.taken_pages, Commands.CanTake, Touching.TouchesBy}
 use Rattle.host_core.proofs.moving.move_out.Given as goal
 
 abbrev pub invariant-loop-number : goal.invariant-loop-number

@@ -1,7 +1,6 @@
 use Rattle.std.proofs.Common.{◌≡◌, ◌++◌, ◌+◌, ◌≤◌, ◌-◌, length, drop, take, vec_len, vec_capacity}
 use Rattle.machine_model.specs.Memory.{without_pages, zeroed_pages}
-use Rattle.host_core.specs.Commands.{CanTake}
-use Rattle.host_core.specs.Touching.{TouchesBy}
+use Rattle.host_core.specs.{Commands.CanTake, Touching.TouchesBy}
 use Rattle.host_core.proofs.moving.move_out_zeroed.Given as goal
 
 abbrev pub invariant-loop-number : goal.invariant-loop-number

@@ -1,6 +1,6 @@
 use Rattle.std.proofs.Common.{◌≡◌, ◌+◌, Some, ap, arith, length, slice_set}
 use Rattle.page_memory.specs.Pages.{Contents, zero_page}
-use Rattle.host_core.proofs.Zeroing.{can-next, first-there, put-zeroed, taken-out, zeroed-next}
+use Rattle.host_core.proofs.PageOwners.{can-next, first-there, put-zeroed, taken-out, zeroed-next}
 use Rattle.host_core.proofs.moving.zero_run.Goals as goal
 
 pub put-requires : goal.put-requires

@@ -1,8 +1,7 @@
 use Rattle.std.proofs.Common.{◌≡◌, ◌+◌, ◌-◌}
 use Rattle.machine_model.specs.Memory.{with_pages, zeroed_pages}
 use Rattle.page_ledger.specs.Owners.{pages_from}
-use Rattle.host_core.specs.Commands.{CanZero}
-use Rattle.host_core.specs.Touching.{TouchesBy}
+use Rattle.host_core.specs.{Commands.CanZero, Touching.TouchesBy}
 use Rattle.host_core.proofs.moving.zero_run.Given as goal
 
 abbrev pub invariant-loop-p : goal.invariant-loop-p

@@ -1,7 +1,7 @@
 use Rattle.std.proofs.Common.{ℕ, ◌<◌, ◌≤◌, arith, ap, is_some}
 use Rattle.page_memory.specs.declared.page.Half.TheVariants.{Submission, Completion}
 use Rattle.queue_pair.specs.Memory.{half_pages}
-use Rattle.host_core.proofs.OpeningGrants.{first_run, second_run, both_granted}
+use Rattle.host_core.proofs.Openings.{first_run, second_run, both_granted}
 use Rattle.host_core.proofs.open.grant_halves.Goals as goal
 
 some_pages : (n : ℕ) → 2 ≤ n → (0 < half_pages n Submission) × (0 < half_pages n Completion)

@@ -1,13 +1,10 @@
-use Rattle.std.proofs.Common.{subst, ◌≡◌, ℕ, ◌+◌, ◌≤◌, List, [], ◌∷◌, ◌++◌, length, map, ap, ap₂, sym, ◌∙◌, arith}
-use Rattle.std.proofs.Math.Nat.{mul-le-mul_right}
+use Rattle.std.proofs.{Common.{subst, ◌≡◌, ℕ, ◌+◌, ◌≤◌, List, [], ◌∷◌, ◌++◌, length, map, ap, ap₂, sym, ◌∙◌, arith}, Math.Nat.mul-le-mul_right}
 use Rattle.std.proofs.lemmas.List.{length-map, map-append}
-use Rattle.machine_model.proofs.Opening.{length-range}
-use Rattle.page_ledger.specs.Owners.{pages_from}
-use Rattle.page_ledger.proofs.Pages.{pages_from-more}
+use Rattle.machine_model.proofs.Headline.{length-range}
+use Rattle.page_ledger.{proofs.Pages.pages_from-more, specs.Owners.pages_from}
 use Rattle.page_memory.specs.declared.page.Half.TheVariants.{Submission, Completion}
 use Rattle.queue_pair.specs.Memory.{half_pages}
-use Rattle.host_core.specs.Opening.{HalvesGranted, sq_from, cq_from, fresh_at, fresh_queue, fresh_queues}
-use Rattle.host_core.specs.Rows.{Queue}
+use Rattle.host_core.specs.{Opening.{HalvesGranted, sq_from, cq_from, fresh_at, fresh_queue, fresh_queues}, Rows.Queue}
 use Rattle.host_core.proofs.open.open_queues.Goals as goal
 
 many : (n q : ℕ) → length (fresh_queues n q) ≡ q

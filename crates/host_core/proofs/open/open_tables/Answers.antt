@@ -1,5 +1,5 @@
 use Rattle.std.proofs.Common.{arith}
-use Rattle.host_core.proofs.Fresh.{limits}
+use Rattle.host_core.proofs.Openings.{limits}
 use Rattle.host_core.proofs.open.open_tables.Goals as goal
 
 pub overflow_add-config-2 : goal.overflow_add-config-2

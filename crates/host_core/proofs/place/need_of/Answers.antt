@@ -1,14 +1,9 @@
-use Rattle.std.proofs.lemmas.List.Sums.{count_by-le-length}
-use Rattle.std.proofs.Common.{◌≡◌, ◌<◌, ◌≤◌, ◌∙◌, ℕ, List, arith, ap, sym, length}
-use Rattle.io_commands.specs.Requests.{is_data, data_count, joined_parts}
-use Rattle.io_commands.proofs.Spelled.{few_pieces}
-use Rattle.sgl_chain.proofs.Counts.{needed_few}
-use Rattle.sgl_chain.specs.Chains.{pages_needed}
+use Rattle.std.proofs.{Common.{◌≡◌, ◌<◌, ◌≤◌, ◌∙◌, ℕ, List, arith, ap, sym, length}, lemmas.List.Sums.count_by-le-length}
+use Rattle.io_commands.{proofs.Building.few_pieces, specs.Requests.{is_data, data_count, joined_parts}}
+use Rattle.sgl_chain.{proofs.Spelled.needed_few, specs.Chains.pages_needed}
 use Rattle.machine_model.specs.Placement.{placed}
-use Rattle.page_ledger.specs.Owners.{free_pages}
-use Rattle.page_ledger.specs.declared.owner.Counts.{Counts}
-use Rattle.host_core.proofs.Granting.{wanted-placed}
-use Rattle.host_core.proofs.Placing.{placed-run, placed-lowest, least-in-run}
+use Rattle.page_ledger.specs.{Owners.free_pages, declared.owner.Counts.Counts}
+use Rattle.host_core.proofs.{Granting.wanted-placed, Making.{placed-run, placed-lowest, least-in-run}}
 use Rattle.host_core.proofs.place.need_of.Goals as goal
 
 pub overflow_add-result : goal.overflow_add-result

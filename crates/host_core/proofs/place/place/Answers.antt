@@ -1,8 +1,6 @@
 use Rattle.std.proofs.Common.{◌≡◌, ◌+◌, ◌<◌, ◌≤◌, ◌∙◌, ◌++◌, ◌∷◌, [], ℕ, List, arith, ap, sym, refl, length, take}
-use Rattle.page_ledger.specs.Owners.{free_pages, pages_from}
-use Rattle.page_ledger.proofs.FreeRuns.{lowest_run-within}
-use Rattle.page_ledger.proofs.Pages.{pages_from-more}
-use Rattle.host_core.proofs.Placing.{placed-run, placed-lowest}
+use Rattle.page_ledger.{proofs.Pages.{lowest_run-within, pages_from-more}, specs.Owners.{free_pages, pages_from}}
+use Rattle.host_core.proofs.Making.{placed-run, placed-lowest}
 use Rattle.host_core.proofs.place.place.Goals as goal
 
 pub loop-i-init : goal.loop-i-init

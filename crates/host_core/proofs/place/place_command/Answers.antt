@@ -1,12 +1,7 @@
 use Rattle.std.proofs.Common.{◌≡◌, ◌∙◌, ℕ, List, arith, ap, length, refl}
-use Rattle.machine_model.specs.Placement.{placed, without_numbers}
-use Rattle.machine_model.proofs.FreePages.{length_left, length_placed, placed_times}
-use Rattle.page_ledger.specs.Owners.{free_pages}
-use Rattle.page_ledger.specs.declared.owner.Owner.TheVariants.{Command}
-use Rattle.page_ledger.specs.declared.owner.Role.TheVariants.{Data}
-use Rattle.page_ledger.proofs.Tables.{free-others}
-use Rattle.host_core.specs.Commands.{first_placed}
-use Rattle.host_core.proofs.Granted.{free-once}
+use Rattle.machine_model.{proofs.Headline.{length_left, length_placed, placed_times}, specs.Placement.{placed, without_numbers}}
+use Rattle.page_ledger.{proofs.Tables.free-others, specs.{Owners.free_pages, declared.owner.{Owner.TheVariants.Command, Role.TheVariants.Data}}}
+use Rattle.host_core.{proofs.Granted.free-once, specs.Commands.first_placed}
 use Rattle.host_core.proofs.place.place_command.Goals as goal
 
 pub place-requires-2-clause-enough : goal.place-requires-2-clause-enough

@@ -1,6 +1,5 @@
 use Rattle.std.proofs.Common.{ap, sym, arith}
-use Rattle.host_core.specs.Reaping.{with_state}
-use Rattle.host_core.proofs.Changing.{change-at, change-past}
+use Rattle.host_core.{proofs.Lists.{change-at, change-past}, specs.Reaping.with_state}
 use Rattle.host_core.proofs.queues.note.Goals as goal
 
 pub returns-then-from-queues : goal.returns-then-from-queues

@@ -1,4 +1,4 @@
-use Rattle.io_commands.proofs.Spelled.{carries_entry, built_drafts_spell}
+use Rattle.io_commands.proofs.Building.{carries_entry, built_drafts_spell}
 use Rattle.io_commands.proofs.laws.laws_of_built_drafts.Goals as goal
 
 pub returns-clause-entry : goal.returns-clause-entry

@@ -1,5 +1,4 @@
-use Rattle.io_commands.specs.Values.{numbers_of}
-use Rattle.io_commands.proofs.Building.{some_parts, front_pages, rest_pages}
+use Rattle.io_commands.{proofs.Building.{some_parts, front_pages, rest_pages}, specs.Values.numbers_of}
 use Rattle.io_commands.proofs.layout.chain_of.Goals as goal
 
 pub build-requires-clause-some : goal.build-requires-clause-some

@@ -1,5 +1,4 @@
-use Rattle.std.proofs.Common.{◌≡◌, ◌≤◌, map, take, length, vec_len}
-use Rattle.std.specs.Vec.{vec_capacity}
+use Rattle.std.{proofs.Common.{◌≡◌, ◌≤◌, map, take, length, vec_len}, specs.Vec.vec_capacity}
 use Rattle.io_commands.proofs.layout.numbers_of.Given as goal
 
 abbrev pub invariant-loop-number : goal.invariant-loop-number

@@ -1,8 +1,7 @@
 use Rattle.std.proofs.Common.{arith, ◌≡◌, ◌∙◌, ◌+◌, ◌∷◌, ℕ, List, ap, sym, length}
 use Rattle.sgl_descriptor.specs.declared.Part.{Part}
 use Rattle.sgl_chain.specs.Joining.{joined}
-use Rattle.io_commands.specs.Requests.{parts_of}
-use Rattle.io_commands.proofs.Counting.{counted_as_one}
+use Rattle.io_commands.{proofs.Fewest.counted_as_one, specs.Requests.parts_of}
 use Rattle.io_commands.proofs.least.count_from.Goals as goal
 
 pub loop-part-preserved-in-Some-join : goal.loop-part-preserved-in-Some-join

@@ -1,6 +1,5 @@
-use Rattle.std.proofs.Common.{arith, ◌≡◌, drop, ap}
-use Rattle.std.proofs.Math.ListN.{drop_of_length-le}
-use Rattle.io_commands.proofs.Runs.{begun, counted}
+use Rattle.std.proofs.{Common.{arith, ◌≡◌, drop, ap}, Math.ListN.drop_of_length-le}
+use Rattle.io_commands.proofs.Fewest.{begun, counted}
 use Rattle.io_commands.proofs.least.joined_count.Goals as goal
 
 pub returns-clause-count : goal.returns-clause-count

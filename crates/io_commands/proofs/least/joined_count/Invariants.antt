@@ -1,5 +1,5 @@
 use Rattle.std.proofs.Common.{◌≡◌, ◌≤◌, ◌+◌, false, drop}
-use Rattle.io_commands.proofs.Runs.{begun}
+use Rattle.io_commands.proofs.Fewest.{begun}
 use Rattle.io_commands.proofs.least.joined_count.Given as goal
 
 abbrev pub invariant-loop-piece : goal.invariant-loop-piece

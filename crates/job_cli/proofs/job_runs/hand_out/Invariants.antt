@@ -1,7 +1,6 @@
 -- the jobs of the lines that came are handed out; the other lines are left
 use Rattle.std.proofs.Common.{◌≡◌, ◌++◌, map, vec_len}
-use Rattle.job_cli.specs.Headings.{headings_of}
-use Rattle.job_cli.specs.JobRuns.{AreListsOf}
+use Rattle.job_cli.specs.{Headings.headings_of, JobRuns.AreListsOf}
 use Rattle.job_cli.proofs.job_runs.hand_out.Given as goal
 
 abbrev pub invariant-loop-line : goal.invariant-loop-line

@@ -1,7 +1,6 @@
 -- What was read of the reader has the same jobs as all that it had.
 use Rattle.std.proofs.Common.{ℕ, List, Err, sym, ap, subst, ◌∙◌}
-use Rattle.job_cli.proofs.JobRuns.{jobs_are_told, no_jobs_are_told}
-use Rattle.job_cli.specs.Jobs.{jobs_of, IsReadAs}
+use Rattle.job_cli.{proofs.JobRuns.{jobs_are_told, no_jobs_are_told}, specs.Jobs.{jobs_of, IsReadAs}}
 use Rattle.job_cli.proofs.job_runs.load_jobs.Goals as goal
 
 pub returns-in-Ok-read_jobs-clause-script : goal.returns-in-Ok-read_jobs-clause-script

@@ -1,9 +1,7 @@
 -- the owners so far are those of the pages below the next one
-use Rattle.std.proofs.Common.{◌≡◌, ◌+◌, ◌-◌, ◌≤◌, ℕ, Some, length, vec_len, vec_capacity}
-use Rattle.std.specs.List.{Contains}
+use Rattle.std.{proofs.Common.{◌≡◌, ◌+◌, ◌-◌, ◌≤◌, ℕ, Some, length, vec_len, vec_capacity}, specs.List.Contains}
 use Rattle.machine_model.specs.Claims.{claims_of}
-use Rattle.page_ledger.specs.Owners.{owner_at}
-use Rattle.page_ledger.specs.declared.owner.Owner.{Owner}
+use Rattle.page_ledger.specs.{Owners.owner_at, declared.owner.Owner.Owner}
 use Rattle.job_cli.proofs.job_runs.owners_of.Given as goal
 
 abbrev pub invariant-loop-p : goal.invariant-loop-p

@@ -1,8 +1,6 @@
 -- What was written is the text of the run, or a front of it.
 use Rattle.std.proofs.Common.{ap, subst, ◌≡◌, ◌∙◌, List, map}
-use Rattle.job_cli.proofs.JobRuns.{each_has_ended, jobs_text_is, no_run_failed, run_writes, run_is_cut}
-use Rattle.job_cli.specs.Headings.{headings_of}
-use Rattle.job_cli.specs.JobRuns.{AreListsOf}
+use Rattle.job_cli.{proofs.JobRuns.{each_has_ended, jobs_text_is, no_run_failed, run_writes, run_is_cut}, specs.{Headings.headings_of, JobRuns.AreListsOf}}
 use Rattle.job_cli.specs.declared.jobs.JobLine.{JobLine}
 use Rattle.job_cli.proofs.job_runs.run_jobs.Goals as goal
 

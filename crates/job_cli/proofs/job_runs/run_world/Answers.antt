@@ -1,7 +1,6 @@
 -- The rounds went on from the opening to the world that is shown.
 use Rattle.std.proofs.Common.{subst}
-use Rattle.job_cli.proofs.GoneOn.{left_from}
-use Rattle.job_cli.specs.GoneOn.{HasGoneOn}
+use Rattle.job_cli.{proofs.JobRuns.left_from, specs.GoneOn.HasGoneOn}
 use Rattle.machine_model.specs.State.{State}
 use Rattle.job_cli.proofs.job_runs.run_world.Goals as goal
 

@@ -1,13 +1,9 @@
 -- What was written are the lines of the headings that came; a write that fails leaves a front of the whole text.
-use Rattle.std.proofs.Common.{arith, sym, subst, ap, ◌≡◌, ℕ, List, [], ◌∷◌, ◌++◌, ◌∙◌}
+use Rattle.std.proofs.{Common.{arith, sym, subst, ap, ◌≡◌, ℕ, List, [], ◌∷◌, ◌++◌, ◌∙◌}, lemmas.{Grind.common_steps, List.append-nil}}
 use Rattle.std.specs.Io.KnownBytes.{Appends}
-use Rattle.std.proofs.lemmas.Grind.{common_steps}
-use Rattle.std.proofs.lemmas.List.{append-nil}
 use Rattle.page_ledger.specs.declared.owner.Owner.{Owner}
-use Rattle.script_cli.proofs.Inputs.{appends_more}
-use Rattle.job_cli.proofs.JobRuns.{headed_more, headed_split, headed_next, cut_between, cut_inside, all_written, whole_is_cut}
-use Rattle.script_cli.proofs.Runs.{on_ok, on_err}
-use Rattle.job_cli.specs.Headings.{headed_lines}
+use Rattle.script_cli.proofs.{Runs.{on_ok, on_err}, Texts.appends_more}
+use Rattle.job_cli.{proofs.JobRuns.{headed_more, headed_split, headed_next, cut_between, cut_inside, all_written, whole_is_cut}, specs.Headings.headed_lines}
 use Rattle.job_cli.specs.JobRuns.{closing_text}
 use Rattle.job_cli.proofs.job_runs.write_run.Goals as goal
 

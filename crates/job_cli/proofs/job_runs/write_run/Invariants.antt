@@ -1,6 +1,5 @@
 -- the lines of the headings that came were written; the other headings are left
-use Rattle.std.proofs.Common.{◌≡◌, ◌++◌}
-use Rattle.std.specs.Io.KnownBytes.{Appends}
+use Rattle.std.{proofs.Common.{◌≡◌, ◌++◌}, specs.Io.KnownBytes.Appends}
 use Rattle.job_cli.specs.Headings.{headed_lines}
 use Rattle.job_cli.proofs.job_runs.write_run.Given as goal
 

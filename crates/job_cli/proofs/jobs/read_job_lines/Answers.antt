@@ -1,9 +1,7 @@
 -- The first line with a fault is where the reading ends.
 use Rattle.std.proofs.Common.{rules, ◌≡◌, ◌<◌, ◌∷◌, length}
-use Rattle.job_cli.proofs.JobReading.{fault_ends}
-use Rattle.script_cli.proofs.Reading.{lines_are_cut}
-use Rattle.job_cli.specs.Jobs.{jobs_from, jobs_in}
-use Rattle.script_cli.specs.Lines.{lines}
+use Rattle.job_cli.{proofs.JobRuns.fault_ends, specs.Jobs.{jobs_from, jobs_in}}
+use Rattle.script_cli.{proofs.Texts.lines_are_cut, specs.Lines.lines}
 use Rattle.job_cli.proofs.jobs.read_job_lines.Goals as goal
 
 pub returns-in-Err : goal.returns-in-Err

@@ -1,5 +1,5 @@
 -- Each submitter is below their number.
-use Rattle.job_cli.proofs.Submitters.{jobs_are_below}
+use Rattle.job_cli.proofs.JobRuns.{jobs_are_below}
 use Rattle.job_cli.proofs.jobs.read_jobs.Goals as goal
 
 pub returns-clause-below : goal.returns-clause-below

@@ -1,11 +1,7 @@
 -- The rounds go on by one; where no jobs are left, those that were done are all.
-use Rattle.std.proofs.Common.{List, not, ◌==◌, arith, ap, length, map, subst, sym, ◌∙◌}
-use Rattle.std.specs.List.{list_any}
-use Rattle.std.proofs.lemmas.Simd.{map-map}
-use Rattle.driver_threads.specs.Behind.{behind}
-use Rattle.driver_threads.specs.Values.{JobEnd}
-use Rattle.job_cli.proofs.GoneOn.{all_done, lengths_behind, more_done, one_gone_on}
-use Rattle.job_cli.specs.GoneOn.{HasGoneOn, Round}
+use Rattle.std.{proofs.{Common.{List, not, ◌==◌, arith, ap, length, map, subst, sym, ◌∙◌}, lemmas.Simd.map-map}, specs.List.list_any}
+use Rattle.driver_threads.specs.{Behind.behind, Values.JobEnd}
+use Rattle.job_cli.{proofs.JobRuns.{all_done, lengths_behind, more_done, one_gone_on}, specs.GoneOn.{HasGoneOn, Round}}
 use Rattle.job_cli.proofs.rounds.do_jobs.Goals as goal
 
 pub returns-then-not-some_has_jobs-clause-gone_on : goal.returns-then-not-some_has_jobs-clause-gone_on

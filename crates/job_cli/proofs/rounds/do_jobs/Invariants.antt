@@ -1,7 +1,6 @@
 -- the ledger of a round's book, and what that book opens with; the rounds so far went on to the world as it is, and with the jobs that are left the jobs that were done are all
 use Rattle.std.proofs.Common.{◌≡◌, List, length, map, vec_len, true}
-use Rattle.driver_threads.specs.Behind.{behind}
-use Rattle.driver_threads.specs.Values.{Job}
+use Rattle.driver_threads.specs.{Behind.behind, Values.Job}
 use Rattle.job_cli.specs.GoneOn.{HasGoneOn}
 use Rattle.job_cli.proofs.rounds.do_jobs.Given as goal
 

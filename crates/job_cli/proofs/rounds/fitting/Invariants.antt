@@ -1,6 +1,5 @@
 -- the entries so far are those of the jobs so far, which fit
-use Rattle.std.proofs.Common.{◌≡◌, ◌+◌, ◌≤◌, take}
-use Rattle.std.specs.Prelude.{sum_by}
+use Rattle.std.{proofs.Common.{◌≡◌, ◌+◌, ◌≤◌, take}, specs.Prelude.sum_by}
 use Rattle.job_cli.specs.GoneOn.{Fit, entries_for}
 use Rattle.job_cli.proofs.rounds.fitting.Given as goal
 

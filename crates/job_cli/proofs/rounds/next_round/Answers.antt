@@ -1,9 +1,7 @@
 -- The jobs that were taken of one submitter more stand behind those taken before.
-use Rattle.std.proofs.Common.{◌∷◌, [], List, arith, ap, map, slice_set, ◌∙◌}
-use Rattle.std.proofs.lemmas.List.{length-map, map-append}
-use Rattle.driver_threads.specs.Behind.{behind}
-use Rattle.driver_threads.specs.Values.{Job}
-use Rattle.job_cli.proofs.GoneOn.{one_taken}
+use Rattle.std.proofs.{Common.{◌∷◌, [], List, arith, ap, map, slice_set, ◌∙◌}, lemmas.List.{length-map, map-append}}
+use Rattle.driver_threads.specs.{Behind.behind, Values.Job}
+use Rattle.job_cli.proofs.JobRuns.{one_taken}
 use Rattle.job_cli.proofs.rounds.next_round.Goals as goal
 
 pub loop-place-preserved : goal.loop-place-preserved

@@ -1,6 +1,5 @@
 -- The numbers are computed as decimal text.
-use Rattle.std.proofs.Common.{refl}
-use Rattle.std.specs.Fmt.{digits}
+use Rattle.std.{proofs.Common.refl, specs.Fmt.digits}
 use Rattle.job_cli.proofs.worked_jobs.job_lines_print.Goals as goal
 
 pub returns : goal.returns

@@ -1,4 +1,4 @@
-use Rattle.page_ledger.proofs.Numbers.{counts-add_up}
+use Rattle.page_ledger.proofs.Tables.{counts-add_up}
 use Rattle.page_ledger.proofs.laws.counts_add_up.Goals as goal
 
 pub returns : goal.returns

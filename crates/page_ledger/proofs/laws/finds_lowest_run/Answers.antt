@@ -1,4 +1,4 @@
-use Rattle.page_ledger.proofs.FreeRuns.{finds-lowest_run}
+use Rattle.page_ledger.proofs.Pages.{finds-lowest_run}
 use Rattle.page_ledger.proofs.laws.finds_lowest_run.Goals as goal
 
 pub returns : goal.returns

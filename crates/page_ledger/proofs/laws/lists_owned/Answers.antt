@@ -1,7 +1,5 @@
 use Rattle.std.proofs.Common.{length}
-use Rattle.page_ledger.specs.Owners.{is_owned_at}
-use Rattle.page_ledger.proofs.Pages.{filter-rising}
-use Rattle.page_ledger.proofs.Tables.{owned-listed}
+use Rattle.page_ledger.{proofs.{Pages.filter-rising, Tables.owned-listed}, specs.Owners.is_owned_at}
 use Rattle.page_ledger.proofs.laws.lists_owned.Goals as goal
 
 pub returns : goal.returns

@@ -1,9 +1,6 @@
-use Rattle.std.proofs.Common.{arith, ◌+◌, ◌++◌, ◌∷◌, [], filter, length, append_assoc, ap, sym, ◌∙◌}
-use Rattle.std.proofs.lemmas.List.{length_push}
-use Rattle.bit_list.specs.Places.{is_true_at}
-use Rattle.page_ledger.specs.Owners.{pages_from}
-use Rattle.bit_list.proofs.Places.{first-inside}
-use Rattle.page_ledger.proofs.Pages.{filter-gap, filter-found, front_taken}
+use Rattle.std.proofs.{Common.{arith, ◌+◌, ◌++◌, ◌∷◌, [], filter, length, append_assoc, ap, sym, ◌∙◌}, lemmas.List.length_push}
+use Rattle.slot_table.{proofs.Places.first-inside, specs.Places.is_true_at}
+use Rattle.page_ledger.{proofs.Pages.{filter-gap, filter-found, front_taken}, specs.Owners.pages_from}
 use Rattle.page_ledger.proofs.ledger.push_lowest_free.Goals as goal
 
 pub returns-in_default-clause-pages : goal.returns-in_default-clause-pages

@@ -1,5 +1,5 @@
 use Rattle.std.proofs.Common.{◌≡◌, ◌≤◌, ◌++◌, filter, length, vec_capacity}
-use Rattle.bit_list.specs.Places.{is_true_at}
+use Rattle.slot_table.specs.Places.{is_true_at}
 use Rattle.page_ledger.specs.Owners.{pages_from}
 use Rattle.page_ledger.proofs.ledger.push_lowest_free.Given as goal
 

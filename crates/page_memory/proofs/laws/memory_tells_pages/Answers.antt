@@ -1,4 +1,4 @@
-use Rattle.page_memory.proofs.Whole.{told}
+use Rattle.page_memory.proofs.Bytes.{told}
 use Rattle.page_memory.proofs.laws.memory_tells_pages.Goals as goal
 
 pub returns : goal.returns

@@ -1,6 +1,5 @@
 use Rattle.std.proofs.Common.{List, ℕ, subst}
-use Rattle.program.proofs.Telling.{jobs_told, no_jobs_told, run_fault_told}
-use Rattle.program.specs.Checking.{AreJobs, AreNoJobs}
+use Rattle.program.{proofs.Telling.{jobs_told, no_jobs_told, run_fault_told}, specs.Checking.{AreJobs, AreNoJobs}}
 use Rattle.program.proofs.commands.look_at_jobs.Goals as goal
 
 pub returns-in_err-check_jobs-clause-fault : goal.returns-in_err-check_jobs-clause-fault

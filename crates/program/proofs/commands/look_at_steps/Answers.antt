@@ -1,6 +1,5 @@
 use Rattle.std.proofs.Common.{List, ℕ, subst}
-use Rattle.program.proofs.Telling.{no_steps_told, run_fault_told, steps_told}
-use Rattle.program.specs.Checking.{AreNoSteps, AreSteps}
+use Rattle.program.{proofs.Telling.{no_steps_told, run_fault_told, steps_told}, specs.Checking.{AreNoSteps, AreSteps}}
 use Rattle.program.proofs.commands.look_at_steps.Goals as goal
 
 pub returns-in_err-check_steps-clause-fault : goal.returns-in_err-check_steps-clause-fault

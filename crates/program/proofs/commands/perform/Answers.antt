@@ -1,4 +1,4 @@
-use Rattle.program.proofs.Refusing.{shown}
+use Rattle.program.proofs.Telling.{shown}
 use Rattle.program.proofs.commands.perform.Goals as goal
 
 pub returns-in-Err-clause-failed : goal.returns-in-Err-clause-failed

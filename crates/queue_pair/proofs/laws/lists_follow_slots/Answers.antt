@@ -1,4 +1,4 @@
-use Rattle.queue_pair.proofs.Lists.{answers_count, answers_none, answers_parts, entries_count, entries_none, entries_parts}
+use Rattle.queue_pair.proofs.Rings.{answers_count, answers_none, answers_parts, entries_count, entries_none, entries_parts}
 use Rattle.queue_pair.proofs.laws.lists_follow_slots.Goals as goal
 
 pub returns-clause-entries : goal.returns-clause-entries

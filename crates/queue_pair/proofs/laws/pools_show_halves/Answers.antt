@@ -1,4 +1,4 @@
-use Rattle.queue_pair.proofs.Pools.{pages_in, pages_zero, pages_agree}
+use Rattle.queue_pair.proofs.Halves.{pages_in, pages_zero, pages_agree}
 use Rattle.queue_pair.proofs.laws.pools_show_halves.Goals as goal
 
 pub returns-clause-pages_in : goal.returns-clause-pages_in

@@ -1,5 +1,4 @@
-use Rattle.run_laws.proofs.DataLaws.{were_submitted}
-use Rattle.run_laws.proofs.DataKept.{request_stays, data_numbers_stay, chain_numbers_stay}
+use Rattle.run_laws.proofs.{DataKept.{request_stays, data_numbers_stay, chain_numbers_stay}, DataLaws.were_submitted}
 use Rattle.run_laws.proofs.data.law_of_kept_commands.Goals as goal
 
 pub returns-clause-submission : goal.returns-clause-submission

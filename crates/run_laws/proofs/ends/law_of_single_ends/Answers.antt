@@ -1,5 +1,4 @@
-use Rattle.run_laws.proofs.EndsOnce.{runs_complete_once}
-use Rattle.run_laws.proofs.OneEnd.{runs_tell_once, runs_collect_once, runs_end_once}
+use Rattle.run_laws.proofs.{EndsOnce.runs_complete_once, OneEnd.{runs_tell_once, runs_collect_once, runs_end_once}}
 use Rattle.run_laws.proofs.ends.law_of_single_ends.Goals as goal
 
 pub returns-clause-completions : goal.returns-clause-completions

@@ -1,4 +1,4 @@
-use Rattle.run_laws.proofs.Built.{built_in_store}
+use Rattle.run_laws.proofs.Images.{built_in_store}
 use Rattle.run_laws.proofs.laws.law_of_built_drafts.Goals as goal
 
 pub returns : goal.returns

@@ -1,5 +1,5 @@
-use Rattle.run_laws.proofs.Histories.{histories_open, histories_grow}
-use Rattle.machine_agreement.proofs.MadeRuns.{run_is_made}
+use Rattle.run_laws.proofs.Images.{histories_open, histories_grow}
+use Rattle.two_sides.proofs.Along.{run_is_made}
 use Rattle.run_laws.proofs.laws.law_of_histories.Goals as goal
 
 pub returns-clause-openings : goal.returns-clause-openings

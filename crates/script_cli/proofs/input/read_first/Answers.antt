@@ -1,7 +1,6 @@
 -- The reader ended, or it gave one byte more than the limit.
-use Rattle.std.proofs.Common.{arith, ◌≡◌, ◌+◌, length}
-use Rattle.std.proofs.lemmas.Grind.{common_steps}
-use Rattle.script_cli.proofs.Inputs.{limit_is_first}
+use Rattle.std.proofs.{Common.{arith, ◌≡◌, ◌+◌, length}, lemmas.Grind.common_steps}
+use Rattle.script_cli.proofs.Texts.{limit_is_first}
 use Rattle.script_cli.proofs.input.read_first.Goals as goal
 
 pub returns : goal.returns

@@ -1,6 +1,5 @@
 -- the bytes so far are what the reader gave, and one more than the limit at most
-use Rattle.std.proofs.Common.{◌≤◌, ◌+◌, ◌-◌, length}
-use Rattle.std.specs.Io.KnownBytes.{Consumes}
+use Rattle.std.{proofs.Common.{◌≤◌, ◌+◌, ◌-◌, length}, specs.Io.KnownBytes.Consumes}
 use Rattle.script_cli.proofs.input.read_first.Given as goal
 
 abbrev pub invariant-loop-bytes : goal.invariant-loop-bytes

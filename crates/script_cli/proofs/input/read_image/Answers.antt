@@ -1,7 +1,6 @@
 -- An image has at most the bytes of the limit, so no byte more was read.
-use Rattle.std.proofs.Common.{refl, sym}
-use Rattle.std.proofs.lemmas.Bool.{true≢false}
-use Rattle.script_cli.proofs.Inputs.{image_is_told, no_image_is_told}
+use Rattle.std.proofs.{Common.{refl, sym}, lemmas.Bool.true≢false}
+use Rattle.script_cli.proofs.Texts.{image_is_told, no_image_is_told}
 use Rattle.script_cli.proofs.input.read_image.Goals as goal
 
 pub returns-in-Ok-from_bytes-clause-image : goal.returns-in-Ok-from_bytes-clause-image

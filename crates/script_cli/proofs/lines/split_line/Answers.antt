@@ -1,8 +1,6 @@
 -- The text up to its first line feed and what stands after it, or the whole text where there is none.
-use Rattle.std.proofs.Common.{◌≡◌, ◌∷◌, []}
-use Rattle.std.proofs.lemmas.List.{nil_from_length}
-use Rattle.script_cli.specs.Lines.{is_feed, onward}
-use Rattle.script_cli.proofs.Cuts.{cut_before, cut_onward, feed_found, feed_missing}
+use Rattle.std.proofs.{Common.{◌≡◌, ◌∷◌, []}, lemmas.List.nil_from_length}
+use Rattle.script_cli.{proofs.Texts.{cut_before, cut_onward, feed_found, feed_missing}, specs.Lines.{is_feed, onward}}
 use Rattle.script_cli.proofs.lines.split_line.Goals as goal
 
 pub returns-in-Some-clause-line : goal.returns-in-Some-clause-line

@@ -1,7 +1,6 @@
 -- The last byte is a carriage return, or it is not, or there is none.
-use Rattle.std.proofs.Common.{◌≡◌, ◌++◌, ◌∷◌, [], false, nat_eq, refl}
-use Rattle.std.proofs.lemmas.Bool.{ne_eqb}
-use Rattle.script_cli.proofs.Cuts.{unreturned_at_return, unreturned_elsewhere}
+use Rattle.std.proofs.{Common.{◌≡◌, ◌++◌, ◌∷◌, [], false, nat_eq, refl}, lemmas.Bool.ne_eqb}
+use Rattle.script_cli.proofs.Texts.{unreturned_at_return, unreturned_elsewhere}
 use Rattle.script_cli.proofs.lines.without_return.Goals as goal
 
 pub returns-then-last-eq13 : goal.returns-then-last-eq13

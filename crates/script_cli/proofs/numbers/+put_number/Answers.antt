@@ -1,7 +1,5 @@
 -- The last digit stands behind the digits of the tenth.
-use Rattle.std.proofs.Common.{arith}
-use Rattle.std.proofs.lemmas.Fmt.{decimal_digit, decimal_step}
-use Rattle.std.proofs.lemmas.Grind.{common_steps}
+use Rattle.std.proofs.{Common.arith, lemmas.{Fmt.{decimal_digit, decimal_step}, Grind.common_steps}}
 use Rattle.script_cli.proofs.numbers.+put_number.Goals as goal
 
 pub returns : goal.returns

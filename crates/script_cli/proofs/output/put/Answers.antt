@@ -1,5 +1,5 @@
 -- The bytes of a write go from the rest to what was written.
-use Rattle.script_cli.proofs.Inputs.{more_is_written}
+use Rattle.script_cli.proofs.Texts.{more_is_written}
 use Rattle.script_cli.proofs.output.put.Goals as goal
 
 pub loop-rest-preserved : goal.loop-rest-preserved

@@ -1,6 +1,5 @@
 -- what was written is the front of the bytes, and the rest is left
-use Rattle.std.proofs.Common.{◌≡◌, ◌++◌, ℕ, List, length}
-use Rattle.std.specs.Io.KnownBytes.{Appends}
+use Rattle.std.{proofs.Common.{◌≡◌, ◌++◌, ℕ, List, length}, specs.Io.KnownBytes.Appends}
 use Rattle.script_cli.proofs.output.put.Given as goal
 
 abbrev pub invariant-loop-rest : goal.invariant-loop-rest

@@ -1,8 +1,6 @@
 -- Numbers of eight bytes are the same only where the bytes are.
-use Rattle.std.proofs.Common.{arith, rules, ◌≡◌, ◌∙◌, ℕ, ap, sym, replicate, w64}
-use Rattle.std.specs.Int.{to_le_bytes}
-use Rattle.std.proofs.lemmas.Nat.{le_bytes_8}
-use Rattle.script_cli.proofs.Gathered.{bytes_all}
+use Rattle.std.{proofs.{Common.{arith, rules, ◌≡◌, ◌∙◌, ℕ, ap, sym, replicate, w64}, lemmas.Nat.le_bytes_8}, specs.Int.to_le_bytes}
+use Rattle.script_cli.proofs.Texts.{bytes_all}
 use Rattle.script_cli.proofs.reply.are_all.Goals as goal
 
 pub returns : goal.returns

@@ -1,7 +1,6 @@
 -- What was read of the reader has the same script as all that it had.
 use Rattle.std.proofs.Common.{ℕ, List, Err, sym, ap, subst, ◌∙◌}
-use Rattle.script_cli.proofs.Runs.{script_is_told, no_script_is_told}
-use Rattle.script_cli.specs.Scripts.{script_of, IsReading}
+use Rattle.script_cli.{proofs.Runs.{script_is_told, no_script_is_told}, specs.Scripts.{script_of, IsReading}}
 use Rattle.script_cli.proofs.run.load.Goals as goal
 
 pub returns-in-Ok-read_script-clause-script : goal.returns-in-Ok-read_script-clause-script

@@ -1,8 +1,7 @@
 -- What was written is what the lines done print; a write that fails leaves a front of it.
-use Rattle.std.proofs.Common.{arith, sym, ◌≡◌, [], ◌∷◌, ◌++◌}
-use Rattle.std.proofs.lemmas.Grind.{common_steps}
-use Rattle.script_cli.specs.Runs.{last_line, IsRunText, IsRunTo}
+use Rattle.std.proofs.{Common.{arith, sym, ◌≡◌, [], ◌∷◌, ◌++◌}, lemmas.Grind.common_steps}
 use Rattle.script_cli.proofs.Runs.{on_ok, on_err, printed_more, cut_between, cut_inside, cut_in_counts, whole_run, whole_text, kept_gains, whole_is_cut}
+use Rattle.script_cli.specs.Runs.{last_line, IsRunText, IsRunTo}
 use Rattle.script_cli.proofs.run.play.Goals as goal
 
 pub returns-in_err-put-clause-cut : goal.returns-in_err-put-clause-cut

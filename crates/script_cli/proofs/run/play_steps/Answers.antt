@@ -1,11 +1,7 @@
 -- A run that was cut off says so.
-use Rattle.std.proofs.Common.{subst}
-use Rattle.std.specs.Prelude.{IfErr, OnErr, Result}
+use Rattle.std.{proofs.Common.subst, specs.Prelude.{IfErr, OnErr, Result}}
 use Rattle.machine_model.specs.Script.{Table}
-use Rattle.script_cli.proofs.Runs.{run_ends}
-use Rattle.script_cli.specs.Inputs.{Gains}
-use Rattle.script_cli.specs.Runs.{EndsWith, IsFrontOfFirst}
-use Rattle.script_cli.specs.declared.fault.RunFault.{RunFault}
+use Rattle.script_cli.{proofs.Runs.run_ends, specs.{Inputs.Gains, Runs.{EndsWith, IsFrontOfFirst}, declared.fault.RunFault.RunFault}}
 use Rattle.script_cli.proofs.run.play_steps.Goals as goal
 
 pub returns-in-Err-clause-failed : goal.returns-in-Err-clause-failed

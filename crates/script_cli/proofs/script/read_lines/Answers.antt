@@ -1,8 +1,6 @@
 -- The first line with a fault is where the reading ends.
 use Rattle.std.proofs.Common.{rules, ◌≡◌, ◌<◌, ◌∷◌, [], length}
-use Rattle.script_cli.proofs.Reading.{lines_are_cut, fault_is_first}
-use Rattle.script_cli.specs.Lines.{lines}
-use Rattle.script_cli.specs.Scripts.{script_from}
+use Rattle.script_cli.{proofs.Texts.{lines_are_cut, fault_is_first}, specs.{Lines.lines, Scripts.script_from}}
 use Rattle.script_cli.proofs.script.read_lines.Goals as goal
 
 pub returns-in-Err : goal.returns-in-Err

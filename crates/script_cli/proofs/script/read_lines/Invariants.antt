@@ -1,7 +1,6 @@
 -- the lines left go on to the same script from the lines so far
 use Rattle.std.proofs.Common.{◌≡◌, ◌≤◌, ◌+◌, [], length}
-use Rattle.script_cli.specs.Lines.{lines}
-use Rattle.script_cli.specs.Scripts.{script_from}
+use Rattle.script_cli.specs.{Lines.lines, Scripts.script_from}
 use Rattle.script_cli.proofs.script.read_lines.Given as goal
 
 abbrev pub invariant-loop-rest : goal.invariant-loop-rest

@@ -1,10 +1,6 @@
 -- Data where there is a plus sign, and none where there is none.
-use Rattle.std.proofs.Common.{◌≡◌, ◌∷◌, []}
-use Rattle.std.proofs.lemmas.List.{nil_from_length}
-use Rattle.script_cli.specs.Lines.{before, onward}
-use Rattle.script_cli.specs.Pieces.{is_plus}
-use Rattle.script_cli.proofs.Cuts.{cut_before, cut_onward}
-use Rattle.script_cli.proofs.Digits.{data_cut, data_uncut}
+use Rattle.std.proofs.{Common.{◌≡◌, ◌∷◌, []}, lemmas.List.nil_from_length}
+use Rattle.script_cli.{proofs.Texts.{cut_before, cut_onward, data_cut, data_uncut}, specs.{Lines.{before, onward}, Pieces.is_plus}}
 use Rattle.script_cli.proofs.values.data.Goals as goal
 
 pub returns-in_err-len : goal.returns-in_err-len

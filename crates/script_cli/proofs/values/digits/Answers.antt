@@ -1,9 +1,7 @@
 -- The number where no digit is left, and none where a digit makes it too large.
-use Rattle.std.proofs.Common.{arith, ◌≡◌, ◌≤◌, ◌+◌, ◌-◌, ◌*◌, ◌^◌, [], true, nat_lt, Some, None, refl}
-use Rattle.std.proofs.lemmas.Bool.{lt-ltb, le-leb, and_from}
+use Rattle.std.proofs.{Common.{arith, ◌≡◌, ◌≤◌, ◌+◌, ◌-◌, ◌*◌, ◌^◌, [], true, nat_lt, Some, None, refl}, lemmas.Bool.{lt-ltb, le-leb, and_from}}
 use Rattle.std.proofs.lemmas.List.{nil_from_length}
-use Rattle.script_cli.specs.Numbers.{is_digit, if_below, digits_from}
-use Rattle.script_cli.proofs.Digits.{digit_overflows}
+use Rattle.script_cli.{proofs.Texts.digit_overflows, specs.Numbers.{is_digit, if_below, digits_from}}
 use Rattle.script_cli.proofs.values.digits.Goals as goal
 
 pub returns-in_err-value : goal.returns-in_err-value

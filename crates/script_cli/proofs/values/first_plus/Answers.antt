@@ -1,7 +1,5 @@
 -- Both returns of the search: the first place that passes, or the length.
-use Rattle.std.proofs.Common.{rules, arith, length, ◌≡◌, get_or, true}
-use Rattle.std.proofs.lemmas.List.Sums.{position_or_len_is}
-use Rattle.std.specs.List.{position_or_len}
+use Rattle.std.{proofs.{Common.{rules, arith, length, ◌≡◌, get_or, true}, lemmas.List.Sums.position_or_len_is}, specs.List.position_or_len}
 use Rattle.script_cli.specs.Pieces.{is_plus}
 use Rattle.script_cli.proofs.values.first_plus.Goals as goal
 

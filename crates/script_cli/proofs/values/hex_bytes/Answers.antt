@@ -1,7 +1,6 @@
 -- One more byte is the next pair of digits.
 use Rattle.std.proofs.Common.{rules, ◌≡◌, Some}
-use Rattle.script_cli.specs.Numbers.{hex_byte}
-use Rattle.script_cli.proofs.Digits.{next_byte}
+use Rattle.script_cli.{proofs.Texts.next_byte, specs.Numbers.hex_byte}
 use Rattle.script_cli.proofs.values.hex_bytes.Goals as goal
 
 pub loop-high-preserved : goal.loop-high-preserved

@@ -1,6 +1,5 @@
 -- the bytes left are the same exactly where all are
-use Rattle.std.proofs.Common.{◌≡◌, length}
-use Rattle.std.specs.Str.{bytes_eq}
+use Rattle.std.{proofs.Common.{◌≡◌, length}, specs.Str.bytes_eq}
 use Rattle.script_cli.proofs.verb.is_name.Given as goal
 
 abbrev pub invariant-loop-byte : goal.invariant-loop-byte

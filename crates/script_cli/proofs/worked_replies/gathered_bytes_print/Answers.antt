@@ -1,6 +1,5 @@
 -- The numbers are computed as decimal text.
-use Rattle.std.proofs.Common.{refl}
-use Rattle.std.specs.Fmt.{digits}
+use Rattle.std.{proofs.Common.refl, specs.Fmt.digits}
 use Rattle.script_cli.proofs.worked_replies.gathered_bytes_print.Goals as goal
 
 pub returns : goal.returns

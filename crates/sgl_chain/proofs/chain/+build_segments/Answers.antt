@@ -1,8 +1,6 @@
-use Rattle.std.proofs.Common.{rules, arith, ◌≤◌, [], ◌∷◌, length, sym, subst, ap, ◌∙◌, All}
-use Rattle.std.proofs.lemmas.List.Elements.{All-cons}
+use Rattle.std.proofs.{Common.{rules, arith, ◌≤◌, [], ◌∷◌, length, sym, subst, ap, ◌∙◌, All}, lemmas.List.Elements.All-cons}
 use Rattle.sgl_descriptor.specs.Spelling.{Fits}
-use Rattle.sgl_chain.specs.Chains.{AllFit, Linked, segments_from}
-use Rattle.sgl_chain.proofs.Cuts.{on_one, two_pages, one_page, pages_of_rest}
+use Rattle.sgl_chain.{proofs.Spelled.{on_one, two_pages, one_page, pages_of_rest}, specs.Chains.{AllFit, Linked, segments_from}}
 use Rattle.sgl_chain.proofs.chain.+build_segments.Goals as goal
 
 pub bounds-later-0 : goal.bounds-later-0

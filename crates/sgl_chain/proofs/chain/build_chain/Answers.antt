@@ -1,5 +1,4 @@
-use Rattle.sgl_chain.specs.Chains.{segments_from}
-use Rattle.sgl_chain.proofs.Built.{few_segments}
+use Rattle.sgl_chain.{proofs.Back.few_segments, specs.Chains.segments_from}
 use Rattle.sgl_chain.proofs.chain.build_chain.Goals as goal
 
 pub invariant_of-result-2 : goal.invariant_of-result-2

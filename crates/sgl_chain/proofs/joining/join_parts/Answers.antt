@@ -1,7 +1,5 @@
 use Rattle.std.proofs.Common.{sym, ap, ◌∙◌, arith}
-use Rattle.sgl_chain.specs.Joining.{joined}
-use Rattle.sgl_chain.proofs.Joins.{from_list, joined_on, joined_apart}
-use Rattle.sgl_chain.proofs.joining.join_parts.Goals.{in-Some-join, in-None}
+use Rattle.sgl_chain.{proofs.{Joins.{from_list, joined_on, joined_apart}, joining.join_parts.Goals.{in-Some-join, in-None}}, specs.Joining.joined}
 use Rattle.sgl_chain.proofs.joining.join_parts.Goals as goal
 
 pub loop-part-init : goal.loop-part-init

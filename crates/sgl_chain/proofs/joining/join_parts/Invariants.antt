@@ -1,7 +1,5 @@
-use Rattle.std.proofs.Common.{◌≡◌, ◌≤◌, ◌++◌, drop, length, vec_len}
-use Rattle.std.specs.Vec.{vec_capacity}
-use Rattle.sgl_chain.specs.Joining.{joined}
-use Rattle.sgl_chain.proofs.Joins.{joined_from}
+use Rattle.std.{proofs.Common.{◌≡◌, ◌≤◌, ◌++◌, drop, length, vec_len}, specs.Vec.vec_capacity}
+use Rattle.sgl_chain.{proofs.Joins.joined_from, specs.Joining.joined}
 use Rattle.sgl_chain.proofs.joining.join_parts.Given as goal
 
 abbrev pub invariant-loop-part : goal.invariant-loop-part

@@ -1,4 +1,4 @@
-use Rattle.sgl_chain.proofs.JoinedLists.{same_targets, same_count, joined_few}
+use Rattle.sgl_chain.proofs.Joins.{same_targets, same_count, joined_few}
 use Rattle.sgl_chain.proofs.laws.joined_parts_say_the_same.Goals as goal
 
 pub returns-clause-targets : goal.returns-clause-targets

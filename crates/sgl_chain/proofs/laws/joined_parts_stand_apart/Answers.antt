@@ -1,4 +1,4 @@
-use Rattle.sgl_chain.proofs.JoinedLists.{none_join, joined_twice}
+use Rattle.sgl_chain.proofs.Joins.{none_join, joined_twice}
 use Rattle.sgl_chain.proofs.laws.joined_parts_stand_apart.Goals as goal
 
 pub returns-clause-apart : goal.returns-clause-apart

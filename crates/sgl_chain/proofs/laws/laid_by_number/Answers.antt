@@ -1,4 +1,4 @@
-use Rattle.sgl_chain.proofs.Numbered.{laid_each, laid_all}
+use Rattle.sgl_chain.proofs.Spelled.{laid_each, laid_all}
 use Rattle.sgl_chain.proofs.laws.laid_by_number.Goals as goal
 
 pub returns : goal.returns

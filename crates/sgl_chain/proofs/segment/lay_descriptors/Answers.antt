@@ -1,4 +1,4 @@
-use Rattle.sgl_chain.proofs.Laying.{lay_more, lay_all, length-spelling}
+use Rattle.sgl_chain.proofs.Spelled.{lay_more, lay_all, length-spelling}
 use Rattle.sgl_chain.proofs.segment.lay_descriptors.Goals as goal
 
 pub loop-i-preserved : goal.loop-i-preserved

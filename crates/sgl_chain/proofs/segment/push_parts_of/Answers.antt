@@ -1,6 +1,4 @@
-use Rattle.std.proofs.Common.{arith}
-use Rattle.std.proofs.lemmas.Grind.{common_steps}
-use Rattle.std.proofs.lemmas.List.Elements.{filter_map-append}
+use Rattle.std.proofs.{Common.arith, lemmas.{Grind.common_steps, List.Elements.filter_map-append}}
 use Rattle.sgl_chain.proofs.segment.push_parts_of.Goals as goal
 
 pub loop-descriptor-preserved : goal.loop-descriptor-preserved

@@ -1,5 +1,4 @@
-use Rattle.std.proofs.Common.{◌≡◌, ◌++◌, take}
-use Rattle.std.specs.List.{filter_map}
+use Rattle.std.{proofs.Common.{◌≡◌, ◌++◌, take}, specs.List.filter_map}
 use Rattle.sgl_chain.specs.Chains.{part_of}
 use Rattle.sgl_chain.proofs.segment.push_parts_of.Given as goal
 

@@ -1,4 +1,4 @@
-use Rattle.sgl_chain.proofs.WorkedList.{list_spelled, list_refused}
+use Rattle.sgl_chain.proofs.Back.{list_spelled, list_refused}
 use Rattle.sgl_chain.proofs.worked.worked_list.Goals as goal
 
 pub returns-clause-spelled : goal.returns-clause-spelled

@@ -1,5 +1,4 @@
-use Rattle.sgl_descriptor.proofs.Spells.{spells_itself, reads_itself}
-use Rattle.sgl_descriptor.proofs.Bytes.{sixteen_bytes}
+use Rattle.sgl_descriptor.proofs.{Bytes.sixteen_bytes, Spells.{spells_itself, reads_itself}}
 use Rattle.sgl_descriptor.proofs.laws.round_trip.Goals as goal
 
 pub returns : goal.returns

@@ -1,6 +1,5 @@
 use Rattle.std.proofs.Common.{[], ◌∷◌, ◌++◌, ap, subst, ◌∙◌}
-use Rattle.slot_table.specs.Table.{IsDistinct, without}
-use Rattle.slot_table.proofs.Walks.{put_value, put_taken, without-row}
+use Rattle.slot_table.{proofs.Walks.{put_value, put_taken, without-row}, specs.Rows.{IsDistinct, without}}
 use Rattle.slot_table.proofs.laws.taken_comes_back.Goals as goal
 
 pub returns-clause-value : goal.returns-clause-value

@@ -1,5 +1,4 @@
-use Rattle.step_core.proofs.Lawful.{makes_trusted_run}
-use Rattle.step_core.proofs.RunsOf.{runs_of}
+use Rattle.step_core.proofs.Order.{makes_trusted_run, runs_of}
 use Rattle.step_core.proofs.laws.law_of_benches.Goals as goal
 
 pub returns-clause-run : goal.returns-clause-run

@@ -1,5 +1,4 @@
-use Rattle.step_core.proofs.GoingOn.{goes_on}
-use Rattle.step_core.proofs.InTableOrder.{bench_opens, bench_keeps}
+use Rattle.step_core.proofs.Order.{goes_on, bench_opens, bench_keeps}
 use Rattle.step_core.proofs.laws.law_of_order.Goals as goal
 
 pub returns-clause-opens : goal.returns-clause-opens

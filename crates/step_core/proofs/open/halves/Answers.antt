@@ -1,5 +1,5 @@
 use Rattle.std.proofs.Common.{ℕ, ◌+◌, ◌*◌, ◌∙◌, ap}
-use Rattle.step_core.proofs.Opening.{next_halves}
+use Rattle.step_core.proofs.Steps.{next_halves}
 use Rattle.step_core.proofs.open.halves.Goals as goal
 
 pub loop-q-preserved : goal.loop-q-preserved

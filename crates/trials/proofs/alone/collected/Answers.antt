@@ -1,5 +1,5 @@
 use Rattle.std.proofs.Common.{Ok}
-use Rattle.driver_threads.proofs.Collected.{collects_command}
+use Rattle.driver_threads.proofs.UnderWay.{collects_command}
 use Rattle.trials.proofs.alone.collected.Goals as goal
 
 pub returns-in-Ok : goal.returns-in-Ok

@@ -1,4 +1,4 @@
-use Rattle.two_sides.proofs.Bells.{tails_heard, heads_heard}
+use Rattle.two_sides.proofs.Places.{tails_heard, heads_heard}
 use Rattle.two_sides.proofs.doorbells.doorbells_are_heard.Goals as goal
 
 pub returns-clause-tails : goal.returns-clause-tails

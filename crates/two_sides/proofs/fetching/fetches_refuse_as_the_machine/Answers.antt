@@ -1,4 +1,4 @@
-use Rattle.two_sides.proofs.FetchLooks.{refuse_alike}
+use Rattle.two_sides.proofs.FetchSteps.{refuse_alike}
 use Rattle.two_sides.proofs.fetching.fetches_refuse_as_the_machine.Goals as goal
 
 pub returns : goal.returns

@@ -1,4 +1,4 @@
-use Rattle.two_sides.proofs.Refusing.{answer_as_machine}
+use Rattle.two_sides.proofs.Assembling.{answer_as_machine}
 use Rattle.two_sides.proofs.hosts.hosts_answer_as_the_machine.Goals as goal
 
 pub returns : goal.returns

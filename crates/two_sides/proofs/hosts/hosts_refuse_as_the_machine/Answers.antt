@@ -1,4 +1,4 @@
-use Rattle.two_sides.proofs.Refusing.{refuse_as_machine}
+use Rattle.two_sides.proofs.Assembling.{refuse_as_machine}
 use Rattle.two_sides.proofs.hosts.hosts_refuse_as_the_machine.Goals as goal
 
 pub returns : goal.returns

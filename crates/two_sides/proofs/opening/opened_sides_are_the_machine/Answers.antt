@@ -1,4 +1,4 @@
-use Rattle.two_sides.proofs.Opened.{opened_are_worlds}
+use Rattle.two_sides.proofs.Resets.{opened_are_worlds}
 use Rattle.two_sides.proofs.opening.opened_sides_are_the_machine.Goals as goal
 
 pub returns : goal.returns

@@ -1,12 +1,7 @@
-use Rattle.std.proofs.Common.{Some, length, ap, sym, subst, ◌∙◌}
-use Rattle.std.specs.Option.{option_copied_mut}
-use Rattle.linked_table.specs.Table.{with_value}
-use Rattle.controller_core.specs.Contents.{Work, is_command}
-use Rattle.controller_core.specs.Managing.{aborted}
-use Rattle.controller_core.proofs.Counts.{IsKept, changed_kept, outstanding}
-use Rattle.controller_core.proofs.Lists.{found_is}
-use Rattle.controller_core.proofs.Tables.{commands_of, value_found, none_mapped, one_mapped}
-use Rattle.controller_core.proofs.Changed.{aborted_alike, spared, stopped_one}
+use Rattle.controller_core.proofs.{Counting.{IsKept, changed_kept, outstanding, aborted_alike, spared, stopped_one}, Lists.found_is}
+use Rattle.controller_core.{proofs.{Rows.{commands_of, none_mapped, value_found, one_mapped}}, specs.{Contents.{Work, is_command}, Managing.aborted}}
+use Rattle.std.{proofs.Common.{Some, length, ap, sym, subst, ◌∙◌}, specs.Option.option_copied_mut}
+use Rattle.slot_table.specs.Rows.{with_value}
 use Rattle.controller_core.proofs.commands.Commands.abort.Goals as goal
 
 pub returns-in_default : goal.returns-in_default

@@ -1,5 +1,4 @@
-use Rattle.controller_core.proofs.Counts.{counted_here, counted_nowhere}
-use Rattle.controller_core.proofs.Tables.{commands_of}
+use Rattle.controller_core.proofs.{Counting.{counted_here, counted_nowhere}, Rows.commands_of}
 use Rattle.std.proofs.Common.{arith, rules}
 use Rattle.controller_core.proofs.commands.Commands.count.Goals as goal
 

@@ -1,5 +1,5 @@
+use Rattle.controller_core.proofs.Rows.{found_rows, stands_named}
 use Rattle.std.proofs.Common.{sym, ◌∙◌}
-use Rattle.controller_core.proofs.Tables.{found_rows, stands_named}
 use Rattle.controller_core.proofs.commands.Commands.get.Goals as goal
 
 pub returns-clause-found : goal.returns-clause-found

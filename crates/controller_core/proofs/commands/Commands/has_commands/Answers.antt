@@ -1,4 +1,4 @@
-use Rattle.controller_core.proofs.Counts.{any_count}
+use Rattle.controller_core.proofs.Counting.{any_count}
 use Rattle.controller_core.proofs.commands.Commands.has_commands.Goals as goal
 
 pub returns : goal.returns

@@ -1,6 +1,5 @@
-use Rattle.std.proofs.Common.{◌∙◌, ap}
-use Rattle.std.specs.Option.{option_copied}
-use Rattle.controller_core.proofs.Awaited.{awaited_of}
+use Rattle.controller_core.proofs.Waiting.{awaited_of}
+use Rattle.std.{proofs.Common.{◌∙◌, ap}, specs.Option.option_copied}
 use Rattle.controller_core.proofs.commands.Commands.is_awaited.Goals as goal
 
 pub returns-in-Some : goal.returns-in-Some

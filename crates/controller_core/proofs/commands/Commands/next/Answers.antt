@@ -1,6 +1,5 @@
+use Rattle.controller_core.{proofs.Rows.{commands_of, stands_named}, specs.Looks.name_at}
 use Rattle.std.proofs.Common.{◌≡◌, ◌+◌, suc, ap, ◌∙◌, arith}
-use Rattle.controller_core.specs.Looks.{name_at}
-use Rattle.controller_core.proofs.Tables.{commands_of, stands_named}
 use Rattle.controller_core.proofs.commands.Commands.next.Goals as goal
 
 pub returns : goal.returns

@@ -1,4 +1,4 @@
-use Rattle.controller_core.proofs.Counts.{none_counted}
+use Rattle.controller_core.proofs.Counting.{none_counted}
 use Rattle.controller_core.proofs.commands.Commands.open.Goals as goal
 
 pub invariant_of-result : goal.invariant_of-result

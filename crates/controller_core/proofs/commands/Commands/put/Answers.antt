@@ -1,7 +1,7 @@
+use Rattle.controller_core.proofs.Counting.{count_read, counted_put, few_counted, length_row}
+use Rattle.controller_core.proofs.Rows.{commands_of, named_put, distinct_put, unknown_place, place_empty}
 use Rattle.std.proofs.Common.{◌<◌, length, arith, ap, refl, sym}
 use Rattle.entry_codec.specs.declared.submission.SubEntry.{SubEntry}
-use Rattle.controller_core.proofs.Counts.{count_read, counted_put, few_counted, length_row}
-use Rattle.controller_core.proofs.Tables.{commands_of, named_put, distinct_put, unknown_place, place_empty}
 use Rattle.controller_core.proofs.commands.Commands.put.Goals as goal
 
 pub put-requires : goal.put-requires

@@ -1,12 +1,7 @@
-use Rattle.std.proofs.Common.{length, ap, sym, subst, ◌∙◌}
-use Rattle.std.specs.Option.{option_copied_mut}
-use Rattle.std.proofs.lemmas.Option.{none-some}
-use Rattle.linked_table.specs.Table.{with_value}
-use Rattle.controller_core.specs.Contents.{FetchedCommand}
-use Rattle.controller_core.specs.Managing.{stopped_with_queue}
-use Rattle.controller_core.proofs.Counts.{IsKept, changed_kept, outstanding}
-use Rattle.controller_core.proofs.Tables.{commands_of, commands_changed, stands_named}
-use Rattle.controller_core.proofs.Changed.{stopped_alike}
+use Rattle.controller_core.proofs.{Counting.{IsKept, changed_kept, outstanding, stopped_alike}, Rows.{commands_of, commands_changed, stands_named}}
+use Rattle.controller_core.specs.{Contents.FetchedCommand, Managing.stopped_with_queue}
+use Rattle.std.{proofs.{Common.{length, ap, sym, subst, ◌∙◌}, lemmas.Option.none-some}, specs.Option.option_copied_mut}
+use Rattle.slot_table.specs.Rows.{with_value}
 use Rattle.controller_core.proofs.commands.Commands.stop.Goals as goal
 
 pub returns-in_default : goal.returns-in_default

@@ -1,13 +1,8 @@
-use Rattle.std.proofs.Common.{◌≡◌, ◌==◌, ◌≤◌, ◌+◌, ◌∙◌, ℕ, ap, ap₂, drop, sym, length, arith}
-use Rattle.std.proofs.lemmas.Bool.{eq-eqb, ne_eqb}
-use Rattle.controller_core.specs.Managing.{stopped_with_queue}
-use Rattle.controller_core.specs.Tables.{Outstanding, count_of}
-use Rattle.controller_core.proofs.Counts.{outstanding}
-use Rattle.controller_core.proofs.Lists.{one, swept, swept-all}
-use Rattle.controller_core.proofs.Looks.{past_names}
-use Rattle.controller_core.proofs.Loops.{left_next, named_here, swept_length, swept_more, swept_named, swept_rest, swept_skip}
+use Rattle.controller_core.proofs.Counting.{outstanding, past_names, left_next, named_here, swept_length, swept_more, swept_named, swept_rest, swept_skip}
+use Rattle.controller_core.proofs.{Lists.{one, swept, swept-all}, commands.Commands.stop_queue.Goals.{then-q-deleted, else-q-deleted}}
+use Rattle.controller_core.specs.{Managing.stopped_with_queue, Tables.{Outstanding, count_of}}
+use Rattle.std.proofs.{Common.{◌≡◌, ◌==◌, ◌≤◌, ◌+◌, ◌∙◌, ℕ, ap, ap₂, drop, sym, length, arith}, lemmas.Bool.{eq-eqb, ne_eqb}}
 use Rattle.controller_core.proofs.commands.Commands.stop_queue.Goals as goal
-use Rattle.controller_core.proofs.commands.Commands.stop_queue.Goals.{then-q-deleted, else-q-deleted}
 
 pub returns-then-left-eq0 : goal.returns-then-left-eq0
 returns-then-left-eq0 g c =

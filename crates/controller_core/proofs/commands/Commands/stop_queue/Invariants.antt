@@ -1,9 +1,5 @@
+use Rattle.controller_core.{proofs.{Counting.outstanding, Lists.swept}, specs.{Looks.name_at, Managing.stopped_with_queue, Tables.count_of}}
 use Rattle.std.proofs.Common.{◌≡◌, drop}
-use Rattle.controller_core.specs.Looks.{name_at}
-use Rattle.controller_core.specs.Managing.{stopped_with_queue}
-use Rattle.controller_core.specs.Tables.{count_of}
-use Rattle.controller_core.proofs.Counts.{outstanding}
-use Rattle.controller_core.proofs.Lists.{swept}
 use Rattle.controller_core.proofs.commands.Commands.stop_queue.Given as goal
 
 abbrev pub invariant-loop : goal.invariant-loop

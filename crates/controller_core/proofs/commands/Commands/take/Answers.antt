@@ -1,7 +1,6 @@
-use Rattle.std.proofs.Common.{length, ◌-◌, arith, ap, ap₂, sym, ◌∙◌}
-use Rattle.controller_core.proofs.Counts.{count_read, counted_without, one_counted, outstanding, place_counted}
-use Rattle.controller_core.proofs.Tables.{commands_of, found_rows, named_without, distinct_without, commands_without}
-use Rattle.std.proofs.lemmas.List.{length-set}
+use Rattle.controller_core.proofs.Counting.{count_read, counted_without, one_counted, outstanding, place_counted}
+use Rattle.controller_core.proofs.Rows.{commands_of, found_rows, named_without, distinct_without, commands_without}
+use Rattle.std.proofs.{Common.{length, ◌-◌, arith, ap, ap₂, sym, ◌∙◌}, lemmas.List.length-set}
 use Rattle.controller_core.proofs.commands.Commands.take.Goals as goal
 
 pub returns-in_err-command-clause-value : goal.returns-in_err-command-clause-value

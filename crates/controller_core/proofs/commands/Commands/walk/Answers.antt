@@ -1,8 +1,5 @@
-use Rattle.std.proofs.Common.{ap, sym, ◌∙◌}
-use Rattle.std.specs.Option.{option_copied_mut}
-use Rattle.controller_core.proofs.Tables.{value_found, found_rows}
-use Rattle.controller_core.proofs.Changed.{walked_alike, walks_among, accepted_one, few_one, accepted_some}
-use Rattle.controller_core.proofs.Counts.{changed_kept}
+use Rattle.controller_core.proofs.{Counting.{walked_alike, walks_among, accepted_one, few_one, accepted_some, changed_kept}, Rows.{value_found, found_rows}}
+use Rattle.std.{proofs.Common.{ap, sym, ◌∙◌}, specs.Option.option_copied_mut}
 use Rattle.controller_core.proofs.commands.Commands.walk.Goals as goal
 
 pub walk-requires-clause-accepted : goal.walk-requires-clause-accepted

@@ -1,6 +1,5 @@
-use Rattle.std.proofs.Common.{ap, sym, ◌∙◌}
-use Rattle.std.specs.Option.{option_copied}
-use Rattle.controller_core.proofs.Ready.{found_own}
+use Rattle.controller_core.proofs.Rows.{found_own}
+use Rattle.std.{proofs.Common.{ap, sym, ◌∙◌}, specs.Option.option_copied}
 use Rattle.controller_core.proofs.controller.Controller.check_complete.Goals as goal
 
 pub is_waiting-requires-clause-there : goal.is_waiting-requires-clause-there

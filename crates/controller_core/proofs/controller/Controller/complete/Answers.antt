@@ -1,13 +1,7 @@
-use Rattle.std.proofs.Common.{◌<◌, refl, sym, ◌∙◌, ap, subst}
-use Rattle.std.specs.Option.{option_copied}
+use Rattle.controller_core.proofs.{Lists.few_stay, Managing.{finished_kept, length_finished}, Rows.{is_found, end_fits, over_fits, finishes_in}}
+use Rattle.controller_core.specs.{Answering.answer_refusal, Completing.complete_refusal, Contents.Contents, Tables.Outstanding}
+use Rattle.std.{proofs.Common.{◌<◌, refl, sym, ◌∙◌, ap, subst}, specs.Option.option_copied}
 use Rattle.entry_codec.specs.declared.status.Status.{Status}
-use Rattle.controller_core.specs.Answering.{answer_refusal}
-use Rattle.controller_core.specs.Completing.{complete_refusal}
-use Rattle.controller_core.specs.Contents.{Contents}
-use Rattle.controller_core.specs.Tables.{Outstanding}
-use Rattle.controller_core.proofs.Kept.{finished_kept, length_finished}
-use Rattle.controller_core.proofs.Lists.{few_stay}
-use Rattle.controller_core.proofs.Ready.{is_found, end_fits, over_fits, finishes_in}
 use Rattle.controller_core.proofs.controller.Controller.complete.Goals as goal
 
 pub end-requires-clause-over : goal.end-requires-clause-over

@@ -1,7 +1,6 @@
-use Rattle.std.proofs.Common.{ℕ, refl, ap, sym, ◌∙◌}
+use Rattle.controller_core.proofs.{Lists.few_stay, Waiting.{looked_there, answers_fetch, manages_fetch, begins_fetch, count_kept, found_by}}
 use Rattle.controller_core.specs.Managing.{managed}
-use Rattle.controller_core.proofs.Lists.{few_stay}
-use Rattle.controller_core.proofs.Fetched.{looked_there, answers_fetch, manages_fetch, begins_fetch, count_kept, found_by}
+use Rattle.std.proofs.Common.{ℕ, refl, ap, sym, ◌∙◌}
 use Rattle.controller_core.proofs.controller.Controller.fetch.Goals as goal
 
 pub invariant_of-self-then-is_some : goal.invariant_of-self-then-is_some

@@ -1,14 +1,9 @@
 use Rattle.std.proofs.Common.{ℕ, ◌<◌, ◌^◌, List, length, arith, ap, ap₂, subst, sym, ◌∙◌}
-use Rattle.admin_commands.specs.Verdicts.{decision}
-use Rattle.admin_commands.specs.declared.DeviceView.{DeviceView}
+use Rattle.admin_commands.specs.{Verdicts.decision, declared.DeviceView.DeviceView}
 use Rattle.entry_codec.specs.declared.status.Status.{Status}
-use Rattle.controller_core.specs.Contents.{Contents, FetchedCommand}
-use Rattle.controller_core.specs.Managing.{NamesPages, command_of, view_for, with_taken}
-use Rattle.controller_core.specs.Tables.{Outstanding}
-use Rattle.controller_core.specs.declared.command.Work.TheVariants.{Admin}
-use Rattle.controller_core.specs.declared.queue.ControllerQueue.{ControllerQueue}
-use Rattle.controller_core.proofs.Managed.{length-after, decision_names, managed_is, managed_sound}
-use Rattle.controller_core.proofs.Lists.{few_stay, length-change}
+use Rattle.controller_core.proofs.{Lists.{few_stay, length-change}, Managing.{length-after, decision_names, managed_is, managed_sound}}
+use Rattle.controller_core.specs.{Contents.{Contents, FetchedCommand}, Managing.{NamesPages, command_of, view_for, with_taken}, Tables.Outstanding}
+use Rattle.controller_core.specs.declared.{command.Work.TheVariants.Admin, queue.ControllerQueue.ControllerQueue}
 use Rattle.controller_core.proofs.controller.Controller.manage_entry.Goals as goal
 
 pub put-requires : goal.put-requires

@@ -1,6 +1,5 @@
 use Rattle.std.proofs.Common.{◌≡◌, ◌<◌, ℕ, false, is_none}
-use Rattle.controller_core.specs.Looks.{heads_touch}
-use Rattle.controller_core.specs.Fetching.{fetch_refusal}
+use Rattle.controller_core.specs.{Fetching.fetch_refusal, Looks.heads_touch}
 use Rattle.page_memory.specs.Memory.{TouchesMore}
 use Rattle.controller_core.proofs.controller.Controller.next_fetch.Given as goal
 

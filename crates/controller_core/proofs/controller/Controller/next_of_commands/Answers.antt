@@ -1,7 +1,6 @@
+use Rattle.controller_core.{proofs.Counting.{all_stuck, stuck_named, past_names, no_more_touches}, specs.Looks.IsStuck}
 use Rattle.std.proofs.Common.{◌≤◌, ◌∙◌, sym, length, subst, arith}
 use Rattle.page_memory.specs.Memory.{Memory}
-use Rattle.controller_core.specs.Looks.{IsStuck}
-use Rattle.controller_core.proofs.Looks.{all_stuck, stuck_named, past_names, no_more_touches}
 use Rattle.controller_core.proofs.controller.Controller.next_of_commands.Goals as goal
 
 pub returns-in_default-clause-none : goal.returns-in_default-clause-none

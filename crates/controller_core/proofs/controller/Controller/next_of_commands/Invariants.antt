@@ -1,7 +1,5 @@
-use Rattle.std.proofs.Common.{◌≡◌, ◌<◌, ℕ, Some}
-use Rattle.std.specs.Prelude.{slice_get}
-use Rattle.controller_core.specs.Contents.{FetchedCommand, entry_of_work}
-use Rattle.controller_core.specs.Looks.{IsStuck, name_at}
+use Rattle.std.{proofs.Common.{◌≡◌, ◌<◌, ℕ, Some}, specs.Prelude.slice_get}
+use Rattle.controller_core.specs.{Contents.{FetchedCommand, entry_of_work}, Looks.{IsStuck, name_at}}
 use Rattle.page_memory.specs.Memory.{TouchesMore}
 use Rattle.controller_core.proofs.controller.Controller.next_of_commands.Given as goal
 

@@ -1,9 +1,6 @@
 use Rattle.std.proofs.Common.{sym, ap, subst, length, arith, ◌∙◌}
 use Rattle.block_image.specs.Blocks.{block_count}
-use Rattle.controller_core.specs.Contents.{AreAwaited, AreCommands}
-use Rattle.controller_core.specs.Tables.{Outstanding}
-use Rattle.controller_core.proofs.Lists.{few_stay}
-use Rattle.controller_core.proofs.Opened.{many}
+use Rattle.controller_core.{proofs.{Lists.few_stay, ResetQueues.many}, specs.{Contents.{AreAwaited, AreCommands}, Tables.Outstanding}}
 use Rattle.controller_core.proofs.controller.Controller.open.Goals as goal
 
 pub invariant_of-result : goal.invariant_of-result

@@ -1,9 +1,6 @@
 use Rattle.std.proofs.Common.{List, length, ap, sym, subst, ◌∙◌}
-use Rattle.controller_core.specs.Contents.{IsController}
-use Rattle.controller_core.specs.Doorbells.{with_tail}
+use Rattle.controller_core.{proofs.{Lists.{few_stay, length-change}, Managing.rung_kept}, specs.{Contents.IsController, Doorbells.with_tail}}
 use Rattle.controller_core.specs.declared.queue.ControllerQueue.{ControllerQueue}
-use Rattle.controller_core.proofs.Lists.{few_stay, length-change}
-use Rattle.controller_core.proofs.Kept.{rung_kept}
 use Rattle.controller_core.proofs.controller.Controller.tail_doorbell.Goals as goal
 
 pub invariant_of-self : goal.invariant_of-self

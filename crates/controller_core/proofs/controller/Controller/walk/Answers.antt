@@ -1,5 +1,5 @@
 use Rattle.std.proofs.Common.{◌∙◌}
-use Rattle.controller_core.proofs.Kept.{awaited_kept, walked_kept, few_walked}
+use Rattle.controller_core.proofs.Managing.{awaited_kept, walked_kept, few_walked}
 use Rattle.controller_core.proofs.controller.Controller.walk.Goals as goal
 
 pub walk-requires-clause-few : goal.walk-requires-clause-few

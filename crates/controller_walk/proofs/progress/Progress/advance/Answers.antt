@@ -1,7 +1,5 @@
 use Rattle.std.proofs.Common.{arith, sym, refl, subst, ◌≤◌, ◌<◌, ◌-◌, ◌+◌}
-use Rattle.controller_walk.specs.Units.{Course, first_part}
-use Rattle.controller_walk.specs.Walks.{Leaves, course}
-use Rattle.controller_walk.proofs.Courses.{more_moving, none_moving, part_most}
+use Rattle.controller_walk.{proofs.Courses.{more_moving, none_moving, part_most}, specs.{Units.{Course, first_part}, Walks.{Leaves, course}}}
 use Rattle.controller_walk.proofs.progress.Progress.advance.Goals as goal
 
 pub returns-then-n-block-clause-leaves : goal.returns-then-n-block-clause-leaves

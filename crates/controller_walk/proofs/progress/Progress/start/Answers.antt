@@ -1,7 +1,5 @@
 use Rattle.std.proofs.Common.{arith, ◌≡◌, ◌<◌, min, sym, refl, subst}
-use Rattle.controller_walk.specs.Units.{Course}
-use Rattle.controller_walk.specs.Walks.{Leaves, course}
-use Rattle.controller_walk.proofs.Courses.{more_moving, none_moving, behind_front}
+use Rattle.controller_walk.{proofs.Courses.{more_moving, none_moving, behind_front}, specs.{Units.Course, Walks.{Leaves, course}}}
 use Rattle.controller_walk.proofs.progress.Progress.start.Goals as goal
 
 pub returns-then-front-eq0-clause-leaves : goal.returns-then-front-eq0-clause-leaves

@@ -1,8 +1,6 @@
 use Rattle.std.proofs.Common.{◌≡◌, Some, None, ap, subst, inl, inr}
-use Rattle.controller_walk.specs.Faults.{next_in}
-use Rattle.controller_walk.specs.Progress.{IsProgress}
+use Rattle.controller_walk.{proofs.Courses.{next_reads, others_read_none, within_takes_none, over_takes_none}, specs.{Faults.next_in, Progress.IsProgress}}
 use Rattle.controller_walk.specs.declared.progress.Progress.{Progress}
-use Rattle.controller_walk.proofs.Reading.{next_reads, others_read_none, within_takes_none, over_takes_none}
 use Rattle.controller_walk.proofs.walk.Walk.at.Goals as goal
 
 pub returns-in-Next-clause-reads : goal.returns-in-Next-clause-reads

@@ -1,11 +1,8 @@
 use Rattle.std.proofs.Common.{◌≡◌, refl, inl, inr, ◌<◌, ◌≤◌, length, vec_len, true, false, eqb-true, arith, ap, sym, ◌∙◌, subst}
-use Rattle.driver_book.specs.Close.{AllStand, RefusesClose, has_open, receipts_of}
+use Rattle.driver_book.proofs.StandsInReceipts.{all_parts_back, closed_book, closes_book, missing_in, not_none, stand_in, wanted, enough_receipts}
+use Rattle.driver_book.specs.{Close.{AllStand, RefusesClose, has_open, receipts_of}, History.{accepted, LeadsTo}, State.BookContents}
+use Rattle.driver_book.specs.declared.report.CloseFault.TheVariants.{Missing, SeatOut, StillOut, Memory}
 use Rattle.machine_model.specs.Claims.{counts_of}
-use Rattle.step_log.specs.History.{accepted, LeadsTo}
-use Rattle.driver_book.specs.State.{BookContents}
-use Rattle.driver_book.specs.declared.log.CloseFault.TheVariants.{Missing, SeatOut, StillOut, Memory}
-use Rattle.driver_book.proofs.Closing.{all_parts_back, closed_book, closes_book, missing_in, not_none, stand_in, wanted}
-use Rattle.driver_book.proofs.EachReceipt.{enough_receipts}
 use Rattle.driver_book.proofs.book.Book.close.Goals as goal
 
 pub returns-clause-no_more : goal.returns-clause-no_more

@@ -1,7 +1,6 @@
 use Rattle.std.proofs.Common.{None, refl, sym, ◌∙◌, inl}
 use Rattle.step_core.specs.Replies.{collect_reply}
-use Rattle.driver_book.specs.Calls.{IsLogFull}
-use Rattle.driver_book.proofs.Runs.{does_in, log_has_some, keeps_jobs, no_room, takes_memory, wants_room}
+use Rattle.driver_book.{proofs.Runs.{does_in, log_has_some, keeps_jobs, no_room, takes_memory, wants_room}, specs.Calls.IsLogFull}
 use Rattle.machine_model.specs.Events as events
 use Rattle.driver_book.proofs.book.Book.collect.Goals as goal
 

@@ -1,8 +1,7 @@
 use Rattle.std.proofs.Common.{None, refl, sym, ◌∙◌, ap}
 use Rattle.step_core.specs.Replies.{complete_reply}
-use Rattle.driver_book.specs.Calls.{IsLogFull}
+use Rattle.driver_book.{proofs.Runs.{does_in, log_has_some, keeps_jobs, no_room, takes_no_memory, touches_in, wants_room}, specs.Calls.IsLogFull}
 use Rattle.driver_book.specs.State.{BookContents}
-use Rattle.driver_book.proofs.Runs.{does_in, log_has_some, keeps_jobs, no_room, takes_no_memory, touches_in, wants_room}
 use Rattle.machine_model.specs.Events as events
 use Rattle.driver_book.proofs.book.Book.complete.Goals as goal
 

@@ -1,7 +1,6 @@
 use Rattle.std.proofs.Common.{None, refl, sym, ◌∙◌}
 use Rattle.step_core.specs.Replies.{send_reply}
-use Rattle.driver_book.specs.Calls.{IsLogFull}
-use Rattle.driver_book.proofs.Runs.{does_in, keeps_book, log_has_some, no_room, takes_any, takes_no_memory}
+use Rattle.driver_book.{proofs.Runs.{does_in, keeps_book, log_has_some, no_room, takes_any, takes_no_memory}, specs.Calls.IsLogFull}
 use Rattle.machine_model.specs.Events as events
 use Rattle.driver_book.proofs.book.Book.delete_sq.Goals as goal
 

@@ -1,6 +1,5 @@
 use Rattle.std.proofs.Common.{ap, sym, ◌∙◌}
-use Rattle.step_log.specs.Values.{LogContents}
-use Rattle.driver_book.proofs.Runs.{empty_book}
+use Rattle.driver_book.{proofs.Runs.empty_book, specs.Entries.LogContents}
 use Rattle.driver_book.proofs.book.Book.over.Goals as goal
 
 pub invariant_of-result : goal.invariant_of-result

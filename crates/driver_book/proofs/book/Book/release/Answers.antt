@@ -1,11 +1,8 @@
 use Rattle.std.proofs.Common.{◌≡◌, ◌++◌, vec_len, length, take, drop, Some, refl, subst, ap, sym, ◌∙◌}
 use Rattle.step_core.specs.Replies.{accept_reply}
-use Rattle.driver_book.specs.Calls.{IsLogFull}
-use Rattle.driver_book.specs.Seats.{AreSettled}
-use Rattle.driver_book.specs.State.{BookContents}
 use Rattle.driver_book.proofs.Runs.{does_in, log_has_some, keeps_jobs, no_room, takes_no_memory, wants_room}
-use Rattle.driver_book.proofs.Seats.{length_settled, settles_in, settles_none, written_back}
-use Rattle.driver_book.proofs.book.Book.release.Goals.{then-is_ok, else-is_ok}
+use Rattle.driver_book.proofs.{StandsInReceipts.{length_settled, settles_in, settles_none, written_back}, book.Book.release.Goals.{then-is_ok, else-is_ok}}
+use Rattle.driver_book.specs.{Calls.IsLogFull, Seats.AreSettled, State.BookContents}
 use Rattle.machine_model.specs.Events as events
 use Rattle.driver_book.proofs.book.Book.release.Goals as goal
 

@@ -1,9 +1,8 @@
 use Rattle.std.proofs.Common.{inl, None, length, ap, refl, sym, ◌∙◌, IfOk, subst}
 use Rattle.step_core.specs.Replies.{reserve_reply}
-use Rattle.driver_book.specs.Calls.{LacksRoomToReserve, most_pages}
 use Rattle.driver_book.proofs.Runs.{does_in, draft_takes, keeps_jobs, lacks_to_reserve, log_has_room, log_lacks, reservation_takes, reservation_written, takes_as, takes_memory, wants_room}
+use Rattle.driver_book.specs.{Calls.{LacksRoomToReserve, most_pages}, State.BookContents}
 use Rattle.host_core.specs.Alone.{IsLowest}
-use Rattle.driver_book.specs.State.{BookContents}
 use Rattle.machine_model.specs.Events as events
 use Rattle.driver_book.proofs.book.Book.reserve.Goals as goal
 

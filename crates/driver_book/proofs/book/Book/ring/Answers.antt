@@ -1,7 +1,6 @@
 use Rattle.std.proofs.Common.{None, refl, sym, ◌∙◌}
 use Rattle.step_core.specs.Replies.{ring_reply}
-use Rattle.driver_book.specs.Calls.{IsLogFull}
-use Rattle.driver_book.proofs.Runs.{does_in, log_has_some, keeps_jobs, no_room, takes_no_memory}
+use Rattle.driver_book.{proofs.Runs.{does_in, log_has_some, keeps_jobs, no_room, takes_no_memory}, specs.Calls.IsLogFull}
 use Rattle.machine_model.specs.Events as events
 use Rattle.driver_book.proofs.book.Book.ring.Goals as goal
 

@@ -1,12 +1,10 @@
 use Rattle.std.proofs.Common.{◌⊎◌, ◌∷◌, [], inl, inr, ◌-◌, vec_capacity, vec_len, Some, length, length-append, arith, refl, ap, sym, ◌∙◌, rules}
+use Rattle.std.proofs.lemmas.List.Sums.{count_by-le-length}
 use Rattle.io_commands.specs.Asked.{Request}
 use Rattle.step_core.specs.Replies.{accept_reply}
-use Rattle.driver_book.specs.Calls.{LacksRoomToSubmit, AreReceiptsFull}
-use Rattle.driver_book.specs.State.{BookContents}
 use Rattle.driver_book.proofs.Runs.{accepts_book, does_in, has_room, keeps_jobs, log_has_room, log_lacks, refused_submission, submission_entries, submission_written, lacks_as, receipts_full, takes_as, takes_no_memory, wants_room}
-use Rattle.std.proofs.lemmas.List.Sums.{count_by-le-length}
-use Rattle.step_log.specs.History.{is_accepted, entry_of}
-use Rattle.driver_book.proofs.Seats.{receives_in, receives_none, settled_appended}
+use Rattle.driver_book.{proofs.StandsInReceipts.{receives_in, receives_none, settled_appended}, specs.Calls.{LacksRoomToSubmit, AreReceiptsFull}}
+use Rattle.driver_book.specs.{History.{is_accepted, entry_of}, State.BookContents}
 use Rattle.machine_model.specs.Events as events
 use Rattle.driver_book.proofs.book.Book.submit.Goals as goal
 

@@ -1,7 +1,5 @@
 -- each job so far has its end, or is in flight
-use Rattle.std.proofs.Common.{◌≡◌, ◌+◌, vec_len, length}
-use Rattle.std.specs.Vec.Iter.{into_iter_len}
-use Rattle.std.specs.VecDeque.{deque_len, deque_capacity}
+use Rattle.std.{proofs.Common.{◌≡◌, ◌+◌, vec_len, length}, specs.{Vec.Iter.into_iter_len, VecDeque.{deque_len, deque_capacity}}}
 use Rattle.driver_threads.specs.Ends.{IsUnderWay}
 use Rattle.driver_threads.proofs.flight.Flight.carry_all.Given as goal
 

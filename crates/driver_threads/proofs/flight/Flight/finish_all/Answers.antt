@@ -1,7 +1,5 @@
 -- Once nothing is in flight, each command ended as its receipt says.
-use Rattle.std.proofs.Common.{rules, ◌≡◌, arith}
-use Rattle.std.specs.VecDeque.{deque_len}
-use Rattle.std.proofs.lemmas.Bool.Decides.{nat_tests}
+use Rattle.std.{proofs.{Common.{rules, ◌≡◌, arith}, lemmas.Bool.Decides.nat_tests}, specs.VecDeque.deque_len}
 use Rattle.driver_threads.proofs.UnderWay.{landed}
 use Rattle.driver_threads.proofs.flight.Flight.finish_all.Goals as goal
 

@@ -1,6 +1,5 @@
 -- each command that is finished has its end
-use Rattle.std.proofs.Common.{◌≡◌, ◌+◌, vec_len}
-use Rattle.std.specs.VecDeque.{deque_len, deque_capacity}
+use Rattle.std.{proofs.Common.{◌≡◌, ◌+◌, vec_len}, specs.VecDeque.{deque_len, deque_capacity}}
 use Rattle.driver_threads.specs.Ends.{IsUnderWay}
 use Rattle.driver_threads.proofs.flight.Flight.finish_all.Given as goal
 

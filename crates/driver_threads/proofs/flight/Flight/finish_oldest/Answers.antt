@@ -1,8 +1,7 @@
 -- The oldest command in flight ended as its receipt says.
 use Rattle.std.proofs.Common.{◌≡◌, ℕ, ◌-◌, List, ◌∷◌, length, ap, ◌∙◌, arith, subst}
 use Rattle.io_commands.specs.Values.{TicketContents}
-use Rattle.driver_threads.specs.Ends.{IsUnderWay}
-use Rattle.driver_threads.proofs.UnderWay.{in_flight_fit, oldest_is_open, one_ended}
+use Rattle.driver_threads.{proofs.UnderWay.{in_flight_fit, oldest_is_open, one_ended}, specs.Ends.IsUnderWay}
 use Rattle.driver_threads.proofs.flight.Flight.finish_oldest.Goals as goal
 
 pub overflow_sub-place : goal.overflow_sub-place

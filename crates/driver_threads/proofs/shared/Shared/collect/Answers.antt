@@ -1,4 +1,4 @@
-use Rattle.driver_threads.proofs.Collected.{collects_command}
+use Rattle.driver_threads.proofs.UnderWay.{collects_command}
 use Rattle.driver_threads.proofs.shared.Shared.collect.Goals as goal
 
 pub returns-clause-command : goal.returns-clause-command

@@ -1,9 +1,7 @@
 -- The fields that were read are those that the bytes spell.
 use Rattle.std.proofs.Common.{sym, ◌∙◌, subst}
-use Rattle.entry_codec.specs.Bytes.{IsBytes}
-use Rattle.entry_codec.specs.Completion.{completion_of, IsCompletion}
+use Rattle.entry_codec.{proofs.CompletionLemmas.{spells, found, same_entry}, specs.{Bytes.IsBytes, Completion.{completion_of, IsCompletion}}}
 use Rattle.entry_codec.specs.declared.completion.ComEntry.{ComEntry}
-use Rattle.entry_codec.proofs.CompletionLemmas.{spells, found, same_entry}
 use Rattle.entry_codec.proofs.completion.ComEntry.read.Goals as goal
 
 pub returns : goal.returns

@@ -1,6 +1,5 @@
 -- What is written of the code, and that these are its two digits.
-use Rattle.std.proofs.Common.{rules, true, ◌<◌}
-use Rattle.std.proofs.lemmas.Fmt.{hex_byte}
+use Rattle.std.proofs.{Common.{rules, true, ◌<◌}, lemmas.Fmt.hex_byte}
 use Rattle.entry_codec.proofs.status.StatusDisplay.fmt.Goals as goal
 
 pub returns-clause-writes : goal.returns-clause-writes

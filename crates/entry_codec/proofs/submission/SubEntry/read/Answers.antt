@@ -1,9 +1,7 @@
 -- The fields that were read are those that the bytes spell.
 use Rattle.std.proofs.Common.{sym, ◌∙◌, subst}
-use Rattle.entry_codec.specs.Bytes.{IsBytes}
-use Rattle.entry_codec.specs.Submission.{submission_of, IsSubmission}
+use Rattle.entry_codec.{proofs.SubmissionLemmas.{spells, found, same_entry}, specs.{Bytes.IsBytes, Submission.{submission_of, IsSubmission}}}
 use Rattle.entry_codec.specs.declared.submission.SubEntry.{SubEntry}
-use Rattle.entry_codec.proofs.SubmissionLemmas.{spells, found, same_entry}
 use Rattle.entry_codec.proofs.submission.SubEntry.read.Goals as goal
 
 pub returns : goal.returns

@@ -1,8 +1,6 @@
 -- The four parts stand one after the other.
-use Rattle.std.proofs.Common.{rules, ◌≡◌, ◌∙◌, refl, length}
-use Rattle.std.specs.Int.{w64, to_le_bytes}
-use Rattle.entry_codec.proofs.Lists.{parts_joined}
-use Rattle.entry_codec.specs.Submission.{submission_bytes, submission_head, command_words}
+use Rattle.std.{proofs.Common.{rules, ◌≡◌, ◌∙◌, refl, length}, specs.Int.{w64, to_le_bytes}}
+use Rattle.entry_codec.{proofs.Bits.parts_joined, specs.Submission.{submission_bytes, submission_head, command_words}}
 use Rattle.entry_codec.proofs.submission.SubEntry.write.Goals as goal
 
 pub returns-clause-bytes : goal.returns-clause-bytes

@@ -1,14 +1,9 @@
 use Rattle.std.proofs.Common.{◌++◌, [], false, sym, ◌∙◌}
-use Rattle.io_commands.specs.Drafts.{DraftContents}
+use Rattle.io_commands.specs.{Drafts.DraftContents, Values.numbers_of}
+use Rattle.host_core.proofs.{Ending.{cancel_refused, cancel_made, belongs-from, belongs_brings, ended_apart, brings_apart}, Identifiers.{host_of, over_of}}
+use Rattle.host_core.{proofs.Openings.{whole_at, step_at, stays_at}, specs.{Parts.tables_of, Tables.Tables, Whole.IsWhole}}
 use Rattle.machine_model.specs.Events as events
 use Rattle.machine_model.specs.declared.words.Refusal.TheVariants as refusal
-use Rattle.io_commands.specs.Values.{numbers_of}
-use Rattle.host_core.specs.Parts.{tables_of}
-use Rattle.host_core.specs.Tables.{Tables}
-use Rattle.host_core.specs.Whole.{IsWhole}
-use Rattle.host_core.proofs.Calls.{whole_at, step_at, stays_at}
-use Rattle.host_core.proofs.Keeping.{host_of, over_of}
-use Rattle.host_core.proofs.Ending.{cancel_refused, cancel_made, belongs-from, belongs_brings, ended_apart, brings_apart}
 use Rattle.host_core.proofs.host.Host.cancel.Goals as goal
 
 pub returns-then-not-has_draft-clause-step : goal.returns-then-not-has_draft-clause-step

@@ -1,11 +1,7 @@
 use Rattle.std.proofs.Common.{arith, None, ◌≡◌, ◌∙◌, ℕ, true, false, [], List, slice_get, ap, subst, sym, Some}
 use Rattle.machine_model.specs.Refusals.{is_reaped, in_state}
-use Rattle.host_core.specs.Alone.{HostView, alone}
-use Rattle.host_core.specs.Looks.{completion_base as spec_completion_base}
-use Rattle.host_core.specs.Parts.{tables_of}
-use Rattle.host_core.specs.Reaping.{lacks_completion}
-use Rattle.host_core.specs.Rows.{Queue}
-use Rattle.host_core.proofs.Seen.{base-is, base-there, base-gone, completion-inside}
+use Rattle.host_core.{proofs.QueueLists.{base-is, base-there, base-gone, completion-inside}, specs.Alone.{HostView, alone}}
+use Rattle.host_core.specs.{Looks.completion_base as spec_completion_base, Parts.tables_of, Reaping.lacks_completion, Rows.Queue}
 use Rattle.host_core.proofs.host.Host.completion_base.Goals as goal
 
 pub returns-clause-base : goal.returns-clause-base

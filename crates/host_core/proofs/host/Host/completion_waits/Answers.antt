@@ -1,11 +1,6 @@
 use Rattle.std.proofs.Common.{◌≡◌, [], false, slice_get, sym, ◌∙◌, subst}
-use Rattle.host_core.specs.Alone.{HostView, alone}
-use Rattle.host_core.specs.Looks.{completion_waits}
-use Rattle.host_core.specs.Parts.{tables_of}
-use Rattle.host_core.specs.Reaping.{lacks_completion}
-use Rattle.host_core.specs.Tables.{Tables}
-use Rattle.host_core.proofs.Calls.{whole_at}
-use Rattle.host_core.proofs.ReapSteps.{looks, waits-told}
+use Rattle.host_core.{proofs.{Openings.whole_at, Reaps.{looks, waits-told}}, specs.{Alone.{HostView, alone}, Looks.completion_waits, Parts.tables_of}}
+use Rattle.host_core.specs.{Reaping.lacks_completion, Tables.Tables}
 use Rattle.host_core.proofs.host.Host.completion_waits.Goals as goal
 
 pub see-requires-clause-whole : goal.see-requires-clause-whole

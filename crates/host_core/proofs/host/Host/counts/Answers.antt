@@ -1,8 +1,6 @@
 use Rattle.std.proofs.Common.{[], ◌∙◌, ap}
 use Rattle.machine_model.specs.Claims.{counts_of}
-use Rattle.host_core.specs.Alone.{HostView}
-use Rattle.host_core.specs.Parts.{tables_of}
-use Rattle.host_core.proofs.Told.{table_counts}
+use Rattle.host_core.{proofs.Told.table_counts, specs.{Alone.HostView, Parts.tables_of}}
 use Rattle.host_core.proofs.host.Host.counts.Goals as goal
 
 pub returns : goal.returns

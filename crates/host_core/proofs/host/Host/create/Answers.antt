@@ -1,15 +1,8 @@
 use Rattle.std.proofs.Common.{[], subst}
+use Rattle.host_core.proofs.{Creations.{create-refused, created_made}, Granting.next-lowest, Identifiers.{host_of, over_of}}
+use Rattle.host_core.{proofs.{Openings.{whole_at, step_at, stays_at}, Told.{creating_refused, creating_sent, touches_none}}, specs.Alone.{HostView, IsLowest}}
+use Rattle.host_core.specs.{Parts.tables_of, Sending.creating, Tables.Tables, Whole.IsWhole}
 use Rattle.machine_model.specs.Events as events
-use Rattle.host_core.specs.Alone.{HostView, IsLowest}
-use Rattle.host_core.specs.Parts.{tables_of}
-use Rattle.host_core.specs.Sending.{creating}
-use Rattle.host_core.specs.Tables.{Tables}
-use Rattle.host_core.specs.Whole.{IsWhole}
-use Rattle.host_core.proofs.Calls.{whole_at, step_at, stays_at}
-use Rattle.host_core.proofs.Creations.{create-refused, created_made}
-use Rattle.host_core.proofs.Granting.{next-lowest}
-use Rattle.host_core.proofs.Keeping.{host_of, over_of}
-use Rattle.host_core.proofs.Touching.{creating_refused, creating_sent, touches_none}
 use Rattle.host_core.proofs.host.Host.create.Goals as goal
 
 pub returns-in-Err-clause-step : goal.returns-in-Err-clause-step

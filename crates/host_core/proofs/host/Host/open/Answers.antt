@@ -1,8 +1,6 @@
 use Rattle.std.proofs.Common.{sym, subst}
 use Rattle.page_memory.specs.Pages.{Pages}
-use Rattle.host_core.specs.Alone.{IsOver}
-use Rattle.host_core.proofs.Fresh.{made as tables_made, opens_made, fits_word}
-use Rattle.host_core.specs.Tables.{view_of}
+use Rattle.host_core.{proofs.Openings.{made as tables_made, opens_made, fits_word}, specs.{Alone.IsOver, Tables.view_of}}
 use Rattle.host_core.proofs.host.Host.open.Goals as goal
 
 pub overflow_cast-result : goal.overflow_cast-result

@@ -1,7 +1,6 @@
 use Rattle.std.proofs.Common.{◌∙◌, ap, length}
 use Rattle.machine_model.specs.State.{outstanding_on}
-use Rattle.host_core.specs.Alone.{HostView}
-use Rattle.host_core.proofs.Counted.{rows_on-outstanding}
+use Rattle.host_core.{proofs.Lists.rows_on-outstanding, specs.Alone.HostView}
 use Rattle.host_core.proofs.host.Host.outstanding.Goals as goal
 
 pub returns : goal.returns

@@ -1,11 +1,7 @@
-use Rattle.std.proofs.Common.{ℕ, ◌<◌, [], subst, sym}
-use Rattle.std.specs.List.{Contains}
+use Rattle.std.{proofs.Common.{ℕ, ◌<◌, [], subst, sym}, specs.List.Contains}
 use Rattle.machine_model.specs.Claims.{claims_of, counts_of}
 use Rattle.page_ledger.specs.Counting.{total}
-use Rattle.host_core.specs.Alone.{HostView}
-use Rattle.host_core.specs.Parts.{tables_of}
-use Rattle.host_core.proofs.Keeping.{count_of}
-use Rattle.host_core.proofs.Told.{owner_claims}
+use Rattle.host_core.{proofs.{Identifiers.count_of, Told.owner_claims}, specs.{Alone.HostView, Parts.tables_of}}
 use Rattle.host_core.proofs.host.Host.owner.Goals as goal
 
 pub owner-requires : goal.owner-requires

@@ -1,9 +1,7 @@
 use Rattle.std.proofs.Common.{[], ◌∙◌, ap, sym, subst}
 use Rattle.machine_model.specs.Claims.{counts_of}
 use Rattle.page_ledger.specs.Counting.{total}
-use Rattle.host_core.specs.Alone.{HostView, IsSoundHost}
-use Rattle.host_core.specs.Parts.{tables_of}
-use Rattle.host_core.proofs.Keeping.{count_of, sound_host}
+use Rattle.host_core.{proofs.Identifiers.{count_of, sound_host}, specs.{Alone.{HostView, IsSoundHost}, Parts.tables_of}}
 use Rattle.host_core.proofs.host.Host.pages.Goals as goal
 
 pub returns-clause-pages : goal.returns-clause-pages

@@ -1,17 +1,10 @@
 use Rattle.std.proofs.Common.{◌≡◌, ◌<◌, [], ℕ, None, Some, false, length, slice_get, arith, ap, sym, ◌∙◌, subst}
+use Rattle.page_memory.specs.Pages.{Pages}
+use Rattle.host_core.proofs.{Identifiers.{host_of, over_of}, Openings.{whole_at, step_at, stays_at, head-told}, QueueLists.{queue-at, completion-inside}}
+use Rattle.host_core.{proofs.Reaps.{looks, reaps-none}, specs.{Alone.{HostStep, IsOver}, Parts.tables_of, Reaping.lacks_completion, Tables.{Tables, view_of}}}
+use Rattle.host_core.specs.Whole.{IsWhole}
 use Rattle.machine_model.specs.Events as events
 use Rattle.machine_model.specs.declared.words.Reaped.TheVariants as found
-use Rattle.page_memory.specs.Pages.{Pages}
-use Rattle.host_core.specs.Alone.{HostStep, IsOver}
-use Rattle.host_core.specs.Parts.{tables_of}
-use Rattle.host_core.specs.Reaping.{lacks_completion}
-use Rattle.host_core.specs.Tables.{Tables, view_of}
-use Rattle.host_core.specs.Whole.{IsWhole}
-use Rattle.host_core.proofs.Calls.{whole_at, step_at, stays_at, head-told}
-use Rattle.host_core.proofs.Keeping.{host_of, over_of}
-use Rattle.host_core.proofs.QueueLists.{queue-at}
-use Rattle.host_core.proofs.ReapSteps.{looks, reaps-none}
-use Rattle.host_core.proofs.Seen.{completion-inside}
 use Rattle.host_core.proofs.host.Host.reap.Goals as goal
 
 pub see-requires-clause-whole : goal.see-requires-clause-whole

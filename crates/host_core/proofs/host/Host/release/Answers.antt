@@ -1,15 +1,10 @@
 use Rattle.std.proofs.Common.{◌++◌, [], sym, ◌∙◌, subst, true}
-use Rattle.io_commands.specs.DataBytes.{PagesOut}
-use Rattle.io_commands.specs.Values.{FinishedContents, numbers_of}
+use Rattle.io_commands.specs.{DataBytes.PagesOut, Values.{FinishedContents, numbers_of}}
 use Rattle.machine_model.specs.Proper.{ArePages}
+use Rattle.host_core.proofs.Ending.{reads_from, belongs-from, read_has, read_belongs, release_refused, release_made, belongs_brings, ended_apart, brings_apart}
+use Rattle.host_core.{proofs.{Identifiers.{host_of, over_of}, Openings.{whole_at, step_at, stays_at}}, specs.{Parts.tables_of, Tables.Tables, Whole.IsWhole}}
 use Rattle.machine_model.specs.Events as events
 use Rattle.machine_model.specs.declared.words.Refusal.TheVariants as refusal
-use Rattle.host_core.specs.Parts.{tables_of}
-use Rattle.host_core.specs.Tables.{Tables}
-use Rattle.host_core.specs.Whole.{IsWhole}
-use Rattle.host_core.proofs.Calls.{whole_at, step_at, stays_at}
-use Rattle.host_core.proofs.Keeping.{host_of, over_of}
-use Rattle.host_core.proofs.Ending.{reads_from, belongs-from, read_has, read_belongs, release_refused, release_made, belongs_brings, ended_apart, brings_apart}
 use Rattle.host_core.proofs.host.Host.release.Goals as goal
 
 pub returns-then-not-has_record-clause-step : goal.returns-then-not-has_record-clause-step

@@ -1,18 +1,10 @@
 use Rattle.std.proofs.Common.{rules, ap, ℕ, [], refl, sym, subst, arith}
+use Rattle.io_commands.specs.{Drafts.DraftContents, Requests.FitsRequest}
+use Rattle.host_core.proofs.{Granted.{placed_pages, reserve_made}, Granting.{grant-lowest, refuses-memory}, Identifiers.{host_of, over_of}}
+use Rattle.host_core.{proofs.{Openings.{whole_at, step_at, stays_at}, QueueLists.host_step}, specs.Alone.{HasPlacedPages, HostView, IsLowest}}
+use Rattle.host_core.specs.{Commands.Grants, Parts.tables_of, Tables.{Tables, state_of, view_of}, Whole.IsWhole}
 use Rattle.machine_model.specs.Events as events
 use Rattle.machine_model.specs.declared.words.Refusal.TheVariants as refusal
-use Rattle.io_commands.specs.Drafts.{DraftContents}
-use Rattle.io_commands.specs.Requests.{FitsRequest}
-use Rattle.host_core.specs.Alone.{HasPlacedPages, HostView, IsLowest}
-use Rattle.host_core.specs.Commands.{Grants}
-use Rattle.host_core.specs.Parts.{tables_of}
-use Rattle.host_core.specs.Tables.{Tables, state_of, view_of}
-use Rattle.host_core.specs.Whole.{IsWhole}
-use Rattle.host_core.proofs.Calls.{whole_at, step_at, stays_at}
-use Rattle.host_core.proofs.Granted.{placed_pages, reserve_made}
-use Rattle.host_core.proofs.Granting.{grant-lowest, refuses-memory}
-use Rattle.host_core.proofs.Keeping.{host_of, over_of}
-use Rattle.host_core.proofs.Steps.{host_step}
 use Rattle.host_core.proofs.host.Host.reserve.Goals as goal
 
 pub returns-in-Err-clause-step : goal.returns-in-Err-clause-step

@@ -1,12 +1,8 @@
 use Rattle.std.proofs.Common.{◌≡◌, [], None, sym, ◌∙◌, subst}
-use Rattle.machine_model.specs.Events as events
 use Rattle.machine_model.specs.Refusals.{refusal_of}
-use Rattle.host_core.specs.Alone.{HostView, alone}
-use Rattle.host_core.specs.Looks.{cause_of}
-use Rattle.host_core.specs.Parts.{tables_of}
-use Rattle.host_core.specs.Tables.{Tables, state_of}
+use Rattle.host_core.{proofs.Openings.{cause-told, whole_at}, specs.{Alone.{HostView, alone}, Looks.cause_of, Parts.tables_of, Tables.{Tables, state_of}}}
 use Rattle.host_core.specs.Whole.{IsWhole}
-use Rattle.host_core.proofs.Calls.{cause-told, whole_at}
+use Rattle.machine_model.specs.Events as events
 use Rattle.host_core.proofs.host.Host.reserve_refusal.Goals as goal
 
 pub returns-in-Ok : goal.returns-in-Ok

@@ -1,15 +1,9 @@
 use Rattle.std.proofs.Common.{◌≡◌, ◌∙◌, [], ap, subst, sym}
 use Rattle.machine_model.specs.After.{after_reset}
 use Rattle.page_memory.specs.Pages.{Pages}
-use Rattle.host_core.specs.Alone.{HostView, alone}
-use Rattle.host_core.specs.Laws.{shown}
-use Rattle.host_core.specs.Parts.{tables_of}
-use Rattle.host_core.specs.Resetting.{tables_reset, with_io_queues_gone, with_records_reset, HasPlaces, ListHalves}
-use Rattle.host_core.specs.Tables.{Tables, view_of}
-use Rattle.host_core.specs.Whole.{IsWhole}
-use Rattle.host_core.proofs.Calls.{whole_at}
-use Rattle.host_core.proofs.Keeping.{host_of, over_of, over_pages}
-use Rattle.host_core.proofs.Resetting.{halves-renewed, places-renewed, view-reset, whole-reset}
+use Rattle.host_core.proofs.{Identifiers.{host_of, over_of, over_pages}, Openings.whole_at, Resets.{halves-renewed, places-renewed, view-reset, whole-reset}}
+use Rattle.host_core.specs.{Alone.{HostView, alone}, Laws.shown, Parts.tables_of}
+use Rattle.host_core.specs.{Resetting.{tables_reset, with_io_queues_gone, with_records_reset, HasPlaces, ListHalves}, Tables.{Tables, view_of}, Whole.IsWhole}
 use Rattle.host_core.proofs.host.Host.reset.Goals as goal
 
 pub renew_admin-requires : goal.renew_admin-requires

@@ -1,17 +1,10 @@
 use Rattle.std.proofs.Common.{◌≡◌, [], List, true, ap, sym, ◌∙◌, subst}
-use Rattle.machine_model.specs.Events as events
 use Rattle.machine_model.specs.Refusals.{is_deleted}
-use Rattle.machine_model.specs.declared.words.Refusal.TheVariants as refusal
 use Rattle.page_memory.specs.Pages.{Pages}
-use Rattle.host_core.specs.Alone.{HostStep, IsOver}
-use Rattle.host_core.specs.Commands.{passes, state_at}
-use Rattle.host_core.specs.Parts.{tables_of}
-use Rattle.host_core.specs.Rows.{Queue}
-use Rattle.host_core.specs.Tables.{Tables, view_of}
-use Rattle.host_core.specs.Whole.{IsWhole}
-use Rattle.host_core.proofs.Calls.{whole_at, step_at, stays_at}
-use Rattle.host_core.proofs.Keeping.{host_of, over_of}
-use Rattle.host_core.proofs.Retired.{retire-half, retire-made, retire-drained}
+use Rattle.host_core.proofs.{Identifiers.{host_of, over_of}, Openings.{whole_at, step_at, stays_at}, Reaps.{retire-half, retire-made, retire-drained}}
+use Rattle.host_core.specs.{Alone.{HostStep, IsOver}, Commands.{passes, state_at}, Parts.tables_of, Rows.Queue, Tables.{Tables, view_of}, Whole.IsWhole}
+use Rattle.machine_model.specs.Events as events
+use Rattle.machine_model.specs.declared.words.Refusal.TheVariants as refusal
 use Rattle.host_core.proofs.host.Host.retire.Goals as goal
 
 pub see-requires-clause-whole : goal.see-requires-clause-whole

@@ -1,16 +1,8 @@
 use Rattle.std.proofs.Common.{[], subst}
+use Rattle.host_core.proofs.{Granting.next-lowest, Identifiers.{host_of, over_of}, Openings.{whole_at, step_at, stays_at}}
+use Rattle.host_core.proofs.{Sending.{send-typed, send_made, send-refused}, Told.{sending_refused, sending_sent, touches_none}}
+use Rattle.host_core.specs.{Alone.{HostView, IsLowest}, Parts.tables_of, Sending.sending, Tables.Tables, Whole.IsWhole}
 use Rattle.machine_model.specs.Events as events
-use Rattle.host_core.specs.Alone.{HostView, IsLowest}
-use Rattle.host_core.proofs.Granting.{next-lowest}
-use Rattle.host_core.specs.Parts.{tables_of}
-use Rattle.host_core.specs.Sending.{sending}
-use Rattle.host_core.specs.Tables.{Tables}
-use Rattle.host_core.specs.Whole.{IsWhole}
-use Rattle.host_core.proofs.Calls.{whole_at, step_at, stays_at}
-use Rattle.host_core.proofs.Keeping.{host_of, over_of}
-use Rattle.host_core.proofs.SendChecks.{send-typed}
-use Rattle.host_core.proofs.Sending.{send_made, send-refused}
-use Rattle.host_core.proofs.Touching.{sending_refused, sending_sent, touches_none}
 use Rattle.host_core.proofs.host.Host.send.Goals as goal
 
 pub returns-in-Err-clause-step : goal.returns-in-Err-clause-step

@@ -1,8 +1,6 @@
 use Rattle.std.proofs.Common.{◌≡◌, None, option_and_then, ap, sym, ◌∙◌, subst}
 use Rattle.machine_model.specs.State.{Record, record_at}
-use Rattle.host_core.specs.Alone.{HostView}
-use Rattle.host_core.specs.Rows.{Kept}
-use Rattle.host_core.proofs.RowRecords.{found-row, no-row}
+use Rattle.host_core.{proofs.RowRecords.{found-row, no-row}, specs.{Alone.HostView, Rows.Kept}}
 use Rattle.host_core.proofs.host.Host.status_of.Goals as goal
 
 pub returns-in-Some : goal.returns-in-Some

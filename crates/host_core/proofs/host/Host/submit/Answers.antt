@@ -1,12 +1,7 @@
 use Rattle.std.proofs.Common.{[], refl}
+use Rattle.host_core.proofs.{Identifiers.{host_of, over_of}, Openings.{whole_at, step_at, stays_at}, QueueLists.host_step, Submitted.submit_made}
+use Rattle.host_core.specs.{Parts.tables_of, Tables.Tables, Whole.IsWhole}
 use Rattle.machine_model.specs.Events as events
-use Rattle.host_core.specs.Parts.{tables_of}
-use Rattle.host_core.specs.Tables.{Tables}
-use Rattle.host_core.specs.Whole.{IsWhole}
-use Rattle.host_core.proofs.Calls.{whole_at, step_at, stays_at}
-use Rattle.host_core.proofs.Keeping.{host_of, over_of}
-use Rattle.host_core.proofs.Steps.{host_step}
-use Rattle.host_core.proofs.Submitting.{submit_made}
 use Rattle.host_core.proofs.host.Host.submit.Goals as goal
 
 pub returns-in-Err-clause-step : goal.returns-in-Err-clause-step

@@ -1,11 +1,7 @@
 use Rattle.std.proofs.Common.{[], List, ap, sym, ◌∙◌, subst}
 use Rattle.admin_commands.specs.declared.AdminKind.{AdminKind}
 use Rattle.machine_model.specs.Refusals.{has_cq_alone}
-use Rattle.host_core.specs.Commands.{passes, state_at}
-use Rattle.host_core.specs.Halves.{HasMeant}
-use Rattle.host_core.specs.Parts.{tables_of}
-use Rattle.host_core.specs.Rows.{Queue}
-use Rattle.host_core.proofs.ReapSteps.{gives-meant, unmade-cq, unmade-sq}
+use Rattle.host_core.{proofs.Reaps.{gives-meant, unmade-cq, unmade-sq}, specs.{Commands.{passes, state_at}, Halves.HasMeant, Parts.tables_of, Rows.Queue}}
 use Rattle.host_core.proofs.parts.Parts.apply.Goals as goal
 
 pub give_back_completion-requires : goal.give_back_completion-requires

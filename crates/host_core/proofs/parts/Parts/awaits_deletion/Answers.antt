@@ -1,6 +1,5 @@
 use Rattle.std.proofs.Common.{[], arith, sym, ◌∙◌}
-use Rattle.host_core.specs.Parts.{records_of, tables_of}
-use Rattle.host_core.proofs.Places.{deletion-found, deletion-none}
+use Rattle.host_core.{proofs.Identifiers.{deletion-found, deletion-none}, specs.Parts.{records_of, tables_of}}
 use Rattle.host_core.proofs.parts.Parts.awaits_deletion.Goals as goal
 
 pub returns-then-is_deletion : goal.returns-then-is_deletion

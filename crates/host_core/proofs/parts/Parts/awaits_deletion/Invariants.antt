@@ -1,7 +1,5 @@
-use Rattle.std.proofs.Common.{◌≡◌, ℕ, ◌<◌, false, find}
-use Rattle.std.specs.Option.{option_map_or}
-use Rattle.machine_model.specs.Refusals.{deletes_cq_of}
-use Rattle.machine_model.specs.State.{is_at}
+use Rattle.std.{proofs.Common.{◌≡◌, ℕ, ◌<◌, false, find}, specs.Option.option_map_or}
+use Rattle.machine_model.specs.{Refusals.deletes_cq_of, State.is_at}
 use Rattle.host_core.specs.Parts.{records_of}
 use Rattle.host_core.proofs.parts.Parts.awaits_deletion.Given as goal
 

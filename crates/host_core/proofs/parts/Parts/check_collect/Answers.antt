@@ -1,9 +1,7 @@
 use Rattle.std.proofs.Common.{◌≡◌, inl, inr, false, ap, sym, ◌∙◌}
-use Rattle.host_core.specs.Parts.{record_of, tables_of}
+use Rattle.host_core.{proofs.{Ending.{collect-none, collect-not_yet, collect-stranger}, RowRecords.{found-row, no-row}}, specs.Parts.{record_of, tables_of}}
 use Rattle.host_core.specs.Rows.{Kept}
 use Rattle.machine_model.specs.Refusals.{is_held, is_submitted}
-use Rattle.host_core.proofs.Collecting.{collect-none, collect-not_yet, collect-stranger}
-use Rattle.host_core.proofs.RowRecords.{found-row, no-row}
 use Rattle.host_core.proofs.parts.Parts.check_collect.Goals as goal
 
 pub returns-in_default-clause-refused : goal.returns-in_default-clause-refused

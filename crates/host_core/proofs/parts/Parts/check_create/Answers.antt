@@ -1,7 +1,5 @@
 use Rattle.std.proofs.Common.{sym}
-use Rattle.host_core.specs.Parts.{tables_of}
-use Rattle.host_core.specs.Tables.{Tables}
-use Rattle.host_core.proofs.Creations.{create-full, create-no_identifier, create-no_run, create-ready}
+use Rattle.host_core.{proofs.Creations.{create-full, create-no_identifier, create-no_run, create-ready}, specs.{Parts.tables_of, Tables.Tables}}
 use Rattle.host_core.proofs.parts.Parts.check_create.Goals as goal
 
 pub returns-in_default-clause-refused : goal.returns-in_default-clause-refused

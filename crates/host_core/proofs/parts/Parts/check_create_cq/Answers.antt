@@ -1,9 +1,5 @@
-use Rattle.std.proofs.Common.{List, Some, ap, sym, ◌∙◌}
-use Rattle.std.proofs.lemmas.Bool.{ne_eqb}
-use Rattle.host_core.specs.Commands.{state_at}
-use Rattle.host_core.specs.Parts.{tables_of}
-use Rattle.host_core.specs.Rows.{Queue}
-use Rattle.host_core.proofs.Creating.{create_cq-busy, create_cq-free}
+use Rattle.std.proofs.{Common.{List, Some, ap, sym, ◌∙◌}, lemmas.Bool.ne_eqb}
+use Rattle.host_core.{proofs.Making.{create_cq-busy, create_cq-free}, specs.{Commands.state_at, Parts.tables_of, Rows.Queue}}
 use Rattle.host_core.proofs.parts.Parts.check_create_cq.Goals as goal
 
 pub returns-then-has_commands-clause-refused : goal.returns-then-has_commands-clause-refused

@@ -1,13 +1,8 @@
-use Rattle.std.proofs.Common.{◌≡◌, [], None, subst, sym}
-use Rattle.std.specs.Result.{OnOk, IfErr}
+use Rattle.std.{proofs.Common.{◌≡◌, [], None, subst, sym}, specs.Result.{OnOk, IfErr}}
 use Rattle.controller_walk.specs.Units.{first_passing}
-use Rattle.machine_model.specs.Step.{Refuses}
-use Rattle.machine_model.specs.declared.words.Refusal.{Refusal}
-use Rattle.page_memory.specs.Pages.{Pages}
-use Rattle.page_memory.specs.declared.page.Half.{Half}
-use Rattle.host_core.specs.Parts.{tables_of}
-use Rattle.host_core.specs.Sending.{creating, creation, named_causes}
-use Rattle.host_core.specs.Tables.{state_of}
+use Rattle.machine_model.specs.{Step.Refuses, declared.words.Refusal.Refusal}
+use Rattle.page_memory.specs.{Pages.Pages, declared.page.Half.Half}
+use Rattle.host_core.specs.{Parts.tables_of, Sending.{creating, creation, named_causes}, Tables.state_of}
 use Rattle.host_core.proofs.parts.Parts.check_half.Goals as goal
 
 pub returns-in-Completion-clause-free : goal.returns-in-Completion-clause-free

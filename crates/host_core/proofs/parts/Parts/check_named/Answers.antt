@@ -3,9 +3,7 @@ use Rattle.admin_commands.specs.declared.AdminKind.{AdminKind}
 use Rattle.controller_walk.specs.Units.{first_passing}
 use Rattle.machine_model.specs.Step.{Refuses}
 use Rattle.page_memory.specs.Pages.{Pages}
-use Rattle.host_core.specs.Parts.{tables_of}
-use Rattle.host_core.specs.Sending.{named_causes, sending}
-use Rattle.host_core.specs.Tables.{state_of}
+use Rattle.host_core.specs.{Parts.tables_of, Sending.{named_causes, sending}, Tables.state_of}
 use Rattle.host_core.proofs.parts.Parts.check_named.Goals as goal
 
 pub returns-in-Abort-clause-free : goal.returns-in-Abort-clause-free

@@ -1,7 +1,5 @@
 use Rattle.std.proofs.Common.{sym}
-use Rattle.host_core.specs.Parts.{tables_of}
-use Rattle.host_core.specs.Tables.{Tables}
-use Rattle.host_core.proofs.SendChecks.{send-full, send-no_identifier, send-ready}
+use Rattle.host_core.{proofs.Sending.{send-full, send-no_identifier, send-ready}, specs.{Parts.tables_of, Tables.Tables}}
 use Rattle.host_core.proofs.parts.Parts.check_send.Goals as goal
 
 pub returns-in_default-clause-refused : goal.returns-in_default-clause-refused

@@ -1,13 +1,8 @@
 use Rattle.std.proofs.Common.{◌≡◌, ◌∙◌, ℕ, List, sym, subst, ap, ◌<◌, length, is_none, true, false}
-use Rattle.io_commands.specs.Drafts.{DraftContents}
+use Rattle.io_commands.specs.{Drafts.DraftContents, Values.numbers_of}
 use Rattle.machine_model.specs.Refusals.{is_live, queue_full}
-use Rattle.io_commands.specs.Values.{numbers_of}
-use Rattle.host_core.specs.Parts.{tables_of}
-use Rattle.host_core.specs.Commands.{passes, state_at}
-use Rattle.host_core.specs.Tables.{Tables, state_of}
-use Rattle.host_core.specs.Rows.{Queue}
-use Rattle.host_core.proofs.Ending.{belongs-from}
-use Rattle.host_core.proofs.Submitting.{live_within, submit_full, submit_gone, submit_ready}
+use Rattle.host_core.{proofs.{Ending.belongs-from, Submitted.{live_within, submit_full, submit_gone, submit_ready}}, specs.Commands.{passes, state_at}}
+use Rattle.host_core.specs.{Parts.tables_of, Rows.Queue, Tables.{Tables, state_of}}
 use Rattle.host_core.proofs.parts.Parts.check_submit.Goals as goal
 
 pub is_queue_full-requires-clause-there : goal.is_queue_full-requires-clause-there

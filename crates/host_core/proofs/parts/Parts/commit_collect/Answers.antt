@@ -1,16 +1,9 @@
-use Rattle.std.proofs.Common.{◌≡◌, ◌+◌, ◌++◌, length, arith, ap, sym, ◌∙◌, subst}
-use Rattle.std.proofs.lemmas.List.{length-append}
+use Rattle.std.proofs.{Common.{◌≡◌, ◌+◌, ◌++◌, length, arith, ap, sym, ◌∙◌, subst}, lemmas.List.length-append}
 use Rattle.io_commands.specs.Values.{FinishedContents}
-use Rattle.machine_model.specs.Memory.{without_pages}
-use Rattle.machine_model.specs.State.{Record}
-use Rattle.host_core.specs.Collecting.{taken_pages}
-use Rattle.host_core.specs.Commands.{CanTake}
-use Rattle.host_core.specs.Parts.{record_of, tables_of}
+use Rattle.machine_model.specs.{Memory.without_pages, State.Record}
+use Rattle.host_core.proofs.{Ending.{held_can_take, held_work, collect_enough, collect_made, collected_tables, length-taken}, Lists.{none_is_not, some_is}}
+use Rattle.host_core.{proofs.{RowRecords.{found-row, no-row}, Told.both_parts}, specs.{Collecting.taken_pages, Commands.CanTake, Parts.{record_of, tables_of}}}
 use Rattle.host_core.specs.Tables.{Tables}
-use Rattle.host_core.proofs.Collecting.{held_can_take, held_work, collect_enough, collect_made, collected_tables, length-taken}
-use Rattle.host_core.proofs.Lists.{none_is_not, some_is}
-use Rattle.host_core.proofs.RowRecords.{found-row, no-row}
-use Rattle.host_core.proofs.Touching.{both_parts}
 use Rattle.host_core.proofs.parts.Parts.commit_collect.Goals as goal
 
 pub take_pages-requires-clause-front : goal.take_pages-requires-clause-front

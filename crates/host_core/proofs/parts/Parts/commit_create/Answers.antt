@@ -1,11 +1,7 @@
 use Rattle.std.proofs.Common.{ap, ◌≡◌, ◌∙◌}
-use Rattle.host_core.specs.Parts.{tables_of}
-use Rattle.host_core.specs.Sending.{creation}
-use Rattle.host_core.specs.Tables.{Tables}
 use Rattle.host_core.proofs.Creations.{bare-of, creates-apart, first-within, granted-can-post, granted-new, granted-next, granted-noted-there, granted-settled, granted-there}
-use Rattle.host_core.proofs.Places.{new-empty, place-of}
+use Rattle.host_core.{proofs.{Identifiers.{new-empty, place-of}, Told.touches_then}, specs.{Parts.tables_of, Sending.creation, Tables.Tables}}
 use Rattle.queue_pair.specs.Memory.{half_pages}
-use Rattle.host_core.proofs.Touching.{touches_then}
 use Rattle.host_core.proofs.parts.Parts.commit_create.Goals as goal
 
 pub command-kind-requires : goal.command-kind-requires

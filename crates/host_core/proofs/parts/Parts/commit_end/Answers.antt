@@ -1,12 +1,7 @@
 use Rattle.std.proofs.Common.{◌++◌, sym, ◌∙◌, subst}
-use Rattle.page_ledger.specs.Lists.{ListsAll}
-use Rattle.page_ledger.specs.Owners.{is_command}
-use Rattle.host_core.specs.Parts.{record_of, tables_of}
-use Rattle.host_core.specs.Rows.{Kept}
-use Rattle.host_core.specs.Tables.{Tables}
-use Rattle.host_core.proofs.Ending.{command-listed, ended_there, ended_claimed, ended_can_put, ended_tables}
-use Rattle.host_core.proofs.Lists.{none_is_not}
-use Rattle.host_core.proofs.RowRecords.{found-row, no-row, taken-becomes}
+use Rattle.page_ledger.specs.{Lists.ListsAll, Owners.is_command}
+use Rattle.host_core.proofs.{Ending.{command-listed, ended_there, ended_claimed, ended_can_put, ended_tables}, Lists.none_is_not}
+use Rattle.host_core.{proofs.RowRecords.{found-row, no-row, taken-becomes}, specs.{Parts.{record_of, tables_of}, Rows.Kept, Tables.Tables}}
 use Rattle.host_core.proofs.parts.Parts.commit_end.Goals as goal
 
 pub unreachable-requires : goal.unreachable-requires

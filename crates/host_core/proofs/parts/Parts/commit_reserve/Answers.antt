@@ -1,25 +1,12 @@
-use Rattle.std.proofs.Common.{◌≡◌, ◌+◌, ◌++◌, ◌∷◌, [], ℕ, List, None, arith, ap, ap₂, sym, ◌∙◌, subst, length}
-use Rattle.std.proofs.lemmas.List.{length-append}
-use Rattle.io_commands.specs.DataBytes.{PagesOut}
-use Rattle.io_commands.specs.Drafts.{DraftContents}
-use Rattle.io_commands.specs.Least.{pages_with}
-use Rattle.io_commands.specs.Requests.{joined_parts}
+use Rattle.std.proofs.{Common.{◌≡◌, ◌+◌, ◌++◌, ◌∷◌, [], ℕ, List, None, arith, ap, ap₂, sym, ◌∙◌, subst, length}, lemmas.List.length-append}
+use Rattle.io_commands.specs.{Asked.Request, DataBytes.PagesOut, Drafts.DraftContents, Least.pages_with, Requests.joined_parts}
 use Rattle.io_commands.specs.Values.{numbers_of, data_part, chain_part}
-use Rattle.io_commands.specs.Asked.{Request}
-use Rattle.machine_model.specs.Memory.{without_pages, zeroed_pages}
-use Rattle.machine_model.specs.State.{Record}
-use Rattle.machine_model.specs.declared.words.Phase.TheVariants.{Drafted}
-use Rattle.machine_model.specs.declared.words.Work.TheVariants.{Io}
-use Rattle.page_ledger.specs.Owners.{with_owner}
-use Rattle.page_ledger.specs.declared.owner.Owner.TheVariants.{Command}
-use Rattle.page_ledger.specs.declared.owner.Role.TheVariants.{Data, Chain}
+use Rattle.machine_model.specs.{Memory.{without_pages, zeroed_pages}, State.Record, declared.words.{Phase.TheVariants.Drafted, Work.TheVariants.Io}}
+use Rattle.page_ledger.specs.{Owners.with_owner, declared.owner.{Owner.TheVariants.Command, Role.TheVariants.{Data, Chain}}}
 use Rattle.page_memory.specs.Pages.{Pages}
-use Rattle.host_core.specs.Commands.{first_placed, then_placed, reserved, CanTake}
-use Rattle.host_core.specs.Parts.{tables_of}
-use Rattle.host_core.specs.Tables.{Tables}
-use Rattle.host_core.proofs.Places.{new-place, new-empty}
 use Rattle.host_core.proofs.Granted.{front-size, back-size, length-zeroed, granted_can_take, made_draft, made_pages, reserved_tables}
-use Rattle.host_core.proofs.Touching.{both_parts}
+use Rattle.host_core.{proofs.{Identifiers.{new-place, new-empty}, Told.both_parts}, specs.Commands.{first_placed, then_placed, reserved, CanTake}}
+use Rattle.host_core.specs.{Parts.tables_of, Tables.Tables}
 use Rattle.host_core.proofs.parts.Parts.commit_reserve.Goals as goal
 
 pub move_out_zeroed-requires-clause-can : goal.move_out_zeroed-requires-clause-can

@@ -1,11 +1,7 @@
 use Rattle.std.proofs.Common.{[], ap, sym, ◌∙◌, subst}
 use Rattle.page_memory.specs.declared.page.Half.TheVariants.{Submission}
 use Rattle.machine_model.specs.declared.words.HostState.TheVariants.{Retired}
-use Rattle.host_core.specs.Halves.{HasHalf}
-use Rattle.host_core.specs.Reaping.{without_submission}
-use Rattle.host_core.specs.Tables.{Tables}
-use Rattle.host_core.specs.Parts.{tables_of}
-use Rattle.host_core.proofs.Sweeping.{places-of}
+use Rattle.host_core.{proofs.Identifiers.places-of, specs.{Halves.HasHalf, Parts.tables_of, Reaping.without_submission, Tables.Tables}}
 use Rattle.host_core.proofs.parts.Parts.commit_retire.Goals as goal
 
 pub lose_commands-requires : goal.lose_commands-requires

@@ -1,9 +1,6 @@
-use Rattle.host_core.specs.Parts.{tables_of}
-use Rattle.host_core.specs.Tables.{Tables}
+use Rattle.host_core.proofs.{Granting.next-fresh, Identifiers.{new-empty, new-place}, Sending.{noted-there, send_can_post, sends_apart}}
+use Rattle.host_core.specs.{Parts.tables_of, Tables.Tables}
 use Rattle.std.proofs.lemmas.Option.{slice_get_within}
-use Rattle.host_core.proofs.Granting.{next-fresh}
-use Rattle.host_core.proofs.Places.{new-empty, new-place}
-use Rattle.host_core.proofs.SendChecks.{noted-there, send_can_post, sends_apart}
 use Rattle.host_core.proofs.parts.Parts.commit_send.Goals as goal
 
 pub post-requires-clause-there : goal.post-requires-clause-there

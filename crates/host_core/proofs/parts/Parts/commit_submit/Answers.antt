@@ -1,7 +1,5 @@
 use Rattle.std.proofs.Common.{◌∙◌}
-use Rattle.host_core.specs.Parts.{tables_of}
-use Rattle.host_core.specs.Tables.{Tables}
-use Rattle.host_core.proofs.Submitting.{brought_tables, submit_can_post, submit_can_put, submit_there, submits_apart}
+use Rattle.host_core.{proofs.Submitted.{brought_tables, submit_can_post, submit_can_put, submit_there, submits_apart}, specs.{Parts.tables_of, Tables.Tables}}
 use Rattle.host_core.proofs.parts.Parts.commit_submit.Goals as goal
 
 pub move_in-requires : goal.move_in-requires

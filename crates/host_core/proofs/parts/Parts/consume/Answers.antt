@@ -1,6 +1,4 @@
-use Rattle.host_core.specs.Parts.{tables_of}
-use Rattle.host_core.specs.Reaping.{with_answer_taken}
-use Rattle.host_core.proofs.QueueLists.{queue-written}
+use Rattle.host_core.{proofs.QueueLists.queue-written, specs.{Parts.tables_of, Reaping.with_answer_taken}}
 use Rattle.host_core.proofs.parts.Parts.consume.Goals as goal
 
 pub returns : goal.returns

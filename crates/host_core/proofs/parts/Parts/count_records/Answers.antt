@@ -1,10 +1,7 @@
-use Rattle.std.proofs.Common.{◌≡◌, ◌+◌, ◌≤◌, ◌==◌, ℕ, Bool, drop, if◌then◌else◌, sym, ap, ◌∙◌, arith}
-use Rattle.std.proofs.lemmas.Bool.{eq-eqb, ne_eqb}
+use Rattle.std.proofs.{Common.{◌≡◌, ◌+◌, ◌≤◌, ◌==◌, ℕ, Bool, drop, if◌then◌else◌, sym, ap, ◌∙◌, arith}, lemmas.Bool.{eq-eqb, ne_eqb}}
 use Rattle.slot_table.proofs.Walks.{step_behind}
-use Rattle.host_core.specs.Rows.{rows_on}
-use Rattle.host_core.proofs.Counted.{all_counted, none_counted, row_counted}
+use Rattle.host_core.{proofs.{Lists.{all_counted, none_counted, row_counted}, parts.Parts.count_records.Goals.{then-p-q, else-p-q}}, specs.Rows.rows_on}
 use Rattle.host_core.proofs.parts.Parts.count_records.Goals as goal
-use Rattle.host_core.proofs.parts.Parts.count_records.Goals.{then-p-q, else-p-q}
 
 pub returns-in_default : goal.returns-in_default
 returns-in_default g c =

@@ -1,5 +1,5 @@
 use Rattle.std.proofs.Common.{◌≡◌, ◌+◌, ◌≤◌, drop}
-use Rattle.slot_table.specs.Table.{first_place}
+use Rattle.slot_table.specs.Rows.{first_place}
 use Rattle.host_core.specs.Rows.{rows_on}
 use Rattle.host_core.proofs.parts.Parts.count_records.Given as goal
 

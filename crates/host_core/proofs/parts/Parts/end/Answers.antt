@@ -1,11 +1,7 @@
 use Rattle.std.proofs.Common.{[], Some, length, ap, sym, subst, ◌∙◌}
-use Rattle.host_core.specs.Halves.{HasMeant}
-use Rattle.host_core.specs.Parts.{tables_of}
-use Rattle.host_core.specs.Reaping.{meant, over, Answered}
-use Rattle.host_core.specs.Tables.{Tables}
-use Rattle.host_core.proofs.AdminReaped.{over-has}
-use Rattle.host_core.proofs.ReapSteps.{admin-work, answered-claims, heard-many, looks, meant-many, over-many, reaps-admin, reaps-done}
-use Rattle.host_core.proofs.Seen.{completion-inside}
+use Rattle.host_core.proofs.{QueueLists.completion-inside, Reaping.over-has}
+use Rattle.host_core.{proofs.Reaps.{admin-work, answered-claims, heard-many, looks, meant-many, over-many, reaps-admin, reaps-done}, specs.Halves.HasMeant}
+use Rattle.host_core.specs.{Parts.tables_of, Reaping.{meant, over, Answered}, Tables.Tables}
 use Rattle.host_core.proofs.parts.Parts.end.Goals as goal
 
 pub returns-in-None-clause-reaps : goal.returns-in-None-clause-reaps

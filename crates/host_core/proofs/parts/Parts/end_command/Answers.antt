@@ -1,9 +1,5 @@
 use Rattle.std.proofs.Common.{[], length, arith, ap, ◌∙◌}
-use Rattle.host_core.specs.Parts.{tables_of}
-use Rattle.host_core.specs.Reaping.{with_answer_heard}
-use Rattle.host_core.specs.Tables.{Tables}
-use Rattle.host_core.proofs.ReapSteps.{over-claims, over-tables}
-use Rattle.host_core.proofs.Steps.{length-change}
+use Rattle.host_core.{proofs.{QueueLists.length-change, Reaps.{over-claims, over-tables}}, specs.{Parts.tables_of, Reaping.with_answer_heard, Tables.Tables}}
 use Rattle.host_core.proofs.parts.Parts.end_command.Goals as goal
 
 pub unclaim-requires-clause-there : goal.unclaim-requires-clause-there

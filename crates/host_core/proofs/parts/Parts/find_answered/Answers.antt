@@ -1,12 +1,7 @@
 use Rattle.std.proofs.Common.{◌≡◌, true, sym, ◌∙◌, subst, eq-eqb}
 use Rattle.queue_pair.specs.Slots.{is_in_range}
-use Rattle.host_core.specs.Parts.{record_of, tables_of}
-use Rattle.host_core.specs.Rows.{Queue}
-use Rattle.host_core.specs.Tables.{Tables}
-use Rattle.host_core.proofs.Lists.{some_is}
-use Rattle.host_core.proofs.ReapSteps.{reject-none, reject-phase, submitted-is}
-use Rattle.host_core.proofs.RowRecords.{found-row, no-row}
-use Rattle.host_core.proofs.Seen.{completion-at}
+use Rattle.host_core.proofs.{Lists.some_is, QueueLists.completion-at, Reaps.{reject-none, reject-phase, submitted-is}, RowRecords.{found-row, no-row}}
+use Rattle.host_core.specs.{Parts.{record_of, tables_of}, Rows.Queue, Tables.Tables}
 use Rattle.host_core.proofs.parts.Parts.find_answered.Goals as goal
 
 pub returns-in_default-clause-rejected : goal.returns-in_default-clause-rejected

@@ -1,8 +1,6 @@
 use Rattle.std.proofs.Common.{ap, ◌∙◌, arith}
 use Rattle.machine_model.specs.State.{without_record}
-use Rattle.host_core.specs.Parts.{tables_of}
-use Rattle.host_core.specs.Tables.{Tables}
-use Rattle.host_core.proofs.ResetRecords.{all-forgotten, none-forgotten, one-forgotten, with_records}
+use Rattle.host_core.{proofs.RowRecords.{all-forgotten, none-forgotten, one-forgotten, with_records}, specs.{Parts.tables_of, Tables.Tables}}
 use Rattle.host_core.proofs.parts.Parts.forget_admin.Goals as goal
 
 pub loop-cid-init : goal.loop-cid-init

@@ -1,6 +1,5 @@
 use Rattle.std.proofs.Common.{filter}
-use Rattle.host_core.specs.Parts.{Becomes}
-use Rattle.host_core.proofs.ResetRecords.{is_kept}
+use Rattle.host_core.{proofs.RowRecords.is_kept, specs.Parts.Becomes}
 use Rattle.host_core.proofs.parts.Parts.forget_admin.Given as goal
 
 abbrev pub invariant-loop-cid : goal.invariant-loop-cid

@@ -1,13 +1,6 @@
-use Rattle.std.proofs.Common.{◌≡◌, ◌∙◌, [], List, ap, sym}
-use Rattle.std.proofs.lemmas.Option.{slice_get_within}
+use Rattle.std.proofs.{Common.{◌≡◌, ◌∙◌, [], List, ap, sym}, lemmas.Option.slice_get_within}
 use Rattle.page_ledger.specs.declared.owner.Owner.{Owner}
-use Rattle.host_core.specs.Halves.{has_half}
-use Rattle.host_core.specs.Parts.{tables_of}
-use Rattle.host_core.specs.Rows.{Queue}
-use Rattle.host_core.specs.Tables.{Tables}
-use Rattle.host_core.proofs.Lists.{some_is}
-use Rattle.host_core.proofs.QueueLists.{queue-at}
-use Rattle.host_core.proofs.ResetQueues.{half-absent}
+use Rattle.host_core.{proofs.{Lists.some_is, QueueLists.queue-at, Resets.half-absent}, specs.{Halves.has_half, Parts.tables_of, Rows.Queue, Tables.Tables}}
 use Rattle.host_core.proofs.parts.Parts.give_back.Goals as goal
 
 pub returns-else-has_half : goal.returns-else-has_half

@@ -1,14 +1,9 @@
 use Rattle.std.proofs.Common.{◌≡◌, ◌∙◌, ◌<◌, ℕ, length, ap, subst, sym}
 use Rattle.machine_model.specs.After.{change}
 use Rattle.page_ledger.specs.Owners.{pages_from, with_owner}
+use Rattle.host_core.proofs.{Lists.{none_is_not, some_is}, Making.{half-can-zero, made-granted, run-lowest, run-within}, QueueLists.change-at}
+use Rattle.host_core.specs.{Commands.CanZero, Parts.tables_of, Sending.making, Tables.Tables}
 use Rattle.page_ledger.specs.declared.owner.Owner.TheVariants as owner
-use Rattle.host_core.specs.Commands.{CanZero}
-use Rattle.host_core.specs.Parts.{tables_of}
-use Rattle.host_core.specs.Sending.{making}
-use Rattle.host_core.specs.Tables.{Tables}
-use Rattle.host_core.proofs.Lists.{none_is_not, some_is}
-use Rattle.host_core.proofs.Making.{half-can-zero, made-granted, run-lowest, run-within}
-use Rattle.host_core.proofs.QueueLists.{change-at}
 use Rattle.host_core.proofs.parts.Parts.grant_half.Goals as goal
 
 pub unreachable-requires : goal.unreachable-requires

@@ -1,6 +1,5 @@
 use Rattle.std.proofs.Common.{[], arith, sym, ◌∙◌}
-use Rattle.host_core.specs.Parts.{records_of, tables_of}
-use Rattle.host_core.proofs.Places.{commands-found, commands-none}
+use Rattle.host_core.{proofs.Identifiers.{commands-found, commands-none}, specs.Parts.{records_of, tables_of}}
 use Rattle.host_core.proofs.parts.Parts.has_commands.Goals as goal
 
 pub returns-then-has_command : goal.returns-then-has_command

@@ -1,11 +1,7 @@
 use Rattle.std.proofs.Common.{false, sym, ap, ◌∙◌, subst}
-use Rattle.io_commands.specs.Asked.{Request}
-use Rattle.io_commands.specs.DataBytes.{PagesOut}
-use Rattle.io_commands.specs.Drafts.{DraftContents}
-use Rattle.io_commands.specs.Requests.{data_count}
+use Rattle.io_commands.specs.{Asked.Request, DataBytes.PagesOut, Drafts.DraftContents, Requests.data_count}
 use Rattle.machine_model.specs.Proper.{ArePages}
-use Rattle.host_core.specs.Parts.{records_of}
-use Rattle.host_core.proofs.Ending.{proper_draft, reads_from, read_has}
+use Rattle.host_core.{proofs.Ending.{proper_draft, reads_from, read_has}, specs.Parts.records_of}
 use Rattle.host_core.proofs.parts.Parts.has_draft.Goals as goal
 
 pub returns-clause-told : goal.returns-clause-told

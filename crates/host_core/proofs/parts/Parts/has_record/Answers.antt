@@ -1,9 +1,7 @@
-use Rattle.std.proofs.Common.{false, ap, sym, ◌∙◌}
-use Rattle.std.specs.Option.{option_map_or}
+use Rattle.std.{proofs.Common.{false, ap, sym, ◌∙◌}, specs.Option.option_map_or}
 use Rattle.io_commands.specs.Values.{numbers_of}
 use Rattle.machine_model.specs.Refusals.{is_of}
-use Rattle.host_core.specs.Commands.{phase_of_end}
-use Rattle.host_core.proofs.RowRecords.{found-row, no-row}
+use Rattle.host_core.{proofs.RowRecords.{found-row, no-row}, specs.Commands.phase_of_end}
 use Rattle.host_core.proofs.parts.Parts.has_record.Goals as goal
 
 pub returns-in-Some : goal.returns-in-Some

@@ -1,5 +1,4 @@
-use Rattle.std.proofs.Common.{sym, ◌∙◌, ap, false}
-use Rattle.std.specs.Option.{option_map_or}
+use Rattle.std.{proofs.Common.{sym, ◌∙◌, ap, false}, specs.Option.option_map_or}
 use Rattle.machine_model.specs.Refusals.{is_submitted}
 use Rattle.host_core.proofs.RowRecords.{found-row, no-row}
 use Rattle.host_core.proofs.parts.Parts.has_submitted.Goals as goal

@@ -1,5 +1,4 @@
-use Rattle.host_core.specs.Parts.{tables_of}
-use Rattle.host_core.proofs.ReapSteps.{held-tables}
+use Rattle.host_core.{proofs.Reaps.held-tables, specs.Parts.tables_of}
 use Rattle.host_core.proofs.parts.Parts.hold_command.Goals as goal
 
 pub returns : goal.returns

@@ -1,5 +1,4 @@
-use Rattle.std.proofs.Common.{false, ap, sym, ◌∙◌}
-use Rattle.std.specs.Option.{option_map_or}
+use Rattle.std.{proofs.Common.{false, ap, sym, ◌∙◌}, specs.Option.option_map_or}
 use Rattle.machine_model.specs.Refusals.{deletes_cq_of}
 use Rattle.host_core.proofs.RowRecords.{found-row, no-row}
 use Rattle.host_core.proofs.parts.Parts.is_deletion.Goals as goal

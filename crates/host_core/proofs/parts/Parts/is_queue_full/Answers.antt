@@ -1,8 +1,5 @@
 use Rattle.std.proofs.Common.{[], ◌∙◌}
-use Rattle.host_core.specs.Parts.{tables_of}
-use Rattle.host_core.specs.Tables.{Tables}
-use Rattle.host_core.proofs.QueueLists.{queue-at}
-use Rattle.host_core.proofs.Submitting.{full_is}
+use Rattle.host_core.{proofs.{QueueLists.queue-at, Submitted.full_is}, specs.{Parts.tables_of, Tables.Tables}}
 use Rattle.host_core.proofs.parts.Parts.is_queue_full.Goals as goal
 
 pub is_full-requires : goal.is_full-requires

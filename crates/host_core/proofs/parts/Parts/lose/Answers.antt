@@ -1,7 +1,6 @@
 use Rattle.std.proofs.Common.{sym}
-use Rattle.machine_model.specs.After.{lost}
-use Rattle.machine_model.specs.State.{with_record}
-use Rattle.slot_table.specs.Table.{with_value}
+use Rattle.machine_model.specs.{After.lost, State.with_record}
+use Rattle.slot_table.specs.Rows.{with_value}
 use Rattle.host_core.proofs.RowRecords.{changed-rows, with-row, with-no_row}
 use Rattle.host_core.proofs.parts.Parts.lose.Goals as goal
 

@@ -1,9 +1,6 @@
 use Rattle.std.proofs.Common.{List, [], ap, ◌∙◌, arith}
-use Rattle.machine_model.specs.After.{lost}
-use Rattle.machine_model.specs.State.{Record, with_record}
-use Rattle.host_core.specs.Parts.{tables_of}
-use Rattle.host_core.specs.Tables.{Tables}
-use Rattle.host_core.proofs.Sweeping.{all-lost, none-below, one-lost}
+use Rattle.machine_model.specs.{After.lost, State.{Record, with_record}}
+use Rattle.host_core.{proofs.Identifiers.{all-lost, none-below, one-lost}, specs.{Parts.tables_of, Tables.Tables}}
 use Rattle.host_core.proofs.parts.Parts.lose_commands.Goals as goal
 
 pub loop-cid-init : goal.loop-cid-init

@@ -1,6 +1,5 @@
 use Rattle.std.proofs.Common.{map}
-use Rattle.host_core.specs.Parts.{Becomes}
-use Rattle.host_core.proofs.Sweeping.{lost_below}
+use Rattle.host_core.{proofs.Identifiers.lost_below, specs.Parts.Becomes}
 use Rattle.host_core.proofs.parts.Parts.lose_commands.Given as goal
 
 abbrev pub invariant-loop-cid : goal.invariant-loop-cid

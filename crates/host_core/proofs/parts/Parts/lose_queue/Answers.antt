@@ -1,11 +1,7 @@
-use Rattle.std.proofs.Common.{◌≡◌, ◌∙◌, [], length, ap, arith, refl, subst, sym}
-use Rattle.std.proofs.lemmas.Option.{slice_get_within}
+use Rattle.std.proofs.{Common.{◌≡◌, ◌∙◌, [], length, ap, arith, refl, subst, sym}, lemmas.Option.slice_get_within}
 use Rattle.page_ledger.specs.Owners.{given_back, is_half}
 use Rattle.page_memory.specs.declared.page.Half.TheVariants.{Submission, Completion}
-use Rattle.host_core.specs.Parts.{tables_of}
-use Rattle.host_core.specs.Resetting.{ListsHalf}
-use Rattle.host_core.specs.Tables.{Tables}
-use Rattle.host_core.proofs.ResetQueues.{half-stays, halves-apart, halves_given, queue-lost}
+use Rattle.host_core.{proofs.Resets.{half-stays, halves-apart, halves_given, queue-lost}, specs.{Parts.tables_of, Resetting.ListsHalf, Tables.Tables}}
 use Rattle.host_core.proofs.parts.Parts.lose_queue.Goals as goal
 
 pub give_back-requires-2 : goal.give_back-requires-2

@@ -1,8 +1,6 @@
 use Rattle.std.proofs.Common.{◌≤◌, ◌∙◌, ℕ, [], length, ap, ap₂, arith, subst, sym}
-use Rattle.host_core.specs.Parts.{tables_of}
-use Rattle.host_core.specs.Resetting.{with_queue_gone, ListsHalf}
-use Rattle.host_core.specs.Tables.{Tables}
-use Rattle.host_core.proofs.ResetQueues.{all-below, all-gone, gone_below, half-stays, is_io_below, none-below, none-gone, not-gone, one-below, one-gone, queues-apart, with_owners}
+use Rattle.host_core.proofs.Resets.{all-below, all-gone, gone_below, half-stays, is_io_below, none-below, none-gone, not-gone, one-below, one-gone, queues-apart, with_owners}
+use Rattle.host_core.specs.{Parts.tables_of, Resetting.{with_queue_gone, ListsHalf}, Tables.Tables}
 use Rattle.host_core.proofs.parts.Parts.lose_queues.Goals as goal
 
 pub loop-q-init : goal.loop-q-init

@@ -1,6 +1,5 @@
 use Rattle.page_ledger.specs.Owners.{given_back}
-use Rattle.host_core.specs.Parts.{Becomes}
-use Rattle.host_core.proofs.ResetQueues.{gone_below, is_io_below}
+use Rattle.host_core.{proofs.Resets.{gone_below, is_io_below}, specs.Parts.Becomes}
 use Rattle.host_core.proofs.parts.Parts.lose_queues.Given as goal
 
 abbrev pub invariant-loop-q : goal.invariant-loop-q

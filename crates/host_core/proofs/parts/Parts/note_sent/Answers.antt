@@ -1,10 +1,6 @@
 use Rattle.std.proofs.Common.{◌++◌, ◌∷◌, [], ℕ, None, ap, ap₂, ◌∙◌, List}
-use Rattle.machine_model.specs.declared.words.Phase.TheVariants.{Submitted}
-use Rattle.machine_model.specs.declared.words.Work.TheVariants.{Management}
-use Rattle.host_core.specs.Parts.{tables_of}
-use Rattle.host_core.specs.Sending.{noted}
-use Rattle.host_core.specs.Tables.{Tables}
-use Rattle.host_core.specs.Rows.{Queue}
+use Rattle.machine_model.specs.declared.words.{Phase.TheVariants.Submitted, Work.TheVariants.Management}
+use Rattle.host_core.specs.{Parts.tables_of, Rows.Queue, Sending.noted, Tables.Tables}
 use Rattle.host_core.proofs.parts.Parts.note_sent.Goals as goal
 
 pub returns : goal.returns

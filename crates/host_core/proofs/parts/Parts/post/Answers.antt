@@ -1,11 +1,6 @@
 use Rattle.std.proofs.Common.{◌≡◌, ◌∙◌, refl, slice_set, sym, subst}
-use Rattle.host_core.specs.Parts.{tables_of}
-use Rattle.host_core.specs.Posting.{posted}
+use Rattle.host_core.{proofs.{Lists.some_is, QueueLists.{post-room, post-there, post-told, queue-at}}, specs.{Parts.tables_of, Posting.posted, Rows.Queue}}
 use Rattle.host_core.specs.Tables.{Tables}
-use Rattle.host_core.specs.Rows.{Queue}
-use Rattle.host_core.proofs.Entries.{post-room, post-there, post-told}
-use Rattle.host_core.proofs.Lists.{some_is}
-use Rattle.host_core.proofs.QueueLists.{queue-at}
 use Rattle.host_core.proofs.parts.Parts.post.Goals as goal
 
 pub post-requires-clause-fits : goal.post-requires-clause-fits

@@ -1,13 +1,9 @@
 use Rattle.std.proofs.Common.{[], subst, sym}
 use Rattle.machine_model.specs.Memory.{zeroed_pages}
 use Rattle.page_ledger.specs.Owners.{pages_from}
-use Rattle.page_memory.specs.Pages.{Pages}
-use Rattle.page_memory.specs.declared.page.Half.TheVariants.{Submission, Completion}
-use Rattle.host_core.specs.Commands.{CanZero}
-use Rattle.host_core.specs.Parts.{tables_of}
+use Rattle.page_memory.specs.{Pages.Pages, declared.page.Half.TheVariants.{Submission, Completion}}
+use Rattle.host_core.{proofs.{Resets.{admin-renewed, admin-run, run-can_zero, run-few}, Told.touches_then}, specs.{Commands.CanZero, Parts.tables_of}}
 use Rattle.host_core.specs.Tables.{Tables}
-use Rattle.host_core.proofs.ResetAdmin.{admin-renewed, admin-run, run-can_zero, run-few}
-use Rattle.host_core.proofs.Touching.{touches_then}
 use Rattle.host_core.proofs.parts.Parts.renew_admin.Goals as goal
 
 pub zero_run-requires-clause-few : goal.zero_run-requires-clause-few

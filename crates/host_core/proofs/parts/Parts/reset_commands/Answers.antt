@@ -1,10 +1,7 @@
 use Rattle.std.proofs.Common.{[], length, filter, map, ap, sym, ◌∙◌, arith, subst}
-use Rattle.machine_model.specs.After.{is_of_io, lost}
-use Rattle.machine_model.specs.State.{Record}
-use Rattle.host_core.specs.Parts.{tables_of}
-use Rattle.host_core.specs.Resetting.{HasPlaces}
-use Rattle.host_core.specs.Tables.{Tables}
-use Rattle.host_core.proofs.ResetRecords.{all-queues_lost, io_placed, none-lost, one-queue_lost, places-lost, with_records}
+use Rattle.machine_model.specs.{After.{is_of_io, lost}, State.Record}
+use Rattle.host_core.{proofs.RowRecords.{all-queues_lost, io_placed, none-lost, one-queue_lost, places-lost, with_records}, specs.Parts.tables_of}
+use Rattle.host_core.specs.{Resetting.HasPlaces, Tables.Tables}
 use Rattle.host_core.proofs.parts.Parts.reset_commands.Goals as goal
 
 pub overflow_cast-q-end : goal.overflow_cast-q-end

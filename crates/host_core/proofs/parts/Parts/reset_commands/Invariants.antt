@@ -1,7 +1,6 @@
 use Rattle.std.proofs.Common.{filter, map}
 use Rattle.machine_model.specs.After.{is_of_io}
-use Rattle.host_core.specs.Parts.{Becomes}
-use Rattle.host_core.proofs.ResetRecords.{lost_in}
+use Rattle.host_core.{proofs.RowRecords.lost_in, specs.Parts.Becomes}
 use Rattle.host_core.proofs.parts.Parts.reset_commands.Given as goal
 
 abbrev pub invariant-loop-q : goal.invariant-loop-q

@@ -1,6 +1,5 @@
 use Rattle.std.proofs.Common.{sym}
-use Rattle.host_core.specs.Parts.{tables_of}
-use Rattle.host_core.proofs.Seen.{see-same, see-seen, see-there}
+use Rattle.host_core.{proofs.QueueLists.{see-same, see-seen, see-there}, specs.Parts.tables_of}
 use Rattle.host_core.proofs.parts.Parts.see.Goals as goal
 
 pub peek-seen-requires-clause-there : goal.peek-seen-requires-clause-there

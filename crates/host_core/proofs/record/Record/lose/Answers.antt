@@ -1,5 +1,4 @@
-use Rattle.std.proofs.Common.{Bool, ◌&&◌, if◌then◌else◌, refl, sym, ◌∙◌, ap₂}
-use Rattle.std.proofs.lemmas.Bool.{eq-eqb}
+use Rattle.std.proofs.{Common.{Bool, ◌&&◌, if◌then◌else◌, refl, sym, ◌∙◌, ap₂}, lemmas.Bool.eq-eqb}
 use Rattle.entry_codec.specs.declared.status.TheConstants.Status.{ABORTED_SQ_DELETION}
 use Rattle.machine_model.specs.After.{held}
 use Rattle.host_core.specs.Parts.{record_of}

@@ -1,10 +1,8 @@
 use Rattle.std.proofs.Common.{refl, sym, ap, subst, ◌≡◌, ◌≤◌, ◌∙◌, ℕ, List, length}
 use Rattle.sgl_descriptor.specs.Spelling.{spelling}
 use Rattle.sgl_chain.specs.Chains.{pages_needed}
+use Rattle.io_commands.{proofs.Building.{enough_pages, built_contents, built_keeps, built_spells}, specs.Drafting.contents_of}
 use Rattle.io_commands.specs.Drafts.{DraftContents, IsDraft, SpellsItsParts, draft_parts, draft_segments, draft_first, draft_entry, io_entry}
-use Rattle.io_commands.specs.Drafting.{contents_of}
-use Rattle.io_commands.proofs.Filling.{enough_pages}
-use Rattle.io_commands.proofs.Building.{built_contents, built_keeps, built_spells}
 use Rattle.io_commands.proofs.draft.Draft.build.Goals as goal
 
 pub invariant_of-self : goal.invariant_of-self

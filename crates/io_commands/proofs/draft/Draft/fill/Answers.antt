@@ -1,7 +1,5 @@
 use Rattle.std.proofs.Common.{refl, ◌≤◌, length, subst, sym}
-use Rattle.io_commands.specs.Drafts.{DraftContents, IsDraft}
-use Rattle.io_commands.specs.Drafting.{contents_of}
-use Rattle.io_commands.proofs.Filling.{fill_keeps, enough_pages, filled_contents}
+use Rattle.io_commands.{proofs.Building.{fill_keeps, enough_pages, filled_contents}, specs.{Drafting.contents_of, Drafts.{DraftContents, IsDraft}}}
 use Rattle.io_commands.proofs.draft.Draft.fill.Goals as goal
 
 pub invariant_of-self : goal.invariant_of-self

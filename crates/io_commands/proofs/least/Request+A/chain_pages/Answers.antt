@@ -1,6 +1,5 @@
 use Rattle.std.proofs.Common.{◌≡◌, ◌≤◌, length}
-use Rattle.sgl_chain.specs.Chains.{pages_needed}
-use Rattle.sgl_chain.proofs.Counts.{needed_more}
+use Rattle.sgl_chain.{proofs.Spelled.needed_more, specs.Chains.pages_needed}
 use Rattle.io_commands.proofs.least.Request+A.chain_pages.Goals as goal
 
 pub returns-clause-few : goal.returns-clause-few

@@ -1,5 +1,4 @@
-use Rattle.std.proofs.Common.{◌≡◌, ◌≤◌, ◌*◌, false, take, length}
-use Rattle.std.specs.List.{list_any}
+use Rattle.std.{proofs.Common.{◌≡◌, ◌≤◌, ◌*◌, false, take, length}, specs.List.list_any}
 use Rattle.io_commands.specs.Requests.{is_empty_piece, crosses_page, counted_lengths}
 use Rattle.io_commands.proofs.request.Request+A.check.Given as goal
 

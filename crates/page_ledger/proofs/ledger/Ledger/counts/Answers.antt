@@ -1,6 +1,5 @@
 use Rattle.std.proofs.Common.{ap, ◌∙◌}
-use Rattle.page_ledger.specs.Counting.{total}
-use Rattle.page_ledger.proofs.Numbers.{counts-add_up}
+use Rattle.page_ledger.{proofs.Tables.counts-add_up, specs.Counting.total}
 use Rattle.page_ledger.proofs.ledger.Ledger.counts.Goals as goal
 
 pub returns-clause-sum : goal.returns-clause-sum

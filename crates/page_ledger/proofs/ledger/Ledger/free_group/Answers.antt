@@ -1,10 +1,7 @@
-use Rattle.std.proofs.Common.{arith, ◌≡◌, ◌+◌, ◌<◌, length, length-set, ap, sym, ◌∙◌}
-use Rattle.std.proofs.Math.Seq.{take-length}
-use Rattle.page_ledger.specs.declared.owner.Owner.TheVariants.{Free}
-use Rattle.page_ledger.specs.Groups.{is_member}
+use Rattle.std.proofs.{Common.{arith, ◌≡◌, ◌+◌, ◌<◌, length, length-set, ap, sym, ◌∙◌}, Math.Seq.take-length}
 use Rattle.page_ledger.proofs.Tables.{given_below-yes, given_below-none, given_below-all, number-yes, number-none, length-pages_owned}
+use Rattle.page_ledger.{proofs.ledger.Ledger.free_group.Goals.{then-has, else-has}, specs.{Groups.is_member, declared.owner.Owner.TheVariants.Free}}
 use Rattle.page_ledger.proofs.ledger.Ledger.free_group.Goals as goal
-use Rattle.page_ledger.proofs.ledger.Ledger.free_group.Goals.{then-has, else-has}
 
 pub loop-p-preserved : goal.loop-p-preserved
 loop-p-preserved g c =

@@ -1,7 +1,5 @@
-use Rattle.std.proofs.Common.{◌≡◌, ◌≤◌, length, take}
-use Rattle.std.specs.List.{count_by}
-use Rattle.page_ledger.specs.Groups.{is_member}
-use Rattle.page_ledger.proofs.Tables.{given_below}
+use Rattle.std.{proofs.Common.{◌≡◌, ◌≤◌, length, take}, specs.List.count_by}
+use Rattle.page_ledger.{proofs.Tables.given_below, specs.Groups.is_member}
 use Rattle.page_ledger.proofs.ledger.Ledger.free_group.Given as goal
 
 abbrev pub invariant-loop-p : goal.invariant-loop-p

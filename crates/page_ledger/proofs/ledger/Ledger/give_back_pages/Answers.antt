@@ -1,8 +1,6 @@
-use Rattle.std.proofs.Common.{◌+◌, ◌++◌, length, length-append, ap, sym, ◌∙◌, arith}
-use Rattle.std.proofs.lemmas.List.{get_or-append-add}
-use Rattle.page_ledger.specs.Owners.{is_command, with_owner}
+use Rattle.std.proofs.{Common.{◌+◌, ◌++◌, length, length-append, ap, sym, ◌∙◌, arith}, lemmas.List.get_or-append-add}
+use Rattle.page_ledger.{proofs.Tables.{given_back-listed, length-with_owner, with_owner-append}, specs.Owners.{is_command, with_owner}}
 use Rattle.page_ledger.specs.declared.owner.Owner.TheVariants.{Free}
-use Rattle.page_ledger.proofs.Tables.{given_back-listed, length-with_owner, with_owner-append}
 use Rattle.page_ledger.proofs.ledger.Ledger.give_back_pages.Goals as goal
 
 pub give-requires-2 : goal.give-requires-2

@@ -1,7 +1,5 @@
 use Rattle.std.proofs.Common.{◌∙◌, arith}
-use Rattle.page_ledger.specs.Owners.{is_half, pages_from}
-use Rattle.page_ledger.proofs.Pages.{length-pages_from, get_or-pages_from}
-use Rattle.page_ledger.proofs.Tables.{given_back-listed}
+use Rattle.page_ledger.{proofs.{Pages.{length-pages_from, get_or-pages_from}, Tables.given_back-listed}, specs.Owners.{is_half, pages_from}}
 use Rattle.page_ledger.proofs.ledger.Ledger.give_back_run.Goals as goal
 
 pub give_run-requires : goal.give_run-requires

@@ -1,8 +1,5 @@
-use Rattle.std.proofs.Common.{◌≡◌, ◌++◌, length, take, ap, ◌∙◌, arith}
-use Rattle.std.proofs.lemmas.Grind.{common_steps}
-use Rattle.page_ledger.specs.Free.{true_places}
-use Rattle.page_ledger.specs.Owners.{free_pages, with_owner}
-use Rattle.page_ledger.proofs.Tables.{appended, free-within, true_places-free}
+use Rattle.std.proofs.{Common.{◌≡◌, ◌++◌, length, take, ap, ◌∙◌, arith}, lemmas.Grind.common_steps}
+use Rattle.page_ledger.{proofs.Tables.{appended, free-within, true_places-free}, specs.{Free.true_places, Owners.{free_pages, with_owner}}}
 use Rattle.page_ledger.proofs.ledger.Ledger.grant.Goals as goal
 
 pub give-requires : goal.give-requires

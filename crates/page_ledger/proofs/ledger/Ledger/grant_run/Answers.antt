@@ -1,5 +1,5 @@
 use Rattle.std.proofs.Common.{sym, arith}
-use Rattle.page_ledger.proofs.FreeRuns.{lowest_run-within}
+use Rattle.page_ledger.proofs.Pages.{lowest_run-within}
 use Rattle.page_ledger.proofs.ledger.Ledger.grant_run.Goals as goal
 
 pub give_run-requires : goal.give_run-requires

@@ -1,9 +1,6 @@
-use Rattle.std.proofs.Common.{◌+◌, ◌∷◌, [], ◌++◌, filter, length, map, arith, ap, sym, ◌∙◌}
-use Rattle.std.proofs.lemmas.List.{length-map, take_all}
-use Rattle.bit_list.proofs.Places.{first-inside}
-use Rattle.page_ledger.specs.Owners.{is_free, is_owned_at, pages_from}
-use Rattle.page_ledger.proofs.Pages.{front_taken}
-use Rattle.page_ledger.proofs.Tables.{free-next, free-no_more}
+use Rattle.std.proofs.{Common.{◌+◌, ◌∷◌, [], ◌++◌, filter, length, map, arith, ap, sym, ◌∙◌}, lemmas.List.{length-map, take_all}}
+use Rattle.slot_table.proofs.Places.{first-inside}
+use Rattle.page_ledger.{proofs.{Pages.front_taken, Tables.{free-next, free-no_more}}, specs.Owners.{is_free, is_owned_at, pages_from}}
 use Rattle.page_ledger.proofs.ledger.Ledger.lowest_free.Goals as goal
 
 pub returns-in_default : goal.returns-in_default

@@ -1,7 +1,6 @@
 use Rattle.std.proofs.Common.{sym, ◌∙◌}
-use Rattle.bit_list.specs.Places.{is_true_at}
-use Rattle.page_ledger.proofs.Tables.{flags-agree}
-use Rattle.page_ledger.proofs.FreeRuns.{lowest_run-found, lowest_run-missing}
+use Rattle.slot_table.specs.Places.{is_true_at}
+use Rattle.page_ledger.proofs.{Pages.{lowest_run-found, lowest_run-missing}, Tables.flags-agree}
 use Rattle.page_ledger.proofs.ledger.Ledger.lowest_run.Goals as goal
 
 pub returns-in_err-first : goal.returns-in_err-first

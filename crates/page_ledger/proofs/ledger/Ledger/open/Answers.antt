@@ -1,11 +1,5 @@
-use Rattle.std.proofs.Common.{◌≡◌, arith, ap, sym, ◌∙◌, length, map, replicate}
-use Rattle.std.proofs.lemmas.Grind.{common_steps}
-use Rattle.std.proofs.lemmas.List.{length-replicate}
-use Rattle.page_ledger.specs.declared.owner.Owner.TheVariants.{Free}
-use Rattle.page_ledger.specs.Counting.{counts_of}
-use Rattle.page_ledger.specs.Owners.{is_free}
-use Rattle.page_ledger.proofs.Tables.{flags-free}
-use Rattle.page_ledger.proofs.Numbers.{counts-free}
+use Rattle.std.proofs.{Common.{◌≡◌, arith, ap, sym, ◌∙◌, length, map, replicate}, lemmas.{Grind.common_steps, List.length-replicate}}
+use Rattle.page_ledger.{proofs.Tables.{flags-free, counts-free}, specs.{Counting.counts_of, Owners.is_free, declared.owner.Owner.TheVariants.Free}}
 use Rattle.page_ledger.proofs.ledger.Ledger.open.Goals as goal
 
 pub invariant_of-result : goal.invariant_of-result

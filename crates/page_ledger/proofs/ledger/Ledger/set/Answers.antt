@@ -1,7 +1,5 @@
-use Rattle.std.proofs.Common.{◌<◌, arith, length, length-set, slice_set, ap, sym, ◌∙◌}
-use Rattle.std.proofs.lemmas.List.{map-set}
-use Rattle.page_ledger.specs.Owners.{is_free}
-use Rattle.page_ledger.proofs.Numbers.{counted-some, counted-few, counts-set}
+use Rattle.std.proofs.{Common.{◌<◌, arith, length, length-set, slice_set, ap, sym, ◌∙◌}, lemmas.List.map-set}
+use Rattle.page_ledger.{proofs.Tables.{counted-some, counted-few, counts-set}, specs.Owners.is_free}
 use Rattle.page_ledger.proofs.ledger.Ledger.set.Goals as goal
 
 pub one_less-requires : goal.one_less-requires

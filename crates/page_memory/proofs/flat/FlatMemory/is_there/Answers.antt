@@ -1,9 +1,5 @@
-use Rattle.std.proofs.Common.{ap, sym, arith, ◌∙◌, ◌<◌, ◌≤◌, ◌+◌, ◌-◌, length}
-use Rattle.std.proofs.lemmas.Option.{slice_get_past}
-use Rattle.std.specs.Option.{option_and_then}
-use Rattle.page_memory.specs.Pages.{slot_at}
-use Rattle.page_memory.specs.Flat.{FlatContents}
-use Rattle.page_memory.proofs.Reading.{none_at, missing_at, none_of, slot_within}
+use Rattle.std.{proofs.{Common.{ap, sym, arith, ◌∙◌, ◌<◌, ◌≤◌, ◌+◌, ◌-◌, length}, lemmas.Option.slice_get_past}, specs.Option.option_and_then}
+use Rattle.page_memory.{proofs.Bytes.{none_at, missing_at, none_of, slot_within}, specs.{Flat.FlatContents, Pages.slot_at}}
 use Rattle.page_memory.proofs.flat.FlatMemory.is_there.Goals as goal
 
 pub returns-then-addr-len-clause-missing : goal.returns-then-addr-len-clause-missing

@@ -1,6 +1,5 @@
 use Rattle.std.proofs.Common.{arith}
-use Rattle.page_memory.specs.Pages.{slot_at}
-use Rattle.page_memory.proofs.Reading.{bytes_held}
+use Rattle.page_memory.{proofs.Bytes.bytes_held, specs.Pages.slot_at}
 use Rattle.page_memory.proofs.flat.FlatMemoryDma.read.Goals as goal
 
 pub returns-clause-read : goal.returns-clause-read

@@ -1,8 +1,5 @@
-use Rattle.std.proofs.Common.{arith, refl, ap, ◌∙◌, ◌<◌, ◌+◌, List, Option, ℕ, length}
-use Rattle.std.proofs.lemmas.List.{length-set}
-use Rattle.page_memory.specs.Pages.{slot_at}
-use Rattle.page_memory.proofs.Reading.{bytes_some}
-use Rattle.page_memory.proofs.Writing.{wrote_more}
+use Rattle.std.proofs.{Common.{arith, refl, ap, ◌∙◌, ◌<◌, ◌+◌, List, Option, ℕ, length}, lemmas.List.length-set}
+use Rattle.page_memory.{proofs.Bytes.{bytes_some, wrote_more}, specs.Pages.slot_at}
 use Rattle.page_memory.proofs.flat.FlatMemoryDma.write.Goals as goal
 
 pub returns-clause-there : goal.returns-clause-there

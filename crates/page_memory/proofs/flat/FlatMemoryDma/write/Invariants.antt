@@ -1,6 +1,5 @@
 use Rattle.std.proofs.Common.{◌≡◌, take, length}
-use Rattle.page_memory.specs.Memory.{written}
-use Rattle.page_memory.specs.Pages.{slot_at}
+use Rattle.page_memory.specs.{Memory.written, Pages.slot_at}
 use Rattle.page_memory.proofs.flat.FlatMemoryDma.write.Given as goal
 
 abbrev pub invariant-loop-k : goal.invariant-loop-k

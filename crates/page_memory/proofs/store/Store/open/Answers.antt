@@ -1,6 +1,5 @@
-use Rattle.std.proofs.Common.{arith, ◌≤◌}
-use Rattle.std.proofs.lemmas.Grind.{common_steps}
-use Rattle.page_memory.proofs.Whole.{zeros_pool}
+use Rattle.std.proofs.{Common.{arith, ◌≤◌}, lemmas.Grind.common_steps}
+use Rattle.page_memory.proofs.Bytes.{zeros_pool}
 use Rattle.page_memory.proofs.store.Store.open.Goals as goal
 
 pub invariant_of-result : goal.invariant_of-result

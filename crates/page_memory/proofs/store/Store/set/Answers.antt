@@ -1,4 +1,4 @@
-use Rattle.page_memory.proofs.Writing.{byte_at_written, in_written}
+use Rattle.page_memory.proofs.Bytes.{byte_at_written, in_written}
 use Rattle.page_memory.proofs.store.Store.set.Goals as goal
 
 pub returns-clause-memory : goal.returns-clause-memory

@@ -1,5 +1,5 @@
 use Rattle.std.proofs.Common.{arith, sym, ◌≡◌, ◌<◌, length}
-use Rattle.page_memory.proofs.Reading.{missing_first, missing_second, found_first, found_both}
+use Rattle.page_memory.proofs.Bytes.{missing_first, missing_second, found_first, found_both}
 use Rattle.page_memory.proofs.store.StoreDma.read.Goals as goal
 
 pub returns-in_default-clause-missing : goal.returns-in_default-clause-missing

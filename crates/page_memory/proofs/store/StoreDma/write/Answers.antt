@@ -1,7 +1,5 @@
 use Rattle.std.proofs.Common.{arith, sym, ◌<◌}
-use Rattle.page_memory.specs.Pages.{byte_at}
-use Rattle.page_memory.proofs.Reading.{missing_first, missing_second, there_first, there_both, none_of}
-use Rattle.page_memory.proofs.Writing.{wrote_first, wrote_both}
+use Rattle.page_memory.{proofs.Bytes.{missing_first, missing_second, there_first, there_both, none_of, wrote_first, wrote_both}, specs.Pages.byte_at}
 use Rattle.page_memory.proofs.store.StoreDma.write.Goals as goal
 
 pub returns-then-not-has-clause-missing : goal.returns-then-not-has-clause-missing

@@ -1,4 +1,4 @@
-use Rattle.queue_pair.proofs.Lists.{read_is_entry, read_is_front}
+use Rattle.queue_pair.proofs.Rings.{read_is_entry, read_is_front}
 use Rattle.queue_pair.proofs.device.DevicePair.next_entry.Goals as goal
 
 pub returns-clause-entry : goal.returns-clause-entry

@@ -1,7 +1,6 @@
 use Rattle.std.proofs.Common.{ap}
 use Rattle.entry_codec.specs.declared.completion.ComEntry.{ComEntry}
-use Rattle.queue_pair.proofs.Lists.{answers_posted}
-use Rattle.queue_pair.proofs.Phases.{phases_posted}
+use Rattle.queue_pair.proofs.Rings.{answers_posted, phases_posted}
 use Rattle.queue_pair.proofs.device.DevicePair.post.Goals as goal
 
 pub returns-clause-appended : goal.returns-clause-appended

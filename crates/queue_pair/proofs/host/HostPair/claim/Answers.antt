@@ -1,8 +1,6 @@
-use Rattle.std.proofs.Common.{◌≡◌, Bool, Some, false, true, not, List, map, slice_get, sym, ap, ◌∙◌, arith}
-use Rattle.std.specs.List.{position}
-use Rattle.page_memory.proofs.Writing.{slice_get-set_same}
-use Rattle.queue_pair.specs.Views.{host_side}
-use Rattle.queue_pair.proofs.Identifiers.{found_within, found_free, lower_claimed, all_claimed, claims-set}
+use Rattle.std.{proofs.Common.{◌≡◌, Bool, Some, false, true, not, List, map, slice_get, sym, ap, ◌∙◌, arith}, specs.List.position}
+use Rattle.page_memory.proofs.Bytes.{slice_get-set_same}
+use Rattle.queue_pair.{proofs.Halves.{found_within, found_free, lower_claimed, all_claimed, claims-set}, specs.Views.host_side}
 use Rattle.queue_pair.proofs.host.HostPair.claim.Goals as goal
 
 pub returns-in_err-cid-clause-all_claimed : goal.returns-in_err-cid-clause-all_claimed

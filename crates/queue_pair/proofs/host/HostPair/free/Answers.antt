@@ -1,6 +1,5 @@
 use Rattle.std.proofs.Common.{Bool, true, List, ap}
-use Rattle.queue_pair.specs.Views.{host_side}
-use Rattle.queue_pair.proofs.Identifiers.{claims-set}
+use Rattle.queue_pair.{proofs.Halves.claims-set, specs.Views.host_side}
 use Rattle.queue_pair.proofs.host.HostPair.free.Goals as goal
 
 pub returns : goal.returns

@@ -1,5 +1,5 @@
 use Rattle.std.proofs.Common.{◌-◌, not, map, ap, ◌∙◌}
-use Rattle.queue_pair.proofs.Identifiers.{claims-none}
+use Rattle.queue_pair.proofs.Halves.{claims-none}
 use Rattle.queue_pair.proofs.host.HostPair.open.Goals as goal
 
 pub returns-clause-unclaimed : goal.returns-clause-unclaimed

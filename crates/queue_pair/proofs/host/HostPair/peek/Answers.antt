@@ -1,4 +1,4 @@
-use Rattle.queue_pair.proofs.Phases.{peeked}
+use Rattle.queue_pair.proofs.Rings.{peeked}
 use Rattle.queue_pair.proofs.host.HostPair.peek.Goals as goal
 
 pub returns-then-entry-self-clause-front : goal.returns-then-entry-self-clause-front

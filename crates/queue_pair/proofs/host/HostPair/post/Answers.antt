@@ -1,4 +1,4 @@
-use Rattle.queue_pair.proofs.Lists.{entries_posted}
+use Rattle.queue_pair.proofs.Rings.{entries_posted}
 use Rattle.queue_pair.proofs.host.HostPair.post.Goals as goal
 
 pub returns-clause-appended : goal.returns-clause-appended

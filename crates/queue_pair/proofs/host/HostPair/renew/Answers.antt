@@ -1,8 +1,5 @@
-use Rattle.std.proofs.Common.{◌≡◌, ◌-◌, Bool, not, List, length, map, ap, ◌∙◌, arith}
-use Rattle.std.proofs.lemmas.List.{length-map}
-use Rattle.queue_pair.specs.Rings.{HostSide, fresh_host_ring, none_claimed}
-use Rattle.queue_pair.specs.Views.{host_side}
-use Rattle.queue_pair.proofs.Identifiers.{claims-none}
+use Rattle.std.proofs.{Common.{◌≡◌, ◌-◌, Bool, not, List, length, map, ap, ◌∙◌, arith}, lemmas.List.length-map}
+use Rattle.queue_pair.{proofs.Halves.claims-none, specs.{Rings.{HostSide, fresh_host_ring, none_claimed}, Views.host_side}}
 use Rattle.queue_pair.proofs.host.HostPair.renew.Goals as goal
 
 pub returns-clause-renewed : goal.returns-clause-renewed

@@ -1,5 +1,5 @@
 use Rattle.std.proofs.Common.{sym}
-use Rattle.queue_pair.proofs.Identifiers.{lowest_free, none_free}
+use Rattle.queue_pair.proofs.Halves.{lowest_free, none_free}
 use Rattle.queue_pair.proofs.host.HostPair.unclaimed.Goals as goal
 
 pub returns-in_err-cid : goal.returns-in_err-cid

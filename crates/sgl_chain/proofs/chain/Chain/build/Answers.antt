@@ -1,5 +1,5 @@
 use Rattle.std.proofs.Common.{arith}
-use Rattle.sgl_chain.proofs.Built.{is_built, built_count, built_spells, built_parts}
+use Rattle.sgl_chain.proofs.Back.{is_built, built_count, built_spells, built_parts}
 use Rattle.sgl_chain.proofs.chain.Chain.build.Goals as goal
 
 pub returns-clause-count : goal.returns-clause-count

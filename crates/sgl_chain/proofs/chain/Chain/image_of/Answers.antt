@@ -1,4 +1,4 @@
-use Rattle.sgl_chain.proofs.Reading.{found_descriptors, found_behind}
+use Rattle.sgl_chain.proofs.Spelled.{found_descriptors, found_behind}
 use Rattle.sgl_chain.proofs.chain.Chain.image_of.Goals as goal
 
 pub returns-clause-descriptors : goal.returns-clause-descriptors

@@ -1,6 +1,5 @@
 use Rattle.std.proofs.Common.{◌≡◌, ◌++◌, map, take, All}
-use Rattle.sgl_descriptor.specs.Spelling.{Fits}
-use Rattle.sgl_descriptor.specs.Targets.{descriptor_of_part}
+use Rattle.sgl_descriptor.specs.{Spelling.Fits, Targets.descriptor_of_part}
 use Rattle.sgl_chain.proofs.segment.Descs.push_parts.Given as goal
 
 abbrev pub invariant-loop-part : goal.invariant-loop-part

@@ -1,8 +1,5 @@
-use Rattle.std.proofs.Common.{sym, ◌∙◌, ap}
-use Rattle.std.specs.Option.{option_copied}
-use Rattle.slot_table.specs.Table.{IsDistinct}
-use Rattle.slot_table.proofs.Rows.{value_at-none, holds}
-use Rattle.slot_table.proofs.Whole.{found_at, rows-distinct}
+use Rattle.std.{proofs.Common.{sym, ◌∙◌, ap}, specs.Option.option_copied}
+use Rattle.slot_table.{proofs.{Rows.{value_at-none, holds}, Whole.{found_at, rows-distinct}}, specs.Rows.IsDistinct}
 use Rattle.slot_table.proofs.table.SlotTable.get.Goals as goal
 
 pub returns-in_err-place-clause-value : goal.returns-in_err-place-clause-value

@@ -1,5 +1,4 @@
-use Rattle.std.proofs.Common.{◌≡◌, replicate, None}
-use Rattle.std.specs.Vec.{vec_capacity}
+use Rattle.std.{proofs.Common.{◌≡◌, replicate, None}, specs.Vec.vec_capacity}
 use Rattle.slot_table.proofs.table.SlotTable.open.Given as goal
 
 abbrev pub invariant-loop : goal.invariant-loop

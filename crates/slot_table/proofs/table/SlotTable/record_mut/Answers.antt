@@ -1,7 +1,5 @@
 use Rattle.std.proofs.Common.{sym, ◌∙◌, ap, subst, refl, IsSome, true≢false}
-use Rattle.slot_table.proofs.Rows.{value_at-none}
-use Rattle.slot_table.proofs.Whole.{found_at}
-use Rattle.slot_table.proofs.Written.{write_left}
+use Rattle.slot_table.proofs.{Rows.value_at-none, Whole.found_at, Written.write_left}
 use Rattle.slot_table.proofs.table.SlotTable.record_mut.Goals as goal
 
 pub content_mut-requires : goal.content_mut-requires

@@ -1,6 +1,5 @@
 use Rattle.std.proofs.Common.{sym, ◌∙◌, ap, arith, set}
-use Rattle.slot_table.proofs.Rows.{value_at-none, without-none}
-use Rattle.slot_table.proofs.Whole.{none_left, found_at, take_left, link_in, rows_in, rows-distinct}
+use Rattle.slot_table.proofs.{Rows.{value_at-none, without-none}, Whole.{none_left, found_at, take_left, link_in, rows_in, rows-distinct}}
 use Rattle.slot_table.proofs.table.SlotTable.take.Goals as goal
 
 pub returns-in_err-place-clause-value : goal.returns-in_err-place-clause-value

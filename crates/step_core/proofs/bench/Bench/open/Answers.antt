@@ -1,8 +1,7 @@
-use Rattle.std.proofs.Common.{arith, subst, sym}
-use Rattle.host_core.proofs.Fresh.{limits}
+use Rattle.std.proofs.Common.{◌+◌, arith, refl, subst, sym}
+use Rattle.host_core.{proofs.{KeptRows.{length-queues_from, opens_tied}, Openings.limits}, specs.CommandValues.IsBench}
 use Rattle.machine_model.specs.State.{State}
-use Rattle.step_core.specs.Kept.{IsBench}
-use Rattle.step_core.proofs.KeptRows.{opens_tied}
+use Rattle.step_core.specs.Opening.{opening_of}
 use Rattle.step_core.proofs.bench.Bench.open.Goals as goal
 
 pub overflow_add-config : goal.overflow_add-config
@@ -13,4 +12,4 @@ open-requires-2-clause-queues g c = let most = (limits c.args.config c.in-Ok.ens
 
 pub invariant_of-result : goal.invariant_of-result
 invariant_of-result g c =
-    subst (λ (s : State). IsBench s c.in-Ok-open.values) (sym c.in-Ok-over.ensures.opened) (opens_tied c.args.config c.args.image c.in-Ok-open.values c.in-Ok-open.ensures)
+    subst (λ (s : State). IsBench s c.in-Ok-open.values) (sym c.in-Ok-over.ensures.opened) (opens_tied (opening_of c.args.config c.args.image) c.args.config c.in-Ok-open.values (length-queues_from 0 c.args.config.entries (c.args.config.queues + 1)) refl c.in-Ok-open.ensures)

@@ -1,7 +1,7 @@
 use Rattle.std.proofs.Common.{refl, ◌∙◌}
 use Rattle.step_core.proofs.Benches.{draft_at, cancels, cancel_refused}
-use Rattle.step_core.proofs.KeptRows.{is_empty}
-use Rattle.step_core.specs.declared.kept.Value.TheVariants as value
+use Rattle.host_core.proofs.KeptRows.{is_empty}
+use Rattle.host_core.specs.declared.values.CommandValue.TheVariants as value
 use Rattle.step_core.proofs.kept.Kept.cancel.Goals as goal
 
 pub returns-in_default-clause-does : goal.returns-in_default-clause-does

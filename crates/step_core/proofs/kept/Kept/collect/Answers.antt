@@ -1,10 +1,7 @@
-use Rattle.step_core.proofs.Benches.{ticket_at, collected_last, collects, collect_refused}
+use Rattle.step_core.{proofs.Benches.{ticket_at, collected_last, collects, collect_refused, pages_of_last}, specs.Touching.{last_pages, touches_more}}
 use Rattle.std.proofs.Common.{ℕ, None, refl, ap, sym, ◌∙◌}
-use Rattle.step_core.specs.Kept.{table_with}
-use Rattle.step_core.specs.Touching.{last_pages, touches_more}
-use Rattle.step_core.proofs.Runs.{pages_of_last}
-use Rattle.step_core.proofs.KeptRows.{is_empty, place_there}
-use Rattle.step_core.specs.declared.kept.Value.TheVariants as value
+use Rattle.host_core.{proofs.KeptRows.{is_empty, place_there}, specs.CommandValues.table_with}
+use Rattle.host_core.specs.declared.values.CommandValue.TheVariants as value
 use Rattle.step_core.proofs.kept.Kept.collect.Goals as goal
 
 pub returns-in_default-clause-does : goal.returns-in_default-clause-does

@@ -1,6 +1,6 @@
 use Rattle.std.proofs.Common.{[], refl}
+use Rattle.host_core.proofs.KeptRows.{goes_on}
 use Rattle.machine_model.specs.Events as events
-use Rattle.step_core.proofs.KeptRows.{goes_on}
 use Rattle.step_core.proofs.kept.Kept.create_cq.Goals as goal
 
 pub returns-in-Ok-clause-kept : goal.returns-in-Ok-clause-kept

@@ -1,12 +1,6 @@
-use Rattle.std.proofs.Common.{rules, List, [], ◌∷◌, ◌++◌, subst, sym, arith}
-use Rattle.std.proofs.lemmas.Iterator.Adapters.{YieldsList-from_vec}
-use Rattle.std.proofs.lemmas.Iterator.Consumers.{YieldsList-turn}
+use Rattle.std.proofs.{Common.{rules, List, [], ◌∷◌, ◌++◌, subst, sym, arith}, lemmas.Iterator.{Adapters.YieldsList-from_vec, Consumers.YieldsList-turn}}
 use Rattle.std.proofs.lemmas.List.{length_push}
-use Rattle.step_core.specs.Bench.{DoesAll}
-use Rattle.step_core.specs.Kept.{contents_of, table_of}
-use Rattle.step_core.specs.TouchingAll.{TouchAll}
-use Rattle.step_core.specs.Values.{Reply}
-use Rattle.step_core.proofs.Runs.{does_more, touch_more}
+use Rattle.step_core.{proofs.Benches.{does_more, touch_more}, specs.{Bench.DoesAll, Kept.{contents_of, table_of}, TouchingAll.TouchAll, Values.Reply}}
 use Rattle.step_core.proofs.kept.Kept.do_all.Goals as goal
 
 pub loop-step-preserved : goal.loop-step-preserved

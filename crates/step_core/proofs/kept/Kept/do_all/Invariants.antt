@@ -1,7 +1,6 @@
 use Rattle.std.proofs.Common.{◌+◌, ◌-◌, ◌≤◌, length, vec_len, vec_capacity}
-use Rattle.step_core.specs.Bench.{DoesAll}
-use Rattle.step_core.specs.Kept.{contents_of, table_of, IsBench}
-use Rattle.step_core.specs.TouchingAll.{TouchAll}
+use Rattle.step_core.specs.{Bench.DoesAll, Kept.{contents_of, table_of}, TouchingAll.TouchAll}
+use Rattle.host_core.specs.CommandValues.{IsBench}
 use Rattle.step_core.proofs.kept.Kept.do_all.Given as goal
 
 abbrev pub invariant-loop-step : goal.invariant-loop-step

@@ -1,7 +1,7 @@
 use Rattle.std.proofs.Common.{refl, ◌∙◌}
 use Rattle.step_core.proofs.Benches.{draft_at, submits, submit_refused}
-use Rattle.step_core.proofs.KeptRows.{is_empty, place_there}
-use Rattle.step_core.specs.declared.kept.Value.TheVariants as value
+use Rattle.host_core.proofs.KeptRows.{is_empty, place_there}
+use Rattle.host_core.specs.declared.values.CommandValue.TheVariants as value
 use Rattle.step_core.proofs.kept.Kept.submit.Goals as goal
 
 pub returns-in_default-clause-does : goal.returns-in_default-clause-does

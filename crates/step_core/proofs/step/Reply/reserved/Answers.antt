@@ -1,11 +1,6 @@
 use Rattle.std.proofs.Common.{◌≡◌, ◌∙◌, ap, arith, length, length-append}
-use Rattle.io_commands.specs.Asked.{Request}
-use Rattle.io_commands.specs.Drafts.{draft_parts}
-use Rattle.io_commands.specs.Requests.{data_count}
-use Rattle.io_commands.specs.Values.{numbers_of}
-use Rattle.io_commands.proofs.Building.{joined_parts_few}
-use Rattle.io_commands.proofs.Spelled.{few_pieces}
-use Rattle.sgl_chain.proofs.Counts.{needed_few}
+use Rattle.io_commands.{proofs.Building.{joined_parts_few, few_pieces}, specs.{Asked.Request, Drafts.draft_parts, Requests.data_count, Values.numbers_of}}
+use Rattle.sgl_chain.proofs.Spelled.{needed_few}
 use Rattle.step_core.proofs.step.Reply.reserved.Goals as goal
 
 pub overflow_cast-result-2 : goal.overflow_cast-result-2

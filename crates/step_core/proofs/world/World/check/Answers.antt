@@ -1,8 +1,6 @@
 use Rattle.std.proofs.Common.{subst, ap}
-use Rattle.machine_model.specs.Claims.{IsSound}
-use Rattle.machine_model.specs.State.{State}
-use Rattle.step_core.specs.World.{WorldContents, sides_of}
-use Rattle.step_core.proofs.Steps.{shown_sound}
+use Rattle.machine_model.specs.{Claims.IsSound, State.State}
+use Rattle.step_core.{proofs.Steps.shown_sound, specs.World.{WorldContents, sides_of}}
 use Rattle.step_core.proofs.world.World.check.Goals as goal
 
 pub returns : goal.returns

@@ -1,10 +1,6 @@
 use Rattle.std.proofs.Common.{ap, ◌∙◌, length}
-use Rattle.step_core.specs.Replies.{fetch_reply}
-use Rattle.step_core.proofs.Steps.{allowed, step_from, fetch_goes}
-use Rattle.step_core.specs.World.{WorldContents}
-use Rattle.machine_model.specs.Events.{Reply}
-use Rattle.machine_model.specs.Touch.{touched_by}
-use Rattle.step_core.proofs.Touches.{told_all, fetch_told}
+use Rattle.step_core.{proofs.{Looks.{told_all, fetch_told}, Steps.{allowed, step_from, fetch_goes}}, specs.{Replies.fetch_reply, World.WorldContents}}
+use Rattle.machine_model.specs.{Events.Reply, Touch.touched_by}
 use Rattle.step_core.proofs.world.World.fetch.Goals as goal
 
 pub returns-clause-step : goal.returns-clause-step

@@ -1,8 +1,5 @@
 use Rattle.std.proofs.Common.{◌≡◌, ◌∙◌, refl, length, rules, arith, ap}
-use Rattle.step_core.specs.World.{WorldContents, sides_of}
-use Rattle.step_core.proofs.Forging.{slot_at, never_out, forge_goes}
-use Rattle.step_core.proofs.Steps.{step_from}
-use Rattle.step_core.proofs.Touches.{forged_one}
+use Rattle.step_core.{proofs.{Looks.forged_one, Steps.{slot_at, never_out, forge_goes, step_from}}, specs.World.{WorldContents, sides_of}}
 use Rattle.two_sides.specs.Ties.{first_completion_page}
 use Rattle.step_core.proofs.world.World.forge.Goals as goal
 

@@ -1,9 +1,6 @@
 use Rattle.std.proofs.Common.{◌≡◌, ◌∙◌, subst, ap, refl}
 use Rattle.machine_model.specs.State.{State}
-use Rattle.step_core.specs.Looks.{has_completion}
-use Rattle.step_core.specs.World.{WorldContents, sides_of}
-use Rattle.step_core.proofs.Looking.{waits_alike}
-use Rattle.step_core.proofs.Touches.{looks_at}
+use Rattle.step_core.{proofs.Looks.{waits_alike, looks_at}, specs.{Looks.has_completion, World.{WorldContents, sides_of}}}
 use Rattle.step_core.proofs.world.World.has_completion.Goals as goal
 
 pub returns-clause-answer : goal.returns-clause-answer

@@ -1,7 +1,5 @@
 use Rattle.std.proofs.Common.{arith, refl, length, ◌+◌}
-use Rattle.step_core.proofs.Touches.{looks_none, looks_on, looks_fewer}
-use Rattle.step_core.specs.Looks.{has_completion}
-use Rattle.step_core.proofs.Looking.{fails-more, no-completions}
+use Rattle.step_core.{proofs.Looks.{looks_none, looks_on, looks_fewer, fails-more, no-completions}, specs.Looks.has_completion}
 use Rattle.step_core.proofs.world.World.next_completion.Goals as goal
 
 pub loop-q-init : goal.loop-q-init

@@ -1,6 +1,5 @@
 use Rattle.std.proofs.Common.{◌≡◌, ℕ, ◌<◌, false}
-use Rattle.step_core.specs.Looks.{has_completion}
-use Rattle.step_core.specs.Touching.{LooksAtMost}
+use Rattle.step_core.specs.{Looks.has_completion, Touching.LooksAtMost}
 use Rattle.step_core.proofs.world.World.next_completion.Given as goal
 
 abbrev pub invariant-loop-q : goal.invariant-loop-q

@@ -1,15 +1,8 @@
 use Rattle.std.proofs.Common.{◌≡◌, ◌∙◌, ap, ℕ, ◌<◌, subst, sym, refl, length, arith, ◌+◌, ◌*◌, ◌≤◌}
-use Rattle.page_memory.specs.Memory.{Memory}
-use Rattle.page_memory.specs.Pages.{Pages}
-use Rattle.page_memory.proofs.Whole.{told}
-use Rattle.two_sides.specs.Sides.{state_of}
-use Rattle.two_sides.specs.Ties.{IsWorld}
-use Rattle.step_core.specs.World.{WorldContents, sides_of}
-use Rattle.step_core.proofs.Looking.{possible, rests}
-use Rattle.step_core.proofs.Looking.{as_many}
-use Rattle.step_core.proofs.Touches.{looks_at, looked_few, cleared_more}
+use Rattle.page_memory.{proofs.Bytes.told, specs.{Memory.Memory, Pages.{Pages, byte_at}}}
+use Rattle.two_sides.specs.{Sides.state_of, Ties.IsWorld}
+use Rattle.step_core.{proofs.Looks.{possible, rests, as_many, looks_at, looked_few, cleared_more}, specs.World.{WorldContents, sides_of}}
 use Rattle.controller_core.specs.Looks.{looked}
-use Rattle.page_memory.specs.Pages.{byte_at}
 use Rattle.step_core.proofs.world.World.next_step.Goals as goal
 
 pub invariant_of-self : goal.invariant_of-self

@@ -1,8 +1,7 @@
 use Rattle.std.proofs.Common.{arith, ◌∙◌, ap, List}
-use Rattle.controller_core.specs.Opening.{opened}
-use Rattle.controller_core.specs.declared.queue.QueuePages.{QueuePages}
-use Rattle.host_core.proofs.Fresh.{limits}
-use Rattle.step_core.proofs.Opening.{opened_as_world}
+use Rattle.controller_core.specs.{Opening.opened, declared.queue.QueuePages.QueuePages}
+use Rattle.host_core.proofs.Openings.{limits}
+use Rattle.step_core.proofs.Steps.{opened_as_world}
 use Rattle.step_core.proofs.world.World.over.Goals as goal
 
 pub overflow_cast-config : goal.overflow_cast-config

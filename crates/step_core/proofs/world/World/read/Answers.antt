@@ -1,15 +1,9 @@
-use Rattle.std.proofs.Common.{◌≡◌, ◌∙◌, ℕ, ap, sym, subst, Some, None, arith, length}
-use Rattle.std.specs.Prelude.{OnOk, OnErr}
+use Rattle.std.{proofs.Common.{◌≡◌, ◌∙◌, ℕ, ap, sym, subst, Some, None, arith, length}, specs.Prelude.{OnOk, OnErr}}
 use Rattle.controller_walk.specs.Units.{Moves}
-use Rattle.page_memory.specs.Memory.{Memory, bytes_at, pages_reached}
+use Rattle.page_memory.specs.{Memory.{Memory, bytes_at, pages_reached}, Pages.{Pages, byte_at}}
+use Rattle.two_sides.{proofs.{Serving.same_pages, Units.few_touched}, specs.{Sides.state_of, Ties.IsWorld}}
+use Rattle.step_core.{proofs.Looks.reads_few, specs.World.{WorldContents, sides_of}}
 use Rattle.page_memory.specs.Pages as store
-use Rattle.page_memory.specs.Pages.{Pages, byte_at}
-use Rattle.two_sides.proofs.ServeSteps.{same_pages}
-use Rattle.two_sides.proofs.Units.{few_touched}
-use Rattle.two_sides.specs.Sides.{state_of}
-use Rattle.two_sides.specs.Ties.{IsWorld}
-use Rattle.step_core.specs.World.{WorldContents, sides_of}
-use Rattle.step_core.proofs.Touches.{reads_few}
 use Rattle.step_core.proofs.world.World.read.Goals as goal
 
 pub invariant_of-self : goal.invariant_of-self

@@ -1,9 +1,6 @@
-use Rattle.std.proofs.Common.{◌∙◌, refl, ap, sym, ℕ, Option}
-use Rattle.std.specs.Option.{option_map_or}
+use Rattle.std.{proofs.Common.{◌∙◌, refl, ap, sym, ℕ, Option}, specs.Option.option_map_or}
 use Rattle.controller_core.specs.Doorbells.{head_rung}
-use Rattle.step_core.specs.World.{WorldContents, sides_of}
-use Rattle.step_core.proofs.Steps.{reap_goes, step_from}
-use Rattle.step_core.proofs.Touches.{touches_at}
+use Rattle.step_core.{proofs.{Looks.touches_at, Steps.{reap_goes, step_from}}, specs.World.{WorldContents, sides_of}}
 use Rattle.step_core.proofs.world.World.reap.Goals as goal
 
 pub invariant_of-self-in-Some : goal.invariant_of-self-in-Some

@@ -1,8 +1,5 @@
 use Rattle.std.proofs.Common.{refl, ap}
-use Rattle.step_core.specs.World.{WorldContents, sides_of}
-use Rattle.step_core.proofs.Resetting.{agree_behind, reset_goes}
-use Rattle.step_core.proofs.Steps.{step_from}
-use Rattle.step_core.proofs.Touches.{touches_at}
+use Rattle.step_core.{proofs.{Looks.touches_at, Steps.{agree_behind, reset_goes, step_from}}, specs.World.{WorldContents, sides_of}}
 use Rattle.step_core.proofs.world.World.reset.Goals as goal
 
 pub invariant_of-self : goal.invariant_of-self

@@ -1,9 +1,6 @@
 use Rattle.std.proofs.Common.{refl, ap}
+use Rattle.step_core.{proofs.{Looks.touches_at, Steps.{silent_goes, step_from}}, specs.{Replies.ring_reply, World.{WorldContents, sides_of}}}
 use Rattle.machine_model.specs.Events as events
-use Rattle.step_core.specs.Replies.{ring_reply}
-use Rattle.step_core.specs.World.{WorldContents, sides_of}
-use Rattle.step_core.proofs.Steps.{silent_goes, step_from}
-use Rattle.step_core.proofs.Touches.{touches_at}
 use Rattle.step_core.proofs.world.World.retire.Goals as goal
 
 pub returns-clause-step : goal.returns-clause-step

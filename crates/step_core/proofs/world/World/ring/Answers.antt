@@ -1,8 +1,6 @@
-use Rattle.std.proofs.Common.{◌∙◌, refl, ap, Err}
-use Rattle.std.proofs.lemmas.Result.{err_from_is_err_and}
+use Rattle.std.proofs.{Common.{◌∙◌, refl, ap, Err}, lemmas.Result.err_from_is_err_and}
 use Rattle.machine_model.specs.declared.words.Refusal.{Refusal}
-use Rattle.step_core.specs.World.{WorldContents, sides_of}
-use Rattle.step_core.proofs.Steps.{ring_goes, ring_refused, step_from}
+use Rattle.step_core.{proofs.Steps.{ring_goes, ring_refused, step_from}, specs.World.{WorldContents, sides_of}}
 use Rattle.step_core.proofs.world.World.ring.Goals as goal
 
 pub returns-in_err-tail-clause-step : goal.returns-in_err-tail-clause-step

@@ -1,6 +1,5 @@
 use Rattle.std.proofs.Common.{◌∙◌, ap, sym}
-use Rattle.step_core.specs.World.{WorldContents, sides_of}
-use Rattle.step_core.proofs.RingLooks.{told_past, told_there}
+use Rattle.step_core.{proofs.Looks.{told_past, told_there}, specs.World.{WorldContents, sides_of}}
 use Rattle.step_core.proofs.world.World.rings.Goals as goal
 
 pub returns-in_err-queue-clause-state : goal.returns-in_err-queue-clause-state

@@ -1,43 +1,20 @@
 -- It asks the account, and answers what the inner allocator answers, or `Err`. Assumes `Logic`.
-use Rattle.std.proofs.Common.{◌≡◌, Bool, ℕ, ◌+◌, ◌^◌, ◌<◌, true, false, List, [], ◌∷◌, Ok, Err, refl, w64, Bor}
-use seplogic.Ra.Ura.{Ura}
-use mir.Syntax.{Ty, Args, Fn, a_type, dnil, dcons}
-use mir.Val.{Val, vbool, vunit, vint, vptr}
-use mir.MapTy.{inst_fn}
-use base.Logic.{SProp, ent, id⊢}
-use base.Fml.{Lft, Share, ftrue, froom, fsep, flft}
-use prog.Memory.{Memory, size, align, capped, up}
-use prog.Routine.{Routine}
-use prog.Wp.{Env, WpFn, Tables}
-use types.Logic.{Logic}
-use contract.BorrowLft.{◌⊑◌, ⊑_trans}
-use contract.Monad.{Fun, fact}
-use contract.Running.{tables, tables_of}
-use sound.WpLaws.{fm_of, WpFn-mono}
-use types.Kit.{‵, raw, ⋆, ◌⊛◌, some, later, given, at_ret, learn, pick, ◌$◌, ◌∵◌, !, qed, by, move, keep, use0, use1, use2, split, join, fsplit, fjoin, suffices, await, done}
-use types.Part.{whole, agg}
-use types.Match.{vrt, in_variant}
-use types.Run.{stop, fld, addr, lit, no_more, and_then, of_opd, first, branches, skips, exec, switches_on, returns, returns_within, enter}
-use types.ByLocal.{alloc_all, pass_all, free_all, look_at, get, get_in, get_tag, through, sets, sets_last, lands_as, env}
-use denote.Exit.{yes}
-use denote.Memory.{hidden_shr}
-use denote.RattleType.{owns}
-use denote.Ref.{shr_vals}
-use denote.Opens.{unhide, shr_dup}
-use denote.Param.{bounded, param}
-use denote.Plain.{uint_vals, uint_Tells}
-use denote.Signature.{Slot, plain, types_at}
-use denote.Steps.{heard, nothing}
-use denote.RawPtr.{block_ptr}
-use denote.Builtin.{usize, RefOf}
-use denote.Triple.Call.{calls_at}
-use denote.Triple.Clauses.{Ended, Clauses}
-use denote.Triple.Spec.{triple_of}
-use denote.Triple.Statement.{Triple}
-use denote.Triple.Table.{entered, cited}
-use denote.Triple.Walked.{Stays, stay_dropped, walk_of, ends_at, walked, Goes-dropped, walk_Meets}
+use Rattle.std.proofs.{Common.{◌≡◌, Bool, ℕ, ◌+◌, ◌^◌, ◌<◌, true, false, List, [], ◌∷◌, Ok, Err, refl, w64, Bor}, VecSteps.Shapes.{after, head, arm_body}}
 use Rattle.std.proofs.alloc.Calls.{Al, α, seen, token, Answer, answer_val, Answer-typed, Answer-Ok, Answer-err, takes_key, Takes, at_takes, Answered, Takes-goes, Takes-gives, answers}
-use Rattle.std.proofs.VecSteps.Shapes.{after, head, arm_body}
+use seplogic.Ra.Ura.{Ura}
+use mir.{MapTy.inst_fn, Syntax.{Ty, Args, Fn, a_type, dnil, dcons}, Val.{Val, vbool, vunit, vint, vptr}}
+use base.{Fml.{Lft, Share, ftrue, froom, fsep, flft}, Logic.{SProp, ent, id⊢}}
+use prog.{Memory.{Memory, size, align, capped, up}, Routine.Routine, Wp.{Env, WpFn, Tables}}
+use types.ByLocal.{alloc_all, pass_all, free_all, look_at, get, get_in, get_tag, through, sets, sets_last, lands_as, env}
+use types.Kit.{‵, raw, ⋆, ◌⊛◌, some, later, given, at_ret, learn, pick, ◌$◌, ◌∵◌, !, qed, by, move, keep, use0, use1, use2, split, join, fsplit, fjoin, suffices, await, done}
+use types.{Logic.Logic, Match.{vrt, in_variant}, Part.{whole, agg}}
+use types.Run.{stop, fld, addr, lit, no_more, and_then, of_opd, first, branches, skips, exec, switches_on, returns, returns_within, enter}
+use contract.{BorrowLft.{◌⊑◌, ⊑_trans}, Monad.{Fun, fact}, Running.{tables, tables_of}}
+use sound.WpLaws.{fm_of, WpFn-mono}
+use denote.{Builtin.{usize, RefOf}, Exit.yes, Memory.hidden_shr, Opens.{unhide, shr_dup}, Param.{bounded, param}, Plain.{uint_vals, uint_Tells}}
+use denote.{RattleType.owns, RawPtr.block_ptr, Ref.shr_vals, Signature.{Slot, plain, types_at}, Steps.{heard, nothing}, Triple.Call.calls_at}
+use denote.Triple.{Clauses.{Ended, Clauses}, Spec.triple_of, Statement.Triple, Table.{entered, cited}}
+use denote.Triple.Walked.{Stays, stay_dropped, walk_of, ends_at, walked, Goes-dropped, walk_Meets}
 use Rattle.test_support.proofs.Accounts.{then_runs, some_account, Kept, kept_laws, Ask, at_ask, Ask-goes, Ask-gives, Block, at_block, Block-goes, Block-gives}
 use Rattle.test_support.proofs.allocator.refuses_call.Symbol as ask_sym
 use Rattle.test_support.proofs.allocator.refuses_call.Met as ask_met

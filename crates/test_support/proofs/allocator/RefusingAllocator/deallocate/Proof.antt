@@ -1,43 +1,19 @@
 -- It counts the return, and gives the block back to the inner allocator. Assumes `Logic`.
 use Rattle.std.proofs.Common.{◌≡◌, ℕ, ◌+◌, ◌^◌, ◌<◌, List, [], ◌∷◌, refl, w64, Bor}
-use seplogic.Ra.Ura.{Ura}
-use mir.Syntax.{Ty, Args, Fn, a_type, dnil, dcons}
-use mir.Val.{Val, vint, vptr}
-use mir.MapTy.{inst_fn}
-use base.Logic.{SProp, ent, id⊢}
-use base.Fml.{Lft, Share, ftrue, flft}
-use prog.Memory.{Memory, size, align, capped, up}
-use prog.Routine.{Routine}
-use prog.Wp.{WpFn, Tables}
-use types.Logic.{Logic}
-use contract.BorrowLft.{◌⊑◌, ⊑_trans}
-use contract.Monad.{Fun, fact}
-use contract.Running.{tables, tables_of}
-use sound.WpLaws.{fm_of, WpFn-mono}
-use types.Run.{stop, fld, addr, no_more, and_then, of_opd, returns, enter}
-use denote.Exit.{yes}
-use denote.RattleType.{owns}
-use denote.Ref.{shr_vals}
-use denote.Opens.{unhide}
-use denote.Param.{bounded, param}
-use denote.Plain.{uint_vals, uint_Tells}
-use denote.Signature.{Slot, plain, types_at}
-use denote.Steps.{heard, nothing}
-use denote.Triple.Clauses.{Ended, Clauses}
-use denote.Triple.Spec.{triple_of}
-use denote.Triple.Statement.{Triple}
-use denote.Triple.Table.{entered, cited}
-use denote.Triple.Walked.{Stays, stay_dropped, walk_of, ends_at, walked, Goes-dropped, walk_Meets}
-use mir.Val.{vunit}
-use base.Logic.{never_e}
-use base.Fml.{ffalse, fsep, froom}
-use types.Kit.{Item, ‵, raw, ◌⊛◌, later, given, ◌$◌, ◌∵◌, !, qed, by, move, keep, use1, use2, split, split3, join, learn, fsplit, fjoin, feq_i, suffices, await, done}
-use types.Run.{unit_lit}
-use types.ByLocal.{alloc_all, pass_all, free_all, look_at, get, through, sets, lands_as}
-use denote.RawPtr.{Ptr, block_ptr, null_ptr, ptr_val, rawptr_vals, rawptr_Tells}
-use denote.Builtin.{usize, RawPtr, RefOf}
-use denote.Triple.Call.{calls_at}
 use Rattle.std.proofs.alloc.Calls.{Al, α, seen, token, gives_key, Gives, at_gives, Gives-goes, Gives-Gives}
+use seplogic.Ra.Ura.{Ura}
+use mir.{MapTy.inst_fn, Syntax.{Ty, Args, Fn, a_type, dnil, dcons}, Val.{Val, vint, vptr, vunit}}
+use base.{Fml.{Lft, Share, ftrue, flft, ffalse, fsep, froom}, Logic.{SProp, ent, id⊢, never_e}}
+use prog.{Memory.{Memory, size, align, capped, up}, Routine.Routine, Wp.{WpFn, Tables}}
+use types.ByLocal.{alloc_all, pass_all, free_all, look_at, get, through, sets, lands_as}
+use types.Kit.{Item, ‵, raw, ◌⊛◌, later, given, ◌$◌, ◌∵◌, !, qed, by, move, keep, use1, use2, split, split3, join, learn, fsplit, fjoin, feq_i, suffices, await, done}
+use types.{Logic.Logic, Run.{stop, fld, addr, no_more, and_then, of_opd, returns, enter, unit_lit}}
+use contract.{BorrowLft.{◌⊑◌, ⊑_trans}, Monad.{Fun, fact}, Running.{tables, tables_of}}
+use sound.WpLaws.{fm_of, WpFn-mono}
+use denote.{Builtin.{usize, RawPtr, RefOf}, Exit.yes, Opens.unhide, Param.{bounded, param}, Plain.{uint_vals, uint_Tells}, RattleType.owns}
+use denote.{RawPtr.{Ptr, block_ptr, null_ptr, ptr_val, rawptr_vals, rawptr_Tells}, Ref.shr_vals, Signature.{Slot, plain, types_at}, Steps.{heard, nothing}}
+use denote.Triple.{Call.calls_at, Clauses.{Ended, Clauses}, Spec.triple_of, Statement.Triple, Table.{entered, cited}}
+use denote.Triple.Walked.{Stays, stay_dropped, walk_of, ends_at, walked, Goes-dropped, walk_Meets}
 use Rattle.test_support.proofs.Accounts.{Returned, at_returned, Returned-goes, Returned-gives}
 use Rattle.test_support.proofs.allocator.count_return.Symbol as c_sym
 use Rattle.test_support.proofs.allocator.count_return.Met as c_met

@@ -1,6 +1,5 @@
 -- the lines that are left have the wanted one
-use Rattle.std.proofs.Common.{◌≡◌, ◌-◌}
-use Rattle.std.specs.Prelude.{slice_get}
+use Rattle.std.{proofs.Common.{◌≡◌, ◌-◌}, specs.Prelude.slice_get}
 use Rattle.script_cli.specs.Lines.{lines}
 use Rattle.texts.proofs.faults.lines.line_at.Given as goal
 

@@ -1,5 +1,4 @@
-use Rattle.std.proofs.Common.{rules, true}
-use Rattle.std.proofs.lemmas.Fmt.{hex_byte}
+use Rattle.std.proofs.{Common.{rules, true}, lemmas.Fmt.hex_byte}
 use Rattle.texts.proofs.traces.bytes.put_byte.Goals as goal
 
 pub returns : goal.returns

@@ -1,5 +1,4 @@
-use denote.Param.{param, copied}
-use denote.Param.Send.{IsSend, Frees, sendable}
+use denote.Param.{param, copied, Send.{IsSend, Frees, sendable}}
 use Rattle.std.proofs.vec.Vec.TheSendSync as vectors
 use Rattle.step_core.proofs.step.Bytes.TheSendSync as bytes
 use Rattle.io_commands.proofs.request.Pieces.TheSendSync as pieces

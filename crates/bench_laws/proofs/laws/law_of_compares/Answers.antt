@@ -1,5 +1,0 @@
-use Rattle.bench_laws.proofs.KeptValues.{compares_told_by_steps}
-use Rattle.bench_laws.proofs.laws.law_of_compares.Goals as goal
-
-pub returns : goal.returns
-returns c = compares_told_by_steps

@@ -1,8 +1,0 @@
-use Rattle.bench_laws.proofs.Gathered.{gathers_command, reads_have_blocks}
-use Rattle.bench_laws.proofs.laws.law_of_gathering.Goals as goal
-
-pub returns-clause-commands : goal.returns-clause-commands
-returns-clause-commands c = gathers_command
-
-pub returns-clause-reads : goal.returns-clause-reads
-returns-clause-reads c = reads_have_blocks

@@ -1,4 +1,0 @@
-pub mod Words
-pub mod Sets
-pub mod Places
-pub mod Runs

@@ -1,6 +1,0 @@
-use Rattle.std.proofs.Common.{◌≡◌, map, take}
-use Rattle.c_words.specs.Requests as requests
-use Rattle.c_words.proofs.piece.pieces_of.Given as goal
-
-abbrev pub invariant-loop-piece : goal.invariant-loop-piece
-invariant-loop-piece l = l.made ≡ map requests.piece_of (take l.piece-index l.pieces)

@@ -1,6 +1,0 @@
-pub mod Answers
-pub mod Codes
-pub mod Images
-pub mod Requests
-pub mod Owners
-pub mod Named

@@ -1,4 +1,0 @@
-pub mod Adding
-pub mod Asking
-pub mod Loading
-pub mod Numbers

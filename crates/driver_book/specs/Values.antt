@@ -1,7 +1,0 @@
--- Reports, as contracts see them: with lists, wherever their receipts stand.
-use Rattle.std.specs.Prelude.{List}
-use Rattle.driver_book.specs.declared.log.Receipt.{Receipt}
-use Rattle.driver_book.specs.declared.log.Report as declared_report
-
-abbrev pub Report : Type 0
-Report = declared_report.Report (List (List Receipt))

@@ -1,5 +1,0 @@
-pub mod Values
-pub mod Doorbells
-pub mod Calls
-pub mod Kept
-pub mod Pool

@@ -1,0 +1,399 @@
+-- Tables that were just opened, and the halves that were granted for them.
+use Rattle.page_ledger.specs.declared.owner.Owner.TheVariants as owner
+use Rattle.machine_model.specs.declared.words.Refusal.TheVariants as refusal
+use Rattle.std.proofs.Common.{◌≡◌, ◌⊎◌, inl, inr, ℕ, zero, suc, ◌+◌, ◌*◌, ◌<◌, ◌≤◌, false, Some, List, length, replicate, refl, ap, ap₂, sym, ◌∙◌, arith, subst, Option, slice_get, [], Fits, w16, ◌-◌, ◌==◌, ◌||◌, ◌&&◌, nat_le, leb-true, Bool, true, None, IfSome, ◌∷◌, map, filter, drop, eqb-true}
+use Rattle.std.proofs.{Math.Nat.mul-le-mul_right, lemmas.{Bool.{true≢false, cases_lt, and_parts}, List.{length-replicate, length-map}, Option.slice_get-map}}
+use Rattle.std.specs.{List.Contains, Option.{option_map_or, option_map}}
+use Rattle.page_ledger.{proofs.{Pages.finds-lowest_run, Tables.{length-with_owner, owner-changed, owner-kept}}, specs.Laws.IsLowestRun}
+use Rattle.page_ledger.specs.{Owners.{is_free, is_owned_at, owner_at, pages_from, with_owner, is_among, free_pages}, Runs.lowest_run}
+use Rattle.page_ledger.specs.declared.owner.Owner.{Owner}
+use Rattle.page_memory.{proofs.Bytes.length-zero_page, specs.{Pages.{Pages, page_at, zero_page}, declared.page.Half.TheVariants.{Submission, Completion}}}
+use Rattle.host_core.{proofs.Identifiers.{over_pages, whole_of, alone_sound, host_of, over_of}, specs.Alone.{HostView, HostStep, IsOver, alone}}
+use Rattle.host_core.specs.Looks.{cause_of}
+use Rattle.host_core.specs.Opening.{sq_from, cq_from, IsFreeFrom, AreGranted, opened_view, opened_pages, refusal_of_config, fresh_at, fresh_queue, fresh_queues, HalvesGranted, opened}
+use Rattle.host_core.specs.{Parts.records_of, Ringing.head_of, Rows.{Queue, Kept}, Tables.{Tables, host_queue_of, state_of, view_of}}
+use Rattle.host_core.specs.{Whole.{IsHost, IsWhole, IsQueue, ClaimsIdentifiers, TellsQueue}, declared.config.Config.Config}
+use Rattle.machine_model.{proofs.Headline.{runs_are_sound, fits_pool, in_limits, length-range}, specs.{Claims.IsSound, Events.{Event, Reply}}}
+use Rattle.machine_model.specs.{Opening.{opening, queues_from, is_config}, Refusals.refusal_of, State.{State, HostQueue}, Step.{Step, Refuses}}
+use Rattle.machine_model.specs.declared.words.Refusal.{Refusal}
+use Rattle.queue_pair.specs.Memory.{half_pages}
+use Rattle.slot_table.specs.Table.{TableOf}
+
+-- The halves of one queue more: which pages are granted, and whose the pages are then.
+
+-- The run that is granted
+
+pub lowest_is : (base k : ℕ) (owners : List Owner) → 0 < k → base + k ≤ length owners → IsFreeFrom base owners → lowest_run k owners ≡ Some base
+lowest_is base k owners some room from = ((finds-lowest_run k owners some).found base).1 lowest
+  where
+    lowest : IsLowestRun k owners base
+    lowest = record { run = record { free = λ i l. from.free (base + i) (omega arith) (omega arith) }; lowest = λ q run. go q (run.free 0 some) (cases_lt q base) }
+      where
+        go : (q : ℕ) → owner_at owners (q + 0) ≡ Some owner.Free → (q < base) ⊎ (base ≤ q) → base ≤ q
+        go q at (inr l) = l
+        go q at (inl l) =
+            let same : q + 0 ≡ q = omega arith in
+            let here : owner_at owners q ≡ Some owner.Free = ap (owner_at owners) (sym same) ∙ at in
+            absurd (true≢false (sym (ap (λ o. option_map_or is_free o false) here) ∙ from.used q l))
+
+-- Whose the pages are then
+
+among_run : (p base k : ℕ) → base ≤ p → p < base + k → Contains (pages_from base k) p
+among_run p base zero low high = absurd (omega arith)
+among_run p base (suc k) low high = go (cases_lt base p) (λ l. among_run p (base + 1) k (omega arith) (omega arith))
+  where
+    go : (base < p) ⊎ (p ≤ base) → (base < p → Contains (pages_from (base + 1) k) p) → Contains (pages_from base (suc k)) p
+    go (inl l) ih = let r = ih l in (suc r.0, omega (arith, r.1), r.2)
+    go (inr l) ih = let same : base ≡ p = omega arith in (0, omega arith, same)
+
+in_run : (p base k : ℕ) → Contains (pages_from base k) p → (base ≤ p) × (p < base + k)
+in_run p base zero (i, l, e) = absurd (omega arith)
+in_run p base (suc k) (zero, l, e) = let same : base ≡ p = e in (omega (arith, same), omega (arith, same))
+in_run p base (suc k) (suc i, l, e) = let r = in_run p (base + 1) k (i, omega arith, e) in (omega (arith, r.0), omega (arith, r.1))
+
+run-owner : (owners : List Owner) (base k p : ℕ) (o : Owner) → base + k ≤ length owners → base ≤ p → p < base + k → owner_at (with_owner owners (pages_from base k) o) p ≡ Some o
+run-owner owners base k p o room low high = owner-changed owners (pages_from base k) o p (omega arith) (among_run p base k low high)
+
+run-before : (owners : List Owner) (base k p : ℕ) (o : Owner) → p < base → owner_at (with_owner owners (pages_from base k) o) p ≡ owner_at owners p
+run-before owners base k p o l = owner-kept owners (pages_from base k) o p (λ h. let r = in_run p base k h in absurd (omega (arith, r.0)))
+
+run-behind : (owners : List Owner) (base k p : ℕ) (o : Owner) → base + k ≤ p → owner_at (with_owner owners (pages_from base k) o) p ≡ owner_at owners p
+run-behind owners base k p o l = owner-kept owners (pages_from base k) o p (λ h. let r = in_run p base k h in absurd (omega (arith, r.1)))
+
+pub granted-from : (base k : ℕ) (owners : List Owner) (o : Owner) → is_free o ≡ false → base + k ≤ length owners → IsFreeFrom base owners → IsFreeFrom (base + k) (with_owner owners (pages_from base k) o)
+granted-from base k owners o owned room from =
+    record {
+      used = λ p l. go p l (cases_lt p base);
+      free = λ p low high. run-behind owners base k p o low ∙ from.free p (omega arith) (omega (arith, length-with_owner owners (pages_from base k) o));
+    }
+  where
+    go : (p : ℕ) → p < base + k → (p < base) ⊎ (base ≤ p) → is_owned_at is_free (with_owner owners (pages_from base k) o) p ≡ false
+    go p l (inl before) = ap (λ x. option_map_or is_free x false) (run-before owners base k p o before) ∙ from.used p before
+    go p l (inr low) = ap (λ x. option_map_or is_free x false) (run-owner owners base k p o room low l) ∙ owned
+
+-- One queue more
+
+abbrev pub both : ℕ → ℕ → ℕ → List Owner → List Owner
+both a b q owners = with_owner (with_owner owners (pages_from (sq_from a b q) a) (owner.Queue q Submission)) (pages_from (cq_from a b q) b) (owner.Queue q Completion)
+
+before_next : (a b r q : ℕ) → r < q → r * (a + b) + a + b ≤ q * (a + b)
+before_next a b r q l = let all : (r + 1) * (a + b) ≤ q * (a + b) = mul-le-mul_right (a + b) (omega arith) in omega (arith, all)
+
+next_from : (a b q : ℕ) → q * (a + b) + a + b ≡ (q + 1) * (a + b)
+next_from a b q = omega arith
+
+pub granted_more : (a b q : ℕ) (owners : List Owner) → sq_from a b (q + 1) ≤ length owners → AreGranted a b q owners → AreGranted a b (q + 1) (both a b q owners)
+granted_more a b q owners room granted =
+    record {
+      submission = λ r p l low high. sq r p low high (cases_lt r q) l;
+      completion = λ r p l low high. cq r p low high (cases_lt r q) l;
+      rest = subst (λ (n : ℕ). IsFreeFrom n (both a b q owners)) (next_from a b q)
+          (granted-from (cq_from a b q) b mid (owner.Queue q Completion) refl (fits (cq_from a b q + b) _ _ (length-with_owner owners (pages_from (sq_from a b q) a) (owner.Queue q Submission)) (up (next_from a b q) room))
+          (granted-from (sq_from a b q) a owners (owner.Queue q Submission) refl (less (sq_from a b q) a b _ (up (next_from a b q) room)) granted.rest));
+    }
+  where
+    mid : List Owner
+    mid = with_owner owners (pages_from (sq_from a b q) a) (owner.Queue q Submission)
+
+    up : {x y z : ℕ} → x ≡ y → y ≤ z → x ≤ z
+    up e l = omega arith
+
+    fits : (x y z : ℕ) → y ≡ z → x ≤ z → x ≤ y
+    fits x y z e l = omega arith
+
+    less : (x y z n : ℕ) → x + y + z ≤ n → x + y ≤ n
+    less x y z n l = omega arith
+
+    sq : (r p : ℕ) → sq_from a b r ≤ p → p < sq_from a b r + a → (r < q) ⊎ (q ≤ r) → r < q + 1 → owner_at (both a b q owners) p ≡ Some (owner.Queue r Submission)
+    sq r p low high (inl l) m =
+        let end = before_next a b r q l in
+        run-before mid (cq_from a b q) b p (owner.Queue q Completion) (omega arith)
+        ∙ (run-before owners (sq_from a b q) a p (owner.Queue q Submission) (omega arith) ∙ granted.submission r p l low high)
+    sq r p low high (inr l) m =
+        let same : q ≡ r = omega arith in
+        subst (λ (k : ℕ). owner_at (both a b q owners) p ≡ Some (owner.Queue k Submission)) same
+        (run-before mid (cq_from a b q) b p (owner.Queue q Completion) (subst (λ (k : ℕ). p < sq_from a b k + a) (sym same) high)
+        ∙ run-owner owners (sq_from a b q) a p (owner.Queue q Submission) (less (sq_from a b q) a b _ (up (next_from a b q) room)) (subst (λ (k : ℕ). sq_from a b k ≤ p) (sym same) low) (subst (λ (k : ℕ). p < sq_from a b k + a) (sym same) high))
+
+    cq : (r p : ℕ) → cq_from a b r ≤ p → p < cq_from a b r + b → (r < q) ⊎ (q ≤ r) → r < q + 1 → owner_at (both a b q owners) p ≡ Some (owner.Queue r Completion)
+    cq r p low high (inl l) m =
+        let end = before_next a b r q l in
+        run-before mid (cq_from a b q) b p (owner.Queue q Completion) (omega arith)
+        ∙ (run-before owners (sq_from a b q) a p (owner.Queue q Submission) (omega arith) ∙ granted.completion r p l low high)
+    cq r p low high (inr l) m =
+        let same : q ≡ r = omega arith in
+        subst (λ (k : ℕ). owner_at (both a b q owners) p ≡ Some (owner.Queue k Completion)) same
+        (run-owner mid (cq_from a b q) b p (owner.Queue q Completion) (fits (cq_from a b q + b) _ _ (length-with_owner owners (pages_from (sq_from a b q) a) (owner.Queue q Submission)) (up (next_from a b q) room))
+        (subst (λ (k : ℕ). cq_from a b k ≤ p) (sym same) low) (subst (λ (k : ℕ). p < cq_from a b k + b) (sym same) high))
+
+-- The two grants, one after the other
+
+some_is : {x y : ℕ} → Some x ≡ Some y → x ≡ y
+some_is e = cc
+
+first_room : (a b q n : ℕ) → sq_from a b (q + 1) ≤ n → sq_from a b q + a ≤ n
+first_room a b q n room = omega (arith, room, next_from a b q)
+
+second_room : (a b q n : ℕ) → sq_from a b (q + 1) ≤ n → cq_from a b q + b ≤ n
+second_room a b q n room = omega (arith, room, next_from a b q)
+
+pub first_run : (a b q x : ℕ) (owners : List Owner) → 0 < a → x ≡ a → sq_from a b (q + 1) ≤ length owners → AreGranted a b q owners → lowest_run x owners ≡ Some (sq_from a b q)
+first_run a b q x owners some e room granted =
+    ap (λ (k : ℕ). lowest_run k owners) e ∙ lowest_is (sq_from a b q) a owners some (first_room a b q (length owners) room) granted.rest
+
+abbrev pub half_granted : ℕ → ℕ → ℕ → List Owner → List Owner
+half_granted a b q owners = with_owner owners (pages_from (sq_from a b q) a) (owner.Queue q Submission)
+
+mid_is : (a b q x sq : ℕ) (owners mid : List Owner) → x ≡ a → sq ≡ sq_from a b q → mid ≡ with_owner owners (pages_from sq x) (owner.Queue q Submission) → mid ≡ half_granted a b q owners
+mid_is a b q x sq owners mid e f g = g ∙ ap₂ (λ (s k : ℕ). with_owner owners (pages_from s k) (owner.Queue q Submission)) f e
+
+pub second_run : (a b q x y sq : ℕ) (owners mid : List Owner) → 0 < a → 0 < b → x ≡ a → y ≡ b → sq_from a b (q + 1) ≤ length owners → AreGranted a b q owners
+    → lowest_run x owners ≡ Some sq → mid ≡ with_owner owners (pages_from sq x) (owner.Queue q Submission) → lowest_run y mid ≡ Some (cq_from a b q)
+second_run a b q x y sq owners mid some some' e f room granted first is =
+    let at : sq ≡ sq_from a b q = some_is (sym first ∙ first_run a b q x owners some e room granted) in
+    let size = length-with_owner owners (pages_from (sq_from a b q) a) (owner.Queue q Submission) in
+    ap₂ (λ (k : ℕ) (l : List Owner). lowest_run k l) f (mid_is a b q x sq owners mid e at is)
+    ∙ lowest_is (cq_from a b q) b (half_granted a b q owners) some' (subst (λ (n : ℕ). cq_from a b q + b ≤ n) (sym size) (second_room a b q (length owners) room))
+    (granted-from (sq_from a b q) a owners (owner.Queue q Submission) refl (first_room a b q (length owners) room) granted.rest)
+
+pub both_granted : (a b q x y sq cq : ℕ) (owners mid new : List Owner) → 0 < a → 0 < b → x ≡ a → y ≡ b → sq_from a b (q + 1) ≤ length owners → AreGranted a b q owners
+    → lowest_run x owners ≡ Some sq → mid ≡ with_owner owners (pages_from sq x) (owner.Queue q Submission)
+    → lowest_run y mid ≡ Some cq → new ≡ with_owner mid (pages_from cq y) (owner.Queue q Completion)
+    → (sq ≡ sq_from a b q) × (cq ≡ cq_from a b q) × AreGranted a b (q + 1) new × (length new ≡ length owners)
+both_granted a b q x y sq cq owners mid new some some' e f room granted first is second is' =
+    let at : sq ≡ sq_from a b q = some_is (sym first ∙ first_run a b q x owners some e room granted) in
+    let at' : cq ≡ cq_from a b q = some_is (sym second ∙ second_run a b q x y sq owners mid some some' e f room granted first is) in
+    let all : new ≡ both a b q owners = is' ∙ (ap₂ (λ (s k : ℕ). with_owner mid (pages_from s k) (owner.Queue q Completion)) at' f
+    ∙ ap (λ (l : List Owner). with_owner l (pages_from (cq_from a b q) b) (owner.Queue q Completion)) (mid_is a b q x sq owners mid e at is)) in (
+      at,
+      at',
+      subst (λ (l : List Owner). AreGranted a b (q + 1) l) (sym all) (granted_more a b q owners room granted),
+      ap length all ∙ (length-with_owner (half_granted a b q owners) (pages_from (cq_from a b q) b) (owner.Queue q Completion) ∙ length-with_owner owners (pages_from (sq_from a b q) a) (owner.Queue q Submission)),
+    )
+
+-- Tables that were just opened.
+
+-- A call's tables, as its host and the pages that it is lent.
+
+-- what a call may lean on
+pub whole_at : (t : Tables) (v : HostView) (pages : Pages) → view_of t ≡ v → IsHost t → IsOver v pages → IsWhole (over_pages t pages)
+whole_at t v pages is host over = whole_of t pages host (subst (λ (x : HostView). IsOver x pages) (sym is) over)
+
+-- and what it answers for
+pub step_at : (t new : Tables) (v : HostView) (e : Event) (reply : Reply) → view_of t ≡ v → Step (state_of t) e reply (state_of new) → HostStep v t.pages e reply (view_of new) new.pages
+step_at t new v e reply is step = subst (λ (x : HostView). HostStep x t.pages e reply (view_of new) new.pages) is step
+
+-- where nothing changed
+pub stays_at : (t : Tables) (v : HostView) (e : Event) (reply : Reply) → view_of t ≡ v → Step (state_of t) e reply (state_of t) → HostStep v t.pages e reply v t.pages
+stays_at t v e reply is step = subst (λ (x : HostView). HostStep x t.pages e reply x t.pages) is step
+
+-- a queue's head as it is shown
+pub head-told : (t : Tables) (q : ℕ) (x : Queue) → slice_get t.queues q ≡ Some x → head_of (view_of t) q ≡ Some x.host.ring.head
+head-told t q x at =
+    ap (λ (o : Option HostQueue). option_map (λ queue. queue.ring.head) o) (slice_get-map host_queue_of t.queues q ∙ ap (λ (o : Option Queue). option_map host_queue_of o) at)
+
+-- a refusal of a host's call, as a cause
+pub cause-told : (s : State) (e : Event) (why : Refusal) → Refuses s e why [] → refusal_of s e ≡ cause_of why
+cause-told s e refusal.Memory h = h.1
+cause-told s e why h = h.0
+
+-- A world as it opens: its tables stand for the machine's opening, and are whole.
+
+-- The state
+
+next-from : (page k a b : ℕ) → page ≡ k * (a + b) → page + a + b ≡ (k + 1) * (a + b)
+next-from page k a b e = omega (arith, e)
+
+host_queues : (n page k count : ℕ) → page ≡ k * (half_pages n Submission + half_pages n Completion) → map host_queue_of (map (fresh_queue n) (pages_from k count)) ≡ queues_from page n count
+host_queues n page k zero e = refl
+host_queues n page k (suc count) e =
+    ap₂ (λ (x : HostQueue) (xs : List HostQueue). x ∷ xs) (ap (λ (p : ℕ). host_queue_of (fresh_at n p (p + half_pages n Submission) k)) (sym e))
+    (host_queues n (page + half_pages n Submission + half_pages n Completion) (k + 1) count (next-from page k (half_pages n Submission) (half_pages n Completion) e))
+
+all_pass : (f : ℕ → Bool) (b n : ℕ) → ((p : ℕ) → b ≤ p → p < b + n → f p ≡ true) → filter f (pages_from b n) ≡ pages_from b n
+all_pass f b zero pass = refl
+all_pass f b (suc n) pass = rw (pass b (omega arith) (omega arith)) (ap (λ (l : List ℕ). b ∷ l) (all_pass f (b + 1) n (λ p l h. pass p (omega arith) (omega arith))))
+
+rest_pass : (f : ℕ → Bool) (b k n : ℕ) → ((p : ℕ) → b ≤ p → p < b + k → f p ≡ false) → ((p : ℕ) → b + k ≤ p → p < b + n → f p ≡ true) → filter f (pages_from b n) ≡ drop k (pages_from b n)
+rest_pass f b zero zero fail pass = refl
+rest_pass f b (suc k) zero fail pass = refl
+rest_pass f b zero (suc n) fail pass = all_pass f b (suc n) (λ p l h. pass p (omega arith) h)
+rest_pass f b (suc k) (suc n) fail pass =
+    rw (fail b (omega arith) (omega arith)) (rest_pass f (b + 1) k n (λ p l h. fail p (omega arith) (omega arith)) (λ p l h. pass p (omega arith) (omega arith)))
+
+free_is : (base pages : ℕ) (owners : List Owner) → length owners ≡ pages → IsFreeFrom base owners → free_pages owners ≡ drop base (pages_from 0 pages)
+free_is base pages owners size from =
+    rest_pass (is_owned_at is_free owners) 0 base (length owners) (λ p l h. from.used p (omega arith)) (λ p l h. ap (λ o. option_map_or is_free o false) (from.free p (omega arith) (omega arith)))
+    ∙ ap (λ (k : ℕ). drop base (pages_from 0 k)) size
+
+abbrev built : Config → List ℕ → List HostQueue → HostView
+built c free hosts = record { entries = c.entries; segment = c.segment; host = record { free = free; queues = hosts; records = [] } }
+
+pub opened_view_is : (c : Config) (owners : List Owner) → length owners ≡ c.pages → HalvesGranted c.entries (c.queues + 1) owners → view_of (opened c owners) ≡ opened_view c
+opened_view_is c owners size granted =
+    let hosts = map host_queue_of (fresh_queues c.entries (c.queues + 1)) in
+    let base = sq_from (half_pages c.entries Submission) (half_pages c.entries Completion) (c.queues + 1) in
+    ap (λ (free : List ℕ). built c free hosts) (free_is base c.pages owners size granted.rest)
+    ∙ ap (λ (l : List HostQueue). built c (drop base (pages_from 0 c.pages)) l) (host_queues c.entries 0 0 (c.queues + 1) (omega arith))
+
+-- The limits
+
+pub record Limits (c : Config) : Type 0 where
+  pub least_pages : 8 ≤ c.pages
+  pub most_pages : c.pages ≤ 65536
+  pub least_queues : 1 ≤ c.queues
+  pub most_queues : c.queues ≤ 64
+  pub least_entries : 2 ≤ c.entries
+  pub most_entries : c.entries ≤ 1024
+  pub least_segment : 2 ≤ c.segment
+  pub most_segment : c.segment ≤ 256
+
+limits_from : (p q n s : ℕ) → is_config p q n s ≡ true → (8 ≤ p) × (p ≤ 65536) × (1 ≤ q) × (q ≤ 64) × (2 ≤ n) × (n ≤ 1024) × (2 ≤ s) × (s ≤ 256)
+limits_from p q n s h =
+    let g = and_parts (nat_le 8 p && nat_le p 65536 && nat_le 1 q && nat_le q 64 && nat_le 2 n && nat_le n 1024 && nat_le 2 s) (nat_le s 256) h in
+    let f = and_parts (nat_le 8 p && nat_le p 65536 && nat_le 1 q && nat_le q 64 && nat_le 2 n && nat_le n 1024) (nat_le 2 s) g.0 in
+    let e = and_parts (nat_le 8 p && nat_le p 65536 && nat_le 1 q && nat_le q 64 && nat_le 2 n) (nat_le n 1024) f.0 in
+    let d = and_parts (nat_le 8 p && nat_le p 65536 && nat_le 1 q && nat_le q 64) (nat_le 2 n) e.0 in
+    let c = and_parts (nat_le 8 p && nat_le p 65536 && nat_le 1 q) (nat_le q 64) d.0 in
+    let b = and_parts (nat_le 8 p && nat_le p 65536) (nat_le 1 q) c.0 in
+    let a = and_parts (nat_le 8 p) (nat_le p 65536) b.0 in
+    (leb-true 8 p a.0, leb-true p 65536 a.1, leb-true 1 q b.1, leb-true q 64 c.1, leb-true 2 n d.1, leb-true n 1024 e.1, leb-true 2 s f.1, leb-true s 256 g.1)
+
+pub limits : (c : Config) → refusal_of_config c ≡ None → Limits c
+limits c opens =
+    let l = limits_from c.pages c.queues c.entries c.segment (in_limits c.pages c.queues c.entries c.segment opens) in
+    record {
+      least_pages = l.0;
+      most_pages = l.1;
+      least_queues = l.2;
+      most_queues = l.3;
+      least_entries = l.4;
+      most_entries = l.5;
+      least_segment = l.6;
+      most_segment = l.7;
+    }
+
+pub fits : (c : Config) → refusal_of_config c ≡ None → sq_from (half_pages c.entries Submission) (half_pages c.entries Completion) (c.queues + 1) ≤ c.pages
+fits c opens = fits_pool c.pages c.queues c.entries c.segment opens
+
+-- The queues
+
+some_is_fresh : {X : Type 0} {x y : X} → Some x ≡ Some y → x ≡ y
+some_is_fresh e = cc
+
+fresh_get : (n b count k : ℕ) (queue : Queue) → slice_get (map (fresh_queue n) (pages_from b count)) k ≡ Some queue → (k < count) × (fresh_queue n (b + k) ≡ queue)
+fresh_get n b zero k queue e = absurd cc
+fresh_get n b (suc count) zero queue e = let same : b + 0 ≡ b = omega arith in (omega arith, ap (fresh_queue n) same ∙ some_is_fresh e)
+fresh_get n b (suc count) (suc k) queue e =
+    let rest = fresh_get n (b + 1) count k queue e in
+    let same : b + suc k ≡ b + 1 + k = omega arith in
+    (omega (arith, rest.0), ap (fresh_queue n) same ∙ rest.1)
+
+-- what holds of each fresh queue holds of each queue
+each_fresh : (P : ℕ → Queue → Type 0) (n count : ℕ) → ((q : ℕ) → q < count → P q (fresh_queue n q)) → (q : ℕ) (queue : Queue) → slice_get (fresh_queues n count) q ≡ Some queue → P q queue
+each_fresh P n count h q queue e =
+    let at = fresh_get n 0 count q queue e in
+    let same : 0 + q ≡ q = omega arith in
+    subst (λ (x : Queue). P q x) (ap (fresh_queue n) (sym same) ∙ at.1) (h q at.0)
+
+all_at : {X : Type 0} (n k : ℕ) (x : X) → k < n → slice_get (replicate n x) k ≡ Some x
+all_at zero k x l = absurd (omega arith)
+all_at (suc n) zero x l = refl
+all_at (suc n) (suc k) x l = all_at n k x (omega arith)
+
+fresh_sides : (n sq cq q : ℕ) → 2 ≤ n → n ≤ 1024 → IsQueue n q (fresh_at n sq cq q)
+fresh_sides n sq cq q least most =
+    record {
+      number = refl;
+      entries = refl;
+      host_side = record { least = least; most = most; head = omega arith; known_head = omega arith; tail = omega arith; identifiers = omega (arith, length-replicate (n - 1) false) };
+    }
+
+none_claimed : (q k : ℕ) → ClaimsIdentifiers [] q (replicate k false)
+none_claimed q k = record { told = λ cid l. all_at k cid false (omega (arith, l, length-replicate k false)); inside = λ cid e. absurd (true≢false (sym e)) }
+
+-- The halves
+
+among_range : (a k p : ℕ) → is_among (pages_from a k) p ≡ true → (a ≤ p) × (p < a + k)
+among_range a zero p h = absurd (true≢false (sym h))
+among_range a (suc k) p h = go (a == p) refl h (λ e. among_range (a + 1) k p e)
+  where
+    go : (b : Bool) → (a == p) ≡ b → (b || is_among (pages_from (a + 1) k) p) ≡ true → (is_among (pages_from (a + 1) k) p ≡ true → (a + 1 ≤ p) × (p < a + 1 + k)) → (a ≤ p) × (p < a + suc k)
+    go true e g ih = let same : a ≡ p = eqb-true a p e in (omega (arith, same), omega (arith, same))
+    go false e g ih = let r = ih g in (omega (arith, r.0), omega (arith, r.1))
+
+fresh_told : (n count : ℕ) (owners : List Owner) → HalvesGranted n count owners → (q : ℕ) → q < count → TellsQueue owners q (fresh_queue n q)
+fresh_told n count owners granted q l =
+    record {
+      submission = λ p h. let r = among_range (sq_from (half_pages n Submission) (half_pages n Completion) q) (half_pages n Submission) p h in granted.submission q p l r.0 r.1;
+      completion = λ p h. let r = among_range (cq_from (half_pages n Submission) (half_pages n Completion) q) (half_pages n Completion) p h in granted.completion q p l r.0 r.1;
+    }
+
+blank_pool : (n p : ℕ) → IfSome (page_at (replicate n (Some zero_page)) p) (λ page. length page ≡ 4096)
+blank_pool zero p = tt
+blank_pool (suc n) zero = length-zero_page
+blank_pool (suc n) (suc p) = blank_pool n p
+
+-- What is opened is whole.
+pub opened_whole : (c : Config) (owners : List Owner) → refusal_of_config c ≡ None → length owners ≡ c.pages → HalvesGranted c.entries (c.queues + 1) owners → IsWhole (opened c owners)
+opened_whole c owners opens size granted =
+    let l = limits c opens in
+    let view = opened_view_is c owners size granted in
+    let sound = runs_are_sound c.pages c.queues c.entries c.segment [] [] [] (opening c.pages c.queues c.entries c.segment []) opens refl in
+    let many : length (fresh_queues c.entries (c.queues + 1)) ≡ c.queues + 1 = length-map (pages_from 0 (c.queues + 1)) (fresh_queue c.entries) ∙ length-range 0 (c.queues + 1) in
+    record {
+      sound = subst (λ (v : HostView). IsSound (alone v (opened_pages c))) (sym view) (alone_sound (opening c.pages c.queues c.entries c.segment []) sound);
+      pool = record { few = omega (arith, length-replicate c.pages (Some zero_page), l.most_pages); whole = blank_pool c.pages };
+      table = size ∙ sym (length-replicate c.pages (Some zero_page));
+      least_entries = l.least_entries;
+      most_entries = l.most_entries;
+      least_segment = l.least_segment;
+      most_segment = l.most_segment;
+      some_queues = omega (arith, many, l.least_queues);
+      few_queues = omega (arith, many, l.most_queues);
+      record_queues = sym many;
+      record_places = omega (arith, l.least_entries);
+      queues = record { each = each_fresh (IsQueue c.entries) c.entries (c.queues + 1) (λ q h. fresh_sides c.entries _ _ q l.least_entries l.most_entries) };
+      identifiers = record { each = each_fresh (λ q queue. ClaimsIdentifiers [] q queue.host.claimed) c.entries (c.queues + 1) (λ q h. none_claimed q (c.entries - 1)) };
+      owners = record { queues_told = each_fresh (TellsQueue owners) c.entries (c.queues + 1) (fresh_told c.entries (c.queues + 1) owners granted); commands_told = tt };
+      records = tt;
+    }
+
+abbrev pub made : Config → List Owner → TableOf Kept → List Queue → Tables
+made c owners table queues =
+    record {
+      entries = c.entries;
+      segment = c.segment;
+      pages = [];
+      owners = owners;
+      record_queues = table.queues;
+      record_places = table.places;
+      records = records_of table.rows;
+      queues = queues;
+    }
+
+-- the places of a host that opens
+abbrev pub no_records : Config → TableOf Kept
+no_records c = record { queues = c.queues + 1; places = c.entries - 1; rows = [] }
+
+-- What is made is the host's own, is as the machine opens, and is over its pages.
+pub record Opens (c : Config) (t : Tables) : Type 0 where
+  pub host : IsHost t
+  pub view : view_of t ≡ opened_view c
+  pub over : IsOver (view_of t) (opened_pages c)
+
+pub opens_made : (c : Config) (owners : List Owner) (table : TableOf Kept) (queues : List Queue)
+    → refusal_of_config c ≡ None → length owners ≡ c.pages → HalvesGranted c.entries (c.queues + 1) owners
+    → table ≡ no_records c → queues ≡ fresh_queues c.entries (c.queues + 1) → Opens c (made c owners table queues)
+opens_made c owners table queues opens size granted er eq =
+    let w = opened_whole c owners opens size granted in
+    let here : Opens c (made c owners (no_records c) (fresh_queues c.entries (c.queues + 1))) =
+    record {
+      host = host_of (made c owners (no_records c) (fresh_queues c.entries (c.queues + 1))) (replicate c.pages (Some zero_page)) w;
+      view = opened_view_is c owners size granted;
+      over = over_of (opened c owners) w;
+    } in
+    subst (λ (rs : TableOf Kept). Opens c (made c owners rs queues)) (sym er) (subst (λ (qs : List Queue). Opens c (made c owners (no_records c) qs)) (sym eq) here)
+
+pub fits_word : (c : Config) → refusal_of_config c ≡ None → Fits w16 c.entries × Fits w16 c.segment
+fits_word c opens = let l = limits c opens in (record { fits = omega (arith, l.most_entries) }, record { fits = omega (arith, l.most_segment) })

@@ -1,0 +1,631 @@
+-- Completions that are reaped.
+use Rattle.machine_model.specs.After as a
+use Rattle.machine_model.specs.Events as events
+use Rattle.machine_model.specs.declared.words.Reaped.TheVariants as found
+use Rattle.page_ledger.specs.declared.owner.Owner.TheVariants as owner
+use Rattle.host_core.proofs.Lists as lists
+use Rattle.std.proofs.Common.{◌≡◌, ℕ, zero, suc, ◌<◌, ◌≤◌, ◌∷◌, [], Option, Some, None, List, length, map, slice_get, refl, ap, sym, ◌∙◌, subst, true, ◌==◌, Bool, false, if◌then◌else◌, eqb-true, eq-eqb, ◌&&◌, cond, filter, find, not, slice_set, length-set, arith}
+use Rattle.std.{proofs.lemmas.{Bool.{true≢false, and_parts}, List.length-map, Option.slice_get-map}, specs.List.AllByRecursion}
+use Rattle.std.specs.Option.{option_map_or, option_map}
+use Rattle.entry_codec.specs.declared.{completion.ComEntry.ComEntry, status.Status.Status}
+use Rattle.io_commands.specs.{Asked.Request, Jobs.is_success}
+use Rattle.machine_model.proofs.{Kept.{alone_has_cq, alone_has_no_sq, asked_has_sq}, Steps.found_all}
+use Rattle.machine_model.specs.{After.{after_reap, change, held, after_admin, half_freed, half_made, gone, unmade_sq}, Claims.OwnsFit}
+use Rattle.machine_model.specs.Refusals.{refusal_of, seen_entry, is_reaped, creates_cq_of, creates_sq_of, deletes_sq_of, host_queue, is_asked, is_making_cq, is_making_sq, has_cq_alone, has_cq, has_sq}
+use Rattle.machine_model.specs.{State.{State, HostQueue, Record, record_at, with_record, is_at, pages_of, without_record}, Step.{reaped, reaped_entry}}
+use Rattle.machine_model.specs.{Work.Work, declared.words.HostState.{HostState, TheVariants.{Live, Deleting, Retired, Gone, MakingCq, HalfMade, MakingSq}}}
+use Rattle.machine_model.specs.declared.words.{RejectedFor.RejectedFor, Work.TheVariants.{Io, Management}}
+use Rattle.queue_pair.{proofs.Rings.next_below, specs.{Memory.half_pages, Rings.{knowing, next_head}}}
+use Rattle.host_core.proofs.{Identifiers.claim-less, Lists.{found_is, all-filter, found_any, none_is_not, some_is}}
+use Rattle.host_core.proofs.PageOwners.{OwnsHalf, commands-told, half-listed, half-owned, others-told, owner-stays, given-free}
+use Rattle.host_core.proofs.QueueLists.{each-change, map-change, host_step, sound_after, length-change, same-queue, Settled, settled-of, settled-with, whole-of, cq-kept, settled-gone, settled-half_made, settled-state, sq-kept}
+use Rattle.host_core.proofs.RowRecords.{Marks, marked-claims, marked-tells, claims_keep_queue, claims_keep_tells, each_claimed}
+use Rattle.host_core.specs.{Commands.{passes, state_at, without_claim}, Exact.Exactly, Halves.HasMeant}
+use Rattle.host_core.specs.Reaping.{consumed, ended_with, seen_at, with_answer_heard, with_answer_taken, heard, gives_back, meant, over, state_deleted, with_state, without_completion, without_submission}
+use Rattle.host_core.specs.{Rows.Queue, Tables.{Tables, state_of, host_queue_of, sq_pages_of, cq_pages_of}}
+use Rattle.host_core.specs.Whole.{IsWhole, IsQueue, IsRecord, ClaimsIdentifiers, TellsQueue, FitsWork, IsHost, TellsCommand}
+use Rattle.admin_commands.specs.declared.AdminKind.{AdminKind, TheVariants.{Abort, DeleteSq, DeleteCq, CreateCq, CreateSq}}
+use Rattle.page_ledger.specs.{Lists.ListsAll, Owners.{free_pages, given_back, is_half, is_same_half, pages_from}}
+use Rattle.page_memory.specs.declared.page.Half.{Half, TheVariants.{Submission, Completion}}
+
+-- What a reap finds, and what it leaves, on the tables.
+
+-- The completion that was seen
+pub record Sees (t : Tables) (q : ℕ) (x : Queue) (e : ComEntry) : Type 0 where
+  pub at : slice_get t.queues q ≡ Some x
+  pub live : is_reaped x.state ≡ true
+  pub seen : seen_at t q ≡ Some e
+
+-- What the reap answers
+
+pub reaped-empty : (s : State) (q : ℕ) → seen_entry s q ≡ None → reaped s q ≡ found.Empty
+reaped-empty s q h = ap (λ (o : Option ComEntry). option_map_or (reaped_entry s q) o found.Empty) h
+
+pub reaped-told : (s : State) (q : ℕ) (e : ComEntry) → seen_entry s q ≡ Some e → reaped s q ≡ reaped_entry s q e
+reaped-told s q e h = ap (λ (o : Option ComEntry). option_map_or (reaped_entry s q) o found.Empty) h
+
+pub reap-none : (t : Tables) (q : ℕ) (x : Queue) → slice_get t.queues q ≡ Some x → is_reaped x.state ≡ true → refusal_of (state_of t) (events.Reap q) ≡ None
+reap-none t q x at live = rw (slice_get-map host_queue_of t.queues q, at, live) refl
+
+-- What holds of the queue
+
+pub taken-queue : (n q k : ℕ) (x : Queue) → k < x.host.entries → IsQueue n q x → IsQueue n q (with_answer_heard k x)
+taken-queue n q k x l is =
+    record {
+      number = is.number;
+      entries = is.entries;
+      host_side = record {
+        least = is.host_side.least;
+        most = is.host_side.most;
+        head = next_below x.host.entries x.host.ring.head is.host_side.head;
+        known_head = l;
+        tail = is.host_side.tail;
+        identifiers = is.host_side.identifiers;
+      };
+    }
+
+-- A rejected completion is consumed
+
+abbrev pub on_head : ℕ → HostQueue → HostQueue
+on_head n queue = record queue { ring = next_head n queue.ring }
+
+abbrev pub with_lists : State → List HostQueue → State
+with_lists s hs = record s { host = record s.host { queues = hs } }
+
+consumed-host : (t : Tables) → IsWhole t → (q : ℕ) → map host_queue_of (change q with_answer_taken t.queues) ≡ change q (on_head t.entries) (map host_queue_of t.queues)
+consumed-host t w q =
+    map-change host_queue_of with_answer_taken (on_head t.entries) q t.queues (λ y at. ap (λ (n : ℕ). on_head n (host_queue_of y)) (w.queues.each q y at).entries)
+
+pub reject-exact : (t : Tables) → IsWhole t → (q : ℕ) (x : Queue) (e : ComEntry) (why : RejectedFor) → Sees t q x e → reaped_entry (state_of t) q e ≡ found.Rejected why
+    → Exactly (state_of t) (events.Reap q) (events.Reaps (found.Rejected why)) (state_of (consumed q t))
+reject-exact t w q x e why sees says = (
+  reap-none t q x sees.at sees.live,
+  sym (reaped-told (state_of t) q e sees.seen ∙ says),
+  ap (λ (hs : List HostQueue). with_lists (state_of t) hs) (consumed-host t w q),
+)
+
+pub reject-whole : (t : Tables) → IsWhole t → (q : ℕ) (x : Queue) (e : ComEntry) (why : RejectedFor) → Sees t q x e → reaped_entry (state_of t) q e ≡ found.Rejected why → IsWhole (consumed q t)
+reject-whole t w q x e why sees says =
+    let new : Tables = consumed q t in
+    let step = host_step t new (events.Reap q) (events.Reaps (found.Rejected why)) refl tt (reject-exact t w q x e why sees says) in
+    let size : length (change q with_answer_taken t.queues) ≡ length t.queues = length-change q with_answer_taken t.queues in
+    record {
+      sound = sound_after (state_of t) (events.Reap q) (events.Reaps (found.Rejected why)) (state_of new) step w.sound;
+      pool = w.pool;
+      table = w.table;
+      least_entries = w.least_entries;
+      most_entries = w.most_entries;
+      least_segment = w.least_segment;
+      most_segment = w.most_segment;
+      some_queues = subst (λ (n : ℕ). 2 ≤ n) (sym size) w.some_queues;
+      few_queues = subst (λ (n : ℕ). n ≤ 65) (sym size) w.few_queues;
+      record_queues = w.record_queues ∙ sym size;
+      record_places = w.record_places;
+      queues = record {
+        each = each-change (IsQueue t.entries) q with_answer_taken t.queues (λ k y _ at. w.queues.each k y at)
+            (λ y at. let is = w.queues.each q y at in taken-queue t.entries q y.host.ring.known_head y is.host_side.known_head is);
+      };
+      identifiers = record { each = each-change (λ (k : ℕ) (y : Queue). ClaimsIdentifiers t.records k y.host.claimed) q with_answer_taken t.queues (λ k y _ at. w.identifiers.each k y at) (λ y at. w.identifiers.each q y at) };
+      owners = record {
+        queues_told = each-change (TellsQueue t.owners) q with_answer_taken t.queues (λ k y _ at. w.owners.queues_told k y at)
+            (λ y at. let told = w.owners.queues_told q y at in record { submission = told.submission; completion = told.completion });
+        commands_told = w.owners.commands_told;
+      };
+      records = subst (λ (n : ℕ). AllByRecursion (IsRecord n) t.records) (sym size) w.records;
+    }
+
+-- How an I/O command ended is held
+
+abbrev pub knowing_head : ℕ → HostQueue → HostQueue
+knowing_head k queue = record queue { ring = knowing k queue.ring }
+
+change-twice : {A : Type 0} (f g : A → A) (q : ℕ) (xs : List A) → change q f (change q g xs) ≡ change q (λ x. f (g x)) xs
+change-twice f g q [] = refl
+change-twice f g zero (x ∷ xs) = refl
+change-twice {A = A} f g (suc q) (x ∷ xs) = ap (λ (l : List A). x ∷ l) (change-twice f g q xs)
+
+pub heard-host : (t : Tables) → IsWhole t → (q k : ℕ) → map host_queue_of (change q (with_answer_heard k) t.queues) ≡ change q (knowing_head k) (change q (on_head t.entries) (map host_queue_of t.queues))
+heard-host t w q k =
+    map-change host_queue_of (with_answer_heard k) (λ (h : HostQueue). knowing_head k (on_head t.entries h)) q t.queues
+    (λ y at. ap (λ (n : ℕ). knowing_head k (on_head n (host_queue_of y))) (w.queues.each q y at).entries)
+    ∙ sym (change-twice (knowing_head k) (on_head t.entries) q (map host_queue_of t.queues))
+
+abbrev pub with_all : State → List HostQueue → List Record → State
+with_all s hs rs = record s { host = record s.host { queues = hs; records = rs } }
+
+-- the completion is that of a command of an I/O queue
+pub record EndsIo (t : Tables) (q cid : ℕ) (status : Status) (e : ComEntry) : Type 0 where
+  pub entry : Record
+  pub request : Request
+  pub was : record_at (state_of t).host q cid ≡ Some entry
+  pub work : entry.work ≡ Io request
+  pub says : reaped_entry (state_of t) q e ≡ found.Done cid status
+
+done-after : (t : Tables) (q cid : ℕ) (status : Status) (x : Queue) (e : ComEntry) → Sees t q x e → EndsIo t q cid status e
+    → after_reap q (found.Done cid status) (state_of t)
+    ≡ a.on_records (with_record q cid (held status)) (a.on_ring q (knowing e.sqhd) (a.consumed q (state_of t)))
+done-after t q cid status x e sees io =
+    let s : State = state_of t in
+    ap (λ (o : Option Record). option_map_or (λ r. a.after_work r.work q cid status (option_map_or (λ y. a.heard q y s) (seen_entry s q) s)) o s) io.was
+    ∙ (ap (λ (w : Work). a.after_work w q cid status (option_map_or (λ y. a.heard q y s) (seen_entry s q) s)) io.work
+    ∙ ap (λ (o : Option ComEntry). a.on_records (with_record q cid (held status)) (option_map_or (λ y. a.heard q y s) o s)) sees.seen)
+
+pub done-exact : (t : Tables) → IsWhole t → (q cid : ℕ) (status : Status) (x : Queue) (e : ComEntry) → Sees t q x e → EndsIo t q cid status e
+    → Exactly (state_of t) (events.Reap q) (events.Reaps (found.Done cid status)) (state_of (ended_with q e.sqhd cid status t))
+done-exact t w q cid status x e sees io = (
+  reap-none t q x sees.at sees.live,
+  sym (reaped-told (state_of t) q e sees.seen ∙ io.says),
+  ap (λ (hs : List HostQueue). with_all (state_of t) hs (with_record q cid (held status) t.records)) (heard-host t w q e.sqhd) ∙ sym (done-after t q cid status x e sees io),
+)
+
+-- A completion was taken, and how an I/O command ended is held: the tables stay whole.
+
+pub settled-heard : (t : Tables) → IsWhole t → (q : ℕ) (x : Queue) (e : ComEntry) → Sees t q x e → e.sqhd < x.host.entries → Settled (heard q e.sqhd t)
+settled-heard t w q x e sees below =
+    let f : Queue → Queue = with_answer_heard e.sqhd in
+    let same : (y : Queue) → slice_get t.queues q ≡ Some y → x ≡ y = λ y at. same-queue t.queues q x y sees.at at in
+    settled-with t t.owners (change q f t.queues) t.records (settled-of t w)
+    (record {
+      table = refl;
+      many = length-change q f t.queues;
+      queues = record {
+        each = each-change (IsQueue t.entries) q f t.queues (λ k y _ at. w.queues.each k y at)
+            (λ y at. taken-queue t.entries q e.sqhd y (subst (λ (z : Queue). e.sqhd < z.host.entries) (same y at) below) (w.queues.each q y at));
+      };
+      identifiers = record { each = each-change (λ (k : ℕ) (y : Queue). ClaimsIdentifiers t.records k y.host.claimed) q f t.queues (λ k y _ at. w.identifiers.each k y at) (λ y at. w.identifiers.each q y at) };
+      owners = record {
+        queues_told = each-change (TellsQueue t.owners) q f t.queues (λ k y _ at. w.owners.queues_told k y at)
+            (λ y at. let told = w.owners.queues_told q y at in record { submission = told.submission; completion = told.completion });
+        commands_told = w.owners.commands_told;
+      };
+      records = w.records;
+    })
+
+-- The record is held
+
+marks-held : (status : Status) → Marks (held status)
+marks-held status = record { at = λ q cid r. refl; tells = λ owners r h. record { data_pages = h.data_pages; chain_pages = h.chain_pages } }
+
+held-fits : (n q cid : ℕ) (status : Status) (r : Record) → (q == 0) ≡ false → is_at q cid r ≡ true → OwnsFit r.q r.work (pages_of r) → IsRecord n r → IsRecord n (held status r)
+held-fits n q cid status r io at owns fits = go r.work refl owns
+  where
+    here : r.q ≡ q
+    here = eqb-true r.q q (and_parts (r.q == q) (r.cid == cid) at).0
+
+    go : (w : Work) → r.work ≡ w → OwnsFit r.q w (pages_of r) → IsRecord n (held status r)
+    go (Io request) e h = record {
+      queue = fits.queue;
+      work = subst (λ (v : Work). FitsWork v (held status r)) (sym e) (let old : FitsWork (Io request) r = subst (λ (v : Work). FitsWork v r) e fits.work in old);
+      phase = rw e tt;
+    }
+    go (Management kind) e h = absurd (true≢false (sym (eq-eqb q 0 (sym here ∙ h.0)) ∙ io))
+
+held-records : (n q cid : ℕ) (status : Status) (rs : List Record) → (q == 0) ≡ false → AllByRecursion (λ r. OwnsFit r.q r.work (pages_of r)) rs → AllByRecursion (IsRecord n) rs
+    → AllByRecursion (IsRecord n) (with_record q cid (held status) rs)
+held-records n q cid status [] io owns all = tt
+held-records n q cid status (r ∷ rs) io owns all = (go (is_at q cid r) refl, held-records n q cid status rs io owns.1 all.1)
+  where
+    go : (b : Bool) → is_at q cid r ≡ b → IsRecord n (if b then held status r else r)
+    go true at = held-fits n q cid status r io at owns.0 all.0
+    go false at = all.0
+
+io-queue : (t : Tables) → IsWhole t → (q cid : ℕ) (status : Status) (e : ComEntry) → EndsIo t q cid status e → (q == 0) ≡ false
+io-queue t w q cid status e io =
+    let owns = found_all (λ (r : Record). OwnsFit r.q r.work (pages_of r)) (is_at q cid) t.records io.entry io.was w.sound.works_fit in
+    let at = and_parts (io.entry.q == q) (io.entry.cid == cid) (found_is (is_at q cid) t.records io.entry io.was) in
+    subst (λ (k : ℕ). (k == 0) ≡ false) (eqb-true io.entry.q q at.0) (subst (λ (v : Work). OwnsFit io.entry.q v (pages_of io.entry)) io.work owns)
+
+pub done-whole : (t : Tables) → IsWhole t → (q cid : ℕ) (status : Status) (x : Queue) (e : ComEntry) → Sees t q x e → EndsIo t q cid status e → e.sqhd < x.host.entries → IsWhole (ended_with q e.sqhd cid status t)
+done-whole t w q cid status x e sees io below =
+    let u : Tables = heard q e.sqhd t in
+    let new : Tables = ended_with q e.sqhd cid status t in
+    let s : Settled u = settled-heard t w q x e sees below in
+    let step = host_step t new (events.Reap q) (events.Reaps (found.Done cid status)) refl tt (done-exact t w q cid status x e sees io) in
+    whole-of new
+    (settled-with u u.owners u.queues (with_record q cid (held status) u.records) s
+    (record {
+      table = refl;
+      many = refl;
+      queues = s.queues;
+      identifiers = marked-claims (held status) (marks-held status) u.records u.queues q cid s.identifiers;
+      owners = record { queues_told = s.owners.queues_told; commands_told = marked-tells (held status) (marks-held status) u.owners u.records q cid s.owners.commands_told };
+      records = held-records (length u.queues) q cid status u.records (io-queue t w q cid status e io) w.sound.works_fit s.records;
+    }))
+    (sound_after (state_of t) (events.Reap q) (events.Reaps (found.Done cid status)) (state_of new) step w.sound)
+
+-- An admin command was reaped: what its end means, on the tables.
+
+-- a queue whose half is being made, and that owns that half's pages
+pub record Makes (u : Tables) (k : ℕ) (half : Half) (state : HostState) : Type 0 where
+  pub queue : Queue
+  pub at : slice_get u.queues k ≡ Some queue
+  pub making : queue.state ≡ state
+  pub owns : OwnsHalf u.owners (length u.pages) k half queue
+
+-- What the end of an admin command leans on: a queue whose deletion it ends has both halves, and one of which it gives back a half owns that half's pages
+abbrev pub Means : AdminKind → Tables → Type 0
+Means (Abort k cid) u = Unit {0}
+Means (DeleteSq k) u = (x : Queue) → slice_get u.queues k ≡ Some x → has_sq x.state ≡ true
+Means (DeleteCq k) u = (x : Queue) → slice_get u.queues k ≡ Some x → OwnsHalf u.owners (length u.pages) k Completion x
+Means (CreateCq k n base) u = Makes u k Completion MakingCq
+Means (CreateSq k n base) u = Makes u k Submission MakingSq
+
+-- The machine's state
+
+has-deleted : (status : Status) → has_sq (state_deleted status) ≡ true
+has-deleted status = go (is_success status)
+  where
+    go : (b : Bool) → has_sq (if b then Deleting true else Live) ≡ true
+    go true = refl
+    go false = refl
+
+abbrev pub with_state_of : HostState → HostQueue → HostQueue
+with_state_of state queue = record queue { state = state }
+
+-- a queue that has both its halves, in another state in which it has them
+pub state-set : (u : Tables) (k : ℕ) (st : HostState) → has_sq st ≡ true → ((x : Queue) → slice_get u.queues k ≡ Some x → has_sq x.state ≡ true)
+    → state_of (record u { queues = change k (with_state st) u.queues }) ≡ a.on_host_queue k (with_state_of st) (state_of u)
+state-set u k st new old =
+    ap (λ (hs : List HostQueue). with_lists (state_of u) hs)
+    (map-change host_queue_of (with_state st) (with_state_of st) k u.queues (λ x at. host-kept x (old x at)))
+  where
+    with_pages : Queue → List ℕ → List ℕ → HostQueue
+    with_pages x sq cq = record { state = st; ring = x.host.ring; sq_pages = sq; cq_pages = cq }
+
+    host-kept : (x : Queue) → has_sq x.state ≡ true → host_queue_of (with_state st x) ≡ with_state_of st (host_queue_of x)
+    host-kept x old =
+        ap (λ (ps : List ℕ). with_pages x ps (cq_pages_of (with_state st x))) (sq-kept st x new old)
+        ∙ ap (λ (ps : List ℕ). with_pages x (sq_pages_of x) ps) (cq-kept st x new old)
+
+deleted-state : (u : Tables) (k : ℕ) (status : Status) → Means (DeleteSq k) u → state_of (meant (DeleteSq k) status u) ≡ after_admin (DeleteSq k) status (state_of u)
+deleted-state u k status m = state-set u k (state_deleted status) (has-deleted status) m
+
+-- the completion half
+
+alone-at : (u : Tables) (k : ℕ) → option_map_or (λ (queue : HostQueue). has_cq_alone queue.state) (host_queue (state_of u) k) false ≡ passes has_cq_alone (state_at u.queues k)
+alone-at u k =
+    ap (λ (o : Option HostQueue). option_map_or (λ (queue : HostQueue). has_cq_alone queue.state) o false) (slice_get-map host_queue_of u.queues k) ∙ go (slice_get u.queues k)
+  where
+    go : (o : Option Queue) → option_map_or (λ (queue : HostQueue). has_cq_alone queue.state) (option_map host_queue_of o) false ≡ passes has_cq_alone (option_map (λ (queue : Queue). queue.state) o)
+    go None = refl
+    go (Some x) = refl
+
+-- a queue that is there, with its completion half alone
+pub record IsAlone (u : Tables) (k : ℕ) : Type 0 where
+  pub queue : Queue
+  pub at : slice_get u.queues k ≡ Some queue
+  pub alone : has_cq_alone queue.state ≡ true
+
+passes-at : (u : Tables) (k : ℕ) → passes has_cq_alone (state_at u.queues k) ≡ true → IsAlone u k
+passes-at u k h = go (slice_get u.queues k) refl h
+  where
+    go : (o : Option Queue) → slice_get u.queues k ≡ o → passes has_cq_alone (option_map (λ (queue : Queue). queue.state) o) ≡ true → IsAlone u k
+    go None at h = cc
+    go (Some x) at h = record { queue = x; at = at; alone = h }
+
+both-true : (b c : Bool) → (b && c) ≡ true → c ≡ true
+both-true true c h = h
+both-true false c h = cc
+
+pub gives-alone : (u : Tables) (k : ℕ) (status : Status) → gives_back k status u ≡ true → IsAlone u k
+gives-alone u k status h = passes-at u k (both-true (is_success status) (passes has_cq_alone (state_at u.queues k)) h)
+
+abbrev with_free : Tables → List ℕ → List HostQueue → State
+with_free u free hs = record (state_of u) { host = record (state_of u).host { free = free; queues = hs } }
+
+gone-state : (u : Tables) (k : ℕ) (x : Queue) → length u.owners ≡ length u.pages → OwnsHalf u.owners (length u.pages) k Completion x → slice_get u.queues k ≡ Some x → has_sq x.state ≡ false
+    → state_of (without_completion k u) ≡ half_freed (λ (queue : HostQueue). queue.cq_pages) gone k (state_of u)
+gone-state u k x size owns at without =
+    ap (λ (hs : List HostQueue). with_free u (free_pages (given_back (is_half k Completion) u.owners)) hs)
+    (map-change host_queue_of (with_state Gone) gone k u.queues (λ y at'. host-gone y (subst (λ (z : Queue). has_sq z.state ≡ false) (some_is (sym at ∙ at')) without)))
+    ∙ (ap (λ (free : List ℕ). with_free u free (change k gone (map host_queue_of u.queues)))
+    (given-free u.owners (is_half k Completion) (length u.pages) (cq_pages_of x) (sym size) owns)
+    ∙ ap (λ (o : Option HostQueue). option_map_or (λ (queue : HostQueue). a.on_host_queue k gone (a.given_back queue.cq_pages (state_of u))) o (state_of u))
+    (sym (slice_get-map host_queue_of u.queues k ∙ ap (option_map host_queue_of) at)))
+  where
+    host-gone : (x : Queue) → has_sq x.state ≡ false → host_queue_of (with_state Gone x) ≡ gone (host_queue_of x)
+    host-gone x h = rw h refl
+
+-- the submission half of a queue whose creation failed
+
+unmade-state : (u : Tables) (k : ℕ) (x : Queue) → length u.owners ≡ length u.pages → OwnsHalf u.owners (length u.pages) k Submission x → slice_get u.queues k ≡ Some x → x.state ≡ MakingSq
+    → state_of (without_submission HalfMade k u) ≡ half_freed (λ (queue : HostQueue). queue.sq_pages) unmade_sq k (state_of u)
+unmade-state u k x size owns at making =
+    ap (λ (hs : List HostQueue). with_free u (free_pages (given_back (is_half k Submission) u.owners)) hs)
+    (map-change host_queue_of (with_state HalfMade) unmade_sq k u.queues (λ y at'. host-unmade y (subst (λ (z : Queue). z.state ≡ MakingSq) (some_is (sym at ∙ at')) making)))
+    ∙ (ap (λ (free : List ℕ). with_free u free (change k unmade_sq (map host_queue_of u.queues)))
+    (given-free u.owners (is_half k Submission) (length u.pages) (sq_pages_of x) (sym size) owns)
+    ∙ ap (λ (o : Option HostQueue). option_map_or (λ (queue : HostQueue). a.on_host_queue k unmade_sq (a.given_back queue.sq_pages (state_of u))) o (state_of u))
+    (sym (slice_get-map host_queue_of u.queues k ∙ ap (option_map host_queue_of) at)))
+  where
+    host-unmade : (x : Queue) → x.state ≡ MakingSq → host_queue_of (with_state HalfMade x) ≡ unmade_sq (host_queue_of x)
+    host-unmade x h = rw h refl
+
+-- a completion queue that is made
+made-state : (u : Tables) (k : ℕ) (x : Queue) → slice_get u.queues k ≡ Some x → x.state ≡ MakingCq
+    → state_of (record u { queues = change k (with_state HalfMade) u.queues }) ≡ a.on_host_queue k half_made (state_of u)
+made-state u k x at making =
+    ap (λ (hs : List HostQueue). with_lists (state_of u) hs)
+    (map-change host_queue_of (with_state HalfMade) half_made k u.queues (λ y at'. host-made y (subst (λ (z : Queue). z.state ≡ MakingCq) (some_is (sym at ∙ at')) making)))
+  where
+    host-made : (x : Queue) → x.state ≡ MakingCq → host_queue_of (with_state HalfMade x) ≡ half_made (host_queue_of x)
+    host-made x h = rw h refl
+
+making-has : (u : Tables) (k : ℕ) (half : Half) → (m : Makes u k half MakingSq) → (x : Queue) → slice_get u.queues k ≡ Some x → has_sq x.state ≡ true
+making-has u k half m x at = subst (λ (z : Queue). has_sq z.state ≡ true) (some_is (sym m.at ∙ at)) (ap has_sq m.making)
+
+pub meant-state : (u : Tables) (kind : AdminKind) (status : Status) → length u.owners ≡ length u.pages → Means kind u → state_of (meant kind status u) ≡ after_admin kind status (state_of u)
+meant-state u (Abort k cid) status size m = refl
+meant-state u (DeleteSq k) status size m = deleted-state u k status m
+meant-state u (DeleteCq k) status size m = go (gives_back k status u) refl ∙ ap (λ (b : Bool). if is_success status && b then half_freed (λ (queue : HostQueue). queue.cq_pages) gone k (state_of u) else state_of u) (sym (alone-at u k))
+  where
+    go : (b : Bool) → gives_back k status u ≡ b → state_of (if b then without_completion k u else u) ≡ (if b then half_freed (λ (queue : HostQueue). queue.cq_pages) gone k (state_of u) else state_of u)
+    go true h = let is = gives-alone u k status h in gone-state u k is.queue size (m is.queue is.at) is.at (alone_has_no_sq is.queue.state is.alone)
+    go false h = refl
+meant-state u (CreateCq k n base) status size m = go (is_success status)
+  where
+    go : (b : Bool) → state_of (if b then record u { queues = change k (with_state HalfMade) u.queues } else without_completion k u)
+        ≡ (if b then a.on_host_queue k half_made (state_of u) else half_freed (λ (queue : HostQueue). queue.cq_pages) gone k (state_of u))
+    go true = made-state u k m.queue m.at m.making
+    go false = gone-state u k m.queue size m.owns m.at (ap has_sq m.making)
+meant-state u (CreateSq k n base) status size m = go (is_success status)
+  where
+    go : (b : Bool) → state_of (if b then record u { queues = change k (with_state Live) u.queues } else without_submission HalfMade k u)
+        ≡ (if b then a.on_host_queue k a.live (state_of u) else half_freed (λ (queue : HostQueue). queue.sq_pages) unmade_sq k (state_of u))
+    go true = state-set u k Live refl (making-has u k Submission m)
+    go false = unmade-state u k m.queue size m.owns m.at m.making
+
+-- The tables
+
+settled-freed : (u : Tables) (k : ℕ) → Settled u → Settled (without_completion k u)
+settled-freed u k s =
+    settled-gone u k (given_back (is_half k Completion) u.owners) s (length-map u.owners _)
+    (λ j x far at. others-told u.owners k j Completion x far (s.owners.queues_told j x at))
+    (commands-told u.owners k Completion u.records s.owners.commands_told)
+
+making-cq : (u : Tables) (k : ℕ) (half : Half) (st : HostState) → has_cq st ≡ true → Makes u k half st → (x : Queue) → slice_get u.queues k ≡ Some x → has_cq x.state ≡ true
+making-cq u k half st has m x at = subst (λ (z : Queue). has_cq z.state ≡ true) (some_is (sym m.at ∙ at)) (ap has_cq m.making ∙ has)
+
+completion-kept : (q : ℕ) → is_half q Submission (owner.Queue q Completion) ≡ false
+completion-kept q = go (q == q)
+  where
+    go : (b : Bool) → (b && is_same_half Completion Submission) ≡ false
+    go true = refl
+    go false = refl
+
+settled-unmade : (u : Tables) (k : ℕ) → Settled u → Makes u k Submission MakingSq → Settled (without_submission HalfMade k u)
+settled-unmade u k s m =
+    settled-half_made u k (given_back (is_half k Submission) u.owners) s (length-map u.owners _) (making-cq u k Submission MakingSq refl m)
+    (λ x at p h. owner-stays u.owners (is_half k Submission) p (owner.Queue k Completion) (completion-kept k) ((s.owners.queues_told k x at).completion p h))
+    (λ j x far at. others-told u.owners k j Submission x far (s.owners.queues_told j x at))
+    (commands-told u.owners k Submission u.records s.owners.commands_told)
+
+pub meant-settled : (u : Tables) (kind : AdminKind) (status : Status) → Settled u → Means kind u → Settled (meant kind status u)
+meant-settled u (Abort k cid) status s m = s
+meant-settled u (DeleteSq k) status s m = settled-state u k (state_deleted status) s (has-deleted status) m
+meant-settled u (DeleteCq k) status s m = go (gives_back k status u)
+  where
+    go : (b : Bool) → Settled (if b then without_completion k u else u)
+    go true = settled-freed u k s
+    go false = s
+meant-settled u (CreateCq k n base) status s m = go (is_success status)
+  where
+    go : (b : Bool) → Settled (if b then record u { queues = change k (with_state HalfMade) u.queues } else without_completion k u)
+    go true = settled-half_made u k u.owners s refl (making-cq u k Completion MakingCq refl m) (λ x at. (s.owners.queues_told k x at).completion) (λ j x far at. s.owners.queues_told j x at) s.owners.commands_told
+    go false = settled-freed u k s
+meant-settled u (CreateSq k n base) status s m = go (is_success status)
+  where
+    go : (b : Bool) → Settled (if b then record u { queues = change k (with_state Live) u.queues } else without_submission HalfMade k u)
+    go true = settled-state u k Live s refl (making-has u k Submission m)
+    go false = settled-unmade u k s m
+
+-- An admin command is over
+
+-- the completion is that of an admin command
+pub record EndsAdmin (t : Tables) (q : ℕ) (kind : AdminKind) (e : ComEntry) : Type 0 where
+  pub entry : Record
+  pub was : record_at (state_of t).host q e.cid ≡ Some entry
+  pub work : entry.work ≡ Management kind
+  pub says : reaped_entry (state_of t) q e ≡ found.AdminDone e.cid e.status e.dw0
+
+pub settled-over : (t : Tables) → IsWhole t → (q : ℕ) (x : Queue) (e : ComEntry) (kind : AdminKind) → Sees t q x e → EndsAdmin t q kind e → e.sqhd < x.host.entries → Settled (over q e.sqhd e.cid t)
+settled-over t w q x e kind sees ends below =
+    let u : Tables = heard q e.sqhd t in
+    let s : Settled u = settled-heard t w q x e sees below in
+    let less : List Bool → List Bool = λ claimed. slice_set claimed e.cid false in
+    settled-with u u.owners (change q (without_claim e.cid) u.queues) (without_record q e.cid u.records) s
+    (record {
+      table = refl;
+      many = length-change q (without_claim e.cid) u.queues;
+      queues = record { each = each_claimed (IsQueue u.entries) less (claims_keep_queue less (λ bits. length-set bits e.cid false) u.entries) q u.queues s.queues.each };
+      identifiers = claim-less u.records u.queues q e.cid s.identifiers (found_any (is_at q e.cid) t.records ends.entry ends.was);
+      owners = record {
+        queues_told = each_claimed (TellsQueue u.owners) less (claims_keep_tells less u.owners) q u.queues s.owners.queues_told;
+        commands_told = all-filter (TellsCommand u.owners) (λ (r : Record). not (is_at q e.cid r)) u.records s.owners.commands_told;
+      };
+      records = all-filter (IsRecord (length u.queues)) (λ (r : Record). not (is_at q e.cid r)) u.records s.records;
+    })
+
+-- what the end of an admin command leans on is there
+
+-- what each queue has that hangs on its state and on its places alone
+each-over : (P : ℕ → Queue → Type 0) (q k cid : ℕ) (queues : List Queue) → ((j : ℕ) (y : Queue) → P j y → P j (with_answer_heard k y)) → ((j : ℕ) (y : Queue) → P j y → P j (without_claim cid y))
+    → ((j : ℕ) (y : Queue) → slice_get queues j ≡ Some y → P j y) → (j : ℕ) (y : Queue) → slice_get (change q (without_claim cid) (change q (with_answer_heard k) queues)) j ≡ Some y → P j y
+each-over P q k cid queues hears frees all =
+    let heard-all = each-change P q (with_answer_heard k) queues (λ j y _ at. all j y at) (λ y at. hears q y (all q y at)) in
+    each-change P q (without_claim cid) (change q (with_answer_heard k) queues) (λ j y _ at. heard-all j y at) (λ y at. frees q y (heard-all q y at))
+
+found-counts : {A : Type 0} (test p : A → Bool) (xs : List A) (x : A) → find test xs ≡ Some x → p x ≡ true → 0 < length (filter p xs)
+found-counts test p [] x h is = absurd (none_is_not h)
+found-counts {A = A} test p (y ∷ xs) x h is = go (test y) h (λ g. found-counts test p xs x g is)
+  where
+    here : (b : Bool) → b ≡ true → 0 < length (cond b (y ∷ filter p xs) (filter p xs))
+    here true e = omega arith
+    here false e = cc
+
+    there : (b : Bool) → 0 < length (filter p xs) → 0 < length (cond b (y ∷ filter p xs) (filter p xs))
+    there true l = omega arith
+    there false l = l
+
+    go : (b : Bool) → cond b (Some y) (find test xs) ≡ Some x → (find test xs ≡ Some x → 0 < length (filter p xs)) → 0 < length (cond (p y) (y ∷ filter p xs) (filter p xs))
+    go true g ih = here (p y) (subst (λ (z : A). p z ≡ true) (sym (some_is g)) is)
+    go false g ih = there (p y) (ih g)
+
+asked-at : (t : Tables) → IsWhole t → (q cid k : ℕ) (r : Record) → find (is_at q cid) t.records ≡ Some r → r.work ≡ Management (DeleteSq k) → (x : Queue) → slice_get t.queues k ≡ Some x → is_asked x.state ≡ true
+asked-at t w q cid k r was work x at = go (is_asked x.state) refl
+  where
+    deletes : deletes_sq_of k r.work ≡ true
+    deletes = ap (deletes_sq_of k) work ∙ eq-eqb k k refl
+
+    count : length (filter (λ (s : Record). deletes_sq_of k s.work) t.records) ≡ (if is_asked x.state then 1 else 0)
+    count = w.sound.deletions k ∙ ap (λ (o : Option HostQueue). if option_map_or (λ (queue : HostQueue). is_asked queue.state) o false then 1 else 0) (slice_get-map host_queue_of t.queues k ∙ ap (option_map host_queue_of) at)
+
+    go : (b : Bool) → is_asked x.state ≡ b → b ≡ true
+    go true e = refl
+    go false e = absurd (omega (arith, found-counts (is_at q cid) (λ (s : Record). deletes_sq_of k s.work) t.records r was deletes, count ∙ ap (λ (b : Bool). if b then 1 else 0) e))
+
+-- one that is being made, where its creation is outstanding
+made-at : (t : Tables) → (p : ℕ → Work → Bool) (test : HostState → Bool) (q cid k : ℕ) (r : Record)
+    → length (filter (λ (s : Record). p k s.work) t.records) ≡ (if option_map_or (λ (queue : HostQueue). test queue.state) (slice_get (map host_queue_of t.queues) k) false then 1 else 0)
+    → find (is_at q cid) t.records ≡ Some r → p k r.work ≡ true → (x : Queue) × (slice_get t.queues k ≡ Some x) × (test x.state ≡ true)
+made-at t p test q cid k r count was is = go (slice_get t.queues k) refl
+  where
+    some : 0 < length (filter (λ (s : Record). p k s.work) t.records)
+    some = found-counts (is_at q cid) (λ (s : Record). p k s.work) t.records r was is
+
+    told : (o : Option Queue) → slice_get t.queues k ≡ o → length (filter (λ (s : Record). p k s.work) t.records) ≡ (if option_map_or (λ (queue : HostQueue). test queue.state) (option_map host_queue_of o) false then 1 else 0)
+    told o at = count ∙ ap (λ (h : Option HostQueue). if option_map_or (λ (queue : HostQueue). test queue.state) h false then 1 else 0) (slice_get-map host_queue_of t.queues k ∙ ap (option_map host_queue_of) at)
+
+    one : (x : Queue) (b : Bool) → test x.state ≡ b → length (filter (λ (s : Record). p k s.work) t.records) ≡ (if b then 1 else 0) → b ≡ true
+    one x true e n = refl
+    one x false e n = absurd (omega (arith, some, n))
+
+    go : (o : Option Queue) → slice_get t.queues k ≡ o → (x : Queue) × (slice_get t.queues k ≡ Some x) × (test x.state ≡ true)
+    go None at = absurd (let n : length (filter (λ (s : Record). p k s.work) t.records) ≡ 0 = told None at in omega (arith, some, n))
+    go (Some x) at = (x, at, one x (test x.state) refl (told (Some x) at))
+
+is-making_cq : (st : HostState) → is_making_cq st ≡ true → st ≡ MakingCq
+is-making_cq Live h = cc
+is-making_cq (Deleting noted) h = cc
+is-making_cq Retired h = cc
+is-making_cq Gone h = cc
+is-making_cq MakingCq h = refl
+is-making_cq HalfMade h = cc
+is-making_cq MakingSq h = cc
+
+is-making_sq : (st : HostState) → is_making_sq st ≡ true → st ≡ MakingSq
+is-making_sq Live h = cc
+is-making_sq (Deleting noted) h = cc
+is-making_sq Retired h = cc
+is-making_sq Gone h = cc
+is-making_sq MakingCq h = cc
+is-making_sq HalfMade h = cc
+is-making_sq MakingSq h = refl
+
+-- a queue stands there still, in its state, once a completion was heard and a claim given up
+kept-change : (f : Queue → Queue) → ((y : Queue) → (f y).state ≡ y.state) → (q k : ℕ) (queues : List Queue) (x : Queue) → slice_get queues k ≡ Some x
+    → (y : Queue) × (slice_get (change q f queues) k ≡ Some y) × (y.state ≡ x.state)
+kept-change f same q k [] x at = cc
+kept-change f same zero zero (z ∷ queues) x at = (f z, refl, same z ∙ ap (λ (y : Queue). y.state) (some_is at))
+kept-change f same zero (suc k) (z ∷ queues) x at = (x, at, refl)
+kept-change f same (suc q) zero (z ∷ queues) x at = (z, refl, ap (λ (y : Queue). y.state) (some_is at))
+kept-change f same (suc q) (suc k) (z ∷ queues) x at = kept-change f same q k queues x at
+
+over-there : (t : Tables) (q : ℕ) (e : ComEntry) (k : ℕ) (x : Queue) → slice_get t.queues k ≡ Some x → (y : Queue) × (slice_get (over q e.sqhd e.cid t).queues k ≡ Some y) × (y.state ≡ x.state)
+over-there t q e k x at =
+    let a = kept-change (with_answer_heard e.sqhd) (λ y. refl) q k t.queues x at in
+    let b = kept-change (without_claim e.cid) (λ y. refl) q k (change q (with_answer_heard e.sqhd) t.queues) a.0 a.1 in
+    (b.0, b.1, b.2 ∙ a.2)
+
+over-makes : (t : Tables) → IsWhole t → (q : ℕ) (e : ComEntry) (k : ℕ) (half : Half) (st : HostState) (x : Queue) → slice_get t.queues k ≡ Some x → x.state ≡ st → Makes (over q e.sqhd e.cid t) k half st
+over-makes t w q e k half st x at is =
+    let there = over-there t q e k x at in
+    record {
+      queue = there.0;
+      at = there.1;
+      making = there.2 ∙ is;
+      owns = owned half k there.0 there.1;
+    }
+  where
+    owned : (half : Half) (k : ℕ) (y : Queue) → slice_get (over q e.sqhd e.cid t).queues k ≡ Some y → OwnsHalf t.owners (length t.pages) k half y
+    owned Submission k y at' = each-over (λ (j : ℕ) (y : Queue). OwnsHalf t.owners (length t.pages) j Submission y) q e.sqhd e.cid t.queues (λ j y h. h) (λ j y h. h)
+        (λ j y at'. half-owned t (length t.pages) w.sound.owners w.owners j Submission y at') k y at'
+    owned Completion k y at' = each-over (λ (j : ℕ) (y : Queue). OwnsHalf t.owners (length t.pages) j Completion y) q e.sqhd e.cid t.queues (λ j y h. h) (λ j y h. h)
+        (λ j y at'. half-owned t (length t.pages) w.sound.owners w.owners j Completion y at') k y at'
+
+pub over-means : (t : Tables) → IsWhole t → (q : ℕ) (e : ComEntry) (kind : AdminKind) → EndsAdmin t q kind e → Means kind (over q e.sqhd e.cid t)
+over-means t w q e (Abort k cid) ends = tt
+over-means t w q e (DeleteSq k) ends =
+    λ x at. each-over (λ (j : ℕ) (y : Queue). k ≡ j → has_sq y.state ≡ true) q e.sqhd e.cid t.queues (λ j y h. h) (λ j y h. h)
+    (λ j y at' same. asked_has_sq y.state (asked-at t w q e.cid k ends.entry ends.was ends.work y (subst (λ (i : ℕ). slice_get t.queues i ≡ Some y) (sym same) at'))) k x at refl
+over-means t w q e (DeleteCq k) ends =
+    λ x at. each-over (λ (j : ℕ) (y : Queue). OwnsHalf t.owners (length t.pages) j Completion y) q e.sqhd e.cid t.queues (λ j y h. h) (λ j y h. h)
+    (λ j y at'. half-owned t (length t.pages) w.sound.owners w.owners j Completion y at') k x at
+over-means t w q e (CreateCq k n base) ends =
+    let is = made-at t creates_cq_of is_making_cq q e.cid k ends.entry (w.sound.creations k).0 ends.was (ap (creates_cq_of k) ends.work ∙ eq-eqb k k refl) in
+    over-makes t w q e k Completion MakingCq is.0 is.1 (is-making_cq is.0.state is.2)
+over-means t w q e (CreateSq k n base) ends =
+    let is = made-at t creates_sq_of is_making_sq q e.cid k ends.entry (w.sound.creations k).1 ends.was (ap (creates_sq_of k) ends.work ∙ eq-eqb k k refl) in
+    over-makes t w q e k Submission MakingSq is.0 is.1 (is-making_sq is.0.state is.2)
+
+pub over-has : (t : Tables) → IsHost t → (q : ℕ) (e : ComEntry) (kind : AdminKind) → (entry : Record) → find (is_at q e.cid) t.records ≡ Some entry → entry.work ≡ Management kind → HasMeant kind (over q e.sqhd e.cid t)
+over-has t h q e (Abort k cid) entry was work = tt
+over-has t h q e (DeleteSq k) entry was work = tt
+over-has t h q e (DeleteCq k) entry was work = λ alone.
+    let is = passes-at (over q e.sqhd e.cid t) k alone in
+    let lists = each-over (λ (j : ℕ) (y : Queue). has_cq_alone y.state ≡ true → ListsAll (is_half j Completion) t.owners (pages_from y.host.cq (half_pages t.entries Completion))) q e.sqhd e.cid t.queues
+    (λ j y f. f) (λ j y f. f) (λ j y at r. half-listed t h j Completion y at (alone_has_cq y.state r)) in
+    record { queue = is.queue; at = is.at; lists = lists k is.queue is.at is.alone }
+over-has t h q e (CreateCq k n base) entry was work =
+    let is = made-at t creates_cq_of is_making_cq q e.cid k entry (h.sound.creations k).0 was (ap (creates_cq_of k) work ∙ eq-eqb k k refl) in
+    let there = over-there t q e k is.0 is.1 in
+    let lists = each-over (λ (j : ℕ) (y : Queue). y.state ≡ MakingCq → ListsAll (is_half j Completion) t.owners (pages_from y.host.cq (half_pages t.entries Completion))) q e.sqhd e.cid t.queues
+    (λ j y f. f) (λ j y f. f) (λ j y at r. half-listed t h j Completion y at (ap has_cq r)) in
+    record { queue = there.0; at = there.1; lists = lists k there.0 there.1 (there.2 ∙ is-making_cq is.0.state is.2) }
+over-has t h q e (CreateSq k n base) entry was work =
+    let is = made-at t creates_sq_of is_making_sq q e.cid k entry (h.sound.creations k).1 was (ap (creates_sq_of k) work ∙ eq-eqb k k refl) in
+    let there = over-there t q e k is.0 is.1 in
+    let lists = each-over (λ (j : ℕ) (y : Queue). y.state ≡ MakingSq → ListsAll (is_half j Submission) t.owners (pages_from y.host.sq (half_pages t.entries Submission))) q e.sqhd e.cid t.queues
+    (λ j y f. f) (λ j y f. f) (λ j y at r. half-listed t h j Submission y at (ap has_sq r)) in
+    record { queue = there.0; at = there.1; lists = lists k there.0 there.1 (there.2 ∙ is-making_sq is.0.state is.2) }
+
+-- The machine's state once it is over
+
+abbrev ended_state : ℕ → ComEntry → State → State
+ended_state q e s = a.on_records (without_record q e.cid) (a.on_ring q (knowing e.sqhd) (a.consumed q s))
+
+over-host : (t : Tables) → IsWhole t → (q k cid : ℕ) → map host_queue_of (change q (without_claim cid) (change q (with_answer_heard k) t.queues)) ≡ change q (knowing_head k) (change q (on_head t.entries) (map host_queue_of t.queues))
+over-host t w q k cid = lists.map-change host_queue_of (without_claim cid) (λ y. refl) q (change q (with_answer_heard k) t.queues) ∙ heard-host t w q k
+
+over-exact : (t : Tables) → IsWhole t → (q : ℕ) (e : ComEntry) → state_of (over q e.sqhd e.cid t) ≡ ended_state q e (state_of t)
+over-exact t w q e = ap (λ (hs : List HostQueue). with_all (state_of t) hs (without_record q e.cid t.records)) (over-host t w q e.sqhd e.cid)
+
+admin-after : (t : Tables) (q : ℕ) (x : Queue) (e : ComEntry) (kind : AdminKind) → Sees t q x e → EndsAdmin t q kind e
+    → after_reap q (found.AdminDone e.cid e.status e.dw0) (state_of t) ≡ after_admin kind e.status (ended_state q e (state_of t))
+admin-after t q x e kind sees ends =
+    let s : State = state_of t in
+    ap (λ (o : Option Record). option_map_or (λ r. a.after_work r.work q e.cid e.status (option_map_or (λ y. a.heard q y s) (seen_entry s q) s)) o s) ends.was
+    ∙ (ap (λ (v : Work). a.after_work v q e.cid e.status (option_map_or (λ y. a.heard q y s) (seen_entry s q) s)) ends.work
+    ∙ ap (λ (o : Option ComEntry). after_admin kind e.status (a.on_records (without_record q e.cid) (option_map_or (λ y. a.heard q y s) o s))) sees.seen)
+
+-- What is reaped
+
+abbrev pub ended_admin : ℕ → AdminKind → ComEntry → Tables → Tables
+ended_admin q kind e t = meant kind e.status (over q e.sqhd e.cid t)
+
+pub admin-exact : (t : Tables) → IsWhole t → (q : ℕ) (x : Queue) (e : ComEntry) (kind : AdminKind) → Sees t q x e → EndsAdmin t q kind e
+    → Exactly (state_of t) (events.Reap q) (events.Reaps (found.AdminDone e.cid e.status e.dw0)) (state_of (ended_admin q kind e t))
+admin-exact t w q x e kind sees ends = (
+  reap-none t q x sees.at sees.live,
+  sym (reaped-told (state_of t) q e sees.seen ∙ ends.says),
+  meant-state (over q e.sqhd e.cid t) kind e.status w.table (over-means t w q e kind ends)
+      ∙ (ap (after_admin kind e.status) (over-exact t w q e) ∙ sym (admin-after t q x e kind sees ends)),
+)
+
+pub admin-whole : (t : Tables) → IsWhole t → (q : ℕ) (x : Queue) (e : ComEntry) (kind : AdminKind) → Sees t q x e → EndsAdmin t q kind e → e.sqhd < x.host.entries → IsWhole (ended_admin q kind e t)
+admin-whole t w q x e kind sees ends below =
+    let new : Tables = ended_admin q kind e t in
+    let u : Tables = over q e.sqhd e.cid t in
+    let step = host_step t new (events.Reap q) (events.Reaps (found.AdminDone e.cid e.status e.dw0)) refl tt (admin-exact t w q x e kind sees ends) in
+    whole-of new (meant-settled u kind e.status (settled-over t w q x e kind sees ends below) (over-means t w q e kind ends))
+    (sound_after (state_of t) (events.Reap q) (events.Reaps (found.AdminDone e.cid e.status e.dw0)) (state_of new) step w.sound)

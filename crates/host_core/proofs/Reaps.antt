@@ -1,0 +1,424 @@
+-- Reaps and retirements are steps of the machine.
+use Rattle.machine_model.specs.Events as events
+use Rattle.machine_model.specs.declared.words.Reaped.TheVariants as found
+use Rattle.machine_model.specs.declared.words.Refusal.TheVariants as refusal
+use Rattle.machine_model.specs.declared.words.RejectedFor.TheVariants as rejected
+use Rattle.machine_model.specs.After as a
+use Rattle.page_ledger.specs.declared.owner.Owner.TheVariants as owner
+use Rattle.std.proofs.Common.{is_some, is_none, ◌&&◌, ◌≡◌, ℕ, ◌<◌, ◌==◌, Bool, true, false, length, if◌then◌else◌, Option, Some, None, List, [], find, slice_get, refl, ap, sym, ◌∙◌, subst, eq-eqb, ◌∷◌, map, not, eqb-true}
+use Rattle.std.{proofs.lemmas.{Bool.{not-false, true≢false, and_parts}, List.length-map, Option.slice_get-map}, specs.List.{AllByRecursion, list_any}}
+use Rattle.std.specs.Option.{option_map_or, option_map}
+use Rattle.admin_commands.specs.declared.AdminKind.{AdminKind, TheVariants.{Abort, DeleteSq, DeleteCq, CreateCq, CreateSq}}
+use Rattle.entry_codec.specs.declared.{completion.ComEntry.ComEntry, status.{Status.Status, TheConstants.Status.ABORTED_SQ_DELETION}}
+use Rattle.io_commands.specs.{Asked.Request, Jobs.is_success}
+use Rattle.machine_model.{proofs.Kept.{sq_with_cq, deleted_has_sq}, specs.{After.{change, held, after_retire, lost}, Claims.OwnsFit}}
+use Rattle.machine_model.specs.Refusals.{refusal_of, has_cq_alone, is_submitted, is_reaped, host_queue, in_state, is_deleted, is_live, seen_entry, has_cq}
+use Rattle.machine_model.specs.State.{HostQueue, Record, is_at, with_record, without_record, State, pages_of}
+use Rattle.machine_model.specs.{Step.{Refuses, fits_ring, reaped_as, reaped_entry, submitted_at, Step}, Work.Work, declared.words.HostState.HostState}
+use Rattle.machine_model.specs.declared.words.{HostState.TheVariants.{Live, Gone, HalfMade, Deleting, Retired, MakingCq, MakingSq}, Phase.Phase}
+use Rattle.machine_model.specs.declared.words.{Phase.TheVariants.{Drafted, Submitted, Held, Collected}, Refusal.Refusal, RejectedFor.RejectedFor}
+use Rattle.machine_model.specs.declared.words.Work.TheVariants.{Io, Management}
+use Rattle.queue_pair.{proofs.Rings.in_range_below, specs.Slots.is_in_range}
+use Rattle.host_core.proofs.{Ending.Finishes, Granting.in_state-is, Lists.{found_any, all-map, any-map, some_is}}
+use Rattle.host_core.proofs.PageOwners.{commands-told, half-owned, half-there, others-told, owner-stays, given-free}
+use Rattle.host_core.proofs.QueueLists.{each-change, map-change, host-at, host_step, length-change, sound_after, Settled, settled-of, settled-with, whole-of}
+use Rattle.host_core.proofs.Reaping.{EndsAdmin, admin-exact, admin-whole, ended_admin, done-whole, EndsIo, Sees, done-exact, reap-none, reaped-empty, reject-exact, reject-whole}
+use Rattle.host_core.specs.{Commands.{Claims, passes, state_at, without_claim}, Exact.Exactly, Halves.HasHalf, Looks.completion_waits}
+use Rattle.host_core.specs.Reaping.{lacks_completion, Answered, ReapsTo, consumed, ended_with, gives_back, heard, kind_of, meant, over, seen_at, state_deleted, with_answer_heard, with_state, without_completion, without_submission}
+use Rattle.host_core.specs.{Retiring.{retired, with_lost}, Rows.Queue, Tables.{Tables, state_of, host_queue_of, sq_pages_of, cq_pages_of}}
+use Rattle.host_core.specs.Whole.{ClaimIdentifiers, IsWhole, is_outstanding, IsHost, IsQueue, IsRecord, ClaimsIdentifiers, FitsWork, TellsCommand, TellsQueue}
+use Rattle.controller_walk.specs.Units.{first_passing}
+use Rattle.page_ledger.specs.{Owners.{free_pages, given_back, is_half, is_same_half}, declared.owner.Owner.Owner}
+use Rattle.page_memory.specs.declared.page.Half.TheVariants.{Submission, Completion}
+
+-- A reap as it is made: what it decides, and what is written.
+
+-- The refusal
+
+-- What is decided
+
+pub fits-at : (t : Tables) → IsWhole t → (q : ℕ) (x : Queue) (e : ComEntry) → slice_get t.queues q ≡ Some x
+    → fits_ring (state_of t) q e ≡ is_in_range x.host.entries x.host.ring.known_head x.host.ring.tail e.sqhd
+fits-at t w q x e at =
+    ap (λ (o : Option HostQueue). option_map_or (λ queue. is_in_range t.entries queue.ring.known_head queue.ring.tail e.sqhd) o false) (host-at t q x at)
+    ∙ ap (λ (n : ℕ). is_in_range n x.host.ring.known_head x.host.ring.tail e.sqhd) (sym (w.queues.each q x at).entries)
+
+after-tests : (t : Tables) → IsWhole t → (q : ℕ) (x : Queue) (e : ComEntry) → slice_get t.queues q ≡ Some x → (e.sqid == q) ≡ true
+    → is_in_range x.host.entries x.host.ring.known_head x.host.ring.tail e.sqhd ≡ true
+    → reaped_entry (state_of t) q e ≡ option_map_or (λ r. reaped_as q e r.work) (submitted_at (state_of t) q e.cid) (found.Rejected rejected.UnknownId)
+after-tests t w q x e at mine inside = rw (mine, fits-at t w q x e at, inside) refl
+
+pub reject-none : (t : Tables) → IsWhole t → (q : ℕ) (x : Queue) (e : ComEntry) → slice_get t.queues q ≡ Some x → (e.sqid == q) ≡ true
+    → is_in_range x.host.entries x.host.ring.known_head x.host.ring.tail e.sqhd ≡ true → find (is_at q e.cid) t.records ≡ None → reaped_entry (state_of t) q e ≡ found.Rejected rejected.UnknownId
+reject-none t w q x e at mine inside none = after-tests t w q x e at mine inside ∙ rw none refl
+
+pub reject-phase : (t : Tables) → IsWhole t → (q : ℕ) (x : Queue) (e : ComEntry) (r : Record) → slice_get t.queues q ≡ Some x → (e.sqid == q) ≡ true
+    → is_in_range x.host.entries x.host.ring.known_head x.host.ring.tail e.sqhd ≡ true → find (is_at q e.cid) t.records ≡ Some r → is_submitted r.phase ≡ false
+    → reaped_entry (state_of t) q e ≡ found.Rejected rejected.UnknownId
+reject-phase t w q x e r at mine inside was phase = after-tests t w q x e at mine inside ∙ rw (was, phase) refl
+
+pub answered-says : (t : Tables) → IsWhole t → (q : ℕ) (x : Queue) (e : ComEntry) (kind : Option AdminKind) → slice_get t.queues q ≡ Some x → (is : Answered t q e kind)
+    → reaped_entry (state_of t) q e ≡ reaped_as q e is.entry.work
+answered-says t w q x e kind at is =
+    after-tests t w q x e at (eq-eqb e.sqid q is.sqid) (is.head x at) ∙ rw (is.was, ap is_submitted is.submitted) refl
+
+head-below : (t : Tables) (q : ℕ) (x : Queue) (e : ComEntry) (kind : Option AdminKind) → slice_get t.queues q ≡ Some x → Answered t q e kind → e.sqhd < x.host.entries
+head-below t q x e kind at is = in_range_below x.host.entries x.host.ring.known_head x.host.ring.tail e.sqhd (is.head x at)
+
+-- The outcomes
+
+-- a queue that has a completion half, and what is seen there
+pub record Looks (t : Tables) (q : ℕ) (o : Option ComEntry) : Type 0 where
+  pub queue : Queue
+  pub at : slice_get t.queues q ≡ Some queue
+  pub live : is_reaped queue.state ≡ true
+  pub seen : seen_at t q ≡ o
+
+pub looks : (t : Tables) (q : ℕ) (o : Option ComEntry) → lacks_completion (slice_get t.queues q) ≡ false → seen_at t q ≡ o → Looks t q o
+looks t q o there seen = go (slice_get t.queues q) refl there
+  where
+    go : (p : Option Queue) → slice_get t.queues q ≡ p → lacks_completion p ≡ false → Looks t q o
+    go None at h = cc
+    go (Some x) at h = record { queue = x; at = at; live = not-false _ h; seen = seen }
+
+sees : (t : Tables) (q : ℕ) (e : ComEntry) → (l : Looks t q (Some e)) → Sees t q l.queue e
+sees t q e l = record { at = l.at; live = l.live; seen = l.seen }
+
+pub reaps-none : (t : Tables) → IsWhole t → (q : ℕ) → Looks t q None → ReapsTo t q found.Empty t
+reaps-none t w q l =
+    record {
+      step = host_step t t (events.Reap q) (events.Reaps found.Empty) refl tt (reap-none t q l.queue l.at l.live, sym (reaped-empty (state_of t) q l.seen), refl);
+      whole = w;
+    }
+
+pub reaps-rejected : (t new : Tables) → IsWhole t → (q : ℕ) (e : ComEntry) (why : RejectedFor) → Looks t q (Some e) → reaped_entry (state_of t) q e ≡ found.Rejected why → new ≡ consumed q t
+    → ReapsTo t q (found.Rejected why) new
+reaps-rejected t new w q e why l says is =
+    subst (λ (u : Tables). ReapsTo t q (found.Rejected why) u) (sym is)
+    (record {
+      step = host_step t (consumed q t) (events.Reap q) (events.Reaps (found.Rejected why)) refl tt (reject-exact t w q l.queue e why (sees t q e l) says);
+      whole = reject-whole t w q l.queue e why (sees t q e l) says;
+    })
+
+io-work : (v : Work) → kind_of v ≡ None → (request : Request) × (v ≡ Io request)
+io-work (Io request) h = (request, refl)
+io-work (Management kind) h = cc
+
+pub admin-work : (v : Work) (kind : AdminKind) → kind_of v ≡ Some kind → v ≡ Management kind
+admin-work (Io request) kind h = cc
+admin-work (Management other) kind h = cc
+
+pub reaps-done : (t new : Tables) → IsWhole t → (q : ℕ) (e : ComEntry) → Looks t q (Some e) → (is : Answered t q e None)
+    → new ≡ ended_with q e.sqhd e.cid e.status t → ReapsTo t q (found.Done e.cid e.status) new
+reaps-done t new w q e l is left =
+    let io = io-work is.entry.work is.means in
+    let ends : EndsIo t q e.cid e.status e = record {
+      entry = is.entry;
+      request = io.0;
+      was = is.was;
+      work = io.1;
+      says = answered-says t w q l.queue e None l.at is ∙ ap (reaped_as q e) io.1;
+    } in
+    subst (λ (u : Tables). ReapsTo t q (found.Done e.cid e.status) u) (sym left)
+    (record {
+      step = host_step t (ended_with q e.sqhd e.cid e.status t) (events.Reap q) (events.Reaps (found.Done e.cid e.status)) refl tt
+          (done-exact t w q e.cid e.status l.queue e (sees t q e l) ends);
+      whole = done-whole t w q e.cid e.status l.queue e (sees t q e l) ends (head-below t q l.queue e None l.at is);
+    })
+
+pub reaps-admin : (t new : Tables) → IsWhole t → (q : ℕ) (e : ComEntry) (kind : AdminKind) → Looks t q (Some e) → (is : Answered t q e (Some kind))
+    → new ≡ meant kind e.status (over q e.sqhd e.cid t) → ReapsTo t q (found.AdminDone e.cid e.status e.dw0) new
+reaps-admin t new w q e kind l is left =
+    let work = admin-work is.entry.work kind is.means in
+    let ends : EndsAdmin t q kind e = record {
+      entry = is.entry;
+      was = is.was;
+      work = work;
+      says = answered-says t w q l.queue e (Some kind) l.at is ∙ ap (reaped_as q e) work;
+    } in
+    subst (λ (u : Tables). ReapsTo t q (found.AdminDone e.cid e.status e.dw0) u) (sym left)
+    (record {
+      step = host_step t (ended_admin q kind e t) (events.Reap q) (events.Reaps (found.AdminDone e.cid e.status e.dw0)) refl tt
+          (admin-exact t w q l.queue e kind (sees t q e l) ends);
+      whole = admin-whole t w q l.queue e kind (sees t q e l) ends (head-below t q l.queue e (Some kind) l.at is);
+    })
+
+-- What is written
+
+pub held-tables : (t u new : Tables) (q : ℕ) (e : ComEntry) → u ≡ heard q e.sqhd t → new ≡ record u { records = with_record q e.cid (held e.status) u.records } → new ≡ ended_with q e.sqhd e.cid e.status t
+held-tables t u new q e eu en = en ∙ ap (λ (y : Tables). record y { records = with_record q e.cid (held e.status) y.records }) eu
+
+pub over-tables : (t u v : Tables) (q : ℕ) (e : ComEntry) (queues : List Queue) → u ≡ heard q e.sqhd t → v ≡ record u { records = without_record q e.cid u.records } → queues ≡ change q (without_claim e.cid) v.queues
+    → record v { queues = queues } ≡ over q e.sqhd e.cid t
+over-tables t u v q e queues eu ev eq = rw (eq, ev, eu) refl
+
+-- the claimed identifiers, once the completion was heard
+pub over-claims : (q : ℕ) (e : ComEntry) (queues new : List Queue) → Claims queues q e.cid → new ≡ change q (with_answer_heard e.sqhd) queues → Claims new q e.cid
+over-claims q e queues new claims is = subst (λ (qs : List Queue). Claims qs q e.cid) (sym is) (λ y at. go y at)
+  where
+    go : (y : Queue) → slice_get (change q (with_answer_heard e.sqhd) queues) q ≡ Some y → slice_get y.host.claimed e.cid ≡ Some true
+    go y at =
+        each-change (λ (j : ℕ) (z : Queue). j ≡ q → slice_get z.host.claimed e.cid ≡ Some true) q (with_answer_heard e.sqhd) queues
+        (λ k z far at' same. absurd (far same)) (λ z at' same. claims z at') q y at refl
+
+-- the identifier of an outstanding command is claimed
+pub answered-claims : (t : Tables) → ClaimIdentifiers t.records t.queues → (q : ℕ) (e : ComEntry) (kind : Option AdminKind) → Answered t q e kind → Claims t.queues q e.cid
+answered-claims t ids q e kind is y at =
+    let there : is_outstanding t.records q e.cid ≡ true = found_any (is_at q e.cid) t.records is.entry is.was in
+    let claims = ids.each q y at in
+    claims.told e.cid (claims.inside e.cid there) ∙ ap Some there
+
+pub submitted-is : (p : Phase) → is_submitted p ≡ true → p ≡ Submitted
+submitted-is Drafted h = cc
+submitted-is Submitted h = refl
+submitted-is Held h = cc
+submitted-is Collected h = cc
+
+-- what the end of an admin command gives back
+pub gives-meant : (t new : Tables) (kind : AdminKind) (k : ℕ) (status : Status) → kind ≡ DeleteCq k → is_success status ≡ true → passes has_cq_alone (state_at t.queues k) ≡ true
+    → new ≡ without_completion k t → new ≡ meant kind status t
+gives-meant t new kind k status e s r is = is ∙ sym (ap (λ (x : AdminKind). meant x status t) e ∙ both)
+  where
+    both : meant (DeleteCq k) status t ≡ without_completion k t
+    both = rw (s, r) refl
+
+-- and where it does not make what it was to make
+pub unmade-cq : (t new : Tables) (kind : AdminKind) (k n base : ℕ) (status : Status) → kind ≡ CreateCq k n base → is_success status ≡ false → new ≡ without_completion k t → new ≡ meant kind status t
+unmade-cq t new kind k n base status e s is = is ∙ sym (ap (λ (x : AdminKind). meant x status t) e ∙ both)
+  where
+    both : meant (CreateCq k n base) status t ≡ without_completion k t
+    both = rw s refl
+
+pub unmade-sq : (t new : Tables) (kind : AdminKind) (k n base : ℕ) (status : Status) → kind ≡ CreateSq k n base → is_success status ≡ false → new ≡ without_submission HalfMade k t → new ≡ meant kind status t
+unmade-sq t new kind k n base status e s is = is ∙ sym (ap (λ (x : AdminKind). meant x status t) e ∙ both)
+  where
+    both : meant (CreateSq k n base) status t ≡ without_submission HalfMade k t
+    both = rw s refl
+
+-- as many queues as before
+pub meant-many : (t : Tables) (kind : AdminKind) (status : Status) → length (meant kind status t).queues ≡ length t.queues
+meant-many t (Abort k cid) status = refl
+meant-many t (DeleteSq k) status = length-change k (with_state (state_deleted status)) t.queues
+meant-many t (DeleteCq k) status = go (gives_back k status t)
+  where
+    go : (b : Bool) → length (if b then without_completion k t else t).queues ≡ length t.queues
+    go true = length-change k (with_state Gone) t.queues
+    go false = refl
+meant-many t (CreateCq k n base) status = go (is_success status)
+  where
+    go : (b : Bool) → length (if b then record t { queues = change k (with_state HalfMade) t.queues } else without_completion k t).queues ≡ length t.queues
+    go true = length-change k (with_state HalfMade) t.queues
+    go false = length-change k (with_state Gone) t.queues
+meant-many t (CreateSq k n base) status = go (is_success status)
+  where
+    go : (b : Bool) → length (if b then record t { queues = change k (with_state Live) t.queues } else without_submission HalfMade k t).queues ≡ length t.queues
+    go true = length-change k (with_state Live) t.queues
+    go false = length-change k (with_state HalfMade) t.queues
+
+pub heard-many : (t : Tables) (q k : ℕ) → length (heard q k t).queues ≡ length t.queues
+heard-many t q k = length-change q (with_answer_heard k) t.queues
+
+pub over-many : (t : Tables) (q k cid : ℕ) → length (over q k cid t).queues ≡ length t.queues
+over-many t q k cid = length-change q (without_claim cid) (heard q k t).queues ∙ heard-many t q k
+
+-- whether a completion waits
+pub waits-told : (t : Tables) (q : ℕ) (o : Option ComEntry) → Looks t q o → completion_waits (state_of t) q ≡ is_some o
+waits-told t q o l =
+    ap (λ (r : Option Refusal). is_none r && is_some (seen_at t q)) (reap-none t q l.queue l.at l.live) ∙ ap is_some l.seen
+
+-- A queue was retired: its submission half is given back, and its commands that were never answered are lost.
+
+-- A queue whose deletion has ended, and at whose head no completion stands
+pub record Retires (t : Tables) (q : ℕ) (x : Queue) : Type 0 where
+  pub at : slice_get t.queues q ≡ Some x
+  pub deleted : is_deleted x.state ≡ true
+  pub drained : seen_at t q ≡ None
+
+there : (t : Tables) (q : ℕ) (x : Queue) → Retires t q x → has_cq x.state ≡ true
+there t q x r = sq_with_cq x.state (deleted_has_sq x.state r.deleted)
+
+same-at : (t : Tables) (q : ℕ) (x y : Queue) → Retires t q x → slice_get t.queues q ≡ Some y → x ≡ y
+same-at t q x y r at = some_is (sym r.at ∙ at)
+
+-- The machine's state
+
+host-retired : (x : Queue) → has_cq x.state ≡ true → host_queue_of (with_state Retired x) ≡ a.retired (host_queue_of x)
+host-retired x h = rw h refl
+
+retired-state : (t : Tables) → IsWhole t → (q : ℕ) (x : Queue) → Retires t q x → state_of (retired q t) ≡ after_retire q (state_of t)
+retired-state t w q x r =
+    ap (λ (hs : List HostQueue). with_free (free_pages (given_back (is_half q Submission) t.owners)) hs)
+    (map-change host_queue_of (with_state Retired) a.retired q t.queues (λ y at. host-retired y (subst (λ (z : Queue). has_cq z.state ≡ true) (same-at t q x y r at) (there t q x r))))
+    ∙ (ap (λ (free : List ℕ). with_free free (change q a.retired (map host_queue_of t.queues)))
+    (given-free t.owners (is_half q Submission) (length t.pages) (sq_pages_of x) (sym w.table) (half-owned t (length t.pages) w.sound.owners w.owners q Submission x r.at))
+    ∙ ap (λ (o : Option HostQueue). option_map_or (λ (queue : HostQueue). a.on_host_queue q a.retired (a.given_back queue.sq_pages (state_of (with_lost q t)))) o (state_of (with_lost q t)))
+    (sym (host-at t q x r.at)))
+  where
+    with_free : List ℕ → List HostQueue → State
+    with_free free hs = record (state_of t) { host = record { free = free; queues = hs; records = map (lost q) t.records } }
+
+-- which refusal the two tests give
+abbrev refused : Bool → Option ComEntry → Option Refusal
+refused deleted seen = first_passing ((not deleted, refusal.NotDeleted) ∷ (is_some seen, refusal.NotDrained) ∷ [])
+
+none-refused : (deleted : Bool) (seen : Option ComEntry) → deleted ≡ true → seen ≡ None → refused deleted seen ≡ None
+none-refused true None d h = refl
+none-refused true (Some e) d h = cc
+none-refused false seen d h = cc
+
+retire-none : (t : Tables) (q : ℕ) (x : Queue) → Retires t q x → refusal_of (state_of t) (events.Retire q) ≡ None
+retire-none t q x r =
+    none-refused (in_state is_deleted (state_of t) q) (seen_entry (state_of t) q)
+    (ap (λ (o : Option HostQueue). option_map_or (λ (queue : HostQueue). is_deleted queue.state) o false) (host-at t q x r.at) ∙ r.deleted) r.drained
+
+retire-exact : (t : Tables) → IsWhole t → (q : ℕ) (x : Queue) → Retires t q x → Exactly (state_of t) (events.Retire q) events.Accepted (state_of (retired q t))
+retire-exact t w q x r = (retire-none t q x r, tt, retired-state t w q x r)
+
+-- The records
+
+abbrev is_lost : ℕ → Record → Bool
+is_lost q r = (r.q == q) && is_submitted r.phase
+
+lost-at : (q p i : ℕ) (r : Record) → is_at p i (lost q r) ≡ is_at p i r
+lost-at q p i r = go (is_lost q r)
+  where
+    go : (b : Bool) → is_at p i (if b then record r { phase = Held; status = Some ABORTED_SQ_DELETION } else r) ≡ is_at p i r
+    go true = refl
+    go false = refl
+
+lost-told : (owners : List Owner) (q : ℕ) (r : Record) → TellsCommand owners r → TellsCommand owners (lost q r)
+lost-told owners q r h = go (is_lost q r)
+  where
+    go : (b : Bool) → TellsCommand owners (if b then record r { phase = Held; status = Some ABORTED_SQ_DELETION } else r)
+    go true = record { data_pages = h.data_pages; chain_pages = h.chain_pages }
+    go false = h
+
+lost-claims : (q : ℕ) (records : List Record) (p : ℕ) (claimed : List Bool) → ClaimsIdentifiers records p claimed → ClaimsIdentifiers (map (lost q) records) p claimed
+lost-claims q records p claimed claims =
+    record {
+      told = λ i l. claims.told i l ∙ ap (λ (b : Bool). Some b) (sym (any-map (is_at p i) (lost q) (lost-at q p i) records));
+      inside = λ i h. claims.inside i (sym (any-map (is_at p i) (lost q) (lost-at q p i) records) ∙ h);
+    }
+
+-- what is lost is an I/O command
+lost-fits : (n q : ℕ) (r : Record) → (q == 0) ≡ false → OwnsFit r.q r.work (pages_of r) → IsRecord n r → IsRecord n (lost q r)
+lost-fits n q r io owns fits = go (is_lost q r) refl
+  where
+    held : (w : Work) → r.work ≡ w → OwnsFit r.q w (pages_of r) → r.q ≡ q → IsRecord n (record r { phase = Held; status = Some ABORTED_SQ_DELETION })
+    held (Io request) e h here = record {
+      queue = fits.queue;
+      work = subst (λ (v : Work). FitsWork v (record r { phase = Held; status = Some ABORTED_SQ_DELETION })) (sym e) (let old : FitsWork (Io request) r = subst (λ (v : Work). FitsWork v r) e fits.work in old);
+      phase = rw e tt;
+    }
+    held (Management kind) e h here = absurd (true≢false (sym (eq-eqb q 0 (sym here ∙ h.0)) ∙ io))
+
+    go : (b : Bool) → is_lost q r ≡ b → IsRecord n (if b then record r { phase = Held; status = Some ABORTED_SQ_DELETION } else r)
+    go true e = held r.work refl owns (eqb-true r.q q (and_parts (r.q == q) (is_submitted r.phase) e).0)
+    go false e = fits
+
+lost-records : (n q : ℕ) (records : List Record) → (q == 0) ≡ false → AllByRecursion (λ r. OwnsFit r.q r.work (pages_of r)) records → AllByRecursion (IsRecord n) records
+    → AllByRecursion (IsRecord n) (map (lost q) records)
+lost-records n q [] io owns all = tt
+lost-records n q (r ∷ records) io owns all = (lost-fits n q r io owns.0 all.0, lost-records n q records io owns.1 all.1)
+
+-- queue 0 is live
+not-admin : (t : Tables) → IsWhole t → (q : ℕ) (x : Queue) → Retires t q x → (q == 0) ≡ false
+not-admin t w q x r = go (q == 0) refl
+  where
+    dead : (state : HostState) → is_deleted state ≡ true → is_live state ≡ true → ⊥
+    dead Live h l = cc
+    dead (Deleting noted) h l = cc
+    dead Retired h l = cc
+    dead Gone h l = cc
+    dead MakingCq h l = cc
+    dead HalfMade h l = cc
+    dead MakingSq h l = cc
+
+    first : q ≡ 0 → host_queue (state_of t) 0 ≡ Some (host_queue_of x)
+    first z = subst (λ (k : ℕ). host_queue (state_of t) k ≡ Some (host_queue_of x)) z (host-at t q x r.at)
+
+    go : (b : Bool) → (q == 0) ≡ b → b ≡ false
+    go true e = absurd (dead x.state r.deleted (ap (λ (o : Option HostQueue). option_map_or (λ (queue : HostQueue). is_live queue.state) o true) (sym (first (eqb-true q 0 e))) ∙ w.sound.admin))
+    go false e = refl
+
+-- The owners
+
+completion-kept : (q : ℕ) → is_half q Submission (owner.Queue q Completion) ≡ false
+completion-kept q = go (q == q)
+  where
+    go : (b : Bool) → (b && is_same_half Completion Submission) ≡ false
+    go true = refl
+    go false = refl
+
+retired-told : (owners : List Owner) (q : ℕ) (x : Queue) → has_cq x.state ≡ true → TellsQueue owners q x → TellsQueue (given_back (is_half q Submission) owners) q (with_state Retired x)
+retired-told owners q x live told =
+    record {
+      submission = λ p h. cc;
+      completion = λ p h. owner-stays owners (is_half q Submission) p (owner.Queue q Completion) (completion-kept q) (told.completion p (subst (λ (ps : List ℕ). list_any (λ k. k == p) ps ≡ true) kept h));
+    }
+  where
+    kept : cq_pages_of (with_state Retired x) ≡ cq_pages_of x
+    kept = rw live refl
+
+-- The tables
+
+settled-retired : (t : Tables) → IsWhole t → (q : ℕ) (x : Queue) → Retires t q x → Settled (retired q t)
+settled-retired t w q x r =
+    let s : Settled t = settled-of t w in
+    let live : (y : Queue) → slice_get t.queues q ≡ Some y → has_cq y.state ≡ true = λ y at. subst (λ (z : Queue). has_cq z.state ≡ true) (same-at t q x y r at) (there t q x r) in
+    let owners : List Owner = given_back (is_half q Submission) t.owners in
+    let f : Queue → Queue = with_state Retired in
+    settled-with t owners (change q f t.queues) (map (lost q) t.records) s
+    (record {
+      table = length-map t.owners _;
+      many = length-change q f t.queues;
+      queues = record {
+        each = each-change (IsQueue t.entries) q f t.queues (λ j y _ at. s.queues.each j y at)
+            (λ y at. let is = s.queues.each q y at in record { number = is.number; entries = is.entries; host_side = is.host_side });
+      };
+      identifiers = record {
+        each = each-change (λ (j : ℕ) (y : Queue). ClaimsIdentifiers (map (lost q) t.records) j y.host.claimed) q f t.queues
+            (λ j y _ at. lost-claims q t.records j y.host.claimed (s.identifiers.each j y at)) (λ y at. lost-claims q t.records q y.host.claimed (s.identifiers.each q y at));
+      };
+      owners = record {
+        queues_told = each-change (TellsQueue owners) q f t.queues (λ j y far at. others-told t.owners q j Submission y far (s.owners.queues_told j y at))
+            (λ y at. retired-told t.owners q y (live y at) (s.owners.queues_told q y at));
+        commands_told = all-map (TellsCommand owners) (lost q) (λ y h. lost-told owners q y h) t.records (commands-told t.owners q Submission t.records s.owners.commands_told);
+      };
+      records = lost-records (length t.queues) q t.records (not-admin t w q x r) w.sound.works_fit s.records;
+    })
+
+retired-whole : (t : Tables) → IsWhole t → (q : ℕ) (x : Queue) → Retires t q x → IsWhole (retired q t)
+retired-whole t w q x r =
+    let new : Tables = retired q t in
+    let step = host_step t new (events.Retire q) events.Accepted refl tt (retire-exact t w q x r) in
+    whole-of new (settled-retired t w q x r)
+    (sound_after (state_of t) (events.Retire q) events.Accepted (state_of new) step w.sound)
+
+-- As the code tells it
+
+retires : (t : Tables) (q : ℕ) → passes is_deleted (state_at t.queues q) ≡ true → seen_at t q ≡ None → (x : Queue) × Retires t q x
+retires t q deleted drained = go (slice_get t.queues q) refl deleted
+  where
+    go : (o : Option Queue) → slice_get t.queues q ≡ o → passes is_deleted (option_map (λ (queue : Queue). queue.state) o) ≡ true → (x : Queue) × Retires t q x
+    go None at h = cc
+    go (Some x) at h = (x, record { at = at; deleted = h; drained = drained })
+
+pub retire-half : (t : Tables) → IsHost t → (q : ℕ) → passes is_deleted (state_at t.queues q) ≡ true → HasHalf t q Submission
+retire-half t h q deleted = go (slice_get t.queues q) refl deleted
+  where
+    go : (o : Option Queue) → slice_get t.queues q ≡ o → passes is_deleted (option_map (λ (queue : Queue). queue.state) o) ≡ true → HasHalf t q Submission
+    go None at d = cc
+    go (Some x) at d = half-there t h q Submission x at (deleted_has_sq x.state d)
+
+pub retire-made : (t new : Tables) → IsWhole t → (q : ℕ) → passes is_deleted (state_at t.queues q) ≡ true → seen_at t q ≡ None → new ≡ retired q t → Finishes t new (events.Retire q)
+retire-made t new w q deleted drained is =
+    let r = retires t q deleted drained in
+    let here : Finishes t (retired q t) (events.Retire q) =
+    record { step = host_step t (retired q t) (events.Retire q) events.Accepted refl tt (retire-exact t w q r.0 r.1); whole = retired-whole t w q r.0 r.1 } in
+    subst (λ (u : Tables). Finishes t u (events.Retire q)) (sym is) here
+
+-- a completion stands at its head
+pub retire-drained : (t : Tables) (q : ℕ) (e : ComEntry) → passes is_deleted (state_at t.queues q) ≡ true → seen_at t q ≡ Some e → Step (state_of t) (events.Retire q) (events.Refused refusal.NotDrained []) (state_of t)
+retire-drained t q e deleted seen =
+    host_step t t (events.Retire q) (events.Refused refusal.NotDrained []) refl tt ((rw (in_state-is is_deleted t q ∙ deleted, seen) refl, refl), refl)

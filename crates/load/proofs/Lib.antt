@@ -1,6 +1,0 @@
-mod Blocks
-mod Buckets
-mod Lists
-mod Pieces
-mod Tallying
-mod Written

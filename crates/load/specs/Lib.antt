@@ -1,7 +1,0 @@
-pub mod Content
-pub mod Course
-pub mod Histograms
-pub mod Lines
-pub mod Picking
-pub mod Planning
-pub mod Tallies

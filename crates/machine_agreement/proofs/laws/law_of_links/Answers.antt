@@ -1,6 +1,0 @@
-use Rattle.machine_agreement.proofs.Agreed.{agreed_linked}
-use Rattle.machine_agreement.proofs.Agreeing.{run_agrees}
-use Rattle.machine_agreement.proofs.laws.law_of_links.Goals as goal
-
-pub returns : goal.returns
-returns c = λ image made s run. agreed_linked s (run_agrees image made s run)

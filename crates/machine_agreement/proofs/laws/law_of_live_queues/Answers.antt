@@ -1,6 +1,0 @@
-use Rattle.machine_agreement.proofs.Agreed.{agreed_there}
-use Rattle.machine_agreement.proofs.Agreeing.{run_agrees}
-use Rattle.machine_agreement.proofs.laws.law_of_live_queues.Goals as goal
-
-pub returns : goal.returns
-returns c = λ image made s q queue run found live. agreed_there s q queue (run_agrees image made s run) found live

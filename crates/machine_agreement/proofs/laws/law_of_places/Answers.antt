@@ -1,6 +1,0 @@
-use Rattle.machine_agreement.proofs.Agreed.{agreed_once}
-use Rattle.machine_agreement.proofs.Agreeing.{run_agrees}
-use Rattle.machine_agreement.proofs.laws.law_of_places.Goals as goal
-
-pub returns : goal.returns
-returns c = λ image made end cid run. agreed_once end cid (run_agrees image made end run)

@@ -1,5 +1,0 @@
-use Rattle.machine_agreement.proofs.NeverFull.{runs_have_room}
-use Rattle.machine_agreement.proofs.laws.law_of_room.Goals as goal
-
-pub returns : goal.returns
-returns c = runs_have_room

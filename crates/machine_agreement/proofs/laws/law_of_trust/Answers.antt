@@ -1,9 +1,0 @@
-use Rattle.machine_agreement.proofs.NeverRestored.{ends_unforged}
-use Rattle.machine_agreement.proofs.Unforged.{trusted_end}
-use Rattle.machine_agreement.proofs.laws.law_of_trust.Goals as goal
-
-pub returns-clause-ends : goal.returns-clause-ends
-returns-clause-ends c = trusted_end
-
-pub returns-clause-unforged : goal.returns-clause-unforged
-returns-clause-unforged c = ends_unforged

@@ -1,0 +1,94 @@
+-- What no event of the host changes: the limits, the image, how many pages there are; and but for a reset the jobs, and that something was forged.
+use Rattle.machine_model.specs.After as a
+use Rattle.machine_model.specs.Events as events
+use Rattle.std.proofs.Common.{◌≡◌, ℕ, ◌==◌, Bool, true, false, Some, None, List, [], ◌∷◌, ◌++◌, length, length-set, filter, find, if◌then◌else◌, eqb-true, refl, ap, sym, ◌∙◌}
+use Rattle.std.proofs.lemmas.Bool.{true≢false, and_parts}
+use Rattle.io_commands.specs.{Asked.Request, Values.numbers_of}
+use Rattle.admin_commands.specs.{Entries.admin_entry, declared.AdminKind.{AdminKind, TheVariants.{Abort, DeleteSq, DeleteCq}}}
+use Rattle.entry_codec.specs.declared.submission.SubEntry.{SubEntry}
+use Rattle.page_memory.specs.declared.page.Half.TheVariants.{Submission, Completion}
+use Rattle.machine_model.proofs.Moves.{host_moves, posted_bytes, posted_bits, sent_record, sends, half_from, creates_cq, creates_sq, grants_cq, grants_sq}
+use Rattle.machine_model.proofs.{Owned.{io_records, lost_keeps}, Steps.{length-in_store, length-with_pages, length-without_pages, Accepts}}
+use Rattle.machine_model.{proofs.Tokens.{find_map, find_sound}, specs.{Events.{Event, Reply}, Memory.{with_pages, zeroed_pages}, Refusals.slot_page}}
+use Rattle.machine_model.specs.{State.{State, Record, is_at, pages_of, record_at, with_record}, Step.{IsController, resets}, Work.Work}
+use Rattle.machine_model.specs.declared.words.Work.TheVariants.{Io}
+
+pub record HostLeaves (s : State) (e : Event) (t : State) : Type 0 where
+  pub entries : t.entries ≡ s.entries
+  pub segment : t.segment ≡ s.segment
+  pub image : t.device.image ≡ s.device.image
+  -- a reset aside
+  pub jobs : resets e ≡ false → t.device.jobs ≡ s.device.jobs
+  pub size : length t.memory ≡ length s.memory
+  pub distrusts : resets e ≡ false → s.trusted ≡ false → t.trusted ≡ false
+
+-- where the memory alone changes of these
+left : {e : Event} (s t : State) → t.entries ≡ s.entries → t.segment ≡ s.segment → t.device.image ≡ s.device.image → t.device.jobs ≡ s.device.jobs → (s.trusted ≡ false → t.trusted ≡ false) → length t.memory ≡ length s.memory → HostLeaves s e t
+left s t n g i j d m = record { entries = n; segment = g; image = i; jobs = λ other. j; size = m; distrusts = λ other. d }
+
+posted_size : (q : ℕ) (entry : SubEntry) (s : State) → length (posted_bytes q entry s) ≡ length s.memory
+posted_size q entry s = sym (length-in_store (posted_bytes q entry s)) ∙ ap length (posted_bits q entry s) ∙ length-in_store s.memory
+
+pub host_leaves : (s : State) (e : Event) (reply : Reply) → Accepts s e reply → IsController e ≡ false → HostLeaves s e (a.after s e reply)
+host_leaves s e reply ok c =
+    host_moves (λ (e : Event) (reply : Reply) (t : State). HostLeaves s e t) s e reply ok c
+    (record {
+      reserves = λ q request d none is. left s _ refl refl refl refl (λ d. d) (length-without_pages (numbers_of d.data_pages ++ numbers_of d.chain_pages) s.memory);
+      submits = λ d entry r none built its live.
+          left s _ refl refl refl refl (λ d. d)
+          (posted_size d.q entry (a.on_records (with_record d.q d.cid a.submitted) (a.on_memory (with_pages (d.data_pages ++ d.chain_pages)) s)) ∙ length-with_pages (d.data_pages ++ d.chain_pages) s.memory);
+      cancels = λ d r its. left s _ refl refl refl refl (λ d. d) (length-with_pages (d.data_pages ++ d.chain_pages) s.memory);
+      rings = λ q none. left s _ refl refl refl refl (λ d. d) refl;
+      rests = λ q is. left s s refl refl refl refl (λ d. d) refl;
+      rejects = λ q why is. left s _ refl refl refl refl (λ d. d) refl;
+      tells = λ q cid st what e r request t heard w. left s _ refl refl refl refl (λ d. d) refl;
+      hears = λ q cid st what e r adm t heard w quiet unmade. left s _ refl refl refl refl (λ d. d) refl;
+      notes = λ q cid st what e r k t heard w. left s _ refl refl refl refl (λ d. d) refl;
+      frees = λ q cid st what e r k queue t heard w at retired good. left s _ refl refl refl refl (λ d. d) refl;
+      makes_cq = λ q cid st what e r k size base t heard w good. left s _ refl refl refl refl (λ d. d) refl;
+      unmakes_cq = λ q cid st what e r k size base queue t heard w at bad. left s _ refl refl refl refl (λ d. d) refl;
+      makes_sq = λ q cid st what e r k size base t heard w good. left s _ refl refl refl refl (λ d. d) refl;
+      unmakes_sq = λ q cid st what e r k size base queue t heard w at bad. left s _ refl refl refl refl (λ d. d) refl;
+      collects = λ q cid r f at held is. left s _ refl refl refl refl (λ d. d) (length-without_pages (pages_of r) s.memory);
+      releases = λ f r its. left s _ refl refl refl refl (λ d. d) (length-with_pages (f.data_pages ++ f.chain_pages) s.memory);
+      aborts = λ q cid id none new. sent (Abort q cid) id s;
+      asks = λ q id queue none new live. left s _ refl refl refl refl (λ d. d) (sent {e = events.DeleteSq q} (DeleteSq q) id s).size;
+      drops = λ q id none new. sent (DeleteCq q) id s;
+      creates_cqs = λ q id first queue none new granted. left s _ refl refl refl refl (λ d. d) ((sent {e = events.CreateCq q} (creates_cq q first s) id (grants_cq q first s)).size ∙ length-with_pages (zeroed_pages (half_from Completion first s)) s.memory);
+      creates_sqs = λ q id first queue none new granted. left s _ refl refl refl refl (λ d. d) ((sent {e = events.CreateSq q} (creates_sq q first s) id (grants_sq q first s)).size ∙ length-with_pages (zeroed_pages (half_from Submission first s)) s.memory);
+      retires = λ q queue none at deleted. left s _ refl refl refl refl (λ d. d) refl;
+      forges = λ q slot bytes queue none at. left s _ refl refl refl refl (λ d. refl) (length-set s.memory (slot_page queue.cq_pages 16 slot) _);
+      resets = record {
+        entries = refl;
+        segment = refl;
+        image = refl;
+        jobs = λ other. absurd (true≢false other);
+        size = length-with_pages (zeroed_pages (a.admin_pages s.host.queues)) s.memory;
+        distrusts = λ other. absurd (true≢false other);
+      };
+    })
+  where
+    sent : {e : Event} (adm : AdminKind) (id : ℕ) (s : State) → HostLeaves s e (sends adm id s)
+    sent adm id s = left s _ refl refl refl refl (λ d. d) (posted_size 0 (admin_entry adm id) (a.on_records (λ records. records ++ sent_record adm id ∷ []) s))
+
+-- the record that a look-up finds has the queue and the identifier of that look-up
+pub ids_of : (s : State) (q cid : ℕ) (r : Record) → record_at s.host q cid ≡ Some r → (r.q ≡ q) × (r.cid ≡ cid)
+ids_of s q cid r e = let p = and_parts (r.q == q) (r.cid == cid) (find_sound (is_at q cid) s.host.records r e) in (eqb-true r.q q p.0, eqb-true r.cid cid p.1)
+
+-- the first record that passes a test is the first of those that pass another, if it does
+found_still : (test keep : Record → Bool) (rs : List Record) (r : Record) → keep r ≡ true → find test rs ≡ Some r → find test (filter keep rs) ≡ Some r
+found_still test keep [] r kept e = absurd cc
+found_still test keep (x ∷ rs) r kept e = go (keep x) (test x) refl refl e (found_still test keep rs r kept)
+  where
+    go : (b c : Bool) → keep x ≡ b → test x ≡ c → (if c then Some x else find test rs) ≡ Some r → (find test rs ≡ Some r → find test (filter keep rs) ≡ Some r)
+        → find test (if b then x ∷ filter keep rs else filter keep rs) ≡ Some r
+    go true true k t e ih = rw t e
+    go true false k t e ih = rw t (ih e)
+    go false true k t e ih = let same : x ≡ r = cc in absurd (true≢false (sym kept ∙ ap keep (sym same) ∙ k))
+    go false false k t e ih = ih e
+
+-- each I/O command is outstanding behind a reset, and held where it was submitted
+pub io_left : (s : State) (q cid : ℕ) (r : Record) (request : Request) → record_at s.host q cid ≡ Some r → r.work ≡ Io request → record_at (a.after_reset s).host q cid ≡ Some (a.lost_anywhere r)
+io_left s q cid r request found w =
+    find_map (is_at q cid) a.lost_anywhere (λ x. rw (lost_keeps.q x, lost_keeps.cid x) refl) (io_records s.host.records) r
+    (found_still (is_at q cid) (λ x. a.is_of_io x.work) s.host.records r (ap a.is_of_io w) found)

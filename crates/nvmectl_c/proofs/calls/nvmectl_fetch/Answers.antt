@@ -1,8 +1,0 @@
-use Rattle.nvmectl_c.specs.Calls.{FetchesBy}
-use Rattle.nvmectl_c.proofs.Lending.{lent_called}
-use Rattle.nvmectl_c.proofs.calls.nvmectl_fetch.Goals as goal
-
-pub returns : goal.returns
-returns c =
-    lent_called (FetchesBy c.args.q) _ _ c.in-Ok.controller.value c.deref_mut.result.now c.fetch-code.new.controller c.args.pool.now c.fetch-code.new.pool c.fetch-code.result c.fetch-code.new.answer c.in-Ok.ensures.taken
-    c.deref_mut.ensures.value c.put.ensures c.in-Ok.ensures.fits c.fetch-code.ensures

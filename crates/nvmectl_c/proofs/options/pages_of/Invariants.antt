@@ -1,6 +1,0 @@
-use Rattle.std.proofs.Common.{◌≡◌, map, take}
-use Rattle.nvmectl_c.specs.Options as options
-use Rattle.nvmectl_c.proofs.options.pages_of.Given as goal
-
-abbrev pub invariant-loop-queue : goal.invariant-loop-queue
-invariant-loop-queue l = l.made.items ≡ map options.pages_of_queue (take l.queue-index l.queues)

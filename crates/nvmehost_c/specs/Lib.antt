@@ -1,7 +1,0 @@
-pub mod Owned
-pub mod Options
-pub mod Answers
-pub mod Codes
-pub mod Calls
-pub mod Pool
-pub mod Looks

@@ -1,0 +1,17 @@
+-- What a handle owns: what the controller that is held by its pointer owns.
+use Rattle.std.specs.{Coded.coded_option, Global.Global, Prelude.{Bool, Option}, contracts.impls.GlobalAllocator.TheImpl.ghosts}
+use base.{Fml.Fml, Stored.Coded}
+use denote.{RattleType.RattleType, RawPtr.Ptr}
+use Rattle.controller_core.specs.Contents.{Contents}
+use Rattle.nvmesgl_c.specs.HeldOwned.{held_owns}
+use Rattle.std.specs.contracts.alloc.Global as heap
+use Rattle.controller_core.specs.contracts.controller.Controller as controller
+
+abbrev pub Row : RattleType
+Row = controller.the_row heap.the_row ghosts
+
+abbrev pub controller_coded : Coded (Option Contents)
+controller_coded = coded_option Row.coded
+
+abbrev pub handle_owns : Global → Bool → Ptr → Option Contents → Fml
+handle_owns alloc full at controller = held_owns (ghosts.dealloc_token alloc) Row full at controller

@@ -1,0 +1,39 @@
+-- What C is told of each reply besides its code.
+use Rattle.std.specs.Prelude.{true, false, Option, Some, None, [], length}
+use Rattle.nvmesgl_c.specs.{Answers.{nothing, ended, reaped, refused}, declared.host.{answer.CDoorbell.CDoorbell, options.NotOpened.NotOpened}}
+use Rattle.nvmesgl_c.specs.declared.words.answer.Answer.{Answer}
+use Rattle.host_core.specs.{Values.Reply, declared.doorbell.Doorbell.Doorbell}
+use Rattle.nvmesgl_c.specs.Answers as words
+use Rattle.host_core.specs.declared.call.Reply.TheVariants as reply
+use Rattle.nvmesgl_c.specs.declared.host.options.NotOpened.TheVariants as not_opened
+
+abbrev pub told_of : Reply → Answer
+told_of (reply.Reserved q cid front back) = record nothing { cid = cid; data_pages = front; chain_pages = back }
+told_of (reply.Reaps what bell) = reaped what
+told_of (reply.Collected status) = ended status
+told_of (reply.Gathered bytes) = record nothing { bytes = length bytes }
+told_of (reply.Sent cid) = record nothing { cid = cid }
+told_of (reply.Refused why) = refused why []
+told_of reply.Accepted = nothing
+told_of (reply.Rung bell) = nothing
+told_of reply.NoValue = nothing
+told_of (reply.NotFilled why) = nothing
+
+-- of a call whose handle was closed there is no reply
+abbrev pub told : Option Reply → Answer
+told (Some answer) = told_of answer
+told None = nothing
+
+-- the value for a doorbell, where there is one
+abbrev pub shown_bell : Option Doorbell → CDoorbell
+shown_bell (Some bell) = record { offset = bell.offset; value = bell.value; rings = true }
+shown_bell None = record { offset = 0; value = 0; rings = false }
+
+abbrev pub bell_of : Option Reply → CDoorbell
+bell_of (Some (reply.Rung bell)) = shown_bell (Some bell)
+bell_of (Some (reply.Reaps what bell)) = shown_bell bell
+bell_of answer = shown_bell None
+
+abbrev pub told_not_opened : NotOpened → Answer
+told_not_opened (not_opened.Refused why) = words.not_opened why
+told_not_opened why = nothing

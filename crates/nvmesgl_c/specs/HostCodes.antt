@@ -1,0 +1,20 @@
+-- The code of each answer.
+use Rattle.std.specs.Prelude.{ℕ, Option, Some, None}
+use Rattle.nvmesgl_c.specs.{Codes.{code_of_refusal, code_of_fill_fault, code_of_open_refusal}, declared.host.options.NotOpened.NotOpened}
+use Rattle.host_core.specs.Values.{Reply}
+use Rattle.nvmesgl_c.specs.declared.host.options.NotOpened.TheVariants as not_opened
+use Rattle.host_core.specs.declared.call.Reply.TheVariants as reply
+
+-- of a call whose handle was closed there is no reply
+abbrev pub code_of_reply : Option Reply → ℕ
+code_of_reply None = 1
+code_of_reply (Some (reply.Refused why)) = code_of_refusal why
+code_of_reply (Some reply.NoValue) = 3
+code_of_reply (Some (reply.NotFilled why)) = code_of_fill_fault why
+code_of_reply (Some answer) = 0
+
+abbrev pub code_of_not_opened : NotOpened → ℕ
+code_of_not_opened not_opened.BadSize = 7
+code_of_not_opened not_opened.BadOption = 8
+code_of_not_opened not_opened.Memory = 15
+code_of_not_opened (not_opened.Refused why) = code_of_open_refusal why

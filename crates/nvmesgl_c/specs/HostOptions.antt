@@ -1,0 +1,36 @@
+-- What the options of an opening say, and when a handle is not opened.
+use Rattle.std.specs.{List.list_any, Prelude.{◌≡◌, ◌==◌, ℕ, Option, Some, None, if◌then◌else◌}}
+use Rattle.host_core.specs.{Kept.opened_alone, Opening.{refusal_of_config, RefusesOpening}, declared.config.Config.Config}
+use Rattle.machine_model.specs.Script.{Table, table}
+use Rattle.nvmesgl_c.specs.{Answers.nothing, HostAnswers.told_not_opened, HostCodes.code_of_not_opened, Requests.is_set}
+use Rattle.nvmesgl_c.specs.declared.{host.options.{NotOpened.NotOpened, Options.Options}, words.answer.Answer.Answer}
+use Rattle.nvmesgl_c.specs.declared.host.options.NotOpened.TheVariants as not_opened
+
+-- the configuration of an opening
+abbrev pub config_of : Options → Config
+config_of o = record { pages = o.pages; queues = o.queues; entries = o.entries; segment = o.segment }
+
+-- what is wrong with the form of the options
+abbrev pub fault_of : Options → Option NotOpened
+fault_of o =
+    if o.size == 32
+    then (if list_any is_set o.reserved then Some not_opened.BadOption else None)
+    else Some not_opened.BadSize
+
+-- when a handle is not opened for a cause
+abbrev pub IsWhy : Options → NotOpened → Type 0
+IsWhy o (not_opened.Refused why) = (fault_of o ≡ None) × RefusesOpening (config_of o) why
+IsWhy o not_opened.Memory = fault_of o ≡ None
+IsWhy o why = fault_of o ≡ Some why
+
+-- what an opening makes
+pub record IsOpened (o : Options) (new : Table) : Type 0 where
+  pub form : fault_of o ≡ None
+  pub config : refusal_of_config (config_of o) ≡ None
+  pub opened : new ≡ table (opened_alone (config_of o))
+
+-- an opening: a handle that is open stays as it is; one that is closed opens, or stays closed for a cause that is told
+abbrev pub Opens : Option Table → Options → ℕ → Answer → Option Table → Type 0
+Opens (Some t) o code answer new = (code ≡ 2) × (answer ≡ nothing) × (new ≡ Some t)
+Opens None o code answer (Some new) = (code ≡ 0) × (answer ≡ nothing) × IsOpened o new
+Opens None o code answer None = (why : NotOpened) × IsWhy o why × (code ≡ code_of_not_opened why) × (answer ≡ told_not_opened why)

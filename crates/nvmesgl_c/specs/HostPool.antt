@@ -1,0 +1,41 @@
+-- What a device's reads and writes answer, and what they leave of the host that a handle keeps.
+use Rattle.std.specs.Prelude.{◌≡◌, ◌&&◌, ℕ, nat_lt, nat_le, Bool, true, false, Option, Some, None, List, length}
+use Rattle.host_core.specs.Pool.{IsWritten}
+use Rattle.machine_model.specs.Script.{Table}
+use Rattle.page_memory.specs.{Memory.bytes_at, Pages.byte_at}
+
+-- whether so many bytes are moved by one call
+abbrev pub fits : ℕ → Bool
+fits count = nat_lt 0 count && nat_le count 4096
+
+-- the bytes of the pool from an address on, or nothing where one is missing
+abbrev pub bytes_from : Table → ℕ → ℕ → Option (List ℕ)
+bytes_from t addr count = bytes_at (byte_at t.world.memory) addr count
+
+-- they stand in the buffer, or the buffer is as it was
+abbrev pub Shows : Bool → Option (List ℕ) → ℕ → List ℕ → List ℕ → Type 0
+Shows false found code old new = (code ≡ 53) × (new ≡ old)
+Shows true (Some bytes) code old new = (code ≡ 0) × (new ≡ bytes)
+Shows true None code old new = (code ≡ 54) × (new ≡ old)
+
+abbrev pub ReadsFrom : Table → ℕ → ℕ → List ℕ → List ℕ → Table → Type 0
+ReadsFrom t addr code old buffer new = Shows (fits (length old)) (bytes_from t addr (length old)) code old buffer × (new ≡ t)
+
+abbrev pub Reads : Option Table → ℕ → ℕ → List ℕ → List ℕ → Option Table → Type 0
+Reads None addr code old buffer new = (code ≡ 1) × (buffer ≡ old) × (new ≡ None)
+Reads (Some t) addr code old buffer (Some new) = ReadsFrom t addr code old buffer new
+Reads (Some t) addr code old buffer None = ⊥
+
+-- bytes are written where bytes stand, or nothing changes
+abbrev pub Puts : Bool → Option (List ℕ) → Table → ℕ → List ℕ → ℕ → Table → Type 0
+Puts false found t addr bytes code new = (code ≡ 53) × (new ≡ t)
+Puts true (Some there) t addr bytes code new = (code ≡ 0) × IsWritten t addr bytes new
+Puts true None t addr bytes code new = (code ≡ 54) × (new ≡ t)
+
+abbrev pub WritesInto : Table → ℕ → List ℕ → ℕ → Table → Type 0
+WritesInto t addr bytes code new = Puts (fits (length bytes)) (bytes_from t addr (length bytes)) t addr bytes code new
+
+abbrev pub Writes : Option Table → ℕ → List ℕ → ℕ → Option Table → Type 0
+Writes None addr bytes code new = (code ≡ 1) × (new ≡ None)
+Writes (Some t) addr bytes code (Some new) = WritesInto t addr bytes code new
+Writes (Some t) addr bytes code None = ⊥

@@ -1,0 +1,31 @@
+-- What C is told of each reply besides its code.
+use Rattle.std.specs.Prelude.{ℕ, Option, Some, None, length}
+use Rattle.nvmesgl_c.specs.{Answers.{nothing, touching, ended, walked, reaped, refused}, declared.machine.options.NotOpened.NotOpened}
+use Rattle.nvmesgl_c.specs.declared.words.answer.Answer.{Answer}
+use Rattle.step_core.specs.Values.{Reply}
+use Rattle.nvmesgl_c.specs.Answers as words
+use Rattle.nvmesgl_c.specs.declared.machine.options.NotOpened.TheVariants as not_opened
+use Rattle.step_core.specs.declared.step.Reply.TheVariants as reply
+
+abbrev pub told_of : Reply → Answer
+told_of (reply.Reserved q cid front back) = record nothing { cid = cid; data_pages = front; chain_pages = back }
+told_of (reply.Fetched cid pages) = record (touching pages) { cid = cid }
+told_of (reply.Walked state pages) = walked state pages
+told_of (reply.Completed pages) = touching pages
+told_of (reply.Reaps what) = reaped what
+told_of (reply.Collected status) = ended status
+told_of (reply.Gathered bytes) = record nothing { bytes = length bytes }
+told_of (reply.Sent cid) = record nothing { cid = cid }
+told_of (reply.Refused why pages) = refused why pages
+told_of reply.Accepted = nothing
+told_of reply.NoValue = nothing
+told_of (reply.NotFilled why) = nothing
+
+-- of a step whose handle was closed there is no reply
+abbrev pub told : Option Reply → Answer
+told (Some answer) = told_of answer
+told None = nothing
+
+abbrev pub told_not_opened : NotOpened → Answer
+told_not_opened (not_opened.Refused why) = words.not_opened why
+told_not_opened why = nothing

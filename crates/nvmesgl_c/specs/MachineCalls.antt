@@ -1,0 +1,52 @@
+-- What each call answers, and what it leaves of the bench that a handle keeps.
+use Rattle.std.specs.Prelude.{◌≡◌, ◌⊎◌, ◌<◌, ◌++◌, ℕ, Option, Some, None, List, length, drop, map}
+use Rattle.io_commands.specs.{Asked.Request, declared.request.Kind.Kind}
+use Rattle.machine_model.specs.Script.{Table}
+use Rattle.nvmesgl_c.specs.{Answers.nothing, MachineAnswers.told, MachineCodes.code_of_reply, Requests.{kind_of, piece_of}, declared.words.answer.Answer.Answer}
+use Rattle.nvmesgl_c.specs.declared.words.piece.CPiece.{CPiece}
+use Rattle.step_core.specs.{Bench.Does, Values.{Step, Reply}}
+use Rattle.step_core.specs.declared.step.Reply.TheVariants as reply
+use Rattle.step_core.specs.declared.step.Step.TheVariants as step
+
+-- a step of the bench that a handle keeps, if it keeps one
+abbrev pub DoesKept : Option Table → Step → Option Reply → Option Table → Type 0
+DoesKept None what None new = new ≡ None
+DoesKept (Some t) what (Some answer) (Some new) = Does t what answer new
+DoesKept t what answer new = ⊥
+
+-- a call that is a step
+pub record Says (t : Option Table) (what : Step) (code : ℕ) (answer : Answer) (new : Option Table) : Type 0 where
+  pub reply : Option Reply
+  pub does : DoesKept t what reply new
+  pub code_is : code ≡ code_of_reply reply
+  pub answer_is : answer ≡ told reply
+
+-- a call that makes no step, for a cause; nothing changes
+abbrev pub Refuses : Option Table → ℕ → ℕ → Answer → Option Table → Type 0
+Refuses None cause code answer new = (code ≡ 1) × (answer ≡ nothing) × (new ≡ None)
+Refuses (Some t) cause code answer new = (code ≡ cause) × (answer ≡ nothing) × (new ≡ Some t)
+
+-- a call that is a step, or is refused memory for what the step takes along
+abbrev pub SaysOrWants : Option Table → Step → ℕ → Answer → Option Table → Type 0
+SaysOrWants t what code answer new = Says t what code answer new ⊎ Refuses t 15 code answer new
+
+-- a reservation of a kind of command
+abbrev pub ReservesKind : Option Kind → Option Table → ℕ → ℕ → ℕ → List CPiece → ℕ → Answer → Option Table → Type 0
+ReservesKind None t q slba blocks pieces code answer new = Refuses t 4 code answer new
+ReservesKind (Some k) t q slba blocks pieces code answer new =
+    SaysOrWants t (step.Reserve q (record { kind = k; slba = slba; blocks = blocks; pieces = map piece_of pieces })) code answer new
+
+abbrev pub Reserves : Option Table → ℕ → ℕ → ℕ → ℕ → List CPiece → ℕ → Answer → Option Table → Type 0
+Reserves t q number slba blocks pieces code answer new = ReservesKind (kind_of number) t q slba blocks pieces code answer new
+
+-- a Read's bytes at the front of a buffer, where they fit
+abbrev pub Laid : Option Reply → ℕ → List ℕ → List ℕ → Type 0
+Laid (Some (reply.Gathered bytes)) code old new =
+    ((length old < length bytes) × (code ≡ 5) × (new ≡ old)) ⊎ ((code ≡ 0) × (new ≡ bytes ++ drop (length bytes) old))
+Laid answer code old new = (code ≡ code_of_reply answer) × (new ≡ old)
+
+pub record Gathers (t : Option Table) (q cid code : ℕ) (old buffer : List ℕ) (answer : Answer) (new : Option Table) : Type 0 where
+  pub reply : Option Reply
+  pub does : DoesKept t (step.Gather q cid) reply new
+  pub laid : Laid reply code old buffer
+  pub answer_is : answer ≡ told reply

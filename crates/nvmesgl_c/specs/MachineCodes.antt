@@ -1,0 +1,21 @@
+-- The code of each answer.
+use Rattle.std.specs.Prelude.{ℕ, Option, Some, None}
+use Rattle.nvmesgl_c.specs.{Codes.{code_of_refusal, code_of_fill_fault, code_of_open_refusal}, declared.machine.options.NotOpened.NotOpened}
+use Rattle.step_core.specs.Values.{Reply}
+use Rattle.nvmesgl_c.specs.declared.machine.options.NotOpened.TheVariants as not_opened
+use Rattle.step_core.specs.declared.step.Reply.TheVariants as reply
+
+-- of a step whose handle was closed there is no reply
+abbrev pub code_of_reply : Option Reply → ℕ
+code_of_reply None = 1
+code_of_reply (Some (reply.Refused why touched)) = code_of_refusal why
+code_of_reply (Some reply.NoValue) = 3
+code_of_reply (Some (reply.NotFilled why)) = code_of_fill_fault why
+code_of_reply (Some answer) = 0
+
+abbrev pub code_of_not_opened : NotOpened → ℕ
+code_of_not_opened not_opened.BadSize = 7
+code_of_not_opened not_opened.BadOption = 8
+code_of_not_opened not_opened.BadImage = 9
+code_of_not_opened not_opened.Memory = 15
+code_of_not_opened (not_opened.Refused why) = code_of_open_refusal why

@@ -1,0 +1,102 @@
+//! The calls that are lent a pool.
+
+ghost use Rattle.std.specs.Prelude.{◌≡◌, ◌≤◌, IfOk, IfErr, OnOk, Some, None, length};
+ghost use Rattle.nvmesgl_c.specs.ControllerCalls.{FetchesBy, WalksBy, CompletesBy, Lent, LendsNone};
+
+use crate::controller::code::POOL_TOO_LONG;
+use crate::controller::handle::Handle;
+use crate::controller::over::{complete, fetch, walk};
+use crate::words::code::CLOSED;
+use crate::words::{Answer, MOST_BYTES, nothing};
+use controller_core::Controller;
+use std::alloc::Global;
+
+/// The controller that is kept, taken out for a call that is lent so many bytes.
+///
+/// # Errors
+///
+/// The code, where none is kept or the bytes are too many. Then nothing is taken out.
+pub(crate) fn take_for(
+    alloc: Global,
+    handle: &mut Handle,
+    len: usize,
+) -> Result<Box<Controller, Global>, u32>
+    ensures taken { IfOk result (λ controller. handle.old.controller ≡ Some controller.value) }
+    ensures left { OnOk result (handle.new.controller ≡ None) }
+    ensures fits { OnOk result (len ≤ 268435456) }
+    ensures refused { IfErr result (λ code. LendsNone handle.old.controller len code handle.new.controller) }
+{
+    let Some(controller) = handle.take(alloc) else {
+        return Err(CLOSED);
+    };
+    if len > MOST_BYTES {
+        handle.put(controller);
+        return Err(POOL_TOO_LONG);
+    }
+    Ok(controller)
+}
+
+/// The controller fetches an entry. Its identifier is told.
+#[unsafe(no_mangle)]
+pub extern "C" fn nvmectl_fetch(
+    alloc: Global,
+    handle: &mut Handle,
+    q: u16,
+    pool: &mut [u8],
+    answer: &mut Answer,
+) -> u32
+    ensures { Lent (FetchesBy q) handle.old.controller pool.old result answer.new handle.new.controller pool.new }
+{
+    *answer = nothing();
+    let mut controller = match take_for(alloc, handle, pool.len()) {
+        Ok(controller) => controller,
+        Err(code) => return code,
+    };
+    let code = fetch(&mut controller, q, pool, answer);
+    handle.put(controller);
+    code
+}
+
+/// The controller does a unit of a command's list. How the list stands is told.
+#[unsafe(no_mangle)]
+pub extern "C" fn nvmectl_walk(
+    alloc: Global,
+    handle: &mut Handle,
+    q: u16,
+    cid: u16,
+    pool: &mut [u8],
+    answer: &mut Answer,
+) -> u32
+    ensures { Lent (WalksBy q cid) handle.old.controller pool.old result answer.new handle.new.controller pool.new }
+{
+    *answer = nothing();
+    let mut controller = match take_for(alloc, handle, pool.len()) {
+        Ok(controller) => controller,
+        Err(code) => return code,
+    };
+    let code = walk(&mut controller, q, cid, pool, answer);
+    handle.put(controller);
+    code
+}
+
+/// The controller completes a command.
+#[unsafe(no_mangle)]
+pub extern "C" fn nvmectl_complete(
+    alloc: Global,
+    handle: &mut Handle,
+    q: u16,
+    cid: u16,
+    pool: &mut [u8],
+    answer: &mut Answer,
+) -> u32
+    ensures { Lent (CompletesBy q cid) handle.old.controller pool.old result answer.new handle.new.controller pool.new }
+{
+    *answer = nothing();
+    let mut controller = match take_for(alloc, handle, pool.len()) {
+        Ok(controller) => controller,
+        Err(code) => return code,
+    };
+    let code = complete(&mut controller, q, cid, pool, answer);
+    handle.put(controller);
+    code
+}

@@ -1,0 +1,50 @@
+//! The code of each answer.
+
+ghost use Rattle.std.specs.Prelude.{◌≡◌};
+ghost use Rattle.nvmesgl_c.specs.ControllerCodes as codes;
+
+use crate::controller::options::NotOpened;
+use crate::words::code::{BAD_IMAGE, BAD_OPTION, BAD_SIZE, MEMORY};
+use controller_core::Refusal;
+
+/// A number of the options is outside its limits.
+const BAD_CONFIG: u32 = 12;
+/// No queue of this number takes the call.
+pub(crate) const NO_QUEUE: u32 = 10;
+/// There is no such job.
+pub(crate) const NO_JOB: u32 = 31;
+/// The value is no position that the doorbell can hear.
+pub(crate) const BAD_DOORBELL: u32 = 50;
+/// The pool has more than 65,536 pages.
+pub(crate) const POOL_TOO_LONG: u32 = 51;
+/// The buffer is not whole blocks, or the image has not so many from the block on.
+pub(crate) const NO_BLOCKS: u32 = 52;
+
+/// The code of a refusal.
+pub(crate) fn code_of_refusal(why: Refusal) -> u32
+    ensures { result ≡ codes.code_of_refusal why }
+{
+    match why {
+        Refusal::Memory => 15,
+        Refusal::Idle => 28,
+        Refusal::SlotOut => 29,
+        Refusal::Full => 30,
+        Refusal::NoJob => 31,
+        Refusal::Nothing => 32,
+        Refusal::Walking => 33,
+        Refusal::Waits => 34,
+    }
+}
+
+/// The code of an opening that was not done.
+pub(crate) fn code_of_not_opened(why: NotOpened) -> u32
+    ensures { result ≡ codes.code_of_not_opened why }
+{
+    match why {
+        NotOpened::BadSize => BAD_SIZE,
+        NotOpened::BadOption => BAD_OPTION,
+        NotOpened::BadConfig => BAD_CONFIG,
+        NotOpened::BadImage => BAD_IMAGE,
+        NotOpened::Memory => MEMORY,
+    }
+}

@@ -1,0 +1,74 @@
+//! The two doorbells of a queue.
+
+ghost use Rattle.std.specs.Prelude.{◌≡◌};
+ghost use Rattle.nvmesgl_c.specs.ControllerCalls.{tail_code, head_code, RingsTail, RingsHead};
+
+use crate::controller::code::{BAD_DOORBELL, NO_QUEUE};
+use crate::controller::handle::Handle;
+use crate::words::code::{CLOSED, DONE};
+use controller_core::ControllerQueue;
+use std::alloc::Global;
+
+/// The code of a tail.
+fn code_of_tail(queues: &[ControllerQueue], q: u16, value: u16) -> u32
+    ensures { result ≡ tail_code queues.now q value }
+{
+    match queues.get(usize::from(q)) {
+        Some(queue) => {
+            if value < queue.device.entries() {
+                DONE
+            } else {
+                BAD_DOORBELL
+            }
+        }
+        None => NO_QUEUE,
+    }
+}
+
+/// The code of a head.
+fn code_of_head(queues: &[ControllerQueue], q: u16, value: u16) -> u32
+    ensures { result ≡ head_code queues.now q value }
+{
+    match queues.get(usize::from(q)) {
+        Some(queue) => {
+            let mut device = queue.device;
+            match device.head_bell(value) {
+                Ok(()) => DONE,
+                Err(_) => BAD_DOORBELL,
+            }
+        }
+        None => NO_QUEUE,
+    }
+}
+
+/// A value is written to the tail doorbell of a submission queue.
+#[unsafe(no_mangle)]
+pub extern "C" fn nvmectl_tail(alloc: Global, handle: &mut Handle, q: u16, value: u16) -> u32
+    ensures { RingsTail handle.old.controller q value result handle.new.controller }
+{
+    let Some(mut controller) = handle.take(alloc) else {
+        return CLOSED;
+    };
+    let code = code_of_tail(controller.queues(), q, value);
+    if code == DONE {
+        controller.tail_doorbell(q, value);
+    }
+    handle.put(controller);
+    code
+}
+
+/// A value is written to the head doorbell of a completion queue.
+#[unsafe(no_mangle)]
+pub extern "C" fn nvmectl_head(alloc: Global, handle: &mut Handle, q: u16, value: u16) -> u32
+    ensures { RingsHead handle.old.controller q value result handle.new.controller }
+{
+    let Some(mut controller) = handle.take(alloc) else {
+        return CLOSED;
+    };
+    let code = code_of_head(controller.queues(), q, value);
+    if code == DONE {
+        controller.head_doorbell(q, value);
+    }
+    handle.put(controller);
+    code
+}

@@ -1,0 +1,106 @@
+//! What a handle shows of its controller.
+
+ghost use Rattle.std.specs.Prelude.{◌≡◌};
+ghost use Rattle.nvmesgl_c.specs.ControllerLooks as looks;
+ghost use Rattle.nvmesgl_c.specs.ControllerLooks.{TellsCommand, TellsBlocks};
+
+use crate::controller::code::{NO_BLOCKS, NO_JOB};
+use crate::controller::handle::Handle;
+use crate::words::code::{CLOSED, DONE};
+use block_image::Image;
+use controller_core::FetchedCommand;
+use std::alloc::Global;
+
+/// A command that was fetched and not completed.
+#[repr(C)]
+#[derive(Clone, Copy)]
+pub struct CCommand {
+    /// How many units of its list were done.
+    pub units: u32,
+    /// Whether it has its verdict: nothing of its list is left to walk, and it may be completed.
+    pub ended: bool,
+    /// The status code type of its verdict, or 0.
+    pub sct: u8,
+    /// The status code of its verdict, or 0.
+    pub sc: u8,
+}
+
+/// A command, as C sees it.
+fn command_of(command: &FetchedCommand) -> CCommand
+    ensures { result ≡ looks.command_of command.now }
+{
+    let units = command.units_done;
+    match command.work.verdict() {
+        Some(status) => CCommand {
+            units,
+            ended: true,
+            sct: status.sct,
+            sc: status.sc,
+        },
+        None => CCommand {
+            units,
+            ended: false,
+            sct: 0,
+            sc: 0,
+        },
+    }
+}
+
+/// Copies blocks into a buffer, where the image has them.
+fn copy_blocks(image: &Image, slba: u64, buffer: &mut [u8]) -> u32
+    ensures { looks.Copies image.now slba result buffer.old buffer.new }
+{
+    if buffer.len() % 512 != 0 {
+        return NO_BLOCKS;
+    }
+    let count = (buffer.len() / 512) as u64;
+    let blocks = u64::from(image.blocks());
+    if slba > blocks || count > blocks - slba {
+        return NO_BLOCKS;
+    }
+    image.copy_out(slba, buffer);
+    DONE
+}
+
+/// Tells of a command that was fetched and not completed.
+#[unsafe(no_mangle)]
+pub extern "C" fn nvmectl_command(
+    alloc: Global,
+    handle: &mut Handle,
+    q: u16,
+    cid: u16,
+    command: &mut CCommand,
+) -> u32
+    ensures { TellsCommand handle.old.controller q cid result command.old command.new handle.new.controller }
+{
+    let Some(controller) = handle.take(alloc) else {
+        return CLOSED;
+    };
+    let code = match controller.command(q, cid) {
+        Some(found) => {
+            *command = command_of(found);
+            DONE
+        }
+        None => NO_JOB,
+    };
+    handle.put(controller);
+    code
+}
+
+/// Copies blocks of the image into a buffer, from `slba` on.
+#[unsafe(no_mangle)]
+pub extern "C" fn nvmectl_blocks(
+    alloc: Global,
+    handle: &mut Handle,
+    slba: u64,
+    buffer: &mut [u8],
+) -> u32
+    ensures { TellsBlocks handle.old.controller slba result buffer.old buffer.new handle.new.controller }
+{
+    let Some(controller) = handle.take(alloc) else {
+        return CLOSED;
+    };
+    let code = copy_blocks(controller.image(), slba, buffer);
+    handle.put(controller);
+    code
+}

@@ -1,0 +1,89 @@
+//! The opening and the closing of a handle, and the reset.
+
+ghost use Rattle.std.specs.Prelude.{◌≡◌, ◌≤◌, None, IfOk, IfErr, length};
+ghost use Rattle.nvmesgl_c.specs.ControllerCalls.{Resets};
+ghost use Rattle.nvmesgl_c.specs.ControllerOptions.{Opens, IsOpened, IsWhy};
+
+use crate::controller::code::code_of_not_opened;
+use crate::controller::handle::Handle;
+use crate::controller::options::{CQueue, NotOpened, Options, entries_of, pages_of};
+use crate::words::code::{CLOSED, DONE, OPEN};
+use crate::words::image_for;
+use block_image::ImageError;
+use controller_core::Controller;
+use std::alloc::Global;
+
+/// A controller in a box.
+fn open_controller(
+    alloc: Global,
+    given: &Options,
+    queues: &[CQueue],
+    bytes: &[u8],
+) -> Result<Box<Controller, Global>, NotOpened>
+    ensures opened { IfOk result (λ controller. IsOpened given.now queues.now bytes.now controller.value) }
+    ensures not_opened { IfErr result (λ why. IsWhy given.now (length queues.now) bytes.now why) }
+{
+    let entries = entries_of(given, queues)?;
+    let image = match image_for(alloc, given.blocks, bytes) {
+        Ok(image) => image,
+        Err(ImageError::BadLength) => return Err(NotOpened::BadImage),
+        Err(ImageError::Memory) => return Err(NotOpened::Memory),
+    };
+    let Ok(pages) = pages_of(alloc, queues) else {
+        return Err(NotOpened::Memory);
+    };
+    match Controller::open(alloc, entries, &pages, image) {
+        Ok(controller) => match Box::new(alloc, controller) {
+            Ok(controller) => Ok(controller),
+            Err(_) => Err(NotOpened::Memory),
+        },
+        Err(_) => Err(NotOpened::Memory),
+    }
+}
+
+/// Opens a handle that is closed, with queues that begin at these pages: over the bytes of an image, or over blocks of zeros where no byte is given.
+#[unsafe(no_mangle)]
+pub extern "C" fn nvmectl_open(
+    alloc: Global,
+    handle: &mut Handle,
+    given: &Options,
+    queues: &[CQueue],
+    image: &[u8],
+) -> u32
+    ensures { Opens handle.old.controller given.now queues.now image.now result handle.new.controller }
+{
+    if let Some(controller) = handle.take(alloc) {
+        handle.put(controller);
+        return OPEN;
+    }
+    match open_controller(alloc, given, queues, image) {
+        Ok(controller) => {
+            handle.put(controller);
+            DONE
+        }
+        Err(why) => code_of_not_opened(why),
+    }
+}
+
+/// Closes a handle, if it is open: all that it holds is let go, whatever is fetched.
+#[unsafe(no_mangle)]
+pub extern "C" fn nvmectl_close(alloc: Global, handle: &mut Handle)
+    ensures { handle.new.controller ≡ None }
+{
+    if let Some(controller) = handle.take(alloc) {
+        drop(controller);
+    }
+}
+
+/// Resets the controller: no command is left, and only queue 0 is there.
+#[unsafe(no_mangle)]
+pub extern "C" fn nvmectl_reset(alloc: Global, handle: &mut Handle) -> u32
+    ensures { Resets handle.old.controller result handle.new.controller }
+{
+    let Some(mut controller) = handle.take(alloc) else {
+        return CLOSED;
+    };
+    controller.reset();
+    handle.put(controller);
+    DONE
+}

@@ -1,0 +1,100 @@
+//! What C is told of a reply besides its code.
+
+ghost use Rattle.std.specs.Prelude.{◌≡◌};
+ghost use Rattle.nvmesgl_c.specs.HostAnswers as answers;
+
+use crate::host::options::NotOpened;
+use crate::words::{Answer, ended, not_opened, nothing, reaped, refused};
+use host_core::{Doorbell, Reply};
+
+/// A value for a doorbell register, where there is one.
+#[repr(C)]
+#[derive(Clone, Copy)]
+pub struct CDoorbell {
+    /// The offset of the register in bytes, where doorbells lie 4 bytes apart, or 0.
+    pub offset: u32,
+    /// The value to write there, or 0.
+    pub value: u32,
+    /// Whether there is one.
+    pub rings: bool,
+}
+
+/// What a reply tells.
+fn told_of(reply: &Reply) -> Answer
+    ensures { result ≡ answers.told_of reply.now }
+{
+    match reply {
+        Reply::Reserved {
+            q: _,
+            cid,
+            data,
+            chain,
+        } => Answer {
+            cid: *cid,
+            data_pages: *data,
+            chain_pages: *chain,
+            ..nothing()
+        },
+        Reply::Reaps { found, bell: _ } => reaped(*found),
+        Reply::Collected(status) => ended(*status),
+        Reply::Gathered(bytes) => Answer {
+            bytes: bytes.as_slice().len(),
+            ..nothing()
+        },
+        Reply::Sent { cid } => Answer {
+            cid: *cid,
+            ..nothing()
+        },
+        Reply::Refused(why) => refused(*why, &[]),
+        Reply::Accepted | Reply::Rung(_) | Reply::NoValue | Reply::NotFilled(_) => nothing(),
+    }
+}
+
+/// What a call's reply tells, of a handle that was open or not.
+pub(crate) fn told(reply: &Option<Reply>) -> Answer
+    ensures { result ≡ answers.told reply.now }
+{
+    match reply {
+        Some(reply) => told_of(reply),
+        None => nothing(),
+    }
+}
+
+/// A doorbell, as C sees it.
+fn shown_bell(bell: Option<Doorbell>) -> CDoorbell
+    ensures { result ≡ answers.shown_bell bell }
+{
+    match bell {
+        Some(bell) => CDoorbell {
+            offset: bell.offset,
+            value: bell.value,
+            rings: true,
+        },
+        None => CDoorbell {
+            offset: 0,
+            value: 0,
+            rings: false,
+        },
+    }
+}
+
+/// The doorbell that a call's reply tells, of a handle that was open or not.
+pub(crate) fn bell_of(reply: &Option<Reply>) -> CDoorbell
+    ensures { result ≡ answers.bell_of reply.now }
+{
+    match reply {
+        Some(Reply::Rung(bell)) => shown_bell(Some(*bell)),
+        Some(Reply::Reaps { found: _, bell }) => shown_bell(*bell),
+        Some(_) | None => shown_bell(None),
+    }
+}
+
+/// What an opening that was not done tells.
+pub(crate) fn told_not_opened(why: NotOpened) -> Answer
+    ensures { result ≡ answers.told_not_opened why }
+{
+    match why {
+        NotOpened::Refused(why) => not_opened(why),
+        NotOpened::BadSize | NotOpened::BadOption | NotOpened::Memory => nothing(),
+    }
+}

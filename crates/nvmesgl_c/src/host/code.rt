@@ -1,0 +1,43 @@
+//! The code of each answer.
+
+ghost use Rattle.std.specs.Prelude.{◌≡◌};
+ghost use Rattle.nvmesgl_c.specs.HostCodes as codes;
+
+use crate::host::options::NotOpened;
+use crate::words::code::{
+    BAD_OPTION, BAD_SIZE, CLOSED, DONE, MEMORY, NO_VALUE, code_of_fill_fault, code_of_open_refusal,
+    code_of_refusal,
+};
+use host_core::Reply;
+
+/// No queue of this number is there.
+pub(crate) const NO_QUEUE: u32 = 10;
+/// No byte is to be moved, or more than 4,096 are.
+pub(crate) const BAD_LENGTH: u32 = 53;
+/// A byte is outside the pool, or on a page that is out.
+pub(crate) const PAGE_OUT: u32 = 54;
+
+/// The code of what a call answered, of a handle that was open or not.
+pub(crate) fn code_of_reply(reply: &Option<Reply>) -> u32
+    ensures { result ≡ codes.code_of_reply reply.now }
+{
+    match reply {
+        None => CLOSED,
+        Some(Reply::Refused(why)) => code_of_refusal(*why),
+        Some(Reply::NoValue) => NO_VALUE,
+        Some(Reply::NotFilled(why)) => code_of_fill_fault(*why),
+        Some(_) => DONE,
+    }
+}
+
+/// The code of an opening that was not done.
+pub(crate) fn code_of_not_opened(why: NotOpened) -> u32
+    ensures { result ≡ codes.code_of_not_opened why }
+{
+    match why {
+        NotOpened::BadSize => BAD_SIZE,
+        NotOpened::BadOption => BAD_OPTION,
+        NotOpened::Memory => MEMORY,
+        NotOpened::Refused(why) => code_of_open_refusal(why),
+    }
+}

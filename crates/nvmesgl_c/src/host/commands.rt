@@ -1,0 +1,170 @@
+//! The calls of a command, named by its queue and identifier.
+
+ghost use Rattle.std.specs.Prelude.{◌≡◌, IfSome};
+ghost use Rattle.nvmesgl_c.specs.HostCalls.{Says, SaysOrWants, Reserves, Gathers};
+ghost use Rattle.host_core.specs.declared.call.Call.TheVariants as call;
+
+use crate::host::answer::told;
+use crate::host::calls::{make, refuse, say};
+use crate::host::code::code_of_reply;
+use crate::host::handle::Handle;
+use crate::words::code::{MEMORY, NO_KIND, TOO_SHORT};
+use crate::words::{Answer, CPiece, kind_of, pieces_of};
+use host_core::{Bytes, Call, Reply, Request};
+use std::alloc::Global;
+
+/// Reserves a command. Its identifier and how many pages it has are told.
+#[unsafe(no_mangle)]
+pub extern "C" fn nvmehost_reserve(
+    alloc: Global,
+    handle: &mut Handle,
+    q: u16,
+    kind: u32,
+    slba: u64,
+    blocks: u32,
+    pieces: &[CPiece],
+    answer: &mut Answer,
+) -> u32
+    ensures { Reserves handle.old.bench q kind slba blocks pieces.now result answer.new handle.new.bench }
+{
+    let Some(kind) = kind_of(kind) else {
+        return refuse(alloc, handle, NO_KIND, answer);
+    };
+    let Ok(pieces) = pieces_of(alloc, pieces) else {
+        return refuse(alloc, handle, MEMORY, answer);
+    };
+    let request = Request {
+        kind,
+        slba,
+        blocks,
+        pieces,
+    };
+    say(alloc, handle, Call::Reserve { q, request }, answer)
+}
+
+/// Fills a draft with the bytes, padded with zeros to its Data length.
+#[unsafe(no_mangle)]
+pub extern "C" fn nvmehost_fill(
+    alloc: Global,
+    handle: &mut Handle,
+    q: u16,
+    cid: u16,
+    bytes: &[u8],
+    answer: &mut Answer,
+) -> u32
+    ensures { SaysOrWants handle.old.bench (call.Fill q cid bytes.now) result answer.new handle.new.bench }
+{
+    let Ok(copied) = Vec::from_slice(alloc, bytes) else {
+        return refuse(alloc, handle, MEMORY, answer);
+    };
+    let bytes = Bytes::from_vec(copied);
+    say(alloc, handle, Call::Fill { q, cid, bytes }, answer)
+}
+
+/// Gathers a Read's bytes into the front of a buffer.
+#[unsafe(no_mangle)]
+pub extern "C" fn nvmehost_gather(
+    alloc: Global,
+    handle: &mut Handle,
+    q: u16,
+    cid: u16,
+    buffer: &mut [u8],
+    answer: &mut Answer,
+) -> u32
+    ensures { Gathers handle.old.bench q cid result buffer.old buffer.new answer.new handle.new.bench }
+{
+    let reply = make(alloc, handle, Call::Gather { q, cid });
+    *answer = told(&reply);
+    if let Some(Reply::Gathered(bytes)) = &reply {
+        let bytes = bytes.as_slice();
+        if buffer.len() < bytes.len() {
+            return TOO_SHORT;
+        }
+        buffer[..bytes.len()].copy_from_slice(bytes);
+    }
+    code_of_reply(&reply)
+}
+
+/// Lays a draft's chain.
+#[unsafe(no_mangle)]
+pub extern "C" fn nvmehost_build(
+    alloc: Global,
+    handle: &mut Handle,
+    q: u16,
+    cid: u16,
+    answer: &mut Answer,
+) -> u32
+    ensures { Says handle.old.bench (call.Build q cid) result answer.new handle.new.bench }
+{
+    say(alloc, handle, Call::Build { q, cid }, answer)
+}
+
+/// Submits a draft.
+#[unsafe(no_mangle)]
+pub extern "C" fn nvmehost_submit(
+    alloc: Global,
+    handle: &mut Handle,
+    q: u16,
+    cid: u16,
+    answer: &mut Answer,
+) -> u32
+    ensures { Says handle.old.bench (call.Submit q cid) result answer.new handle.new.bench }
+{
+    say(alloc, handle, Call::Submit { q, cid }, answer)
+}
+
+/// Cancels a draft.
+#[unsafe(no_mangle)]
+pub extern "C" fn nvmehost_cancel(
+    alloc: Global,
+    handle: &mut Handle,
+    q: u16,
+    cid: u16,
+    answer: &mut Answer,
+) -> u32
+    ensures { Says handle.old.bench (call.Cancel q cid) result answer.new handle.new.bench }
+{
+    say(alloc, handle, Call::Cancel { q, cid }, answer)
+}
+
+/// Collects a command that has ended. Its status is told.
+#[unsafe(no_mangle)]
+pub extern "C" fn nvmehost_collect(
+    alloc: Global,
+    handle: &mut Handle,
+    q: u16,
+    cid: u16,
+    answer: &mut Answer,
+) -> u32
+    ensures { Says handle.old.bench (call.Collect q cid) result answer.new handle.new.bench }
+{
+    say(alloc, handle, Call::Collect { q, cid }, answer)
+}
+
+/// Releases a finished command.
+#[unsafe(no_mangle)]
+pub extern "C" fn nvmehost_release(
+    alloc: Global,
+    handle: &mut Handle,
+    q: u16,
+    cid: u16,
+    answer: &mut Answer,
+) -> u32
+    ensures { Says handle.old.bench (call.Release q cid) result answer.new handle.new.bench }
+{
+    say(alloc, handle, Call::Release { q, cid }, answer)
+}
+
+/// Sends an Abort of a command. The identifier on queue 0 is told.
+#[unsafe(no_mangle)]
+pub extern "C" fn nvmehost_abort(
+    alloc: Global,
+    handle: &mut Handle,
+    q: u16,
+    cid: u16,
+    answer: &mut Answer,
+) -> u32
+    ensures { Says handle.old.bench (call.Abort q cid) result answer.new handle.new.bench }
+{
+    say(alloc, handle, Call::Abort { q, cid }, answer)
+}

@@ -1,0 +1,67 @@
+//! The opening and the closing of a handle.
+
+ghost use Rattle.std.specs.Prelude.{◌≡◌, None, IfOk, IfErr};
+ghost use Rattle.nvmesgl_c.specs.HostOptions.{Opens, IsOpened, IsWhy};
+
+use crate::host::answer::told_not_opened;
+use crate::host::code::code_of_not_opened;
+use crate::host::handle::Handle;
+use crate::host::options::{NotOpened, Options, config_of, fault_of};
+use crate::words::code::{DONE, OPEN};
+use crate::words::{Answer, nothing};
+use host_core::HostBench;
+use std::alloc::Global;
+
+/// A host in a box.
+fn open_bench(alloc: Global, given: &Options) -> Result<Box<HostBench, Global>, NotOpened>
+    ensures opened { IfOk result (λ bench. IsOpened given.now bench.value) }
+    ensures not_opened { IfErr result (λ why. IsWhy given.now why) }
+{
+    if let Some(why) = fault_of(given) {
+        return Err(why);
+    }
+    match HostBench::open(alloc, config_of(given)) {
+        Ok(bench) => match Box::new(alloc, bench) {
+            Ok(bench) => Ok(bench),
+            Err(_) => Err(NotOpened::Memory),
+        },
+        Err(why) => Err(NotOpened::Refused(why)),
+    }
+}
+
+/// Opens a handle that is closed.
+#[unsafe(no_mangle)]
+pub extern "C" fn nvmehost_open(
+    alloc: Global,
+    handle: &mut Handle,
+    given: &Options,
+    answer: &mut Answer,
+) -> u32
+    ensures { Opens handle.old.bench given.now result answer.new handle.new.bench }
+{
+    *answer = nothing();
+    if let Some(bench) = handle.take(alloc) {
+        handle.put(bench);
+        return OPEN;
+    }
+    match open_bench(alloc, given) {
+        Ok(bench) => {
+            handle.put(bench);
+            DONE
+        }
+        Err(why) => {
+            *answer = told_not_opened(why);
+            code_of_not_opened(why)
+        }
+    }
+}
+
+/// Closes a handle, if it is open: all that it holds is let go, whatever is outstanding.
+#[unsafe(no_mangle)]
+pub extern "C" fn nvmehost_close(alloc: Global, handle: &mut Handle)
+    ensures { handle.new.bench ≡ None }
+{
+    if let Some(bench) = handle.take(alloc) {
+        drop(bench);
+    }
+}

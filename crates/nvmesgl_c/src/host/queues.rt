@@ -1,0 +1,112 @@
+//! The calls of a queue.
+
+ghost use Rattle.nvmesgl_c.specs.HostCalls.{Says, SaysBell};
+ghost use Rattle.host_core.specs.declared.call.Call.TheVariants as call;
+
+use crate::host::answer::CDoorbell;
+use crate::host::calls::{say, say_bell};
+use crate::host::handle::Handle;
+use crate::words::Answer;
+use host_core::Call;
+use std::alloc::Global;
+
+/// Tells the value for the tail doorbell of a queue.
+#[unsafe(no_mangle)]
+pub extern "C" fn nvmehost_ring(
+    alloc: Global,
+    handle: &mut Handle,
+    q: u16,
+    bell: &mut CDoorbell,
+    answer: &mut Answer,
+) -> u32
+    ensures { SaysBell handle.old.bench (call.Ring q) result bell.new answer.new handle.new.bench }
+{
+    say_bell(alloc, handle, Call::Ring { q }, bell, answer)
+}
+
+/// Takes a completion from a queue. What was found is told, and the value for the head doorbell.
+#[unsafe(no_mangle)]
+pub extern "C" fn nvmehost_reap(
+    alloc: Global,
+    handle: &mut Handle,
+    q: u16,
+    bell: &mut CDoorbell,
+    answer: &mut Answer,
+) -> u32
+    ensures { SaysBell handle.old.bench (call.Reap q) result bell.new answer.new handle.new.bench }
+{
+    say_bell(alloc, handle, Call::Reap { q }, bell, answer)
+}
+
+/// Sends the deletion of a submission queue. The identifier on queue 0 is told.
+#[unsafe(no_mangle)]
+pub extern "C" fn nvmehost_delete_sq(
+    alloc: Global,
+    handle: &mut Handle,
+    q: u16,
+    answer: &mut Answer,
+) -> u32
+    ensures { Says handle.old.bench (call.DeleteSq q) result answer.new handle.new.bench }
+{
+    say(alloc, handle, Call::DeleteSq { q }, answer)
+}
+
+/// Sends the deletion of a completion queue. The identifier on queue 0 is told.
+#[unsafe(no_mangle)]
+pub extern "C" fn nvmehost_delete_cq(
+    alloc: Global,
+    handle: &mut Handle,
+    q: u16,
+    answer: &mut Answer,
+) -> u32
+    ensures { Says handle.old.bench (call.DeleteCq q) result answer.new handle.new.bench }
+{
+    say(alloc, handle, Call::DeleteCq { q }, answer)
+}
+
+/// Sends the creation of a completion queue. The identifier on queue 0 is told.
+#[unsafe(no_mangle)]
+pub extern "C" fn nvmehost_create_cq(
+    alloc: Global,
+    handle: &mut Handle,
+    q: u16,
+    answer: &mut Answer,
+) -> u32
+    ensures { Says handle.old.bench (call.CreateCq q) result answer.new handle.new.bench }
+{
+    say(alloc, handle, Call::CreateCq { q }, answer)
+}
+
+/// Sends the creation of a submission queue. The identifier on queue 0 is told.
+#[unsafe(no_mangle)]
+pub extern "C" fn nvmehost_create_sq(
+    alloc: Global,
+    handle: &mut Handle,
+    q: u16,
+    answer: &mut Answer,
+) -> u32
+    ensures { Says handle.old.bench (call.CreateSq q) result answer.new handle.new.bench }
+{
+    say(alloc, handle, Call::CreateSq { q }, answer)
+}
+
+/// Retires a queue whose submission queue is deleted.
+#[unsafe(no_mangle)]
+pub extern "C" fn nvmehost_retire(
+    alloc: Global,
+    handle: &mut Handle,
+    q: u16,
+    answer: &mut Answer,
+) -> u32
+    ensures { Says handle.old.bench (call.Retire q) result answer.new handle.new.bench }
+{
+    say(alloc, handle, Call::Retire { q }, answer)
+}
+
+/// Begins again, where the controller is reset.
+#[unsafe(no_mangle)]
+pub extern "C" fn nvmehost_reset(alloc: Global, handle: &mut Handle, answer: &mut Answer) -> u32
+    ensures { Says handle.old.bench call.Reset result answer.new handle.new.bench }
+{
+    say(alloc, handle, Call::Reset, answer)
+}

@@ -1,0 +1,37 @@
+//! The code of each answer.
+
+ghost use Rattle.std.specs.Prelude.{◌≡◌};
+ghost use Rattle.nvmesgl_c.specs.MachineCodes as codes;
+
+use crate::machine::options::NotOpened;
+use crate::words::code::{
+    BAD_IMAGE, BAD_OPTION, BAD_SIZE, CLOSED, DONE, MEMORY, NO_VALUE, code_of_fill_fault,
+    code_of_open_refusal, code_of_refusal,
+};
+use step_core::Reply;
+
+/// The code of what a step answered, of a handle that was open or not.
+pub(crate) fn code_of_reply(reply: &Option<Reply>) -> u32
+    ensures { result ≡ codes.code_of_reply reply.now }
+{
+    match reply {
+        None => CLOSED,
+        Some(Reply::Refused { why, .. }) => code_of_refusal(*why),
+        Some(Reply::NoValue) => NO_VALUE,
+        Some(Reply::NotFilled(why)) => code_of_fill_fault(*why),
+        Some(_) => DONE,
+    }
+}
+
+/// The code of an opening that was not done.
+pub(crate) fn code_of_not_opened(why: NotOpened) -> u32
+    ensures { result ≡ codes.code_of_not_opened why }
+{
+    match why {
+        NotOpened::BadSize => BAD_SIZE,
+        NotOpened::BadOption => BAD_OPTION,
+        NotOpened::BadImage => BAD_IMAGE,
+        NotOpened::Memory => MEMORY,
+        NotOpened::Refused(why) => code_of_open_refusal(why),
+    }
+}

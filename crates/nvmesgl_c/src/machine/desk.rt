@@ -1,0 +1,90 @@
+//! A bench that ends where it is dropped.
+
+ghost use Rattle.std.specs.Prelude.{◌≡◌, IfOk, IfErr, None, length};
+ghost use Rattle.machine_model.specs.Claims.{counts_of};
+ghost use Rattle.machine_model.specs.Script.{table};
+ghost use Rattle.nvmesgl_c.specs.MachineLooks.{FindsOwner};
+ghost use Rattle.step_core.specs.Bench.{Does};
+ghost use Rattle.host_core.specs.Opening.{refusal_of_config, RefusesOpening};
+ghost use Rattle.step_core.specs.Opening.{opening_of};
+
+use std::alloc::Global;
+use std::marker::Model;
+use step_core::{Bench, Config, Counts, Image, OpenRefused, Owner, PageNo, Reply, Step};
+
+/// A bench that ends where it is dropped. Contracts see the bench's table.
+pub struct Desk {
+    bench: Bench,
+}
+
+impl Model for Desk {
+    ghost use Rattle.machine_model.specs.Script.{Table};
+
+    ghost Value = { Table };
+
+    ghost view = { λ d. d.bench.table };
+}
+
+impl Desk {
+    /// Opens a bench over an image.
+    ///
+    /// # Errors
+    ///
+    /// As `Bench::open`. The image comes back.
+    pub fn open(alloc: Global, config: Config, image: Image) -> Result<Desk, OpenRefused>
+        ensures fits { IfOk result (λ desk. refusal_of_config config ≡ None) }
+        ensures opened { IfOk result (λ desk. desk ≡ table (opening_of config image)) }
+        ensures refused { IfErr result (λ refused. RefusesOpening config refused.why) }
+    {
+        match Bench::open(alloc, config, image) {
+            Ok(bench) => Ok(Desk { bench }),
+            Err(refused) => Err(refused),
+        }
+    }
+
+    /// How many pages each class has.
+    pub fn counts(&self) -> Counts
+        ensures { result ≡ counts_of self.now.world.host }
+    {
+        self.bench.counts()
+    }
+
+    /// How many pages the pool has.
+    pub fn pages(&self) -> u32
+        ensures { result ≡ length self.now.world.memory }
+    {
+        self.bench.pages()
+    }
+
+    /// Whether nothing was forged since the opening or the last reset.
+    pub fn trusted(&self) -> bool
+        ensures { result ≡ self.now.world.trusted }
+    {
+        self.bench.trusted()
+    }
+
+    /// Whose a page is; none where the pool has no such page.
+    pub fn owner(&self, page: u32) -> Option<Owner>
+        ensures { FindsOwner self.now page result }
+    {
+        if page < self.bench.pages() {
+            Some(self.bench.owner(PageNo(page)))
+        } else {
+            None
+        }
+    }
+
+    /// Does one step.
+    pub fn step(&mut self, step: Step) -> Reply
+        ensures { Does self.old step result self.new }
+    {
+        self.bench.step(step)
+    }
+}
+
+impl Drop for Desk {
+    fn drop(self) {
+        let Desk { bench } = self;
+        drop(bench.end());
+    }
+}

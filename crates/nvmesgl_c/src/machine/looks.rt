@@ -1,0 +1,81 @@
+//! What a handle shows of the pool.
+
+ghost use Rattle.std.specs.Prelude.{◌≡◌, ◌<◌, length};
+ghost use Rattle.nvmesgl_c.specs.MachineLooks as looks;
+ghost use Rattle.nvmesgl_c.specs.MachineLooks.{TellsCounts, TellsOwner};
+
+use crate::machine::desk::Desk;
+use crate::machine::handle::Handle;
+use crate::words::code::{CLOSED, DONE, NO_PAGE};
+use crate::words::{COwner, owner_of};
+use std::alloc::Global;
+
+/// How many pages a pool has and each class of them, and whether nothing was forged since the opening or the last reset.
+#[repr(C)]
+#[derive(Clone, Copy)]
+pub struct CCounts {
+    /// All pages.
+    pub pages: u32,
+    /// The pages that nobody owns.
+    pub free_pages: u32,
+    /// The pages of queues.
+    pub queue_pages: u32,
+    /// The pages that hold segments of commands' lists.
+    pub chain_pages: u32,
+    /// The pages that hold commands' data.
+    pub data_pages: u32,
+    /// Whether nothing was forged.
+    pub trusted: bool,
+}
+
+/// What a desk counts.
+fn counts_of(desk: &Desk) -> CCounts
+    ensures { result ≡ looks.counts_of desk.now }
+{
+    let counts = desk.counts();
+    CCounts {
+        pages: desk.pages(),
+        free_pages: counts.free_pages,
+        queue_pages: counts.queue_pages,
+        chain_pages: counts.chain_pages,
+        data_pages: counts.data_pages,
+        trusted: desk.trusted(),
+    }
+}
+
+/// Tells how many pages the pool has and each class of them.
+#[unsafe(no_mangle)]
+pub extern "C" fn nvmesgl_counts(alloc: Global, handle: &mut Handle, counts: &mut CCounts) -> u32
+    ensures { TellsCounts handle.old.bench result counts.old counts.new handle.new.bench }
+{
+    let Some(desk) = handle.take(alloc) else {
+        return CLOSED;
+    };
+    *counts = counts_of(&desk);
+    handle.put(desk);
+    DONE
+}
+
+/// Tells who owns a page.
+#[unsafe(no_mangle)]
+pub extern "C" fn nvmesgl_owner(
+    alloc: Global,
+    handle: &mut Handle,
+    page: u32,
+    owner: &mut COwner,
+) -> u32
+    ensures { TellsOwner handle.old.bench page result owner.old owner.new handle.new.bench }
+{
+    let Some(desk) = handle.take(alloc) else {
+        return CLOSED;
+    };
+    let found = desk.owner(page);
+    handle.put(desk);
+    match found {
+        Some(found) => {
+            *owner = owner_of(found);
+            DONE
+        }
+        None => NO_PAGE,
+    }
+}

@@ -1,0 +1,19 @@
+//! What the C libraries stand on: codes, answers and requests as C writes them (`c/nvmesgl.h` declares the same), and
+//! memory that C lends.
+
+mod answer;
+pub mod code;
+mod image;
+mod lent;
+mod lent_record;
+mod owner;
+mod piece;
+mod reserved;
+
+pub use answer::{Answer, ended, not_opened, nothing, reaped, refused, touching, walked};
+pub use image::image_for;
+pub use lent::{LentMemory, MOST_BYTES};
+pub use lent_record::LentRecord;
+pub use owner::{COwner, owner_of};
+pub use piece::{CPiece, kind_of, pieces_of};
+pub use reserved::has_set_word;

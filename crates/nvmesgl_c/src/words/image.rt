@@ -1,0 +1,28 @@
+//! The image that C gives.
+
+ghost use Rattle.std.specs.Prelude.{◌≡◌, IfOk, IfErr};
+ghost use Rattle.nvmesgl_c.specs.Images.{image_of, IsNoImage};
+
+use block_image::{Image, ImageError};
+use std::alloc::Global;
+
+/// The image of the bytes, or of so many blocks of zeros where no byte is given.
+///
+/// # Errors
+///
+/// `BadLength` where the bytes, or else the blocks, are none or too many, or a block is cut short; `Memory` where memory is refused.
+pub fn image_for(alloc: Global, blocks: u32, bytes: &[u8]) -> Result<Image, ImageError>
+    ensures made { IfOk result (λ image. image ≡ image_of blocks bytes.now) }
+    ensures not_made { IfErr result (λ why. IsNoImage blocks bytes.now why) }
+{
+    if bytes.is_empty() {
+        return Image::zeroed(alloc, blocks);
+    }
+    let Ok(copied) = Vec::from_slice(alloc, bytes) else {
+        return Err(ImageError::Memory);
+    };
+    match Image::from_bytes(copied) {
+        Ok(image) => Ok(image),
+        Err(_) => Err(ImageError::BadLength),
+    }
+}

@@ -1,0 +1,10 @@
+//! Sessions: commands as somebody types them.
+//!
+//! The commands are `nvmesgl ..`, `cat FILE`, and either with `; echo $?` behind it.
+
+mod command;
+mod play;
+mod printed;
+mod terminal;
+
+pub(crate) use play::play_session;

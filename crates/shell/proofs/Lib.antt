@@ -1,3 +1,0 @@
-pub mod RingTexts
-pub mod Rows
-pub mod Said

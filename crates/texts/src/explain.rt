@@ -1,0 +1,27 @@
+//! What the modelled controller makes of bytes that somebody pastes in, told for people who write firmware.
+//!
+//! [`read_case`] reads pages, blocks and a submission entry from lines. [`explain`] walks the entry's list over these with the walk of
+//! `controller_walk` and keeps each descriptor that it takes; [`put_explanation`] writes a line for each, and then how the command ends and by
+//! which rule; [`put_objects`] writes the same as JSON. [`explain_text`] does all three. [`show`] decodes a single entry or descriptor. The lines are this project's own.
+
+mod answer;
+mod case;
+mod command;
+mod fault;
+mod json;
+pub mod laws;
+mod lines;
+mod list;
+mod round;
+mod single;
+mod text;
+
+pub use answer::{Answer, Layout, explain_text};
+pub use case::{Case, CaseReader, read_case};
+pub use command::{Explanation, explain};
+pub use fault::{CaseFault, Wrong};
+pub use json::put_objects;
+pub use lines::Stop;
+pub use list::Taken;
+pub use single::{Shown, show};
+pub use text::{fault_lines, put_explanation};

@@ -1,0 +1,186 @@
+//! A command, from its entry to its status.
+
+ghost use Rattle.std.specs.Prelude.{◌≡◌, ◌≤◌, ◌<◌, ◌*◌, [], ℕ, Bool, List, None, Some, IfOk, IfSome, false, length};
+ghost use Rattle.std.specs.Result.{result_err};
+ghost use Rattle.block_image.specs.Blocks.{block_count};
+ghost use Rattle.controller_walk.specs.Faults.{next_of};
+ghost use Rattle.controller_walk.specs.Laws.{IsApart};
+ghost use Rattle.controller_walk.specs.Units.{course_of_list};
+ghost use Rattle.controller_walk.specs.Walks.{course, direction_of, is_over, need_of};
+ghost use Rattle.texts.specs.Ending.{Ends, ends_with, list_of};
+ghost use Rattle.texts.specs.Taking.{AreOf, own};
+ghost use Rattle.io_commands.specs.Jobs.{kind_of_opcode, first_block as spec_first_block, block_number as spec_block_number, need_of_entry, direction_of_entry, io_fault, first_bytes as spec_first_bytes};
+ghost use Rattle.page_memory.specs.Memory.{Memory};
+
+use crate::explain::list::{Taken, Walked, walk_list};
+use block_image::{BLOCK_SIZE, Image};
+use controller_walk::{Walk, WalkFault};
+use entry_codec::{Status, SubEntry, io_opcode};
+use io_commands::{Kind, begin_job};
+use page_memory::TouchRecord;
+use std::alloc::{AllocError, Global};
+
+/// What became of a command.
+#[derive(Debug, Drop)]
+pub struct Explanation {
+    /// How many bytes it moves; none where its fields are at fault.
+    pub need: u32,
+    /// The descriptors of its list that were taken, in order.
+    pub taken: Vec<Taken>,
+    /// Why its list is refused, if it is.
+    pub fault: Option<WalkFault>,
+    /// The status that it completes with.
+    pub status: Status,
+}
+
+/// The command of an opcode, if it is a Read, a Write or a Compare.
+fn kind_of(opcode: u8) -> Option<Kind>
+    ensures { result ≡ kind_of_opcode opcode }
+{
+    match opcode {
+        io_opcode::WRITE => Some(Kind::Write),
+        io_opcode::READ => Some(Kind::Read),
+        io_opcode::COMPARE => Some(Kind::Compare),
+        _ => None,
+    }
+}
+
+/// The first block that an entry names.
+fn first_block(entry: &SubEntry) -> u64
+    ensures { result ≡ spec_first_block entry.now }
+{
+    u64::from(entry.cdw10) + (u64::from(entry.cdw11) << 32)
+}
+
+/// How many blocks an entry names.
+fn block_number(entry: &SubEntry) -> u32
+    ensures number { result ≡ spec_block_number entry.now }
+    ensures some { 0 < result }
+    ensures most { result ≤ 65536 }
+{
+    entry.cdw12 % 65_536 + 1
+}
+
+/// The bytes that a command begins with: the blocks of a Read, and zeros for what a Write or a Compare fetches.
+fn first_bytes(
+    alloc: Global,
+    entry: &SubEntry,
+    kind: Kind,
+    image: &Image,
+) -> Result<Vec<u8>, AllocError>
+    requires passes { io_fault (block_count image.now) entry.now ≡ None }
+    requires kind { kind_of_opcode entry.now.opcode ≡ Some kind }
+    ensures bytes { IfOk result (λ bytes. bytes.items ≡ spec_first_bytes image.now entry.now (Some kind)) }
+    ensures length { IfOk result (λ bytes. length bytes.items ≡ need_of_entry entry.now) }
+{
+    let number = block_number(entry);
+    match kind {
+        Kind::Read => Vec::from_slice(alloc, image.blocks_from(first_block(entry), number)),
+        Kind::Write | Kind::Compare => vec![in alloc; 0; BLOCK_SIZE * number as usize],
+    }
+}
+
+/// How a command ends whose list was walked.
+fn final_status(
+    entry: &SubEntry,
+    kind: Kind,
+    image: &Image,
+    bytes: &[u8],
+    fault: Option<WalkFault>,
+) -> Status
+    requires passes { io_fault (block_count image.now) entry.now ≡ None }
+    requires kind { kind_of_opcode entry.now.opcode ≡ Some kind }
+    requires bytes { length bytes.now ≡ need_of_entry entry.now }
+    ensures { result ≡ ends_with image.now entry.now bytes.now fault }
+{
+    match fault {
+        Some(fault) => fault.cause.status(),
+        None if kind == Kind::Compare && !image.equal(first_block(entry), bytes) => {
+            Status::COMPARE_FAILURE
+        }
+        None => Status::SUCCESS,
+    }
+}
+
+/// The field checks of an entry: the command, or the status that it completes with.
+pub(crate) fn checked(
+    alloc: Global,
+    entry: &SubEntry,
+    image: &Image,
+) -> Result<Result<Kind, Status>, AllocError>
+    ensures fault { IfOk result (λ r. result_err r ≡ io_fault (block_count image.now) entry.now) }
+    ensures kind { IfOk result (λ r. IfOk r (λ kind. kind_of_opcode entry.now.opcode ≡ Some kind)) }
+{
+    let job = begin_job(alloc, entry, image)?;
+    if let Some(status) = job.verdict() {
+        return Ok(Err(status));
+    }
+    let Some(kind) = kind_of(entry.opcode) else {
+        unreachable!()
+    };
+    Ok(Ok(kind))
+}
+
+/// The walk over the list of a command that passed its field checks.
+pub(crate) fn walk_of(entry: &SubEntry, kind: Kind) -> Walk
+    requires kind { kind_of_opcode entry.now.opcode ≡ Some kind }
+    requires most { spec_block_number entry.now ≤ 2048 }
+    ensures course { (m : Memory) → course m result ≡ list_of m entry.now }
+    ensures open { is_over result ≡ false }
+    ensures direction { direction_of result ≡ direction_of_entry entry.now }
+    ensures need { need_of result ≡ need_of_entry entry.now }
+    ensures next { next_of result ≡ Some own }
+{
+    Walk::begin(entry.sgl1, kind.direction(), 512 * block_number(entry))
+}
+
+/// Walks the list of a command of an I/O queue, over pages and an image.
+///
+/// The field checks are those of [`begin_job`], and the walk is a [`Walk`]. A Read's bytes come from the image and are moved into
+/// memory; the image is not written.
+///
+/// # Errors
+///
+/// Where memory is refused.
+pub fn explain<D: TouchRecord>(
+    alloc: Global,
+    entry: &SubEntry,
+    image: &Image,
+    dma: &mut D,
+) -> Result<Explanation, AllocError>
+
+    // Where the field checks find a fault, the command ends with its status, and no list is walked.
+    ensures refused { IfOk result (λ told. IfSome (io_fault (block_count image.now) entry.now) (λ status. (told.status ≡ status) × (told.fault ≡ None) × (told.taken.items ≡ []))) }
+
+    // Else the fault is that with which its list ends, where that list moves no byte onto its own descriptors,
+    ensures fault { IfOk result (λ told. io_fault (block_count image.now) entry.now ≡ None → (at : ℕ → Bool) → IsApart at (direction_of_entry entry.now) (list_of (D.memory dma.old) entry.now)
+        → Ends at (D.memory dma.old) (list_of (D.memory dma.old) entry.now) told.fault) }
+
+    // the descriptors told are those that its list reads, all of them, each with the bytes that stand at its place,
+    ensures told { IfOk result (λ told. io_fault (block_count image.now) entry.now ≡ None → (at : ℕ → Bool) → IsApart at (direction_of_entry entry.now) (list_of (D.memory dma.old) entry.now)
+        → AreOf (D.memory dma.old) entry.now.sgl1 (list_of (D.memory dma.old) entry.now) told.taken.items) }
+
+    // and the status is that of the fault, or, of a command whose list was accepted, that of its bytes.
+    ensures status { IfOk result (λ told. io_fault (block_count image.now) entry.now ≡ None → (bytes : List ℕ) × (told.status ≡ ends_with image.now entry.now bytes told.fault)) }
+{
+    let kind = match checked(alloc, entry, image)? {
+        Ok(kind) => kind,
+        Err(status) => {
+            return Ok(Explanation {
+                need: 0,
+                taken: Vec::new(alloc),
+                fault: None,
+                status,
+            });
+        }
+    };
+    let mut bytes = first_bytes(alloc, entry, kind, image)?;
+    let walk = walk_of(entry, kind);
+    let Walked { taken, fault } = walk_list(alloc, walk, &entry.sgl1, dma, bytes.as_mut_slice())?;
+    Ok(Explanation {
+        need: walk.need(),
+        taken,
+        fault,
+        status: final_status(entry, kind, image, bytes.as_slice(), fault),
+    })
+}

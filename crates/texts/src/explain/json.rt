@@ -1,0 +1,157 @@
+//! An explanation as JSON, one object on each line.
+
+use crate::explain::case::Case;
+use crate::explain::command::Explanation;
+use crate::explain::list::Taken;
+use crate::explain::round::{Round, round_of};
+use crate::explain::text::{put_more, put_rest, rule_of};
+use crate::statuses::name_of;
+use controller_walk::DescriptorAt;
+use entry_codec::Status;
+use serde::Serialize;
+use sgl_descriptor::Descriptor;
+use std::alloc::{AllocError, Global};
+
+/// A descriptor that the controller takes.
+#[derive(Drop, Serialize)]
+struct TakenObject {
+    descriptor: u32,
+    at: Option<u64>,
+    #[serde(rename = "type")]
+    kind: &'static str,
+    #[serde(skip_serializing_if = "Option::is_none")]
+    address: Option<u64>,
+    #[serde(skip_serializing_if = "Option::is_none")]
+    length: Option<u32>,
+    #[serde(skip_serializing_if = "Option::is_none")]
+    bytes: Option<u32>,
+}
+
+/// Where a list goes round.
+#[derive(Drop, Serialize)]
+struct RoundObject {
+    again: u32,
+    left_out: usize,
+}
+
+/// How a command ends.
+#[derive(Drop, Serialize)]
+struct EndObject {
+    accepted: bool,
+    status: String,
+    name: Option<&'static str>,
+    #[serde(skip_serializing_if = "Option::is_none")]
+    descriptor: Option<u32>,
+    #[serde(skip_serializing_if = "Option::is_none")]
+    at: Option<u64>,
+    #[serde(skip_serializing_if = "Option::is_none")]
+    rule: Option<String>,
+    #[serde(skip_serializing_if = "Option::is_none")]
+    more: Option<String>,
+}
+
+/// Puts an object and a line feed.
+fn put_line<T: Serialize>(alloc: Global, out: &mut String, object: &T) -> Result<(), AllocError> {
+    match serde_json::to_string(alloc, object) {
+        Ok(text) => {
+            out.push_str(text.as_str())?;
+            out.push('\n')
+        }
+        Err(_) => Err(AllocError),
+    }
+}
+
+/// The object of a descriptor.
+fn taken_object(taken: &Taken) -> TakenObject {
+    let DescriptorAt { number, place } = taken.at;
+    let counted = Some(taken.counted);
+    let (kind, address, length, bytes) = match Descriptor::read(&taken.bytes) {
+        Ok(Descriptor::DataBlock { addr, len }) => ("Data Block", Some(addr), Some(len), counted),
+        Ok(Descriptor::BitBucket { len }) => ("Bit Bucket", None, Some(len), counted),
+        Ok(Descriptor::Segment { addr, len }) => ("Segment", Some(addr), Some(len), None),
+        Ok(Descriptor::LastSegment { addr, len }) => ("Last Segment", Some(addr), Some(len), None),
+        Err(_) => ("unknown", None, None, None),
+    };
+    TakenObject {
+        descriptor: number,
+        at: place,
+        kind,
+        address,
+        length,
+        bytes,
+    }
+}
+
+/// A text that is put, without its line feed; none where nothing is put.
+fn sentence(text: String) -> Option<String> {
+    let mut text = text;
+    if text.as_str().ends_with('\n') {
+        text.pop();
+    }
+    if text.is_empty() { None } else { Some(text) }
+}
+
+/// The object of a command's end.
+fn end_object(
+    alloc: Global,
+    case: &Case,
+    explanation: &Explanation,
+) -> Result<EndObject, AllocError> {
+    let status = explanation.status;
+    let mut more = String::new(alloc);
+    let (at, rule) = match explanation.fault {
+        Some(fault) => {
+            put_more(&mut more, &case.store, explanation, fault)?;
+            let cause = fault.cause;
+            (Some(fault.at), Some(format!(in alloc; "{cause}")?))
+        }
+        None if status == Status::SUCCESS => {
+            put_rest(&mut more, explanation)?;
+            (None, None)
+        }
+        None => (None, Some(String::from_str(alloc, rule_of(status))?)),
+    };
+    Ok(EndObject {
+        accepted: status == Status::SUCCESS,
+        status: format!(in alloc; "{status}")?,
+        name: name_of(status),
+        descriptor: at.map(|at| at.number),
+        at: at.and_then(|at| at.place),
+        rule,
+        more: sentence(more),
+    })
+}
+
+/// Puts what [`crate::explain::put_explanation`] puts as JSON: an object for each descriptor that was taken, and one for the command's end. Addresses are numbers of bytes;
+/// `at` is null for a descriptor that stands in the entry.
+///
+/// # Errors
+///
+/// Where memory is refused.
+pub fn put_objects(
+    alloc: Global,
+    out: &mut String,
+    case: &Case,
+    explanation: &Explanation,
+) -> Result<(), AllocError> {
+    let round = round_of(explanation);
+    let all = explanation.taken.as_slice();
+    let shown = match round {
+        Some(Round { len, .. }) => len,
+        None => all.len(),
+    };
+    for taken in all.iter().take(shown) {
+        put_line(alloc, out, &taken_object(taken))?;
+    }
+    if let Some(
+        Round {
+            again,
+            left_out,
+            ..
+        },
+    ) = round
+    {
+        put_line(alloc, out, &RoundObject { again, left_out })?;
+    }
+    put_line(alloc, out, &end_object(alloc, case, explanation)?)
+}

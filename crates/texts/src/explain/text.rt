@@ -1,0 +1,233 @@
+//! The lines of an explanation.
+
+use crate::explain::case::Case;
+use crate::explain::command::Explanation;
+use crate::explain::fault::CaseFault;
+use crate::explain::list::Taken;
+use crate::explain::round::round_of;
+use crate::faults::{line_at, put_line};
+use crate::statuses::Named;
+use crate::traces::put_descriptor;
+use controller_walk::{DescriptorAt, FaultCause, WalkFault};
+use entry_codec::Status;
+use page_memory::Store;
+use sgl_descriptor::Descriptor;
+use std::alloc::{AllocError, Global};
+
+/// The bytes of a page.
+const PAGE: u64 = 4_096;
+
+/// The bytes of a descriptor.
+const DESCRIPTOR: u64 = 16;
+
+/// Puts which descriptor of a list it is, and its address.
+fn put_number(out: &mut String, at: DescriptorAt) -> Result<(), AllocError> {
+    let number = at.number;
+    match at.place {
+        Some(place) => write!(out, "descriptor {number}, at {place:X}h: "),
+        None => write!(out, "descriptor {number}, SGL1 of the entry: "),
+    }
+}
+
+/// Puts what a descriptor is for.
+fn put_counted(out: &mut String, taken: &Taken) -> Result<(), AllocError> {
+    let counted = taken.counted;
+    match Descriptor::read(&taken.bytes) {
+        Ok(Descriptor::DataBlock { .. }) => write!(out, ", for {counted} bytes"),
+        Ok(Descriptor::BitBucket { .. }) if counted > 0 => {
+            write!(out, ", for {counted} bytes that are not moved")
+        }
+        Ok(Descriptor::BitBucket { .. }) => out.push_str(", for no bytes: only a Read has them"),
+        _ => Ok(()),
+    }
+}
+
+/// Puts the line of a descriptor.
+fn put_taken(out: &mut String, taken: &Taken) -> Result<(), AllocError> {
+    put_number(out, taken.at)?;
+    put_descriptor(out, &taken.bytes)?;
+    put_counted(out, taken)?;
+    out.push('\n')
+}
+
+/// Puts the lines of descriptors. Of a list that goes round they are those of the first round.
+fn put_all(out: &mut String, explanation: &Explanation) -> Result<(), AllocError> {
+    let all = explanation.taken.as_slice();
+    let Some(round) = round_of(explanation) else {
+        for taken in all {
+            put_taken(out, taken)?;
+        }
+        return Ok(());
+    };
+    for taken in all.iter().take(round.len) {
+        put_taken(out, taken)?;
+    }
+    let (number, left_out) = (round.again, round.left_out);
+    write!(
+        out,
+        "the list goes round: descriptor {number} is next again, and so on, {left_out} more\n"
+    )
+}
+
+/// Puts what makes a link malformed.
+fn put_malformed(out: &mut String, addr: u64, len: u32) -> Result<(), AllocError> {
+    if len == 0 || len % 16 != 0 {
+        write!(out, "the length is {len}\n")
+    } else {
+        write!(out, "the address is {addr:X}h\n")
+    }
+}
+
+/// The first page of a range of bytes that is past the pool, or out; the range's last page where none is.
+fn missing_page(store: &Store, addr: u64, len: u64) -> u64 {
+    let mut page = addr / PAGE;
+    let last = addr.saturating_add(len.saturating_sub(1)) / PAGE;
+    for _ in 0..len {
+        if page >= last || !store.is_reachable(page.saturating_mul(PAGE)) {
+            break;
+        }
+        page = page.saturating_add(1);
+    }
+    page
+}
+
+/// Puts why bytes of a range are unreadable.
+fn put_missing(out: &mut String, store: &Store, addr: u64, len: u64) -> Result<(), AllocError> {
+    let (page, pages) = (missing_page(store, addr, len), store.pages());
+    if page < u64::from(pages) {
+        write!(out, "page {page} is out\n")
+    } else {
+        write!(
+            out,
+            "page {page} is past the pool, which has {pages} pages\n"
+        )
+    }
+}
+
+/// Puts more of a fault, where its sentence does not have all.
+pub(crate) fn put_more(
+    out: &mut String,
+    store: &Store,
+    explanation: &Explanation,
+    fault: WalkFault,
+) -> Result<(), AllocError> {
+    let mut counted = 0u32;
+    for taken in &explanation.taken {
+        counted = counted.saturating_add(taken.counted);
+    }
+    match (fault.cause, explanation.taken.last()) {
+        (FaultCause::ListTooShort, _) => {
+            let need = explanation.need;
+            write!(
+                out,
+                "the command moves {need} bytes, and its list has {counted}\n"
+            )
+        }
+        (FaultCause::MalformedLink, Some(taken)) => match Descriptor::read(&taken.bytes) {
+            Ok(Descriptor::Segment { addr, len } | Descriptor::LastSegment { addr, len }) => {
+                put_malformed(out, addr, len)
+            }
+            _ => Ok(()),
+        },
+        (FaultCause::UnreadableDescriptor, _) => match fault.at.place {
+            Some(place) => put_missing(out, store, place, DESCRIPTOR),
+            None => Ok(()),
+        },
+        (FaultCause::UnreadableData, Some(taken)) => match Descriptor::read(&taken.bytes) {
+            Ok(Descriptor::DataBlock { addr, .. }) => {
+                put_missing(out, store, addr, u64::from(taken.counted))
+            }
+            _ => Ok(()),
+        },
+        _ => Ok(()),
+    }
+}
+
+/// Which rule an entry breaks whose command has this status, where its list is not at fault.
+pub(crate) fn rule_of(status: Status) -> &'static str {
+    match status {
+        Status::INVALID_OPCODE => "OPC is none of Read, Write and Compare",
+        Status::INVALID_NAMESPACE => "NSID is not 1",
+        Status::INVALID_FIELD =>
+            "FUSE is not 0, or PSDT is not 1, or there are more than 2048 blocks",
+        Status::LBA_OUT_OF_RANGE => "its blocks do not all lie in the image",
+        Status::COMPARE_FAILURE => "its bytes are not those of the image's blocks",
+        _ => "it is refused",
+    }
+}
+
+/// Puts whether the list has more than was wanted of it.
+pub(crate) fn put_rest(out: &mut String, explanation: &Explanation) -> Result<(), AllocError> {
+    let Some(taken) = explanation.taken.last() else {
+        return Ok(());
+    };
+    match Descriptor::read(&taken.bytes) {
+        Ok(Descriptor::DataBlock { len, .. } | Descriptor::BitBucket { len })
+            if len > taken.counted => {
+            let need = explanation.need;
+            write!(
+                out,
+                "the list is longer than the {need} bytes of the command: what is behind them is left alone\n"
+            )
+        }
+        _ => Ok(()),
+    }
+}
+
+/// Puts a line for each descriptor of a list that was taken, in order: its number, its address, its fields, and how many of the command's
+/// bytes it is for. Then it puts how the command ends: `accepted`, or `refused` with the status, and which descriptor breaks which rule.
+///
+/// # Errors
+///
+/// Where memory is refused.
+pub fn put_explanation(
+    out: &mut String,
+    case: &Case,
+    explanation: &Explanation,
+) -> Result<(), AllocError> {
+    put_all(out, explanation)?;
+    let status = explanation.status;
+    let named = Named(status);
+    if status == Status::SUCCESS {
+        write!(out, "accepted: {named}\n")?;
+        return put_rest(out, explanation);
+    }
+    write!(out, "refused: {named}\n")?;
+    match explanation.fault {
+        Some(fault) => {
+            put_number(out, fault.at)?;
+            let cause = fault.cause;
+            write!(out, "{cause}\n")?;
+            put_more(out, &case.store, explanation, fault)
+        }
+        None => {
+            let rule = rule_of(status);
+            write!(out, "{rule}\n")
+        }
+    }
+}
+
+/// What more is told of a fault: the line, a caret under the word, and a sentence.
+///
+/// # Errors
+///
+/// Where memory is refused.
+pub fn fault_lines(alloc: Global, text: &[u8], fault: CaseFault) -> Result<String, AllocError> {
+    let mut out = String::new(alloc);
+    match fault {
+        CaseFault::Line {
+            number,
+            start,
+            end,
+            wrong,
+        } => {
+            let line = line_at(text, number).unwrap_or(&[]);
+            put_line(&mut out, line, start, end)?;
+            write!(out, "{wrong}\n")?;
+        }
+        CaseFault::TooLong => out.push_str("it has 1048576 bytes and 65536 lines at most.\n")?,
+        CaseFault::NoEntry => out.push_str("a line has the entry: `sqe`, and its 64 bytes.\n")?,
+        CaseFault::Memory => {}
+    }
+    Ok(out)
+}

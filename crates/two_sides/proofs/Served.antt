@@ -1,0 +1,674 @@
+-- What is served was submitted.
+use Rattle.machine_model.specs.Events as events
+use Rattle.machine_model.specs.declared.words.Refusal.TheVariants as refusal
+use Rattle.std.proofs.Common.{◌≡◌, ℕ, ◌+◌, ◌*◌, ◌%◌, ◌<◌, ◌≤◌, ◌==◌, nat_lt, true, false, not, ◌||◌, Option, Some, None, List, [], ◌∷◌, length, is_some, slice_index, All, refl, sym, ◌∙◌, arith, subst, eq-eqb, ◌-◌, ◌^◌, ◌⊎◌, inl, inr, Bool, if◌then◌else◌, zero, suc, ◌++◌, slice_get, find, ap, eqb-true, add-zero, ltb-true, nat_le, ◌&&◌, slice_set, length-set, IfSome, MatchBool}
+use Rattle.std.proofs.lemmas.{Bool.{or_left, or_right, or_parts, cases_lt, true≢false, and_parts, cases_Bool, not-false, Decides.nat_tests}, Grind.common_steps}
+use Rattle.std.proofs.lemmas.{List.{Elements.{All-head, All-tail, All-nil, All-cons}, Sums.sum_by-cons}, Option.{slice_get-get_or, slice_get_within}}
+use Rattle.std.specs.{List.{AllByRecursion, list_any}, Option.option_map_or, Prelude.{option_map, option_and_then}}
+use Rattle.page_ledger.specs.Owners.{is_among}
+use Rattle.page_memory.{proofs.Bytes.{byte_in, length-zero_page}, specs.Memory.{page_of, Memory, bytes_at}}
+use Rattle.page_memory.specs.Pages.{Pages, page_at, byte_at, zero_page, AreWhole}
+use Rattle.sgl_descriptor.{proofs.Spells.reads_itself, specs.{Spelling.{Fits, spelling, descriptor_of}, Targets.{counted_in, descriptor_of_part, targets}}}
+use Rattle.sgl_descriptor.specs.declared.{Descriptor.TheVariants.{Segment, LastSegment}, Part.{Part, TheVariants.{Data as PartData, Bucket as PartBucket}}}
+use Rattle.io_commands.{proofs.Building.{joined_parts_few, built_drafts_spell, few_pieces}, specs.Asked.Request}
+use Rattle.io_commands.specs.Drafts.{io_entry, DraftContents, HoldsPages, draft_first, draft_parts, IsDraft, IsBuiltIfAny}
+use Rattle.io_commands.specs.Jobs.{direction_of_entry, need_of_entry}
+use Rattle.io_commands.specs.Requests.{parts_of, data_count, is_empty_piece, crosses_page, counted_length, counted_lengths, direction_of, FitsPiece, joined_parts, FitsRequest, fault_of}
+use Rattle.io_commands.specs.{Values.{IsGood, numbers_of, FinishedContents}, declared.request.{Kind.{Kind, TheVariants.{Read, Write, Compare}}, Piece.Piece}}
+use Rattle.io_commands.specs.declared.request.{Piece.TheVariants.{Data, Bucket}, RequestFault.RequestFault}
+use Rattle.io_commands.specs.declared.request.RequestFault.TheVariants.{TooManyPieces, EmptyPiece, CrossesPage, BadCount, LengthMismatch}
+use Rattle.machine_model.proofs.Counting.{times-append, held_once, not_held, times-cons}
+use Rattle.machine_model.proofs.Owned.{in_record, is_out, taken, none_here, in_is, holds_from_sound, taken_le, taken_from_out}
+use Rattle.machine_model.{proofs.{Steps.{first_fails, rest_fails, in_store, length-in_store, found}, Tokens.{find_sound, find_all}}, specs.After.course_of}
+use Rattle.machine_model.specs.{Claims.{OwnsFit, IsSound}, Memory.{memory_of, with_pages, is_in}, Proper.{IsPage, ArePages, IsProperDraft}}
+use Rattle.machine_model.specs.Reached.{on_pages, LiesIn, IsThere, only, CourseIn, AreApart, IsListIn}
+use Rattle.machine_model.specs.Refusals.{is_submitted, same_piece, same_pieces, same_kind, same_request, refusal_of, no_io_queue, in_state, is_deleting, no_identifier, pages_wanted, record_is, is_held}
+use Rattle.machine_model.specs.{Standing.{IsSized, ListStands, StandsAs, CommandStands, HasUnitLeft}, State.{State, Record, Job, is_at, record_at, pages_of}}
+use Rattle.machine_model.specs.{Step.{times, IsReserved, AnswersAnything, asked_by, finished_from, pages_with_bytes, zeroed}, Weights.{one, total}, Work.Work}
+use Rattle.machine_model.specs.declared.words.{Phase.{Phase, TheVariants.{Drafted, Submitted, Held, Collected}}, Refusal.Refusal}
+use Rattle.machine_model.specs.declared.words.Work.TheVariants.{Io, Management}
+use Rattle.sgl_chain.proofs.{Back.spells_there, Joins.{joined_from, from_list, same_targets, same_count}, Spelled.spells}
+use Rattle.sgl_chain.specs.{Chains.{first_of, pages_needed}, Joining.{joins, both, joined}, Laws.HasBytesOf, Spells.{Spells, Holds}}
+use Rattle.controller_walk.{proofs.Same.list_served, specs.{Along.parts_of_list, Serving.Serves, Units.{Stays, Reads, Moves, Course, Closes, Does, verdict}}}
+use Rattle.controller_walk.specs.declared.walk.WalkState.TheVariants.{End, Fault}
+use Rattle.entry_codec.specs.declared.{status.{Status.Status, TheConstants.Status.DATA_TRANSFER_ERROR}, submission.SubEntry.SubEntry}
+use Rattle.two_sides.proofs.{Ending.{list_in, lists_end, bytes_there}, Provided.{In, in_found, all_at_found, sent_found, some_is}, TiedAll.Grounds}
+use Rattle.two_sides.proofs.Untouched.{sent_page, owned_once, with_elsewhere, among_counts, holds_right, holds_left, holds_right as among_right}
+use Rattle.two_sides.specs.InOrder.{IsInOrder, reserved_drafts_are_proper, collected_commands_are_proper}
+use Rattle.queue_pair.proofs.Rings.{bytes_agree}
+pub use Rattle.machine_model.specs.Agreeing.{is_out_of_service_at as past_at, answers_at, unfetched_count, job_weight, CommandsStandOnce as Places, CommandsStand as Commands}
+
+-- What the entry and the parts of a good request are.
+
+-- what a request that passes its check is
+pub record Good (r : Request) : Type 0 where
+  pub crosses : list_any crosses_page r.pieces ≡ false
+  pub some : 0 < r.blocks
+  pub few : r.blocks ≤ 2048
+  pub counted : counted_lengths r.kind r.pieces ≡ 512 * r.blocks
+
+pub good_is : (r : Request) → IsGood r → Good r
+good_is r h =
+    let last = (not (counted_lengths r.kind r.pieces == 512 * r.blocks), LengthMismatch) ∷ [] in
+    let fourth = ((r.blocks == 0) || nat_lt 2048 r.blocks, BadCount) ∷ (not (counted_lengths r.kind r.pieces == 512 * r.blocks), LengthMismatch) ∷ [] in
+    let third = (list_any crosses_page r.pieces, CrossesPage) ∷ ((r.blocks == 0) || nat_lt 2048 r.blocks, BadCount) ∷ (not (counted_lengths r.kind r.pieces == 512 * r.blocks), LengthMismatch) ∷ [] in
+    let second = (list_any is_empty_piece r.pieces, EmptyPiece) ∷ third in
+    let h2 = rest_fails (nat_lt 1024 (length r.pieces)) TooManyPieces second h in
+    let h3 = rest_fails (list_any is_empty_piece r.pieces) EmptyPiece third h2 in
+    let h4 = rest_fails (list_any crosses_page r.pieces) CrossesPage fourth h3 in
+    let h5 = rest_fails ((r.blocks == 0) || nat_lt 2048 r.blocks) BadCount last h4 in
+    let bad = first_fails ((r.blocks == 0) || nat_lt 2048 r.blocks) BadCount last h4 in
+    record {
+      crosses = first_fails (list_any crosses_page r.pieces) CrossesPage fourth h3;
+      some = positive r.blocks (or_parts (r.blocks == 0) (nat_lt 2048 r.blocks) bad).0;
+      few = at_most r.blocks (or_parts (r.blocks == 0) (nat_lt 2048 r.blocks) bad).1;
+      counted = (let e = first_fails (not (counted_lengths r.kind r.pieces == 512 * r.blocks)) LengthMismatch [] h5 in grind (arith, nat_tests));
+    }
+  where
+    positive : (n : ℕ) → (n == 0) ≡ false → 0 < n
+    positive n e = grind (arith, nat_tests)
+
+    at_most : (n : ℕ) → nat_lt 2048 n ≡ false → n ≤ 2048
+    at_most n e = grind (arith, nat_tests)
+
+-- The entry moves the request's bytes in its direction
+
+pub entry_direction : (cid : ℕ) (r : Request) (sgl1 : List ℕ) → direction_of_entry (io_entry cid r sgl1) ≡ direction_of r.kind
+entry_direction cid r sgl1 = grind arith
+
+pub entry_need : (cid : ℕ) (r : Request) (sgl1 : List ℕ) → IsGood r → need_of_entry (io_entry cid r sgl1) ≡ 512 * r.blocks
+entry_need cid r sgl1 good = let g = good_is r good in omega (arith, g.some, g.few)
+
+-- The parts of its pieces
+
+counted_parts : (kind : Kind) (pieces : List Piece) (pages : List ℕ) → data_count pieces ≤ length pages → counted_in (direction_of kind) (parts_of pieces pages) ≡ counted_lengths kind pieces
+counted_parts kind [] pages few = refl
+counted_parts kind (Bucket len ∷ pieces) pages few = go kind (counted_parts kind pieces pages (grind (arith, common_steps)))
+  where
+    go : (k : Kind) → counted_in (direction_of k) (parts_of pieces pages) ≡ counted_lengths k pieces → counted_in (direction_of k) (parts_of (Bucket len ∷ pieces) pages) ≡ counted_lengths k (Bucket len ∷ pieces)
+    go Read ih = omega (arith, ih, sum_by-cons (counted_length Read) (Bucket len) pieces)
+    go Write ih = omega (arith, ih, sum_by-cons (counted_length Write) (Bucket len) pieces)
+    go Compare ih = omega (arith, ih, sum_by-cons (counted_length Compare) (Bucket len) pieces)
+counted_parts kind (Data offset len ∷ pieces) [] few = absurd (grind (arith, common_steps))
+counted_parts kind (Data offset len ∷ pieces) (page ∷ pages) few =
+    omega (arith, counted_parts kind pieces pages (grind (arith, common_steps)), sum_by-cons (counted_length kind) (Data offset len) pieces)
+
+pub parts_count : (r : Request) (pages : List ℕ) → IsGood r → length pages ≡ data_count r.pieces → counted_in (direction_of r.kind) (parts_of r.pieces pages) ≡ 512 * r.blocks
+parts_count r pages good has = counted_parts r.kind r.pieces pages (omega (arith, has)) ∙ (good_is r good).counted
+
+-- each part that has a place lies in one of the pages
+pub in_page : (page offset len k : ℕ) → offset + len ≤ 4096 → k < len → page_of (4096 * page + offset + k) ≡ page
+in_page page offset len k fits lt = omega (arith, fits, lt)
+
+pub not_crossing : (a b : ℕ) → nat_lt 4096 (a + b) ≡ false → a + b ≤ 4096
+not_crossing a b h = grind (arith, nat_tests)
+
+pub parts_lie : (all : List ℕ) (pieces : List Piece) (pages : List ℕ) → list_any crosses_page pieces ≡ false → ((p : ℕ) → is_among pages p ≡ true → is_among all p ≡ true)
+    → AllByRecursion (LiesIn (on_pages all)) (parts_of pieces pages)
+parts_lie all [] pages crosses within = tt
+parts_lie all (Bucket len ∷ pieces) pages crosses within = (tt, parts_lie all pieces pages crosses within)
+parts_lie all (Data offset len ∷ pieces) [] crosses within = tt
+parts_lie all (Data offset len ∷ pieces) (page ∷ pages) crosses within =
+    let c = or_parts (nat_lt 4096 (offset + len)) (list_any crosses_page pieces) crosses in (
+      (λ k lt. subst (λ (q : ℕ). is_among all q ≡ true) (sym (in_page page offset len k (not_crossing offset len c.0) lt)) (within page (or_left (page == page) (is_among pages page) (eq-eqb page page refl)))),
+      parts_lie all pieces pages c.1 (λ p h. within p (or_right (page == p) (is_among pages p) h)),
+    )
+
+-- and is there, where the pages are in
+pub there_in : (m : Pages) (place : ℕ) → is_some (page_at m (page_of place)) ≡ true → is_some (memory_of m place) ≡ true
+there_in m place h = grind arith
+
+pub parts_there : (m : Pages) (pieces : List Piece) (pages : List ℕ) → list_any crosses_page pieces ≡ false → All FitsPiece pieces → ((p : ℕ) → is_among pages p ≡ true → (p < 65536) × (is_some (page_at m p) ≡ true))
+    → AllByRecursion (IsThere (memory_of m)) (parts_of pieces pages)
+parts_there m [] pages crosses fit are = tt
+parts_there m (Bucket len ∷ pieces) pages crosses fit are =
+    let here = All-head FitsPiece (Bucket len) pieces fit in
+    (omega (arith, here), parts_there m pieces pages crosses (All-tail FitsPiece (Bucket len) pieces fit) are)
+parts_there m (Data offset len ∷ pieces) [] crosses fit are = tt
+parts_there m (Data offset len ∷ pieces) (page ∷ pages) crosses fit are =
+    let c = or_parts (nat_lt 4096 (offset + len)) (list_any crosses_page pieces) crosses in
+    let inside = not_crossing offset len c.0 in
+    let here = are page (or_left (page == page) (is_among pages page) (eq-eqb page page refl)) in (
+      (omega (arith, inside, here.0), λ k lt. there_in m (4096 * page + offset + k) (subst (λ (q : ℕ). is_some (page_at m q) ≡ true) (sym (in_page page offset len k inside lt)) here.1)),
+      parts_there m pieces pages c.1 (All-tail FitsPiece (Data offset len) pieces fit) (λ p h. are p (or_right (page == p) (is_among pages p) h)),
+    )
+
+-- Joined parts: what holds of each part, and of two that join, holds of the joined parts.
+
+-- the joined parts of a part and those behind it
+all_from : (P : Part → Type 0) → ((part next : Part) → joins part next ≡ true → P part → P next → P (both part next)) → (part : Part) (parts : List Part) → P part
+    → AllByRecursion P parts → AllByRecursion P (joined_from part parts)
+all_from P one part [] p ps = (p, tt)
+all_from P one part (next ∷ parts) p ps =
+    go (joins part next) refl (λ is. all_from P one (both part next) parts (one part next is p ps.0) ps.1) (all_from P one next parts ps.0 ps.1)
+  where
+    go : (b : Bool) → joins part next ≡ b → (joins part next ≡ true → AllByRecursion P (joined_from (both part next) parts)) → AllByRecursion P (joined_from next parts)
+        → AllByRecursion P (if b then joined_from (both part next) parts else part ∷ joined_from next parts)
+    go true is together apart = together is
+    go false is together apart = (p, apart)
+
+pub all_joined : (P : Part → Type 0) → ((part next : Part) → joins part next ≡ true → P part → P next → P (both part next)) → (parts : List Part) → AllByRecursion P parts
+    → AllByRecursion P (joined parts)
+all_joined P one [] ps = tt
+all_joined P one (part ∷ parts) ps = subst (AllByRecursion P) (sym (from_list part parts)) (all_from P one part parts ps.0 ps.1)
+
+ends_there : (addr len next more : ℕ) → joins (PartData addr len) (PartData next more) ≡ true → addr + len ≡ next
+ends_there addr len next more is = grind (arith, nat_tests)
+
+fits_there : (addr len next more : ℕ) → joins (PartData addr len) (PartData next more) ≡ true → len + more < 2 ^ 32
+fits_there addr len next more is = grind (arith, nat_tests)
+
+-- a place of two parts is one of the first or one of the second
+place_of_two : (X : ℕ → Type 0) (addr len next more : ℕ) → addr + len ≡ next → ((k : ℕ) → k < len → X (addr + k)) → ((k : ℕ) → k < more → X (next + k)) → (k : ℕ) → k < len + more → X (addr + k)
+place_of_two X addr len next more is front behind k lt = go (cases_lt k len)
+  where
+    go : (k < len) ⊎ (len ≤ k) → X (addr + k)
+    go (inl l) = front k l
+    go (inr l) = subst X (omega (arith, is, l)) (behind (k - len) (omega (arith, lt, l)))
+
+lies_both : (at : ℕ → Bool) (part next : Part) → joins part next ≡ true → LiesIn at part → LiesIn at next → LiesIn at (both part next)
+lies_both at (PartData addr len) (PartData next more) is front behind = place_of_two (λ (place : ℕ). at place ≡ true) addr len next more (ends_there addr len next more is) front behind
+lies_both at (PartData addr len) (PartBucket more) is front behind = absurd cc
+lies_both at (PartBucket len) next is front behind = absurd cc
+
+there_both : (m : Memory) (part next : Part) → joins part next ≡ true → IsThere m part → IsThere m next → IsThere m (both part next)
+there_both m (PartData addr len) (PartData next more) is front behind = (
+  omega (arith, ends_there addr len next more is, behind.0),
+  place_of_two (λ (place : ℕ). is_some (m place) ≡ true) addr len next more (ends_there addr len next more is) front.1 behind.1,
+)
+there_both m (PartData addr len) (PartBucket more) is front behind = absurd cc
+there_both m (PartBucket len) next is front behind = absurd cc
+
+fits_both : (part next : Part) → joins part next ≡ true → Fits (descriptor_of_part part) → Fits (descriptor_of_part next) → Fits (descriptor_of_part (both part next))
+fits_both (PartData addr len) (PartData next more) is front behind = (front.0, fits_there addr len next more is)
+fits_both (PartData addr len) (PartBucket more) is front behind = absurd cc
+fits_both (PartBucket len) next is front behind = absurd cc
+
+pub joined_lie : (at : ℕ → Bool) (parts : List Part) → AllByRecursion (LiesIn at) parts → AllByRecursion (LiesIn at) (joined parts)
+joined_lie at parts lie = all_joined (LiesIn at) (lies_both at) parts lie
+
+pub joined_there : (m : Memory) (parts : List Part) → AllByRecursion (IsThere m) parts → AllByRecursion (IsThere m) (joined parts)
+joined_there m parts there = all_joined (IsThere m) (there_both m) parts there
+
+pub joined_fit : (parts : List Part) → AllByRecursion (λ part. Fits (descriptor_of_part part)) parts → AllByRecursion (λ part. Fits (descriptor_of_part part)) (joined parts)
+joined_fit parts fit = all_joined (λ part. Fits (descriptor_of_part part)) fits_both parts fit
+
+-- A job's list: the record that it belongs to, what its walk reaches, and that it stays the same list.
+
+-- The invariant
+
+pub record Stood (s : State) : Type 0 where
+  pub grounds : Grounds s
+  pub few : length s.memory ≤ 65536
+  pub commands : Commands s.memory s.device.queues s.device.jobs s.host.records
+  pub places : Places s.host.queues s.host.records s.device.queues s.device.jobs
+  pub walks : AllByRecursion (HasUnitLeft s) s.device.jobs
+
+-- The record of a job
+
+pub record JobList (s : State) (j : Job) : Type 0 where
+  pub command : Record
+  pub request : Request
+  pub found : record_at s.host j.q j.entry.cid ≡ Some command
+  pub within : In command s.host.records
+  pub work : command.work ≡ Io request
+  pub phase : is_submitted command.phase ≡ true
+  pub sized : IsSized command request
+  pub list : ListStands s.memory s.device.queues s.device.jobs command request
+  pub entry : j.entry ≡ io_entry command.cid request (spelling list.first)
+
+one_self : (n : ℕ) → one (n == n) ≡ 1
+one_self n = ap one (eq-eqb n n refl)
+
+pub job_list : (s : State) → Stood s → (j : Job) → In j s.device.jobs → (j.q == 0) ≡ false
+    → ((P : Job → Type 0) → AllByRecursion P s.device.jobs → P j) → JobList s j
+job_list s stood j within other at =
+    let w : ℕ → ℕ = λ c. one (c == j.entry.cid) in
+    let counts : 1 ≤ total (job_weight j.q w) s.device.jobs =
+    let mine : job_weight j.q w j ≡ 1 = subst (λ (b : Bool). (if b then one (j.entry.cid == j.entry.cid) else 0) ≡ 1) (sym (eq-eqb j.q j.q refl)) (one_self j.entry.cid) in
+    omega (arith, mine, within (job_weight j.q w)) in
+    let r = sent_found j.q j.entry.cid s.host.records (omega (arith, counts, stood.places j.q w)) (stood.grounds.stands.0.once j.q j.entry.cid) in
+    let ids = and_parts (r.0.q == j.q) (r.0.cid == j.entry.cid) (find_sound (is_at j.q j.entry.cid) s.host.records r.0 r.1) in
+    of_work r.0 r.1 r.2 (eqb-true r.0.q j.q ids.0) (eqb-true r.0.cid j.entry.cid ids.1) r.0.work refl
+    (find_all (λ r. OwnsFit r.q r.work (pages_of r)) (is_at j.q j.entry.cid) s.host.records r.0 r.1 stood.grounds.stands.0.admins)
+    (find_all (CommandStands s.memory s.device.queues s.device.jobs) (is_at j.q j.entry.cid) s.host.records r.0 r.1 stood.commands)
+  where
+    of_work : (r : Record) → record_at s.host j.q j.entry.cid ≡ Some r → is_submitted r.phase ≡ true → r.q ≡ j.q → r.cid ≡ j.entry.cid → (work : Work) → r.work ≡ work
+        → OwnsFit r.q r.work (pages_of r) → CommandStands s.memory s.device.queues s.device.jobs r → JobList s j
+    of_work r e sub rq rc (Io request) is fit stands =
+        let stands' : StandsAs s.memory s.device.queues s.device.jobs r (Io request) = subst (StandsAs s.memory s.device.queues s.device.jobs r) is stands in
+        let list = stands'.1 sub in
+        record {
+          command = r;
+          request = request;
+          found = e;
+          within = in_found (is_at j.q j.entry.cid) s.host.records r e;
+          work = is;
+          phase = sub;
+          sized = stands'.0;
+          list = list;
+          entry = at (λ k. k.q ≡ r.q → k.entry.cid ≡ r.cid → k.entry ≡ io_entry r.cid request (spelling list.first)) list.entry.fetched (sym rq) (sym rc);
+        }
+    of_work r e sub rq rc (Management adm) is fit stands =
+        let fit' : OwnsFit r.q (Management adm) (pages_of r) = subst (λ (x : Work). OwnsFit r.q x (pages_of r)) is fit in
+        absurd (true≢false (sym (eq-eqb j.q 0 (sym rq ∙ fit'.0)) ∙ other))
+
+-- Its pages
+
+once_of : (s : State) → Grounds s → (p : ℕ) → total (in_record p) s.host.records ≤ 1
+once_of s g p = omega (arith, owned_once _ p s.host g.stands.0)
+
+pub page_below : (s : State) → Grounds s → (r : Record) → In r s.host.records → (p : ℕ) → is_among (pages_of r) p ≡ true → p < length s.memory
+page_below s g r within p h = elim (cases_Bool (nat_lt p (length (in_store s.memory)))) [
+  | inl e ↦ omega (arith, ltb-true p (length (in_store s.memory)) e, length-in_store s.memory)
+  | inr e ↦ absurd (omega (arith, ap one e, g.stands.0.owner p, within (in_record p), held_once p (pages_of r) h))
+]
+
+-- a page of a submitted command is in
+pub page_there : (s : State) → Grounds s → (r : Record) → In r s.host.records → is_submitted r.phase ≡ true → (p : ℕ) → is_among (pages_of r) p ≡ true → is_some (page_at s.memory p) ≡ true
+page_there s g r within sub p h =
+    let nobody : total (taken p) s.host.records ≡ 0 =
+    let mine : sent_page p r ≡ in_record p r = subst (λ (b : Bool). (if b then in_record p r else 0) ≡ in_record p r) (sym sub) refl in
+    omega (arith, apart s.host.records, once_of s g p, within (sent_page p), mine, held_once p (pages_of r) h) in
+    let below = page_below s g r within p h in
+    some_is (sym (in_is s.memory p below) ∙ g.taken p (omega (arith, below, length-in_store s.memory)) ∙ ap Some (none_here (total (taken p) s.host.records) nobody))
+  where
+    apart : (rs : List Record) → total (taken p) rs + total (sent_page p) rs ≤ total (in_record p) rs
+    apart [] = omega arith
+    apart (x ∷ rs) = omega (arith, apart rs, each x)
+      where
+        each : (x : Record) → taken p x + sent_page p x ≤ in_record p x
+        each x = (elim x.phase as (λ ph. (if is_out ph then in_record p x else 0) + (if is_submitted ph then in_record p x else 0) ≤ in_record p x) [
+          | Drafted ↦ omega arith
+          | Submitted ↦ omega arith
+          | Held ↦ omega arith
+          | Collected ↦ omega arith
+        ])
+
+pub counts_sent : (s : State) (r : Record) → In r s.host.records → is_submitted r.phase ≡ true → (p : ℕ) → is_among (pages_of r) p ≡ true → 0 < total (sent_page p) s.host.records
+counts_sent s r within sub p h =
+    let mine : sent_page p r ≡ in_record p r = subst (λ (b : Bool). (if b then in_record p r else 0) ≡ in_record p r) (sym sub) refl in
+    omega (arith, within (sent_page p), mine, held_once p (pages_of r) h)
+
+pub data_of : (r : Record) (p : ℕ) → is_among r.data_pages p ≡ true → is_among (pages_of r) p ≡ true
+data_of r p h = holds_left p r.data_pages r.chain_pages h
+
+pub chain_of : (r : Record) (p : ℕ) → is_among r.chain_pages p ≡ true → is_among (pages_of r) p ≡ true
+chain_of r p h = holds_right p r.data_pages r.chain_pages h
+
+pub apart_in : (s : State) → Grounds s → (r : Record) → In r s.host.records → AreApart r.chain_pages r.data_pages
+apart_in s g r within p h = elim (cases_Bool (is_among r.chain_pages p)) [
+  | inl e ↦ absurd (omega (arith, held_once p r.chain_pages e, held_once p r.data_pages h, times-append p r.data_pages r.chain_pages, within (in_record p), once_of s g p))
+  | inr e ↦ e
+]
+
+-- The memory of a walk has what the pool has
+
+pub pool_bytes : (m : Pages) (at : ℕ → Bool) → HasBytesOf (only at (memory_of m)) (only at (byte_at m))
+pool_bytes m at place byte e = go (at place) (page_at m (page_of place)) e
+  where
+    inner : (bytes : List ℕ) → slice_get bytes (place % 4096) ≡ Some byte → Some (slice_index bytes (place % 4096)) ≡ Some byte
+    inner bytes e = sym (slice_get-get_or bytes (place % 4096) 0 (slice_get_within bytes (place % 4096) byte e)) ∙ e
+
+    go : (b : Bool) (o : Option (List ℕ)) → (if b then option_and_then (λ bytes. slice_get bytes (place % 4096)) o else None) ≡ Some byte
+        → (if b then option_map (λ page. slice_index page (place % 4096)) o else None) ≡ Some byte
+    go true (Some bytes) e = inner bytes e
+    go true None e = absurd cc
+    go false o e = absurd cc
+
+-- What the walk of a job reaches
+
+pub list_of_job : (s : State) (j : Job) (l : JobList s j) → IsListIn l.command.chain_pages l.command.data_pages (memory_of s.memory) j.entry.sgl1 (joined_parts l.request.pieces l.command.data_pages)
+list_of_job s j l = record {
+  first = l.list.first;
+  spelled = ap (λ (e : SubEntry). descriptor_of e.sgl1) l.entry ∙ l.list.read;
+  spells = spells_there (only (on_pages l.command.chain_pages) (byte_at s.memory)) (only (on_pages l.command.chain_pages) (memory_of s.memory)) (pool_bytes s.memory (on_pages l.command.chain_pages)) l.list.first
+      (joined_parts l.request.pieces l.command.data_pages) l.list.spells;
+  parts_lie = joined_lie (on_pages l.command.data_pages) (parts_of l.request.pieces l.command.data_pages)
+      (parts_lie l.command.data_pages l.request.pieces l.command.data_pages (good_is l.request l.sized.good).crosses (λ p h. h));
+}
+
+pub course_in : (s : State) (j : Job) (l : JobList s j) → CourseIn (on_pages l.command.chain_pages) (on_pages l.command.data_pages) (course_of s j)
+course_in s j l =
+    let list = list_of_job s j l in
+    list_in (on_pages l.command.chain_pages) (on_pages l.command.data_pages) (memory_of s.memory) j.entry.sgl1 list.first (joined_parts l.request.pieces l.command.data_pages) (direction_of_entry j.entry) (need_of_entry j.entry)
+    list.spelled list.spells list.parts_lie
+
+pub more_than_only : (at : ℕ → Bool) (m : Memory) → HasBytesOf m (only at m)
+more_than_only at m place byte e = grind arith
+
+low_places : (m : Pages) → length m ≤ 65536 → (place : ℕ) → is_some (memory_of m place) ≡ true → place < 2 ^ 64
+low_places m few place h =
+    let page : is_some (page_at m (page_of place)) ≡ true = (grind arith) in
+    let low : page_of place < length m = inside m (page_of place) page in
+    omega (arith, low, few)
+  where
+    inside : (m : Pages) (p : ℕ) → is_some (page_at m p) ≡ true → p < length m
+    inside [] p h = absurd (true≢false (sym h))
+    inside (x ∷ m) zero h = omega arith
+    inside (x ∷ m) (suc p) h = omega (arith, inside m p h)
+
+-- it ends well, the parts that are taken have the targets of its parts, and those count what is moved
+pub record CourseWhole (s : State) (j : Job) (parts : List Part) : Type 0 where
+  pub ends : verdict (course_of s j) ≡ End
+  pub takes : targets (direction_of_entry j.entry) (parts_of_list (memory_of s.memory) j.entry.sgl1 (direction_of_entry j.entry) (need_of_entry j.entry)) ≡ targets (direction_of_entry j.entry) parts
+  pub counts : counted_in (direction_of_entry j.entry) parts ≡ need_of_entry j.entry
+
+pub course_whole : (s : State) → Stood s → (j : Job) (l : JobList s j) → CourseWhole s j (parts_of l.request.pieces l.command.data_pages)
+course_whole s stood j l =
+    let list = list_of_job s j l in
+    let r = l.command in
+    let g = good_is l.request l.sized.good in
+    let same_direction : direction_of_entry j.entry ≡ direction_of l.request.kind = ap direction_of_entry l.entry ∙ entry_direction r.cid l.request (spelling l.list.first) in
+    let same_need : need_of_entry j.entry ≡ 512 * l.request.blocks = ap need_of_entry l.entry ∙ entry_need r.cid l.request (spelling l.list.first) l.sized.good in
+    let count : counted_in (direction_of_entry j.entry) (parts_of l.request.pieces r.data_pages) ≡ need_of_entry j.entry =
+    ap (λ d. counted_in d (parts_of l.request.pieces r.data_pages)) same_direction ∙ parts_count l.request r.data_pages l.sized.good l.sized.pages ∙ sym same_need in
+    let both = lists_end (memory_of s.memory) j.entry.sgl1 list.first (joined_parts l.request.pieces r.data_pages) (direction_of_entry j.entry) (need_of_entry j.entry)
+    (low_places s.memory stood.few) list.spelled
+    (spells_there (only (on_pages r.chain_pages) (memory_of s.memory)) (memory_of s.memory) (more_than_only (on_pages r.chain_pages) (memory_of s.memory)) list.first (joined_parts l.request.pieces r.data_pages) list.spells)
+    (joined_there (memory_of s.memory) (parts_of l.request.pieces r.data_pages) (parts_there s.memory l.request.pieces r.data_pages g.crosses l.sized.fits.pieces
+    (λ p h. (omega (arith, page_below s stood.grounds r l.within p (data_of r p h), stood.few), page_there s stood.grounds r l.within l.phase p (data_of r p h)))))
+    (same_count (direction_of_entry j.entry) (parts_of l.request.pieces r.data_pages) ∙ count) in
+    record { ends = both.0; takes = both.1 ∙ same_targets (direction_of_entry j.entry) (parts_of l.request.pieces r.data_pages); counts = count }
+
+pub course_ends : (s : State) → Stood s → (j : Job) (l : JobList s j) → verdict (course_of s j) ≡ End
+course_ends s stood j l = (course_whole s stood j l).ends
+
+-- Its list stays where its chain pages stay, and its data pages are in
+
+pub serves_in : (m m' : Pages) (chain own : List ℕ) → ((p : ℕ) → is_among chain p ≡ true → page_at m' p ≡ page_at m p) → ((p : ℕ) → is_among own p ≡ true → is_some (page_at m' p) ≡ true)
+    → (c : Course) → CourseIn (on_pages chain) (on_pages own) c → verdict c ≡ End → Serves (memory_of m) (memory_of m') c
+serves_in m m' chain own same there (Closes v) h e = λ f. ended (sym e ∙ f)
+  where
+    ended : End ≡ Fault DATA_TRANSFER_ERROR → ⊥
+    ended e = cc
+serves_in m m' chain own same there (Does Stays rest) h e = serves_in m m' chain own same there rest h.1 e
+serves_in m m' chain own same there (Does (Reads place) rest) h e = (
+  bytes_agree (memory_of m') (memory_of m) place 16 (λ k lt. ap (λ (o : Option (List ℕ)). option_map (λ page. slice_index page ((place + k) % 4096)) o) (same (page_of (place + k)) (h.0 k lt))),
+  serves_in m m' chain own same there rest h.1 e,
+)
+serves_in m m' chain own same there (Does (Moves place n offset) rest) h e = (
+  bytes_there (memory_of m') n place (λ k lt. there_in m' (place + k) (there (page_of (place + k)) (h.0.2 k lt))),
+  serves_in m m' chain own same there rest h.1 e,
+)
+
+pub same_list : (s t : State) → Stood s → (j : Job) (l : JobList s j)
+    → ((p : ℕ) → is_among l.command.chain_pages p ≡ true → page_at t.memory p ≡ page_at s.memory p) → ((p : ℕ) → is_among l.command.data_pages p ≡ true → is_some (page_at t.memory p) ≡ true)
+    → course_of t j ≡ course_of s j
+same_list s t stood j l same there =
+    list_served (memory_of s.memory) (memory_of t.memory) j.entry.sgl1 (direction_of_entry j.entry) (need_of_entry j.entry)
+    (serves_in s.memory t.memory l.command.chain_pages l.command.data_pages same there (course_of s j) (course_in s j l) (course_ends s stood j l))
+
+-- A built draft, laid into the store, spells its parts from its entry's descriptor.
+
+-- Requests that pass as the same are
+
+pieces_same : (x y : Piece) → same_piece x y ≡ true → x ≡ y
+pieces_same (Data o n) (Data p m) h = let both = and_parts (o == p) (n == m) h in rw (eqb-true o p both.0, eqb-true n m both.1) refl
+pieces_same (Data o n) (Bucket m) h = absurd (true≢false (sym h))
+pieces_same (Bucket n) (Data p m) h = absurd (true≢false (sym h))
+pieces_same (Bucket n) (Bucket m) h = ap Bucket (eqb-true n m h)
+
+lists_same : (xs ys : List Piece) → same_pieces xs ys ≡ true → xs ≡ ys
+lists_same [] [] h = refl
+lists_same [] (y ∷ ys) h = absurd (true≢false (sym h))
+lists_same (x ∷ xs) [] h = absurd (true≢false (sym h))
+lists_same (x ∷ xs) (y ∷ ys) h = let both = and_parts (same_piece x y) (same_pieces xs ys) h in rw (pieces_same x y both.0, lists_same xs ys both.1) refl
+
+kinds_same : (a b : Kind) → same_kind a b ≡ true → a ≡ b
+kinds_same a b h = grind arith
+
+pub requests_same : (a b : Request) → same_request a b ≡ true → a ≡ b
+requests_same a b h =
+    let abc_d = and_parts (same_kind a.kind b.kind && (a.slba == b.slba) && (a.blocks == b.blocks)) (same_pieces a.pieces b.pieces) h in
+    let ab_c = and_parts (same_kind a.kind b.kind && (a.slba == b.slba)) (a.blocks == b.blocks) abc_d.0 in
+    let a_b = and_parts (same_kind a.kind b.kind) (a.slba == b.slba) ab_c.0 in
+    made a.kind b.kind a.slba b.slba a.blocks b.blocks a.pieces b.pieces (kinds_same a.kind b.kind a_b.0) (eqb-true a.slba b.slba a_b.1) (eqb-true a.blocks b.blocks ab_c.1) (lists_same a.pieces b.pieces abc_d.1)
+  where
+    of : Kind → ℕ → ℕ → List Piece → Request
+    of k s n ps = record { kind = k; slba = s; blocks = n; pieces = ps }
+
+    made : (k k' : Kind) (s s' n n' : ℕ) (ps ps' : List Piece) → k ≡ k' → s ≡ s' → n ≡ n' → ps ≡ ps' → of k s n ps ≡ of k' s' n' ps'
+    made k k' s s' n n' ps ps' ek es en ep = rw (ek, es, en, ep) refl
+
+-- A descriptor whose fields fit is read back
+
+parts_fit : (pieces : List Piece) (numbers : List ℕ) → All FitsPiece pieces → ((n : ℕ) → is_among numbers n ≡ true → n < 65536)
+    → AllByRecursion (λ part. Fits (descriptor_of_part part)) (parts_of pieces numbers)
+parts_fit [] numbers fit low = tt
+parts_fit (Bucket len ∷ pieces) numbers fit low = (All-head FitsPiece (Bucket len) pieces fit, parts_fit pieces numbers (All-tail FitsPiece (Bucket len) pieces fit) low)
+parts_fit (Data offset len ∷ pieces) [] fit low = tt
+parts_fit (Data offset len ∷ pieces) (n ∷ numbers) fit low =
+    let here = All-head FitsPiece (Data offset len) pieces fit in
+    let page = low n (or_left (n == n) (is_among numbers n) (eq-eqb n n refl)) in (
+      (omega (arith, here.0, page), here.1),
+      parts_fit pieces numbers (All-tail FitsPiece (Data offset len) pieces fit) (λ k h. low k (or_right (n == k) (is_among numbers k) h)),
+    )
+
+first_fits : (s : ℕ) (pages : List ℕ) (parts : List Part) → s ≤ 256 → length parts ≤ 1024 → AllByRecursion (λ part. Fits (descriptor_of_part part)) parts
+    → ((n : ℕ) → is_among pages n ≡ true → n < 65536) → Fits (first_of s pages parts)
+first_fits s (page ∷ pages) parts high few fit low = go (nat_le (length parts) s)
+  where
+    here : page < 65536
+    here = low page (or_left (page == page) (is_among pages page) (eq-eqb page page refl))
+
+    go : (b : Bool) → Fits (if b then LastSegment (4096 * page) (16 * length parts) else Segment (4096 * page) (16 * s))
+    go true = (omega (arith, here), omega (arith, few))
+    go false = (omega (arith, here), omega (arith, high))
+first_fits s [] [] high few fit low = omega arith
+first_fits s [] (part ∷ parts) high few fit low = fit.0
+
+pub first_read : (d : DraftContents) → IsProperDraft d → ((n : ℕ) → is_among (numbers_of d.data_pages) n ≡ true → n < 65536) → ((n : ℕ) → is_among (numbers_of d.chain_pages) n ≡ true → n < 65536)
+    → descriptor_of (spelling (draft_first d)) ≡ Some (draft_first d)
+first_read d proper low low' =
+    let few = few_pieces d.request.kind d.request.blocks d.request.pieces proper.draft.good in
+    reads_itself (draft_first d)
+    (first_fits d.segment (numbers_of d.chain_pages) (draft_parts d) proper.draft.high
+    (omega (arith, few, joined_parts_few d.request.pieces (numbers_of d.data_pages)))
+    (joined_fit (parts_of d.request.pieces (numbers_of d.data_pages)) (parts_fit d.request.pieces (numbers_of d.data_pages) proper.request.pieces low)) low')
+
+-- Its pages in the store
+
+set_same : (m : Pages) (p : ℕ) (x : Option (List ℕ)) → p < length m → page_at (slice_set m p x) p ≡ x
+set_same [] p x l = absurd (omega (arith, l))
+set_same (y ∷ m) zero x l = refl
+set_same (y ∷ m) (suc p) x l = set_same m p x (omega (arith, l))
+
+-- each page that is brought in once stands there with its bytes
+pub brought : (pages : List (ℕ × List ℕ)) (m : Pages) → ((p : ℕ) → times p (numbers_of pages) ≤ 1) → ((p : ℕ) → is_among (numbers_of pages) p ≡ true → p < length m)
+    → AllByRecursion (λ page. page_at (with_pages pages m) page.0 ≡ Some page.1) pages
+brought [] m once low = tt
+brought (page ∷ pages) m once low = (
+  with_elsewhere pages (slice_set m page.0 (Some page.1)) page.0
+      (among_counts page.0 (numbers_of pages) (omega (arith, once page.0, times-cons page.0 page.0 (numbers_of pages), ap one (eq-eqb page.0 page.0 refl))))
+      ∙ set_same m page.0 (Some page.1) (low page.0 (or_left (page.0 == page.0) (is_among (numbers_of pages) page.0) (eq-eqb page.0 page.0 refl))),
+  brought pages (slice_set m page.0 (Some page.1))
+      (λ p. omega (arith, once p, times-cons p page.0 (numbers_of pages)))
+      (λ p h. omega (arith, low p (or_right (page.0 == p) (is_among (numbers_of pages) p) h), length-set m page.0 (Some page.1))),
+)
+
+-- bytes of a page that stands in the store
+in_page_submitting : (p k : ℕ) → k < 4096 → page_of (4096 * p + k) ≡ p
+in_page_submitting p k l = omega (arith, l)
+
+holds_page : (m : Pages) (chain : List ℕ) (p : ℕ) (bytes : List ℕ) → is_among chain p ≡ true → length bytes ≡ 4096 → page_at m p ≡ Some bytes → Holds (only (on_pages chain) (byte_at m)) (4096 * p) bytes
+holds_page m chain p bytes within whole there k l =
+    let inside : on_pages chain (4096 * p + k) ≡ true = subst (λ (q : ℕ). is_among chain q ≡ true) (sym (in_page_submitting p k (omega (arith, l, whole)))) within in
+    subst (λ (b : Bool). (if b then byte_at m (4096 * p + k) else None) ≡ Some (slice_index bytes k)) (sym inside)
+    (byte_in m p k bytes there (omega (arith, l, whole)) ∙ slice_get-get_or bytes k 0 l)
+
+pub holds_pages : (m : Pages) (chain : List ℕ) (pages : List (ℕ × List ℕ)) → ((p : ℕ) → is_among (numbers_of pages) p ≡ true → is_among chain p ≡ true) → ArePages pages
+    → AllByRecursion (λ page. page_at m page.0 ≡ Some page.1) pages → HoldsPages (only (on_pages chain) (byte_at m)) pages
+holds_pages m chain [] within whole there = tt
+holds_pages m chain (page ∷ pages) within whole there = (
+  holds_page m chain page.0 page.1 (within page.0 (or_left (page.0 == page.0) (is_among (numbers_of pages) page.0) (eq-eqb page.0 page.0 refl))) (All-head (λ (page : ℕ × List ℕ). IsPage page.1) page pages whole) there.0,
+  holds_pages m chain pages (λ p h. within p (or_right (page.0 == p) (is_among (numbers_of pages) p) h)) (All-tail (λ (page : ℕ × List ℕ). IsPage page.1) page pages whole) there.1,
+)
+
+all_low : (xs : List ℕ) → ((n : ℕ) → is_among xs n ≡ true → n < 65536) → All (λ page. page < 2 ^ 32) xs
+all_low [] low = All-nil (λ page. page < 2 ^ 32)
+all_low (x ∷ xs) low =
+    All-cons (λ page. page < 2 ^ 32) x xs (omega (arith, low x (or_left (x == x) (is_among xs x) (eq-eqb x x refl)))) (all_low xs (λ n h. low n (or_right (x == n) (is_among xs n) h)))
+
+-- what the draft spells there
+pub draft_spells : (d : DraftContents) (entry : SubEntry) (m : Pages) → IsProperDraft d → d.entry ≡ Some entry
+    → ((n : ℕ) → is_among (numbers_of d.data_pages) n ≡ true → n < 65536) → ((n : ℕ) → is_among (numbers_of d.chain_pages) n ≡ true → n < 65536)
+    → AllByRecursion (λ page. page_at m page.0 ≡ Some page.1) d.chain_pages → Spells (only (on_pages (numbers_of d.chain_pages)) (byte_at m)) (draft_first d) (draft_parts d)
+draft_spells d entry m proper e low low' there =
+    built_drafts_spell (λ s pages parts has typed most m laid. spells m s pages parts has typed most laid) d entry proper.draft
+    (record { request = proper.request; data_pages = all_low (numbers_of d.data_pages) low; chain_pages = all_low (numbers_of d.chain_pages) low' }) e
+    (only (on_pages (numbers_of d.chain_pages)) (byte_at m)) (holds_pages m (numbers_of d.chain_pages) d.chain_pages (λ p h. h) proper.chain_pages there)
+
+-- What the machine hands out is proper: the draft of a command that was reserved, and a command that was collected.
+
+-- what the host's event is answered, whatever was forged
+pub hosts_own : {A : Type 0} (B : Type 0) (t : Bool) → MatchBool (t || true) A B → A
+hosts_own B true h = h
+hosts_own B false h = h
+
+-- Reserved drafts
+
+zero_whole : (bytes : List ℕ) → bytes ≡ zero_page → IsPage bytes
+zero_whole bytes e = ap length e ∙ length-zero_page
+
+right_zeroed : (ys : List (ℕ × List ℕ)) → zeroed ys → ArePages ys
+right_zeroed [] h = All-nil (λ (page : ℕ × List ℕ). IsPage page.1)
+right_zeroed (y ∷ ys) h =
+    All-cons (λ (page : ℕ × List ℕ). IsPage page.1) y ys
+    (zero_whole y.1 (All-head (λ (page : ℕ × List ℕ). page.1 ≡ zero_page) y ys h))
+    (right_zeroed ys (All-tail (λ (page : ℕ × List ℕ). page.1 ≡ zero_page) y ys h))
+
+both_zeroed : (xs ys : List (ℕ × List ℕ)) → zeroed (xs ++ ys) → ArePages xs × ArePages ys
+both_zeroed [] ys h = (All-nil (λ (page : ℕ × List ℕ). IsPage page.1), right_zeroed ys h)
+both_zeroed (x ∷ xs) ys h =
+    let rest = both_zeroed xs ys (All-tail (λ (page : ℕ × List ℕ). page.1 ≡ zero_page) x (xs ++ ys) h) in (
+      All-cons (λ (page : ℕ × List ℕ). IsPage page.1) x xs (zero_whole x.1 (All-head (λ (page : ℕ × List ℕ). page.1 ≡ zero_page) x (xs ++ ys) h)) rest.0,
+      rest.1,
+    )
+
+-- a request that is not refused passes its check
+reserved_is_good : (s : State) (q : ℕ) (r : Request) → refusal_of s (events.Reserve q r) ≡ None → IsGood r
+reserved_is_good s q r h =
+    let bad : Option RequestFault = fault_of r.kind r.blocks r.pieces in
+    let later : List (Bool × Refusal) = (no_identifier s q, refusal.NoIdentifier) ∷ (nat_lt (length s.host.free) (pages_wanted s r), refusal.NoPages (pages_wanted s r) (length s.host.free)) ∷ [] in
+    go bad
+    (first_fails (is_some bad) (option_map_or refusal.Bad bad refusal.NoQueue) later
+    (rest_fails (in_state is_deleting s q) refusal.Deleting ((is_some bad, option_map_or refusal.Bad bad refusal.NoQueue) ∷ later)
+    (rest_fails (no_io_queue s q) refusal.NoQueue ((in_state is_deleting s q, refusal.Deleting) ∷ (is_some bad, option_map_or refusal.Bad bad refusal.NoQueue) ∷ later) h)))
+  where
+    go : (o : Option RequestFault) → is_some o ≡ false → o ≡ None
+    go o e = grind arith
+
+reserved_draft : (s : State) (q : ℕ) (r : Request) (d : DraftContents) → IsInOrder s → IsGood r → IsReserved s q r d → IsDraft d
+reserved_draft s q r d order good reserved = record {
+  good = subst IsGood (sym reserved.request) good;
+  low = subst (λ (n : ℕ). 2 ≤ n) (sym reserved.segment) order.least_segment;
+  high = subst (λ (n : ℕ). n ≤ 256) (sym reserved.segment) order.most_segment;
+  pieces_have_pages = reserved.data_pages ∙ ap (λ (x : Request). data_count x.pieces) (sym reserved.request);
+  chain_has_pages =
+      reserved.chain_pages
+      ∙ ap (λ (x : Request). pages_needed (length (joined_parts x.pieces (numbers_of d.data_pages))) s.segment) (sym reserved.request)
+      ∙ ap (pages_needed (length (draft_parts d))) (sym reserved.segment);
+  built = subst (IsBuiltIfAny d) (sym reserved.not_built) tt;
+}
+
+pub reserved_is_proper : reserved_drafts_are_proper
+reserved_is_proper s new q r d order step =
+    let ok = hosts_own (AnswersAnything s (events.Reserve q r) (events.Reserved d)) s.trusted step.1 in
+    let pages = both_zeroed d.data_pages d.chain_pages ok.1.zero in
+    record {
+      request = subst FitsRequest (sym ok.1.request) step.0;
+      data_pages = pages.0;
+      chain_pages = pages.1;
+      draft = reserved_draft s q r d order (reserved_is_good s q r ok.0) ok.1;
+    }
+
+-- Collected commands
+
+-- beside a record whose pages are not out, the ones that are
+out_beside : (p q cid : ℕ) (rs : List Record) (r : Record) → find (is_at q cid) rs ≡ Some r → is_out r.phase ≡ false
+    → total (taken p) rs + in_record p r ≤ total (in_record p) rs
+out_beside p q cid [] r e stays = absurd cc
+out_beside p q cid (x ∷ rs) r e stays = go (is_at q cid x) e (λ e. out_beside p q cid rs r e stays)
+  where
+    one_record : (b : Bool) → (if b then in_record p x else 0) ≤ in_record p x
+    one_record b = grind arith
+
+    go : (b : Bool) → (if b then Some x else find (is_at q cid) rs) ≡ Some r → (find (is_at q cid) rs ≡ Some r → total (taken p) rs + in_record p r ≤ total (in_record p) rs)
+        → total (taken p) (x ∷ rs) + in_record p r ≤ total (in_record p) (x ∷ rs)
+    go true e ih =
+        let same : x ≡ r = cc in
+        let none : taken p x ≡ 0 = ap (taken p) same ∙ ap (λ (b : Bool). if b then in_record p r else 0) stays in
+        omega (arith, none, ap (in_record p) same, taken_le p rs)
+    go false e ih = omega (arith, ih e, one_record (is_out x.phase))
+
+-- a page of a command whose pages are not out is in
+page_in : (s : State) → IsSound s → (q cid : ℕ) (r : Record) → record_at s.host q cid ≡ Some r → is_out r.phase ≡ false
+    → (p : ℕ) → is_among (pages_of r) p ≡ true → is_in s.memory p ≡ true
+page_in s sound q cid r e stays p h =
+    let nobody : total (taken p) s.host.records ≡ 0 = omega (arith, owned_once (length (in_store s.memory)) p s.host (holds_from_sound s sound), beside, has) in
+    some_is (sym (in_is s.memory p inside) ∙ taken_from_out s sound.out p (omega (arith, inside, length-in_store s.memory)) ∙ ap Some (none_here (total (taken p) s.host.records) nobody))
+  where
+    has : 0 < in_record p r
+    has = held_once p (pages_of r) h
+
+    beside : total (taken p) s.host.records + in_record p r ≤ total (in_record p) s.host.records
+    beside = out_beside p q cid s.host.records r e stays
+
+    inside : p < length s.memory
+    inside = at (nat_lt p (length (in_store s.memory))) refl
+      where
+        at : (b : Bool) → nat_lt p (length (in_store s.memory)) ≡ b → p < length s.memory
+        at true l = omega (arith, ltb-true p (length (in_store s.memory)) l, length-in_store s.memory)
+        at false l = absurd (omega (arith, ap one l, (holds_from_sound s sound).owner p, beside, has))
+
+whole_bytes : (o : Option (List ℕ)) → is_some o ≡ true → IfSome o (λ page. length page ≡ 4096) → IsPage (option_map_or (λ bytes. bytes) o [])
+whole_bytes None there whole = absurd (true≢false (sym there))
+whole_bytes (Some bytes) there whole = whole
+
+-- pages that are in, with their bytes
+whole_pages : (m : Pages) (pages : List ℕ) → AreWhole m → ((p : ℕ) → is_among pages p ≡ true → is_in m p ≡ true) → ArePages (pages_with_bytes m pages)
+whole_pages m [] whole there = All-nil (λ (page : ℕ × List ℕ). IsPage page.1)
+whole_pages m (k ∷ pages) whole there =
+    All-cons (λ (page : ℕ × List ℕ). IsPage page.1) (k, option_map_or (λ bytes. bytes) (page_at m k) []) (pages_with_bytes m pages)
+    (whole_bytes (page_at m k) (there k (ap (λ (b : Bool). b || is_among pages k) (eq-eqb k k refl))) (whole k))
+    (whole_pages m pages whole (λ p h. there p (among_right p (k ∷ []) pages h)))
+
+waiting_stays : (ph : Phase) → (is_submitted ph || is_held ph) ≡ true → is_out ph ≡ false
+waiting_stays ph e = grind arith
+
+-- a collected command has the pages of its record, with their bytes
+collected_pages : (s : State) (r : Record) (f : FinishedContents) → finished_from s r ≡ Some f
+    → ArePages (pages_with_bytes s.memory r.data_pages) × ArePages (pages_with_bytes s.memory r.chain_pages) → ArePages f.data_pages × ArePages f.chain_pages
+collected_pages s r f e pages = asks (asked_by r.work) e
+  where
+    contents : Request → Status → FinishedContents
+    contents asked st = record {
+      q = r.q;
+      cid = r.cid;
+      request = asked;
+      status = st;
+      data_pages = pages_with_bytes s.memory r.data_pages;
+      chain_pages = pages_with_bytes s.memory r.chain_pages;
+    }
+
+    ended : (asked : Request) (o : Option Status) → option_map (contents asked) o ≡ Some f → ArePages f.data_pages × ArePages f.chain_pages
+    ended asked None e = absurd cc
+    ended asked (Some st) e =
+        let same : contents asked st ≡ f = cc in
+        subst (λ (x : FinishedContents). ArePages x.data_pages × ArePages x.chain_pages) same pages
+
+    asks : (o : Option Request) → option_and_then (λ asked. option_map (contents asked) r.status) o ≡ Some f → ArePages f.data_pages × ArePages f.chain_pages
+    asks None e = absurd cc
+    asks (Some asked) e = ended asked r.status e
+
+pub collected_is_proper : collected_commands_are_proper
+collected_is_proper s new q cid f order step =
+    let ok = hosts_own (AnswersAnything s (events.Collect q cid) (events.Collects f)) s.trusted step.1 in
+    let waits = record_is (λ r. is_submitted r.phase || is_held r.phase) s q cid in
+    let there = found (λ r. is_submitted r.phase || is_held r.phase) s q cid
+    (not-false waits (first_fails (not waits) refusal.Stranger ((record_is (λ r. is_submitted r.phase) s q cid, refusal.NotYet) ∷ []) ok.0)) in
+    let r = there.0 in
+    let stays = page_in s order.sound q cid r there.1 (waiting_stays r.phase there.2) in
+    collected_pages s r f (ap (option_and_then (finished_from s)) (sym there.1) ∙ ok.1)
+    (whole_pages s.memory r.data_pages order.whole (λ p h. stays p (data_of r p h)), whole_pages s.memory r.chain_pages order.whole (λ p h. stays p (chain_of r p h)))

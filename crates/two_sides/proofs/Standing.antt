@@ -1,0 +1,650 @@
+-- Commands stand at their places.
+use Rattle.machine_model.specs.After as a
+use Rattle.machine_model.specs.Refusals as refusals
+use Rattle.machine_model.specs.Events as events
+use Rattle.machine_model.specs.declared.words.Refusal.TheVariants as refusal
+use Rattle.std.proofs.Common.{◌≡◌, ℕ, zero, suc, ◌+◌, ◌≤◌, ◌==◌, Bool, true, false, Some, List, [], ◌∷◌, slice_get, if◌then◌else◌, refl, ap, sym, arith, subst, not, ◌-◌, nat_lt, ◌&&◌, Option, None, ◌++◌, length, map, filter, find, drop, is_some, is_none, option_and_then, ◌∙◌, eqb-true, eq-eqb, ◌<◌, ◌||◌, inl, inr, replicate}
+use Rattle.std.{proofs.lemmas.Bool.{true≢false, ne_eqb, and_parts, or_parts, cases_Bool, not-false, Decides.nat_tests}, specs.List.AllByRecursion}
+use Rattle.std.specs.{Option.option_map_or, Prelude.nat_le}
+use Rattle.machine_model.proofs.{Cases.option_is, Counting.{total-append, total-map, times-append, times-cons, times-outstanding}}
+use Rattle.machine_model.proofs.Moves.{host_moves, posts, sends, sent_record, drafted_record, heard_without, creates_cq, creates_sq, grants_cq, grants_sq, IsHeard, answer_heard}
+use Rattle.machine_model.proofs.{Owned.{HoldsPart, no_waiting, no_answering, reset_admin_commands}, Sound.{unused, host_event}}
+use Rattle.machine_model.proofs.Steps.{managed_by, first_fails, rest_fails, found_all, Accepts, part_controller}
+use Rattle.machine_model.proofs.Tokens.{find_all, find_sound, MildJob, placed_jobs, placed_decided, placed_conflict, placed_completed, placed_job_more, placed_job_less, find_more, find_map, find_filter, placed_records, placed_sent, placed_reaped}
+use Rattle.machine_model.specs.Agreeing.{is_out_of_service_at as past_at, DeletesIo, JobKnown, AdminCommandsStand as Placed, is_absent_at as gone_at, Knows, waiting, answering, job_is}
+use Rattle.machine_model.specs.{Claims.OwnsFit, Events.{Event, Reply}, Memory.{is_in, with_pages}, Opening.{opening, device_queue as opened}}
+use Rattle.machine_model.specs.Refusals.{in_service, host_queue, device_queue, next_rung, job_at, conflicts, slot_page, slot_offset, post_slot, fetch_slot, refusal_of, answers_full, post_page, is_job, seen_entry, entry_of, first_answer, is_submitted, is_retired, is_drafted, is_collected, is_of, asks_for, record_is, in_state, is_live, queue_full, is_reaped}
+use Rattle.machine_model.specs.State.{DeviceQueue, HostQueue, State, Device, Record, Job, Answer, is_at, record_at, pages_of, without_record, with_record, outstanding_on}
+use Rattle.machine_model.specs.{Step.{host_part, HostPart, IsController, times}, Weights.{total, one, here}, Work.Work, declared.words.Phase.TheVariants.Held}
+use Rattle.machine_model.specs.declared.words.{Refusal.Refusal, Work.TheVariants.{Io, Management}}
+use Rattle.queue_pair.specs.Members.{change}
+use Rattle.entry_codec.specs.{Completion.completion_bytes, Submission.submission_bytes}
+use Rattle.entry_codec.specs.declared.{admin_opcode.TheConstants.{ABORT, DELETE_IO_SQ, DELETE_IO_CQ, CREATE_IO_CQ, CREATE_IO_SQ}, completion.ComEntry.ComEntry}
+use Rattle.entry_codec.specs.declared.status.{Status.Status, TheConstants.Status.{SUCCESS, COMMAND_ID_CONFLICT, ABORT_REQUESTED, ABORTED_SQ_DELETION}}
+use Rattle.entry_codec.specs.declared.submission.SubEntry.{SubEntry}
+use Rattle.admin_commands.specs.{Entries.{admin_entry, named_queue, named_command}, Verdicts.{is_absent, is_live as is_running}, declared.AdminKind.AdminKind}
+use Rattle.admin_commands.specs.declared.{AdminKind.TheVariants.{Abort, DeleteSq, DeleteCq, CreateCq, CreateSq}, SqState.SqState}
+use Rattle.admin_commands.specs.declared.SqState.TheVariants.{Absent, Live as Running, Stopping}
+use Rattle.page_memory.specs.Pages.{with_page_bytes}
+use Rattle.io_commands.specs.{Asked.Request, Jobs.{is_success, io_fault, bytes_after_check}}
+use Rattle.two_sides.{proofs.DeviceMoves.{answer_of, unit_done, finished, cleared, clears, fetch_by, walk_by, complete_by}, specs.MachineLaws.admin_places}
+pub use Rattle.machine_model.specs.Agreeing.{waiting, answering}
+pub use Rattle.machine_model.proofs.Moves.{named, seen_trusted}
+
+-- What one change of the controller's queues does to sums over entries and answers.
+
+abbrev pub list_at : {B : Type 0} → (DeviceQueue → List B) → List DeviceQueue → ℕ → List B
+list_at get qs q = option_map_or get (slice_get qs q) []
+
+pub same_suc : (k q : ℕ) → (suc k == suc q) ≡ (k == q)
+same_suc k q = grind (arith, nat_tests)
+
+far_zero : (q : ℕ) → (0 == suc q) ≡ false
+far_zero q = grind (arith, nat_tests)
+
+pub far_suc : (k : ℕ) → (suc k == 0) ≡ false
+far_suc k = grind (arith, nat_tests)
+
+at_suc : (k q n : ℕ) → (if suc k == suc q then n else 0) ≡ (if k == q then n else 0)
+at_suc k q n = ap (λ (b : Bool). if b then n else 0) (same_suc k q)
+
+pub list_same : {B : Type 0} (get : DeviceQueue → List B) (k : ℕ) (f : DeviceQueue → DeviceQueue) (qs : List DeviceQueue) (q : ℕ) → ((at : DeviceQueue) → get (f at) ≡ get at) → list_at get (change k f qs) q ≡ list_at get qs q
+list_same get k f [] q same = refl
+list_same get zero f (x ∷ qs) zero same = same x
+list_same get zero f (x ∷ qs) (suc q) same = refl
+list_same get (suc k) f (x ∷ qs) zero same = refl
+list_same get (suc k) f (x ∷ qs) (suc q) same = list_same get k f qs q same
+
+-- a queue's list counts more by so much at most
+pub more_at : {B : Type 0} (get : DeviceQueue → List B) (w : B → ℕ) (k : ℕ) (f : DeviceQueue → DeviceQueue) (extra : ℕ) (qs : List DeviceQueue) (q : ℕ) → ((at : DeviceQueue) → total w (get (f at)) ≤ total w (get at) + extra)
+    → total w (list_at get (change k f qs) q) ≤ total w (list_at get qs q) + (if k == q then extra else 0)
+more_at get w k f extra [] q h = omega arith
+more_at get w zero f extra (x ∷ qs) zero h = h x
+more_at get w zero f extra (x ∷ qs) (suc q) h = omega arith
+more_at get w (suc k) f extra (x ∷ qs) zero h = omega arith
+more_at get w (suc k) f extra (x ∷ qs) (suc q) h = omega (arith, more_at get w k f extra qs q h, at_suc k q extra)
+
+-- or less by so much at least
+pub less_at : {B : Type 0} (get : DeviceQueue → List B) (w : B → ℕ) (k : ℕ) (f : DeviceQueue → DeviceQueue) (less : ℕ) (qs : List DeviceQueue) (q : ℕ) (at : DeviceQueue) → slice_get qs k ≡ Some at
+    → total w (get (f at)) + less ≤ total w (get at)
+    → total w (list_at get (change k f qs) q) + (if k == q then less else 0) ≤ total w (list_at get qs q)
+less_at get w k f less [] q at e h = absurd cc
+less_at get w zero f less (x ∷ qs) zero at e h = let same : x ≡ at = cc in subst (λ (y : DeviceQueue). total w (get (f y)) + less ≤ total w (get y)) (sym same) h
+less_at get w zero f less (x ∷ qs) (suc q) at e h = omega (arith, ap (λ (b : Bool). if b then less else 0) (far_zero q))
+less_at get w (suc k) f less (x ∷ qs) zero at e h = omega (arith, ap (λ (b : Bool). if b then less else 0) (far_suc k))
+less_at get w (suc k) f less (x ∷ qs) (suc q) at e h = omega (arith, less_at get w k f less qs q at e h, at_suc k q less)
+
+-- what holds of all in a queue's list
+pub all_list : {B : Type 0} (P : B → Type 0) (get : DeviceQueue → List B) (k : ℕ) (f : DeviceQueue → DeviceQueue) (qs : List DeviceQueue) (q : ℕ)
+    → ((at : DeviceQueue) → k ≡ q → AllByRecursion P (get at) → AllByRecursion P (get (f at))) → AllByRecursion P (list_at get qs q) → AllByRecursion P (list_at get (change k f qs) q)
+all_list P get k f [] q step all = all
+all_list P get zero f (x ∷ qs) zero step all = step x refl all
+all_list P get zero f (x ∷ qs) (suc q) step all = all
+all_list P get (suc k) f (x ∷ qs) zero step all = all
+all_list P get (suc k) f (x ∷ qs) (suc q) step all = all_list P get k f qs q (λ at e. step at (ap suc e)) all
+
+-- whether a queue of the host is out of service
+
+pub past_same : (k : ℕ) (f : HostQueue → HostQueue) (hs : List HostQueue) (q : ℕ) → ((x : HostQueue) → slice_get hs k ≡ Some x → in_service (f x).state ≡ in_service x.state) → past_at (change k f hs) q ≡ past_at hs q
+past_same k f [] q same = refl
+past_same zero f (x ∷ hs) zero same = ap not (same x refl)
+past_same zero f (x ∷ hs) (suc q) same = refl
+past_same (suc k) f (x ∷ hs) zero same = refl
+past_same (suc k) f (x ∷ hs) (suc q) same = past_same k f hs q same
+
+pub past_other : (k : ℕ) (f : HostQueue → HostQueue) (hs : List HostQueue) (q : ℕ) → (k ≡ q → ⊥) → past_at (change k f hs) q ≡ past_at hs q
+past_other k f [] q far = refl
+past_other zero f (x ∷ hs) zero far = absurd (far refl)
+past_other zero f (x ∷ hs) (suc q) far = refl
+past_other (suc k) f (x ∷ hs) zero far = refl
+past_other (suc k) f (x ∷ hs) (suc q) far = past_other k f hs q (λ e. far (ap suc e))
+
+pub past_here : (k : ℕ) (f : HostQueue → HostQueue) (hs : List HostQueue) → ((x : HostQueue) → in_service (f x).state ≡ false) → (x : HostQueue) → slice_get hs k ≡ Some x → past_at (change k f hs) k ≡ true
+past_here k f [] past x e = absurd cc
+past_here zero f (y ∷ hs) past x e = ap not (past y)
+past_here (suc k) f (y ∷ hs) past x e = past_here k f hs past x e
+
+-- Each event keeps where admin commands stand.
+
+pub record PlacedIn (rs : List Record) (d : Device) : Type 0 where
+  pub placed : Placed rs (waiting d.queues) d.jobs (answering d.queues)
+
+-- One of the controller's queues changed
+
+pub waiting_same : (f : DeviceQueue → DeviceQueue) → ((at : DeviceQueue) → (f at).unfetched ≡ at.unfetched) → (k : ℕ) (ds : List DeviceQueue) → waiting (change k f ds) ≡ waiting ds
+waiting_same f same k [] = refl
+waiting_same f same zero (at ∷ ds) = same at
+waiting_same f same (suc k) (at ∷ ds) = refl
+
+pub answering_same : (f : DeviceQueue → DeviceQueue) → ((at : DeviceQueue) → (f at).answers ≡ at.answers) → (k : ℕ) (ds : List DeviceQueue) → answering (change k f ds) ≡ answering ds
+answering_same f same k [] = refl
+answering_same f same zero (at ∷ ds) = same at
+answering_same f same (suc k) (at ∷ ds) = refl
+
+pub waiting_other : (f : DeviceQueue → DeviceQueue) (k : ℕ) (ds : List DeviceQueue) → (k == 0) ≡ false → waiting (change k f ds) ≡ waiting ds
+waiting_other f zero ds e = absurd (true≢false e)
+waiting_other f (suc k) [] e = refl
+waiting_other f (suc k) (at ∷ ds) e = refl
+
+pub answering_other : (f : DeviceQueue → DeviceQueue) (k : ℕ) (ds : List DeviceQueue) → (k == 0) ≡ false → answering (change k f ds) ≡ answering ds
+answering_other f zero ds e = absurd (true≢false e)
+answering_other f (suc k) [] e = refl
+answering_other f (suc k) (at ∷ ds) e = refl
+
+-- what it leaves where the entries and the answers of queue 0 stay
+pub placed_change : (rs : List Record) (d : Device) (k : ℕ) (f : DeviceQueue → DeviceQueue)
+    → waiting (change k f d.queues) ≡ waiting d.queues → answering (change k f d.queues) ≡ answering d.queues
+    → PlacedIn rs d → PlacedIn rs (record d { queues = change k f d.queues })
+placed_change rs d k f w an h = record { placed = rw (w, an) h.placed }
+
+-- a queue other than 0
+pub placed_other : (rs : List Record) (d : Device) (k : ℕ) (f : DeviceQueue → DeviceQueue) → (k == 0) ≡ false
+    → PlacedIn rs d → PlacedIn rs (record d { queues = change k f d.queues })
+placed_other rs d k f other h = placed_change rs d k f (waiting_other f k d.queues other) (answering_other f k d.queues other) h
+
+-- Where memory alone differs
+
+pub device-answered : (q cid : ℕ) (st : Status) (dw0 : ℕ) (s : State)
+    → (a.answered q cid st dw0 s).device ≡ record s.device { queues = change q (λ at. record at { answers = at.answers ++ record { cid = cid; status = st; dw0 = dw0; sq_head = fetch_slot s q } ∷ [] }) s.device.queues }
+device-answered q cid st dw0 s =
+    ap (λ (d : Device). record d { queues = change q (λ at. record at { answers = at.answers ++ record { cid = cid; status = st; dw0 = dw0; sq_head = fetch_slot s q } ∷ [] }) d.queues }) (go (host_queue s q))
+  where
+    go : (o : Option HostQueue)
+        → (option_map_or (λ queue. a.on_memory (λ m. with_page_bytes m (slot_page queue.cq_pages 16 (post_slot s q)) (slot_offset 16 (post_slot s q))
+        (completion_bytes (record { dw0 = dw0; sqhd = fetch_slot s q; sqid = q; cid = cid; phase = a.post_phase s q queue; status = st }))) s) o s).device ≡ s.device
+    go None = refl
+    go (Some queue) = refl
+
+pub device-posted : (q : ℕ) (entry : SubEntry) (s : State)
+    → (a.posted q entry s).device ≡ record s.device { queues = change q (λ at. record at { unfetched = at.unfetched ++ entry ∷ [] }) s.device.queues }
+device-posted q entry s =
+    ap (λ (d : Device). record d { queues = change q (λ at. record at { unfetched = at.unfetched ++ entry ∷ [] }) d.queues }) (grind arith)
+
+-- The entry that is fetched from queue 0
+
+pub taken_entry : (ds : List DeviceQueue) (e : SubEntry) → option_and_then (λ queue. if is_running queue.state && nat_lt 0 queue.rung then slice_get queue.unfetched 0 else None) (slice_get ds 0) ≡ Some e
+    → waiting ds ≡ e ∷ waiting (change 0 (λ at. record at { unfetched = drop 1 at.unfetched; rung = at.rung - 1 }) ds)
+taken_entry [] e h = absurd cc
+taken_entry (at ∷ ds) e h = go (is_running at.state && nat_lt 0 at.rung) at.unfetched h
+  where
+    go : (b : Bool) (un : List SubEntry) → (if b then slice_get un 0 else None) ≡ Some e → un ≡ e ∷ drop 1 un
+    go false un h = absurd cc
+    go true [] h = absurd cc
+    go true (x ∷ un) h = let same : x ≡ e = cc in ap (λ y. y ∷ un) same
+
+-- Fetching
+
+-- with an entry still in hand
+abbrev Holding : List Record → SubEntry → Device → Type 0
+Holding rs e d = Placed rs (e ∷ waiting d.queues) d.jobs (answering d.queues)
+
+decide : (rs : List Record) (e : SubEntry) (st : Status) (dw0 : ℕ) (s : State)
+    → ((adm : AdminKind) → e ≡ admin_entry adm e.cid → is_success st ≡ true → DeletesIo adm)
+    → Holding rs e s.device → PlacedIn rs (a.decided e st dw0 s).device
+decide rs e st dw0 s promise h = record {
+  placed = placed_decided rs e (waiting s.device.queues) s.device.jobs (answering s.device.queues) (a.new_job 0 e (Some st) dw0 []) st refl refl refl promise h;
+}
+
+-- a success deletes no submission queue but an I/O queue's
+deletes_io : (e : SubEntry) → ((e.opcode == DELETE_IO_SQ) ≡ true → (named_queue e == 0) ≡ false) → (adm : AdminKind) → e ≡ admin_entry adm e.cid → DeletesIo adm
+deletes_io e io (DeleteSq q) same = ap (λ (x : SubEntry). named_queue x == 0) (sym same) ∙ io (ap (λ (x : SubEntry). x.opcode == DELETE_IO_SQ) same)
+deletes_io e io adm same = tt
+
+aborts_mild : (q cid id : ℕ) → MildJob (λ j. if (j.q == q) && (j.entry.cid == cid) then record j { verdict = Some ABORT_REQUESTED; waiting_abort = Some id } else j)
+aborts_mild q cid id = record {
+  q = λ j. (elim ((j.q == q) && (j.entry.cid == cid)) as (λ b. (if b then record j { verdict = Some ABORT_REQUESTED; waiting_abort = Some id } else j).q ≡ j.q) [ true ↦ refl | false ↦ refl ]);
+  entry = λ j. (elim ((j.q == q) && (j.entry.cid == cid)) as (λ b. (if b then record j { verdict = Some ABORT_REQUESTED; waiting_abort = Some id } else j).entry ≡ j.entry) [ true ↦ refl | false ↦ refl ]);
+  verdict = λ j st z. (elim ((j.q == q) && (j.entry.cid == cid)) as (λ b. (if b then record j { verdict = Some ABORT_REQUESTED; waiting_abort = Some id } else j).verdict ≡ Some st → is_success st ≡ true → j.verdict ≡ Some st)
+      [ true ↦ λ v ok. not_success st v ok | false ↦ λ v ok. v ]);
+}
+  where
+    not_success : {P : Type 0} (st : Status) → Some ABORT_REQUESTED ≡ Some st → is_success st ≡ true → P
+    not_success st v ok = let same : st ≡ ABORT_REQUESTED = cc in absurd (true≢false (sym ok ∙ ap (λ x. is_success x) same))
+
+stops_mild : (q : ℕ) → MildJob (a.stopped q)
+stops_mild q = record {
+  q = λ j. (elim ((j.q == q) && is_none j.verdict) as (λ b. (if b then record j { verdict = Some ABORTED_SQ_DELETION } else j).q ≡ j.q) [ true ↦ refl | false ↦ refl ]);
+  entry = λ j. (elim ((j.q == q) && is_none j.verdict) as (λ b. (if b then record j { verdict = Some ABORTED_SQ_DELETION } else j).entry ≡ j.entry) [ true ↦ refl | false ↦ refl ]);
+  verdict = λ j st z. (elim ((j.q == q) && is_none j.verdict) as (λ b. (if b then record j { verdict = Some ABORTED_SQ_DELETION } else j).verdict ≡ Some st → is_success st ≡ true → j.verdict ≡ Some st)
+      [ true ↦ λ v ok. not_success st v ok | false ↦ λ v ok. v ]);
+}
+  where
+    not_success : {P : Type 0} (st : Status) → Some ABORTED_SQ_DELETION ≡ Some st → is_success st ≡ true → P
+    not_success st v ok = let same : st ≡ ABORTED_SQ_DELETION = cc in absurd (true≢false (sym ok ∙ ap (λ x. is_success x) same))
+
+pub runs_there : (s : State) (q : ℕ) → is_running (a.sq_state s q) ≡ true → gone_at s.device.queues q ≡ false
+runs_there s q h = go (device_queue s q) h
+  where
+    go : (o : Option DeviceQueue) → is_running (option_map_or (λ at. at.state) o Absent) ≡ true → option_map_or (λ at. is_absent at.state) o true ≡ false
+    go None h = absurd (true≢false (sym h))
+    go (Some at) h = grind arith
+
+placed_managed : (rs : List Record) (e : SubEntry) (s : State) → Holding rs e s.device → PlacedIn rs (a.managed e s).device
+placed_managed rs e s h =
+    managed_by (λ (t : State). PlacedIn rs t.device) e s
+    (record {
+      refuses = λ st bad. decide rs e st 0 s (λ adm same ok. absurd (true≢false (sym ok ∙ bad))) h;
+      aborts = λ is8 w. decide rs e SUCCESS 0 (a.on_job (named_queue e) (named_command e) (λ j. record j { verdict = Some ABORT_REQUESTED; waiting_abort = Some e.cid }) s)
+          (λ adm same ok. deletes_io e (other ABORT is8 refl) adm same)
+          (placed_jobs rs (e ∷ waiting s.device.queues) s.device.jobs (answering s.device.queues) _ (aborts_mild (named_queue e) (named_command e) e.cid) h);
+      is_late = λ is8. decide rs e SUCCESS 1 s (λ adm same ok. deletes_io e (other ABORT is8 refl) adm same) h;
+      stops = stopping;
+      drops = λ is4 q0 there gone. changing a.dropped q0 (other DELETE_IO_CQ is4 refl);
+      makes_completion = λ is5 q0 gone. changing a.completion_made q0 (other CREATE_IO_CQ is5 refl);
+      makes_submission = λ is1 q0 gone there. changing a.submission_made q0 (other CREATE_IO_SQ is1 refl);
+    })
+  where
+    other : {P : Type 0} (n : ℕ) → (e.opcode == n) ≡ true → (n == DELETE_IO_SQ) ≡ false → (e.opcode == DELETE_IO_SQ) ≡ true → P
+    other n is differs deletes = absurd (true≢false (sym deletes ∙ ap (λ (o : ℕ). o == DELETE_IO_SQ) (eqb-true e.opcode n is) ∙ differs))
+
+    changing : (f : DeviceQueue → DeviceQueue) → (named_queue e == 0) ≡ false → ((e.opcode == DELETE_IO_SQ) ≡ true → (named_queue e == 0) ≡ false)
+        → PlacedIn rs (a.decided e SUCCESS 0 (a.on_device_queue (named_queue e) f s)).device
+    changing f q0 io =
+        decide rs e SUCCESS 0 (a.on_device_queue (named_queue e) f s) (λ adm same ok. deletes_io e io adm same)
+        (rw (waiting_other f (named_queue e) s.device.queues q0, answering_other f (named_queue e) s.device.queues q0) h)
+
+    stopping : (e.opcode == DELETE_IO_SQ) ≡ true → (named_queue e == 0) ≡ false → is_running (a.sq_state s (named_queue e)) ≡ true
+        → PlacedIn rs (a.decided e SUCCESS 0 (a.on_device (λ d. record d { jobs = map (a.stopped (named_queue e)) d.jobs }) (a.on_device_queue (named_queue e) (λ at. record at { state = Stopping }) s))).device
+    stopping is0 q0 runs =
+        let stop : DeviceQueue → DeviceQueue = λ at. record at { state = Stopping } in
+        decide rs e SUCCESS 0 (a.on_device (λ d. record d { jobs = map (a.stopped (named_queue e)) d.jobs }) (a.on_device_queue (named_queue e) (λ at. record at { state = Stopping }) s))
+        (λ adm same ok. deletes_io e (λ z. q0) adm same)
+        (rw (waiting_other stop (named_queue e) s.device.queues q0, answering_other stop (named_queue e) s.device.queues q0)
+        (placed_jobs rs (e ∷ waiting s.device.queues) s.device.jobs (answering s.device.queues) (a.stopped (named_queue e)) (stops_mild (named_queue e)) h))
+
+placed_answered_other : (rs : List Record) (q : ℕ) (an : Answer) (d : Device) → (q == 0) ≡ false → PlacedIn rs d → PlacedIn rs (record d { queues = change q (λ at. record at { answers = at.answers ++ an ∷ [] }) d.queues })
+placed_answered_other rs q an d other h = placed_other rs d q (λ at. record at { answers = at.answers ++ an ∷ [] }) other h
+
+-- an answer more of queue 0, which is there
+pub answering_more : (ds : List DeviceQueue) (an : Answer) → is_some (slice_get ds 0) ≡ true → answering (change 0 (λ at. record at { answers = at.answers ++ an ∷ [] }) ds) ≡ answering ds ++ an ∷ []
+answering_more [] an h = absurd (true≢false (sym h))
+answering_more (at ∷ ds) an h = refl
+
+pub some_zero : (ds : List DeviceQueue) (e : SubEntry) → option_and_then (λ queue. if is_running queue.state && nat_lt 0 queue.rung then slice_get queue.unfetched 0 else None) (slice_get ds 0) ≡ Some e → is_some (slice_get ds 0) ≡ true
+some_zero [] e h = absurd cc
+some_zero (at ∷ ds) e h = refl
+
+pub some_still : (f : DeviceQueue → DeviceQueue) (k : ℕ) (ds : List DeviceQueue) → is_some (slice_get ds 0) ≡ true → is_some (slice_get (change k f ds) 0) ≡ true
+some_still f k [] h = h
+some_still f zero (at ∷ ds) h = refl
+some_still f (suc k) (at ∷ ds) h = refl
+
+pub placed_fetch : (rs : List Record) (q : ℕ) (s : State) → PlacedIn rs s.device → PlacedIn rs (a.after_fetch q s).device
+placed_fetch rs zero s h =
+    fetch_by (λ (t : State). PlacedIn rs t.device) s 0 h
+    (λ e next c.
+    let an = answer_of 0 e.cid COMMAND_ID_CONFLICT 0 (a.taken_off 0 s) in
+    let more : DeviceQueue → DeviceQueue = λ at. record at { answers = at.answers ++ an ∷ [] } in
+    let done = placed_conflict rs e (waiting (ds1 s)) s.device.jobs (answering (ds1 s)) an refl (in_hand e next) in
+    record { placed = rw (waiting_same more (λ at. refl) 0 (ds1 s), answering_more (ds1 s) an (some_still off 0 s.device.queues (some_zero s.device.queues e next))) done })
+    (λ e next c z. placed_managed rs e (a.taken_off 0 s) (in_hand e next))
+    (λ e next c other. absurd (true≢false other))
+  where
+    off : DeviceQueue → DeviceQueue
+    off at = record at { unfetched = drop 1 at.unfetched; rung = at.rung - 1 }
+
+    ds1 : State → List DeviceQueue
+    ds1 s = change 0 (λ at. record at { unfetched = drop 1 at.unfetched; rung = at.rung - 1 }) s.device.queues
+
+    in_hand : (e : SubEntry) → next_rung s 0 ≡ Some e → Placed rs (e ∷ waiting (ds1 s)) s.device.jobs (answering (ds1 s))
+    in_hand e next =
+        rw (answering_same off (λ at. refl) 0 s.device.queues) (subst (λ un. Placed rs un s.device.jobs (answering s.device.queues)) (taken_entry s.device.queues e next) h.placed)
+placed_fetch rs (suc k) s h =
+    let base : PlacedIn rs (a.taken_off (suc k) s).device = placed_other rs s.device (suc k) (λ at. record at { unfetched = drop 1 at.unfetched; rung = at.rung - 1 }) (far_suc k) h in
+    fetch_by (λ (t : State). PlacedIn rs t.device) s (suc k) h
+    (λ e next c. placed_answered_other rs (suc k) (answer_of (suc k) e.cid COMMAND_ID_CONFLICT 0 (a.taken_off (suc k) s)) (a.taken_off (suc k) s).device (far_suc k) base)
+    (λ e next c z. absurd (omega arith))
+    (λ e next c other. let fault = io_fault (a.image_blocks (a.taken_off (suc k) s)) e in
+    record { placed = placed_job_more rs _ (a.taken_off (suc k) s).device.jobs _ (a.new_job (suc k) e fault 0 (bytes_after_check s.device.image e fault)) (far_suc k) base.placed })
+
+-- Walking
+
+other_mild : (q cid : ℕ) (f : Job → Job) → (q == 0) ≡ false → ((j : Job) → (f j).q ≡ j.q) → ((j : Job) → (f j).entry ≡ j.entry)
+    → MildJob (λ j. if (j.q == q) && (j.entry.cid == cid) then f j else j)
+other_mild q cid f other fq fe = record {
+  q = λ j. (elim ((j.q == q) && (j.entry.cid == cid)) as (λ b. (if b then f j else j).q ≡ j.q) [ true ↦ fq j | false ↦ refl ]);
+  entry = λ j. (elim ((j.q == q) && (j.entry.cid == cid)) as (λ b. (if b then f j else j).entry ≡ j.entry) [ true ↦ fe j | false ↦ refl ]);
+  verdict = λ j st z v ok. go j st z ((j.q == q) && (j.entry.cid == cid)) refl v;
+}
+  where
+    go : (j : Job) (st : Status) → j.q ≡ 0 → (b : Bool) → ((j.q == q) && (j.entry.cid == cid)) ≡ b → (if b then f j else j).verdict ≡ Some st → j.verdict ≡ Some st
+    go j st z true e v =
+        let p = and_parts (j.q == q) (j.entry.cid == cid) e in
+        let same : j.q ≡ q = eqb-true j.q q p.0 in
+        absurd (true≢false (sym (eq-eqb q 0 (sym same ∙ z)) ∙ other))
+    go j st z false e v = v
+
+placed_on_job : (rs : List Record) (q cid : ℕ) (f : Job → Job) (s : State) → (q == 0) ≡ false → ((j : Job) → (f j).q ≡ j.q) → ((j : Job) → (f j).entry ≡ j.entry)
+    → PlacedIn rs s.device → PlacedIn rs (a.on_job q cid f s).device
+placed_on_job rs q cid f s other fq fe h = record {
+  placed = placed_jobs rs (waiting s.device.queues) s.device.jobs (answering s.device.queues) _ (other_mild q cid f other fq fe) h.placed;
+}
+
+pub placed_walk : (rs : List Record) (q cid : ℕ) (s : State) → (q == 0) ≡ false → PlacedIn rs s.device → PlacedIn rs (a.after_walk q cid s).device
+placed_walk rs q cid s other h = walk_by (λ (t : State). PlacedIn rs t.device) s q cid h (λ j act at u. placed_on_job rs q cid (unit_done s j act) s other (λ j. refl) (λ j. refl) h)
+
+-- Completing
+
+pub final_admin : (s : State) (j : Job) (st : Status) → j.q ≡ 0 → j.verdict ≡ Some st → a.final_status s j ≡ st
+final_admin s j st z v = rw (eq-eqb j.q 0 z, v) refl
+
+pub verdict_there : (j : Job) → is_none j.verdict ≡ false → (st : Status) × (j.verdict ≡ Some st)
+verdict_there j h = go j.verdict h
+  where
+    go : (o : Option Status) → is_none o ≡ false → (st : Status) × (o ≡ Some st)
+    go None h = absurd (true≢false h)
+    go (Some st) h = (st, refl)
+
+-- its deletion was of an I/O queue
+pub clears_io : (rs : List Record) (s : State) (j : Job) (st : Status) → JobKnown rs j → j.q ≡ 0 → j.verdict ≡ Some st → clears s j ≡ true → (named_queue j.entry == 0) ≡ false
+clears_io rs s j st known jq v c =
+    let deletes = and_parts ((j.q == 0) && (j.entry.opcode == DELETE_IO_SQ)) (is_success (a.final_status s j)) c in
+    let k = known jq in
+    let h1 = k.2 in let h2 = (and_parts (j.q == 0) (j.entry.opcode == DELETE_IO_SQ) deletes.0).1 in let h3 = k.3 st v (ap (λ (x : Status). is_success x) (sym (final_admin s j st jq v)) ∙ deletes.1) in grind arith
+
+-- the answer of a job of queue 0 takes its place
+placed_answer : (rs : List Record) (cid : ℕ) (d : Device) (ds : List DeviceQueue) (j : Job) (an : Answer) → find (is_job 0 cid) d.jobs ≡ Some j → an.cid ≡ cid
+    → waiting ds ≡ waiting d.queues → answering ds ≡ answering d.queues → is_some (slice_get ds 0) ≡ true → PlacedIn rs d
+    → Placed rs (waiting (change 0 (λ at. record at { answers = at.answers ++ an ∷ [] }) ds)) (filter (λ k. not (is_job 0 cid k)) d.jobs) (answering (change 0 (λ at. record at { answers = at.answers ++ an ∷ [] }) ds))
+placed_answer rs cid d ds j an found same w an' there h =
+    rw (waiting_same (λ at. record at { answers = at.answers ++ an ∷ [] }) (λ at. refl) 0 ds, answering_more ds an there, w, an')
+    (placed_completed rs (waiting d.queues) d.jobs (answering d.queues) cid j an found same h.placed)
+
+pub queue_there : (s : State) → answers_full s 0 ≡ false → is_some (slice_get s.device.queues 0) ≡ true
+queue_there s h = grind arith
+
+abbrev pub full_or_out : State → ℕ → List (Bool × Refusal)
+full_or_out s q = (answers_full s q, refusal.Full) ∷ (not (is_in s.memory (post_page s q)), refusal.SlotOut) ∷ []
+
+abbrev pub waits_or_out : State → ℕ → ℕ → List (Bool × Refusal)
+waits_or_out s q cid = (refusals.job_is (refusals.waits s) s q cid, refusal.Waits) ∷ full_or_out s q
+
+pub placed_complete : (rs : List Record) (q cid : ℕ) (s : State) → refusal_of s (events.Complete q cid) ≡ None → PlacedIn rs s.device → PlacedIn rs (a.after_complete q cid s).device
+placed_complete rs zero cid s none h =
+    let walking = rest_fails (is_none (job_at s 0 cid)) refusal.NoJob ((refusals.job_is (λ j. is_none j.verdict) s 0 cid, refusal.Walking) ∷ waits_or_out s 0 cid) none in
+    let judged = first_fails (refusals.job_is (λ j. is_none j.verdict) s 0 cid) refusal.Walking (waits_or_out s 0 cid) walking in
+    let waits = rest_fails (refusals.job_is (λ j. is_none j.verdict) s 0 cid) refusal.Walking (waits_or_out s 0 cid) walking in
+    let full = rest_fails (refusals.job_is (refusals.waits s) s 0 cid) refusal.Waits (full_or_out s 0) waits in
+    let there = queue_there s (first_fails (answers_full s 0) refusal.Full ((not (is_in s.memory (post_page s 0)), refusal.SlotOut) ∷ []) full) in
+    complete_by (λ (t : State). PlacedIn rs t.device) s 0 cid h
+    (λ j e c.
+    let v = verdict_there j (rw e at judged) in
+    let jq : j.q ≡ 0 = eqb-true j.q 0 (and_parts (j.q == 0) (j.entry.cid == cid) (find_sound (is_job 0 cid) s.device.jobs j e)).0 in
+    let n0 = clears_io rs s j v.0 (find_all (JobKnown rs) (is_job 0 cid) s.device.jobs j e h.placed.jobs) jq v.1 c in
+    record {
+      placed = placed_answer rs cid s.device (change (named_queue j.entry) cleared s.device.queues) j
+          (answer_of 0 cid (a.final_status s j) j.dw0 (a.on_device_queue (named_queue j.entry) cleared (finished 0 cid j s))) e refl
+          (waiting_other cleared (named_queue j.entry) s.device.queues n0) (answering_other cleared (named_queue j.entry) s.device.queues n0)
+          (some_still cleared (named_queue j.entry) s.device.queues there) h;
+    })
+    (λ j e c. record { placed = placed_answer rs cid s.device s.device.queues j (answer_of 0 cid (a.final_status s j) j.dw0 (finished 0 cid j s)) e refl refl refl there h })
+placed_complete rs (suc k) cid s none h =
+    complete_by (λ (t : State). PlacedIn rs t.device) s (suc k) cid h (λ j e c. absurd (true≢false (sym (and_parts (j.q == 0) (j.entry.opcode == DELETE_IO_SQ) (and_parts ((j.q == 0) && (j.entry.opcode == DELETE_IO_SQ)) (is_success (a.final_status s j)) c).0).0 ∙ its_queue j e)))
+    (λ j e c. placed_answered_other rs (suc k) (answer_of (suc k) cid (a.final_status s j) j.dw0 (finished (suc k) cid j s)) (finished (suc k) cid j s).device (far_suc k)
+    (record { placed = placed_job_less rs (waiting s.device.queues) s.device.jobs (answering s.device.queues) (λ j'. not (is_job (suc k) cid j')) h.placed }))
+  where
+    its_queue : (j : Job) → job_at s (suc k) cid ≡ Some j → (j.q == 0) ≡ false
+    its_queue j e = ap (λ (n : ℕ). n == 0) (eqb-true j.q (suc k) (and_parts (j.q == suc k) (j.entry.cid == cid) (find_sound (is_job (suc k) cid) s.device.jobs j e)).0) ∙ far_suc k
+
+-- The host's events keep where admin commands stand; every trusted run does.
+
+abbrev pub Stands : State → Type 0
+Stands s = PlacedIn s.host.records s.device
+
+-- Records that change
+
+records_change : (rs rs' : List Record) (d : Device) → ((c : ℕ) → total (here 0 c) rs ≤ total (here 0 c) rs') → ((c : ℕ) (adm : AdminKind) → Knows rs c adm → Knows rs' c adm) → PlacedIn rs d → PlacedIn rs' d
+records_change rs rs' d more tells h = record { placed = placed_records rs rs' (waiting d.queues) d.jobs (answering d.queues) more tells h.placed }
+
+records_more : (rs : List Record) (new : Record) (d : Device) → PlacedIn rs d → PlacedIn (rs ++ new ∷ []) d
+records_more rs new d h = records_change rs (rs ++ new ∷ []) d (λ c. omega (arith, total-append (here 0 c) rs (new ∷ []))) (λ c adm k. (k.0, find_more (is_at 0 c) rs new k.0 k.1, k.2)) h
+
+records_map : (rs : List Record) (f : Record → Record) (d : Device) → ((r : Record) → (f r).q ≡ r.q) → ((r : Record) → (f r).cid ≡ r.cid) → ((r : Record) → (f r).work ≡ r.work) → PlacedIn rs d → PlacedIn (map f rs) d
+records_map rs f d fq fc fw h =
+    let same : (c : ℕ) (r : Record) → is_at 0 c (f r) ≡ is_at 0 c r = λ c r. rw (fq r, fc r) refl in
+    records_change rs (map f rs) d (λ c. omega (arith, total-map (here 0 c) f (λ r. ap one (same c r)) rs))
+    (λ c adm k. (f k.0, find_map (is_at 0 c) f (same c) rs k.0 k.1, fw k.0 ∙ k.2)) h
+
+records_with : (rs : List Record) (q cid : ℕ) (f : Record → Record) (d : Device) → ((r : Record) → (f r).q ≡ r.q) → ((r : Record) → (f r).cid ≡ r.cid) → ((r : Record) → (f r).work ≡ r.work) → PlacedIn rs d → PlacedIn (with_record q cid f rs) d
+records_with rs q cid f d fq fc fw h =
+    records_map rs (λ r. if is_at q cid r then f r else r) d
+    (λ r. (elim (is_at q cid r) as (λ b. (if b then f r else r).q ≡ r.q) [ true ↦ fq r | false ↦ refl ]))
+    (λ r. (elim (is_at q cid r) as (λ b. (if b then f r else r).cid ≡ r.cid) [ true ↦ fc r | false ↦ refl ]))
+    (λ r. (elim (is_at q cid r) as (λ b. (if b then f r else r).work ≡ r.work) [ true ↦ fw r | false ↦ refl ])) h
+
+-- a record of another queue goes
+records_less : (rs : List Record) (q cid : ℕ) (d : Device) → (q == 0) ≡ false → PlacedIn rs d → PlacedIn (without_record q cid rs) d
+records_less rs q cid d other h =
+    records_change rs (without_record q cid rs) d (λ c. all c rs)
+    (λ c adm k. (k.0, find_filter (is_at 0 c) (λ r. not (is_at q cid r)) (λ r t. (elim (cases_Bool (is_at q cid r)) [ inl e ↦ absurd (differs r (and_parts (r.q == 0) (r.cid == c) t).0 (and_parts (r.q == q) (r.cid == cid) e).0) | inr e ↦ rw e refl ])) rs k.0 k.1, k.2)) h
+  where
+    differs : (r : Record) → (r.q == 0) ≡ true → (r.q == q) ≡ true → ⊥
+    differs r z e = true≢false (sym (eq-eqb q 0 (sym (eqb-true r.q q e) ∙ eqb-true r.q 0 z)) ∙ other)
+
+    all : (c : ℕ) (rs : List Record) → total (here 0 c) rs ≤ total (here 0 c) (without_record q cid rs)
+    all c [] = omega arith
+    all c (r ∷ rs) = go (is_at q cid r) (is_at 0 c r) refl refl (all c rs)
+      where
+        go : (b z : Bool) → is_at q cid r ≡ b → is_at 0 c r ≡ z → total (here 0 c) rs ≤ total (here 0 c) (without_record q cid rs)
+            → here 0 c r + total (here 0 c) rs ≤ total (here 0 c) (if not b then r ∷ without_record q cid rs else without_record q cid rs)
+        go b z eb ez ih = grind arith
+
+-- Posting
+
+stands_posted_other : (q : ℕ) (entry : SubEntry) (s : State) → (q == 0) ≡ false → Stands s → Stands (posts q entry s)
+stands_posted_other q entry s other h = placed_other s.host.records s.device q (λ at. record at { unfetched = at.unfetched ++ entry ∷ [] }) other h
+
+stands_sent : (adm : AdminKind) (id : ℕ) (s : State) → total (here 0 id) s.host.records ≡ 0 → Stands s → Stands (sends adm id s)
+stands_sent adm id s unused h = record { placed = go s.device.queues h.placed }
+  where
+    new : Record
+    new = sent_record adm id
+
+    more : DeviceQueue → DeviceQueue
+    more at = record at { unfetched = at.unfetched ++ admin_entry adm id ∷ [] }
+
+    go : (ds : List DeviceQueue) → Placed s.host.records (waiting ds) s.device.jobs (answering ds) → Placed (s.host.records ++ new ∷ []) (waiting (change 0 more ds)) s.device.jobs (answering (change 0 more ds))
+    go [] p = placed_records s.host.records (s.host.records ++ new ∷ []) [] s.device.jobs [] (λ c. omega (arith, total-append (here 0 c) s.host.records (new ∷ [])))
+        (λ c adm k. (k.0, find_more (is_at 0 c) s.host.records new k.0 k.1, k.2)) p
+    go (at ∷ ds) p = placed_sent s.host.records at.unfetched s.device.jobs at.answers adm id new unused (rw (eq-eqb id id refl) refl) refl p
+
+-- Reaping
+
+pub answering_rest : (ds : List DeviceQueue) (an : Answer) → option_and_then (λ (queue : DeviceQueue). first_answer queue.answers) (slice_get ds 0) ≡ Some an
+    → answering ds ≡ an ∷ answering (change 0 (λ at. record at { answers = drop 1 at.answers }) ds)
+answering_rest [] an h = absurd cc
+answering_rest (at ∷ ds) an h = go at.answers h
+  where
+    go : (ans : List Answer) → first_answer ans ≡ Some an → ans ≡ an ∷ drop 1 ans
+    go [] h = absurd cc
+    go (x ∷ ans) h = let same : x ≡ an = cc in ap (λ y. y ∷ ans) same
+
+answering_less : (rs : List Record) (d : Device) → PlacedIn rs d → PlacedIn rs (record d { queues = change 0 (λ at. record at { answers = drop 1 at.answers }) d.queues })
+answering_less rs d h = record { placed = shorter d.queues h.placed }
+  where
+    cut : (un : List SubEntry) (ans : List Answer) → Placed rs un d.jobs ans → Placed rs un d.jobs (drop 1 ans)
+    cut un [] p = p
+    cut un (x ∷ ans) p = record { places = λ c. omega (arith, p.places c); entries = p.entries; jobs = p.jobs; answers = p.answers.1 }
+
+    shorter : (ds : List DeviceQueue) → Placed rs (waiting ds) d.jobs (answering ds)
+        → Placed rs (waiting (change 0 (λ at. record at { answers = drop 1 at.answers }) ds)) d.jobs (answering (change 0 (λ at. record at { answers = drop 1 at.answers }) ds))
+    shorter [] p = p
+    shorter (at ∷ ds) p = cut at.unfetched at.answers p
+
+stands_consumed_other : (q : ℕ) (s : State) → (q == 0) ≡ false → Stands s → Stands (a.consumed q s)
+stands_consumed_other q s other h = placed_other s.host.records s.device q (λ at. record at { answers = drop 1 at.answers }) other h
+
+stands_consumed : (q : ℕ) (s : State) → Stands s → Stands (a.consumed q s)
+stands_consumed zero s h = answering_less s.host.records s.device h
+stands_consumed (suc k) s h = stands_consumed_other (suc k) s (far_suc k) h
+
+-- the oldest answer of queue 0 goes with its record
+stands_reaped : (cid : ℕ) (an : Answer) (s : State) → option_and_then (λ queue. first_answer queue.answers) (device_queue s 0) ≡ Some an → an.cid ≡ cid → total (here 0 cid) s.host.records < 2 → Stands s
+    → PlacedIn (without_record 0 cid s.host.records) (record s.device { queues = change 0 (λ at. record at { answers = drop 1 at.answers }) s.device.queues })
+stands_reaped cid an s first is once h = record { placed = rw (waiting_same (λ at. record at { answers = drop 1 at.answers }) (λ at. refl) 0 s.device.queues) reaped' }
+  where
+    rest : List Answer
+    rest = answering (change 0 (λ at. record at { answers = drop 1 at.answers }) s.device.queues)
+
+    reaped' : Placed (without_record 0 cid s.host.records) (waiting s.device.queues) s.device.jobs (answering (change 0 (λ at. record at { answers = drop 1 at.answers }) s.device.queues))
+    reaped' = subst (λ (c : ℕ). total (here 0 c) s.host.records < 2 → Placed (without_record 0 c s.host.records) (waiting s.device.queues) s.device.jobs rest) is
+        (λ once. placed_reaped s.host.records (waiting s.device.queues) s.device.jobs an rest once
+        (subst (λ ans. Placed s.host.records (waiting s.device.queues) s.device.jobs ans) (answering_rest s.device.queues an first) h.placed)) once
+
+-- Every event
+
+abbrev pub StandsSound : State → Type 0
+StandsSound s = HoldsPart (host_part s) × Stands s
+
+-- an admin command is of queue 0, and an I/O command is not
+owns_fit : (s : State) (q cid : ℕ) (r : Record) (w : Work) → HoldsPart (host_part s) → record_at s.host q cid ≡ Some r → r.work ≡ w → (r.q ≡ q) × OwnsFit r.q w (pages_of r)
+owns_fit s q cid r w holds e is = (
+  eqb-true r.q q (and_parts (r.q == q) (r.cid == cid) (find_sound (is_at q cid) s.host.records r e)).0,
+  subst (λ (x : Work). OwnsFit r.q x (pages_of r)) is (found_all (λ r'. OwnsFit r'.q r'.work (pages_of r')) (is_at q cid) s.host.records r e holds.admins),
+)
+
+pub admin_zero : (s : State) (q cid : ℕ) (r : Record) (adm : AdminKind) → HoldsPart (host_part s) → record_at s.host q cid ≡ Some r → r.work ≡ Management adm → q ≡ 0
+admin_zero s q cid r adm holds e w = let fit = owns_fit s q cid r (Management adm) holds e w in sym fit.0 ∙ fit.1.0
+
+pub io_other : (s : State) (q cid : ℕ) (r : Record) (request : Request) → HoldsPart (host_part s) → record_at s.host q cid ≡ Some r → r.work ≡ Io request → (q == 0) ≡ false
+io_other s q cid r request holds e w = let fit = owns_fit s q cid r (Io request) holds e w in ap (λ (k : ℕ). k == 0) (sym fit.0) ∙ fit.1
+
+stands_host : (s : State) (e : Event) (reply : Reply) → Accepts s e reply → IsController e ≡ false → s.trusted ≡ true → StandsSound s → Stands (a.after s e reply)
+stands_host s e reply ok c t h =
+    host_moves (λ (e : Event) (reply : Reply) (t : State). Stands t) s e reply ok c
+    (record {
+      reserves = λ q request d none is. records_more s.host.records (drafted_record d) s.device h.1;
+      submits = λ d entry r none built its live.
+          stands_posted_other d.q entry (a.on_records (with_record d.q d.cid a.submitted) (a.on_memory (with_pages (d.data_pages ++ d.chain_pages)) s)) (io_other s d.q d.cid r its.asked.0 h.0 its.found its.asked.1)
+          (records_with s.host.records d.q d.cid a.submitted s.device (λ r. refl) (λ r. refl) (λ r. refl) h.1);
+      cancels = λ d r its. records_less s.host.records d.q d.cid s.device (io_other s d.q d.cid r its.asked.0 h.0 its.found its.asked.1) h.1;
+      rings = λ q none.
+          placed_change s.host.records s.device q (λ at. record at { rung = length at.unfetched }) (waiting_same _ (λ at. refl) q s.device.queues) (answering_same _ (λ at. refl) q s.device.queues) h.1;
+      rests = λ q is. h.1;
+      rejects = λ q why is. stands_consumed q s h.1;
+      tells = λ q cid st what e r request told heard w. records_with s.host.records q cid (a.held st) (a.consumed q s).device (λ r. refl) (λ r. refl) (λ r. refl) (stands_consumed q s h.1);
+      hears = λ q cid st what e r adm told heard w quiet unmade. gone q cid st e r adm heard w;
+      notes = λ q cid st what e r k told heard w. gone q cid st e r (DeleteSq k) heard w;
+      frees = λ q cid st what e r k queue told heard w at alone good. gone q cid st e r (DeleteCq k) heard w;
+      makes_cq = λ q cid st what e r k n base told heard w good. gone q cid st e r (CreateCq k n base) heard w;
+      unmakes_cq = λ q cid st what e r k n base queue told heard w at bad. gone q cid st e r (CreateCq k n base) heard w;
+      makes_sq = λ q cid st what e r k n base told heard w good. gone q cid st e r (CreateSq k n base) heard w;
+      unmakes_sq = λ q cid st what e r k n base queue told heard w at bad. gone q cid st e r (CreateSq k n base) heard w;
+      collects = λ q cid r f at held is. records_with s.host.records q cid a.collected s.device (λ r. refl) (λ r. refl) (λ r. refl) h.1;
+      releases = λ f r its. records_less s.host.records f.q f.cid s.device (io_other s f.q f.cid r its.asked.0 h.0 its.found its.asked.1) h.1;
+      aborts = λ q cid id none new. stands_sent (Abort q cid) id s (unused s 0 id new) h.1;
+      asks = λ q id queue none new live. stands_sent (DeleteSq q) id s (unused s 0 id new) h.1;
+      drops = λ q id none new. stands_sent (DeleteCq q) id s (unused s 0 id new) h.1;
+      creates_cqs = λ q id first queue none new granted. stands_sent (creates_cq q first s) id (grants_cq q first s) (unused s 0 id new) (record { placed = h.1.placed });
+      creates_sqs = λ q id first queue none new granted. stands_sent (creates_sq q first s) id (grants_sq q first s) (unused s 0 id new) (record { placed = h.1.placed });
+      retires = λ q queue none at deleted.
+          records_map s.host.records (a.lost q) s.device
+          (λ r. (elim ((r.q == q) && is_submitted r.phase) as (λ b. (if b then record r { phase = Held; status = Some ABORTED_SQ_DELETION } else r).q ≡ r.q) [ true ↦ refl | false ↦ refl ]))
+          (λ r. (elim ((r.q == q) && is_submitted r.phase) as (λ b. (if b then record r { phase = Held; status = Some ABORTED_SQ_DELETION } else r).cid ≡ r.cid) [ true ↦ refl | false ↦ refl ]))
+          (λ r. (elim ((r.q == q) && is_submitted r.phase) as (λ b. (if b then record r { phase = Held; status = Some ABORTED_SQ_DELETION } else r).work ≡ r.work) [ true ↦ refl | false ↦ refl ])) h.1;
+      forges = λ q slot bytes queue none at. h.1;
+      resets = record { placed = rw (no_waiting s.device.queues, no_answering s.device.queues) (reset_admin_commands (a.reset_records s.host.records)) };
+    })
+  where
+    gone : (q cid : ℕ) (st : Status) (e : ComEntry) (r : Record) (adm : AdminKind) → IsHeard s q cid st e r → r.work ≡ Management adm → Stands (heard_without q cid e s)
+    gone q cid st e r adm heard w =
+        let zero' = admin_zero s q cid r adm h.0 heard.found w in
+        let an = answer_heard s q cid st e r t heard in
+        subst (λ (z : ℕ). Stands (heard_without z cid e s)) (sym zero')
+        (stands_reaped cid an.answer s (subst (λ (z : ℕ). option_and_then (λ (queue : DeviceQueue). first_answer queue.answers) (device_queue s z) ≡ Some an.answer) zero' an.first) an.its_id (h.0.once 0 cid) h.1)
+
+stands_walk : (q cid : ℕ) (s : State) → refusal_of s (events.Walk q cid) ≡ None → Stands s → PlacedIn s.host.records (a.after_walk q cid s).device
+stands_walk q cid s none h = elim (option_is (job_at s q cid)) [
+  | inl e ↦ absurd (true≢false (rw e at (first_fails (is_none (job_at s q cid)) refusal.NoJob ((refusals.job_is (λ j. is_some j.verdict || (j.q == 0)) s q cid, refusal.Nothing) ∷ []) none)))
+  | inr (j, e) ↦
+      let judged : (is_some j.verdict || (j.q == 0)) ≡ false = rw e at nothing in
+      let jq : (j.q == 0) ≡ false = (or_parts (is_some j.verdict) (j.q == 0) judged).1 in
+      let at = and_parts (j.q == q) (j.entry.cid == cid) (find_sound (is_job q cid) s.device.jobs j e) in
+      placed_walk s.host.records q cid s (ap (λ (k : ℕ). k == 0) (sym (eqb-true j.q q at.0)) ∙ jq) h
+]
+  where
+    rest : List (Bool × Refusal)
+    rest = (refusals.job_is (λ j. is_some j.verdict || (j.q == 0)) s q cid, refusal.Nothing) ∷ []
+
+    nothing : refusals.job_is (λ j. is_some j.verdict || (j.q == 0)) s q cid ≡ false
+    nothing = first_fails (refusals.job_is (λ j. is_some j.verdict || (j.q == 0)) s q cid) refusal.Nothing [] (rest_fails (is_none (job_at s q cid)) refusal.NoJob ((refusals.job_is (λ j. is_some j.verdict || (j.q == 0)) s q cid, refusal.Nothing) ∷ []) none)
+
+controller_records : (s : State) (e : Event) (reply : Reply) → IsController e ≡ true → (a.after s e reply).host.records ≡ s.host.records
+controller_records s e reply c = ap (λ (part : HostPart). part.host.records) (part_controller s e reply c)
+
+with_records : (s t : State) → t.host.records ≡ s.host.records → PlacedIn s.host.records t.device → Stands t
+with_records s t e h = subst (λ (rs : List Record). PlacedIn rs t.device) (sym e) h
+
+pub stands_event : (s : State) (e : Event) (reply : Reply) → Accepts s e reply → s.trusted ≡ true → StandsSound s → Stands (a.after s e reply)
+stands_event s (events.Fetch q) (events.Fetched c touched) ok t h =
+    with_records s (a.after_fetch q s) (controller_records s (events.Fetch q) (events.Fetched c touched) refl) (placed_fetch s.host.records q s h.1)
+stands_event s (events.Walk q cid) (events.Walked o touched) ok t h =
+    with_records s (a.after_walk q cid s) (controller_records s (events.Walk q cid) (events.Walked o touched) refl) (stands_walk q cid s ok.0 h.1)
+stands_event s (events.Complete q cid) (events.Completed touched) ok t h =
+    with_records s (a.after_complete q cid s) (controller_records s (events.Complete q cid) (events.Completed touched) refl) (placed_complete s.host.records q cid s ok.0 h.1)
+stands_event s (events.Fetch q) reply ok t h = absurd ok.1
+stands_event s (events.Walk q cid) reply ok t h = absurd ok.1
+stands_event s (events.Complete q cid) reply ok t h = absurd ok.1
+stands_event s e reply ok t h = stands_host s e reply ok refl t h
+
+-- Runs in which nothing was forged.
+
+-- An entry that is forged ends the trust
+forged_ends : (o : Option HostQueue) (f : HostQueue → State) (s : State) → ((x : HostQueue) → (f x).trusted ≡ false) → option_map_or (λ queue. is_reaped queue.state) o false ≡ true → (option_map_or f o s).trusted ≡ false
+forged_ends None f s h e = absurd (true≢false (sym e))
+forged_ends (Some x) f s h e = h x
+
+pub forged_untrusted : (s : State) (q slot : ℕ) (bytes : List ℕ) → refusal_of s (events.Forge q slot bytes) ≡ None → (a.after_forge q slot bytes s).trusted ≡ false
+forged_untrusted s q slot bytes ok =
+    forged_ends (host_queue s q) (λ queue. record (a.on_memory (λ m. with_page_bytes m (slot_page queue.cq_pages 16 slot) (slot_offset 16 slot) bytes) s) { trusted = false }) s (λ queue. refl)
+    (not-false _ (first_fails (not (in_state is_reaped s q)) refusal.NoQueue ((nat_le s.entries slot, refusal.NoSlot) ∷ []) ok))
+
+-- Admin commands stand in one place
+
+holds_on : (s : State) (e : Event) (reply : Reply) → Accepts s e reply → HoldsPart (host_part s) → HoldsPart (host_part (a.after s e reply))
+holds_on s e reply ok h = elim (cases_Bool (IsController e)) [ inl c ↦ subst HoldsPart (sym (part_controller s e reply c)) h | inr c ↦ host_event s e reply ok c h ]
+
+pub both_on : (s : State) (e : Event) (reply : Reply) → Accepts s e reply → s.trusted ≡ true → StandsSound s → StandsSound (a.after s e reply)
+both_on s e reply ok t h = (holds_on s e reply ok h.0, stands_event s e reply ok t h)
+
+pub opening_stands : (pages queues n s : ℕ) (image : List ℕ) → Stands (opening pages queues n s image)
+opening_stands pages queues n s image = record { placed = go queues }
+  where
+    go : (queues : ℕ) → Placed [] (waiting (replicate (queues + 1) opened)) [] (answering (replicate (queues + 1) opened))
+    go queues = subst (λ (k : ℕ). Placed [] (waiting (replicate k opened)) [] (answering (replicate k opened))) (add-one' queues)
+        (record { places = λ c. omega arith; entries = tt; jobs = tt; answers = tt })
+      where
+        add-one' : (k : ℕ) → suc k ≡ k + 1
+        add-one' k = omega arith
+
+times-map : {A : Type 0} (id : A → ℕ) (c : ℕ) (xs : List A) → times c (map id xs) ≡ total (λ x. one (id x == c)) xs
+times-map id c [] = refl
+times-map id c (x ∷ xs) = times-cons c (id x) (map id xs) ∙ ap (λ n. one (id x == c) + n) (times-map id c xs)
+
+times-jobs : (c : ℕ) (js : List Job) → times c (map (λ j. j.entry.cid) (filter (λ j. j.q == 0) js)) ≡ total (job_is c) js
+times-jobs c [] = refl
+times-jobs c (j ∷ js) = go (j.q == 0) (times-jobs c js)
+  where
+    go : (b : Bool) → times c (map (λ j. j.entry.cid) (filter (λ j. j.q == 0) js)) ≡ total (job_is c) js
+        → times c (map (λ j. j.entry.cid) (if b then j ∷ filter (λ j. j.q == 0) js else filter (λ j. j.q == 0) js)) ≡ one (b && (j.entry.cid == c)) + total (job_is c) js
+    go true ih = times-cons c j.entry.cid (map (λ j. j.entry.cid) (filter (λ j. j.q == 0) js)) ∙ ap (λ n. one (j.entry.cid == c) + n) ih
+    go false ih = omega (arith, ih)
+
+-- A run as its steps were made
+
+-- admin commands stand once where each of their places is known
+pub stands_once : (new : State) (cid : ℕ) → StandsSound new → times cid (admin_places new) ≤ times cid (outstanding_on new.host 0)
+stands_once new cid stands =
+    let un = map (λ (e : SubEntry). e.cid) (waiting new.device.queues) in
+    let js = map (λ (j : Job). j.entry.cid) (filter (λ (j : Job). j.q == 0) new.device.jobs) in
+    let ans = map (λ (an : Answer). an.cid) (answering new.device.queues) in
+    omega (
+      arith,
+      stands.1.placed.places cid,
+      times-append cid (un ++ js) ans,
+      times-append cid un js,
+      times-map (λ (e : SubEntry). e.cid) cid (waiting new.device.queues),
+      times-jobs cid new.device.jobs,
+      times-map (λ (an : Answer). an.cid) cid (answering new.device.queues),
+      times-outstanding cid 0 new.host.records,
+    )
