@@ -1,3 +1,2 @@
 pub mod JobRuns
 pub mod Loads
-pub mod LoadCounts

@@ -1,6 +1,6 @@
 -- From round to round.
 use Rattle.std.specs.Int.{div_ceil}
-use Rattle.std.specs.Prelude.{◌≡◌, ℕ, ◌+◌, ◌-◌, ◌*◌, ◌/◌, ◌%◌, ◌^◌, ◌<◌, Option, Some, None, List, length, map, max, nat_lt, slice_index_or, sum_by, if◌then◌else◌}
+use Rattle.std.specs.Prelude.{◌≡◌, ℕ, ◌+◌, ◌-◌, ◌*◌, ◌/◌, ◌%◌, ◌^◌, ◌<◌, Option, Some, None, List, length, map, max, nat_lt, slice_index_or, if◌then◌else◌}
 use Rattle.job_cli.specs.{Planning.{IsPlanOf, job_for}, declared.load.{layout.Layout.Layout, plan.Planned.Planned, workload.Load.Load}}
 use Rattle.driver_threads.specs.Values.{Job}
 
@@ -12,10 +12,6 @@ share_of commands submitters submitter = commands / submitters + (if nat_lt subm
 pub record ArePlans (layout : Layout) (generations : List ℕ) (commands : ℕ) (plans : List (List Planned)) : Type 0 where
   pub all : length plans ≡ layout.submitters
   pub each : (s : ℕ) (d : List Planned) → s < length plans → IsPlanOf layout generations s (share_of commands layout.submitters s) (slice_index_or plans s d)
-
--- how many commands plans have
-abbrev pub commands_of : List (List Planned) → ℕ
-commands_of plans = sum_by length plans
 
 -- the queue of a submitter
 abbrev pub queue_of : ℕ → ℕ → ℕ

@@ -1,5 +1,5 @@
 -- How many commands ended how.
-use Rattle.std.specs.{Prelude.{◌≡◌, ◌≤◌, ◌<◌, ℕ, ◌+◌, ◌-◌, ◌^◌, ◌==◌, ◌&&◌, Bool, true, false, Option, Some, None, List, [], ◌∷◌, min, if◌then◌else◌}, Str.bytes_eq}
+use Rattle.std.specs.{Prelude.{ℕ, ◌+◌, ◌-◌, ◌^◌, ◌==◌, ◌&&◌, Bool, true, false, Option, Some, None, List, [], ◌∷◌, min, if◌then◌else◌}, Str.bytes_eq}
 use Rattle.driver_threads.specs.{Values.JobEnd, declared.jobs.JobEnd.TheVariants.{Done, Refused}}
 use Rattle.entry_codec.specs.declared.status.Status.{Status}
 use Rattle.io_commands.specs.declared.request.Kind.{Kind}
@@ -25,10 +25,6 @@ both a b = record {
 -- no command was refused or failed, and none brought other bytes
 abbrev pub is_good : Tally → Bool
 is_good tally = (tally.refused == 0) && ((tally.failed == 0) && (tally.differ == 0))
-
--- how many commands were counted
-abbrev pub commands_in : Tally → ℕ
-commands_in tally = tally.done + tally.refused + tally.failed
 
 abbrev pub is_success : Status → Bool
 is_success status = (status.sct == 0) && (status.sc == 0)
@@ -70,15 +66,3 @@ tallies_from wanted tally (plan ∷ plans) (ends ∷ lists) = tallies_from wante
 abbrev pub counted : Bool → Tally → Tally
 counted true tally = tally
 counted false tally = record tally { done = 0 }
-
--- reads behind a load were counted: none is done, and none that was refused or failed is forgotten
-pub record Grows (before after : Tally) : Type 0 where
-  pub done : commands_in before < 2 ^ 64 → after.done ≡ before.done
-  pub refused : commands_in before < 2 ^ 64 → before.refused ≤ after.refused
-  pub failed : commands_in before < 2 ^ 64 → before.failed ≤ after.failed
-
--- What a load of so many commands, which no time ends, came to: each of them was counted. The reads behind it add to those that were refused or failed alone.
-pub record CountsAll (count runtime : Option ℕ) (verify : Bool) (tally : Tally) : Type 0 where
-  pub all : (n : ℕ) → count ≡ Some n → runtime ≡ None → n ≤ commands_in tally
-  pub done : (n : ℕ) → count ≡ Some n → runtime ≡ None → tally.done ≤ n
-  pub no_more : (n : ℕ) → count ≡ Some n → runtime ≡ None → verify ≡ false → commands_in tally ≡ n

@@ -3,10 +3,10 @@ use Rattle.std.specs.Io.KnownBytes.{Appends, Keeps}
 use Rattle.std.specs.{Prelude.{◌≡◌, ◌⊎◌, ◌<◌, ◌*◌, ℕ, Bool, true, false, List, Option, Some, None, replicate, codes, IsSome, if◌then◌else◌}, Str.bytes_eq}
 use Rattle.block_image.specs.Blocks.{most_blocks}
 use Rattle.clap.specs.Words.{Text}
-use Rattle.program.specs.Asked.{Asked, Given, Loaded, check, check_jobs, draw, explain, grammar, load, shell, show, steps, test, threads, traced}
+use Rattle.program.specs.Asked.{Asked, Given, check, check_jobs, draw, explain, grammar, load, shell, show, steps, test, threads, traced}
 use Rattle.program.specs.declared.fault.Fault.{Fault}
-use Rattle.job_cli.specs.{JobRuns.{EndsJobsWith, HasJobs, IsJobsText, IsNoJobs, WritesJobs}, Lines.{IsLineFront, line_text}, Tallies.{CountsAll, is_good}}
-use Rattle.job_cli.specs.declared.{jobs.JobLine.JobLine, load.{fault.LoadFault.LoadFault, tally.Tally.Tally}}
+use Rattle.job_cli.specs.{JobRuns.{EndsJobsWith, HasJobs, IsJobsText, IsNoJobs, WritesJobs}, Lines.{IsLineFront, line_text}, Tallies.is_good}
+use Rattle.job_cli.specs.declared.{jobs.JobLine.JobLine, load.{fault.LoadFault.LoadFault, tally.Tally.Tally, workload.Pattern.Pattern}}
 use Rattle.script_cli.specs.{Inputs.Gains, Runs.{EndsWith, HasScript, IsNoScript, IsRunText, Writes}, declared.fault.RunFault.RunFault}
 use Rattle.script_cli.specs.declared.{input.ImageFault.ImageFault, script.Numbered.Numbered}
 use Rattle.job_cli.specs.declared.load.fault.LoadFault.TheVariants as load_fault
@@ -28,10 +28,9 @@ abbrev pub script_told : Option Text → Option (List ℕ) → Option (List ℕ)
 script_told None told = told
 script_told (Some path) told = if bytes_eq path (codes "-") then told else None
 
--- the line of a load is written: no command was refused or failed and none brought other bytes, and where so many were asked for, and no time ends the load, each of them is counted
-abbrev pub WritesLine : Loaded → Option (List ℕ) → Option (List ℕ) → Type 0
-WritesLine what before after =
-    (tally : Tally) × (is_good tally ≡ true) × CountsAll what.count what.runtime what.verify tally × Appends before after (line_text what.pattern tally)
+-- the line of a load is written, in which no command was refused or failed and none brought other bytes, or else some
+abbrev pub WritesLine : Pattern → Bool → Option (List ℕ) → Option (List ℕ) → Type 0
+WritesLine pattern good before after = (tally : Tally) × (is_good tally ≡ good) × Appends before after (line_text pattern tally)
 
 -- the fault of a load that did not run to its end: a fault of its opening, of memory and of the output is that of any run
 abbrev pub fault_of_load : LoadFault → Fault
@@ -47,7 +46,7 @@ Performs told (Some (steps given)) before after =
     (image : List ℕ) × IsFirstImage given image × Writes (script_told given.script told) given.config image before after IsRunText
 Performs told (Some (threads given what)) before after =
     (image : List ℕ) × IsFirstImage given image × WritesJobs (script_told given.script told) what.submitters given.config image before after IsJobsText
-Performs told (Some (load given what)) before after = WritesLine what before after
+Performs told (Some (load given what)) before after = WritesLine what.pattern true before after
 Performs told (Some (check path)) before after = ((script : List Numbered) × HasScript (script_told path told) script) × Keeps before after
 Performs told (Some (check_jobs path submitters)) before after = ((lines : List JobLine) × HasJobs (script_told path told) submitters lines) × Keeps before after
 Performs told (Some (test tested)) before after = Unit {0}
@@ -108,10 +107,9 @@ FailsWith told (Some what) before after (fault.Arguments why) = ⊥
 FailsWith told (Some what) before after fault.PipeClosed = ⊥
 FailsWith told (Some (load given what)) before after (fault.Load why) = Gains before after (IsLineFront what.pattern)
 FailsWith told (Some other) before after (fault.Load why) = ⊥
-FailsWith told (Some (load given what)) before after (fault.Loaded tally) =
-    (is_good tally ≡ false) × CountsAll what.count what.runtime what.verify tally × Appends before after (line_text what.pattern tally)
+FailsWith told (Some (load given what)) before after (fault.Loaded tally) = (is_good tally ≡ false) × Appends before after (line_text what.pattern tally)
 FailsWith told (Some other) before after (fault.Loaded tally) = ⊥
-FailsWith told (Some (load given what)) before after fault.NoStats = WritesLine what before after × IsSome what.stats
+FailsWith told (Some (load given what)) before after fault.NoStats = WritesLine what.pattern true before after × IsSome what.stats
 FailsWith told (Some other) before after fault.NoStats = ⊥
 FailsWith told (Some (load given what)) before after fault.NotSaved = ⊥
 FailsWith told (Some (load given what)) before after (fault.Transcripts tally) = ⊥

