@@ -1,8 +1,8 @@
 -- Rows one behind the other: what a walk meets, and what a put and a take leave.
 use Rattle.std.proofs.Common.{◌≡◌, ℕ, zero, suc, ◌≤◌, ◌==◌, true, false, List, [], ◌∷◌, ◌++◌, length, Some, None, take, drop, ◌+◌, refl, sym, ap, subst, ◌∙◌, inl, inr, arith, append_assoc}
 use Rattle.std.proofs.lemmas.{Bool.{eq-eqb, ne_eqb, cases_Bool, Decides.eqb_tells}, List.{append-nil, take-append-drop, drop-drop}, Option.none-some}
-use Rattle.slot_table.proofs.{Rows.{value_at-behind, without-behind}, Steps.place_behind-behind}
-use Rattle.slot_table.specs.{Rows.{Row, is_at, first_place, place_behind, value_at, without, NoneAt, IsDistinct}, Table.{TableOf, with_row}}
+use Rattle.slot_table.proofs.Rows.{value_at-behind, without-behind, with_value-behind, place_behind-behind}
+use Rattle.slot_table.specs.{Rows.{Row, is_at, first_place, place_behind, value_at, with_value, without, NoneAt, IsDistinct}, Table.{TableOf, with_row}}
 use Rattle.slot_table.specs.Walks.{places_of, walk_from}
 
 eqb-turned : (a b : ℕ) → (a == b) ≡ (b == a)
@@ -50,6 +50,10 @@ module _ {R : Type 0} where
   pub without-row : (front back : List (Row R)) (row : Row R) → IsDistinct (front ++ row ∷ back) → without (front ++ row ∷ back) row.q row.cid ≡ front ++ back
   without-row front back row d =
       without-behind front (row ∷ back) row.q row.cid (front_none front back row d) ∙ ap (λ rows. front ++ rows) (rw (is_at-itself row) refl)
+
+  pub with_value-row : (front back : List (Row R)) (row : Row R) (value : R) → IsDistinct (front ++ row ∷ back) → with_value (front ++ row ∷ back) row.q row.cid value ≡ front ++ record row { value = value } ∷ back
+  with_value-row front back row value d =
+      with_value-behind front (row ∷ back) row.q row.cid value (front_none front back row d) ∙ ap (λ rows. front ++ rows) (rw (is_at-itself row) refl)
 
   -- a record that was put
   pub put_value : (table : TableOf R) (q cid : ℕ) (value : R) → value_at table.rows q cid ≡ None → value_at (with_row table q cid value).rows q cid ≡ Some value
