@@ -1,8 +1,14 @@
 -- A linked table: its rows, and what the steps of each call make of its map and its list.
-use Rattle.std.proofs.Common.{◌≡◌, ◌≢◌, ℕ, zero, suc, ◌+◌, ◌≤◌, cond, if◌then◌else◌, List, [], ◌∷◌, length, Option, Some, None, IsSome, refl, sym, ap, subst, ◌∙◌, inl, inr, arith, true≢false}
-use Rattle.std.{proofs.lemmas.{Bool.{cases_eq, eq-eqb, ne_eqb}, Option.none-some}, specs.{HashMap.{HashMap, hash_map_len}, Map.lookup, Option.{option_map, option_and_then, is_some}}}
-use Rattle.slot_table.proofs.{Rows.{IsKind, place_eq-same, place_behind-none}, Whole.{Sets, Leaves, length-order, order-distinct, first-order, order-empty, behind-order, neighbours, take, write, value_at-order, ends-each, put}}
-use Rattle.slot_table.specs.{Chains.{Leads, rows_of}, Nodes.{Place, place_eq, thread_of, Thread, after_of, before_of, value_of, walk, rows_in, LinksAfter, LinksBefore, IsThreaded, IsEnd}, declared.nodes.Node.Node}
+use Rattle.std.proofs.Common.{◌≡◌, ◌≢◌, ℕ, zero, suc, ◌+◌, ◌≤◌, cond, if◌then◌else◌, List, [], ◌∷◌, length, Option, Some, None, IsSome, refl, sym, ap, subst}
+use Rattle.std.proofs.Common.{◌∙◌, inl, inr, arith, true≢false}
+use Rattle.std.proofs.lemmas.{Bool.{cases_eq, eq-eqb, ne_eqb}, Option.none-some}
+use Rattle.std.specs.{HashMap.{HashMap, hash_map_len}, Map.lookup, Option.{option_map, option_and_then, is_some}}
+use Rattle.slot_table.proofs.Rows.{IsKind, place_eq-same, place_behind-none}
+use Rattle.slot_table.proofs.Whole.{Sets, Leaves, length-order, order-distinct, first-order, order-empty, behind-order, neighbours, take, write, value_at-order}
+use Rattle.slot_table.proofs.Whole.{ends-each, put}
+use Rattle.slot_table.specs.Chains.{Leads, rows_of}
+use Rattle.slot_table.specs.Nodes.{Place, place_eq, thread_of, Thread, after_of, before_of, value_of, walk, rows_in, LinksAfter, LinksBefore, IsThreaded, IsEnd}
+use Rattle.slot_table.specs.{declared.nodes.Node.Node}
 use Rattle.slot_table.specs.Rows.{Row, value_at, with_value, with_last, without, place_behind, first_place, NoneAt, IsDistinct}
 
 pub nodes : IsKind (λ (k : Place). Some k) (λ k. k) (λ p. p) None
@@ -83,7 +89,8 @@ module _ {R : Type 0} where
       record { threaded = threaded; rows_are = rows-order t count threaded ∙ leaves.rows_is }
 
   -- what hangs on a map's entries alone stays where they stay
-  pub same_entries : {S : Type 0} (P : Thread R → ℕ → Type 0) (m n : HashMap Place (Node R) S) (first last : Option Place) → n.entries ≡ m.entries → P (thread_of m first last) (hash_map_len m) → P (thread_of n first last) (hash_map_len n)
+  pub same_entries : {S : Type 0} (P : Thread R → ℕ → Type 0) (m n : HashMap Place (Node R) S) (first last : Option Place) → n.entries ≡ m.entries
+      → P (thread_of m first last) (hash_map_len m) → P (thread_of n first last) (hash_map_len n)
   same_entries P m n first last same p =
       subst (λ es. P (record { look = λ k. lookup (place_eq k) es; first = first; last = last }) (length es)) (sym same) p
 
@@ -129,7 +136,8 @@ module _ {R : Type 0} where
     alike_before same (Some z) = alike (option_and_then (λ n. n.before)) same z
 
   module _ (t : Thread R) (look : Place → Option (Node R)) (k : Place) (node : Node R) (has : t.look k ≡ Some node) where
-    pub linked_after : (after : Option Place) → Changes t.look look k (Some (record node { after = after })) → LinksAfter t (record { look = look; first = t.first; last = t.last }) (Some k) after
+    pub linked_after : (after : Option Place) → Changes t.look look k (Some (record node { after = after }))
+        → LinksAfter t (record { look = look; first = t.first; last = t.last }) (Some k) after
     linked_after after c =
         record {
           here = ap (option_and_then (λ n. n.after)) (own_look t look k _ c);
@@ -138,7 +146,8 @@ module _ {R : Type 0} where
           values = alike t look k _ c (option_map (λ n. n.value)) (ap (option_map (λ n. n.value)) (sym has));
         }
 
-    pub linked_before : (before : Option Place) → Changes t.look look k (Some (record node { before = before })) → LinksBefore t (record { look = look; first = t.first; last = t.last }) (Some k) before
+    pub linked_before : (before : Option Place) → Changes t.look look k (Some (record node { before = before }))
+        → LinksBefore t (record { look = look; first = t.first; last = t.last }) (Some k) before
     linked_before before c =
         record {
           here = ap (option_and_then (λ n. n.before)) (own_look t look k _ c);
@@ -175,7 +184,8 @@ module _ {R : Type 0} where
             other_before = before;
           }) (record { own = a.values k ∙ (changed_sets t look k _ c).own; others = λ z g. a.values z ∙ (changed_sets t look k _ c).others z g })))
         where
-          before_else : (new : Thread R) → LinksAfter (changed t look k _ c) new t.last (Some k) → (z : Option Place) → z ≢ None → z ≢ Some k → before_of (record new { last = Some k }) z ≡ before_of t z
+          before_else : (new : Thread R) → LinksAfter (changed t look k _ c) new t.last (Some k) → (z : Option Place) → z ≢ None → z ≢ Some k
+              → before_of (record new { last = Some k }) z ≡ before_of t z
           before_else new a None some other = absurd (some refl)
           before_else new a (Some z) some other = a.before (Some z) ∙ changed_before t look k _ c (Some z) other
 
@@ -193,14 +203,17 @@ module _ {R : Type 0} where
       pub take_start : IsEnd (changed t look k _ c) node.before
       take_start =
           subst (IsEnd (changed t look k _ c)) before_is
-          (neighbours nodes is.thread k node.value value_is (IsEnd (changed t look k _ c)) tt (λ z o some. some_node (look z) (subst IsSome (sym ((changed_sets t look k _ c).others z o)) some))).0
+          (neighbours nodes is.thread k node.value value_is (IsEnd (changed t look k _ c)) tt
+          (λ z o some. some_node (look z) (subst IsSome (sym ((changed_sets t look k _ c).others z o)) some))).0
 
       pub take_end : (mid : Thread R) → LinksAfter (changed t look k _ c) mid node.before node.after → IsEnd mid node.after
       take_end mid a =
           subst (IsEnd mid) after_is
-          (neighbours nodes is.thread k node.value value_is (IsEnd mid) tt (λ z o some. some_node (mid.look z) (subst IsSome (sym (a.values z ∙ (changed_sets t look k _ c).others z o)) some))).1
+          (neighbours nodes is.thread k node.value value_is (IsEnd mid) tt
+          (λ z o some. some_node (mid.look z) (subst IsSome (sym (a.values z ∙ (changed_sets t look k _ c).others z o)) some))).1
 
-      pub take_left : (mid new : Thread R) → LinksAfter (changed t look k _ c) mid node.before node.after → LinksBefore mid new node.after node.before → (rest : ℕ) → rest + 1 ≡ count → Left new rest (without (rows_in t count) k.0 k.1)
+      pub take_left : (mid new : Thread R) → LinksAfter (changed t look k _ c) mid node.before node.after → LinksBefore mid new node.after node.before → (rest : ℕ) → rest + 1 ≡ count
+          → Left new rest (without (rows_in t count) k.0 k.1)
       take_left mid new a b rest one =
           rw (rows-order t count is) (remade new rest _ (take nodes is.thread k node.value value_is (after_of new) (before_of new) (value_of new) rest one (record {
             after = b.after (before_of t (Some k)) ∙ ap (after_of mid) before_is ∙ a.here ∙ sym after_is;
@@ -210,7 +223,8 @@ module _ {R : Type 0} where
           }) (record { own = b.values k ∙ a.values k ∙ (changed_sets t look k _ c).own; others = λ z g. b.values z ∙ a.values z ∙ (changed_sets t look k _ c).others z g })))
 
     -- a write: the node has another value
-    pub write_left : (node : Node R) (has : t.look k ≡ Some node) (value : R) (c : Changes t.look look k (Some (record node { value = value }))) → Left (changed t look k _ c) count (with_value (rows_in t count) k.0 k.1 value)
+    pub write_left : (node : Node R) (has : t.look k ≡ Some node) (value : R) (c : Changes t.look look k (Some (record node { value = value })))
+        → Left (changed t look k _ c) count (with_value (rows_in t count) k.0 k.1 value)
     write_left node has value c =
         let n = changed t look k _ c in
         rw (rows-order t count is) (remade n count _ (write nodes is.thread k node.value (ap (option_map (λ n. n.value)) has) (after_of n) (before_of n) (value_of n) value

@@ -1,5 +1,6 @@
 -- A table with no record.
-use Rattle.std.proofs.Common.{◌≡◌, ℕ, zero, suc, ◌+◌, ◌*◌, ◌<◌, ◌≤◌, List, [], length, get_or, Option, None, is_some, IsSome, count_by, replicate, refl, sym, ap, subst, ◌∙◌, arith, true≢false}
+use Rattle.std.proofs.Common.{◌≡◌, ℕ, zero, suc, ◌+◌, ◌*◌, ◌<◌, ◌≤◌, List, [], length, get_or, Option, None, is_some, IsSome, count_by, replicate, refl, sym}
+use Rattle.std.proofs.Common.{ap, subst, ◌∙◌, arith, true≢false}
 use Rattle.std.proofs.lemmas.List.{length-replicate, get_or-replicate}
 use Rattle.slot_table.specs.{Links.{IsThreaded}, declared.link.Link.Link}
 
@@ -13,7 +14,8 @@ module _ {R : Type 0} where
   none_anywhere (suc n) zero = refl
   none_anywhere (suc n) (suc i) = none_anywhere n i
 
-  pub IsThreaded-open : (queues places n : ℕ) (records : List (Option R)) (links : List Link) → queues ≤ 65536 → places < 65536 → n ≡ queues * places → records ≡ replicate n None → links ≡ replicate (n + 1) (record { before = n; after = n }) → IsThreaded queues places 0 records links
+  pub IsThreaded-open : (queues places n : ℕ) (records : List (Option R)) (links : List Link) → queues ≤ 65536 → places < 65536 → n ≡ queues * places → records ≡ replicate n None
+      → links ≡ replicate (n + 1) (record { before = n; after = n }) → IsThreaded queues places 0 records links
   IsThreaded-open queues places n records links few few_places all is links_is =
       let end : Link = record { before = n; after = n } in
       let long : length (replicate {A = Option R} n None) ≡ n = length-replicate n None in

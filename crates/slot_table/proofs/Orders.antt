@@ -109,7 +109,8 @@ module _ {K P : Type 0} (at : K → P) where
 
   module _ (a b c d : P → P) where
     -- links that do not change on the way still lead that way
-    pub Leads-kept : (x : P) (xs : List K) (end : P) → c x ≡ a x → All (λ k. c (at k) ≡ a (at k)) xs → All (λ k. d (at k) ≡ b (at k)) xs → d end ≡ b end → Leads at a b x xs end → Leads at c d x xs end
+    pub Leads-kept : (x : P) (xs : List K) (end : P) → c x ≡ a x → All (λ k. c (at k) ≡ a (at k)) xs → All (λ k. d (at k) ≡ b (at k)) xs → d end ≡ b end → Leads at a b x xs end
+        → Leads at c d x xs end
     Leads-kept x [] end f sa sb g l = (f ∙ l.0, g ∙ l.1)
     Leads-kept x (y ∷ ys) end f sa sb g l = ((f ∙ l.0.0, sb.0 ∙ l.0.1), Leads-kept (at y) ys end sa.0 sa.1 sb.1 g l.1)
 
@@ -138,14 +139,16 @@ module _ {K P : Type 0} (at : K → P) where
       pub other_before : (z : P) → z ≢ end → z ≢ at k → d z ≡ b z
 
     -- a place at the end of the list
-    pub Leads-push : (end : P) (k : K) (order : List K) → Leads at a b end order end → Joins end k → end ≢ at k → Lacks at end order → Lacks at (at k) order → AreDistinct at order → Leads at c d end (order ++ k ∷ []) end
+    pub Leads-push : (end : P) (k : K) (order : List K) → Leads at a b end order end → Joins end k → end ≢ at k → Lacks at end order → Lacks at (at k) order → AreDistinct at order
+        → Leads at c d end (order ++ k ∷ []) end
     Leads-push end k order l j other le lk dx =
         let turned = Leads-turned (b end) (at k) (at k) end order end j.other_after j.after j.before (Leads-before a b end order end l) l other le dx lk
         (each-two (λ z. at z ≢ end) (λ z. at z ≢ at k) (λ z. d (at z) ≡ b (at z)) (λ z. j.other_before (at z)) order le lk) in
         Leads-append c d end order k [] end turned (j.end_after, j.end_before)
 
     -- the list without a place
-    front-turned : (end : P) (k : K) (front back : List K) → Leads at a b end (front ++ k ∷ back) end → Skips (last_or end front) (first_or end back) (at k) → Lacks at end (front ++ k ∷ back)
+    front-turned : (end : P) (k : K) (front back : List K) → Leads at a b end (front ++ k ∷ back) end → Skips (last_or end front) (first_or end back) (at k)
+        → Lacks at end (front ++ k ∷ back)
         → AreDistinct at (front ++ k ∷ back) → Lacks at (first_or end back) front → Leads at c d end front (first_or end back)
     front-turned end k front back l s le dx lq =
         let lk = Lacks-before k front back dx in
@@ -154,7 +157,8 @@ module _ {K P : Type 0} (at : K → P) where
         (each-front (λ z. at z ≢ end) front (k ∷ back) le) (AreDistinct-front front (k ∷ back) dx) lk
         (each-two (λ z. at z ≢ first_or end back) (λ z. at z ≢ at k) (λ z. d (at z) ≡ b (at z)) (λ z. s.other_before (at z)) front lq lk)
 
-    pub Leads-without : (end : P) (k : K) (front back : List K) → Leads at a b end (front ++ k ∷ back) end → Skips (last_or end front) (first_or end back) (at k) → Lacks at end (front ++ k ∷ back)
+    pub Leads-without : (end : P) (k : K) (front back : List K) → Leads at a b end (front ++ k ∷ back) end → Skips (last_or end front) (first_or end back) (at k)
+        → Lacks at end (front ++ k ∷ back)
         → AreDistinct at (front ++ k ∷ back) → Leads at c d end (front ++ back) end
     Leads-without end k front [] l s le dx =
         subst (λ xs. Leads at c d end xs end) (sym (append-nil front)) (front-turned end k front [] l s le dx (each-front (λ z. at z ≢ end) front (k ∷ []) le))

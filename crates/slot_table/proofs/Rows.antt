@@ -60,7 +60,8 @@ module _ {K R : Type 0} (place : K → ℕ × ℕ) (v : K → Option R) where
   rows_of-append [] ys = refl
   rows_of-append (x ∷ xs) ys =
       rw (rows_of-append xs ys)
-      (elim (v x) as (λ o. row_before place x o (rows_of place v xs ++ rows_of place v ys) ≡ row_before place x o (rows_of place v xs) ++ rows_of place v ys) [ None ↦ refl | Some value ↦ refl ])
+      (elim (v x) as (λ o. row_before place x o (rows_of place v xs ++ rows_of place v ys) ≡ row_before place x o
+      (rows_of place v xs) ++ rows_of place v ys) [ None ↦ refl | Some value ↦ refl ])
 
   -- places whose records stay
   pub rows_of-same : (w : K → Option R) (xs : List K) → All (λ z. w z ≡ v z) xs → rows_of place w xs ≡ rows_of place v xs

@@ -1,10 +1,18 @@
 -- A table of slots: its rows, and what each of its calls leaves.
-use Rattle.std.proofs.Common.{◌≡◌, ◌≢◌, ℕ, zero, suc, ◌+◌, ◌-◌, ◌*◌, ◌/◌, ◌%◌, ◌<◌, ◌≤◌, cond, List, [], ◌∷◌, length, get_or, set, Option, Some, None, is_some, IsSome, IfSome, count_by, refl, sym, ap, subst, ◌∙◌, inl, inr, arith, true≢false, length-set}
-use Rattle.std.proofs.{Math.Nat.mul-le-mul_left, lemmas.{Bool.{cases_eq, cases_lt, eq-eqb, ne_eqb, Decides.eqb_tells}, List.{get_or-set_same, get_or-set_other, get_or_read, get_or_past, set-get_or}}}
-use Rattle.std.{proofs.lemmas.{List.Sums.{sum_by-set, count_by-le-length}, Nat.{div-add-mod', div-mul-add, mod-mul-add, div_below, mod_below}}, specs.List.AllByRecursion as All}
-use Rattle.slot_table.proofs.{Rows.{IsKind}, Whole.{Sets, Leaves, length-order, order-distinct, first-order, order-empty, behind-order, neighbours, take, write, value_at-order, ends-each, put}}
-use Rattle.slot_table.specs.{Chains.{Leads, Lacks, row_before}, Links.{after_of, before_of, Rejoins, walk, split, place_of, record_at, rows_of, IsThreaded}, declared.link.Link.Link}
-use Rattle.slot_table.specs.{Rows.{Row, value_at, with_value, with_last, without, first_place, place_behind, NoneAt, IsDistinct}, Table.{TableOf, AreInside, IsPlace}}
+use Rattle.std.proofs.Common.{◌≡◌, ◌≢◌, ℕ, zero, suc, ◌+◌, ◌-◌, ◌*◌, ◌/◌, ◌%◌, ◌<◌, ◌≤◌, cond, List, [], ◌∷◌, length, get_or, set, Option, Some, None, is_some}
+use Rattle.std.proofs.Common.{IsSome, IfSome, count_by, refl, sym, ap, subst, ◌∙◌, inl, inr, arith, true≢false, length-set}
+use Rattle.std.proofs.{Math.Nat.mul-le-mul_left}
+use Rattle.std.proofs.lemmas.Bool.{cases_eq, cases_lt, eq-eqb, ne_eqb, Decides.eqb_tells}
+use Rattle.std.proofs.lemmas.List.{get_or-set_same, get_or-set_other, get_or_read, get_or_past, set-get_or}
+use Rattle.std.proofs.lemmas.{List.Sums.{sum_by-set, count_by-le-length}, Nat.{div-add-mod', div-mul-add, mod-mul-add, div_below, mod_below}}
+use Rattle.std.{specs.List.AllByRecursion as All}
+use Rattle.slot_table.proofs.Rows.{IsKind}
+use Rattle.slot_table.proofs.Whole.{Sets, Leaves, length-order, order-distinct, first-order, order-empty, behind-order, neighbours, take, write, value_at-order}
+use Rattle.slot_table.proofs.Whole.{ends-each, put}
+use Rattle.slot_table.specs.{Chains.{Leads, Lacks, row_before}, Links.{after_of, before_of, Rejoins, walk, split, place_of, record_at, rows_of, IsThreaded}}
+use Rattle.slot_table.specs.{declared.link.Link.Link}
+use Rattle.slot_table.specs.Rows.{Row, value_at, with_value, with_last, without, first_place, place_behind, NoneAt, IsDistinct}
+use Rattle.slot_table.specs.Table.{TableOf, AreInside, IsPlace}
 
 pub slots : (places end : ℕ) → IsKind (λ i. i) (split places) (place_of places end) end
 slots places end = record {
@@ -20,7 +28,8 @@ slots places end = record {
 }
 
 -- a walk along the links finds the places
-walk-leads : (ls : List Link) (end x : ℕ) (xs : List ℕ) (most : ℕ) → Leads (λ i. i) (after_of ls) (before_of ls) x xs end → Lacks (λ i. i) end xs → length xs ≤ most → walk ls end (after_of ls x) most ≡ xs
+walk-leads : (ls : List Link) (end x : ℕ) (xs : List ℕ) (most : ℕ) → Leads (λ i. i) (after_of ls) (before_of ls) x xs end → Lacks (λ i. i) end xs → length xs ≤ most
+    → walk ls end (after_of ls x) most ≡ xs
 walk-leads ls end x [] zero l lacks fits = refl
 walk-leads ls end x [] (suc most) l lacks fits = rw (eq-eqb (after_of ls x) end l.0) refl
 walk-leads ls end x (y ∷ ys) zero l lacks fits = absurd (omega arith)

@@ -1,5 +1,6 @@
 -- Rows one behind the other: what a walk meets, and what a put and a take leave.
-use Rattle.std.proofs.Common.{◌≡◌, ℕ, zero, suc, ◌≤◌, ◌==◌, true, false, List, [], ◌∷◌, ◌++◌, length, Some, None, take, drop, ◌+◌, refl, sym, ap, subst, ◌∙◌, inl, inr, arith, append_assoc}
+use Rattle.std.proofs.Common.{◌≡◌, ℕ, zero, suc, ◌≤◌, ◌==◌, true, false, List, [], ◌∷◌, ◌++◌, length, Some, None, take, drop, ◌+◌, refl, sym, ap, subst, ◌∙◌}
+use Rattle.std.proofs.Common.{inl, inr, arith, append_assoc}
 use Rattle.std.proofs.lemmas.{Bool.{eq-eqb, ne_eqb, cases_Bool, Decides.eqb_tells}, List.{append-nil, take-append-drop, drop-drop}, Option.none-some}
 use Rattle.slot_table.proofs.Rows.{value_at-behind, without-behind, with_value-behind, place_behind-behind}
 use Rattle.slot_table.specs.{Rows.{Row, is_at, first_place, place_behind, value_at, with_value, without, NoneAt, IsDistinct}, Table.{TableOf, with_row}}
@@ -51,7 +52,8 @@ module _ {R : Type 0} where
   without-row front back row d =
       without-behind front (row ∷ back) row.q row.cid (front_none front back row d) ∙ ap (λ rows. front ++ rows) (rw (is_at-itself row) refl)
 
-  pub with_value-row : (front back : List (Row R)) (row : Row R) (value : R) → IsDistinct (front ++ row ∷ back) → with_value (front ++ row ∷ back) row.q row.cid value ≡ front ++ record row { value = value } ∷ back
+  pub with_value-row : (front back : List (Row R)) (row : Row R) (value : R) → IsDistinct (front ++ row ∷ back)
+      → with_value (front ++ row ∷ back) row.q row.cid value ≡ front ++ record row { value = value } ∷ back
   with_value-row front back row value d =
       with_value-behind front (row ∷ back) row.q row.cid value (front_none front back row d) ∙ ap (λ rows. front ++ rows) (rw (is_at-itself row) refl)
 

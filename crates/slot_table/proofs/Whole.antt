@@ -1,10 +1,15 @@
 -- What the rows of a threaded list are, and how each change of a table keeps its list and what it makes of the rows.
-use Rattle.std.proofs.Common.{◌≡◌, ◌≢◌, ℕ, ◌+◌, List, [], ◌∷◌, ◌++◌, length, Option, Some, None, IsSome, refl, sym, ap, subst, ◌∙◌, inl, inr, arith, true≢false, length-append}
+use Rattle.std.proofs.Common.{◌≡◌, ◌≢◌, ℕ, ◌+◌, List, [], ◌∷◌, ◌++◌, length, Option, Some, None, IsSome, refl, sym, ap, subst, ◌∙◌, inl, inr, arith, true≢false}
+use Rattle.std.proofs.Common.{length-append}
 use Rattle.std.specs.List.{AllByRecursion as All}
-use Rattle.slot_table.proofs.Orders.{each-append, each-front, each-back, each-without, each-two, IsBetween, first_or, last_or, first_or-each, last_or-each, Lacks-before, Lacks-own, AreDistinct-without, AreDistinct-push, AreDistinct-back, find_place, Leads-after, Leads-before, Leads-parts, Leads-kept, Leads-push, Leads-without, Skips, Joins}
-use Rattle.slot_table.proofs.Rows.{IsKind, option_is, rows_of-append, rows_of-same, rows_of-none_at, rows_of-distinct, length-rows_of, first_place-rows_of, value_at-none}
+use Rattle.slot_table.proofs.Orders.{each-append, each-front, each-back, each-without, each-two, IsBetween, first_or, last_or, first_or-each, last_or-each}
+use Rattle.slot_table.proofs.Orders.{Lacks-before, Lacks-own, AreDistinct-without, AreDistinct-push, AreDistinct-back, find_place, Leads-after, Leads-before}
+use Rattle.slot_table.proofs.Orders.{Leads-parts, Leads-kept, Leads-push, Leads-without, Skips, Joins}
+use Rattle.slot_table.proofs.Rows.{IsKind, option_is, rows_of-append, rows_of-same, rows_of-none_at, rows_of-distinct, length-rows_of, first_place-rows_of}
+use Rattle.slot_table.proofs.Rows.{value_at-none}
 use Rattle.slot_table.proofs.Walks.{value_at-row, without-row, with_value-row, place_behind-row}
-use Rattle.slot_table.specs.{Chains.{Threads, Leads, Lacks, AreDistinct, AreHeld, rows_of, row_before}, Rows.{Row, value_at, without, with_value, with_last, place_behind, first_place, NoneAt, IsDistinct}}
+use Rattle.slot_table.specs.Chains.{Threads, Leads, Lacks, AreDistinct, AreHeld, rows_of, row_before}
+use Rattle.slot_table.specs.Rows.{Row, value_at, without, with_value, with_last, place_behind, first_place, NoneAt, IsDistinct}
 
 -- one place has another record, or none
 pub record Sets {K P R : Type 0} (at : K → P) (old new : K → Option R) (k : K) (r : Option R) : Type 0 where
@@ -81,14 +86,16 @@ module _ {K P R : Type 0} {at : K → P} {place : K → ℕ × ℕ} {show : P �
     behind-order =
         ap (λ rows. place_behind rows (place k).0 (place k).1) parts
         ∙ place_behind-row (rows_of place v between.front) (rows_of place v between.back) row rows-distinct
-        ∙ first_place-rows_of place v kind between.back (each-back (λ z. at z ≢ end) between.front (k ∷ between.back) apart).1 (each-back (λ z. IsSome (v z)) between.front (k ∷ between.back) held).1
+        ∙ first_place-rows_of place v kind between.back (each-back (λ z. at z ≢ end) between.front (k ∷ between.back) apart).1
+        (each-back (λ z. IsSome (v z)) between.front (k ∷ between.back) held).1
         ∙ ap show (sym after-is)
 
     -- what holds of the end and of each other place holds of the neighbours
     pub neighbours : (Q : P → Type 0) → Q end → ((z : K) → at z ≢ at k → IsSome (v z) → Q (at z)) → Q (b (at k)) × Q (a (at k))
     neighbours Q e each =
         let all : All (λ z. Q (at z)) (between.front ++ between.back) =
-        each-two (λ z. at z ≢ at k) (λ z. IsSome (v z)) (λ z. Q (at z)) each (between.front ++ between.back) (Lacks-own at k between.front between.back distinct) (each-without (λ z. IsSome (v z)) k between.front between.back held) in (
+        each-two (λ z. at z ≢ at k) (λ z. IsSome (v z)) (λ z. Q (at z)) each (between.front ++ between.back) (Lacks-own at k between.front between.back distinct)
+        (each-without (λ z. IsSome (v z)) k between.front between.back held) in (
           subst Q (sym before-is) (last_or-each at Q end between.front e (each-front (λ z. Q (at z)) between.front between.back all)),
           subst Q (sym after-is) (first_or-each at Q end between.back e (each-back (λ z. Q (at z)) between.front between.back all)),
         )
@@ -106,12 +113,14 @@ module _ {K P R : Type 0} {at : K → P} {place : K → ℕ × ℕ} {show : P �
             leads = Leads-without at a b c d end k m.front m.back leads joined apart distinct;
             distinct = AreDistinct-without at k m.front m.back distinct;
             apart = each-without (λ z. at z ≢ end) k m.front m.back apart;
-            held = each-two (λ z. at z ≢ at k) (λ z. IsSome (v z)) (λ z. IsSome (w z)) (λ z o some. subst IsSome (sym (sets.others z o)) some) (m.front ++ m.back) lacks (each-without (λ z. IsSome (v z)) k m.front m.back held);
+            held = each-two (λ z. at z ≢ at k) (λ z. IsSome (v z)) (λ z. IsSome (w z)) (λ z o some. subst IsSome (sym (sets.others z o)) some) (m.front ++ m.back) lacks
+                (each-without (λ z. IsSome (v z)) k m.front m.back held);
             listed = λ z some l.
                 elim (kind.cases z k) [
                   | inl same ↦ true≢false (sym (subst IsSome (ap w same ∙ sets.own) some))
                   | inr other ↦ is.listed z (subst IsSome (sets.others z other) some)
-                      (subst (Lacks at (at z)) (sym m.parts) (each-append (λ x. at x ≢ at z) m.front (k ∷ m.back) (each-front (λ x. at x ≢ at z) m.front m.back l) (λ e. other (sym e), each-back (λ x. at x ≢ at z) m.front m.back l)))
+                      (subst (Lacks at (at z)) (sym m.parts) (each-append (λ x. at x ≢ at z) m.front (k ∷ m.back) (each-front (λ x. at x ≢ at z) m.front m.back l)
+                      (λ e. other (sym e), each-back (λ x. at x ≢ at z) m.front m.back l)))
                 ];
             counted = omega (arith, length-append m.front m.back, length-append m.front (k ∷ m.back), ap length m.parts, is.counted, one);
           };
@@ -177,7 +186,8 @@ module _ {K P R : Type 0} {at : K → P} {place : K → ℕ × ℕ} {show : P �
           leads = Leads-push at a b c d end k is.order is.leads j other is.apart lacks is.distinct;
           distinct = AreDistinct-push at k is.order is.distinct lacks;
           apart = each-append (λ z. at z ≢ end) is.order (k ∷ []) is.apart (λ e. other (sym e), tt);
-          held = each-append (λ z. IsSome (w z)) is.order (k ∷ []) (each-two (λ z. at z ≢ at k) (λ z. IsSome (v z)) (λ z. IsSome (w z)) (λ z o some. subst IsSome (sym (sets.others z o)) some) is.order lacks is.held)
+          held = each-append (λ z. IsSome (w z)) is.order (k ∷ [])
+              (each-two (λ z. at z ≢ at k) (λ z. IsSome (v z)) (λ z. IsSome (w z)) (λ z o some. subst IsSome (sym (sets.others z o)) some) is.order lacks is.held)
               (subst IsSome (sym sets.own) refl, tt);
           listed = λ z some l.
               elim (kind.cases z k) [

@@ -1,5 +1,6 @@
 use Rattle.std.{proofs.Common.{◌≡◌, ◌+◌, ap, subst, sym, ◌∙◌, Some, None}, proofs.lemmas.Option.none-some, specs.HashMap.hash_map_len}
-use Rattle.slot_table.{proofs.Linked.{put_end, put_left, more_of, same_entries, value_at-rows, empty_look}, specs.Nodes.{Place, thread_of, rows_in, value_of, IsThreaded}}
+use Rattle.slot_table.proofs.Linked.{put_end, put_left, more_of, same_entries, value_at-rows, empty_look}
+use Rattle.slot_table.specs.Nodes.{Place, thread_of, rows_in, value_of, IsThreaded}
 use Rattle.slot_table.proofs.linked_table.LinkedTable.put.Goals as goal
 
 pub unreachable-requires : goal.unreachable-requires
@@ -31,7 +32,8 @@ invariant_of-self-2 g c =
     let k : Place = (c.args.q, c.args.cid) in
     let empty : value_of t k ≡ None = sym (value_at-rows t _ c.self.invariant k) ∙ rw (← c.self.view_is) at c.requires.empty in
     let more : hash_map_len i.map + 1 ≡ hash_map_len n.map = more_of c.in-Ok.old c.in-None.is _ _ _ c.in-Ok.ensures.len c.link_after.ensures.count in
-    subst (IsThreaded (thread_of n.map n.first (Some k))) more (put_left t _ c.self.invariant k _ c.args.value empty c.in-Ok.ensures.updates.0 (thread_of n.map n.first n.last) c.link_after.ensures.links).threaded
+    subst (IsThreaded (thread_of n.map n.first (Some k))) more
+    (put_left t _ c.self.invariant k _ c.args.value empty c.in-Ok.ensures.updates.0 (thread_of n.map n.first n.last) c.link_after.ensures.links).threaded
 
 pub returns-clause-put : goal.returns-clause-put
 returns-clause-put g c =

@@ -44,7 +44,8 @@ invariant_of-self-2 g c =
     let t = thread_of i.map i.first i.last in
     let k : Place = (c.args.q, c.args.cid) in
     let one : hash_map_len n.map + 1 ≡ hash_map_len i.map = omega (arith, c.link_before.ensures.count, c.link_after.ensures.count, c.in_ok-node.ensures.len) in
-    (take_left t _ c.self.invariant k _ c.in_ok-node.node has c.remove.ensures.updates.0 _ (thread_of n.map n.first n.last) c.link_after.ensures.links c.link_before.ensures.links (hash_map_len n.map) one).threaded
+    (take_left t _ c.self.invariant k _ c.in_ok-node.node has c.remove.ensures.updates.0 _ (thread_of n.map n.first n.last) c.link_after.ensures.links c.link_before.ensures.links
+    (hash_map_len n.map) one).threaded
 
 pub returns-clause-value : goal.returns-clause-value
 returns-clause-value g c =
@@ -59,7 +60,8 @@ returns-clause-rest g c =
     let t = thread_of i.map i.first i.last in
     let k : Place = (c.args.q, c.args.cid) in
     let one : hash_map_len n.map + 1 ≡ hash_map_len i.map = omega (arith, c.link_before.ensures.count, c.link_after.ensures.count, c.in_ok-node.ensures.len) in
-    rw (← c.self.view_is) (take_left t _ c.self.invariant k _ c.in_ok-node.node has c.remove.ensures.updates.0 _ (thread_of n.map n.first n.last) c.link_after.ensures.links c.link_before.ensures.links (hash_map_len n.map) one).rows_are
+    rw (← c.self.view_is) (take_left t _ c.self.invariant k _ c.in_ok-node.node has c.remove.ensures.updates.0 _
+    (thread_of n.map n.first n.last) c.link_after.ensures.links c.link_before.ensures.links (hash_map_len n.map) one).rows_are
 
 pub returns-clause-distinct : goal.returns-clause-distinct
 returns-clause-distinct g c = rw (← c.self.view_is) (rows-distinct _ _ c.self.invariant)

@@ -8,7 +8,8 @@ returns-in_err-place g c = c.from_residual.ensures ∙ sym (place_behind-none c.
 pub returns-then-is_none : goal.returns-then-is_none
 returns-then-is_none g c =
     let p = rw (← c.self.view_is) at c.in_ok-place.ensures in
-    rw (← c.self.view_is) (sym (place_behind-none _ c.args.q c.args.cid (none_left c.self.invariant p.0 p.1 _ c.index-2.ensures (none_is _ (c.is_none.ensures ∙ ap not c.if-is_none.true))).1))
+    rw (← c.self.view_is) (sym (place_behind-none _ c.args.q c.args.cid
+    (none_left c.self.invariant p.0 p.1 _ c.index-2.ensures (none_is _ (c.is_none.ensures ∙ ap not c.if-is_none.true))).1))
 
 pub place_of-requires : goal.place_of-requires
 place_of-requires g c =

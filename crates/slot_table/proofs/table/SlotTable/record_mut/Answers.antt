@@ -18,6 +18,10 @@ pub returns : goal.returns
 returns g c =
     let i = c.self.inside in
     let p = c.in-Some.ensures in (
-      (refl, λ w. rw (← c.self.view_is) (ap (λ rows. record { queues = i.queues; places = i.places; rows = rows }) (write_left c.self.invariant p.0 p.1 _ _ c.index_mut.ensures.value c.content_mut.ensures.value w).rows_are)),
+      (
+        refl,
+        λ w. rw (← c.self.view_is) (ap (λ rows. record { queues = i.queues; places = i.places; rows = rows })
+            (write_left c.self.invariant p.0 p.1 _ _ c.index_mut.ensures.value c.content_mut.ensures.value w).rows_are),
+      ),
       record { writes_back = tt; value = rw (← c.self.view_is) (sym (found_at c.self.invariant p.0 p.1 _ c.index_mut.ensures.value) ∙ c.content_mut.ensures.value) },
     )

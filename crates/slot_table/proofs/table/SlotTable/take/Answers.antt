@@ -20,7 +20,8 @@ returns-in_err-value-clause-rest g c =
     let i = c.self.inside in
     let p = rw (← c.self.view_is) at c.in_ok-place.ensures in
     let none = none_left c.self.invariant p.0 p.1 _ c.index_mut.ensures.value (sym c.take.ensures.value ∙ c.in_err-value.was) in
-    rw (← c.self.view_is) (ap (λ rs. record { queues = i.queues; places = i.places; rows = rows_in i.places rs i.links.items }) (ap (λ r. set i.records.items c.in_ok-place.place r) c.take.ensures.after ∙ none.0)
+    rw (← c.self.view_is) (ap (λ rs. record { queues = i.queues; places = i.places; rows = rows_in i.places rs i.links.items })
+    (ap (λ r. set i.records.items c.in_ok-place.place r) c.take.ensures.after ∙ none.0)
     ∙ ap (λ rows. record { queues = i.queues; places = i.places; rows = rows }) (sym (without-none (rows_in i.places i.records.items i.links.items) c.args.q c.args.cid none.1)))
 
 pub join-requires : goal.join-requires
@@ -32,7 +33,8 @@ join-requires g c =
 pub invariant_of-self-2 : goal.invariant_of-self-2
 invariant_of-self-2 g c =
     let p = rw (← c.self.view_is) at c.in_ok-place.ensures in
-    (take_left c.self.invariant p.0 p.1 _ c.in_ok-value.value c.index_mut.ensures.value (sym c.take.ensures.value ∙ c.in_ok-value.was) _ c.index-link.ensures _ _ c.take.ensures.after c.join.ensures).threaded
+    (take_left c.self.invariant p.0 p.1 _ c.in_ok-value.value c.index_mut.ensures.value
+    (sym c.take.ensures.value ∙ c.in_ok-value.was) _ c.index-link.ensures _ _ c.take.ensures.after c.join.ensures).threaded
 
 pub returns : goal.returns
 returns g c =
