@@ -74,9 +74,9 @@ filter-contains f b (suc n) p low high passes = go (f b) refl (cases_eq b p) (λ
     go false at (inr other) ih = ih (omega arith)
 
 -- what passes is in rising order
-pub filter-rising : (f : ℕ → Bool) (b n : ℕ) → IsStrictlyIncreasing (filter f (pages_from b n))
-filter-rising f b zero k l = absurd (omega arith)
-filter-rising f b (suc n) k l = go (f b) k l (filter-rising f (b + 1) n) (λ i d m. filter-within f (b + 1) n i d m)
+pub filter_rising : (f : ℕ → Bool) (b n : ℕ) → IsStrictlyIncreasing (filter f (pages_from b n))
+filter_rising f b zero k l = absurd (omega arith)
+filter_rising f b (suc n) k l = go (f b) k l (filter_rising f (b + 1) n) (λ i d m. filter-within f (b + 1) n i d m)
   where
     rest : List ℕ
     rest = filter f (pages_from (b + 1) n)
@@ -216,15 +216,13 @@ lowest_run-is k p owners some run lower = go (find-cases (is_free_run k owners) 
     go (inr (all, is)) = absurd (true≢false (sym run ∙ all p (omega arith) (omega (arith, inside))))
 
 pub lowest_run-none : (k : ℕ) (owners : List Owner) → ((q : ℕ) → q < length owners → is_free_run k owners q ≡ false) → lowest_run k owners ≡ None
-lowest_run-none k owners none = go (find-cases (is_free_run k owners) 0 (length owners))
-  where
-    go : ((r : ℕ) × (0 ≤ r) × (r < 0 + length owners) × (is_free_run k owners r ≡ true) × ((q : ℕ) → 0 ≤ q → q < r → is_free_run k owners q ≡ false) × (lowest_run k owners ≡ Some r))
-        ⊎ (((q : ℕ) → 0 ≤ q → q < 0 + length owners → is_free_run k owners q ≡ false) × (lowest_run k owners ≡ None)) → lowest_run k owners ≡ None
-    go (inl (r, low, high, passes, before, is)) = absurd (true≢false (sym passes ∙ none r (omega arith)))
-    go (inr (all, is)) = is
+lowest_run-none k owners none = elim (find-cases (is_free_run k owners) 0 (length owners)) [
+  | inl (r, low, high, passes, before, is) ↦ absurd (true≢false (sym passes ∙ none r (omega arith)))
+  | inr (all, is) ↦ is
+]
 
-pub finds-lowest_run : (k : ℕ) (owners : List Owner) → 0 < k → FindsLowestRun k owners
-finds-lowest_run k owners some = go (find-cases (is_free_run k owners) 0 (length owners))
+pub finds_lowest : (k : ℕ) (owners : List Owner) → 0 < k → FindsLowestRun k owners
+finds_lowest k owners some = go (find-cases (is_free_run k owners) 0 (length owners))
   where
     go : ((r : ℕ) × (0 ≤ r) × (r < 0 + length owners) × (is_free_run k owners r ≡ true) × ((q : ℕ) → 0 ≤ q → q < r → is_free_run k owners q ≡ false) × (lowest_run k owners ≡ Some r))
         ⊎ (((q : ℕ) → 0 ≤ q → q < 0 + length owners → is_free_run k owners q ≡ false) × (lowest_run k owners ≡ None)) → FindsLowestRun k owners
@@ -258,7 +256,7 @@ finds-lowest_run k owners some = go (find-cases (is_free_run k owners) 0 (length
 
 -- what is granted lies in the pool
 pub lowest_run-within : (k p : ℕ) (owners : List Owner) → 0 < k → lowest_run k owners ≡ Some p → p + k ≤ length owners
-lowest_run-within k p owners some e = run-within k p owners some (((finds-lowest_run k owners some).found p).0 e).run
+lowest_run-within k p owners some e = run-within k p owners some (((finds_lowest k owners some).found p).0 e).run
 
 -- what is found is the lowest run of the pool
 
