@@ -7,7 +7,7 @@ use Rattle.slot_table.proofs.Orders.{Lacks-before, Lacks-own, AreDistinct-withou
 use Rattle.slot_table.proofs.Orders.{Leads-parts, Leads-kept, Leads-push, Leads-without, Skips, Joins}
 use Rattle.slot_table.proofs.Rows.{IsKind, option_is, rows_of-append, rows_of-same, rows_of-none_at, rows_of-distinct, length-rows_of, first_place-rows_of}
 use Rattle.slot_table.proofs.Rows.{value_at-none}
-use Rattle.slot_table.proofs.Walks.{value_at-row, without-row, with_value-row, place_behind-row}
+use Rattle.slot_table.proofs.Walks.{value_at_row, without_row, with_value-row, place_behind_row}
 use Rattle.slot_table.specs.Chains.{Threads, Leads, Lacks, AreDistinct, AreHeld, rows_of, row_before}
 use Rattle.slot_table.specs.Rows.{Row, value_at, without, with_value, with_last, place_behind, first_place, NoneAt, IsDistinct}
 
@@ -85,7 +85,7 @@ module _ {K P R : Type 0} {at : K → P} {place : K → ℕ × ℕ} {show : P �
     pub behind-order : place_behind (rows_of place v is.order) (place k).0 (place k).1 ≡ show (a (at k))
     behind-order =
         ap (λ rows. place_behind rows (place k).0 (place k).1) parts
-        ∙ place_behind-row (rows_of place v between.front) (rows_of place v between.back) row rows-distinct
+        ∙ place_behind_row (rows_of place v between.front) (rows_of place v between.back) row rows-distinct
         ∙ first_place-rows_of place v kind between.back (each-back (λ z. at z ≢ end) between.front (k ∷ between.back) apart).1
         (each-back (λ z. IsSome (v z)) between.front (k ∷ between.back) held).1
         ∙ ap show (sym after-is)
@@ -127,7 +127,7 @@ module _ {K P R : Type 0} {at : K → P} {place : K → ℕ × ℕ} {show : P �
           rows_is =
               rows_of-same place v w (m.front ++ m.back) (each-two (λ z. at z ≢ at k) (λ z. at z ≢ at k) (λ z. w z ≡ v z) (λ z o _. sets.others z o) (m.front ++ m.back) lacks lacks)
               ∙ rows_of-append place v m.front m.back
-              ∙ sym (ap (λ rows. without rows (place k).0 (place k).1) parts ∙ without-row (rows_of place v m.front) (rows_of place v m.back) row rows-distinct);
+              ∙ sym (ap (λ rows. without rows (place k).0 (place k).1) parts ∙ without_row (rows_of place v m.front) (rows_of place v m.back) row rows-distinct);
         }
 
     -- a write over the record, where the links and the order stay
@@ -164,7 +164,7 @@ module _ {K P R : Type 0} {at : K → P} {place : K → ℕ × ℕ} {show : P �
       elim (option_is (v k)) [
         | inl none ↦ value_at-none (rows_of place v is.order) (place k).0 (place k).1 (order-empty k none) ∙ sym none
         | inr (value, has) ↦ ap (λ rows. value_at rows (place k).0 (place k).1) (parts k value has)
-            ∙ value_at-row (rows_of place v (between k value has).front) (rows_of place v (between k value has).back) (row k value has) (rows-distinct k value has) ∙ sym has
+            ∙ value_at_row (rows_of place v (between k value has).front) (rows_of place v (between k value has).back) (row k value has) (rows-distinct k value has) ∙ sym has
       ]
 
   -- what holds of the end and of each place with a record holds of the last and of the first
