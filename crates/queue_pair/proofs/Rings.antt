@@ -1,5 +1,5 @@
 -- Positions in a ring, its slots and phases, and the rings as lists.
-use Rattle.std.proofs.Common.{◌≡◌, ◌≢◌, ◌⊎◌, inl, inr, ℕ, zero, suc, ◌+◌, ◌-◌, ◌<◌, ◌≤◌, List, Option, Some, length, get_or, refl, sym, ap, ◌∙◌, subst, add-zero, arith, ◌↔◌, ◌%◌, ◌++◌, ◌∷◌, [], true, false, map, Bool, not, cond, leb, None, if◌then◌else◌, nat_le}
+use Rattle.std.proofs.Common.{◌≡◌, ◌≢◌, ◌⊎◌, inl, inr, ℕ, zero, suc, ◌+◌, ◌-◌, ◌<◌, ◌≤◌, List, Option, Some, length, get_or, refl, sym, ap, ◌∙◌, subst, add-zero, arith, ◌↔◌, ◌%◌, ◌++◌, ◌∷◌, [], true, false, map, Bool, not, cond, leb, None}
 use Rattle.std.proofs.Math.Nat.{mod_self, mod-eq_of_lt, add-mod_left, add-mod_right, mod-add-mod}
 use Rattle.std.{proofs.lemmas.Bool.{cases_lt, cases_eq, eqb-false, eqb-true, eq-eqb, ne_eqb, Decides.nat_tests}, specs.Bool.beq}
 use Rattle.std.specs.Option.{option_map, option_and_then}
@@ -136,17 +136,14 @@ between_none n slot = ap (slots_from n slot) (distance_same n slot)
 
 -- a way in two parts
 slots_parts : (n a b from mid : ℕ) → from < n → mid < n → distance n from mid ≡ a → slots_from n from (a + b) ≡ slots_from n from a ++ slots_from n mid b
-slots_parts n zero b from mid f m none = ap (λ (k : ℕ). slots_from n from k) (zero_more b) ∙ ap (λ (s : ℕ). slots_from n s b) (distance_none n from mid f m none)
-  where
-    zero_more : (b : ℕ) → 0 + b ≡ b
-    zero_more b = omega arith
+slots_parts n zero b from mid f m none =
+    let more : 0 + b ≡ b = omega arith in
+    ap (λ (k : ℕ). slots_from n from k) more ∙ ap (λ (s : ℕ). slots_from n s b) (distance_none n from mid f m none)
 slots_parts n (suc a) b from mid f m some =
     let apart : from ≢ mid = λ e. let z : distance n from mid ≡ 0 = ap (distance n from) (sym e) ∙ distance_same n from in omega arith in
     let shorter : distance n (next_slot n from) mid ≡ a = omega (arith, distance_shrinks n from mid f m apart) in
-    ap (λ (k : ℕ). slots_from n from k) (more a b) ∙ ap (λ (s : List ℕ). from ∷ s) (slots_parts n a b (next_slot n from) mid (next_below n from f) m shorter)
-  where
-    more : (a b : ℕ) → suc a + b ≡ suc (a + b)
-    more a b = omega arith
+    let more : suc a + b ≡ suc (a + b) = omega arith in
+    ap (λ (k : ℕ). slots_from n from k) more ∙ ap (λ (s : List ℕ). from ∷ s) (slots_parts n a b (next_slot n from) mid (next_below n from f) m shorter)
 
 pub between_parts : (n from mid to : ℕ) → from < n → mid < n → to < n → distance n from mid ≤ distance n from to → slots_between n from to ≡ slots_between n from mid ++ slots_between n mid to
 between_parts n from mid to f m t h =
@@ -185,11 +182,8 @@ pub next_is_remainder : (n slot : ℕ) → slot < n → next_slot n slot ≡ (sl
 next_is_remainder n slot s =
     elim (next_is n slot) [
       | inl (last, wraps) ↦ wraps ∙ sym (mod_self n) ∙ ap (λ (k : ℕ). k % n) (sym last)
-      | inr (more, steps) ↦ steps ∙ sym (mod-eq_of_lt (within s more))
+      | inr (more, steps) ↦ (let within : slot + 1 < n = omega arith in steps ∙ sym (mod-eq_of_lt within))
     ]
-  where
-    within : slot < n → slot + 1 ≢ n → slot + 1 < n
-    within s more = omega arith
 
 pub distance_is_remainder : (n from to : ℕ) → from < n → to < n → distance n from to ≡ (to + n - from) % n
 distance_is_remainder n from to f t =
@@ -204,18 +198,12 @@ distance_is_remainder n from to f t =
     ]
 
 pub moved_is_remainder : (n many slot : ℕ) → slot < n → moved n slot many ≡ (slot + many) % n
-moved_is_remainder n zero slot s = sym (mod-eq_of_lt s) ∙ ap (λ (k : ℕ). k % n) (none_more slot)
-  where
-    none_more : (slot : ℕ) → slot ≡ slot + 0
-    none_more slot = omega arith
+moved_is_remainder n zero slot s = sym (mod-eq_of_lt s) ∙ ap (λ (k : ℕ). k % n) (sym (add-zero slot))
 moved_is_remainder n (suc many) slot s =
     moved_is_remainder n many (next_slot n slot) (next_below n slot s)
     ∙ ap (λ (k : ℕ). (k + many) % n) (next_is_remainder n slot s)
     ∙ mod-add-mod (slot + 1) n many
     ∙ ap (λ (k : ℕ). k % n) (one_more slot many)
-  where
-    one_more : (slot many : ℕ) → slot + 1 + many ≡ slot + suc many
-    one_more slot many = omega arith
 
 -- what a position in range says
 pub in_range_below : (n from to slot : ℕ) → is_in_range n from to slot ≡ true → slot < n
@@ -357,7 +345,7 @@ answers_none m cq n slot = ap (map (completion_at m cq)) (between_none n slot)
 
 -- The phases of the completion ring.
 
-not_not : (b : Bool) → not (not b) ≡ b
+pub not_not : (b : Bool) → not (not b) ≡ b
 not_not true = refl
 not_not false = refl
 
