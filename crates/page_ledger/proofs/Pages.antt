@@ -1,6 +1,6 @@
 -- Consecutive pages, those of them that pass a test, and the search for the lowest run.
 use Rattle.std.proofs.Common.{◌≡◌, ◌≢◌, ℕ, zero, suc, ◌+◌, ◌-◌, ◌<◌, ◌≤◌, ◌⊎◌, inl, inr, Bool, true, false, cond, Some, None, List, [], ◌∷◌, ◌++◌, length, filter, find, take, get_or, refl, ap, sym, ◌∙◌, arith, subst, add-one, add-zero, ◌↔◌, Option}
-use Rattle.std.proofs.lemmas.{Bool.{cases_eq, true≢false, cases_lt}, List.{append-nil, take_at, Elements.filter-append}, Option.slice_get_within}
+use Rattle.std.proofs.lemmas.{Bool.{cases_eq, cases_Bool, true≢false, cases_lt}, List.{append-nil, take_at, Elements.filter-append}, Option.slice_get_within}
 use Rattle.std.specs.{List.{Contains, list_all, range_with_len, Sorted.IsStrictlyIncreasing}, Option.option_map_or}
 use Rattle.page_ledger.specs.{Laws.{IsFreeRun, IsLowestRun, FindsLowestRun}, Owners.{pages_from, owner_at, is_free, is_owned_at}}
 use Rattle.page_ledger.specs.{Runs.{is_free_run, lowest_run}, declared.owner.Owner.{Owner, TheVariants.{Free, Queue, Command}}}
@@ -59,19 +59,12 @@ filter-within f b (suc n) k d l = go (f b) k l (λ j m. filter-within f (b + 1) 
 -- each page that passes is there
 pub filter-contains : (f : ℕ → Bool) (b n p : ℕ) → b ≤ p → p < b + n → f p ≡ true → Contains (filter f (pages_from b n)) p
 filter-contains f b zero p low high passes = absurd (omega arith)
-filter-contains f b (suc n) p low high passes = go (f b) refl (cases_eq b p) (λ l. filter-contains f (b + 1) n p l (omega arith) passes)
-  where
-    rest : List ℕ
-    rest = filter f (pages_from (b + 1) n)
-
-    further : Contains rest p → Contains (b ∷ rest) p
-    further (k, l, e) = (suc k, omega arith, e)
-
-    go : (c : Bool) → f b ≡ c → (b ≡ p) ⊎ (b ≢ p) → (b + 1 ≤ p → Contains rest p) → Contains (cond c (b ∷ rest) rest) p
-    go true at (inl same) ih = (0, omega arith, same)
-    go true at (inr other) ih = further (ih (omega arith))
-    go false at (inl same) ih = absurd (true≢false (sym passes ∙ (ap f (sym same) ∙ at)))
-    go false at (inr other) ih = ih (omega arith)
+filter-contains f b (suc n) p low high passes = elim (cases_eq b p) [
+  | inl same ↦ rw (same, passes) (0, omega arith, refl)
+  | inr other ↦
+      let (k, l, e) = filter-contains f (b + 1) n p (omega arith) (omega arith) passes in
+      elim (cases_Bool (f b)) [ inl at ↦ rw at (suc k, omega arith, e) | inr at ↦ rw at (k, l, e) ]
+]
 
 -- what passes is in rising order
 pub filter_rising : (f : ℕ → Bool) (b n : ℕ) → IsStrictlyIncreasing (filter f (pages_from b n))
@@ -120,18 +113,15 @@ pub find-cases : (f : ℕ → Bool) (b n : ℕ)
     → ((p : ℕ) × (b ≤ p) × (p < b + n) × (f p ≡ true) × ((q : ℕ) → b ≤ q → q < p → f q ≡ false) × (find f (pages_from b n) ≡ Some p))
     ⊎ (((q : ℕ) → b ≤ q → q < b + n → f q ≡ false) × (find f (pages_from b n) ≡ None))
 find-cases f b zero = inr ((λ q low high. absurd (omega arith)), refl)
-find-cases f b (suc n) = go (f b) refl (find-cases f (b + 1) n)
-  where
-    go : (c : Bool) → f b ≡ c
-        → ((p : ℕ) × (b + 1 ≤ p) × (p < b + 1 + n) × (f p ≡ true) × ((q : ℕ) → b + 1 ≤ q → q < p → f q ≡ false) × (find f (pages_from (b + 1) n) ≡ Some p))
-        ⊎ (((q : ℕ) → b + 1 ≤ q → q < b + 1 + n → f q ≡ false) × (find f (pages_from (b + 1) n) ≡ None))
-        → ((p : ℕ) × (b ≤ p) × (p < b + suc n) × (f p ≡ true) × ((q : ℕ) → b ≤ q → q < p → f q ≡ false) × (cond c (Some b) (find f (pages_from (b + 1) n)) ≡ Some p))
-        ⊎ (((q : ℕ) → b ≤ q → q < b + suc n → f q ≡ false) × (cond c (Some b) (find f (pages_from (b + 1) n)) ≡ None))
-    go true at rest = inl (b, omega arith, omega arith, at, (λ q low high. absurd (omega arith)), refl)
-    go false at (inl (p, low, high, passes, before, is)) =
-        inl (p, omega arith, omega arith, passes, (λ q l h. elim (cases_eq q b) [ inl e ↦ subst (λ (i : ℕ). f i ≡ false) (sym e) at | inr other ↦ before q (omega arith) h ]), is)
-    go false at (inr (all, none)) =
-        inr ((λ q l h. elim (cases_eq q b) [ inl e ↦ subst (λ (i : ℕ). f i ≡ false) (sym e) at | inr other ↦ all q (omega arith) (omega arith) ]), none)
+find-cases f b (suc n) = elim (cases_Bool (f b)) [
+  | inl at ↦ inl (b, omega arith, omega arith, at, (λ q low high. absurd (omega arith)), rw at refl)
+  | inr at ↦ elim (find-cases f (b + 1) n) [
+    | inl (p, low, high, passes, before, is) ↦
+        inl (p, omega arith, omega arith, passes, (λ q l h. elim (cases_eq q b) [ inl e ↦ subst (λ (i : ℕ). f i ≡ false) (sym e) at | inr other ↦ before q (omega arith) h ]), rw at is)
+    | inr (all, none) ↦
+        inr ((λ q l h. elim (cases_eq q b) [ inl e ↦ subst (λ (i : ℕ). f i ≡ false) (sym e) at | inr other ↦ all q (omega arith) (omega arith) ]), rw at none)
+  ]
+]
 
 -- the walk from one page that passes to the next
 
@@ -232,11 +222,10 @@ finds_lowest k owners some = go (find-cases (is_free_run k owners) 0 (length own
         here = record { run = run-from k r owners passes; lowest = lowest }
           where
             lowest : (q : ℕ) → IsFreeRun k owners q → r ≤ q
-            lowest q run = at (cases_lt q r)
-              where
-                at : (q < r) ⊎ (r ≤ q) → r ≤ q
-                at (inl below) = absurd (true≢false (sym (run-test k q owners run) ∙ before q (omega arith) below))
-                at (inr from) = from
+            lowest q run = elim (cases_lt q r) [
+              | inl below ↦ absurd (true≢false (sym (run-test k q owners run) ∙ before q (omega arith) below))
+              | inr from ↦ from
+            ]
 
         found : (p : ℕ) → (lowest_run k owners ≡ Some p) ↔ IsLowestRun k owners p
         found p = (

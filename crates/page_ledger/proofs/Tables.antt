@@ -1,6 +1,6 @@
 -- Tables of owners: what a write, a grant and a give-back leave at each page, and of each class.
 use Rattle.std.proofs.Common.{◌≡◌, ◌≢◌, ℕ, zero, suc, ◌+◌, ◌-◌, ◌<◌, ◌≤◌, ◌⊎◌, ◌↔◌, inl, inr, Bool, true, false, cond, ◌||◌, Option, Some, None, List, [], ◌∷◌, ◌++◌, length, filter, take, drop, slice_get, slice_set, refl, ap, sym, ◌∙◌, arith, subst, append_assoc, add-one, length-set, length-append, if◌then◌else◌, All, get_or, ◌&&◌, ◌==◌, not, eqb-true, map, replicate, unwrap_or}
-use Rattle.std.proofs.lemmas.{Bool.{eqb-false, cases_eq, cases_lt, true≢false}, List.{drop_at, length-map, same_lists, take_all}}
+use Rattle.std.proofs.lemmas.{Bool.{eqb-false, cases_eq, cases_lt, cases_Bool, true≢false}, List.{drop_at, length-map, same_lists, take_all}}
 use Rattle.std.proofs.lemmas.List.{Elements.{All-take, filter_passes}, Sums.{sum_by-cons, count_by_more_yes, count_by_more_no, sum_by-set}}
 use Rattle.std.{proofs.lemmas.Option.{slice_get-map, slice_get-get_or, slice_get_within, slice_get_past, unwrap_or-slice_get}, specs.List.{count_by, Contains}}
 use Rattle.std.specs.Option.{option_map_or, option_map}
@@ -75,11 +75,11 @@ with_owner-append owners (p ∷ a) b owner = with_owner-append (slice_set owners
 -- a page that has the owner keeps it
 owner-stays : (owners : List Owner) (pages : List ℕ) (owner : Owner) (p : ℕ) → owner_at owners p ≡ Some owner → owner_at (with_owner owners pages owner) p ≡ Some owner
 owner-stays owners [] owner p has = has
-owner-stays owners (q ∷ pages) owner p has = owner-stays (slice_set owners q owner) pages owner p (after (cases_eq p q))
-  where
-    after : (p ≡ q) ⊎ (p ≢ q) → slice_get (slice_set owners q owner) p ≡ Some owner
-    after (inl same) = subst (λ (i : ℕ). slice_get (slice_set owners i owner) p ≡ Some owner) same (slice_get-set_same owners p owner (slice_get_within owners p owner has))
-    after (inr other) = slice_get-set_other owners q p owner other ∙ has
+owner-stays owners (q ∷ pages) owner p has =
+    owner-stays (slice_set owners q owner) pages owner p (elim (cases_eq p q) [
+      | inl same ↦ rw (← same) (slice_get-set_same owners p owner (slice_get_within owners p owner has))
+      | inr other ↦ slice_get-set_other owners q p owner other ∙ has
+    ])
 
 pub owner_changed : (owners : List Owner) (pages : List ℕ) (owner : Owner) (p : ℕ) → p < length owners → Contains pages p → owner_at (with_owner owners pages owner) p ≡ Some owner
 owner_changed owners [] owner p within (k, l, e) = absurd (omega arith)
@@ -136,12 +136,10 @@ walk-count : (test : Owner → Bool) (front owners : List Owner) → length (wal
 unfolding walk
 walk-count test front [] = refl
 walk-count test front (owner ∷ owners) =
-    ap length (walk-cons test front owners owner) ∙ (go (test owner) (walk-count test (front ++ owner ∷ []) owners) ∙ sym (sum_by-cons (λ o. cond (test o) 1 0) owner owners))
-  where
-    go : (c : Bool) → length (walk test (front ++ owner ∷ []) owners) ≡ count_by test owners
-        → length (cond c (length front ∷ walk test (front ++ owner ∷ []) owners) (walk test (front ++ owner ∷ []) owners)) ≡ cond c 1 0 + count_by test owners
-    go true ih = omega arith
-    go false ih = omega arith
+    let ih = walk-count test (front ++ owner ∷ []) owners in
+    let rest = walk test (front ++ owner ∷ []) owners in
+    ap length (walk-cons test front owners owner)
+    ∙ ((elim (test owner) as (λ c. length (cond c (length front ∷ rest) rest) ≡ cond c 1 0 + count_by test owners) [ true ↦ omega arith | false ↦ omega arith ]) ∙ sym (sum_by-cons (λ o. cond (test o) 1 0) owner owners))
 
 pub length-pages_owned : (test : Owner → Bool) (owners : List Owner) → length (pages_owned test owners) ≡ count_by test owners
 unfolding walk
@@ -186,17 +184,9 @@ free_given_back named owners =
     ∙ filter-agree (is_owned_at is_free (given_back named owners)) (is_owned_at (λ owner. is_free owner || named owner) owners) 0 (length owners)
     (λ p low high. ap (λ o. option_map_or is_free o false) (slice_get-map (λ owner. if named owner then Free else owner) owners p) ∙ here (slice_get owners p))
   where
-    free : (owner : Owner) (c : Bool) → is_free (if c then Free else owner) ≡ (is_free owner || c)
-    free Free true = refl
-    free Free false = refl
-    free (Queue q half) true = refl
-    free (Queue q half) false = refl
-    free (Command q cid role) true = refl
-    free (Command q cid role) false = refl
-
     here : (o : Option Owner) → option_map_or is_free (option_map (λ owner. if named owner then Free else owner) o) false ≡ option_map_or (λ owner. is_free owner || named owner) o false
     here None = refl
-    here (Some owner) = free owner (named owner)
+    here (Some owner) = grind arith
 
 -- the free pages after a grant
 pub free_granted : (k : ℕ) (owner : Owner) (owners : List Owner) → is_free owner ≡ false → free_pages (with_owner owners (take k (free_pages owners)) owner) ≡ drop k (free_pages owners)
@@ -210,11 +200,10 @@ free_granted (suc k) owner owners busy = go (free_pages owners) refl (λ (l : Li
         ap (λ l. free_pages (with_owner (slice_set owners p owner) (take k l) owner)) (sym left) ∙ (ih (slice_set owners p owner) ∙ ap (drop k) left)
       where
         taken : is_owned_at is_free (slice_set owners p owner) p ≡ false
-        taken = at_page (slice_get-set_cases owners p owner)
-          where
-            at_page : (slice_get (slice_set owners p owner) p ≡ Some owner) ⊎ (slice_get (slice_set owners p owner) p ≡ None) → is_owned_at is_free (slice_set owners p owner) p ≡ false
-            at_page (inl some) = ap (λ x. option_map_or is_free x false) some ∙ busy
-            at_page (inr none) = ap (λ x. option_map_or is_free x false) none
+        taken = elim (slice_get-set_cases owners p owner) [
+          | inl some ↦ ap (λ x. option_map_or is_free x false) some ∙ busy
+          | inr none ↦ ap (λ x. option_map_or is_free x false) none
+        ]
 
         left : free_pages (slice_set owners p owner) ≡ rest
         left = ap (λ (n : ℕ). filter (is_owned_at is_free (slice_set owners p owner)) (pages_from 0 n)) (length-set owners p owner)
@@ -295,37 +284,20 @@ pub owner-with : (owners : List Owner) (pages : List ℕ) (owner : Owner) (p : �
     → owner_at (with_owner owners pages owner) p ≡ (if is_among pages p then Some owner else owner_at owners p)
 owner-with owners [] owner p within = refl
 owner-with owners (q ∷ pages) owner p within =
-    owner-with (slice_set owners q owner) pages owner p (omega (arith, length-set owners q owner)) ∙ go (q == p) refl
-  where
-    go : (c : Bool) → (q == p) ≡ c
-        → (if is_among pages p then Some owner else owner_at (slice_set owners q owner) p) ≡ (if c || is_among pages p then Some owner else owner_at owners p)
-    go true same = at (is_among pages p)
-      where
-        here : owner_at (slice_set owners q owner) p ≡ Some owner
-        here = subst (λ (i : ℕ). slice_get (slice_set owners i owner) p ≡ Some owner) (sym (eqb-true q p same)) (slice_get-set_same owners p owner within)
-
-        at : (c : Bool) → (if c then Some owner else owner_at (slice_set owners q owner) p) ≡ Some owner
-        at true = refl
-        at false = here
-    go false other =
-        ap (λ o. if is_among pages p then Some owner else o) (slice_get-set_other owners q p owner (λ same. eqb-false q p other (sym same)))
+    owner-with (slice_set owners q owner) pages owner p (omega (arith, length-set owners q owner)) ∙ elim (cases_Bool (q == p)) [
+      | inl same ↦
+          let here : owner_at (slice_set owners q owner) p ≡ Some owner = rw (eqb-true q p same) (slice_get-set_same owners p owner within) in
+          rw same (elim (is_among pages p) as (λ c. (if c then Some owner else owner_at (slice_set owners q owner) p) ≡ Some owner) [ true ↦ refl | false ↦ here ])
+      | inr other ↦
+          rw other (ap (λ o. if is_among pages p then Some owner else o) (slice_get-set_other owners q p owner (λ same. eqb-false q p other (sym same))))
+    ]
 
 filter-filter : {X : Type 0} (f g : X → Bool) (xs : List X) → filter g (filter f xs) ≡ filter (λ x. f x && g x) xs
 filter-filter f g [] = refl
-filter-filter f g (x ∷ xs) = go (f x) (filter-filter f g xs)
-  where
-    go : (c : Bool) → filter g (filter f xs) ≡ filter (λ x. f x && g x) xs
-        → filter g (cond c (x ∷ filter f xs) (filter f xs)) ≡ cond (c && g x) (x ∷ filter (λ x. f x && g x) xs) (filter (λ x. f x && g x) xs)
-    go true ih = ap (λ l. cond (g x) (x ∷ l) l) ih
-    go false ih = ih
-
-and_true : (c : Bool) → (c && true) ≡ c
-and_true true = refl
-and_true false = refl
-
-and_false : (c : Bool) → (c && false) ≡ false
-and_false true = refl
-and_false false = refl
+filter-filter f g (x ∷ xs) = elim (cases_Bool (f x)) [
+  | inl passes ↦ rw passes (ap (λ l. cond (g x) (x ∷ l) l) (filter-filter f g xs))
+  | inr fails ↦ rw fails (filter-filter f g xs)
+]
 
 -- the free pages after any pages got an owner
 pub free-others : (pages : List ℕ) (owner : Owner) (owners : List Owner) → is_free owner ≡ false
@@ -337,8 +309,8 @@ free-others pages owner owners busy =
     ∙ sym (filter-filter (is_owned_at is_free owners) (λ p. not (is_among pages p)) (pages_from 0 (length owners))))
   where
     go : (p : ℕ) (c : Bool) → option_map_or is_free (if c then Some owner else owner_at owners p) false ≡ (is_owned_at is_free owners p && not c)
-    go p true = busy ∙ sym (and_false (is_owned_at is_free owners p))
-    go p false = sym (and_true (is_owned_at is_free owners p))
+    go p true = grind (arith, busy)
+    go p false = grind arith
 
 -- the free pages by a Bool for each page
 
@@ -385,13 +357,9 @@ given_back-listed test owners pages listed =
     ∙ (here (owner_at owners p) ∙ sym (slice_get-map (λ owner. if test owner then Free else owner) owners p))))
     ∙ unwrap_or-slice_get (given_back test owners) p d))
   where
-    freed : (owner : Owner) (c : Bool) → (if c then Some Free else Some owner) ≡ Some (if c then Free else owner)
-    freed owner true = refl
-    freed owner false = refl
-
     here : (o : Option Owner) → (if option_map_or test o false then Some Free else o) ≡ option_map (λ owner. if test owner then Free else owner) o
     here None = refl
-    here (Some owner) = freed owner (test owner)
+    here (Some owner) = elim (test owner) as (λ c. (if c then Some Free else Some owner) ≡ Some (if c then Free else owner)) [ true ↦ refl | false ↦ refl ]
 
 -- How many pages each class has, before and after a write.
 
@@ -473,11 +441,10 @@ more-data c (Command q cid Data) = refl
 more-data c o = omega arith
 
 held_in : (test : Owner → Bool) (owners : List Owner) (p : ℕ) (before : Owner) → p < length owners → before ≡ get_or owners p before → one (test before) ≤ length (pages_owned test owners)
-held_in test owners p before within read = go (test before) refl
-  where
-    go : (c : Bool) → test before ≡ c → one c ≤ length (pages_owned test owners)
-    go true holds = omega (arith, present test owners p before within read holds, length-pages_owned test owners)
-    go false fails = omega arith
+held_in test owners p before within read = elim (cases_Bool (test before)) [
+  | inl holds ↦ rw holds (omega (arith, present test owners p before within read holds, length-pages_owned test owners))
+  | inr fails ↦ rw fails (omega arith)
+]
 
 moved : (was now less more old new : ℕ) → old ≤ was → now + old ≡ was + new → less ≡ was - old → more ≡ less + new → now ≡ more
 moved was now less more old new some change down up = omega arith
