@@ -142,11 +142,10 @@ swapped q i = grind (arith, nat_tests)
 one_more : (counts : List ℕ) (commands : List FetchedCommand) (k : FetchedCommand) (n : ℕ) → AreCounted counts commands → k.q < length counts → n ≡ get_or counts k.q 0 → AreCounted (slice_set counts k.q (n + 1)) (commands ++ k ∷ [])
 one_more counts commands k n are inside is i =
     let more : count_of (commands ++ k ∷ []) i ≡ count_of commands i + one (k.q == i) = count-more (λ (k : FetchedCommand). k.q == i) commands k in
-    with_count counts k.q i (n + 1) inside ∙ go (i == k.q) refl ∙ sym more
-  where
-    go : (b : Bool) → (i == k.q) ≡ b → (if b then n + 1 else get_or counts i 0) ≡ count_of commands i + one (k.q == i)
-    go true same = omega (arith, is, are k.q, ap one (swapped k.q i ∙ same), ap (count_of commands) (eqb-true i k.q same))
-    go false other = omega (arith, are i, ap one (swapped k.q i ∙ other))
+    with_count counts k.q i (n + 1) inside ∙ (elim (cases_Bool (i == k.q)) [
+      | inl same ↦ rw same (omega (arith, is, are k.q, ap one (swapped k.q i ∙ same), ap (count_of commands) (eqb-true i k.q same)))
+      | inr other ↦ rw other (omega (arith, are i, ap one (swapped k.q i ∙ other)))
+    ]) ∙ sym more
 
 pub counted_put : (counts : List ℕ) (rows : Rows) (cid : ℕ) (k : FetchedCommand) (i n : ℕ) → AreCounted counts (commands_of rows) → k.q < length counts → i ≡ k.q → n ≡ get_or counts i n
     → AreCounted (slice_set counts i (n + 1)) (commands_of (with_last rows k.q cid k))

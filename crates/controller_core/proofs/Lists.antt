@@ -85,16 +85,16 @@ at_place {A = A} zero f (z ∷ xs) x y l e h = ap (λ (w : A). w ∷ xs) (h ∙ 
 at_place {A = A} (suc q) f (z ∷ xs) x y l e h = ap (λ (w : List A). z ∷ w) (at_place q f xs x y (omega arith) e h)
 
 -- a write at a place that was reached by an equal number
-pub change-at : {A : Type 0} (q i : ℕ) (f : A → A) (xs : List A) (x y : A) → i ≡ q → i < length xs → x ≡ get_or xs i x → y ≡ f x → slice_set xs i y ≡ change q f xs
-change-at q i f xs x y same l e h = at_place i f xs x y l e h ∙ ap (λ (k : ℕ). change k f xs) same
+pub change_at : {A : Type 0} (q i : ℕ) (f : A → A) (xs : List A) (x y : A) → i ≡ q → i < length xs → x ≡ get_or xs i x → y ≡ f x → slice_set xs i y ≡ change q f xs
+change_at q i f xs x y same l e h = at_place i f xs x y l e h ∙ ap (λ (k : ℕ). change k f xs) same
 
 past_end : {A : Type 0} (q : ℕ) (f : A → A) (xs : List A) → length xs ≤ q → xs ≡ change q f xs
 past_end q f [] l = refl
 past_end zero f (z ∷ xs) l = absurd (omega arith)
 past_end {A = A} (suc q) f (z ∷ xs) l = ap (λ (w : List A). z ∷ w) (past_end q f xs (omega arith))
 
-pub change-past : {A : Type 0} (q i : ℕ) (f : A → A) (xs : List A) → i ≡ q → length xs ≤ i → xs ≡ change q f xs
-change-past q i f xs same l = past_end i f xs l ∙ ap (λ (k : ℕ). change k f xs) same
+pub change_past : {A : Type 0} (q i : ℕ) (f : A → A) (xs : List A) → i ≡ q → length xs ≤ i → xs ≡ change q f xs
+change_past q i f xs same l = past_end i f xs l ∙ ap (λ (k : ℕ). change k f xs) same
 
 pub get-at : {A : Type 0} (q : ℕ) (xs : List A) (x : A) → q < length xs → x ≡ get_or xs q x → slice_get xs q ≡ Some x
 get-at q [] x l e = absurd (omega arith)

@@ -1,6 +1,6 @@
 -- What each verdict of an admin entry comes from, and what it keeps.
-use Rattle.controller_core.proofs.{Lists.{all-map, count-cons, one, length-change, all-at, all_set, count_set}, Rows.{all_found, commands-without, length-end}}
-use Rattle.controller_core.proofs.Waiting.{Awaits, IsAlike, awaited_changed, awaited_more, awaits_alike, named_last, none_mapped, awaited_set, awaited_without, completes_alone, commands-with, none_found, not_some}
+use Rattle.controller_core.proofs.{Lists.{all-map, count-cons, one, length-change, all-at, all_set, count_set}, Rows.{all_found, both_parts, commands-without, length-end}}
+use Rattle.controller_core.proofs.Waiting.{Awaits, IsAlike, awaited_changed, awaited_more, awaits_alike, named_last, none_mapped, awaited_set, awaited_without, completes_alone, either_no, commands-with, none_found, not_some}
 use Rattle.controller_core.specs.{Answering.{Posts, with_answer}, Completing.{complete_refusal, queues_of_end, without_command}}
 use Rattle.controller_core.specs.Contents.{FitsVerdict, Contents, IsController, IsNamedBy, AreAwaited, AreCommands, FetchedCommand, Work, FitsWork, FitsCommand, change, entry_of_work, is_command, is_deletion}
 use Rattle.controller_core.specs.Managing.{with_taken, command_of, admin_work, stopped_work, aborted, stopped_with_queue, stopping, without_completion, with_completion, with_submission, NamesPages, commands_after, queues_after, verdict_for, view_for, managed}
@@ -34,14 +34,6 @@ use Rattle.controller_core.specs.declared.refusal.Refusal.TheVariants as refusal
 pub if_by : {X : Type 0} (P : X → Type 0) (b : Bool) (x y : X) → (b ≡ true → P x) → (b ≡ false → P y) → P (if b then x else y)
 if_by P true x y f g = f refl
 if_by P false x y f g = g refl
-
-pub both_true : (a b : Bool) → (a && b) ≡ true → (a ≡ true) × (b ≡ true)
-both_true true b e = (refl, e)
-both_true false b e = cc
-
-pub either_false : (a b : Bool) → (a || b) ≡ false → (a ≡ false) × (b ≡ false)
-either_false true b e = cc
-either_false false b e = (refl, e)
 
 pub was_false : (b : Bool) → not b ≡ true → b ≡ false
 was_false true e = cc
@@ -78,14 +70,14 @@ no_queue = record { small = omega arith; fails = refl }
 abort_by : (P : AdminVerdict → Type 0) (e : SubEntry) (view : DeviceView) → OfEach P e view → e.opcode ≡ ABORT → P (abort_verdict (named_queue e) (named_command e) view)
 abort_by P e view each op =
     if_by P (view.target_walks && not (named_queue e == 0)) (AbortJob (named_queue e) (named_command e)) (Answer SUCCESS 1)
-    (λ h. each.aborts (was_false (named_queue e == 0) (both_true view.target_walks (not (named_queue e == 0)) h).1))
+    (λ h. each.aborts (was_false (named_queue e == 0) (both_parts view.target_walks (not (named_queue e == 0)) h).1))
     (λ h. each.too_late op)
 
 delete_sq_by : (P : AdminVerdict → Type 0) (e : SubEntry) (view : DeviceView) → OfEach P e view → P (delete_sq_verdict (named_queue e) view)
 delete_sq_by P e view each =
     if_by P ((named_queue e == 0) || not (is_live view.sq)) (Answer INVALID_QUEUE_IDENTIFIER 0) (StopQueue (named_queue e))
     (λ h. each.refused INVALID_QUEUE_IDENTIFIER no_queue)
-    (λ h. each.stops (either_false (named_queue e == 0) (not (is_live view.sq)) h).0)
+    (λ h. each.stops (either_no (named_queue e == 0) (not (is_live view.sq)) h).0)
 
 delete_cq_by : (P : AdminVerdict → Type 0) (e : SubEntry) (view : DeviceView) → OfEach P e view → P (delete_cq_verdict (named_queue e) view)
 delete_cq_by P e view each =
@@ -93,11 +85,11 @@ delete_cq_by P e view each =
     (λ h. each.refused INVALID_QUEUE_IDENTIFIER no_queue)
     (λ h. if_by P (not (is_absent view.sq)) (Answer INVALID_QUEUE_DELETION 0) (DropCompletion (named_queue e))
     (λ h'. each.refused INVALID_QUEUE_DELETION (record { small = omega arith; fails = refl }))
-    (λ h'. each.drops (either_false (named_queue e == 0) (not view.cq_there) h).0))
+    (λ h'. each.drops (either_no (named_queue e == 0) (not view.cq_there) h).0))
 
 -- the number of an I/O queue
 io_queue : (q : ℕ) (view : DeviceView) → not (is_io_queue q view) ≡ false → (q == 0) ≡ false
-io_queue q view h = positive q (both_true (nat_lt 0 q) _ (was_true (is_io_queue q view) h)).0
+io_queue q view h = positive q (both_parts (nat_lt 0 q) _ (was_true (is_io_queue q view) h)).0
   where
     positive : (q : ℕ) → nat_lt 0 q ≡ true → (q == 0) ≡ false
     positive q l = grind (arith, nat_tests, l)
@@ -124,7 +116,7 @@ create_cq_by P e view each =
     if_by P (not (is_io_queue (named_queue e) view) || view.cq_there) (Answer INVALID_QUEUE_IDENTIFIER 0) _
     (λ h. each.refused INVALID_QUEUE_IDENTIFIER no_queue)
     (λ h. half_by P Completion e view (MakeCompletion (named_queue e) (named_base e)) each.refused
-    (each.makes_completion (io_queue (named_queue e) view (either_false (not (is_io_queue (named_queue e) view)) view.cq_there h).0)))
+    (each.makes_completion (io_queue (named_queue e) view (either_no (not (is_io_queue (named_queue e) view)) view.cq_there h).0)))
 
 create_sq_by : (P : AdminVerdict → Type 0) (e : SubEntry) (view : DeviceView) → OfEach P e view → P (create_sq_verdict e view)
 create_sq_by P e view each =
@@ -135,7 +127,7 @@ create_sq_by P e view each =
     (λ h'. if_by P (not view.cq_there || not (named_completion_queue e == named_queue e)) (Answer COMPLETION_QUEUE_INVALID 0) _
     (λ h''. each.refused COMPLETION_QUEUE_INVALID (record { small = omega arith; fails = refl }))
     (λ h''. half_by P Submission e view (MakeSubmission (named_queue e) (named_base e)) each.refused
-    (each.makes_submission (io_queue (named_queue e) view (either_false (not (is_io_queue (named_queue e) view)) (not (is_absent view.sq)) h).0)))))
+    (each.makes_submission (io_queue (named_queue e) view (either_no (not (is_io_queue (named_queue e) view)) (not (is_absent view.sq)) h).0)))))
 
 pub decided : (P : AdminVerdict → Type 0) (e : SubEntry) (view : DeviceView) → OfEach P e view → P (decision e view)
 decided P e view each =
@@ -168,13 +160,11 @@ moving_fits : (m : Memory) (n place len offset : ℕ) (rest : Course) → EndsFi
 unfolding moving
 moving_fits m zero place len offset rest h = h
 moving_fits m (suc n) place len offset rest h =
-    go (is_some (bytes_at m place (first_part place len))) (moving_fits m n (place + first_part place len) (len - first_part place len) (offset + first_part place len) rest h)
-  where
-    go : (b : Bool) → EndsFit (moving m n (place + first_part place len) (len - first_part place len) (offset + first_part place len) rest)
-        → EndsFit (cond b (Does (Moves place (first_part place len) offset) (moving m n (place + first_part place len) (len - first_part place len) (offset + first_part place len) rest))
-        (Does Stays (Closes (Fault DATA_TRANSFER_ERROR))))
-    go true h = h
-    go false h = omega arith
+    let more = moving m n (place + first_part place len) (len - first_part place len) (offset + first_part place len) rest in
+    elim (is_some (bytes_at m place (first_part place len))) as (λ b. EndsFit (cond b (Does (Moves place (first_part place len) offset) more) (Does Stays (Closes (Fault DATA_TRANSFER_ERROR))))) [
+      | true ↦ moving_fits m n (place + first_part place len) (len - first_part place len) (offset + first_part place len) rest h
+      | false ↦ omega arith
+    ]
 
 cause_fits : (cause : Option FaultCause) → FitsVerdict (option_map cause_status cause)
 cause_fits None = tt

@@ -1,5 +1,5 @@
 -- Fetched commands in a table, as a list, and which of them complete.
-use Rattle.controller_core.proofs.Lists.{some_is, change-change, length-change, change-at, all-filter, count-filter, found_is, get-at}
+use Rattle.controller_core.proofs.Lists.{some_is, change-change, length-change, change_at, all-filter, count-filter, found_is, get-at}
 use Rattle.controller_core.specs.Answering.{completion_by, memory_posted, page_posted, with_answer, Posts}
 use Rattle.controller_core.specs.Completing.{CompletesTo, queues_of_end, image_of_end, status_of_end, IsOver, without_command, without_submission}
 use Rattle.controller_core.specs.Contents.{change, Contents, IsController, AreCommands, FitsCommand, FitsWork, is_command, is_deletion, entry_of_work, dw0_of_work, FetchedCommand, Work}
@@ -144,7 +144,7 @@ posts_by (Ok x) queues q i cid st dw0 m m' reached reached' queue device same th
     record {
       queue = queue;
       here = get-at q queues queue there (subst (λ (k : ℕ). queue ≡ get_or queues k queue) same at);
-      queues_posted = change-at q i with_answer queues queue (with_side device queue) same (omega (arith, same, there)) at (ap (λ (side : DeviceSide). with_side side queue) a);
+      queues_posted = change_at q i with_answer queues queue (with_side device queue) same (omega (arith, same, there)) at (ap (λ (side : DeviceSide). with_side side queue) a);
       typed = t;
       memory = b;
       touches = d;

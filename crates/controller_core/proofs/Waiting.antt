@@ -1,6 +1,6 @@
 -- Which command an Abort waits for, and what a fetch keeps of that.
 use Rattle.controller_core.specs.declared.refusal.Refusal.TheVariants as refusal
-use Rattle.controller_core.proofs.Lists.{some_is, length-change, change-at, get-at, all-at, count-cons, one, all-append, all_set}
+use Rattle.controller_core.proofs.Lists.{some_is, length-change, change_at, get-at, all-at, count-cons, one, all-append, all_set}
 use Rattle.controller_core.proofs.Rows.{both_parts, named, some_name, cid_of}
 use Rattle.controller_core.specs.Answering.{completion_by, memory_posted, page_posted, with_answer, answer_refusal}
 use Rattle.controller_core.specs.Completing.{without_command, command_refusal, complete_refusal, is_abort_of, waits_among}
@@ -114,13 +114,10 @@ entry_set : (commands : List FetchedCommand) (i q cid : ℕ) (x y : FetchedComma
 entry_set [] i q cid x y at alike = refl
 entry_set (z ∷ xs) zero q cid x y at alike =
     let same : z ≡ x = some_is at in
-    ap (λ (b : Bool). option_map (λ k. entry_of_work k.work) (cond b (Some y) (find (is_command q cid) xs))) (named_alike q cid x y alike ∙ ap (is_command q cid) (sym same))
-    ∙ go (is_command q cid z) (alike.1 ∙ ap (λ (k : FetchedCommand). entry_of_work k.work) (sym same))
-  where
-    go : (b : Bool) → entry_of_work y.work ≡ entry_of_work z.work
-        → option_map (λ k. entry_of_work k.work) (cond b (Some y) (find (is_command q cid) xs)) ≡ option_map (λ k. entry_of_work k.work) (cond b (Some z) (find (is_command q cid) xs))
-    go true e = ap (λ (e : SubEntry). Some e) e
-    go false e = refl
+    rw (named_alike q cid x y alike ∙ ap (is_command q cid) (sym same)) (elim (cases_Bool (is_command q cid z)) [
+      | inl own ↦ rw own (ap (λ (e : SubEntry). Some e) (alike.1 ∙ ap (λ (k : FetchedCommand). entry_of_work k.work) (sym same)))
+      | inr other ↦ rw other refl
+    ])
 entry_set (z ∷ xs) (suc i) q cid x y at alike = elim (cases_Bool (is_command q cid z)) [
   | inl own ↦ rw own refl
   | inr other ↦ rw other (entry_set xs i q cid x y at alike)
@@ -178,7 +175,7 @@ lets_io (x ∷ xs) q cid io = (go x.waiting_abort, lets_io xs q cid io)
     go None = tt
     go (Some abort) = other_queue q cid abort io
 
-either_no : (a b : Bool) → (a || b) ≡ false → (a ≡ false) × (b ≡ false)
+pub either_no : (a b : Bool) → (a || b) ≡ false → (a ≡ false) × (b ≡ false)
 either_no true b e = absurd (true≢false e)
 either_no false b e = (refl, e)
 
@@ -370,7 +367,7 @@ answers_by (Ok x) queues q i cid m m' reached reached' queue queue' same there a
     record {
       queue = queue;
       here = get-at q queues queue there (subst (λ (j : ℕ). queue ≡ get_or queues j queue) same at);
-      leaves = change-at q i (λ queue. with_answer (with_taken queue)) queues queue queue' same (omega (arith, same, there)) at a;
+      leaves = change_at q i (λ queue. with_answer (with_taken queue)) queues queue queue' same (omega (arith, same, there)) at a;
       memory = b;
       touches = d;
     }
