@@ -1,15 +1,15 @@
 -- Commands that are changed where they stand, how many each queue has, and loops over them.
 use Rattle.controller_core.specs.declared.refusal.Refusal.TheVariants as refusal
 use Rattle.controller_core.proofs.{Lists.{count-cons, count_set, one, swept, length-swept, some_is}, Managing.stopped_entry}
-use Rattle.controller_core.proofs.Rows.{commands_put, distinct_with, place_is, place_named, named_with, cid_of, Rows, some_name, commands_of, stands_somewhere, value_found, both_parts, named}
-use Rattle.controller_core.{proofs.Waiting.count-more, specs.Completing.without_command}
+use Rattle.controller_core.proofs.Rows.{commands_put, distinct_with, place_is, place_named, named_with, cid_of, Rows, some_name, commands_of, stands_somewhere, value_found, named}
+use Rattle.controller_core.{proofs.Waiting.count-more}
 use Rattle.controller_core.specs.{Contents.{FetchedCommand, change, entry_of_work, is_command, Work, Contents}, Looks.{name_at, IsStuck}}
 use Rattle.controller_core.specs.{Managing.{aborted, stopped_with_queue, stopped_work}, Tables.{AreNamed, AreCounted, Outstanding, count_of}}
 use Rattle.controller_core.specs.Walking.{WalksOne, WalksAmong, ended_refusal, refusal_among}
-use Rattle.std.proofs.Common.{◌≡◌, ℕ, zero, suc, ◌<◌, ◌==◌, ◌&&◌, not, cond, Bool, true, false, Option, Some, None, List, [], ◌∷◌, ◌++◌, length, map, find, slice_get, slice_set, if◌then◌else◌, refl, ap, ap₂, sym, ◌∙◌, arith, subst, eqb-true, true≢false, inl, inr, ◌≤◌, IfSome, ◌+◌, ◌-◌, ◌||◌, get_or, replicate, drop, below_more}
-use Rattle.std.proofs.lemmas.{Bool.{cases_Bool, eq-eqb}, Grind.get_or_default_zero, List.{get_or-set_same, get_or-set_other, get_or_past}}
-use Rattle.std.{proofs.lemmas.{List.Sums.count_by-le-length, Option.none-some}, specs.{List.{count_by, list_any}, Option.{is_some, option_map_or}}}
-use Rattle.slot_table.specs.Rows.{Row, is_at, value_at, without, with_value, with_last, first_place, place_behind, NoneAt, IsDistinct}
+use Rattle.std.proofs.Common.{◌≡◌, ℕ, zero, suc, ◌<◌, ◌==◌, not, Bool, true, false, Option, Some, None, List, [], ◌∷◌, ◌++◌, length, map, find, slice_get, slice_set, if◌then◌else◌, refl, ap, ap₂, sym, ◌∙◌, arith, subst, eqb-true, true≢false, inl, inr, ◌≤◌, IfSome, ◌+◌, ◌-◌, ◌||◌, get_or, replicate, drop, below_more}
+use Rattle.std.proofs.lemmas.{Bool.{cases_Bool, eq-eqb, Decides.nat_tests}, Grind.get_or_default_zero, List.{get_or-set_same, get_or-set_other, get_or_past}}
+use Rattle.std.{proofs.lemmas.{List.Sums.count_by-le-length, Option.none-some}, specs.{List.{count_by, list_any}, Option.{option_map_or}}}
+use Rattle.slot_table.specs.Rows.{is_at, value_at, without, with_value, with_last, IsDistinct}
 use Rattle.controller_walk.specs.declared.walk.WalkState.{WalkState}
 use Rattle.entry_codec.specs.declared.{status.TheConstants.Status.{ABORTED_SQ_DELETION, ABORT_REQUESTED}, submission.SubEntry.SubEntry}
 use Rattle.page_memory.specs.Memory.{Memory, TouchesMore}
@@ -65,11 +65,11 @@ accepted_some commands q cid none accepted =
 -- Commands that are stopped
 
 pub stopped_alike : (q : ℕ) (k : FetchedCommand) → IsNamedAlike k (stopped_with_queue q k)
-stopped_alike q k = go (k.q == q)
-  where
-    go : (b : Bool) → IsNamedAlike k (if b then record k { work = stopped_work ABORTED_SQ_DELETION k.work } else k)
-    go true = (refl, ap (λ (e : SubEntry). e.cid) (stopped_entry ABORTED_SQ_DELETION k.work))
-    go false = (refl, refl)
+stopped_alike q k =
+    elim (k.q == q) as (λ b. IsNamedAlike k (if b then record k { work = stopped_work ABORTED_SQ_DELETION k.work } else k)) [
+      | true ↦ (refl, ap (λ (e : SubEntry). e.cid) (stopped_entry ABORTED_SQ_DELETION k.work))
+      | false ↦ (refl, refl)
+    ]
 
 pub aborted_alike : (abort : ℕ) (k : FetchedCommand) → IsNamedAlike k (record k { work = stopped_work ABORT_REQUESTED k.work; waiting_abort = Some abort })
 aborted_alike abort k = (refl, ap (λ (e : SubEntry). e.cid) (stopped_entry ABORT_REQUESTED k.work))
@@ -137,24 +137,15 @@ length_row [] q cid k = omega arith
 length_row (row ∷ rows) q cid k = omega (arith, length_row rows q cid k)
 
 swapped : (q i : ℕ) → (q == i) ≡ (i == q)
-swapped q i =
-    elim (cases_Bool (i == q)) [
-      | inl same ↦ rw same (eq-eqb q i (sym (eqb-true i q same)))
-      | inr other ↦
-          elim (cases_Bool (q == i)) [
-            | inl same ↦ absurd (true≢false (sym (eq-eqb i q (sym (eqb-true q i same))) ∙ other))
-            | inr apart ↦ (apart ∙ sym other)
-          ]
-    ]
+swapped q i = grind (arith, nat_tests)
 
 one_more : (counts : List ℕ) (commands : List FetchedCommand) (k : FetchedCommand) (n : ℕ) → AreCounted counts commands → k.q < length counts → n ≡ get_or counts k.q 0 → AreCounted (slice_set counts k.q (n + 1)) (commands ++ k ∷ [])
 one_more counts commands k n are inside is i =
     let more : count_of (commands ++ k ∷ []) i ≡ count_of commands i + one (k.q == i) = count-more (λ (k : FetchedCommand). k.q == i) commands k in
-    with_count counts k.q i (n + 1) inside ∙ go (i == k.q) refl ∙ sym more
-  where
-    go : (b : Bool) → (i == k.q) ≡ b → (if b then n + 1 else get_or counts i 0) ≡ count_of commands i + one (k.q == i)
-    go true same = omega (arith, is, are k.q, ap one (swapped k.q i ∙ same), ap (count_of commands) (eqb-true i k.q same))
-    go false other = omega (arith, are i, ap one (swapped k.q i ∙ other))
+    with_count counts k.q i (n + 1) inside ∙ (elim (cases_Bool (i == k.q)) [
+      | inl same ↦ rw same (omega (arith, is, are k.q, ap one (swapped k.q i ∙ same), ap (count_of commands) (eqb-true i k.q same)))
+      | inr other ↦ rw other (omega (arith, are i, ap one (swapped k.q i ∙ other)))
+    ]) ∙ sym more
 
 pub counted_put : (counts : List ℕ) (rows : Rows) (cid : ℕ) (k : FetchedCommand) (i n : ℕ) → AreCounted counts (commands_of rows) → k.q < length counts → i ≡ k.q → n ≡ get_or counts i n
     → AreCounted (slice_set counts i (n + 1)) (commands_of (with_last rows k.q cid k))

@@ -1,7 +1,7 @@
 -- Lists of which one member is changed or taken out; and each call goes one way.
 use Rattle.controller_core.specs.declared.refusal.Refusal.TheVariants as refusal
-use Rattle.std.proofs.Common.{◌≡◌, ℕ, zero, suc, ◌+◌, ◌<◌, ◌≤◌, Bool, true, false, ◌&&◌, ◌||◌, not, cond, Some, List, [], ◌∷◌, ◌++◌, length, map, filter, find, drop, get_or, slice_get, slice_set, refl, ap, sym, ◌∙◌, arith, subst, ◌==◌, take, Option, None, if◌then◌else◌, ap₂, eqb-true}
-use Rattle.std.{proofs.lemmas.{List.{drop_more, map-append, Sums.sum_by-cons}, Option.slice_get-get_or}, specs.List.{AllByRecursion, count_by, remove}}
+use Rattle.std.proofs.Common.{◌≡◌, ℕ, zero, suc, ◌+◌, ◌<◌, ◌≤◌, Bool, true, false, cond, Some, List, [], ◌∷◌, ◌++◌, length, map, filter, find, drop, get_or, slice_get, slice_set, refl, ap, sym, ◌∙◌, arith, subst, ◌==◌, take, Option, None, if◌then◌else◌, ap₂, eqb-true, inl, inr}
+use Rattle.std.{proofs.lemmas.{Bool.cases_Bool, List.{map-append, Sums.sum_by-cons}}, specs.List.{AllByRecursion, count_by}}
 use Rattle.std.specs.Option.{option_map_or}
 use Rattle.controller_core.specs.{Answering.{completion_by, memory_posted, page_posted}, Completing.{completed, status_of_end}}
 use Rattle.controller_core.specs.Contents.{change, Contents, FetchedCommand, Work, dw0_of_work, is_command}
@@ -39,11 +39,9 @@ here_counted p (y ∷ xs) (suc i) x at e = omega (arith, count-cons p y xs, here
 
 pub count-filter : {A : Type 0} (p f : A → Bool) (xs : List A) → count_by p (filter f xs) ≤ count_by p xs
 count-filter p f [] = omega arith
-count-filter p f (x ∷ xs) = go (f x) (count-filter p f xs)
-  where
-    go : (b : Bool) → count_by p (filter f xs) ≤ count_by p xs → count_by p (cond b (x ∷ filter f xs) (filter f xs)) ≤ count_by p (x ∷ xs)
-    go true l = omega (arith, count-cons p x xs, count-cons p x (filter f xs))
-    go false l = omega (arith, count-cons p x xs)
+count-filter p f (x ∷ xs) =
+    let l = count-filter p f xs in
+    elim (f x) as (λ b. count_by p (cond b (x ∷ filter f xs) (filter f xs)) ≤ count_by p (x ∷ xs)) [ true ↦ omega (arith, count-cons p x xs, count-cons p x (filter f xs)) | false ↦ omega (arith, count-cons p x xs) ]
 
 pub length-change : {A : Type 0} (k : ℕ) (f : A → A) (xs : List A) → length (change k f xs) ≡ length xs
 length-change k f [] = refl
@@ -60,11 +58,9 @@ all-append P (x ∷ xs) y all here = (all.0, all-append P xs y all.1 here)
 
 pub all-filter : {A : Type 0} (P : A → Type 0) (f : A → Bool) (xs : List A) → AllByRecursion P xs → AllByRecursion P (filter f xs)
 all-filter P f [] all = tt
-all-filter P f (x ∷ xs) all = go (f x) (all-filter P f xs all.1)
-  where
-    go : (b : Bool) → AllByRecursion P (filter f xs) → AllByRecursion P (cond b (x ∷ filter f xs) (filter f xs))
-    go true rest = (all.0, rest)
-    go false rest = rest
+all-filter P f (x ∷ xs) all =
+    let rest = all-filter P f xs all.1 in
+    elim (f x) as (λ b. AllByRecursion P (cond b (x ∷ filter f xs) (filter f xs))) [ true ↦ (all.0, rest) | false ↦ rest ]
 
 pub all-map : {A : Type 0} (P : A → Type 0) (f : A → A) → ((x : A) → P x → P (f x)) → (xs : List A) → AllByRecursion P xs → AllByRecursion P (map f xs)
 all-map P f keeps [] all = tt
@@ -78,11 +74,10 @@ all-at P (y ∷ xs) (suc i) x e all = all-at P xs i x e all.1
 -- what is found, and where
 pub found_is : {A : Type 0} (test : A → Bool) (xs : List A) (x : A) → find test xs ≡ Some x → test x ≡ true
 found_is test [] x e = cc
-found_is {A = A} test (y ∷ xs) x e = go (test y) refl e (found_is test xs x)
-  where
-    go : (b : Bool) → test y ≡ b → cond b (Some y) (find test xs) ≡ Some x → (find test xs ≡ Some x → test x ≡ true) → test x ≡ true
-    go true f g ih = subst (λ (z : A). test z ≡ true) (some_is g) f
-    go false f g ih = ih g
+found_is {A = A} test (y ∷ xs) x e = elim (cases_Bool (test y)) [
+  | inl f ↦ subst (λ (z : A). test z ≡ true) (some_is (rw f at e)) f
+  | inr f ↦ found_is test xs x (rw f at e)
+]
 
 at_place : {A : Type 0} (q : ℕ) (f : A → A) (xs : List A) (x y : A) → q < length xs → x ≡ get_or xs q x → y ≡ f x → slice_set xs q y ≡ change q f xs
 at_place q f [] x y l e h = absurd (omega arith)
@@ -90,16 +85,16 @@ at_place {A = A} zero f (z ∷ xs) x y l e h = ap (λ (w : A). w ∷ xs) (h ∙ 
 at_place {A = A} (suc q) f (z ∷ xs) x y l e h = ap (λ (w : List A). z ∷ w) (at_place q f xs x y (omega arith) e h)
 
 -- a write at a place that was reached by an equal number
-pub change-at : {A : Type 0} (q i : ℕ) (f : A → A) (xs : List A) (x y : A) → i ≡ q → i < length xs → x ≡ get_or xs i x → y ≡ f x → slice_set xs i y ≡ change q f xs
-change-at q i f xs x y same l e h = at_place i f xs x y l e h ∙ ap (λ (k : ℕ). change k f xs) same
+pub change_at : {A : Type 0} (q i : ℕ) (f : A → A) (xs : List A) (x y : A) → i ≡ q → i < length xs → x ≡ get_or xs i x → y ≡ f x → slice_set xs i y ≡ change q f xs
+change_at q i f xs x y same l e h = at_place i f xs x y l e h ∙ ap (λ (k : ℕ). change k f xs) same
 
 past_end : {A : Type 0} (q : ℕ) (f : A → A) (xs : List A) → length xs ≤ q → xs ≡ change q f xs
 past_end q f [] l = refl
 past_end zero f (z ∷ xs) l = absurd (omega arith)
 past_end {A = A} (suc q) f (z ∷ xs) l = ap (λ (w : List A). z ∷ w) (past_end q f xs (omega arith))
 
-pub change-past : {A : Type 0} (q i : ℕ) (f : A → A) (xs : List A) → i ≡ q → length xs ≤ i → xs ≡ change q f xs
-change-past q i f xs same l = past_end i f xs l ∙ ap (λ (k : ℕ). change k f xs) same
+pub change_past : {A : Type 0} (q i : ℕ) (f : A → A) (xs : List A) → i ≡ q → length xs ≤ i → xs ≡ change q f xs
+change_past q i f xs same l = past_end i f xs l ∙ ap (λ (k : ℕ). change k f xs) same
 
 pub get-at : {A : Type 0} (q : ℕ) (xs : List A) (x : A) → q < length xs → x ≡ get_or xs q x → slice_get xs q ≡ Some x
 get-at q [] x l e = absurd (omega arith)

@@ -1,6 +1,6 @@
 -- What each verdict of an admin entry comes from, and what it keeps.
-use Rattle.controller_core.proofs.{Lists.{all-map, count-cons, one, length-change, all-at, all_set, count_set}, Rows.{all_found, commands-without, length-end}}
-use Rattle.controller_core.proofs.Waiting.{Awaits, IsAlike, awaited_changed, awaited_more, awaits_alike, named_last, none_mapped, awaited_set, awaited_without, completes_alone, commands-with, none_found, not_some}
+use Rattle.controller_core.proofs.{Lists.{all-map, count-cons, one, length-change, all-at, all_set, count_set}, Rows.{all_found, both_parts, commands-without, length-end}}
+use Rattle.controller_core.proofs.Waiting.{Awaits, IsAlike, awaited_changed, awaited_more, awaits_alike, named_last, none_mapped, awaited_set, awaited_without, completes_alone, either_no, commands-with, none_found, not_some}
 use Rattle.controller_core.specs.{Answering.{Posts, with_answer}, Completing.{complete_refusal, queues_of_end, without_command}}
 use Rattle.controller_core.specs.Contents.{FitsVerdict, Contents, IsController, IsNamedBy, AreAwaited, AreCommands, FetchedCommand, Work, FitsWork, FitsCommand, change, entry_of_work, is_command, is_deletion}
 use Rattle.controller_core.specs.Managing.{with_taken, command_of, admin_work, stopped_work, aborted, stopped_with_queue, stopping, without_completion, with_completion, with_submission, NamesPages, commands_after, queues_after, verdict_for, view_for, managed}
@@ -20,10 +20,10 @@ use Rattle.page_memory.specs.{Memory.{Memory, bytes_at}, declared.page.Half.{Hal
 use Rattle.queue_pair.specs.Memory.{half_pages}
 use Rattle.controller_walk.specs.Units.{Course, Stays, Moves, Closes, Does, after_read, read_at, from_place, behind, goes_on, unless_fault, cause_status, first_cause, first_fault, moving, first_part, pages_spanned, entry_cursor}
 use Rattle.controller_walk.specs.{Walks.{answer, course_in, DoesFirst, LeavesRest}, declared.cause.FaultCause.FaultCause}
-use Rattle.controller_walk.specs.declared.cause.FaultCause.TheVariants.{TooManyDescriptors, UnreadableDescriptor, UnknownType, LinkInLastSegment, LinkNotLast, MalformedLink, MissingLink, PastEndOfAddresses, UnreadableData, ListTooShort}
+use Rattle.controller_walk.specs.declared.cause.FaultCause.TheVariants.{TooManyDescriptors}
 use Rattle.controller_walk.specs.declared.{cursor.Cursor.Cursor, progress.{Progress.Progress, State.TheVariants.{First, Next, Data, Over}}, walk.Walk.Walk}
 use Rattle.controller_walk.specs.declared.walk.WalkState.{WalkState, TheVariants.{End, Fault}}
-use Rattle.sgl_descriptor.specs.{Spelling.descriptor_of, declared.Descriptor.{Descriptor, TheVariants.{DataBlock, BitBucket, Segment, LastSegment}}}
+use Rattle.sgl_descriptor.specs.{Spelling.descriptor_of, declared.Descriptor.{Descriptor, TheVariants.{DataBlock}}}
 use Rattle.sgl_descriptor.specs.declared.Direction.{Direction}
 use Rattle.block_image.specs.Blocks.{block_count}
 use Rattle.controller_walk.specs.declared.progress.State as progress
@@ -34,14 +34,6 @@ use Rattle.controller_core.specs.declared.refusal.Refusal.TheVariants as refusal
 pub if_by : {X : Type 0} (P : X → Type 0) (b : Bool) (x y : X) → (b ≡ true → P x) → (b ≡ false → P y) → P (if b then x else y)
 if_by P true x y f g = f refl
 if_by P false x y f g = g refl
-
-pub both_true : (a b : Bool) → (a && b) ≡ true → (a ≡ true) × (b ≡ true)
-both_true true b e = (refl, e)
-both_true false b e = cc
-
-pub either_false : (a b : Bool) → (a || b) ≡ false → (a ≡ false) × (b ≡ false)
-either_false true b e = cc
-either_false false b e = (refl, e)
 
 pub was_false : (b : Bool) → not b ≡ true → b ≡ false
 was_false true e = cc
@@ -78,14 +70,14 @@ no_queue = record { small = omega arith; fails = refl }
 abort_by : (P : AdminVerdict → Type 0) (e : SubEntry) (view : DeviceView) → OfEach P e view → e.opcode ≡ ABORT → P (abort_verdict (named_queue e) (named_command e) view)
 abort_by P e view each op =
     if_by P (view.target_walks && not (named_queue e == 0)) (AbortJob (named_queue e) (named_command e)) (Answer SUCCESS 1)
-    (λ h. each.aborts (was_false (named_queue e == 0) (both_true view.target_walks (not (named_queue e == 0)) h).1))
+    (λ h. each.aborts (was_false (named_queue e == 0) (both_parts view.target_walks (not (named_queue e == 0)) h).1))
     (λ h. each.too_late op)
 
 delete_sq_by : (P : AdminVerdict → Type 0) (e : SubEntry) (view : DeviceView) → OfEach P e view → P (delete_sq_verdict (named_queue e) view)
 delete_sq_by P e view each =
     if_by P ((named_queue e == 0) || not (is_live view.sq)) (Answer INVALID_QUEUE_IDENTIFIER 0) (StopQueue (named_queue e))
     (λ h. each.refused INVALID_QUEUE_IDENTIFIER no_queue)
-    (λ h. each.stops (either_false (named_queue e == 0) (not (is_live view.sq)) h).0)
+    (λ h. each.stops (either_no (named_queue e == 0) (not (is_live view.sq)) h).0)
 
 delete_cq_by : (P : AdminVerdict → Type 0) (e : SubEntry) (view : DeviceView) → OfEach P e view → P (delete_cq_verdict (named_queue e) view)
 delete_cq_by P e view each =
@@ -93,11 +85,11 @@ delete_cq_by P e view each =
     (λ h. each.refused INVALID_QUEUE_IDENTIFIER no_queue)
     (λ h. if_by P (not (is_absent view.sq)) (Answer INVALID_QUEUE_DELETION 0) (DropCompletion (named_queue e))
     (λ h'. each.refused INVALID_QUEUE_DELETION (record { small = omega arith; fails = refl }))
-    (λ h'. each.drops (either_false (named_queue e == 0) (not view.cq_there) h).0))
+    (λ h'. each.drops (either_no (named_queue e == 0) (not view.cq_there) h).0))
 
 -- the number of an I/O queue
 io_queue : (q : ℕ) (view : DeviceView) → not (is_io_queue q view) ≡ false → (q == 0) ≡ false
-io_queue q view h = positive q (both_true (nat_lt 0 q) _ (was_true (is_io_queue q view) h)).0
+io_queue q view h = positive q (both_parts (nat_lt 0 q) _ (was_true (is_io_queue q view) h)).0
   where
     positive : (q : ℕ) → nat_lt 0 q ≡ true → (q == 0) ≡ false
     positive q l = grind (arith, nat_tests, l)
@@ -124,7 +116,7 @@ create_cq_by P e view each =
     if_by P (not (is_io_queue (named_queue e) view) || view.cq_there) (Answer INVALID_QUEUE_IDENTIFIER 0) _
     (λ h. each.refused INVALID_QUEUE_IDENTIFIER no_queue)
     (λ h. half_by P Completion e view (MakeCompletion (named_queue e) (named_base e)) each.refused
-    (each.makes_completion (io_queue (named_queue e) view (either_false (not (is_io_queue (named_queue e) view)) view.cq_there h).0)))
+    (each.makes_completion (io_queue (named_queue e) view (either_no (not (is_io_queue (named_queue e) view)) view.cq_there h).0)))
 
 create_sq_by : (P : AdminVerdict → Type 0) (e : SubEntry) (view : DeviceView) → OfEach P e view → P (create_sq_verdict e view)
 create_sq_by P e view each =
@@ -135,7 +127,7 @@ create_sq_by P e view each =
     (λ h'. if_by P (not view.cq_there || not (named_completion_queue e == named_queue e)) (Answer COMPLETION_QUEUE_INVALID 0) _
     (λ h''. each.refused COMPLETION_QUEUE_INVALID (record { small = omega arith; fails = refl }))
     (λ h''. half_by P Submission e view (MakeSubmission (named_queue e) (named_base e)) each.refused
-    (each.makes_submission (io_queue (named_queue e) view (either_false (not (is_io_queue (named_queue e) view)) (not (is_absent view.sq)) h).0)))))
+    (each.makes_submission (io_queue (named_queue e) view (either_no (not (is_io_queue (named_queue e) view)) (not (is_absent view.sq)) h).0)))))
 
 pub decided : (P : AdminVerdict → Type 0) (e : SubEntry) (view : DeviceView) → OfEach P e view → P (decision e view)
 decided P e view each =
@@ -168,26 +160,16 @@ moving_fits : (m : Memory) (n place len offset : ℕ) (rest : Course) → EndsFi
 unfolding moving
 moving_fits m zero place len offset rest h = h
 moving_fits m (suc n) place len offset rest h =
-    go (is_some (bytes_at m place (first_part place len))) (moving_fits m n (place + first_part place len) (len - first_part place len) (offset + first_part place len) rest h)
-  where
-    go : (b : Bool) → EndsFit (moving m n (place + first_part place len) (len - first_part place len) (offset + first_part place len) rest)
-        → EndsFit (cond b (Does (Moves place (first_part place len) offset) (moving m n (place + first_part place len) (len - first_part place len) (offset + first_part place len) rest))
-        (Does Stays (Closes (Fault DATA_TRANSFER_ERROR))))
-    go true h = h
-    go false h = omega arith
+    let more = moving m n (place + first_part place len) (len - first_part place len) (offset + first_part place len) rest in
+    elim (is_some (bytes_at m place (first_part place len))) as (λ b. EndsFit (cond b (Does (Moves place (first_part place len) offset) more) (Does Stays (Closes (Fault DATA_TRANSFER_ERROR))))) [
+      | true ↦ moving_fits m n (place + first_part place len) (len - first_part place len) (offset + first_part place len) rest h
+      | false ↦ omega arith
+    ]
 
 cause_fits : (cause : Option FaultCause) → FitsVerdict (option_map cause_status cause)
 cause_fits None = tt
 cause_fits (Some TooManyDescriptors) = omega arith
-cause_fits (Some UnreadableDescriptor) = omega arith
-cause_fits (Some UnknownType) = omega arith
-cause_fits (Some LinkInLastSegment) = omega arith
-cause_fits (Some LinkNotLast) = omega arith
-cause_fits (Some MalformedLink) = omega arith
-cause_fits (Some MissingLink) = omega arith
-cause_fits (Some PastEndOfAddresses) = omega arith
-cause_fits (Some UnreadableData) = omega arith
-cause_fits (Some ListTooShort) = omega arith
+cause_fits (Some v) = omega arith
 
 fault_fits : (c : Cursor) (d : Descriptor) → FitsVerdict (first_fault c d)
 fault_fits c d = cause_fits (first_cause c d)
@@ -195,9 +177,7 @@ fault_fits c d = cause_fits (first_cause c d)
 on_fits : (m : Memory) (dir : Direction) (need : ℕ) (c : Cursor) (wanted : ℕ) (later : Option Cursor → ℕ → Course) (d : Descriptor) → ((o : Option Cursor) (wanted : ℕ) → EndsFit (later o wanted))
     → EndsFit (goes_on m dir need c wanted later d)
 on_fits m dir need c wanted later (DataBlock addr len) h = moving_fits m (pages_spanned addr (min len wanted)) addr (min len wanted) (need - wanted) _ (h _ _)
-on_fits m dir need c wanted later (BitBucket len) h = h _ _
-on_fits m dir need c wanted later (Segment addr len) h = h _ _
-on_fits m dir need c wanted later (LastSegment addr len) h = h _ _
+on_fits m dir need c wanted later v h = h _ _
 
 unless_fits : (f : Option Status) (c : Course) → FitsVerdict f → EndsFit c → EndsFit (unless_fault f c)
 unless_fits None c f h = h
@@ -214,16 +194,8 @@ at_fits m dir need c wanted later None h = omega arith
 at_fits m dir need c wanted later (Some bytes) h = read_fits m dir need c wanted later (descriptor_of bytes) h
 
 behind_fits : (from : Cursor → ℕ → Course) → ((c : Cursor) (wanted : ℕ) → EndsFit (from c wanted)) → (o : Option Cursor) (wanted : ℕ) → EndsFit (behind from o wanted)
-behind_fits from h None wanted = go (nat_eq wanted 0)
-  where
-    go : (b : Bool) → FitsVerdict (verdict_of (cond b End (Fault DATA_SGL_LENGTH_INVALID)))
-    go true = omega arith
-    go false = omega arith
-behind_fits from h (Some c) wanted = go (nat_eq wanted 0)
-  where
-    go : (b : Bool) → EndsFit (cond b (Closes End) (from c wanted))
-    go true = omega arith
-    go false = h c wanted
+behind_fits from h None wanted = elim (nat_eq wanted 0) as (λ b. FitsVerdict (verdict_of (cond b End (Fault DATA_SGL_LENGTH_INVALID)))) [ true ↦ omega arith | false ↦ omega arith ]
+behind_fits from h (Some c) wanted = elim (nat_eq wanted 0) as (λ b. EndsFit (cond b (Closes End) (from c wanted))) [ true ↦ omega arith | false ↦ h c wanted ]
 
 from_fits : (k : ℕ) (m : Memory) (dir : Direction) (need : ℕ) (c : Cursor) (wanted : ℕ) → EndsFit (from_place k m dir need c wanted)
 unfolding from_place
@@ -250,11 +222,7 @@ walk_ends_fit m (Some w) = course_fits m w w.state
 -- No command that is answered at once deletes a queue, and what is made or deleted is an I/O queue.
 abbrev Suits : SubEntry → AdminVerdict → Type 0
 Suits e (Answer st dw0) = (st.sct < 8) × (is_deletion e st ≡ false)
-Suits e (AbortJob q cid) = (named_queue e == 0) ≡ false
-Suits e (StopQueue q) = (named_queue e == 0) ≡ false
-Suits e (DropCompletion q) = (named_queue e == 0) ≡ false
-Suits e (MakeCompletion q base) = (named_queue e == 0) ≡ false
-Suits e (MakeSubmission q base) = (named_queue e == 0) ≡ false
+Suits e v = (named_queue e == 0) ≡ false
 
 and_false : (b : Bool) → (b && false) ≡ false
 and_false true = refl
@@ -275,11 +243,7 @@ decision_suits e view =
 
 admin_fits : (blocks : ℕ) (e : SubEntry) (v : AdminVerdict) → Suits e v → FitsWork blocks 0 0 (admin_work e v)
 admin_fits blocks e (Answer st dw0) s = (refl, s.0, λ h. absurd (true≢false (sym h ∙ s.1)))
-admin_fits blocks e (AbortJob q cid) s = (refl, omega arith, λ h. s)
-admin_fits blocks e (StopQueue q) s = (refl, omega arith, λ h. s)
-admin_fits blocks e (DropCompletion q) s = (refl, omega arith, λ h. s)
-admin_fits blocks e (MakeCompletion q base) s = (refl, omega arith, λ h. s)
-admin_fits blocks e (MakeSubmission q base) s = (refl, omega arith, λ h. s)
+admin_fits blocks e v s = (refl, omega arith, λ h. s)
 
 -- Commands that are stopped
 
@@ -331,29 +295,21 @@ commands_mapped blocks queues f stay commands = record {
     counts r d = count-mapped (is_command r d) f (λ k. ap₂ (λ (q : ℕ) (e : SubEntry). (q == r) && (e.cid == d)) (stay k).q (stay k).entry) commands
 
 commands_stay : (blocks queues abort : ℕ) (v : AdminVerdict) (commands : List FetchedCommand) → CommandsStay blocks queues commands (commands_after abort v commands)
-commands_stay blocks queues abort (Answer st dw0) commands = record { are = λ are. are; count = λ r d. refl }
 commands_stay blocks queues abort (AbortJob q cid) commands = commands_mapped blocks queues (aborted q cid abort) (aborted_stays blocks q cid abort) commands
 commands_stay blocks queues abort (StopQueue q) commands = commands_mapped blocks queues (stopped_with_queue q) (stopped_stays blocks q) commands
-commands_stay blocks queues abort (DropCompletion q) commands = record { are = λ are. are; count = λ r d. refl }
-commands_stay blocks queues abort (MakeCompletion q base) commands = record { are = λ are. are; count = λ r d. refl }
-commands_stay blocks queues abort (MakeSubmission q base) commands = record { are = λ are. are; count = λ r d. refl }
+commands_stay blocks queues abort v commands = record { are = λ are. are; count = λ r d. refl }
 
 pub length-after : (v : AdminVerdict) (queues : List ControllerQueue) → length (queues_after v queues) ≡ length queues
-length-after (Answer st dw0) queues = refl
-length-after (AbortJob q cid) queues = refl
 length-after (StopQueue q) queues = length-change q stopping queues
 length-after (DropCompletion q) queues = length-change q without_completion queues
 length-after (MakeCompletion q base) queues = length-change q (with_completion base) queues
 length-after (MakeSubmission q base) queues = length-change q (with_submission base) queues
+length-after v queues = refl
 
 -- An Abort that stops a command names it.
 abbrev Aims : SubEntry → AdminVerdict → Type 0
-Aims e (Answer st dw0) = Unit {0}
 Aims e (AbortJob q cid) = (q ≡ named_queue e) × (cid ≡ named_command e)
-Aims e (StopQueue q) = Unit {0}
-Aims e (DropCompletion q) = Unit {0}
-Aims e (MakeCompletion q base) = Unit {0}
-Aims e (MakeSubmission q base) = Unit {0}
+Aims e v = Unit {0}
 
 decision_aims : (e : SubEntry) (view : DeviceView) → Aims e (decision e view)
 decision_aims e view =
@@ -378,7 +334,6 @@ own_named : (e : SubEntry) (v : AdminVerdict) → is_command 0 e.cid (command_of
 own_named e v = eq-eqb e.cid e.cid refl
 
 managed_awaited : (commands : List FetchedCommand) (e : SubEntry) (v : AdminVerdict) → AreAwaited commands → Aims e v → find (is_command 0 e.cid) commands ≡ None → AreAwaited (commands_after e.cid v commands ++ command_of 0 (admin_work e v) ∷ [])
-managed_awaited commands e (Answer st dw0) are aims none = awaited_more commands (command_of 0 (admin_work e (Answer st dw0))) are refl
 managed_awaited commands e (AbortJob q cid) are aims none = awaited_changed f commands own (aborted_same q cid e.cid) changes refl are
   where
     f : FetchedCommand → FetchedCommand
@@ -402,9 +357,7 @@ managed_awaited commands e (AbortJob q cid) are aims none = awaited_changed f co
 managed_awaited commands e (StopQueue q) are aims none =
     awaited_changed (stopped_with_queue q) commands (command_of 0 (admin_work e (StopQueue q))) (stopped_same q)
     (λ k was. awaits_alike _ _ k (stopped_with_queue q k) (if_by (λ (x : FetchedCommand). x.waiting_abort ≡ k.waiting_abort) (k.q == q) (record k { work = stopped_work ABORTED_SQ_DELETION k.work }) k (λ h. refl) (λ h. refl)) (stopped_same q k) (λ cid e h. h) was) refl are
-managed_awaited commands e (DropCompletion q) are aims none = awaited_more commands (command_of 0 (admin_work e (DropCompletion q))) are refl
-managed_awaited commands e (MakeCompletion q base) are aims none = awaited_more commands (command_of 0 (admin_work e (MakeCompletion q base))) are refl
-managed_awaited commands e (MakeSubmission q base) are aims none = awaited_more commands (command_of 0 (admin_work e (MakeSubmission q base))) are refl
+managed_awaited commands e v are aims none = awaited_more commands (command_of 0 (admin_work e v)) are refl
 
 pub managed_kept : (pages : ℕ) (c : Contents) (e : SubEntry) → IsController c → 0 < length c.queues → is_some (find (is_command 0 e.cid) c.commands) ≡ false → IsController (managed pages e c)
 managed_kept pages c e is there free =
@@ -422,25 +375,15 @@ managed_kept pages c e is there free =
 
 -- An Abort that stops a command names one of an I/O queue.
 abbrev Spares : AdminVerdict → Type 0
-Spares (Answer st dw0) = Unit {0}
 Spares (AbortJob q cid) = (q == 0) ≡ false
-Spares (StopQueue q) = Unit {0}
-Spares (DropCompletion q) = Unit {0}
-Spares (MakeCompletion q base) = Unit {0}
-Spares (MakeSubmission q base) = Unit {0}
+Spares v = Unit {0}
+
+spares_of : (e : SubEntry) (v : AdminVerdict) → Suits e v → Aims e v → Spares v
+spares_of e (AbortJob q cid) suits aims = ap (λ (k : ℕ). k == 0) aims.0 ∙ suits
+spares_of e v suits aims = tt
 
 decision_spares : (e : SubEntry) (view : DeviceView) → Spares (decision e view)
-decision_spares e view =
-    decided Spares e view
-    (record {
-      refused = λ st r. tt;
-      too_late = λ op. tt;
-      aborts = λ h. h;
-      stops = λ h. tt;
-      drops = λ h. tt;
-      makes_completion = λ h l. tt;
-      makes_submission = λ h l. tt;
-    })
+decision_spares e view = spares_of e (decision e view) (decision_suits e view) (decision_aims e view)
 
 -- a creation names a page below those of the pool
 pub decision_names : (e : SubEntry) (view : DeviceView) → view.pages < 2 ^ 32 → NamesPages (decision e view)
@@ -466,7 +409,6 @@ map_more f (y ∷ ys) x = ap (λ zs. f y ∷ zs) (map_more f ys x)
 
 -- what an admin command does, it does not to itself
 own_spared : (e : SubEntry) (v : AdminVerdict) (commands : List FetchedCommand) (k : FetchedCommand) → Spares v → k ≡ command_of 0 (admin_work e v) → commands_after e.cid v (commands ++ k ∷ []) ≡ commands_after e.cid v commands ++ k ∷ []
-own_spared e (Answer st dw0) commands k s is = refl
 own_spared e (AbortJob q cid) commands k s is =
     let other : is_command q cid k ≡ false = ap (is_command q cid) is ∙ ap (λ (b : Bool). b && (e.cid == cid)) (zero_other q s) in
     map_more (aborted q cid e.cid) commands k
@@ -478,9 +420,7 @@ own_spared e (StopQueue q) commands k s is =
     by : (b : Bool) → (if b then command_of 0 (admin_work e (StopQueue q)) else command_of 0 (admin_work e (StopQueue q))) ≡ command_of 0 (admin_work e (StopQueue q))
     by true = refl
     by false = refl
-own_spared e (DropCompletion q) commands k s is = refl
-own_spared e (MakeCompletion q base) commands k s is = refl
-own_spared e (MakeSubmission q base) commands k s is = refl
+own_spared e v commands k s is = refl
 
 -- The controller behind an admin entry whose command was put first, and its verdict carried out then.
 pub managed_is : (pages : ℕ) (c : Contents) (e : SubEntry) (w : AdminVerdict) (took queues : List ControllerQueue) (before after : List FetchedCommand) (k : FetchedCommand)

@@ -160,11 +160,8 @@ all_off q [] = tt
 all_off q (queue ∷ queues) = (refl, all_off (suc q) queues)
 
 rung_off : (v : ℕ) (queue : ControllerQueue) → IsOff queue → IsOff (with_tail v queue)
-rung_off v queue off = go (nat_lt v queue.device.entries)
-  where
-    go : (b : Bool) → IsOff (if b then with_side (record queue.device { ring = hearing_tail v queue.device.ring }) queue else queue)
-    go true = off
-    go false = off
+rung_off v queue off =
+    elim (nat_lt v queue.device.entries) as (λ b. IsOff (if b then with_side (record queue.device { ring = hearing_tail v queue.device.ring }) queue else queue)) [ true ↦ off | false ↦ off ]
 
 -- what is rung at a queue that is not the first
 off_behind : (queues : List ControllerQueue) (m : Memory) (q r v : ℕ)

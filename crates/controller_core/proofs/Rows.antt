@@ -1,28 +1,27 @@
 -- Fetched commands in a table, as a list, and which of them complete.
-use Rattle.controller_core.specs.declared.refusal.Refusal.TheVariants as refusal
-use Rattle.controller_core.proofs.Lists.{some_is, change-change, length-change, change-at, all-filter, count-filter, found_is, get-at, all-at, count-cons, one, all-append, count_set, swept, length-swept}
-use Rattle.controller_core.specs.Answering.{completion_by, memory_posted, page_posted, with_answer, Posts, answer_refusal}
-use Rattle.controller_core.specs.Completing.{CompletesTo, queues_of_end, image_of_end, status_of_end, IsOver, without_command, without_submission, command_refusal, complete_refusal, is_abort_of, waits_among}
-use Rattle.controller_core.specs.Contents.{change, Contents, IsController, AreCommands, FitsCommand, FitsWork, is_command, is_deletion, entry_of_work, verdict_of_work, dw0_of_work, FetchedCommand, Work, AreAwaited, IsNamedBy, entry_of, FitsVerdict as ContentsFitsVerdict}
-use Rattle.controller_core.specs.{Doorbells.with_side, Fetching.{IsBegun, Begins, AnswersKnown, LooksAt, FetchesTo, Takes, TakesIn, is_known, live_side}}
-use Rattle.controller_core.specs.{Looks.{name_at, IsStuck}, Managing.{with_taken, command_of, managed, aborted, stopped_with_queue, stopped_work}}
-use Rattle.controller_core.specs.{Tables.{AreNamed, AreCounted, Outstanding, count_of}, Walking.{WalksOne, WalksAmong, ended_refusal, refusal_among}}
+use Rattle.controller_core.proofs.Lists.{some_is, change-change, length-change, change_at, all-filter, count-filter, found_is, get-at}
+use Rattle.controller_core.specs.Answering.{completion_by, memory_posted, page_posted, with_answer, Posts}
+use Rattle.controller_core.specs.Completing.{CompletesTo, queues_of_end, image_of_end, status_of_end, IsOver, without_command, without_submission}
+use Rattle.controller_core.specs.Contents.{change, Contents, IsController, AreCommands, FitsCommand, FitsWork, is_command, is_deletion, entry_of_work, dw0_of_work, FetchedCommand, Work}
+use Rattle.controller_core.specs.{Doorbells.with_side}
+use Rattle.controller_core.specs.{Looks.{name_at}}
+use Rattle.controller_core.specs.{Tables.{AreNamed}}
 use Rattle.controller_core.specs.declared.{command.Work.TheVariants.{Io, Admin}, queue.ControllerQueue.ControllerQueue, refusal.Refusal.Refusal}
-use Rattle.std.proofs.Common.{◌≡◌, ℕ, ◌<◌, ◌==◌, ◌&&◌, ◌++◌, ◌∷◌, [], not, Bool, true, false, Option, Some, Result, Ok, Err, IsSome, cond, List, length, find, slice_set, get_or, if◌then◌else◌, refl, ap, ap₂, sym, ◌∙◌, arith, subst, eqb-true, true≢false, None, zero, suc, ◌||◌, IfSome, map, slice_get, inl, inr, ◌≢◌, ◌+◌, nat_lt, is_none, is_some, ◌≤◌, ◌-◌, replicate, drop, below_more}
-use Rattle.std.proofs.lemmas.{Bool.{cases_Bool, eq-eqb}, Grind.get_or_default_zero, List.{get_or-set_same, get_or-set_other, get_or_past}}
-use Rattle.std.{proofs.lemmas.{List.Sums.count_by-le-length, Option.none-some}, specs.{Borrow.Bor, List.{AllByRecursion, list_any, count_by}}}
-use Rattle.std.specs.{Option.{option_and_then, option_map, option_map_or, option_copied, is_some}, Result.{OnOk, OnErr}, Str.bytes_eq}
-use Rattle.admin_commands.specs.Entries.{named_queue, named_command}
+use Rattle.std.proofs.Common.{◌≡◌, ℕ, ◌<◌, ◌==◌, ◌&&◌, ◌++◌, ◌∷◌, [], not, Bool, true, false, Option, Some, Result, Ok, Err, cond, List, length, find, slice_set, get_or, if◌then◌else◌, refl, ap, ap₂, sym, ◌∙◌, arith, subst, eqb-true, true≢false, None, zero, suc, map, slice_get, inl, inr, is_some}
+use Rattle.std.proofs.lemmas.{Bool.{cases_Bool, eq-eqb}}
+use Rattle.std.{proofs.lemmas.{Option.none-some}, specs.{List.{AllByRecursion}}}
+use Rattle.std.specs.{Option.{is_some}, Result.{OnOk}, Str.bytes_eq}
+use Rattle.admin_commands.specs.Entries.{named_queue}
 use Rattle.block_image.specs.Blocks.{block_count, blocks_at}
-use Rattle.io_commands.specs.{Ends.FitsVerdict, Jobs.{status_by, status_after, is_success, kind_of_opcode, first_block, block_number, JobContents, io_fault}}
-use Rattle.io_commands.specs.declared.request.Kind.{Kind, TheVariants.{Read, Write, Compare}}
+use Rattle.io_commands.specs.{Ends.FitsVerdict, Jobs.{status_by, status_after, is_success, kind_of_opcode, first_block, block_number}}
+use Rattle.io_commands.specs.declared.request.Kind.{Kind, TheVariants.{Compare}}
 use Rattle.entry_codec.specs.{Completion.IsComEntry, declared.status.Status.Status}
-use Rattle.entry_codec.specs.declared.status.TheConstants.Status.{SUCCESS, COMPARE_FAILURE, INVALID_OPCODE, INVALID_NAMESPACE, INVALID_FIELD, LBA_OUT_OF_RANGE, COMMAND_ID_CONFLICT, ABORTED_SQ_DELETION, ABORT_REQUESTED}
+use Rattle.entry_codec.specs.declared.status.TheConstants.Status.{SUCCESS, COMPARE_FAILURE}
 use Rattle.entry_codec.specs.declared.submission.SubEntry.{SubEntry}
-use Rattle.page_memory.specs.Memory.{Memory, TouchesMore}
+use Rattle.page_memory.specs.Memory.{Memory}
 use Rattle.queue_pair.specs.Rings.{DeviceSide, answer_posted}
+use Rattle.slot_table.proofs.{Rows.none_is, Walks.none_stands}
 use Rattle.slot_table.specs.Rows.{Row, is_at, value_at, without, with_value, with_last, first_place, place_behind, NoneAt, IsDistinct}
-use Rattle.controller_walk.specs.declared.walk.WalkState.{WalkState}
 
 -- A command that was found ready completes.
 
@@ -30,11 +29,11 @@ use Rattle.controller_walk.specs.declared.walk.WalkState.{WalkState}
 
 pub length-end : (work : Work) (queues : List ControllerQueue) → length (queues_of_end work queues) ≡ length queues
 length-end (Io job) queues = refl
-length-end (Admin entry status dw0) queues = by (is_deletion entry status)
-  where
-    by : (b : Bool) → length (if b then change (named_queue entry) without_submission queues else queues) ≡ length queues
-    by true = length-change (named_queue entry) without_submission queues
-    by false = refl
+length-end (Admin entry status dw0) queues =
+    elim (is_deletion entry status) as (λ b. length (if b then change (named_queue entry) without_submission queues else queues) ≡ length queues) [
+      | true ↦ length-change (named_queue entry) without_submission queues
+      | false ↦ refl
+    ]
 
 -- Its name, and its queue
 
@@ -61,11 +60,10 @@ pub record IsFound (c : Contents) (q cid : ℕ) (k : FetchedCommand) : Type 0 wh
 
 pub all_found : (P : FetchedCommand → Type 0) (test : FetchedCommand → Bool) (xs : List FetchedCommand) (k : FetchedCommand) → AllByRecursion P xs → find test xs ≡ Some k → P k
 all_found P test [] k all found = cc
-all_found P test (x ∷ xs) k all found = go (test x) found (all_found P test xs k all.1)
-  where
-    go : (b : Bool) → cond b (Some x) (find test xs) ≡ Some k → (find test xs ≡ Some k → P k) → P k
-    go true here rest = subst P (some_is here) all.0
-    go false later rest = rest later
+all_found P test (x ∷ xs) k all found = elim (cases_Bool (test x)) [
+  | inl here ↦ subst P (some_is (rw here at found)) all.0
+  | inr later ↦ all_found P test xs k all.1 (rw later at found)
+]
 
 pub is_found : (c : Contents) (q cid : ℕ) (k : FetchedCommand) → IsController c → find (is_command q cid) c.commands ≡ Some k → IsFound c q cid k
 is_found c q cid k is found =
@@ -80,21 +78,17 @@ is_found c q cid k is found =
 -- the status of its end fits a completion, and it was checked over the image
 status_by_fits : (image : List ℕ) (e : SubEntry) (bytes : List ℕ) (kind : Option Kind) → (status_by image e bytes kind).sct < 8
 status_by_fits image e bytes None = omega arith
-status_by_fits image e bytes (Some Read) = omega arith
-status_by_fits image e bytes (Some Write) = omega arith
-status_by_fits image e bytes (Some Compare) = by (bytes_eq (blocks_at image (first_block e) (block_number e)) bytes)
-  where
-    by : (b : Bool) → (if b then SUCCESS else COMPARE_FAILURE).sct < 8
-    by true = omega arith
-    by false = omega arith
+status_by_fits image e bytes (Some Compare) =
+    elim (bytes_eq (blocks_at image (first_block e) (block_number e)) bytes) as (λ b. (if b then SUCCESS else COMPARE_FAILURE).sct < 8) [ true ↦ omega arith | false ↦ omega arith ]
+status_by_fits image e bytes (Some v) = omega arith
 
 status_after_fits : (image : List ℕ) (e : SubEntry) (bytes : List ℕ) (verdict : Option Status) → FitsVerdict verdict → (status_after image e bytes verdict).sct < 8
 status_after_fits image e bytes None fits = omega arith
-status_after_fits image e bytes (Some verdict) fits = by (is_success verdict)
-  where
-    by : (b : Bool) → (if b then status_by image e bytes (kind_of_opcode e.opcode) else verdict).sct < 8
-    by true = status_by_fits image e bytes (kind_of_opcode e.opcode)
-    by false = fits
+status_after_fits image e bytes (Some verdict) fits =
+    elim (is_success verdict) as (λ b. (if b then status_by image e bytes (kind_of_opcode e.opcode) else verdict).sct < 8) [
+      | true ↦ status_by_fits image e bytes (kind_of_opcode e.opcode)
+      | false ↦ fits
+    ]
 
 pub end_fits : (image : List ℕ) (blocks q done : ℕ) (work : Work) → FitsWork blocks q done work → (status_of_end image work).sct < 8
 end_fits image blocks q done (Io job) fits = status_after_fits image job.entry job.bytes job.verdict fits.2
@@ -108,12 +102,10 @@ over_fits blocks q done (Admin entry status dw0) fits = tt
 
 pub end-posted : (work : Work) (q : ℕ) (queues : List ControllerQueue) → queues_of_end work (change q with_answer queues) ≡ change q with_answer (queues_of_end work queues)
 end-posted (Io job) q queues = refl
-end-posted (Admin entry status dw0) q queues = by (is_deletion entry status)
-  where
-    by : (b : Bool) → (if b then change (named_queue entry) without_submission (change q with_answer queues) else change q with_answer queues)
-        ≡ change q with_answer (if b then change (named_queue entry) without_submission queues else queues)
-    by true = change-change (named_queue entry) q without_submission with_answer (λ queue. refl) queues
-    by false = refl
+end-posted (Admin entry status dw0) q queues = elim (cases_Bool (is_deletion entry status)) [
+  | inl deletes ↦ rw deletes (change-change (named_queue entry) q without_submission with_answer (λ queue. refl) queues)
+  | inr keeps ↦ rw keeps refl
+]
 
 -- what was posted for a command at a place, and what was done for the same command behind that
 pub finishes : (c : Contents) (m m' : Memory) (q cid : ℕ) (k k' : FetchedCommand) (queues queues' : List ControllerQueue) (commands : List FetchedCommand) (image : List ℕ) (st : Status) (dw0 : ℕ) (reached reached' : List ℕ)
@@ -152,7 +144,7 @@ posts_by (Ok x) queues q i cid st dw0 m m' reached reached' queue device same th
     record {
       queue = queue;
       here = get-at q queues queue there (subst (λ (k : ℕ). queue ≡ get_or queues k queue) same at);
-      queues_posted = change-at q i with_answer queues queue (with_side device queue) same (omega (arith, same, there)) at (ap (λ (side : DeviceSide). with_side side queue) a);
+      queues_posted = change_at q i with_answer queues queue (with_side device queue) same (omega (arith, same, there)) at (ap (λ (side : DeviceSide). with_side side queue) a);
       typed = t;
       memory = b;
       touches = d;
@@ -200,14 +192,6 @@ place_is row q cid at =
 at_itself : (row : Row FetchedCommand) (q cid : ℕ) → row.q ≡ q → row.cid ≡ cid → is_at row q cid ≡ true
 at_itself row q cid a b = rw (eq-eqb row.q q a, eq-eqb row.cid cid b) refl
 
-none_stands : (rows : Rows) (q cid : ℕ) → value_at rows q cid ≡ None → NoneAt rows q cid
-none_stands [] q cid none = tt
-none_stands (row ∷ rows) q cid none =
-    elim (cases_Bool (is_at row q cid)) [
-      | inl here ↦ absurd (none-some row.value (sym (rw here at none)))
-      | inr other ↦ (other, none_stands rows q cid (rw other at none))
-    ]
-
 -- A row more
 
 pub named_put : (rows : Rows) (q cid : ℕ) (k : FetchedCommand) → AreNamed rows → k.q ≡ q → cid_of k ≡ cid → AreNamed (with_last rows q cid k)
@@ -235,40 +219,27 @@ commands_put [] q cid k = refl
 commands_put (row ∷ rows) q cid k = ap (λ ks. row.value ∷ ks) (commands_put rows q cid k)
 
 pub unknown_place : (rows : Rows) (q cid : ℕ) → AreNamed rows → is_some (find (is_command q cid) (commands_of rows)) ≡ false → value_at rows q cid ≡ None
-unknown_place rows q cid n unknown = no_value (value_at rows q cid) (ap is_some (sym (found_rows rows q cid n)) ∙ unknown)
-  where
-    no_value : (o : Option FetchedCommand) → is_some o ≡ false → o ≡ None
-    no_value None e = refl
-    no_value (Some k) e = absurd (true≢false e)
-
-pub place_empty : (rows : Rows) (q cid : ℕ) → value_at rows q cid ≡ None → NoneAt rows q cid
-place_empty = none_stands
+unknown_place rows q cid n unknown = none_is (value_at rows q cid) (ap is_some (sym (found_rows rows q cid n)) ∙ unknown)
 
 -- A row less
 
 pub named_without : (rows : Rows) (q cid : ℕ) → AreNamed rows → AreNamed (without rows q cid)
 named_without [] q cid n = tt
-named_without (row ∷ rows) q cid n = go (is_at row q cid) (named_without rows q cid n.2)
-  where
-    go : (b : Bool) → AreNamed (without rows q cid) → AreNamed (if b then rows else row ∷ without rows q cid)
-    go true rest = n.2
-    go false rest = (n.0, n.1, rest)
+named_without (row ∷ rows) q cid n =
+    let rest = named_without rows q cid n.2 in
+    elim (is_at row q cid) as (λ b. AreNamed (if b then rows else row ∷ without rows q cid)) [ true ↦ n.2 | false ↦ (n.0, n.1, rest) ]
 
 none_without : (rows : Rows) (q cid q' cid' : ℕ) → NoneAt rows q' cid' → NoneAt (without rows q cid) q' cid'
 none_without [] q cid q' cid' none = tt
-none_without (row ∷ rows) q cid q' cid' none = go (is_at row q cid) (none_without rows q cid q' cid' none.1)
-  where
-    go : (b : Bool) → NoneAt (without rows q cid) q' cid' → NoneAt (if b then rows else row ∷ without rows q cid) q' cid'
-    go true rest = none.1
-    go false rest = (none.0, rest)
+none_without (row ∷ rows) q cid q' cid' none =
+    let rest = none_without rows q cid q' cid' none.1 in
+    elim (is_at row q cid) as (λ b. NoneAt (if b then rows else row ∷ without rows q cid) q' cid') [ true ↦ none.1 | false ↦ (none.0, rest) ]
 
 pub distinct_without : (rows : Rows) (q cid : ℕ) → IsDistinct rows → IsDistinct (without rows q cid)
 distinct_without [] q cid d = tt
-distinct_without (row ∷ rows) q cid d = go (is_at row q cid) (distinct_without rows q cid d.1)
-  where
-    go : (b : Bool) → IsDistinct (without rows q cid) → IsDistinct (if b then rows else row ∷ without rows q cid)
-    go true rest = d.1
-    go false rest = (none_without rows q cid row.q row.cid d.0, rest)
+distinct_without (row ∷ rows) q cid d =
+    let rest = distinct_without rows q cid d.1 in
+    elim (is_at row q cid) as (λ b. IsDistinct (if b then rows else row ∷ without rows q cid)) [ true ↦ d.1 | false ↦ (none_without rows q cid row.q row.cid d.0, rest) ]
 
 kept_apart : (rows : Rows) (q cid : ℕ) → AreNamed rows → NoneAt rows q cid → without_command q cid (commands_of rows) ≡ commands_of rows
 kept_apart [] q cid n none = refl
@@ -301,19 +272,18 @@ named_with (row ∷ rows) q cid k n a b =
 
 none_with : (rows : Rows) (q cid q' cid' : ℕ) (k : FetchedCommand) → NoneAt rows q' cid' → NoneAt (with_value rows q cid k) q' cid'
 none_with [] q cid q' cid' k none = tt
-none_with (row ∷ rows) q cid q' cid' k none = go (is_at row q cid) (none_with rows q cid q' cid' k none.1)
-  where
-    go : (b : Bool) → NoneAt (with_value rows q cid k) q' cid' → NoneAt (if b then record row { value = k } ∷ rows else row ∷ with_value rows q cid k) q' cid'
-    go true rest = (none.0, none.1)
-    go false rest = (none.0, rest)
+none_with (row ∷ rows) q cid q' cid' k none =
+    let rest = none_with rows q cid q' cid' k none.1 in
+    elim (is_at row q cid) as (λ b. NoneAt (if b then record row { value = k } ∷ rows else row ∷ with_value rows q cid k) q' cid') [ true ↦ none | false ↦ (none.0, rest) ]
 
 pub distinct_with : (rows : Rows) (q cid : ℕ) (k : FetchedCommand) → IsDistinct rows → IsDistinct (with_value rows q cid k)
 distinct_with [] q cid k d = tt
-distinct_with (row ∷ rows) q cid k d = go (is_at row q cid) (distinct_with rows q cid k d.1)
-  where
-    go : (b : Bool) → IsDistinct (with_value rows q cid k) → IsDistinct (if b then record row { value = k } ∷ rows else row ∷ with_value rows q cid k)
-    go true rest = (d.0, d.1)
-    go false rest = (none_with rows q cid row.q row.cid k d.0, rest)
+distinct_with (row ∷ rows) q cid k d =
+    let rest = distinct_with rows q cid k d.1 in
+    elim (is_at row q cid) as (λ b. IsDistinct (if b then record row { value = k } ∷ rows else row ∷ with_value rows q cid k)) [
+      | true ↦ d
+      | false ↦ (none_with rows q cid row.q row.cid k d.0, rest)
+    ]
 
 -- Where a place stands in the order
 

@@ -1,25 +1,23 @@
 -- Which command an Abort waits for, and what a fetch keeps of that.
 use Rattle.controller_core.specs.declared.refusal.Refusal.TheVariants as refusal
-use Rattle.controller_core.proofs.Lists.{some_is, change-change, length-change, change-at, all-filter, count-filter, found_is, get-at, all-at, count-cons, one, all-append}
+use Rattle.controller_core.proofs.Lists.{some_is, length-change, change_at, get-at, all-at, count-cons, one, all-append, all_set}
 use Rattle.controller_core.proofs.Rows.{both_parts, named, some_name, cid_of}
-use Rattle.controller_core.specs.Answering.{completion_by, memory_posted, page_posted, with_answer, Posts, answer_refusal}
-use Rattle.controller_core.specs.Completing.{CompletesTo, queues_of_end, image_of_end, status_of_end, IsOver, without_command, without_submission, command_refusal, complete_refusal, is_abort_of, waits_among}
-use Rattle.controller_core.specs.Contents.{change, Contents, IsController, AreCommands, FitsCommand, FitsWork, is_command, is_deletion, entry_of_work, verdict_of_work, dw0_of_work, FetchedCommand, Work, AreAwaited, IsNamedBy, entry_of, FitsVerdict as ContentsFitsVerdict}
-use Rattle.controller_core.specs.{Doorbells.with_side, Fetching.{IsBegun, Begins, AnswersKnown, LooksAt, FetchesTo, Takes, TakesIn, is_known, live_side}}
-use Rattle.controller_core.specs.{Looks.name_at, Managing.{with_taken, command_of, managed}, declared.command.Work.TheVariants.{Io, Admin}}
+use Rattle.controller_core.specs.Answering.{completion_by, memory_posted, page_posted, with_answer, answer_refusal}
+use Rattle.controller_core.specs.Completing.{without_command, command_refusal, complete_refusal, is_abort_of, waits_among}
+use Rattle.controller_core.specs.Contents.{change, Contents, IsController, AreCommands, FitsCommand, FitsWork, is_command, entry_of_work, FetchedCommand, AreAwaited, IsNamedBy, entry_of, FitsVerdict as ContentsFitsVerdict}
+use Rattle.controller_core.specs.{Fetching.{IsBegun, Begins, AnswersKnown, LooksAt, FetchesTo, Takes, TakesIn, is_known, live_side}}
+use Rattle.controller_core.specs.{Looks.name_at, Managing.{with_taken, command_of, managed}, declared.command.Work.TheVariants.{Io}}
 use Rattle.controller_core.specs.declared.{queue.ControllerQueue.ControllerQueue, refusal.Refusal.Refusal}
-use Rattle.std.proofs.Common.{◌≡◌, ℕ, ◌<◌, ◌==◌, ◌&&◌, ◌++◌, ◌∷◌, [], not, Bool, true, false, Option, Some, Result, Ok, Err, IsSome, cond, List, length, find, slice_set, get_or, if◌then◌else◌, refl, ap, ap₂, sym, ◌∙◌, arith, subst, eqb-true, true≢false, None, zero, suc, ◌||◌, IfSome, map, slice_get, inl, inr, ◌≢◌, ◌+◌, nat_lt, is_none, is_some}
-use Rattle.std.{proofs.lemmas.{Bool.{cases_Bool, eq-eqb}, Option.none-some}, specs.{Borrow.Bor, List.{AllByRecursion, list_any, count_by}}}
-use Rattle.std.specs.{Option.{option_and_then, option_map, option_map_or, option_copied}, Result.{OnOk, OnErr}, Str.bytes_eq}
+use Rattle.std.proofs.Common.{◌≡◌, ℕ, ◌<◌, ◌==◌, ◌&&◌, ◌++◌, ◌∷◌, [], not, Bool, true, false, Option, Some, Result, Ok, Err, cond, List, length, find, slice_set, get_or, if◌then◌else◌, refl, ap, ap₂, sym, ◌∙◌, arith, subst, eqb-true, true≢false, None, zero, suc, ◌||◌, IfSome, map, slice_get, inl, inr, ◌≢◌, ◌+◌, nat_lt, is_none, is_some}
+use Rattle.std.{proofs.lemmas.{Bool.{cases_Bool, Decides.nat_tests}, Option.none-some}, specs.{Borrow.Bor, List.{AllByRecursion, list_any, count_by}}}
+use Rattle.std.specs.{Option.{option_map, option_map_or, option_copied}, Result.{OnOk, OnErr}}
 use Rattle.admin_commands.specs.Entries.{named_queue, named_command}
-use Rattle.block_image.specs.Blocks.{block_count, blocks_at}
-use Rattle.io_commands.specs.{Ends.FitsVerdict, Jobs.{status_by, status_after, is_success, kind_of_opcode, first_block, block_number, JobContents, io_fault}}
-use Rattle.io_commands.specs.declared.request.Kind.{Kind, TheVariants.{Read, Write, Compare}}
-use Rattle.entry_codec.specs.{Completion.IsComEntry, declared.status.Status.Status}
-use Rattle.entry_codec.specs.declared.status.TheConstants.Status.{SUCCESS, COMPARE_FAILURE, INVALID_OPCODE, INVALID_NAMESPACE, INVALID_FIELD, LBA_OUT_OF_RANGE, COMMAND_ID_CONFLICT}
+use Rattle.block_image.specs.Blocks.{block_count}
+use Rattle.io_commands.specs.{Jobs.{kind_of_opcode, first_block, block_number, JobContents, io_fault}}
+use Rattle.entry_codec.specs.declared.status.TheConstants.Status.{INVALID_OPCODE, INVALID_NAMESPACE, INVALID_FIELD, LBA_OUT_OF_RANGE, COMMAND_ID_CONFLICT}
 use Rattle.entry_codec.specs.declared.submission.SubEntry.{SubEntry}
 use Rattle.page_memory.specs.Memory.{Memory}
-use Rattle.queue_pair.specs.Rings.{DeviceSide, answer_posted}
+use Rattle.queue_pair.specs.Rings.{DeviceSide}
 
 -- Where an Abort waits for a command, it is there, and names that command.
 
@@ -55,21 +53,14 @@ all_awaited commands commands' (x ∷ xs) keeps all = (awaits_alike commands com
 
 keeps_more : (commands : List FetchedCommand) (k : FetchedCommand) → Keeps commands (commands ++ k ∷ [])
 keeps_more [] k cid e h = absurd (none-some e h)
-keeps_more (x ∷ xs) k cid e h = go (is_command 0 cid x) h (keeps_more xs k cid e)
-  where
-    go : (b : Bool) → option_map (λ k. entry_of_work k.work) (cond b (Some x) (find (is_command 0 cid) xs)) ≡ Some e
-        → (entry_of xs 0 cid ≡ Some e → entry_of (xs ++ k ∷ []) 0 cid ≡ Some e)
-        → option_map (λ k. entry_of_work k.work) (cond b (Some x) (find (is_command 0 cid) (xs ++ k ∷ []))) ≡ Some e
-    go true h rest = h
-    go false h rest = rest h
-
-all_more : {A : Type 0} (P : A → Type 0) (xs : List A) (y : A) → AllByRecursion P xs → P y → AllByRecursion P (xs ++ y ∷ [])
-all_more P [] y all here = (here, tt)
-all_more P (x ∷ xs) y all here = (all.0, all_more P xs y all.1 here)
+keeps_more (x ∷ xs) k cid e h = elim (cases_Bool (is_command 0 cid x)) [
+  | inl own ↦ rw own (rw own at h)
+  | inr other ↦ rw other (keeps_more xs k cid e (rw other at h))
+]
 
 pub awaited_more : (commands : List FetchedCommand) (k : FetchedCommand) → AreAwaited commands → k.waiting_abort ≡ None → AreAwaited (commands ++ k ∷ [])
 awaited_more commands k are none =
-    all_more (Awaits (commands ++ k ∷ [])) commands k (all_awaited commands (commands ++ k ∷ []) commands (keeps_more commands k) are)
+    all-append (Awaits (commands ++ k ∷ [])) commands k (all_awaited commands (commands ++ k ∷ []) commands (keeps_more commands k) are)
     (subst (λ (o : Option ℕ). IfSome o (IsNamedBy (commands ++ k ∷ []) k)) (sym none) tt)
 
 -- An Abort and the command that it stops
@@ -77,37 +68,31 @@ awaited_more commands k are none =
 entry_map : (f : FetchedCommand → FetchedCommand) → ((k : FetchedCommand) → IsAlike k (f k)) → (commands : List FetchedCommand) (q cid : ℕ) → entry_of (map f commands) q cid ≡ entry_of commands q cid
 entry_map f alike [] q cid = refl
 entry_map f alike (x ∷ xs) q cid =
-    ap (λ (b : Bool). option_map (λ k. entry_of_work k.work) (cond b (Some (f x)) (find (is_command q cid) (map f xs)))) (named_alike q cid x (f x) (alike x))
-    ∙ go (is_command q cid x) (entry_map f alike xs q cid)
-  where
-    go : (b : Bool) → entry_of (map f xs) q cid ≡ entry_of xs q cid
-        → option_map (λ k. entry_of_work k.work) (cond b (Some (f x)) (find (is_command q cid) (map f xs))) ≡ option_map (λ k. entry_of_work k.work) (cond b (Some x) (find (is_command q cid) xs))
-    go true rest = ap (λ (e : SubEntry). Some e) (alike x).1
-    go false rest = rest
+    rw (named_alike q cid x (f x) (alike x)) (elim (cases_Bool (is_command q cid x)) [
+      | inl own ↦ rw own (ap (λ (e : SubEntry). Some e) (alike x).1)
+      | inr other ↦ rw other (entry_map f alike xs q cid)
+    ])
 
 pub none_mapped : (f : FetchedCommand → FetchedCommand) → ((k : FetchedCommand) → IsAlike k (f k)) → (commands : List FetchedCommand) (q cid : ℕ) → find (is_command q cid) commands ≡ None → find (is_command q cid) (map f commands) ≡ None
 none_mapped f alike [] q cid none = refl
-none_mapped f alike (x ∷ xs) q cid none = rw (named_alike q cid x (f x) (alike x)) (go (is_command q cid x) none (none_mapped f alike xs q cid))
-  where
-    go : (b : Bool) → cond b (Some x) (find (is_command q cid) xs) ≡ None → (find (is_command q cid) xs ≡ None → find (is_command q cid) (map f xs) ≡ None) → cond b (Some (f x)) (find (is_command q cid) (map f xs)) ≡ None
-    go true none rest = absurd (none-some x (sym none))
-    go false none rest = rest none
+none_mapped f alike (x ∷ xs) q cid none = elim (cases_Bool (is_command q cid x)) [
+  | inl h ↦ absurd (none-some x (sym (rw h at none)))
+  | inr h ↦ rw (named_alike q cid x (f x) (alike x), h) (none_mapped f alike xs q cid (rw h at none))
+]
 
 -- what is found behind others
 found_last : (commands : List FetchedCommand) (k : FetchedCommand) (q cid : ℕ) → find (is_command q cid) commands ≡ None → is_command q cid k ≡ true → entry_of (commands ++ k ∷ []) q cid ≡ Some (entry_of_work k.work)
 found_last [] k q cid none own = rw own refl
-found_last (x ∷ xs) k q cid none own = go (is_command q cid x) none (found_last xs k q cid)
-  where
-    go : (b : Bool) → cond b (Some x) (find (is_command q cid) xs) ≡ None → (find (is_command q cid) xs ≡ None → is_command q cid k ≡ true → entry_of (xs ++ k ∷ []) q cid ≡ Some (entry_of_work k.work))
-        → option_map (λ k. entry_of_work k.work) (cond b (Some x) (find (is_command q cid) (xs ++ k ∷ []))) ≡ Some (entry_of_work k.work)
-    go true none rest = absurd (none-some x (sym none))
-    go false none rest = rest none own
+found_last (x ∷ xs) k q cid none own = elim (cases_Bool (is_command q cid x)) [
+  | inl h ↦ absurd (none-some x (sym (rw h at none)))
+  | inr h ↦ rw h (found_last xs k q cid (rw h at none) own)
+]
 
 -- A change of all commands that leaves names and entries, and whose new waits are named by a command that is put behind them
 pub awaited_changed : (f : FetchedCommand → FetchedCommand) (commands : List FetchedCommand) (own : FetchedCommand) → ((k : FetchedCommand) → IsAlike k (f k))
     → ((k : FetchedCommand) → Awaits (map f commands ++ own ∷ []) k → Awaits (map f commands ++ own ∷ []) (f k)) → own.waiting_abort ≡ None → AreAwaited commands → AreAwaited (map f commands ++ own ∷ [])
 awaited_changed f commands own alike changes none are =
-    all_more (Awaits after) (map f commands) own (go commands (all_awaited commands after commands keeps are)) (subst (λ (o : Option ℕ). IfSome o (IsNamedBy after own)) (sym none) tt)
+    all-append (Awaits after) (map f commands) own (go commands (all_awaited commands after commands keeps are)) (subst (λ (o : Option ℕ). IfSome o (IsNamedBy after own)) (sym none) tt)
   where
     after : List FetchedCommand
     after = map f commands ++ own ∷ []
@@ -129,30 +114,20 @@ entry_set : (commands : List FetchedCommand) (i q cid : ℕ) (x y : FetchedComma
 entry_set [] i q cid x y at alike = refl
 entry_set (z ∷ xs) zero q cid x y at alike =
     let same : z ≡ x = some_is at in
-    ap (λ (b : Bool). option_map (λ k. entry_of_work k.work) (cond b (Some y) (find (is_command q cid) xs))) (named_alike q cid x y alike ∙ ap (is_command q cid) (sym same))
-    ∙ go (is_command q cid z) (alike.1 ∙ ap (λ (k : FetchedCommand). entry_of_work k.work) (sym same))
-  where
-    go : (b : Bool) → entry_of_work y.work ≡ entry_of_work z.work
-        → option_map (λ k. entry_of_work k.work) (cond b (Some y) (find (is_command q cid) xs)) ≡ option_map (λ k. entry_of_work k.work) (cond b (Some z) (find (is_command q cid) xs))
-    go true e = ap (λ (e : SubEntry). Some e) e
-    go false e = refl
-entry_set (z ∷ xs) (suc i) q cid x y at alike = go (is_command q cid z) (entry_set xs i q cid x y at alike)
-  where
-    go : (b : Bool) → entry_of (slice_set xs i y) q cid ≡ entry_of xs q cid
-        → option_map (λ k. entry_of_work k.work) (cond b (Some z) (find (is_command q cid) (slice_set xs i y))) ≡ option_map (λ k. entry_of_work k.work) (cond b (Some z) (find (is_command q cid) xs))
-    go true rest = refl
-    go false rest = rest
-
-all_put : {A : Type 0} (P : A → Type 0) (xs : List A) (i : ℕ) (y : A) → AllByRecursion P xs → P y → AllByRecursion P (slice_set xs i y)
-all_put P [] i y all h = tt
-all_put P (x ∷ xs) zero y all h = (h, all.1)
-all_put P (x ∷ xs) (suc i) y all h = (all.0, all_put P xs i y all.1 h)
+    rw (named_alike q cid x y alike ∙ ap (is_command q cid) (sym same)) (elim (cases_Bool (is_command q cid z)) [
+      | inl own ↦ rw own (ap (λ (e : SubEntry). Some e) (alike.1 ∙ ap (λ (k : FetchedCommand). entry_of_work k.work) (sym same)))
+      | inr other ↦ rw other refl
+    ])
+entry_set (z ∷ xs) (suc i) q cid x y at alike = elim (cases_Bool (is_command q cid z)) [
+  | inl own ↦ rw own refl
+  | inr other ↦ rw other (entry_set xs i q cid x y at alike)
+]
 
 pub awaited_set : (commands : List FetchedCommand) (i : ℕ) (x y : FetchedCommand) → slice_get commands i ≡ Some x → IsAlike x y → y.waiting_abort ≡ x.waiting_abort → AreAwaited commands → AreAwaited (slice_set commands i y)
 awaited_set commands i x y at alike same are =
     let after : List FetchedCommand = slice_set commands i y in
     let keeps : Keeps commands after = λ cid e h. entry_set commands i 0 cid x y at alike ∙ h in
-    all_put (Awaits after) commands i y (all_awaited commands after commands keeps are) (awaits_alike commands after x y same alike keeps (all-at (Awaits commands) commands i x at are))
+    all_set (Awaits after) commands i y (all_awaited commands after commands keeps are) (awaits_alike commands after x y same alike keeps (all-at (Awaits commands) commands i x at are))
 
 -- A completion
 
@@ -179,31 +154,18 @@ let_by commands q cid k (Some abort) lets is =
 
 all_let : (commands xs : List FetchedCommand) (q cid : ℕ) → AllByRecursion (IsLet q cid) xs → AllByRecursion (Awaits commands) xs → AllByRecursion (Awaits (without_command q cid commands)) (without_command q cid xs)
 all_let commands [] q cid lets all = tt
-all_let commands (x ∷ xs) q cid lets all = go (is_command q cid x) (all_let commands xs q cid lets.1 all.1)
-  where
-    go : (b : Bool) → AllByRecursion (Awaits (without_command q cid commands)) (without_command q cid xs) → AllByRecursion (Awaits (without_command q cid commands)) (cond (not b) (x ∷ without_command q cid xs) (without_command q cid xs))
-    go true rest = rest
-    go false rest = (let_by commands q cid x x.waiting_abort lets.0 all.0, rest)
+all_let commands (x ∷ xs) q cid lets all =
+    let rest = all_let commands xs q cid lets.1 all.1 in
+    elim (is_command q cid x) as (λ b. AllByRecursion (Awaits (without_command q cid commands)) (cond (not b) (x ∷ without_command q cid xs) (without_command q cid xs))) [
+      | true ↦ rest
+      | false ↦ (let_by commands q cid x x.waiting_abort lets.0 all.0, rest)
+    ]
 
 other_queue : (q cid abort : ℕ) → (q == 0) ≡ false → (x : FetchedCommand) → is_command 0 abort x ≡ true → is_command q cid x ≡ false
-other_queue q cid abort io x own = go (is_command q cid x) refl
-  where
-    go : (b : Bool) → is_command q cid x ≡ b → b ≡ false
-    go true h =
-        let zeroth : x.q ≡ 0 = eqb-true x.q 0 (both_parts (x.q == 0) (cid_of x == abort) own).0 in
-        let queue : x.q ≡ q = eqb-true x.q q (both_parts (x.q == q) (cid_of x == cid) h).0 in
-        absurd (true≢false (sym (eq-eqb q 0 (sym queue ∙ zeroth)) ∙ io))
-    go false h = refl
+other_queue q cid abort io x own = grind (arith, nat_tests, io, own)
 
 other_abort : (q cid abort : ℕ) → (abort == cid) ≡ false → (x : FetchedCommand) → is_command 0 abort x ≡ true → is_command q cid x ≡ false
-other_abort q cid abort other x own = go (is_command q cid x) refl
-  where
-    go : (b : Bool) → is_command q cid x ≡ b → b ≡ false
-    go true h =
-        let first : cid_of x ≡ abort = eqb-true (cid_of x) abort (both_parts (x.q == 0) (cid_of x == abort) own).1 in
-        let second : cid_of x ≡ cid = eqb-true (cid_of x) cid (both_parts (x.q == q) (cid_of x == cid) h).1 in
-        absurd (true≢false (sym (eq-eqb abort cid (sym first ∙ second)) ∙ other))
-    go false h = refl
+other_abort q cid abort other x own = grind (arith, nat_tests, other, own)
 
 lets_io : (commands : List FetchedCommand) (q cid : ℕ) → (q == 0) ≡ false → AllByRecursion (IsLet q cid) commands
 lets_io [] q cid io = tt
@@ -213,7 +175,7 @@ lets_io (x ∷ xs) q cid io = (go x.waiting_abort, lets_io xs q cid io)
     go None = tt
     go (Some abort) = other_queue q cid abort io
 
-either_no : (a b : Bool) → (a || b) ≡ false → (a ≡ false) × (b ≡ false)
+pub either_no : (a b : Bool) → (a || b) ≡ false → (a ≡ false) × (b ≡ false)
 either_no true b e = absurd (true≢false e)
 either_no false b e = (refl, e)
 
@@ -267,21 +229,17 @@ record IsAny (f : FetchedCommand → Bool) (commands : List FetchedCommand) : Ty
 
 some_any : (f : FetchedCommand → Bool) (commands : List FetchedCommand) → list_any f commands ≡ true → IsAny f commands
 some_any f [] any = absurd (true≢false (sym any))
-some_any f (x ∷ xs) any = go (f x) refl any (some_any f xs)
-  where
-    go : (b : Bool) → f x ≡ b → (b || list_any f xs) ≡ true → (list_any f xs ≡ true → IsAny f xs) → IsAny f (x ∷ xs)
-    go true h any rest = record { place = 0; command = x; at = refl; passes = h }
-    go false h any rest = let later = rest any in record { place = suc later.place; command = later.command; at = later.at; passes = later.passes }
+some_any f (x ∷ xs) any = elim (cases_Bool (f x)) [
+  | inl h ↦ record { place = 0; command = x; at = refl; passes = h }
+  | inr h ↦ let later = some_any f xs (rw h at any) in record { place = suc later.place; command = later.command; at = later.at; passes = later.passes }
+]
 
 none_found_awaited : (f p : FetchedCommand → Bool) (commands : List FetchedCommand) → list_any f commands ≡ false → option_map_or f (find p commands) false ≡ false
 none_found_awaited f p [] none = refl
 none_found_awaited f p (x ∷ xs) none =
     let both = either_no (f x) (list_any f xs) none in
-    go (p x) both.0 (none_found_awaited f p xs both.1)
-  where
-    go : (b : Bool) → f x ≡ false → option_map_or f (find p xs) false ≡ false → option_map_or f (cond b (Some x) (find p xs)) false ≡ false
-    go true h rest = h
-    go false h rest = rest
+    let rest = none_found_awaited f p xs both.1 in
+    elim (p x) as (λ b. option_map_or f (cond b (Some x) (find p xs)) false ≡ false) [ true ↦ both.0 | false ↦ rest ]
 
 names_by : (commands : List FetchedCommand) (e : SubEntry) (k : FetchedCommand) (o : Option ℕ) → entry_of commands 0 e.cid ≡ Some e → IfSome o (IsNamedBy commands k) → is_abort_of e.cid o ≡ true → is_command (named_queue e) (named_command e) k ≡ true
 names_by commands e k None there is own = absurd (true≢false (sym own))
@@ -329,11 +287,10 @@ count-more p (x ∷ xs) y = omega (arith, count-cons p x xs, count-cons p x (xs 
 
 pub none_found : {A : Type 0} (p : A → Bool) (xs : List A) → find p xs ≡ None → count_by p xs ≡ 0
 none_found p [] e = refl
-none_found p (x ∷ xs) e = go (p x) refl e (none_found p xs)
-  where
-    go : (b : Bool) → p x ≡ b → cond b (Some x) (find p xs) ≡ None → (find p xs ≡ None → count_by p xs ≡ 0) → count_by p (x ∷ xs) ≡ 0
-    go true h e rest = cc
-    go false h e rest = omega (arith, count-cons p x xs, ap one h, rest e)
+none_found p (x ∷ xs) e = elim (cases_Bool (p x)) [
+  | inl h ↦ absurd (none-some x (sym (rw h at e)))
+  | inr h ↦ omega (arith, count-cons p x xs, ap one h, none_found p xs (rw h at e))
+]
 
 -- One command more
 
@@ -410,7 +367,7 @@ answers_by (Ok x) queues q i cid m m' reached reached' queue queue' same there a
     record {
       queue = queue;
       here = get-at q queues queue there (subst (λ (j : ℕ). queue ≡ get_or queues j queue) same at);
-      leaves = change-at q i (λ queue. with_answer (with_taken queue)) queues queue queue' same (omega (arith, same, there)) at a;
+      leaves = change_at q i (λ queue. with_answer (with_taken queue)) queues queue queue' same (omega (arith, same, there)) at a;
       memory = b;
       touches = d;
     }

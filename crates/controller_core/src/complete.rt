@@ -31,6 +31,7 @@ fn deletes(entry: &SubEntry, status: Status) -> bool
 }
 
 /// Leaves nothing of a queue's submission side, where there is such a queue.
+#[tactic(auto, using(crate::proofs::Lists::change_at, crate::proofs::Lists::change_past))]
 fn drop_submission<A: Allocator>(queues: &mut Vec<ControllerQueue, A>, q: u16)
     ensures { queues.new.items ≡ change q without_submission queues.old.items }
 {

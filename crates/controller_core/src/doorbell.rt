@@ -9,6 +9,7 @@ use crate::queue::ControllerQueue;
 use std::alloc::Allocator;
 
 /// Hears the tail of a queue, if there is such a queue.
+#[tactic(auto, using(crate::proofs::Lists::change_at, crate::proofs::Lists::change_past))]
 fn hear_tail_of<A: Allocator>(queues: &mut Vec<ControllerQueue, A>, q: u16, value: u16)
     ensures { queues.new.items ≡ change q (with_tail value) queues.old.items }
 {
@@ -18,6 +19,7 @@ fn hear_tail_of<A: Allocator>(queues: &mut Vec<ControllerQueue, A>, q: u16, valu
 }
 
 /// Hears the head of a queue, if there is such a queue.
+#[tactic(auto, using(crate::proofs::Lists::change_at, crate::proofs::Lists::change_past))]
 fn hear_head_of<A: Allocator>(queues: &mut Vec<ControllerQueue, A>, q: u16, value: u16)
     ensures { queues.new.items ≡ change q (with_head value) queues.old.items }
 {

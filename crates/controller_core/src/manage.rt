@@ -78,6 +78,7 @@ impl<A: Allocator> FetchedCommand<Job<A>> {
 }
 
 /// Fetches nothing more from a queue, where there is such a queue.
+#[tactic(auto, using(crate::proofs::Lists::change_at, crate::proofs::Lists::change_past))]
 fn stop_queue<A: Allocator>(queues: &mut Vec<ControllerQueue, A>, q: u16)
     ensures { queues.new.items ≡ change q stopping queues.old.items }
 {
@@ -87,6 +88,7 @@ fn stop_queue<A: Allocator>(queues: &mut Vec<ControllerQueue, A>, q: u16)
 }
 
 /// Drops the completion side of a queue, where there is such a queue.
+#[tactic(auto, using(crate::proofs::Lists::change_at, crate::proofs::Lists::change_past))]
 fn drop_completion<A: Allocator>(queues: &mut Vec<ControllerQueue, A>, q: u16)
     ensures { queues.new.items ≡ change q without_completion queues.old.items }
 {
@@ -96,6 +98,7 @@ fn drop_completion<A: Allocator>(queues: &mut Vec<ControllerQueue, A>, q: u16)
 }
 
 /// Makes the completion side of a queue, where there is such a queue: its ring begins at an address, and both rings are empty.
+#[tactic(auto, using(crate::proofs::Lists::change_at, crate::proofs::Lists::change_past))]
 fn make_completion<A: Allocator>(queues: &mut Vec<ControllerQueue, A>, q: u16, base: u64)
     requires { base < 4096 * 2 ^ 32 }
     ensures { queues.new.items ≡ change q (with_completion base) queues.old.items }
@@ -106,6 +109,7 @@ fn make_completion<A: Allocator>(queues: &mut Vec<ControllerQueue, A>, q: u16, b
 }
 
 /// Makes the submission side of a queue, where there is such a queue: its ring begins at an address, and both rings are empty.
+#[tactic(auto, using(crate::proofs::Lists::change_at, crate::proofs::Lists::change_past))]
 fn make_submission<A: Allocator>(queues: &mut Vec<ControllerQueue, A>, q: u16, base: u64)
     requires { base < 4096 * 2 ^ 32 }
     ensures { queues.new.items ≡ change q (with_submission base) queues.old.items }

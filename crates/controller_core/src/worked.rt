@@ -18,6 +18,7 @@ ghost use Rattle.controller_core.specs.declared.command.Work.TheVariants.{Admin}
 ghost use Rattle.controller_core.specs.declared.refusal.Refusal.TheVariants as refusal;
 
 /// A Read of one block, from the entry in memory to the completion in memory, with the pages that each call touches behind those that were touched before.
+#[tactic(auto, using(crate::proofs::WorkedReads::first_fetch, crate::proofs::WorkedReads::first_unit, crate::proofs::WorkedReads::second_unit, crate::proofs::WorkedReads::first_completion), unfolding(page_memory::specs::Memory::bytes_at, sgl_descriptor::specs::Spelling::descriptor_of, entry_codec::specs::Submission::submission_of, entry_codec::specs::Completion::completion_bytes, controller_walk::specs::Units::moving, controller_walk::specs::Units::from_place))]
 pub fn worked_first_read()
     ensures fetch { FetchesTo rung 8 memory_with_entry [] 1 0 with_read_begun memory_with_entry (2 ∷ []) }
     ensures first_unit { WalksTo with_read_begun 1 0 memory_with_entry (2 ∷ []) More with_read_halfway memory_with_entry (2 ∷ []) }
@@ -54,6 +55,7 @@ pub fn worked_admin()
 {}
 
 /// The halves of a queue that was deleted are made again, from their entries in memory: it is live, with empty rings at the pages named.
+#[tactic(auto, using(crate::proofs::WorkedReads::completion_fetched, crate::proofs::WorkedReads::submission_fetched), unfolding(page_memory::specs::Memory::bytes_at, sgl_descriptor::specs::Spelling::descriptor_of, entry_codec::specs::Submission::submission_of, entry_codec::specs::Completion::completion_bytes, controller_walk::specs::Units::moving, controller_walk::specs::Units::from_place))]
 pub fn worked_creations()
     ensures completion { FetchesTo without_queue 8 memory_with_creations [] 0 0 with_completion_made memory_with_creations (0 ∷ []) }
     ensures submission { FetchesTo with_completion_made 8 memory_with_creations (0 ∷ []) 0 1 with_queue_made memory_with_creations (0 ∷ 0 ∷ []) }
@@ -71,6 +73,7 @@ pub fn worked_refused_creations()
 
 /// A Read in the midst of its walk and the Abort that stopped it are gone after a reset, and nothing is fetched of what stands in the rings.
 /// The Read's queue is made again, from its entries in memory, as behind a deletion.
+#[tactic(auto, using(crate::proofs::WorkedReads::completion_fetched, crate::proofs::WorkedReads::submission_fetched), unfolding(page_memory::specs::Memory::bytes_at, sgl_descriptor::specs::Spelling::descriptor_of, entry_codec::specs::Submission::submission_of, entry_codec::specs::Completion::completion_bytes, controller_walk::specs::Units::moving, controller_walk::specs::Units::from_place))]
 pub fn worked_reset()
     ensures before { length with_abort.commands ≡ 2 }
     ensures admin_idle { fetch_refusal with_reset memory_with_creations 0 ≡ Some refusal.Idle }

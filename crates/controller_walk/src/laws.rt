@@ -23,6 +23,7 @@ pub fn lists_hang_on_what_they_reach()
 {}
 
 /// So it is for what a walk still has to do: a page that it doesn't reach may come and go, and may be written.
+#[tactic(auto, using(crate::proofs::Same::walk_served))]
 pub fn walks_hang_on_what_they_reach()
     ensures { (m other : Memory) → SameWhereServed m other }
 {}

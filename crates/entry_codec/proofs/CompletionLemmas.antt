@@ -4,52 +4,27 @@ use Rattle.std.proofs.lemmas.{List.{get_or-take, get_or-drop}, Nat.{from_le_byte
 use Rattle.std.specs.{Int.{w16, w32, to_le_bytes, from_le_bytes}, List.slice_range}
 use Rattle.entry_codec.proofs.Bits.{bit_fits, fields_of, phase_of, code_of, type_of, part_is_bytes, halfword_back, word_back, halfword_fits, word_fits, part_within, same_parts, one_at}
 use Rattle.entry_codec.specs.{Bytes.IsBytes, Completion.{completion_bytes, completion_of, FitsCompletion, IsComEntry, IsCompletion, AgreeOutsideIgnored}}
-use Rattle.entry_codec.specs.{Status.status_halfword, declared.{completion.ComEntry.ComEntry, status.Status.Status}}
+use Rattle.entry_codec.specs.{Status.status_halfword, declared.completion.ComEntry.ComEntry}
 
 -- 16 bytes spell what is read of them
 pub spells : (bytes : List ℕ) → IsBytes 16 bytes → IsCompletion (completion_of bytes) bytes
 unfolding completion_of
 spells bytes h =
     let part : (at n : ℕ) → at + n ≤ 16 → IsBytes n (take n (drop at bytes)) = part_is_bytes 16 bytes h in
-    let p0 = part 0 4 (omega arith) in
-    let p8 = part 8 2 (omega arith) in
-    let p10 = part 10 2 (omega arith) in
-    let p12 = part 12 2 (omega arith) in
     record {
       typed = record {
-        dw0 = word_fits _ _ p0;
-        sqhd = halfword_fits _ _ p8;
-        sqid = halfword_fits _ _ p10;
-        cid = halfword_fits _ _ p12;
+        dw0 = word_fits _ _ (part 0 4 (omega arith));
+        sqhd = halfword_fits _ _ (part 8 2 (omega arith));
+        sqid = halfword_fits _ _ (part 10 2 (omega arith));
+        cid = halfword_fits _ _ (part 12 2 (omega arith));
         sc = omega arith;
       };
-      dw0 = word_back _ p0;
-      sqhd = halfword_back _ p8;
-      sqid = halfword_back _ p10;
-      cid = halfword_back _ p12;
+      dw0 = word_back _ (part 0 4 (omega arith));
+      sqhd = halfword_back _ (part 8 2 (omega arith));
+      sqid = halfword_back _ (part 10 2 (omega arith));
+      cid = halfword_back _ (part 12 2 (omega arith));
       halfword = fields_of (from_le_bytes w16 (slice_range bytes 14 16));
     }
-
--- entries whose fields are the same
-pub same_entry : (a b : ComEntry)
-    → a.dw0 ≡ b.dw0
-    → a.sqhd ≡ b.sqhd
-    → a.sqid ≡ b.sqid
-    → a.cid ≡ b.cid
-    → a.phase ≡ b.phase
-    → a.status ≡ b.status
-    → a ≡ b
-same_entry a b dw0 sqhd sqid cid phase status = λ i. record {
-  dw0 = dw0 i;
-  sqhd = sqhd i;
-  sqid = sqid i;
-  cid = cid i;
-  phase = phase i;
-  status = status i;
-}
-
-same_status : (a b : Status) → a.sct ≡ b.sct → a.sc ≡ b.sc → a ≡ b
-same_status a b sct sc = λ i. record { sct = sct i; sc = sc i }
 
 -- what bytes spell is what is read of them
 pub found : (bytes : List ℕ) (entry : ComEntry) → IsCompletion entry bytes → completion_of bytes ≡ entry
@@ -61,12 +36,15 @@ found bytes entry h =
     λ at n e fits. ap (λ x. from_le_bytes w16 x) e ∙ from_le_bytes-to_le_bytes_2 n fits in
     let sct = type_of halfword entry.status.sct entry.status.sc entry.phase h.halfword h.typed.sc in
     let sc = code_of halfword entry.status.sct entry.status.sc entry.phase h.halfword h.typed.sc in
-    same_entry (completion_of bytes) entry dw0
-    (half 8 entry.sqhd h.sqhd h.typed.sqhd)
-    (half 10 entry.sqid h.sqid h.typed.sqid)
-    (half 12 entry.cid h.cid h.typed.cid)
-    (phase_of halfword entry.status.sct entry.status.sc entry.phase h.halfword)
-    (same_status (completion_of bytes).status entry.status sct sc)
+    rw (
+      dw0,
+      half 8 entry.sqhd h.sqhd h.typed.sqhd,
+      half 10 entry.sqid h.sqid h.typed.sqid,
+      half 12 entry.cid h.cid h.typed.cid,
+      phase_of halfword entry.status.sct entry.status.sc entry.phase h.halfword,
+      sct,
+      sc,
+    ) refl
 
 -- 16 bytes spell an entry exactly where it is read of them
 pub one_spelling : (bytes : List ℕ) (entry : ComEntry) → IsBytes 16 bytes → (IsCompletion entry bytes ↔ (completion_of bytes ≡ entry))

@@ -13,76 +13,34 @@ pub spells : (bytes : List ℕ) → IsBytes 64 bytes → IsSubmission (submissio
 unfolding submission_of
 spells bytes h =
     let part : (at n : ℕ) → at + n ≤ 64 → IsBytes n (take n (drop at bytes)) = part_is_bytes 64 bytes h in
-    let p2 = part 2 2 (omega arith) in
-    let p4 = part 4 4 (omega arith) in
-    let p16 = part 16 8 (omega arith) in
-    let p24 = part 24 16 (omega arith) in
-    let p40 = part 40 4 (omega arith) in
-    let p44 = part 44 4 (omega arith) in
-    let p48 = part 48 4 (omega arith) in
-    let p52 = part 52 4 (omega arith) in
-    let p56 = part 56 4 (omega arith) in
-    let p60 = part 60 4 (omega arith) in
     record {
       typed = record {
         opcode = h.below 0;
-        cid = halfword_fits _ _ p2;
-        nsid = word_fits _ _ p4;
-        mptr = double_fits _ _ p16;
-        sgl1 = p24;
-        cdw10 = word_fits _ _ p40;
-        cdw11 = word_fits _ _ p44;
-        cdw12 = word_fits _ _ p48;
-        cdw13 = word_fits _ _ p52;
-        cdw14 = word_fits _ _ p56;
-        cdw15 = word_fits _ _ p60;
+        cid = halfword_fits _ _ (part 2 2 (omega arith));
+        nsid = word_fits _ _ (part 4 4 (omega arith));
+        mptr = double_fits _ _ (part 16 8 (omega arith));
+        sgl1 = part 24 16 (omega arith);
+        cdw10 = word_fits _ _ (part 40 4 (omega arith));
+        cdw11 = word_fits _ _ (part 44 4 (omega arith));
+        cdw12 = word_fits _ _ (part 48 4 (omega arith));
+        cdw13 = word_fits _ _ (part 52 4 (omega arith));
+        cdw14 = word_fits _ _ (part 56 4 (omega arith));
+        cdw15 = word_fits _ _ (part 60 4 (omega arith));
       };
       opcode = refl;
       fuse = refl;
       psdt = refl;
-      cid = halfword_back _ p2;
-      nsid = word_back _ p4;
-      mptr = double_back _ p16;
+      cid = halfword_back _ (part 2 2 (omega arith));
+      nsid = word_back _ (part 4 4 (omega arith));
+      mptr = double_back _ (part 16 8 (omega arith));
       sgl1 = refl;
-      cdw10 = word_back _ p40;
-      cdw11 = word_back _ p44;
-      cdw12 = word_back _ p48;
-      cdw13 = word_back _ p52;
-      cdw14 = word_back _ p56;
-      cdw15 = word_back _ p60;
+      cdw10 = word_back _ (part 40 4 (omega arith));
+      cdw11 = word_back _ (part 44 4 (omega arith));
+      cdw12 = word_back _ (part 48 4 (omega arith));
+      cdw13 = word_back _ (part 52 4 (omega arith));
+      cdw14 = word_back _ (part 56 4 (omega arith));
+      cdw15 = word_back _ (part 60 4 (omega arith));
     }
-
--- entries whose fields are the same
-pub same_entry : (a b : SubEntry)
-    → a.opcode ≡ b.opcode
-    → a.fuse ≡ b.fuse
-    → a.psdt ≡ b.psdt
-    → a.cid ≡ b.cid
-    → a.nsid ≡ b.nsid
-    → a.mptr ≡ b.mptr
-    → a.sgl1 ≡ b.sgl1
-    → a.cdw10 ≡ b.cdw10
-    → a.cdw11 ≡ b.cdw11
-    → a.cdw12 ≡ b.cdw12
-    → a.cdw13 ≡ b.cdw13
-    → a.cdw14 ≡ b.cdw14
-    → a.cdw15 ≡ b.cdw15
-    → a ≡ b
-same_entry a b opcode fuse psdt cid nsid mptr sgl1 cdw10 cdw11 cdw12 cdw13 cdw14 cdw15 = λ i. record {
-  opcode = opcode i;
-  fuse = fuse i;
-  psdt = psdt i;
-  cid = cid i;
-  nsid = nsid i;
-  mptr = mptr i;
-  sgl1 = sgl1 i;
-  cdw10 = cdw10 i;
-  cdw11 = cdw11 i;
-  cdw12 = cdw12 i;
-  cdw13 = cdw13 i;
-  cdw14 = cdw14 i;
-  cdw15 = cdw15 i;
-}
 
 -- what bytes spell is what is read of them
 pub found : (bytes : List ℕ) (entry : SubEntry) → IsSubmission entry bytes → submission_of bytes ≡ entry
@@ -93,13 +51,21 @@ found bytes entry h =
     let mptr : from_le_bytes w64 (take 8 (drop 16 bytes)) ≡ entry.mptr = ap (λ x. from_le_bytes w64 x) h.mptr ∙ from_le_bytes-to_le_bytes_8 entry.mptr h.typed.mptr in
     let word : (at n : ℕ) → take 4 (drop at bytes) ≡ to_le_bytes w32 n → n < 2 ^ 32 → from_le_bytes w32 (take 4 (drop at bytes)) ≡ n =
     λ at n e fits. ap (λ x. from_le_bytes w32 x) e ∙ from_le_bytes-to_le_bytes_4 n fits in
-    let cdw10 = word 40 entry.cdw10 h.cdw10 h.typed.cdw10 in
-    let cdw11 = word 44 entry.cdw11 h.cdw11 h.typed.cdw11 in
-    let cdw12 = word 48 entry.cdw12 h.cdw12 h.typed.cdw12 in
-    let cdw13 = word 52 entry.cdw13 h.cdw13 h.typed.cdw13 in
-    let cdw14 = word 56 entry.cdw14 h.cdw14 h.typed.cdw14 in
-    let cdw15 = word 60 entry.cdw15 h.cdw15 h.typed.cdw15 in
-    same_entry (submission_of bytes) entry h.opcode h.fuse h.psdt cid nsid mptr h.sgl1 cdw10 cdw11 cdw12 cdw13 cdw14 cdw15
+    rw (
+      h.opcode,
+      h.fuse,
+      h.psdt,
+      cid,
+      nsid,
+      mptr,
+      h.sgl1,
+      word 40 entry.cdw10 h.cdw10 h.typed.cdw10,
+      word 44 entry.cdw11 h.cdw11 h.typed.cdw11,
+      word 48 entry.cdw12 h.cdw12 h.typed.cdw12,
+      word 52 entry.cdw13 h.cdw13 h.typed.cdw13,
+      word 56 entry.cdw14 h.cdw14 h.typed.cdw14,
+      word 60 entry.cdw15 h.cdw15 h.typed.cdw15,
+    ) refl
 
 -- 64 bytes spell an entry exactly where it is read of them
 pub one_spelling : (bytes : List ℕ) (entry : SubEntry) → IsBytes 64 bytes → (IsSubmission entry bytes ↔ (submission_of bytes ≡ entry))

@@ -130,7 +130,7 @@ fn halfword(bytes: &[u8; 16]) -> u16
 }
 
 /// What is written for an entry reads as the entry.
-#[tactic(auto)]
+#[tactic(auto, using(crate::proofs::CompletionLemmas::spells_itself, crate::proofs::CompletionLemmas::round_trip))]
 pub fn round_trip()
     ensures spelled { (entry : ComEntry) → IsComEntry entry → FitsCompletion entry → IsCompletion entry (completion_bytes entry) }
     ensures read { (entry : ComEntry) → IsComEntry entry → FitsCompletion entry → completion_of (completion_bytes entry) ≡ entry }
@@ -143,7 +143,7 @@ pub fn one_spelling()
 {}
 
 /// Two strings of bytes read alike exactly where they agree outside what is reserved or ignored.
-#[tactic(auto)]
+#[tactic(auto, using(crate::proofs::CompletionLemmas::read_alike))]
 pub fn read_alike()
     ensures { (a b : List ℕ) → IsBytes 16 a → IsBytes 16 b → ((completion_of a ≡ completion_of b) ↔ AgreeOutsideIgnored a b) }
 {}

@@ -217,7 +217,7 @@ pub fn cdw15(bytes: &[u8; 64]) -> u32
 }
 
 /// What is written for an entry reads as the entry.
-#[tactic(auto)]
+#[tactic(auto, using(crate::proofs::SubmissionLemmas::spells_itself, crate::proofs::SubmissionLemmas::round_trip))]
 pub fn round_trip()
     ensures spelled { (entry : SubEntry) → IsSubEntry entry → FitsSubmission entry → IsSubmission entry (submission_bytes entry) }
     ensures read { (entry : SubEntry) → IsSubEntry entry → FitsSubmission entry → submission_of (submission_bytes entry) ≡ entry }
@@ -230,7 +230,7 @@ pub fn one_spelling()
 {}
 
 /// Two strings of bytes read alike exactly where they agree outside what is reserved.
-#[tactic(auto)]
+#[tactic(auto, using(crate::proofs::SubmissionLemmas::read_alike))]
 pub fn read_alike()
     ensures { (a b : List ℕ) → IsBytes 64 a → IsBytes 64 b → ((submission_of a ≡ submission_of b) ↔ AgreeOutsideReserved a b) }
 {}

@@ -19,6 +19,7 @@ pub fn laws_of_built_drafts()
 
 /// The fewest pages of a request are no fewer than its data pages and no more than it takes where no parts are joined.
 /// They are the same in whichever consecutive pages the data stands, and in no other pages are they fewer.
+#[tactic(auto, using(crate::proofs::Fewest::is_between, crate::proofs::Fewest::same_anywhere, crate::proofs::Fewest::least_of_all))]
 pub fn laws_of_least_pages()
     ensures between { (pieces : List Piece) (segment : ℕ) → LeastIsBetween pieces segment }
     ensures anywhere { LeastAnywhere }

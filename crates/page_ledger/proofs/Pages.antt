@@ -1,6 +1,6 @@
 -- Consecutive pages, those of them that pass a test, and the search for the lowest run.
 use Rattle.std.proofs.Common.{◌≡◌, ◌≢◌, ℕ, zero, suc, ◌+◌, ◌-◌, ◌<◌, ◌≤◌, ◌⊎◌, inl, inr, Bool, true, false, cond, Some, None, List, [], ◌∷◌, ◌++◌, length, filter, find, take, get_or, refl, ap, sym, ◌∙◌, arith, subst, add-one, add-zero, ◌↔◌, Option}
-use Rattle.std.proofs.lemmas.{Bool.{cases_eq, true≢false, cases_lt}, List.{append-nil, take_at, Elements.filter-append}, Option.slice_get_within}
+use Rattle.std.proofs.lemmas.{Bool.{cases_eq, cases_Bool, true≢false, cases_lt}, List.{append-nil, take_at, Elements.filter-append}, Option.slice_get_within}
 use Rattle.std.specs.{List.{Contains, list_all, range_with_len, Sorted.IsStrictlyIncreasing}, Option.option_map_or}
 use Rattle.page_ledger.specs.{Laws.{IsFreeRun, IsLowestRun, FindsLowestRun}, Owners.{pages_from, owner_at, is_free, is_owned_at}}
 use Rattle.page_ledger.specs.{Runs.{is_free_run, lowest_run}, declared.owner.Owner.{Owner, TheVariants.{Free, Queue, Command}}}
@@ -59,24 +59,17 @@ filter-within f b (suc n) k d l = go (f b) k l (λ j m. filter-within f (b + 1) 
 -- each page that passes is there
 pub filter-contains : (f : ℕ → Bool) (b n p : ℕ) → b ≤ p → p < b + n → f p ≡ true → Contains (filter f (pages_from b n)) p
 filter-contains f b zero p low high passes = absurd (omega arith)
-filter-contains f b (suc n) p low high passes = go (f b) refl (cases_eq b p) (λ l. filter-contains f (b + 1) n p l (omega arith) passes)
-  where
-    rest : List ℕ
-    rest = filter f (pages_from (b + 1) n)
-
-    further : Contains rest p → Contains (b ∷ rest) p
-    further (k, l, e) = (suc k, omega arith, e)
-
-    go : (c : Bool) → f b ≡ c → (b ≡ p) ⊎ (b ≢ p) → (b + 1 ≤ p → Contains rest p) → Contains (cond c (b ∷ rest) rest) p
-    go true at (inl same) ih = (0, omega arith, same)
-    go true at (inr other) ih = further (ih (omega arith))
-    go false at (inl same) ih = absurd (true≢false (sym passes ∙ (ap f (sym same) ∙ at)))
-    go false at (inr other) ih = ih (omega arith)
+filter-contains f b (suc n) p low high passes = elim (cases_eq b p) [
+  | inl same ↦ rw (same, passes) (0, omega arith, refl)
+  | inr other ↦
+      let (k, l, e) = filter-contains f (b + 1) n p (omega arith) (omega arith) passes in
+      elim (cases_Bool (f b)) [ inl at ↦ rw at (suc k, omega arith, e) | inr at ↦ rw at (k, l, e) ]
+]
 
 -- what passes is in rising order
-pub filter-rising : (f : ℕ → Bool) (b n : ℕ) → IsStrictlyIncreasing (filter f (pages_from b n))
-filter-rising f b zero k l = absurd (omega arith)
-filter-rising f b (suc n) k l = go (f b) k l (filter-rising f (b + 1) n) (λ i d m. filter-within f (b + 1) n i d m)
+pub filter_rising : (f : ℕ → Bool) (b n : ℕ) → IsStrictlyIncreasing (filter f (pages_from b n))
+filter_rising f b zero k l = absurd (omega arith)
+filter_rising f b (suc n) k l = go (f b) k l (filter_rising f (b + 1) n) (λ i d m. filter-within f (b + 1) n i d m)
   where
     rest : List ℕ
     rest = filter f (pages_from (b + 1) n)
@@ -120,18 +113,15 @@ pub find-cases : (f : ℕ → Bool) (b n : ℕ)
     → ((p : ℕ) × (b ≤ p) × (p < b + n) × (f p ≡ true) × ((q : ℕ) → b ≤ q → q < p → f q ≡ false) × (find f (pages_from b n) ≡ Some p))
     ⊎ (((q : ℕ) → b ≤ q → q < b + n → f q ≡ false) × (find f (pages_from b n) ≡ None))
 find-cases f b zero = inr ((λ q low high. absurd (omega arith)), refl)
-find-cases f b (suc n) = go (f b) refl (find-cases f (b + 1) n)
-  where
-    go : (c : Bool) → f b ≡ c
-        → ((p : ℕ) × (b + 1 ≤ p) × (p < b + 1 + n) × (f p ≡ true) × ((q : ℕ) → b + 1 ≤ q → q < p → f q ≡ false) × (find f (pages_from (b + 1) n) ≡ Some p))
-        ⊎ (((q : ℕ) → b + 1 ≤ q → q < b + 1 + n → f q ≡ false) × (find f (pages_from (b + 1) n) ≡ None))
-        → ((p : ℕ) × (b ≤ p) × (p < b + suc n) × (f p ≡ true) × ((q : ℕ) → b ≤ q → q < p → f q ≡ false) × (cond c (Some b) (find f (pages_from (b + 1) n)) ≡ Some p))
-        ⊎ (((q : ℕ) → b ≤ q → q < b + suc n → f q ≡ false) × (cond c (Some b) (find f (pages_from (b + 1) n)) ≡ None))
-    go true at rest = inl (b, omega arith, omega arith, at, (λ q low high. absurd (omega arith)), refl)
-    go false at (inl (p, low, high, passes, before, is)) =
-        inl (p, omega arith, omega arith, passes, (λ q l h. elim (cases_eq q b) [ inl e ↦ subst (λ (i : ℕ). f i ≡ false) (sym e) at | inr other ↦ before q (omega arith) h ]), is)
-    go false at (inr (all, none)) =
-        inr ((λ q l h. elim (cases_eq q b) [ inl e ↦ subst (λ (i : ℕ). f i ≡ false) (sym e) at | inr other ↦ all q (omega arith) (omega arith) ]), none)
+find-cases f b (suc n) = elim (cases_Bool (f b)) [
+  | inl at ↦ inl (b, omega arith, omega arith, at, (λ q low high. absurd (omega arith)), rw at refl)
+  | inr at ↦ elim (find-cases f (b + 1) n) [
+    | inl (p, low, high, passes, before, is) ↦
+        inl (p, omega arith, omega arith, passes, (λ q l h. elim (cases_eq q b) [ inl e ↦ subst (λ (i : ℕ). f i ≡ false) (sym e) at | inr other ↦ before q (omega arith) h ]), rw at is)
+    | inr (all, none) ↦
+        inr ((λ q l h. elim (cases_eq q b) [ inl e ↦ subst (λ (i : ℕ). f i ≡ false) (sym e) at | inr other ↦ all q (omega arith) (omega arith) ]), rw at none)
+  ]
+]
 
 -- the walk from one page that passes to the next
 
@@ -216,15 +206,13 @@ lowest_run-is k p owners some run lower = go (find-cases (is_free_run k owners) 
     go (inr (all, is)) = absurd (true≢false (sym run ∙ all p (omega arith) (omega (arith, inside))))
 
 pub lowest_run-none : (k : ℕ) (owners : List Owner) → ((q : ℕ) → q < length owners → is_free_run k owners q ≡ false) → lowest_run k owners ≡ None
-lowest_run-none k owners none = go (find-cases (is_free_run k owners) 0 (length owners))
-  where
-    go : ((r : ℕ) × (0 ≤ r) × (r < 0 + length owners) × (is_free_run k owners r ≡ true) × ((q : ℕ) → 0 ≤ q → q < r → is_free_run k owners q ≡ false) × (lowest_run k owners ≡ Some r))
-        ⊎ (((q : ℕ) → 0 ≤ q → q < 0 + length owners → is_free_run k owners q ≡ false) × (lowest_run k owners ≡ None)) → lowest_run k owners ≡ None
-    go (inl (r, low, high, passes, before, is)) = absurd (true≢false (sym passes ∙ none r (omega arith)))
-    go (inr (all, is)) = is
+lowest_run-none k owners none = elim (find-cases (is_free_run k owners) 0 (length owners)) [
+  | inl (r, low, high, passes, before, is) ↦ absurd (true≢false (sym passes ∙ none r (omega arith)))
+  | inr (all, is) ↦ is
+]
 
-pub finds-lowest_run : (k : ℕ) (owners : List Owner) → 0 < k → FindsLowestRun k owners
-finds-lowest_run k owners some = go (find-cases (is_free_run k owners) 0 (length owners))
+pub finds_lowest : (k : ℕ) (owners : List Owner) → 0 < k → FindsLowestRun k owners
+finds_lowest k owners some = go (find-cases (is_free_run k owners) 0 (length owners))
   where
     go : ((r : ℕ) × (0 ≤ r) × (r < 0 + length owners) × (is_free_run k owners r ≡ true) × ((q : ℕ) → 0 ≤ q → q < r → is_free_run k owners q ≡ false) × (lowest_run k owners ≡ Some r))
         ⊎ (((q : ℕ) → 0 ≤ q → q < 0 + length owners → is_free_run k owners q ≡ false) × (lowest_run k owners ≡ None)) → FindsLowestRun k owners
@@ -234,11 +222,10 @@ finds-lowest_run k owners some = go (find-cases (is_free_run k owners) 0 (length
         here = record { run = run-from k r owners passes; lowest = lowest }
           where
             lowest : (q : ℕ) → IsFreeRun k owners q → r ≤ q
-            lowest q run = at (cases_lt q r)
-              where
-                at : (q < r) ⊎ (r ≤ q) → r ≤ q
-                at (inl below) = absurd (true≢false (sym (run-test k q owners run) ∙ before q (omega arith) below))
-                at (inr from) = from
+            lowest q run = elim (cases_lt q r) [
+              | inl below ↦ absurd (true≢false (sym (run-test k q owners run) ∙ before q (omega arith) below))
+              | inr from ↦ from
+            ]
 
         found : (p : ℕ) → (lowest_run k owners ≡ Some p) ↔ IsLowestRun k owners p
         found p = (
@@ -258,7 +245,7 @@ finds-lowest_run k owners some = go (find-cases (is_free_run k owners) 0 (length
 
 -- what is granted lies in the pool
 pub lowest_run-within : (k p : ℕ) (owners : List Owner) → 0 < k → lowest_run k owners ≡ Some p → p + k ≤ length owners
-lowest_run-within k p owners some e = run-within k p owners some (((finds-lowest_run k owners some).found p).0 e).run
+lowest_run-within k p owners some e = run-within k p owners some (((finds_lowest k owners some).found p).0 e).run
 
 -- what is found is the lowest run of the pool
 

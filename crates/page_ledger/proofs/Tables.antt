@@ -1,6 +1,6 @@
 -- Tables of owners: what a write, a grant and a give-back leave at each page, and of each class.
 use Rattle.std.proofs.Common.{◌≡◌, ◌≢◌, ℕ, zero, suc, ◌+◌, ◌-◌, ◌<◌, ◌≤◌, ◌⊎◌, ◌↔◌, inl, inr, Bool, true, false, cond, ◌||◌, Option, Some, None, List, [], ◌∷◌, ◌++◌, length, filter, take, drop, slice_get, slice_set, refl, ap, sym, ◌∙◌, arith, subst, append_assoc, add-one, length-set, length-append, if◌then◌else◌, All, get_or, ◌&&◌, ◌==◌, not, eqb-true, map, replicate, unwrap_or}
-use Rattle.std.proofs.lemmas.{Bool.{eqb-false, cases_eq, cases_lt, true≢false}, List.{drop_at, length-map, same_lists, take_all}}
+use Rattle.std.proofs.lemmas.{Bool.{eqb-false, cases_eq, cases_lt, cases_Bool, true≢false}, List.{drop_at, length-map, same_lists, take_all}}
 use Rattle.std.proofs.lemmas.List.{Elements.{All-take, filter_passes}, Sums.{sum_by-cons, count_by_more_yes, count_by_more_no, sum_by-set}}
 use Rattle.std.{proofs.lemmas.Option.{slice_get-map, slice_get-get_or, slice_get_within, slice_get_past, unwrap_or-slice_get}, specs.List.{count_by, Contains}}
 use Rattle.std.specs.Option.{option_map_or, option_map}
@@ -75,36 +75,35 @@ with_owner-append owners (p ∷ a) b owner = with_owner-append (slice_set owners
 -- a page that has the owner keeps it
 owner-stays : (owners : List Owner) (pages : List ℕ) (owner : Owner) (p : ℕ) → owner_at owners p ≡ Some owner → owner_at (with_owner owners pages owner) p ≡ Some owner
 owner-stays owners [] owner p has = has
-owner-stays owners (q ∷ pages) owner p has = owner-stays (slice_set owners q owner) pages owner p (after (cases_eq p q))
-  where
-    after : (p ≡ q) ⊎ (p ≢ q) → slice_get (slice_set owners q owner) p ≡ Some owner
-    after (inl same) = subst (λ (i : ℕ). slice_get (slice_set owners i owner) p ≡ Some owner) same (slice_get-set_same owners p owner (slice_get_within owners p owner has))
-    after (inr other) = slice_get-set_other owners q p owner other ∙ has
+owner-stays owners (q ∷ pages) owner p has =
+    owner-stays (slice_set owners q owner) pages owner p (elim (cases_eq p q) [
+      | inl same ↦ rw (← same) (slice_get-set_same owners p owner (slice_get_within owners p owner has))
+      | inr other ↦ slice_get-set_other owners q p owner other ∙ has
+    ])
 
-pub owner-changed : (owners : List Owner) (pages : List ℕ) (owner : Owner) (p : ℕ) → p < length owners → Contains pages p → owner_at (with_owner owners pages owner) p ≡ Some owner
-owner-changed owners [] owner p within (k, l, e) = absurd (omega arith)
-owner-changed owners (q ∷ pages) owner p within (zero, l, e) =
+pub owner_changed : (owners : List Owner) (pages : List ℕ) (owner : Owner) (p : ℕ) → p < length owners → Contains pages p → owner_at (with_owner owners pages owner) p ≡ Some owner
+owner_changed owners [] owner p within (k, l, e) = absurd (omega arith)
+owner_changed owners (q ∷ pages) owner p within (zero, l, e) =
     owner-stays (slice_set owners q owner) pages owner p (subst (λ (i : ℕ). slice_get (slice_set owners i owner) p ≡ Some owner) (sym e) (slice_get-set_same owners p owner within))
-owner-changed owners (q ∷ pages) owner p within (suc k, l, e) =
-    owner-changed (slice_set owners q owner) pages owner p (omega (arith, length-set owners q owner)) (k, omega arith, e)
+owner_changed owners (q ∷ pages) owner p within (suc k, l, e) =
+    owner_changed (slice_set owners q owner) pages owner p (omega (arith, length-set owners q owner)) (k, omega arith, e)
 
-pub owner-kept : (owners : List Owner) (pages : List ℕ) (owner : Owner) (p : ℕ) → (Contains pages p → ⊥) → owner_at (with_owner owners pages owner) p ≡ owner_at owners p
-owner-kept owners [] owner p other = refl
-owner-kept owners (q ∷ pages) owner p other =
-    owner-kept (slice_set owners q owner) pages owner p (λ (k, l, e). other (suc k, omega arith, e))
+pub owner_kept : (owners : List Owner) (pages : List ℕ) (owner : Owner) (p : ℕ) → (Contains pages p → ⊥) → owner_at (with_owner owners pages owner) p ≡ owner_at owners p
+owner_kept owners [] owner p other = refl
+owner_kept owners (q ∷ pages) owner p other =
+    owner_kept (slice_set owners q owner) pages owner p (λ (k, l, e). other (suc k, omega arith, e))
     ∙ slice_get-set_other owners q p owner (λ same. other (0, omega arith, sym same))
 
 -- the pages listed are those whose owner passes
 
 owned-within : (test : Owner → Bool) (owners : List Owner) (p : ℕ) → is_owned_at test owners p ≡ true → p < length owners
-owned-within test owners p holds = go (cases_lt p (length owners))
-  where
-    go : (p < length owners) ⊎ (length owners ≤ p) → p < length owners
-    go (inl within) = within
-    go (inr past) = absurd (true≢false (sym holds ∙ ap (λ o. option_map_or test o false) (slice_get_past owners p past)))
+owned-within test owners p holds = elim (cases_lt p (length owners)) [
+  | inl within ↦ within
+  | inr past ↦ absurd (true≢false (sym holds ∙ ap (λ o. option_map_or test o false) (slice_get_past owners p past)))
+]
 
-pub owned-listed : (test : Owner → Bool) (owners : List Owner) (p : ℕ) → Contains (pages_owned test owners) p ↔ (is_owned_at test owners p ≡ true)
-owned-listed test owners p = (forth, λ holds. filter-contains (is_owned_at test owners) 0 (length owners) p (omega arith) (omega (arith, owned-within test owners p holds)) holds)
+pub owned_listed : (test : Owner → Bool) (owners : List Owner) (p : ℕ) → Contains (pages_owned test owners) p ↔ (is_owned_at test owners p ≡ true)
+owned_listed test owners p = (forth, λ holds. filter-contains (is_owned_at test owners) 0 (length owners) p (omega arith) (omega (arith, owned-within test owners p holds)) holds)
   where
     forth : Contains (pages_owned test owners) p → is_owned_at test owners p ≡ true
     forth (k, l, e) = subst (λ (i : ℕ). is_owned_at test owners i ≡ true) e (filter_passes (is_owned_at test owners) (pages_from 0 (length owners)) k p l)
@@ -137,12 +136,10 @@ walk-count : (test : Owner → Bool) (front owners : List Owner) → length (wal
 unfolding walk
 walk-count test front [] = refl
 walk-count test front (owner ∷ owners) =
-    ap length (walk-cons test front owners owner) ∙ (go (test owner) (walk-count test (front ++ owner ∷ []) owners) ∙ sym (sum_by-cons (λ o. cond (test o) 1 0) owner owners))
-  where
-    go : (c : Bool) → length (walk test (front ++ owner ∷ []) owners) ≡ count_by test owners
-        → length (cond c (length front ∷ walk test (front ++ owner ∷ []) owners) (walk test (front ++ owner ∷ []) owners)) ≡ cond c 1 0 + count_by test owners
-    go true ih = omega arith
-    go false ih = omega arith
+    let ih = walk-count test (front ++ owner ∷ []) owners in
+    let rest = walk test (front ++ owner ∷ []) owners in
+    ap length (walk-cons test front owners owner)
+    ∙ ((elim (test owner) as (λ c. length (cond c (length front ∷ rest) rest) ≡ cond c 1 0 + count_by test owners) [ true ↦ omega arith | false ↦ omega arith ]) ∙ sym (sum_by-cons (λ o. cond (test o) 1 0) owner owners))
 
 pub length-pages_owned : (test : Owner → Bool) (owners : List Owner) → length (pages_owned test owners) ≡ count_by test owners
 unfolding walk
@@ -176,33 +173,25 @@ given-walk named front (owner ∷ owners) =
         ∙ (ap (λ l. with_owner (front ++ Free ∷ owners) l Free) (same Free) ∙ behind Free (ih Free))
     go false ih = behind owner (ih owner)
 
-pub given_back-with_owner : (named : Owner → Bool) (owners : List Owner) → given_back named owners ≡ with_owner owners (pages_owned named owners) Free
+pub given_back_is : (named : Owner → Bool) (owners : List Owner) → given_back named owners ≡ with_owner owners (pages_owned named owners) Free
 unfolding walk
-given_back-with_owner named owners = sym (given-walk named [] owners)
+given_back_is named owners = sym (given-walk named [] owners)
 
 -- the free pages after a give-back
-pub free-given_back : (named : Owner → Bool) (owners : List Owner) → free_pages (given_back named owners) ≡ pages_owned (λ owner. is_free owner || named owner) owners
-free-given_back named owners =
+pub free_given_back : (named : Owner → Bool) (owners : List Owner) → free_pages (given_back named owners) ≡ pages_owned (λ owner. is_free owner || named owner) owners
+free_given_back named owners =
     ap (λ (n : ℕ). filter (is_owned_at is_free (given_back named owners)) (pages_from 0 n)) (length-map owners (λ owner. if named owner then Free else owner))
     ∙ filter-agree (is_owned_at is_free (given_back named owners)) (is_owned_at (λ owner. is_free owner || named owner) owners) 0 (length owners)
     (λ p low high. ap (λ o. option_map_or is_free o false) (slice_get-map (λ owner. if named owner then Free else owner) owners p) ∙ here (slice_get owners p))
   where
-    free : (owner : Owner) (c : Bool) → is_free (if c then Free else owner) ≡ (is_free owner || c)
-    free Free true = refl
-    free Free false = refl
-    free (Queue q half) true = refl
-    free (Queue q half) false = refl
-    free (Command q cid role) true = refl
-    free (Command q cid role) false = refl
-
     here : (o : Option Owner) → option_map_or is_free (option_map (λ owner. if named owner then Free else owner) o) false ≡ option_map_or (λ owner. is_free owner || named owner) o false
     here None = refl
-    here (Some owner) = free owner (named owner)
+    here (Some owner) = grind arith
 
 -- the free pages after a grant
-pub free-granted : (k : ℕ) (owner : Owner) (owners : List Owner) → is_free owner ≡ false → free_pages (with_owner owners (take k (free_pages owners)) owner) ≡ drop k (free_pages owners)
-free-granted zero owner owners busy = refl
-free-granted (suc k) owner owners busy = go (free_pages owners) refl (λ (l : List Owner). free-granted k owner l busy)
+pub free_granted : (k : ℕ) (owner : Owner) (owners : List Owner) → is_free owner ≡ false → free_pages (with_owner owners (take k (free_pages owners)) owner) ≡ drop k (free_pages owners)
+free_granted zero owner owners busy = refl
+free_granted (suc k) owner owners busy = go (free_pages owners) refl (λ (l : List Owner). free_granted k owner l busy)
   where
     go : (free : List ℕ) → free_pages owners ≡ free → ((l : List Owner) → free_pages (with_owner l (take k (free_pages l)) owner) ≡ drop k (free_pages l))
         → free_pages (with_owner owners (take (suc k) free) owner) ≡ drop (suc k) free
@@ -211,11 +200,10 @@ free-granted (suc k) owner owners busy = go (free_pages owners) refl (λ (l : Li
         ap (λ l. free_pages (with_owner (slice_set owners p owner) (take k l) owner)) (sym left) ∙ (ih (slice_set owners p owner) ∙ ap (drop k) left)
       where
         taken : is_owned_at is_free (slice_set owners p owner) p ≡ false
-        taken = at_page (slice_get-set_cases owners p owner)
-          where
-            at_page : (slice_get (slice_set owners p owner) p ≡ Some owner) ⊎ (slice_get (slice_set owners p owner) p ≡ None) → is_owned_at is_free (slice_set owners p owner) p ≡ false
-            at_page (inl some) = ap (λ x. option_map_or is_free x false) some ∙ busy
-            at_page (inr none) = ap (λ x. option_map_or is_free x false) none
+        taken = elim (slice_get-set_cases owners p owner) [
+          | inl some ↦ ap (λ x. option_map_or is_free x false) some ∙ busy
+          | inr none ↦ ap (λ x. option_map_or is_free x false) none
+        ]
 
         left : free_pages (slice_set owners p owner) ≡ rest
         left = ap (λ (n : ℕ). filter (is_owned_at is_free (slice_set owners p owner)) (pages_from 0 n)) (length-set owners p owner)
@@ -296,37 +284,20 @@ pub owner-with : (owners : List Owner) (pages : List ℕ) (owner : Owner) (p : �
     → owner_at (with_owner owners pages owner) p ≡ (if is_among pages p then Some owner else owner_at owners p)
 owner-with owners [] owner p within = refl
 owner-with owners (q ∷ pages) owner p within =
-    owner-with (slice_set owners q owner) pages owner p (omega (arith, length-set owners q owner)) ∙ go (q == p) refl
-  where
-    go : (c : Bool) → (q == p) ≡ c
-        → (if is_among pages p then Some owner else owner_at (slice_set owners q owner) p) ≡ (if c || is_among pages p then Some owner else owner_at owners p)
-    go true same = at (is_among pages p)
-      where
-        here : owner_at (slice_set owners q owner) p ≡ Some owner
-        here = subst (λ (i : ℕ). slice_get (slice_set owners i owner) p ≡ Some owner) (sym (eqb-true q p same)) (slice_get-set_same owners p owner within)
-
-        at : (c : Bool) → (if c then Some owner else owner_at (slice_set owners q owner) p) ≡ Some owner
-        at true = refl
-        at false = here
-    go false other =
-        ap (λ o. if is_among pages p then Some owner else o) (slice_get-set_other owners q p owner (λ same. eqb-false q p other (sym same)))
+    owner-with (slice_set owners q owner) pages owner p (omega (arith, length-set owners q owner)) ∙ elim (cases_Bool (q == p)) [
+      | inl same ↦
+          let here : owner_at (slice_set owners q owner) p ≡ Some owner = rw (eqb-true q p same) (slice_get-set_same owners p owner within) in
+          rw same (elim (is_among pages p) as (λ c. (if c then Some owner else owner_at (slice_set owners q owner) p) ≡ Some owner) [ true ↦ refl | false ↦ here ])
+      | inr other ↦
+          rw other (ap (λ o. if is_among pages p then Some owner else o) (slice_get-set_other owners q p owner (λ same. eqb-false q p other (sym same))))
+    ]
 
 filter-filter : {X : Type 0} (f g : X → Bool) (xs : List X) → filter g (filter f xs) ≡ filter (λ x. f x && g x) xs
 filter-filter f g [] = refl
-filter-filter f g (x ∷ xs) = go (f x) (filter-filter f g xs)
-  where
-    go : (c : Bool) → filter g (filter f xs) ≡ filter (λ x. f x && g x) xs
-        → filter g (cond c (x ∷ filter f xs) (filter f xs)) ≡ cond (c && g x) (x ∷ filter (λ x. f x && g x) xs) (filter (λ x. f x && g x) xs)
-    go true ih = ap (λ l. cond (g x) (x ∷ l) l) ih
-    go false ih = ih
-
-and_true : (c : Bool) → (c && true) ≡ c
-and_true true = refl
-and_true false = refl
-
-and_false : (c : Bool) → (c && false) ≡ false
-and_false true = refl
-and_false false = refl
+filter-filter f g (x ∷ xs) = elim (cases_Bool (f x)) [
+  | inl passes ↦ rw passes (ap (λ l. cond (g x) (x ∷ l) l) (filter-filter f g xs))
+  | inr fails ↦ rw fails (filter-filter f g xs)
+]
 
 -- the free pages after any pages got an owner
 pub free-others : (pages : List ℕ) (owner : Owner) (owners : List Owner) → is_free owner ≡ false
@@ -338,8 +309,8 @@ free-others pages owner owners busy =
     ∙ sym (filter-filter (is_owned_at is_free owners) (λ p. not (is_among pages p)) (pages_from 0 (length owners))))
   where
     go : (p : ℕ) (c : Bool) → option_map_or is_free (if c then Some owner else owner_at owners p) false ≡ (is_owned_at is_free owners p && not c)
-    go p true = busy ∙ sym (and_false (is_owned_at is_free owners p))
-    go p false = sym (and_true (is_owned_at is_free owners p))
+    go p true = grind (arith, busy)
+    go p false = grind arith
 
 -- the free pages by a Bool for each page
 
@@ -386,13 +357,9 @@ given_back-listed test owners pages listed =
     ∙ (here (owner_at owners p) ∙ sym (slice_get-map (λ owner. if test owner then Free else owner) owners p))))
     ∙ unwrap_or-slice_get (given_back test owners) p d))
   where
-    freed : (owner : Owner) (c : Bool) → (if c then Some Free else Some owner) ≡ Some (if c then Free else owner)
-    freed owner true = refl
-    freed owner false = refl
-
     here : (o : Option Owner) → (if option_map_or test o false then Some Free else o) ≡ option_map (λ owner. if test owner then Free else owner) o
     here None = refl
-    here (Some owner) = freed owner (test owner)
+    here (Some owner) = elim (test owner) as (λ c. (if c then Some Free else Some owner) ≡ Some (if c then Free else owner)) [ true ↦ refl | false ↦ refl ]
 
 -- How many pages each class has, before and after a write.
 
@@ -402,10 +369,8 @@ one c = cond c 1 0
 -- the classes are four, and each page has one
 
 one_class : (owner : Owner) → one (is_free owner) + one (is_queue_page owner) + one (is_chain_page owner) + one (is_data_page owner) ≡ 1
-one_class Free = refl
-one_class (Queue q half) = refl
 one_class (Command q cid Data) = refl
-one_class (Command q cid Chain) = refl
+one_class o = refl
 
 count-cons : (test : Owner → Bool) (owner : Owner) (owners : List Owner) → count_by test (owner ∷ owners) ≡ one (test owner) + count_by test owners
 count-cons test owner owners = sum_by-cons (λ o. cond (test o) 1 0) owner owners
@@ -415,8 +380,8 @@ add_up [] = refl
 add_up (owner ∷ owners) =
     omega (arith, count-cons is_free owner owners, count-cons is_queue_page owner owners, count-cons is_chain_page owner owners, count-cons is_data_page owner owners, one_class owner, add_up owners)
 
-pub counts-add_up : (owners : List Owner) → total (counts_of owners) ≡ length owners
-counts-add_up owners =
+pub counts_sum : (owners : List Owner) → total (counts_of owners) ≡ length owners
+counts_sum owners =
     omega (arith, add_up owners, length-pages_owned is_free owners, length-pages_owned is_queue_page owners, length-pages_owned is_chain_page owners, length-pages_owned is_data_page owners)
 
 -- an owner in the table is counted
@@ -441,58 +406,45 @@ same_counts a b free queue chain held =
 
 less-free : (c : Counts) (o : Owner) → (one_less c o).free_pages ≡ c.free_pages - one (is_free o)
 less-free c Free = refl
-less-free c (Queue q half) = omega arith
 less-free c (Command q cid Data) = omega arith
-less-free c (Command q cid Chain) = omega arith
+less-free c o = omega arith
 
 less-queue : (c : Counts) (o : Owner) → (one_less c o).queue_pages ≡ c.queue_pages - one (is_queue_page o)
-less-queue c Free = omega arith
 less-queue c (Queue q half) = refl
 less-queue c (Command q cid Data) = omega arith
-less-queue c (Command q cid Chain) = omega arith
+less-queue c o = omega arith
 
 less-chain : (c : Counts) (o : Owner) → (one_less c o).chain_pages ≡ c.chain_pages - one (is_chain_page o)
-less-chain c Free = omega arith
-less-chain c (Queue q half) = omega arith
-less-chain c (Command q cid Data) = omega arith
 less-chain c (Command q cid Chain) = refl
+less-chain c o = omega arith
 
 less-data : (c : Counts) (o : Owner) → (one_less c o).data_pages ≡ c.data_pages - one (is_data_page o)
-less-data c Free = omega arith
-less-data c (Queue q half) = omega arith
 less-data c (Command q cid Data) = refl
-less-data c (Command q cid Chain) = omega arith
+less-data c o = omega arith
 
 more-free : (c : Counts) (o : Owner) → (one_more c o).free_pages ≡ c.free_pages + one (is_free o)
 more-free c Free = refl
-more-free c (Queue q half) = omega arith
 more-free c (Command q cid Data) = omega arith
-more-free c (Command q cid Chain) = omega arith
+more-free c o = omega arith
 
 more-queue : (c : Counts) (o : Owner) → (one_more c o).queue_pages ≡ c.queue_pages + one (is_queue_page o)
-more-queue c Free = omega arith
 more-queue c (Queue q half) = refl
 more-queue c (Command q cid Data) = omega arith
-more-queue c (Command q cid Chain) = omega arith
+more-queue c o = omega arith
 
 more-chain : (c : Counts) (o : Owner) → (one_more c o).chain_pages ≡ c.chain_pages + one (is_chain_page o)
-more-chain c Free = omega arith
-more-chain c (Queue q half) = omega arith
-more-chain c (Command q cid Data) = omega arith
 more-chain c (Command q cid Chain) = refl
+more-chain c o = omega arith
 
 more-data : (c : Counts) (o : Owner) → (one_more c o).data_pages ≡ c.data_pages + one (is_data_page o)
-more-data c Free = omega arith
-more-data c (Queue q half) = omega arith
 more-data c (Command q cid Data) = refl
-more-data c (Command q cid Chain) = omega arith
+more-data c o = omega arith
 
 held_in : (test : Owner → Bool) (owners : List Owner) (p : ℕ) (before : Owner) → p < length owners → before ≡ get_or owners p before → one (test before) ≤ length (pages_owned test owners)
-held_in test owners p before within read = go (test before) refl
-  where
-    go : (c : Bool) → test before ≡ c → one c ≤ length (pages_owned test owners)
-    go true holds = omega (arith, present test owners p before within read holds, length-pages_owned test owners)
-    go false fails = omega arith
+held_in test owners p before within read = elim (cases_Bool (test before)) [
+  | inl holds ↦ rw holds (omega (arith, present test owners p before within read holds, length-pages_owned test owners))
+  | inr fails ↦ rw fails (omega arith)
+]
 
 moved : (was now less more old new : ℕ) → old ≤ was → now + old ≡ was + new → less ≡ was - old → more ≡ less + new → now ≡ more
 moved was now less more old new some change down up = omega arith
@@ -518,21 +470,17 @@ counted-some owners p (Command q cid Data) l e = omega (arith, present is_data_p
 counted-some owners p (Command q cid Chain) l e = omega (arith, present is_chain_page owners p (Command q cid Chain) l e refl, length-pages_owned is_chain_page owners)
 
 counted-le : (c : Counts) (o : Owner) → counted c o ≤ total c
-counted-le c Free = omega arith
-counted-le c (Queue q half) = omega arith
 counted-le c (Command q cid Data) = omega arith
-counted-le c (Command q cid Chain) = omega arith
+counted-le c o = omega arith
 
 total-less : (c : Counts) (o : Owner) → 0 < counted c o → total (one_less c o) + 1 ≡ total c
-total-less c Free some = omega arith
-total-less c (Queue q half) some = omega arith
 total-less c (Command q cid Data) some = omega arith
-total-less c (Command q cid Chain) some = omega arith
+total-less c o some = omega arith
 
 -- with one page less, each class has fewer pages than the pool
 pub counted-few : (owners : List Owner) (p : ℕ) (owner before : Owner) → p < length owners → before ≡ get_or owners p before → counted (one_less (counts_of owners) before) owner < length owners
 counted-few owners p owner before within read =
-    omega (arith, counted-le (one_less (counts_of owners) before) owner, total-less (counts_of owners) before (counted-some owners p before within read), counts-add_up owners)
+    omega (arith, counted-le (one_less (counts_of owners) before) owner, total-less (counts_of owners) before (counted-some owners p before within read), counts_sum owners)
 
 -- the counts of a pool that is free
 

@@ -5,6 +5,7 @@ ghost use Rattle.page_ledger.specs.declared.owner.Owner.{Owner};
 ghost use Rattle.page_ledger.specs.Laws.{ListsOwned, ChangesJust, FindsLowestRun, CountsAddUp, GrantLeavesRest, GrantLeavesOthers, GivesBackOwned};
 
 /// The pages of an owner are listed each once, in rising order, and no others.
+#[tactic(auto, using(crate::proofs::Tables::owned_listed, crate::proofs::Pages::filter_rising))]
 pub fn lists_owned()
     ensures { (test : Owner → Bool) (owners : List Owner) → ListsOwned test owners }
 {}
@@ -20,11 +21,13 @@ pub fn finds_lowest_run()
 {}
 
 /// The four counts add up to the number of pages.
+#[tactic(auto, using(crate::proofs::Tables::counts_sum))]
 pub fn counts_add_up()
     ensures { (owners : List Owner) → CountsAddUp owners }
 {}
 
 /// After the lowest `k` free pages got an owner, the free pages are all others of them.
+#[tactic(auto, using(crate::proofs::Tables::free_granted))]
 pub fn grant_leaves_rest()
     ensures { (k : ℕ) (owner : Owner) (owners : List Owner) → GrantLeavesRest k owner owners }
 {}
@@ -35,6 +38,7 @@ pub fn grant_leaves_others()
 {}
 
 /// A give-back makes just the named owners' pages free; they join the free pages, in rising order.
+#[tactic(auto, using(crate::proofs::Tables::given_back_is, crate::proofs::Tables::free_given_back))]
 pub fn gives_back_owned()
     ensures { (named : Owner → Bool) (owners : List Owner) → GivesBackOwned named owners }
 {}

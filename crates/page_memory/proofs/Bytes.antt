@@ -2,7 +2,7 @@
 use Rattle.std.proofs.Common.{◌≡◌, ◌≢◌, ℕ, zero, suc, ◌+◌, ◌*◌, ◌-◌, ◌/◌, ◌%◌, ◌<◌, ◌≤◌, ◌++◌, ◌∷◌, [], List, Option, Some, None, true, false, is_some, IsSome, IfSome, refl, ap, ◌∙◌, subst, length, take, drop, get_or, arith, add-one, add-zero, append-nil, drop-cons, ◌⊎◌, inl, inr, sym, set, length-append, replicate}
 use Rattle.std.proofs.{Math.Path.fun_ext, lemmas.{Bool.{cases_eq, cases_lt, Decides.nat_tests}, Grind.{common_steps, same_number_lists}}}
 use Rattle.std.proofs.lemmas.List.{take_rest, get_or_append_left, get_or-append-add, length-take-le, take-append-drop, take_more, length-replicate}
-use Rattle.std.{proofs.lemmas.Option.{slice_get-get_or, slice_get_within, slice_get_cases, slice_get_read}, specs.{List.slice_get, Option.option_and_then}}
+use Rattle.std.{proofs.lemmas.Option.{slice_get-get_or, slice_get_cases, slice_get_read}, specs.{List.slice_get, Option.option_and_then}}
 use Rattle.page_memory.specs.Memory.{Memory, bytes_at, joined, written}
 use Rattle.page_memory.specs.Pages.{Pages, slot_at, page_at, byte_at, IsWhole, with_bytes, with_page_bytes, zero_page, AreWhole, IsPool}
 
@@ -46,13 +46,7 @@ appended _ _ = None
 
 joined_appended : (b : Option ℕ) (front back : Option (List ℕ)) → joined b (appended front back) ≡ appended (joined b front) back
 joined_appended (Some b) (Some front) (Some back) = refl
-joined_appended (Some b) (Some front) None = refl
-joined_appended (Some b) None (Some back) = refl
-joined_appended (Some b) None None = refl
-joined_appended None (Some front) (Some back) = refl
-joined_appended None (Some front) None = refl
-joined_appended None None (Some back) = refl
-joined_appended None None None = refl
+joined_appended b front back = refl
 
 appended_nil : (back : Option (List ℕ)) → back ≡ appended (Some []) back
 appended_nil (Some back) = refl
@@ -61,20 +55,13 @@ appended_nil None = refl
 -- a range in two parts
 pub bytes_at-add : (m : Memory) (place a b : ℕ) → bytes_at m place (a + b) ≡ appended (bytes_at m place a) (bytes_at m (place + a) b)
 unfolding bytes_at
-bytes_at-add m place zero b = rw (zero_more b, none_further place) (appended_nil (bytes_at m place b))
-  where
-    zero_more : (b : ℕ) → 0 + b ≡ b
-    zero_more b = omega arith
-
-    none_further : (place : ℕ) → place + 0 ≡ place
-    none_further place = omega arith
-bytes_at-add m place (suc a) b = rw (more a b, further place a, bytes_at-add m (place + 1) a b) (joined_appended (m place) (bytes_at m (place + 1) a) (bytes_at m (place + 1 + a) b))
-  where
-    more : (a b : ℕ) → suc a + b ≡ suc (a + b)
-    more a b = omega arith
-
-    further : (place a : ℕ) → place + suc a ≡ place + 1 + a
-    further place a = omega arith
+bytes_at-add m place zero b =
+    let more : 0 + b ≡ b = omega arith in
+    rw (more, add-zero place) (appended_nil (bytes_at m place b))
+bytes_at-add m place (suc a) b =
+    let more : suc a + b ≡ suc (a + b) = omega arith in
+    let further : place + suc a ≡ place + 1 + a = omega arith in
+    rw (more, further, bytes_at-add m (place + 1) a b) (joined_appended (m place) (bytes_at m (place + 1) a) (bytes_at m (place + 1 + a) b))
 
 appended_none : (front : Option (List ℕ)) → appended front None ≡ None
 appended_none (Some front) = refl
@@ -110,13 +97,11 @@ pub found_both : (pages : Pages) (addr n page at front back : ℕ) (first second
     page_at pages page ≡ Some first → length first ≡ 4096 → page_at pages (page + 1) ≡ Some second → length second ≡ 4096 → copied ≡ take (length first - at) (drop at first) → rest ≡ take back second →
     bytes_at (byte_at pages) addr n ≡ Some (copied ++ rest)
 found_both pages addr n page at front back first second copied rest place border sum few found whole found' whole' is is' =
+    let count_left : length first - at ≡ front = omega (arith, whole, border) in
     let whole_drop : take front (drop at first) ≡ drop at first = rw (← count_left) (take_rest first at) in
     let low : bytes_at (byte_at pages) (4096 * page + at) front ≡ Some (drop at first) = bytes_within pages page front at first found whole (omega arith) ∙ ap (λ (b : List ℕ). Some b) whole_drop in
     let high : bytes_at (byte_at pages) (4096 * page + at + front) back ≡ Some (take back second) = rw (next_page page at front border) (bytes_within pages (page + 1) back 0 second found' whole' (omega arith)) in
     rw (← place, ← sum, bytes_at-add (byte_at pages) (4096 * page + at) front back, low, high, is, is', take_rest first at) refl
-  where
-    count_left : length first - at ≡ front
-    count_left = omega (arith, whole, border)
 
 pub none_of : {X : Type 0} (o : Option X) → is_some o ≡ false → o ≡ None
 none_of None h = refl
@@ -124,11 +109,11 @@ none_of (Some x) h = cc
 
 -- a page that is in, with all its bytes
 whole_page : (pages : Pages) (p : ℕ) → is_some (page_at pages p) ≡ true → IsWhole pages p → (page : List ℕ) × (page_at pages p ≡ Some page) × (length page ≡ 4096)
-whole_page pages p there whole = go (page_at pages p) refl there whole
-  where
-    go : (o : Option (List ℕ)) → page_at pages p ≡ o → is_some o ≡ true → IfSome o (λ page. length page ≡ 4096) → (page : List ℕ) × (page_at pages p ≡ Some page) × (length page ≡ 4096)
-    go None e there whole = cc
-    go (Some page) e there whole = (page, e, whole)
+whole_page pages p there whole =
+    (elim (page_at pages p) as (λ o. is_some o ≡ true → IfSome o (λ page. length page ≡ 4096) → (page : List ℕ) × (o ≡ Some page) × (length page ≡ 4096)) [
+      | None ↦ λ there whole. absurd cc
+      | Some page ↦ λ there whole. (page, refl, whole)
+    ]) there whole
 
 something : (o : Option (List ℕ)) (x : List ℕ) → o ≡ Some x → o ≢ None
 something o x e none = cc
@@ -212,11 +197,7 @@ slice_get-set_same (y ∷ ys) (suc i) x h = slice_get-set_same ys i x (omega ari
 
 -- the pages before and after a write to one of them
 pub page_within : (pages : Pages) (p : ℕ) (page : List ℕ) → page_at pages p ≡ Some page → p < length pages
-page_within pages p page found = go (slice_get pages p) refl
-  where
-    go : (o : Option (Option (List ℕ))) → slice_get pages p ≡ o → p < length pages
-    go None e = let h : page_at pages p ≡ None = rw e refl in cc
-    go (Some slot) e = slice_get_within pages p slot e
+page_within pages p page found = slot_within pages p (subst IsSome (sym found) refl)
 
 -- a place inside the bytes that are written, and one outside
 pub written_in : (m : Memory) (place q : ℕ) (bytes : List ℕ) → place ≤ q → q < place + length bytes → written m place bytes q ≡ Some (get_or bytes (q - place) 0)
@@ -344,10 +325,8 @@ wrote_first m m' addr page at bytes place wrote = rw (← place) wrote
 pub wrote_both : (m m' m'' : Memory) (addr page at front : ℕ) (bytes low high : List ℕ) → 4096 * page + at ≡ addr → at + front ≡ 4096 → low ≡ take front bytes → high ≡ drop front bytes → length low ≡ front →
     m' ≡ written m (4096 * page + at) low → m'' ≡ written m' (4096 * (page + 1) + 0) high → m'' ≡ written m addr bytes
 wrote_both m m' m'' addr page at front bytes low high place border is_low is_high count first second =
-    second ∙ rw (first, next_page page at front border, ← count, written-append m (4096 * page + at) low high, place, is_low, is_high, take-append-drop front bytes) refl
-  where
-    next_page : (page at front : ℕ) → at + front ≡ 4096 → 4096 * (page + 1) + 0 ≡ 4096 * page + at + front
-    next_page page at front border = omega arith
+    let border' : 4096 * (page + 1) + 0 ≡ 4096 * page + at + front = sym (next_page page at front border) in
+    second ∙ rw (first, border', ← count, written-append m (4096 * page + at) low high, place, is_low, is_high, take-append-drop front bytes) refl
 
 -- one place of a list of slots, as it is written
 pub slot_at-set : (slots : List (Option ℕ)) (i : ℕ) (b : ℕ) → i < length slots → slot_at (set slots i (Some b)) ≡ written (slot_at slots) i (b ∷ [])
@@ -387,23 +366,17 @@ zeros_pool n pages is few = rw is (record { few = rw (length-replicate n (Some z
 
 -- memory tells pages
 
-further : (place : ℕ) → (4096 + place) / 4096 ≡ suc (place / 4096)
-further place = omega arith
-
-same_offset : (place : ℕ) → (4096 + place) % 4096 ≡ place % 4096
-same_offset place = omega arith
-
 behind : (x : Option (List ℕ)) (xs : Pages) (place : ℕ) → byte_at (x ∷ xs) (4096 + place) ≡ byte_at xs place
-behind x xs place = rw (further place, same_offset place) refl
+behind x xs place =
+    let further : (4096 + place) / 4096 ≡ suc (place / 4096) = omega arith in
+    let same : (4096 + place) % 4096 ≡ place % 4096 = omega arith in
+    rw (further, same) refl
 
 in_first : (x : Option (List ℕ)) (xs : Pages) (k : ℕ) → k < 4096 → byte_at (x ∷ xs) k ≡ option_and_then (λ bytes. slice_get bytes k) x
-in_first x xs k small = rw (zeroth k small, same k small) refl
-  where
-    zeroth : (k : ℕ) → k < 4096 → k / 4096 ≡ 0
-    zeroth k small = omega arith
-
-    same : (k : ℕ) → k < 4096 → k % 4096 ≡ k
-    same k small = omega arith
+in_first x xs k small =
+    let zeroth : k / 4096 ≡ 0 = omega arith in
+    let same : k % 4096 ≡ k = omega arith in
+    rw (zeroth, same) refl
 
 same_bytes : (k : ℕ) (a b : List ℕ) → k < length a → k < length b → slice_get a k ≡ slice_get b k → get_or a k 0 ≡ get_or b k 0
 same_bytes k a b in_a in_b h =

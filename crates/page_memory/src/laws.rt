@@ -6,6 +6,7 @@ ghost use Rattle.page_memory.specs.Pages.{Pages, page_at, byte_at, with_bytes, A
 
 /// Two pools of as many whole pages that show the same memory are the same, page by page: what a controller could read, and
 /// the size of the pool, tell which pages are in, and their bytes.
+#[tactic(auto, using(crate::proofs::Bytes::told))]
 pub fn memory_tells_pages()
     ensures { (a b : Pages) → AreWhole a → AreWhole b → length a ≡ length b
         → ((place : ℕ) → byte_at a place ≡ byte_at b place) → a ≡ b }

@@ -7,7 +7,7 @@ use Rattle.page_memory.proofs.Bytes.{bytes_held, bytes_some, written_before, wri
 use Rattle.page_memory.specs.{Memory.{Memory, written}, Pages.{Pages, page_at, byte_at, zero_page, AreWhole}}
 use Rattle.page_memory.specs.declared.page.Half.TheVariants.{Submission, Completion}
 use Rattle.entry_codec.specs.{Completion.completion_of, Submission.submission_of, declared.completion.ComEntry.ComEntry}
-use Rattle.queue_pair.{proofs.Rings.{see_alike, bytes_agree, phase_from}, specs.Halves.{IsIn, IsZero, Agree, IsOutside, AreApart}}
+use Rattle.queue_pair.{proofs.Rings.{see_alike, bytes_agree, phase_from, not_not}, specs.Halves.{IsIn, IsZero, Agree, IsOutside, AreApart}}
 use Rattle.queue_pair.specs.Lists.{entries_between, answers_between, PhasesStand}
 use Rattle.queue_pair.specs.Memory.{submission_place, completion_place, submission_page, completion_page, submission_slot, completion_slot, half_pages, entry_at, completion_at}
 use Rattle.slot_table.{proofs.Places.first-inside, specs.{Places.is_true_at, Searches.{IsFirstFrom, IsNoneFrom}}}
@@ -130,12 +130,6 @@ zeros_stand m cq n h =
 place_of : (page k : ℕ) → 4096 * page + k ≡ 4096 * (page + k / 4096) + k % 4096
 place_of page k = omega arith
 
-offset_fits : (k : ℕ) → k % 4096 < 4096
-offset_fits k = omega arith
-
-page_fits : (k pages : ℕ) → k < 4096 * pages → k / 4096 < pages
-page_fits k pages h = omega arith
-
 byte_there : (pool : Pages) (p at : ℕ) (o : Option (List ℕ)) → page_at pool p ≡ o → IsSome o → IfSome o (λ page. length page ≡ 4096) → at < 4096 → IsSome (byte_at pool (4096 * p + at))
 byte_there pool p at None found there whole fits = cc
 byte_there pool p at (Some page) found there whole fits =
@@ -146,17 +140,12 @@ pub pages_in : (pool : Pages) (page pages : ℕ) → AreWhole pool → ((p : ℕ
 pages_in pool page pages whole there =
     record {
       there = λ k lt. subst (λ (q : ℕ). IsSome (byte_at pool q)) (sym (place_of page k))
-          (byte_there pool (page + k / 4096) (k % 4096) (page_at pool (page + k / 4096)) refl (there (k / 4096) (page_fits k pages lt)) (whole (page + k / 4096)) (offset_fits k));
+          (byte_there pool (page + k / 4096) (k % 4096) (page_at pool (page + k / 4096)) refl (there (k / 4096) (omega (arith, lt))) (whole (page + k / 4096)) (omega arith));
     }
-
-zeros_pools : (n k : ℕ) → get_or (replicate {A = ℕ} n 0) k 0 ≡ 0
-zeros_pools zero k = refl
-zeros_pools (suc n) zero = refl
-zeros_pools (suc n) (suc k) = zeros_pools n k
 
 zero_shown : (at : ℕ) → get_or zero_page at 0 ≡ 0
 unfolding zero_page
-zero_shown at = zeros_pools 4096 at
+zero_shown at = zeros 4096 at
 
 zero_byte : (at : ℕ) → at < 4096 → slice_get zero_page at ≡ Some 0
 zero_byte at fits =
@@ -166,7 +155,7 @@ pub pages_zero : (pool : Pages) (page pages : ℕ) → ((p : ℕ) → p < pages 
 pages_zero pool page pages blank =
     record {
       zero_there = λ k lt.
-          ap (byte_at pool) (place_of page k) ∙ byte_in pool (page + k / 4096) (k % 4096) zero_page (blank (k / 4096) (page_fits k pages lt)) (offset_fits k) ∙ zero_byte (k % 4096) (offset_fits k);
+          ap (byte_at pool) (place_of page k) ∙ byte_in pool (page + k / 4096) (k % 4096) zero_page (blank (k / 4096) (omega (arith, lt))) (omega arith) ∙ zero_byte (k % 4096) (omega arith);
     }
 
 byte_of_page : (pool : Pages) (p at : ℕ) → at < 4096 → byte_at pool (4096 * p + at) ≡ option_and_then (λ bytes. slice_get bytes at) (page_at pool p)
@@ -177,9 +166,9 @@ pages_agree pool other page pages same =
     record {
       same = λ k lt.
           ap (byte_at pool) (place_of page k)
-          ∙ byte_of_page pool (page + k / 4096) (k % 4096) (offset_fits k)
-          ∙ ap (option_and_then (λ bytes. slice_get bytes (k % 4096))) (same (k / 4096) (page_fits k pages lt))
-          ∙ sym (byte_of_page other (page + k / 4096) (k % 4096) (offset_fits k))
+          ∙ byte_of_page pool (page + k / 4096) (k % 4096) (omega arith)
+          ∙ ap (option_and_then (λ bytes. slice_get bytes (k % 4096))) (same (k / 4096) (omega (arith, lt)))
+          ∙ sym (byte_of_page other (page + k / 4096) (k % 4096) (omega arith))
           ∙ ap (byte_at other) (sym (place_of page k));
     }
 
@@ -217,11 +206,7 @@ all_claimed claimed cid e within =
 -- the identifiers that are not claimed as a list of their own
 
 free-at : (free : List Bool) (i : ℕ) → i < length free → not (get_or (map not free) i false) ≡ is_true_at free i
-free-at free i within = ap not (get_or-map not free i false false within) ∙ twice (get_or free i false)
-  where
-    twice : (b : Bool) → not (not b) ≡ b
-    twice true = refl
-    twice false = refl
+free-at free i within = ap not (get_or-map not free i false false within) ∙ not_not (get_or free i false)
 
 pub lowest_free : (free : List Bool) (cid : ℕ) → IsFirstFrom (is_true_at free) 0 cid → position not (map not free) ≡ Some cid
 lowest_free free cid first =

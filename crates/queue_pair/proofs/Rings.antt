@@ -1,5 +1,5 @@
 -- Positions in a ring, its slots and phases, and the rings as lists.
-use Rattle.std.proofs.Common.{◌≡◌, ◌≢◌, ◌⊎◌, inl, inr, ℕ, zero, suc, ◌+◌, ◌-◌, ◌<◌, ◌≤◌, List, Option, Some, length, get_or, refl, sym, ap, ◌∙◌, subst, add-zero, arith, ◌↔◌, ◌%◌, ◌++◌, ◌∷◌, [], true, false, map, Bool, not, cond, leb, None, if◌then◌else◌, nat_le}
+use Rattle.std.proofs.Common.{◌≡◌, ◌≢◌, ◌⊎◌, inl, inr, ℕ, zero, suc, ◌+◌, ◌-◌, ◌<◌, ◌≤◌, List, Option, Some, length, get_or, refl, sym, ap, ◌∙◌, subst, add-zero, arith, ◌↔◌, ◌%◌, ◌++◌, ◌∷◌, [], true, false, map, Bool, not, cond, leb, None}
 use Rattle.std.proofs.Math.Nat.{mod_self, mod-eq_of_lt, add-mod_left, add-mod_right, mod-add-mod}
 use Rattle.std.{proofs.lemmas.Bool.{cases_lt, cases_eq, eqb-false, eqb-true, eq-eqb, ne_eqb, Decides.nat_tests}, specs.Bool.beq}
 use Rattle.std.specs.Option.{option_map, option_and_then}
@@ -95,60 +95,22 @@ distance_same n slot = elim (distance_is n slot slot) [ inl e ↦ omega (arith, 
 
 -- n - 1 slots from the head to the tail: the slot after the tail is the head
 pub full_next : (n head tail : ℕ) → head < n → tail < n → distance n head tail ≡ n - 1 → next_slot n tail ≡ head
-full_next n head tail h t full =
-    elim (distance_is n head tail) [
-      | inl d ↦ elim (next_is n tail) [ inl e ↦ omega (arith, d.0, d.1, e.0, e.1) | inr e ↦ omega (arith, d.0, d.1, e.0, e.1) ]
-      | inr d ↦ elim (next_is n tail) [ inl e ↦ omega (arith, d.0, d.1, e.0, e.1) | inr e ↦ omega (arith, d.0, d.1, e.0, e.1) ]
-    ]
+full_next n head tail h t full = grind (arith, nat_tests)
 
 pub next_full : (n head tail : ℕ) → head < n → tail < n → next_slot n tail ≡ head → distance n head tail ≡ n - 1
-next_full n head tail h t next =
-    elim (distance_is n head tail) [
-      | inl d ↦ elim (next_is n tail) [ inl e ↦ omega (arith, d.0, d.1, e.0, e.1) | inr e ↦ omega (arith, d.0, d.1, e.0, e.1) ]
-      | inr d ↦ elim (next_is n tail) [ inl e ↦ omega (arith, d.0, d.1, e.0, e.1) | inr e ↦ omega (arith, d.0, d.1, e.0, e.1) ]
-    ]
+next_full n head tail h t next = grind (arith, nat_tests)
 
 -- one more at the tail
 pub distance_grows : (n head tail : ℕ) → head < n → tail < n → distance n head tail ≢ n - 1 → distance n head (next_slot n tail) ≡ suc (distance n head tail)
-distance_grows n head tail h t room =
-    elim (next_is n tail) [
-      | inl e ↦ elim (distance_is n head tail) [
-        | inl d ↦ elim (distance_is n head (next_slot n tail)) [ inl d' ↦ omega (arith, d.0, d.1, e.0, e.1, d'.0, d'.1, room) | inr d' ↦ omega (arith, d.0, d.1, e.0, e.1, d'.0, d'.1, room) ]
-        | inr d ↦ elim (distance_is n head (next_slot n tail)) [ inl d' ↦ omega (arith, d.0, d.1, e.0, e.1, d'.0, d'.1, room) | inr d' ↦ omega (arith, d.0, d.1, e.0, e.1, d'.0, d'.1, room) ]
-      ]
-      | inr e ↦ elim (distance_is n head tail) [
-        | inl d ↦ elim (distance_is n head (next_slot n tail)) [ inl d' ↦ omega (arith, d.0, d.1, e.0, e.1, d'.0, d'.1, room) | inr d' ↦ omega (arith, d.0, d.1, e.0, e.1, d'.0, d'.1, room) ]
-        | inr d ↦ elim (distance_is n head (next_slot n tail)) [ inl d' ↦ omega (arith, d.0, d.1, e.0, e.1, d'.0, d'.1, room) | inr d' ↦ omega (arith, d.0, d.1, e.0, e.1, d'.0, d'.1, room) ]
-      ]
-    ]
+distance_grows n head tail h t room = grind (arith, nat_tests)
 
 -- one fewer at the head
 pub distance_shrinks : (n head tail : ℕ) → head < n → tail < n → head ≢ tail → distance n head tail ≡ suc (distance n (next_slot n head) tail)
-distance_shrinks n head tail h t some =
-    elim (next_is n head) [
-      | inl e ↦ elim (distance_is n head tail) [
-        | inl d ↦ elim (distance_is n (next_slot n head) tail) [ inl d' ↦ omega (arith, d.0, d.1, e.0, e.1, d'.0, d'.1, some) | inr d' ↦ omega (arith, d.0, d.1, e.0, e.1, d'.0, d'.1, some) ]
-        | inr d ↦ elim (distance_is n (next_slot n head) tail) [ inl d' ↦ omega (arith, d.0, d.1, e.0, e.1, d'.0, d'.1, some) | inr d' ↦ omega (arith, d.0, d.1, e.0, e.1, d'.0, d'.1, some) ]
-      ]
-      | inr e ↦ elim (distance_is n head tail) [
-        | inl d ↦ elim (distance_is n (next_slot n head) tail) [ inl d' ↦ omega (arith, d.0, d.1, e.0, e.1, d'.0, d'.1, some) | inr d' ↦ omega (arith, d.0, d.1, e.0, e.1, d'.0, d'.1, some) ]
-        | inr d ↦ elim (distance_is n (next_slot n head) tail) [ inl d' ↦ omega (arith, d.0, d.1, e.0, e.1, d'.0, d'.1, some) | inr d' ↦ omega (arith, d.0, d.1, e.0, e.1, d'.0, d'.1, some) ]
-      ]
-    ]
+distance_shrinks n head tail h t some = grind (arith, nat_tests)
 
 -- two parts of a way
 pub distance_parts : (n from mid to : ℕ) → from < n → mid < n → to < n → distance n from mid ≤ distance n from to → distance n from to ≡ distance n from mid + distance n mid to
-distance_parts n from mid to f m t h =
-    elim (distance_is n from mid) [
-      | inl a ↦ elim (distance_is n mid to) [
-        | inl b ↦ elim (distance_is n from to) [ inl c ↦ omega (arith, a.0, a.1, b.0, b.1, c.0, c.1, h) | inr c ↦ omega (arith, a.0, a.1, b.0, b.1, c.0, c.1, h) ]
-        | inr b ↦ elim (distance_is n from to) [ inl c ↦ omega (arith, a.0, a.1, b.0, b.1, c.0, c.1, h) | inr c ↦ omega (arith, a.0, a.1, b.0, b.1, c.0, c.1, h) ]
-      ]
-      | inr a ↦ elim (distance_is n mid to) [
-        | inl b ↦ elim (distance_is n from to) [ inl c ↦ omega (arith, a.0, a.1, b.0, b.1, c.0, c.1, h) | inr c ↦ omega (arith, a.0, a.1, b.0, b.1, c.0, c.1, h) ]
-        | inr b ↦ elim (distance_is n from to) [ inl c ↦ omega (arith, a.0, a.1, b.0, b.1, c.0, c.1, h) | inr c ↦ omega (arith, a.0, a.1, b.0, b.1, c.0, c.1, h) ]
-      ]
-    ]
+distance_parts n from mid to f m t h = grind (arith, nat_tests)
 
 -- the slots on a way are as many as it is long, and lie in the ring
 pub length_slots : (n many slot : ℕ) → length (slots_from n slot many) ≡ many
@@ -174,17 +136,14 @@ between_none n slot = ap (slots_from n slot) (distance_same n slot)
 
 -- a way in two parts
 slots_parts : (n a b from mid : ℕ) → from < n → mid < n → distance n from mid ≡ a → slots_from n from (a + b) ≡ slots_from n from a ++ slots_from n mid b
-slots_parts n zero b from mid f m none = ap (λ (k : ℕ). slots_from n from k) (zero_more b) ∙ ap (λ (s : ℕ). slots_from n s b) (distance_none n from mid f m none)
-  where
-    zero_more : (b : ℕ) → 0 + b ≡ b
-    zero_more b = omega arith
+slots_parts n zero b from mid f m none =
+    let more : 0 + b ≡ b = omega arith in
+    ap (λ (k : ℕ). slots_from n from k) more ∙ ap (λ (s : ℕ). slots_from n s b) (distance_none n from mid f m none)
 slots_parts n (suc a) b from mid f m some =
     let apart : from ≢ mid = λ e. let z : distance n from mid ≡ 0 = ap (distance n from) (sym e) ∙ distance_same n from in omega arith in
     let shorter : distance n (next_slot n from) mid ≡ a = omega (arith, distance_shrinks n from mid f m apart) in
-    ap (λ (k : ℕ). slots_from n from k) (more a b) ∙ ap (λ (s : List ℕ). from ∷ s) (slots_parts n a b (next_slot n from) mid (next_below n from f) m shorter)
-  where
-    more : (a b : ℕ) → suc a + b ≡ suc (a + b)
-    more a b = omega arith
+    let more : suc a + b ≡ suc (a + b) = omega arith in
+    ap (λ (k : ℕ). slots_from n from k) more ∙ ap (λ (s : List ℕ). from ∷ s) (slots_parts n a b (next_slot n from) mid (next_below n from f) m shorter)
 
 pub between_parts : (n from mid to : ℕ) → from < n → mid < n → to < n → distance n from mid ≤ distance n from to → slots_between n from to ≡ slots_between n from mid ++ slots_between n mid to
 between_parts n from mid to f m t h =
@@ -223,11 +182,8 @@ pub next_is_remainder : (n slot : ℕ) → slot < n → next_slot n slot ≡ (sl
 next_is_remainder n slot s =
     elim (next_is n slot) [
       | inl (last, wraps) ↦ wraps ∙ sym (mod_self n) ∙ ap (λ (k : ℕ). k % n) (sym last)
-      | inr (more, steps) ↦ steps ∙ sym (mod-eq_of_lt (within s more))
+      | inr (more, steps) ↦ (let within : slot + 1 < n = omega arith in steps ∙ sym (mod-eq_of_lt within))
     ]
-  where
-    within : slot < n → slot + 1 ≢ n → slot + 1 < n
-    within s more = omega arith
 
 pub distance_is_remainder : (n from to : ℕ) → from < n → to < n → distance n from to ≡ (to + n - from) % n
 distance_is_remainder n from to f t =
@@ -242,18 +198,12 @@ distance_is_remainder n from to f t =
     ]
 
 pub moved_is_remainder : (n many slot : ℕ) → slot < n → moved n slot many ≡ (slot + many) % n
-moved_is_remainder n zero slot s = sym (mod-eq_of_lt s) ∙ ap (λ (k : ℕ). k % n) (none_more slot)
-  where
-    none_more : (slot : ℕ) → slot ≡ slot + 0
-    none_more slot = omega arith
+moved_is_remainder n zero slot s = sym (mod-eq_of_lt s) ∙ ap (λ (k : ℕ). k % n) (sym (add-zero slot))
 moved_is_remainder n (suc many) slot s =
     moved_is_remainder n many (next_slot n slot) (next_below n slot s)
     ∙ ap (λ (k : ℕ). (k + many) % n) (next_is_remainder n slot s)
     ∙ mod-add-mod (slot + 1) n many
     ∙ ap (λ (k : ℕ). k % n) (one_more slot many)
-  where
-    one_more : (slot many : ℕ) → slot + 1 + many ≡ slot + suc many
-    one_more slot many = omega arith
 
 -- what a position in range says
 pub in_range_below : (n from to slot : ℕ) → is_in_range n from to slot ≡ true → slot < n
@@ -395,7 +345,7 @@ answers_none m cq n slot = ap (map (completion_at m cq)) (between_none n slot)
 
 -- The phases of the completion ring.
 
-not_not : (b : Bool) → not (not b) ≡ b
+pub not_not : (b : Bool) → not (not b) ≡ b
 not_not true = refl
 not_not false = refl
 
@@ -419,21 +369,10 @@ phase_stays n slot phase h = grind (arith, nat_tests)
 
 -- the phase of a slot after the controller's move: the slot that it wrote has its phase, and no other turned
 after_move_same : (n tail : ℕ) (phase : Bool) → tail < n → phase_of_slot (next_slot n tail) (next_phase n tail phase) tail ≡ phase
-after_move_same n tail phase t =
-    elim (next_is n tail) [
-      | inl (last, wraps) ↦ rw (wraps, phase_turns n tail phase last, phase_from 0 tail (not phase) (omega arith)) (not_not phase)
-      | inr (more, steps) ↦ rw (steps, phase_stays n tail phase more, phase_before (tail + 1) tail phase (omega arith)) refl
-    ]
+after_move_same n tail phase t = grind (arith, nat_tests)
 
 after_move_other : (n tail slot : ℕ) (phase : Bool) → tail < n → slot < n → slot ≢ tail → phase_of_slot (next_slot n tail) (next_phase n tail phase) slot ≡ phase_of_slot tail phase slot
-after_move_other n tail slot phase t s other =
-    elim (next_is n tail) [
-      | inl (last, wraps) ↦ rw (wraps, phase_turns n tail phase last, phase_from 0 slot (not phase) (omega arith), phase_before tail slot phase (omega arith)) (not_not phase)
-      | inr (more, steps) ↦ rw (steps, phase_stays n tail phase more) (elim (cases_lt slot tail) [
-        | inl before ↦ phase_before (tail + 1) slot phase (omega arith) ∙ sym (phase_before tail slot phase before)
-        | inr from ↦ phase_from (tail + 1) slot phase (omega arith) ∙ sym (phase_from tail slot phase from)
-      ])
-    ]
+after_move_other n tail slot phase t s other = grind (arith, nat_tests)
 
 pub phases_kept : (m : Memory) (cq n tail : ℕ) (phase : Bool) (bytes : List ℕ) → length bytes ≡ 16 → (completion_of bytes).phase ≡ phase → tail < n → PhasesStand m cq n tail phase →
     PhasesStand (written m (completion_place cq tail) bytes) cq n (next_slot n tail) (next_phase n tail phase)
@@ -452,28 +391,11 @@ phases_kept m cq n tail phase bytes count marked t h =
 
 -- the host still expects the right phase after the controller's move
 pub tie_kept_by_post : (n head tail : ℕ) (phase : Bool) → head < n → tail < n → is_full n head tail ≡ false → expected_phase head (next_slot n tail) (next_phase n tail phase) ≡ expected_phase head tail phase
-tie_kept_by_post n head tail phase h t free =
-    let apart : next_slot n tail ≢ head = λ e. room n head tail free (next_full n head tail h t e) in
-    elim (next_is n tail) [
-      | inl (last, wraps) ↦
-          let some : 0 < head = omega (arith, apart, wraps) in
-          rw (wraps, phase_turns n tail phase last, expected_behind head 0 (not phase) some, expected_ahead head tail phase (omega arith)) (not_not phase)
-      | inr (more, steps) ↦ rw (steps, phase_stays n tail phase more) (elim (cases_lt tail head) [
-        | inl behind ↦ expected_behind head (tail + 1) phase (omega (arith, apart, steps)) ∙ sym (expected_behind head tail phase behind)
-        | inr ahead ↦ expected_ahead head (tail + 1) phase (omega arith) ∙ sym (expected_ahead head tail phase ahead)
-      ])
-    ]
+tie_kept_by_post n head tail phase h t free = grind (arith, nat_tests)
 
 -- and after its own
 pub tie_kept_by_advance : (n head tail : ℕ) (phase : Bool) → head < n → tail < n → head ≢ tail → next_phase n head (expected_phase head tail phase) ≡ expected_phase (next_slot n head) tail phase
-tie_kept_by_advance n head tail phase h t some =
-    elim (next_is n head) [
-      | inl (last, wraps) ↦ rw (wraps, phase_turns n head (expected_phase head tail phase) last, expected_behind head tail phase (omega arith), expected_ahead 0 tail phase (omega arith)) (not_not phase)
-      | inr (more, steps) ↦ rw (steps, phase_stays n head (expected_phase head tail phase) more) (elim (cases_lt tail head) [
-        | inl behind ↦ expected_behind head tail phase behind ∙ sym (expected_behind (head + 1) tail phase (omega arith))
-        | inr ahead ↦ expected_ahead head tail phase ahead ∙ sym (expected_ahead (head + 1) tail phase (omega arith))
-      ])
-    ]
+tie_kept_by_advance n head tail phase h t some = grind (arith, nat_tests)
 
 -- what stands at the host's head
 expected_there : (x : Option ComEntry) (phase : Bool) → option_map (λ entry. entry.phase) x ≡ Some phase → option_and_then (with_phase phase) x ≡ x
@@ -506,10 +428,7 @@ new_is_front m cq n head tail phase h t stand =
     ]
   where
     here : head ≢ tail → phase_of_slot tail phase head ≡ expected_phase head tail phase
-    here some = elim (cases_lt tail head) [
-      | inl behind ↦ phase_from tail head phase (omega arith) ∙ sym (expected_behind head tail phase behind)
-      | inr ahead ↦ phase_before tail head phase (omega arith) ∙ sym (expected_ahead head tail phase ahead)
-    ]
+    here some = grind (arith, nat_tests)
 
 -- what the controller's post makes of the phases, by what each call in it ensures
 pub phases_posted : (m m' : Memory) (cq n tail tail' : ℕ) (phase phase' : Bool) (place : ℕ) (bytes : List ℕ) → m' ≡ written m place bytes → place ≡ completion_place cq tail → tail' ≡ next_slot n tail →
@@ -544,15 +463,7 @@ kept_before : (n reach : ℕ) (phase : Bool) → reach < n → cond (leb n reach
 kept_before n reach phase h = grind (arith, nat_tests)
 
 pub phase_told : (n head tail : ℕ) (phase : Bool) → head < n → tail < n → phase ≡ cond (leb n (head + distance n head tail)) (not (expected_phase head tail phase)) (expected_phase head tail phase)
-phase_told n head tail phase h t =
-    elim (distance_is n head tail) [
-      | inl (ahead, is) ↦
-          let before : head + distance n head tail < n = omega arith in
-          sym (kept_before n (head + distance n head tail) (expected_phase head tail phase) before ∙ expected_ahead head tail phase ahead)
-      | inr (behind, is) ↦
-          let past : n ≤ head + distance n head tail = omega arith in
-          sym (turned_past n (head + distance n head tail) (expected_phase head tail phase) past ∙ ap not (expected_behind head tail phase behind) ∙ not_not phase)
-    ]
+phase_told n head tail phase h t = grind (arith, nat_tests)
 
 -- Moves that come round a ring.
 
@@ -601,9 +512,4 @@ head_moved n head tail h t =
     ∙ ap (λ (slot : ℕ). moved n slot (n - distance n head tail)) (sym (tail_moved n head tail h t))
 
 pub told_alike : (head tail : ℕ) (phase : Bool) → phase ≡ expected_phase head tail (expected_phase head tail phase)
-told_alike head tail phase = go (nat_le head tail) phase
-  where
-    go : (b phase : Bool) → phase ≡ (if b then (if b then phase else not phase) else not (if b then phase else not phase))
-    go true phase = refl
-    go false true = refl
-    go false false = refl
+told_alike head tail phase = grind (arith, nat_tests)

@@ -41,6 +41,7 @@ pub fn room_is_known()
 
 /// The lists of a ring: as many as there are slots on the way, none where the positions are the same, and cut at each position on
 /// the way. So the entries that are not fetched are those that were rung, and then those that were not.
+#[tactic(auto, using(crate::proofs::Rings::entries_count, crate::proofs::Rings::answers_count, crate::proofs::Rings::entries_none, crate::proofs::Rings::answers_none, crate::proofs::Rings::entries_parts, crate::proofs::Rings::answers_parts))]
 pub fn lists_follow_slots()
     ensures entries { (m : Memory) (sq n from to : ℕ) → length (entries_between m sq n from to) ≡ distance n from to }
     ensures answers { (m : Memory) (cq n from to : ℕ) → length (answers_between m cq n from to) ≡ distance n from to }
@@ -53,6 +54,7 @@ pub fn lists_follow_slots()
 {}
 
 /// Each slot lies in one page, which is a page of its half; it is there where the half's pages are in.
+#[tactic(auto, using(crate::proofs::Halves::submission_there, crate::proofs::Halves::completion_there, crate::proofs::Halves::submission_page_within, crate::proofs::Halves::completion_page_within))]
 pub fn slots_lie_in_halves()
     ensures entry { (n sq slot : ℕ) → slot < n → submission_page sq slot < sq + half_pages n Submission }
     ensures completion { (n cq slot : ℕ) → slot < n → completion_page cq slot < cq + half_pages n Completion }
@@ -63,6 +65,7 @@ pub fn slots_lie_in_halves()
 {}
 
 /// Memories that show the same in a half have the same list there, and the same phases.
+#[tactic(auto, using(crate::proofs::Halves::entries_agree, crate::proofs::Halves::answers_agree, crate::proofs::Halves::phases_agree))]
 pub fn halves_tell_lists()
     ensures entries { (m m' : Memory) (sq n from to : ℕ) → Agree m m' sq (half_pages n Submission) → from < n
         → entries_between m sq n from to ≡ entries_between m' sq n from to }
@@ -73,6 +76,7 @@ pub fn halves_tell_lists()
 {}
 
 /// A write outside a half leaves what it shows, and so does a post to the other half of a queue, or to a half of another queue.
+#[tactic(auto, using(crate::proofs::Halves::outside_agrees, crate::proofs::Halves::entry_outside, crate::proofs::Halves::completion_outside, crate::proofs::Halves::answers_left, crate::proofs::Halves::entries_left))]
 pub fn writes_elsewhere_leave_halves()
     ensures outside { (m : Memory) (place page pages : ℕ) (bytes : List ℕ) → IsOutside place (length bytes) page pages → Agree m (written m place bytes) page pages }
     ensures entry { (sq n slot page pages : ℕ) → slot < n → AreApart sq (half_pages n Submission) page pages → IsOutside (submission_place sq slot) 64 page pages }
@@ -85,6 +89,7 @@ pub fn writes_elsewhere_leave_halves()
 
 /// Over a pool of whole pages, a half is in where its pages are, is zero where they are pages of zeros, and shows the same where its
 /// pages do.
+#[tactic(auto, using(crate::proofs::Halves::pages_in, crate::proofs::Halves::pages_zero, crate::proofs::Halves::pages_agree))]
 pub fn pools_show_halves()
     ensures pages_in { (pool : Pages) (page pages : ℕ) → AreWhole pool → ((p : ℕ) → p < pages → IsSome (page_at pool (page + p))) → IsIn (byte_at pool) page pages }
     ensures zeros { (pool : Pages) (page pages : ℕ) → ((p : ℕ) → p < pages → page_at pool (page + p) ≡ Some zero_page) → IsZero (byte_at pool) page pages }
@@ -92,6 +97,7 @@ pub fn pools_show_halves()
 {}
 
 /// Over pages of zeros the phases stand as the first completion is awaited, and the two sides are tied as they are opened.
+#[tactic(auto, using(crate::proofs::Halves::zeros_stand))]
 pub fn fresh_rings_stand()
     ensures phases { (m : Memory) (cq n : ℕ) → IsZero m cq (half_pages n Completion) → PhasesStand m cq n fresh_device_ring.tail fresh_device_ring.phase }
     ensures tied { fresh_host_ring.phase ≡ expected_phase fresh_host_ring.head fresh_device_ring.tail fresh_device_ring.phase }

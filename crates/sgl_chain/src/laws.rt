@@ -10,6 +10,7 @@ ghost use Rattle.sgl_chain.specs.Joining.{joined, NoneJoin};
 ghost use Rattle.sgl_chain.specs.Laws.{LaidChainsSpell, OneList, SpelledInMore, PartsComeBack, PagesHoldSegments, LaidByNumber};
 
 /// The segments of 1 to 1,024 parts, laid in their pages, spell exactly these parts from the first descriptor.
+#[tactic(auto, using(crate::proofs::Spelled::spells))]
 pub fn laid_chains_spell()
     ensures { (s : ℕ) → LaidChainsSpell s }
 {}
@@ -25,6 +26,7 @@ pub fn spells_in_more_memory()
 {}
 
 /// The parts of a chain are exactly those that it is built of.
+#[tactic(auto, using(crate::proofs::Back::parts_back))]
 pub fn parts_come_back()
     ensures { (s : ℕ) → PartsComeBack s }
 {}
@@ -35,12 +37,14 @@ pub fn pages_hold_segments()
 {}
 
 /// That segments are laid can be said of each by its number.
+#[tactic(auto, using(crate::proofs::Spelled::laid_each, crate::proofs::Spelled::laid_all))]
 pub fn laid_by_number()
     ensures { (m : Memory) → LaidByNumber m }
 {}
 
 /// Joined parts have the targets of the list that they are made of, in both directions, and so as many bytes. They are
 /// no more than its parts.
+#[tactic(auto, using(crate::proofs::Joins::same_targets, crate::proofs::Joins::same_count, crate::proofs::Joins::joined_few))]
 pub fn joined_parts_say_the_same()
     ensures targets { (dir : Direction) (parts : List Part) → targets dir (joined parts) ≡ targets dir parts }
     ensures counted { (dir : Direction) (parts : List Part) → counted_in dir (joined parts) ≡ counted_in dir parts }
@@ -48,6 +52,7 @@ pub fn joined_parts_say_the_same()
 {}
 
 /// No two neighbours among joined parts join, so that joining them again changes nothing.
+#[tactic(auto, using(crate::proofs::Joins::none_join, crate::proofs::Joins::joined_twice))]
 pub fn joined_parts_stand_apart()
     ensures apart { (parts : List Part) → NoneJoin (joined parts) }
     ensures twice { (parts : List Part) → joined (joined parts) ≡ joined parts }

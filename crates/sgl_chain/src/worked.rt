@@ -54,6 +54,7 @@ pub fn worked_single_part()
 
 /// A list in pages 1 and 2, whose reserved bytes are not zero: a Segment descriptor names a Data Block and a link, which
 /// names a Bit Bucket. A Last Segment descriptor of the same segment spells nothing, since its last descriptor is a link.
+#[tactic(auto, using(crate::proofs::Back::list_spelled, crate::proofs::Back::list_refused))]
 pub fn worked_list()
     ensures spelled { Spells (byte_at linked_pages) (Segment 4096 32) (Data 0x4000 512 ∷ Bucket 512 ∷ []) }
     ensures not_last { (parts : List Part) → ¬ Spells (byte_at linked_pages) (LastSegment 4096 32) parts }

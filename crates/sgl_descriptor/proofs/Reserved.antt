@@ -1,10 +1,10 @@
 -- Two strings that are read alike, and the bytes that their type reserves.
-use Rattle.std.proofs.Common.{arith, ◌≡◌, ◌≢◌, ◌⊎◌, inl, inr, ◌<◌, ◌≤◌, ◌+◌, ◌-◌, ℕ, List, None, get_or, take, drop, length, refl, sym, ◌∙◌, subst, ap, length-drop}
-use Rattle.std.proofs.lemmas.{Bool.{cases_lt, cases_eq}, List.{get_or-take, get_or-drop, get_or_past, length-take-le, ext_get_or}, Nat.{le_bytes_8, le_bytes_4}}
+use Rattle.std.proofs.Common.{arith, ◌≡◌, ◌≢◌, ◌⊎◌, inl, inr, ◌<◌, ◌≤◌, ◌+◌, ◌-◌, ℕ, List, Some, None, get_or, take, drop, length, refl, sym, ◌∙◌, subst, ap, length-drop}
+use Rattle.std.proofs.lemmas.{Bool.{cases_lt}, List.{get_or-take, get_or-drop, get_or_past, length-take-le, ext_get_or}, Nat.{le_bytes_8, le_bytes_4}}
 use Rattle.std.specs.Int.{w32, w64, to_le_bytes, from_le_bytes}
-use Rattle.sgl_descriptor.{proofs.Spells.{found, spelled, nothing}, specs.Laws.{IsSixteenBytes, ReadAlike}}
-use Rattle.sgl_descriptor.specs.Spelling.{IsSpelling, descriptor_of, address_of, length_of, type_of, subtype_of, HasValidType, HasInvalidType, IsReserved, AgreeOutsideReserved}
-use Rattle.sgl_descriptor.specs.declared.Descriptor.{Descriptor, TheVariants.{DataBlock, BitBucket, Segment, LastSegment}}
+use Rattle.sgl_descriptor.{proofs.Spells.{found, spelled, none_of, valid_or_not, valid_spells}, specs.Laws.{IsSixteenBytes, ReadAlike}}
+use Rattle.sgl_descriptor.specs.Spelling.{IsSpelling, descriptor_of, address_of, length_of, type_of, HasInvalidType, IsReserved, AgreeOutsideReserved}
+use Rattle.sgl_descriptor.specs.declared.Descriptor.{Descriptor, TheVariants.{BitBucket}}
 
 -- Below, a piece is n bytes from the k-th on.
 
@@ -102,94 +102,28 @@ agree_of a b ha hb last len addr i within free =
       ]
     ]
 
--- byte 15 of a string with a valid type
-data Last (bytes : List ℕ) : Type 0 where
-  block : get_or bytes 15 0 ≡ 0x00 → Last bytes
-  bucket : get_or bytes 15 0 ≡ 0x10 → Last bytes
-  link : get_or bytes 15 0 ≡ 0x20 → Last bytes
-  last_link : get_or bytes 15 0 ≡ 0x30 → Last bytes
+-- strings that spell one descriptor agree
+agree_in : (a b : List ℕ) (d : Descriptor) → IsSixteenBytes a → IsSixteenBytes b → IsSpelling d a → IsSpelling d b → AgreeOutsideReserved a b
+agree_in a b (BitBucket len) ha hb x y = agree_of a b ha hb (x.0 ∙ sym y.0) (x.1 ∙ sym y.1) (inl (omega (arith, x.0)))
+agree_in a b d ha hb x y = agree_of a b ha hb (x.0 ∙ sym y.0) (x.2 ∙ sym y.2) (inr (x.1 ∙ sym y.1))
 
-valid_last : (bytes : List ℕ) → HasValidType bytes → Last bytes
-valid_last bytes h =
-    let last = get_or bytes 15 0 in
-    elim (cases_eq last 0x00) [
-      | inl e ↦ block e
-      | inr a ↦ elim (cases_eq last 0x10) [
-        | inl e ↦ bucket e
-        | inr b ↦ elim (cases_eq last 0x20) [
-          | inl e ↦ link e
-          | inr c ↦ last_link (omega (arith, h.0, h.1, a, b, c))
-        ]
-      ]
-    ]
-
--- what the second string spells, where the first spells d
-also : (a b : List ℕ) (d : Descriptor) → IsSpelling d a → descriptor_of a ≡ descriptor_of b → IsSpelling d b
-also a b d is e = spelled b d (sym e ∙ found a d is)
-
--- strings that are read alike agree
-agree_in : (a b : List ℕ) → IsSixteenBytes a → IsSixteenBytes b → Last a → descriptor_of a ≡ descriptor_of b → AgreeOutsideReserved a b
-agree_in a b ha hb (block h) e =
-    let is = also a b (DataBlock (address_of a) (length_of a)) (h, refl, refl) e in
-    agree_of a b ha hb (h ∙ sym is.0) (sym is.2) (inr (sym is.1))
-agree_in a b ha hb (bucket h) e =
-    let is = also a b (BitBucket (length_of a)) (h, refl) e in
-    agree_of a b ha hb (h ∙ sym is.0) (sym is.1) (inl (omega (arith, h)))
-agree_in a b ha hb (link h) e =
-    let is = also a b (Segment (address_of a) (length_of a)) (h, refl, refl) e in
-    agree_of a b ha hb (h ∙ sym is.0) (sym is.2) (inr (sym is.1))
-agree_in a b ha hb (last_link h) e =
-    let is = also a b (LastSegment (address_of a) (length_of a)) (h, refl, refl) e in
-    agree_of a b ha hb (h ∙ sym is.0) (sym is.2) (inr (sym is.1))
-
--- strings with the same fields are read alike
-alike_in : (a b : List ℕ) → Last a → SameFields a b → descriptor_of a ≡ descriptor_of b
-alike_in a b (block h) s =
-    found a (DataBlock (address_of a) (length_of a)) (h, refl, refl)
-    ∙ sym (found b (DataBlock (address_of a) (length_of a)) (sym s.last ∙ h, sym (s.addr (λ e. omega (arith, h, e))), sym s.len))
-alike_in a b (bucket h) s =
-    found a (BitBucket (length_of a)) (h, refl)
-    ∙ sym (found b (BitBucket (length_of a)) (sym s.last ∙ h, sym s.len))
-alike_in a b (link h) s =
-    found a (Segment (address_of a) (length_of a)) (h, refl, refl)
-    ∙ sym (found b (Segment (address_of a) (length_of a)) (sym s.last ∙ h, sym (s.addr (λ e. omega (arith, h, e))), sym s.len))
-alike_in a b (last_link h) s =
-    found a (LastSegment (address_of a) (length_of a)) (h, refl, refl)
-    ∙ sym (found b (LastSegment (address_of a) (length_of a)) (sym s.last ∙ h, sym (s.addr (λ e. omega (arith, h, e))), sym s.len))
-
--- an invalid type is that of no descriptor
-pub none_of : (bytes : List ℕ) → HasInvalidType bytes → descriptor_of bytes ≡ None
-none_of bytes (inl above) = nothing bytes (λ e. omega (arith, above, e)) (λ e. omega (arith, above, e)) (λ e. omega (arith, above, e)) (λ e. omega (arith, above, e))
-none_of bytes (inr other) =
-    nothing bytes (λ e. other (omega (arith, e))) (λ e. other (omega (arith, e))) (λ e. other (omega (arith, e))) (λ e. other (omega (arith, e)))
-
--- a type is valid or invalid
-valid_or_not : (bytes : List ℕ) → HasValidType bytes ⊎ HasInvalidType bytes
-valid_or_not bytes = elim (cases_lt 3 (type_of bytes)) [
-  | inl above ↦ inr (inl above)
-  | inr valid ↦ elim (cases_eq (subtype_of bytes) 0) [
-    | inl zero ↦ inl (valid, zero)
-    | inr other ↦ inr (inr other)
-  ]
-]
-
--- a valid type is that of a descriptor
-some_in : (bytes : List ℕ) → Last bytes → descriptor_of bytes ≢ None
-some_in bytes (block h) e = let f = found bytes (DataBlock (address_of bytes) (length_of bytes)) (h, refl, refl) in cc
-some_in bytes (bucket h) e = let f = found bytes (BitBucket (length_of bytes)) (h, refl) in cc
-some_in bytes (link h) e = let f = found bytes (Segment (address_of bytes) (length_of bytes)) (h, refl, refl) in cc
-some_in bytes (last_link h) e = let f = found bytes (LastSegment (address_of bytes) (length_of bytes)) (h, refl, refl) in cc
+-- strings with the same fields spell the same
+alike_in : (a b : List ℕ) (d : Descriptor) → IsSpelling d a → SameFields a b → IsSpelling d b
+alike_in a b (BitBucket len) x s = (sym s.last ∙ x.0, sym s.len ∙ x.1)
+alike_in a b d x s = (sym s.last ∙ x.0, sym (s.addr (λ e. omega (arith, x.0, e))) ∙ x.1, sym s.len ∙ x.2)
 
 -- what spells nothing has an invalid type
 pub invalid_of : (bytes : List ℕ) → descriptor_of bytes ≡ None → HasInvalidType bytes
 invalid_of bytes e = elim (valid_or_not bytes) [
-  | inl valid ↦ absurd (some_in bytes (valid_last bytes valid) e)
+  | inl valid ↦ (let (d, is) = valid_spells bytes valid in let f : descriptor_of bytes ≡ Some d = found bytes d is in absurd cc)
   | inr invalid ↦ invalid
 ]
 
 -- two strings of 16 bytes, of any types
 pub alike : (a b : List ℕ) → IsSixteenBytes a → IsSixteenBytes b → ReadAlike a b
 alike a b ha hb = record {
-  valid = λ valid. (agree_in a b ha hb (valid_last a valid), λ agree. alike_in a b (valid_last a valid) (fields_of a b ha hb agree));
+  valid = λ valid.
+      let (d, is) = valid_spells a valid in
+      (λ e. agree_in a b d ha hb is (spelled b d (sym e ∙ found a d is)), λ agree. found a d is ∙ sym (found b d (alike_in a b d is (fields_of a b ha hb agree))));
   invalid = λ invalid. (λ e. invalid_of b (sym e ∙ none_of a invalid), λ other. none_of a invalid ∙ sym (none_of b other));
 }

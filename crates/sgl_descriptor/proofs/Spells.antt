@@ -1,7 +1,7 @@
 -- Lemmas on the spelling of descriptors.
-use Rattle.std.proofs.{Common.{arith, ◌≡◌, ◌≢◌, ◌⊎◌, inl, inr, ℕ, List, Some, None, get_or, refl, subst}, lemmas.Bool.cases_eq}
+use Rattle.std.proofs.{Common.{arith, ◌≡◌, ◌≢◌, ◌⊎◌, inl, inr, ℕ, List, Some, None, get_or, refl, subst}, lemmas.Bool.{cases_eq, cases_lt}}
 use Rattle.std.proofs.lemmas.Nat.{from_le_bytes-to_le_bytes_8, from_le_bytes-to_le_bytes_4}
-use Rattle.sgl_descriptor.specs.{Laws.OneSpelling, Spelling.{IsSpelling, spelling, Fits, descriptor_of, address_of, length_of}, declared.Descriptor.Descriptor}
+use Rattle.sgl_descriptor.specs.{Laws.OneSpelling, Spelling.{IsSpelling, spelling, Fits, descriptor_of, address_of, length_of, type_of, subtype_of, HasValidType, HasInvalidType}, declared.Descriptor.Descriptor}
 use Rattle.sgl_descriptor.specs.declared.Descriptor.TheVariants.{DataBlock, BitBucket, Segment, LastSegment}
 
 -- what is written of a descriptor whose fields fit spells it
@@ -24,31 +24,42 @@ pub nothing : (bytes : List ℕ) → get_or bytes 15 0 ≢ 0x00 → get_or bytes
 unfolding descriptor_of
 nothing bytes a b c d = grind arith
 
--- bytes spell nothing, or some descriptor
-some_or_none : (bytes : List ℕ) → (descriptor_of bytes ≡ None) ⊎ ((d : Descriptor) × IsSpelling d bytes)
-some_or_none bytes =
+-- an invalid type is that of no descriptor
+pub none_of : (bytes : List ℕ) → HasInvalidType bytes → descriptor_of bytes ≡ None
+none_of bytes (inl above) = nothing bytes (λ e. omega (arith, above, e)) (λ e. omega (arith, above, e)) (λ e. omega (arith, above, e)) (λ e. omega (arith, above, e))
+none_of bytes (inr other) =
+    nothing bytes (λ e. other (omega (arith, e))) (λ e. other (omega (arith, e))) (λ e. other (omega (arith, e))) (λ e. other (omega (arith, e)))
+
+-- a type is valid or invalid
+pub valid_or_not : (bytes : List ℕ) → HasValidType bytes ⊎ HasInvalidType bytes
+valid_or_not bytes = elim (cases_lt 3 (type_of bytes)) [
+  | inl above ↦ inr (inl above)
+  | inr valid ↦ elim (cases_eq (subtype_of bytes) 0) [ inl zero ↦ inl (valid, zero) | inr other ↦ inr (inr other) ]
+]
+
+-- bytes with a valid type spell some descriptor
+pub valid_spells : (bytes : List ℕ) → HasValidType bytes → (d : Descriptor) × IsSpelling d bytes
+valid_spells bytes h =
     let last = get_or bytes 15 0 in
     elim (cases_eq last 0x00) [
-      | inl e ↦ inr (DataBlock (address_of bytes) (length_of bytes), (e, refl, refl))
+      | inl e ↦ (DataBlock (address_of bytes) (length_of bytes), (e, refl, refl))
       | inr a ↦ elim (cases_eq last 0x10) [
-        | inl e ↦ inr (BitBucket (length_of bytes), (e, refl))
+        | inl e ↦ (BitBucket (length_of bytes), (e, refl))
         | inr b ↦ elim (cases_eq last 0x20) [
-          | inl e ↦ inr (Segment (address_of bytes) (length_of bytes), (e, refl, refl))
-          | inr c ↦ elim (cases_eq last 0x30) [
-            | inl e ↦ inr (LastSegment (address_of bytes) (length_of bytes), (e, refl, refl))
-            | inr d ↦ inl (nothing bytes a b c d)
-          ]
+          | inl e ↦ (Segment (address_of bytes) (length_of bytes), (e, refl, refl))
+          | inr c ↦ (LastSegment (address_of bytes) (length_of bytes), (omega (arith, h.0, h.1, a, b, c), refl, refl))
         ]
       ]
     ]
 
 -- what bytes are read as, they spell
 pub spelled : (bytes : List ℕ) (d : Descriptor) → descriptor_of bytes ≡ Some d → IsSpelling d bytes
-spelled bytes d h = elim (some_or_none bytes) [
-  | inl none ↦ cc
-  | inr (e, is) ↦
+spelled bytes d h = elim (valid_or_not bytes) [
+  | inl valid ↦
+      let (e, is) = valid_spells bytes valid in
       let same : e ≡ d = let other : descriptor_of bytes ≡ Some e = found bytes e is in cc in
       subst (λ (x : Descriptor). IsSpelling x bytes) same is
+  | inr invalid ↦ let none : descriptor_of bytes ≡ None = none_of bytes invalid in absurd cc
 ]
 
 -- what is written of a descriptor whose fields fit is read as it

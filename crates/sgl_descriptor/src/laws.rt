@@ -14,12 +14,14 @@ pub fn round_trip()
 {}
 
 /// Bytes spell one descriptor at most, the one that they are read as.
+#[tactic(auto, using(crate::proofs::Spells::both))]
 pub fn one_spelling()
     ensures { (bytes : List ℕ) → OneSpelling bytes }
 {}
 
 /// Two strings of 16 bytes, the first of a valid type and subtype, are read alike exactly where they agree outside the
 /// reserved bytes. One whose type or subtype is invalid is read alike with just those that are invalid too.
+#[tactic(auto, using(crate::proofs::Reserved::alike))]
 pub fn read_alike()
     ensures { (a b : List ℕ) → IsSixteenBytes a → IsSixteenBytes b → ReadAlike a b }
 {}

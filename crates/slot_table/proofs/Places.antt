@@ -15,11 +15,10 @@ bool-inside : (words : List ℕ) (len p : ℕ) → p < len → is_true_at (bools
 bool-inside words len p inside = get_or-map-range_with_len (is_set words) 0 len p p false inside (omega arith)
 
 bool-is : (words summary : List ℕ) (len : ℕ) → IsSummed words summary len → (p : ℕ) → is_true_at (bools_of words len) p ≡ is_set words p
-bool-is words summary len summed p = go (cases_lt p len)
-  where
-    go : (p < len) ⊎ (len ≤ p) → is_true_at (bools_of words len) p ≡ is_set words p
-    go (inl inside) = bool-inside words len p inside
-    go (inr past) = get_or_past (bools_of words len) p false (omega (arith, length-bools words len)) ∙ sym (summed.past p past)
+bool-is words summary len summed p = elim (cases_lt p len) [
+  | inl inside ↦ bool-inside words len p inside
+  | inr past ↦ get_or_past (bools_of words len) p false (omega (arith, length-bools words len)) ∙ sym (summed.past p past)
+]
 
 -- a list that is all true
 
@@ -112,13 +111,12 @@ first-in_word words from place first inside = record {
 
 none-in_words : (words summary : List ℕ) (len from i : ℕ) → IsSummed words summary len → IsNoneFrom (is_one (slice_index words (from / 64))) (from % 64) → from ≤ i
     → (from / 64 + 1 ≤ i / 64 → is_set summary (i / 64) ≡ false) → is_set words i ≡ false
-none-in_words words summary len from i summed here from_i above = go (cases_lt (from / 64) (i / 64))
-  where
-    go : (from / 64 < i / 64) ⊎ (i / 64 ≤ from / 64) → is_set words i ≡ false
-    go (inl further) =
-        let nothing : slice_index words (i / 64) ≡ 0 = eqb-true (slice_index words (i / 64)) 0 (not-false _ (sym (summed.sums (i / 64)) ∙ above (omega arith))) in
-        ap (λ w. is_one w (i % 64)) nothing ∙ zero-from 0 (i % 64) (bit_at-zero (i % 64))
-    go (inr same) = set-in words (from / 64) i (omega arith) (omega arith) ∙ here.fails (i - 64 * (from / 64)) (omega arith)
+none-in_words words summary len from i summed here from_i above = elim (cases_lt (from / 64) (i / 64)) [
+  | inl further ↦
+      let nothing : slice_index words (i / 64) ≡ 0 = eqb-true (slice_index words (i / 64)) 0 (not-false _ (sym (summed.sums (i / 64)) ∙ above (omega arith))) in
+      ap (λ w. is_one w (i % 64)) nothing ∙ zero-from 0 (i % 64) (bit_at-zero (i % 64))
+  | inr same ↦ set-in words (from / 64) i (omega arith) (omega arith) ∙ here.fails (i - 64 * (from / 64)) (omega arith)
+]
 
 none-above : (words summary : List ℕ) (len from : ℕ) → IsSummed words summary len → IsNoneFrom (is_one (slice_index words (from / 64))) (from % 64)
     → IsNoneFrom (is_set summary) (from / 64 + 1) → IsNoneFrom (is_set words) from
@@ -154,11 +152,10 @@ first-above words summary len from next summed here above fits = record {
 
 -- a word that the summary names is in the list
 word-inside : (words summary : List ℕ) (len w : ℕ) → IsSummed words summary len → is_set summary w ≡ true → w < length words
-word-inside words summary len w summed set = go (cases_lt w (length words))
-  where
-    go : (w < length words) ⊎ (length words ≤ w) → w < length words
-    go (inl inside) = inside
-    go (inr past) = absurd (true≢false (sym set ∙ (summed.sums w ∙ ap (λ (n : ℕ). not (n == 0)) (get_or_past words w 0 past))))
+word-inside words summary len w summed set = elim (cases_lt w (length words)) [
+  | inl inside ↦ inside
+  | inr past ↦ absurd (true≢false (sym set ∙ (summed.sums w ∙ ap (λ (n : ℕ). not (n == 0)) (get_or_past words w 0 past))))
+]
 
 -- searches by the words, and by the list
 
@@ -205,8 +202,7 @@ pub none-past : (list : List Bool) → IsNoneFrom (is_true_at list) (length list
 none-past list = record { fails = λ i past. get_or_past list i false past }
 
 pub first-inside : {from r : ℕ} (list : List Bool) → IsFirstFrom (is_true_at list) from r → r < length list
-first-inside {r = r} list first = go (cases_lt r (length list))
-  where
-    go : (r < length list) ⊎ (length list ≤ r) → r < length list
-    go (inl inside) = inside
-    go (inr past) = absurd (true≢false (sym first.passes ∙ get_or_past list r false past))
+first-inside {r = r} list first = elim (cases_lt r (length list)) [
+  | inl inside ↦ inside
+  | inr past ↦ absurd (true≢false (sym first.passes ∙ get_or_past list r false past))
+]

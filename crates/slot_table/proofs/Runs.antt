@@ -38,11 +38,10 @@ run-blocked f p k q low high fails = go (is_run f k p) refl
 -- no run begins before the first place that passes
 pub run-behind : (f : ℕ → Bool) (k from first : ℕ) → 0 < k → ((p : ℕ) → p < from → is_run f k p ≡ false) → ((p : ℕ) → from ≤ p → p < first → f p ≡ false)
     → (p : ℕ) → p < first → is_run f k p ≡ false
-run-behind f k from first some none gap p below = go (cases_lt p from)
-  where
-    go : (p < from) ⊎ (from ≤ p) → is_run f k p ≡ false
-    go (inl before) = none p before
-    go (inr behind) = run-blocked f p k p (omega arith) (omega arith) (gap p behind below)
+run-behind f k from first some none gap p below = elim (cases_lt p from) [
+  | inl before ↦ none p before
+  | inr behind ↦ run-blocked f p k p (omega arith) (omega arith) (gap p behind below)
+]
 
 -- where no place passes any more, no run begins
 pub run-none : (f : ℕ → Bool) (k from : ℕ) → 0 < k → ((p : ℕ) → p < from → is_run f k p ≡ false) → IsNoneFrom f from → IsNoneFrom (is_run f k) 0
@@ -66,21 +65,19 @@ run-found f k first end none run whole = record {
 
 pub run-short : (f : ℕ → Bool) (k first end : ℕ) → ((p : ℕ) → p < first → is_run f k p ≡ false) → IsRunEnd f first (first + k) end → end < first + k
     → (p : ℕ) → p < end → is_run f k p ≡ false
-run-short f k first end none run short p below = go (cases_lt p first)
-  where
-    go : (p < first) ⊎ (first ≤ p) → is_run f k p ≡ false
-    go (inl before) = none p before
-    go (inr behind) = run-blocked f p k end (omega arith) (omega arith) (run.ends short)
+run-short f k first end none run short p below = elim (cases_lt p first) [
+  | inl before ↦ none p before
+  | inr behind ↦ run-blocked f p k end (omega arith) (omega arith) (run.ends short)
+]
 
 -- a run has its first place
 pub run-some : (f : ℕ → Bool) (k first end : ℕ) → 0 < k → f first ≡ true → IsRunEnd f first (first + k) end → first < end
-run-some f k first end some free run = go (cases_lt first end)
-  where
-    go : (first < end) ⊎ (end ≤ first) → first < end
-    go (inl before) = before
-    go (inr behind) =
-        let same : end ≡ first = omega (arith, run.after) in
-        absurd (true≢false (sym free ∙ subst (λ (q : ℕ). f q ≡ false) same (run.ends (omega arith))))
+run-some f k first end some free run = elim (cases_lt first end) [
+  | inl before ↦ before
+  | inr behind ↦
+      let same : end ≡ first = omega (arith, run.after) in
+      absurd (true≢false (sym free ∙ subst (λ (q : ℕ). f q ≡ false) same (run.ends (omega arith))))
+]
 
 -- tests that agree
 

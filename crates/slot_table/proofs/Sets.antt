@@ -47,11 +47,10 @@ flipped-in words w i b fits low high e =
 
 run-in_word : (words : List ℕ) (from at : ℕ) → slice_index words (at / 64) < 2 ^ 64 → ((i : ℕ) → from ≤ i → i < at → is_set words i ≡ true) → (end : ℕ) → end ≤ 64
     → ((j : ℕ) → at % 64 ≤ j → j < end → is_one (bit_not w64 (slice_index words (at / 64))) j ≡ false) → (i : ℕ) → from ≤ i → i < 64 * (at / 64) + end → is_set words i ≡ true
-run-in_word words from at fits before end inside none i from_i below = go (cases_lt i at)
-  where
-    go : (i < at) ⊎ (at ≤ i) → is_set words i ≡ true
-    go (inl earlier) = before i from_i earlier
-    go (inr here) = flipped-in words (at / 64) i true fits (omega arith) (omega arith) (none (i - 64 * (at / 64)) (omega arith) (omega arith))
+run-in_word words from at fits before end inside none i from_i below = elim (cases_lt i at) [
+  | inl earlier ↦ before i from_i earlier
+  | inr here ↦ flipped-in words (at / 64) i true fits (omega arith) (omega arith) (none (i - 64 * (at / 64)) (omega arith) (omega arith))
+]
 
 -- the run goes on to the end of its word
 pub run-whole_word : (words : List ℕ) (from at : ℕ) → slice_index words (at / 64) < 2 ^ 64 → ((i : ℕ) → from ≤ i → i < at → is_set words i ≡ true)
@@ -70,6 +69,13 @@ run-ends_in_word words from limit at gap r fits low high before first inside e =
       flipped-in words (at / 64) r false fits (omega (arith, first.after)) (omega arith) (rw end first.passes);
 }
 
+-- a number in its word
+in_word : (i k rest : ℕ) → i / 64 ≡ k → nat_lt (i % 64) rest ≡ nat_lt i (64 * k + rest)
+in_word i k rest here = elim (cases_lt (i % 64) rest) [
+  | inl below ↦ lt-ltb (i % 64) rest below ∙ sym (lt-ltb i (64 * k + rest) (omega arith))
+  | inr above ↦ le-ltb (i % 64) rest above ∙ sym (le-ltb i (64 * k + rest) (omega arith))
+]
+
 -- a word of ones more at the end
 pub push-ones : (words : List ℕ) (k rest word : ℕ) → length words ≡ k → ((i : ℕ) → is_set words i ≡ nat_lt i (64 * k)) → rest ≤ 64 → word ≡ 2 ^ rest - 1
     → (i : ℕ) → is_set (words ++ word ∷ []) i ≡ nat_lt i (64 * k + rest)
@@ -77,11 +83,7 @@ push-ones words k rest word size all inside ones i = go (cases_order (i / 64) k)
   where
     go : (i / 64 ≡ k) ⊎ ((i / 64 < k) ⊎ (k < i / 64)) → is_set (words ++ word ∷ []) i ≡ nat_lt i (64 * k + rest)
     go (inl here) =
-        ap (λ w. is_one w (i % 64)) (get_or_push words word 0 (i / 64) (size ∙ sym here) ∙ ones) ∙ (ones-are rest (i % 64) ∙ same (cases_lt (i % 64) rest))
-      where
-        same : (i % 64 < rest) ⊎ (rest ≤ i % 64) → nat_lt (i % 64) rest ≡ nat_lt i (64 * k + rest)
-        same (inl below) = lt-ltb (i % 64) rest below ∙ sym (lt-ltb i (64 * k + rest) (omega arith))
-        same (inr above) = le-ltb (i % 64) rest above ∙ sym (le-ltb i (64 * k + rest) (omega arith))
+        ap (λ w. is_one w (i % 64)) (get_or_push words word 0 (i / 64) (size ∙ sym here) ∙ ones) ∙ (ones-are rest (i % 64) ∙ in_word i k rest here)
     go (inr (inl before)) =
         ap (λ w. is_one w (i % 64)) (get_or_append_left words (word ∷ []) 0 (i / 64) (omega arith))
         ∙ (all i ∙ (lt-ltb i (64 * k) (omega arith) ∙ sym (lt-ltb i (64 * k + rest) (omega arith))))
@@ -90,13 +92,12 @@ push-ones words k rest word size all inside ones i = go (cases_order (i / 64) k)
 -- words of ones alone
 
 pub filled-ones : (n word i : ℕ) → word ≡ 2 ^ 64 - 1 → is_set (replicate n word) i ≡ nat_lt i (64 * n)
-filled-ones n word i ones = go (cases_lt (i / 64) n)
-  where
-    go : (i / 64 < n) ⊎ (n ≤ i / 64) → is_set (replicate n word) i ≡ nat_lt i (64 * n)
-    go (inl inside) =
-        ap (λ w. is_one w (i % 64)) (get_or-replicate n (i / 64) word 0 inside ∙ ones)
-        ∙ (ones-are 64 (i % 64) ∙ (lt-ltb (i % 64) 64 (omega arith) ∙ sym (lt-ltb i (64 * n) (omega arith))))
-    go (inr past) = set-past (replicate n word) i (omega (arith, length-replicate n word)) ∙ sym (le-ltb i (64 * n) (omega arith))
+filled-ones n word i ones = elim (cases_lt (i / 64) n) [
+  | inl inside ↦
+      ap (λ w. is_one w (i % 64)) (get_or-replicate n (i / 64) word 0 inside ∙ ones)
+      ∙ (ones-are 64 (i % 64) ∙ (lt-ltb (i % 64) 64 (omega arith) ∙ sym (lt-ltb i (64 * n) (omega arith))))
+  | inr past ↦ set-past (replicate n word) i (omega (arith, length-replicate n word)) ∙ sym (le-ltb i (64 * n) (omega arith))
+]
 
 -- the last word of them cut down to so many ones
 pub filled-cut : (n k rest word last i : ℕ) → k < n → rest ≤ 64 → word ≡ 2 ^ 64 - 1 → last ≡ 2 ^ rest - 1 → n ≤ k + 1
@@ -106,11 +107,7 @@ filled-cut n k rest word last i within inside ones cut least = go (cases_order (
     go : (i / 64 ≡ k) ⊎ ((i / 64 < k) ⊎ (k < i / 64)) → is_set (slice_set (replicate n word) k last) i ≡ nat_lt i (64 * k + rest)
     go (inl here) =
         ap (λ w. is_one w (i % 64)) (ap (slice_index (slice_set (replicate n word) k last)) here ∙ (get_or-set_same (replicate n word) k last 0 (omega (arith, length-replicate n word)) ∙ cut))
-        ∙ (ones-are rest (i % 64) ∙ same (cases_lt (i % 64) rest))
-      where
-        same : (i % 64 < rest) ⊎ (rest ≤ i % 64) → nat_lt (i % 64) rest ≡ nat_lt i (64 * k + rest)
-        same (inl below) = lt-ltb (i % 64) rest below ∙ sym (lt-ltb i (64 * k + rest) (omega arith))
-        same (inr above) = le-ltb (i % 64) rest above ∙ sym (le-ltb i (64 * k + rest) (omega arith))
+        ∙ (ones-are rest (i % 64) ∙ in_word i k rest here)
     go (inr (inl before)) =
         ap (λ w. is_one w (i % 64)) (get_or-set_other (replicate n word) k (i / 64) last 0 (omega arith))
         ∙ (filled-ones n word i ones ∙ (lt-ltb i (64 * n) (omega arith) ∙ sym (lt-ltb i (64 * k + rest) (omega arith))))

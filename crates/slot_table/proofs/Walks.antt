@@ -1,8 +1,9 @@
 -- Rows one behind the other: what a walk meets, and what a put and a take leave.
-use Rattle.std.proofs.Common.{◌≡◌, ℕ, zero, suc, ◌≤◌, ◌==◌, true, false, List, [], ◌∷◌, ◌++◌, length, Some, None, take, drop, ◌+◌, refl, sym, ap, subst, ◌∙◌, inl, inr, arith, append_assoc}
+use Rattle.std.proofs.Common.{◌≡◌, ℕ, zero, suc, ◌≤◌, ◌==◌, true, false, List, [], ◌∷◌, ◌++◌, length, Some, None, take, drop, ◌+◌, refl, sym, ap, subst, ◌∙◌}
+use Rattle.std.proofs.Common.{inl, inr, arith, append_assoc}
 use Rattle.std.proofs.lemmas.{Bool.{eq-eqb, ne_eqb, cases_Bool, Decides.eqb_tells}, List.{append-nil, take-append-drop, drop-drop}, Option.none-some}
-use Rattle.slot_table.proofs.{Rows.{value_at-behind, without-behind}, Steps.place_behind-behind}
-use Rattle.slot_table.specs.{Rows.{Row, is_at, first_place, place_behind, value_at, without, NoneAt, IsDistinct}, Table.{TableOf, with_row}}
+use Rattle.slot_table.proofs.Rows.{value_at-behind, without-behind, with_value-behind, place_behind-behind}
+use Rattle.slot_table.specs.{Rows.{Row, is_at, first_place, place_behind, value_at, with_value, without, NoneAt, IsDistinct}, Table.{TableOf, with_row}}
 use Rattle.slot_table.specs.Walks.{places_of, walk_from}
 
 eqb-turned : (a b : ℕ) → (a == b) ≡ (b == a)
@@ -39,17 +40,22 @@ module _ {R : Type 0} where
       ]
 
   -- at a row: its record, the row behind, and the rows without it
-  pub value_at-row : (front back : List (Row R)) (row : Row R) → IsDistinct (front ++ row ∷ back) → value_at (front ++ row ∷ back) row.q row.cid ≡ Some row.value
-  value_at-row front back row d =
+  pub value_at_row : (front back : List (Row R)) (row : Row R) → IsDistinct (front ++ row ∷ back) → value_at (front ++ row ∷ back) row.q row.cid ≡ Some row.value
+  value_at_row front back row d =
       value_at-behind front (row ∷ back) row.q row.cid (front_none front back row d) ∙ (rw (is_at-itself row) refl)
 
-  pub place_behind-row : (front back : List (Row R)) (row : Row R) → IsDistinct (front ++ row ∷ back) → place_behind (front ++ row ∷ back) row.q row.cid ≡ first_place back
-  place_behind-row front back row d =
+  pub place_behind_row : (front back : List (Row R)) (row : Row R) → IsDistinct (front ++ row ∷ back) → place_behind (front ++ row ∷ back) row.q row.cid ≡ first_place back
+  place_behind_row front back row d =
       place_behind-behind front (row ∷ back) row.q row.cid (front_none front back row d) ∙ (rw (is_at-itself row) refl)
 
-  pub without-row : (front back : List (Row R)) (row : Row R) → IsDistinct (front ++ row ∷ back) → without (front ++ row ∷ back) row.q row.cid ≡ front ++ back
-  without-row front back row d =
+  pub without_row : (front back : List (Row R)) (row : Row R) → IsDistinct (front ++ row ∷ back) → without (front ++ row ∷ back) row.q row.cid ≡ front ++ back
+  without_row front back row d =
       without-behind front (row ∷ back) row.q row.cid (front_none front back row d) ∙ ap (λ rows. front ++ rows) (rw (is_at-itself row) refl)
+
+  pub with_value-row : (front back : List (Row R)) (row : Row R) (value : R) → IsDistinct (front ++ row ∷ back)
+      → with_value (front ++ row ∷ back) row.q row.cid value ≡ front ++ record row { value = value } ∷ back
+  with_value-row front back row value d =
+      with_value-behind front (row ∷ back) row.q row.cid value (front_none front back row d) ∙ ap (λ rows. front ++ rows) (rw (is_at-itself row) refl)
 
   -- a record that was put
   pub put_value : (table : TableOf R) (q cid : ℕ) (value : R) → value_at table.rows q cid ≡ None → value_at (with_row table q cid value).rows q cid ≡ Some value
@@ -69,7 +75,7 @@ module _ {R : Type 0} where
   walk_on rows front (row ∷ back) zero d is fits = absurd (omega arith)
   walk_on rows front (row ∷ back) (suc most) d is fits =
       let next : place_behind rows row.q row.cid ≡ first_place back =
-      ap (λ rs. place_behind rs row.q row.cid) is ∙ place_behind-row front back row (subst IsDistinct is d) in
+      ap (λ rs. place_behind rs row.q row.cid) is ∙ place_behind_row front back row (subst IsDistinct is d) in
       ap (λ places. (row.q, row.cid) ∷ places) (ap (λ at. walk_from rows at most) next ∙ walk_on rows (front ++ row ∷ []) back most d (is ∙ sym (append_assoc front (row ∷ []) back)) (omega arith))
 
   pub walk_all : (rows : List (Row R)) (most : ℕ) → IsDistinct rows → length rows ≤ most → walk_from rows (first_place rows) most ≡ places_of rows
@@ -82,7 +88,7 @@ module _ {R : Type 0} where
       let place : (row.q, row.cid) ≡ (q, cid) = cc in
       ap (λ (p : ℕ × ℕ). place_behind rows p.0 p.1) (sym place)
       ∙ ap (λ rs. place_behind rs row.q row.cid) is
-      ∙ place_behind-row front back row (subst IsDistinct is d)
+      ∙ place_behind_row front back row (subst IsDistinct is d)
 
   pub step_behind : (rows : List (Row R)) (n q cid : ℕ) → IsDistinct rows → first_place (drop n rows) ≡ Some (q, cid) → place_behind rows q cid ≡ first_place (drop (n + 1) rows)
   step_behind rows n q cid d at =

@@ -1,5 +1,5 @@
 -- The bits of one word: the lowest 1 from a place on, a bit that is set or cleared, and the word of so many ones.
-use Rattle.std.proofs.Common.{◌≡◌, ◌≢◌, ℕ, ◌+◌, ◌-◌, ◌*◌, ◌/◌, ◌%◌, ◌^◌, ◌<◌, ◌≤◌, ◌⊎◌, ◌==◌, inl, inr, true, false, not, refl, ap, sym, ◌∙◌, arith, subst, w64, bit_and, bit_or, nat_lt}
+use Rattle.std.proofs.Common.{◌≡◌, ◌≢◌, ℕ, ◌+◌, ◌-◌, ◌*◌, ◌/◌, ◌%◌, ◌^◌, ◌<◌, ◌≤◌, ◌==◌, inl, inr, true, false, not, refl, ap, sym, ◌∙◌, arith, subst, w64, bit_and, bit_or, nat_lt}
 use Rattle.std.proofs.lemmas.{Bool.{true≢false, cases_lt, cases_eq, lt-ltb, le-ltb}, Nat.{shr-shr, shr_le}}
 use Rattle.std.proofs.lemmas.Nat.Bits.{bit_at-zero, bit_at-trailing_zeros, bit_at_above, bit_at_ones, bit_at_ones_above, bit_at_set_same, bit_at_set_other, bit_at_clear_same, bit_at_clear_other, bit_at_not, bit_at-lt}
 use Rattle.std.specs.Int.{bit_at, bit_not, trailing_zeros}
@@ -18,11 +18,7 @@ zero-above word i fits above = zero-from word i (bit_at_above word 64 i fits abo
 
 -- a 1 stands inside its word
 pub one-inside : (word i : ℕ) → word < 2 ^ 64 → is_one word i ≡ true → i < 64
-one-inside word i fits one = go (cases_lt i 64)
-  where
-    go : (i < 64) ⊎ (64 ≤ i) → i < 64
-    go (inl inside) = inside
-    go (inr above) = absurd (true≢false (sym one ∙ zero-above word i fits above))
+one-inside word i fits one = elim (cases_lt i 64) [ inl inside ↦ inside | inr above ↦ absurd (true≢false (sym one ∙ zero-above word i fits above)) ]
 
 -- the lowest 1 of a word that was shifted
 
@@ -70,11 +66,10 @@ others-cleared word place i inside within other = ap (λ b. b == 1) (bit_at_clea
 -- the word of so many ones
 
 pub ones-are : (n i : ℕ) → is_one (2 ^ n - 1) i ≡ nat_lt i n
-ones-are n i = go (cases_lt i n)
-  where
-    go : (i < n) ⊎ (n ≤ i) → is_one (2 ^ n - 1) i ≡ nat_lt i n
-    go (inl below) = one-from (2 ^ n - 1) i (bit_at_ones n i below) ∙ sym (lt-ltb i n below)
-    go (inr above) = zero-from (2 ^ n - 1) i (bit_at_ones_above n i above) ∙ sym (le-ltb i n above)
+ones-are n i = elim (cases_lt i n) [
+  | inl below ↦ one-from (2 ^ n - 1) i (bit_at_ones n i below) ∙ sym (lt-ltb i n below)
+  | inr above ↦ zero-from (2 ^ n - 1) i (bit_at_ones_above n i above) ∙ sym (le-ltb i n above)
+]
 
 -- the other bits of a word
 

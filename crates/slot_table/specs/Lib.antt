@@ -1,5 +1,6 @@
 pub mod Rows
 pub mod Table
+pub mod Chains
 pub mod Links
 pub mod Lends
 pub mod Walks

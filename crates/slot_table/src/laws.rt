@@ -9,6 +9,7 @@ ghost use Rattle.slot_table.specs.Worked.{row_of, opened, two_put, one_taken, pu
 
 /// A record that was put into an empty place comes back by a take, and leaves the table as it was before the put. A record that was
 /// taken and is put again stands behind all others.
+#[tactic(auto, using(crate::proofs::Walks::put_value, crate::proofs::Walks::put_taken))]
 pub fn taken_comes_back<R>()
     ensures value { (table : TableOf R) (q cid : ℕ) (value : R) → value_at table.rows q cid ≡ None
         → value_at (with_row table q cid value).rows q cid ≡ Some value }
@@ -20,6 +21,7 @@ pub fn taken_comes_back<R>()
 
 /// A walk meets each row once, in the order of the rows, and then ends: it stands at each row in turn. Where it stands at a row, the rows behind are those that it
 /// has not met, also after that row was taken.
+#[tactic(auto, using(crate::proofs::Walks::walk_all, crate::proofs::Walks::place_behind_row, crate::proofs::Walks::step_behind, crate::proofs::Walks::value_at_row, crate::proofs::Walks::without_row))]
 pub fn walk_meets_each_row<R>()
     ensures walk { (rows : List (Row R)) (most : ℕ) → IsDistinct rows → length rows ≤ most
         → walk_from rows (first_place rows) most ≡ places_of rows }

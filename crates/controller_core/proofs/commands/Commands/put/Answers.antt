@@ -1,5 +1,6 @@
 use Rattle.controller_core.proofs.Counting.{count_read, counted_put, few_counted, length_row}
-use Rattle.controller_core.proofs.Rows.{commands_of, named_put, distinct_put, unknown_place, place_empty}
+use Rattle.controller_core.proofs.Rows.{commands_of, named_put, distinct_put, unknown_place}
+use Rattle.slot_table.proofs.Walks.{none_stands}
 use Rattle.std.proofs.Common.{◌<◌, length, arith, ap, refl, sym}
 use Rattle.entry_codec.specs.declared.submission.SubEntry.{SubEntry}
 use Rattle.controller_core.proofs.commands.Commands.put.Goals as goal
@@ -30,6 +31,6 @@ invariant_of-self-2 g c =
     let inside : k.q < length counts = rw (← c.self.view_is) at c.requires.there in
     rw (c.in-Ok.ensures.put) (
       named_put t k.q c.entry.result.now.cid k c.self.invariant.0 refl (ap (λ (e : SubEntry). e.cid) (sym c.entry.ensures)),
-      distinct_put t k.q c.entry.result.now.cid k c.self.invariant.1 (place_empty t k.q c.entry.result.now.cid empty),
+      distinct_put t k.q c.entry.result.now.cid k c.self.invariant.1 (none_stands t k.q c.entry.result.now.cid empty),
       counted_put counts t c.entry.result.now.cid k c.from.result _ c.self.invariant.2 inside c.from.ensures c.index_mut.ensures.value,
     )

@@ -1,4 +1,4 @@
-use Rattle.slot_table.proofs.LinkedWhole.{first-rows}
+use Rattle.slot_table.proofs.Linked.{first-rows}
 use Rattle.slot_table.proofs.linked_table.LinkedTable.first.Goals as goal
 
 pub returns : goal.returns

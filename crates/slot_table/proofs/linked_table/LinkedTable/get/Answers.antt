@@ -1,5 +1,5 @@
 use Rattle.std.{proofs.Common.{ap, sym, ◌∙◌}, specs.Option.{option_map, option_copied}}
-use Rattle.slot_table.proofs.LinkedWhole.{rows-distinct, value_at-rows}
+use Rattle.slot_table.proofs.Linked.{rows-distinct, value_at-rows}
 use Rattle.slot_table.proofs.linked_table.LinkedTable.get.Goals as goal
 
 pub returns-in-Some-clause-value : goal.returns-in-Some-clause-value

@@ -1,8 +1,6 @@
-use Rattle.std.{proofs.Common.{◌≡◌, ◌+◌, ap, sym, ◌∙◌, arith}, specs.{HashMap.hash_map_len, Option.{option_map, is_some}}}
-use Rattle.slot_table.proofs.{Changes.{take_threaded, take_rows}, LinkedRows.without-none}
-use Rattle.slot_table.proofs.LinkedSteps.{take_start, take_end, take_made, value_some, same_entries}
-use Rattle.slot_table.{proofs.LinkedWhole.{rows-distinct, rows-empty, value_at-rows, between}, specs.Nodes.{Place, thread_of, rows_in, IsThreaded}}
-use Rattle.slot_table.specs.Rows.{without}
+use Rattle.std.{proofs.Common.{◌≡◌, ◌+◌, ap, sym, ◌∙◌, arith}, specs.{HashMap.hash_map_len, Option.option_map}}
+use Rattle.slot_table.proofs.{Linked.{take_start, take_end, take_left, same_entries, rows-distinct, rows-empty, value_at-rows}, Rows.without-none}
+use Rattle.slot_table.specs.{Nodes.{Place, thread_of, rows_in, IsThreaded}, Rows.without}
 use Rattle.slot_table.proofs.linked_table.LinkedTable.take.Goals as goal
 
 pub invariant_of-self : goal.invariant_of-self
@@ -45,9 +43,9 @@ invariant_of-self-2 g c =
     let has = sym c.remove.ensures.value ∙ c.in_ok-node.was in
     let t = thread_of i.map i.first i.last in
     let k : Place = (c.args.q, c.args.cid) in
-    let b = between t (hash_map_len i.map) c.self.invariant k (ap is_some (value_some t k c.in_ok-node.node has)) in
     let one : hash_map_len n.map + 1 ≡ hash_map_len i.map = omega (arith, c.link_before.ensures.count, c.link_after.ensures.count, c.in_ok-node.ensures.len) in
-    (take_threaded t (thread_of n.map n.first n.last) (hash_map_len i.map) c.self.invariant k (hash_map_len n.map) b one (take_made t _ c.self.invariant k _ c.in_ok-node.node has c.remove.ensures.updates.0 _ _ c.link_after.ensures.links c.link_before.ensures.links)).0
+    (take_left t _ c.self.invariant k _ c.in_ok-node.node has c.remove.ensures.updates.0 _ (thread_of n.map n.first n.last) c.link_after.ensures.links c.link_before.ensures.links
+    (hash_map_len n.map) one).threaded
 
 pub returns-clause-value : goal.returns-clause-value
 returns-clause-value g c =
@@ -62,7 +60,8 @@ returns-clause-rest g c =
     let t = thread_of i.map i.first i.last in
     let k : Place = (c.args.q, c.args.cid) in
     let one : hash_map_len n.map + 1 ≡ hash_map_len i.map = omega (arith, c.link_before.ensures.count, c.link_after.ensures.count, c.in_ok-node.ensures.len) in
-    rw (← c.self.view_is) (take_rows t (thread_of n.map n.first n.last) (hash_map_len i.map) c.self.invariant k (hash_map_len n.map) one (ap is_some (value_some t k c.in_ok-node.node has)) (take_made t _ c.self.invariant k _ c.in_ok-node.node has c.remove.ensures.updates.0 _ _ c.link_after.ensures.links c.link_before.ensures.links))
+    rw (← c.self.view_is) (take_left t _ c.self.invariant k _ c.in_ok-node.node has c.remove.ensures.updates.0 _
+    (thread_of n.map n.first n.last) c.link_after.ensures.links c.link_before.ensures.links (hash_map_len n.map) one).rows_are
 
 pub returns-clause-distinct : goal.returns-clause-distinct
 returns-clause-distinct g c = rw (← c.self.view_is) (rows-distinct _ _ c.self.invariant)

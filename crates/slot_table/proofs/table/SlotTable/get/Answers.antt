@@ -1,5 +1,5 @@
 use Rattle.std.{proofs.Common.{sym, ◌∙◌, ap}, specs.Option.option_copied}
-use Rattle.slot_table.{proofs.{Rows.{value_at-none, holds}, Whole.{found_at, rows-distinct}}, specs.Rows.IsDistinct}
+use Rattle.slot_table.{proofs.{Rows.value_at-none, Slots.{holds, found_at, rows-distinct}}, specs.Rows.IsDistinct}
 use Rattle.slot_table.proofs.table.SlotTable.get.Goals as goal
 
 pub returns-in_err-place-clause-value : goal.returns-in_err-place-clause-value
@@ -7,10 +7,8 @@ returns-in_err-place-clause-value g c = ap option_copied c.from_residual.ensures
 
 pub returns-clause-value : goal.returns-clause-value
 returns-clause-value g c =
-    let i = c.self.inside in
     let p = rw (← c.self.view_is) at c.in_ok-place.ensures in
-    rw (← c.self.view_is) (c.as_ref.ensures.value ∙ found_at i.queues i.places i.len i.records.items i.links.items c.self.invariant c.args.q c.args.cid p.0.queue p.0.identifier _ _ (sym p.1) c.index-2.ensures)
+    rw (← c.self.view_is) (c.as_ref.ensures.value ∙ found_at c.self.invariant p.0 p.1 _ c.index-2.ensures)
 
 pub returns-clause-distinct : goal.returns-clause-distinct
-returns-clause-distinct g c =
-    holds (IsDistinct c.args.self.now.rows) c.as_ref.result (rw (← c.self.view_is) (rows-distinct _ _ _ _ _ c.self.invariant))
+returns-clause-distinct g c = holds (IsDistinct c.args.self.now.rows) c.as_ref.result (rw (← c.self.view_is) (rows-distinct c.self.invariant))
