@@ -5,11 +5,11 @@ use Rattle.machine_model.specs.declared.words.Refusal.TheVariants as refusal
 use Rattle.host_core.specs.declared.values.CommandValue.TheVariants as value
 use Rattle.host_core.specs.declared.call.Reply.TheVariants as reply
 use Rattle.host_core.specs.declared.call.Call.TheVariants as call
-use Rattle.std.proofs.Common.{◌≡◌, ◌+◌, ◌-◌, Option, [], refl, ap, ap₂, sym, subst, ℕ, Bool, true, false, ◌||◌, Some, None, List, ◌∷◌, ◌++◌, length, ◌==◌, ◌&&◌, find, cond, ◌∙◌, ◌≢◌, ◌*◌, ◌<◌, ◌≤◌, ◌⊎◌, inl, inr, IfSome, is_some, arith, Result, Ok, Err, OnOk, OnErr}
-use Rattle.std.{proofs.lemmas.{Bool.cases_lt, List.{append-nil, Elements.filter_map-append}, Option.slice_get-get_or}, specs.List.list_any}
+use Rattle.std.proofs.Common.{◌≡◌, ◌+◌, ◌-◌, Option, [], refl, ap, ap₂, sym, subst, ℕ, Bool, true, false, Some, None, List, ◌∷◌, ◌++◌, length, ◌==◌, ◌&&◌, find, ◌∙◌, ◌≢◌, ◌*◌, ◌<◌, ◌≤◌, inl, inr, is_some, arith, Result, Ok, Err, OnOk, OnErr}
+use Rattle.std.{proofs.lemmas.{Bool.{cases_Bool, cases_lt, true_from_ne_false}, List.{append-nil, Elements.filter_map-append}, Option.slice_get-get_or}, specs.List.list_any}
 use Rattle.std.specs.Option.{option_and_then}
 use Rattle.host_core.proofs.KeptRows.{goes_on, opens_tied, length-queues_from, drafts_named, tickets_named, finished_named, named_there, place_free, put_back, put_same, put_next, reserved, row_dropped, renewed, followed, ended, found_at, changed_at, changed_other, taken_at, taken_other}
-use Rattle.host_core.{proofs.{Outstanding.collected_named, Told.writes_leave_over}, specs.Alone.{HostView, IsOver, alone, HasPlacedPages, IsLowest}}
+use Rattle.host_core.{proofs.{Outstanding.collected_named}, specs.Alone.{HostView, alone, HasPlacedPages, IsLowest}}
 use Rattle.host_core.specs.Calls.{reset_alone, Does, Fills, Builds, Submits, Cancels, Collects, Gathers, Releases}
 use Rattle.host_core.specs.CommandValues.{without_first, with_first, IsBench, table_with, as_draft, as_ticket, as_finished, picked, IsOut}
 use Rattle.host_core.specs.{Kept.{FillsDraft, BuildsDraft, opened_alone}, Opening.{opened_pages, opened_view}, Pool.Keeps, Resetting.{host_reset, pages_reset}, Values.Reply}
@@ -21,6 +21,7 @@ use Rattle.page_memory.specs.{Memory.{Memory, bytes_at, written}, Pages.{Pages, 
 use Rattle.slot_table.specs.{Rows.{Row, value_at, with_value, without}, Table.{TableOf, IsPlace, with_row}}
 use Rattle.entry_codec.specs.declared.status.Status.{Status}
 use Rattle.io_commands.specs.{Asked.Request, Drafts.{DraftContents, built}, Values.{FinishedContents, TicketContents, gathered_from}}
+use Rattle.machine_model.proofs.Cases.{option_is}
 
 -- What a reset leaves of a host alone, and what is of the host and not of its pages.
 
@@ -52,21 +53,18 @@ module _ {A : Type 0} where
 
 -- whether one passes is whether one is found
 any_found : {X : Type 0} (p : X → Bool) (xs : List X) (o : Option X) → find p xs ≡ o → list_any p xs ≡ elim o [ None ↦ false | Some x ↦ true ]
-any_found p [] o e = subst (λ (o : Option _). false ≡ elim o [ None ↦ false | Some x ↦ true ]) e refl
-any_found {X} p (x ∷ xs) o e = go (p x) e (any_found p xs o)
-  where
-    go : (b : Bool) → cond b (Some x) (find p xs) ≡ o → (find p xs ≡ o → list_any p xs ≡ elim o [ None ↦ false | Some x ↦ true ]) → (b || list_any p xs) ≡ elim o [ None ↦ false | Some x ↦ true ]
-    go true e ih = subst (λ (o : Option X). true ≡ elim o [ None ↦ false | Some x ↦ true ]) e refl
-    go false e ih = ih e
+any_found p [] o e = rw (← e) refl
+any_found p (x ∷ xs) o e = elim (cases_Bool (p x)) [
+  | inl f ↦ let is : Some x ≡ o = rw f at e in rw (f, ← is) refl
+  | inr f ↦ rw f (any_found p xs o (rw f at e))
+]
 
 abbrev table_of_parts : State → List DraftContents → List (ℕ × ℕ) → List FinishedContents → Table
 table_of_parts world drafts tickets finished = record { world = world; drafts = drafts; tickets = tickets; finished = finished }
 
 tables_same : (world : State) (drafts ds : List DraftContents) (tickets ts : List (ℕ × ℕ)) (finished fs : List FinishedContents) → drafts ≡ ds → tickets ≡ ts → finished ≡ fs
     → table_of_parts world drafts tickets finished ≡ table_of_parts world ds ts fs
-tables_same world drafts ds tickets ts finished fs d t f =
-    ap (λ (x : List DraftContents). table_of_parts world x tickets finished) d
-    ∙ ap₂ (λ (x : List (ℕ × ℕ)) (y : List FinishedContents). table_of_parts world ds x y) t f
+tables_same world drafts ds tickets ts finished fs d t f = rw (d, t, f) refl
 
 abbrev Values : Type 0 → Type 0
 Values A = TableOf (Option (CommandValue A))
@@ -352,34 +350,28 @@ module _ {A : Type 0} where
 
 -- a page is in where its first byte is there
 first_byte : (pages : Pages) → AreWhole pages → (p : ℕ) → is_in pages p ≡ is_some (byte_at pages (4096 * p + 0))
-first_byte pages whole p = go (page_at pages p) refl (whole p)
-  where
-    go : (o : Option (List ℕ)) → page_at pages p ≡ o → IfSome o (λ page. length page ≡ 4096) → is_some o ≡ is_some (byte_at pages (4096 * p + 0))
-    go None out full = rw (page_of_place p 0 (omega arith), out) refl
-    go (Some page) here full = ap is_some (sym (byte_in pages p 0 page here (omega arith) ∙ slice_get-get_or page 0 0 (omega (arith, full))))
+first_byte pages whole p = elim (option_is (page_at pages p)) [
+  | inl out ↦ rw (page_of_place p 0 (omega arith), out) refl
+  | inr (page, here) ↦
+      let full : length page ≡ 4096 = rw here at (whole p) in
+      rw here (ap is_some (sym (byte_in pages p 0 page here (omega arith) ∙ slice_get-get_or page 0 0 (omega (arith, full)))))
+]
 
 -- a byte stands at a place of a range that is there
 stands : (m : Memory) (addr n place : ℕ) → bytes_at m addr n ≢ None → addr ≤ place → place < addr + n → is_some (m place) ≡ true
-stands m addr n place there low high = go (is_some (m place)) refl
-  where
-    at : addr + (place - addr) ≡ place
-    at = omega (arith, low)
-
-    go : (b : Bool) → is_some (m place) ≡ b → b ≡ true
-    go true e = refl
-    go false e = absurd (there (missing_at m addr n (place - addr) (omega (arith, low, high)) (ap m at ∙ none_of (m place) e)))
+stands m addr n place there low high =
+    let at : addr + (place - addr) ≡ place = omega (arith, low) in
+    true_from_ne_false (is_some (m place)) (λ e. there (missing_at m addr n (place - addr) (omega (arith, low, high)) (ap m at ∙ none_of (m place) e)))
 
 -- so the same places have bytes
 same_places : (m : Memory) (addr : ℕ) (bytes : List ℕ) → bytes_at m addr (length bytes) ≢ None → (place : ℕ) → is_some (written m addr bytes place) ≡ is_some (m place)
-same_places m addr bytes there place = go (cases_lt place addr)
-  where
-    behind : (place < addr + length bytes) ⊎ (addr + length bytes ≤ place) → addr ≤ place → is_some (written m addr bytes place) ≡ is_some (m place)
-    behind (inl high) low = ap is_some (written_in m addr place bytes low high) ∙ sym (stands m addr (length bytes) place there low high)
-    behind (inr past) low = ap is_some (written_after m addr place bytes past)
-
-    go : (place < addr) ⊎ (addr ≤ place) → is_some (written m addr bytes place) ≡ is_some (m place)
-    go (inl before) = ap is_some (written_before m addr place bytes before)
-    go (inr low) = behind (cases_lt place (addr + length bytes)) low
+same_places m addr bytes there place = elim (cases_lt place addr) [
+  | inl before ↦ ap is_some (written_before m addr place bytes before)
+  | inr low ↦ elim (cases_lt place (addr + length bytes)) [
+    | inl high ↦ ap is_some (written_in m addr place bytes low high) ∙ sym (stands m addr (length bytes) place there low high)
+    | inr past ↦ ap is_some (written_after m addr place bytes past)
+  ]
+]
 
 keeps_by : (old new : Pages) → AreWhole old → AreWhole new → length new ≤ 65536 → length new ≡ length old → ((place : ℕ) → is_some (byte_at new place) ≡ is_some (byte_at old place)) → Keeps old new
 keeps_by old new whole whole' few count same =
