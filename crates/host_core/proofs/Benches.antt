@@ -72,42 +72,14 @@ Values A = TableOf (Option (CommandValue A))
 module _ {A : Type 0} where
   -- What is found under a name
 
-  draft_at : (s : State) (values : Values A) (q cid : ℕ) → IsBench s values → draft_of q cid (table_with s values).drafts ≡ option_and_then as_draft (value_at values.rows q cid)
+  pub draft_at : (s : State) (values : Values A) (q cid : ℕ) → IsBench s values → draft_of q cid (table_with s values).drafts ≡ option_and_then as_draft (value_at values.rows q cid)
   draft_at s values q cid b = found_at as_draft is_draft values.rows q cid b.distinct (drafts_named s values b)
 
-  ticket_at : (s : State) (values : Values A) (q cid : ℕ) (o : Option (ℕ × ℕ)) → IsBench s values → option_and_then as_ticket (value_at values.rows q cid) ≡ o → list_any (is_ticket q cid) (table_with s values).tickets ≡ elim o [ None ↦ false | Some x ↦ true ]
+  pub ticket_at : (s : State) (values : Values A) (q cid : ℕ) (o : Option (ℕ × ℕ)) → IsBench s values → option_and_then as_ticket (value_at values.rows q cid) ≡ o → list_any (is_ticket q cid) (table_with s values).tickets ≡ elim o [ None ↦ false | Some x ↦ true ]
   ticket_at s values q cid o b e = any_found (is_ticket q cid) (table_with s values).tickets o (found_at as_ticket is_ticket values.rows q cid b.distinct (tickets_named s values b) ∙ e)
 
-  finished_there : (s : State) (values : Values A) (q cid : ℕ) → IsBench s values → finished_at q cid (table_with s values).finished ≡ option_and_then as_finished (value_at values.rows q cid)
+  pub finished_there : (s : State) (values : Values A) (q cid : ℕ) → IsBench s values → finished_at q cid (table_with s values).finished ≡ option_and_then as_finished (value_at values.rows q cid)
   finished_there s values q cid b = found_at as_finished is_finished values.rows q cid b.distinct (finished_named s values b)
-
-  pub no_fill : (s : State) (values : Values A) (q cid : ℕ) (bytes : List ℕ) → IsBench s values → option_and_then as_draft (value_at values.rows q cid) ≡ None
-      → Fills (table_with s values) q cid bytes (draft_of q cid (table_with s values).drafts) reply.NoValue (table_with s values)
-  no_fill s values q cid bytes b none = rw (draft_at s values q cid b ∙ none) (refl, refl)
-
-  pub no_build : (s : State) (values : Values A) (q cid : ℕ) → IsBench s values → option_and_then as_draft (value_at values.rows q cid) ≡ None
-      → Builds (table_with s values) q cid (draft_of q cid (table_with s values).drafts) reply.NoValue (table_with s values)
-  no_build s values q cid b none = rw (draft_at s values q cid b ∙ none) (refl, refl)
-
-  pub no_submit : (s : State) (values : Values A) (q cid : ℕ) → IsBench s values → option_and_then as_draft (value_at values.rows q cid) ≡ None
-      → Submits (table_with s values) q cid (draft_of q cid (table_with s values).drafts) reply.NoValue (table_with s values)
-  no_submit s values q cid b none = rw (draft_at s values q cid b ∙ none) (refl, refl)
-
-  pub no_cancel : (s : State) (values : Values A) (q cid : ℕ) → IsBench s values → option_and_then as_draft (value_at values.rows q cid) ≡ None
-      → Cancels (table_with s values) q cid (draft_of q cid (table_with s values).drafts) reply.NoValue (table_with s values)
-  no_cancel s values q cid b none = rw (draft_at s values q cid b ∙ none) (refl, refl)
-
-  pub no_collect : (s : State) (values : Values A) (q cid : ℕ) → IsBench s values → option_and_then as_ticket (value_at values.rows q cid) ≡ None
-      → Collects (table_with s values) q cid (list_any (is_ticket q cid) (table_with s values).tickets) reply.NoValue (table_with s values)
-  no_collect s values q cid b none = rw (ticket_at s values q cid None b none) (refl, refl)
-
-  pub no_gather : (s : State) (values : Values A) (q cid : ℕ) → IsBench s values → option_and_then as_finished (value_at values.rows q cid) ≡ None
-      → Gathers (table_with s values) (finished_at q cid (table_with s values).finished) reply.NoValue (table_with s values)
-  no_gather s values q cid b none = rw (finished_there s values q cid b ∙ none) (refl, refl)
-
-  pub no_release : (s : State) (values : Values A) (q cid : ℕ) → IsBench s values → option_and_then as_finished (value_at values.rows q cid) ≡ None
-      → Releases (table_with s values) q cid (finished_at q cid (table_with s values).finished) reply.NoValue (table_with s values)
-  no_release s values q cid b none = rw (finished_there s values q cid b ∙ none) (refl, refl)
 
   -- A command is reserved
 

@@ -330,21 +330,10 @@ release_brings t f none = brought t f.q f.cid is_collected collected-out f.reque
 
 -- The two calls.
 
-pub cancelled_step : (t : Tables) (d : DraftContents) → IsWhole t → IsProperDraft d → ArePages (d.data_pages ++ d.chain_pages) → refusal_of (state_of t) (events.Cancel d) ≡ None
-    → Steps t (events.Cancel d) events.Accepted (ended d.q d.cid (d.data_pages ++ d.chain_pages) t)
-cancelled_step t d whole proper are none =
-    let pages = d.data_pages ++ d.chain_pages in
-    let brings = cancel_brings t d none in
-    moved_whole t d.q (λ claimed. slice_set claimed d.cid false) (ended d.q d.cid pages t).pages (ended d.q d.cid pages t).owners (ended d.q d.cid pages t).records
-    (events.Cancel d) events.Accepted whole (ended-fits t d.q d.cid pages whole are brings) refl proper (none, tt, ended_exact t d.q d.cid pages whole brings)
-
-pub released_step : (t : Tables) (f : FinishedContents) → IsWhole t → ArePages f.data_pages → ArePages f.chain_pages → ArePages (f.data_pages ++ f.chain_pages) → refusal_of (state_of t) (events.Release f) ≡ None
-    → Steps t (events.Release f) events.Accepted (ended f.q f.cid (f.data_pages ++ f.chain_pages) t)
-released_step t f whole front back are none =
-    let pages = f.data_pages ++ f.chain_pages in
-    let brings = release_brings t f none in
-    moved_whole t f.q (λ claimed. slice_set claimed f.cid false) (ended f.q f.cid pages t).pages (ended f.q f.cid pages t).owners (ended f.q f.cid pages t).records
-    (events.Release f) events.Accepted whole (ended-fits t f.q f.cid pages whole are brings) refl (front, back) (none, tt, ended_exact t f.q f.cid pages whole brings)
+ends : (t : Tables) (q cid : ℕ) (pages : PagesOut) (e : Event) → IsWhole t → ArePages pages → Brings t q cid pages → IsController e ≡ false → IsProper e → Exactly (state_of t) e events.Accepted (state_of (ended q cid pages t))
+    → Steps t e events.Accepted (ended q cid pages t)
+ends t q cid pages e whole are brings c p exact =
+    moved_whole t q (λ claimed. slice_set claimed cid false) (ended q cid pages t).pages (ended q cid pages t).owners (ended q cid pages t).records e events.Accepted whole (ended-fits t q cid pages whole are brings) c p exact
 
 -- What the end of a command needs
 
@@ -393,10 +382,6 @@ pub record Reads (q cid : ℕ) (r : Request) (a b : PagesOut) (q' cid' : ℕ) (r
   pub front : a' ≡ a
   pub back : b' ≡ b
 
-pub read_belongs : (records : List Record) (ended' : Bool) (q cid : ℕ) (r : Request) (a b : PagesOut) (q' cid' : ℕ) (r' : Request) (a' b' : PagesOut) → Reads q cid r a b q' cid' r' a' b'
-    → Belongs records ended' q' cid' r' (numbers_of a') (numbers_of b') → Belongs records ended' q cid r (numbers_of a) (numbers_of b)
-read_belongs records ended' q cid r a b q' cid' r' a' b' reads belongs = rw (← reads.queue, ← reads.identifier, ← reads.request, ← reads.front, ← reads.back) belongs
-
 pub read_has : (records : List Record) (ended' : Bool) (q cid : ℕ) (r : Request) (a b : PagesOut) (q' cid' : ℕ) (r' : Request) (a' b' : PagesOut) → Reads q cid r a b q' cid' r' a' b'
     → has_record records ended' q' cid' r' (numbers_of a') (numbers_of b') ≡ has_record records ended' q cid r (numbers_of a) (numbers_of b)
 read_has records ended' q cid r a b q' cid' r' a' b' reads = rw (reads.queue, reads.identifier, reads.request, reads.front, reads.back) refl
@@ -434,7 +419,9 @@ pub cancel_made : (t new : Tables) (d : DraftContents) → IsWhole t → IsPrope
 cancel_made t new d whole proper belongs is =
     let none : refusal_of (state_of t) (events.Cancel d) ≡ None =
     ap (λ b. if not b then Some refusal.Stranger else None) (belongs-passes t false d.q d.cid d.request (numbers_of d.data_pages) (numbers_of d.chain_pages) belongs) in
-    rw is (cancelled_step t d whole proper (joined-pages d.data_pages d.chain_pages proper.data_pages proper.chain_pages) none)
+    let pages = d.data_pages ++ d.chain_pages in
+    let brings = cancel_brings t d none in
+    rw is (ends t d.q d.cid pages (events.Cancel d) whole (joined-pages d.data_pages d.chain_pages proper.data_pages proper.chain_pages) brings refl proper (none, tt, ended_exact t d.q d.cid pages whole brings))
 
 pub release_made : (t new : Tables) (f : FinishedContents) → IsWhole t → ArePages (f.data_pages ++ f.chain_pages)
     → Belongs t.records true f.q f.cid f.request (numbers_of f.data_pages) (numbers_of f.chain_pages)
@@ -442,7 +429,9 @@ pub release_made : (t new : Tables) (f : FinishedContents) → IsWhole t → Are
 release_made t new f whole are belongs is =
     let none : refusal_of (state_of t) (events.Release f) ≡ None =
     ap (λ b. if not b then Some refusal.Stranger else None) (belongs-passes t true f.q f.cid f.request (numbers_of f.data_pages) (numbers_of f.chain_pages) belongs) in
-    let both = both-pages f.data_pages f.chain_pages are in rw is (released_step t f whole both.0 both.1 are none)
+    let pages = f.data_pages ++ f.chain_pages in
+    let brings = release_brings t f none in
+    rw is (ends t f.q f.cid pages (events.Release f) whole are brings refl (both-pages f.data_pages f.chain_pages are) (none, tt, ended_exact t f.q f.cid pages whole brings))
 
 pub reads_from : (q cid : ℕ) (r : Request) (a b : PagesOut) (q' cid' : ℕ) (r' : Request) (ps : PagesOut) (k : ℕ) (front back : PagesOut) → q' ≡ q → cid' ≡ cid → r' ≡ r → ps ≡ a ++ b → k ≡ length a
     → front ≡ take k ps → back ≡ drop k ps → Reads q cid r a b q' cid' r' front back

@@ -37,17 +37,7 @@ none_if None h = refl
 none_if (Some x) h = cc
 
 passes : (s : State) (q : ℕ) (r : Request) → refusal_of s (events.Reserve q r) ≡ None → Passes s q r
-passes s q r none =
-    let fault = fault_of r.kind r.blocks r.pieces in
-    let last : List (Bool × Refusal) =
-    (no_identifier s q, refusal.NoIdentifier) ∷ (nat_lt (length s.host.free) (pages_wanted s r), refusal.NoPages (pages_wanted s r) (length s.host.free)) ∷ [] in
-    let bad : Bool × Refusal = (is_some fault, option_map_or refusal.Bad fault refusal.NoQueue) in
-    let second = rest_fails (no_io_queue s q) refusal.NoQueue ((in_state is_deleting s q, refusal.Deleting) ∷ bad ∷ last) none in
-    let third = rest_fails (in_state is_deleting s q) refusal.Deleting (bad ∷ last) second in
-    record {
-      queue = first_fails (no_io_queue s q) refusal.NoQueue ((in_state is_deleting s q, refusal.Deleting) ∷ bad ∷ last) none;
-      good = none_if fault (first_fails (is_some fault) (option_map_or refusal.Bad fault refusal.NoQueue) last third);
-    }
+passes s q r none = record { queue = grind (arith, none); good = none_if (fault_of r.kind r.blocks r.pieces) (grind (arith, none)) }
 
 pub queue_there : (t : Tables) (q : ℕ) → no_io_queue (state_of t) q ≡ false → (queue : declared.Queue) × (slice_get t.queues q ≡ Some queue)
 queue_there t q known = elim (option_is (slice_get t.queues q)) [

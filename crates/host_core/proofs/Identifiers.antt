@@ -150,23 +150,24 @@ outstanding-more q cid records r = list_any-append (is_at q cid) records (r ∷ 
 at-own : (r : Record) → is_at r.q r.cid r ≡ true
 at-own r = ap₂ (λ (a b : Bool). a && b) (eq-eqb r.q r.q refl) (eq-eqb r.cid r.cid refl)
 
+-- one identifier is claimed or freed, and the others stay
+claims-set : (records rs : List Record) (q cid : ℕ) (claimed : List Bool) (b : Bool) → ClaimsIdentifiers records q claimed → cid < length claimed → is_outstanding rs q cid ≡ b
+    → ((i : ℕ) → i ≢ cid → is_outstanding rs q i ≡ is_outstanding records q i) → ClaimsIdentifiers rs q (slice_set claimed cid b)
+claims-set records rs q cid claimed b claims within here others = record {
+  told = λ i l. elim (cases_eq i cid) [
+    | inl same ↦ rw (same, here) (slice_get-set_same claimed cid b within)
+    | inr other ↦ slice_get-set_other claimed cid i b other ∙ (claims.told i (omega (arith, l, length-set claimed cid b)) ∙ ap Some (sym (others i other)))
+  ];
+  inside = λ i h. elim (cases_eq i cid) [
+    | inl same ↦ omega (arith, length-set claimed cid b)
+    | inr other ↦ omega (arith, length-set claimed cid b, claims.inside i (sym (others i other) ∙ h))
+  ];
+}
+
 more-claims : (records : List Record) (r : Record) (claimed : List Bool) → ClaimsIdentifiers records r.q claimed → r.cid < length claimed → ClaimsIdentifiers (records ++ r ∷ []) r.q (slice_set claimed r.cid true)
-more-claims records r claimed claims within = record { told = told; inside = inside }
-  where
-    other : (cid : ℕ) → cid ≢ r.cid → is_outstanding (records ++ r ∷ []) r.q cid ≡ is_outstanding records r.q cid
-    other cid far = let no : (r.cid == cid) ≡ false = ne_eqb r.cid cid (λ e. far (sym e)) in outstanding-more r.q cid records r ∙ grind (arith, no)
-
-    told : (cid : ℕ) → cid < length (slice_set claimed r.cid true) → slice_get (slice_set claimed r.cid true) cid ≡ Some (is_outstanding (records ++ r ∷ []) r.q cid)
-    told cid l = elim (cases_eq cid r.cid) [
-      | inl same ↦ rw (same, outstanding-more r.q r.cid records r, or_right (is_outstanding records r.q r.cid) _ (at-own r)) (slice_get-set_same claimed r.cid true within)
-      | inr far ↦ slice_get-set_other claimed r.cid cid true far ∙ (claims.told cid (omega (arith, length-set claimed r.cid true)) ∙ ap Some (sym (other cid far)))
-    ]
-
-    inside : (cid : ℕ) → is_outstanding (records ++ r ∷ []) r.q cid ≡ true → cid < length (slice_set claimed r.cid true)
-    inside cid h = elim (cases_eq cid r.cid) [
-      | inl same ↦ omega (arith, length-set claimed r.cid true)
-      | inr far ↦ omega (arith, length-set claimed r.cid true, claims.inside cid (sym (other cid far) ∙ h))
-    ]
+more-claims records r claimed claims within =
+    claims-set records (records ++ r ∷ []) r.q r.cid claimed true claims within (outstanding-more r.q r.cid records r ∙ or_right (is_outstanding records r.q r.cid) _ (at-own r))
+    (λ cid far. let no : (r.cid == cid) ≡ false = ne_eqb r.cid cid (λ e. far (sym e)) in outstanding-more r.q cid records r ∙ grind (arith, no))
 
 same-claims : (records : List Record) (r : Record) (q : ℕ) (claimed : List Bool) → q ≢ r.q → ClaimsIdentifiers records q claimed → ClaimsIdentifiers (records ++ r ∷ []) q claimed
 same-claims records r q claimed other claims =
@@ -193,21 +194,8 @@ less-here q cid [] = refl
 less-here q cid (r ∷ records) = grind (arith, less-here q cid records)
 
 less-claims : (records : List Record) (q cid : ℕ) (claimed : List Bool) → ClaimsIdentifiers records q claimed → cid < length claimed → ClaimsIdentifiers (without_record q cid records) q (slice_set claimed cid false)
-less-claims records q cid claimed claims within = record { told = told; inside = inside }
-  where
-    told : (i : ℕ) → i < length (slice_set claimed cid false) → slice_get (slice_set claimed cid false) i ≡ Some (is_outstanding (without_record q cid records) q i)
-    told i l = elim (cases_eq i cid) [
-      | inl same ↦ rw (same, less-here q cid records) (slice_get-set_same claimed cid false within)
-      | inr other ↦
-          slice_get-set_other claimed cid i false other
-          ∙ (claims.told i (omega (arith, length-set claimed cid false)) ∙ ap Some (sym (less-other q cid q i records (λ h. other (sym h.1)))))
-    ]
-
-    inside : (i : ℕ) → is_outstanding (without_record q cid records) q i ≡ true → i < length (slice_set claimed cid false)
-    inside i h = elim (cases_eq i cid) [
-      | inl same ↦ absurd (true≢false (sym h ∙ rw same (less-here q cid records)))
-      | inr other ↦ omega (arith, length-set claimed cid false, claims.inside i (sym (less-other q cid q i records (λ e. other (sym e.1))) ∙ h))
-    ]
+less-claims records q cid claimed claims within =
+    claims-set records (without_record q cid records) q cid claimed false claims within (less-here q cid records) (λ i other. less-other q cid q i records (λ h. other (sym h.1)))
 
 pub claim-less : (records : List Record) (queues : List Queue) (q cid : ℕ) → ClaimIdentifiers records queues → is_outstanding records q cid ≡ true
     → ClaimIdentifiers (without_record q cid records) (change q (without_claim cid) queues)

@@ -276,32 +276,20 @@ module _ {A : Type 0} where
     is_empty = ap (λ (t : TableOf (Option (CommandValue A))). value_at t.rows q cid) out.left ∙ value_with old.rows q cid (Some v) None out.there
 
     pub put_back : (w : CommandValue A) (new : TableOf (Option (CommandValue A))) → new ≡ record mid { rows = with_value mid.rows q cid (Some w) } → new ≡ record old { rows = with_value old.rows q cid (Some w) }
-    put_back w new is =
-        is ∙ ap (λ (t : TableOf (Option (CommandValue A))). record t { rows = with_value t.rows q cid (Some w) }) out.left
-        ∙ ap (λ (rows : List (Row (Option (CommandValue A)))). record old { rows = rows }) (with_twice old.rows q cid None (Some w))
+    put_back w new is = rw (is, out.left, with_twice old.rows q cid None (Some w)) refl
 
     pub put_same : (w : CommandValue A) (new : TableOf (Option (CommandValue A))) → w ≡ v → new ≡ record mid { rows = with_value mid.rows q cid (Some w) } → new ≡ old
-    put_same w new same is =
-        put_back w new is ∙ ap (λ (x : CommandValue A). record old { rows = with_value old.rows q cid (Some x) }) same
-        ∙ ap (λ (rows : List (Row (Option (CommandValue A)))). record old { rows = rows }) (with_same old.rows q cid (Some v) out.there)
+    put_same w new same is = rw (put_back w new is, same, with_same old.rows q cid (Some v) out.there) refl
 
     pub row_dropped : (new : TableOf (Option (CommandValue A))) → new ≡ record mid { rows = without mid.rows q cid } → new ≡ record old { rows = without old.rows q cid }
-    row_dropped new is =
-        is ∙ ap (λ (t : TableOf (Option (CommandValue A))). record t { rows = without t.rows q cid }) out.left
-        ∙ ap (λ (rows : List (Row (Option (CommandValue A)))). record old { rows = rows }) (without_with old.rows q cid None)
+    row_dropped new is = rw (is, out.left, without_with old.rows q cid None) refl
 
     pub put_next : (w : CommandValue A) (new : TableOf (Option (CommandValue A))) → new ≡ with_row (record mid { rows = without mid.rows q cid }) q cid (Some w) → new ≡ with_row (record old { rows = without old.rows q cid }) q cid (Some w)
-    put_next w new is =
-        is ∙ ap (λ (t : TableOf (Option (CommandValue A))). with_row (record t { rows = without t.rows q cid }) q cid (Some w)) out.left
-        ∙ ap (λ (rows : List (Row (Option (CommandValue A)))). with_row (record old { rows = rows }) q cid (Some w)) (without_with old.rows q cid None)
+    put_next w new is = rw (is, out.left, without_with old.rows q cid None) refl
 
     pub place_there : (s : State) → IsBench s old → IsPlace mid q cid
     place_there s b =
-        let at = place_of_row old.queues old.places old.rows q cid (Some v) b.inside out.there in
-        record {
-          queue = subst (λ (t : TableOf (Option (CommandValue A))). q < t.queues) (sym out.left) at.0;
-          identifier = subst (λ (t : TableOf (Option (CommandValue A))). cid < t.places) (sym out.left) at.1;
-        }
+        let at = place_of_row old.queues old.places old.rows q cid (Some v) b.inside out.there in rw out.left (record { queue = at.0; identifier = at.1 })
 
   -- What a call leaves
 

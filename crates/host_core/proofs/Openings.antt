@@ -2,7 +2,7 @@
 use Rattle.page_ledger.specs.declared.owner.Owner.TheVariants as owner
 use Rattle.machine_model.specs.declared.words.Refusal.TheVariants as refusal
 use Rattle.std.proofs.Common.{◌≡◌, inl, inr, ℕ, zero, suc, ◌+◌, ◌*◌, ◌<◌, ◌≤◌, false, Some, List, length, replicate, refl, ap, ap₂, sym, ◌∙◌, arith, subst, Option, slice_get, [], Fits, w16, ◌-◌, ◌==◌, ◌&&◌, nat_le, leb-true, Bool, true, None, IfSome, ◌∷◌, map, filter, drop, eqb-true}
-use Rattle.std.proofs.{Math.Nat.mul-le-mul_right, lemmas.{Bool.{true≢false, cases_Bool, cases_lt, and_parts}, List.{length-replicate, length-map}, Option.slice_get-map}}
+use Rattle.std.proofs.{Math.Nat.mul-le-mul_right, lemmas.{Bool.{true≢false, Decides.nat_tests, cases_Bool, cases_lt, and_parts}, List.{length-replicate, length-map}, Option.slice_get-map}}
 use Rattle.std.specs.{List.Contains, Option.{option_map_or, option_map}}
 use Rattle.page_ledger.{proofs.{Pages.finds-lowest_run, Tables.{length-with_owner, owner-changed, owner-kept}}}
 use Rattle.page_ledger.specs.{Owners.{is_free, is_owned_at, owner_at, pages_from, with_owner, is_among, free_pages}, Runs.lowest_run}
@@ -231,29 +231,18 @@ pub record Limits (c : Config) : Type 0 where
   pub least_segment : 2 ≤ c.segment
   pub most_segment : c.segment ≤ 256
 
-limits_from : (p q n s : ℕ) → is_config p q n s ≡ true → (8 ≤ p) × (p ≤ 65536) × (1 ≤ q) × (q ≤ 64) × (2 ≤ n) × (n ≤ 1024) × (2 ≤ s) × (s ≤ 256)
-limits_from p q n s h =
-    let g = and_parts (nat_le 8 p && nat_le p 65536 && nat_le 1 q && nat_le q 64 && nat_le 2 n && nat_le n 1024 && nat_le 2 s) (nat_le s 256) h in
-    let f = and_parts (nat_le 8 p && nat_le p 65536 && nat_le 1 q && nat_le q 64 && nat_le 2 n && nat_le n 1024) (nat_le 2 s) g.0 in
-    let e = and_parts (nat_le 8 p && nat_le p 65536 && nat_le 1 q && nat_le q 64 && nat_le 2 n) (nat_le n 1024) f.0 in
-    let d = and_parts (nat_le 8 p && nat_le p 65536 && nat_le 1 q && nat_le q 64) (nat_le 2 n) e.0 in
-    let c = and_parts (nat_le 8 p && nat_le p 65536 && nat_le 1 q) (nat_le q 64) d.0 in
-    let b = and_parts (nat_le 8 p && nat_le p 65536) (nat_le 1 q) c.0 in
-    let a = and_parts (nat_le 8 p) (nat_le p 65536) b.0 in
-    (leb-true 8 p a.0, leb-true p 65536 a.1, leb-true 1 q b.1, leb-true q 64 c.1, leb-true 2 n d.1, leb-true n 1024 e.1, leb-true 2 s f.1, leb-true s 256 g.1)
-
 pub limits : (c : Config) → refusal_of_config c ≡ None → Limits c
 limits c opens =
-    let l = limits_from c.pages c.queues c.entries c.segment (in_limits c.pages c.queues c.entries c.segment opens) in
+    let h = in_limits c.pages c.queues c.entries c.segment opens in
     record {
-      least_pages = l.0;
-      most_pages = l.1;
-      least_queues = l.2;
-      most_queues = l.3;
-      least_entries = l.4;
-      most_entries = l.5;
-      least_segment = l.6;
-      most_segment = l.7;
+      least_pages = grind (arith, nat_tests, h);
+      most_pages = grind (arith, nat_tests, h);
+      least_queues = grind (arith, nat_tests, h);
+      most_queues = grind (arith, nat_tests, h);
+      least_entries = grind (arith, nat_tests, h);
+      most_entries = grind (arith, nat_tests, h);
+      least_segment = grind (arith, nat_tests, h);
+      most_segment = grind (arith, nat_tests, h);
     }
 
 pub fits : (c : Config) → refusal_of_config c ≡ None → sq_from (half_pages c.entries Submission) (half_pages c.entries Completion) (c.queues + 1) ≤ c.pages

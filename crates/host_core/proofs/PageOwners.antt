@@ -24,16 +24,13 @@ use Rattle.machine_model.proofs.Cases.{option_is}
 -- Numbers in lists
 
 pub one-le : (b : Bool) → one b ≤ 1
-one-le true = omega arith
-one-le false = omega arith
+one-le b = grind arith
 
 one-true : (b : Bool) → 0 < one b → b ≡ true
-one-true true h = refl
-one-true false h = absurd (omega arith)
+one-true b h = grind arith
 
 one-false : (b : Bool) → one b ≡ 0 → b ≡ false
-one-false true h = absurd (omega arith)
-one-false false h = refl
+one-false b h = grind arith
 
 pub times-some : (p : ℕ) (xs : List ℕ) → 0 < times p xs → is_among xs p ≡ true
 times-some p xs h = true_from_ne_false (is_among xs p) (λ e. omega (arith, h, not_held p xs e))
@@ -450,18 +447,20 @@ pub half-from : (half : Half) (x : declared.Queue) → has_half half x.state ≡
 half-from Submission x live = rw live refl
 half-from Completion x live = rw live refl
 
+pub half-lists : (t : Tables) → IsHost t → (q : ℕ) (half : Half) (x : declared.Queue) → slice_get t.queues q ≡ Some x → ListsAll (is_half q half) t.owners (half_of half x)
+half-lists t h q half x at =
+    record {
+      within = λ i d l.
+          let p : ℕ = get_or (half_of half x) i d in
+          slice_get_within t.owners p (Queue q half) (half-told t.owners q half x (h.table.owners.queues_told q x at) p (times-some p (half_of half x) (times-at (half_of half x) i d l)));
+      lists = λ p l. sym (half-owned t (length t.owners) h.sound.owners h.table.owners q half x at p l);
+    }
+
 pub half-listed : (t : Tables) → IsHost t → (q : ℕ) (half : Half) (x : declared.Queue) → slice_get t.queues q ≡ Some x → has_half half x.state ≡ true
     → ListsAll (is_half q half) t.owners (pages_from (first_page_of half x.host) (half_pages t.entries half))
 half-listed t h q half x at live =
     let pages = half-from half x live ∙ ap (λ (n : ℕ). pages_from (first_page_of half x.host) (half_pages n half)) (h.rings.each q x at).entries in
-    let told = half-told t.owners q half x (h.table.owners.queues_told q x at) in
-    subst (λ (ps : List ℕ). ListsAll (is_half q half) t.owners ps) pages
-    (record {
-      within = λ i d l.
-          let p : ℕ = get_or (half_of half x) i d in
-          slice_get_within t.owners p (Queue q half) (told p (times-some p (half_of half x) (times-at (half_of half x) i d l)));
-      lists = λ p l. sym (half-owned t (length t.owners) h.sound.owners h.table.owners q half x at p l);
-    })
+    subst (λ (ps : List ℕ). ListsAll (is_half q half) t.owners ps) pages (half-lists t h q half x at)
 
 pub half-there : (t : Tables) → IsHost t → (q : ℕ) (half : Half) (x : declared.Queue) → slice_get t.queues q ≡ Some x → has_half half x.state ≡ true → HasHalf t q half
 half-there t h q half x at live = record { queue = x; at = at; lists = half-listed t h q half x at live }

@@ -11,6 +11,7 @@ use Rattle.machine_model.specs.Refusals.{has_cq, has_sq, slot_page, slot_offset,
 use Rattle.machine_model.specs.State.{State, Record, pages_of, Device, HostQueue, DeviceQueue}
 use Rattle.machine_model.specs.Step.{Step, IsController, KeepsDevice, forges, resets, LeavesByController, LeavesByHost, host_part}
 use Rattle.machine_model.specs.declared.words.HostState.{HostState, TheVariants.{Gone, HalfMade}}
+use Rattle.host_core.proofs.PageOwners.{among-from}
 use Rattle.host_core.proofs.Lists.{change-at-lists as change-at, each-change, get-at, length-change}
 use Rattle.host_core.specs.{Alone.alone, Exact.Exactly, Looks.completion_base, Posting.{with_tail_moved, tail_place, posted, CanPost}}
 use Rattle.host_core.specs.{Reaping.{IsCompletionSlot, lacks_completion, with_state}, Rows.Queue}
@@ -45,37 +46,15 @@ host_step t new e (events.Refused why touched) c p h = (p, surely _ _ (IsControl
 host_step t new e reply c p h =
     (p, surely _ _ (IsController e) c (h.0, h.1), leaves (resets e) (forges e) (IsController e) (state_of t) (after (state_of t) e reply) (state_of new) c h.2 (keeps t new))
 
-pub sound_after : (s : State) (e : Event) (reply : Reply) (new : State) → Step s e reply new → IsSound s → IsSound new
-sound_after s e reply new step h = steps_keep s e reply new step h
-
 -- Queues in a list, and what the rings of one show.
-
-pub map-alike : {A B : Type 0} (seen seen' : A → B) (xs : List A) → ((k : ℕ) (x : A) → slice_get xs k ≡ Some x → seen' x ≡ seen x) → map seen' xs ≡ map seen xs
-map-alike seen seen' [] h = refl
-map-alike {B = B} seen seen' (x ∷ xs) h = ap (λ (y : B). y ∷ map seen' xs) (h 0 x refl) ∙ ap (λ (l : List B). seen x ∷ l) (map-alike seen seen' xs (λ k z e. h (suc k) z e))
-
--- what is seen of them, where the others are seen as before
-pub map-moved : {A B : Type 0} (seen seen' : A → B) (f : A → A) (g : B → B) (q : ℕ) (xs : List A)
-    → ((k : ℕ) (x : A) → k ≢ q → slice_get xs k ≡ Some x → seen' x ≡ seen x) → ((x : A) → slice_get xs q ≡ Some x → seen' (f x) ≡ g (seen x))
-    → map seen' (change q f xs) ≡ change q g (map seen xs)
-map-moved seen seen' f g q [] others one = refl
-map-moved {B = B} seen seen' f g zero (x ∷ xs) others one =
-    ap (λ (y : B). y ∷ map seen' xs) (one x refl) ∙ ap (λ (l : List B). g (seen x) ∷ l) (map-alike seen seen' xs (λ k z e. others (suc k) z (λ h. cc) e))
-map-moved {B = B} seen seen' f g (suc q) (x ∷ xs) others one =
-    ap (λ (y : B). y ∷ map seen' (change q f xs)) (others 0 x (λ h. cc) refl)
-    ∙ ap (λ (l : List B). seen x ∷ l) (map-moved seen seen' f g q xs (λ k z other e. others (suc k) z (λ h. other (omega (arith, h))) e) one)
 
 pub map-change : {A B : Type 0} (seen : A → B) (f : A → A) (g : B → B) (q : ℕ) (xs : List A)
     → ((x : A) → slice_get xs q ≡ Some x → seen (f x) ≡ g (seen x)) → map seen (change q f xs) ≡ change q g (map seen xs)
-map-change seen f g q xs one = map-moved seen seen f g q xs (λ k x other e. refl) one
+map-change seen f g q [] one = refl
+map-change seen f g zero (x ∷ xs) one = ap (λ y. y ∷ map seen xs) (one x refl)
+map-change seen f g (suc q) (x ∷ xs) one = ap (λ l. seen x ∷ l) (map-change seen f g q xs one)
 
 -- Pages of queues are in
-
-among-from : (n b k : ℕ) → k < n → is_among (pages_from b n) (b + k) ≡ true
-among-from zero b k l = absurd (omega arith)
-among-from (suc n) b zero l = or_left (b == b + 0) _ (eq-eqb b (b + 0) (omega arith))
-among-from (suc n) b (suc k) l =
-    let e : b + 1 + k ≡ b + suc k = omega arith in or_right (b == b + suc k) _ (subst (λ (j : ℕ). is_among (pages_from (b + 1) n) j ≡ true) e (among-from n (b + 1) k (omega arith)))
 
 -- no command's page is this one
 not-among : (owners : List Owner) (q : ℕ) (half : Half) (p : ℕ) → owner_at owners p ≡ Some (owner.Queue q half) → (o : Owner) → (o ≡ owner.Queue q half → ⊥) → (pages : List ℕ) → HaveOwner owners o pages
@@ -100,7 +79,7 @@ pub completion-in : (t : Tables) → IsWhole t → (q : ℕ) (queue : Queue) →
 completion-in t w q queue at live =
     pages_in t.pages queue.host.cq (half_pages queue.host.entries Completion) w.pool.whole
     (λ p l. queue_page-in t w q Completion (queue.host.cq + p)
-    ((w.owners.queues_told q queue at).completion (queue.host.cq + p) (rw live (among-from (half_pages queue.host.entries Completion) queue.host.cq p l))))
+    ((w.owners.queues_told q queue at).completion (queue.host.cq + p) (rw live (among-from queue.host.cq (half_pages queue.host.entries Completion) p l))))
 
 pub queue-at : (t : Tables) (q i : ℕ) (x : Queue) → q < length t.queues → i ≡ q → x ≡ get_or t.queues i x → slice_get t.queues q ≡ Some x
 queue-at t q i x l e at = get-at q t.queues x l (subst (λ (k : ℕ). x ≡ get_or t.queues k x) e at)
@@ -110,17 +89,17 @@ pub completion_page-in : (t : Tables) → IsWhole t → (q : ℕ) (queue : Queue
     → (k : ℕ) → k < half_pages queue.host.entries Completion → IsSome (page_at t.pages (queue.host.cq + k))
 completion_page-in t w q queue at live k l =
     queue_page-in t w q Completion (queue.host.cq + k)
-    ((w.owners.queues_told q queue at).completion (queue.host.cq + k) (rw live (among-from (half_pages queue.host.entries Completion) queue.host.cq k l)))
+    ((w.owners.queues_told q queue at).completion (queue.host.cq + k) (rw live (among-from queue.host.cq (half_pages queue.host.entries Completion) k l)))
 
 pub submission_page-in : (t : Tables) → IsWhole t → (q : ℕ) (queue : Queue) → slice_get t.queues q ≡ Some queue → has_sq queue.state ≡ true
     → (k : ℕ) → k < half_pages queue.host.entries Submission → IsSome (page_at t.pages (queue.host.sq + k))
 submission_page-in t w q queue at live k l =
     queue_page-in t w q Submission (queue.host.sq + k)
-    ((w.owners.queues_told q queue at).submission (queue.host.sq + k) (rw live (among-from (half_pages queue.host.entries Submission) queue.host.sq k l)))
+    ((w.owners.queues_told q queue at).submission (queue.host.sq + k) (rw live (among-from queue.host.sq (half_pages queue.host.entries Submission) k l)))
 
 pub submission-owner : (t : Tables) → IsWhole t → (q : ℕ) (queue : Queue) → slice_get t.queues q ≡ Some queue → has_sq queue.state ≡ true
     → (k : ℕ) → k < half_pages queue.host.entries Submission → owner_at t.owners (queue.host.sq + k) ≡ Some (owner.Queue q Submission)
-submission-owner t w q queue at live k l = (w.owners.queues_told q queue at).submission (queue.host.sq + k) (rw live (among-from (half_pages queue.host.entries Submission) queue.host.sq k l))
+submission-owner t w q queue at live k l = (w.owners.queues_told q queue at).submission (queue.host.sq + k) (rw live (among-from queue.host.sq (half_pages queue.host.entries Submission) k l))
 
 -- a queue that was written where another stood
 pub queue-written : (t : Tables) (f : Queue → Queue) (q i : ℕ) (x y : Queue) → q < length t.queues → i ≡ q → x ≡ get_or t.queues i x → y ≡ f x
@@ -176,12 +155,6 @@ index-from (suc n) b (suc k) l = index-from n (b + 1) k (omega arith) ∙ omega 
 pub completion-page : (n cq slot : ℕ) → slot < n → slot_page (pages_from cq (half_pages n Completion)) 16 slot ≡ completion_place cq slot / 4096
 completion-page n cq slot l = index-from (half_pages n Completion) cq (slot * 16 / 4096) (omega (arith, l)) ∙ omega arith
 
-pub completion-offset : (cq slot : ℕ) → slot_offset 16 slot ≡ completion_place cq slot % 4096
-completion-offset cq slot = omega arith
-
-page-of : (cq slot : ℕ) → completion_place cq slot / 4096 ≡ cq + slot / 256
-page-of cq slot = omega arith
-
 pub completion-fits : (cq slot : ℕ) → completion_place cq slot % 4096 + 16 ≤ 4096
 completion-fits cq slot = omega arith
 
@@ -189,7 +162,7 @@ pub slot-in : (t : Tables) → IsWhole t → (q slot place : ℕ) → IsCompleti
 slot-in t w q slot place s =
     let n : s.queue.host.entries ≡ t.entries = (w.queues.each q s.queue s.at).entries in
     let l : slot / 256 < half_pages s.queue.host.entries Completion = omega (arith, n, s.below) in
-    subst (λ (p : ℕ). IsSome (page_at t.pages p)) (sym (ap (λ (x : ℕ). x / 4096) s.there ∙ page-of s.queue.host.cq slot))
+    subst (λ (p : ℕ). IsSome (page_at t.pages p)) (omega (arith, s.there))
     (completion_page-in t w q s.queue s.at (reaped_has_cq s.queue.state s.live) (slot / 256) l)
 
 -- What a write to memory tells
@@ -213,25 +186,16 @@ place-written pages place bytes there fits pool = elim (option_is (page_at pages
 submission-page : (n sq slot : ℕ) → slot < n → slot_page (pages_from sq (half_pages n Submission)) 64 slot ≡ submission_place sq slot / 4096
 submission-page n sq slot l = index-from (half_pages n Submission) sq (slot * 64 / 4096) (omega (arith, l)) ∙ omega arith
 
-submission-offset : (sq slot : ℕ) → slot_offset 64 slot ≡ submission_place sq slot % 4096
-submission-offset sq slot = omega arith
-
-page-of-entries : (sq slot : ℕ) → submission_place sq slot / 4096 ≡ sq + slot / 64
-page-of-entries sq slot = omega arith
-
-fits : (sq slot : ℕ) → submission_place sq slot % 4096 + 64 ≤ 4096
-fits sq slot = omega arith
-
 tail-inside : (t : Tables) (q : ℕ) (x : Queue) (entry : SubEntry) → CanPost t q x entry → x.host.ring.tail < x.host.entries
 tail-inside t q x entry c = (c.queues.each q x c.at).host_side.tail
 
 pub tail-in : (t : Tables) (q : ℕ) (x : Queue) (entry : SubEntry) → CanPost t q x entry → IsSome (page_at t.pages (tail_place x / 4096))
 tail-in t q x entry c =
     let l : x.host.ring.tail / 64 < half_pages x.host.entries Submission = omega (arith, tail-inside t q x entry c) in
-    subst (λ (p : ℕ). IsSome (page_at t.pages p)) (sym (page-of-entries x.host.sq x.host.ring.tail)) (c.inside (x.host.ring.tail / 64) l)
+    subst (λ (p : ℕ). IsSome (page_at t.pages p)) (omega arith) (c.inside (x.host.ring.tail / 64) l)
 
 pub tail-fits : (x : Queue) → tail_place x % 4096 + 64 ≤ 4096
-tail-fits x = fits x.host.sq x.host.ring.tail
+tail-fits x = omega arith
 
 -- What is written
 
@@ -248,15 +212,18 @@ abbrev shown : State → Pages → List HostQueue → Device → State
 shown s pages queues device = record s { memory = pages; host = record s.host { queues = queues }; device = device }
 
 -- the machine writes the same bytes
+pub host-at : (t : Tables) (q : ℕ) (x : Queue) → slice_get t.queues q ≡ Some x → host_queue (state_of t) q ≡ Some (host_queue_of x)
+host-at t q x at = slice_get-map host_queue_of t.queues q ∙ ap (option_map host_queue_of) at
+
 bytes-posted : (t : Tables) (q : ℕ) (x : Queue) (entry : SubEntry) → CanPost t q x entry
     → option_map_or (λ queue. a.on_memory (λ m. with_page_bytes m (slot_page queue.sq_pages 64 queue.ring.tail) (slot_offset 64 queue.ring.tail) (submission_bytes entry)) (state_of t)) (host_queue (state_of t) q) (state_of t)
     ≡ on_pages (state_of t) (posted q x entry t).pages
 bytes-posted t q x entry c =
-    let seen : host_queue (state_of t) q ≡ Some (host_queue_of x) = slice_get-map host_queue_of t.queues q ∙ ap (option_map host_queue_of) c.at in
+    let seen = host-at t q x c.at in
     let pages : sq_pages_of x ≡ pages_from x.host.sq (half_pages x.host.entries Submission) = rw c.kept refl in
     let page : slot_page (sq_pages_of x) 64 x.host.ring.tail ≡ tail_place x / 4096 = ap (λ (ps : List ℕ). slot_page ps 64 x.host.ring.tail) pages
     ∙ submission-page x.host.entries x.host.sq x.host.ring.tail (tail-inside t q x entry c) in
-    let offset : slot_offset 64 x.host.ring.tail ≡ tail_place x % 4096 = submission-offset x.host.sq x.host.ring.tail in
+    let offset : slot_offset 64 x.host.ring.tail ≡ tail_place x % 4096 = omega arith in
     ap (λ (o : Option HostQueue). option_map_or (λ queue. on_pages (state_of t) (with_page_bytes t.pages (slot_page queue.sq_pages 64 queue.ring.tail) (slot_offset 64 queue.ring.tail) (submission_bytes entry))) o (state_of t)) seen
     ∙ (ap (λ (p : ℕ). on_pages (state_of t) (with_page_bytes t.pages p (slot_offset 64 x.host.ring.tail) (submission_bytes entry))) page
     ∙ ap (λ (k : ℕ). on_pages (state_of t) (with_page_bytes t.pages (tail_place x / 4096) k (submission_bytes entry))) offset)
@@ -277,11 +244,6 @@ pub posted-exact : (t : Tables) (q : ℕ) (x : Queue) (entry : SubEntry) → Can
 posted-exact t q x entry c =
     ap (λ (hs : List HostQueue). shown (state_of t) (posted q x entry t).pages hs (state_of (posted q x entry t)).device) (queues-posted t q x entry c)
     ∙ ap (λ (z : State). a.on_ring q (next_tail t.entries) (a.on_device_queue q (with_entry entry) z)) (sym (bytes-posted t q x entry c))
-
--- The queue
-
-pub same-queue : {A : Type 0} (xs : List A) (k : ℕ) (x y : A) → slice_get xs k ≡ Some x → slice_get xs k ≡ Some y → x ≡ y
-same-queue xs k x y e f = let g : Some x ≡ Some y = sym e ∙ f in cc
 
 pub posted-queue : (n q : ℕ) (x : Queue) → IsQueue n q x → IsQueue n q (with_tail_moved x)
 posted-queue n q x is =
@@ -329,9 +291,6 @@ post-told t new seen q i x h entry l e at c is same size wrote sized whole =
 
 -- What the host sees at the head of a completion ring.
 
-pub host-at : (t : Tables) (q : ℕ) (x : Queue) → slice_get t.queues q ≡ Some x → host_queue (state_of t) q ≡ Some (host_queue_of x)
-host-at t q x at = slice_get-map host_queue_of t.queues q ∙ ap (option_map host_queue_of) at
-
 slot-read : (pages : Pages) (p at : ℕ) → IsSome (page_at pages p) → at + 16 ≤ 4096 → IsPool pages
     → option_map (λ bytes. slice_range bytes at (at + 16)) (page_at pages p) ≡ bytes_at (byte_at pages) (4096 * p + at) 16
 slot-read pages p at there fits pool = elim (option_is (page_at pages p)) [
@@ -352,7 +311,7 @@ slot-seen t w q x at live =
     let place : ℕ = completion_place x.host.cq x.host.ring.head in
     let pages : cq_pages_of x ≡ pages_from x.host.cq (half_pages x.host.entries Completion) = rw (reaped_has_cq x.state live) refl in
     let page : slot_page (cq_pages_of x) 16 x.host.ring.head ≡ place / 4096 = ap (λ (ps : List ℕ). slot_page ps 16 x.host.ring.head) pages ∙ completion-page x.host.entries x.host.cq x.host.ring.head is.host_side.head in
-    let offset : slot_offset 16 x.host.ring.head ≡ place % 4096 = completion-offset x.host.cq x.host.ring.head in
+    let offset : slot_offset 16 x.host.ring.head ≡ place % 4096 = omega arith in
     let inside : IsSome (page_at t.pages (place / 4096)) = slot-in t w q x.host.ring.head place
     (record { queue = x; at = at; live = live; below = subst (λ (n : ℕ). x.host.ring.head < n) is.entries is.host_side.head; there = refl }) in
     ap (λ (p : ℕ). option_map (λ bytes. slice_range bytes (slot_offset 16 x.host.ring.head) (slot_offset 16 x.host.ring.head + 16)) (page_at t.pages p)) page
@@ -593,14 +552,6 @@ settled-state t k state s new old =
 
 pub none-told : (owners : List Owner) (o : Owner) → HaveOwner owners o []
 none-told owners o p h = cc
-
-gone-told : (owners : List Owner) (k : ℕ) (x : Queue) → TellsQueue owners k (with_state Gone x)
-gone-told owners k x = record { submission = none-told owners (owner.Queue k Submission); completion = none-told owners (owner.Queue k Completion) }
-
-pub settled-gone : (t : Tables) (k : ℕ) (owners : List Owner) → Settled t → length owners ≡ length t.owners
-    → ((j : ℕ) (x : Queue) → j ≢ k → slice_get t.queues j ≡ Some x → TellsQueue owners j x) → AllByRecursion (TellsCommand owners) t.records
-    → Settled (record t { owners = owners; queues = change k (with_state Gone) t.queues })
-settled-gone t k owners s size others commands = settled-as t k Gone owners s size (λ y at. gone-told owners k y) others commands
 
 -- a queue that has its completion half alone
 half-told : (owners : List Owner) (k : ℕ) (x : Queue) → has_cq x.state ≡ true → HaveOwner owners (owner.Queue k Completion) (cq_pages_of x) → TellsQueue owners k (with_state HalfMade x)

@@ -18,7 +18,7 @@ use Rattle.machine_model.specs.declared.words.{Phase.TheVariants.Held, RejectedF
 use Rattle.queue_pair.{proofs.Rings.next_below, specs.{Memory.half_pages, Rings.{knowing, next_head}}}
 use Rattle.host_core.proofs.{Identifiers.claim-less, Granting.in_state-is, Lists.{each-change, length-change, found_is, all-filter, found_any, none_is_not, some_is}}
 use Rattle.host_core.proofs.PageOwners.{OwnsHalf, commands-told, half-listed, half-owned, others-told, owner-stays, given-free}
-use Rattle.host_core.proofs.QueueLists.{map-change, Settled, settled-of, settled-turned, settled-with, cq-kept, settled-gone, settled-half_made, settled-state, sq-kept}
+use Rattle.host_core.proofs.QueueLists.{map-change, Settled, settled-of, settled-turned, settled-with, cq-kept, none-told, settled-as, settled-half_made, settled-state, sq-kept}
 use Rattle.host_core.proofs.RowRecords.{Marks, marked-claims, marked-tells, claims_keep_queue, claims_keep_tells, each_claimed}
 use Rattle.host_core.specs.{Commands.{passes, state_at, without_claim}, Exact.Exactly, Halves.HasMeant}
 use Rattle.host_core.specs.Reaping.{consumed, ended_with, seen_at, with_answer_heard, with_answer_taken, heard, gives_back, meant, over, state_deleted, with_state, without_completion, without_submission}
@@ -321,7 +321,7 @@ meant-state u (CreateSq k n base) status size m = elim (cases_Bool (is_success s
 
 settled-freed : (u : Tables) (k : ℕ) → Settled u → Settled (without_completion k u)
 settled-freed u k s =
-    settled-gone u k (given_back (is_half k Completion) u.owners) s (length-map u.owners _)
+    settled-as u k Gone (given_back (is_half k Completion) u.owners) s (length-map u.owners _) (λ y at. record { submission = none-told _ _; completion = none-told _ _ })
     (λ j x far at. others-told u.owners k j Completion x far (s.owners.queues_told j x at))
     (commands-told u.owners k Completion u.records s.owners.commands_told)
 

@@ -18,14 +18,15 @@ use Rattle.queue_pair.specs.{Memory.half_pages, Rings.first_page_of}
 use Rattle.host_core.proofs.Identifiers.{queue-here, alone_sound, host_of, over_pages, places-of}
 use Rattle.host_core.proofs.Lists.{change-at-lists as change-at, get-at, length-change, map-agree, none_is_not, some_is}
 use Rattle.host_core.proofs.Making.{can-zero, some-pages, with-some, claims-none, made-queue, whole-zeros}
-use Rattle.host_core.proofs.PageOwners.{half-from, half-told, among-from, with-append, half-owned, half-standing, owner-stays, times-at, times-some, among-append, pool-with, given-free}
-use Rattle.host_core.proofs.QueueLists.{queue_page-in, host-at, Settled, none-told, settled-of, settled-with, whole-of, sound_after}
-use Rattle.host_core.proofs.{Reaping.held-lost, RowRecords.claims-same}
+use Rattle.host_core.proofs.PageOwners.{half-from, half-told, among-from, with-append, half-owned, half-lists, half-standing, owner-stays, times-at, times-some, among-append, pool-with, given-free}
+use Rattle.host_core.proofs.QueueLists.{queue_page-in, host-at, Settled, none-told, settled-of, settled-with, whole-of}
+use Rattle.host_core.proofs.{Reaping.{held-lost, work-cases}, RowRecords.claims-same}
 use Rattle.io_commands.specs.Asked.{Request}
 use Rattle.host_core.specs.{Alone.{HostView, alone}, Commands.CanZero, Halves.{half_of, has_half}, Laws.shown}
 use Rattle.host_core.specs.Resetting.{admin_reset, with_admin_renewed, gone, gone_behind_first, is_of_io_queue, with_queue_gone, ListHalves, ListsHalf, tables_reset, with_records_reset, HasPlaces, IsPlaced}
 use Rattle.host_core.specs.{Rows.{Queue, Queue as RowsQueue}, Tables.{Tables, host_queue_of, sq_pages_of, cq_pages_of, state_of, view_of}}
 use Rattle.host_core.specs.Whole.{IsWhole, IsHost, ClaimsIdentifiers, IsQueue, IsRecord, TellsCommand, TellsQueue, is_outstanding}
+use Rattle.machine_model.proofs.Headline.{steps_keep}
 
 -- Queue 0 at a reset: its pages are made zero, and its rings are as they open.
 
@@ -270,17 +271,8 @@ list-halves t h =
       few_queues = h.limits.few_queues;
       inside = λ p q half at.
           let s = half-standing t (length t.owners) h.sound.owners h.table.owners q half p (slice_get_within t.owners p (OwnerQueue q half) at) at in slice_get_within t.queues q s.0 s.1;
-      each = λ q l half. let x = queue-here t.queues q l in record { queue = x.0; at = x.1; entries = (h.rings.each q x.0 x.1).entries; lists = half-pages t h q half x.0 x.1 };
+      each = λ q l half. let x = queue-here t.queues q l in record { queue = x.0; at = x.1; entries = (h.rings.each q x.0 x.1).entries; lists = half-lists t h q half x.0 x.1 };
     }
-  where
-    half-pages : (t : Tables) → IsHost t → (q : ℕ) (half : Half) (x : declared.Queue) → slice_get t.queues q ≡ Some x → ListsAll (is_half q half) t.owners (half_of half x)
-    half-pages t h q half x at =
-        record {
-          within = λ i d l.
-              let p : ℕ = get_or (half_of half x) i d in
-              slice_get_within t.owners p (OwnerQueue q half) (half-told t.owners q half x (h.table.owners.queues_told q x at) p (times-some p (half_of half x) (times-at (half_of half x) i d l)));
-          lists = λ p l. sym (half-owned t (length t.owners) h.sound.owners h.table.owners q half x at p l);
-        }
 
 -- What a reset leaves of the tables: the machine that they stand for, and what holds of them.
 
@@ -380,11 +372,10 @@ view-reset t w =
 -- The records
 
 records-left : (n : ℕ) (rs : List Record) → AllByRecursion (IsRecord n) rs → AllByRecursion (IsRecord n) (reset_records rs)
-records-left n rs all = all_reset (IsRecord n) (IsRecord n) (λ r io fits. lost_by (IsRecord n) r (λ e. fits) (λ e. held-lost n r (io_work r.work io) fits)) rs all
-  where
-    io_work : (w : Work) → is_of_io w ≡ true → (request : Request) × (w ≡ Io request)
-    io_work (Io request) h = (request, refl)
-    io_work (Management kind) h = cc
+records-left n rs all = all_reset (IsRecord n) (IsRecord n) (λ r io fits. lost_by (IsRecord n) r (λ e. fits) (λ e. elim (work-cases r.work) [
+  | inl is ↦ held-lost n r is fits
+  | inr (kind, is) ↦ absurd (true≢false (sym io ∙ ap is_of_io is))
+])) rs all
 
 lost-at : (q cid : ℕ) (r : Record) → is_at q cid (lost_anywhere r) ≡ is_at q cid r
 lost-at q cid r = lost_by (λ (x : Record). is_at q cid x ≡ is_at q cid r) r (λ e. refl) (λ e. refl)
@@ -465,7 +456,7 @@ whole-reset t w =
     let left : State = after_reset (state_of t) in
     whole-of (tables_reset t) (settled-reset t w)
     (subst (λ (v : HostView). IsSound (alone v (tables_reset t).pages)) (sym (view-reset t w))
-    (alone_sound left (sound_after (state_of t) events.Reset events.Accepted left (reset-step t) w.sound)))
+    (alone_sound left (steps_keep (state_of t) events.Reset events.Accepted left (reset-step t) w.sound)))
 
 -- What the parts of a reset lean on
 

@@ -181,17 +181,11 @@ send-answers s kind cid plain h = h
 
 is-hosts : (kind : AdminKind) → IsController (sending kind) ≡ false
 is-hosts (Abort q cid) = refl
-is-hosts (DeleteSq q) = refl
-is-hosts (DeleteCq q) = refl
-is-hosts (CreateCq q n base) = refl
-is-hosts (CreateSq q n base) = refl
+is-hosts kind = refl
 
 is-proper : (kind : AdminKind) → IsProper (sending kind)
 is-proper (Abort q cid) = tt
-is-proper (DeleteSq q) = tt
-is-proper (DeleteCq q) = tt
-is-proper (CreateCq q n base) = tt
-is-proper (CreateSq q n base) = tt
+is-proper kind = tt
 
 pub send-exact : (t : Tables) (kind : AdminKind) (cid : ℕ) → IsWhole t → (can : CanSend t kind cid) → IsTyped (admin_entry kind cid)
     → Exactly (state_of t) (sending kind) (events.Sent cid) (state_of (asked kind (sent kind cid can.slot.queue t)))
@@ -233,19 +227,9 @@ past ((false, x) ∷ xs) ys h = past xs ys h
 behind : (s : State) (kind : AdminKind) → grants_none kind ≡ true → first_passing (named_causes s kind) ≡ None → refusal_of s (sending kind) ≡ first_passing (room_causes s)
 behind s kind plain free = by-name s kind plain ∙ past (named_causes s kind) (room_causes s) free
 
-untouched-identifier : (s : State) (kind : AdminKind) → [] ≡ touched_by_refusal s (sending kind) refusal.NoIdentifier
-untouched-identifier s (Abort q cid) = refl
-untouched-identifier s (DeleteSq q) = refl
-untouched-identifier s (DeleteCq q) = refl
-untouched-identifier s (CreateCq q n base) = refl
-untouched-identifier s (CreateSq q n base) = refl
-
-untouched-full : (s : State) (kind : AdminKind) → [] ≡ touched_by_refusal s (sending kind) refusal.QueueFull
-untouched-full s (Abort q cid) = refl
-untouched-full s (DeleteSq q) = refl
-untouched-full s (DeleteCq q) = refl
-untouched-full s (CreateCq q n base) = refl
-untouched-full s (CreateSq q n base) = refl
+untouched : (s : State) (kind : AdminKind) (why : Refusal) → [] ≡ touched_by_refusal s (sending kind) why
+untouched s (Abort q cid) why = refl
+untouched s kind why = refl
 
 pub first-there : (xs : List Queue) → 2 ≤ length xs → (x : Queue) × (slice_get xs 0 ≡ Some x)
 first-there [] l = absurd (omega (arith, l))
@@ -260,14 +244,14 @@ pub send-no_identifier : (t : Tables) (kind : AdminKind) (queues : List Queue) �
 send-no_identifier t kind queues w plain free same next =
     let x = first-there t.queues w.some_queues in
     let none = none-left t w 0 x.0 x.1 (sym (next x.0 (ap (λ (qs : List Queue). slice_get qs 0) same ∙ x.1))) in
-    (behind (state_of t) kind plain free ∙ rw none refl, untouched-identifier (state_of t) kind)
+    (behind (state_of t) kind plain free ∙ rw none refl, untouched (state_of t) kind refusal.NoIdentifier)
 
 pub send-full : (t : Tables) (kind : AdminKind) (queues : List Queue) (cid : ℕ) → IsWhole t → grants_none kind ≡ true → first_passing (named_causes (state_of t) kind) ≡ None → queues ≡ t.queues → Next queues (Some cid)
     → queue_full (state_of t) 0 ≡ true → Refuses (state_of t) (sending kind) refusal.QueueFull []
 send-full t kind queues cid w plain free same next full =
     let x = first-there t.queues w.some_queues in
     let left = next-left t w 0 cid x.0 x.1 (sym (next x.0 (ap (λ (qs : List Queue). slice_get qs 0) same ∙ x.1))) in
-    (behind (state_of t) kind plain free ∙ rw (left, full) refl, untouched-full (state_of t) kind)
+    (behind (state_of t) kind plain free ∙ rw (left, full) refl, untouched (state_of t) kind refusal.QueueFull)
 
 pub send-ready : (t : Tables) (kind : AdminKind) (queues : List Queue) (cid : ℕ) → IsWhole t → grants_none kind ≡ true → first_passing (named_causes (state_of t) kind) ≡ None → queues ≡ t.queues → Next queues (Some cid)
     → queue_full (state_of t) 0 ≡ false → CanSend t kind cid

@@ -280,10 +280,7 @@ both_parts request pages =
 -- a refused admin command touches nothing
 pub sending_refused : (kind : AdminKind) (why : Refusal) → refused_touches (sending kind) why ≡ 0
 sending_refused (kinds.Abort q cid) why = refl
-sending_refused (kinds.DeleteSq q) why = refl
-sending_refused (kinds.DeleteCq q) why = refl
-sending_refused (kinds.CreateCq q n base) why = refl
-sending_refused (kinds.CreateSq q n base) why = refl
+sending_refused kind why = refl
 
 pub creating_refused : (half : Half) (q : ℕ) (why : Refusal) → refused_touches (creating half q) why ≡ 0
 creating_refused Completion q why = refl
