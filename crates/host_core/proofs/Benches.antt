@@ -83,6 +83,10 @@ module _ {A : Type 0} where
 
   -- A command is reserved
 
+  -- a row more, with no value of the kind
+  more_none : {X : Type 0} (pick : Option (CommandValue A) → Option X) (rows : List (Row (Option (CommandValue A)))) (row : Row (Option (CommandValue A))) → pick row.value ≡ None → picked pick (rows ++ row ∷ []) ≡ picked pick rows
+  more_none pick rows row none = filter_map-append (λ (r : Row (Option (CommandValue A))). pick r.value) rows (row ∷ []) ∙ rw none (append-nil (picked pick rows))
+
   pub reserves : (s : State) (old : Values A) (q cid : ℕ) (request : Request) (d : DraftContents) (b : IsBench s old) (world : State) (answer : Reply) (new : Values A) → machine.Step s (events.Reserve q request) (events.Reserved d) world → IsLowest s.host q d.cid → HasPlacedPages s.host d → cid ≡ d.cid
       → answer ≡ reply.Reserved d.q d.cid (length d.data_pages) (length d.chain_pages) → new ≡ with_row old q cid (Some (value.Draft d)) → Does (table_with s old) (call.Reserve q request) answer (table_with world new) × IsBench world new
   reserves s old q cid request d b world answer new made lowest placed same says left = (
@@ -95,8 +99,8 @@ module _ {A : Type 0} where
       keeps = ap (table_with world) is
           ∙ tables_same world _ _ _ _ _ _
           (filter_map-append (λ (r : Row (Option (CommandValue A))). as_draft r.value) old.rows (row ∷ []))
-          (filter_map-append (λ (r : Row (Option (CommandValue A))). as_ticket r.value) old.rows (row ∷ []) ∙ append-nil (picked as_ticket old.rows))
-          (filter_map-append (λ (r : Row (Option (CommandValue A))). as_finished r.value) old.rows (row ∷ []) ∙ append-nil (picked as_finished old.rows));
+          (more_none as_ticket old.rows row refl)
+          (more_none as_finished old.rows row refl);
     }),
     subst (IsBench world) (sym is) (reserved s world q request d old made b),
   )
@@ -168,35 +172,21 @@ module _ {A : Type 0} where
     pub submits : (world : State) (ticket : TicketContents) (new : Values A) → machine.Step s (events.Submit d) events.Accepted world → ticket ≡ record { q = d.q; cid = d.cid }
         → new ≡ with_row (record mid { rows = without mid.rows q cid }) q cid (Some (value.Ticket ticket))
         → Submits (table_with s old) q cid (draft_of q cid (table_with s old).drafts) reply.Accepted (table_with world new) × IsBench world new
-    submits world ticket new step is left = (
-      rw found_draft (step, ap (table_with world) (put_next old mid q cid (value.Draft d) out (value.Ticket ticket) new left) ∙ tables_same world _ _ _ _ _ _ drafts tickets finished),
-      subst (IsBench world) (sym (put_next old mid q cid (value.Draft d) out (value.Ticket ticket) new left))
-          (followed world old q cid (value.Draft d) (value.Ticket ticket) (goes_on s (events.Submit d) events.Accepted world old step (λ k n. refl) b) out.there pair.0 pair.1),
-    )
-      where
-        name : (d.q ≡ q) × (d.cid ≡ cid)
-        name = named_there s old q cid (value.Draft d) b out.there
-
-        pair : (ticket.q ≡ q) × (ticket.cid ≡ cid)
-        pair = (ap (λ (t : TicketContents). t.q) is ∙ name.0, ap (λ (t : TicketContents). t.cid) is ∙ name.1)
-
-        row : Row (Option (CommandValue A))
-        row = record { q = q; cid = cid; value = Some (value.Ticket ticket) }
-
-        drafts : picked as_draft (without old.rows q cid ++ row ∷ []) ≡ without_first (is_draft q cid) (picked as_draft old.rows)
-        drafts =
-            filter_map-append (λ (r : Row (Option (CommandValue A))). as_draft r.value) (without old.rows q cid) (row ∷ []) ∙ append-nil (picked as_draft (without old.rows q cid))
-            ∙ taken_at as_draft is_draft old.rows q cid b.distinct (drafts_named s old b)
-
-        tickets : picked as_ticket (without old.rows q cid ++ row ∷ []) ≡ picked as_ticket old.rows ++ (q, cid) ∷ []
-        tickets =
-            filter_map-append (λ (r : Row (Option (CommandValue A))). as_ticket r.value) (without old.rows q cid) (row ∷ [])
-            ∙ ap₂ (λ (xs : List (ℕ × ℕ)) (x : ℕ × ℕ). xs ++ x ∷ []) (taken_other as_ticket old.rows q cid (Some (value.Draft d)) out.there refl) (ap₂ (λ (k n : ℕ). (k, n)) pair.0 pair.1)
-
-        finished : picked as_finished (without old.rows q cid ++ row ∷ []) ≡ picked as_finished old.rows
-        finished =
-            filter_map-append (λ (r : Row (Option (CommandValue A))). as_finished r.value) (without old.rows q cid) (row ∷ []) ∙ append-nil (picked as_finished (without old.rows q cid))
-            ∙ taken_other as_finished old.rows q cid (Some (value.Draft d)) out.there refl
+    submits world ticket new step is left =
+        let name = named_there s old q cid (value.Draft d) b out.there in
+        let queue = ap (λ (t : TicketContents). t.q) is ∙ name.0 in
+        let identifier = ap (λ (t : TicketContents). t.cid) is ∙ name.1 in
+        let next = put_next old mid q cid (value.Draft d) out (value.Ticket ticket) new left in
+        let row : Row (Option (CommandValue A)) = record { q = q; cid = cid; value = Some (value.Ticket ticket) } in
+        let rows = without old.rows q cid in (
+          rw found_draft (step, ap (table_with world) next ∙ tables_same world _ _ _ _ _ _
+              (more_none as_draft rows row refl ∙ taken_at as_draft is_draft old.rows q cid b.distinct (drafts_named s old b))
+              (filter_map-append (λ (r : Row (Option (CommandValue A))). as_ticket r.value) rows (row ∷ [])
+              ∙ ap₂ (λ (xs : List (ℕ × ℕ)) (x : ℕ × ℕ). xs ++ x ∷ []) (taken_other as_ticket old.rows q cid (Some (value.Draft d)) out.there refl) (ap₂ (λ (k n : ℕ). (k, n)) queue identifier))
+              (more_none as_finished rows row refl ∙ taken_other as_finished old.rows q cid (Some (value.Draft d)) out.there refl)),
+          subst (IsBench world) (sym next)
+              (followed world old q cid (value.Draft d) (value.Ticket ticket) (goes_on s (events.Submit d) events.Accepted world old step (λ k n. refl) b) out.there queue identifier),
+        )
 
     pub submit_refused : (world : State) (x : DraftContents) (why : Refusal) (answer : Reply) (new : Values A) → machine.Step s (events.Submit d) (events.Refused why []) world → x ≡ d → answer ≡ reply.Refused why
         → new ≡ record mid { rows = with_value mid.rows q cid (Some (value.Draft x)) }
@@ -238,40 +228,27 @@ module _ {A : Type 0} where
     by_name reply world step =
         subst (λ (k : ℕ). machine.Step s (events.Collect k cid) reply world) ticket_name.0 (subst (λ (n : ℕ). machine.Step s (events.Collect ticket.q n) reply world) ticket_name.1 step)
 
-    last_finished : (f : FinishedContents) → picked as_finished (without old.rows q cid ++ record { q = q; cid = cid; value = Some (value.Finished f) } ∷ []) ≡ picked as_finished old.rows ++ f ∷ []
-    last_finished f =
-        filter_map-append (λ (r : Row (Option (CommandValue A))). as_finished r.value) (without old.rows q cid) (record { q = q; cid = cid; value = Some (value.Finished f) } ∷ [])
-        ∙ ap (λ (xs : List FinishedContents). xs ++ f ∷ []) (taken_other as_finished old.rows q cid (Some (value.Ticket ticket)) out.there refl)
-
     pub collects : (world : State) (f : FinishedContents) (status : Status) (new : Values A) → machine.Step s (events.Collect ticket.q ticket.cid) (events.Collects f) world → status ≡ f.status
         → new ≡ with_row (record mid { rows = without mid.rows q cid }) q cid (Some (value.Finished f))
         → Collects (table_with s old) q cid (list_any (is_ticket q cid) (table_with s old).tickets) (reply.Collected status) (table_with world new) × IsBench world new
-    collects world f status new step ends left = (
-      rw found_ticket (record {
-        finished = f;
-        says = ap reply.Collected ends;
-        step = by_name (events.Collects f) world step;
-        keeps = ap (table_with world) (put_next old mid q cid (value.Ticket ticket) out (value.Finished f) new left) ∙ tables_same world _ _ _ _ _ _ drafts tickets (last_finished f);
-      }),
-      subst (IsBench world) (sym (put_next old mid q cid (value.Ticket ticket) out (value.Finished f) new left))
-          (followed world old q cid (value.Ticket ticket) (value.Finished f) (goes_on s (events.Collect ticket.q ticket.cid) (events.Collects f) world old step (λ k n. refl) b) out.there name.0 name.1),
-    )
-      where
-        name : (f.q ≡ q) × (f.cid ≡ cid)
-        name = collected_named s world q cid f (by_name (events.Collects f) world step)
-
-        row : Row (Option (CommandValue A))
-        row = record { q = q; cid = cid; value = Some (value.Finished f) }
-
-        drafts : picked as_draft (without old.rows q cid ++ row ∷ []) ≡ picked as_draft old.rows
-        drafts =
-            filter_map-append (λ (r : Row (Option (CommandValue A))). as_draft r.value) (without old.rows q cid) (row ∷ []) ∙ append-nil (picked as_draft (without old.rows q cid))
-            ∙ taken_other as_draft old.rows q cid (Some (value.Ticket ticket)) out.there refl
-
-        tickets : picked as_ticket (without old.rows q cid ++ row ∷ []) ≡ without_first (is_ticket q cid) (picked as_ticket old.rows)
-        tickets =
-            filter_map-append (λ (r : Row (Option (CommandValue A))). as_ticket r.value) (without old.rows q cid) (row ∷ []) ∙ append-nil (picked as_ticket (without old.rows q cid))
-            ∙ taken_at as_ticket is_ticket old.rows q cid b.distinct (tickets_named s old b)
+    collects world f status new step ends left =
+        let name = collected_named s world q cid f (by_name (events.Collects f) world step) in
+        let next = put_next old mid q cid (value.Ticket ticket) out (value.Finished f) new left in
+        let row : Row (Option (CommandValue A)) = record { q = q; cid = cid; value = Some (value.Finished f) } in
+        let rows = without old.rows q cid in (
+          rw found_ticket (record {
+            finished = f;
+            says = ap reply.Collected ends;
+            step = by_name (events.Collects f) world step;
+            keeps = ap (table_with world) next ∙ tables_same world _ _ _ _ _ _
+                (more_none as_draft rows row refl ∙ taken_other as_draft old.rows q cid (Some (value.Ticket ticket)) out.there refl)
+                (more_none as_ticket rows row refl ∙ taken_at as_ticket is_ticket old.rows q cid b.distinct (tickets_named s old b))
+                (filter_map-append (λ (r : Row (Option (CommandValue A))). as_finished r.value) rows (row ∷ [])
+                ∙ ap (λ (xs : List FinishedContents). xs ++ f ∷ []) (taken_other as_finished old.rows q cid (Some (value.Ticket ticket)) out.there refl));
+          }),
+          subst (IsBench world) (sym next)
+              (followed world old q cid (value.Ticket ticket) (value.Finished f) (goes_on s (events.Collect ticket.q ticket.cid) (events.Collects f) world old step (λ k n. refl) b) out.there name.0 name.1),
+        )
 
     pub collect_refused : (world : State) (x : TicketContents) (why : Refusal) (answer : Reply) (new : Values A) → machine.Step s (events.Collect ticket.q ticket.cid) (events.Refused why []) world → x ≡ ticket → answer ≡ reply.Refused why
         → new ≡ record mid { rows = with_value mid.rows q cid (Some (value.Ticket x)) }

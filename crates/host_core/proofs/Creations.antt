@@ -102,37 +102,25 @@ half-made-is : (state : HostState) → is_half_made state ≡ true → state ≡
 half-made-is HalfMade e = refl
 half-made-is state e = absurd (true≢false (sym e))
 
-not-queue-0 : (s : State) (q : ℕ) → not (is_io_queue s q) ≡ false → (q == 0) ≡ false
-not-queue-0 s q h = not-true (q == 0) (and_parts (not (q == 0)) (is_some (slice_get s.host.queues q)) (not-false (is_io_queue s q) h)).0
-
 pub bare-of : (t : Tables) (half : Half) (q : ℕ) → IsWhole t → refusal_of (state_of t) (creating half q) ≡ None → IsBare t half q
 bare-of t Completion q w none =
-    let s = state_of t in
-    let rest2 = (nat_lt 0 (length (outstanding_on s.host q)), refusal.Outstanding) ∷ half_causes s Completion in
-    let rest1 = (not (in_state is_gone s q), refusal.WrongState) ∷ rest2 in
-    let second = rest_fails (not (is_io_queue s q)) refusal.NoQueue rest1 none in
-    let third = rest_fails (not (in_state is_gone s q)) refusal.WrongState rest2 second in
-    let is = in-it is_gone t q (not-false (in_state is_gone s q) (first_fails (not (in_state is_gone s q)) refusal.WrongState rest2 second)) in
+    let is = in-it is_gone t q (grind (arith, none)) in
     record {
       queue = is.0;
       at = is.1;
-      other = not-queue-0 s q (first_fails (not (is_io_queue s q)) refusal.NoQueue rest1 none);
+      other = grind (arith, none);
       state = gone-is is.0.state is.2;
-      none = none-of q t.records (sym (any-count q t.records) ∙ first_fails (nat_lt 0 (length (outstanding_on s.host q))) refusal.Outstanding (half_causes s Completion) third);
+      none = none-of q t.records (sym (any-count q t.records) ∙ grind (arith, none));
     }
 bare-of t Submission q w none =
-    let s = state_of t in
-    let rest1 = (not (in_state is_half_made s q) || cq_deletion_outstanding s q, refusal.WrongState) ∷ half_causes s Submission in
-    let second = rest_fails (not (is_io_queue s q)) refusal.NoQueue rest1 none in
-    let wrong = first_fails (not (in_state is_half_made s q) || cq_deletion_outstanding s q) refusal.WrongState (half_causes s Submission) second in
-    let is = in-it is_half_made t q (not-false (in_state is_half_made s q) (or_parts (not (in_state is_half_made s q)) (cq_deletion_outstanding s q) wrong).0) in
+    let is = in-it is_half_made t q (grind (arith, none)) in
     let state = half-made-is is.0.state is.2 in
-    let making : option_map_or (λ (queue : HostQueue). is_making queue.state) (slice_get s.host.queues q) false ≡ true =
+    let making : option_map_or (λ (queue : HostQueue). is_making queue.state) (slice_get (state_of t).host.queues q) false ≡ true =
     ap (λ (o : Option HostQueue). option_map_or (λ (queue : HostQueue). is_making queue.state) o false) (slice_get-map host_queue_of t.queues q ∙ ap (option_map host_queue_of) is.1) ∙ ap is_making state in
     record {
       queue = is.0;
       at = is.1;
-      other = not-queue-0 s q (first_fails (not (is_io_queue s q)) refusal.NoQueue rest1 none);
+      other = grind (arith, none);
       state = state;
       none = none-of q t.records (sym (any-count q t.records) ∙ ap (nat_lt 0) (w.sound.bare q making));
     }

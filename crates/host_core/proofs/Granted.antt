@@ -222,18 +222,22 @@ new_draft_fits t q r cid m n grants =
       not_built = refl;
     }
 
+made_parts : (t : Tables) (q : ℕ) (r : Request) (cid m n : ℕ) → Grants t q r cid m n → (pages : PagesOut) → pages ≡ zeroed_pages (first_placed t.owners m) ++ zeroed_pages (then_placed t.owners m n)
+    → (data_part r pages ≡ zeroed_pages (first_placed t.owners m)) × (chain_part r pages ≡ zeroed_pages (then_placed t.owners m n))
+made_parts t q r cid m n grants pages is =
+    let a = zeroed_pages (first_placed t.owners m) in
+    let b = zeroed_pages (then_placed t.owners m n) in
+    let size : length a ≡ data_count r.pieces = length-zeroed (first_placed t.owners m) ∙ (front-size t q r cid m n grants ∙ grants.for_data) in
+    (ap (data_part r) is ∙ take_at a b (data_count r.pieces) size, ap (chain_part r) is ∙ drop_at a b (data_count r.pieces) size)
+
 -- as it is made of one list of pages
 pub made_draft : (t : Tables) (q : ℕ) (r : Request) (cid m n : ℕ) → Grants t q r cid m n → (pages : PagesOut)
     → pages ≡ zeroed_pages (first_placed t.owners m) ++ zeroed_pages (then_placed t.owners m n)
     → record { q = q; cid = cid; request = r; data_pages = data_part r pages; chain_pages = chain_part r pages; segment = t.segment; entry = None }
     ≡ new_draft q cid r (first_placed t.owners m) (then_placed t.owners m n) t.segment
 made_draft t q r cid m n grants pages is =
-    let a = zeroed_pages (first_placed t.owners m) in
-    let b = zeroed_pages (then_placed t.owners m n) in
-    let size : length a ≡ data_count r.pieces = length-zeroed (first_placed t.owners m) ∙ (front-size t q r cid m n grants ∙ grants.for_data) in
-    ap₂ (λ (x y : PagesOut). record { q = q; cid = cid; request = r; data_pages = x; chain_pages = y; segment = t.segment; entry = None })
-    (ap (data_part r) is ∙ take_at a b (data_count r.pieces) size)
-    (ap (chain_part r) is ∙ drop_at a b (data_count r.pieces) size)
+    let parts = made_parts t q r cid m n grants pages is in
+    ap₂ (λ (x y : PagesOut). record { q = q; cid = cid; request = r; data_pages = x; chain_pages = y; segment = t.segment; entry = None }) parts.0 parts.1
 
 pub made_size : (t : Tables) (q : ℕ) (r : Request) (cid m n : ℕ) → Grants t q r cid m n → (pages : PagesOut)
     → pages ≡ zeroed_pages (first_placed t.owners m) ++ zeroed_pages (then_placed t.owners m n) → length pages ≡ m + n
@@ -246,11 +250,7 @@ made_size t q r cid m n grants pages is =
 pub made_pages : (t : Tables) (q : ℕ) (r : Request) (cid m n : ℕ) → Grants t q r cid m n → (pages : PagesOut)
     → pages ≡ zeroed_pages (first_placed t.owners m) ++ zeroed_pages (then_placed t.owners m n) → length pages ≡ pages_with r.pieces t.segment (joined_parts r.pieces (numbers_of (data_part r pages)))
 made_pages t q r cid m n grants pages is =
-    let a = zeroed_pages (first_placed t.owners m) in
-    let b = zeroed_pages (then_placed t.owners m n) in
-    let size : length a ≡ data_count r.pieces = length-zeroed (first_placed t.owners m) ∙ (front-size t q r cid m n grants ∙ grants.for_data) in
-    let front : data_part r pages ≡ a = ap (data_part r) is ∙ take_at a b (data_count r.pieces) size in
-    let numbers : numbers_of (data_part r pages) ≡ data_placed (free_pages t.owners) r.pieces = ap numbers_of front ∙ data-numbers t q r cid m n grants in
+    let numbers : numbers_of (data_part r pages) ≡ data_placed (free_pages t.owners) r.pieces = ap numbers_of (made_parts t q r cid m n grants pages is).0 ∙ data-numbers t q r cid m n grants in
     omega (arith, made_size t q r cid m n grants pages is, grants.for_data, grants.for_chain, ap (λ (ps : List ℕ). pages_needed (length (joined_parts r.pieces ps)) t.segment) numbers)
 
 -- The tables

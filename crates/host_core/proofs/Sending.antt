@@ -12,7 +12,7 @@ use Rattle.machine_model.specs.{State.{HostQueue, State}, Step.{Answers, IsContr
 use Rattle.machine_model.specs.declared.words.{HostState.TheVariants.Deleting, Refusal.Refusal}
 use Rattle.page_memory.specs.{Pages.page_at, declared.page.Half.TheVariants.Submission}
 use Rattle.queue_pair.{proofs.Halves.found_within, specs.Memory.half_pages}
-use Rattle.host_core.proofs.{Granting.{next-fresh, next-left, none-left}, Identifiers.claim-more, Lists.{all-append, each-change, length-change, map-change, some_is}}
+use Rattle.host_core.proofs.{Granting.{in_state-is, next-fresh, next-left, none-left}, Identifiers.claim-more, Lists.{all-append, each-change, length-change, map-change, some_is}}
 use Rattle.host_core.proofs.QueueLists.{posted-exact, posted-queue, submission_length, tail-fits, tail-in, pool-with_bytes, submission_page-in, Settled, settled-of, settled-state, settled-turned, settled-with, host_step, Steps, steps}
 use Rattle.host_core.proofs.{Reaping.state-set, RowRecords.{claims_keep_queue, claims_keep_tells, each_claimed}, Submitted.{admin_live, full_is}}
 use Rattle.host_core.specs.{Commands.with_claim, Exact.Exactly, Posting.{CanPost, posted, tail_place, with_tail_moved, CanPostTo, Posts}, Rows.Queue}
@@ -135,13 +135,8 @@ AsksOf (DeleteSq q) u = (x : Queue) → slice_get u.queues q ≡ Some x → has_
 AsksOf kind u = Unit {0}
 
 has-half : (t : Tables) (q : ℕ) → refusal_of (state_of t) (events.DeleteSq q) ≡ None → (x : Queue) → slice_get t.queues q ≡ Some x → has_sq x.state ≡ true
-has-half t q none x at = service_has_sq x.state
-    (sym (ap (λ (o : Option HostQueue). option_map_or (λ (queue : HostQueue). in_service queue.state) o false) (slice_get-map host_queue_of t.queues q ∙ ap (option_map host_queue_of) at))
-    ∙ not-false _ (or_parts (q == 0) (not (in_state in_service s q))
-    (first_fails (no_io_queue s q) refusal.NoQueue ((in_state is_deleting s q, refusal.WrongState) ∷ (no_identifier s 0, refusal.NoIdentifier) ∷ (queue_full s 0, refusal.QueueFull) ∷ []) none)).1)
-  where
-    s : State
-    s = state_of t
+has-half t q none x at =
+    let serves : in_state in_service (state_of t) q ≡ true = grind (arith, none) in service_has_sq x.state (rw (in_state-is in_service t q, at) at serves)
 
 -- the state of a queue stays with other claims, and with another tail
 asks-sent : (t : Tables) (kind : AdminKind) (cid : ℕ) (x : Queue) → refusal_of (state_of t) (sending kind) ≡ None → AsksOf kind (sent kind cid x t)
