@@ -6,7 +6,8 @@ use Rattle.host_core.specs.declared.values.CommandValue.TheVariants as value
 use Rattle.host_core.specs.declared.call.Reply.TheVariants as reply
 use Rattle.host_core.specs.declared.call.Call.TheVariants as call
 use Rattle.std.proofs.Common.{◌≡◌, ◌+◌, ◌-◌, Option, [], refl, ap, ap₂, sym, subst, ℕ, Bool, true, false, Some, None, List, ◌∷◌, ◌++◌, length, ◌==◌, ◌&&◌, find, ◌∙◌, ◌≢◌, ◌*◌, ◌<◌, ◌≤◌, inl, inr, is_some, arith, Result, Ok, Err, OnOk, OnErr}
-use Rattle.std.{proofs.lemmas.{Bool.{cases_Bool, cases_lt, true_from_ne_false}, List.{append-nil, Elements.filter_map-append}, Option.slice_get-get_or}, specs.List.list_any}
+use Rattle.std.proofs.lemmas.{Bool.{cases_Bool, cases_lt, true_from_ne_false}, List.{append-nil, Elements.filter_map-append}, Option.slice_get-get_or}
+use Rattle.std.specs.List.{list_any}
 use Rattle.std.specs.Option.{option_and_then}
 use Rattle.host_core.proofs.KeptRows.{goes_on, opens_tied, length-queues_from, drafts_named, tickets_named, finished_named, named_there, place_free, put_back, put_same, put_next, reserved, row_dropped, renewed, followed, ended, found_at, changed_at, changed_other, taken_at, taken_other}
 use Rattle.host_core.{proofs.{Outstanding.collected_named}, specs.Alone.{HostView, alone, HasPlacedPages, IsLowest}}
@@ -75,16 +76,19 @@ module _ {A : Type 0} where
   pub draft_at : (s : State) (values : Values A) (q cid : ℕ) → IsBench s values → draft_of q cid (table_with s values).drafts ≡ option_and_then as_draft (value_at values.rows q cid)
   draft_at s values q cid b = found_at as_draft is_draft values.rows q cid b.distinct (drafts_named s values b)
 
-  pub ticket_at : (s : State) (values : Values A) (q cid : ℕ) (o : Option (ℕ × ℕ)) → IsBench s values → option_and_then as_ticket (value_at values.rows q cid) ≡ o → list_any (is_ticket q cid) (table_with s values).tickets ≡ elim o [ None ↦ false | Some x ↦ true ]
+  pub ticket_at : (s : State) (values : Values A) (q cid : ℕ) (o : Option (ℕ × ℕ)) → IsBench s values → option_and_then as_ticket
+      (value_at values.rows q cid) ≡ o → list_any (is_ticket q cid) (table_with s values).tickets ≡ elim o [ None ↦ false | Some x ↦ true ]
   ticket_at s values q cid o b e = any_found (is_ticket q cid) (table_with s values).tickets o (found_at as_ticket is_ticket values.rows q cid b.distinct (tickets_named s values b) ∙ e)
 
-  pub finished_there : (s : State) (values : Values A) (q cid : ℕ) → IsBench s values → finished_at q cid (table_with s values).finished ≡ option_and_then as_finished (value_at values.rows q cid)
+  pub finished_there : (s : State) (values : Values A) (q cid : ℕ) → IsBench s values → finished_at q cid (table_with s values).finished ≡ option_and_then as_finished
+      (value_at values.rows q cid)
   finished_there s values q cid b = found_at as_finished is_finished values.rows q cid b.distinct (finished_named s values b)
 
   -- A command is reserved
 
   -- a row more, with no value of the kind
-  more_none : {X : Type 0} (pick : Option (CommandValue A) → Option X) (rows : List (Row (Option (CommandValue A)))) (row : Row (Option (CommandValue A))) → pick row.value ≡ None → picked pick (rows ++ row ∷ []) ≡ picked pick rows
+  more_none : {X : Type 0} (pick : Option (CommandValue A) → Option X) (rows : List (Row (Option (CommandValue A))))
+      (row : Row (Option (CommandValue A))) → pick row.value ≡ None → picked pick (rows ++ row ∷ []) ≡ picked pick rows
   more_none pick rows row none = filter_map-append (λ (r : Row (Option (CommandValue A))). pick r.value) rows (row ∷ []) ∙ rw none (append-nil (picked pick rows))
 
   pub reserves : (s : State) (old : Values A) (q cid : ℕ) (request : Request) (d : DraftContents) (b : IsBench s old) (world : State) (answer : Reply) (new : Values A) → machine.Step s (events.Reserve q request) (events.Reserved d) world → IsLowest s.host q d.cid → HasPlacedPages s.host d → cid ≡ d.cid
@@ -179,11 +183,15 @@ module _ {A : Type 0} where
         let next = put_next old mid q cid (value.Draft d) out (value.Ticket ticket) new left in
         let row : Row (Option (CommandValue A)) = record { q = q; cid = cid; value = Some (value.Ticket ticket) } in
         let rows = without old.rows q cid in (
-          rw found_draft (step, ap (table_with world) next ∙ tables_same world _ _ _ _ _ _
-              (more_none as_draft rows row refl ∙ taken_at as_draft is_draft old.rows q cid b.distinct (drafts_named s old b))
-              (filter_map-append (λ (r : Row (Option (CommandValue A))). as_ticket r.value) rows (row ∷ [])
-              ∙ ap₂ (λ (xs : List (ℕ × ℕ)) (x : ℕ × ℕ). xs ++ x ∷ []) (taken_other as_ticket old.rows q cid (Some (value.Draft d)) out.there refl) (ap₂ (λ (k n : ℕ). (k, n)) queue identifier))
-              (more_none as_finished rows row refl ∙ taken_other as_finished old.rows q cid (Some (value.Draft d)) out.there refl)),
+          rw found_draft (
+            step,
+            ap (table_with world) next ∙ tables_same world _ _ _ _ _ _
+                (more_none as_draft rows row refl ∙ taken_at as_draft is_draft old.rows q cid b.distinct (drafts_named s old b))
+                (filter_map-append (λ (r : Row (Option (CommandValue A))). as_ticket r.value) rows (row ∷ [])
+                ∙ ap₂ (λ (xs : List (ℕ × ℕ)) (x : ℕ × ℕ). xs ++ x ∷ []) (taken_other as_ticket old.rows q cid (Some (value.Draft d)) out.there refl)
+                (ap₂ (λ (k n : ℕ). (k, n)) queue identifier))
+                (more_none as_finished rows row refl ∙ taken_other as_finished old.rows q cid (Some (value.Draft d)) out.there refl),
+          ),
           subst (IsBench world) (sym next)
               (followed world old q cid (value.Draft d) (value.Ticket ticket) (goes_on s (events.Submit d) events.Accepted world old step (λ k n. refl) b) out.there queue identifier),
         )

@@ -176,7 +176,8 @@ is-proper : (half : Half) (q : ℕ) → IsProper (creating half q)
 is-proper Completion q = tt
 is-proper Submission q = tt
 
-pub created_made : (t new : Tables) (half : Half) (q cid first : ℕ) → IsWhole t → CanCreate t half q cid first → Creates t half q cid first new → Steps t (creating half q) (events.Sent cid) new
+pub created_made : (t new : Tables) (half : Half) (q cid first : ℕ) → IsWhole t → CanCreate t half q cid first → Creates t half q cid first new → Steps t
+    (creating half q) (events.Sent cid) new
 created_made t new half q cid first w can creates =
     let kind : AdminKind = creation half q t.entries first in
     let bare = bare-of t half q w can.none in

@@ -17,9 +17,12 @@ use Rattle.page_ledger.specs.{Lists.ListsAll, Owners.{free_pages, is_among, is_c
 use Rattle.page_ledger.specs.declared.owner.{Owner.TheVariants.{Free, Command}, Role.TheVariants.{Data, Chain}}
 use Rattle.page_memory.specs.Pages.{Pages, IsPool, page_at}
 use Rattle.host_core.proofs.Identifiers.{claim-less}
-use Rattle.host_core.proofs.Lists.{length-change, map-change, change-same, found_at, found_is, all-filter, all-filter_by, all-from, all-to, all-front, all-back, found_any}
-use Rattle.host_core.proofs.PageOwners.{can-take, pool-without, record-in, set-other, without-append, can-put, pool-with, record-out, record-inside, owner-stays, times-at, command-pages, given-free}
-use Rattle.host_core.{proofs.{Outstanding.ids, QueueLists.{host_step, settled-of, settled-with, Steps, steps}, RowRecords.{Marks, marked-claims, marked-records, marked-tells, claims_keep_queue, claims_keep_tells, each_claimed}}, specs.{Collecting.{taken_pages, StandsAt}, Exact.Exactly}}
+use Rattle.host_core.proofs.Lists.{length-change, map-change, change-same, found_at, found_is, all-filter, all-filter_by, all-from, all-to, all-front, all-back}
+use Rattle.host_core.proofs.Lists.{found_any}
+use Rattle.host_core.proofs.PageOwners.{can-take, pool-without, record-in, set-other, without-append, can-put, pool-with, record-out, record-inside}
+use Rattle.host_core.proofs.PageOwners.{owner-stays, times-at, command-pages, given-free}
+use Rattle.host_core.proofs.{Outstanding.ids, QueueLists.{host_step, settled-of, settled-with, Steps, steps}, RowRecords.{Marks, marked-claims, marked-records, marked-tells, claims_keep_queue, claims_keep_tells, each_claimed}}
+use Rattle.host_core.specs.{Collecting.{taken_pages, StandsAt}, Exact.Exactly}
 use Rattle.host_core.specs.Commands.{claims_changed, taken_out, CanTake, ended, without_claim, CanPut, Brings, Belongs, Claims, has_record, phase_of_end}
 use Rattle.host_core.specs.{Rows.Queue, Tables.{Tables, state_of, host_queue_of}}
 use Rattle.host_core.specs.Whole.{IsWhole, IsQueue, ClaimIdentifiers, TellsQueue, TellsCommand, IsRecord, FitsWork, FitsPhase}
@@ -55,7 +58,8 @@ pub record Fits (t : Tables) (q : ℕ) (f : List Bool → List Bool) (pages : Pa
   pub fit : AllByRecursion (IsRecord (length t.queues)) records
 
 pub moved_whole : (t : Tables) (q : ℕ) (f : List Bool → List Bool) (pages : Pages) (owners : List Owner) (records : List Record) (e : Event) (reply : Reply)
-    → IsWhole t → Fits t q f pages owners records → IsController e ≡ false → IsProper e → Exactly (state_of t) e reply (state_of (moved t q f pages owners records)) → Steps t e reply (moved t q f pages owners records)
+    → IsWhole t → Fits t q f pages owners records → IsController e ≡ false → IsProper e → Exactly (state_of t) e reply
+    (state_of (moved t q f pages owners records)) → Steps t e reply (moved t q f pages owners records)
 moved_whole t q f pages owners records e reply whole fits c p exact =
     steps t (moved t q f pages owners records) e reply whole c p exact
     (settled-with t pages owners (change q (claims_changed f) t.queues) records (settled-of t whole)
@@ -97,7 +101,8 @@ marks-collected = record { at = λ q cid r. refl; tells = λ owners r h. record 
 pub collected_step : (t : Tables) (q cid : ℕ) (r : Record) (f : FinishedContents) → IsWhole t → refusal_of (state_of t) (events.Collect q cid) ≡ None
     → find (is_at q cid) t.records ≡ Some r → finished_from (state_of t) r ≡ Some f → Steps t (events.Collect q cid) (events.Collects f) (taken_out q cid (pages_of r) t)
 collected_step t q cid r f whole none was is =
-    subst (λ (n : Tables). Steps t (events.Collect q cid) (events.Collects f) n) (taken-moved t q cid r) (moved_whole t q (λ claimed. claimed) (taken_out q cid (pages_of r) t).pages t.owners (taken_out q cid (pages_of r) t).records (events.Collect q cid) (events.Collects f) whole fits refl tt (
+    subst (λ (n : Tables). Steps t (events.Collect q cid) (events.Collects f) n) (taken-moved t q cid r)
+    (moved_whole t q (λ claimed. claimed) (taken_out q cid (pages_of r) t).pages t.owners (taken_out q cid (pages_of r) t).records (events.Collect q cid) (events.Collects f) whole fits refl tt (
       none,
       ap (option_and_then (finished_from (state_of t))) was ∙ is,
       moved_is t q (λ claimed. claimed) (taken_out q cid (pages_of r) t).pages t.owners (taken_out q cid (pages_of r) t).records ∙ sym (taken-due t q cid r was),
@@ -330,10 +335,12 @@ release_brings t f none = brought t f.q f.cid is_collected collected-out f.reque
 
 -- The two calls.
 
-ends : (t : Tables) (q cid : ℕ) (pages : PagesOut) (e : Event) → IsWhole t → ArePages pages → Brings t q cid pages → IsController e ≡ false → IsProper e → Exactly (state_of t) e events.Accepted (state_of (ended q cid pages t))
+ends : (t : Tables) (q cid : ℕ) (pages : PagesOut) (e : Event) → IsWhole t → ArePages pages → Brings t q cid pages → IsController e ≡ false → IsProper e → Exactly
+    (state_of t) e events.Accepted (state_of (ended q cid pages t))
     → Steps t e events.Accepted (ended q cid pages t)
 ends t q cid pages e whole are brings c p exact =
-    moved_whole t q (λ claimed. slice_set claimed cid false) (ended q cid pages t).pages (ended q cid pages t).owners (ended q cid pages t).records e events.Accepted whole (ended-fits t q cid pages whole are brings) c p exact
+    moved_whole t q (λ claimed. slice_set claimed cid false) (ended q cid pages t).pages (ended q cid pages t).owners (ended q cid pages t).records e events.Accepted whole
+    (ended-fits t q cid pages whole are brings) c p exact
 
 -- What the end of a command needs
 
@@ -421,7 +428,8 @@ cancel_made t new d whole proper belongs is =
     ap (λ b. if not b then Some refusal.Stranger else None) (belongs-passes t false d.q d.cid d.request (numbers_of d.data_pages) (numbers_of d.chain_pages) belongs) in
     let pages = d.data_pages ++ d.chain_pages in
     let brings = cancel_brings t d none in
-    rw is (ends t d.q d.cid pages (events.Cancel d) whole (joined-pages d.data_pages d.chain_pages proper.data_pages proper.chain_pages) brings refl proper (none, tt, ended_exact t d.q d.cid pages whole brings))
+    rw is (ends t d.q d.cid pages (events.Cancel d) whole (joined-pages d.data_pages d.chain_pages proper.data_pages proper.chain_pages) brings refl proper
+    (none, tt, ended_exact t d.q d.cid pages whole brings))
 
 pub release_made : (t new : Tables) (f : FinishedContents) → IsWhole t → ArePages (f.data_pages ++ f.chain_pages)
     → Belongs t.records true f.q f.cid f.request (numbers_of f.data_pages) (numbers_of f.chain_pages)

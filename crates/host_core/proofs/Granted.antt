@@ -3,7 +3,8 @@ use Rattle.machine_model.specs.Events as events
 use Rattle.machine_model.specs.declared.words.Refusal.TheVariants as refusal
 use Rattle.host_core.specs.Rows as declared
 use Rattle.std.proofs.Common.{◌≡◌, ℕ, ◌<◌, ◌≤◌, ◌==◌, nat_lt, Bool, true, false, ◌&&◌, ◌||◌, Option, Some, None, List, [], ◌∷◌, ◌++◌, length, map, slice_get, slice_set, is_some, is_none, refl, ap, ap₂, sym, ◌∙◌, arith, subst, length-set, if◌then◌else◌, not, ◌+◌, All, length-append, inl, inr}
-use Rattle.std.proofs.lemmas.{Bool.{true≢false, true_from_ne_false, false_from_ne_true, cases_Bool, cond_both, or_left, or_right, or_parts}, List.{length-map, take_at, drop_at, Elements.{All-map, All-append}}}
+use Rattle.std.proofs.lemmas.Bool.{true≢false, true_from_ne_false, false_from_ne_true, cases_Bool, cond_both, or_left, or_right, or_parts}
+use Rattle.std.proofs.lemmas.List.{length-map, take_at, drop_at, Elements.{All-map, All-append}}
 use Rattle.std.{proofs.lemmas.Option.{slice_get-map, slice_get_within}, specs.{List.AllByRecursion, Option.{option_map, option_map_or}}}
 use Rattle.io_commands.specs.{Asked.Request, DataBytes.PagesOut, Drafts.DraftContents, Least.pages_with}
 use Rattle.io_commands.specs.{Requests.{fault_of, data_count, FitsRequest, joined_parts}, Values.{numbers_of, data_part, chain_part}}
@@ -60,7 +61,8 @@ record Reserving (t : Tables) (d : DraftContents) : Type 0 where
 
 reserving : (t : Tables) (q : ℕ) (r : Request) (d : DraftContents) → IsReserved (state_of t) q r d → Reserving t d
 reserving t q r d is = record {
-  free = λ p h. free-owner t.owners p (held_once p (free_pages t.owners) (true_from_ne_false (is_among (free_pages t.owners) p) (λ e. omega (arith, rw (h, e) at (is.free p), held_once p (numbers d) h))));
+  free = λ p h. free-owner t.owners p (held_once p (free_pages t.owners) (true_from_ne_false (is_among (free_pages t.owners) p)
+      (λ e. omega (arith, rw (h, e) at (is.free p), held_once p (numbers d) h))));
   once = λ p. omega (arith, is.free p, cond_both (is_among (numbers d) p && is_among (free_pages t.owners) p) 1 0 (λ (n : ℕ). n ≤ 1) (λ _. omega arith) (λ _. omega arith));
 }
 
@@ -86,7 +88,14 @@ new-owners : (t : Tables) (d : DraftContents) → Reserving t d → TellsCommand
 new-owners t d is = record {
   data_pages = λ p e.
       let f : is_among (numbers_of d.chain_pages) p ≡ false = false_from_ne_true (is_among (numbers_of d.chain_pages) p)
-      (λ f. omega (arith, is.once p, times-append p (numbers_of d.data_pages) (numbers_of d.chain_pages), held_once p (numbers_of d.data_pages) e, held_once p (numbers_of d.chain_pages) f)) in
+      (λ f. omega (
+        arith,
+        is.once p,
+        times-append p (numbers_of d.data_pages) (numbers_of d.chain_pages),
+        held_once p (numbers_of d.data_pages) e,
+        held_once p
+            (numbers_of d.chain_pages) f,
+      )) in
       owner-after t d p (within p (or_left (is_among (numbers_of d.data_pages) p) _ e)) ∙ rw (f, e) refl;
   chain_pages = λ p f. owner-after t d p (within p (or_right (is_among (numbers_of d.data_pages) p) _ f)) ∙ rw f refl;
 }
@@ -114,7 +123,8 @@ commands-told t d is told =
 pub reserved_step : (t : Tables) (q : ℕ) (r : Request) (d : DraftContents) → IsWhole t → FitsRequest r → refusal_of (state_of t) (events.Reserve q r) ≡ None → IsReserved (state_of t) q r d
     → Steps t (events.Reserve q r) (events.Reserved d) (reserved d t)
 reserved_step t q r d whole proper none is =
-    moved_whole t d.q (λ claimed. slice_set claimed d.cid true) (reserved d t).pages (reserved d t).owners (reserved d t).records (events.Reserve q r) (events.Reserved d) whole fits refl proper (
+    moved_whole t d.q (λ claimed. slice_set claimed d.cid true) (reserved d t).pages (reserved d t).owners (reserved d t).records (events.Reserve q r)
+    (events.Reserved d) whole fits refl proper (
       none,
       is,
       moved_is t d.q (λ claimed. slice_set claimed d.cid true) (reserved d t).pages (reserved d t).owners (reserved d t).records ∙ sym (reserved-due t d),
@@ -138,7 +148,11 @@ reserved_step t q r d whole proper none is =
           (λ queue e. let side = (whole.queues.each d.q queue e) in omega (arith, is.identifier.in_range, side.host_side.identifiers, side.entries));
       fit = all-append (IsRecord (length t.queues)) t.records (record_of_draft d) whole.records (record {
         queue = slice_get_within t.queues d.q at.0 at.1;
-        work = (subst (λ (x : Request). fault_of x.kind x.blocks x.pieces ≡ None) (sym is.request) (passes (state_of t) q r none).good, length-map d.data_pages (λ page. page.0) ∙ (is.data_pages ∙ ap (λ (x : Request). data_count x.pieces) (sym is.request)));
+        work = (
+          subst (λ (x : Request). fault_of x.kind x.blocks x.pieces ≡ None) (sym is.request) (passes (state_of t) q r none).good,
+          length-map d.data_pages
+              (λ page. page.0) ∙ (is.data_pages ∙ ap (λ (x : Request). data_count x.pieces) (sym is.request)),
+        );
         phase = tt;
       });
     }
@@ -167,7 +181,8 @@ are-free owners m n p =
       | inr e ↦ rw e (not_held p pages e)
       | inl e ↦
           let some = held_once p pages e in
-          let among : is_among (free_pages owners) p ≡ true = true_from_ne_false (is_among (free_pages owners) p) (λ f. omega (arith, some, placed-times owners m n p, not_held p (free_pages owners) f)) in
+          let among : is_among (free_pages owners) p ≡ true = true_from_ne_false (is_among (free_pages owners) p)
+          (λ f. omega (arith, some, placed-times owners m n p, not_held p (free_pages owners) f)) in
           rw (e, among) (omega (arith, some, placed-times owners m n p, free-once owners p))
     ]
 
@@ -222,7 +237,8 @@ new_draft_fits t q r cid m n grants =
       not_built = refl;
     }
 
-made_parts : (t : Tables) (q : ℕ) (r : Request) (cid m n : ℕ) → Grants t q r cid m n → (pages : PagesOut) → pages ≡ zeroed_pages (first_placed t.owners m) ++ zeroed_pages (then_placed t.owners m n)
+made_parts : (t : Tables) (q : ℕ) (r : Request) (cid m n : ℕ) → Grants t q r cid m n → (pages : PagesOut) → pages ≡ zeroed_pages (first_placed t.owners m) ++ zeroed_pages
+    (then_placed t.owners m n)
     → (data_part r pages ≡ zeroed_pages (first_placed t.owners m)) × (chain_part r pages ≡ zeroed_pages (then_placed t.owners m n))
 made_parts t q r cid m n grants pages is =
     let a = zeroed_pages (first_placed t.owners m) in
@@ -250,7 +266,8 @@ made_size t q r cid m n grants pages is =
 pub made_pages : (t : Tables) (q : ℕ) (r : Request) (cid m n : ℕ) → Grants t q r cid m n → (pages : PagesOut)
     → pages ≡ zeroed_pages (first_placed t.owners m) ++ zeroed_pages (then_placed t.owners m n) → length pages ≡ pages_with r.pieces t.segment (joined_parts r.pieces (numbers_of (data_part r pages)))
 made_pages t q r cid m n grants pages is =
-    let numbers : numbers_of (data_part r pages) ≡ data_placed (free_pages t.owners) r.pieces = ap numbers_of (made_parts t q r cid m n grants pages is).0 ∙ data-numbers t q r cid m n grants in
+    let numbers : numbers_of (data_part r pages) ≡ data_placed (free_pages t.owners) r.pieces = ap numbers_of (made_parts t q r cid m n grants pages is).0
+    ∙ data-numbers t q r cid m n grants in
     omega (arith, made_size t q r cid m n grants pages is, grants.for_data, grants.for_chain, ap (λ (ps : List ℕ). pages_needed (length (joined_parts r.pieces ps)) t.segment) numbers)
 
 -- The tables

@@ -86,7 +86,8 @@ size-of-claims t whole q queue at = let is = whole.queues.each q queue at in ome
 
 outstanding-inside : (t : Tables) → IsWhole t → (q : ℕ) (queue : Queue) → slice_get t.queues q ≡ Some queue → (k : ℕ) → 0 < times k (outstanding_on (state_of t).host q) → k < length queue.host.claimed
 outstanding-inside t whole q queue at k some =
-    (whole.identifiers.each q queue at).inside k (outstanding-among (state_of t).host q k ∙ true_from_ne_false (is_among (outstanding_on (state_of t).host q) k) (λ e. omega (arith, some, not_held k (outstanding_on (state_of t).host q) e)))
+    (whole.identifiers.each q queue at).inside k (outstanding-among (state_of t).host q k ∙ true_from_ne_false (is_among (outstanding_on (state_of t).host q) k)
+    (λ e. omega (arith, some, not_held k (outstanding_on (state_of t).host q) e)))
 
 pub next-fresh : (t : Tables) → IsWhole t → (q cid : ℕ) (queue : Queue) → slice_get t.queues q ≡ Some queue → position not queue.host.claimed ≡ Some cid → IsNewIdentifier (state_of t) q cid
 next-fresh t whole q cid queue at next = record {

@@ -64,7 +64,8 @@ module _ {V : Type 0} where
   pub all_with_value : (P : Row V → Type 0) (rows : List (Row V)) (q cid : ℕ) (v w : V) → value_at rows q cid ≡ Some v → ((row : Row V) → row.value ≡ v → P row → P (record row { value = w })) → AllByRecursion P rows → AllByRecursion P (with_value rows q cid w)
   all_with_value P [] q cid v w at new all = tt
   all_with_value P (row ∷ rows) q cid v w at new all =
-      cond_both (is_at row q cid) _ _ (AllByRecursion P) (λ here. (new row (grind (arith, here)) all.0, all.1)) (λ far. (all.0, all_with_value P rows q cid v w (grind (arith, far)) new all.1))
+      cond_both (is_at row q cid) _ _ (AllByRecursion P) (λ here. (new row (grind (arith, here)) all.0, all.1))
+      (λ far. (all.0, all_with_value P rows q cid v w (grind (arith, far)) new all.1))
 
   none_without : (rows : List (Row V)) (q cid k n : ℕ) → NoneAt rows k n → NoneAt (without rows q cid) k n
   none_without [] q cid k n none = tt
@@ -87,7 +88,8 @@ module _ {V : Type 0} where
   pub all_without_row : (P Q : Row V → Type 0) (rows : List (Row V)) (q cid : ℕ) → IsDistinct rows → ((row : Row V) → is_at row q cid ≡ false → P row → Q row) → AllByRecursion P rows → AllByRecursion Q (without rows q cid)
   all_without_row P Q [] q cid d on all = tt
   all_without_row P Q (row ∷ rows) q cid d on all =
-      cond_both (is_at row q cid) _ _ (AllByRecursion Q) (λ here. all_apart P Q q cid on rows (none_here rows row q cid here d.0) all.1) (λ far. (on row far all.0, all_without_row P Q rows q cid d.1 on all.1))
+      cond_both (is_at row q cid) _ _ (AllByRecursion Q) (λ here. all_apart P Q q cid on rows (none_here rows row q cid here d.0) all.1)
+      (λ far. (on row far all.0, all_without_row P Q rows q cid d.1 on all.1))
 
   none_more : (rows : List (Row V)) (row : Row V) (k n : ℕ) → NoneAt rows k n → is_at row k n ≡ false → NoneAt (rows ++ row ∷ []) k n
   none_more [] row k n none far = (far, tt)
@@ -115,7 +117,8 @@ module _ {V : Type 0} where
   -- a row's place is one of the table, and it is found among all
   pub place_of_row : (queues places : ℕ) (rows : List (Row V)) (q cid : ℕ) (v : V) → AreInside queues places rows → value_at rows q cid ≡ Some v → (q < queues) × (cid < places)
   place_of_row queues places rows q cid v inside at =
-      let there = holds_there (λ row. (row.q < queues) × (row.cid < places)) rows q cid v at (inside_all queues places rows inside) in (omega (arith, there.1, there.4.0), omega (arith, there.2, there.4.1))
+      let there = holds_there (λ row. (row.q < queues) × (row.cid < places)) rows q cid v at (inside_all queues places rows inside) in
+      (omega (arith, there.1, there.4.0), omega (arith, there.2, there.4.1))
 
   pub gone : (rows : List (Row V)) (q cid : ℕ) → IsDistinct rows → value_at (without rows q cid) q cid ≡ None
   gone [] q cid d = refl

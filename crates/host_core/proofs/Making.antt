@@ -4,7 +4,8 @@ use Rattle.machine_model.specs.declared.words.Refusal.TheVariants as refusal
 use Rattle.machine_model.specs.After as a
 use Rattle.page_ledger.specs.declared.owner.Owner.TheVariants as owner
 use Rattle.std.proofs.Common.{◌≡◌, ℕ, zero, suc, ◌+◌, ◌<◌, Bool, true, false, Option, Some, None, List, [], ◌∷◌, length, take, filter, find, refl, ap, sym, ◌∙◌, arith, lt-ltb, if◌then◌else◌, ◌==◌, nat_lt, map, slice_get, ◌-◌, ◌≤◌, IsSome, replicate, slice_set, ap₂, subst, eq-eqb, inl, inr}
-use Rattle.std.proofs.lemmas.{Bool.{true≢false, true_from_ne_false, false_from_ne_true, and_parts, cases_Bool, cases_eq, or_left, or_right}, List.length-replicate, Option.{slice_get_within, slice_get-map}}
+use Rattle.std.proofs.lemmas.Bool.{true≢false, true_from_ne_false, false_from_ne_true, and_parts, cases_Bool, cases_eq, or_left, or_right}
+use Rattle.std.proofs.lemmas.{List.length-replicate, Option.{slice_get_within, slice_get-map}}
 use Rattle.std.specs.{List.{list_all, range_with_len, list_any, AllByRecursion}, Option.{option_map_or}}
 use Rattle.io_commands.{proofs.Fewest.same_anywhere, specs.{Asked.Request, Least.{least_pages, pages_with}, Requests.{data_count, joined_parts}, Values.IsGood}}
 use Rattle.machine_model.proofs.{Cases.option_is, Counting.{one, times-filter, times-pages, held_once, not_held, find_sound, all_among}, Steps.length-with_pages}
@@ -202,11 +203,16 @@ new-cq-pages Submission first n x state same = rw state refl
 own-told : (t : Tables) (half : Half) (q first : ℕ) (x : Queue) → run_for (state_of t) half ≡ Some first → x.state ≡ was half → x.host.entries ≡ t.entries → TellsQueue t.owners q x
     → TellsQueue (owned half q first t) q (making half first x)
 own-told t Completion q first x run state same told =
-    record { submission = λ p among. cc; completion = subst (HaveOwner (owned Completion q first t) (owner.Queue q Completion)) (sym (new-cq-pages Completion first t.entries x state same)) (owner-new t Completion q first run) }
+    record {
+      submission = λ p among. cc;
+      completion = subst (HaveOwner (owned Completion q first t) (owner.Queue q Completion))
+          (sym (new-cq-pages Completion first t.entries x state same)) (owner-new t Completion q first run);
+    }
 own-told t Submission q first x run state same told =
     record {
       submission = subst (HaveOwner (owned Submission q first t) (owner.Queue q Submission)) (sym (new-sq-pages Submission first t.entries x state same)) (owner-new t Submission q first run);
-      completion = subst (HaveOwner (owned Submission q first t) (owner.Queue q Completion)) (sym (new-cq-pages Submission first t.entries x state same)) (stay-owned t Submission q first (owner.Queue q Completion) (cq_pages_of x) run (λ e. cc) told.completion);
+      completion = subst (HaveOwner (owned Submission q first t) (owner.Queue q Completion)) (sym (new-cq-pages Submission first t.entries x state same))
+          (stay-owned t Submission q first (owner.Queue q Completion) (cq_pages_of x) run (λ e. cc) told.completion);
     }
 
 made-side : (sq cq : ℕ) (x : Queue) → IsHostSide x.host → IsHostSide (renewed sq cq x.host)

@@ -2,7 +2,8 @@
 use Rattle.page_ledger.specs.declared.owner.Owner.TheVariants as owner
 use Rattle.machine_model.specs.declared.words.Refusal.TheVariants as refusal
 use Rattle.std.proofs.Common.{◌≡◌, inl, inr, ℕ, zero, suc, ◌+◌, ◌*◌, ◌<◌, ◌≤◌, false, Some, List, length, replicate, refl, ap, ap₂, sym, ◌∙◌, arith, subst, Option, slice_get, [], Fits, w16, ◌-◌, ◌==◌, ◌&&◌, nat_le, leb-true, Bool, true, None, IfSome, ◌∷◌, map, filter, drop, eqb-true}
-use Rattle.std.proofs.{Math.Nat.mul-le-mul_right, lemmas.{Bool.{true≢false, Decides.nat_tests, cases_Bool, cases_lt, and_parts}, List.{length-replicate, length-map}, Option.slice_get-map}}
+use Rattle.std.proofs.Math.Nat.{mul-le-mul_right}
+use Rattle.std.proofs.lemmas.{Bool.{true≢false, Decides.nat_tests, cases_Bool, cases_lt, and_parts}, List.{length-replicate, length-map}, Option.slice_get-map}
 use Rattle.std.specs.{List.Contains, Option.{option_map_or, option_map}}
 use Rattle.page_ledger.{proofs.{Pages.finds-lowest_run, Tables.{length-with_owner, owner-changed, owner-kept}}}
 use Rattle.page_ledger.specs.{Owners.{is_free, is_owned_at, owner_at, pages_from, with_owner, is_among, free_pages}, Runs.lowest_run}
@@ -95,7 +96,8 @@ granted_more a b q owners room granted =
             ∙ (run-before owners (sq_from a b q) a p (owner.Queue q Submission) (omega (arith, end, high)) ∙ granted.submission r p before low high)
         | inr past ↦
             let same : r ≡ q = omega (arith, l, past) in
-            rw same (run-before mid (cq_from a b q) b p (owner.Queue q Completion) (rw same at high) ∙ run-owner owners (sq_from a b q) a p (owner.Queue q Submission) first (rw same at low) (rw same at high))
+            rw same (run-before mid (cq_from a b q) b p (owner.Queue q Completion) (rw same at high) ∙ run-owner owners (sq_from a b q) a p
+            (owner.Queue q Submission) first (rw same at low) (rw same at high))
       ];
       completion = λ r p l low high. elim (cases_lt r q) [
         | inl before ↦

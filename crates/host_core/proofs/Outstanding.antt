@@ -2,7 +2,8 @@
 use Rattle.machine_model.specs.After as a
 use Rattle.machine_model.specs.Events as events
 use Rattle.std.proofs.Common.{◌≡◌, ℕ, ◌==◌, Bool, true, false, not, ◌&&◌, ◌||◌, Some, None, List, [], ◌∷◌, ◌++◌, map, filter, find, if◌then◌else◌, refl, ap, sym, ◌∙◌, eqb-true, eq-eqb, Option, length, subst, MatchBool, inl, inr, arith}
-use Rattle.std.{proofs.lemmas.Bool.{and_parts, cond_both, false_from_ne_true, not-true, Decides.nat_tests}, specs.{List.list_any, Option.{option_and_then, option_map}}}
+use Rattle.std.proofs.lemmas.Bool.{and_parts, cond_both, false_from_ne_true, not-true, Decides.nat_tests}
+use Rattle.std.specs.{List.list_any, Option.{option_and_then, option_map}}
 use Rattle.machine_model.proofs.{Cases.option_is, HostLeaves.{io_left, host_leaves, ids_of}, Moves.{host_moves, drafted_record, sent_record, creates_cq, creates_sq}}
 use Rattle.machine_model.{proofs.{Owned.reset_length, Steps.{Accepts, part_controller, part_left}}, specs.Events.{Event, Reply}}
 use Rattle.machine_model.specs.{Refusals.{is_submitted, refusal_of}, State.{Record, is_at, with_record, without_record, State, HostQueue, record_at}}

@@ -1,7 +1,8 @@
 -- Pages and their owners.
 use Rattle.host_core.specs.Rows as declared
 use Rattle.std.proofs.Common.{◌≡◌, ◌≢◌, ℕ, zero, suc, ◌+◌, ◌<◌, ◌≤◌, ◌==◌, ◌⊎◌, inl, inr, nat_lt, Bool, true, false, ◌||◌, Option, Some, None, IsSome, IfSome, List, [], ◌∷◌, ◌++◌, length, slice_get, slice_set, is_some, refl, ap, sym, ◌∙◌, arith, subst, length-set, eqb-true, eq-eqb, lt-ltb, le-ltb, if◌then◌else◌, get_or, not, ◌&&◌, map, filter, find, ◌-◌}
-use Rattle.std.proofs.lemmas.{Bool.{true≢false, true_from_ne_false, false_from_ne_true, and_parts, cases_Bool, cases_eq, cases_lt, cond_both, eqb-false, or_left, or_right, or_parts, ne_eqb}, List.{Elements.filter_agree, Folds.list_any-append}}
+use Rattle.std.proofs.lemmas.Bool.{true≢false, true_from_ne_false, false_from_ne_true, and_parts, cases_Bool, cases_eq, cases_lt, cond_both, eqb-false, or_left, or_right, or_parts, ne_eqb}
+use Rattle.std.proofs.lemmas.List.{Elements.filter_agree, Folds.list_any-append}
 use Rattle.std.{proofs.lemmas.Option.{slice_get_past, slice_get-map, slice_get_within}, specs.List.AllByRecursion}
 use Rattle.std.specs.Option.{option_and_then, option_map_or, option_map}
 use Rattle.io_commands.specs.Values.{numbers_of}
@@ -314,7 +315,8 @@ half-at owners (x ∷ queues) k p told h = elim (cases_lt 0 (times p (sq_pages_o
   | inr a ↦ elim (cases_lt 0 (times p (cq_pages_of x))) [
     | inl c ↦ let in' = times-some p (cq_pages_of x) c in record { place = 0; half = Completion; queue = x; at = refl; among = in'; owner = (told 0 x refl).completion p in' }
     | inr c ↦
-        let s = half-at owners queues (k + 1) p (λ q queue e. let same : k + suc q ≡ k + 1 + q = omega arith in subst (λ (j : ℕ). TellsQueue owners j queue) same (told (suc q) queue e)) (omega arith) in
+        let s = half-at owners queues (k + 1) p (λ q queue e. let same : k + suc q ≡ k + 1 + q = omega arith in subst (λ (j : ℕ). TellsQueue owners j queue) same (told (suc q) queue e))
+        (omega arith) in
         let same : k + 1 + s.place ≡ k + suc s.place = omega arith in
         record { place = suc s.place; half = s.half; queue = s.queue; at = s.at; among = s.among; owner = subst (λ (j : ℕ). owner_at owners p ≡ Some (Queue j s.half)) same s.owner }
   ]
@@ -322,7 +324,8 @@ half-at owners (x ∷ queues) k p told h = elim (cases_lt 0 (times p (sq_pages_o
 
 -- by the tables
 half-of : (t : Tables) → Tells t.owners t.queues t.records → (p : ℕ) → 0 < total (in_queue p) (state_of t).host.queues → Stands t.owners t.queues 0 p
-half-of t tells p some = half-at t.owners t.queues 0 p (λ k queue e. let same : k ≡ 0 + k = omega arith in subst (λ (j : ℕ). TellsQueue t.owners j queue) same (tells.queues_told k queue e)) some
+half-of t tells p some = half-at t.owners t.queues 0 p (λ k queue e. let same : k ≡ 0 + k = omega arith in subst (λ (j : ℕ). TellsQueue t.owners j queue) same
+    (tells.queues_told k queue e)) some
 
 -- a command's page is one of its record
 record-named : (owners : List Owner) (x : Record) → TellsCommand owners x → (p q cid : ℕ) (role : Role) → 0 < in_record p x → owner_at owners p ≡ Some (Command q cid role) → is_at q cid x ≡ true
@@ -366,7 +369,8 @@ command-pages t sound tells q cid r found rq rc few p l = elim (cases_Bool (is_a
 ]
   where
     told : (0 < times p (pages_of r)) → (role : Role) × (owner_at t.owners p ≡ Some (Command q cid role))
-    told some = let c = command-owner t.owners r (found_all (TellsCommand t.owners) (is_at q cid) t.records r found tells.commands_told) p some in (c.0, subst (λ (k : ℕ). owner_at t.owners p ≡ Some (Command q k c.0)) rc (subst (λ (k : ℕ). owner_at t.owners p ≡ Some (Command k r.cid c.0)) rq c.1))
+    told some = let c = command-owner t.owners r (found_all (TellsCommand t.owners) (is_at q cid) t.records r found tells.commands_told) p some in
+        (c.0, subst (λ (k : ℕ). owner_at t.owners p ≡ Some (Command q k c.0)) rc (subst (λ (k : ℕ). owner_at t.owners p ≡ Some (Command k r.cid c.0)) rq c.1))
 
     named : (o : Option Owner) → owner_at t.owners p ≡ o → option_map_or (is_command q cid) o false ≡ true → (role : Role) × (owner_at t.owners p ≡ Some (Command q cid role))
     named (Some (Command k i role)) at h = let both = and_parts (k == q) (i == cid) h in (role, rw (← eqb-true k q both.0, ← eqb-true i cid both.1) at)

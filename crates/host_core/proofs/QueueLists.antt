@@ -3,7 +3,8 @@ use Rattle.machine_model.specs.Events as events
 use Rattle.page_ledger.specs.declared.owner.Owner.TheVariants as owner
 use Rattle.machine_model.specs.After as a
 use Rattle.std.proofs.Common.{◌≡◌, ℕ, zero, suc, Bool, true, false, not, ◌&&◌, ◌||◌, List, [], ◌∷◌, length, MatchBool, refl, ap, ◌≢◌, ◌+◌, ◌<◌, ◌≤◌, Some, IsSome, ◌++◌, map, slice_get, slice_set, get_or, sym, ◌∙◌, subst, arith, ◌==◌, eq-eqb, ◌*◌, ◌/◌, ◌%◌, Option, None, take, drop, length-set, length-append, ◌-◌, if◌then◌else◌, inl, inr}
-use Rattle.std.proofs.lemmas.{Bool.{and_right, false_from_ne_true, not-false, not-true, or_from, or_left, or_right}, List.{length-take-le, length-drop, Folds.list_any-append}, Option.{slice_get_within, slice_get-map}}
+use Rattle.std.proofs.lemmas.Bool.{and_right, false_from_ne_true, not-false, not-true, or_from, or_left, or_right}
+use Rattle.std.proofs.lemmas.{List.{length-take-le, length-drop, Folds.list_any-append}, Option.{slice_get_within, slice_get-map}}
 use Rattle.std.specs.{List.{AllByRecursion, list_any}, Option.{option_and_then, option_map, option_map_or}, Prelude.{slice_index, slice_range}}
 use Rattle.machine_model.{proofs.{Cases.option_is, Headline.steps_keep, Kept.{reaped_has_cq, sq_with_cq}}, specs.{After.{after, change}, Claims.{IsSound, is_away}}}
 use Rattle.machine_model.specs.{Events.{Event, Reply}, Memory.is_in, Proper.IsProper}
@@ -99,7 +100,8 @@ submission_page-in t w q queue at live k l =
 
 pub submission-owner : (t : Tables) → IsWhole t → (q : ℕ) (queue : Queue) → slice_get t.queues q ≡ Some queue → has_sq queue.state ≡ true
     → (k : ℕ) → k < half_pages queue.host.entries Submission → owner_at t.owners (queue.host.sq + k) ≡ Some (owner.Queue q Submission)
-submission-owner t w q queue at live k l = (w.owners.queues_told q queue at).submission (queue.host.sq + k) (rw live (among-from queue.host.sq (half_pages queue.host.entries Submission) k l))
+submission-owner t w q queue at live k l = (w.owners.queues_told q queue at).submission (queue.host.sq + k)
+    (rw live (among-from queue.host.sq (half_pages queue.host.entries Submission) k l))
 
 -- a queue that was written where another stood
 pub queue-written : (t : Tables) (f : Queue → Queue) (q i : ℕ) (x y : Queue) → q < length t.queues → i ≡ q → x ≡ get_or t.queues i x → y ≡ f x
@@ -176,7 +178,8 @@ pub place-written : (pages : Pages) (place : ℕ) (bytes : List ℕ) → IsSome 
 place-written pages place bytes there fits pool = elim (option_is (page_at pages (place / 4096))) [
   | inl f ↦ absurd (let no : false ≡ true = rw f at there in cc)
   | inr (page, f) ↦
-      byte_at-with_page_bytes pages (place / 4096) (place % 4096) bytes page f (rw f at (pool.whole (place / 4096))) fits ∙ ap (λ (p : ℕ). written (byte_at pages) p bytes) (place-parts place)
+      byte_at-with_page_bytes pages (place / 4096) (place % 4096) bytes page f (rw f at (pool.whole (place / 4096))) fits ∙ ap (λ (p : ℕ). written (byte_at pages) p bytes)
+      (place-parts place)
 ]
 
 -- The host posts an entry: it is the machine's.

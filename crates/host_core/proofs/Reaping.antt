@@ -5,7 +5,8 @@ use Rattle.machine_model.specs.declared.words.Reaped.TheVariants as found
 use Rattle.page_ledger.specs.declared.owner.Owner.TheVariants as owner
 use Rattle.host_core.proofs.Lists as lists
 use Rattle.std.proofs.Common.{◌≡◌, ℕ, zero, suc, ◌<◌, ◌∷◌, [], Option, Some, None, List, length, map, slice_get, refl, ap, sym, ◌∙◌, subst, true, ◌==◌, Bool, false, if◌then◌else◌, eqb-true, eq-eqb, filter, find, not, slice_set, length-set, arith, ◌⊎◌, inl, inr}
-use Rattle.std.{proofs.lemmas.{Bool.{true≢false, and_parts, and_right, cases_Bool, cond_both, true_from_ne_false}, List.length-map, Option.slice_get-map}, specs.List.AllByRecursion}
+use Rattle.std.proofs.lemmas.{Bool.{true≢false, and_parts, and_right, cases_Bool, cond_both, true_from_ne_false}, List.length-map, Option.slice_get-map}
+use Rattle.std.specs.List.{AllByRecursion}
 use Rattle.std.specs.Option.{option_map_or, option_map}
 use Rattle.entry_codec.specs.declared.{completion.ComEntry.ComEntry, status.{Status.Status, TheConstants.Status.ABORTED_SQ_DELETION}}
 use Rattle.io_commands.specs.{Asked.Request, Jobs.is_success}
@@ -18,7 +19,8 @@ use Rattle.machine_model.specs.declared.words.{Phase.TheVariants.Held, RejectedF
 use Rattle.queue_pair.{proofs.Rings.next_below, specs.{Memory.half_pages, Rings.{knowing, next_head}}}
 use Rattle.host_core.proofs.{Identifiers.claim-less, Granting.in_state-is, Lists.{each-change, length-change, found_is, all-filter, found_any, none_is_not, some_is}}
 use Rattle.host_core.proofs.PageOwners.{OwnsHalf, commands-told, half-listed, half-owned, others-told, owner-stays, given-free}
-use Rattle.host_core.proofs.QueueLists.{map-change, Settled, settled-of, settled-turned, settled-with, cq-kept, none-told, settled-as, settled-half_made, settled-state, sq-kept}
+use Rattle.host_core.proofs.QueueLists.{map-change, Settled, settled-of, settled-turned, settled-with, cq-kept, none-told, settled-as, settled-half_made}
+use Rattle.host_core.proofs.QueueLists.{settled-state, sq-kept}
 use Rattle.host_core.proofs.RowRecords.{Marks, marked-claims, marked-tells, claims_keep_queue, claims_keep_tells, each_claimed}
 use Rattle.host_core.specs.{Commands.{passes, state_at, without_claim}, Exact.Exactly, Halves.HasMeant}
 use Rattle.host_core.specs.Reaping.{consumed, ended_with, seen_at, with_answer_heard, with_answer_taken, heard, gives_back, meant, over, state_deleted, with_state, without_completion, without_submission}
@@ -79,7 +81,8 @@ reject-exact t w q x e why sees says = (
 )
 
 -- a completion was taken: what holds of the tables by themselves
-settled-taken : (t : Tables) → Settled t → (q : ℕ) (f : Queue → Queue) → ((y : Queue) → TellsQueue t.owners q y → TellsQueue t.owners q (f y)) → ((y : Queue) → (f y).host.claimed ≡ y.host.claimed)
+settled-taken : (t : Tables) → Settled t → (q : ℕ) (f : Queue → Queue) → ((y : Queue) → TellsQueue t.owners q y → TellsQueue t.owners q (f y)) →
+    ((y : Queue) → (f y).host.claimed ≡ y.host.claimed)
     → ((y : Queue) → slice_get t.queues q ≡ Some y → IsQueue t.entries q (f y)) → Settled (record t { queues = change q f t.queues })
 settled-taken t s q f tells claims is =
     settled-turned t q f t.pages t.owners t.records s
@@ -191,7 +194,8 @@ io-queue t w q cid status e io =
     let at = and_parts (io.entry.q == q) (io.entry.cid == cid) (found_is (is_at q cid) t.records io.entry io.was) in
     subst (λ (k : ℕ). (k == 0) ≡ false) (eqb-true io.entry.q q at.0) (subst (λ (v : Work). OwnsFit io.entry.q v (pages_of io.entry)) io.work owns)
 
-pub done-settled : (t : Tables) → IsWhole t → (q cid : ℕ) (status : Status) (x : Queue) (e : ComEntry) → Sees t q x e → EndsIo t q cid status e → e.sqhd < x.host.entries → Settled (ended_with q e.sqhd cid status t)
+pub done-settled : (t : Tables) → IsWhole t → (q cid : ℕ) (status : Status) (x : Queue) (e : ComEntry) → Sees t q x e → EndsIo t q cid status e → e.sqhd < x.host.entries → Settled
+    (ended_with q e.sqhd cid status t)
 done-settled t w q cid status x e sees io below =
     let u : Tables = heard q e.sqhd t in
     let s : Settled u = settled-heard t w q x e sees below in
@@ -296,7 +300,8 @@ made-state : (u : Tables) (k : ℕ) (x : Queue) → slice_get u.queues k ≡ Som
     → state_of (record u { queues = change k (with_state HalfMade) u.queues }) ≡ a.on_host_queue k half_made (state_of u)
 made-state u k x at making =
     ap (λ (hs : List HostQueue). with_lists (state_of u) hs)
-    (map-change host_queue_of (with_state HalfMade) half_made k u.queues (λ y at'. let is : y.state ≡ MakingCq = subst (λ (z : Queue). z.state ≡ MakingCq) (some_is (sym at ∙ at')) making in rw is refl))
+    (map-change host_queue_of (with_state HalfMade) half_made k u.queues (λ y at'. let is : y.state ≡ MakingCq = subst (λ (z : Queue). z.state ≡ MakingCq)
+    (some_is (sym at ∙ at')) making in rw is refl))
 
 making-has : (u : Tables) (k : ℕ) (half : Half) → (m : Makes u k half MakingSq) → (x : Queue) → slice_get u.queues k ≡ Some x → has_sq x.state ≡ true
 making-has u k half m x at = subst (λ (z : Queue). has_sq z.state ≡ true) (some_is (sym m.at ∙ at)) (ap has_sq m.making)
@@ -344,7 +349,8 @@ meant-settled u (DeleteSq k) status s m = settled-state u k (state_deleted statu
 meant-settled u (DeleteCq k) status s m = cond_both (gives_back k status u) _ _ Settled (λ _. settled-freed u k s) (λ _. s)
 meant-settled u (CreateCq k n base) status s m =
     cond_both (is_success status) _ _ Settled
-    (λ _. settled-half_made u k u.owners s refl (making-cq u k Completion MakingCq refl m) (λ x at. (s.owners.queues_told k x at).completion) (λ j x far at. s.owners.queues_told j x at) s.owners.commands_told)
+    (λ _. settled-half_made u k u.owners s refl (making-cq u k Completion MakingCq refl m) (λ x at. (s.owners.queues_told k x at).completion)
+    (λ j x far at. s.owners.queues_told j x at) s.owners.commands_told)
     (λ _. settled-freed u k s)
 meant-settled u (CreateSq k n base) status s m =
     cond_both (is_success status) _ _ Settled (λ _. settled-state u k Live s refl (making-has u k Submission m)) (λ _. settled-unmade u k s m)
@@ -399,7 +405,8 @@ found-counts {A = A} test p (y ∷ xs) x h is = elim (cases_Bool (p y)) [
 asked-at : (t : Tables) → IsWhole t → (q cid k : ℕ) (r : Record) → find (is_at q cid) t.records ≡ Some r → r.work ≡ Management (DeleteSq k) → (x : Queue) → slice_get t.queues k ≡ Some x → is_asked x.state ≡ true
 asked-at t w q cid k r was work x at = true_from_ne_false (is_asked x.state) (λ e.
     let deletes : deletes_sq_of k r.work ≡ true = ap (deletes_sq_of k) work ∙ eq-eqb k k refl in
-    let count = w.sound.deletions k ∙ ap (λ (o : Option HostQueue). if option_map_or (λ (queue : HostQueue). is_asked queue.state) o false then 1 else 0) (slice_get-map host_queue_of t.queues k ∙ ap (option_map host_queue_of) at) in
+    let count = w.sound.deletions k ∙ ap (λ (o : Option HostQueue). if option_map_or (λ (queue : HostQueue). is_asked queue.state) o false then 1 else 0)
+    (slice_get-map host_queue_of t.queues k ∙ ap (option_map host_queue_of) at) in
     omega (arith, found-counts (is_at q cid) (λ (s : Record). deletes_sq_of k s.work) t.records r was deletes, count, ap {B = ℕ} (λ (b : Bool). if b then 1 else 0) e))
 
 -- one that is being made, where its creation is outstanding
@@ -441,11 +448,14 @@ over-there t q e k x at =
     (b.0, b.1, b.2 ∙ a.2)
 
 -- and the pages of its halves
-over-owns : (t : Tables) → IsWhole t → (q : ℕ) (e : ComEntry) (k : ℕ) (half : Half) (y : Queue) → slice_get (over q e.sqhd e.cid t).queues k ≡ Some y → OwnsHalf t.owners (length t.pages) k half y
+over-owns : (t : Tables) → IsWhole t → (q : ℕ) (e : ComEntry) (k : ℕ) (half : Half) (y : Queue) → slice_get (over q e.sqhd e.cid t).queues k ≡ Some y → OwnsHalf t.owners
+    (length t.pages) k half y
 over-owns t w q e k Submission y at =
-    each-over (λ (j : ℕ) (y : Queue). OwnsHalf t.owners (length t.pages) j Submission y) q e.sqhd e.cid t.queues (λ j y h. h) (λ j y h. h) (λ j z at. half-owned t (length t.pages) w.sound.owners w.owners j Submission z at) k y at
+    each-over (λ (j : ℕ) (y : Queue). OwnsHalf t.owners (length t.pages) j Submission y) q e.sqhd e.cid t.queues (λ j y h. h) (λ j y h. h)
+    (λ j z at. half-owned t (length t.pages) w.sound.owners w.owners j Submission z at) k y at
 over-owns t w q e k Completion y at =
-    each-over (λ (j : ℕ) (y : Queue). OwnsHalf t.owners (length t.pages) j Completion y) q e.sqhd e.cid t.queues (λ j y h. h) (λ j y h. h) (λ j z at. half-owned t (length t.pages) w.sound.owners w.owners j Completion z at) k y at
+    each-over (λ (j : ℕ) (y : Queue). OwnsHalf t.owners (length t.pages) j Completion y) q e.sqhd e.cid t.queues (λ j y h. h) (λ j y h. h)
+    (λ j z at. half-owned t (length t.pages) w.sound.owners w.owners j Completion z at) k y at
 
 over-makes : (t : Tables) → IsWhole t → (q : ℕ) (e : ComEntry) (k : ℕ) (half : Half) (st : HostState) (x : Queue) → slice_get t.queues k ≡ Some x → x.state ≡ st → Makes (over q e.sqhd e.cid t) k half st
 over-makes t w q e k half st x at is =
@@ -518,6 +528,7 @@ admin-exact t w q x e kind sees ends = (
       ∙ (ap (after_admin kind e.status) (over-exact t w q e) ∙ sym (admin-after t q x e kind sees ends)),
 )
 
-pub admin-settled : (t : Tables) → IsWhole t → (q : ℕ) (x : Queue) (e : ComEntry) (kind : AdminKind) → Sees t q x e → EndsAdmin t q kind e → e.sqhd < x.host.entries → Settled (ended_admin q kind e t)
+pub admin-settled : (t : Tables) → IsWhole t → (q : ℕ) (x : Queue) (e : ComEntry) (kind : AdminKind) → Sees t q x e → EndsAdmin t q kind e → e.sqhd < x.host.entries → Settled
+    (ended_admin q kind e t)
 admin-settled t w q x e kind sees ends below =
     meant-settled (over q e.sqhd e.cid t) kind e.status (settled-over t w q x e kind sees ends below) (over-means t w q e kind ends)

@@ -22,7 +22,8 @@ use Rattle.queue_pair.{proofs.Rings.in_range_below, specs.Slots.is_in_range}
 use Rattle.host_core.proofs.{Granting.in_state-is, Lists.{each-change, length-change, found_any, all-map, any-map, some_is}, RowRecords.claims-same}
 use Rattle.host_core.proofs.PageOwners.{commands-told, half-owned, half-there, others-told, owner-stays, given-free}
 use Rattle.host_core.proofs.QueueLists.{map-change, host-at, host_step, Settled, settled-of, settled-turned, Steps, steps}
-use Rattle.host_core.proofs.Reaping.{EndsAdmin, admin-exact, admin-settled, ended_admin, done-settled, EndsIo, Sees, done-exact, held-lost, reap-none, reaped-empty, reject-exact, settled-consumed, work-cases}
+use Rattle.host_core.proofs.Reaping.{EndsAdmin, admin-exact, admin-settled, ended_admin, done-settled, EndsIo, Sees, done-exact, held-lost, reap-none}
+use Rattle.host_core.proofs.Reaping.{reaped-empty, reject-exact, settled-consumed, work-cases}
 use Rattle.host_core.specs.{Commands.{Claims, passes, state_at, without_claim}, Exact.Exactly, Halves.HasHalf, Looks.completion_waits}
 use Rattle.host_core.specs.Reaping.{lacks_completion, Answered, ReapsTo, consumed, ended_with, gives_back, heard, kind_of, meant, over, seen_at, state_deleted, with_answer_heard, with_state, without_completion, without_submission}
 use Rattle.host_core.specs.{Retiring.{retired, with_lost}, Rows.Queue, Tables.{Tables, state_of, host_queue_of, sq_pages_of, cq_pages_of}}
@@ -114,7 +115,8 @@ reaps-done t new w q e l is left =
       work = io.1;
       says = answered-says t w q l.queue e None l.at is ∙ ap (reaped_as q e) io.1;
     } in
-    let made = steps t (ended_with q e.sqhd e.cid e.status t) (events.Reap q) (events.Reaps (found.Done e.cid e.status)) w refl tt (done-exact t w q e.cid e.status l.queue e (sees t q e l) ends)
+    let made = steps t (ended_with q e.sqhd e.cid e.status t) (events.Reap q) (events.Reaps (found.Done e.cid e.status)) w refl tt
+    (done-exact t w q e.cid e.status l.queue e (sees t q e l) ends)
     (done-settled t w q e.cid e.status l.queue e (sees t q e l) ends (head-below t q l.queue e None l.at is)) in
     rw left (record { step = made.step; whole = made.whole })
 
@@ -144,7 +146,8 @@ over-tables t u v q e queues eu ev eq = rw (eq, ev, eu) refl
 -- the claimed identifiers, once the completion was heard
 pub over-claims : (q : ℕ) (e : ComEntry) (queues new : List Queue) → Claims queues q e.cid → new ≡ change q (with_answer_heard e.sqhd) queues → Claims new q e.cid
 over-claims q e queues new claims is = rw is (λ y at.
-    each-change (λ (j : ℕ) (z : Queue). j ≡ q → slice_get z.host.claimed e.cid ≡ Some true) q (with_answer_heard e.sqhd) queues (λ k z far at' same. absurd (far same)) (λ z at' same. claims z at') q y at refl)
+    each-change (λ (j : ℕ) (z : Queue). j ≡ q → slice_get z.host.claimed e.cid ≡ Some true) q (with_answer_heard e.sqhd) queues (λ k z far at' same. absurd (far same))
+    (λ z at' same. claims z at') q y at refl)
 
 -- the identifier of an outstanding command is claimed
 pub answered-claims : (t : Tables) → ClaimIdentifiers t.records t.queues → (q : ℕ) (e : ComEntry) (kind : Option AdminKind) → Answered t q e kind → Claims t.queues q e.cid
@@ -175,9 +178,11 @@ meant-many t (Abort k cid) status = refl
 meant-many t (DeleteSq k) status = length-change k (with_state (state_deleted status)) t.queues
 meant-many t (DeleteCq k) status = cond_both (gives_back k status t) _ _ (λ (u : Tables). length u.queues ≡ length t.queues) (λ _. length-change k (with_state Gone) t.queues) (λ _. refl)
 meant-many t (CreateCq k n base) status =
-    cond_both (is_success status) _ _ (λ (u : Tables). length u.queues ≡ length t.queues) (λ _. length-change k (with_state HalfMade) t.queues) (λ _. length-change k (with_state Gone) t.queues)
+    cond_both (is_success status) _ _ (λ (u : Tables). length u.queues ≡ length t.queues) (λ _. length-change k (with_state HalfMade) t.queues)
+    (λ _. length-change k (with_state Gone) t.queues)
 meant-many t (CreateSq k n base) status =
-    cond_both (is_success status) _ _ (λ (u : Tables). length u.queues ≡ length t.queues) (λ _. length-change k (with_state Live) t.queues) (λ _. length-change k (with_state HalfMade) t.queues)
+    cond_both (is_success status) _ _ (λ (u : Tables). length u.queues ≡ length t.queues) (λ _. length-change k (with_state Live) t.queues)
+    (λ _. length-change k (with_state HalfMade) t.queues)
 
 pub heard-many : (t : Tables) (q k : ℕ) → length (heard q k t).queues ≡ length t.queues
 heard-many t q k = length-change q (with_answer_heard k) t.queues
@@ -209,7 +214,8 @@ same-at t q x y r at = some_is (sym r.at ∙ at)
 retired-state : (t : Tables) → IsWhole t → (q : ℕ) (x : Queue) → Retires t q x → state_of (retired q t) ≡ after_retire q (state_of t)
 retired-state t w q x r =
     ap (λ (hs : List HostQueue). with_free (free_pages (given_back (is_half q Submission) t.owners)) hs)
-    (map-change host_queue_of (with_state Retired) a.retired q t.queues (λ y at. let has : has_cq y.state ≡ true = subst (λ (z : Queue). has_cq z.state ≡ true) (same-at t q x y r at) (there t q x r) in rw has refl))
+    (map-change host_queue_of (with_state Retired) a.retired q t.queues (λ y at. let has : has_cq y.state ≡ true = subst (λ (z : Queue). has_cq z.state ≡ true)
+    (same-at t q x y r at) (there t q x r) in rw has refl))
     ∙ (ap (λ (free : List ℕ). with_free free (change q a.retired (map host_queue_of t.queues)))
     (given-free t.owners (is_half q Submission) (length t.pages) (sq_pages_of x) (sym w.table) (half-owned t (length t.pages) w.sound.owners w.owners q Submission x r.at))
     ∙ ap (λ (o : Option HostQueue). option_map_or (λ (queue : HostQueue). a.on_host_queue q a.retired (a.given_back queue.sq_pages (state_of (with_lost q t)))) o (state_of (with_lost q t)))
@@ -311,7 +317,8 @@ retire-half t h q deleted = elim (option_is (slice_get t.queues q)) [
   | inr (x, at) ↦ half-there t h q Submission x at (deleted_has_sq x.state (rw at at deleted))
 ]
 
-pub retire-made : (t new : Tables) → IsWhole t → (q : ℕ) → passes is_deleted (state_at t.queues q) ≡ true → seen_at t q ≡ None → new ≡ retired q t → Steps t (events.Retire q) events.Accepted new
+pub retire-made : (t new : Tables) → IsWhole t → (q : ℕ) → passes is_deleted (state_at t.queues q) ≡ true → seen_at t q ≡ None → new ≡ retired q t → Steps t
+    (events.Retire q) events.Accepted new
 retire-made t new w q deleted drained is =
     let r = retires t q deleted drained in rw is (steps t (retired q t) (events.Retire q) events.Accepted w refl tt (retire-exact t w q r.0 r.1) (settled-retired t w q r.0 r.1))
 

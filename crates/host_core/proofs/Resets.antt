@@ -4,7 +4,8 @@ use Rattle.host_core.specs.Rows as declared
 use Rattle.machine_model.specs.After as a
 use Rattle.machine_model.specs.Events as events
 use Rattle.std.proofs.Common.{◌≡◌, ℕ, ◌+◌, ◌-◌, ◌<◌, ◌≤◌, true, Some, List, [], ◌∷◌, ◌++◌, length, map, get_or, slice_get, slice_set, refl, ap, ap₂, sym, ◌∙◌, arith, subst, zero, suc, ◌==◌, nat_lt, not, Bool, false, ◌&&◌, None, if◌then◌else◌, lt-ltb, ◌||◌, inl, inr, flat_map}
-use Rattle.std.proofs.lemmas.Bool.{true≢false, false_from_ne_true, cases_Bool, and_parts, and_right, ne_eqb, not-true, or_cases, or_from, or_left, or_right, Decides.nat_tests}
+use Rattle.std.proofs.lemmas.Bool.{true≢false, false_from_ne_true, cases_Bool, and_parts, and_right, ne_eqb, not-true, or_cases, or_from, or_left, or_right}
+use Rattle.std.proofs.lemmas.Bool.Decides.{nat_tests}
 use Rattle.std.{proofs.lemmas.{List.{map-append, length-map}, Option.{slice_get_within, slice_get-map}}, specs.List.AllByRecursion}
 use Rattle.std.specs.{Option.{option_map_or, option_map}, Prelude.Option}
 use Rattle.machine_model.proofs.{Owned.{all_reset, lost_by}, Steps.length-with_pages, TokensKept.live_is}
@@ -18,7 +19,8 @@ use Rattle.queue_pair.specs.{Memory.half_pages, Rings.first_page_of}
 use Rattle.host_core.proofs.Identifiers.{queue-here, alone_sound, host_of, over_pages, places-of}
 use Rattle.host_core.proofs.Lists.{change-at-lists as change-at, get-at, length-change, map-agree, none_is_not, some_is}
 use Rattle.host_core.proofs.Making.{can-zero, some-pages, with-some, claims-none, made-queue, whole-zeros}
-use Rattle.host_core.proofs.PageOwners.{half-from, half-told, among-from, with-append, half-owned, half-lists, half-standing, owner-stays, times-at, times-some, among-append, pool-with, given-free}
+use Rattle.host_core.proofs.PageOwners.{half-from, half-told, among-from, with-append, half-owned, half-lists, half-standing, owner-stays, times-at, times-some}
+use Rattle.host_core.proofs.PageOwners.{among-append, pool-with, given-free}
 use Rattle.host_core.proofs.QueueLists.{queue_page-in, host-at, Settled, none-told, settled-of, settled-with, whole-of}
 use Rattle.host_core.proofs.{Reaping.{held-lost, work-cases}, RowRecords.claims-same}
 use Rattle.io_commands.specs.Asked.{Request}
@@ -392,7 +394,8 @@ outstanding-left entries queues (r ∷ rs) all q cid io = elim (cases_Bool (is_o
 none-left : (entries queues : ℕ) (rs : List Record) → AllByRecursion (IsPlaced entries queues) rs → (cid : ℕ) → is_outstanding (reset_records rs) 0 cid ≡ false
 none-left entries queues [] all cid = refl
 none-left entries queues (r ∷ rs) all cid = elim (cases_Bool (is_of_io r.work)) [
-  | inl e ↦ let far : is_at 0 cid r ≡ false = grind (arith, nat_tests, all.0.work, e) in rw e (or_from (is_at 0 cid (lost_anywhere r)) _ (lost-at 0 cid r ∙ far) (none-left entries queues rs all.1 cid))
+  | inl e ↦ let far : is_at 0 cid r ≡ false = grind (arith, nat_tests, all.0.work, e) in rw e
+      (or_from (is_at 0 cid (lost_anywhere r)) _ (lost-at 0 cid r ∙ far) (none-left entries queues rs all.1 cid))
   | inr e ↦ rw e (none-left entries queues rs all.1 cid)
 ]
 
@@ -478,7 +481,8 @@ half-renewed t records pages q half h =
     same-half Submission x = refl
     same-half Completion x = refl
 
-    go : (queues : List RowsQueue) (k : ℕ) → slice_get queues k ≡ Some h.queue → (x : RowsQueue) × (slice_get (change 0 admin_reset queues) k ≡ Some x) × (half_of half h.queue ≡ half_of half x) × (x.host.entries ≡ t.entries)
+    go : (queues : List RowsQueue) (k : ℕ) → slice_get queues k ≡ Some h.queue → (x : RowsQueue) × (slice_get (change 0 admin_reset queues) k ≡ Some x) ×
+        (half_of half h.queue ≡ half_of half x) × (x.host.entries ≡ t.entries)
     go [] k at = absurd (none_is_not at)
     go (y ∷ queues) zero at = (admin_reset h.queue, ap (λ (z : RowsQueue). Some (admin_reset z)) (some_is at), same-half half h.queue, h.entries)
     go (y ∷ queues) (suc k) at = (h.queue, at, refl, h.entries)

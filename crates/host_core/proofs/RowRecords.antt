@@ -160,7 +160,8 @@ one-queue_lost q (r ∷ rs) = ap₂ (λ (x : Record) (xs : List Record). x ∷ x
 pub all-queues_lost : (entries queues q : ℕ) (rs : List Record) → AllByRecursion (IsPlaced entries queues) rs → queues ≤ q → map (lost_in q) rs ≡ map lost_anywhere rs
 all-queues_lost entries queues q [] all size = refl
 all-queues_lost entries queues q (r ∷ rs) all size =
-    let below : nat_lt r.q q ≡ true = lt-ltb r.q q (omega (arith, all.0.queue, size)) in rw below (ap (λ (xs : List Record). lost_anywhere r ∷ xs) (all-queues_lost entries queues q rs all.1 size))
+    let below : nat_lt r.q q ≡ true = lt-ltb r.q q (omega (arith, all.0.queue, size)) in rw below
+    (ap (λ (xs : List Record). lost_anywhere r ∷ xs) (all-queues_lost entries queues q rs all.1 size))
 
 -- Each command stays in its place.
 
@@ -169,7 +170,8 @@ with_records t rs = record t { records = rs }
 
 place-kept : (entries queues q : ℕ) (r : Record) → IsPlaced entries queues r → IsPlaced entries queues (lost_in q r)
 place-kept entries queues q r h =
-    cond_both (nat_lt r.q q) _ _ (IsPlaced entries queues) (λ _. lost_by (IsPlaced entries queues) r (λ e. h) (λ e. record { queue = h.queue; identifier = h.identifier; work = h.work })) (λ _. h)
+    cond_both (nat_lt r.q q) _ _ (IsPlaced entries queues) (λ _. lost_by (IsPlaced entries queues) r (λ e. h) (λ e. record { queue = h.queue; identifier = h.identifier; work = h.work }))
+    (λ _. h)
 
 pub io_placed : (entries queues : ℕ) (rs : List Record) → AllByRecursion (IsPlaced entries queues) rs → AllByRecursion (IsPlaced entries queues) (filter is_io rs)
 io_placed entries queues rs all = all-filter (IsPlaced entries queues) is_io rs all

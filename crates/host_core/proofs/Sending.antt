@@ -12,8 +12,10 @@ use Rattle.machine_model.specs.{State.{HostQueue, State}, Step.{Answers, IsContr
 use Rattle.machine_model.specs.declared.words.{HostState.TheVariants.Deleting, Refusal.Refusal}
 use Rattle.page_memory.specs.{Pages.page_at, declared.page.Half.TheVariants.Submission}
 use Rattle.queue_pair.{proofs.Halves.found_within, specs.Memory.half_pages}
-use Rattle.host_core.proofs.{Granting.{in_state-is, next-fresh, next-left, none-left}, Identifiers.claim-more, Lists.{all-append, each-change, length-change, map-change, some_is}}
-use Rattle.host_core.proofs.QueueLists.{posted-exact, posted-queue, submission_length, tail-fits, tail-in, pool-with_bytes, submission_page-in, Settled, settled-of, settled-state, settled-turned, settled-with, host_step, Steps, steps}
+use Rattle.host_core.proofs.{Granting.{in_state-is, next-fresh, next-left, none-left}, Identifiers.claim-more}
+use Rattle.host_core.proofs.Lists.{all-append, each-change, length-change, map-change, some_is}
+use Rattle.host_core.proofs.QueueLists.{posted-exact, posted-queue, submission_length, tail-fits, tail-in, pool-with_bytes, submission_page-in, Settled}
+use Rattle.host_core.proofs.QueueLists.{settled-of, settled-state, settled-turned, settled-with, host_step, Steps, steps}
 use Rattle.host_core.proofs.{Reaping.state-set, RowRecords.{claims_keep_queue, claims_keep_tells, each_claimed}, Submitted.{admin_live, full_is}}
 use Rattle.host_core.specs.{Commands.with_claim, Exact.Exactly, Posting.{CanPost, posted, tail_place, with_tail_moved, CanPostTo, Posts}, Rows.Queue}
 use Rattle.host_core.specs.Sending.{CanSend, HasSlot, Sends, asked, grants_none, noted, record_of_admin, sending, sent, named_causes}
@@ -191,7 +193,8 @@ send-exact t kind cid w can is = (
       ∙ (ap (asked_in kind) (sent-exact t kind cid (settled-of t w) can.slot (half-in t cid w can.slot) is) ∙ sym (send-after (state_of t) kind cid can.plain)),
 )
 
-pub send_made : (t new : Tables) (kind : AdminKind) (cid : ℕ) → IsWhole t → CanSend t kind cid → IsTyped (admin_entry kind cid) → Sends t kind cid new → Steps t (sending kind) (events.Sent cid) new
+pub send_made : (t new : Tables) (kind : AdminKind) (cid : ℕ) → IsWhole t → CanSend t kind cid → IsTyped (admin_entry kind cid) → Sends t kind cid new → Steps t
+    (sending kind) (events.Sent cid) new
 send_made t new kind cid w can is sends =
     let u : Tables = sent kind cid can.slot.queue t in
     rw (sends can.slot.queue can.slot.at) (steps t (asked kind u) (sending kind) (events.Sent cid) w (is-hosts kind) (is-proper kind) (send-exact t kind cid w can is)

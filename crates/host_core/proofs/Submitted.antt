@@ -3,11 +3,13 @@ use Rattle.machine_model.specs.After as a
 use Rattle.machine_model.specs.Events as events
 use Rattle.machine_model.specs.declared.words.Refusal.TheVariants as refusal
 use Rattle.std.proofs.Common.{◌≡◌, ℕ, ◌+◌, ◌/◌, ◌%◌, ◌<◌, ◌++◌, ◌∷◌, [], Bool, true, false, not, Option, Some, None, IsSome, is_none, List, length, refl, ap, sym, ◌∙◌, subst, length-set, slice_get, arith, inl, inr}
-use Rattle.std.{proofs.lemmas.{Bool.{true≢false, false_from_ne_true}, Option.{slice_get-map, slice_get_within}}, specs.{List.AllByRecursion, Option.{option_map_or, option_map}}}
+use Rattle.std.proofs.lemmas.{Bool.{true≢false, false_from_ne_true}, Option.{slice_get-map, slice_get_within}}
+use Rattle.std.specs.{List.AllByRecursion, Option.{option_map_or, option_map}}
 use Rattle.entry_codec.specs.{Submission.{submission_bytes, FitsSubmission}, declared.submission.SubEntry.SubEntry}
 use Rattle.io_commands.{proofs.Building.carries_entry, specs.{DataBytes.PagesOut, Drafts.{DraftContents, draft_first}, Values.numbers_of}}
 use Rattle.sgl_chain.proofs.Spelled.{length-spelling}
-use Rattle.machine_model.{proofs.{Cases.option_is, Counting.held_once, Kept.live_has_sq, Steps.{length-with_pages, first_fails, found_all}}, specs.After.{change, after_submit}}
+use Rattle.machine_model.proofs.{Cases.option_is, Counting.held_once, Kept.live_has_sq, Steps.{length-with_pages, first_fails, found_all}}
+use Rattle.machine_model.specs.After.{change, after_submit}
 use Rattle.machine_model.specs.{Memory.with_pages, Proper.IsProperDraft}
 use Rattle.machine_model.specs.Refusals.{refusal_of, is_drafted, is_of, is_live, in_state, queue_full, record_is, host_queue}
 use Rattle.machine_model.specs.{State.{State, Record, is_at, pages_of, with_record, HostQueue}, Step.{Refuses}, Work.Work}
@@ -17,7 +19,8 @@ use Rattle.page_memory.specs.{Pages.Pages, declared.page.Half.{TheVariants.Submi
 use Rattle.queue_pair.specs.{Memory.half_pages, Slots.is_full}
 use Rattle.host_core.proofs.{Ending.{cancel_brings, joined-pages, belongs-passes, belongs_brings, ended_can_put}, Granting.in_state-is}
 use Rattle.host_core.proofs.{Lists.{all-from, some_is}, PageOwners.{command-owner, pool-with, with-other}}
-use Rattle.host_core.proofs.QueueLists.{posted-exact, posted-queue, tail-in, tail-fits, submission_length, pool-with_bytes, submission-owner, submission_page-in, Settled, settled-of, settled-turned, Steps, steps}
+use Rattle.host_core.proofs.QueueLists.{posted-exact, posted-queue, tail-in, tail-fits, submission_length, pool-with_bytes, submission-owner}
+use Rattle.host_core.proofs.QueueLists.{submission_page-in, Settled, settled-of, settled-turned, Steps, steps}
 use Rattle.host_core.proofs.RowRecords.{Marks, marked-claims, marked-records, marked-tells, Spares}
 use Rattle.host_core.specs.{Commands.{Brings, BelongsToDraft, CanPut, passes, state_at}, Exact.Exactly}
 use Rattle.host_core.specs.{Posting.{with_tail_moved, tail_place, CanPost, CanPostTo, Posts}, Rows.Queue}
@@ -28,14 +31,16 @@ use Rattle.host_core.specs.Whole.{IsWhole, IsRecord, TellsCommand, FitsWork, Are
 
 brings : (t : Tables) (d : DraftContents) (x : Queue) (entry : SubEntry) → CanSubmit t d x entry → Brings t d.q d.cid (d.data_pages ++ d.chain_pages)
 brings t d x entry c =
-    let mine = first_fails _ refusal.Stranger ((is_none d.entry, refusal.NotBuilt) ∷ (not (in_state is_live (state_of t) d.q), refusal.QueueGone) ∷ (queue_full (state_of t) d.q, refusal.QueueFull) ∷ []) c.none in
+    let mine = first_fails _ refusal.Stranger ((is_none d.entry, refusal.NotBuilt) ∷ (not (in_state is_live (state_of t) d.q), refusal.QueueGone) ∷
+    (queue_full (state_of t) d.q, refusal.QueueFull) ∷ []) c.none in
     cancel_brings t d (rw mine refl)
 
 -- and its pages are none of a queue's halves
 spares : (t : Tables) (d : DraftContents) (x : Queue) (entry : SubEntry) → IsWhole t → CanSubmit t d x entry → Spares t (brought_in d t).pages
 spares t d x entry whole c = record {
   same = λ k half p at. with-other pages t.pages p (false_from_ne_true (is_among (numbers_of pages) p) (λ e.
-      let o = command-owner t.owners b.entry (found_all (TellsCommand t.owners) (is_at d.q d.cid) t.records b.entry b.was whole.owners.commands_told) p (held_once p (pages_of b.entry) (rw (← b.numbers) e)) in
+      let o = command-owner t.owners b.entry (found_all (TellsCommand t.owners) (is_at d.q d.cid) t.records b.entry b.was whole.owners.commands_told) p
+      (held_once p (pages_of b.entry) (rw (← b.numbers) e)) in
       let same : OfQueue k half ≡ Command b.entry.q b.entry.cid o.0 = some_is (sym at ∙ o.1) in cc));
 }
   where
@@ -110,7 +115,8 @@ submit-settled t d x entry w c =
     let claims = marked-claims a.submitted marks-submitted t.records t.queues d.q d.cid w.identifiers in
     settled-turned t d.q with_tail_moved (submitted d x entry t).pages t.owners (with_record d.q d.cid a.submitted t.records) (settled-of t w)
     (record {
-      pool = pool-with_bytes (brought_in d t).pages (tail_place x / 4096) (tail_place x % 4096) (submission_bytes entry) (tail-in (brought_in d t) d.q x entry post) (omega (arith, count, tail-fits x)) post.pool;
+      pool = pool-with_bytes (brought_in d t).pages (tail_place x / 4096) (tail_place x % 4096) (submission_bytes entry) (tail-in (brought_in d t) d.q x entry post)
+          (omega (arith, count, tail-fits x)) post.pool;
       table = w.table ∙ sym (length-set (brought_in d t).pages (tail_place x / 4096) _ ∙ length-with_pages (d.data_pages ++ d.chain_pages) t.pages);
       queue = λ y at. posted-queue t.entries d.q y (w.queues.each d.q y at);
       identifiers = claims.each;

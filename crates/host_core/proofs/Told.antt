@@ -5,7 +5,8 @@ use Rattle.machine_model.specs.Events as events
 use Rattle.machine_model.specs.declared.words.Refusal.TheVariants as refusal
 use Rattle.admin_commands.specs.declared.AdminKind.TheVariants as kinds
 use Rattle.std.proofs.Common.{◌≡◌, ℕ, suc, ◌+◌, ◌<◌, ◌==◌, nat_lt, Bool, true, false, not, ◌||◌, Some, None, List, [], ◌∷◌, ◌++◌, length, map, flat_map, filter, sum_by, slice_get, refl, ap, ap₂, sym, ◌∙◌, arith, subst, eqb-true, eq-eqb, lt-ltb, length-append, if◌then◌else◌, ◌&&◌, MatchBool, inl, inr}
-use Rattle.std.{proofs.lemmas.{Bool.{true≢false, cases_Bool, cond_both, or_left, or_right}, List.{take-append-drop, Sums.sum_by-cons}}, specs.{List.{AllByRecursion, Contains}, Option.option_map_or}}
+use Rattle.std.proofs.lemmas.{Bool.{true≢false, cases_Bool, cond_both, or_left, or_right}, List.{take-append-drop, Sums.sum_by-cons}}
+use Rattle.std.specs.{List.{AllByRecursion, Contains}, Option.option_map_or}
 use Rattle.machine_model.proofs.{Counting.{one, times-cons, times-append, times-filter, times-pages, held_once, length_of_all}, Headline.firsts}
 use Rattle.machine_model.specs.{After.after, Claims.{claimed, claims_of, claims_of_queues, claims_of_record, counts_of}, Events.{Event, Reply}}
 use Rattle.machine_model.specs.{Refusals.refusal_of, State.{HostQueue, Record, State}}

@@ -50,7 +50,8 @@ returns g c =
       step = subst (λ (pages : Pages). HostStep c.args.self.now c.args.store.now.pages (events.Reap c.args.q) (events.Reaps c.take-found.result) (view_of new) pages) (sym c.see.ensures.same)
           (step_at t new c.args.self.now (events.Reap c.args.q) (events.Reaps c.take-found.result) c.self.view_is made.step);
       head = sym (c.take-found.ensures.taken (view_of new)
-          ∙ (head-told bare c.args.q c.index.result.now (queue-at bare c.args.q c.from.result c.index.result.now inside c.from.ensures c.index.ensures) ∙ ap (λ (n : ℕ). Some n) (sym c.head_value-head.ensures.head)));
+          ∙ (head-told bare c.args.q c.index.result.now (queue-at bare c.args.q c.from.result c.index.result.now inside c.from.ensures c.index.ensures)
+          ∙ ap (λ (n : ℕ). Some n) (sym c.head_value-head.ensures.head)));
       touches = search rules;
       over = subst (λ (pages : Pages). IsOver (view_of new) pages) (sym c.see.ensures.same) (over_of new made.whole);
     }

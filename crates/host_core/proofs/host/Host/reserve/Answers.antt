@@ -60,7 +60,8 @@ returns g c =
     record {
       step = step_at t new c.args.self.now (events.Reserve c.args.q c.args.request) (events.Reserved c.commit_reserve.result) c.self.view_is made.step;
       identifier = subst (λ (v : HostView). IsLowest v.host c.args.q c.commit_reserve.result.cid) c.self.view_is
-          (subst (λ (k : ℕ). IsLowest (view_of t).host c.args.q k) (sym (ap (λ (d : DraftContents). d.cid) c.commit_reserve.ensures.draft)) (grant-lowest t w c.args.q c.in-Ok.grant.cid c.args.request c.in-Ok.grant.front c.in-Ok.grant.back grants));
+          (subst (λ (k : ℕ). IsLowest (view_of t).host c.args.q k) (sym (ap (λ (d : DraftContents). d.cid) c.commit_reserve.ensures.draft))
+          (grant-lowest t w c.args.q c.in-Ok.grant.cid c.args.request c.in-Ok.grant.front c.in-Ok.grant.back grants));
       pages = subst (λ (v : HostView). HasPlacedPages v.host c.commit_reserve.result) c.self.view_is
           (placed_pages t c.args.q c.in-Ok.grant.cid c.args.request c.in-Ok.grant.front c.in-Ok.grant.back c.commit_reserve.result grants c.commit_reserve.ensures.draft);
       touches = search rules;
