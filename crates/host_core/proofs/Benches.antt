@@ -5,11 +5,12 @@ use Rattle.machine_model.specs.declared.words.Refusal.TheVariants as refusal
 use Rattle.host_core.specs.declared.values.CommandValue.TheVariants as value
 use Rattle.host_core.specs.declared.call.Reply.TheVariants as reply
 use Rattle.host_core.specs.declared.call.Call.TheVariants as call
-use Rattle.std.proofs.Common.{◌≡◌, ◌+◌, ◌-◌, Option, [], refl, ap, ap₂, sym, subst, ℕ, Bool, true, false, ◌||◌, Some, None, List, ◌∷◌, ◌++◌, length, ◌==◌, ◌&&◌, find, cond, ◌∙◌, ◌≢◌, ◌*◌, ◌<◌, ◌≤◌, ◌⊎◌, inl, inr, IfSome, is_some, arith, Result, Ok, Err, OnOk, OnErr}
-use Rattle.std.{proofs.lemmas.{Bool.cases_lt, List.{append-nil, Elements.filter_map-append}, Option.slice_get-get_or}, specs.List.list_any}
+use Rattle.std.proofs.Common.{◌≡◌, ◌+◌, ◌-◌, Option, [], refl, ap, ap₂, sym, subst, ℕ, Bool, true, false, Some, None, List, ◌∷◌, ◌++◌, length, ◌==◌, ◌&&◌, find, ◌∙◌, ◌≢◌, ◌*◌, ◌<◌, ◌≤◌, inl, inr, is_some, arith, Result, Ok, Err, OnOk, OnErr}
+use Rattle.std.proofs.lemmas.{Bool.{cases_Bool, cases_lt, true_from_ne_false}, List.{append-nil, Elements.filter_map-append}, Option.slice_get-get_or}
+use Rattle.std.specs.List.{list_any}
 use Rattle.std.specs.Option.{option_and_then}
 use Rattle.host_core.proofs.KeptRows.{goes_on, opens_tied, length-queues_from, drafts_named, tickets_named, finished_named, named_there, place_free, put_back, put_same, put_next, reserved, row_dropped, renewed, followed, ended, found_at, changed_at, changed_other, taken_at, taken_other}
-use Rattle.host_core.{proofs.{Outstanding.collected_named, Told.writes_leave_over}, specs.Alone.{HostView, IsOver, alone, HasPlacedPages, IsLowest}}
+use Rattle.host_core.{proofs.{Outstanding.collected_named}, specs.Alone.{HostView, alone, HasPlacedPages, IsLowest}}
 use Rattle.host_core.specs.Calls.{reset_alone, Does, Fills, Builds, Submits, Cancels, Collects, Gathers, Releases}
 use Rattle.host_core.specs.CommandValues.{without_first, with_first, IsBench, table_with, as_draft, as_ticket, as_finished, picked, IsOut}
 use Rattle.host_core.specs.{Kept.{FillsDraft, BuildsDraft, opened_alone}, Opening.{opened_pages, opened_view}, Pool.Keeps, Resetting.{host_reset, pages_reset}, Values.Reply}
@@ -21,6 +22,7 @@ use Rattle.page_memory.specs.{Memory.{Memory, bytes_at, written}, Pages.{Pages, 
 use Rattle.slot_table.specs.{Rows.{Row, value_at, with_value, without}, Table.{TableOf, IsPlace, with_row}}
 use Rattle.entry_codec.specs.declared.status.Status.{Status}
 use Rattle.io_commands.specs.{Asked.Request, Drafts.{DraftContents, built}, Values.{FinishedContents, TicketContents, gathered_from}}
+use Rattle.machine_model.proofs.Cases.{option_is}
 
 -- What a reset leaves of a host alone, and what is of the host and not of its pages.
 
@@ -52,21 +54,18 @@ module _ {A : Type 0} where
 
 -- whether one passes is whether one is found
 any_found : {X : Type 0} (p : X → Bool) (xs : List X) (o : Option X) → find p xs ≡ o → list_any p xs ≡ elim o [ None ↦ false | Some x ↦ true ]
-any_found p [] o e = subst (λ (o : Option _). false ≡ elim o [ None ↦ false | Some x ↦ true ]) e refl
-any_found {X} p (x ∷ xs) o e = go (p x) e (any_found p xs o)
-  where
-    go : (b : Bool) → cond b (Some x) (find p xs) ≡ o → (find p xs ≡ o → list_any p xs ≡ elim o [ None ↦ false | Some x ↦ true ]) → (b || list_any p xs) ≡ elim o [ None ↦ false | Some x ↦ true ]
-    go true e ih = subst (λ (o : Option X). true ≡ elim o [ None ↦ false | Some x ↦ true ]) e refl
-    go false e ih = ih e
+any_found p [] o e = rw (← e) refl
+any_found p (x ∷ xs) o e = elim (cases_Bool (p x)) [
+  | inl f ↦ let is : Some x ≡ o = rw f at e in rw (f, ← is) refl
+  | inr f ↦ rw f (any_found p xs o (rw f at e))
+]
 
 abbrev table_of_parts : State → List DraftContents → List (ℕ × ℕ) → List FinishedContents → Table
 table_of_parts world drafts tickets finished = record { world = world; drafts = drafts; tickets = tickets; finished = finished }
 
 tables_same : (world : State) (drafts ds : List DraftContents) (tickets ts : List (ℕ × ℕ)) (finished fs : List FinishedContents) → drafts ≡ ds → tickets ≡ ts → finished ≡ fs
     → table_of_parts world drafts tickets finished ≡ table_of_parts world ds ts fs
-tables_same world drafts ds tickets ts finished fs d t f =
-    ap (λ (x : List DraftContents). table_of_parts world x tickets finished) d
-    ∙ ap₂ (λ (x : List (ℕ × ℕ)) (y : List FinishedContents). table_of_parts world ds x y) t f
+tables_same world drafts ds tickets ts finished fs d t f = rw (d, t, f) refl
 
 abbrev Values : Type 0 → Type 0
 Values A = TableOf (Option (CommandValue A))
@@ -74,44 +73,23 @@ Values A = TableOf (Option (CommandValue A))
 module _ {A : Type 0} where
   -- What is found under a name
 
-  draft_at : (s : State) (values : Values A) (q cid : ℕ) → IsBench s values → draft_of q cid (table_with s values).drafts ≡ option_and_then as_draft (value_at values.rows q cid)
+  pub draft_at : (s : State) (values : Values A) (q cid : ℕ) → IsBench s values → draft_of q cid (table_with s values).drafts ≡ option_and_then as_draft (value_at values.rows q cid)
   draft_at s values q cid b = found_at as_draft is_draft values.rows q cid b.distinct (drafts_named s values b)
 
-  ticket_at : (s : State) (values : Values A) (q cid : ℕ) (o : Option (ℕ × ℕ)) → IsBench s values → option_and_then as_ticket (value_at values.rows q cid) ≡ o → list_any (is_ticket q cid) (table_with s values).tickets ≡ elim o [ None ↦ false | Some x ↦ true ]
+  pub ticket_at : (s : State) (values : Values A) (q cid : ℕ) (o : Option (ℕ × ℕ)) → IsBench s values → option_and_then as_ticket
+      (value_at values.rows q cid) ≡ o → list_any (is_ticket q cid) (table_with s values).tickets ≡ elim o [ None ↦ false | Some x ↦ true ]
   ticket_at s values q cid o b e = any_found (is_ticket q cid) (table_with s values).tickets o (found_at as_ticket is_ticket values.rows q cid b.distinct (tickets_named s values b) ∙ e)
 
-  finished_there : (s : State) (values : Values A) (q cid : ℕ) → IsBench s values → finished_at q cid (table_with s values).finished ≡ option_and_then as_finished (value_at values.rows q cid)
+  pub finished_there : (s : State) (values : Values A) (q cid : ℕ) → IsBench s values → finished_at q cid (table_with s values).finished ≡ option_and_then as_finished
+      (value_at values.rows q cid)
   finished_there s values q cid b = found_at as_finished is_finished values.rows q cid b.distinct (finished_named s values b)
 
-  pub no_fill : (s : State) (values : Values A) (q cid : ℕ) (bytes : List ℕ) → IsBench s values → option_and_then as_draft (value_at values.rows q cid) ≡ None
-      → Fills (table_with s values) q cid bytes (draft_of q cid (table_with s values).drafts) reply.NoValue (table_with s values)
-  no_fill s values q cid bytes b none = rw (draft_at s values q cid b ∙ none) (refl, refl)
-
-  pub no_build : (s : State) (values : Values A) (q cid : ℕ) → IsBench s values → option_and_then as_draft (value_at values.rows q cid) ≡ None
-      → Builds (table_with s values) q cid (draft_of q cid (table_with s values).drafts) reply.NoValue (table_with s values)
-  no_build s values q cid b none = rw (draft_at s values q cid b ∙ none) (refl, refl)
-
-  pub no_submit : (s : State) (values : Values A) (q cid : ℕ) → IsBench s values → option_and_then as_draft (value_at values.rows q cid) ≡ None
-      → Submits (table_with s values) q cid (draft_of q cid (table_with s values).drafts) reply.NoValue (table_with s values)
-  no_submit s values q cid b none = rw (draft_at s values q cid b ∙ none) (refl, refl)
-
-  pub no_cancel : (s : State) (values : Values A) (q cid : ℕ) → IsBench s values → option_and_then as_draft (value_at values.rows q cid) ≡ None
-      → Cancels (table_with s values) q cid (draft_of q cid (table_with s values).drafts) reply.NoValue (table_with s values)
-  no_cancel s values q cid b none = rw (draft_at s values q cid b ∙ none) (refl, refl)
-
-  pub no_collect : (s : State) (values : Values A) (q cid : ℕ) → IsBench s values → option_and_then as_ticket (value_at values.rows q cid) ≡ None
-      → Collects (table_with s values) q cid (list_any (is_ticket q cid) (table_with s values).tickets) reply.NoValue (table_with s values)
-  no_collect s values q cid b none = rw (ticket_at s values q cid None b none) (refl, refl)
-
-  pub no_gather : (s : State) (values : Values A) (q cid : ℕ) → IsBench s values → option_and_then as_finished (value_at values.rows q cid) ≡ None
-      → Gathers (table_with s values) (finished_at q cid (table_with s values).finished) reply.NoValue (table_with s values)
-  no_gather s values q cid b none = rw (finished_there s values q cid b ∙ none) (refl, refl)
-
-  pub no_release : (s : State) (values : Values A) (q cid : ℕ) → IsBench s values → option_and_then as_finished (value_at values.rows q cid) ≡ None
-      → Releases (table_with s values) q cid (finished_at q cid (table_with s values).finished) reply.NoValue (table_with s values)
-  no_release s values q cid b none = rw (finished_there s values q cid b ∙ none) (refl, refl)
-
   -- A command is reserved
+
+  -- a row more, with no value of the kind
+  more_none : {X : Type 0} (pick : Option (CommandValue A) → Option X) (rows : List (Row (Option (CommandValue A))))
+      (row : Row (Option (CommandValue A))) → pick row.value ≡ None → picked pick (rows ++ row ∷ []) ≡ picked pick rows
+  more_none pick rows row none = filter_map-append (λ (r : Row (Option (CommandValue A))). pick r.value) rows (row ∷ []) ∙ rw none (append-nil (picked pick rows))
 
   pub reserves : (s : State) (old : Values A) (q cid : ℕ) (request : Request) (d : DraftContents) (b : IsBench s old) (world : State) (answer : Reply) (new : Values A) → machine.Step s (events.Reserve q request) (events.Reserved d) world → IsLowest s.host q d.cid → HasPlacedPages s.host d → cid ≡ d.cid
       → answer ≡ reply.Reserved d.q d.cid (length d.data_pages) (length d.chain_pages) → new ≡ with_row old q cid (Some (value.Draft d)) → Does (table_with s old) (call.Reserve q request) answer (table_with world new) × IsBench world new
@@ -125,8 +103,8 @@ module _ {A : Type 0} where
       keeps = ap (table_with world) is
           ∙ tables_same world _ _ _ _ _ _
           (filter_map-append (λ (r : Row (Option (CommandValue A))). as_draft r.value) old.rows (row ∷ []))
-          (filter_map-append (λ (r : Row (Option (CommandValue A))). as_ticket r.value) old.rows (row ∷ []) ∙ append-nil (picked as_ticket old.rows))
-          (filter_map-append (λ (r : Row (Option (CommandValue A))). as_finished r.value) old.rows (row ∷ []) ∙ append-nil (picked as_finished old.rows));
+          (more_none as_ticket old.rows row refl)
+          (more_none as_finished old.rows row refl);
     }),
     subst (IsBench world) (sym is) (reserved s world q request d old made b),
   )
@@ -198,35 +176,25 @@ module _ {A : Type 0} where
     pub submits : (world : State) (ticket : TicketContents) (new : Values A) → machine.Step s (events.Submit d) events.Accepted world → ticket ≡ record { q = d.q; cid = d.cid }
         → new ≡ with_row (record mid { rows = without mid.rows q cid }) q cid (Some (value.Ticket ticket))
         → Submits (table_with s old) q cid (draft_of q cid (table_with s old).drafts) reply.Accepted (table_with world new) × IsBench world new
-    submits world ticket new step is left = (
-      rw found_draft (step, ap (table_with world) (put_next old mid q cid (value.Draft d) out (value.Ticket ticket) new left) ∙ tables_same world _ _ _ _ _ _ drafts tickets finished),
-      subst (IsBench world) (sym (put_next old mid q cid (value.Draft d) out (value.Ticket ticket) new left))
-          (followed world old q cid (value.Draft d) (value.Ticket ticket) (goes_on s (events.Submit d) events.Accepted world old step (λ k n. refl) b) out.there pair.0 pair.1),
-    )
-      where
-        name : (d.q ≡ q) × (d.cid ≡ cid)
-        name = named_there s old q cid (value.Draft d) b out.there
-
-        pair : (ticket.q ≡ q) × (ticket.cid ≡ cid)
-        pair = (ap (λ (t : TicketContents). t.q) is ∙ name.0, ap (λ (t : TicketContents). t.cid) is ∙ name.1)
-
-        row : Row (Option (CommandValue A))
-        row = record { q = q; cid = cid; value = Some (value.Ticket ticket) }
-
-        drafts : picked as_draft (without old.rows q cid ++ row ∷ []) ≡ without_first (is_draft q cid) (picked as_draft old.rows)
-        drafts =
-            filter_map-append (λ (r : Row (Option (CommandValue A))). as_draft r.value) (without old.rows q cid) (row ∷ []) ∙ append-nil (picked as_draft (without old.rows q cid))
-            ∙ taken_at as_draft is_draft old.rows q cid b.distinct (drafts_named s old b)
-
-        tickets : picked as_ticket (without old.rows q cid ++ row ∷ []) ≡ picked as_ticket old.rows ++ (q, cid) ∷ []
-        tickets =
-            filter_map-append (λ (r : Row (Option (CommandValue A))). as_ticket r.value) (without old.rows q cid) (row ∷ [])
-            ∙ ap₂ (λ (xs : List (ℕ × ℕ)) (x : ℕ × ℕ). xs ++ x ∷ []) (taken_other as_ticket old.rows q cid (Some (value.Draft d)) out.there refl) (ap₂ (λ (k n : ℕ). (k, n)) pair.0 pair.1)
-
-        finished : picked as_finished (without old.rows q cid ++ row ∷ []) ≡ picked as_finished old.rows
-        finished =
-            filter_map-append (λ (r : Row (Option (CommandValue A))). as_finished r.value) (without old.rows q cid) (row ∷ []) ∙ append-nil (picked as_finished (without old.rows q cid))
-            ∙ taken_other as_finished old.rows q cid (Some (value.Draft d)) out.there refl
+    submits world ticket new step is left =
+        let name = named_there s old q cid (value.Draft d) b out.there in
+        let queue = ap (λ (t : TicketContents). t.q) is ∙ name.0 in
+        let identifier = ap (λ (t : TicketContents). t.cid) is ∙ name.1 in
+        let next = put_next old mid q cid (value.Draft d) out (value.Ticket ticket) new left in
+        let row : Row (Option (CommandValue A)) = record { q = q; cid = cid; value = Some (value.Ticket ticket) } in
+        let rows = without old.rows q cid in (
+          rw found_draft (
+            step,
+            ap (table_with world) next ∙ tables_same world _ _ _ _ _ _
+                (more_none as_draft rows row refl ∙ taken_at as_draft is_draft old.rows q cid b.distinct (drafts_named s old b))
+                (filter_map-append (λ (r : Row (Option (CommandValue A))). as_ticket r.value) rows (row ∷ [])
+                ∙ ap₂ (λ (xs : List (ℕ × ℕ)) (x : ℕ × ℕ). xs ++ x ∷ []) (taken_other as_ticket old.rows q cid (Some (value.Draft d)) out.there refl)
+                (ap₂ (λ (k n : ℕ). (k, n)) queue identifier))
+                (more_none as_finished rows row refl ∙ taken_other as_finished old.rows q cid (Some (value.Draft d)) out.there refl),
+          ),
+          subst (IsBench world) (sym next)
+              (followed world old q cid (value.Draft d) (value.Ticket ticket) (goes_on s (events.Submit d) events.Accepted world old step (λ k n. refl) b) out.there queue identifier),
+        )
 
     pub submit_refused : (world : State) (x : DraftContents) (why : Refusal) (answer : Reply) (new : Values A) → machine.Step s (events.Submit d) (events.Refused why []) world → x ≡ d → answer ≡ reply.Refused why
         → new ≡ record mid { rows = with_value mid.rows q cid (Some (value.Draft x)) }
@@ -268,40 +236,27 @@ module _ {A : Type 0} where
     by_name reply world step =
         subst (λ (k : ℕ). machine.Step s (events.Collect k cid) reply world) ticket_name.0 (subst (λ (n : ℕ). machine.Step s (events.Collect ticket.q n) reply world) ticket_name.1 step)
 
-    last_finished : (f : FinishedContents) → picked as_finished (without old.rows q cid ++ record { q = q; cid = cid; value = Some (value.Finished f) } ∷ []) ≡ picked as_finished old.rows ++ f ∷ []
-    last_finished f =
-        filter_map-append (λ (r : Row (Option (CommandValue A))). as_finished r.value) (without old.rows q cid) (record { q = q; cid = cid; value = Some (value.Finished f) } ∷ [])
-        ∙ ap (λ (xs : List FinishedContents). xs ++ f ∷ []) (taken_other as_finished old.rows q cid (Some (value.Ticket ticket)) out.there refl)
-
     pub collects : (world : State) (f : FinishedContents) (status : Status) (new : Values A) → machine.Step s (events.Collect ticket.q ticket.cid) (events.Collects f) world → status ≡ f.status
         → new ≡ with_row (record mid { rows = without mid.rows q cid }) q cid (Some (value.Finished f))
         → Collects (table_with s old) q cid (list_any (is_ticket q cid) (table_with s old).tickets) (reply.Collected status) (table_with world new) × IsBench world new
-    collects world f status new step ends left = (
-      rw found_ticket (record {
-        finished = f;
-        says = ap reply.Collected ends;
-        step = by_name (events.Collects f) world step;
-        keeps = ap (table_with world) (put_next old mid q cid (value.Ticket ticket) out (value.Finished f) new left) ∙ tables_same world _ _ _ _ _ _ drafts tickets (last_finished f);
-      }),
-      subst (IsBench world) (sym (put_next old mid q cid (value.Ticket ticket) out (value.Finished f) new left))
-          (followed world old q cid (value.Ticket ticket) (value.Finished f) (goes_on s (events.Collect ticket.q ticket.cid) (events.Collects f) world old step (λ k n. refl) b) out.there name.0 name.1),
-    )
-      where
-        name : (f.q ≡ q) × (f.cid ≡ cid)
-        name = collected_named s world q cid f (by_name (events.Collects f) world step)
-
-        row : Row (Option (CommandValue A))
-        row = record { q = q; cid = cid; value = Some (value.Finished f) }
-
-        drafts : picked as_draft (without old.rows q cid ++ row ∷ []) ≡ picked as_draft old.rows
-        drafts =
-            filter_map-append (λ (r : Row (Option (CommandValue A))). as_draft r.value) (without old.rows q cid) (row ∷ []) ∙ append-nil (picked as_draft (without old.rows q cid))
-            ∙ taken_other as_draft old.rows q cid (Some (value.Ticket ticket)) out.there refl
-
-        tickets : picked as_ticket (without old.rows q cid ++ row ∷ []) ≡ without_first (is_ticket q cid) (picked as_ticket old.rows)
-        tickets =
-            filter_map-append (λ (r : Row (Option (CommandValue A))). as_ticket r.value) (without old.rows q cid) (row ∷ []) ∙ append-nil (picked as_ticket (without old.rows q cid))
-            ∙ taken_at as_ticket is_ticket old.rows q cid b.distinct (tickets_named s old b)
+    collects world f status new step ends left =
+        let name = collected_named s world q cid f (by_name (events.Collects f) world step) in
+        let next = put_next old mid q cid (value.Ticket ticket) out (value.Finished f) new left in
+        let row : Row (Option (CommandValue A)) = record { q = q; cid = cid; value = Some (value.Finished f) } in
+        let rows = without old.rows q cid in (
+          rw found_ticket (record {
+            finished = f;
+            says = ap reply.Collected ends;
+            step = by_name (events.Collects f) world step;
+            keeps = ap (table_with world) next ∙ tables_same world _ _ _ _ _ _
+                (more_none as_draft rows row refl ∙ taken_other as_draft old.rows q cid (Some (value.Ticket ticket)) out.there refl)
+                (more_none as_ticket rows row refl ∙ taken_at as_ticket is_ticket old.rows q cid b.distinct (tickets_named s old b))
+                (filter_map-append (λ (r : Row (Option (CommandValue A))). as_finished r.value) rows (row ∷ [])
+                ∙ ap (λ (xs : List FinishedContents). xs ++ f ∷ []) (taken_other as_finished old.rows q cid (Some (value.Ticket ticket)) out.there refl));
+          }),
+          subst (IsBench world) (sym next)
+              (followed world old q cid (value.Ticket ticket) (value.Finished f) (goes_on s (events.Collect ticket.q ticket.cid) (events.Collects f) world old step (λ k n. refl) b) out.there name.0 name.1),
+        )
 
     pub collect_refused : (world : State) (x : TicketContents) (why : Refusal) (answer : Reply) (new : Values A) → machine.Step s (events.Collect ticket.q ticket.cid) (events.Refused why []) world → x ≡ ticket → answer ≡ reply.Refused why
         → new ≡ record mid { rows = with_value mid.rows q cid (Some (value.Ticket x)) }
@@ -352,34 +307,28 @@ module _ {A : Type 0} where
 
 -- a page is in where its first byte is there
 first_byte : (pages : Pages) → AreWhole pages → (p : ℕ) → is_in pages p ≡ is_some (byte_at pages (4096 * p + 0))
-first_byte pages whole p = go (page_at pages p) refl (whole p)
-  where
-    go : (o : Option (List ℕ)) → page_at pages p ≡ o → IfSome o (λ page. length page ≡ 4096) → is_some o ≡ is_some (byte_at pages (4096 * p + 0))
-    go None out full = rw (page_of_place p 0 (omega arith), out) refl
-    go (Some page) here full = ap is_some (sym (byte_in pages p 0 page here (omega arith) ∙ slice_get-get_or page 0 0 (omega (arith, full))))
+first_byte pages whole p = elim (option_is (page_at pages p)) [
+  | inl out ↦ rw (page_of_place p 0 (omega arith), out) refl
+  | inr (page, here) ↦
+      let full : length page ≡ 4096 = rw here at (whole p) in
+      rw here (ap is_some (sym (byte_in pages p 0 page here (omega arith) ∙ slice_get-get_or page 0 0 (omega (arith, full)))))
+]
 
 -- a byte stands at a place of a range that is there
 stands : (m : Memory) (addr n place : ℕ) → bytes_at m addr n ≢ None → addr ≤ place → place < addr + n → is_some (m place) ≡ true
-stands m addr n place there low high = go (is_some (m place)) refl
-  where
-    at : addr + (place - addr) ≡ place
-    at = omega (arith, low)
-
-    go : (b : Bool) → is_some (m place) ≡ b → b ≡ true
-    go true e = refl
-    go false e = absurd (there (missing_at m addr n (place - addr) (omega (arith, low, high)) (ap m at ∙ none_of (m place) e)))
+stands m addr n place there low high =
+    let at : addr + (place - addr) ≡ place = omega (arith, low) in
+    true_from_ne_false (is_some (m place)) (λ e. there (missing_at m addr n (place - addr) (omega (arith, low, high)) (ap m at ∙ none_of (m place) e)))
 
 -- so the same places have bytes
 same_places : (m : Memory) (addr : ℕ) (bytes : List ℕ) → bytes_at m addr (length bytes) ≢ None → (place : ℕ) → is_some (written m addr bytes place) ≡ is_some (m place)
-same_places m addr bytes there place = go (cases_lt place addr)
-  where
-    behind : (place < addr + length bytes) ⊎ (addr + length bytes ≤ place) → addr ≤ place → is_some (written m addr bytes place) ≡ is_some (m place)
-    behind (inl high) low = ap is_some (written_in m addr place bytes low high) ∙ sym (stands m addr (length bytes) place there low high)
-    behind (inr past) low = ap is_some (written_after m addr place bytes past)
-
-    go : (place < addr) ⊎ (addr ≤ place) → is_some (written m addr bytes place) ≡ is_some (m place)
-    go (inl before) = ap is_some (written_before m addr place bytes before)
-    go (inr low) = behind (cases_lt place (addr + length bytes)) low
+same_places m addr bytes there place = elim (cases_lt place addr) [
+  | inl before ↦ ap is_some (written_before m addr place bytes before)
+  | inr low ↦ elim (cases_lt place (addr + length bytes)) [
+    | inl high ↦ ap is_some (written_in m addr place bytes low high) ∙ sym (stands m addr (length bytes) place there low high)
+    | inr past ↦ ap is_some (written_after m addr place bytes past)
+  ]
+]
 
 keeps_by : (old new : Pages) → AreWhole old → AreWhole new → length new ≤ 65536 → length new ≡ length old → ((place : ℕ) → is_some (byte_at new place) ≡ is_some (byte_at old place)) → Keeps old new
 keeps_by old new whole whole' few count same =

@@ -1,6 +1,6 @@
 -- The command that makes a half, as it is sent: what is found before it, what is written, and the step of the machine that it is.
-use Rattle.std.proofs.Common.{◌≡◌, ℕ, zero, suc, ◌+◌, ◌*◌, ◌<◌, ◌==◌, ◌||◌, ◌&&◌, nat_lt, ◌++◌, ◌∷◌, [], Bool, true, false, not, Option, Some, None, List, is_none, is_some, length, position, slice_get, slice_index, refl, ap, ap₂, sym, ◌∙◌, subst, arith}
-use Rattle.std.{proofs.lemmas.{Bool.{true≢false, and_parts, not-false, or_parts}, Option.{slice_get-map, slice_get_within}}, specs.List.list_any}
+use Rattle.std.proofs.Common.{◌≡◌, ℕ, zero, suc, ◌+◌, ◌*◌, ◌<◌, ◌==◌, ◌||◌, ◌&&◌, nat_lt, ◌++◌, ◌∷◌, [], Bool, true, false, not, Option, Some, None, List, is_none, is_some, length, position, slice_get, slice_index, refl, ap, ap₂, sym, ◌∙◌, subst, arith, inl, inr}
+use Rattle.std.{proofs.lemmas.{Bool.{true≢false, and_parts, not-false, not-true, or_parts}, Option.{slice_get-map}}, specs.List.list_any}
 use Rattle.std.specs.Option.{option_map, option_map_or}
 use Rattle.admin_commands.specs.{Entries.admin_entry, declared.AdminKind.{AdminKind, TheVariants.{CreateCq, CreateSq}}}
 use Rattle.controller_walk.specs.Units.{first_passing}
@@ -9,13 +9,13 @@ use Rattle.machine_model.{proofs.Steps.{first_fails, rest_fails}, specs.{After.c
 use Rattle.machine_model.specs.Refusals.{cq_deletion_outstanding, in_state, is_gone, is_half_made, is_io_queue, is_making, no_identifier, queue_full, refusal_of, run_for}
 use Rattle.machine_model.specs.State.{HostQueue, Record, State, is_at, outstanding_on}
 use Rattle.machine_model.specs.{Step.{Answers, IsController, IsNewIdentifier, Refuses, Step, touched_by_refusal}, declared.words.HostState.HostState}
-use Rattle.machine_model.specs.declared.words.{HostState.TheVariants.{Live, Deleting, Retired, Gone, MakingCq, HalfMade, MakingSq}, Refusal.Refusal}
+use Rattle.machine_model.specs.declared.words.{HostState.TheVariants.{Gone, HalfMade}, Refusal.Refusal}
 use Rattle.page_ledger.specs.{Owners.pages_from, Runs.lowest_run}
 use Rattle.page_memory.specs.declared.page.Half.{Half, TheVariants.{Submission, Completion}}
 use Rattle.queue_pair.specs.Memory.{half_pages}
 use Rattle.host_core.proofs.{Granting.{in_state-is, next-fresh, next-left, none-left}, Lists.some_is}
 use Rattle.host_core.proofs.Making.{any-count, IsBare, granted-state, half_in, run-within, settled-granted, some-pages, with-some, same-run}
-use Rattle.host_core.proofs.QueueLists.{Settled, whole-of, host_step, sound_after}
+use Rattle.host_core.proofs.QueueLists.{Settled, host_step, Steps, steps}
 use Rattle.host_core.proofs.Sending.{Next, can-post-to, first-there, past, send-typed, HasHalfIn, first-changed, half-in, sent-exact, sent_in, settled-sent, some-first}
 use Rattle.host_core.{proofs.Submitted.full_is, specs.{Commands.{ClaimsNext, with_claim}, Posting.{CanPostTo, Posts, posted}, Rows.Queue}}
 use Rattle.host_core.specs.Sending.{CanCreate, Creates, HasSlot, creating, creation, granted, half_from, making, named_causes, noted, sent}
@@ -23,6 +23,7 @@ use Rattle.host_core.specs.{Tables.{Tables, host_queue_of, state_of}, Whole.IsWh
 use Rattle.machine_model.specs.After as a
 use Rattle.machine_model.specs.Events as events
 use Rattle.machine_model.specs.declared.words.Refusal.TheVariants as refusal
+use Rattle.machine_model.proofs.Cases.{option_is}
 
 -- What is against it
 
@@ -88,65 +89,38 @@ none-of q (r ∷ rs) h cid =
     ap₂ (λ (b c : Bool). b && (r.cid == cid) || c) both.0 (none-of q rs both.1 cid)
 
 in-it : (test : HostState → Bool) (t : Tables) (q : ℕ) → in_state test (state_of t) q ≡ true → (x : Queue) × (slice_get t.queues q ≡ Some x) × (test x.state ≡ true)
-in-it test t q h = go (slice_get t.queues q) refl (sym (in_state-is test t q) ∙ h)
-  where
-    go : (o : Option Queue) → slice_get t.queues q ≡ o → option_map_or test (option_map (λ (queue : Queue). queue.state) o) false ≡ true → (x : Queue) × (slice_get t.queues q ≡ Some x) × (test x.state ≡ true)
-    go None at is = absurd (true≢false (sym is))
-    go (Some x) at is = (x, at, is)
+in-it test t q h = let is = sym (in_state-is test t q) ∙ h in elim (option_is (slice_get t.queues q)) [
+  | inl at ↦ absurd (true≢false (sym (rw at at is)))
+  | inr (x, at) ↦ (x, at, rw at at is)
+]
 
 gone-is : (state : HostState) → is_gone state ≡ true → state ≡ Gone
 gone-is Gone e = refl
-gone-is Live e = absurd (true≢false (sym e))
-gone-is (Deleting noted) e = absurd (true≢false (sym e))
-gone-is Retired e = absurd (true≢false (sym e))
-gone-is MakingCq e = absurd (true≢false (sym e))
-gone-is HalfMade e = absurd (true≢false (sym e))
-gone-is MakingSq e = absurd (true≢false (sym e))
+gone-is state e = absurd (true≢false (sym e))
 
 half-made-is : (state : HostState) → is_half_made state ≡ true → state ≡ HalfMade
 half-made-is HalfMade e = refl
-half-made-is Live e = absurd (true≢false (sym e))
-half-made-is (Deleting noted) e = absurd (true≢false (sym e))
-half-made-is Retired e = absurd (true≢false (sym e))
-half-made-is Gone e = absurd (true≢false (sym e))
-half-made-is MakingCq e = absurd (true≢false (sym e))
-half-made-is MakingSq e = absurd (true≢false (sym e))
-
-not-queue-0 : (s : State) (q : ℕ) → not (is_io_queue s q) ≡ false → (q == 0) ≡ false
-not-queue-0 s q h = not-true' (q == 0) (and_parts (not (q == 0)) (is_some (slice_get s.host.queues q)) (not-false (is_io_queue s q) h)).0
-  where
-    not-true' : (b : Bool) → not b ≡ true → b ≡ false
-    not-true' true e = absurd (true≢false (sym e))
-    not-true' false e = refl
+half-made-is state e = absurd (true≢false (sym e))
 
 pub bare-of : (t : Tables) (half : Half) (q : ℕ) → IsWhole t → refusal_of (state_of t) (creating half q) ≡ None → IsBare t half q
 bare-of t Completion q w none =
-    let s = state_of t in
-    let rest2 = (nat_lt 0 (length (outstanding_on s.host q)), refusal.Outstanding) ∷ half_causes s Completion in
-    let rest1 = (not (in_state is_gone s q), refusal.WrongState) ∷ rest2 in
-    let second = rest_fails (not (is_io_queue s q)) refusal.NoQueue rest1 none in
-    let third = rest_fails (not (in_state is_gone s q)) refusal.WrongState rest2 second in
-    let is = in-it is_gone t q (not-false (in_state is_gone s q) (first_fails (not (in_state is_gone s q)) refusal.WrongState rest2 second)) in
+    let is = in-it is_gone t q (grind (arith, none)) in
     record {
       queue = is.0;
       at = is.1;
-      other = not-queue-0 s q (first_fails (not (is_io_queue s q)) refusal.NoQueue rest1 none);
+      other = grind (arith, none);
       state = gone-is is.0.state is.2;
-      none = none-of q t.records (sym (any-count q t.records) ∙ first_fails (nat_lt 0 (length (outstanding_on s.host q))) refusal.Outstanding (half_causes s Completion) third);
+      none = none-of q t.records (sym (any-count q t.records) ∙ grind (arith, none));
     }
 bare-of t Submission q w none =
-    let s = state_of t in
-    let rest1 = (not (in_state is_half_made s q) || cq_deletion_outstanding s q, refusal.WrongState) ∷ half_causes s Submission in
-    let second = rest_fails (not (is_io_queue s q)) refusal.NoQueue rest1 none in
-    let wrong = first_fails (not (in_state is_half_made s q) || cq_deletion_outstanding s q) refusal.WrongState (half_causes s Submission) second in
-    let is = in-it is_half_made t q (not-false (in_state is_half_made s q) (or_parts (not (in_state is_half_made s q)) (cq_deletion_outstanding s q) wrong).0) in
+    let is = in-it is_half_made t q (grind (arith, none)) in
     let state = half-made-is is.0.state is.2 in
-    let making : option_map_or (λ (queue : HostQueue). is_making queue.state) (slice_get s.host.queues q) false ≡ true =
+    let making : option_map_or (λ (queue : HostQueue). is_making queue.state) (slice_get (state_of t).host.queues q) false ≡ true =
     ap (λ (o : Option HostQueue). option_map_or (λ (queue : HostQueue). is_making queue.state) o false) (slice_get-map host_queue_of t.queues q ∙ ap (option_map host_queue_of) is.1) ∙ ap is_making state in
     record {
       queue = is.0;
       at = is.1;
-      other = not-queue-0 s q (first_fails (not (is_io_queue s q)) refusal.NoQueue rest1 none);
+      other = grind (arith, none);
       state = state;
       none = none-of q t.records (sym (any-count q t.records) ∙ ap (nat_lt 0) (w.sound.bare q making));
     }
@@ -202,35 +176,21 @@ is-proper : (half : Half) (q : ℕ) → IsProper (creating half q)
 is-proper Completion q = tt
 is-proper Submission q = tt
 
--- What a creation makes of whole tables: a step of the machine, and whole tables.
-pub record CreatesTo (t : Tables) (half : Half) (q cid : ℕ) (new : Tables) : Type 0 where
-  pub step : Step (state_of t) (creating half q) (events.Sent cid) (state_of new)
-  pub whole : IsWhole new
-
-created-made : (t : Tables) (half : Half) (q cid first : ℕ) → IsWhole t → (can : CanCreate t half q cid first)
-    → CreatesTo t half q cid (sent (creation half q t.entries first) cid can.slot.queue (granted half q first t))
-created-made t half q cid first w can =
+pub created_made : (t new : Tables) (half : Half) (q cid first : ℕ) → IsWhole t → CanCreate t half q cid first → Creates t half q cid first new → Steps t
+    (creating half q) (events.Sent cid) new
+created_made t new half q cid first w can creates =
     let kind : AdminKind = creation half q t.entries first in
     let bare = bare-of t half q w can.none in
     let g : Tables = granted half q first t in
     let s = settled-granted t half q first w bare can.run in
     let slot = granted-slot t half q cid first bare.other can.slot in
     let in_half = granted-half-in t half q first can.slot.queue (half-in t cid w can.slot) in
-    let new : Tables = sent kind cid can.slot.queue g in
-    let exact : state_of new ≡ a.after (state_of t) (creating half q) (events.Sent cid) =
+    let exact : state_of (sent kind cid can.slot.queue g) ≡ a.after (state_of t) (creating half q) (events.Sent cid) =
     sent-exact g kind cid s slot in_half (send-typed kind cid)
     ∙ (ap (sent_in kind cid) (granted-state t half q first w bare)
     ∙ sym (created-after (state_of t) half q cid first can.run (some-pages t.entries half w.least_entries))) in
-    let step : Step (state_of t) (creating half q) (events.Sent cid) (state_of new) =
-    host_step t new (creating half q) (events.Sent cid) (is-hosts half q) (is-proper half q)
-    (can.none, created-answers (state_of t) half q cid (next-fresh t w 0 cid can.slot.queue can.slot.at can.slot.next), exact) in
-    record {
-      step = step;
-      whole = whole-of new (settled-sent g kind cid s slot in_half (send-typed kind cid)) (sound_after (state_of t) (creating half q) (events.Sent cid) (state_of new) step w.sound);
-    }
-
-pub created_made : (t new : Tables) (half : Half) (q cid first : ℕ) → IsWhole t → CanCreate t half q cid first → Creates t half q cid first new → CreatesTo t half q cid new
-created_made t new half q cid first w can creates = subst (λ (y : Tables). CreatesTo t half q cid y) (sym (creates can.slot.queue can.slot.at)) (created-made t half q cid first w can)
+    rw (creates can.slot.queue can.slot.at) (steps t (sent kind cid can.slot.queue g) (creating half q) (events.Sent cid) w (is-hosts half q) (is-proper half q)
+    (can.none, created-answers (state_of t) half q cid (next-fresh t w 0 cid can.slot.queue can.slot.at can.slot.next), exact) (settled-sent g kind cid s slot in_half (send-typed kind cid)))
 
 pub create-refused : (t : Tables) (half : Half) (q : ℕ) (why : Refusal) → Refuses (state_of t) (creating half q) why [] → Step (state_of t) (creating half q) (events.Refused why []) (state_of t)
 create-refused t half q why h = host_step t t (creating half q) (events.Refused why []) (is-hosts half q) (is-proper half q) (h, refl)

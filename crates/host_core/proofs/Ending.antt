@@ -2,27 +2,30 @@
 use Rattle.machine_model.specs.Events as events
 use Rattle.host_core.specs.Rows as declared
 use Rattle.machine_model.specs.declared.words.Refusal.TheVariants as refusal
-use Rattle.std.proofs.Common.{◌≡◌, ℕ, ◌≤◌, Bool, List, Some, length, slice_get, refl, ap, sym, ◌∙◌, subst, true, false, None, find, option_and_then, if◌then◌else◌, zero, suc, ◌==◌, Option, [], ◌∷◌, ◌++◌, slice_set, is_some, ap₂, arith, length-append, eqb-true, ◌<◌, not, ◌||◌, take, drop, get_or, length-set}
-use Rattle.std.proofs.lemmas.{Bool.{true≢false, eqb-false, and_parts, not-true, not-false}, List.{length-map, map-append, take_at, drop_at}}
-use Rattle.std.{proofs.lemmas.Option.slice_get-map, specs.{List.AllByRecursion, Option.{option_map_or, option_map}}}
-use Rattle.machine_model.proofs.{Counting.{total, here}, Headline.steps_keep, Owned.{is_out, holds_from_sound}}
+use Rattle.std.proofs.Common.{◌≡◌, ℕ, ◌≤◌, Bool, List, Some, length, slice_get, refl, ap, sym, ◌∙◌, subst, true, false, None, find, option_and_then, if◌then◌else◌, zero, suc, ◌==◌, Option, [], ◌∷◌, ◌++◌, slice_set, is_some, ap₂, arith, length-append, eqb-true, ◌<◌, not, ◌||◌, take, drop, get_or, length-set, inl, inr}
+use Rattle.std.proofs.lemmas.{Bool.{true≢false, and_parts, not-true, not-false}, List.{length-map, map-append, take_at, drop_at}}
+use Rattle.std.{specs.{List.AllByRecursion, Option.{option_map_or}}}
+use Rattle.machine_model.proofs.{Cases.option_is, Counting.{total, here}, Owned.{is_out, holds_from_sound}}
 use Rattle.machine_model.proofs.Steps.{length-without_pages, found_all, length-with_pages, first_fails, found, pages_match}
 use Rattle.machine_model.specs.{After.{change, after_collect, collected, after_end}, Claims.is_away, Events.{Event, Reply}}
-use Rattle.machine_model.specs.{Memory.{is_in, without_pages, with_pages}, Proper.{IsProperDraft, ArePages}}
+use Rattle.machine_model.specs.{Memory.{is_in, without_pages, with_pages}, Proper.{IsProper, IsProperDraft, ArePages}}
 use Rattle.machine_model.specs.Refusals.{refusal_of, is_submitted, is_held, is_drafted, is_collected, is_of, record_is}
 use Rattle.machine_model.specs.State.{State, HostQueue, Record, is_at, pages_of, with_record, without_record}
-use Rattle.machine_model.specs.{Step.{Step, finished_from, Refuses, pages_with_bytes}, Work.Work, declared.words.Phase.Phase}
-use Rattle.machine_model.specs.declared.words.{Phase.TheVariants.{Held, Drafted, Submitted, Collected}, Work.TheVariants.{Io, Management}}
-use Rattle.page_ledger.specs.{Lists.ListsAll, Owners.{free_pages, is_among, is_command, is_owned_at, owner_at, given_back}, declared.owner.Owner.Owner}
+use Rattle.machine_model.specs.{Step.{Step, IsController, finished_from, Refuses, pages_with_bytes}, Work.Work, declared.words.Phase.Phase}
+use Rattle.machine_model.specs.declared.words.{Phase.TheVariants.{Held, Drafted, Collected}, Work.TheVariants.{Io, Management}}
+use Rattle.page_ledger.specs.{Lists.ListsAll, Owners.{free_pages, is_among, is_command, is_owned_at, given_back}, declared.owner.Owner.Owner}
 use Rattle.page_ledger.specs.declared.owner.{Owner.TheVariants.{Free, Command}, Role.TheVariants.{Data, Chain}}
 use Rattle.page_memory.specs.Pages.{Pages, IsPool, page_at}
 use Rattle.host_core.proofs.Identifiers.{claim-less}
-use Rattle.host_core.proofs.Lists.{length-change, map-change, all-map, any-map, change-same, found_at, found_is, all-filter, all-filter_by, all-from, all-to, all-front, all-back, found_any}
-use Rattle.host_core.proofs.PageOwners.{can-take, pool-without, record-in, set-other, without-append, can-put, pool-with, record-out, record-inside, times-at, command-pages, given-free}
-use Rattle.host_core.{proofs.{QueueLists.host_step, RowRecords.{claims_keep_queue, claims_keep_tells, each_claimed}}, specs.Collecting.{taken_pages, StandsAt}}
+use Rattle.host_core.proofs.Lists.{length-change, map-change, change-same, found_at, found_is, all-filter, all-filter_by, all-from, all-to, all-front, all-back}
+use Rattle.host_core.proofs.Lists.{found_any}
+use Rattle.host_core.proofs.PageOwners.{can-take, pool-without, record-in, set-other, without-append, can-put, pool-with, record-out, record-inside}
+use Rattle.host_core.proofs.PageOwners.{owner-stays, times-at, command-pages, given-free}
+use Rattle.host_core.proofs.{Outstanding.ids, QueueLists.{host_step, settled-of, settled-with, Steps, steps}, RowRecords.{Marks, marked-claims, marked-records, marked-tells, claims_keep_queue, claims_keep_tells, each_claimed}}
+use Rattle.host_core.specs.{Collecting.{taken_pages, StandsAt}, Exact.Exactly}
 use Rattle.host_core.specs.Commands.{claims_changed, taken_out, CanTake, ended, without_claim, CanPut, Brings, Belongs, Claims, has_record, phase_of_end}
 use Rattle.host_core.specs.{Rows.Queue, Tables.{Tables, state_of, host_queue_of}}
-use Rattle.host_core.specs.Whole.{IsWhole, IsQueue, ClaimIdentifiers, TellsQueue, TellsCommand, IsRecord, FitsWork, is_outstanding, FitsPhase}
+use Rattle.host_core.specs.Whole.{IsWhole, IsQueue, ClaimIdentifiers, TellsQueue, TellsCommand, IsRecord, FitsWork, FitsPhase}
 use Rattle.io_commands.specs.{Asked.Request, DataBytes.PagesOut, Drafts.{DraftContents, IsDraft}, Requests.{data_count, FitsRequest}}
 use Rattle.io_commands.specs.Values.{FinishedContents, IsGood, data_part, chain_part, numbers_of}
 use Rattle.entry_codec.specs.declared.status.Status.{Status}
@@ -55,60 +58,26 @@ pub record Fits (t : Tables) (q : ℕ) (f : List Bool → List Bool) (pages : Pa
   pub fit : AllByRecursion (IsRecord (length t.queues)) records
 
 pub moved_whole : (t : Tables) (q : ℕ) (f : List Bool → List Bool) (pages : Pages) (owners : List Owner) (records : List Record) (e : Event) (reply : Reply)
-    → IsWhole t → Fits t q f pages owners records → Step (state_of t) e reply (state_of (moved t q f pages owners records)) → IsWhole (moved t q f pages owners records)
-moved_whole t q f pages owners records e reply whole fits step =
-    let as_many = sym (length-change q (claims_changed f) t.queues) in
-    record {
-      sound = steps_keep (state_of t) e reply (state_of (moved t q f pages owners records)) step whole.sound;
+    → IsWhole t → Fits t q f pages owners records → IsController e ≡ false → IsProper e → Exactly (state_of t) e reply
+    (state_of (moved t q f pages owners records)) → Steps t e reply (moved t q f pages owners records)
+moved_whole t q f pages owners records e reply whole fits c p exact =
+    steps t (moved t q f pages owners records) e reply whole c p exact
+    (settled-with t pages owners (change q (claims_changed f) t.queues) records (settled-of t whole)
+    (record {
       pool = fits.pool;
       table = fits.table ∙ (whole.table ∙ sym fits.many);
-      least_entries = whole.least_entries;
-      most_entries = whole.most_entries;
-      least_segment = whole.least_segment;
-      most_segment = whole.most_segment;
-      some_queues = subst (λ (n : ℕ). 2 ≤ n) as_many whole.some_queues;
-      few_queues = subst (λ (n : ℕ). n ≤ 65) as_many whole.few_queues;
-      record_queues = whole.record_queues ∙ as_many;
-      record_places = whole.record_places;
+      many = length-change q (claims_changed f) t.queues;
       queues = record { each = each_claimed (IsQueue t.entries) f (claims_keep_queue f fits.size t.entries) q t.queues whole.queues.each };
       identifiers = fits.identifiers;
-      owners = record {
-        queues_told = each_claimed (TellsQueue owners) f (claims_keep_tells f owners) q t.queues fits.queues_told;
-        commands_told = fits.commands_told;
-      };
-      records = subst (λ (n : ℕ). AllByRecursion (IsRecord n) records) as_many fits.fit;
-    }
+      owners = record { queues_told = each_claimed (TellsQueue owners) f (claims_keep_tells f owners) q t.queues fits.queues_told; commands_told = fits.commands_told };
+      records = fits.fit;
+    }))
 
 -- A collection on the tables is the machine's, and leaves them whole.
-
--- a record that may be changed keeps what its phase says nothing of
-abbrev marked : ℕ → ℕ → Record → Record
-marked q cid r = if is_at q cid r then collected r else r
-
-is_at-marked : (q cid p i : ℕ) (r : Record) → is_at p i (marked q cid r) ≡ is_at p i r
-is_at-marked q cid p i r = go (is_at q cid r)
-  where
-    go : (b : Bool) → is_at p i (if b then collected r else r) ≡ is_at p i r
-    go true = refl
-    go false = refl
-
-tells-marked : (t : Tables) (q cid : ℕ) (r : Record) → TellsCommand t.owners r → TellsCommand t.owners (marked q cid r)
-tells-marked t q cid r tells = go (is_at q cid r)
-  where
-    go : (b : Bool) → TellsCommand t.owners (if b then collected r else r)
-    go true = record { data_pages = tells.data_pages; chain_pages = tells.chain_pages }
-    go false = tells
 
 fits-collected : (w : Work) (r : Record) → FitsWork w r → FitsWork w (collected r)
 fits-collected (Io request) r is = is
 fits-collected (Management kind) r is = tt
-
-fits-marked : (n q cid : ℕ) (r : Record) → IsRecord n r → IsRecord n (marked q cid r)
-fits-marked n q cid r is = go (is_at q cid r)
-  where
-    go : (b : Bool) → IsRecord n (if b then collected r else r)
-    go true = record { queue = is.queue; work = fits-collected r.work r is.work; phase = tt }
-    go false = is
 
 -- the pages of a command that is held
 pub collect_can_take : (t : Tables) (q cid : ℕ) (r : Record) → IsWhole t → find (is_at q cid) t.records ≡ Some r → is_out r.phase ≡ false → CanTake (pages_of r) t.pages
@@ -126,33 +95,19 @@ taken-moved t q cid r =
     ap (λ (queues : List declared.Queue). record (taken_out q cid (pages_of r) t) { queues = queues })
     (change-same (claims_changed (λ claimed. claimed)) (λ x. refl) q t.queues)
 
+marks-collected : Marks collected
+marks-collected = record { at = λ q cid r. refl; tells = λ owners r h. record { data_pages = h.data_pages; chain_pages = h.chain_pages } }
+
 pub collected_step : (t : Tables) (q cid : ℕ) (r : Record) (f : FinishedContents) → IsWhole t → refusal_of (state_of t) (events.Collect q cid) ≡ None
-    → find (is_at q cid) t.records ≡ Some r → finished_from (state_of t) r ≡ Some f
-    → Step (state_of t) (events.Collect q cid) (events.Collects f) (state_of (taken_out q cid (pages_of r) t))
+    → find (is_at q cid) t.records ≡ Some r → finished_from (state_of t) r ≡ Some f → Steps t (events.Collect q cid) (events.Collects f) (taken_out q cid (pages_of r) t)
 collected_step t q cid r f whole none was is =
-    host_step t (taken_out q cid (pages_of r) t) (events.Collect q cid) (events.Collects f) refl tt (
+    subst (λ (n : Tables). Steps t (events.Collect q cid) (events.Collects f) n) (taken-moved t q cid r)
+    (moved_whole t q (λ claimed. claimed) (taken_out q cid (pages_of r) t).pages t.owners (taken_out q cid (pages_of r) t).records (events.Collect q cid) (events.Collects f) whole fits refl tt (
       none,
       ap (option_and_then (finished_from (state_of t))) was ∙ is,
-      sym (ap state_of (taken-moved t q cid r))
-          ∙ (moved_is t q (λ claimed. claimed) (taken_out q cid (pages_of r) t).pages t.owners (taken_out q cid (pages_of r) t).records ∙ sym (taken-due t q cid r was)),
-    )
-
-pub collected_whole : (t : Tables) (q cid : ℕ) (r : Record) (f : FinishedContents) → IsWhole t → refusal_of (state_of t) (events.Collect q cid) ≡ None
-    → find (is_at q cid) t.records ≡ Some r → finished_from (state_of t) r ≡ Some f → IsWhole (taken_out q cid (pages_of r) t)
-collected_whole t q cid r f whole none was is =
-    subst (λ (n : Tables). IsWhole n) (taken-moved t q cid r)
-    (moved_whole t q (λ claimed. claimed) (taken_out q cid (pages_of r) t).pages t.owners (taken_out q cid (pages_of r) t).records (events.Collect q cid) (events.Collects f) whole fits
-    (subst (λ (n : Tables). Step (state_of t) (events.Collect q cid) (events.Collects f) (state_of n)) (sym (taken-moved t q cid r)) (collected_step t q cid r f whole none was is)))
+      moved_is t q (λ claimed. claimed) (taken_out q cid (pages_of r) t).pages t.owners (taken_out q cid (pages_of r) t).records ∙ sym (taken-due t q cid r was),
+    ))
   where
-    same : (p i : ℕ) → is_outstanding (with_record q cid collected t.records) p i ≡ is_outstanding t.records p i
-    same p i = any-map (is_at p i) (marked q cid) (is_at-marked q cid p i) t.records
-
-    claims : ClaimIdentifiers (with_record q cid collected t.records) t.queues
-    claims = record {
-      each = λ p queue e. let old = whole.identifiers.each p queue e in
-          record { told = λ i l. old.told i l ∙ ap Some (sym (same p i)); inside = λ i h. old.inside i (sym (same p i) ∙ h) };
-    }
-
     fits : Fits t q (λ claimed. claimed) (taken_out q cid (pages_of r) t).pages t.owners (taken_out q cid (pages_of r) t).records
     fits = record {
       pool = pool-without (pages_of r) t.pages whole.pool;
@@ -160,10 +115,9 @@ collected_whole t q cid r f whole none was is =
       table = refl;
       size = λ bits. refl;
       queues_told = whole.owners.queues_told;
-      commands_told = all-map (TellsCommand t.owners) (marked q cid) (tells-marked t q cid) t.records whole.owners.commands_told;
-      identifiers = subst (λ (queues : List declared.Queue). ClaimIdentifiers (with_record q cid collected t.records) queues)
-          (sym (change-same (claims_changed (λ claimed. claimed)) (λ x. refl) q t.queues)) claims;
-      fit = all-map (IsRecord (length t.queues)) (marked q cid) (fits-marked (length t.queues) q cid) t.records whole.records;
+      commands_told = marked-tells collected marks-collected t.owners t.records q cid whole.owners.commands_told;
+      identifiers = rw (change-same (claims_changed (λ claimed. claimed)) (λ x. refl) q t.queues) (marked-claims collected marks-collected t.records t.queues q cid whole.identifiers);
+      fit = marked-records collected (length t.queues) t.records q cid (λ x at is. record { queue = is.queue; work = fits-collected x.work x is.work; phase = tt }) whole.records;
     }
 
 -- Pages taken out one after the other are those of the memory, and the calls of collect.
@@ -180,11 +134,7 @@ set-gone (x ∷ m) zero = refl
 set-gone (x ∷ m) (suc p) = set-gone m p
 
 set-stays : (m : Pages) (p q : ℕ) → is_in (slice_set m p None) q ≡ true → page_at (slice_set m p None) q ≡ page_at m q
-set-stays m p q h = go (p == q) refl
-  where
-    go : (b : Bool) → (p == q) ≡ b → page_at (slice_set m p None) q ≡ page_at m q
-    go true e = absurd (true≢false (sym h ∙ subst (λ (k : ℕ). is_in (slice_set m p None) k ≡ false) (eqb-true p q e) (set-gone m p)))
-    go false e = set-other m p q None (eqb-false p q e)
+set-stays m p q h = set-other m p q None (λ e. true≢false (sym h ∙ subst (λ (k : ℕ). is_in (slice_set m p None) k ≡ false) e (set-gone m p)))
 
 can-in : (ps : List ℕ) (m : Pages) → CanTake ps m → AllByRecursion (λ q. is_in m q ≡ true) ps
 can-in [] m can = tt
@@ -248,15 +198,11 @@ collect-nothing t q cid is = rw (is.was, is.held) refl
 
 -- The whole of a collection
 
-pub record Collects (t new : Tables) (q cid : ℕ) (f : FinishedContents) : Type 0 where
-  pub step : Step (state_of t) (events.Collect q cid) (events.Collects f) (state_of new)
-  pub whole : IsWhole new
-
 pub collect_made : (t new : Tables) (q cid : ℕ) (r : Request) (st : Status) (pages : PagesOut) (f : FinishedContents) → IsWhole t → (is : StandsAt t q cid)
     → is.entry.work ≡ Io r → is.entry.status ≡ Some st
     → pages ≡ taken_pages is.entry.data_pages t.pages ++ taken_pages is.entry.chain_pages (without_pages is.entry.data_pages t.pages)
     → f ≡ record { q = q; cid = cid; request = r; status = st; data_pages = data_part r pages; chain_pages = chain_part r pages }
-    → new ≡ taken_out q cid (pages_of is.entry) t → Collects t new q cid f
+    → new ≡ taken_out q cid (pages_of is.entry) t → Steps t (events.Collect q cid) (events.Collects f) new
 collect_made t new q cid r st pages f whole is ew es ep ef en =
     let a = pages_with_bytes t.pages is.entry.data_pages in
     let b = pages_with_bytes t.pages is.entry.chain_pages in
@@ -269,16 +215,9 @@ collect_made t new q cid r st pages f whole is ew es ep ef en =
     ef
     ∙ (ap₂ (λ (x y : PagesOut). record { q = q; cid = cid; request = r; status = st; data_pages = x; chain_pages = y })
     (ap (data_part r) all ∙ take_at a b (data_count r.pieces) size) (ap (chain_part r) all ∙ drop_at a b (data_count r.pieces) size)
-    ∙ ap₂ (λ (x y : ℕ). record { q = x; cid = y; request = r; status = st; data_pages = a; chain_pages = b }) (sym (named is.entry q cid at).0) (sym (named is.entry q cid at).1)) in
+    ∙ ap₂ (λ (x y : ℕ). record { q = x; cid = y; request = r; status = st; data_pages = a; chain_pages = b }) (sym (ids q cid is.entry at).0) (sym (ids q cid is.entry at).1)) in
     let finishes : finished_from (state_of t) is.entry ≡ Some f = rw (ew, es) (ap Some (sym made)) in
-    let none = collect-nothing t q cid is in
-    record {
-      step = subst (λ (x : Tables). Step (state_of t) (events.Collect q cid) (events.Collects f) (state_of x)) (sym en) (collected_step t q cid is.entry f whole none is.was finishes);
-      whole = subst (λ (x : Tables). IsWhole x) (sym en) (collected_whole t q cid is.entry f whole none is.was finishes);
-    }
-  where
-    named : (r : Record) (q cid : ℕ) → is_at q cid r ≡ true → (r.q ≡ q) × (r.cid ≡ cid)
-    named r q cid h = let both = and_parts (r.q == q) (r.cid == cid) h in (eqb-true r.q q both.0, eqb-true r.cid cid both.1)
+    rw en (collected_step t q cid is.entry f whole (collect-nothing t q cid is) is.was finishes)
 
 pub collected_tables : (t : Tables) (q cid : ℕ) (pages : Pages) → (is : StandsAt t q cid) → pages ≡ without_pages is.entry.chain_pages (without_pages is.entry.data_pages t.pages)
     → record t { pages = pages; records = with_record q cid collected t.records } ≡ taken_out q cid (pages_of is.entry) t
@@ -309,9 +248,7 @@ away_is r = go r.phase
   where
     go : (ph : Phase) → (is_drafted ph || is_collected ph) ≡ is_out ph
     go Drafted = refl
-    go Submitted = refl
-    go Held = refl
-    go Collected = refl
+    go ph = refl
 
 -- the pages can be put
 pub ended_can_put : (t : Tables) (q cid : ℕ) (pages : PagesOut) → IsWhole t → Brings t q cid pages → CanPut pages t.pages
@@ -320,12 +257,6 @@ ended_can_put t q cid pages whole brings =
     can-put pages t.pages
     (λ p. rw brings.numbers (record-out (state_of t) whole.sound at.0 brings.entry at.1 (sym (away_is brings.entry) ∙ brings.out) p))
     (λ p some. record-inside (state_of t) whole.sound at.0 brings.entry at.1 p (rw brings.numbers at some))
-
--- what is not the command's keeps its owner
-owner-stays : (owners : List Owner) (q cid p : ℕ) (x : Owner) → is_command q cid x ≡ false → owner_at owners p ≡ Some x → owner_at (given_back (is_command q cid) owners) p ≡ Some x
-owner-stays owners q cid p x other at =
-    slice_get-map (λ (o : Owner). if is_command q cid o then Free else o) owners p
-    ∙ (ap (option_map (λ (o : Owner). if is_command q cid o then Free else o)) at ∙ ap (λ b. Some (if b then Free else x)) other)
 
 -- a command's pages are those that its record lists
 pub command-listed : (t : Tables) (q cid : ℕ) (r : Record) → IsWhole t → find (is_at q cid) t.records ≡ Some r → ListsAll (is_command q cid) t.owners (pages_of r)
@@ -364,14 +295,14 @@ ended-fits t q cid pages whole are brings = record {
   table = length-map t.owners (λ (o : Owner). if is_command q cid o then Free else o);
   size = λ bits. length-set bits cid false;
   queues_told = λ k queue e. let tells = whole.owners.queues_told k queue e in record {
-    submission = λ p h. owner-stays t.owners q cid p _ refl (tells.submission p h);
-    completion = λ p h. owner-stays t.owners q cid p _ refl (tells.completion p h);
+    submission = λ p h. owner-stays t.owners (is_command q cid) p _ refl (tells.submission p h);
+    completion = λ p h. owner-stays t.owners (is_command q cid) p _ refl (tells.completion p h);
   };
   commands_told =
       all-filter_by (TellsCommand t.owners) (TellsCommand (ended q cid pages t).owners) (λ (r : Record). not (is_at q cid r))
       (λ x e tells. record {
-        data_pages = λ p h. owner-stays t.owners q cid p (Command x.q x.cid Data) (not-true (is_at q cid x) e) (tells.data_pages p h);
-        chain_pages = λ p h. owner-stays t.owners q cid p (Command x.q x.cid Chain) (not-true (is_at q cid x) e) (tells.chain_pages p h);
+        data_pages = λ p h. owner-stays t.owners (is_command q cid) p (Command x.q x.cid Data) (not-true (is_at q cid x) e) (tells.data_pages p h);
+        chain_pages = λ p h. owner-stays t.owners (is_command q cid) p (Command x.q x.cid Chain) (not-true (is_at q cid x) e) (tells.chain_pages p h);
       }) t.records whole.owners.commands_told;
   identifiers = claim-less t.records t.queues q cid whole.identifiers (found_any (is_at q cid) t.records brings.entry brings.was);
   fit = all-filter (IsRecord (length t.queues)) (λ (r : Record). not (is_at q cid r)) t.records whole.records;
@@ -381,15 +312,13 @@ ended-fits t q cid pages whole are brings = record {
 
 drafted-out : (p : Phase) → is_drafted p ≡ true → is_out p ≡ true
 drafted-out Drafted h = refl
-drafted-out Submitted h = absurd (true≢false (sym h))
-drafted-out Held h = absurd (true≢false (sym h))
 drafted-out Collected h = refl
+drafted-out p h = absurd (true≢false (sym h))
 
 collected-out : (p : Phase) → is_collected p ≡ true → is_out p ≡ true
 collected-out Drafted h = refl
-collected-out Submitted h = absurd (true≢false (sym h))
-collected-out Held h = absurd (true≢false (sym h))
 collected-out Collected h = refl
+collected-out p h = absurd (true≢false (sym h))
 
 brought : (t : Tables) (q cid : ℕ) (phase : Phase → Bool) → ((p : Phase) → phase p ≡ true → is_out p ≡ true) → (r : Request) (a b : PagesOut)
     → record_is (is_of phase r (numbers_of a) (numbers_of b)) (state_of t) q cid ≡ true → Brings t q cid (a ++ b)
@@ -406,21 +335,12 @@ release_brings t f none = brought t f.q f.cid is_collected collected-out f.reque
 
 -- The two calls.
 
-pub cancelled_step : (t : Tables) (d : DraftContents) → IsWhole t → IsProperDraft d → refusal_of (state_of t) (events.Cancel d) ≡ None
-    → Step (state_of t) (events.Cancel d) events.Accepted (state_of (ended d.q d.cid (d.data_pages ++ d.chain_pages) t))
-cancelled_step t d whole proper none =
-    host_step t (ended d.q d.cid (d.data_pages ++ d.chain_pages) t) (events.Cancel d) events.Accepted refl proper (none, tt, ended_exact t d.q d.cid (d.data_pages ++ d.chain_pages) whole (cancel_brings t d none))
-
-pub released_step : (t : Tables) (f : FinishedContents) → IsWhole t → ArePages f.data_pages → ArePages f.chain_pages → refusal_of (state_of t) (events.Release f) ≡ None
-    → Step (state_of t) (events.Release f) events.Accepted (state_of (ended f.q f.cid (f.data_pages ++ f.chain_pages) t))
-released_step t f whole front back none =
-    host_step t (ended f.q f.cid (f.data_pages ++ f.chain_pages) t) (events.Release f) events.Accepted refl (front, back) (none, tt, ended_exact t f.q f.cid (f.data_pages ++ f.chain_pages) whole (release_brings t f none))
-
-pub ended_whole : (t : Tables) (q cid : ℕ) (pages : PagesOut) (e : Event) → IsWhole t → ArePages pages → Brings t q cid pages
-    → Step (state_of t) e events.Accepted (state_of (ended q cid pages t)) → IsWhole (ended q cid pages t)
-ended_whole t q cid pages e whole are brings step =
-    moved_whole t q (λ claimed. slice_set claimed cid false) (ended q cid pages t).pages (ended q cid pages t).owners (ended q cid pages t).records
-    e events.Accepted whole (ended-fits t q cid pages whole are brings) step
+ends : (t : Tables) (q cid : ℕ) (pages : PagesOut) (e : Event) → IsWhole t → ArePages pages → Brings t q cid pages → IsController e ≡ false → IsProper e → Exactly
+    (state_of t) e events.Accepted (state_of (ended q cid pages t))
+    → Steps t e events.Accepted (ended q cid pages t)
+ends t q cid pages e whole are brings c p exact =
+    moved_whole t q (λ claimed. slice_set claimed cid false) (ended q cid pages t).pages (ended q cid pages t).owners (ended q cid pages t).records e events.Accepted whole
+    (ended-fits t q cid pages whole are brings) c p exact
 
 -- What the end of a command needs
 
@@ -443,10 +363,6 @@ ended_tables t u q cid brought' pages owners queues eu ep eo eq = rw (ep, eo, eq
 
 -- The whole of both calls
 
-pub record Finishes (t new : Tables) (e : Event) : Type 0 where
-  pub step : Step (state_of t) e events.Accepted (state_of new)
-  pub whole : IsWhole new
-
 pub belongs_brings : (t : Tables) (ended' : Bool) (q cid : ℕ) (r : Request) (a b : PagesOut) → Belongs t.records ended' q cid r (numbers_of a) (numbers_of b) → Brings t q cid (a ++ b)
 belongs_brings t ended' q cid r a b belongs =
     let m = pages_match (phase_of_end ended') r a b belongs.entry belongs.is in
@@ -460,11 +376,10 @@ pub belongs-passes : (t : Tables) (ended' : Bool) (q cid : ℕ) (r : Request) (a
 belongs-passes t ended' q cid r a b belongs = ap (λ o. option_map_or (is_of (phase_of_end ended') r a b) o false) belongs.was ∙ belongs.is
 
 pub belongs-from : (records : List Record) (ended' : Bool) (q cid : ℕ) (r : Request) (a b : List ℕ) → has_record records ended' q cid r a b ≡ true → Belongs records ended' q cid r a b
-belongs-from records ended' q cid r a b h = go (find (is_at q cid) records) refl h
-  where
-    go : (o : Option Record) → find (is_at q cid) records ≡ o → option_map_or (is_of (phase_of_end ended') r a b) o false ≡ true → Belongs records ended' q cid r a b
-    go None e g = absurd (true≢false (sym g))
-    go (Some entry) e g = record { entry = entry; was = e; is = g }
+belongs-from records ended' q cid r a b h = elim (option_is (find (is_at q cid) records)) [
+  | inl e ↦ absurd (true≢false (sym (rw e at h)))
+  | inr (entry, e) ↦ record { entry = entry; was = e; is = rw e at h }
+]
 
 -- a moved value, as its parts are read
 pub record Reads (q cid : ℕ) (r : Request) (a b : PagesOut) (q' cid' : ℕ) (r' : Request) (a' b' : PagesOut) : Type 0 where
@@ -473,15 +388,6 @@ pub record Reads (q cid : ℕ) (r : Request) (a b : PagesOut) (q' cid' : ℕ) (r
   pub request : r' ≡ r
   pub front : a' ≡ a
   pub back : b' ≡ b
-
-pub read_belongs : (records : List Record) (ended' : Bool) (q cid : ℕ) (r : Request) (a b : PagesOut) (q' cid' : ℕ) (r' : Request) (a' b' : PagesOut) → Reads q cid r a b q' cid' r' a' b'
-    → Belongs records ended' q' cid' r' (numbers_of a') (numbers_of b') → Belongs records ended' q cid r (numbers_of a) (numbers_of b)
-read_belongs records ended' q cid r a b q' cid' r' a' b' reads belongs =
-    subst (λ (x : PagesOut). Belongs records ended' q cid r (numbers_of a) (numbers_of x)) reads.back
-    (subst (λ (x : PagesOut). Belongs records ended' q cid r (numbers_of x) (numbers_of b')) reads.front
-    (subst (λ (x : Request). Belongs records ended' q cid x (numbers_of a') (numbers_of b')) reads.request
-    (subst (λ (x : ℕ). Belongs records ended' q x r' (numbers_of a') (numbers_of b')) reads.identifier
-    (subst (λ (x : ℕ). Belongs records ended' x cid' r' (numbers_of a') (numbers_of b')) reads.queue belongs))))
 
 pub read_has : (records : List Record) (ended' : Bool) (q cid : ℕ) (r : Request) (a b : PagesOut) (q' cid' : ℕ) (r' : Request) (a' b' : PagesOut) → Reads q cid r a b q' cid' r' a' b'
     → has_record records ended' q' cid' r' (numbers_of a') (numbers_of b') ≡ has_record records ended' q cid r (numbers_of a) (numbers_of b)
@@ -516,29 +422,24 @@ release_refused t f are none =
 
 pub cancel_made : (t new : Tables) (d : DraftContents) → IsWhole t → IsProperDraft d
     → Belongs t.records false d.q d.cid d.request (numbers_of d.data_pages) (numbers_of d.chain_pages)
-    → new ≡ ended d.q d.cid (d.data_pages ++ d.chain_pages) t → Finishes t new (events.Cancel d)
+    → new ≡ ended d.q d.cid (d.data_pages ++ d.chain_pages) t → Steps t (events.Cancel d) events.Accepted new
 cancel_made t new d whole proper belongs is =
-    let are : ArePages (d.data_pages ++ d.chain_pages) = joined-pages d.data_pages d.chain_pages proper.data_pages proper.chain_pages in
     let none : refusal_of (state_of t) (events.Cancel d) ≡ None =
     ap (λ b. if not b then Some refusal.Stranger else None) (belongs-passes t false d.q d.cid d.request (numbers_of d.data_pages) (numbers_of d.chain_pages) belongs) in
-    let step = cancelled_step t d whole proper none in
-    record {
-      step = subst (λ (x : Tables). Step (state_of t) (events.Cancel d) events.Accepted (state_of x)) (sym is) step;
-      whole = subst (λ (x : Tables). IsWhole x) (sym is) (ended_whole t d.q d.cid (d.data_pages ++ d.chain_pages) (events.Cancel d) whole are (cancel_brings t d none) step);
-    }
+    let pages = d.data_pages ++ d.chain_pages in
+    let brings = cancel_brings t d none in
+    rw is (ends t d.q d.cid pages (events.Cancel d) whole (joined-pages d.data_pages d.chain_pages proper.data_pages proper.chain_pages) brings refl proper
+    (none, tt, ended_exact t d.q d.cid pages whole brings))
 
 pub release_made : (t new : Tables) (f : FinishedContents) → IsWhole t → ArePages (f.data_pages ++ f.chain_pages)
     → Belongs t.records true f.q f.cid f.request (numbers_of f.data_pages) (numbers_of f.chain_pages)
-    → new ≡ ended f.q f.cid (f.data_pages ++ f.chain_pages) t → Finishes t new (events.Release f)
+    → new ≡ ended f.q f.cid (f.data_pages ++ f.chain_pages) t → Steps t (events.Release f) events.Accepted new
 release_made t new f whole are belongs is =
     let none : refusal_of (state_of t) (events.Release f) ≡ None =
     ap (λ b. if not b then Some refusal.Stranger else None) (belongs-passes t true f.q f.cid f.request (numbers_of f.data_pages) (numbers_of f.chain_pages) belongs) in
-    let both = both-pages f.data_pages f.chain_pages are in
-    let step = released_step t f whole both.0 both.1 none in
-    record {
-      step = subst (λ (x : Tables). Step (state_of t) (events.Release f) events.Accepted (state_of x)) (sym is) step;
-      whole = subst (λ (x : Tables). IsWhole x) (sym is) (ended_whole t f.q f.cid (f.data_pages ++ f.chain_pages) (events.Release f) whole are (release_brings t f none) step);
-    }
+    let pages = f.data_pages ++ f.chain_pages in
+    let brings = release_brings t f none in
+    rw is (ends t f.q f.cid pages (events.Release f) whole are brings refl (both-pages f.data_pages f.chain_pages are) (none, tt, ended_exact t f.q f.cid pages whole brings))
 
 pub reads_from : (q cid : ℕ) (r : Request) (a b : PagesOut) (q' cid' : ℕ) (r' : Request) (ps : PagesOut) (k : ℕ) (front back : PagesOut) → q' ≡ q → cid' ≡ cid → r' ≡ r → ps ≡ a ++ b → k ≡ length a
     → front ≡ take k ps → back ≡ drop k ps → Reads q cid r a b q' cid' r' front back
@@ -552,9 +453,7 @@ reads_from q cid r a b q' cid' r' ps k front back eq ec er ep ek ef eb = record 
 
 -- a command's end, by the values that a moved value was taken apart into
 pub ended_apart : (t new : Tables) (q cid : ℕ) (pages : PagesOut) (q' cid' : ℕ) (pages' : PagesOut) → q' ≡ q → cid' ≡ cid → pages' ≡ pages → new ≡ ended q' cid' pages' t → new ≡ ended q cid pages t
-ended_apart t new q cid pages q' cid' pages' eq ec ep is =
-    is ∙ (ap (λ (x : ℕ). ended x cid' pages' t) eq ∙ (ap (λ (x : ℕ). ended q x pages' t) ec ∙ ap (λ (x : PagesOut). ended q cid x t) ep))
+ended_apart t new q cid pages q' cid' pages' eq ec ep is = rw (is, eq, ec, ep) refl
 
 pub brings_apart : (t : Tables) (q cid : ℕ) (pages : PagesOut) (q' cid' : ℕ) (pages' : PagesOut) → q' ≡ q → cid' ≡ cid → pages' ≡ pages → Brings t q cid pages → Brings t q' cid' pages'
-brings_apart t q cid pages q' cid' pages' eq ec ep brings =
-    subst (λ (x : ℕ). Brings t x cid' pages') (sym eq) (subst (λ (x : ℕ). Brings t q x pages') (sym ec) (subst (λ (x : PagesOut). Brings t q cid x) (sym ep) brings))
+brings_apart t q cid pages q' cid' pages' eq ec ep brings = rw (eq, ec, ep) brings

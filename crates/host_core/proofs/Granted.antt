@@ -2,8 +2,9 @@
 use Rattle.machine_model.specs.Events as events
 use Rattle.machine_model.specs.declared.words.Refusal.TheVariants as refusal
 use Rattle.host_core.specs.Rows as declared
-use Rattle.std.proofs.Common.{◌≡◌, ℕ, ◌<◌, ◌≤◌, ◌==◌, nat_lt, Bool, true, false, ◌&&◌, ◌||◌, Option, Some, None, List, [], ◌∷◌, ◌++◌, length, map, slice_get, slice_set, is_some, is_none, refl, ap, ap₂, sym, ◌∙◌, arith, subst, length-set, if◌then◌else◌, not, ◌+◌, All, length-append}
-use Rattle.std.proofs.lemmas.{Bool.{true≢false, or_parts}, List.{length-map, take_at, drop_at, Elements.{All-map, All-append}}}
+use Rattle.std.proofs.Common.{◌≡◌, ℕ, ◌<◌, ◌≤◌, ◌==◌, nat_lt, Bool, true, false, ◌&&◌, ◌||◌, Option, Some, None, List, [], ◌∷◌, ◌++◌, length, map, slice_get, slice_set, is_some, is_none, refl, ap, ap₂, sym, ◌∙◌, arith, subst, length-set, if◌then◌else◌, not, ◌+◌, All, length-append, inl, inr}
+use Rattle.std.proofs.lemmas.Bool.{true≢false, true_from_ne_false, false_from_ne_true, cases_Bool, cond_both, or_left, or_right, or_parts}
+use Rattle.std.proofs.lemmas.List.{length-map, take_at, drop_at, Elements.{All-map, All-append}}
 use Rattle.std.{proofs.lemmas.Option.{slice_get-map, slice_get_within}, specs.{List.AllByRecursion, Option.{option_map, option_map_or}}}
 use Rattle.io_commands.specs.{Asked.Request, DataBytes.PagesOut, Drafts.DraftContents, Least.pages_with}
 use Rattle.io_commands.specs.{Requests.{fault_of, data_count, FitsRequest, joined_parts}, Values.{numbers_of, data_part, chain_part}}
@@ -12,16 +13,17 @@ use Rattle.machine_model.proofs.{Headline.{length_placed, placed_times, two_plac
 use Rattle.machine_model.{proofs.Steps.{length-without_pages, first_fails, rest_fails}, specs.After.{after_reserve, change}}
 use Rattle.machine_model.specs.{Memory.{without_pages, zeroed_pages}, Placement.{placed, without_numbers, data_placed}}
 use Rattle.machine_model.specs.{Refusals.{refusal_of, no_io_queue, in_state, is_deleting, no_identifier, pages_wanted, in_service}, State.{State, Record}}
-use Rattle.machine_model.specs.{Step.{Step, IsReserved, times}, declared.words.{Phase.TheVariants.Drafted, Refusal.Refusal, Work.TheVariants.Io}}
+use Rattle.machine_model.specs.{Step.{IsReserved, times}, declared.words.{Phase.TheVariants.Drafted, Refusal.Refusal, Work.TheVariants.Io}}
 use Rattle.page_ledger.proofs.Tables.{length-with_owner, owner-with}
 use Rattle.page_ledger.specs.{Owners.{is_among, owner_at, with_owner, free_pages, is_free, is_owned_at, pages_from}, declared.owner.Owner.Owner}
 use Rattle.page_ledger.specs.declared.owner.{Owner.TheVariants.{Free, Command}, Role.TheVariants.{Data, Chain}}
 use Rattle.host_core.proofs.{Ending.{Fits, due, moved_is, moved_whole}, Identifiers.claim-more, Lists.{all-append, all-all, some_is}}
-use Rattle.host_core.proofs.{PageOwners.{free-owner, granted-free, among-append, pool-without, can-take, free-in, one-le, without-append}, QueueLists.host_step}
+use Rattle.host_core.proofs.{PageOwners.{free-owner, granted-free, among-append, pool-without, can-take, free-in, one-le, without-append}, QueueLists.Steps}
 use Rattle.host_core.specs.{Alone.HasPlacedPages, Commands.{reserved, record_of_draft, first_placed, then_placed, with_claim, CanTake, Grants, new_draft}}
-use Rattle.host_core.specs.{Rows.Queue, Tables.{Tables, state_of, host_queue_of, view_of}, Whole.{IsWhole, TellsCommand, HaveOwner, IsRecord}}
+use Rattle.host_core.specs.{Rows.Queue, Tables.{Tables, state_of, host_queue_of, view_of}, Whole.{IsWhole, TellsCommand, IsRecord}}
 use Rattle.page_memory.specs.Pages.{Pages, zero_page}
 use Rattle.sgl_chain.specs.Chains.{pages_needed}
+use Rattle.machine_model.proofs.Cases.{option_is}
 
 -- A reservation on the tables is the machine's, and leaves them whole.
 
@@ -31,32 +33,21 @@ record Passes (s : State) (q : ℕ) (r : Request) : Type 0 where
   queue : no_io_queue s q ≡ false
   good : fault_of r.kind r.blocks r.pieces ≡ None
 
-is-none : {A : Type 0} (o : Option A) → is_some o ≡ false → o ≡ None
-is-none None h = refl
-is-none (Some x) h = absurd (true≢false h)
+none_if : {A : Type 0} (o : Option A) → is_some o ≡ false → o ≡ None
+none_if None h = refl
+none_if (Some x) h = cc
 
 passes : (s : State) (q : ℕ) (r : Request) → refusal_of s (events.Reserve q r) ≡ None → Passes s q r
-passes s q r none =
-    let fault = fault_of r.kind r.blocks r.pieces in
-    let last : List (Bool × Refusal) =
-    (no_identifier s q, refusal.NoIdentifier) ∷ (nat_lt (length s.host.free) (pages_wanted s r), refusal.NoPages (pages_wanted s r) (length s.host.free)) ∷ [] in
-    let bad : Bool × Refusal = (is_some fault, option_map_or refusal.Bad fault refusal.NoQueue) in
-    let second = rest_fails (no_io_queue s q) refusal.NoQueue ((in_state is_deleting s q, refusal.Deleting) ∷ bad ∷ last) none in
-    let third = rest_fails (in_state is_deleting s q) refusal.Deleting (bad ∷ last) second in
-    record {
-      queue = first_fails (no_io_queue s q) refusal.NoQueue ((in_state is_deleting s q, refusal.Deleting) ∷ bad ∷ last) none;
-      good = is-none fault (first_fails (is_some fault) (option_map_or refusal.Bad fault refusal.NoQueue) last third);
-    }
+passes s q r none = record { queue = grind (arith, none); good = none_if (fault_of r.kind r.blocks r.pieces) (grind (arith, none)) }
 
 pub queue_there : (t : Tables) (q : ℕ) → no_io_queue (state_of t) q ≡ false → (queue : declared.Queue) × (slice_get t.queues q ≡ Some queue)
-queue_there t q known = go (slice_get t.queues q) refl
+queue_there t q known = elim (option_is (slice_get t.queues q)) [
+  | inr x ↦ x
+  | inl e ↦ absurd (true≢false (sym (ap is_none (slice_get-map host_queue_of t.queues q ∙ ap (option_map host_queue_of) e)) ∙ there))
+]
   where
     there : is_none (slice_get (map host_queue_of t.queues) q) ≡ false
     there = queue_known in_service (state_of t) q (or_parts (q == 0) (not (in_state in_service (state_of t) q)) known).1
-
-    go : (o : Option declared.Queue) → slice_get t.queues q ≡ o → (queue : declared.Queue) × (slice_get t.queues q ≡ Some queue)
-    go (Some queue) e = (queue, e)
-    go None e = absurd (true≢false (sym (ap is_none (slice_get-map host_queue_of t.queues q ∙ ap (option_map host_queue_of) e)) ∙ there))
 
 -- The pages that are reserved
 
@@ -70,19 +61,10 @@ record Reserving (t : Tables) (d : DraftContents) : Type 0 where
 
 reserving : (t : Tables) (q : ℕ) (r : Request) (d : DraftContents) → IsReserved (state_of t) q r d → Reserving t d
 reserving t q r d is = record {
-  free = λ p h. free-owner t.owners p (some p (is_among (free_pages t.owners) p) refl h);
-  once = λ p. few p (is_among (numbers d) p && is_among (free_pages t.owners) p) (is.free p);
+  free = λ p h. free-owner t.owners p (held_once p (free_pages t.owners) (true_from_ne_false (is_among (free_pages t.owners) p)
+      (λ e. omega (arith, rw (h, e) at (is.free p), held_once p (numbers d) h))));
+  once = λ p. omega (arith, is.free p, cond_both (is_among (numbers d) p && is_among (free_pages t.owners) p) 1 0 (λ (n : ℕ). n ≤ 1) (λ _. omega arith) (λ _. omega arith));
 }
-  where
-    few : (p : ℕ) (b : Bool) → times p (numbers d) ≡ (if b then 1 else 0) → times p (numbers d) ≤ 1
-    few p true e = omega arith
-    few p false e = omega arith
-
-    some : (p : ℕ) (b : Bool) → is_among (free_pages t.owners) p ≡ b → is_among (numbers d) p ≡ true → 0 < times p (free_pages t.owners)
-    some p true e h = held_once p (free_pages t.owners) e
-    some p false e h =
-        let none : times p (numbers d) ≡ 0 = is.free p ∙ ap₂ (λ x y. if x && y then 1 else 0) h e in
-        absurd (omega (arith, held_once p (numbers d) h))
 
 -- their owners
 
@@ -97,50 +79,29 @@ owner-after t d p l =
 
 -- a page that had an owner keeps it
 owner-stays : (t : Tables) (d : DraftContents) → Reserving t d → (p : ℕ) (x : Owner) → (x ≡ Free → ⊥) → owner_at t.owners p ≡ Some x → owner_at (reserved d t).owners p ≡ Some x
-owner-stays t d is p x busy at = go (is_among (numbers_of d.data_pages) p) refl (is_among (numbers_of d.chain_pages) p) refl
-  where
-    not_free : is_among (numbers d) p ≡ true → ⊥
-    not_free h = busy (some_is (sym at ∙ is.free p h))
-
-    go : (u : Bool) → is_among (numbers_of d.data_pages) p ≡ u → (v : Bool) → is_among (numbers_of d.chain_pages) p ≡ v → owner_at (reserved d t).owners p ≡ Some x
-    go true e v f = absurd (not_free (among-append (numbers_of d.data_pages) (numbers_of d.chain_pages) p ∙ ap (λ b. b || is_among (numbers_of d.chain_pages) p) e))
-    go false e true f = absurd (not_free (among-append (numbers_of d.data_pages) (numbers_of d.chain_pages) p ∙ ap₂ (λ b c. b || c) e f))
-    go false e false f =
-        owner-after t d p (slice_get_within t.owners p x at)
-        ∙ (ap₂ (λ b c. if b then Some (Command d.q d.cid Chain) else if c then Some (Command d.q d.cid Data) else owner_at t.owners p) f e ∙ at)
+owner-stays t d is p x busy at =
+    let none : is_among (numbers d) p ≡ false = false_from_ne_true (is_among (numbers d) p) (λ h. busy (some_is (sym at ∙ is.free p h))) in
+    let both = or_parts (is_among (numbers_of d.data_pages) p) _ (sym (among-append (numbers_of d.data_pages) (numbers_of d.chain_pages) p) ∙ none) in
+    owner-after t d p (slice_get_within t.owners p x at) ∙ rw (both.1, both.0) at
 
 new-owners : (t : Tables) (d : DraftContents) → Reserving t d → TellsCommand (reserved d t).owners (record_of_draft d)
-new-owners t d is = record { data_pages = front; chain_pages = back }
+new-owners t d is = record {
+  data_pages = λ p e.
+      let f : is_among (numbers_of d.chain_pages) p ≡ false = false_from_ne_true (is_among (numbers_of d.chain_pages) p)
+      (λ f. omega (
+        arith,
+        is.once p,
+        times-append p (numbers_of d.data_pages) (numbers_of d.chain_pages),
+        held_once p (numbers_of d.data_pages) e,
+        held_once p
+            (numbers_of d.chain_pages) f,
+      )) in
+      owner-after t d p (within p (or_left (is_among (numbers_of d.data_pages) p) _ e)) ∙ rw (f, e) refl;
+  chain_pages = λ p f. owner-after t d p (within p (or_right (is_among (numbers_of d.data_pages) p) _ f)) ∙ rw f refl;
+}
   where
-    a : List ℕ
-    a = numbers_of d.data_pages
-
-    b : List ℕ
-    b = numbers_of d.chain_pages
-
-    in_numbers : (p : ℕ) (u v : Bool) → is_among (numbers_of d.data_pages) p ≡ u → is_among (numbers_of d.chain_pages) p ≡ v → (u || v) ≡ true → is_among (numbers d) p ≡ true
-    in_numbers p u v e f h = among-append (numbers_of d.data_pages) (numbers_of d.chain_pages) p ∙ (ap₂ (λ x y. x || y) e f ∙ h)
-
-    within : (p : ℕ) → is_among (numbers d) p ≡ true → p < length t.owners
-    within p h = slice_get_within t.owners p Free (is.free p h)
-
-    or_right : (x y : Bool) → y ≡ true → (x || y) ≡ true
-    or_right true y e = refl
-    or_right false y e = e
-
-    front : HaveOwner (reserved d t).owners (Command d.q d.cid Data) (numbers_of d.data_pages)
-    front p e = go (is_among (numbers_of d.chain_pages) p) refl
-      where
-        go : (v : Bool) → is_among (numbers_of d.chain_pages) p ≡ v → owner_at (reserved d t).owners p ≡ Some (Command d.q d.cid Data)
-        go true f = absurd (omega (arith, is.once p, times-append p (numbers_of d.data_pages) (numbers_of d.chain_pages), held_once p (numbers_of d.data_pages) e, held_once p (numbers_of d.chain_pages) f))
-        go false f =
-            owner-after t d p (within p (in_numbers p true false e f refl))
-            ∙ ap₂ (λ x y. if x then Some (Command d.q d.cid Chain) else if y then Some (Command d.q d.cid Data) else owner_at t.owners p) f e
-
-    back : HaveOwner (reserved d t).owners (Command d.q d.cid Chain) (numbers_of d.chain_pages)
-    back p f =
-        owner-after t d p (within p (in_numbers p (is_among (numbers_of d.data_pages) p) true refl f (or_right (is_among (numbers_of d.data_pages) p) true refl)))
-        ∙ ap (λ x. if x then Some (Command d.q d.cid Chain) else if is_among (numbers_of d.data_pages) p then Some (Command d.q d.cid Data) else owner_at t.owners p) f
+    within : (p : ℕ) → (is_among (numbers_of d.data_pages) p || is_among (numbers_of d.chain_pages) p) ≡ true → p < length t.owners
+    within p h = slice_get_within t.owners p Free (is.free p (among-append (numbers_of d.data_pages) (numbers_of d.chain_pages) p ∙ h))
 
 -- The state that is due
 
@@ -149,15 +110,6 @@ reserved-due t d =
     let s = state_of t in
     ap (λ (free : List ℕ). record s { memory = (reserved d t).pages; host = record s.host { free = free; records = (reserved d t).records } })
     (sym (granted-free t.owners (numbers_of d.data_pages) (numbers_of d.chain_pages) (Command d.q d.cid Data) (Command d.q d.cid Chain) refl refl))
-
-pub reserved_step : (t : Tables) (q : ℕ) (r : Request) (d : DraftContents) → IsWhole t → FitsRequest r → refusal_of (state_of t) (events.Reserve q r) ≡ None → IsReserved (state_of t) q r d
-    → Step (state_of t) (events.Reserve q r) (events.Reserved d) (state_of (reserved d t))
-reserved_step t q r d whole proper none is =
-    host_step t (reserved d t) (events.Reserve q r) (events.Reserved d) refl proper (
-      none,
-      is,
-      moved_is t d.q (λ claimed. slice_set claimed d.cid true) (reserved d t).pages (reserved d t).owners (reserved d t).records ∙ sym (reserved-due t d),
-    )
 
 commands-told : (t : Tables) (d : DraftContents) → Reserving t d → AllByRecursion (TellsCommand t.owners) t.records → AllByRecursion (TellsCommand (reserved d t).owners) (reserved d t).records
 commands-told t d is told =
@@ -168,16 +120,18 @@ commands-told t d is told =
     }) t.records told)
     (new-owners t d is)
 
-pub reserved_whole : (t : Tables) (q : ℕ) (r : Request) (d : DraftContents) → IsWhole t → FitsRequest r → refusal_of (state_of t) (events.Reserve q r) ≡ None → IsReserved (state_of t) q r d → IsWhole (reserved d t)
-reserved_whole t q r d whole proper none is =
-    moved_whole t d.q (λ claimed. slice_set claimed d.cid true) (reserved d t).pages (reserved d t).owners (reserved d t).records
-    (events.Reserve q r) (events.Reserved d) whole fits (reserved_step t q r d whole proper none is)
+pub reserved_step : (t : Tables) (q : ℕ) (r : Request) (d : DraftContents) → IsWhole t → FitsRequest r → refusal_of (state_of t) (events.Reserve q r) ≡ None → IsReserved (state_of t) q r d
+    → Steps t (events.Reserve q r) (events.Reserved d) (reserved d t)
+reserved_step t q r d whole proper none is =
+    moved_whole t d.q (λ claimed. slice_set claimed d.cid true) (reserved d t).pages (reserved d t).owners (reserved d t).records (events.Reserve q r)
+    (events.Reserved d) whole fits refl proper (
+      none,
+      is,
+      moved_is t d.q (λ claimed. slice_set claimed d.cid true) (reserved d t).pages (reserved d t).owners (reserved d t).records ∙ sym (reserved-due t d),
+    )
   where
-    known : Passes (state_of t) q r
-    known = passes (state_of t) q r none
-
     at : (queue : declared.Queue) × (slice_get t.queues d.q ≡ Some queue)
-    at = queue_there t d.q (subst (λ (k : ℕ). no_io_queue (state_of t) k ≡ false) (sym is.queue) known.queue)
+    at = queue_there t d.q (rw is.queue (passes (state_of t) q r none).queue)
 
     fits : Fits t d.q (λ claimed. slice_set claimed d.cid true) (reserved d t).pages (reserved d t).owners (reserved d t).records
     fits = record {
@@ -194,7 +148,11 @@ reserved_whole t q r d whole proper none is =
           (λ queue e. let side = (whole.queues.each d.q queue e) in omega (arith, is.identifier.in_range, side.host_side.identifiers, side.entries));
       fit = all-append (IsRecord (length t.queues)) t.records (record_of_draft d) whole.records (record {
         queue = slice_get_within t.queues d.q at.0 at.1;
-        work = (subst (λ (x : Request). fault_of x.kind x.blocks x.pieces ≡ None) (sym is.request) known.good, length-map d.data_pages (λ page. page.0) ∙ (is.data_pages ∙ ap (λ (x : Request). data_count x.pieces) (sym is.request)));
+        work = (
+          subst (λ (x : Request). fault_of x.kind x.blocks x.pieces ≡ None) (sym is.request) (passes (state_of t) q r none).good,
+          length-map d.data_pages
+              (λ page. page.0) ∙ (is.data_pages ∙ ap (λ (x : Request). data_count x.pieces) (sym is.request)),
+        );
         phase = tt;
       });
     }
@@ -204,11 +162,10 @@ reserved_whole t q r d whole proper none is =
 -- What is taken of the free pages
 
 pub free-once : (owners : List Owner) (p : ℕ) → times p (free_pages owners) ≤ 1
-free-once owners p = go (is_owned_at is_free owners p) (times-filter p (is_owned_at is_free owners) (pages_from 0 (length owners)))
-  where
-    go : (b : Bool) → times p (free_pages owners) ≡ (if b then times p (pages_from 0 (length owners)) else 0) → times p (free_pages owners) ≤ 1
-    go true e = omega (arith, e, times-pages p (length owners), one-le (nat_lt p (length owners)))
-    go false e = omega (arith, e)
+free-once owners p =
+    let count = times-filter p (is_owned_at is_free owners) (pages_from 0 (length owners)) in
+    let few : times p (pages_from 0 (length owners)) ≤ 1 = omega (arith, times-pages p (length owners), one-le (nat_lt p (length owners))) in
+    omega (arith, count, cond_both (is_owned_at is_free owners p) (times p (pages_from 0 (length owners))) 0 (λ (n : ℕ). n ≤ 1) (λ _. few) (λ _. omega arith))
 
 -- the two parts together are free pages, none of them twice
 placed-times : (owners : List Owner) (m n p : ℕ) → times p (first_placed owners m ++ then_placed owners m n) ≤ times p (free_pages owners)
@@ -218,15 +175,16 @@ placed-times owners m n p =
 
 are-free : (owners : List Owner) (m n p : ℕ) → times p (first_placed owners m ++ then_placed owners m n)
     ≡ (if is_among (first_placed owners m ++ then_placed owners m n) p && is_among (free_pages owners) p then 1 else 0)
-are-free owners m n p = go (is_among pages p) (is_among (free_pages owners) p) refl refl
-  where
-    pages : List ℕ
-    pages = first_placed owners m ++ then_placed owners m n
-
-    go : (b c : Bool) → is_among pages p ≡ b → is_among (free_pages owners) p ≡ c → times p pages ≡ (if b && c then 1 else 0)
-    go true true e f = omega (arith, held_once p pages e, placed-times owners m n p, free-once owners p)
-    go true false e f = absurd (omega (arith, held_once p pages e, placed-times owners m n p, not_held p (free_pages owners) f))
-    go false c e f = not_held p pages e
+are-free owners m n p =
+    let pages = first_placed owners m ++ then_placed owners m n in
+    elim (cases_Bool (is_among pages p)) [
+      | inr e ↦ rw e (not_held p pages e)
+      | inl e ↦
+          let some = held_once p pages e in
+          let among : is_among (free_pages owners) p ≡ true = true_from_ne_false (is_among (free_pages owners) p)
+          (λ f. omega (arith, some, placed-times owners m n p, not_held p (free_pages owners) f)) in
+          rw (e, among) (omega (arith, some, placed-times owners m n p, free-once owners p))
+    ]
 
 can-take-append : (a b : List ℕ) (m : Pages) → CanTake (a ++ b) m → CanTake a m × CanTake b (without_pages a m)
 can-take-append [] b m h = (tt, h)
@@ -279,18 +237,23 @@ new_draft_fits t q r cid m n grants =
       not_built = refl;
     }
 
+made_parts : (t : Tables) (q : ℕ) (r : Request) (cid m n : ℕ) → Grants t q r cid m n → (pages : PagesOut) → pages ≡ zeroed_pages (first_placed t.owners m) ++ zeroed_pages
+    (then_placed t.owners m n)
+    → (data_part r pages ≡ zeroed_pages (first_placed t.owners m)) × (chain_part r pages ≡ zeroed_pages (then_placed t.owners m n))
+made_parts t q r cid m n grants pages is =
+    let a = zeroed_pages (first_placed t.owners m) in
+    let b = zeroed_pages (then_placed t.owners m n) in
+    let size : length a ≡ data_count r.pieces = length-zeroed (first_placed t.owners m) ∙ (front-size t q r cid m n grants ∙ grants.for_data) in
+    (ap (data_part r) is ∙ take_at a b (data_count r.pieces) size, ap (chain_part r) is ∙ drop_at a b (data_count r.pieces) size)
+
 -- as it is made of one list of pages
 pub made_draft : (t : Tables) (q : ℕ) (r : Request) (cid m n : ℕ) → Grants t q r cid m n → (pages : PagesOut)
     → pages ≡ zeroed_pages (first_placed t.owners m) ++ zeroed_pages (then_placed t.owners m n)
     → record { q = q; cid = cid; request = r; data_pages = data_part r pages; chain_pages = chain_part r pages; segment = t.segment; entry = None }
     ≡ new_draft q cid r (first_placed t.owners m) (then_placed t.owners m n) t.segment
 made_draft t q r cid m n grants pages is =
-    let a = zeroed_pages (first_placed t.owners m) in
-    let b = zeroed_pages (then_placed t.owners m n) in
-    let size : length a ≡ data_count r.pieces = length-zeroed (first_placed t.owners m) ∙ (front-size t q r cid m n grants ∙ grants.for_data) in
-    ap₂ (λ (x y : PagesOut). record { q = q; cid = cid; request = r; data_pages = x; chain_pages = y; segment = t.segment; entry = None })
-    (ap (data_part r) is ∙ take_at a b (data_count r.pieces) size)
-    (ap (chain_part r) is ∙ drop_at a b (data_count r.pieces) size)
+    let parts = made_parts t q r cid m n grants pages is in
+    ap₂ (λ (x y : PagesOut). record { q = q; cid = cid; request = r; data_pages = x; chain_pages = y; segment = t.segment; entry = None }) parts.0 parts.1
 
 pub made_size : (t : Tables) (q : ℕ) (r : Request) (cid m n : ℕ) → Grants t q r cid m n → (pages : PagesOut)
     → pages ≡ zeroed_pages (first_placed t.owners m) ++ zeroed_pages (then_placed t.owners m n) → length pages ≡ m + n
@@ -303,11 +266,8 @@ made_size t q r cid m n grants pages is =
 pub made_pages : (t : Tables) (q : ℕ) (r : Request) (cid m n : ℕ) → Grants t q r cid m n → (pages : PagesOut)
     → pages ≡ zeroed_pages (first_placed t.owners m) ++ zeroed_pages (then_placed t.owners m n) → length pages ≡ pages_with r.pieces t.segment (joined_parts r.pieces (numbers_of (data_part r pages)))
 made_pages t q r cid m n grants pages is =
-    let a = zeroed_pages (first_placed t.owners m) in
-    let b = zeroed_pages (then_placed t.owners m n) in
-    let size : length a ≡ data_count r.pieces = length-zeroed (first_placed t.owners m) ∙ (front-size t q r cid m n grants ∙ grants.for_data) in
-    let front : data_part r pages ≡ a = ap (data_part r) is ∙ take_at a b (data_count r.pieces) size in
-    let numbers : numbers_of (data_part r pages) ≡ data_placed (free_pages t.owners) r.pieces = ap numbers_of front ∙ data-numbers t q r cid m n grants in
+    let numbers : numbers_of (data_part r pages) ≡ data_placed (free_pages t.owners) r.pieces = ap numbers_of (made_parts t q r cid m n grants pages is).0
+    ∙ data-numbers t q r cid m n grants in
     omega (arith, made_size t q r cid m n grants pages is, grants.for_data, grants.for_chain, ap (λ (ps : List ℕ). pages_needed (length (joined_parts r.pieces ps)) t.segment) numbers)
 
 -- The tables
@@ -322,18 +282,10 @@ reserved_tables t q cid r a b pages owners records queues ep eo er eq =
 
 -- The whole of a reservation
 
-pub record Made (t new : Tables) (q : ℕ) (r : Request) (d : DraftContents) : Type 0 where
-  pub step : Step (state_of t) (events.Reserve q r) (events.Reserved d) (state_of new)
-  pub whole : IsWhole new
-
 pub reserve_made : (t new : Tables) (q cid : ℕ) (r : Request) (m n : ℕ) (d : DraftContents) → IsWhole t → FitsRequest r → Grants t q r cid m n
-    → d ≡ new_draft q cid r (first_placed t.owners m) (then_placed t.owners m n) t.segment → new ≡ reserved d t → Made t new q r d
+    → d ≡ new_draft q cid r (first_placed t.owners m) (then_placed t.owners m n) t.segment → new ≡ reserved d t → Steps t (events.Reserve q r) (events.Reserved d) new
 reserve_made t new q cid r m n d whole proper grants is after =
-    let fits = subst (λ (x : DraftContents). IsReserved (state_of t) q r x) (sym is) (new_draft_fits t q r cid m n grants) in
-    record {
-      step = subst (λ (x : Tables). Step (state_of t) (events.Reserve q r) (events.Reserved d) (state_of x)) (sym after) (reserved_step t q r d whole proper grants.none fits);
-      whole = subst (λ (x : Tables). IsWhole x) (sym after) (reserved_whole t q r d whole proper grants.none fits);
-    }
+    rw after (reserved_step t q r d whole proper grants.none (subst (λ (x : DraftContents). IsReserved (state_of t) q r x) (sym is) (new_draft_fits t q r cid m n grants)))
 
 -- What is chosen
 

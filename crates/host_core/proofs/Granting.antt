@@ -1,27 +1,26 @@
 -- What a request is refused for, and what it gets.
-use Rattle.std.proofs.Common.{◌≡◌, ℕ, zero, suc, ◌+◌, ◌-◌, ◌<◌, ◌≤◌, ◌==◌, ◌⊎◌, inl, inr, nat_lt, nat_le, Bool, true, false, not, ◌||◌, Option, Some, None, List, [], ◌∷◌, length, position, slice_get, refl, ap, sym, ◌∙◌, arith, subst, if◌then◌else◌, lt-ltb, le-ltb, ltb-true, ltb-false, eqb-true, eq-eqb}
-use Rattle.std.proofs.lemmas.{Bool.{true≢false, eqb-false, cases_lt, Decides.nat_tests}, Option.{slice_get-map, slice_get_within}}
-use Rattle.std.specs.Option.{option_map, option_map_or}
-use Rattle.io_commands.specs.{Asked.Request, Least.least_pages, Requests.{fault_of, data_count}, declared.request.{Piece.Piece, RequestFault.RequestFault}}
+use Rattle.std.proofs.Common.{◌≡◌, ℕ, zero, suc, ◌+◌, ◌-◌, ◌<◌, ◌≤◌, ◌==◌, inl, inr, nat_lt, Bool, true, false, not, ◌||◌, Some, None, List, [], ◌∷◌, length, position, slice_get, refl, ap, sym, ◌∙◌, arith, if◌then◌else◌, lt-ltb, le-ltb, eq-eqb}
+use Rattle.std.proofs.lemmas.{Bool.{true_from_ne_false, cases_lt, not-true, Decides.nat_tests}, Option.{slice_get-map, slice_get_within}}
+use Rattle.io_commands.specs.{Asked.Request, Least.least_pages, Requests.{fault_of, data_count}, declared.request.{Piece.Piece}}
 use Rattle.machine_model.{proofs.Counting.{one, times-cons, held_once, not_held}, specs.Placement.{wanted_of, chain_wanted}}
 use Rattle.machine_model.specs.Refusals.{refusal_of, no_io_queue, in_state, is_deleting, no_identifier, pages_wanted, in_service}
 use Rattle.machine_model.specs.{State.{State, outstanding_on}, Step.{IsNewIdentifier, Refuses, times}, declared.words.HostState.HostState}
 use Rattle.page_ledger.specs.Owners.{is_among, free_pages}
 use Rattle.queue_pair.proofs.Halves.{found_within, found_free, all_claimed, lower_claimed}
-use Rattle.host_core.{proofs.{Identifiers.outstanding-among, Lists.some_is, PageOwners.one-le}, specs.Alone.IsLowest}
+use Rattle.host_core.{proofs.{Identifiers.{outstanding-among, queue-here}, Lists.some_is, PageOwners.one-le}, specs.Alone.IsLowest}
 use Rattle.host_core.specs.{Commands.{state_at, passes, takes_no_io, Grants}, Rows.Queue, Tables.{Tables, state_of, view_of, host_queue_of}}
 use Rattle.host_core.specs.Whole.{IsWhole, is_outstanding}
 use Rattle.machine_model.specs.Events as events
 use Rattle.machine_model.specs.declared.words.Refusal.TheVariants as refusal
+use Rattle.machine_model.proofs.Cases.{option_is}
 
 -- The host's state of a queue
 
 pub in_state-is : (test : HostState → Bool) (t : Tables) (q : ℕ) → in_state test (state_of t) q ≡ passes test (state_at t.queues q)
-in_state-is test t q = ap (λ o. option_map_or (λ queue. test queue.state) o false) (slice_get-map host_queue_of t.queues q) ∙ go (slice_get t.queues q)
-  where
-    go : (o : Option Queue) → option_map_or (λ queue. test queue.state) (option_map host_queue_of o) false ≡ option_map_or test (option_map (λ queue. queue.state) o) false
-    go None = refl
-    go (Some queue) = refl
+in_state-is test t q = elim (option_is (slice_get t.queues q)) [
+  | inl none ↦ rw (slice_get-map host_queue_of t.queues q, none) refl
+  | inr (x, at) ↦ rw (slice_get-map host_queue_of t.queues q, at) refl
+]
 
 pub no_io-is : (t : Tables) (q : ℕ) → no_io_queue (state_of t) q ≡ takes_no_io q (state_at t.queues q)
 no_io-is t q = ap (λ b. (q == 0) || not b) (in_state-is in_service t q)
@@ -39,12 +38,7 @@ below-nil zero = refl
 below-nil (suc n) = omega (arith, below-nil n)
 
 lt-next : (x n : ℕ) → one (nat_lt x (suc n)) ≡ one (nat_lt x n) + one (x == n)
-lt-next x n = go (x == n) (nat_lt x n) refl refl
-  where
-    go : (b l : Bool) → (x == n) ≡ b → nat_lt x n ≡ l → one (nat_lt x (suc n)) ≡ one (nat_lt x n) + one (x == n)
-    go true l e f = let h = eqb-true x n e in omega (arith, ap one e, ap one (lt-ltb x (suc n) (omega arith)), ap one (le-ltb x n (omega arith)))
-    go false true e f = let h = ltb-true x n f in omega (arith, ap one e, ap one f, ap one (lt-ltb x (suc n) (omega arith)))
-    go false false e f = let h = ltb-false x n f in let g = eqb-false x n e in omega (arith, ap one e, ap one f, ap one (le-ltb x (suc n) (omega arith)))
+lt-next x n = grind (arith, nat_tests)
 
 below-cons : (n x : ℕ) (xs : List ℕ) → below n (x ∷ xs) ≡ one (nat_lt x n) + below n xs
 unfolding below
@@ -75,11 +69,10 @@ few-below (suc n) xs h = omega (arith, few-below n xs h, h n)
 one-missing : (n c : ℕ) (xs : List ℕ) → ((k : ℕ) → times k xs < 2) → c < n → times c xs ≡ 0 → below n xs < n
 unfolding below
 one-missing zero c xs h l z = absurd (omega arith)
-one-missing (suc n) c xs h l z = go (cases_lt c n) (one-missing n c xs h)
-  where
-    go : (c < n) ⊎ (n ≤ c) → (c < n → times c xs ≡ 0 → below n xs < n) → below n xs + times n xs < suc n
-    go (inl m) ih = omega (arith, ih m z, h n)
-    go (inr m) ih = let e : c ≡ n = omega arith in omega (arith, few-below n xs h, ap (λ (k : ℕ). times k xs) e, z)
+one-missing (suc n) c xs h l z = elim (cases_lt c n) [
+  | inl m ↦ omega (arith, one-missing n c xs h m z, h n)
+  | inr m ↦ let e : c ≡ n = omega arith in omega (arith, few-below n xs h, ap (λ (k : ℕ). times k xs) e, z)
+]
 
 pub all-used : (n : ℕ) (xs : List ℕ) → ((k : ℕ) → k < n → 0 < times k xs) → n ≤ length xs
 all-used n xs h = omega (arith, all-below n xs h, below-le n xs)
@@ -92,53 +85,36 @@ size-of-claims : (t : Tables) → IsWhole t → (q : ℕ) (queue : Queue) → sl
 size-of-claims t whole q queue at = let is = whole.queues.each q queue at in omega (arith, is.host_side.identifiers, is.entries)
 
 outstanding-inside : (t : Tables) → IsWhole t → (q : ℕ) (queue : Queue) → slice_get t.queues q ≡ Some queue → (k : ℕ) → 0 < times k (outstanding_on (state_of t).host q) → k < length queue.host.claimed
-outstanding-inside t whole q queue at k some = (whole.identifiers.each q queue at).inside k (outstanding-among (state_of t).host q k ∙ go (is_among (outstanding_on (state_of t).host q) k) refl)
-  where
-    go : (b : Bool) → is_among (outstanding_on (state_of t).host q) k ≡ b → b ≡ true
-    go true e = refl
-    go false e = absurd (omega (arith, some, not_held k (outstanding_on (state_of t).host q) e))
+outstanding-inside t whole q queue at k some =
+    (whole.identifiers.each q queue at).inside k (outstanding-among (state_of t).host q k ∙ true_from_ne_false (is_among (outstanding_on (state_of t).host q) k)
+    (λ e. omega (arith, some, not_held k (outstanding_on (state_of t).host q) e)))
 
 pub next-fresh : (t : Tables) → IsWhole t → (q cid : ℕ) (queue : Queue) → slice_get t.queues q ≡ Some queue → position not queue.host.claimed ≡ Some cid → IsNewIdentifier (state_of t) q cid
 next-fresh t whole q cid queue at next = record {
   in_range = omega (arith, found_within queue.host.claimed cid next, size-of-claims t whole q queue at);
-  unused = ap not (sym (outstanding-among (state_of t).host q cid) ∙ unused);
+  unused = ap not (sym (outstanding-among (state_of t).host q cid)
+      ∙ some_is (sym ((whole.identifiers.each q queue at).told cid (found_within queue.host.claimed cid next)) ∙ found_free queue.host.claimed cid next));
 }
-  where
-    unused : is_outstanding t.records q cid ≡ false
-    unused = some_is (sym ((whole.identifiers.each q queue at).told cid (found_within queue.host.claimed cid next)) ∙ found_free queue.host.claimed cid next)
 
 pub next-left : (t : Tables) → IsWhole t → (q cid : ℕ) (queue : Queue) → slice_get t.queues q ≡ Some queue → position not queue.host.claimed ≡ Some cid → no_identifier (state_of t) q ≡ false
-next-left t whole q cid queue at next = le_no (t.entries - 1) (length (outstanding_on (state_of t).host q)) few
-  where
-    le_no : (a b : ℕ) → b < a → nat_le a b ≡ false
-    le_no a b l = grind (arith, nat_tests, l)
-
-    none : times cid (outstanding_on (state_of t).host q) ≡ 0
-    none = go (is_among (outstanding_on (state_of t).host q) cid) refl
-      where
-        go : (b : Bool) → is_among (outstanding_on (state_of t).host q) cid ≡ b → times cid (outstanding_on (state_of t).host q) ≡ 0
-        go false e = not_held cid (outstanding_on (state_of t).host q) e
-        go true e = let fresh = next-fresh t whole q cid queue at next in absurd (true≢false (sym (sym (ap not e) ∙ fresh.unused)))
-
-    few : length (outstanding_on (state_of t).host q) < t.entries - 1
-    few =
-        let size = size-of-claims t whole q queue at in
-        one-unused (t.entries - 1) cid (outstanding_on (state_of t).host q)
-        (λ k some. omega (arith, outstanding-inside t whole q queue at k some, size))
-        (whole.sound.identifiers q) (omega (arith, found_within queue.host.claimed cid next, size)) none
+next-left t whole q cid queue at next =
+    let size = size-of-claims t whole q queue at in
+    let fresh = next-fresh t whole q cid queue at next in
+    let none : times cid (outstanding_on (state_of t).host q) ≡ 0 = not_held cid (outstanding_on (state_of t).host q) (not-true _ fresh.unused) in
+    let few : length (outstanding_on (state_of t).host q) < t.entries - 1 =
+    one-unused (t.entries - 1) cid (outstanding_on (state_of t).host q) (λ k some. omega (arith, outstanding-inside t whole q queue at k some, size))
+    (whole.sound.identifiers q) (omega (arith, found_within queue.host.claimed cid next, size)) none in
+    grind (arith, nat_tests, few)
 
 pub none-left : (t : Tables) → IsWhole t → (q : ℕ) (queue : Queue) → slice_get t.queues q ≡ Some queue → position not queue.host.claimed ≡ None → no_identifier (state_of t) q ≡ true
-none-left t whole q queue at next = le_yes (t.entries - 1) (length (outstanding_on (state_of t).host q)) (all-used (t.entries - 1) (outstanding_on (state_of t).host q) used)
-  where
-    le_yes : (a b : ℕ) → a ≤ b → nat_le a b ≡ true
-    le_yes a b l = grind (arith, nat_tests, l)
-
-    used : (k : ℕ) → k < t.entries - 1 → 0 < times k (outstanding_on (state_of t).host q)
-    used k l =
-        let size = size-of-claims t whole q queue at in
-        let within : k < length queue.host.claimed = omega arith in
-        let yes : is_outstanding t.records q k ≡ true = some_is (sym ((whole.identifiers.each q queue at).told k within) ∙ all_claimed queue.host.claimed k next within) in
-        held_once k (outstanding_on (state_of t).host q) (sym (outstanding-among (state_of t).host q k) ∙ yes)
+none-left t whole q queue at next =
+    let size = size-of-claims t whole q queue at in
+    let all : t.entries - 1 ≤ length (outstanding_on (state_of t).host q) =
+    all-used (t.entries - 1) (outstanding_on (state_of t).host q) (λ k l.
+    let within : k < length queue.host.claimed = omega arith in
+    let yes : is_outstanding t.records q k ≡ true = some_is (sym ((whole.identifiers.each q queue at).told k within) ∙ all_claimed queue.host.claimed k next within) in
+    held_once k (outstanding_on (state_of t).host q) (sym (outstanding-among (state_of t).host q k) ∙ yes)) in
+    grind (arith, nat_tests, all)
 
 -- The refusals
 
@@ -159,10 +135,7 @@ refuses-memory s q r none = (refl, none, refl)
 
 pub refuses-too_few : (s : State) (q : ℕ) (r : Request) (need free : ℕ) → no_io_queue s q ≡ false → in_state is_deleting s q ≡ false → fault_of r.kind r.blocks r.pieces ≡ None → no_identifier s q ≡ false
     → need ≡ pages_wanted s r → free ≡ length s.host.free → free < need → Refuses s (events.Reserve q r) (refusal.NoPages need free) []
-refuses-too_few s q r need free a b c d en ef l =
-    subst (λ (n : ℕ). Refuses s (events.Reserve q r) (refusal.NoPages n free) []) (sym en)
-    (subst (λ (f : ℕ). Refuses s (events.Reserve q r) (refusal.NoPages (pages_wanted s r) f) []) (sym ef)
-    (refuses-no_pages s q r a b c d (omega (arith, l, en, ef))))
+refuses-too_few s q r need free a b c d en ef l = rw (en, ef) (refuses-no_pages s q r a b c d (omega (arith, l, en, ef)))
 
 -- What a queue tells of a request
 
@@ -199,11 +172,4 @@ next-lowest t w q cid queue at next lower l =
     sym (outstanding-among (view_of t).host q lower) ∙ some_is (sym (claims.told lower within) ∙ lower_claimed queue.host.claimed cid lower next l)
 
 pub grant-lowest : (t : Tables) → IsWhole t → (q cid : ℕ) (r : Request) (front back : ℕ) → Grants t q r cid front back → IsLowest (view_of t).host q cid
-grant-lowest t w q cid r front back grants =
-    let there = queue_within t.queues q grants.there in
-    next-lowest t w q cid there.0 there.1 (grants.next there.0 there.1)
-  where
-    queue_within : (xs : List Queue) (k : ℕ) → k < length xs → (x : Queue) × (slice_get xs k ≡ Some x)
-    queue_within [] k l = absurd (omega arith)
-    queue_within (x ∷ xs) zero l = (x, refl)
-    queue_within (x ∷ xs) (suc k) l = queue_within xs k (omega arith)
+grant-lowest t w q cid r front back grants = let there = queue-here t.queues q grants.there in next-lowest t w q cid there.0 there.1 (grants.next there.0 there.1)

@@ -1,8 +1,9 @@
 -- Rows of a table, the values of a kind that stand in them, and what ties them to the host.
 use Rattle.machine_model.specs.Events as events
 use Rattle.host_core.specs.declared.values.CommandValue.TheVariants as value
-use Rattle.std.proofs.Common.{◌≡◌, ℕ, ◌<◌, ◌==◌, Bool, true, false, cond, Option, Some, None, List, [], ◌∷◌, ◌++◌, find, if◌then◌else◌, refl, ap, sym, ◌∙◌, subst, eqb-true, eq-eqb, zero, suc, ◌+◌, ◌-◌, ◌&&◌, length, slice_get, IfNone, IfSome, ap₂, arith}
-use Rattle.std.{proofs.lemmas.Bool.{true≢false, and_parts}, specs.{List.{AllByRecursion, cons_option}, Option.option_and_then}}
+use Rattle.std.proofs.Common.{◌≡◌, inl, inr, ℕ, ◌<◌, ◌==◌, Bool, true, false, Option, Some, None, List, [], ◌∷◌, ◌++◌, find, refl, ap, sym, ◌∙◌, subst, eqb-true, zero, suc, ◌+◌, ◌-◌, ◌&&◌, length, IfNone, IfSome, ap₂, arith}
+use Rattle.std.proofs.lemmas.{Bool.{true≢false, and_parts, cond_both, cases_Bool, Decides.nat_tests}, Option.slice_get_within}
+use Rattle.std.specs.{List.{AllByRecursion, cons_option}, Option.option_and_then}
 use Rattle.slot_table.proofs.{Rows.{value_at-none, without-none}, Walks.none_stands}
 use Rattle.slot_table.specs.{Rows.{Row, is_at, value_at, with_value, without, NoneAt, IsDistinct}, Table.{AreInside, TableOf, IsPlace, with_row}}
 use Rattle.host_core.proofs.Lists.{all-all, all-append, some_is}
@@ -10,8 +11,8 @@ use Rattle.host_core.proofs.Outstanding.{ends_by, limits_stay, none_there, recor
 use Rattle.host_core.specs.CommandValues.{without_first, with_first, picked, as_draft, as_ticket, as_finished, queue_of, identifier_of, IsOutstanding, IsHeld, IsBench, IsOut}
 use Rattle.host_core.specs.declared.{config.Config.Config, values.CommandValue.CommandValue}
 use Rattle.io_commands.specs.{Asked.Request, Drafts.DraftContents, Values.FinishedContents}
-use Rattle.machine_model.{proofs.{Moves.{drafted_record, live_queue}, Steps.unrefused}, specs.{Events.Event, Image.is_draft, Opening.queues_from}}
-use Rattle.machine_model.specs.{Script.{is_finished, is_ticket}, State.{State, HostQueue}, Step.{Step, IsReserved}}
+use Rattle.machine_model.{proofs.{Cases.option_is, Moves.{drafted_record, live_queue}, Steps.unrefused}, specs.{Events.Event, Image.is_draft, Opening.queues_from}}
+use Rattle.machine_model.specs.{Script.{is_finished, is_ticket}, State.{State}, Step.{Step, IsReserved}}
 use Rattle.page_memory.specs.declared.page.Half.TheVariants.{Submission, Completion}
 use Rattle.queue_pair.specs.Memory.{half_pages}
 
@@ -19,9 +20,6 @@ use Rattle.queue_pair.specs.Memory.{half_pages}
 
 pub names : {V : Type 0} (row : Row V) (q cid : ℕ) → is_at row q cid ≡ true → (row.q ≡ q) × (row.cid ≡ cid)
 names row q cid e = let both = and_parts (row.q == q) (row.cid == cid) e in (eqb-true row.q q both.0, eqb-true row.cid cid both.1)
-
-at_name : {V : Type 0} (row : Row V) (q cid : ℕ) → row.q ≡ q → row.cid ≡ cid → is_at row q cid ≡ true
-at_name row q cid queue identifier = rw (eq-eqb row.q q queue, eq-eqb row.cid cid identifier) refl
 
 -- no row stands in the place of this one
 none_here : {V : Type 0} (rows : List (Row V)) (row : Row V) (q cid : ℕ) → is_at row q cid ≡ true → NoneAt rows row.q row.cid → NoneAt rows q cid
@@ -34,103 +32,53 @@ none_here rows row q cid here none =
 module _ {V : Type 0} where
   pub with_twice : (rows : List (Row V)) (q cid : ℕ) (v w : V) → with_value (with_value rows q cid v) q cid w ≡ with_value rows q cid w
   with_twice [] q cid v w = refl
-  with_twice (row ∷ rows) q cid v w = go (is_at row q cid) refl (with_twice rows q cid v w)
-    where
-      go : (b : Bool) → is_at row q cid ≡ b → with_value (with_value rows q cid v) q cid w ≡ with_value rows q cid w
-          → with_value (if b then record row { value = v } ∷ rows else row ∷ with_value rows q cid v) q cid w ≡ (if b then record row { value = w } ∷ rows else row ∷ with_value rows q cid w)
-      go true here ih = rw here refl
-      go false far ih = rw far (ap (λ (rs : List (Row V)). row ∷ rs) ih)
-
-  same_row : (row : Row V) (v : V) → row.value ≡ v → record row { value = v } ≡ row
-  same_row row v is = ap (λ (x : V). record row { value = x }) (sym is)
-
-  same_value : {x y : V} → Some x ≡ Some y → x ≡ y
-  same_value e = cc
+  with_twice (row ∷ rows) q cid v w = grind (arith, with_twice rows q cid v w)
 
   pub with_same : (rows : List (Row V)) (q cid : ℕ) (v : V) → value_at rows q cid ≡ Some v → with_value rows q cid v ≡ rows
   with_same [] q cid v at = refl
-  with_same (row ∷ rows) q cid v at = go (is_at row q cid) at (with_same rows q cid v)
-    where
-      go : (b : Bool) → (if b then Some row.value else value_at rows q cid) ≡ Some v → (value_at rows q cid ≡ Some v → with_value rows q cid v ≡ rows)
-          → (if b then record row { value = v } ∷ rows else row ∷ with_value rows q cid v) ≡ row ∷ rows
-      go true at ih = ap (λ (r : Row V). r ∷ rows) (same_row row v (same_value at))
-      go false at ih = ap (λ (rs : List (Row V)). row ∷ rs) (ih at)
+  with_same (row ∷ rows) q cid v at = grind (arith, with_same rows q cid v)
 
   pub value_with : (rows : List (Row V)) (q cid : ℕ) (v w : V) → value_at rows q cid ≡ Some v → value_at (with_value rows q cid w) q cid ≡ Some w
   value_with [] q cid v w at = absurd cc
-  value_with (row ∷ rows) q cid v w at = go (is_at row q cid) refl at (value_with rows q cid v w)
-    where
-      go : (b : Bool) → is_at row q cid ≡ b → (if b then Some row.value else value_at rows q cid) ≡ Some v → (value_at rows q cid ≡ Some v → value_at (with_value rows q cid w) q cid ≡ Some w)
-          → value_at (if b then record row { value = w } ∷ rows else row ∷ with_value rows q cid w) q cid ≡ Some w
-      go true here at ih = rw here refl
-      go false far at ih = rw far (ih at)
+  value_with (row ∷ rows) q cid v w at = grind (arith, value_with rows q cid v w)
 
   pub without_with : (rows : List (Row V)) (q cid : ℕ) (v : V) → without (with_value rows q cid v) q cid ≡ without rows q cid
   without_with [] q cid v = refl
-  without_with (row ∷ rows) q cid v = go (is_at row q cid) refl (without_with rows q cid v)
-    where
-      go : (b : Bool) → is_at row q cid ≡ b → without (with_value rows q cid v) q cid ≡ without rows q cid
-          → without (if b then record row { value = v } ∷ rows else row ∷ with_value rows q cid v) q cid ≡ (if b then rows else row ∷ without rows q cid)
-      go true here ih = rw here refl
-      go false far ih = rw far (ap (λ (rs : List (Row V)). row ∷ rs) ih)
+  without_with (row ∷ rows) q cid v = grind (arith, without_with rows q cid v)
 
   -- Which rows there are
 
   none_with : (rows : List (Row V)) (q cid k n : ℕ) (v : V) → NoneAt rows k n → NoneAt (with_value rows q cid v) k n
   none_with [] q cid k n v none = tt
-  none_with (row ∷ rows) q cid k n v none = go (is_at row q cid) (none_with rows q cid k n v none.1)
-    where
-      go : (b : Bool) → NoneAt (with_value rows q cid v) k n → NoneAt (if b then record row { value = v } ∷ rows else row ∷ with_value rows q cid v) k n
-      go true ih = none
-      go false ih = (none.0, ih)
+  none_with (row ∷ rows) q cid k n v none = cond_both (is_at row q cid) _ _ (λ rs. NoneAt rs k n) (λ _. none) (λ _. (none.0, none_with rows q cid k n v none.1))
 
   pub distinct_with : (rows : List (Row V)) (q cid : ℕ) (v : V) → IsDistinct rows → IsDistinct (with_value rows q cid v)
   distinct_with [] q cid v d = tt
-  distinct_with (row ∷ rows) q cid v d = go (is_at row q cid) (distinct_with rows q cid v d.1)
-    where
-      go : (b : Bool) → IsDistinct (with_value rows q cid v) → IsDistinct (if b then record row { value = v } ∷ rows else row ∷ with_value rows q cid v)
-      go true ih = d
-      go false ih = (none_with rows q cid row.q row.cid v d.0, ih)
+  distinct_with (row ∷ rows) q cid v d = cond_both (is_at row q cid) _ _ IsDistinct (λ _. d) (λ _. (none_with rows q cid row.q row.cid v d.0, distinct_with rows q cid v d.1))
 
   pub inside_with : (queues places : ℕ) (rows : List (Row V)) (q cid : ℕ) (v : V) → AreInside queues places rows → AreInside queues places (with_value rows q cid v)
   inside_with queues places [] q cid v inside = tt
-  inside_with queues places (row ∷ rows) q cid v inside = go (is_at row q cid) (inside_with queues places rows q cid v inside.2)
-    where
-      go : (b : Bool) → AreInside queues places (with_value rows q cid v) → AreInside queues places (if b then record row { value = v } ∷ rows else row ∷ with_value rows q cid v)
-      go true ih = inside
-      go false ih = (inside.0, inside.1, ih)
+  inside_with queues places (row ∷ rows) q cid v inside =
+      cond_both (is_at row q cid) _ _ (AreInside queues places) (λ _. inside) (λ _. (inside.0, inside.1, inside_with queues places rows q cid v inside.2))
 
   pub all_with_value : (P : Row V → Type 0) (rows : List (Row V)) (q cid : ℕ) (v w : V) → value_at rows q cid ≡ Some v → ((row : Row V) → row.value ≡ v → P row → P (record row { value = w })) → AllByRecursion P rows → AllByRecursion P (with_value rows q cid w)
   all_with_value P [] q cid v w at new all = tt
-  all_with_value P (row ∷ rows) q cid v w at new all = go (is_at row q cid) at (λ at. all_with_value P rows q cid v w at new all.1)
-    where
-      go : (b : Bool) → (if b then Some row.value else value_at rows q cid) ≡ Some v → (value_at rows q cid ≡ Some v → AllByRecursion P (with_value rows q cid w)) → AllByRecursion P (if b then record row { value = w } ∷ rows else row ∷ with_value rows q cid w)
-      go true at ih = (new row (same_value at) all.0, all.1)
-      go false at ih = (all.0, ih at)
+  all_with_value P (row ∷ rows) q cid v w at new all =
+      cond_both (is_at row q cid) _ _ (AllByRecursion P) (λ here. (new row (grind (arith, here)) all.0, all.1))
+      (λ far. (all.0, all_with_value P rows q cid v w (grind (arith, far)) new all.1))
 
   none_without : (rows : List (Row V)) (q cid k n : ℕ) → NoneAt rows k n → NoneAt (without rows q cid) k n
   none_without [] q cid k n none = tt
-  none_without (row ∷ rows) q cid k n none = go (is_at row q cid) (none_without rows q cid k n none.1)
-    where
-      go : (b : Bool) → NoneAt (without rows q cid) k n → NoneAt (if b then rows else row ∷ without rows q cid) k n
-      go true ih = none.1
-      go false ih = (none.0, ih)
+  none_without (row ∷ rows) q cid k n none = cond_both (is_at row q cid) _ _ (λ rs. NoneAt rs k n) (λ _. none.1) (λ _. (none.0, none_without rows q cid k n none.1))
 
   pub distinct_without : (rows : List (Row V)) (q cid : ℕ) → IsDistinct rows → IsDistinct (without rows q cid)
   distinct_without [] q cid d = tt
-  distinct_without (row ∷ rows) q cid d = go (is_at row q cid) (distinct_without rows q cid d.1)
-    where
-      go : (b : Bool) → IsDistinct (without rows q cid) → IsDistinct (if b then rows else row ∷ without rows q cid)
-      go true ih = d.1
-      go false ih = (none_without rows q cid row.q row.cid d.0, ih)
+  distinct_without (row ∷ rows) q cid d = cond_both (is_at row q cid) _ _ IsDistinct (λ _. d.1) (λ _. (none_without rows q cid row.q row.cid d.0, distinct_without rows q cid d.1))
 
   pub inside_without : (queues places : ℕ) (rows : List (Row V)) (q cid : ℕ) → AreInside queues places rows → AreInside queues places (without rows q cid)
   inside_without queues places [] q cid inside = tt
-  inside_without queues places (row ∷ rows) q cid inside = go (is_at row q cid) (inside_without queues places rows q cid inside.2)
-    where
-      go : (b : Bool) → AreInside queues places (without rows q cid) → AreInside queues places (if b then rows else row ∷ without rows q cid)
-      go true ih = inside.2
-      go false ih = (inside.0, inside.1, ih)
+  inside_without queues places (row ∷ rows) q cid inside =
+      cond_both (is_at row q cid) _ _ (AreInside queues places) (λ _. inside.2) (λ _. (inside.0, inside.1, inside_without queues places rows q cid inside.2))
 
   -- what holds of all rows, and of those with other names too
   all_apart : (P Q : Row V → Type 0) (q cid : ℕ) → ((row : Row V) → is_at row q cid ≡ false → P row → Q row) → (rows : List (Row V)) → NoneAt rows q cid → AllByRecursion P rows → AllByRecursion Q rows
@@ -139,58 +87,43 @@ module _ {V : Type 0} where
 
   pub all_without_row : (P Q : Row V → Type 0) (rows : List (Row V)) (q cid : ℕ) → IsDistinct rows → ((row : Row V) → is_at row q cid ≡ false → P row → Q row) → AllByRecursion P rows → AllByRecursion Q (without rows q cid)
   all_without_row P Q [] q cid d on all = tt
-  all_without_row P Q (row ∷ rows) q cid d on all = go (is_at row q cid) refl (all_without_row P Q rows q cid d.1 on all.1)
-    where
-      go : (b : Bool) → is_at row q cid ≡ b → AllByRecursion Q (without rows q cid) → AllByRecursion Q (if b then rows else row ∷ without rows q cid)
-      go true here ih = all_apart P Q q cid on rows (none_here rows row q cid here d.0) all.1
-      go false far ih = (on row far all.0, ih)
+  all_without_row P Q (row ∷ rows) q cid d on all =
+      cond_both (is_at row q cid) _ _ (AllByRecursion Q) (λ here. all_apart P Q q cid on rows (none_here rows row q cid here d.0) all.1)
+      (λ far. (on row far all.0, all_without_row P Q rows q cid d.1 on all.1))
 
   none_more : (rows : List (Row V)) (row : Row V) (k n : ℕ) → NoneAt rows k n → is_at row k n ≡ false → NoneAt (rows ++ row ∷ []) k n
   none_more [] row k n none far = (far, tt)
   none_more (x ∷ xs) row k n none far = (none.0, none_more xs row k n none.1 far)
 
-  apart_turned : (x row : Row V) → is_at x row.q row.cid ≡ false → is_at row x.q x.cid ≡ false
-  apart_turned x row far = go (is_at row x.q x.cid) refl
-    where
-      go : (b : Bool) → is_at row x.q x.cid ≡ b → b ≡ false
-      go false e = refl
-      go true e = let is = names row x.q x.cid e in absurd (true≢false (sym (at_name x row.q row.cid (sym is.0) (sym is.1)) ∙ far))
-
   pub distinct_more : (rows : List (Row V)) (row : Row V) → IsDistinct rows → NoneAt rows row.q row.cid → IsDistinct (rows ++ row ∷ [])
   distinct_more [] row d none = (tt, tt)
-  distinct_more (x ∷ xs) row d none = (none_more xs row x.q x.cid d.0 (apart_turned x row none.0), distinct_more xs row d.1 none.1)
+  distinct_more (x ∷ xs) row d none = (none_more xs row x.q x.cid d.0 (grind (arith, nat_tests, none.0)), distinct_more xs row d.1 none.1)
 
   pub inside_more : (queues places : ℕ) (rows : List (Row V)) (row : Row V) → AreInside queues places rows → row.q < queues → row.cid < places → AreInside queues places (rows ++ row ∷ [])
   inside_more queues places [] row inside queue place = (queue, place, tt)
   inside_more queues places (x ∷ xs) row inside queue place = (inside.0, inside.1, inside_more queues places xs row inside.2 queue place)
 
-  -- a row's place is one of the table, and it is found among all
-  pub place_of_row : (queues places : ℕ) (rows : List (Row V)) (q cid : ℕ) (v : V) → AreInside queues places rows → value_at rows q cid ≡ Some v → (q < queues) × (cid < places)
-  place_of_row queues places [] q cid v inside at = absurd cc
-  place_of_row queues places (row ∷ rows) q cid v inside at = go (is_at row q cid) refl at (place_of_row queues places rows q cid v inside.2)
-    where
-      go : (b : Bool) → is_at row q cid ≡ b → (if b then Some row.value else value_at rows q cid) ≡ Some v → (value_at rows q cid ≡ Some v → (q < queues) × (cid < places)) → (q < queues) × (cid < places)
-      go true here at ih =
-          let is = names row q cid here in
-          (subst (λ (k : ℕ). k < queues) is.0 inside.0, subst (λ (n : ℕ). n < places) is.1 inside.1)
-      go false far at ih = ih at
-
   pub holds_there : (P : Row V → Type 0) (rows : List (Row V)) (q cid : ℕ) (v : V) → value_at rows q cid ≡ Some v → AllByRecursion P rows → (row : Row V) × (row.q ≡ q) × (row.cid ≡ cid) × (row.value ≡ v) × P row
   holds_there P [] q cid v at all = absurd cc
-  holds_there P (row ∷ rows) q cid v at all = go (is_at row q cid) refl at (λ at. holds_there P rows q cid v at all.1)
-    where
-      go : (b : Bool) → is_at row q cid ≡ b → (if b then Some row.value else value_at rows q cid) ≡ Some v → (value_at rows q cid ≡ Some v → (row : Row V) × (row.q ≡ q) × (row.cid ≡ cid) × (row.value ≡ v) × P row)
-          → (row : Row V) × (row.q ≡ q) × (row.cid ≡ cid) × (row.value ≡ v) × P row
-      go true here at ih = let is = names row q cid here in (row, is.0, is.1, same_value at, all.0)
-      go false far at ih = ih at
+  holds_there P (row ∷ rows) q cid v at all = elim (cases_Bool (is_at row q cid)) [
+    | inl here ↦ let is = names row q cid here in (row, is.0, is.1, grind (arith, here), all.0)
+    | inr far ↦ holds_there P rows q cid v (grind (arith, far)) all.1
+  ]
+
+  inside_all : (queues places : ℕ) (rows : List (Row V)) → AreInside queues places rows → AllByRecursion (λ row. (row.q < queues) × (row.cid < places)) rows
+  inside_all queues places [] inside = tt
+  inside_all queues places (row ∷ rows) inside = ((inside.0, inside.1), inside_all queues places rows inside.2)
+
+  -- a row's place is one of the table, and it is found among all
+  pub place_of_row : (queues places : ℕ) (rows : List (Row V)) (q cid : ℕ) (v : V) → AreInside queues places rows → value_at rows q cid ≡ Some v → (q < queues) × (cid < places)
+  place_of_row queues places rows q cid v inside at =
+      let there = holds_there (λ row. (row.q < queues) × (row.cid < places)) rows q cid v at (inside_all queues places rows inside) in
+      (omega (arith, there.1, there.4.0), omega (arith, there.2, there.4.1))
 
   pub gone : (rows : List (Row V)) (q cid : ℕ) → IsDistinct rows → value_at (without rows q cid) q cid ≡ None
   gone [] q cid d = refl
-  gone (row ∷ rows) q cid d = go (is_at row q cid) refl (gone rows q cid d.1)
-    where
-      go : (b : Bool) → is_at row q cid ≡ b → value_at (without rows q cid) q cid ≡ None → value_at (if b then rows else row ∷ without rows q cid) q cid ≡ None
-      go true here ih = value_at-none rows q cid (none_here rows row q cid here d.0)
-      go false far ih = rw far ih
+  gone (row ∷ rows) q cid d =
+      cond_both (is_at row q cid) _ _ (λ rs. value_at rs q cid ≡ None) (λ here. value_at-none rows q cid (none_here rows row q cid here d.0)) (λ far. rw far (gone rows q cid d.1))
 
   pub gone_none : (rows : List (Row V)) (q cid : ℕ) → value_at rows q cid ≡ None → value_at (without rows q cid) q cid ≡ None
   gone_none rows q cid none = ap (λ (rs : List (Row V)). value_at rs q cid) (without-none rows q cid (none_stands rows q cid none)) ∙ none
@@ -199,11 +132,7 @@ module _ {V : Type 0} where
 
 pub without_absent : {X : Type 0} (p : X → Bool) (xs : List X) → find p xs ≡ None → without_first p xs ≡ xs
 without_absent p [] none = refl
-without_absent {X} p (x ∷ xs) none = go (p x) none (without_absent p xs)
-  where
-    go : (b : Bool) → cond b (Some x) (find p xs) ≡ None → (find p xs ≡ None → without_first p xs ≡ xs) → (if b then xs else x ∷ without_first p xs) ≡ x ∷ xs
-    go true none ih = absurd cc
-    go false none ih = ap (λ (ys : List X). x ∷ ys) (ih none)
+without_absent p (x ∷ xs) none = grind (arith, without_absent p xs)
 
 module _ {V X : Type 0} (pick : V → Option X) (test : ℕ → ℕ → X → Bool) where
   -- a row's value of the kind has the row's name
@@ -212,89 +141,69 @@ module _ {V X : Type 0} (pick : V → Option X) (test : ℕ → ℕ → X → Bo
 
   pub found_none : (rows : List (Row V)) (q cid : ℕ) → NoneAt rows q cid → AllByRecursion IsNamed rows → find (test q cid) (picked pick rows) ≡ None
   found_none [] q cid none named = refl
-  found_none (row ∷ rows) q cid none named = go (pick row.value) refl (found_none rows q cid none.1 named.1)
-    where
-      go : (o : Option X) → pick row.value ≡ o → find (test q cid) (picked pick rows) ≡ None → find (test q cid) (cons_option o (picked pick rows)) ≡ None
-      go None e ih = ih
-      go (Some x) e ih = ap (λ (b : Bool). cond b (Some x) (find (test q cid) (picked pick rows))) (named.0 x e q cid ∙ none.0) ∙ ih
+  found_none (row ∷ rows) q cid none named = elim (option_is (pick row.value)) [
+    | inl e ↦ rw e (found_none rows q cid none.1 named.1)
+    | inr (x, e) ↦ rw (e, named.0 x e q cid ∙ none.0) (found_none rows q cid none.1 named.1)
+  ]
 
   pub found_at : (rows : List (Row V)) (q cid : ℕ) → IsDistinct rows → AllByRecursion IsNamed rows → find (test q cid) (picked pick rows) ≡ option_and_then pick (value_at rows q cid)
   found_at [] q cid d named = refl
-  found_at (row ∷ rows) q cid d named = go (is_at row q cid) refl (pick row.value) refl (found_at rows q cid d.1 named.1)
-    where
-      first : (x : X) (b : Bool) → pick row.value ≡ Some x → is_at row q cid ≡ b → find (test q cid) (x ∷ picked pick rows) ≡ cond b (Some x) (find (test q cid) (picked pick rows))
-      first x b e is = ap (λ (c : Bool). cond c (Some x) (find (test q cid) (picked pick rows))) (named.0 x e q cid ∙ is)
-
-      go : (b : Bool) → is_at row q cid ≡ b → (o : Option X) → pick row.value ≡ o → find (test q cid) (picked pick rows) ≡ option_and_then pick (value_at rows q cid)
-          → find (test q cid) (cons_option o (picked pick rows)) ≡ option_and_then pick (if b then Some row.value else value_at rows q cid)
-      go true here None e ih = found_none rows q cid (none_here rows row q cid here d.0) named.1 ∙ sym e
-      go true here (Some x) e ih = first x true e here ∙ sym e
-      go false far None e ih = ih
-      go false far (Some x) e ih = first x false e far ∙ ih
+  found_at (row ∷ rows) q cid d named = elim (cases_Bool (is_at row q cid)) [
+    | inl here ↦ elim (option_is (pick row.value)) [
+      | inl e ↦ rw (here, e) (found_none rows q cid (none_here rows row q cid here d.0) named.1)
+      | inr (x, e) ↦ rw (here, e, named.0 x e q cid ∙ here) refl
+    ]
+    | inr far ↦ elim (option_is (pick row.value)) [
+      | inl e ↦ rw (far, e) (found_at rows q cid d.1 named.1)
+      | inr (x, e) ↦ rw (far, e, named.0 x e q cid ∙ far) (found_at rows q cid d.1 named.1)
+    ]
+  ]
 
   -- a value of the kind is changed
   pub changed_at : (f : X → X) (rows : List (Row V)) (q cid : ℕ) (v w : V) (x : X) → value_at rows q cid ≡ Some v → pick v ≡ Some x → pick w ≡ Some (f x) → AllByRecursion IsNamed rows
       → picked pick (with_value rows q cid w) ≡ with_first (test q cid) f (picked pick rows)
   changed_at f [] q cid v w x at was is named = absurd cc
-  changed_at f (row ∷ rows) q cid v w x at was is named = go (is_at row q cid) refl (pick row.value) refl at (λ at. changed_at f rows q cid v w x at was is named.1)
-    where
-      go : (b : Bool) → is_at row q cid ≡ b → (o : Option X) → pick row.value ≡ o → (if b then Some row.value else value_at rows q cid) ≡ Some v
-          → (value_at rows q cid ≡ Some v → picked pick (with_value rows q cid w) ≡ with_first (test q cid) f (picked pick rows))
-          → picked pick (if b then record row { value = w } ∷ rows else row ∷ with_value rows q cid w) ≡ with_first (test q cid) f (cons_option o (picked pick rows))
-      go true here None e at ih =
-          let same : row.value ≡ v = cc in
-          absurd (let none : Some x ≡ None = sym was ∙ ap pick (sym same) ∙ e in cc)
-      go true here (Some y) e at ih =
-          let same : row.value ≡ v = cc in
-          let its : Some x ≡ Some y = sym was ∙ ap pick (sym same) ∙ e in
-          let one : x ≡ y = cc in
-          ap (λ (o : Option X). cons_option o (picked pick rows)) is
-          ∙ ap (λ (z : X). f z ∷ picked pick rows) one
-          ∙ sym (ap (λ (c : Bool). if c then f y ∷ picked pick rows else y ∷ with_first (test q cid) f (picked pick rows)) (named.0 y e q cid ∙ here))
-      go false far None e at ih = ap (λ (o : Option X). cons_option o (picked pick (with_value rows q cid w))) e ∙ ih at
-      go false far (Some y) e at ih =
-          ap (λ (o : Option X). cons_option o (picked pick (with_value rows q cid w))) e
-          ∙ ap (λ (xs : List X). y ∷ xs) (ih at)
-          ∙ sym (ap (λ (c : Bool). if c then f y ∷ picked pick rows else y ∷ with_first (test q cid) f (picked pick rows)) (named.0 y e q cid ∙ far))
+  changed_at f (row ∷ rows) q cid v w x at was is named = elim (cases_Bool (is_at row q cid)) [
+    | inl here ↦
+        let same : row.value ≡ v = grind (arith, here, at) in
+        let its : pick row.value ≡ Some x = ap pick same ∙ was in
+        rw (here, is, its, named.0 x its q cid ∙ here) refl
+    | inr far ↦
+        let rest = changed_at f rows q cid v w x (grind (arith, far, at)) was is named.1 in elim (option_is (pick row.value)) [
+          | inl e ↦ rw (far, e) rest
+          | inr (y, e) ↦ rw (far, e, named.0 y e q cid ∙ far) (ap (λ (xs : List X). y ∷ xs) rest)
+        ]
+  ]
 
   -- a row is taken
   pub taken_at : (rows : List (Row V)) (q cid : ℕ) → IsDistinct rows → AllByRecursion IsNamed rows → picked pick (without rows q cid) ≡ without_first (test q cid) (picked pick rows)
   taken_at [] q cid d named = refl
-  taken_at (row ∷ rows) q cid d named = go (is_at row q cid) refl (pick row.value) refl (taken_at rows q cid d.1 named.1)
-    where
-      go : (b : Bool) → is_at row q cid ≡ b → (o : Option X) → pick row.value ≡ o → picked pick (without rows q cid) ≡ without_first (test q cid) (picked pick rows)
-          → picked pick (if b then rows else row ∷ without rows q cid) ≡ without_first (test q cid) (cons_option o (picked pick rows))
-      go true here None e ih = sym (without_absent (test q cid) (picked pick rows) (found_none rows q cid (none_here rows row q cid here d.0) named.1))
-      go true here (Some y) e ih = sym (ap (λ (c : Bool). if c then picked pick rows else y ∷ without_first (test q cid) (picked pick rows)) (named.0 y e q cid ∙ here))
-      go false far None e ih = ap (λ (o : Option X). cons_option o (picked pick (without rows q cid))) e ∙ ih
-      go false far (Some y) e ih =
-          ap (λ (o : Option X). cons_option o (picked pick (without rows q cid))) e
-          ∙ ap (λ (xs : List X). y ∷ xs) ih
-          ∙ sym (ap (λ (c : Bool). if c then picked pick rows else y ∷ without_first (test q cid) (picked pick rows)) (named.0 y e q cid ∙ far))
+  taken_at (row ∷ rows) q cid d named = elim (cases_Bool (is_at row q cid)) [
+    | inl here ↦ elim (option_is (pick row.value)) [
+      | inl e ↦ rw (here, e) (sym (without_absent (test q cid) (picked pick rows) (found_none rows q cid (none_here rows row q cid here d.0) named.1)))
+      | inr (y, e) ↦ rw (here, e, named.0 y e q cid ∙ here) refl
+    ]
+    | inr far ↦ elim (option_is (pick row.value)) [
+      | inl e ↦ rw (far, e) (taken_at rows q cid d.1 named.1)
+      | inr (y, e) ↦ rw (far, e, named.0 y e q cid ∙ far) (ap (λ (xs : List X). y ∷ xs) (taken_at rows q cid d.1 named.1))
+    ]
+  ]
 
 module _ {V X : Type 0} (pick : V → Option X) where
   -- a value of another kind is changed, or taken
   pub changed_other : (rows : List (Row V)) (q cid : ℕ) (v w : V) → value_at rows q cid ≡ Some v → pick v ≡ None → pick w ≡ None → picked pick (with_value rows q cid w) ≡ picked pick rows
   changed_other [] q cid v w at was is = refl
-  changed_other (row ∷ rows) q cid v w at was is = go (is_at row q cid) at (λ at. changed_other rows q cid v w at was is)
-    where
-      go : (b : Bool) → (if b then Some row.value else value_at rows q cid) ≡ Some v → (value_at rows q cid ≡ Some v → picked pick (with_value rows q cid w) ≡ picked pick rows)
-          → picked pick (if b then record row { value = w } ∷ rows else row ∷ with_value rows q cid w) ≡ cons_option (pick row.value) (picked pick rows)
-      go true at ih =
-          let same : row.value ≡ v = cc in
-          ap (λ (o : Option X). cons_option o (picked pick rows)) (is ∙ sym (ap pick same ∙ was))
-      go false at ih = ap (cons_option (pick row.value)) (ih at)
+  changed_other (row ∷ rows) q cid v w at was is = elim (cases_Bool (is_at row q cid)) [
+    | inl here ↦ let same : row.value ≡ v = grind (arith, here, at) in rw (here, is, same, was) refl
+    | inr far ↦ rw far (ap (cons_option (pick row.value)) (changed_other rows q cid v w (grind (arith, far, at)) was is))
+  ]
 
   pub taken_other : (rows : List (Row V)) (q cid : ℕ) (v : V) → value_at rows q cid ≡ Some v → pick v ≡ None → picked pick (without rows q cid) ≡ picked pick rows
   taken_other [] q cid v at was = refl
-  taken_other (row ∷ rows) q cid v at was = go (is_at row q cid) at (λ at. taken_other rows q cid v at was)
-    where
-      go : (b : Bool) → (if b then Some row.value else value_at rows q cid) ≡ Some v → (value_at rows q cid ≡ Some v → picked pick (without rows q cid) ≡ picked pick rows)
-          → picked pick (if b then rows else row ∷ without rows q cid) ≡ cons_option (pick row.value) (picked pick rows)
-      go true at ih =
-          let same : row.value ≡ v = cc in
-          sym (ap (λ (o : Option X). cons_option o (picked pick rows)) (ap pick same ∙ was))
-      go false at ih = ap (cons_option (pick row.value)) (ih at)
+  taken_other (row ∷ rows) q cid v at was = elim (cases_Bool (is_at row q cid)) [
+    | inl here ↦ let same : row.value ≡ v = grind (arith, here, at) in rw (here, same, was) refl
+    | inr far ↦ rw far (ap (cons_option (pick row.value)) (taken_other rows q cid v (grind (arith, far, at)) was))
+  ]
 
 -- What ties a bench's values to its world, kept: values are taken out of their rows and put back, and the world goes on.
 
@@ -306,55 +215,42 @@ length-queues_from page n (suc count) = ap suc (length-queues_from (page + half_
 
 -- The queue of a reservation is there
 
-within : (queues : List HostQueue) (q : ℕ) (queue : HostQueue) → slice_get queues q ≡ Some queue → q < length queues
-within [] q queue at = absurd cc
-within (x ∷ xs) zero queue at = omega arith
-within (x ∷ xs) (suc q) queue at = let h = within xs q queue at in omega arith
-
 queue_there : (s new : State) (q : ℕ) (request : Request) (d : DraftContents) → Step s (events.Reserve q request) (events.Reserved d) new → q < length s.host.queues
 queue_there s new q request d step =
     let fails = unrefused s (events.Reserve q request) (reserved_ok s new q request d step).0 in
     let x = live_queue s q fails.0 fails.1.0 in
-    within s.host.queues q x.0 x.1.there
+    slice_get_within s.host.queues q x.0 x.1.there
 
 -- Names
 
-same_names : (a b k n q cid : ℕ) → a ≡ k → b ≡ n → ((a == q) && (b == cid)) ≡ ((k == q) && (n == cid))
-same_names a b k n q cid queue identifier = ap₂ (λ (x y : ℕ). (x == q) && (y == cid)) queue identifier
-
 module _ {A : Type 0} where
-  names_draft : (v : CommandValue A) (row : Row (Option (CommandValue A))) (d : DraftContents) → as_draft (Some v) ≡ Some d → queue_of v ≡ row.q → identifier_of v ≡ row.cid → (q cid : ℕ) → is_draft q cid d ≡ is_at row q cid
-  names_draft (value.Draft x) row d e queue identifier q cid =
-      let same : x ≡ d = cc in
-      ap (is_draft q cid) (sym same) ∙ same_names x.q x.cid row.q row.cid q cid queue identifier
-  names_draft (value.Ticket x) row d e queue identifier q cid = absurd cc
-  names_draft (value.Finished x) row d e queue identifier q cid = absurd cc
-
-  names_ticket : (v : CommandValue A) (row : Row (Option (CommandValue A))) (t : ℕ × ℕ) → as_ticket (Some v) ≡ Some t → queue_of v ≡ row.q → identifier_of v ≡ row.cid → (q cid : ℕ) → is_ticket q cid t ≡ is_at row q cid
-  names_ticket (value.Draft x) row t e queue identifier q cid = absurd cc
-  names_ticket (value.Ticket x) row t e queue identifier q cid =
-      let same : (x.q, x.cid) ≡ t = cc in
-      ap (is_ticket q cid) (sym same) ∙ same_names x.q x.cid row.q row.cid q cid queue identifier
-  names_ticket (value.Finished x) row t e queue identifier q cid = absurd cc
-
-  names_finished : (v : CommandValue A) (row : Row (Option (CommandValue A))) (f : FinishedContents) → as_finished (Some v) ≡ Some f → queue_of v ≡ row.q → identifier_of v ≡ row.cid → (q cid : ℕ) → is_finished q cid f ≡ is_at row q cid
-  names_finished (value.Draft x) row f e queue identifier q cid = absurd cc
-  names_finished (value.Ticket x) row f e queue identifier q cid = absurd cc
-  names_finished (value.Finished x) row f e queue identifier q cid =
-      let same : x ≡ f = cc in
-      ap (is_finished q cid) (sym same) ∙ same_names x.q x.cid row.q row.cid q cid queue identifier
+  named_by : {X : Type 0} (pick : Option (CommandValue A) → Option X) (test : ℕ → ℕ → X → Bool)
+      → ((v : CommandValue A) (x : X) → pick (Some v) ≡ Some x → (q cid : ℕ) → test q cid x ≡ ((queue_of v == q) && (identifier_of v == cid)))
+      → (s : State) (values : TableOf (Option (CommandValue A))) → IsBench s values → AllByRecursion (IsNamed pick test) values.rows
+  named_by pick test tells s values b =
+      all-all (IsHeld s.host.records) (IsNamed pick test)
+      (λ row h x e q cid. tells h.value x (ap pick (sym h.held) ∙ e) q cid ∙ ap₂ (λ (k n : ℕ). (k == q) && (n == cid)) h.queue h.identifier) values.rows b.held
 
   pub drafts_named : (s : State) (values : TableOf (Option (CommandValue A))) → IsBench s values → AllByRecursion (IsNamed as_draft is_draft) values.rows
-  drafts_named s values b =
-      all-all (IsHeld s.host.records) (IsNamed as_draft is_draft) (λ row h d e. names_draft h.value row d (ap as_draft (sym h.held) ∙ e) h.queue h.identifier) values.rows b.held
+  drafts_named = named_by as_draft is_draft tells
+    where
+      tells : (v : CommandValue A) (d : DraftContents) → as_draft (Some v) ≡ Some d → (q cid : ℕ) → is_draft q cid d ≡ ((queue_of v == q) && (identifier_of v == cid))
+      tells (value.Draft x) d e q cid = let same : d ≡ x = cc in ap (is_draft q cid) same
+      tells v d e q cid = absurd cc
 
   pub tickets_named : (s : State) (values : TableOf (Option (CommandValue A))) → IsBench s values → AllByRecursion (IsNamed as_ticket is_ticket) values.rows
-  tickets_named s values b =
-      all-all (IsHeld s.host.records) (IsNamed as_ticket is_ticket) (λ row h t e. names_ticket h.value row t (ap as_ticket (sym h.held) ∙ e) h.queue h.identifier) values.rows b.held
+  tickets_named = named_by as_ticket is_ticket tells
+    where
+      tells : (v : CommandValue A) (t : ℕ × ℕ) → as_ticket (Some v) ≡ Some t → (q cid : ℕ) → is_ticket q cid t ≡ ((queue_of v == q) && (identifier_of v == cid))
+      tells (value.Ticket x) t e q cid = let same : t ≡ (x.q, x.cid) = cc in ap (is_ticket q cid) same
+      tells v t e q cid = absurd cc
 
   pub finished_named : (s : State) (values : TableOf (Option (CommandValue A))) → IsBench s values → AllByRecursion (IsNamed as_finished is_finished) values.rows
-  finished_named s values b =
-      all-all (IsHeld s.host.records) (IsNamed as_finished is_finished) (λ row h f e. names_finished h.value row f (ap as_finished (sym h.held) ∙ e) h.queue h.identifier) values.rows b.held
+  finished_named = named_by as_finished is_finished tells
+    where
+      tells : (v : CommandValue A) (f : FinishedContents) → as_finished (Some v) ≡ Some f → (q cid : ℕ) → is_finished q cid f ≡ ((queue_of v == q) && (identifier_of v == cid))
+      tells (value.Finished x) f e q cid = let same : f ≡ x = cc in ap (is_finished q cid) same
+      tells v f e q cid = absurd cc
 
   -- a value's name is that of its row
   pub named_there : (s : State) (values : TableOf (Option (CommandValue A))) (q cid : ℕ) (v : CommandValue A) → IsBench s values → value_at values.rows q cid ≡ Some (Some v) → (queue_of v ≡ q) × (identifier_of v ≡ cid)
@@ -383,32 +279,20 @@ module _ {A : Type 0} where
     is_empty = ap (λ (t : TableOf (Option (CommandValue A))). value_at t.rows q cid) out.left ∙ value_with old.rows q cid (Some v) None out.there
 
     pub put_back : (w : CommandValue A) (new : TableOf (Option (CommandValue A))) → new ≡ record mid { rows = with_value mid.rows q cid (Some w) } → new ≡ record old { rows = with_value old.rows q cid (Some w) }
-    put_back w new is =
-        is ∙ ap (λ (t : TableOf (Option (CommandValue A))). record t { rows = with_value t.rows q cid (Some w) }) out.left
-        ∙ ap (λ (rows : List (Row (Option (CommandValue A)))). record old { rows = rows }) (with_twice old.rows q cid None (Some w))
+    put_back w new is = rw (is, out.left, with_twice old.rows q cid None (Some w)) refl
 
     pub put_same : (w : CommandValue A) (new : TableOf (Option (CommandValue A))) → w ≡ v → new ≡ record mid { rows = with_value mid.rows q cid (Some w) } → new ≡ old
-    put_same w new same is =
-        put_back w new is ∙ ap (λ (x : CommandValue A). record old { rows = with_value old.rows q cid (Some x) }) same
-        ∙ ap (λ (rows : List (Row (Option (CommandValue A)))). record old { rows = rows }) (with_same old.rows q cid (Some v) out.there)
+    put_same w new same is = rw (put_back w new is, same, with_same old.rows q cid (Some v) out.there) refl
 
     pub row_dropped : (new : TableOf (Option (CommandValue A))) → new ≡ record mid { rows = without mid.rows q cid } → new ≡ record old { rows = without old.rows q cid }
-    row_dropped new is =
-        is ∙ ap (λ (t : TableOf (Option (CommandValue A))). record t { rows = without t.rows q cid }) out.left
-        ∙ ap (λ (rows : List (Row (Option (CommandValue A)))). record old { rows = rows }) (without_with old.rows q cid None)
+    row_dropped new is = rw (is, out.left, without_with old.rows q cid None) refl
 
     pub put_next : (w : CommandValue A) (new : TableOf (Option (CommandValue A))) → new ≡ with_row (record mid { rows = without mid.rows q cid }) q cid (Some w) → new ≡ with_row (record old { rows = without old.rows q cid }) q cid (Some w)
-    put_next w new is =
-        is ∙ ap (λ (t : TableOf (Option (CommandValue A))). with_row (record t { rows = without t.rows q cid }) q cid (Some w)) out.left
-        ∙ ap (λ (rows : List (Row (Option (CommandValue A)))). with_row (record old { rows = rows }) q cid (Some w)) (without_with old.rows q cid None)
+    put_next w new is = rw (is, out.left, without_with old.rows q cid None) refl
 
     pub place_there : (s : State) → IsBench s old → IsPlace mid q cid
     place_there s b =
-        let at = place_of_row old.queues old.places old.rows q cid (Some v) b.inside out.there in
-        record {
-          queue = subst (λ (t : TableOf (Option (CommandValue A))). q < t.queues) (sym out.left) at.0;
-          identifier = subst (λ (t : TableOf (Option (CommandValue A))). cid < t.places) (sym out.left) at.1;
-        }
+        let at = place_of_row old.queues old.places old.rows q cid (Some v) b.inside out.there in rw out.left (record { queue = at.0; identifier = at.1 })
 
   -- What a call leaves
 
@@ -421,11 +305,15 @@ module _ {A : Type 0} where
         places = b.places ∙ ap (λ (n : ℕ). n - 1) (sym limits.entries);
         inside = b.inside;
         distinct = b.distinct;
-        held = all-all (IsHeld s.host.records) (IsHeld new.host.records) (λ row h. held_on row h (stays_outstanding row.q row.cid s e reply new step (far row.q row.cid) h.outstanding)) values.rows b.held;
+        held = all-all (IsHeld s.host.records) (IsHeld new.host.records)
+            (λ row h. record {
+              value = h.value;
+              held = h.held;
+              queue = h.queue;
+              identifier = h.identifier;
+              outstanding = stays_outstanding row.q row.cid s e reply new step (far row.q row.cid) h.outstanding;
+            }) values.rows b.held;
       }
-    where
-      held_on : (row : Row (Option (CommandValue A))) → IsHeld s.host.records row → IsOutstanding row.q row.cid new.host.records → IsHeld new.host.records row
-      held_on row h outstanding = record { value = h.value; held = h.held; queue = h.queue; identifier = h.identifier; outstanding = outstanding }
 
   -- a value is another of its name
   pub renewed : (s : State) (old : TableOf (Option (CommandValue A))) (q cid : ℕ) (v w : CommandValue A) → IsBench s old → value_at old.rows q cid ≡ Some (Some v) → queue_of w ≡ queue_of v → identifier_of w ≡ identifier_of v
@@ -479,18 +367,6 @@ module _ {A : Type 0} where
         held = all_without_row (IsHeld s.host.records) (IsHeld new.host.records) old.rows q cid b.distinct on b.held;
       }
     where
-      turned : (row : Row (Option (CommandValue A))) → is_at row q cid ≡ false → ((q == row.q) && (cid == row.cid)) ≡ false
-      turned row far = go ((q == row.q) && (cid == row.cid)) refl
-        where
-          here : row.q ≡ q → row.cid ≡ cid → is_at row q cid ≡ true
-          here queue identifier = rw (eq-eqb row.q q queue, eq-eqb row.cid cid identifier) refl
-
-          go : (b : Bool) → ((q == row.q) && (cid == row.cid)) ≡ b → b ≡ false
-          go false e = refl
-          go true e =
-              let both = and_parts (q == row.q) (cid == row.cid) e in
-              absurd (true≢false (sym (here (sym (eqb-true q row.q both.0)) (sym (eqb-true cid row.cid both.1))) ∙ far))
-
       on : (row : Row (Option (CommandValue A))) → is_at row q cid ≡ false → IsHeld s.host.records row → IsHeld new.host.records row
       on row far h =
           record {
@@ -498,7 +374,7 @@ module _ {A : Type 0} where
             held = h.held;
             queue = h.queue;
             identifier = h.identifier;
-            outstanding = stays_outstanding row.q row.cid s e reply new step (its row.q row.cid ∙ turned row far) h.outstanding;
+            outstanding = stays_outstanding row.q row.cid s e reply new step (its row.q row.cid ∙ grind (arith, nat_tests, far)) h.outstanding;
           }
 
   -- A reservation

@@ -1,10 +1,10 @@
 -- Lists of the host's tables.
-use Rattle.std.proofs.Common.{◌≡◌, ◌≢◌, ℕ, zero, suc, ◌<◌, ◌≤◌, List, [], ◌∷◌, Some, length, slice_get, slice_set, get_or, refl, ap, sym, ◌∙◌, arith, Bool, true, false, ◌&&◌, Option, IfSome, IfNone, ◌⊎◌, inl, inr, cond, ◌||◌, None, ◌++◌, map, filter, find, All, ap₂, subst, ◌+◌, ◌==◌, drop, if◌then◌else◌}
-use Rattle.std.{proofs.lemmas.Option.none-some, specs.{List.{AllByRecursion, list_any}, Option.option_map_or}}
+use Rattle.std.proofs.Common.{◌≡◌, ◌≢◌, ℕ, zero, suc, ◌<◌, ◌≤◌, List, [], ◌∷◌, Some, length, slice_get, slice_set, get_or, refl, ap, sym, ◌∙◌, arith, Bool, true, false, Option, ◌⊎◌, inl, inr, ◌||◌, None, ◌++◌, map, filter, find, All, ap₂, subst, ◌+◌, ◌==◌, drop, if◌then◌else◌}
+use Rattle.std.{proofs.lemmas.{Bool.{and_right, cases_Bool, cond_both}, Option.none-some}, specs.{List.{AllByRecursion, list_any}, Option.option_map_or}}
 use Rattle.machine_model.specs.{After.change, Refusals.{same_piece, same_pieces}, State.Record}
 use Rattle.io_commands.specs.declared.request.Piece.{Piece}
 use Rattle.slot_table.specs.Rows.{Row, first_place}
-use Rattle.host_core.specs.{Parts.{record_of, records_of}, Rows.{Kept, rows_on}}
+use Rattle.host_core.specs.{Parts.{records_of}, Rows.{Kept, rows_on}}
 
 -- A member of a list that is changed, by its place.
 
@@ -15,14 +15,15 @@ change-other zero (suc k) f (x ∷ xs) far = refl
 change-other (suc j) zero f (x ∷ xs) far = refl
 change-other (suc j) (suc k) f (x ∷ xs) far = change-other j k f xs (λ e. far (ap suc e))
 
-at_place : {A : Type 0} (q : ℕ) (f : A → A) (xs : List A) (x y : A) → q < length xs → x ≡ get_or xs q x → y ≡ f x → slice_set xs q y ≡ change q f xs
-at_place q f [] x y l e h = absurd (omega arith)
-at_place {A = A} zero f (z ∷ xs) x y l e h = ap (λ (w : A). w ∷ xs) (h ∙ ap f e)
-at_place {A = A} (suc q) f (z ∷ xs) x y l e h = ap (λ (w : List A). z ∷ w) (at_place q f xs x y (omega arith) e h)
+-- a member written where it stands
+pub change-at-lists : {A : Type 0} (q : ℕ) (f : A → A) (xs : List A) (x y : A) → q < length xs → x ≡ get_or xs q x → y ≡ f x → slice_set xs q y ≡ change q f xs
+change-at-lists q f [] x y l e h = absurd (omega arith)
+change-at-lists {A = A} zero f (z ∷ xs) x y l e h = ap (λ (w : A). w ∷ xs) (h ∙ ap f e)
+change-at-lists {A = A} (suc q) f (z ∷ xs) x y l e h = ap (λ (w : List A). z ∷ w) (change-at-lists q f xs x y (omega arith) e h)
 
 -- a write at a place that was reached by an equal number
 pub change-at : {A : Type 0} (q i : ℕ) (f : A → A) (xs : List A) (x y : A) → i ≡ q → i < length xs → x ≡ get_or xs i x → y ≡ f x → slice_set xs i y ≡ change q f xs
-change-at q i f xs x y same l e h = at_place i f xs x y l e h ∙ ap (λ (k : ℕ). change k f xs) same
+change-at q i f xs x y same l e h = change-at-lists i f xs x y l e h ∙ ap (λ (k : ℕ). change k f xs) same
 
 past_end : {A : Type 0} (q : ℕ) (f : A → A) (xs : List A) → length xs ≤ q → xs ≡ change q f xs
 past_end q f [] l = refl
@@ -51,15 +52,11 @@ change-here (suc k) f (y ∷ xs) x e = change-here k f xs x e
 
 -- Lists that are compared.
 
-and_false : (b : Bool) → (b && false) ≡ false
-and_false true = refl
-and_false false = refl
-
 pub pieces-differ : (a b : List Piece) → length a ≢ length b → same_pieces a b ≡ false
 pieces-differ [] [] h = absurd (h refl)
 pieces-differ [] (y ∷ b) h = refl
 pieces-differ (x ∷ a) [] h = refl
-pieces-differ (x ∷ a) (y ∷ b) h = ap (λ c. same_piece x y && c) (pieces-differ a b (λ e. h (ap suc e))) ∙ and_false (same_piece x y)
+pieces-differ (x ∷ a) (y ∷ b) h = and_right (same_piece x y) _ (pieces-differ a b (λ e. h (ap suc e)))
 
 -- Lists of which one member is changed, and lists that agree member by member.
 
@@ -94,6 +91,16 @@ changed_at (suc k) f (x ∷ xs) (suc i) y e =
     let c = changed_at k f xs i y e in
     record { was = c.was; at = c.at; is = elim c.is [ inl h ↦ inl (ap suc h.0, h.1) | inr h ↦ inr (λ g. h.0 (omega arith), h.1) ] }
 
+-- what holds of each member but one, and of that one once it is changed
+pub each-change : {A : Type 0} (P : ℕ → A → Type 0) (q : ℕ) (f : A → A) (xs : List A)
+    → ((k : ℕ) (x : A) → k ≢ q → slice_get xs k ≡ Some x → P k x) → ((x : A) → slice_get xs q ≡ Some x → P q (f x))
+    → (k : ℕ) (y : A) → slice_get (change q f xs) k ≡ Some y → P k y
+each-change {A = A} P q f xs all one k y e = let c = changed_at q f xs k y e in elim c.is [
+  | inl h ↦
+      let here = one c.was (subst (λ (n : ℕ). slice_get xs n ≡ Some c.was) h.0 c.at) in subst (λ (n : ℕ). P n y) (sym h.0) (subst (λ (z : A). P q z) (sym h.1) here)
+  | inr h ↦ subst (λ (z : A). P k z) (sym h.1) (all k c.was h.0 c.at)
+]
+
 pub map-agree : {A B : Type 0} (f g : A → B) (xs : List A) → ((i : ℕ) (x : A) → slice_get xs i ≡ Some x → f x ≡ g x) → map f xs ≡ map g xs
 map-agree f g [] same = refl
 map-agree f g (x ∷ xs) same = ap₂ (λ y ys. y ∷ ys) (same 0 x refl) (map-agree f g xs (λ i y e. same (suc i) y e))
@@ -104,11 +111,7 @@ all-append P (x ∷ xs) y all here = (all.0, all-append P xs y all.1 here)
 
 pub all-filter : {A : Type 0} (P : A → Type 0) (f : A → Bool) (xs : List A) → AllByRecursion P xs → AllByRecursion P (filter f xs)
 all-filter P f [] all = tt
-all-filter P f (x ∷ xs) all = go (f x) (all-filter P f xs all.1)
-  where
-    go : (b : Bool) → AllByRecursion P (filter f xs) → AllByRecursion P (cond b (x ∷ filter f xs) (filter f xs))
-    go true rest = (all.0, rest)
-    go false rest = rest
+all-filter P f (x ∷ xs) all = cond_both (f x) _ _ (AllByRecursion P) (λ _. (all.0, all-filter P f xs all.1)) (λ _. all-filter P f xs all.1)
 
 pub all-map : {A : Type 0} (P : A → Type 0) (f : A → A) → ((x : A) → P x → P (f x)) → (xs : List A) → AllByRecursion P xs → AllByRecursion P (map f xs)
 all-map P f keeps [] all = tt
@@ -129,11 +132,7 @@ all-slots P (x ∷ xs) each = (each 0 x refl, all-slots P xs (λ i y at. each (s
 
 pub all-filter_by : {A : Type 0} (P Q : A → Type 0) (f : A → Bool) → ((x : A) → f x ≡ true → P x → Q x) → (xs : List A) → AllByRecursion P xs → AllByRecursion Q (filter f xs)
 all-filter_by P Q f more [] all = tt
-all-filter_by P Q f more (x ∷ xs) all = go (f x) refl (all-filter_by P Q f more xs all.1)
-  where
-    go : (b : Bool) → f x ≡ b → AllByRecursion Q (filter f xs) → AllByRecursion Q (cond b (x ∷ filter f xs) (filter f xs))
-    go true e rest = (more x e all.0, rest)
-    go false e rest = rest
+all-filter_by P Q f more (x ∷ xs) all = cond_both (f x) _ _ (AllByRecursion Q) (λ e. (more x e all.0, all-filter_by P Q f more xs all.1)) (λ _. all-filter_by P Q f more xs all.1)
 
 -- by its members, and by recursion
 pub all-from : {A : Type 0} (P : A → Type 0) (xs : List A) → All P xs → AllByRecursion P xs
@@ -143,27 +142,15 @@ all-from P (x ∷ xs) all = (all 0 x (omega arith), all-from P xs (λ k d l. all
 -- what is found, and where
 pub found_is : {A : Type 0} (test : A → Bool) (xs : List A) (x : A) → find test xs ≡ Some x → test x ≡ true
 found_is test [] x e = absurd (none_is_not e)
-found_is {A = A} test (y ∷ xs) x e = go (test y) refl e (found_is test xs x)
-  where
-    go : (b : Bool) → test y ≡ b → cond b (Some y) (find test xs) ≡ Some x → (find test xs ≡ Some x → test x ≡ true) → test x ≡ true
-    go true f g ih = subst (λ (z : A). test z ≡ true) (some_is g) f
-    go false f g ih = ih g
+found_is test (y ∷ xs) x e = grind (arith, found_is test xs x)
 
 pub found_at : {A : Type 0} (test : A → Bool) (xs : List A) (x : A) → find test xs ≡ Some x → (i : ℕ) × (slice_get xs i ≡ Some x)
 found_at test [] x e = absurd (none_is_not e)
-found_at test (y ∷ xs) x e = go (test y) e (found_at test xs x)
-  where
-    go : (b : Bool) → cond b (Some y) (find test xs) ≡ Some x → (find test xs ≡ Some x → (i : ℕ) × (slice_get xs i ≡ Some x)) → (i : ℕ) × (slice_get (y ∷ xs) i ≡ Some x)
-    go true g ih = (0, g)
-    go false g ih = let h = ih g in (suc h.0, h.1)
+found_at test (y ∷ xs) x e = elim (cases_Bool (test y)) [ inl f ↦ (0, rw f at e) | inr f ↦ let h = found_at test xs x (rw f at e) in (suc h.0, h.1) ]
 
 pub found_any : {A : Type 0} (test : A → Bool) (xs : List A) (x : A) → find test xs ≡ Some x → list_any test xs ≡ true
 found_any test [] x e = absurd (none_is_not e)
-found_any test (y ∷ xs) x e = go (test y) e (found_any test xs x)
-  where
-    go : (b : Bool) → cond b (Some y) (find test xs) ≡ Some x → (find test xs ≡ Some x → list_any test xs ≡ true) → (b || list_any test xs) ≡ true
-    go true g ih = refl
-    go false g ih = ih g
+found_any test (y ∷ xs) x e = grind (arith, found_any test xs x)
 
 pub any-map : {A : Type 0} (test : A → Bool) (f : A → A) → ((x : A) → test (f x) ≡ test x) → (xs : List A) → list_any test (map f xs) ≡ list_any test xs
 any-map test f same [] = refl
@@ -173,17 +160,6 @@ pub change-same : {A : Type 0} (f : A → A) → ((x : A) → f x ≡ x) → (k 
 change-same f same k [] = refl
 change-same f same zero (x ∷ xs) = ap (λ y. y ∷ xs) (same x)
 change-same f same (suc k) (x ∷ xs) = ap (λ ys. x ∷ ys) (change-same f same k xs)
-
--- a member written where it stands
-pub change-at-lists : {A : Type 0} (q : ℕ) (f : A → A) (xs : List A) (x y : A) → q < length xs → x ≡ get_or xs q x → y ≡ f x → slice_set xs q y ≡ change q f xs
-change-at-lists q f [] x y l e h = absurd (omega arith)
-change-at-lists {A = A} zero f (z ∷ xs) x y l e h = ap (λ (w : A). w ∷ xs) (h ∙ ap f e)
-change-at-lists {A = A} (suc q) f (z ∷ xs) x y l e h = ap (λ (w : List A). z ∷ w) (change-at-lists q f xs x y (omega arith) e h)
-
-pub get-at-lists : {A : Type 0} (q : ℕ) (xs : List A) (x : A) → q < length xs → x ≡ get_or xs q x → slice_get xs q ≡ Some x
-get-at-lists q [] x l e = absurd (omega arith)
-get-at-lists {A = A} zero (z ∷ xs) x l e = ap (λ (w : A). Some w) (sym e)
-get-at-lists (suc q) (z ∷ xs) x l e = get-at-lists q xs x (omega arith) e
 
 pub all-to : {A : Type 0} (P : A → Type 0) (xs : List A) → AllByRecursion P xs → All P xs
 all-to P [] all k d l = absurd (omega arith)
@@ -198,30 +174,15 @@ pub all-back : {A : Type 0} (P : A → Type 0) (xs ys : List A) → AllByRecursi
 all-back P [] ys all = all
 all-back P (x ∷ xs) ys all = all-back P xs ys all.1
 
--- what holds of a value that is there, and of none
-
-pub if_some-then : {A : Type 0} {P Q : A → Type 0} (o : Option A) → ((x : A) → P x → Q x) → IfSome o P → IfSome o Q
-if_some-then None more h = tt
-if_some-then (Some x) more h = more x h
-
-pub if_none-then : {A P Q : Type 0} (o : Option A) → (P → Q) → IfNone o P → IfNone o Q
-if_none-then None more h = more h
-if_none-then (Some x) more h = tt
-
 -- The records of a queue, counted from row to row.
 
 -- the rows of a queue are its outstanding commands
 pub rows_on-outstanding : (q : ℕ) (rows : List (Row Kept)) → rows_on q rows ≡ length (map (λ (r : Record). r.cid) (filter (λ (r : Record). r.q == q) (records_of rows)))
 rows_on-outstanding q [] = refl
-rows_on-outstanding q (row ∷ rows) = go (row.q == q) (rows_on-outstanding q rows)
-  where
-    others : List Record
-    others = filter (λ (r : Record). r.q == q) (records_of rows)
-
-    go : (b : Bool) → rows_on q rows ≡ length (map (λ (r : Record). r.cid) others)
-        → (if b then rows_on q rows + 1 else rows_on q rows) ≡ length (map (λ (r : Record). r.cid) (cond b (record_of row.q row.cid row.value ∷ others) others))
-    go true ih = omega (arith, ih)
-    go false ih = ih
+rows_on-outstanding q (row ∷ rows) = elim (cases_Bool (row.q == q)) [
+  | inl here ↦ rw here (omega (arith, rows_on-outstanding q rows))
+  | inr far ↦ rw far (rows_on-outstanding q rows)
+]
 
 -- the row at which a walk stands, and those behind it
 one_more : (q n p cid : ℕ) (rows : List (Row Kept)) → first_place (drop n rows) ≡ Some (p, cid)

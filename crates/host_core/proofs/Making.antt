@@ -3,21 +3,22 @@ use Rattle.machine_model.specs.Events as events
 use Rattle.machine_model.specs.declared.words.Refusal.TheVariants as refusal
 use Rattle.machine_model.specs.After as a
 use Rattle.page_ledger.specs.declared.owner.Owner.TheVariants as owner
-use Rattle.std.proofs.Common.{◌≡◌, ℕ, zero, suc, ◌+◌, ◌<◌, Bool, true, false, Option, Some, None, List, [], ◌∷◌, length, take, filter, find, refl, ap, sym, ◌∙◌, arith, lt-ltb, if◌then◌else◌, ◌==◌, ◌||◌, nat_lt, cond, map, slice_get, ◌-◌, ◌≤◌, IsSome, replicate, slice_set, is_some, ap₂, subst, eqb-true, eq-eqb}
-use Rattle.std.proofs.lemmas.{Bool.{true≢false, and_parts, eqb-false}, List.length-replicate, Option.{slice_get_within, slice_get-map}}
-use Rattle.std.specs.{List.{list_all, range_with_len, list_any, AllByRecursion}, Option.{option_map_or, option_map}}
+use Rattle.std.proofs.Common.{◌≡◌, ℕ, zero, suc, ◌+◌, ◌<◌, Bool, true, false, Option, Some, None, List, [], ◌∷◌, length, take, filter, find, refl, ap, sym, ◌∙◌, arith, lt-ltb, if◌then◌else◌, ◌==◌, nat_lt, map, slice_get, ◌-◌, ◌≤◌, IsSome, replicate, slice_set, ap₂, subst, eq-eqb, inl, inr}
+use Rattle.std.proofs.lemmas.Bool.{true≢false, true_from_ne_false, false_from_ne_true, and_parts, cases_Bool, cases_eq, or_left, or_right}
+use Rattle.std.proofs.lemmas.{List.length-replicate, Option.{slice_get_within, slice_get-map}}
+use Rattle.std.specs.{List.{list_all, range_with_len, list_any, AllByRecursion}, Option.{option_map_or}}
 use Rattle.io_commands.{proofs.Fewest.same_anywhere, specs.{Asked.Request, Least.{least_pages, pages_with}, Requests.{data_count, joined_parts}, Values.IsGood}}
-use Rattle.machine_model.proofs.{Counting.{one, times-filter, times-pages, held_once, not_held, find_sound, all_among}, Steps.length-with_pages}
+use Rattle.machine_model.proofs.{Cases.option_is, Counting.{one, times-filter, times-pages, held_once, not_held, find_sound, all_among}, Steps.length-with_pages}
 use Rattle.machine_model.specs.{After.change, Memory.{is_in, with_pages, zeroed_pages}, Placement.{is_run, first_of_run, placed, chain_wanted}}
-use Rattle.machine_model.specs.{Refusals.{refusal_of, has_sq, run_for}, State.{Record, HostQueue, State}, Step.{times, Refuses}}
+use Rattle.machine_model.specs.{Refusals.{has_sq, run_for}, State.{Record, HostQueue, State}, Step.{times, Refuses}}
 use Rattle.machine_model.specs.declared.words.HostState.{HostState, TheVariants.{Gone, HalfMade, MakingCq, MakingSq}}
 use Rattle.page_ledger.proofs.{Pages.lowest_run-within, Tables.{free-others, length-with_owner, owner-with}}
 use Rattle.page_ledger.specs.{Owners.{is_among, is_free, is_owned_at, owner_at, free_pages, pages_from, with_owner}, Runs.{is_free_run, lowest_run}}
 use Rattle.page_ledger.specs.declared.owner.{Owner.{Owner, TheVariants.Free}, Role.TheVariants.{Data, Chain}}
 use Rattle.host_core.proofs.{Lists.{some_is, all-all}, PageOwners.{free-owner, free-in, pool-with, set-other, set-there}}
-use Rattle.host_core.{proofs.QueueLists.{each-change, map-change, Settled, settled-of, length-change}, specs.{Commands.{state_at, CanZero}, Rows.Queue}}
-use Rattle.host_core.specs.{Sending.{named_causes, granted, half_from, making}, Tables.{Tables, state_of, host_queue_of, cq_pages_of, sq_pages_of}}
-use Rattle.host_core.specs.Whole.{ClaimsIdentifiers, HaveOwner, IsQueue, IsRecord, IsWhole, TellsCommand, TellsQueue, is_outstanding}
+use Rattle.host_core.{proofs.QueueLists.{map-change, Settled, settled-of, settled-turned}, specs.{Commands.{state_at, CanZero}, Rows.Queue}}
+use Rattle.host_core.specs.{Sending.{named_causes, granted, half_from, making, renewed}, Tables.{Tables, state_of, host_queue_of, cq_pages_of, sq_pages_of}}
+use Rattle.host_core.specs.Whole.{ClaimsIdentifiers, HaveOwner, IsQueue, IsWhole, TellsCommand, TellsQueue, is_outstanding}
 use Rattle.admin_commands.specs.declared.AdminKind.TheVariants.{CreateCq}
 use Rattle.controller_walk.specs.Units.{first_passing}
 use Rattle.page_memory.{proofs.Bytes.length-zero_page, specs.{Pages.{Pages, page_at, zero_page}, declared.page.Half.Half}}
@@ -26,29 +27,19 @@ use Rattle.queue_pair.specs.{Memory.half_pages, Rings.{IsHostSide, fresh_host_ri
 
 -- Placed pages by their owners: the lowest run of free pages is the one that a ledger finds.
 
-owned-free : (owners : List Owner) (p : ℕ) → owner_at owners p ≡ Some Free → is_owned_at is_free owners p ≡ true
-owned-free owners p at = ap (λ (o : Option Owner). option_map_or is_free o false) at
-
 owned-within : (owners : List Owner) (p : ℕ) → is_owned_at is_free owners p ≡ true → p < length owners
-owned-within owners p h = go (owner_at owners p) refl h
-  where
-    go : (o : Option Owner) → owner_at owners p ≡ o → option_map_or is_free o false ≡ true → p < length owners
-    go None at h = absurd (true≢false (sym h))
-    go (Some x) at h = slice_get_within owners p x at
+owned-within owners p h = elim (option_is (owner_at owners p)) [
+  | inl at ↦ absurd (true≢false (sym (rw at at h)))
+  | inr (x, at) ↦ slice_get_within owners p x at
+]
 
 among-free : (owners : List Owner) (p : ℕ) → is_among (free_pages owners) p ≡ is_owned_at is_free owners p
-among-free owners p = go (is_among (free_pages owners) p) refl (is_owned_at is_free owners p) refl
-  where
-    count : times p (free_pages owners) ≡ (if is_owned_at is_free owners p then times p (pages_from 0 (length owners)) else 0)
-    count = times-filter p (is_owned_at is_free owners) (pages_from 0 (length owners))
-
-    go : (b : Bool) → is_among (free_pages owners) p ≡ b → (c : Bool) → is_owned_at is_free owners p ≡ c → b ≡ c
-    go true e true f = refl
-    go false e false f = refl
-    go true e false f = absurd (true≢false (sym (owned-free owners p (free-owner owners p (held_once p (free_pages owners) e))) ∙ f))
-    go false e true f =
-        let all : times p (free_pages owners) ≡ times p (pages_from 0 (length owners)) = rw f at count in
-        absurd (omega (arith, not_held p (free_pages owners) e, all, times-pages p (length owners), ap one (lt-ltb p (length owners) (owned-within owners p f))))
+among-free owners p = elim (cases_Bool (is_among (free_pages owners) p)) [
+  | inl e ↦ rw (e, free-owner owners p (held_once p (free_pages owners) e)) refl
+  | inr e ↦ rw e (sym (false_from_ne_true (is_owned_at is_free owners p) (λ f.
+      let all : times p (free_pages owners) ≡ times p (pages_from 0 (length owners)) = rw f at (times-filter p (is_owned_at is_free owners) (pages_from 0 (length owners))) in
+      omega (arith, not_held p (free_pages owners) e, all, times-pages p (length owners), ap one (lt-ltb p (length owners) (owned-within owners p f))))))
+]
 
 all-among : (owners : List Owner) (pages : List ℕ) → list_all (is_among (free_pages owners)) pages ≡ list_all (is_owned_at is_free owners) pages
 all-among owners [] = refl
@@ -61,13 +52,7 @@ find-alike f g same (p ∷ pages) = rw (same p, find-alike f g same pages) refl
 -- a search for what a filter keeps finds the same in the filtered list
 find-kept : (f g : ℕ → Bool) → ((p : ℕ) → f p ≡ true → g p ≡ true) → (pages : List ℕ) → find f (filter g pages) ≡ find f pages
 find-kept f g keeps [] = refl
-find-kept f g keeps (p ∷ pages) = go (g p) refl (f p) refl (find-kept f g keeps pages)
-  where
-    go : (b : Bool) → g p ≡ b → (c : Bool) → f p ≡ c → find f (filter g pages) ≡ find f pages → find f (if b then p ∷ filter g pages else filter g pages) ≡ (if c then Some p else find f pages)
-    go true e true h ih = rw h refl
-    go true e false h ih = rw h ih
-    go false e true h ih = absurd (true≢false (sym (keeps p h) ∙ e))
-    go false e false h ih = ih
+find-kept f g keeps (p ∷ pages) = grind (arith, keeps p, find-kept f g keeps pages)
 
 run-begins : (k : ℕ) (owners : List Owner) (p : ℕ) → 0 < k → is_free_run k owners p ≡ true → is_owned_at is_free owners p ≡ true
 run-begins zero owners p some h = absurd (omega (arith, some))
@@ -100,26 +85,22 @@ least-in-run free segment first request good is =
 
 pub any-count : (q : ℕ) (rs : List Record) → nat_lt 0 (length (map (λ (r : Record). r.cid) (filter (λ (r : Record). r.q == q) rs))) ≡ list_any (λ (r : Record). r.q == q) rs
 any-count q [] = refl
-any-count q (x ∷ rs) = go (x.q == q) (any-count q rs)
-  where
-    go : (b : Bool) → nat_lt 0 (length (map (λ (r : Record). r.cid) (filter (λ (r : Record). r.q == q) rs))) ≡ list_any (λ (r : Record). r.q == q) rs
-        → nat_lt 0 (length (map (λ (r : Record). r.cid) (cond b (x ∷ filter (λ (r : Record). r.q == q) rs) (filter (λ (r : Record). r.q == q) rs)))) ≡ (b || list_any (λ (r : Record). r.q == q) rs)
-    go true ih = lt-ltb 0 _ (omega arith)
-    go false ih = ih
+any-count q (x ∷ rs) = elim (cases_Bool (x.q == q)) [
+  | inl here ↦ rw here (lt-ltb 0 _ (omega arith))
+  | inr far ↦ rw far (any-count q rs)
+]
+
+gone-at : (t : Tables) (q : ℕ) → state_at t.queues q ≡ Some Gone → (x : Queue) × (slice_get t.queues q ≡ Some x) × (x.state ≡ Gone)
+gone-at t q gone = elim (option_is (slice_get t.queues q)) [
+  | inl at ↦ absurd (let none : None ≡ Some Gone = rw at at gone in cc)
+  | inr (x, at) ↦ (x, at, some_is (rw at at gone))
+]
 
 pub create_cq-free : (t : Tables) (q : ℕ) → (q == 0) ≡ false → state_at t.queues q ≡ Some Gone → list_any (λ (r : Record). r.q == q) t.records ≡ false → first_passing (named_causes (state_of t) (CreateCq q 0 0)) ≡ None
-create_cq-free t q zeroth gone free = go (slice_get t.queues q) refl gone
-  where
-    go : (o : Option Queue) → slice_get t.queues q ≡ o → option_map (λ (queue : Queue). queue.state) o ≡ Some Gone → first_passing (named_causes (state_of t) (CreateCq q 0 0)) ≡ None
-    go None at h = cc
-    go (Some x) at h = rw (zeroth, slice_get-map host_queue_of t.queues q, at, some_is h, any-count q t.records, free) refl
+create_cq-free t q zeroth gone free = let x = gone-at t q gone in rw (zeroth, slice_get-map host_queue_of t.queues q, x.1, x.2, any-count q t.records, free) refl
 
 pub create_cq-busy : (t : Tables) (q : ℕ) → (q == 0) ≡ false → state_at t.queues q ≡ Some Gone → list_any (λ (r : Record). r.q == q) t.records ≡ true → Refuses (state_of t) (events.CreateCq q) refusal.Outstanding []
-create_cq-busy t q zeroth gone busy = (go (slice_get t.queues q) refl gone, refl)
-  where
-    go : (o : Option Queue) → slice_get t.queues q ≡ o → option_map (λ (queue : Queue). queue.state) o ≡ Some Gone → refusal_of (state_of t) (events.CreateCq q) ≡ Some refusal.Outstanding
-    go None at h = cc
-    go (Some x) at h = rw (zeroth, slice_get-map host_queue_of t.queues q, at, some_is h, any-count q t.records, busy) refl
+create_cq-busy t q zeroth gone busy = let x = gone-at t q gone in (rw (zeroth, slice_get-map host_queue_of t.queues q, x.1, x.2, any-count q t.records, busy) refl, refl)
 
 -- A queue is granted a half: the tables behind it, and the machine that they stand for.
 
@@ -146,23 +127,16 @@ run-owner : (t : Tables) (half : Half) (first p : ℕ) → run_for (state_of t) 
 run-owner t half first p run among = free-owner t.owners p (held_once p (free_pages t.owners) (run-free t half first p run among))
 
 pub run-in : (t : Tables) (half : Half) (first p : ℕ) → IsWhole t → run_for (state_of t) half ≡ Some first → is_among (half_from t half first) p ≡ true → is_in t.pages p ≡ true
-run-in t half first p w run among = go (is_in t.pages p) refl
-  where
-    go : (b : Bool) → is_in t.pages p ≡ b → is_in t.pages p ≡ true
-    go true e = e
-    go false e = absurd (omega (arith, ap one e, free-in (state_of t) w.sound p, held_once p (free_pages t.owners) (run-free t half first p run among)))
+run-in t half first p w run among =
+    true_from_ne_false (is_in t.pages p) (λ e. omega (arith, ap one e, free-in (state_of t) w.sound p, held_once p (free_pages t.owners) (run-free t half first p run among)))
 
 -- a page that is in stays so where others are written
 
 pub set-some : (m : Pages) (k p : ℕ) (x : List ℕ) → IsSome (page_at m p) → IsSome (page_at (slice_set m k (Some x)) p)
-set-some m k p x h = go (k == p) refl
-  where
-    go : (b : Bool) → (k == p) ≡ b → IsSome (page_at (slice_set m k (Some x)) p)
-    go true e =
-        let same = eqb-true k p e in
-        subst (λ (j : ℕ). IsSome (page_at (slice_set m k (Some x)) j)) same
-        (subst (λ (o : Option (List ℕ)). IsSome o) (sym (set-there m k x (subst (λ (j : ℕ). IsSome (page_at m j)) (sym same) h))) refl)
-    go false e = subst (λ (o : Option (List ℕ)). IsSome o) (sym (set-other m k p (Some x) (eqb-false k p e))) h
+set-some m k p x h = elim (cases_eq p k) [
+  | inl same ↦ rw (same, set-there m k x (rw same at h)) refl
+  | inr other ↦ rw (set-other m k p (Some x) (λ e. other (sym e))) h
+]
 
 pub with-some : (ps : List (ℕ × List ℕ)) (m : Pages) (p : ℕ) → IsSome (page_at m p) → IsSome (page_at (with_pages ps m) p)
 with-some [] m p h = h
@@ -170,29 +144,15 @@ with-some (page ∷ ps) m p h = with-some ps (slice_set m page.0 (Some page.1)) 
 
 -- so each of them can be made zero
 
-is-some : {A : Type 0} (o : Option A) → is_some o ≡ true → IsSome o
-is-some None h = absurd (true≢false (sym h))
-is-some (Some x) h = refl
-
-among-here : (p : ℕ) (ps : List ℕ) → is_among (p ∷ ps) p ≡ true
-among-here p ps = rw (eq-eqb p p refl) refl
-
-among-there : (k p : ℕ) (ps : List ℕ) → is_among ps k ≡ true → is_among (p ∷ ps) k ≡ true
-among-there k p ps h = go (p == k)
-  where
-    go : (b : Bool) → (b || is_among ps k) ≡ true
-    go true = refl
-    go false = h
-
 pub can-zero : (ps : List ℕ) (m : Pages) → ((p : ℕ) → is_among ps p ≡ true → IsSome (page_at m p)) → CanZero ps m
 can-zero [] m h = tt
 can-zero (p ∷ ps) m h = (
-  h p (among-here p ps),
-  can-zero ps (slice_set m p (Some zero_page)) (λ k among. set-some m p k zero_page (h k (among-there k p ps among))),
+  h p (or_left (p == p) _ (eq-eqb p p refl)),
+  can-zero ps (slice_set m p (Some zero_page)) (λ k among. set-some m p k zero_page (h k (or_right (p == k) _ among))),
 )
 
 pub half-can-zero : (t : Tables) (half : Half) (first : ℕ) → IsWhole t → run_for (state_of t) half ≡ Some first → CanZero (half_from t half first) t.pages
-half-can-zero t half first w run = can-zero (half_from t half first) t.pages (λ p among. is-some (page_at t.pages p) (run-in t half first p w run among))
+half-can-zero t half first w run = can-zero (half_from t half first) t.pages (λ p among. run-in t half first p w run among)
 
 -- Whose pages they are then
 
@@ -201,13 +161,9 @@ owned half q first t = with_owner t.owners (half_from t half first) (owner.Queue
 
 -- a page that had an owner keeps it
 owner-stays : (t : Tables) (half : Half) (q first p : ℕ) (x : Owner) → run_for (state_of t) half ≡ Some first → (x ≡ owner.Free → ⊥) → owner_at t.owners p ≡ Some x → owner_at (owned half q first t) p ≡ Some x
-owner-stays t half q first p x run busy at = go (is_among (half_from t half first) p) refl
-  where
-    go : (b : Bool) → is_among (half_from t half first) p ≡ b → owner_at (owned half q first t) p ≡ Some x
-    go true e = absurd (busy (some_is (sym at ∙ run-owner t half first p run e)))
-    go false e =
-        owner-with t.owners (half_from t half first) (owner.Queue q half) p (slice_get_within t.owners p x at)
-        ∙ (ap (λ (b : Bool). if b then Some (owner.Queue q half) else owner_at t.owners p) e ∙ at)
+owner-stays t half q first p x run busy at =
+    let far : is_among (half_from t half first) p ≡ false = false_from_ne_true (is_among (half_from t half first) p) (λ e. busy (some_is (sym at ∙ run-owner t half first p run e))) in
+    owner-with t.owners (half_from t half first) (owner.Queue q half) p (slice_get_within t.owners p x at) ∙ rw far at
 
 -- and those of the half are the queue's
 owner-new : (t : Tables) (half : Half) (q first : ℕ) → run_for (state_of t) half ≡ Some first → HaveOwner (owned half q first t) (owner.Queue q half) (half_from t half first)
@@ -249,7 +205,8 @@ own-told : (t : Tables) (half : Half) (q first : ℕ) (x : Queue) → run_for (s
 own-told t Completion q first x run state same told =
     record {
       submission = λ p among. cc;
-      completion = subst (HaveOwner (owned Completion q first t) (owner.Queue q Completion)) (sym (new-cq-pages Completion first t.entries x state same)) (owner-new t Completion q first run);
+      completion = subst (HaveOwner (owned Completion q first t) (owner.Queue q Completion))
+          (sym (new-cq-pages Completion first t.entries x state same)) (owner-new t Completion q first run);
     }
 own-told t Submission q first x run state same told =
     record {
@@ -258,32 +215,14 @@ own-told t Submission q first x run state same told =
           (stay-owned t Submission q first (owner.Queue q Completion) (cq_pages_of x) run (λ e. cc) told.completion);
     }
 
-some-less : (x n : ℕ) → 2 ≤ n → x ≡ 0 → x < n
-some-less x n l e = omega arith
-
-made-side : (half : Half) (first : ℕ) (x : Queue) → IsHostSide x.host → IsHostSide (making half first x).host
-made-side Completion first x side =
-    record {
-      least = side.least;
-      most = side.most;
-      head = some-less 0 x.host.entries side.least refl;
-      known_head = some-less 0 x.host.entries side.least refl;
-      tail = some-less 0 x.host.entries side.least refl;
-      identifiers = omega (arith, length-replicate (x.host.entries - 1) false, side.least);
-    }
-made-side Submission first x side =
-    record {
-      least = side.least;
-      most = side.most;
-      head = some-less 0 x.host.entries side.least refl;
-      known_head = some-less 0 x.host.entries side.least refl;
-      tail = some-less 0 x.host.entries side.least refl;
-      identifiers = omega (arith, length-replicate (x.host.entries - 1) false, side.least);
-    }
+made-side : (sq cq : ℕ) (x : Queue) → IsHostSide x.host → IsHostSide (renewed sq cq x.host)
+made-side sq cq x side =
+    let some : 0 < x.host.entries = omega (arith, side.least) in
+    record { least = side.least; most = side.most; head = some; known_head = some; tail = some; identifiers = omega (arith, length-replicate (x.host.entries - 1) false, side.least) }
 
 pub made-queue : (half : Half) (first n q : ℕ) (x : Queue) → IsQueue n q x → IsQueue n q (making half first x)
-made-queue Completion first n q x is = record { number = is.number; entries = is.entries; host_side = made-side Completion first x is.host_side }
-made-queue Submission first n q x is = record { number = is.number; entries = is.entries; host_side = made-side Submission first x is.host_side }
+made-queue Completion first n q x is = record { number = is.number; entries = is.entries; host_side = made-side x.host.sq first x is.host_side }
+made-queue Submission first n q x is = record { number = is.number; entries = is.entries; host_side = made-side first x.host.cq x is.host_side }
 
 -- none of its identifiers is claimed, and none is outstanding
 
@@ -312,33 +251,20 @@ whole-zeros (p ∷ ps) = (length-zero_page, whole-zeros ps)
 pub settled-granted : (t : Tables) (half : Half) (q first : ℕ) → IsWhole t → IsBare t half q → run_for (state_of t) half ≡ Some first → Settled (granted half q first t)
 settled-granted t half q first w bare run =
     let s = settled-of t w in
-    let many = length-change q (making half first) t.queues in
-    record {
+    settled-turned t q (making half first) (with_pages (zeroed_pages (half_from t half first)) t.pages) (owned half q first t) t.records s
+    (record {
       pool = pool-with (zeroed_pages (half_from t half first)) t.pages (whole-zeros (half_from t half first)) s.pool;
       table = length-with_owner t.owners (half_from t half first) (owner.Queue q half) ∙ (s.table ∙ sym (length-with_pages (zeroed_pages (half_from t half first)) t.pages));
-      least_entries = s.least_entries;
-      most_entries = s.most_entries;
-      least_segment = s.least_segment;
-      most_segment = s.most_segment;
-      some_queues = subst (λ (n : ℕ). 2 ≤ n) (sym many) s.some_queues;
-      few_queues = subst (λ (n : ℕ). n ≤ 65) (sym many) s.few_queues;
-      record_queues = s.record_queues ∙ sym many;
-      record_places = s.record_places;
-      queues = record { each = each-change (IsQueue t.entries) q (making half first) t.queues (λ k y _ at. s.queues.each k y at) (λ y at. made-queue half first t.entries q y (s.queues.each q y at)) };
-      identifiers = record {
-        each = each-change (λ (k : ℕ) (y : Queue). ClaimsIdentifiers t.records k y.host.claimed) q (making half first) t.queues (λ k y _ at. s.identifiers.each k y at)
-            (λ y at. subst (ClaimsIdentifiers t.records q) (sym (made-claims half first q y)) (claims-none t.records q (y.host.entries - 1) bare.none));
-      };
-      owners = record {
-        queues_told = each-change (TellsQueue (owned half q first t)) q (making half first) t.queues
-            (λ k y _ at. others-told t half q first k y run (s.owners.queues_told k y at))
-            (λ y at.
-            let same : bare.queue ≡ y = some_is (sym bare.at ∙ at) in
-            own-told t half q first y run (subst (λ (z : Queue). z.state ≡ was half) same bare.state) (s.queues.each q y at).entries (s.owners.queues_told q y at));
-        commands_told = commands-told t half q first run s.owners.commands_told;
-      };
-      records = subst (λ (n : ℕ). AllByRecursion (IsRecord n) t.records) (sym many) s.records;
-    }
+      queue = λ y at. made-queue half first t.entries q y (s.queues.each q y at);
+      identifiers = s.identifiers.each;
+      claims = λ y at. subst (ClaimsIdentifiers t.records q) (sym (made-claims half first q y)) (claims-none t.records q (y.host.entries - 1) bare.none);
+      others = λ k y _ at. others-told t half q first k y run (s.owners.queues_told k y at);
+      own = λ y at.
+          let same : bare.queue ≡ y = some_is (sym bare.at ∙ at) in
+          own-told t half q first y run (subst (λ (z : Queue). z.state ≡ was half) same bare.state) (s.queues.each q y at).entries (s.owners.queues_told q y at);
+      commands = commands-told t half q first run s.owners.commands_told;
+      records = s.records;
+    })
 
 -- The machine that they stand for
 
@@ -387,7 +313,4 @@ run-within t half first k w is run =
 pub made-granted : (t : Tables) (half : Half) (q first k : ℕ) (pages : Pages) (owners : List Owner) (queues : List Queue) → k ≡ half_pages t.entries half
     → pages ≡ with_pages (zeroed_pages (pages_from first k)) t.pages → owners ≡ with_owner t.owners (pages_from first k) (owner.Queue q half) → queues ≡ change q (making half first) t.queues
     → record t { pages = pages; owners = owners; queues = queues } ≡ granted half q first t
-made-granted t half q first k pages owners queues is written given changed =
-    ap₂ (λ (m : Pages) (os : List Owner). record t { pages = m; owners = os; queues = queues }) written given
-    ∙ (ap (λ (qs : List Queue). record t { pages = with_pages (zeroed_pages (pages_from first k)) t.pages; owners = with_owner t.owners (pages_from first k) (owner.Queue q half); queues = qs }) changed
-    ∙ ap (λ (n : ℕ). record t { pages = with_pages (zeroed_pages (pages_from first n)) t.pages; owners = with_owner t.owners (pages_from first n) (owner.Queue q half); queues = change q (making half first) t.queues }) is)
+made-granted t half q first k pages owners queues is written given changed = rw (written, given, changed, is) refl

@@ -1,14 +1,15 @@
 -- Tables that were just opened, and the halves that were granted for them.
 use Rattle.page_ledger.specs.declared.owner.Owner.TheVariants as owner
 use Rattle.machine_model.specs.declared.words.Refusal.TheVariants as refusal
-use Rattle.std.proofs.Common.{◌≡◌, ◌⊎◌, inl, inr, ℕ, zero, suc, ◌+◌, ◌*◌, ◌<◌, ◌≤◌, false, Some, List, length, replicate, refl, ap, ap₂, sym, ◌∙◌, arith, subst, Option, slice_get, [], Fits, w16, ◌-◌, ◌==◌, ◌||◌, ◌&&◌, nat_le, leb-true, Bool, true, None, IfSome, ◌∷◌, map, filter, drop, eqb-true}
-use Rattle.std.proofs.{Math.Nat.mul-le-mul_right, lemmas.{Bool.{true≢false, cases_lt, and_parts}, List.{length-replicate, length-map}, Option.slice_get-map}}
+use Rattle.std.proofs.Common.{◌≡◌, inl, inr, ℕ, zero, suc, ◌+◌, ◌*◌, ◌<◌, ◌≤◌, false, Some, List, length, replicate, refl, ap, ap₂, sym, ◌∙◌, arith, subst, Option, slice_get, [], Fits, w16, ◌-◌, ◌==◌, ◌&&◌, nat_le, leb-true, Bool, true, None, IfSome, ◌∷◌, map, filter, drop, eqb-true}
+use Rattle.std.proofs.Math.Nat.{mul-le-mul_right}
+use Rattle.std.proofs.lemmas.{Bool.{true≢false, Decides.nat_tests, cases_Bool, cases_lt, and_parts}, List.{length-replicate, length-map}, Option.slice_get-map}
 use Rattle.std.specs.{List.Contains, Option.{option_map_or, option_map}}
-use Rattle.page_ledger.{proofs.{Pages.finds-lowest_run, Tables.{length-with_owner, owner-changed, owner-kept}}, specs.Laws.IsLowestRun}
+use Rattle.page_ledger.{proofs.{Pages.finds-lowest_run, Tables.{length-with_owner, owner-changed, owner-kept}}}
 use Rattle.page_ledger.specs.{Owners.{is_free, is_owned_at, owner_at, pages_from, with_owner, is_among, free_pages}, Runs.lowest_run}
 use Rattle.page_ledger.specs.declared.owner.Owner.{Owner}
 use Rattle.page_memory.{proofs.Bytes.length-zero_page, specs.{Pages.{Pages, page_at, zero_page}, declared.page.Half.TheVariants.{Submission, Completion}}}
-use Rattle.host_core.{proofs.Identifiers.{over_pages, whole_of, alone_sound, host_of, over_of}, specs.Alone.{HostView, HostStep, IsOver, alone}}
+use Rattle.host_core.{proofs.{Identifiers.{over_pages, whole_of, alone_sound, host_of, over_of}, Lists.some_is}, specs.Alone.{HostView, HostStep, IsOver, alone}}
 use Rattle.host_core.specs.Looks.{cause_of}
 use Rattle.host_core.specs.Opening.{sq_from, cq_from, IsFreeFrom, AreGranted, opened_view, opened_pages, refusal_of_config, fresh_at, fresh_queue, fresh_queues, HalvesGranted, opened}
 use Rattle.host_core.specs.{Parts.records_of, Ringing.head_of, Rows.{Queue, Kept}, Tables.{Tables, host_queue_of, state_of, view_of}}
@@ -24,27 +25,25 @@ use Rattle.slot_table.specs.Table.{TableOf}
 -- The run that is granted
 
 pub lowest_is : (base k : ℕ) (owners : List Owner) → 0 < k → base + k ≤ length owners → IsFreeFrom base owners → lowest_run k owners ≡ Some base
-lowest_is base k owners some room from = ((finds-lowest_run k owners some).found base).1 lowest
-  where
-    lowest : IsLowestRun k owners base
-    lowest = record { run = record { free = λ i l. from.free (base + i) (omega arith) (omega arith) }; lowest = λ q run. go q (run.free 0 some) (cases_lt q base) }
-      where
-        go : (q : ℕ) → owner_at owners (q + 0) ≡ Some owner.Free → (q < base) ⊎ (base ≤ q) → base ≤ q
-        go q at (inr l) = l
-        go q at (inl l) =
-            let same : q + 0 ≡ q = omega arith in
-            let here : owner_at owners q ≡ Some owner.Free = ap (owner_at owners) (sym same) ∙ at in
-            absurd (true≢false (sym (ap (λ o. option_map_or is_free o false) here) ∙ from.used q l))
+lowest_is base k owners some room from = ((finds-lowest_run k owners some).found base).1 (record {
+  run = record { free = λ i l. from.free (base + i) (omega arith) (omega arith) };
+  lowest = λ q run. elim (cases_lt q base) [
+    | inr l ↦ l
+    | inl l ↦
+        let same : q + 0 ≡ q = omega arith in
+        let here : owner_at owners q ≡ Some owner.Free = ap (owner_at owners) (sym same) ∙ run.free 0 some in
+        absurd (true≢false (sym (ap (λ o. option_map_or is_free o false) here) ∙ from.used q l))
+  ];
+})
 
 -- Whose the pages are then
 
 among_run : (p base k : ℕ) → base ≤ p → p < base + k → Contains (pages_from base k) p
 among_run p base zero low high = absurd (omega arith)
-among_run p base (suc k) low high = go (cases_lt base p) (λ l. among_run p (base + 1) k (omega arith) (omega arith))
-  where
-    go : (base < p) ⊎ (p ≤ base) → (base < p → Contains (pages_from (base + 1) k) p) → Contains (pages_from base (suc k)) p
-    go (inl l) ih = let r = ih l in (suc r.0, omega (arith, r.1), r.2)
-    go (inr l) ih = let same : base ≡ p = omega arith in (0, omega arith, same)
+among_run p base (suc k) low high = elim (cases_lt base p) [
+  | inl l ↦ let r = among_run p (base + 1) k (omega arith) (omega arith) in (suc r.0, omega (arith, r.1), r.2)
+  | inr l ↦ let same : base ≡ p = omega arith in (0, omega arith, same)
+]
 
 in_run : (p base k : ℕ) → Contains (pages_from base k) p → (base ≤ p) × (p < base + k)
 in_run p base zero (i, l, e) = absurd (omega arith)
@@ -63,13 +62,12 @@ run-behind owners base k p o l = owner-kept owners (pages_from base k) o p (λ h
 pub granted-from : (base k : ℕ) (owners : List Owner) (o : Owner) → is_free o ≡ false → base + k ≤ length owners → IsFreeFrom base owners → IsFreeFrom (base + k) (with_owner owners (pages_from base k) o)
 granted-from base k owners o owned room from =
     record {
-      used = λ p l. go p l (cases_lt p base);
+      used = λ p l. elim (cases_lt p base) [
+        | inl before ↦ ap (λ x. option_map_or is_free x false) (run-before owners base k p o before) ∙ from.used p before
+        | inr low ↦ ap (λ x. option_map_or is_free x false) (run-owner owners base k p o room low l) ∙ owned
+      ];
       free = λ p low high. run-behind owners base k p o low ∙ from.free p (omega arith) (omega (arith, length-with_owner owners (pages_from base k) o));
     }
-  where
-    go : (p : ℕ) → p < base + k → (p < base) ⊎ (base ≤ p) → is_owned_at is_free (with_owner owners (pages_from base k) o) p ≡ false
-    go p l (inl before) = ap (λ x. option_map_or is_free x false) (run-before owners base k p o before) ∙ from.used p before
-    go p l (inr low) = ap (λ x. option_map_or is_free x false) (run-owner owners base k p o room low l) ∙ owned
 
 -- One queue more
 
@@ -82,60 +80,47 @@ before_next a b r q l = let all : (r + 1) * (a + b) ≤ q * (a + b) = mul-le-mul
 next_from : (a b q : ℕ) → q * (a + b) + a + b ≡ (q + 1) * (a + b)
 next_from a b q = omega arith
 
-pub granted_more : (a b q : ℕ) (owners : List Owner) → sq_from a b (q + 1) ≤ length owners → AreGranted a b q owners → AreGranted a b (q + 1) (both a b q owners)
-granted_more a b q owners room granted =
-    record {
-      submission = λ r p l low high. sq r p low high (cases_lt r q) l;
-      completion = λ r p l low high. cq r p low high (cases_lt r q) l;
-      rest = subst (λ (n : ℕ). IsFreeFrom n (both a b q owners)) (next_from a b q)
-          (granted-from (cq_from a b q) b mid (owner.Queue q Completion) refl (fits (cq_from a b q + b) _ _ (length-with_owner owners (pages_from (sq_from a b q) a) (owner.Queue q Submission)) (up (next_from a b q) room))
-          (granted-from (sq_from a b q) a owners (owner.Queue q Submission) refl (less (sq_from a b q) a b _ (up (next_from a b q) room)) granted.rest));
-    }
-  where
-    mid : List Owner
-    mid = with_owner owners (pages_from (sq_from a b q) a) (owner.Queue q Submission)
-
-    up : {x y z : ℕ} → x ≡ y → y ≤ z → x ≤ z
-    up e l = omega arith
-
-    fits : (x y z : ℕ) → y ≡ z → x ≤ z → x ≤ y
-    fits x y z e l = omega arith
-
-    less : (x y z n : ℕ) → x + y + z ≤ n → x + y ≤ n
-    less x y z n l = omega arith
-
-    sq : (r p : ℕ) → sq_from a b r ≤ p → p < sq_from a b r + a → (r < q) ⊎ (q ≤ r) → r < q + 1 → owner_at (both a b q owners) p ≡ Some (owner.Queue r Submission)
-    sq r p low high (inl l) m =
-        let end = before_next a b r q l in
-        run-before mid (cq_from a b q) b p (owner.Queue q Completion) (omega arith)
-        ∙ (run-before owners (sq_from a b q) a p (owner.Queue q Submission) (omega arith) ∙ granted.submission r p l low high)
-    sq r p low high (inr l) m =
-        let same : q ≡ r = omega arith in
-        subst (λ (k : ℕ). owner_at (both a b q owners) p ≡ Some (owner.Queue k Submission)) same
-        (run-before mid (cq_from a b q) b p (owner.Queue q Completion) (subst (λ (k : ℕ). p < sq_from a b k + a) (sym same) high)
-        ∙ run-owner owners (sq_from a b q) a p (owner.Queue q Submission) (less (sq_from a b q) a b _ (up (next_from a b q) room)) (subst (λ (k : ℕ). sq_from a b k ≤ p) (sym same) low) (subst (λ (k : ℕ). p < sq_from a b k + a) (sym same) high))
-
-    cq : (r p : ℕ) → cq_from a b r ≤ p → p < cq_from a b r + b → (r < q) ⊎ (q ≤ r) → r < q + 1 → owner_at (both a b q owners) p ≡ Some (owner.Queue r Completion)
-    cq r p low high (inl l) m =
-        let end = before_next a b r q l in
-        run-before mid (cq_from a b q) b p (owner.Queue q Completion) (omega arith)
-        ∙ (run-before owners (sq_from a b q) a p (owner.Queue q Submission) (omega arith) ∙ granted.completion r p l low high)
-    cq r p low high (inr l) m =
-        let same : q ≡ r = omega arith in
-        subst (λ (k : ℕ). owner_at (both a b q owners) p ≡ Some (owner.Queue k Completion)) same
-        (run-owner mid (cq_from a b q) b p (owner.Queue q Completion) (fits (cq_from a b q + b) _ _ (length-with_owner owners (pages_from (sq_from a b q) a) (owner.Queue q Submission)) (up (next_from a b q) room))
-        (subst (λ (k : ℕ). cq_from a b k ≤ p) (sym same) low) (subst (λ (k : ℕ). p < cq_from a b k + b) (sym same) high))
-
--- The two grants, one after the other
-
-some_is : {x y : ℕ} → Some x ≡ Some y → x ≡ y
-some_is e = cc
-
 first_room : (a b q n : ℕ) → sq_from a b (q + 1) ≤ n → sq_from a b q + a ≤ n
 first_room a b q n room = omega (arith, room, next_from a b q)
 
 second_room : (a b q n : ℕ) → sq_from a b (q + 1) ≤ n → cq_from a b q + b ≤ n
 second_room a b q n room = omega (arith, room, next_from a b q)
+
+pub granted_more : (a b q : ℕ) (owners : List Owner) → sq_from a b (q + 1) ≤ length owners → AreGranted a b q owners → AreGranted a b (q + 1) (both a b q owners)
+granted_more a b q owners room granted =
+    record {
+      submission = λ r p l low high. elim (cases_lt r q) [
+        | inl before ↦
+            let end = before_next a b r q before in
+            run-before mid (cq_from a b q) b p (owner.Queue q Completion) (omega (arith, end, high))
+            ∙ (run-before owners (sq_from a b q) a p (owner.Queue q Submission) (omega (arith, end, high)) ∙ granted.submission r p before low high)
+        | inr past ↦
+            let same : r ≡ q = omega (arith, l, past) in
+            rw same (run-before mid (cq_from a b q) b p (owner.Queue q Completion) (rw same at high) ∙ run-owner owners (sq_from a b q) a p
+            (owner.Queue q Submission) first (rw same at low) (rw same at high))
+      ];
+      completion = λ r p l low high. elim (cases_lt r q) [
+        | inl before ↦
+            let end = before_next a b r q before in
+            run-before mid (cq_from a b q) b p (owner.Queue q Completion) (omega (arith, end, high))
+            ∙ (run-before owners (sq_from a b q) a p (owner.Queue q Submission) (omega (arith, end, high)) ∙ granted.completion r p before low high)
+        | inr past ↦
+            let same : r ≡ q = omega (arith, l, past) in rw same (run-owner mid (cq_from a b q) b p (owner.Queue q Completion) second (rw same at low) (rw same at high))
+      ];
+      rest = subst (λ (n : ℕ). IsFreeFrom n (both a b q owners)) (next_from a b q)
+          (granted-from (cq_from a b q) b mid (owner.Queue q Completion) refl second (granted-from (sq_from a b q) a owners (owner.Queue q Submission) refl first granted.rest));
+    }
+  where
+    mid : List Owner
+    mid = with_owner owners (pages_from (sq_from a b q) a) (owner.Queue q Submission)
+
+    first : sq_from a b q + a ≤ length owners
+    first = first_room a b q (length owners) room
+
+    second : cq_from a b q + b ≤ length mid
+    second = omega (arith, second_room a b q (length owners) room, length-with_owner owners (pages_from (sq_from a b q) a) (owner.Queue q Submission))
+
+-- The two grants, one after the other
 
 pub first_run : (a b q x : ℕ) (owners : List Owner) → 0 < a → x ≡ a → sq_from a b (q + 1) ≤ length owners → AreGranted a b q owners → lowest_run x owners ≡ Some (sq_from a b q)
 first_run a b q x owners some e room granted =
@@ -248,29 +233,18 @@ pub record Limits (c : Config) : Type 0 where
   pub least_segment : 2 ≤ c.segment
   pub most_segment : c.segment ≤ 256
 
-limits_from : (p q n s : ℕ) → is_config p q n s ≡ true → (8 ≤ p) × (p ≤ 65536) × (1 ≤ q) × (q ≤ 64) × (2 ≤ n) × (n ≤ 1024) × (2 ≤ s) × (s ≤ 256)
-limits_from p q n s h =
-    let g = and_parts (nat_le 8 p && nat_le p 65536 && nat_le 1 q && nat_le q 64 && nat_le 2 n && nat_le n 1024 && nat_le 2 s) (nat_le s 256) h in
-    let f = and_parts (nat_le 8 p && nat_le p 65536 && nat_le 1 q && nat_le q 64 && nat_le 2 n && nat_le n 1024) (nat_le 2 s) g.0 in
-    let e = and_parts (nat_le 8 p && nat_le p 65536 && nat_le 1 q && nat_le q 64 && nat_le 2 n) (nat_le n 1024) f.0 in
-    let d = and_parts (nat_le 8 p && nat_le p 65536 && nat_le 1 q && nat_le q 64) (nat_le 2 n) e.0 in
-    let c = and_parts (nat_le 8 p && nat_le p 65536 && nat_le 1 q) (nat_le q 64) d.0 in
-    let b = and_parts (nat_le 8 p && nat_le p 65536) (nat_le 1 q) c.0 in
-    let a = and_parts (nat_le 8 p) (nat_le p 65536) b.0 in
-    (leb-true 8 p a.0, leb-true p 65536 a.1, leb-true 1 q b.1, leb-true q 64 c.1, leb-true 2 n d.1, leb-true n 1024 e.1, leb-true 2 s f.1, leb-true s 256 g.1)
-
 pub limits : (c : Config) → refusal_of_config c ≡ None → Limits c
 limits c opens =
-    let l = limits_from c.pages c.queues c.entries c.segment (in_limits c.pages c.queues c.entries c.segment opens) in
+    let h = in_limits c.pages c.queues c.entries c.segment opens in
     record {
-      least_pages = l.0;
-      most_pages = l.1;
-      least_queues = l.2;
-      most_queues = l.3;
-      least_entries = l.4;
-      most_entries = l.5;
-      least_segment = l.6;
-      most_segment = l.7;
+      least_pages = grind (arith, nat_tests, h);
+      most_pages = grind (arith, nat_tests, h);
+      least_queues = grind (arith, nat_tests, h);
+      most_queues = grind (arith, nat_tests, h);
+      least_entries = grind (arith, nat_tests, h);
+      most_entries = grind (arith, nat_tests, h);
+      least_segment = grind (arith, nat_tests, h);
+      most_segment = grind (arith, nat_tests, h);
     }
 
 pub fits : (c : Config) → refusal_of_config c ≡ None → sq_from (half_pages c.entries Submission) (half_pages c.entries Completion) (c.queues + 1) ≤ c.pages
@@ -278,12 +252,9 @@ fits c opens = fits_pool c.pages c.queues c.entries c.segment opens
 
 -- The queues
 
-some_is_fresh : {X : Type 0} {x y : X} → Some x ≡ Some y → x ≡ y
-some_is_fresh e = cc
-
 fresh_get : (n b count k : ℕ) (queue : Queue) → slice_get (map (fresh_queue n) (pages_from b count)) k ≡ Some queue → (k < count) × (fresh_queue n (b + k) ≡ queue)
 fresh_get n b zero k queue e = absurd cc
-fresh_get n b (suc count) zero queue e = let same : b + 0 ≡ b = omega arith in (omega arith, ap (fresh_queue n) same ∙ some_is_fresh e)
+fresh_get n b (suc count) zero queue e = let same : b + 0 ≡ b = omega arith in (omega arith, ap (fresh_queue n) same ∙ some_is e)
 fresh_get n b (suc count) (suc k) queue e =
     let rest = fresh_get n (b + 1) count k queue e in
     let same : b + suc k ≡ b + 1 + k = omega arith in
@@ -316,11 +287,10 @@ none_claimed q k = record { told = λ cid l. all_at k cid false (omega (arith, l
 
 among_range : (a k p : ℕ) → is_among (pages_from a k) p ≡ true → (a ≤ p) × (p < a + k)
 among_range a zero p h = absurd (true≢false (sym h))
-among_range a (suc k) p h = go (a == p) refl h (λ e. among_range (a + 1) k p e)
-  where
-    go : (b : Bool) → (a == p) ≡ b → (b || is_among (pages_from (a + 1) k) p) ≡ true → (is_among (pages_from (a + 1) k) p ≡ true → (a + 1 ≤ p) × (p < a + 1 + k)) → (a ≤ p) × (p < a + suc k)
-    go true e g ih = let same : a ≡ p = eqb-true a p e in (omega (arith, same), omega (arith, same))
-    go false e g ih = let r = ih g in (omega (arith, r.0), omega (arith, r.1))
+among_range a (suc k) p h = elim (cases_Bool (a == p)) [
+  | inl e ↦ let same : a ≡ p = eqb-true a p e in (omega (arith, same), omega (arith, same))
+  | inr e ↦ let r = among_range (a + 1) k p (rw e at h) in (omega (arith, r.0), omega (arith, r.1))
+]
 
 fresh_told : (n count : ℕ) (owners : List Owner) → HalvesGranted n count owners → (q : ℕ) → q < count → TellsQueue owners q (fresh_queue n q)
 fresh_told n count owners granted q l =
@@ -387,13 +357,11 @@ pub opens_made : (c : Config) (owners : List Owner) (table : TableOf Kept) (queu
     → table ≡ no_records c → queues ≡ fresh_queues c.entries (c.queues + 1) → Opens c (made c owners table queues)
 opens_made c owners table queues opens size granted er eq =
     let w = opened_whole c owners opens size granted in
-    let here : Opens c (made c owners (no_records c) (fresh_queues c.entries (c.queues + 1))) =
-    record {
+    rw (er, eq) (record {
       host = host_of (made c owners (no_records c) (fresh_queues c.entries (c.queues + 1))) (replicate c.pages (Some zero_page)) w;
       view = opened_view_is c owners size granted;
       over = over_of (opened c owners) w;
-    } in
-    subst (λ (rs : TableOf Kept). Opens c (made c owners rs queues)) (sym er) (subst (λ (qs : List Queue). Opens c (made c owners (no_records c) qs)) (sym eq) here)
+    })
 
 pub fits_word : (c : Config) → refusal_of_config c ≡ None → Fits w16 c.entries × Fits w16 c.segment
 fits_word c opens = let l = limits c opens in (record { fits = omega (arith, l.most_entries) }, record { fits = omega (arith, l.most_segment) })

@@ -1,16 +1,17 @@
 -- Records that are found by their names; and an I/O command stays outstanding until it is cancelled or released.
 use Rattle.machine_model.specs.After as a
 use Rattle.machine_model.specs.Events as events
-use Rattle.std.proofs.Common.{◌≡◌, ℕ, ◌==◌, Bool, true, false, not, ◌&&◌, ◌||◌, Some, None, List, [], ◌∷◌, ◌++◌, map, filter, find, cond, if◌then◌else◌, refl, ap, sym, ◌∙◌, eqb-true, eq-eqb, Option, length, subst, MatchBool}
-use Rattle.std.{proofs.lemmas.Bool.{true≢false, and_parts, not-true}, specs.{List.list_any, Option.{option_and_then, option_map}}}
-use Rattle.machine_model.proofs.{HostLeaves.{io_left, host_leaves, ids_of}, Moves.{host_moves, drafted_record, sent_record, creates_cq, creates_sq}}
+use Rattle.std.proofs.Common.{◌≡◌, ℕ, ◌==◌, Bool, true, false, not, ◌&&◌, ◌||◌, Some, None, List, [], ◌∷◌, ◌++◌, map, filter, find, if◌then◌else◌, refl, ap, sym, ◌∙◌, eqb-true, eq-eqb, Option, length, subst, MatchBool, inl, inr, arith}
+use Rattle.std.proofs.lemmas.Bool.{and_parts, cond_both, false_from_ne_true, not-true, Decides.nat_tests}
+use Rattle.std.specs.{List.list_any, Option.{option_and_then, option_map}}
+use Rattle.machine_model.proofs.{Cases.option_is, HostLeaves.{io_left, host_leaves, ids_of}, Moves.{host_moves, drafted_record, sent_record, creates_cq, creates_sq}}
 use Rattle.machine_model.{proofs.{Owned.reset_length, Steps.{Accepts, part_controller, part_left}}, specs.Events.{Event, Reply}}
 use Rattle.machine_model.specs.{Refusals.{is_submitted, refusal_of}, State.{Record, is_at, with_record, without_record, State, HostQueue, record_at}}
 use Rattle.machine_model.specs.Step.{Step, HostPart, IsController, IsReserved, IsNewIdentifier, Permits, asked_by, finished_from, host_part, pages_with_bytes}
-use Rattle.machine_model.specs.declared.words.{Phase.TheVariants.Held, Work.TheVariants.{Io, Management}}
+use Rattle.machine_model.specs.declared.words.{Work.TheVariants.{Io, Management}}
 use Rattle.host_core.{proofs.{Identifiers.outstanding-among, Lists.{found_is, some_is, length-change}}, specs.CommandValues.IsOutstanding}
 use Rattle.admin_commands.specs.declared.AdminKind.{AdminKind, TheVariants.{Abort, DeleteSq, DeleteCq, CreateCq, CreateSq}}
-use Rattle.entry_codec.specs.declared.status.{Status.Status, TheConstants.Status.ABORTED_SQ_DELETION}
+use Rattle.entry_codec.specs.declared.status.{Status.Status}
 use Rattle.io_commands.specs.{Asked.Request, Drafts.DraftContents, Values.FinishedContents}
 
 -- Records that are found by their names: others are added, changed and taken out.
@@ -19,102 +20,49 @@ use Rattle.io_commands.specs.{Asked.Request, Drafts.DraftContents, Values.Finish
 
 pub find_more : {X : Type 0} (p : X → Bool) (xs ys : List X) (r : X) → find p xs ≡ Some r → find p (xs ++ ys) ≡ Some r
 find_more p [] ys r e = absurd cc
-find_more {X} p (x ∷ xs) ys r e = go (p x) e (find_more p xs ys r)
-  where
-    go : (b : Bool) → cond b (Some x) (find p xs) ≡ Some r → (find p xs ≡ Some r → find p (xs ++ ys) ≡ Some r) → cond b (Some x) (find p (xs ++ ys)) ≡ Some r
-    go true e ih = e
-    go false e ih = ih e
+find_more p (x ∷ xs) ys r e = grind (arith, find_more p xs ys r)
 
 pub find_last : {X : Type 0} (p : X → Bool) (xs : List X) (y : X) → list_any p xs ≡ false → p y ≡ true → find p (xs ++ y ∷ []) ≡ Some y
-find_last p [] y none is = ap (λ (b : Bool). cond b (Some y) None) is
-find_last {X} p (x ∷ xs) y none is = go (p x) none (find_last p xs y)
-  where
-    go : (b : Bool) → (b || list_any p xs) ≡ false → (list_any p xs ≡ false → p y ≡ true → find p (xs ++ y ∷ []) ≡ Some y) → cond b (Some x) (find p (xs ++ y ∷ [])) ≡ Some y
-    go true none ih = absurd (true≢false none)
-    go false none ih = ih none is
+find_last p [] y none is = rw is refl
+find_last p (x ∷ xs) y none is = grind (arith, find_last p xs y, is)
 
 pub found_any : {X : Type 0} (p : X → Bool) (xs : List X) (y : X) → find p xs ≡ Some y → list_any p xs ≡ true
 found_any p [] y e = absurd cc
-found_any {X} p (x ∷ xs) y e = go (p x) e (found_any p xs y)
-  where
-    go : (b : Bool) → cond b (Some x) (find p xs) ≡ Some y → (find p xs ≡ Some y → list_any p xs ≡ true) → (b || list_any p xs) ≡ true
-    go true e ih = refl
-    go false e ih = ih e
+found_any p (x ∷ xs) y e = grind (arith, found_any p xs y)
 
 pub find_changed : {X : Type 0} (p : X → Bool) (g : X → X) → ((x : X) → p (g x) ≡ p x) → (xs : List X) (r : X) → find p xs ≡ Some r → find p (map g xs) ≡ Some (g r)
 find_changed p g same [] r e = absurd cc
-find_changed {X} p g same (x ∷ xs) r e = ap (λ (b : Bool). cond b (Some (g x)) (find p (map g xs))) (same x) ∙ go (p x) e (find_changed p g same xs r)
-  where
-    go : (b : Bool) → cond b (Some x) (find p xs) ≡ Some r → (find p xs ≡ Some r → find p (map g xs) ≡ Some (g r)) → cond b (Some (g x)) (find p (map g xs)) ≡ Some (g r)
-    go true e ih = let here : x ≡ r = cc in ap (λ (y : X). Some (g y)) here
-    go false e ih = ih e
+find_changed p g same (x ∷ xs) r e = grind (arith, same x, find_changed p g same xs r)
 
 find_left : {X : Type 0} (p f : X → Bool) → ((x : X) → p x ≡ true → f x ≡ true) → (xs : List X) (r : X) → find p xs ≡ Some r → find p (filter f xs) ≡ Some r
 find_left p f keeps [] r e = absurd cc
-find_left {X} p f keeps (x ∷ xs) r e = go (p x) refl (f x) refl e (find_left p f keeps xs r)
-  where
-    go : (b : Bool) → p x ≡ b → (c : Bool) → f x ≡ c → cond b (Some x) (find p xs) ≡ Some r → (find p xs ≡ Some r → find p (filter f xs) ≡ Some r) → find p (if c then x ∷ filter f xs else filter f xs) ≡ Some r
-    go true is true kept e ih = ap (λ (b : Bool). cond b (Some x) (find p (filter f xs))) is ∙ e
-    go true is false kept e ih = absurd (true≢false (sym (keeps x is) ∙ kept))
-    go false is true kept e ih = ap (λ (b : Bool). cond b (Some x) (find p (filter f xs))) is ∙ ih e
-    go false is false kept e ih = ih e
+find_left p f keeps (x ∷ xs) r e = grind (arith, keeps x, find_left p f keeps xs r)
 
 -- Names
 
 pub ids : (q cid : ℕ) (r : Record) → is_at q cid r ≡ true → (r.q ≡ q) × (r.cid ≡ cid)
 ids q cid r e = let both = and_parts (r.q == q) (r.cid == cid) e in (eqb-true r.q q both.0, eqb-true r.cid cid both.1)
 
-both_are : (k n q cid : ℕ) → k ≡ q → n ≡ cid → ((k == q) && (n == cid)) ≡ true
-both_are k n q cid queue identifier = rw (eq-eqb k q queue, eq-eqb n cid identifier) refl
-
 module _ (q cid k n : ℕ) (rs : List Record) (r : Record) (at : find (is_at q cid) rs ≡ Some r) where
   -- a record that is found by one name only
   pub other_than : (x : Record) → find (is_at k n) rs ≡ Some x → (x ≡ r → ⊥) → is_at k n r ≡ false
-  other_than x there other = go (is_at k n r) refl
-    where
-      go : (b : Bool) → is_at k n r ≡ b → b ≡ false
-      go false e = refl
-      go true e =
-          let mine = ids q cid r (found_is (is_at q cid) rs r at) in
-          let its = ids k n r e in
-          absurd (other (some_is (sym there ∙ ap (λ (m : ℕ). find (is_at m n) rs) (sym its.0 ∙ mine.0) ∙ ap (λ (m : ℕ). find (is_at q m) rs) (sym its.1 ∙ mine.1) ∙ at)))
+  other_than x there other = false_from_ne_true (is_at k n r) (λ e.
+      let mine = ids q cid r (found_is (is_at q cid) rs r at) in
+      let its = ids k n r e in
+      other (some_is (sym there ∙ ap (λ (m : ℕ). find (is_at m n) rs) (sym its.0 ∙ mine.0) ∙ ap (λ (m : ℕ). find (is_at q m) rs) (sym its.1 ∙ mine.1) ∙ at)))
 
   pub off_name : ((k == q) && (n == cid)) ≡ false → is_at k n r ≡ false
-  off_name far = go (is_at k n r) refl
-    where
-      go : (b : Bool) → is_at k n r ≡ b → b ≡ false
-      go false e = refl
-      go true e =
-          let mine = ids q cid r (found_is (is_at q cid) rs r at) in
-          let its = ids k n r e in
-          absurd (true≢false (sym (both_are k n q cid (sym its.0 ∙ mine.0) (sym its.1 ∙ mine.1)) ∙ far))
+  off_name far = let mine = ids q cid r (found_is (is_at q cid) rs r at) in grind (arith, nat_tests, mine.0, mine.1, far)
 
   pub apart : is_at k n r ≡ false → ((k == q) && (n == cid)) ≡ false
-  apart far = go ((k == q) && (n == cid)) refl
-    where
-      go : (b : Bool) → ((k == q) && (n == cid)) ≡ b → b ≡ false
-      go false e = refl
-      go true e =
-          let both = and_parts (k == q) (n == cid) e in
-          let mine = ids q cid r (found_is (is_at q cid) rs r at) in
-          absurd (true≢false (sym (both_are r.q r.cid k n (mine.0 ∙ sym (eqb-true k q both.0)) (mine.1 ∙ sym (eqb-true n cid both.1))) ∙ far))
+  apart far = let mine = ids q cid r (found_is (is_at q cid) rs r at) in grind (arith, nat_tests, mine.0, mine.1, far)
 
   pub found_with : (f : Record → Record) → ((x : Record) → is_at q cid (f x) ≡ is_at q cid x) → find (is_at q cid) (with_record k n f rs) ≡ Some (if is_at k n r then f r else r)
-  found_with f same = find_changed (is_at q cid) (λ (x : Record). if is_at k n x then f x else x) (λ x. each x (is_at k n x)) rs r at
-    where
-      each : (x : Record) (b : Bool) → is_at q cid (if b then f x else x) ≡ is_at q cid x
-      each x true = same x
-      each x false = refl
+  found_with f same =
+      find_changed (is_at q cid) (λ (x : Record). if is_at k n x then f x else x) (λ x. cond_both (is_at k n x) _ _ (λ y. is_at q cid y ≡ is_at q cid x) (λ _. same x) (λ _. refl)) rs r at
 
   pub found_without : ((k == q) && (n == cid)) ≡ false → find (is_at q cid) (without_record k n rs) ≡ Some r
-  found_without far = find_left (is_at q cid) (λ (x : Record). not (is_at k n x)) (λ x mine. keeps x mine (is_at k n x) refl) rs r at
-    where
-      keeps : (x : Record) → is_at q cid x ≡ true → (b : Bool) → is_at k n x ≡ b → not b ≡ true
-      keeps x mine false e = refl
-      keeps x mine true e =
-          let m = ids q cid x mine in
-          let i = ids k n x e in
-          absurd (true≢false (sym (both_are k n q cid (sym i.0 ∙ m.0) (sym i.1 ∙ m.1)) ∙ far))
+  found_without far = find_left (is_at q cid) (λ (x : Record). not (is_at k n x)) (λ x mine. grind (arith, nat_tests, mine, far)) rs r at
 
 -- An I/O command stays outstanding until it is cancelled or released, whatever else happens; and no event changes how many queues there are.
 
@@ -122,8 +70,7 @@ module _ (q cid k n : ℕ) (rs : List Record) (r : Record) (at : find (is_at q c
 
 surely : {A : Type 0} (B : Type 0) (t c : Bool) → c ≡ false → MatchBool (t || not c) A B → A
 surely B true c e h = h
-surely B false true e h = absurd (true≢false e)
-surely B false false e h = h
+surely B false c e h = rw e at h
 
 anyway : (P : HostPart → Type 0) (s : State) (e : Event) (reply : Reply) (b : Bool) → IsController e ≡ b → Permits s e reply
     → (Accepts s e reply → IsController e ≡ false → P (host_part s) → P (host_part (a.after s e reply))) → P (host_part s) → P (host_part (a.after s e reply))
@@ -139,29 +86,24 @@ one_step P s e reply new step each h = subst P (sym (part_left s e reply new ste
 -- What changes records
 
 changed : (q cid k n : ℕ) (f : Record → Record) (rs : List Record) → ((x : Record) → is_at q cid (f x) ≡ is_at q cid x) → ((x : Record) → (f x).work ≡ x.work) → IsOutstanding q cid rs → IsOutstanding q cid (with_record k n f rs)
-changed q cid k n f rs same work (r, at, asked, is) = ((if is_at k n r then f r else r), found_with q cid k n rs r at f same, asked, its (is_at k n r) ∙ is)
-  where
-    its : (b : Bool) → (if b then f r else r).work ≡ r.work
-    its true = work r
-    its false = refl
+changed q cid k n f rs same work (r, at, asked, is) = (
+  (if is_at k n r then f r else r),
+  found_with q cid k n rs r at f same,
+  asked,
+  cond_both (is_at k n r) _ _ (λ (x : Record). x.work ≡ Io asked) (λ _. work r ∙ is) (λ _. is),
+)
 
 lost : (q cid k : ℕ) (rs : List Record) → IsOutstanding q cid rs → IsOutstanding q cid (map (a.lost k) rs)
-lost q cid k rs (r, at, asked, is) = (a.lost k r, find_changed (is_at q cid) (a.lost k) (λ x. each x ((x.q == k) && is_submitted x.phase)) rs r at, asked, its ((r.q == k) && is_submitted r.phase) ∙ is)
-  where
-    each : (x : Record) (b : Bool) → is_at q cid (if b then record x { phase = Held; status = Some ABORTED_SQ_DELETION } else x) ≡ is_at q cid x
-    each x true = refl
-    each x false = refl
-
-    its : (b : Bool) → (if b then record r { phase = Held; status = Some ABORTED_SQ_DELETION } else r).work ≡ r.work
-    its true = refl
-    its false = refl
+lost q cid k rs (r, at, asked, is) = (
+  a.lost k r,
+  find_changed (is_at q cid) (a.lost k) (λ x. cond_both ((x.q == k) && is_submitted x.phase) _ _ (λ y. is_at q cid y ≡ is_at q cid x) (λ _. refl) (λ _. refl)) rs r at,
+  asked,
+  cond_both ((r.q == k) && is_submitted r.phase) _ _ (λ (y : Record). y.work ≡ Io asked) (λ _. is) (λ _. is),
+)
 
 reset : (q cid : ℕ) (s : State) → IsOutstanding q cid s.host.records → IsOutstanding q cid (a.reset_records s.host.records)
-reset q cid s (r, at, asked, is) = (a.lost_anywhere r, io_left s q cid r asked at is, asked, its (is_submitted r.phase) ∙ is)
-  where
-    its : (b : Bool) → (if b then record r { phase = Held; status = Some ABORTED_SQ_DELETION } else r).work ≡ r.work
-    its true = refl
-    its false = refl
+reset q cid s (r, at, asked, is) =
+    (a.lost_anywhere r, io_left s q cid r asked at is, asked, cond_both (is_submitted r.phase) _ _ (λ (y : Record). y.work ≡ Io asked) (λ _. is) (λ _. is))
 
 -- One event
 
@@ -258,17 +200,15 @@ names_of s r f (Some request) (Some st) e = let same = some_is e in (ap (λ (x :
 
 -- gives a command of the name that was asked for
 pub collected_named : (s new : State) (q cid : ℕ) (f : FinishedContents) → Step s (events.Collect q cid) (events.Collects f) new → (f.q ≡ q) × (f.cid ≡ cid)
-collected_named s new q cid f step = go (record_at s.host q cid) refl ok.1
-  where
-    ok : (refusal_of s (events.Collect q cid) ≡ None) × (option_and_then (finished_from s) (record_at s.host q cid) ≡ Some f)
-    ok = accepted _ s.trusted step.1
-
-    go : (o : Option Record) → record_at s.host q cid ≡ o → option_and_then (finished_from s) o ≡ Some f → (f.q ≡ q) × (f.cid ≡ cid)
-    go None e h = absurd cc
-    go (Some r) e h =
-        let its = names_of s r f (asked_by r.work) r.status h in
-        let ids = ids_of s q cid r e in
-        (its.0 ∙ ids.0, its.1 ∙ ids.1)
+collected_named s new q cid f step =
+    let ok : (refusal_of s (events.Collect q cid) ≡ None) × (option_and_then (finished_from s) (record_at s.host q cid) ≡ Some f) = accepted _ s.trusted step.1 in
+    elim (option_is (record_at s.host q cid)) [
+      | inl e ↦ let none : None ≡ Some f = rw e at ok.1 in absurd cc
+      | inr (r, e) ↦
+          let its = names_of s r f (asked_by r.work) r.status (rw e at ok.1) in
+          let ids = ids_of s q cid r e in
+          (its.0 ∙ ids.0, its.1 ∙ ids.1)
+    ]
 
 -- How many queues there are
 

@@ -2,19 +2,22 @@
 use Rattle.machine_model.specs.Events as events
 use Rattle.page_ledger.specs.declared.owner.Owner.TheVariants as owner
 use Rattle.machine_model.specs.After as a
-use Rattle.std.proofs.Common.{◌≡◌, ℕ, zero, suc, Bool, true, false, not, ◌&&◌, ◌||◌, List, [], ◌∷◌, length, MatchBool, refl, ap, ◌≢◌, ◌+◌, ◌<◌, ◌≤◌, Some, IsSome, ◌++◌, map, slice_get, slice_set, get_or, sym, ◌∙◌, subst, arith, ◌==◌, eq-eqb, ◌*◌, ◌/◌, ◌%◌, Option, None, IfSome, take, drop, length-set, length-append, ◌-◌, if◌then◌else◌}
-use Rattle.std.proofs.lemmas.{Bool.not-false, List.{length-take-le, length-drop, Folds.list_any-append}, Option.{slice_get_within, slice_get-map}}
+use Rattle.std.proofs.Common.{◌≡◌, ℕ, zero, suc, Bool, true, false, not, ◌&&◌, ◌||◌, List, [], ◌∷◌, length, MatchBool, refl, ap, ◌≢◌, ◌+◌, ◌<◌, ◌≤◌, Some, IsSome, ◌++◌, map, slice_get, slice_set, get_or, sym, ◌∙◌, subst, arith, ◌==◌, eq-eqb, ◌*◌, ◌/◌, ◌%◌, Option, None, take, drop, length-set, length-append, ◌-◌, if◌then◌else◌, inl, inr}
+use Rattle.std.proofs.lemmas.Bool.{and_right, false_from_ne_true, not-false, not-true, or_from, or_left, or_right}
+use Rattle.std.proofs.lemmas.{List.{length-take-le, length-drop, Folds.list_any-append}, Option.{slice_get_within, slice_get-map}}
 use Rattle.std.specs.{List.{AllByRecursion, list_any}, Option.{option_and_then, option_map, option_map_or}, Prelude.{slice_index, slice_range}}
-use Rattle.machine_model.{proofs.{Headline.steps_keep, Kept.{reaped_has_cq, sq_with_cq}}, specs.{After.{after, change}, Claims.{IsSound, is_away}}}
+use Rattle.machine_model.{proofs.{Cases.option_is, Headline.steps_keep, Kept.{reaped_has_cq, sq_with_cq}}, specs.{After.{after, change}, Claims.{IsSound, is_away}}}
 use Rattle.machine_model.specs.{Events.{Event, Reply}, Memory.is_in, Proper.IsProper}
 use Rattle.machine_model.specs.Refusals.{has_cq, has_sq, slot_page, slot_offset, host_queue, in_state, seen_entry, slot_bytes, slot_entry, is_reaped}
 use Rattle.machine_model.specs.State.{State, Record, pages_of, Device, HostQueue, DeviceQueue}
 use Rattle.machine_model.specs.Step.{Step, IsController, KeepsDevice, forges, resets, LeavesByController, LeavesByHost, host_part}
 use Rattle.machine_model.specs.declared.words.HostState.{HostState, TheVariants.{Gone, HalfMade}}
+use Rattle.host_core.proofs.PageOwners.{among-from}
+use Rattle.host_core.proofs.Lists.{change-at-lists as change-at, each-change, get-at, length-change}
 use Rattle.host_core.specs.{Alone.alone, Exact.Exactly, Looks.completion_base, Posting.{with_tail_moved, tail_place, posted, CanPost}}
 use Rattle.host_core.specs.{Reaping.{IsCompletionSlot, lacks_completion, with_state}, Rows.Queue}
 use Rattle.host_core.specs.Tables.{Tables, state_of, host_queue_of, sq_pages_of, view_of, cq_pages_of}
-use Rattle.host_core.specs.Whole.{IsWhole, TellsCommand, HaveOwner, IsQueue, AreQueues, IsRecord, ClaimIdentifiers, ClaimsIdentifiers, Tells, TellsQueue}
+use Rattle.host_core.specs.Whole.{IsWhole, HasLimits, TellsCommand, HaveOwner, IsQueue, AreQueues, IsRecord, ClaimIdentifiers, ClaimsIdentifiers, Tells, TellsQueue}
 use Rattle.page_ledger.specs.{Owners.{is_among, owner_at, pages_from}, declared.owner.Owner.Owner}
 use Rattle.page_memory.{proofs.Bytes.{bytes_within, told, told as same_pool, byte_at-with_page_bytes}, specs.Memory.{written, bytes_at, Memory}}
 use Rattle.page_memory.specs.{Pages.{byte_at, page_at, Pages, with_bytes, with_page_bytes, AreWhole, IsPool}, declared.page.Half.Half}
@@ -27,21 +30,14 @@ use Rattle.entry_codec.specs.declared.submission.SubEntry.{SubEntry}
 
 -- What a call of the host answers and leaves exactly is a step of the host.
 
-pub length-change : {A : Type 0} (k : ℕ) (f : A → A) (xs : List A) → length (change k f xs) ≡ length xs
-length-change k f [] = refl
-length-change zero f (x ∷ xs) = refl
-length-change (suc k) f (x ∷ xs) = ap suc (length-change k f xs)
-
 surely : (A B : Type 0) (c : Bool) → c ≡ false → A → MatchBool (not c) A B
-surely A B true e h = cc
-surely A B false e h = h
+surely A B c e h = rw e h
 
 leaves : (r f c : Bool) (s next new : State) → c ≡ false → new ≡ next → KeepsDevice s new
     → MatchBool (r || (not f && false)) (new ≡ next) (MatchBool c (LeavesByController s next new) (LeavesByHost s next new))
 leaves true f c s next new e h k = h
-leaves false f true s next new e h k = cc
-leaves false true false s next new e h k = record { part = ap host_part h; memory = ap (λ (y : State). y.memory) h; device = k }
-leaves false false false s next new e h k = record { part = ap host_part h; memory = ap (λ (y : State). y.memory) h; device = k }
+leaves false true c s next new e h k = rw e (record { part = ap host_part h; memory = ap (λ (y : State). y.memory) h; device = k })
+leaves false false c s next new e h k = rw e (record { part = ap host_part h; memory = ap (λ (y : State). y.memory) h; device = k })
 
 keeps : (t new : Tables) → KeepsDevice (state_of t) (state_of new)
 keeps t new = record { image = refl; queues = refl }
@@ -51,82 +47,28 @@ host_step t new e (events.Refused why touched) c p h = (p, surely _ _ (IsControl
 host_step t new e reply c p h =
     (p, surely _ _ (IsController e) c (h.0, h.1), leaves (resets e) (forges e) (IsController e) (state_of t) (after (state_of t) e reply) (state_of new) c h.2 (keeps t new))
 
-pub sound_after : (s : State) (e : Event) (reply : Reply) (new : State) → Step s e reply new → IsSound s → IsSound new
-sound_after s e reply new step h = steps_keep s e reply new step h
-
 -- Queues in a list, and what the rings of one show.
-
--- Lists with one member changed
-
-pub each-change : {A : Type 0} (P : ℕ → A → Type 0) (q : ℕ) (f : A → A) (xs : List A)
-    → ((k : ℕ) (x : A) → k ≢ q → slice_get xs k ≡ Some x → P k x) → ((x : A) → slice_get xs q ≡ Some x → P q (f x))
-    → (k : ℕ) (y : A) → slice_get (change q f xs) k ≡ Some y → P k y
-each-change P q f [] all one k y e = cc
-each-change {A = A} P zero f (x ∷ xs) all one zero y e = let same : f x ≡ y = cc in subst (λ (z : A). P 0 z) same (one x refl)
-each-change P zero f (x ∷ xs) all one (suc k) y e = all (suc k) y (λ h. cc) e
-each-change P (suc q) f (x ∷ xs) all one zero y e = all 0 y (λ h. cc) e
-each-change P (suc q) f (x ∷ xs) all one (suc k) y e = each-change (λ (n : ℕ). P (suc n)) q f xs (λ n z other. all (suc n) z (λ h. other (omega (arith, h)))) one k y e
-
-pub map-alike : {A B : Type 0} (seen seen' : A → B) (xs : List A) → ((k : ℕ) (x : A) → slice_get xs k ≡ Some x → seen' x ≡ seen x) → map seen' xs ≡ map seen xs
-map-alike seen seen' [] h = refl
-map-alike {B = B} seen seen' (x ∷ xs) h = ap (λ (y : B). y ∷ map seen' xs) (h 0 x refl) ∙ ap (λ (l : List B). seen x ∷ l) (map-alike seen seen' xs (λ k z e. h (suc k) z e))
-
--- what is seen of them, where the others are seen as before
-pub map-moved : {A B : Type 0} (seen seen' : A → B) (f : A → A) (g : B → B) (q : ℕ) (xs : List A)
-    → ((k : ℕ) (x : A) → k ≢ q → slice_get xs k ≡ Some x → seen' x ≡ seen x) → ((x : A) → slice_get xs q ≡ Some x → seen' (f x) ≡ g (seen x))
-    → map seen' (change q f xs) ≡ change q g (map seen xs)
-map-moved seen seen' f g q [] others one = refl
-map-moved {B = B} seen seen' f g zero (x ∷ xs) others one =
-    ap (λ (y : B). y ∷ map seen' xs) (one x refl) ∙ ap (λ (l : List B). g (seen x) ∷ l) (map-alike seen seen' xs (λ k z e. others (suc k) z (λ h. cc) e))
-map-moved {B = B} seen seen' f g (suc q) (x ∷ xs) others one =
-    ap (λ (y : B). y ∷ map seen' (change q f xs)) (others 0 x (λ h. cc) refl)
-    ∙ ap (λ (l : List B). seen x ∷ l) (map-moved seen seen' f g q xs (λ k z other e. others (suc k) z (λ h. other (omega (arith, h))) e) one)
 
 pub map-change : {A B : Type 0} (seen : A → B) (f : A → A) (g : B → B) (q : ℕ) (xs : List A)
     → ((x : A) → slice_get xs q ≡ Some x → seen (f x) ≡ g (seen x)) → map seen (change q f xs) ≡ change q g (map seen xs)
-map-change seen f g q xs one = map-moved seen seen f g q xs (λ k x other e. refl) one
+map-change seen f g q [] one = refl
+map-change seen f g zero (x ∷ xs) one = ap (λ y. y ∷ map seen xs) (one x refl)
+map-change seen f g (suc q) (x ∷ xs) one = ap (λ l. seen x ∷ l) (map-change seen f g q xs one)
 
 -- Pages of queues are in
-
-among-append : (a b : List ℕ) (p : ℕ) → is_among (a ++ b) p ≡ (is_among a p || is_among b p)
-among-append a b p = list_any-append (λ q. q == p) a b
-
-among-from : (n b k : ℕ) → k < n → is_among (pages_from b n) (b + k) ≡ true
-among-from zero b k l = absurd (omega arith)
-among-from (suc n) b zero l = yes _ _ (eq-eqb b (b + 0) (omega arith))
-  where
-    yes : (x y : Bool) → x ≡ true → (x || y) ≡ true
-    yes x y e = rw e refl
-among-from (suc n) b (suc k) l = later _ _ (subst (λ (j : ℕ). is_among (pages_from (b + 1) n) j ≡ true) e (among-from n (b + 1) k (omega arith)))
-  where
-    e : b + 1 + k ≡ b + suc k
-    e = omega arith
-
-    later : (x y : Bool) → y ≡ true → (x || y) ≡ true
-    later true y h = refl
-    later false y h = h
 
 -- no command's page is this one
 not-among : (owners : List Owner) (q : ℕ) (half : Half) (p : ℕ) → owner_at owners p ≡ Some (owner.Queue q half) → (o : Owner) → (o ≡ owner.Queue q half → ⊥) → (pages : List ℕ) → HaveOwner owners o pages
     → is_among pages p ≡ false
-not-among owners q half p mine o differs pages h = go (is_among pages p) refl
-  where
-    go : (b : Bool) → is_among pages p ≡ b → b ≡ false
-    go true e = absurd (let same : Some o ≡ Some (owner.Queue q half) = sym (h p e) ∙ mine in differs (cc))
-    go false e = refl
+not-among owners q half p mine o differs pages h = false_from_ne_true (is_among pages p) (λ e. let same : Some o ≡ Some (owner.Queue q half) = sym (h p e) ∙ mine in differs (cc))
 
 none-away : (owners : List Owner) (q : ℕ) (half : Half) (p : ℕ) → owner_at owners p ≡ Some (owner.Queue q half) → (rs : List Record) → AllByRecursion (TellsCommand owners) rs
     → list_any (λ r. is_away r && is_among (pages_of r) p) rs ≡ false
 none-away owners q half p mine [] h = refl
-none-away owners q half p mine (r ∷ rs) h = go (is_away r) (is_among (pages_of r) p) mine' (none-away owners q half p mine rs h.1)
-  where
-    mine' : is_among (pages_of r) p ≡ false
-    mine' = among-append r.data_pages r.chain_pages p
-        ∙ (ap (λ (b : Bool). b || is_among r.chain_pages p) (not-among owners q half p mine _ (λ e. cc) r.data_pages h.0.data_pages) ∙ not-among owners q half p mine _ (λ e. cc) r.chain_pages h.0.chain_pages)
-
-    go : (a b : Bool) → b ≡ false → list_any (λ (s : Record). is_away s && is_among (pages_of s) p) rs ≡ false → ((a && b) || list_any (λ (s : Record). is_away s && is_among (pages_of s) p) rs) ≡ false
-    go true b e ih = rw e ih
-    go false b e ih = ih
+none-away owners q half p mine (r ∷ rs) h =
+    let front = not-among owners q half p mine _ (λ e. cc) r.data_pages h.0.data_pages in
+    let back = not-among owners q half p mine _ (λ e. cc) r.chain_pages h.0.chain_pages in
+    rw (list_any-append (λ k. k == p) r.data_pages r.chain_pages, front, back) (or_from (is_away r && false) _ (and_right (is_away r) false refl) (none-away owners q half p mine rs h.1))
 
 pub queue_page-in : (t : Tables) → IsWhole t → (q : ℕ) (half : Half) (p : ℕ) → owner_at t.owners p ≡ Some (owner.Queue q half) → is_in t.pages p ≡ true
 queue_page-in t w q half p mine =
@@ -138,19 +80,7 @@ pub completion-in : (t : Tables) → IsWhole t → (q : ℕ) (queue : Queue) →
 completion-in t w q queue at live =
     pages_in t.pages queue.host.cq (half_pages queue.host.entries Completion) w.pool.whole
     (λ p l. queue_page-in t w q Completion (queue.host.cq + p)
-    ((w.owners.queues_told q queue at).completion (queue.host.cq + p) (rw live (among-from (half_pages queue.host.entries Completion) queue.host.cq p l))))
-
--- A write to a list, as the change of a member
-
-pub change-at : {A : Type 0} (q : ℕ) (f : A → A) (xs : List A) (x y : A) → q < length xs → x ≡ get_or xs q x → y ≡ f x → slice_set xs q y ≡ change q f xs
-change-at q f [] x y l e h = absurd (omega arith)
-change-at {A = A} zero f (z ∷ xs) x y l e h = ap (λ (w : A). w ∷ xs) (h ∙ ap f e)
-change-at {A = A} (suc q) f (z ∷ xs) x y l e h = ap (λ (w : List A). z ∷ w) (change-at q f xs x y (omega arith) e h)
-
-pub get-at : {A : Type 0} (q : ℕ) (xs : List A) (x : A) → q < length xs → x ≡ get_or xs q x → slice_get xs q ≡ Some x
-get-at q [] x l e = absurd (omega arith)
-get-at {A = A} zero (z ∷ xs) x l e = ap (λ (w : A). Some w) (sym e)
-get-at (suc q) (z ∷ xs) x l e = get-at q xs x (omega arith) e
+    ((w.owners.queues_told q queue at).completion (queue.host.cq + p) (rw live (among-from queue.host.cq (half_pages queue.host.entries Completion) p l))))
 
 pub queue-at : (t : Tables) (q i : ℕ) (x : Queue) → q < length t.queues → i ≡ q → x ≡ get_or t.queues i x → slice_get t.queues q ≡ Some x
 queue-at t q i x l e at = get-at q t.queues x l (subst (λ (k : ℕ). x ≡ get_or t.queues k x) e at)
@@ -160,17 +90,18 @@ pub completion_page-in : (t : Tables) → IsWhole t → (q : ℕ) (queue : Queue
     → (k : ℕ) → k < half_pages queue.host.entries Completion → IsSome (page_at t.pages (queue.host.cq + k))
 completion_page-in t w q queue at live k l =
     queue_page-in t w q Completion (queue.host.cq + k)
-    ((w.owners.queues_told q queue at).completion (queue.host.cq + k) (rw live (among-from (half_pages queue.host.entries Completion) queue.host.cq k l)))
+    ((w.owners.queues_told q queue at).completion (queue.host.cq + k) (rw live (among-from queue.host.cq (half_pages queue.host.entries Completion) k l)))
 
 pub submission_page-in : (t : Tables) → IsWhole t → (q : ℕ) (queue : Queue) → slice_get t.queues q ≡ Some queue → has_sq queue.state ≡ true
     → (k : ℕ) → k < half_pages queue.host.entries Submission → IsSome (page_at t.pages (queue.host.sq + k))
 submission_page-in t w q queue at live k l =
     queue_page-in t w q Submission (queue.host.sq + k)
-    ((w.owners.queues_told q queue at).submission (queue.host.sq + k) (rw live (among-from (half_pages queue.host.entries Submission) queue.host.sq k l)))
+    ((w.owners.queues_told q queue at).submission (queue.host.sq + k) (rw live (among-from queue.host.sq (half_pages queue.host.entries Submission) k l)))
 
 pub submission-owner : (t : Tables) → IsWhole t → (q : ℕ) (queue : Queue) → slice_get t.queues q ≡ Some queue → has_sq queue.state ≡ true
     → (k : ℕ) → k < half_pages queue.host.entries Submission → owner_at t.owners (queue.host.sq + k) ≡ Some (owner.Queue q Submission)
-submission-owner t w q queue at live k l = (w.owners.queues_told q queue at).submission (queue.host.sq + k) (rw live (among-from (half_pages queue.host.entries Submission) queue.host.sq k l))
+submission-owner t w q queue at live k l = (w.owners.queues_told q queue at).submission (queue.host.sq + k)
+    (rw live (among-from queue.host.sq (half_pages queue.host.entries Submission) k l))
 
 -- a queue that was written where another stood
 pub queue-written : (t : Tables) (f : Queue → Queue) (q i : ℕ) (x y : Queue) → q < length t.queues → i ≡ q → x ≡ get_or t.queues i x → y ≡ f x
@@ -196,29 +127,25 @@ whole-set (x ∷ xs) (suc p) page l w zero = w zero
 whole-set (x ∷ xs) (suc p) page l w (suc r) = whole-set xs p page l (λ k. w (suc k)) r
 
 pub pool-with_bytes : (pages : Pages) (p at : ℕ) (new : List ℕ) → IsSome (page_at pages p) → at + length new ≤ 4096 → IsPool pages → IsPool (with_page_bytes pages p at new)
-pool-with_bytes pages p at new there fits pool = go (page_at pages p) refl there (pool.whole p)
-  where
-    go : (o : Option (List ℕ)) → page_at pages p ≡ o → IsSome o → IfSome o (λ page. length page ≡ 4096) → IsPool (slice_set pages p (option_and_then (λ page. Some (with_bytes page at new)) o))
-    go None e h l = cc
-    go (Some page) e h l =
-        record {
-          few = subst (λ (n : ℕ). n ≤ 65536) (sym (length-set pages p _)) pool.few;
-          whole = whole-set pages p (with_bytes page at new) (length-with_bytes page at new (subst (λ (n : ℕ). at + length new ≤ n) (sym l) fits) ∙ l) pool.whole;
-        }
+pool-with_bytes pages p at new there fits pool = elim (option_is (page_at pages p)) [
+  | inl e ↦ absurd (let no : false ≡ true = rw e at there in cc)
+  | inr (page, e) ↦
+      let size : length page ≡ 4096 = rw e at (pool.whole p) in
+      rw e (record {
+        few = subst (λ (n : ℕ). n ≤ 65536) (sym (length-set pages p _)) pool.few;
+        whole = whole-set pages p (with_bytes page at new) (length-with_bytes page at new (omega (arith, size, fits)) ∙ size) pool.whole;
+      })
+]
 
 -- a pool that shows the bytes written is the pool with them in that page
 pub page-written : (old new : Pages) (p at : ℕ) (bytes : List ℕ) → IsSome (page_at old p) → at + length bytes ≤ 4096 → IsPool old → AreWhole new → length new ≡ length old
     → byte_at new ≡ written (byte_at old) (4096 * p + at) bytes → new ≡ with_page_bytes old p at bytes
-page-written old new p at bytes there fits pool whole size e = go (page_at old p) refl there (pool.whole p)
-  where
-    next : Pages
-    next = with_page_bytes old p at bytes
-
-    go : (o : Option (List ℕ)) → page_at old p ≡ o → IsSome o → IfSome o (λ page. length page ≡ 4096) → new ≡ with_page_bytes old p at bytes
-    go None f h l = cc
-    go (Some page) f h l =
-        told new (with_page_bytes old p at bytes) whole (pool-with_bytes old p at bytes there fits pool).whole (size ∙ sym (length-set old p _))
-        (λ place. ap (λ (m : ℕ → Option ℕ). m place) (e ∙ sym (byte_at-with_page_bytes old p at bytes page f l fits)))
+page-written old new p at bytes there fits pool whole size e = elim (option_is (page_at old p)) [
+  | inl f ↦ absurd (let no : false ≡ true = rw f at there in cc)
+  | inr (page, f) ↦
+      told new (with_page_bytes old p at bytes) whole (pool-with_bytes old p at bytes there fits pool).whole (size ∙ sym (length-set old p _))
+      (λ place. ap (λ (m : ℕ → Option ℕ). m place) (e ∙ sym (byte_at-with_page_bytes old p at bytes page f (rw f at (pool.whole p)) fits)))
+]
 
 -- Where a completion slot lies
 
@@ -230,12 +157,6 @@ index-from (suc n) b (suc k) l = index-from n (b + 1) k (omega arith) ∙ omega 
 pub completion-page : (n cq slot : ℕ) → slot < n → slot_page (pages_from cq (half_pages n Completion)) 16 slot ≡ completion_place cq slot / 4096
 completion-page n cq slot l = index-from (half_pages n Completion) cq (slot * 16 / 4096) (omega (arith, l)) ∙ omega arith
 
-pub completion-offset : (cq slot : ℕ) → slot_offset 16 slot ≡ completion_place cq slot % 4096
-completion-offset cq slot = omega arith
-
-page-of : (cq slot : ℕ) → completion_place cq slot / 4096 ≡ cq + slot / 256
-page-of cq slot = omega arith
-
 pub completion-fits : (cq slot : ℕ) → completion_place cq slot % 4096 + 16 ≤ 4096
 completion-fits cq slot = omega arith
 
@@ -243,7 +164,7 @@ pub slot-in : (t : Tables) → IsWhole t → (q slot place : ℕ) → IsCompleti
 slot-in t w q slot place s =
     let n : s.queue.host.entries ≡ t.entries = (w.queues.each q s.queue s.at).entries in
     let l : slot / 256 < half_pages s.queue.host.entries Completion = omega (arith, n, s.below) in
-    subst (λ (p : ℕ). IsSome (page_at t.pages p)) (sym (ap (λ (x : ℕ). x / 4096) s.there ∙ page-of s.queue.host.cq slot))
+    subst (λ (p : ℕ). IsSome (page_at t.pages p)) (omega (arith, s.there))
     (completion_page-in t w q s.queue s.at (reaped_has_cq s.queue.state s.live) (slot / 256) l)
 
 -- What a write to memory tells
@@ -254,13 +175,12 @@ place-parts place = omega arith
 -- what a pool shows once bytes are written in a page that is in
 pub place-written : (pages : Pages) (place : ℕ) (bytes : List ℕ) → IsSome (page_at pages (place / 4096)) → place % 4096 + length bytes ≤ 4096 → IsPool pages
     → byte_at (with_page_bytes pages (place / 4096) (place % 4096) bytes) ≡ written (byte_at pages) place bytes
-place-written pages place bytes there fits pool = go (page_at pages (place / 4096)) refl there (pool.whole (place / 4096))
-  where
-    go : (o : Option (List ℕ)) → page_at pages (place / 4096) ≡ o → IsSome o → IfSome o (λ page. length page ≡ 4096)
-        → byte_at (with_page_bytes pages (place / 4096) (place % 4096) bytes) ≡ written (byte_at pages) place bytes
-    go None f h l = cc
-    go (Some page) f h l =
-        byte_at-with_page_bytes pages (place / 4096) (place % 4096) bytes page f l fits ∙ ap (λ (p : ℕ). written (byte_at pages) p bytes) (place-parts place)
+place-written pages place bytes there fits pool = elim (option_is (page_at pages (place / 4096))) [
+  | inl f ↦ absurd (let no : false ≡ true = rw f at there in cc)
+  | inr (page, f) ↦
+      byte_at-with_page_bytes pages (place / 4096) (place % 4096) bytes page f (rw f at (pool.whole (place / 4096))) fits ∙ ap (λ (p : ℕ). written (byte_at pages) p bytes)
+      (place-parts place)
+]
 
 -- The host posts an entry: it is the machine's.
 
@@ -269,25 +189,16 @@ place-written pages place bytes there fits pool = go (page_at pages (place / 409
 submission-page : (n sq slot : ℕ) → slot < n → slot_page (pages_from sq (half_pages n Submission)) 64 slot ≡ submission_place sq slot / 4096
 submission-page n sq slot l = index-from (half_pages n Submission) sq (slot * 64 / 4096) (omega (arith, l)) ∙ omega arith
 
-submission-offset : (sq slot : ℕ) → slot_offset 64 slot ≡ submission_place sq slot % 4096
-submission-offset sq slot = omega arith
-
-page-of-entries : (sq slot : ℕ) → submission_place sq slot / 4096 ≡ sq + slot / 64
-page-of-entries sq slot = omega arith
-
-fits : (sq slot : ℕ) → submission_place sq slot % 4096 + 64 ≤ 4096
-fits sq slot = omega arith
-
 tail-inside : (t : Tables) (q : ℕ) (x : Queue) (entry : SubEntry) → CanPost t q x entry → x.host.ring.tail < x.host.entries
 tail-inside t q x entry c = (c.queues.each q x c.at).host_side.tail
 
 pub tail-in : (t : Tables) (q : ℕ) (x : Queue) (entry : SubEntry) → CanPost t q x entry → IsSome (page_at t.pages (tail_place x / 4096))
 tail-in t q x entry c =
     let l : x.host.ring.tail / 64 < half_pages x.host.entries Submission = omega (arith, tail-inside t q x entry c) in
-    subst (λ (p : ℕ). IsSome (page_at t.pages p)) (sym (page-of-entries x.host.sq x.host.ring.tail)) (c.inside (x.host.ring.tail / 64) l)
+    subst (λ (p : ℕ). IsSome (page_at t.pages p)) (omega arith) (c.inside (x.host.ring.tail / 64) l)
 
 pub tail-fits : (x : Queue) → tail_place x % 4096 + 64 ≤ 4096
-tail-fits x = fits x.host.sq x.host.ring.tail
+tail-fits x = omega arith
 
 -- What is written
 
@@ -304,15 +215,18 @@ abbrev shown : State → Pages → List HostQueue → Device → State
 shown s pages queues device = record s { memory = pages; host = record s.host { queues = queues }; device = device }
 
 -- the machine writes the same bytes
+pub host-at : (t : Tables) (q : ℕ) (x : Queue) → slice_get t.queues q ≡ Some x → host_queue (state_of t) q ≡ Some (host_queue_of x)
+host-at t q x at = slice_get-map host_queue_of t.queues q ∙ ap (option_map host_queue_of) at
+
 bytes-posted : (t : Tables) (q : ℕ) (x : Queue) (entry : SubEntry) → CanPost t q x entry
     → option_map_or (λ queue. a.on_memory (λ m. with_page_bytes m (slot_page queue.sq_pages 64 queue.ring.tail) (slot_offset 64 queue.ring.tail) (submission_bytes entry)) (state_of t)) (host_queue (state_of t) q) (state_of t)
     ≡ on_pages (state_of t) (posted q x entry t).pages
 bytes-posted t q x entry c =
-    let seen : host_queue (state_of t) q ≡ Some (host_queue_of x) = slice_get-map host_queue_of t.queues q ∙ ap (option_map host_queue_of) c.at in
+    let seen = host-at t q x c.at in
     let pages : sq_pages_of x ≡ pages_from x.host.sq (half_pages x.host.entries Submission) = rw c.kept refl in
     let page : slot_page (sq_pages_of x) 64 x.host.ring.tail ≡ tail_place x / 4096 = ap (λ (ps : List ℕ). slot_page ps 64 x.host.ring.tail) pages
     ∙ submission-page x.host.entries x.host.sq x.host.ring.tail (tail-inside t q x entry c) in
-    let offset : slot_offset 64 x.host.ring.tail ≡ tail_place x % 4096 = submission-offset x.host.sq x.host.ring.tail in
+    let offset : slot_offset 64 x.host.ring.tail ≡ tail_place x % 4096 = omega arith in
     ap (λ (o : Option HostQueue). option_map_or (λ queue. on_pages (state_of t) (with_page_bytes t.pages (slot_page queue.sq_pages 64 queue.ring.tail) (slot_offset 64 queue.ring.tail) (submission_bytes entry))) o (state_of t)) seen
     ∙ (ap (λ (p : ℕ). on_pages (state_of t) (with_page_bytes t.pages p (slot_offset 64 x.host.ring.tail) (submission_bytes entry))) page
     ∙ ap (λ (k : ℕ). on_pages (state_of t) (with_page_bytes t.pages (tail_place x / 4096) k (submission_bytes entry))) offset)
@@ -333,11 +247,6 @@ pub posted-exact : (t : Tables) (q : ℕ) (x : Queue) (entry : SubEntry) → Can
 posted-exact t q x entry c =
     ap (λ (hs : List HostQueue). shown (state_of t) (posted q x entry t).pages hs (state_of (posted q x entry t)).device) (queues-posted t q x entry c)
     ∙ ap (λ (z : State). a.on_ring q (next_tail t.entries) (a.on_device_queue q (with_entry entry) z)) (sym (bytes-posted t q x entry c))
-
--- The queue
-
-pub same-queue : {A : Type 0} (xs : List A) (k : ℕ) (x y : A) → slice_get xs k ≡ Some x → slice_get xs k ≡ Some y → x ≡ y
-same-queue xs k x y e f = let g : Some x ≡ Some y = sym e ∙ f in cc
 
 pub posted-queue : (n q : ℕ) (x : Queue) → IsQueue n q x → IsQueue n q (with_tail_moved x)
 posted-queue n q x is =
@@ -385,16 +294,14 @@ post-told t new seen q i x h entry l e at c is same size wrote sized whole =
 
 -- What the host sees at the head of a completion ring.
 
-pub host-at : (t : Tables) (q : ℕ) (x : Queue) → slice_get t.queues q ≡ Some x → host_queue (state_of t) q ≡ Some (host_queue_of x)
-host-at t q x at = slice_get-map host_queue_of t.queues q ∙ ap (option_map host_queue_of) at
-
 slot-read : (pages : Pages) (p at : ℕ) → IsSome (page_at pages p) → at + 16 ≤ 4096 → IsPool pages
     → option_map (λ bytes. slice_range bytes at (at + 16)) (page_at pages p) ≡ bytes_at (byte_at pages) (4096 * p + at) 16
-slot-read pages p at there fits pool = go (page_at pages p) refl there (pool.whole p)
-  where
-    go : (o : Option (List ℕ)) → page_at pages p ≡ o → IsSome o → IfSome o (λ page. length page ≡ 4096) → option_map (λ bytes. slice_range bytes at (at + 16)) o ≡ bytes_at (byte_at pages) (4096 * p + at) 16
-    go None f h l = cc
-    go (Some page) f h l = let n : at + 16 - at ≡ 16 = omega arith in ap (λ (n : ℕ). Some (take n (drop at page))) n ∙ sym (bytes_within pages p 16 at page f l fits)
+slot-read pages p at there fits pool = elim (option_is (page_at pages p)) [
+  | inl f ↦ absurd (let no : false ≡ true = rw f at there in cc)
+  | inr (page, f) ↦
+      let n : at + 16 - at ≡ 16 = omega arith in
+      rw f (ap (λ (n : ℕ). Some (take n (drop at page))) n) ∙ sym (bytes_within pages p 16 at page f (rw f at (pool.whole p)) fits)
+]
 
 then-map : {X Y Z : Type 0} (f : Y → Option Z) (g : X → Y) (o : Option X) → option_and_then (λ x. f (g x)) o ≡ option_and_then f (option_map g o)
 then-map f g None = refl
@@ -407,7 +314,7 @@ slot-seen t w q x at live =
     let place : ℕ = completion_place x.host.cq x.host.ring.head in
     let pages : cq_pages_of x ≡ pages_from x.host.cq (half_pages x.host.entries Completion) = rw (reaped_has_cq x.state live) refl in
     let page : slot_page (cq_pages_of x) 16 x.host.ring.head ≡ place / 4096 = ap (λ (ps : List ℕ). slot_page ps 16 x.host.ring.head) pages ∙ completion-page x.host.entries x.host.cq x.host.ring.head is.host_side.head in
-    let offset : slot_offset 16 x.host.ring.head ≡ place % 4096 = completion-offset x.host.cq x.host.ring.head in
+    let offset : slot_offset 16 x.host.ring.head ≡ place % 4096 = omega arith in
     let inside : IsSome (page_at t.pages (place / 4096)) = slot-in t w q x.host.ring.head place
     (record { queue = x; at = at; live = live; below = subst (λ (n : ℕ). x.host.ring.head < n) is.entries is.host_side.head; there = refl }) in
     ap (λ (p : ℕ). option_map (λ bytes. slice_range bytes (slot_offset 16 x.host.ring.head) (slot_offset 16 x.host.ring.head + 16)) (page_at t.pages p)) page
@@ -478,30 +385,17 @@ base-there t q i x there e at =
 
 -- a queue whose completions are not reaped has no base
 pub base-gone : (t : Tables) (q : ℕ) → lacks_completion (slice_get t.queues q) ≡ true → (None ≡ completion_base (view_of t) q) × (false ≡ in_state is_reaped (alone (view_of t) []) q)
-base-gone t q gone = rw (slice_get-map host_queue_of t.queues q) (go (slice_get t.queues q) gone)
-  where
-    at : (o : Option ℕ) (b : Bool) → not b ≡ true → (None ≡ (if b then option_map (λ page. 4096 * page) o else None)) × (false ≡ b)
-    at o true h = cc
-    at o false h = (refl, refl)
-
-    go : (o : Option Queue) → lacks_completion o ≡ true
-        → (None ≡ option_and_then (λ queue. if is_reaped queue.state then option_map (λ page. 4096 * page) (slice_get queue.cq_pages 0) else None) (option_map host_queue_of o)) × (false ≡ option_map_or (λ queue. is_reaped queue.state) (option_map host_queue_of o) false)
-    go None h = (refl, refl)
-    go (Some x) h = at (slice_get (cq_pages_of x) 0) (is_reaped x.state) h
+base-gone t q gone = rw (slice_get-map host_queue_of t.queues q) (elim (option_is (slice_get t.queues q)) [
+  | inl none ↦ rw none (refl, refl)
+  | inr (x, at) ↦ let no : is_reaped x.state ≡ false = not-true _ (rw at at gone) in rw (at, no) (refl, refl)
+])
 
 -- What holds of the tables by themselves: what the machine's laws say of their state is left aside.
 
 pub record Settled (t : Tables) : Type 0 where
   pub pool : IsPool t.pages
   pub table : length t.owners ≡ length t.pages
-  pub least_entries : 2 ≤ t.entries
-  pub most_entries : t.entries ≤ 1024
-  pub least_segment : 2 ≤ t.segment
-  pub most_segment : t.segment ≤ 256
-  pub some_queues : 2 ≤ length t.queues
-  pub few_queues : length t.queues ≤ 65
-  pub record_queues : t.record_queues ≡ length t.queues
-  pub record_places : t.record_places + 1 ≡ t.entries
+  pub limits : HasLimits t
   pub queues : AreQueues t.entries t.queues
   pub identifiers : ClaimIdentifiers t.records t.queues
   pub owners : Tells t.owners t.queues t.records
@@ -512,14 +406,16 @@ settled-of t w =
     record {
       pool = w.pool;
       table = w.table;
-      least_entries = w.least_entries;
-      most_entries = w.most_entries;
-      least_segment = w.least_segment;
-      most_segment = w.most_segment;
-      some_queues = w.some_queues;
-      few_queues = w.few_queues;
-      record_queues = w.record_queues;
-      record_places = w.record_places;
+      limits = record {
+        least_entries = w.least_entries;
+        most_entries = w.most_entries;
+        least_segment = w.least_segment;
+        most_segment = w.most_segment;
+        some_queues = w.some_queues;
+        few_queues = w.few_queues;
+        record_queues = w.record_queues;
+        record_places = w.record_places;
+      };
       queues = w.queues;
       identifiers = w.identifiers;
       owners = w.owners;
@@ -532,50 +428,89 @@ whole-of t s sound =
       sound = sound;
       pool = s.pool;
       table = s.table;
-      least_entries = s.least_entries;
-      most_entries = s.most_entries;
-      least_segment = s.least_segment;
-      most_segment = s.most_segment;
-      some_queues = s.some_queues;
-      few_queues = s.few_queues;
-      record_queues = s.record_queues;
-      record_places = s.record_places;
+      least_entries = s.limits.least_entries;
+      most_entries = s.limits.most_entries;
+      least_segment = s.limits.least_segment;
+      most_segment = s.limits.most_segment;
+      some_queues = s.limits.some_queues;
+      few_queues = s.limits.few_queues;
+      record_queues = s.limits.record_queues;
+      record_places = s.limits.record_places;
       queues = s.queues;
       identifiers = s.identifiers;
       owners = s.owners;
       records = s.records;
     }
 
-abbrev pub with_tables : Tables → List Owner → List Queue → List Record → Tables
-with_tables t owners queues records = record t { owners = owners; queues = queues; records = records }
+-- What a call makes of whole tables: a step of the machine, and whole tables.
+pub record Steps (t : Tables) (e : Event) (reply : Reply) (new : Tables) : Type 0 where
+  pub step : Step (state_of t) e reply (state_of new)
+  pub whole : IsWhole new
 
--- other owners, queues and records, of which the same holds
-pub record Settles (t : Tables) (os : List Owner) (qs : List Queue) (rs : List Record) : Type 0 where
-  pub table : length os ≡ length t.owners
+pub steps : (t new : Tables) (e : Event) (reply : Reply) → IsWhole t → IsController e ≡ false → IsProper e → Exactly (state_of t) e reply (state_of new) → Settled new → Steps t e reply new
+steps t new e reply w c p exact s =
+    let step = host_step t new e reply c p exact in record { step = step; whole = whole-of new s (steps_keep (state_of t) e reply (state_of new) step w.sound) }
+
+abbrev pub with_tables : Tables → Pages → List Owner → List Queue → List Record → Tables
+with_tables t pages owners queues records = record t { pages = pages; owners = owners; queues = queues; records = records }
+
+-- other pages, owners, queues and records, of which the same holds
+pub record Settles (t : Tables) (pages : Pages) (os : List Owner) (qs : List Queue) (rs : List Record) : Type 0 where
+  pub pool : IsPool pages
+  pub table : length os ≡ length pages
   pub many : length qs ≡ length t.queues
   pub queues : AreQueues t.entries qs
   pub identifiers : ClaimIdentifiers rs qs
   pub owners : Tells os qs rs
   pub records : AllByRecursion (IsRecord (length t.queues)) rs
 
-pub settled-with : (t : Tables) (owners : List Owner) (queues : List Queue) (records : List Record) → Settled t → Settles t owners queues records → Settled (with_tables t owners queues records)
-settled-with t owners queues records s h =
+pub settled-with : (t : Tables) (pages : Pages) (owners : List Owner) (queues : List Queue) (records : List Record) → Settled t → Settles t pages owners queues records
+    → Settled (with_tables t pages owners queues records)
+settled-with t pages owners queues records s h =
     record {
-      pool = s.pool;
-      table = h.table ∙ s.table;
-      least_entries = s.least_entries;
-      most_entries = s.most_entries;
-      least_segment = s.least_segment;
-      most_segment = s.most_segment;
-      some_queues = subst (λ (n : ℕ). 2 ≤ n) (sym h.many) s.some_queues;
-      few_queues = subst (λ (n : ℕ). n ≤ 65) (sym h.many) s.few_queues;
-      record_queues = s.record_queues ∙ sym h.many;
-      record_places = s.record_places;
+      pool = h.pool;
+      table = h.table;
+      limits = record {
+        least_entries = s.limits.least_entries;
+        most_entries = s.limits.most_entries;
+        least_segment = s.limits.least_segment;
+        most_segment = s.limits.most_segment;
+        some_queues = subst (λ (n : ℕ). 2 ≤ n) (sym h.many) s.limits.some_queues;
+        few_queues = subst (λ (n : ℕ). n ≤ 65) (sym h.many) s.limits.few_queues;
+        record_queues = s.limits.record_queues ∙ sym h.many;
+        record_places = s.limits.record_places;
+      };
       queues = h.queues;
       identifiers = h.identifiers;
       owners = h.owners;
       records = subst (λ (n : ℕ). AllByRecursion (IsRecord n) records) (sym h.many) h.records;
     }
+
+-- One queue is changed, over other pages, owners and records, of which the same holds.
+pub record Turns (t : Tables) (q : ℕ) (f : Queue → Queue) (pages : Pages) (os : List Owner) (rs : List Record) : Type 0 where
+  pub pool : IsPool pages
+  pub table : length os ≡ length pages
+  pub queue : (x : Queue) → slice_get t.queues q ≡ Some x → IsQueue t.entries q (f x)
+  pub identifiers : (k : ℕ) (x : Queue) → slice_get t.queues k ≡ Some x → ClaimsIdentifiers rs k x.host.claimed
+  pub claims : (x : Queue) → slice_get t.queues q ≡ Some x → ClaimsIdentifiers rs q (f x).host.claimed
+  pub others : (k : ℕ) (x : Queue) → k ≢ q → slice_get t.queues k ≡ Some x → TellsQueue os k x
+  pub own : (x : Queue) → slice_get t.queues q ≡ Some x → TellsQueue os q (f x)
+  pub commands : AllByRecursion (TellsCommand os) rs
+  pub records : AllByRecursion (IsRecord (length t.queues)) rs
+
+pub settled-turned : (t : Tables) (q : ℕ) (f : Queue → Queue) (pages : Pages) (os : List Owner) (rs : List Record) → Settled t → Turns t q f pages os rs
+    → Settled (with_tables t pages os (change q f t.queues) rs)
+settled-turned t q f pages os rs s h =
+    settled-with t pages os (change q f t.queues) rs s
+    (record {
+      pool = h.pool;
+      table = h.table;
+      many = length-change q f t.queues;
+      queues = record { each = each-change (IsQueue t.entries) q f t.queues (λ k x _ at. s.queues.each k x at) h.queue };
+      identifiers = record { each = each-change (λ (k : ℕ) (x : Queue). ClaimsIdentifiers rs k x.host.claimed) q f t.queues (λ k x _ at. h.identifiers k x at) h.claims };
+      owners = record { queues_told = each-change (TellsQueue os) q f t.queues h.others h.own; commands_told = h.commands };
+      records = h.records;
+    })
 
 -- A queue whose halves stay as they are given
 
@@ -592,25 +527,22 @@ told-kept owners k state x new old told =
       completion = subst (λ (ps : List ℕ). HaveOwner owners (owner.Queue k Completion) ps) (sym (cq-kept state x new old)) told.completion;
     }
 
-is-queue : (n k : ℕ) (state : HostState) (x : Queue) → IsQueue n k x → IsQueue n k (with_state state x)
-is-queue n k state x is = record { number = is.number; entries = is.entries; host_side = is.host_side }
-
 -- a queue in another state, over other owners, of which the same holds
 pub settled-as : (t : Tables) (k : ℕ) (state : HostState) (owners : List Owner) → Settled t → length owners ≡ length t.owners
     → ((x : Queue) → slice_get t.queues k ≡ Some x → TellsQueue owners k (with_state state x))
     → ((j : ℕ) (x : Queue) → j ≢ k → slice_get t.queues j ≡ Some x → TellsQueue owners j x) → AllByRecursion (TellsCommand owners) t.records
     → Settled (record t { owners = owners; queues = change k (with_state state) t.queues })
 settled-as t k state owners s size own others commands =
-    settled-with t owners (change k (with_state state) t.queues) t.records s
+    settled-turned t k (with_state state) t.pages owners t.records s
     (record {
-      table = size;
-      many = length-change k (with_state state) t.queues;
-      queues = record { each = each-change (IsQueue t.entries) k (with_state state) t.queues (λ j y _ at. s.queues.each j y at) (λ y at. is-queue t.entries k state y (s.queues.each k y at)) };
-      identifiers = record { each = each-change (λ (j : ℕ) (y : Queue). ClaimsIdentifiers t.records j y.host.claimed) k (with_state state) t.queues (λ j y _ at. s.identifiers.each j y at) (λ y at. s.identifiers.each k y at) };
-      owners = record {
-        queues_told = each-change (TellsQueue owners) k (with_state state) t.queues others own;
-        commands_told = commands;
-      };
+      pool = s.pool;
+      table = size ∙ s.table;
+      queue = λ x at. let is = s.queues.each k x at in record { number = is.number; entries = is.entries; host_side = is.host_side };
+      identifiers = s.identifiers.each;
+      claims = s.identifiers.each k;
+      others = others;
+      own = own;
+      commands = commands;
       records = s.records;
     })
 
@@ -624,24 +556,11 @@ settled-state t k state s new old =
 pub none-told : (owners : List Owner) (o : Owner) → HaveOwner owners o []
 none-told owners o p h = cc
 
-gone-told : (owners : List Owner) (k : ℕ) (x : Queue) → TellsQueue owners k (with_state Gone x)
-gone-told owners k x = record { submission = none-told owners (owner.Queue k Submission); completion = none-told owners (owner.Queue k Completion) }
-
-pub settled-gone : (t : Tables) (k : ℕ) (owners : List Owner) → Settled t → length owners ≡ length t.owners
-    → ((j : ℕ) (x : Queue) → j ≢ k → slice_get t.queues j ≡ Some x → TellsQueue owners j x) → AllByRecursion (TellsCommand owners) t.records
-    → Settled (record t { owners = owners; queues = change k (with_state Gone) t.queues })
-settled-gone t k owners s size others commands = settled-as t k Gone owners s size (λ y at. gone-told owners k y) others commands
-
 -- a queue that has its completion half alone
 half-told : (owners : List Owner) (k : ℕ) (x : Queue) → has_cq x.state ≡ true → HaveOwner owners (owner.Queue k Completion) (cq_pages_of x) → TellsQueue owners k (with_state HalfMade x)
-half-told owners k x there told =
-    record {
-      submission = none-told owners (owner.Queue k Submission);
-      completion = subst (λ (ps : List ℕ). HaveOwner owners (owner.Queue k Completion) ps) (sym kept) told;
-    }
-  where
-    kept : cq_pages_of (with_state HalfMade x) ≡ cq_pages_of x
-    kept = rw there refl
+half-told owners k x there have =
+    let kept : cq_pages_of (with_state HalfMade x) ≡ cq_pages_of x = rw there refl in
+    record { submission = none-told owners (owner.Queue k Submission); completion = subst (λ (ps : List ℕ). HaveOwner owners (owner.Queue k Completion) ps) (sym kept) have }
 
 pub settled-half_made : (t : Tables) (k : ℕ) (owners : List Owner) → Settled t → length owners ≡ length t.owners
     → ((x : Queue) → slice_get t.queues k ≡ Some x → has_cq x.state ≡ true)

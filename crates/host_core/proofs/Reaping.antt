@@ -4,28 +4,30 @@ use Rattle.machine_model.specs.Events as events
 use Rattle.machine_model.specs.declared.words.Reaped.TheVariants as found
 use Rattle.page_ledger.specs.declared.owner.Owner.TheVariants as owner
 use Rattle.host_core.proofs.Lists as lists
-use Rattle.std.proofs.Common.{◌≡◌, ℕ, zero, suc, ◌<◌, ◌≤◌, ◌∷◌, [], Option, Some, None, List, length, map, slice_get, refl, ap, sym, ◌∙◌, subst, true, ◌==◌, Bool, false, if◌then◌else◌, eqb-true, eq-eqb, ◌&&◌, cond, filter, find, not, slice_set, length-set, arith}
-use Rattle.std.{proofs.lemmas.{Bool.{true≢false, and_parts}, List.length-map, Option.slice_get-map}, specs.List.AllByRecursion}
+use Rattle.std.proofs.Common.{◌≡◌, ℕ, zero, suc, ◌<◌, ◌∷◌, [], Option, Some, None, List, length, map, slice_get, refl, ap, sym, ◌∙◌, subst, true, ◌==◌, Bool, false, if◌then◌else◌, eqb-true, eq-eqb, filter, find, not, slice_set, length-set, arith, ◌⊎◌, inl, inr}
+use Rattle.std.proofs.lemmas.{Bool.{true≢false, and_parts, and_right, cases_Bool, cond_both, true_from_ne_false}, List.length-map, Option.slice_get-map}
+use Rattle.std.specs.List.{AllByRecursion}
 use Rattle.std.specs.Option.{option_map_or, option_map}
-use Rattle.entry_codec.specs.declared.{completion.ComEntry.ComEntry, status.Status.Status}
+use Rattle.entry_codec.specs.declared.{completion.ComEntry.ComEntry, status.{Status.Status, TheConstants.Status.ABORTED_SQ_DELETION}}
 use Rattle.io_commands.specs.{Asked.Request, Jobs.is_success}
-use Rattle.machine_model.proofs.{Kept.{alone_has_cq, alone_has_no_sq, asked_has_sq}, Steps.found_all}
+use Rattle.machine_model.proofs.{Cases.option_is, Kept.{alone_has_cq, alone_has_no_sq, asked_has_sq}, Steps.found_all}
 use Rattle.machine_model.specs.{After.{after_reap, change, held, after_admin, half_freed, half_made, gone, unmade_sq}, Claims.OwnsFit}
 use Rattle.machine_model.specs.Refusals.{refusal_of, seen_entry, is_reaped, creates_cq_of, creates_sq_of, deletes_sq_of, host_queue, is_asked, is_making_cq, is_making_sq, has_cq_alone, has_cq, has_sq}
 use Rattle.machine_model.specs.{State.{State, HostQueue, Record, record_at, with_record, is_at, pages_of, without_record}, Step.{reaped, reaped_entry}}
-use Rattle.machine_model.specs.{Work.Work, declared.words.HostState.{HostState, TheVariants.{Live, Deleting, Retired, Gone, MakingCq, HalfMade, MakingSq}}}
-use Rattle.machine_model.specs.declared.words.{RejectedFor.RejectedFor, Work.TheVariants.{Io, Management}}
+use Rattle.machine_model.specs.{Work.Work, declared.words.HostState.{HostState, TheVariants.{Live, Gone, MakingCq, HalfMade, MakingSq}}}
+use Rattle.machine_model.specs.declared.words.{Phase.TheVariants.Held, RejectedFor.RejectedFor, Work.TheVariants.{Io, Management}}
 use Rattle.queue_pair.{proofs.Rings.next_below, specs.{Memory.half_pages, Rings.{knowing, next_head}}}
-use Rattle.host_core.proofs.{Identifiers.claim-less, Lists.{found_is, all-filter, found_any, none_is_not, some_is}}
+use Rattle.host_core.proofs.{Identifiers.claim-less, Granting.in_state-is, Lists.{each-change, length-change, found_is, all-filter, found_any, none_is_not, some_is}}
 use Rattle.host_core.proofs.PageOwners.{OwnsHalf, commands-told, half-listed, half-owned, others-told, owner-stays, given-free}
-use Rattle.host_core.proofs.QueueLists.{each-change, map-change, host_step, sound_after, length-change, same-queue, Settled, settled-of, settled-with, whole-of, cq-kept, settled-gone, settled-half_made, settled-state, sq-kept}
+use Rattle.host_core.proofs.QueueLists.{map-change, Settled, settled-of, settled-turned, settled-with, cq-kept, none-told, settled-as, settled-half_made}
+use Rattle.host_core.proofs.QueueLists.{settled-state, sq-kept}
 use Rattle.host_core.proofs.RowRecords.{Marks, marked-claims, marked-tells, claims_keep_queue, claims_keep_tells, each_claimed}
 use Rattle.host_core.specs.{Commands.{passes, state_at, without_claim}, Exact.Exactly, Halves.HasMeant}
 use Rattle.host_core.specs.Reaping.{consumed, ended_with, seen_at, with_answer_heard, with_answer_taken, heard, gives_back, meant, over, state_deleted, with_state, without_completion, without_submission}
 use Rattle.host_core.specs.{Rows.Queue, Tables.{Tables, state_of, host_queue_of, sq_pages_of, cq_pages_of}}
 use Rattle.host_core.specs.Whole.{IsWhole, IsQueue, IsRecord, ClaimsIdentifiers, TellsQueue, FitsWork, IsHost, TellsCommand}
 use Rattle.admin_commands.specs.declared.AdminKind.{AdminKind, TheVariants.{Abort, DeleteSq, DeleteCq, CreateCq, CreateSq}}
-use Rattle.page_ledger.specs.{Lists.ListsAll, Owners.{free_pages, given_back, is_half, is_same_half, pages_from}}
+use Rattle.page_ledger.specs.{Lists.ListsAll, Owners.{free_pages, given_back, is_among, is_half, is_owned_at, pages_from}}
 use Rattle.page_memory.specs.declared.page.Half.{Half, TheVariants.{Submission, Completion}}
 
 -- What a reap finds, and what it leaves, on the tables.
@@ -51,17 +53,11 @@ reap-none t q x at live = rw (slice_get-map host_queue_of t.queues q, at, live) 
 
 pub taken-queue : (n q k : ℕ) (x : Queue) → k < x.host.entries → IsQueue n q x → IsQueue n q (with_answer_heard k x)
 taken-queue n q k x l is =
+    let side = is.host_side in
     record {
       number = is.number;
       entries = is.entries;
-      host_side = record {
-        least = is.host_side.least;
-        most = is.host_side.most;
-        head = next_below x.host.entries x.host.ring.head is.host_side.head;
-        known_head = l;
-        tail = is.host_side.tail;
-        identifiers = is.host_side.identifiers;
-      };
+      host_side = record { least = side.least; most = side.most; head = next_below x.host.entries x.host.ring.head side.head; known_head = l; tail = side.tail; identifiers = side.identifiers };
     }
 
 -- A rejected completion is consumed
@@ -84,35 +80,28 @@ reject-exact t w q x e why sees says = (
   ap (λ (hs : List HostQueue). with_lists (state_of t) hs) (consumed-host t w q),
 )
 
-pub reject-whole : (t : Tables) → IsWhole t → (q : ℕ) (x : Queue) (e : ComEntry) (why : RejectedFor) → Sees t q x e → reaped_entry (state_of t) q e ≡ found.Rejected why → IsWhole (consumed q t)
-reject-whole t w q x e why sees says =
-    let new : Tables = consumed q t in
-    let step = host_step t new (events.Reap q) (events.Reaps (found.Rejected why)) refl tt (reject-exact t w q x e why sees says) in
-    let size : length (change q with_answer_taken t.queues) ≡ length t.queues = length-change q with_answer_taken t.queues in
-    record {
-      sound = sound_after (state_of t) (events.Reap q) (events.Reaps (found.Rejected why)) (state_of new) step w.sound;
-      pool = w.pool;
-      table = w.table;
-      least_entries = w.least_entries;
-      most_entries = w.most_entries;
-      least_segment = w.least_segment;
-      most_segment = w.most_segment;
-      some_queues = subst (λ (n : ℕ). 2 ≤ n) (sym size) w.some_queues;
-      few_queues = subst (λ (n : ℕ). n ≤ 65) (sym size) w.few_queues;
-      record_queues = w.record_queues ∙ sym size;
-      record_places = w.record_places;
-      queues = record {
-        each = each-change (IsQueue t.entries) q with_answer_taken t.queues (λ k y _ at. w.queues.each k y at)
-            (λ y at. let is = w.queues.each q y at in taken-queue t.entries q y.host.ring.known_head y is.host_side.known_head is);
-      };
-      identifiers = record { each = each-change (λ (k : ℕ) (y : Queue). ClaimsIdentifiers t.records k y.host.claimed) q with_answer_taken t.queues (λ k y _ at. w.identifiers.each k y at) (λ y at. w.identifiers.each q y at) };
-      owners = record {
-        queues_told = each-change (TellsQueue t.owners) q with_answer_taken t.queues (λ k y _ at. w.owners.queues_told k y at)
-            (λ y at. let told = w.owners.queues_told q y at in record { submission = told.submission; completion = told.completion });
-        commands_told = w.owners.commands_told;
-      };
-      records = subst (λ (n : ℕ). AllByRecursion (IsRecord n) t.records) (sym size) w.records;
-    }
+-- a completion was taken: what holds of the tables by themselves
+settled-taken : (t : Tables) → Settled t → (q : ℕ) (f : Queue → Queue) → ((y : Queue) → TellsQueue t.owners q y → TellsQueue t.owners q (f y)) →
+    ((y : Queue) → (f y).host.claimed ≡ y.host.claimed)
+    → ((y : Queue) → slice_get t.queues q ≡ Some y → IsQueue t.entries q (f y)) → Settled (record t { queues = change q f t.queues })
+settled-taken t s q f tells claims is =
+    settled-turned t q f t.pages t.owners t.records s
+    (record {
+      pool = s.pool;
+      table = s.table;
+      queue = is;
+      identifiers = s.identifiers.each;
+      claims = λ y at. subst (ClaimsIdentifiers t.records q) (sym (claims y)) (s.identifiers.each q y at);
+      others = λ k y _ at. s.owners.queues_told k y at;
+      own = λ y at. tells y (s.owners.queues_told q y at);
+      commands = s.owners.commands_told;
+      records = s.records;
+    })
+
+pub settled-consumed : (t : Tables) → IsWhole t → (q : ℕ) → Settled (consumed q t)
+settled-consumed t w q =
+    settled-taken t (settled-of t w) q with_answer_taken (λ y told. record { submission = told.submission; completion = told.completion }) (λ y. refl)
+    (λ y at. let is = w.queues.each q y at in taken-queue t.entries q y.host.ring.known_head y is.host_side.known_head is)
 
 -- How an I/O command ended is held
 
@@ -162,52 +151,42 @@ done-exact t w q cid status x e sees io = (
 
 pub settled-heard : (t : Tables) → IsWhole t → (q : ℕ) (x : Queue) (e : ComEntry) → Sees t q x e → e.sqhd < x.host.entries → Settled (heard q e.sqhd t)
 settled-heard t w q x e sees below =
-    let f : Queue → Queue = with_answer_heard e.sqhd in
-    let same : (y : Queue) → slice_get t.queues q ≡ Some y → x ≡ y = λ y at. same-queue t.queues q x y sees.at at in
-    settled-with t t.owners (change q f t.queues) t.records (settled-of t w)
-    (record {
-      table = refl;
-      many = length-change q f t.queues;
-      queues = record {
-        each = each-change (IsQueue t.entries) q f t.queues (λ k y _ at. w.queues.each k y at)
-            (λ y at. taken-queue t.entries q e.sqhd y (subst (λ (z : Queue). e.sqhd < z.host.entries) (same y at) below) (w.queues.each q y at));
-      };
-      identifiers = record { each = each-change (λ (k : ℕ) (y : Queue). ClaimsIdentifiers t.records k y.host.claimed) q f t.queues (λ k y _ at. w.identifiers.each k y at) (λ y at. w.identifiers.each q y at) };
-      owners = record {
-        queues_told = each-change (TellsQueue t.owners) q f t.queues (λ k y _ at. w.owners.queues_told k y at)
-            (λ y at. let told = w.owners.queues_told q y at in record { submission = told.submission; completion = told.completion });
-        commands_told = w.owners.commands_told;
-      };
-      records = w.records;
-    })
+    settled-taken t (settled-of t w) q (with_answer_heard e.sqhd) (λ y told. record { submission = told.submission; completion = told.completion }) (λ y. refl)
+    (λ y at. let same : x ≡ y = some_is (sym sees.at ∙ at) in taken-queue t.entries q e.sqhd y (subst (λ (z : Queue). e.sqhd < z.host.entries) same below) (w.queues.each q y at))
 
 -- The record is held
 
 marks-held : (status : Status) → Marks (held status)
 marks-held status = record { at = λ q cid r. refl; tells = λ owners r h. record { data_pages = h.data_pages; chain_pages = h.chain_pages } }
 
-held-fits : (n q cid : ℕ) (status : Status) (r : Record) → (q == 0) ≡ false → is_at q cid r ≡ true → OwnsFit r.q r.work (pages_of r) → IsRecord n r → IsRecord n (held status r)
-held-fits n q cid status r io at owns fits = go r.work refl owns
-  where
-    here : r.q ≡ q
-    here = eqb-true r.q q (and_parts (r.q == q) (r.cid == cid) at).0
+pub work-cases : (w : Work) → ((request : Request) × (w ≡ Io request)) ⊎ ((kind : AdminKind) × (w ≡ Management kind))
+work-cases (Io request) = inl (request, refl)
+work-cases (Management kind) = inr (kind, refl)
 
-    go : (w : Work) → r.work ≡ w → OwnsFit r.q w (pages_of r) → IsRecord n (held status r)
-    go (Io request) e h = record {
-      queue = fits.queue;
-      work = subst (λ (v : Work). FitsWork v (held status r)) (sym e) (let old : FitsWork (Io request) r = subst (λ (v : Work). FitsWork v r) e fits.work in old);
-      phase = rw e tt;
-    }
-    go (Management kind) e h = absurd (true≢false (sym (eq-eqb q 0 (sym here ∙ h.0)) ∙ io))
+-- an I/O command that is held, with its status
+held-as : (n : ℕ) (status : Status) (r : Record) → (request : Request) × (r.work ≡ Io request) → IsRecord n r → IsRecord n (held status r)
+held-as n status r (request, e) fits =
+    let old : FitsWork (Io request) r = subst (λ (v : Work). FitsWork v r) e fits.work in
+    record { queue = fits.queue; work = subst (λ (v : Work). FitsWork v (held status r)) (sym e) old; phase = rw e tt }
+
+pub held-lost : (n : ℕ) (r : Record) → (request : Request) × (r.work ≡ Io request) → IsRecord n r → IsRecord n (record r { phase = Held; status = Some ABORTED_SQ_DELETION })
+held-lost n r io fits = held-as n ABORTED_SQ_DELETION r io fits
+
+held-fits : (n q cid : ℕ) (status : Status) (r : Record) → (q == 0) ≡ false → is_at q cid r ≡ true → OwnsFit r.q r.work (pages_of r) → IsRecord n r → IsRecord n (held status r)
+held-fits n q cid status r io at owns fits = elim (work-cases r.work) [
+  | inl is ↦ held-as n status r is fits
+  | inr (kind, e) ↦
+      let none : OwnsFit r.q (Management kind) (pages_of r) = subst (λ (v : Work). OwnsFit r.q v (pages_of r)) e owns in
+      absurd (true≢false (sym (eq-eqb q 0 (sym (eqb-true r.q q (and_parts (r.q == q) (r.cid == cid) at).0) ∙ none.0)) ∙ io))
+]
 
 held-records : (n q cid : ℕ) (status : Status) (rs : List Record) → (q == 0) ≡ false → AllByRecursion (λ r. OwnsFit r.q r.work (pages_of r)) rs → AllByRecursion (IsRecord n) rs
     → AllByRecursion (IsRecord n) (with_record q cid (held status) rs)
 held-records n q cid status [] io owns all = tt
-held-records n q cid status (r ∷ rs) io owns all = (go (is_at q cid r) refl, held-records n q cid status rs io owns.1 all.1)
-  where
-    go : (b : Bool) → is_at q cid r ≡ b → IsRecord n (if b then held status r else r)
-    go true at = held-fits n q cid status r io at owns.0 all.0
-    go false at = all.0
+held-records n q cid status (r ∷ rs) io owns all = (
+  cond_both (is_at q cid r) _ _ (IsRecord n) (λ at. held-fits n q cid status r io at owns.0 all.0) (λ _. all.0),
+  held-records n q cid status rs io owns.1 all.1,
+)
 
 io-queue : (t : Tables) → IsWhole t → (q cid : ℕ) (status : Status) (e : ComEntry) → EndsIo t q cid status e → (q == 0) ≡ false
 io-queue t w q cid status e io =
@@ -215,23 +194,21 @@ io-queue t w q cid status e io =
     let at = and_parts (io.entry.q == q) (io.entry.cid == cid) (found_is (is_at q cid) t.records io.entry io.was) in
     subst (λ (k : ℕ). (k == 0) ≡ false) (eqb-true io.entry.q q at.0) (subst (λ (v : Work). OwnsFit io.entry.q v (pages_of io.entry)) io.work owns)
 
-pub done-whole : (t : Tables) → IsWhole t → (q cid : ℕ) (status : Status) (x : Queue) (e : ComEntry) → Sees t q x e → EndsIo t q cid status e → e.sqhd < x.host.entries → IsWhole (ended_with q e.sqhd cid status t)
-done-whole t w q cid status x e sees io below =
+pub done-settled : (t : Tables) → IsWhole t → (q cid : ℕ) (status : Status) (x : Queue) (e : ComEntry) → Sees t q x e → EndsIo t q cid status e → e.sqhd < x.host.entries → Settled
+    (ended_with q e.sqhd cid status t)
+done-settled t w q cid status x e sees io below =
     let u : Tables = heard q e.sqhd t in
-    let new : Tables = ended_with q e.sqhd cid status t in
     let s : Settled u = settled-heard t w q x e sees below in
-    let step = host_step t new (events.Reap q) (events.Reaps (found.Done cid status)) refl tt (done-exact t w q cid status x e sees io) in
-    whole-of new
-    (settled-with u u.owners u.queues (with_record q cid (held status) u.records) s
+    settled-with u u.pages u.owners u.queues (with_record q cid (held status) u.records) s
     (record {
-      table = refl;
+      pool = s.pool;
+      table = s.table;
       many = refl;
       queues = s.queues;
       identifiers = marked-claims (held status) (marks-held status) u.records u.queues q cid s.identifiers;
       owners = record { queues_told = s.owners.queues_told; commands_told = marked-tells (held status) (marks-held status) u.owners u.records q cid s.owners.commands_told };
       records = held-records (length u.queues) q cid status u.records (io-queue t w q cid status e io) w.sound.works_fit s.records;
-    }))
-    (sound_after (state_of t) (events.Reap q) (events.Reaps (found.Done cid status)) (state_of new) step w.sound)
+    })
 
 -- An admin command was reaped: what its end means, on the tables.
 
@@ -253,11 +230,7 @@ Means (CreateSq k n base) u = Makes u k Submission MakingSq
 -- The machine's state
 
 has-deleted : (status : Status) → has_sq (state_deleted status) ≡ true
-has-deleted status = go (is_success status)
-  where
-    go : (b : Bool) → has_sq (if b then Deleting true else Live) ≡ true
-    go true = refl
-    go false = refl
+has-deleted status = cond_both (is_success status) _ _ (λ state. has_sq state ≡ true) (λ _. refl) (λ _. refl)
 
 abbrev pub with_state_of : HostState → HostQueue → HostQueue
 with_state_of state queue = record queue { state = state }
@@ -277,18 +250,10 @@ state-set u k st new old =
         ap (λ (ps : List ℕ). with_pages x ps (cq_pages_of (with_state st x))) (sq-kept st x new old)
         ∙ ap (λ (ps : List ℕ). with_pages x (sq_pages_of x) ps) (cq-kept st x new old)
 
-deleted-state : (u : Tables) (k : ℕ) (status : Status) → Means (DeleteSq k) u → state_of (meant (DeleteSq k) status u) ≡ after_admin (DeleteSq k) status (state_of u)
-deleted-state u k status m = state-set u k (state_deleted status) (has-deleted status) m
-
 -- the completion half
 
 alone-at : (u : Tables) (k : ℕ) → option_map_or (λ (queue : HostQueue). has_cq_alone queue.state) (host_queue (state_of u) k) false ≡ passes has_cq_alone (state_at u.queues k)
-alone-at u k =
-    ap (λ (o : Option HostQueue). option_map_or (λ (queue : HostQueue). has_cq_alone queue.state) o false) (slice_get-map host_queue_of u.queues k) ∙ go (slice_get u.queues k)
-  where
-    go : (o : Option Queue) → option_map_or (λ (queue : HostQueue). has_cq_alone queue.state) (option_map host_queue_of o) false ≡ passes has_cq_alone (option_map (λ (queue : Queue). queue.state) o)
-    go None = refl
-    go (Some x) = refl
+alone-at u k = in_state-is has_cq_alone u k
 
 -- a queue that is there, with its completion half alone
 pub record IsAlone (u : Tables) (k : ℕ) : Type 0 where
@@ -297,89 +262,71 @@ pub record IsAlone (u : Tables) (k : ℕ) : Type 0 where
   pub alone : has_cq_alone queue.state ≡ true
 
 passes-at : (u : Tables) (k : ℕ) → passes has_cq_alone (state_at u.queues k) ≡ true → IsAlone u k
-passes-at u k h = go (slice_get u.queues k) refl h
-  where
-    go : (o : Option Queue) → slice_get u.queues k ≡ o → passes has_cq_alone (option_map (λ (queue : Queue). queue.state) o) ≡ true → IsAlone u k
-    go None at h = cc
-    go (Some x) at h = record { queue = x; at = at; alone = h }
-
-both-true : (b c : Bool) → (b && c) ≡ true → c ≡ true
-both-true true c h = h
-both-true false c h = cc
+passes-at u k h = elim (option_is (slice_get u.queues k)) [
+  | inl at ↦ absurd (true≢false (sym (rw at at h)))
+  | inr (x, at) ↦ record { queue = x; at = at; alone = rw at at h }
+]
 
 pub gives-alone : (u : Tables) (k : ℕ) (status : Status) → gives_back k status u ≡ true → IsAlone u k
-gives-alone u k status h = passes-at u k (both-true (is_success status) (passes has_cq_alone (state_at u.queues k)) h)
+gives-alone u k status h = passes-at u k (and_parts (is_success status) (passes has_cq_alone (state_at u.queues k)) h).1
 
 abbrev with_free : Tables → List ℕ → List HostQueue → State
 with_free u free hs = record (state_of u) { host = record (state_of u).host { free = free; queues = hs } }
 
+-- a queue gives a half back, and its state changes
+freed-state : (u : Tables) (k : ℕ) (half : Half) (state : HostState) (pages : HostQueue → List ℕ) (f : HostQueue → HostQueue) (x : Queue) → length u.owners ≡ length u.pages
+    → ((p : ℕ) → p < length u.pages → is_owned_at (is_half k half) u.owners p ≡ is_among (pages (host_queue_of x)) p) → slice_get u.queues k ≡ Some x
+    → host_queue_of (with_state state x) ≡ f (host_queue_of x)
+    → state_of (record u { owners = given_back (is_half k half) u.owners; queues = change k (with_state state) u.queues }) ≡ half_freed pages f k (state_of u)
+freed-state u k half state pages f x size owns at shown =
+    ap (λ (hs : List HostQueue). with_free u (free_pages (given_back (is_half k half) u.owners)) hs)
+    (map-change host_queue_of (with_state state) f k u.queues (λ y at'. subst (λ (z : Queue). host_queue_of (with_state state z) ≡ f (host_queue_of z)) (some_is (sym at ∙ at')) shown))
+    ∙ (ap (λ (free : List ℕ). with_free u free (change k f (map host_queue_of u.queues))) (given-free u.owners (is_half k half) (length u.pages) (pages (host_queue_of x)) (sym size) owns)
+    ∙ ap (λ (o : Option HostQueue). option_map_or (λ (queue : HostQueue). a.on_host_queue k f (a.given_back (pages queue) (state_of u))) o (state_of u))
+    (sym (slice_get-map host_queue_of u.queues k ∙ ap (option_map host_queue_of) at)))
+
 gone-state : (u : Tables) (k : ℕ) (x : Queue) → length u.owners ≡ length u.pages → OwnsHalf u.owners (length u.pages) k Completion x → slice_get u.queues k ≡ Some x → has_sq x.state ≡ false
     → state_of (without_completion k u) ≡ half_freed (λ (queue : HostQueue). queue.cq_pages) gone k (state_of u)
-gone-state u k x size owns at without =
-    ap (λ (hs : List HostQueue). with_free u (free_pages (given_back (is_half k Completion) u.owners)) hs)
-    (map-change host_queue_of (with_state Gone) gone k u.queues (λ y at'. host-gone y (subst (λ (z : Queue). has_sq z.state ≡ false) (some_is (sym at ∙ at')) without)))
-    ∙ (ap (λ (free : List ℕ). with_free u free (change k gone (map host_queue_of u.queues)))
-    (given-free u.owners (is_half k Completion) (length u.pages) (cq_pages_of x) (sym size) owns)
-    ∙ ap (λ (o : Option HostQueue). option_map_or (λ (queue : HostQueue). a.on_host_queue k gone (a.given_back queue.cq_pages (state_of u))) o (state_of u))
-    (sym (slice_get-map host_queue_of u.queues k ∙ ap (option_map host_queue_of) at)))
-  where
-    host-gone : (x : Queue) → has_sq x.state ≡ false → host_queue_of (with_state Gone x) ≡ gone (host_queue_of x)
-    host-gone x h = rw h refl
+gone-state u k x size owns at without = freed-state u k Completion Gone (λ queue. queue.cq_pages) gone x size owns at (rw without refl)
 
 -- the submission half of a queue whose creation failed
 
 unmade-state : (u : Tables) (k : ℕ) (x : Queue) → length u.owners ≡ length u.pages → OwnsHalf u.owners (length u.pages) k Submission x → slice_get u.queues k ≡ Some x → x.state ≡ MakingSq
     → state_of (without_submission HalfMade k u) ≡ half_freed (λ (queue : HostQueue). queue.sq_pages) unmade_sq k (state_of u)
-unmade-state u k x size owns at making =
-    ap (λ (hs : List HostQueue). with_free u (free_pages (given_back (is_half k Submission) u.owners)) hs)
-    (map-change host_queue_of (with_state HalfMade) unmade_sq k u.queues (λ y at'. host-unmade y (subst (λ (z : Queue). z.state ≡ MakingSq) (some_is (sym at ∙ at')) making)))
-    ∙ (ap (λ (free : List ℕ). with_free u free (change k unmade_sq (map host_queue_of u.queues)))
-    (given-free u.owners (is_half k Submission) (length u.pages) (sq_pages_of x) (sym size) owns)
-    ∙ ap (λ (o : Option HostQueue). option_map_or (λ (queue : HostQueue). a.on_host_queue k unmade_sq (a.given_back queue.sq_pages (state_of u))) o (state_of u))
-    (sym (slice_get-map host_queue_of u.queues k ∙ ap (option_map host_queue_of) at)))
-  where
-    host-unmade : (x : Queue) → x.state ≡ MakingSq → host_queue_of (with_state HalfMade x) ≡ unmade_sq (host_queue_of x)
-    host-unmade x h = rw h refl
+unmade-state u k x size owns at making = freed-state u k Submission HalfMade (λ queue. queue.sq_pages) unmade_sq x size owns at (rw making refl)
 
 -- a completion queue that is made
 made-state : (u : Tables) (k : ℕ) (x : Queue) → slice_get u.queues k ≡ Some x → x.state ≡ MakingCq
     → state_of (record u { queues = change k (with_state HalfMade) u.queues }) ≡ a.on_host_queue k half_made (state_of u)
 made-state u k x at making =
     ap (λ (hs : List HostQueue). with_lists (state_of u) hs)
-    (map-change host_queue_of (with_state HalfMade) half_made k u.queues (λ y at'. host-made y (subst (λ (z : Queue). z.state ≡ MakingCq) (some_is (sym at ∙ at')) making)))
-  where
-    host-made : (x : Queue) → x.state ≡ MakingCq → host_queue_of (with_state HalfMade x) ≡ half_made (host_queue_of x)
-    host-made x h = rw h refl
+    (map-change host_queue_of (with_state HalfMade) half_made k u.queues (λ y at'. let is : y.state ≡ MakingCq = subst (λ (z : Queue). z.state ≡ MakingCq)
+    (some_is (sym at ∙ at')) making in rw is refl))
 
 making-has : (u : Tables) (k : ℕ) (half : Half) → (m : Makes u k half MakingSq) → (x : Queue) → slice_get u.queues k ≡ Some x → has_sq x.state ≡ true
 making-has u k half m x at = subst (λ (z : Queue). has_sq z.state ≡ true) (some_is (sym m.at ∙ at)) (ap has_sq m.making)
 
 pub meant-state : (u : Tables) (kind : AdminKind) (status : Status) → length u.owners ≡ length u.pages → Means kind u → state_of (meant kind status u) ≡ after_admin kind status (state_of u)
 meant-state u (Abort k cid) status size m = refl
-meant-state u (DeleteSq k) status size m = deleted-state u k status m
-meant-state u (DeleteCq k) status size m = go (gives_back k status u) refl ∙ ap (λ (b : Bool). if is_success status && b then half_freed (λ (queue : HostQueue). queue.cq_pages) gone k (state_of u) else state_of u) (sym (alone-at u k))
-  where
-    go : (b : Bool) → gives_back k status u ≡ b → state_of (if b then without_completion k u else u) ≡ (if b then half_freed (λ (queue : HostQueue). queue.cq_pages) gone k (state_of u) else state_of u)
-    go true h = let is = gives-alone u k status h in gone-state u k is.queue size (m is.queue is.at) is.at (alone_has_no_sq is.queue.state is.alone)
-    go false h = refl
-meant-state u (CreateCq k n base) status size m = go (is_success status)
-  where
-    go : (b : Bool) → state_of (if b then record u { queues = change k (with_state HalfMade) u.queues } else without_completion k u)
-        ≡ (if b then a.on_host_queue k half_made (state_of u) else half_freed (λ (queue : HostQueue). queue.cq_pages) gone k (state_of u))
-    go true = made-state u k m.queue m.at m.making
-    go false = gone-state u k m.queue size m.owns m.at (ap has_sq m.making)
-meant-state u (CreateSq k n base) status size m = go (is_success status)
-  where
-    go : (b : Bool) → state_of (if b then record u { queues = change k (with_state Live) u.queues } else without_submission HalfMade k u)
-        ≡ (if b then a.on_host_queue k a.live (state_of u) else half_freed (λ (queue : HostQueue). queue.sq_pages) unmade_sq k (state_of u))
-    go true = state-set u k Live refl (making-has u k Submission m)
-    go false = unmade-state u k m.queue size m.owns m.at m.making
+meant-state u (DeleteSq k) status size m = state-set u k (state_deleted status) (has-deleted status) m
+meant-state u (DeleteCq k) status size m = rw (alone-at u k) (elim (cases_Bool (gives_back k status u)) [
+  | inl h ↦ let is = gives-alone u k status h in rw h (gone-state u k is.queue size (m is.queue is.at) is.at (alone_has_no_sq is.queue.state is.alone))
+  | inr h ↦ rw h refl
+])
+meant-state u (CreateCq k n base) status size m = elim (cases_Bool (is_success status)) [
+  | inl h ↦ rw h (made-state u k m.queue m.at m.making)
+  | inr h ↦ rw h (gone-state u k m.queue size m.owns m.at (ap has_sq m.making))
+]
+meant-state u (CreateSq k n base) status size m = elim (cases_Bool (is_success status)) [
+  | inl h ↦ rw h (state-set u k Live refl (making-has u k Submission m))
+  | inr h ↦ rw h (unmade-state u k m.queue size m.owns m.at m.making)
+]
 
 -- The tables
 
 settled-freed : (u : Tables) (k : ℕ) → Settled u → Settled (without_completion k u)
 settled-freed u k s =
-    settled-gone u k (given_back (is_half k Completion) u.owners) s (length-map u.owners _)
+    settled-as u k Gone (given_back (is_half k Completion) u.owners) s (length-map u.owners _) (λ y at. record { submission = none-told _ _; completion = none-told _ _ })
     (λ j x far at. others-told u.owners k j Completion x far (s.owners.queues_told j x at))
     (commands-told u.owners k Completion u.records s.owners.commands_told)
 
@@ -387,11 +334,7 @@ making-cq : (u : Tables) (k : ℕ) (half : Half) (st : HostState) → has_cq st 
 making-cq u k half st has m x at = subst (λ (z : Queue). has_cq z.state ≡ true) (some_is (sym m.at ∙ at)) (ap has_cq m.making ∙ has)
 
 completion-kept : (q : ℕ) → is_half q Submission (owner.Queue q Completion) ≡ false
-completion-kept q = go (q == q)
-  where
-    go : (b : Bool) → (b && is_same_half Completion Submission) ≡ false
-    go true = refl
-    go false = refl
+completion-kept q = and_right (q == q) false refl
 
 settled-unmade : (u : Tables) (k : ℕ) → Settled u → Makes u k Submission MakingSq → Settled (without_submission HalfMade k u)
 settled-unmade u k s m =
@@ -403,21 +346,14 @@ settled-unmade u k s m =
 pub meant-settled : (u : Tables) (kind : AdminKind) (status : Status) → Settled u → Means kind u → Settled (meant kind status u)
 meant-settled u (Abort k cid) status s m = s
 meant-settled u (DeleteSq k) status s m = settled-state u k (state_deleted status) s (has-deleted status) m
-meant-settled u (DeleteCq k) status s m = go (gives_back k status u)
-  where
-    go : (b : Bool) → Settled (if b then without_completion k u else u)
-    go true = settled-freed u k s
-    go false = s
-meant-settled u (CreateCq k n base) status s m = go (is_success status)
-  where
-    go : (b : Bool) → Settled (if b then record u { queues = change k (with_state HalfMade) u.queues } else without_completion k u)
-    go true = settled-half_made u k u.owners s refl (making-cq u k Completion MakingCq refl m) (λ x at. (s.owners.queues_told k x at).completion) (λ j x far at. s.owners.queues_told j x at) s.owners.commands_told
-    go false = settled-freed u k s
-meant-settled u (CreateSq k n base) status s m = go (is_success status)
-  where
-    go : (b : Bool) → Settled (if b then record u { queues = change k (with_state Live) u.queues } else without_submission HalfMade k u)
-    go true = settled-state u k Live s refl (making-has u k Submission m)
-    go false = settled-unmade u k s m
+meant-settled u (DeleteCq k) status s m = cond_both (gives_back k status u) _ _ Settled (λ _. settled-freed u k s) (λ _. s)
+meant-settled u (CreateCq k n base) status s m =
+    cond_both (is_success status) _ _ Settled
+    (λ _. settled-half_made u k u.owners s refl (making-cq u k Completion MakingCq refl m) (λ x at. (s.owners.queues_told k x at).completion)
+    (λ j x far at. s.owners.queues_told j x at) s.owners.commands_told)
+    (λ _. settled-freed u k s)
+meant-settled u (CreateSq k n base) status s m =
+    cond_both (is_success status) _ _ Settled (λ _. settled-state u k Live s refl (making-has u k Submission m)) (λ _. settled-unmade u k s m)
 
 -- An admin command is over
 
@@ -433,9 +369,10 @@ settled-over t w q x e kind sees ends below =
     let u : Tables = heard q e.sqhd t in
     let s : Settled u = settled-heard t w q x e sees below in
     let less : List Bool → List Bool = λ claimed. slice_set claimed e.cid false in
-    settled-with u u.owners (change q (without_claim e.cid) u.queues) (without_record q e.cid u.records) s
+    settled-with u u.pages u.owners (change q (without_claim e.cid) u.queues) (without_record q e.cid u.records) s
     (record {
-      table = refl;
+      pool = s.pool;
+      table = s.table;
       many = length-change q (without_claim e.cid) u.queues;
       queues = record { each = each_claimed (IsQueue u.entries) less (claims_keep_queue less (λ bits. length-set bits e.cid false) u.entries) q u.queues s.queues.each };
       identifiers = claim-less u.records u.queues q e.cid s.identifiers (found_any (is_at q e.cid) t.records ends.entry ends.was);
@@ -457,38 +394,29 @@ each-over P q k cid queues hears frees all =
 
 found-counts : {A : Type 0} (test p : A → Bool) (xs : List A) (x : A) → find test xs ≡ Some x → p x ≡ true → 0 < length (filter p xs)
 found-counts test p [] x h is = absurd (none_is_not h)
-found-counts {A = A} test p (y ∷ xs) x h is = go (test y) h (λ g. found-counts test p xs x g is)
-  where
-    here : (b : Bool) → b ≡ true → 0 < length (cond b (y ∷ filter p xs) (filter p xs))
-    here true e = omega arith
-    here false e = cc
-
-    there : (b : Bool) → 0 < length (filter p xs) → 0 < length (cond b (y ∷ filter p xs) (filter p xs))
-    there true l = omega arith
-    there false l = l
-
-    go : (b : Bool) → cond b (Some y) (find test xs) ≡ Some x → (find test xs ≡ Some x → 0 < length (filter p xs)) → 0 < length (cond (p y) (y ∷ filter p xs) (filter p xs))
-    go true g ih = here (p y) (subst (λ (z : A). p z ≡ true) (sym (some_is g)) is)
-    go false g ih = there (p y) (ih g)
+found-counts {A = A} test p (y ∷ xs) x h is = elim (cases_Bool (p y)) [
+  | inl e ↦ rw e (omega arith)
+  | inr e ↦ rw e (elim (cases_Bool (test y)) [
+    | inl f ↦ let same : y ≡ x = some_is (rw f at h) in absurd (true≢false (sym is ∙ (ap p (sym same) ∙ e)))
+    | inr f ↦ found-counts test p xs x (rw f at h) is
+  ])
+]
 
 asked-at : (t : Tables) → IsWhole t → (q cid k : ℕ) (r : Record) → find (is_at q cid) t.records ≡ Some r → r.work ≡ Management (DeleteSq k) → (x : Queue) → slice_get t.queues k ≡ Some x → is_asked x.state ≡ true
-asked-at t w q cid k r was work x at = go (is_asked x.state) refl
-  where
-    deletes : deletes_sq_of k r.work ≡ true
-    deletes = ap (deletes_sq_of k) work ∙ eq-eqb k k refl
-
-    count : length (filter (λ (s : Record). deletes_sq_of k s.work) t.records) ≡ (if is_asked x.state then 1 else 0)
-    count = w.sound.deletions k ∙ ap (λ (o : Option HostQueue). if option_map_or (λ (queue : HostQueue). is_asked queue.state) o false then 1 else 0) (slice_get-map host_queue_of t.queues k ∙ ap (option_map host_queue_of) at)
-
-    go : (b : Bool) → is_asked x.state ≡ b → b ≡ true
-    go true e = refl
-    go false e = absurd (omega (arith, found-counts (is_at q cid) (λ (s : Record). deletes_sq_of k s.work) t.records r was deletes, count ∙ ap (λ (b : Bool). if b then 1 else 0) e))
+asked-at t w q cid k r was work x at = true_from_ne_false (is_asked x.state) (λ e.
+    let deletes : deletes_sq_of k r.work ≡ true = ap (deletes_sq_of k) work ∙ eq-eqb k k refl in
+    let count = w.sound.deletions k ∙ ap (λ (o : Option HostQueue). if option_map_or (λ (queue : HostQueue). is_asked queue.state) o false then 1 else 0)
+    (slice_get-map host_queue_of t.queues k ∙ ap (option_map host_queue_of) at) in
+    omega (arith, found-counts (is_at q cid) (λ (s : Record). deletes_sq_of k s.work) t.records r was deletes, count, ap {B = ℕ} (λ (b : Bool). if b then 1 else 0) e))
 
 -- one that is being made, where its creation is outstanding
 made-at : (t : Tables) → (p : ℕ → Work → Bool) (test : HostState → Bool) (q cid k : ℕ) (r : Record)
     → length (filter (λ (s : Record). p k s.work) t.records) ≡ (if option_map_or (λ (queue : HostQueue). test queue.state) (slice_get (map host_queue_of t.queues) k) false then 1 else 0)
     → find (is_at q cid) t.records ≡ Some r → p k r.work ≡ true → (x : Queue) × (slice_get t.queues k ≡ Some x) × (test x.state ≡ true)
-made-at t p test q cid k r count was is = go (slice_get t.queues k) refl
+made-at t p test q cid k r count was is = elim (option_is (slice_get t.queues k)) [
+  | inl none ↦ absurd (omega (arith, some, told None none))
+  | inr (x, at) ↦ (x, at, true_from_ne_false (test x.state) (λ e. omega (arith, some, told (Some x) at, ap {B = ℕ} (λ (b : Bool). if b then 1 else 0) e)))
+]
   where
     some : 0 < length (filter (λ (s : Record). p k s.work) t.records)
     some = found-counts (is_at q cid) (λ (s : Record). p k s.work) t.records r was is
@@ -496,31 +424,13 @@ made-at t p test q cid k r count was is = go (slice_get t.queues k) refl
     told : (o : Option Queue) → slice_get t.queues k ≡ o → length (filter (λ (s : Record). p k s.work) t.records) ≡ (if option_map_or (λ (queue : HostQueue). test queue.state) (option_map host_queue_of o) false then 1 else 0)
     told o at = count ∙ ap (λ (h : Option HostQueue). if option_map_or (λ (queue : HostQueue). test queue.state) h false then 1 else 0) (slice_get-map host_queue_of t.queues k ∙ ap (option_map host_queue_of) at)
 
-    one : (x : Queue) (b : Bool) → test x.state ≡ b → length (filter (λ (s : Record). p k s.work) t.records) ≡ (if b then 1 else 0) → b ≡ true
-    one x true e n = refl
-    one x false e n = absurd (omega (arith, some, n))
-
-    go : (o : Option Queue) → slice_get t.queues k ≡ o → (x : Queue) × (slice_get t.queues k ≡ Some x) × (test x.state ≡ true)
-    go None at = absurd (let n : length (filter (λ (s : Record). p k s.work) t.records) ≡ 0 = told None at in omega (arith, some, n))
-    go (Some x) at = (x, at, one x (test x.state) refl (told (Some x) at))
-
 is-making_cq : (st : HostState) → is_making_cq st ≡ true → st ≡ MakingCq
-is-making_cq Live h = cc
-is-making_cq (Deleting noted) h = cc
-is-making_cq Retired h = cc
-is-making_cq Gone h = cc
 is-making_cq MakingCq h = refl
-is-making_cq HalfMade h = cc
-is-making_cq MakingSq h = cc
+is-making_cq st h = cc
 
 is-making_sq : (st : HostState) → is_making_sq st ≡ true → st ≡ MakingSq
-is-making_sq Live h = cc
-is-making_sq (Deleting noted) h = cc
-is-making_sq Retired h = cc
-is-making_sq Gone h = cc
-is-making_sq MakingCq h = cc
-is-making_sq HalfMade h = cc
 is-making_sq MakingSq h = refl
+is-making_sq st h = cc
 
 -- a queue stands there still, in its state, once a completion was heard and a claim given up
 kept-change : (f : Queue → Queue) → ((y : Queue) → (f y).state ≡ y.state) → (q k : ℕ) (queues : List Queue) (x : Queue) → slice_get queues k ≡ Some x
@@ -537,30 +447,26 @@ over-there t q e k x at =
     let b = kept-change (without_claim e.cid) (λ y. refl) q k (change q (with_answer_heard e.sqhd) t.queues) a.0 a.1 in
     (b.0, b.1, b.2 ∙ a.2)
 
+-- and the pages of its halves
+over-owns : (t : Tables) → IsWhole t → (q : ℕ) (e : ComEntry) (k : ℕ) (half : Half) (y : Queue) → slice_get (over q e.sqhd e.cid t).queues k ≡ Some y → OwnsHalf t.owners
+    (length t.pages) k half y
+over-owns t w q e k Submission y at =
+    each-over (λ (j : ℕ) (y : Queue). OwnsHalf t.owners (length t.pages) j Submission y) q e.sqhd e.cid t.queues (λ j y h. h) (λ j y h. h)
+    (λ j z at. half-owned t (length t.pages) w.sound.owners w.owners j Submission z at) k y at
+over-owns t w q e k Completion y at =
+    each-over (λ (j : ℕ) (y : Queue). OwnsHalf t.owners (length t.pages) j Completion y) q e.sqhd e.cid t.queues (λ j y h. h) (λ j y h. h)
+    (λ j z at. half-owned t (length t.pages) w.sound.owners w.owners j Completion z at) k y at
+
 over-makes : (t : Tables) → IsWhole t → (q : ℕ) (e : ComEntry) (k : ℕ) (half : Half) (st : HostState) (x : Queue) → slice_get t.queues k ≡ Some x → x.state ≡ st → Makes (over q e.sqhd e.cid t) k half st
 over-makes t w q e k half st x at is =
-    let there = over-there t q e k x at in
-    record {
-      queue = there.0;
-      at = there.1;
-      making = there.2 ∙ is;
-      owns = owned half k there.0 there.1;
-    }
-  where
-    owned : (half : Half) (k : ℕ) (y : Queue) → slice_get (over q e.sqhd e.cid t).queues k ≡ Some y → OwnsHalf t.owners (length t.pages) k half y
-    owned Submission k y at' = each-over (λ (j : ℕ) (y : Queue). OwnsHalf t.owners (length t.pages) j Submission y) q e.sqhd e.cid t.queues (λ j y h. h) (λ j y h. h)
-        (λ j y at'. half-owned t (length t.pages) w.sound.owners w.owners j Submission y at') k y at'
-    owned Completion k y at' = each-over (λ (j : ℕ) (y : Queue). OwnsHalf t.owners (length t.pages) j Completion y) q e.sqhd e.cid t.queues (λ j y h. h) (λ j y h. h)
-        (λ j y at'. half-owned t (length t.pages) w.sound.owners w.owners j Completion y at') k y at'
+    let there = over-there t q e k x at in record { queue = there.0; at = there.1; making = there.2 ∙ is; owns = over-owns t w q e k half there.0 there.1 }
 
 pub over-means : (t : Tables) → IsWhole t → (q : ℕ) (e : ComEntry) (kind : AdminKind) → EndsAdmin t q kind e → Means kind (over q e.sqhd e.cid t)
 over-means t w q e (Abort k cid) ends = tt
 over-means t w q e (DeleteSq k) ends =
     λ x at. each-over (λ (j : ℕ) (y : Queue). k ≡ j → has_sq y.state ≡ true) q e.sqhd e.cid t.queues (λ j y h. h) (λ j y h. h)
     (λ j y at' same. asked_has_sq y.state (asked-at t w q e.cid k ends.entry ends.was ends.work y (subst (λ (i : ℕ). slice_get t.queues i ≡ Some y) (sym same) at'))) k x at refl
-over-means t w q e (DeleteCq k) ends =
-    λ x at. each-over (λ (j : ℕ) (y : Queue). OwnsHalf t.owners (length t.pages) j Completion y) q e.sqhd e.cid t.queues (λ j y h. h) (λ j y h. h)
-    (λ j y at'. half-owned t (length t.pages) w.sound.owners w.owners j Completion y at') k x at
+over-means t w q e (DeleteCq k) ends = λ x at. over-owns t w q e k Completion x at
 over-means t w q e (CreateCq k n base) ends =
     let is = made-at t creates_cq_of is_making_cq q e.cid k ends.entry (w.sound.creations k).0 ends.was (ap (creates_cq_of k) ends.work ∙ eq-eqb k k refl) in
     over-makes t w q e k Completion MakingCq is.0 is.1 (is-making_cq is.0.state is.2)
@@ -622,10 +528,7 @@ admin-exact t w q x e kind sees ends = (
       ∙ (ap (after_admin kind e.status) (over-exact t w q e) ∙ sym (admin-after t q x e kind sees ends)),
 )
 
-pub admin-whole : (t : Tables) → IsWhole t → (q : ℕ) (x : Queue) (e : ComEntry) (kind : AdminKind) → Sees t q x e → EndsAdmin t q kind e → e.sqhd < x.host.entries → IsWhole (ended_admin q kind e t)
-admin-whole t w q x e kind sees ends below =
-    let new : Tables = ended_admin q kind e t in
-    let u : Tables = over q e.sqhd e.cid t in
-    let step = host_step t new (events.Reap q) (events.Reaps (found.AdminDone e.cid e.status e.dw0)) refl tt (admin-exact t w q x e kind sees ends) in
-    whole-of new (meant-settled u kind e.status (settled-over t w q x e kind sees ends below) (over-means t w q e kind ends))
-    (sound_after (state_of t) (events.Reap q) (events.Reaps (found.AdminDone e.cid e.status e.dw0)) (state_of new) step w.sound)
+pub admin-settled : (t : Tables) → IsWhole t → (q : ℕ) (x : Queue) (e : ComEntry) (kind : AdminKind) → Sees t q x e → EndsAdmin t q kind e → e.sqhd < x.host.entries → Settled
+    (ended_admin q kind e t)
+admin-settled t w q x e kind sees ends below =
+    meant-settled (over q e.sqhd e.cid t) kind e.status (settled-over t w q x e kind sees ends below) (over-means t w q e kind ends)

@@ -5,30 +5,30 @@ use Rattle.machine_model.specs.declared.words.Refusal.TheVariants as refusal
 use Rattle.machine_model.specs.declared.words.RejectedFor.TheVariants as rejected
 use Rattle.machine_model.specs.After as a
 use Rattle.page_ledger.specs.declared.owner.Owner.TheVariants as owner
-use Rattle.std.proofs.Common.{is_some, is_none, ◌&&◌, ◌≡◌, ℕ, ◌<◌, ◌==◌, Bool, true, false, length, if◌then◌else◌, Option, Some, None, List, [], find, slice_get, refl, ap, sym, ◌∙◌, subst, eq-eqb, ◌∷◌, map, not, eqb-true}
-use Rattle.std.{proofs.lemmas.{Bool.{not-false, true≢false, and_parts}, List.length-map, Option.slice_get-map}, specs.List.{AllByRecursion, list_any}}
-use Rattle.std.specs.Option.{option_map_or, option_map}
+use Rattle.std.proofs.Common.{is_some, is_none, ◌&&◌, ◌≡◌, ℕ, ◌<◌, ◌==◌, Bool, true, false, length, Option, Some, None, List, [], find, slice_get, refl, ap, sym, ◌∙◌, subst, eq-eqb, ◌∷◌, map, eqb-true, inl, inr}
+use Rattle.std.{proofs.lemmas.{Bool.{not-false, true≢false, and_parts, and_right, cond_both, false_from_ne_true}, List.length-map}, specs.List.{AllByRecursion}}
+use Rattle.std.specs.Option.{option_map_or}
 use Rattle.admin_commands.specs.declared.AdminKind.{AdminKind, TheVariants.{Abort, DeleteSq, DeleteCq, CreateCq, CreateSq}}
 use Rattle.entry_codec.specs.declared.{completion.ComEntry.ComEntry, status.{Status.Status, TheConstants.Status.ABORTED_SQ_DELETION}}
 use Rattle.io_commands.specs.{Asked.Request, Jobs.is_success}
-use Rattle.machine_model.{proofs.Kept.{sq_with_cq, deleted_has_sq}, specs.{After.{change, held, after_retire, lost}, Claims.OwnsFit}}
-use Rattle.machine_model.specs.Refusals.{refusal_of, has_cq_alone, is_submitted, is_reaped, host_queue, in_state, is_deleted, is_live, seen_entry, has_cq}
+use Rattle.machine_model.{proofs.{Cases.option_is, Kept.{sq_with_cq, deleted_has_sq}}, specs.{After.{change, held, after_retire, lost}, Claims.OwnsFit}}
+use Rattle.machine_model.specs.Refusals.{refusal_of, has_cq_alone, is_submitted, is_reaped, host_queue, is_deleted, is_live, has_cq}
 use Rattle.machine_model.specs.State.{HostQueue, Record, is_at, with_record, without_record, State, pages_of}
-use Rattle.machine_model.specs.{Step.{Refuses, fits_ring, reaped_as, reaped_entry, submitted_at, Step}, Work.Work, declared.words.HostState.HostState}
-use Rattle.machine_model.specs.declared.words.{HostState.TheVariants.{Live, Gone, HalfMade, Deleting, Retired, MakingCq, MakingSq}, Phase.Phase}
-use Rattle.machine_model.specs.declared.words.{Phase.TheVariants.{Drafted, Submitted, Held, Collected}, Refusal.Refusal, RejectedFor.RejectedFor}
+use Rattle.machine_model.specs.{Step.{fits_ring, reaped_as, reaped_entry, submitted_at, Step}, Work.Work, declared.words.HostState.HostState}
+use Rattle.machine_model.specs.declared.words.{HostState.TheVariants.{Live, Gone, HalfMade, Retired}, Phase.Phase}
+use Rattle.machine_model.specs.declared.words.{Phase.TheVariants.{Submitted, Held}, Refusal.Refusal, RejectedFor.RejectedFor}
 use Rattle.machine_model.specs.declared.words.Work.TheVariants.{Io, Management}
 use Rattle.queue_pair.{proofs.Rings.in_range_below, specs.Slots.is_in_range}
-use Rattle.host_core.proofs.{Ending.Finishes, Granting.in_state-is, Lists.{found_any, all-map, any-map, some_is}}
+use Rattle.host_core.proofs.{Granting.in_state-is, Lists.{each-change, length-change, found_any, all-map, any-map, some_is}, RowRecords.claims-same}
 use Rattle.host_core.proofs.PageOwners.{commands-told, half-owned, half-there, others-told, owner-stays, given-free}
-use Rattle.host_core.proofs.QueueLists.{each-change, map-change, host-at, host_step, length-change, sound_after, Settled, settled-of, settled-with, whole-of}
-use Rattle.host_core.proofs.Reaping.{EndsAdmin, admin-exact, admin-whole, ended_admin, done-whole, EndsIo, Sees, done-exact, reap-none, reaped-empty, reject-exact, reject-whole}
+use Rattle.host_core.proofs.QueueLists.{map-change, host-at, host_step, Settled, settled-of, settled-turned, Steps, steps}
+use Rattle.host_core.proofs.Reaping.{EndsAdmin, admin-exact, admin-settled, ended_admin, done-settled, EndsIo, Sees, done-exact, held-lost, reap-none}
+use Rattle.host_core.proofs.Reaping.{reaped-empty, reject-exact, settled-consumed, work-cases}
 use Rattle.host_core.specs.{Commands.{Claims, passes, state_at, without_claim}, Exact.Exactly, Halves.HasHalf, Looks.completion_waits}
 use Rattle.host_core.specs.Reaping.{lacks_completion, Answered, ReapsTo, consumed, ended_with, gives_back, heard, kind_of, meant, over, seen_at, state_deleted, with_answer_heard, with_state, without_completion, without_submission}
 use Rattle.host_core.specs.{Retiring.{retired, with_lost}, Rows.Queue, Tables.{Tables, state_of, host_queue_of, sq_pages_of, cq_pages_of}}
-use Rattle.host_core.specs.Whole.{ClaimIdentifiers, IsWhole, is_outstanding, IsHost, IsQueue, IsRecord, ClaimsIdentifiers, FitsWork, TellsCommand, TellsQueue}
-use Rattle.controller_walk.specs.Units.{first_passing}
-use Rattle.page_ledger.specs.{Owners.{free_pages, given_back, is_half, is_same_half}, declared.owner.Owner.Owner}
+use Rattle.host_core.specs.Whole.{ClaimIdentifiers, HaveOwner, IsWhole, is_outstanding, IsHost, IsRecord, ClaimsIdentifiers, TellsCommand, TellsQueue}
+use Rattle.page_ledger.specs.{Owners.{free_pages, given_back, is_half}, declared.owner.Owner.Owner}
 use Rattle.page_memory.specs.declared.page.Half.TheVariants.{Submission, Completion}
 
 -- A reap as it is made: what it decides, and what is written.
@@ -75,11 +75,10 @@ pub record Looks (t : Tables) (q : ℕ) (o : Option ComEntry) : Type 0 where
   pub seen : seen_at t q ≡ o
 
 pub looks : (t : Tables) (q : ℕ) (o : Option ComEntry) → lacks_completion (slice_get t.queues q) ≡ false → seen_at t q ≡ o → Looks t q o
-looks t q o there seen = go (slice_get t.queues q) refl there
-  where
-    go : (p : Option Queue) → slice_get t.queues q ≡ p → lacks_completion p ≡ false → Looks t q o
-    go None at h = cc
-    go (Some x) at h = record { queue = x; at = at; live = not-false _ h; seen = seen }
+looks t q o there seen = elim (option_is (slice_get t.queues q)) [
+  | inl at ↦ absurd (true≢false (rw at at there))
+  | inr (x, at) ↦ record { queue = x; at = at; live = not-false _ (rw at at there); seen = seen }
+]
 
 sees : (t : Tables) (q : ℕ) (e : ComEntry) → (l : Looks t q (Some e)) → Sees t q l.queue e
 sees t q e l = record { at = l.at; live = l.live; seen = l.seen }
@@ -94,11 +93,8 @@ reaps-none t w q l =
 pub reaps-rejected : (t new : Tables) → IsWhole t → (q : ℕ) (e : ComEntry) (why : RejectedFor) → Looks t q (Some e) → reaped_entry (state_of t) q e ≡ found.Rejected why → new ≡ consumed q t
     → ReapsTo t q (found.Rejected why) new
 reaps-rejected t new w q e why l says is =
-    subst (λ (u : Tables). ReapsTo t q (found.Rejected why) u) (sym is)
-    (record {
-      step = host_step t (consumed q t) (events.Reap q) (events.Reaps (found.Rejected why)) refl tt (reject-exact t w q l.queue e why (sees t q e l) says);
-      whole = reject-whole t w q l.queue e why (sees t q e l) says;
-    })
+    let made = steps t (consumed q t) (events.Reap q) (events.Reaps (found.Rejected why)) w refl tt (reject-exact t w q l.queue e why (sees t q e l) says) (settled-consumed t w q) in
+    rw is (record { step = made.step; whole = made.whole })
 
 io-work : (v : Work) → kind_of v ≡ None → (request : Request) × (v ≡ Io request)
 io-work (Io request) h = (request, refl)
@@ -119,12 +115,10 @@ reaps-done t new w q e l is left =
       work = io.1;
       says = answered-says t w q l.queue e None l.at is ∙ ap (reaped_as q e) io.1;
     } in
-    subst (λ (u : Tables). ReapsTo t q (found.Done e.cid e.status) u) (sym left)
-    (record {
-      step = host_step t (ended_with q e.sqhd e.cid e.status t) (events.Reap q) (events.Reaps (found.Done e.cid e.status)) refl tt
-          (done-exact t w q e.cid e.status l.queue e (sees t q e l) ends);
-      whole = done-whole t w q e.cid e.status l.queue e (sees t q e l) ends (head-below t q l.queue e None l.at is);
-    })
+    let made = steps t (ended_with q e.sqhd e.cid e.status t) (events.Reap q) (events.Reaps (found.Done e.cid e.status)) w refl tt
+    (done-exact t w q e.cid e.status l.queue e (sees t q e l) ends)
+    (done-settled t w q e.cid e.status l.queue e (sees t q e l) ends (head-below t q l.queue e None l.at is)) in
+    rw left (record { step = made.step; whole = made.whole })
 
 pub reaps-admin : (t new : Tables) → IsWhole t → (q : ℕ) (e : ComEntry) (kind : AdminKind) → Looks t q (Some e) → (is : Answered t q e (Some kind))
     → new ≡ meant kind e.status (over q e.sqhd e.cid t) → ReapsTo t q (found.AdminDone e.cid e.status e.dw0) new
@@ -136,12 +130,9 @@ reaps-admin t new w q e kind l is left =
       work = work;
       says = answered-says t w q l.queue e (Some kind) l.at is ∙ ap (reaped_as q e) work;
     } in
-    subst (λ (u : Tables). ReapsTo t q (found.AdminDone e.cid e.status e.dw0) u) (sym left)
-    (record {
-      step = host_step t (ended_admin q kind e t) (events.Reap q) (events.Reaps (found.AdminDone e.cid e.status e.dw0)) refl tt
-          (admin-exact t w q l.queue e kind (sees t q e l) ends);
-      whole = admin-whole t w q l.queue e kind (sees t q e l) ends (head-below t q l.queue e (Some kind) l.at is);
-    })
+    let made = steps t (ended_admin q kind e t) (events.Reap q) (events.Reaps (found.AdminDone e.cid e.status e.dw0)) w refl tt (admin-exact t w q l.queue e kind (sees t q e l) ends)
+    (admin-settled t w q l.queue e kind (sees t q e l) ends (head-below t q l.queue e (Some kind) l.at is)) in
+    rw left (record { step = made.step; whole = made.whole })
 
 -- What is written
 
@@ -154,12 +145,9 @@ over-tables t u v q e queues eu ev eq = rw (eq, ev, eu) refl
 
 -- the claimed identifiers, once the completion was heard
 pub over-claims : (q : ℕ) (e : ComEntry) (queues new : List Queue) → Claims queues q e.cid → new ≡ change q (with_answer_heard e.sqhd) queues → Claims new q e.cid
-over-claims q e queues new claims is = subst (λ (qs : List Queue). Claims qs q e.cid) (sym is) (λ y at. go y at)
-  where
-    go : (y : Queue) → slice_get (change q (with_answer_heard e.sqhd) queues) q ≡ Some y → slice_get y.host.claimed e.cid ≡ Some true
-    go y at =
-        each-change (λ (j : ℕ) (z : Queue). j ≡ q → slice_get z.host.claimed e.cid ≡ Some true) q (with_answer_heard e.sqhd) queues
-        (λ k z far at' same. absurd (far same)) (λ z at' same. claims z at') q y at refl
+over-claims q e queues new claims is = rw is (λ y at.
+    each-change (λ (j : ℕ) (z : Queue). j ≡ q → slice_get z.host.claimed e.cid ≡ Some true) q (with_answer_heard e.sqhd) queues (λ k z far at' same. absurd (far same))
+    (λ z at' same. claims z at') q y at refl)
 
 -- the identifier of an outstanding command is claimed
 pub answered-claims : (t : Tables) → ClaimIdentifiers t.records t.queues → (q : ℕ) (e : ComEntry) (kind : Option AdminKind) → Answered t q e kind → Claims t.queues q e.cid
@@ -169,51 +157,32 @@ answered-claims t ids q e kind is y at =
     claims.told e.cid (claims.inside e.cid there) ∙ ap Some there
 
 pub submitted-is : (p : Phase) → is_submitted p ≡ true → p ≡ Submitted
-submitted-is Drafted h = cc
 submitted-is Submitted h = refl
-submitted-is Held h = cc
-submitted-is Collected h = cc
+submitted-is p h = cc
 
 -- what the end of an admin command gives back
 pub gives-meant : (t new : Tables) (kind : AdminKind) (k : ℕ) (status : Status) → kind ≡ DeleteCq k → is_success status ≡ true → passes has_cq_alone (state_at t.queues k) ≡ true
     → new ≡ without_completion k t → new ≡ meant kind status t
-gives-meant t new kind k status e s r is = is ∙ sym (ap (λ (x : AdminKind). meant x status t) e ∙ both)
-  where
-    both : meant (DeleteCq k) status t ≡ without_completion k t
-    both = rw (s, r) refl
+gives-meant t new kind k status e s r is = rw (is, e, s, r) refl
 
 -- and where it does not make what it was to make
 pub unmade-cq : (t new : Tables) (kind : AdminKind) (k n base : ℕ) (status : Status) → kind ≡ CreateCq k n base → is_success status ≡ false → new ≡ without_completion k t → new ≡ meant kind status t
-unmade-cq t new kind k n base status e s is = is ∙ sym (ap (λ (x : AdminKind). meant x status t) e ∙ both)
-  where
-    both : meant (CreateCq k n base) status t ≡ without_completion k t
-    both = rw s refl
+unmade-cq t new kind k n base status e s is = rw (is, e, s) refl
 
 pub unmade-sq : (t new : Tables) (kind : AdminKind) (k n base : ℕ) (status : Status) → kind ≡ CreateSq k n base → is_success status ≡ false → new ≡ without_submission HalfMade k t → new ≡ meant kind status t
-unmade-sq t new kind k n base status e s is = is ∙ sym (ap (λ (x : AdminKind). meant x status t) e ∙ both)
-  where
-    both : meant (CreateSq k n base) status t ≡ without_submission HalfMade k t
-    both = rw s refl
+unmade-sq t new kind k n base status e s is = rw (is, e, s) refl
 
 -- as many queues as before
 pub meant-many : (t : Tables) (kind : AdminKind) (status : Status) → length (meant kind status t).queues ≡ length t.queues
 meant-many t (Abort k cid) status = refl
 meant-many t (DeleteSq k) status = length-change k (with_state (state_deleted status)) t.queues
-meant-many t (DeleteCq k) status = go (gives_back k status t)
-  where
-    go : (b : Bool) → length (if b then without_completion k t else t).queues ≡ length t.queues
-    go true = length-change k (with_state Gone) t.queues
-    go false = refl
-meant-many t (CreateCq k n base) status = go (is_success status)
-  where
-    go : (b : Bool) → length (if b then record t { queues = change k (with_state HalfMade) t.queues } else without_completion k t).queues ≡ length t.queues
-    go true = length-change k (with_state HalfMade) t.queues
-    go false = length-change k (with_state Gone) t.queues
-meant-many t (CreateSq k n base) status = go (is_success status)
-  where
-    go : (b : Bool) → length (if b then record t { queues = change k (with_state Live) t.queues } else without_submission HalfMade k t).queues ≡ length t.queues
-    go true = length-change k (with_state Live) t.queues
-    go false = length-change k (with_state HalfMade) t.queues
+meant-many t (DeleteCq k) status = cond_both (gives_back k status t) _ _ (λ (u : Tables). length u.queues ≡ length t.queues) (λ _. length-change k (with_state Gone) t.queues) (λ _. refl)
+meant-many t (CreateCq k n base) status =
+    cond_both (is_success status) _ _ (λ (u : Tables). length u.queues ≡ length t.queues) (λ _. length-change k (with_state HalfMade) t.queues)
+    (λ _. length-change k (with_state Gone) t.queues)
+meant-many t (CreateSq k n base) status =
+    cond_both (is_success status) _ _ (λ (u : Tables). length u.queues ≡ length t.queues) (λ _. length-change k (with_state Live) t.queues)
+    (λ _. length-change k (with_state HalfMade) t.queues)
 
 pub heard-many : (t : Tables) (q k : ℕ) → length (heard q k t).queues ≡ length t.queues
 heard-many t q k = length-change q (with_answer_heard k) t.queues
@@ -242,13 +211,11 @@ same-at t q x y r at = some_is (sym r.at ∙ at)
 
 -- The machine's state
 
-host-retired : (x : Queue) → has_cq x.state ≡ true → host_queue_of (with_state Retired x) ≡ a.retired (host_queue_of x)
-host-retired x h = rw h refl
-
 retired-state : (t : Tables) → IsWhole t → (q : ℕ) (x : Queue) → Retires t q x → state_of (retired q t) ≡ after_retire q (state_of t)
 retired-state t w q x r =
     ap (λ (hs : List HostQueue). with_free (free_pages (given_back (is_half q Submission) t.owners)) hs)
-    (map-change host_queue_of (with_state Retired) a.retired q t.queues (λ y at. host-retired y (subst (λ (z : Queue). has_cq z.state ≡ true) (same-at t q x y r at) (there t q x r))))
+    (map-change host_queue_of (with_state Retired) a.retired q t.queues (λ y at. let has : has_cq y.state ≡ true = subst (λ (z : Queue). has_cq z.state ≡ true)
+    (same-at t q x y r at) (there t q x r) in rw has refl))
     ∙ (ap (λ (free : List ℕ). with_free free (change q a.retired (map host_queue_of t.queues)))
     (given-free t.owners (is_half q Submission) (length t.pages) (sq_pages_of x) (sym w.table) (half-owned t (length t.pages) w.sound.owners w.owners q Submission x r.at))
     ∙ ap (λ (o : Option HostQueue). option_map_or (λ (queue : HostQueue). a.on_host_queue q a.retired (a.given_back queue.sq_pages (state_of (with_lost q t)))) o (state_of (with_lost q t)))
@@ -257,19 +224,8 @@ retired-state t w q x r =
     with_free : List ℕ → List HostQueue → State
     with_free free hs = record (state_of t) { host = record { free = free; queues = hs; records = map (lost q) t.records } }
 
--- which refusal the two tests give
-abbrev refused : Bool → Option ComEntry → Option Refusal
-refused deleted seen = first_passing ((not deleted, refusal.NotDeleted) ∷ (is_some seen, refusal.NotDrained) ∷ [])
-
-none-refused : (deleted : Bool) (seen : Option ComEntry) → deleted ≡ true → seen ≡ None → refused deleted seen ≡ None
-none-refused true None d h = refl
-none-refused true (Some e) d h = cc
-none-refused false seen d h = cc
-
 retire-none : (t : Tables) (q : ℕ) (x : Queue) → Retires t q x → refusal_of (state_of t) (events.Retire q) ≡ None
-retire-none t q x r =
-    none-refused (in_state is_deleted (state_of t) q) (seen_entry (state_of t) q)
-    (ap (λ (o : Option HostQueue). option_map_or (λ (queue : HostQueue). is_deleted queue.state) o false) (host-at t q x r.at) ∙ r.deleted) r.drained
+retire-none t q x r = rw (r.drained, host-at t q x r.at, r.deleted) refl
 
 retire-exact : (t : Tables) → IsWhole t → (q : ℕ) (x : Queue) → Retires t q x → Exactly (state_of t) (events.Retire q) events.Accepted (state_of (retired q t))
 retire-exact t w q x r = (retire-none t q x r, tt, retired-state t w q x r)
@@ -280,41 +236,25 @@ abbrev is_lost : ℕ → Record → Bool
 is_lost q r = (r.q == q) && is_submitted r.phase
 
 lost-at : (q p i : ℕ) (r : Record) → is_at p i (lost q r) ≡ is_at p i r
-lost-at q p i r = go (is_lost q r)
-  where
-    go : (b : Bool) → is_at p i (if b then record r { phase = Held; status = Some ABORTED_SQ_DELETION } else r) ≡ is_at p i r
-    go true = refl
-    go false = refl
+lost-at q p i r = cond_both (is_lost q r) _ _ (λ x. is_at p i x ≡ is_at p i r) (λ _. refl) (λ _. refl)
 
 lost-told : (owners : List Owner) (q : ℕ) (r : Record) → TellsCommand owners r → TellsCommand owners (lost q r)
-lost-told owners q r h = go (is_lost q r)
-  where
-    go : (b : Bool) → TellsCommand owners (if b then record r { phase = Held; status = Some ABORTED_SQ_DELETION } else r)
-    go true = record { data_pages = h.data_pages; chain_pages = h.chain_pages }
-    go false = h
+lost-told owners q r h = cond_both (is_lost q r) _ _ (TellsCommand owners) (λ _. record { data_pages = h.data_pages; chain_pages = h.chain_pages }) (λ _. h)
 
 lost-claims : (q : ℕ) (records : List Record) (p : ℕ) (claimed : List Bool) → ClaimsIdentifiers records p claimed → ClaimsIdentifiers (map (lost q) records) p claimed
-lost-claims q records p claimed claims =
-    record {
-      told = λ i l. claims.told i l ∙ ap (λ (b : Bool). Some b) (sym (any-map (is_at p i) (lost q) (lost-at q p i) records));
-      inside = λ i h. claims.inside i (sym (any-map (is_at p i) (lost q) (lost-at q p i) records) ∙ h);
-    }
+lost-claims q records p claimed = claims-same records (map (lost q) records) p claimed (λ i. any-map (is_at p i) (lost q) (lost-at q p i) records)
 
 -- what is lost is an I/O command
 lost-fits : (n q : ℕ) (r : Record) → (q == 0) ≡ false → OwnsFit r.q r.work (pages_of r) → IsRecord n r → IsRecord n (lost q r)
-lost-fits n q r io owns fits = go (is_lost q r) refl
+lost-fits n q r io owns fits = cond_both (is_lost q r) _ _ (IsRecord n) held (λ _. fits)
   where
-    held : (w : Work) → r.work ≡ w → OwnsFit r.q w (pages_of r) → r.q ≡ q → IsRecord n (record r { phase = Held; status = Some ABORTED_SQ_DELETION })
-    held (Io request) e h here = record {
-      queue = fits.queue;
-      work = subst (λ (v : Work). FitsWork v (record r { phase = Held; status = Some ABORTED_SQ_DELETION })) (sym e) (let old : FitsWork (Io request) r = subst (λ (v : Work). FitsWork v r) e fits.work in old);
-      phase = rw e tt;
-    }
-    held (Management kind) e h here = absurd (true≢false (sym (eq-eqb q 0 (sym here ∙ h.0)) ∙ io))
-
-    go : (b : Bool) → is_lost q r ≡ b → IsRecord n (if b then record r { phase = Held; status = Some ABORTED_SQ_DELETION } else r)
-    go true e = held r.work refl owns (eqb-true r.q q (and_parts (r.q == q) (is_submitted r.phase) e).0)
-    go false e = fits
+    held : is_lost q r ≡ true → IsRecord n (record r { phase = Held; status = Some ABORTED_SQ_DELETION })
+    held e = elim (work-cases r.work) [
+      | inl is ↦ held-lost n r is fits
+      | inr (kind, is) ↦
+          let none : OwnsFit r.q (Management kind) (pages_of r) = subst (λ (v : Work). OwnsFit r.q v (pages_of r)) is owns in
+          absurd (true≢false (sym (eq-eqb q 0 (sym (eqb-true r.q q (and_parts (r.q == q) (is_submitted r.phase) e).0) ∙ none.0)) ∙ io))
+    ]
 
 lost-records : (n q : ℕ) (records : List Record) → (q == 0) ≡ false → AllByRecursion (λ r. OwnsFit r.q r.work (pages_of r)) records → AllByRecursion (IsRecord n) records
     → AllByRecursion (IsRecord n) (map (lost q) records)
@@ -323,42 +263,25 @@ lost-records n q (r ∷ records) io owns all = (lost-fits n q r io owns.0 all.0,
 
 -- queue 0 is live
 not-admin : (t : Tables) → IsWhole t → (q : ℕ) (x : Queue) → Retires t q x → (q == 0) ≡ false
-not-admin t w q x r = go (q == 0) refl
+not-admin t w q x r = false_from_ne_true (q == 0) (λ e.
+    let first : host_queue (state_of t) 0 ≡ Some (host_queue_of x) = subst (λ (k : ℕ). host_queue (state_of t) k ≡ Some (host_queue_of x)) (eqb-true q 0 e) (host-at t q x r.at) in
+    let live : is_live x.state ≡ true = ap (λ (o : Option HostQueue). option_map_or (λ (queue : HostQueue). is_live queue.state) o true) (sym first) ∙ w.sound.admin in
+    dead x.state r.deleted live)
   where
     dead : (state : HostState) → is_deleted state ≡ true → is_live state ≡ true → ⊥
     dead Live h l = cc
-    dead (Deleting noted) h l = cc
-    dead Retired h l = cc
-    dead Gone h l = cc
-    dead MakingCq h l = cc
-    dead HalfMade h l = cc
-    dead MakingSq h l = cc
-
-    first : q ≡ 0 → host_queue (state_of t) 0 ≡ Some (host_queue_of x)
-    first z = subst (λ (k : ℕ). host_queue (state_of t) k ≡ Some (host_queue_of x)) z (host-at t q x r.at)
-
-    go : (b : Bool) → (q == 0) ≡ b → b ≡ false
-    go true e = absurd (dead x.state r.deleted (ap (λ (o : Option HostQueue). option_map_or (λ (queue : HostQueue). is_live queue.state) o true) (sym (first (eqb-true q 0 e))) ∙ w.sound.admin))
-    go false e = refl
+    dead state h l = cc
 
 -- The owners
 
-completion-kept : (q : ℕ) → is_half q Submission (owner.Queue q Completion) ≡ false
-completion-kept q = go (q == q)
-  where
-    go : (b : Bool) → (b && is_same_half Completion Submission) ≡ false
-    go true = refl
-    go false = refl
-
 retired-told : (owners : List Owner) (q : ℕ) (x : Queue) → has_cq x.state ≡ true → TellsQueue owners q x → TellsQueue (given_back (is_half q Submission) owners) q (with_state Retired x)
 retired-told owners q x live told =
+    let kept : cq_pages_of (with_state Retired x) ≡ cq_pages_of x = rw live refl in
     record {
       submission = λ p h. cc;
-      completion = λ p h. owner-stays owners (is_half q Submission) p (owner.Queue q Completion) (completion-kept q) (told.completion p (subst (λ (ps : List ℕ). list_any (λ k. k == p) ps ≡ true) kept h));
+      completion = subst (λ (ps : List ℕ). HaveOwner (given_back (is_half q Submission) owners) (owner.Queue q Completion) ps) (sym kept)
+          (λ p h. owner-stays owners (is_half q Submission) p (owner.Queue q Completion) (and_right (q == q) false refl) (told.completion p h));
     }
-  where
-    kept : cq_pages_of (with_state Retired x) ≡ cq_pages_of x
-    kept = rw live refl
 
 -- The tables
 
@@ -367,56 +290,37 @@ settled-retired t w q x r =
     let s : Settled t = settled-of t w in
     let live : (y : Queue) → slice_get t.queues q ≡ Some y → has_cq y.state ≡ true = λ y at. subst (λ (z : Queue). has_cq z.state ≡ true) (same-at t q x y r at) (there t q x r) in
     let owners : List Owner = given_back (is_half q Submission) t.owners in
-    let f : Queue → Queue = with_state Retired in
-    settled-with t owners (change q f t.queues) (map (lost q) t.records) s
+    settled-turned t q (with_state Retired) t.pages owners (map (lost q) t.records) s
     (record {
-      table = length-map t.owners _;
-      many = length-change q f t.queues;
-      queues = record {
-        each = each-change (IsQueue t.entries) q f t.queues (λ j y _ at. s.queues.each j y at)
-            (λ y at. let is = s.queues.each q y at in record { number = is.number; entries = is.entries; host_side = is.host_side });
-      };
-      identifiers = record {
-        each = each-change (λ (j : ℕ) (y : Queue). ClaimsIdentifiers (map (lost q) t.records) j y.host.claimed) q f t.queues
-            (λ j y _ at. lost-claims q t.records j y.host.claimed (s.identifiers.each j y at)) (λ y at. lost-claims q t.records q y.host.claimed (s.identifiers.each q y at));
-      };
-      owners = record {
-        queues_told = each-change (TellsQueue owners) q f t.queues (λ j y far at. others-told t.owners q j Submission y far (s.owners.queues_told j y at))
-            (λ y at. retired-told t.owners q y (live y at) (s.owners.queues_told q y at));
-        commands_told = all-map (TellsCommand owners) (lost q) (λ y h. lost-told owners q y h) t.records (commands-told t.owners q Submission t.records s.owners.commands_told);
-      };
+      pool = s.pool;
+      table = length-map t.owners _ ∙ s.table;
+      queue = λ y at. let is = s.queues.each q y at in record { number = is.number; entries = is.entries; host_side = is.host_side };
+      identifiers = λ j y at. lost-claims q t.records j y.host.claimed (s.identifiers.each j y at);
+      claims = λ y at. lost-claims q t.records q y.host.claimed (s.identifiers.each q y at);
+      others = λ j y far at. others-told t.owners q j Submission y far (s.owners.queues_told j y at);
+      own = λ y at. retired-told t.owners q y (live y at) (s.owners.queues_told q y at);
+      commands = all-map (TellsCommand owners) (lost q) (λ y h. lost-told owners q y h) t.records (commands-told t.owners q Submission t.records s.owners.commands_told);
       records = lost-records (length t.queues) q t.records (not-admin t w q x r) w.sound.works_fit s.records;
     })
-
-retired-whole : (t : Tables) → IsWhole t → (q : ℕ) (x : Queue) → Retires t q x → IsWhole (retired q t)
-retired-whole t w q x r =
-    let new : Tables = retired q t in
-    let step = host_step t new (events.Retire q) events.Accepted refl tt (retire-exact t w q x r) in
-    whole-of new (settled-retired t w q x r)
-    (sound_after (state_of t) (events.Retire q) events.Accepted (state_of new) step w.sound)
 
 -- As the code tells it
 
 retires : (t : Tables) (q : ℕ) → passes is_deleted (state_at t.queues q) ≡ true → seen_at t q ≡ None → (x : Queue) × Retires t q x
-retires t q deleted drained = go (slice_get t.queues q) refl deleted
-  where
-    go : (o : Option Queue) → slice_get t.queues q ≡ o → passes is_deleted (option_map (λ (queue : Queue). queue.state) o) ≡ true → (x : Queue) × Retires t q x
-    go None at h = cc
-    go (Some x) at h = (x, record { at = at; deleted = h; drained = drained })
+retires t q deleted drained = elim (option_is (slice_get t.queues q)) [
+  | inl at ↦ absurd (true≢false (sym (rw at at deleted)))
+  | inr (x, at) ↦ (x, record { at = at; deleted = rw at at deleted; drained = drained })
+]
 
 pub retire-half : (t : Tables) → IsHost t → (q : ℕ) → passes is_deleted (state_at t.queues q) ≡ true → HasHalf t q Submission
-retire-half t h q deleted = go (slice_get t.queues q) refl deleted
-  where
-    go : (o : Option Queue) → slice_get t.queues q ≡ o → passes is_deleted (option_map (λ (queue : Queue). queue.state) o) ≡ true → HasHalf t q Submission
-    go None at d = cc
-    go (Some x) at d = half-there t h q Submission x at (deleted_has_sq x.state d)
+retire-half t h q deleted = elim (option_is (slice_get t.queues q)) [
+  | inl at ↦ absurd (true≢false (sym (rw at at deleted)))
+  | inr (x, at) ↦ half-there t h q Submission x at (deleted_has_sq x.state (rw at at deleted))
+]
 
-pub retire-made : (t new : Tables) → IsWhole t → (q : ℕ) → passes is_deleted (state_at t.queues q) ≡ true → seen_at t q ≡ None → new ≡ retired q t → Finishes t new (events.Retire q)
+pub retire-made : (t new : Tables) → IsWhole t → (q : ℕ) → passes is_deleted (state_at t.queues q) ≡ true → seen_at t q ≡ None → new ≡ retired q t → Steps t
+    (events.Retire q) events.Accepted new
 retire-made t new w q deleted drained is =
-    let r = retires t q deleted drained in
-    let here : Finishes t (retired q t) (events.Retire q) =
-    record { step = host_step t (retired q t) (events.Retire q) events.Accepted refl tt (retire-exact t w q r.0 r.1); whole = retired-whole t w q r.0 r.1 } in
-    subst (λ (u : Tables). Finishes t u (events.Retire q)) (sym is) here
+    let r = retires t q deleted drained in rw is (steps t (retired q t) (events.Retire q) events.Accepted w refl tt (retire-exact t w q r.0 r.1) (settled-retired t w q r.0 r.1))
 
 -- a completion stands at its head
 pub retire-drained : (t : Tables) (q : ℕ) (e : ComEntry) → passes is_deleted (state_at t.queues q) ≡ true → seen_at t q ≡ Some e → Step (state_of t) (events.Retire q) (events.Refused refusal.NotDrained []) (state_of t)

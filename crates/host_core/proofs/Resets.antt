@@ -3,28 +3,32 @@ use Rattle.page_ledger.specs.declared.owner.Owner.TheVariants as owner
 use Rattle.host_core.specs.Rows as declared
 use Rattle.machine_model.specs.After as a
 use Rattle.machine_model.specs.Events as events
-use Rattle.std.proofs.Common.{◌≡◌, ℕ, ◌+◌, ◌-◌, ◌<◌, ◌≤◌, true, Some, List, [], ◌∷◌, ◌++◌, length, map, get_or, slice_get, slice_set, refl, ap, ap₂, sym, ◌∙◌, arith, subst, zero, suc, ◌==◌, nat_lt, not, Bool, false, ◌&&◌, None, if◌then◌else◌, lt-ltb, ◌||◌, inl, inr, cond, filter, flat_map}
-use Rattle.std.proofs.lemmas.Bool.{true≢false, and_parts, and_right, and_left, ne_eqb, not-false, not-true, or_cases, or_left, or_right, Decides.nat_tests}
+use Rattle.std.proofs.Common.{◌≡◌, ℕ, ◌+◌, ◌-◌, ◌<◌, ◌≤◌, true, Some, List, [], ◌∷◌, ◌++◌, length, map, get_or, slice_get, slice_set, refl, ap, ap₂, sym, ◌∙◌, arith, subst, zero, suc, ◌==◌, nat_lt, not, Bool, false, ◌&&◌, None, if◌then◌else◌, lt-ltb, ◌||◌, inl, inr, flat_map}
+use Rattle.std.proofs.lemmas.Bool.{true≢false, false_from_ne_true, cases_Bool, and_parts, and_right, ne_eqb, not-true, or_cases, or_from, or_left, or_right}
+use Rattle.std.proofs.lemmas.Bool.Decides.{nat_tests}
 use Rattle.std.{proofs.lemmas.{List.{map-append, length-map}, Option.{slice_get_within, slice_get-map}}, specs.List.AllByRecursion}
 use Rattle.std.specs.{Option.{option_map_or, option_map}, Prelude.Option}
 use Rattle.machine_model.proofs.{Owned.{all_reset, lost_by}, Steps.length-with_pages, TokensKept.live_is}
 use Rattle.machine_model.specs.{After.{admin_pages, change, after_reset, is_of_io, lost_anywhere, reset_records}, Claims.IsSound}
 use Rattle.machine_model.specs.{Memory.{with_pages, zeroed_pages}, Refusals.is_live, State.{HostQueue, Record, State, is_at}, Step.Step, Work.Work}
-use Rattle.machine_model.specs.declared.words.{HostState.{HostState, TheVariants.Live}, Phase.TheVariants.Held, Work.TheVariants.{Io, Management}}
+use Rattle.machine_model.specs.declared.words.{HostState.{HostState, TheVariants.Live}, Work.TheVariants.{Io, Management}}
 use Rattle.page_ledger.specs.{Lists.ListsAll, Owners.{is_among, owner_at, pages_from, given_back, is_half, is_owned_at, is_queue, is_same_half}}
 use Rattle.page_ledger.specs.declared.owner.Owner.{Owner, TheVariants.{Free, Queue as OwnerQueue, Command}}
 use Rattle.page_memory.specs.{Pages.{Pages, zero_page}, declared.page.Half.{Half, TheVariants.{Submission, Completion}}}
 use Rattle.queue_pair.specs.{Memory.half_pages, Rings.first_page_of}
 use Rattle.host_core.proofs.Identifiers.{queue-here, alone_sound, host_of, over_pages, places-of}
-use Rattle.host_core.proofs.Lists.{change-at-lists as change-at, get-at-lists as get-at, map-agree, none_is_not, some_is}
+use Rattle.host_core.proofs.Lists.{change-at-lists as change-at, get-at, length-change, map-agree, none_is_not, some_is}
 use Rattle.host_core.proofs.Making.{can-zero, some-pages, with-some, claims-none, made-queue, whole-zeros}
-use Rattle.host_core.proofs.PageOwners.{half-from, half-told, among-from, with-append, half-owned, half-standing, owner-stays, times-at, times-some, among-append, pool-with, given-free}
-use Rattle.host_core.proofs.QueueLists.{queue_page-in, host-at, Settled, none-told, settled-of, whole-of, length-change, sound_after}
+use Rattle.host_core.proofs.PageOwners.{half-from, half-told, among-from, with-append, half-owned, half-lists, half-standing, owner-stays, times-at, times-some}
+use Rattle.host_core.proofs.PageOwners.{among-append, pool-with, given-free}
+use Rattle.host_core.proofs.QueueLists.{queue_page-in, host-at, Settled, none-told, settled-of, settled-with, whole-of}
+use Rattle.host_core.proofs.{Reaping.{held-lost, work-cases}, RowRecords.claims-same}
+use Rattle.io_commands.specs.Asked.{Request}
 use Rattle.host_core.specs.{Alone.{HostView, alone}, Commands.CanZero, Halves.{half_of, has_half}, Laws.shown}
 use Rattle.host_core.specs.Resetting.{admin_reset, with_admin_renewed, gone, gone_behind_first, is_of_io_queue, with_queue_gone, ListHalves, ListsHalf, tables_reset, with_records_reset, HasPlaces, IsPlaced}
 use Rattle.host_core.specs.{Rows.{Queue, Queue as RowsQueue}, Tables.{Tables, host_queue_of, sq_pages_of, cq_pages_of, state_of, view_of}}
-use Rattle.host_core.specs.Whole.{IsWhole, IsHost, ClaimsIdentifiers, FitsWork, IsQueue, IsRecord, TellsCommand, TellsQueue, is_outstanding}
-use Rattle.entry_codec.specs.declared.status.TheConstants.Status.{ABORTED_SQ_DELETION}
+use Rattle.host_core.specs.Whole.{IsWhole, IsHost, ClaimsIdentifiers, IsQueue, IsRecord, TellsCommand, TellsQueue, is_outstanding}
+use Rattle.machine_model.proofs.Headline.{steps_keep}
 
 -- Queue 0 at a reset: its pages are made zero, and its rings are as they open.
 
@@ -115,30 +119,19 @@ stays-owned : (test named : Owner → Bool) (owners : List Owner) (p : ℕ) → 
 stays-owned test named owners p free other =
     ap (λ (o : Option Owner). option_map_or test o false) (slice_get-map (λ (o : Owner). if named o then Free else o) owners p) ∙ at (owner_at owners p)
   where
-    one : (o : Owner) (b c : Bool) → named o ≡ b → test o ≡ c → test (if b then Free else o) ≡ test o
-    one o true true e f = absurd (true≢false (sym e ∙ other o f))
-    one o true false e f = free ∙ sym f
-    one o false c e f = refl
-
     at : (o : Option Owner) → option_map_or test (option_map (λ (x : Owner). if named x then Free else x) o) false ≡ option_map_or test o false
     at None = refl
-    at (Some o) = one o (named o) (test o) refl refl
+    at (Some o) = grind (arith, free, other o)
 
 -- both halves of a queue, one after the other
 pub both-given : (q : ℕ) (owners : List Owner) → given_back (is_half q Completion) (given_back (is_half q Submission) owners) ≡ given_back (is_queue q) owners
 both-given q [] = refl
 both-given q (o ∷ owners) = ap₂ (λ (x : Owner) (xs : List Owner). x ∷ xs) (one o) (both-given q owners)
   where
-    of : (b : Bool) (k : ℕ) (half : Half) → (k == q) ≡ b
-        → (if is_half q Completion (if b && is_same_half half Submission then Free else OwnerQueue k half) then Free else (if b && is_same_half half Submission then Free else OwnerQueue k half)) ≡ (if b then Free else OwnerQueue k half)
-    of true k Submission e = refl
-    of true k Completion e = rw e refl
-    of false k half e = rw e refl
-
     one : (o : Owner) → (if is_half q Completion (if is_half q Submission o then Free else o) then Free else (if is_half q Submission o then Free else o)) ≡ (if is_queue q o then Free else o)
-    one Free = refl
-    one (OwnerQueue k half) = of (k == q) k half refl
-    one (Command k cid role) = refl
+    one (OwnerQueue k Submission) = grind arith
+    one (OwnerQueue k Completion) = grind arith
+    one o = refl
 
 -- whether a page is one of an I/O queue below this one
 abbrev pub is_io_below : ℕ → Owner → Bool
@@ -150,56 +143,25 @@ pub none-below : (owners : List Owner) → owners ≡ given_back (is_io_below 1)
 none-below [] = refl
 none-below (o ∷ owners) = ap₂ (λ (x : Owner) (xs : List Owner). x ∷ xs) (one o) (none-below owners)
   where
-    no : (q : ℕ) (b : Bool) → (q == 0) ≡ b → (not b && nat_lt q 1) ≡ false
-    no q true e = refl
-    no q false e = grind (arith, nat_tests)
-
     one : (o : Owner) → o ≡ (if is_io_below 1 o then Free else o)
-    one Free = refl
-    one (OwnerQueue q half) = ap (λ b. if b then Free else OwnerQueue q half) (sym (no q (q == 0) refl))
-    one (Command q cid role) = refl
+    one (OwnerQueue q half) = let no : (not (q == 0) && nat_lt q 1) ≡ false = grind (arith, nat_tests) in rw no refl
+    one o = refl
 
 pub one-below : (n : ℕ) → 1 ≤ n → (owners : List Owner) → given_back (is_queue n) (given_back (is_io_below n) owners) ≡ given_back (is_io_below (n + 1)) owners
 one-below n some [] = refl
 one-below n some (o ∷ owners) = ap₂ (λ (x : Owner) (xs : List Owner). x ∷ xs) (one o) (one-below n some owners)
   where
-    below : (q : ℕ) → (not (q == 0) && nat_lt q n) ≡ true → (not (q == 0) && nat_lt q (n + 1)) ≡ true
-    below q e = let h = and_parts (not (q == 0)) (nat_lt q n) e in let more : nat_lt q (n + 1) ≡ true = grind (arith, nat_tests, h.1) in ap₂ (λ a b. a && b) h.0 more
-
-    here : (q : ℕ) → (q == n) ≡ true → (not (q == 0) && nat_lt q (n + 1)) ≡ true
-    here q e =
-        let other : (q == 0) ≡ false = grind (arith, nat_tests, some) in
-        let more : nat_lt q (n + 1) ≡ true = grind (arith, nat_tests) in ap₂ (λ a b. not a && b) other more
-
-    above : (q : ℕ) → (not (q == 0) && nat_lt q n) ≡ false → (q == n) ≡ false → (not (q == 0) && nat_lt q (n + 1)) ≡ false
-    above q e f = go (q == 0) refl e
-      where
-        go : (b : Bool) → (q == 0) ≡ b → (not b && nat_lt q n) ≡ false → (not b && nat_lt q (n + 1)) ≡ false
-        go true z g = refl
-        go false z g = grind (arith, nat_tests)
-
-    of : (a b : Bool) (q : ℕ) (half : Half) → (not (q == 0) && nat_lt q n) ≡ a → (q == n) ≡ b
-        → (if is_queue n (if a then Free else OwnerQueue q half) then Free else (if a then Free else OwnerQueue q half)) ≡ (if not (q == 0) && nat_lt q (n + 1) then Free else OwnerQueue q half)
-    of true b q half e f = rw (below q e) refl
-    of false true q half e f = rw (f, here q f) refl
-    of false false q half e f = rw (f, above q e f) refl
-
     one : (o : Owner) → (if is_queue n (if is_io_below n o then Free else o) then Free else (if is_io_below n o then Free else o)) ≡ (if is_io_below (n + 1) o then Free else o)
-    one Free = refl
-    one (OwnerQueue q half) = of (not (q == 0) && nat_lt q n) (q == n) q half refl refl
-    one (Command q cid role) = refl
+    one (OwnerQueue q half) =
+        let next : (not (q == 0) && nat_lt q (n + 1)) ≡ ((not (q == 0) && nat_lt q n) || (q == n)) = grind (arith, nat_tests, some) in rw next (grind arith)
+    one o = refl
 
 pub all-below : (n : ℕ) (owners : List Owner) → ((p q : ℕ) (half : Half) → owner_at owners p ≡ Some (OwnerQueue q half) → q < n) → given_back (is_io_below n) owners ≡ given_back is_of_io_queue owners
 all-below n owners inside = map-agree (λ (o : Owner). if is_io_below n o then Free else o) (λ (o : Owner). if is_of_io_queue o then Free else o) owners (λ p o at. one p o at)
   where
-    alone : (b : Bool) → (b && true) ≡ b
-    alone true = refl
-    alone false = refl
-
     one : (p : ℕ) (o : Owner) → owner_at owners p ≡ Some o → (if is_io_below n o then Free else o) ≡ (if is_of_io_queue o then Free else o)
-    one p Free at = refl
-    one p (OwnerQueue q half) at = ap (λ b. if b then Free else OwnerQueue q half) (ap (λ b. not (q == 0) && b) (lt-ltb q n (inside p q half at)) ∙ alone (not (q == 0)))
-    one p (Command q cid role) at = refl
+    one p (OwnerQueue q half) at = let below = lt-ltb q n (inside p q half at) in grind (arith, below)
+    one p o at = refl
 
 -- The queues
 
@@ -257,11 +219,8 @@ not-gone (suc n) (x ∷ queues) = first n queues
 
 -- a queue owns no page of a half that it has not
 pub half-absent : (t : Tables) (q : ℕ) (half : Half) (h : ListsHalf t q half) → has_half half h.queue.state ≡ false → given_back (is_half q half) t.owners ≡ t.owners
-half-absent t q half h none = none-given (is_half q half) t.owners (λ p l. sym (h.lists.lists p l) ∙ ap (λ (ps : List ℕ). is_among ps p) (no-pages half h.queue none))
-  where
-    no-pages : (half : Half) (x : declared.Queue) → has_half half x.state ≡ false → half_of half x ≡ []
-    no-pages Submission x e = rw e refl
-    no-pages Completion x e = rw e refl
+half-absent t q Submission h none = none-given (is_half q Submission) t.owners (λ p l. sym (h.lists.lists p l) ∙ rw none refl)
+half-absent t q Completion h none = none-given (is_half q Completion) t.owners (λ p l. sym (h.lists.lists p l) ∙ rw none refl)
 
 -- what others give back leaves a half as it was
 pub half-stays : (t : Tables) (q : ℕ) (half : Half) (named : Owner → Bool) (queues : List declared.Queue) → ((o : Owner) → is_half q half o ≡ true → named o ≡ false) → slice_get queues q ≡ slice_get t.queues q
@@ -314,17 +273,8 @@ list-halves t h =
       few_queues = h.limits.few_queues;
       inside = λ p q half at.
           let s = half-standing t (length t.owners) h.sound.owners h.table.owners q half p (slice_get_within t.owners p (OwnerQueue q half) at) at in slice_get_within t.queues q s.0 s.1;
-      each = λ q l half. let x = queue-here t.queues q l in record { queue = x.0; at = x.1; entries = (h.rings.each q x.0 x.1).entries; lists = half-pages t h q half x.0 x.1 };
+      each = λ q l half. let x = queue-here t.queues q l in record { queue = x.0; at = x.1; entries = (h.rings.each q x.0 x.1).entries; lists = half-lists t h q half x.0 x.1 };
     }
-  where
-    half-pages : (t : Tables) → IsHost t → (q : ℕ) (half : Half) (x : declared.Queue) → slice_get t.queues q ≡ Some x → ListsAll (is_half q half) t.owners (half_of half x)
-    half-pages t h q half x at =
-        record {
-          within = λ i d l.
-              let p : ℕ = get_or (half_of half x) i d in
-              slice_get_within t.owners p (OwnerQueue q half) (half-told t.owners q half x (h.table.owners.queues_told q x at) p (times-some p (half_of half x) (times-at (half_of half x) i d l)));
-          lists = λ p l. sym (half-owned t (length t.owners) h.sound.owners h.table.owners q half x at p l);
-        }
 
 -- What a reset leaves of the tables: the machine that they stand for, and what holds of them.
 
@@ -353,11 +303,8 @@ many-left (x ∷ queues) = ap suc (length-map queues gone)
 
 shown-left : (queues : List RowsQueue) → ((x : RowsQueue) → slice_get queues 0 ≡ Some x → x.state ≡ Live) → map host_queue_of (queues_left queues) ≡ a.reset_queues (map host_queue_of queues)
 shown-left [] live = refl
-shown-left (x ∷ queues) live = ap₂ (λ (h : HostQueue) (hs : List HostQueue). h ∷ hs) first (rest queues)
+shown-left (x ∷ queues) live = ap₂ (λ (state : HostState) (hs : List HostQueue). record (a.reset_admin (host_queue_of x)) { state = state } ∷ hs) (live x refl) (rest queues)
   where
-    first : host_queue_of (admin_reset x) ≡ a.reset_admin (host_queue_of x)
-    first = ap (λ (state : HostState). record (a.reset_admin (host_queue_of x)) { state = state }) (live x refl)
-
     rest : (queues : List RowsQueue) → map host_queue_of (map gone queues) ≡ map (λ other. a.no_queue) (map host_queue_of queues)
     rest [] = refl
     rest (y ∷ queues) = ap (λ (hs : List HostQueue). a.no_queue ∷ hs) (rest queues)
@@ -376,16 +323,12 @@ stands-in : (queues : List RowsQueue) (p : ℕ) → is_among (flat_map a.halves_
 stands-in [] p h = absurd (true≢false (sym h))
 stands-in (x ∷ queues) p h =
     elim (or_cases (is_among (sq_pages_of x ++ cq_pages_of x) p) _ (sym (among-append (sq_pages_of x ++ cq_pages_of x) (flat_map a.halves_of (map host_queue_of queues)) p) ∙ h)) [
-      | inl here ↦ mine here
+      | inl here ↦ elim (or_cases (is_among (sq_pages_of x) p) (is_among (cq_pages_of x) p) (sym (among-append (sq_pages_of x) (cq_pages_of x) p) ∙ here)) [
+        | inl sub ↦ record { place = 0; half = Submission; queue = x; at = refl; among = sub }
+        | inr comp ↦ record { place = 0; half = Completion; queue = x; at = refl; among = comp }
+      ]
       | inr there ↦ let s = stands-in queues p there in record { place = suc s.place; half = s.half; queue = s.queue; at = s.at; among = s.among }
     ]
-  where
-    mine : is_among (sq_pages_of x ++ cq_pages_of x) p ≡ true → StandsIn (x ∷ queues) p
-    mine e =
-        elim (or_cases (is_among (sq_pages_of x) p) (is_among (cq_pages_of x) p) (sym (among-append (sq_pages_of x) (cq_pages_of x) p) ∙ e)) [
-          | inl sub ↦ record { place = 0; half = Submission; queue = x; at = refl; among = sub }
-          | inr comp ↦ record { place = 0; half = Completion; queue = x; at = refl; among = comp }
-        ]
 
 in-half : (half : Half) (x : RowsQueue) (p : ℕ) → is_among (half_of half x) p ≡ true → is_among (sq_pages_of x ++ cq_pages_of x) p ≡ true
 in-half Submission x p h = among-append (sq_pages_of x) (cq_pages_of x) p ∙ or_left (is_among (sq_pages_of x) p) (is_among (cq_pages_of x) p) h
@@ -411,24 +354,14 @@ in-io (y ∷ queues) zero half x p io at h = absurd (true≢false io)
 in-io (y ∷ queues) (suc q) half x p io at h = in-all queues q half x p at h
 
 io-owned : (t : Tables) → IsWhole t → (p : ℕ) → p < length t.pages → is_owned_at is_of_io_queue t.owners p ≡ is_among (a.io_pages (view_of t).host.queues) p
-io-owned t w p l = go (is_among (a.io_pages (view_of t).host.queues) p) refl (owner_at t.owners p) refl
+io-owned t w p l = elim (cases_Bool (is_among (a.io_pages (view_of t).host.queues) p)) [
+  | inl h ↦ let s = io-stands t.queues p h in rw (h, half-told t.owners (suc s.0) s.1 s.2 (w.owners.queues_told (suc s.0) s.2 s.3) p s.4, not-first s.0) refl
+  | inr h ↦ rw h (false_from_ne_true (is_owned_at is_of_io_queue t.owners p) (λ e. true≢false (sym (standing (owner_at t.owners p) refl e) ∙ h)))
+]
   where
-    told : is_among (a.io_pages (view_of t).host.queues) p ≡ true → (q : ℕ) × (half : Half) × (owner_at t.owners p ≡ Some (owner.Queue (suc q) half))
-    told h = let s = io-stands t.queues p h in (s.0, s.1, half-told t.owners (suc s.0) s.1 s.2 (w.owners.queues_told (suc s.0) s.2 s.3) p s.4)
-
-    standing : (q : ℕ) (half : Half) → owner_at t.owners p ≡ Some (owner.Queue q half) → (q == 0) ≡ false → is_among (a.io_pages (view_of t).host.queues) p ≡ true
-    standing q half at io = let s = half-standing t (length t.pages) w.sound.owners w.owners q half p l at in in-io t.queues q half s.0 p io s.1 s.2
-
-    other : (q : ℕ) (half : Half) (b : Bool) → (q == 0) ≡ b → owner_at t.owners p ≡ Some (owner.Queue q half) → is_among (a.io_pages (view_of t).host.queues) p ≡ false → not b ≡ false
-    other q half true e at h = refl
-    other q half false e at h = absurd (true≢false (sym (standing q half at e) ∙ h))
-
-    go : (b : Bool) → is_among (a.io_pages (view_of t).host.queues) p ≡ b → (o : Option Owner) → owner_at t.owners p ≡ o → option_map_or is_of_io_queue o false ≡ b
-    go true h o at = let s = told h in ap (λ (x : Option Owner). option_map_or is_of_io_queue x false) (sym at ∙ s.2) ∙ ap not (not-first s.0)
-    go false h None at = refl
-    go false h (Some owner.Free) at = refl
-    go false h (Some (owner.Queue q half)) at = other q half (q == 0) refl at h
-    go false h (Some (owner.Command q cid role)) at = refl
+    standing : (o : Option Owner) → owner_at t.owners p ≡ o → option_map_or is_of_io_queue o false ≡ true → is_among (a.io_pages (view_of t).host.queues) p ≡ true
+    standing (Some (owner.Queue q half)) at e = let s = half-standing t (length t.pages) w.sound.owners w.owners q half p l at in in-io t.queues q half s.0 p (not-true (q == 0) e) s.1 s.2
+    standing o at e = cc
 
 -- The machine's state
 
@@ -441,15 +374,10 @@ view-reset t w =
 -- The records
 
 records-left : (n : ℕ) (rs : List Record) → AllByRecursion (IsRecord n) rs → AllByRecursion (IsRecord n) (reset_records rs)
-records-left n rs all = all_reset (IsRecord n) (IsRecord n) (λ r io fits. lost_by (IsRecord n) r (λ e. fits) (λ e. held r io fits r.work refl)) rs all
-  where
-    held : (r : Record) → is_of_io r.work ≡ true → IsRecord n r → (w : Work) → r.work ≡ w → IsRecord n (record r { phase = Held; status = Some ABORTED_SQ_DELETION })
-    held r io fits (Io request) e = record {
-      queue = fits.queue;
-      work = subst (λ (v : Work). FitsWork v (record r { phase = Held; status = Some ABORTED_SQ_DELETION })) (sym e) (let old : FitsWork (Io request) r = subst (λ (v : Work). FitsWork v r) e fits.work in old);
-      phase = rw e tt;
-    }
-    held r io fits (Management kind) e = absurd (true≢false (sym io ∙ ap is_of_io e))
+records-left n rs all = all_reset (IsRecord n) (IsRecord n) (λ r io fits. lost_by (IsRecord n) r (λ e. fits) (λ e. elim (work-cases r.work) [
+  | inl is ↦ held-lost n r is fits
+  | inr (kind, is) ↦ absurd (true≢false (sym io ∙ ap is_of_io is))
+])) rs all
 
 lost-at : (q cid : ℕ) (r : Record) → is_at q cid (lost_anywhere r) ≡ is_at q cid r
 lost-at q cid r = lost_by (λ (x : Record). is_at q cid x ≡ is_at q cid r) r (λ e. refl) (λ e. refl)
@@ -457,37 +385,22 @@ lost-at q cid r = lost_by (λ (x : Record). is_at q cid x ≡ is_at q cid r) r (
 -- the commands of an I/O queue stay outstanding, and none of queue 0 is
 outstanding-left : (entries queues : ℕ) (rs : List Record) → AllByRecursion (IsPlaced entries queues) rs → (q cid : ℕ) → (q == 0) ≡ false → is_outstanding (reset_records rs) q cid ≡ is_outstanding rs q cid
 outstanding-left entries queues [] all q cid io = refl
-outstanding-left entries queues (r ∷ rs) all q cid io = go (is_of_io r.work) refl (outstanding-left entries queues rs all.1 q cid io)
-  where
-    elsewhere : is_of_io r.work ≡ false → is_at q cid r ≡ false
-    elsewhere e =
-        let admin : (r.q == 0) ≡ true = not-false (r.q == 0) (sym all.0.work ∙ e) in
-        let apart : (r.q == q) ≡ false = grind (arith, nat_tests) in and_left (r.q == q) (r.cid == cid) apart
-
-    go : (b : Bool) → is_of_io r.work ≡ b → is_outstanding (reset_records rs) q cid ≡ is_outstanding rs q cid
-        → is_outstanding (map lost_anywhere (cond b (r ∷ filter (λ x. is_of_io x.work) rs) (filter (λ x. is_of_io x.work) rs))) q cid ≡ (is_at q cid r || is_outstanding rs q cid)
-    go true e ih = ap₂ (λ x y. x || y) (lost-at q cid r) ih
-    go false e ih = ih ∙ ap (λ x. x || is_outstanding rs q cid) (sym (elsewhere e))
+outstanding-left entries queues (r ∷ rs) all q cid io = elim (cases_Bool (is_of_io r.work)) [
+  | inl e ↦ rw e (ap₂ (λ x y. x || y) (lost-at q cid r) (outstanding-left entries queues rs all.1 q cid io))
+  | inr e ↦
+      let far : is_at q cid r ≡ false = grind (arith, nat_tests, all.0.work, e, io) in rw (e, far) (outstanding-left entries queues rs all.1 q cid io)
+]
 
 none-left : (entries queues : ℕ) (rs : List Record) → AllByRecursion (IsPlaced entries queues) rs → (cid : ℕ) → is_outstanding (reset_records rs) 0 cid ≡ false
 none-left entries queues [] all cid = refl
-none-left entries queues (r ∷ rs) all cid = go (is_of_io r.work) refl (none-left entries queues rs all.1 cid)
-  where
-    elsewhere : is_of_io r.work ≡ true → is_at 0 cid r ≡ false
-    elsewhere e = and_left (r.q == 0) (r.cid == cid) (not-true (r.q == 0) (sym all.0.work ∙ e))
-
-    go : (b : Bool) → is_of_io r.work ≡ b → is_outstanding (reset_records rs) 0 cid ≡ false
-        → is_outstanding (map lost_anywhere (cond b (r ∷ filter (λ x. is_of_io x.work) rs) (filter (λ x. is_of_io x.work) rs))) 0 cid ≡ false
-    go true e ih = ap₂ (λ x y. x || y) (lost-at 0 cid r ∙ elsewhere e) ih
-    go false e ih = ih
+none-left entries queues (r ∷ rs) all cid = elim (cases_Bool (is_of_io r.work)) [
+  | inl e ↦ let far : is_at 0 cid r ≡ false = grind (arith, nat_tests, all.0.work, e) in rw e
+      (or_from (is_at 0 cid (lost_anywhere r)) _ (lost-at 0 cid r ∙ far) (none-left entries queues rs all.1 cid))
+  | inr e ↦ rw e (none-left entries queues rs all.1 cid)
+]
 
 claims-left : (entries queues : ℕ) (rs : List Record) → AllByRecursion (IsPlaced entries queues) rs → (k : ℕ) (claimed : List Bool) → ClaimsIdentifiers rs (suc k) claimed → ClaimsIdentifiers (reset_records rs) (suc k) claimed
-claims-left entries queues rs all k claimed h =
-    let same : (cid : ℕ) → is_outstanding (reset_records rs) (suc k) cid ≡ is_outstanding rs (suc k) cid = λ cid. outstanding-left entries queues rs all (suc k) cid (not-first k) in
-    record {
-      told = λ cid l. h.told cid l ∙ ap (λ (b : Bool). Some b) (sym (same cid));
-      inside = λ cid out. h.inside cid (sym (same cid) ∙ out);
-    }
+claims-left entries queues rs all k claimed h = claims-same rs (reset_records rs) (suc k) claimed (λ cid. outstanding-left entries queues rs all (suc k) cid (not-first k)) h
 
 commands-left : (owners : List Owner) (rs : List Record) → AllByRecursion (TellsCommand owners) rs → AllByRecursion (TellsCommand (given_back is_of_io_queue owners)) (reset_records rs)
 commands-left owners rs all = all_reset (TellsCommand owners) (TellsCommand (given_back is_of_io_queue owners)) (λ r io tells. lost_by (TellsCommand (given_back is_of_io_queue owners)) r (λ e. stays r tells) (λ e. let s = stays r tells in record { data_pages = s.data_pages; chain_pages = s.chain_pages })) rs all
@@ -499,13 +412,6 @@ commands-left owners rs all = all_reset (TellsCommand owners) (TellsCommand (giv
     }
 
 -- One queue
-
-admin-told : (owners : List Owner) (x : RowsQueue) → TellsQueue owners 0 x → TellsQueue (given_back is_of_io_queue owners) 0 (admin_reset x)
-admin-told owners x told =
-    record {
-      submission = λ p h. owner-stays owners is_of_io_queue p _ refl (told.submission p h);
-      completion = λ p h. owner-stays owners is_of_io_queue p _ refl (told.completion p h);
-    }
 
 gone-queue : (n q : ℕ) (x : RowsQueue) → IsQueue n q x → IsQueue n q (gone x)
 gone-queue n q x is =
@@ -521,19 +427,12 @@ settled-reset : (t : Tables) → IsWhole t → Settled (tables_reset t)
 settled-reset t w =
     let s = settled-of t w in
     let zeros = a.admin_pages (view_of t).host.queues in
-    let many = many-left t.queues in
     let placed = (places-of t (host_of t t.pages w)).commands in
-    record {
+    settled-with t (with_pages (zeroed_pages zeros) t.pages) (given_back is_of_io_queue t.owners) (queues_left t.queues) (reset_records t.records) s
+    (record {
       pool = pool-with (zeroed_pages zeros) t.pages (whole-zeros zeros) s.pool;
       table = length-map t.owners _ ∙ (s.table ∙ sym (length-with_pages (zeroed_pages zeros) t.pages));
-      least_entries = s.least_entries;
-      most_entries = s.most_entries;
-      least_segment = s.least_segment;
-      most_segment = s.most_segment;
-      some_queues = subst (λ (n : ℕ). 2 ≤ n) (sym many) s.some_queues;
-      few_queues = subst (λ (n : ℕ). n ≤ 65) (sym many) s.few_queues;
-      record_queues = s.record_queues ∙ sym many;
-      record_places = s.record_places;
+      many = many-left t.queues;
       queues = record { each = each-left (IsQueue t.entries) t.queues (λ x at. admin-queue t.entries 0 x (s.queues.each 0 x at)) (λ k x at. gone-queue t.entries (suc k) x (s.queues.each (suc k) x at)) };
       identifiers = record {
         each = each-left (λ (k : ℕ) (y : RowsQueue). ClaimsIdentifiers (reset_records t.records) k y.host.claimed) t.queues
@@ -542,12 +441,15 @@ settled-reset t w =
       };
       owners = record {
         queues_told = each-left (TellsQueue (given_back is_of_io_queue t.owners)) t.queues
-            (λ x at. admin-told t.owners x (s.owners.queues_told 0 x at))
+            (λ x at. let told = s.owners.queues_told 0 x at in record {
+              submission = λ p h. owner-stays t.owners is_of_io_queue p _ refl (told.submission p h);
+              completion = λ p h. owner-stays t.owners is_of_io_queue p _ refl (told.completion p h);
+            })
             (λ k x at. record { submission = none-told _ _; completion = none-told _ _ });
         commands_told = commands-left t.owners t.records s.owners.commands_told;
       };
-      records = subst (λ (n : ℕ). AllByRecursion (IsRecord n) (reset_records t.records)) (sym many) (records-left (length t.queues) t.records s.records);
-    }
+      records = records-left (length t.queues) t.records s.records;
+    })
 
 reset-step : (t : Tables) → Step (state_of t) events.Reset events.Accepted (after_reset (state_of t))
 reset-step t = (tt, (refl, tt), refl)
@@ -557,7 +459,7 @@ whole-reset t w =
     let left : State = after_reset (state_of t) in
     whole-of (tables_reset t) (settled-reset t w)
     (subst (λ (v : HostView). IsSound (alone v (tables_reset t).pages)) (sym (view-reset t w))
-    (alone_sound left (sound_after (state_of t) events.Reset events.Accepted left (reset-step t) w.sound)))
+    (alone_sound left (steps_keep (state_of t) events.Reset events.Accepted left (reset-step t) w.sound)))
 
 -- What the parts of a reset lean on
 
@@ -572,19 +474,18 @@ places-renewed t pages w =
     }
 
 half-renewed : (t : Tables) (records : List Record) (pages : Pages) (q : ℕ) (half : Half) → ListsHalf t q half → ListsHalf (record t { pages = pages; records = records; queues = change 0 admin_reset t.queues }) q half
-half-renewed t records pages q half h = go t.queues q h.at (λ (x : RowsQueue) at same entries. record { queue = x; at = at; entries = entries; lists = subst (λ (ps : List ℕ). ListsAll (is_half q half) t.owners ps) same h.lists })
+half-renewed t records pages q half h =
+    let x = go t.queues q h.at in record { queue = x.0; at = x.1; entries = x.3; lists = subst (λ (ps : List ℕ). ListsAll (is_half q half) t.owners ps) x.2 h.lists }
   where
     same-half : (half : Half) (x : RowsQueue) → half_of half x ≡ half_of half (admin_reset x)
     same-half Submission x = refl
     same-half Completion x = refl
 
-    go : (queues : List RowsQueue) (k : ℕ) → slice_get queues k ≡ Some h.queue
-        → ((x : RowsQueue) → slice_get (change 0 admin_reset queues) k ≡ Some x → half_of half h.queue ≡ half_of half x → x.host.entries ≡ t.entries → ListsHalf (record t { pages = pages; records = records; queues = change 0 admin_reset t.queues }) q half)
-        → ListsHalf (record t { pages = pages; records = records; queues = change 0 admin_reset t.queues }) q half
-    go [] k at make = absurd (none_is_not at)
-    go (y ∷ queues) zero at make =
-        make (admin_reset h.queue) (ap (λ (z : RowsQueue). Some (admin_reset z)) (some_is at)) (same-half half h.queue) h.entries
-    go (y ∷ queues) (suc k) at make = make h.queue at refl h.entries
+    go : (queues : List RowsQueue) (k : ℕ) → slice_get queues k ≡ Some h.queue → (x : RowsQueue) × (slice_get (change 0 admin_reset queues) k ≡ Some x) ×
+        (half_of half h.queue ≡ half_of half x) × (x.host.entries ≡ t.entries)
+    go [] k at = absurd (none_is_not at)
+    go (y ∷ queues) zero at = (admin_reset h.queue, ap (λ (z : RowsQueue). Some (admin_reset z)) (some_is at), same-half half h.queue, h.entries)
+    go (y ∷ queues) (suc k) at = (h.queue, at, refl, h.entries)
 
 pub halves-renewed : (t : Tables) (pages : Pages) → IsWhole t → ListHalves (with_records_reset (over_pages (with_admin_renewed t) pages))
 halves-renewed t pages w =

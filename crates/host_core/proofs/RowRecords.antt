@@ -1,33 +1,22 @@
 -- Records, and what a change of one leaves.
 use Rattle.slot_table.specs.Rows as table
 use Rattle.page_ledger.specs.declared.owner.Owner.TheVariants as owner
-use Rattle.std.proofs.Common.{is_some, ◌≡◌, ℕ, ◌==◌, Bool, true, false, not, cond, Option, Some, None, IfSome, List, [], ◌∷◌, ◌++◌, find, if◌then◌else◌, refl, ap, ap₂, sym, ◌∙◌, subst, eqb-true, option_map, ◌+◌, ◌-◌, ◌≤◌, nat_lt, ◌&&◌, filter, map, arith, lt-ltb, inl, inr, length, slice_get}
-use Rattle.std.{proofs.lemmas.{Bool.{and_parts, true≢false, Decides.nat_tests}, List.map-append}, specs.List.AllByRecursion}
-use Rattle.machine_model.{proofs.{Owned.{lost_by, lost_keeps}, Sound.changed}, specs.After.{is_of_io, lost, lost_anywhere, change}}
+use Rattle.std.proofs.Common.{is_some, ◌≡◌, ℕ, ◌==◌, Bool, true, false, not, cond, Option, Some, None, IfSome, List, [], ◌∷◌, find, if◌then◌else◌, refl, ap, ap₂, sym, ◌∙◌, subst, eqb-true, option_map, ◌+◌, ◌-◌, ◌≤◌, nat_lt, ◌&&◌, filter, map, arith, lt-ltb, inl, inr, length, slice_get}
+use Rattle.std.{proofs.lemmas.Bool.{and_parts, cases_Bool, cond_both, Decides.nat_tests}, specs.List.AllByRecursion}
+use Rattle.machine_model.{proofs.{Cases.option_is, Owned.{lost_by, lost_keeps}, Sound.changed}, specs.After.{is_of_io, lost, lost_anywhere, change}}
 use Rattle.machine_model.specs.State.{Record, is_at, with_record, without_record}
 use Rattle.slot_table.specs.{Rows.{Row, value_at, without, with_value, NoneAt, IsDistinct}, Table.TableOf}
-use Rattle.host_core.{proofs.Lists.{some_is, none_is_not, all-filter, all-map, any-map, changed_at, Changed}, specs.Commands.claims_changed}
+use Rattle.host_core.{proofs.Lists.{some_is, none_is_not, all-filter, all-map, any-map, changed_at}, specs.Commands.claims_changed}
 use Rattle.host_core.specs.{Parts.{record_of, records_of, tables_of, Becomes}, Resetting.{HasPlaces, IsPlaced}, Rows.{Kept, Queue}, Tables.Tables}
-use Rattle.host_core.specs.{Whole.{ClaimIdentifiers, IsRecord, TellsCommand, is_outstanding, IsQueue, TellsQueue}, declared.parts.Parts.Parts}
+use Rattle.host_core.specs.{Whole.{ClaimIdentifiers, ClaimsIdentifiers, IsRecord, TellsCommand, is_outstanding, IsQueue, TellsQueue}, declared.parts.Parts.Parts}
 use Rattle.page_ledger.specs.{Owners.owner_at, declared.owner.Owner.Owner}
 use Rattle.page_memory.specs.{Pages.{Pages, page_at}, declared.page.Half.Half}
 
 -- The rows of the table of records, as records.
 
--- the row of a place
-named : (row : Row Kept) (q cid : ℕ) → table.is_at row q cid ≡ true → record_of row.q row.cid row.value ≡ record_of q cid row.value
-named row q cid h =
-    let both = and_parts (row.q == q) (row.cid == cid) h in
-    ap₂ (λ (x y : ℕ). record_of x y row.value) (eqb-true row.q q both.0) (eqb-true row.cid cid both.1)
-
 pub find-rows : (rows : List (Row Kept)) (q cid : ℕ) → find (is_at q cid) (records_of rows) ≡ option_map (record_of q cid) (value_at rows q cid)
 find-rows [] q cid = refl
-find-rows (row ∷ rows) q cid = go (table.is_at row q cid) refl (find-rows rows q cid)
-  where
-    go : (b : Bool) → table.is_at row q cid ≡ b → find (is_at q cid) (records_of rows) ≡ option_map (record_of q cid) (value_at rows q cid)
-        → cond b (Some (record_of row.q row.cid row.value)) (find (is_at q cid) (records_of rows)) ≡ option_map (record_of q cid) (if b then Some row.value else value_at rows q cid)
-    go true e ih = ap (λ (r : Record). Some r) (named row q cid e)
-    go false e ih = ih
+find-rows (row ∷ rows) q cid = grind (arith, nat_tests, find-rows rows q cid)
 
 pub found-row : (rows : List (Row Kept)) (q cid : ℕ) (value : Kept) → value_at rows q cid ≡ Some value → find (is_at q cid) (records_of rows) ≡ Some (record_of q cid value)
 found-row rows q cid value h = find-rows rows q cid ∙ ap (option_map (record_of q cid)) h
@@ -39,31 +28,21 @@ pub no-row : (rows : List (Row Kept)) (q cid : ℕ) → value_at rows q cid ≡ 
 no-row rows q cid h = find-rows rows q cid ∙ ap (option_map (record_of q cid)) h
 
 pub empty-row : (rows : List (Row Kept)) (q cid : ℕ) → find (is_at q cid) (records_of rows) ≡ None → value_at rows q cid ≡ None
-empty-row rows q cid h = go (value_at rows q cid) (sym (find-rows rows q cid) ∙ h)
-  where
-    go : (o : Option Kept) → option_map (record_of q cid) o ≡ None → o ≡ None
-    go None e = refl
-    go (Some value) e = absurd (none_is_not (sym e))
+empty-row rows q cid h = let e = sym (find-rows rows q cid) ∙ h in elim (option_is (value_at rows q cid)) [ inl none ↦ none | inr (x, at) ↦ absurd (none_is_not (sym (rw at at e))) ]
 
 -- no row stands in a place
 
 none-at : (rows : List (Row Kept)) (q cid : ℕ) → value_at rows q cid ≡ None → NoneAt rows q cid
 none-at [] q cid h = tt
-none-at (row ∷ rows) q cid h = go (table.is_at row q cid) refl h (none-at rows q cid)
-  where
-    go : (b : Bool) → table.is_at row q cid ≡ b → (if b then Some row.value else value_at rows q cid) ≡ None → (value_at rows q cid ≡ None → NoneAt rows q cid) → (table.is_at row q cid ≡ false) × NoneAt rows q cid
-    go true e g ih = absurd (none_is_not (sym g))
-    go false e g ih = (e, ih g)
+none-at (row ∷ rows) q cid h = let far : table.is_at row q cid ≡ false = grind (arith, h) in (far, none-at rows q cid (rw far at h))
 
 none-with : (rows : List (Row Kept)) (q cid : ℕ) (f : Record → Record) → NoneAt rows q cid → with_record q cid f (records_of rows) ≡ records_of rows
 none-with [] q cid f h = refl
-none-with (row ∷ rows) q cid f h =
-    ap₂ (λ (r : Record) (rs : List Record). r ∷ rs) (ap (λ b. if b then f (record_of row.q row.cid row.value) else record_of row.q row.cid row.value) h.0) (none-with rows q cid f h.1)
+none-with (row ∷ rows) q cid f h = rw (h.0, none-with rows q cid f h.1) refl
 
 none-without : (rows : List (Row Kept)) (q cid : ℕ) → NoneAt rows q cid → without_record q cid (records_of rows) ≡ records_of rows
 none-without [] q cid h = refl
-none-without (row ∷ rows) q cid h =
-    ap₂ (λ (b : Bool) (rs : List Record). cond (not b) (record_of row.q row.cid row.value ∷ rs) rs) h.0 (none-without rows q cid h.1)
+none-without (row ∷ rows) q cid h = rw (h.0, none-without rows q cid h.1) refl
 
 pub with-no_row : (rows : List (Row Kept)) (q cid : ℕ) (f : Record → Record) → value_at rows q cid ≡ None → records_of rows ≡ with_record q cid f (records_of rows)
 with-no_row rows q cid f h = sym (none-with rows q cid f (none-at rows q cid h))
@@ -78,29 +57,26 @@ here-none row rows q cid h none =
 pub with-row : (rows : List (Row Kept)) (q cid : ℕ) (f : Record → Record) (old new : Kept) → IsDistinct rows → value_at rows q cid ≡ Some old → record_of q cid new ≡ f (record_of q cid old)
     → records_of (with_value rows q cid new) ≡ with_record q cid f (records_of rows)
 with-row [] q cid f old new distinct at is = absurd (none_is_not at)
-with-row (row ∷ rows) q cid f old new distinct at is = go (table.is_at row q cid) refl at (with-row rows q cid f old new distinct.1)
-  where
-    go : (b : Bool) → table.is_at row q cid ≡ b → (if b then Some row.value else value_at rows q cid) ≡ Some old
-        → (value_at rows q cid ≡ Some old → record_of q cid new ≡ f (record_of q cid old) → records_of (with_value rows q cid new) ≡ with_record q cid f (records_of rows))
-        → records_of (if b then record row { value = new } ∷ rows else row ∷ with_value rows q cid new) ≡ (if b then f (record_of row.q row.cid row.value) else record_of row.q row.cid row.value) ∷ with_record q cid f (records_of rows)
-    go true e g ih =
-        let was : record_of row.q row.cid row.value ≡ record_of q cid old = named row q cid e ∙ ap (record_of q cid) (some_is g) in
-        let here : record_of row.q row.cid new ≡ f (record_of row.q row.cid row.value) = named (record row { value = new }) q cid e ∙ (is ∙ ap f (sym was)) in
-        ap₂ (λ (r : Record) (rs : List Record). r ∷ rs) here (sym (none-with rows q cid f (here-none row rows q cid e distinct.0)))
-    go false e g ih = ap (λ (rs : List Record). record_of row.q row.cid row.value ∷ rs) (ih g is)
+with-row (row ∷ rows) q cid f old new distinct at is = elim (cases_Bool (table.is_at row q cid)) [
+  | inl here ↦
+      let both = and_parts (row.q == q) (row.cid == cid) here in
+      let queue = eqb-true row.q q both.0 in
+      let identifier = eqb-true row.cid cid both.1 in
+      let was : row.value ≡ old = some_is (rw here at at) in
+      rw here (ap₂ (λ (r : Record) (rs : List Record). r ∷ rs) (rw (queue, identifier, was) is) (sym (none-with rows q cid f (here-none row rows q cid here distinct.0))))
+  | inr far ↦ rw far (ap (λ (rs : List Record). record_of row.q row.cid row.value ∷ rs) (with-row rows q cid f old new distinct.1 (rw far at at) is))
+]
 
 without-row : (rows : List (Row Kept)) (q cid : ℕ) → IsDistinct rows → records_of (without rows q cid) ≡ without_record q cid (records_of rows)
 without-row [] q cid distinct = refl
-without-row (row ∷ rows) q cid distinct = go (table.is_at row q cid) refl (without-row rows q cid distinct.1)
-  where
-    go : (b : Bool) → table.is_at row q cid ≡ b → records_of (without rows q cid) ≡ without_record q cid (records_of rows)
-        → records_of (if b then rows else row ∷ without rows q cid) ≡ cond (not b) (record_of row.q row.cid row.value ∷ without_record q cid (records_of rows)) (without_record q cid (records_of rows))
-    go true e ih = sym (none-without rows q cid (here-none row rows q cid e distinct.0))
-    go false e ih = ap (λ (rs : List Record). record_of row.q row.cid row.value ∷ rs) ih
+without-row (row ∷ rows) q cid distinct = elim (cases_Bool (table.is_at row q cid)) [
+  | inl here ↦ rw here (sym (none-without rows q cid (here-none row rows q cid here distinct.0)))
+  | inr far ↦ rw far (ap (λ (rs : List Record). record_of row.q row.cid row.value ∷ rs) (without-row rows q cid distinct.1))
+]
 
 without-none : (rows : List (Row Kept)) (q cid : ℕ) → NoneAt rows q cid → without rows q cid ≡ rows
 without-none [] q cid h = refl
-without-none (row ∷ rows) q cid h = ap₂ (λ (b : Bool) (rs : List (Row Kept)). if b then rows else row ∷ rs) h.0 (without-none rows q cid h.1)
+without-none (row ∷ rows) q cid h = rw (h.0, without-none rows q cid h.1) refl
 
 -- a row taken out, if one stands there
 taken-row : (rows : List (Row Kept)) (q cid : ℕ) (o : Option Kept) → o ≡ value_at rows q cid → IfSome o (λ _. IsDistinct rows) → records_of (without rows q cid) ≡ without_record q cid (records_of rows)
@@ -135,56 +111,22 @@ is_io r = is_of_io r.work
 
 pub none-forgotten : (rs : List Record) → rs ≡ filter (is_kept 0) rs
 none-forgotten [] = refl
-none-forgotten (r ∷ rs) = rw kept (ap (λ (xs : List Record). r ∷ xs) (none-forgotten rs))
-  where
-    no : (b : Bool) → not (b && false) ≡ true
-    no true = refl
-    no false = refl
-
-    kept : is_kept 0 r ≡ true
-    kept = let above : nat_lt r.cid 0 ≡ false = grind (arith, nat_tests) in ap (λ b. not ((r.q == 0) && b)) above ∙ no (r.q == 0)
+none-forgotten (r ∷ rs) = let kept : is_kept 0 r ≡ true = grind (arith, nat_tests) in rw kept (ap (λ (xs : List Record). r ∷ xs) (none-forgotten rs))
 
 -- the next identifier
 next-kept : (n : ℕ) (r : Record) → (is_kept n r && not (is_at 0 n r)) ≡ is_kept (n + 1) r
-next-kept n r = go (r.q == 0) (nat_lt r.cid n) (r.cid == n) refl refl
-  where
-    below : nat_lt r.cid n ≡ true → nat_lt r.cid (n + 1) ≡ true
-    below e = grind (arith, nat_tests)
-
-    here : (r.cid == n) ≡ true → nat_lt r.cid (n + 1) ≡ true
-    here e = grind (arith, nat_tests)
-
-    above : nat_lt r.cid n ≡ false → (r.cid == n) ≡ false → nat_lt r.cid (n + 1) ≡ false
-    above e f = grind (arith, nat_tests)
-
-    go : (a b c : Bool) → nat_lt r.cid n ≡ b → (r.cid == n) ≡ c → (not (a && b) && not (a && c)) ≡ not (a && nat_lt r.cid (n + 1))
-    go false b c e f = refl
-    go true true c e f = ap (λ x. not x) (sym (below e))
-    go true false true e f = ap (λ x. not x) (sym (here f))
-    go true false false e f = ap (λ x. not x) (sym (above e f))
+next-kept n r = grind (arith, nat_tests)
 
 pub one-forgotten : (n : ℕ) (rs : List Record) → without_record 0 n (filter (is_kept n) rs) ≡ filter (is_kept (n + 1)) rs
 one-forgotten n [] = refl
-one-forgotten n (r ∷ rs) = go (is_kept n r) (next-kept n r) (one-forgotten n rs)
-  where
-    go : (b : Bool) → (b && not (is_at 0 n r)) ≡ is_kept (n + 1) r → without_record 0 n (filter (is_kept n) rs) ≡ filter (is_kept (n + 1)) rs
-        → without_record 0 n (cond b (r ∷ filter (is_kept n) rs) (filter (is_kept n) rs)) ≡ cond (is_kept (n + 1) r) (r ∷ filter (is_kept (n + 1)) rs) (filter (is_kept (n + 1)) rs)
-    go true e ih = ap₂ (λ (c : Bool) (xs : List Record). cond c (r ∷ xs) xs) e ih
-    go false e ih = ap₂ (λ (c : Bool) (xs : List Record). cond c (r ∷ xs) xs) e ih
+one-forgotten n (r ∷ rs) = grind (arith, next-kept n r, one-forgotten n rs)
 
 -- each identifier lies below the last
 pub all-forgotten : (entries queues n : ℕ) (rs : List Record) → AllByRecursion (IsPlaced entries queues) rs → entries - 1 ≤ n → filter (is_kept n) rs ≡ filter is_io rs
 all-forgotten entries queues n [] all size = refl
-all-forgotten entries queues n (r ∷ rs) all size = ap₂ (λ (c : Bool) (xs : List Record). cond c (r ∷ xs) xs) kept (all-forgotten entries queues n rs all.1 size)
-  where
-    alone : (b : Bool) → not (b && true) ≡ not b
-    alone true = refl
-    alone false = refl
-
-    kept : is_kept n r ≡ is_io r
-    kept =
-        let below : nat_lt r.cid n ≡ true = lt-ltb r.cid n (omega (arith, all.0.identifier, size)) in
-        ap (λ b. not ((r.q == 0) && b)) below ∙ (alone (r.q == 0) ∙ sym all.0.work)
+all-forgotten entries queues n (r ∷ rs) all size =
+    let kept : is_kept n r ≡ is_io r = grind (arith, nat_tests, all.0.identifier, size) ∙ sym all.0.work in
+    ap₂ (λ (c : Bool) (xs : List Record). cond c (r ∷ xs) xs) kept (all-forgotten entries queues n rs all.1 size)
 
 -- The I/O commands, one queue after the other
 
@@ -192,45 +134,23 @@ all-forgotten entries queues n (r ∷ rs) all size = ap₂ (λ (c : Bool) (xs : 
 abbrev pub lost_in : ℕ → Record → Record
 lost_in q r = if nat_lt r.q q then lost_anywhere r else r
 
--- what is lost keeps its queue
-same-queue : (r : Record) → (lost_anywhere r).q ≡ r.q
-same-queue r = lost_keeps.q r
-
 -- those that are left are of I/O queues
 pub none-lost : (entries queues : ℕ) (rs : List Record) → AllByRecursion (IsPlaced entries queues) rs → filter is_io rs ≡ map (lost_in 1) (filter is_io rs)
 none-lost entries queues [] all = refl
-none-lost entries queues (r ∷ rs) all = go (is_io r) refl (none-lost entries queues rs all.1)
-  where
-    stays : (b : Bool) → (r.q == 0) ≡ b → not b ≡ true → r ≡ lost_in 1 r
-    stays true e h = absurd (true≢false (sym h))
-    stays false e h = let above : nat_lt r.q 1 ≡ false = grind (arith, nat_tests) in rw above refl
-
-    go : (b : Bool) → is_io r ≡ b → filter is_io rs ≡ map (lost_in 1) (filter is_io rs) → cond b (r ∷ filter is_io rs) (filter is_io rs) ≡ map (lost_in 1) (cond b (r ∷ filter is_io rs) (filter is_io rs))
-    go true e ih = ap₂ (λ (x : Record) (xs : List Record). x ∷ xs) (stays (r.q == 0) refl (sym all.0.work ∙ e)) ih
-    go false e ih = ih
+none-lost entries queues (r ∷ rs) all =
+    let stays : is_io r ≡ true → lost_in 1 r ≡ r = λ io. let above : nat_lt r.q 1 ≡ false = grind (arith, nat_tests, all.0.work, io) in rw above refl in
+    grind (arith, stays, none-lost entries queues rs all.1)
 
 next-lost : (q : ℕ) (r : Record) → lost q (lost_in q r) ≡ lost_in (q + 1) r
-next-lost q r = go (nat_lt r.q q) (r.q == q) refl refl
-  where
-    below : nat_lt r.q q ≡ true → nat_lt r.q (q + 1) ≡ true
-    below e = grind (arith, nat_tests)
-
-    apart : nat_lt r.q q ≡ true → (r.q == q) ≡ false
-    apart e = grind (arith, nat_tests)
-
-    here : (r.q == q) ≡ true → nat_lt r.q (q + 1) ≡ true
-    here e = grind (arith, nat_tests)
-
-    above : nat_lt r.q q ≡ false → (r.q == q) ≡ false → nat_lt r.q (q + 1) ≡ false
-    above e f = grind (arith, nat_tests)
-
-    others : (x : Record) → (x.q == q) ≡ false → lost q x ≡ x
-    others x h = rw h refl
-
-    go : (a b : Bool) → nat_lt r.q q ≡ a → (r.q == q) ≡ b → lost q (if a then lost_anywhere r else r) ≡ lost_in (q + 1) r
-    go true b e f = rw (below e) (others (lost_anywhere r) (ap (λ (k : ℕ). k == q) (same-queue r) ∙ apart e))
-    go false true e f = rw (here f, f) refl
-    go false false e f = rw (above e f) (others r f)
+next-lost q r = elim (cases_Bool (nat_lt r.q q)) [
+  | inl e ↦
+      let below : nat_lt r.q (q + 1) ≡ true = grind (arith, nat_tests) in
+      let apart : ((lost_anywhere r).q == q) ≡ false = rw lost_keeps.q (grind (arith, nat_tests)) in rw (e, below, apart) refl
+  | inr e ↦ elim (cases_Bool (r.q == q)) [
+    | inl f ↦ let here : nat_lt r.q (q + 1) ≡ true = grind (arith, nat_tests) in rw (e, here, f) refl
+    | inr f ↦ let above : nat_lt r.q (q + 1) ≡ false = grind (arith, nat_tests) in rw (e, above, f) refl
+  ]
+]
 
 pub one-queue_lost : (q : ℕ) (rs : List Record) → map (lost q) (map (lost_in q) rs) ≡ map (lost_in (q + 1)) rs
 one-queue_lost q [] = refl
@@ -239,10 +159,9 @@ one-queue_lost q (r ∷ rs) = ap₂ (λ (x : Record) (xs : List Record). x ∷ x
 -- each queue lies below the last
 pub all-queues_lost : (entries queues q : ℕ) (rs : List Record) → AllByRecursion (IsPlaced entries queues) rs → queues ≤ q → map (lost_in q) rs ≡ map lost_anywhere rs
 all-queues_lost entries queues q [] all size = refl
-all-queues_lost entries queues q (r ∷ rs) all size = ap₂ (λ (x : Record) (xs : List Record). x ∷ xs) lost-here (all-queues_lost entries queues q rs all.1 size)
-  where
-    lost-here : lost_in q r ≡ lost_anywhere r
-    lost-here = let below : nat_lt r.q q ≡ true = lt-ltb r.q q (omega (arith, all.0.queue, size)) in ap (λ b. if b then lost_anywhere r else r) below
+all-queues_lost entries queues q (r ∷ rs) all size =
+    let below : nat_lt r.q q ≡ true = lt-ltb r.q q (omega (arith, all.0.queue, size)) in rw below
+    (ap (λ (xs : List Record). lost_anywhere r ∷ xs) (all-queues_lost entries queues q rs all.1 size))
 
 -- Each command stays in its place.
 
@@ -250,11 +169,9 @@ abbrev pub with_records : Tables → List Record → Tables
 with_records t rs = record t { records = rs }
 
 place-kept : (entries queues q : ℕ) (r : Record) → IsPlaced entries queues r → IsPlaced entries queues (lost_in q r)
-place-kept entries queues q r h = go (nat_lt r.q q)
-  where
-    go : (b : Bool) → IsPlaced entries queues (if b then lost_anywhere r else r)
-    go true = lost_by (IsPlaced entries queues) r (λ e. h) (λ e. record { queue = h.queue; identifier = h.identifier; work = h.work })
-    go false = h
+place-kept entries queues q r h =
+    cond_both (nat_lt r.q q) _ _ (IsPlaced entries queues) (λ _. lost_by (IsPlaced entries queues) r (λ e. h) (λ e. record { queue = h.queue; identifier = h.identifier; work = h.work }))
+    (λ _. h)
 
 pub io_placed : (entries queues : ℕ) (rs : List Record) → AllByRecursion (IsPlaced entries queues) rs → AllByRecursion (IsPlaced entries queues) (filter is_io rs)
 io_placed entries queues rs all = all-filter (IsPlaced entries queues) is_io rs all
@@ -275,46 +192,28 @@ pub record Marks (f : Record → Record) : Type 0 where
   pub tells : (owners : List Owner) (r : Record) → TellsCommand owners r → TellsCommand owners (f r)
 
 marked-at : (f : Record → Record) → Marks f → (q cid p i : ℕ) (r : Record) → is_at p i (changed q cid f r) ≡ is_at p i r
-marked-at f marks q cid p i r = go (is_at q cid r)
-  where
-    go : (b : Bool) → is_at p i (if b then f r else r) ≡ is_at p i r
-    go true = marks.at p i r
-    go false = refl
+marked-at f marks q cid p i r = cond_both (is_at q cid r) _ _ (λ x. is_at p i x ≡ is_at p i r) (λ _. marks.at p i r) (λ _. refl)
 
 pub marked-outstanding : (f : Record → Record) → Marks f → (records : List Record) (q cid p i : ℕ) → is_outstanding (with_record q cid f records) p i ≡ is_outstanding records p i
 marked-outstanding f marks records q cid p i = any-map (is_at p i) (changed q cid f) (marked-at f marks q cid p i) records
 
 pub marked-tells : (f : Record → Record) → Marks f → (owners : List Owner) (records : List Record) (q cid : ℕ) → AllByRecursion (TellsCommand owners) records → AllByRecursion (TellsCommand owners) (with_record q cid f records)
-marked-tells f marks owners records q cid all = all-map (TellsCommand owners) (changed q cid f) each records all
-  where
-    each : (r : Record) → TellsCommand owners r → TellsCommand owners (changed q cid f r)
-    each r h = go (is_at q cid r)
-      where
-        go : (b : Bool) → TellsCommand owners (if b then f r else r)
-        go true = marks.tells owners r h
-        go false = h
+marked-tells f marks owners records q cid all =
+    all-map (TellsCommand owners) (changed q cid f) (λ r h. cond_both (is_at q cid r) _ _ (TellsCommand owners) (λ _. marks.tells owners r h) (λ _. h)) records all
 
 -- where what is changed still is one that fits
 pub marked-records : (f : Record → Record) (n : ℕ) (records : List Record) (q cid : ℕ) → ((r : Record) → is_at q cid r ≡ true → IsRecord n r → IsRecord n (f r)) → AllByRecursion (IsRecord n) records
     → AllByRecursion (IsRecord n) (with_record q cid f records)
-marked-records f n records q cid fits all = all-map (IsRecord n) (changed q cid f) each records all
-  where
-    each : (r : Record) → IsRecord n r → IsRecord n (changed q cid f r)
-    each r h = go (is_at q cid r) refl
-      where
-        go : (b : Bool) → is_at q cid r ≡ b → IsRecord n (if b then f r else r)
-        go true at = fits r at h
-        go false at = h
+marked-records f n records q cid fits all =
+    all-map (IsRecord n) (changed q cid f) (λ r h. cond_both (is_at q cid r) _ _ (IsRecord n) (λ at. fits r at h) (λ _. h)) records all
+
+-- the same commands claim the same identifiers
+pub claims-same : (records rs : List Record) (q : ℕ) (claimed : List Bool) → ((cid : ℕ) → is_outstanding rs q cid ≡ is_outstanding records q cid) → ClaimsIdentifiers records q claimed → ClaimsIdentifiers rs q claimed
+claims-same records rs q claimed same old = record { told = λ cid l. old.told cid l ∙ ap Some (sym (same cid)); inside = λ cid out. old.inside cid (sym (same cid) ∙ out) }
 
 pub marked-claims : (f : Record → Record) → Marks f → (records : List Record) (queues : List Queue) (q cid : ℕ) → ClaimIdentifiers records queues → ClaimIdentifiers (with_record q cid f records) queues
 marked-claims f marks records queues q cid claims =
-    record {
-      each = λ p queue e. let old = claims.each p queue e in
-          record {
-            told = λ i l. old.told i l ∙ ap (λ (b : Bool). Some b) (sym (marked-outstanding f marks records q cid p i));
-            inside = λ i h. old.inside i (sym (marked-outstanding f marks records q cid p i) ∙ h);
-          };
-    }
+    record { each = λ p queue e. claims-same records (with_record q cid f records) p queue.host.claimed (marked-outstanding f marks records q cid p) (claims.each p queue e) }
 
 -- Calls that leave the queues' halves alone, and calls that change the claims of a queue alone.
 
@@ -345,10 +244,7 @@ claims_keep_tells f owners q queue tells = record { submission = tells.submissio
 -- what holds of each queue holds of each after one got other claims
 pub each_claimed : (P : ℕ → Queue → Type 0) (f : List Bool → List Bool) → ((q : ℕ) (queue : Queue) → P q queue → P q (claims_changed f queue)) → (k : ℕ) (queues : List Queue)
     → ((q : ℕ) (queue : Queue) → slice_get queues q ≡ Some queue → P q queue) → (q : ℕ) (queue : Queue) → slice_get (change k (claims_changed f) queues) q ≡ Some queue → P q queue
-each_claimed P f keeps k queues each q queue e = go (changed_at k (claims_changed f) queues q queue e)
-  where
-    go : Changed Queue k (claims_changed f) queues q queue → P q queue
-    go c = elim c.is [
-      | inl h ↦ subst (λ (x : Queue). P q x) (sym h.1) (keeps q c.was (each q c.was c.at))
-      | inr h ↦ subst (λ (x : Queue). P q x) (sym h.1) (each q c.was c.at)
-    ]
+each_claimed P f keeps k queues each q queue e = let c = changed_at k (claims_changed f) queues q queue e in elim c.is [
+  | inl h ↦ subst (λ (x : Queue). P q x) (sym h.1) (keeps q c.was (each q c.was c.at))
+  | inr h ↦ subst (λ (x : Queue). P q x) (sym h.1) (each q c.was c.at)
+]

@@ -3,7 +3,7 @@ use Rattle.machine_model.specs.After as a
 use Rattle.machine_model.specs.Events as events
 use Rattle.machine_model.specs.declared.words.Refusal.TheVariants as refusal
 use Rattle.std.proofs.Common.{◌≡◌, ℕ, IsSome, ◌+◌, ◌<◌, ◌≤◌, ◌/◌, ◌%◌, ◌==◌, ◌++◌, ◌∷◌, [], Bool, true, false, Option, Some, None, List, length, slice_get, slice_set, refl, ap, sym, ◌∙◌, subst, arith, length-set, not, position}
-use Rattle.std.{proofs.lemmas.{Bool.{or_parts, not-false}, Option.slice_get-map}, specs.{List.AllByRecursion, Option.{option_map, option_map_or}}}
+use Rattle.std.{proofs.lemmas.{Bool.{or_parts, not-false}, Option.slice_get-map}, specs.{Option.{option_map, option_map_or}}}
 use Rattle.admin_commands.specs.{Entries.admin_entry, declared.AdminKind.{AdminKind, TheVariants.{Abort, DeleteSq, DeleteCq, CreateCq, CreateSq}}}
 use Rattle.entry_codec.specs.{Submission.{submission_bytes, FitsSubmission}, declared.submission.SubEntry.SubEntry}
 use Rattle.machine_model.{proofs.{Kept.{live_has_sq, service_has_sq}, Steps.first_fails}, specs.{After.change, Proper.IsProper}}
@@ -12,12 +12,14 @@ use Rattle.machine_model.specs.{State.{HostQueue, State}, Step.{Answers, IsContr
 use Rattle.machine_model.specs.declared.words.{HostState.TheVariants.Deleting, Refusal.Refusal}
 use Rattle.page_memory.specs.{Pages.page_at, declared.page.Half.TheVariants.Submission}
 use Rattle.queue_pair.{proofs.Halves.found_within, specs.Memory.half_pages}
-use Rattle.host_core.proofs.{Granting.{next-fresh, next-left, none-left}, Identifiers.claim-more, Lists.{all-append, map-change, some_is}}
-use Rattle.host_core.proofs.QueueLists.{posted-exact, posted-queue, submission_length, tail-fits, tail-in, pool-with_bytes, each-change, submission_page-in, Settled, settled-of, settled-state, settled-with, whole-of, host_step, length-change, sound_after}
+use Rattle.host_core.proofs.{Granting.{in_state-is, next-fresh, next-left, none-left}, Identifiers.claim-more}
+use Rattle.host_core.proofs.Lists.{all-append, each-change, length-change, map-change, some_is}
+use Rattle.host_core.proofs.QueueLists.{posted-exact, posted-queue, submission_length, tail-fits, tail-in, pool-with_bytes, submission_page-in, Settled}
+use Rattle.host_core.proofs.QueueLists.{settled-of, settled-state, settled-turned, settled-with, host_step, Steps, steps}
 use Rattle.host_core.proofs.{Reaping.state-set, RowRecords.{claims_keep_queue, claims_keep_tells, each_claimed}, Submitted.{admin_live, full_is}}
 use Rattle.host_core.specs.{Commands.with_claim, Exact.Exactly, Posting.{CanPost, posted, tail_place, with_tail_moved, CanPostTo, Posts}, Rows.Queue}
 use Rattle.host_core.specs.Sending.{CanSend, HasSlot, Sends, asked, grants_none, noted, record_of_admin, sending, sent, named_causes}
-use Rattle.host_core.specs.{Tables.{Tables, state_of, host_queue_of}, Whole.{ClaimsIdentifiers, IsQueue, IsRecord, IsWhole, TellsCommand, TellsQueue}}
+use Rattle.host_core.specs.{Tables.{Tables, state_of, host_queue_of}, Whole.{IsQueue, IsRecord, IsWhole, TellsCommand, TellsQueue}}
 use Rattle.controller_walk.specs.Units.{first_passing}
 
 -- An admin command that is sent on the tables is the machine's, and leaves them whole.
@@ -42,9 +44,10 @@ none-told t kind cid = record { data_pages = λ p h. cc; chain_pages = λ p h. c
 
 settled-noted : (t : Tables) (kind : AdminKind) (cid : ℕ) → Settled t → (slot : HasSlot t cid) → Settled (noted kind cid t)
 settled-noted t kind cid s slot =
-    settled-with t t.owners (change 0 (with_claim cid) t.queues) (t.records ++ record_of_admin kind cid ∷ []) s
+    settled-with t t.pages t.owners (change 0 (with_claim cid) t.queues) (t.records ++ record_of_admin kind cid ∷ []) s
     (record {
-      table = refl;
+      pool = s.pool;
+      table = s.table;
       many = length-change 0 (with_claim cid) t.queues;
       queues = record { each = each_claimed (IsQueue t.entries) (more cid) (claims_keep_queue (more cid) (λ bits. length-set bits cid true) t.entries) 0 t.queues s.queues.each };
       identifiers = claim-more t.records t.queues (record_of_admin kind cid) s.identifiers
@@ -98,28 +101,18 @@ can-send t kind cid s slot half is =
 settled-posted : (u : Tables) (q : ℕ) (x : Queue) (entry : SubEntry) → Settled u → CanPost u q x entry → Settled (posted q x entry u)
 settled-posted u q x entry s post =
     let count : length (submission_bytes entry) ≡ 64 = submission_length entry post.sgl1 in
-    let size : length (change q with_tail_moved u.queues) ≡ length u.queues = length-change q with_tail_moved u.queues in
-    record {
-      pool = pool-with_bytes u.pages (tail_place x / 4096) (tail_place x % 4096) (submission_bytes entry) (tail-in u q x entry post)
-          (subst (λ (k : ℕ). tail_place x % 4096 + k ≤ 4096) (sym count) (tail-fits x)) post.pool;
+    settled-turned u q with_tail_moved (posted q x entry u).pages u.owners u.records s
+    (record {
+      pool = pool-with_bytes u.pages (tail_place x / 4096) (tail_place x % 4096) (submission_bytes entry) (tail-in u q x entry post) (omega (arith, count, tail-fits x)) post.pool;
       table = s.table ∙ sym (length-set u.pages (tail_place x / 4096) _);
-      least_entries = s.least_entries;
-      most_entries = s.most_entries;
-      least_segment = s.least_segment;
-      most_segment = s.most_segment;
-      some_queues = subst (λ (n : ℕ). 2 ≤ n) (sym size) s.some_queues;
-      few_queues = subst (λ (n : ℕ). n ≤ 65) (sym size) s.few_queues;
-      record_queues = s.record_queues ∙ sym size;
-      record_places = s.record_places;
-      queues = record { each = each-change (IsQueue u.entries) q with_tail_moved u.queues (λ k y _ at. s.queues.each k y at) (λ y at. posted-queue u.entries q y (s.queues.each q y at)) };
-      identifiers = record { each = each-change (λ (k : ℕ) (y : Queue). ClaimsIdentifiers u.records k y.host.claimed) q with_tail_moved u.queues (λ k y _ at. s.identifiers.each k y at) (λ y at. s.identifiers.each q y at) };
-      owners = record {
-        queues_told = each-change (TellsQueue u.owners) q with_tail_moved u.queues (λ k y _ at. s.owners.queues_told k y at)
-            (λ y at. let told = s.owners.queues_told q y at in record { submission = told.submission; completion = told.completion });
-        commands_told = s.owners.commands_told;
-      };
-      records = subst (λ (n : ℕ). AllByRecursion (IsRecord n) u.records) (sym size) s.records;
-    }
+      queue = λ y at. posted-queue u.entries q y (s.queues.each q y at);
+      identifiers = s.identifiers.each;
+      claims = s.identifiers.each q;
+      others = λ k y _ at. s.owners.queues_told k y at;
+      own = λ y at. let told = s.owners.queues_told q y at in record { submission = told.submission; completion = told.completion };
+      commands = s.owners.commands_told;
+      records = s.records;
+    })
 
 pub settled-sent : (t : Tables) (kind : AdminKind) (cid : ℕ) → Settled t → (slot : HasSlot t cid) → HasHalfIn t slot.queue → IsTyped (admin_entry kind cid) → Settled (sent kind cid slot.queue t)
 settled-sent t kind cid s slot half is =
@@ -140,86 +133,56 @@ sent-exact t kind cid s slot half is =
 
 -- what a command leans on: a queue that it deletes has its submission half
 abbrev AsksOf : AdminKind → Tables → Type 0
-AsksOf (Abort q cid) u = Unit {0}
 AsksOf (DeleteSq q) u = (x : Queue) → slice_get u.queues q ≡ Some x → has_sq x.state ≡ true
-AsksOf (DeleteCq q) u = Unit {0}
-AsksOf (CreateCq q n base) u = Unit {0}
-AsksOf (CreateSq q n base) u = Unit {0}
+AsksOf kind u = Unit {0}
 
 has-half : (t : Tables) (q : ℕ) → refusal_of (state_of t) (events.DeleteSq q) ≡ None → (x : Queue) → slice_get t.queues q ≡ Some x → has_sq x.state ≡ true
-has-half t q none x at = service_has_sq x.state
-    (sym (ap (λ (o : Option HostQueue). option_map_or (λ (queue : HostQueue). in_service queue.state) o false) (slice_get-map host_queue_of t.queues q ∙ ap (option_map host_queue_of) at))
-    ∙ not-false _ (or_parts (q == 0) (not (in_state in_service s q))
-    (first_fails (no_io_queue s q) refusal.NoQueue ((in_state is_deleting s q, refusal.WrongState) ∷ (no_identifier s 0, refusal.NoIdentifier) ∷ (queue_full s 0, refusal.QueueFull) ∷ []) none)).1)
-  where
-    s : State
-    s = state_of t
+has-half t q none x at =
+    let serves : in_state in_service (state_of t) q ≡ true = grind (arith, none) in service_has_sq x.state (rw (in_state-is in_service t q, at) at serves)
 
 -- the state of a queue stays with other claims, and with another tail
 asks-sent : (t : Tables) (kind : AdminKind) (cid : ℕ) (x : Queue) → refusal_of (state_of t) (sending kind) ≡ None → AsksOf kind (sent kind cid x t)
-asks-sent t (Abort q c) cid x none = tt
 asks-sent t (DeleteSq q) cid x none =
     λ y at. each-change (λ (k : ℕ) (z : Queue). q ≡ k → has_sq z.state ≡ true) 0 with_tail_moved (change 0 (with_claim cid) t.queues) (λ k z _ at'. claimed k z at') (λ z at'. claimed 0 z at') q y at refl
   where
     claimed : (k : ℕ) (z : Queue) → slice_get (change 0 (with_claim cid) t.queues) k ≡ Some z → q ≡ k → has_sq z.state ≡ true
     claimed = each_claimed (λ (k : ℕ) (z : Queue). q ≡ k → has_sq z.state ≡ true) (more cid) (λ k z h. h) 0 t.queues
         (λ k z at same. has-half t q none z (subst (λ (i : ℕ). slice_get t.queues i ≡ Some z) (sym same) at))
-asks-sent t (DeleteCq q) cid x none = tt
-asks-sent t (CreateCq q n base) cid x none = tt
-asks-sent t (CreateSq q n base) cid x none = tt
+asks-sent t kind cid x none = tt
 
 asked_in : AdminKind → State → State
-asked_in (Abort q cid) s = s
 asked_in (DeleteSq q) s = a.on_host_queue q a.deleting s
-asked_in (DeleteCq q) s = s
-asked_in (CreateCq q n base) s = s
-asked_in (CreateSq q n base) s = s
+asked_in kind s = s
 
 asked-state : (u : Tables) (kind : AdminKind) → AsksOf kind u → state_of (asked kind u) ≡ asked_in kind (state_of u)
 unfolding asked_in
-asked-state u (Abort q cid) h = refl
 asked-state u (DeleteSq q) h = state-set u q (Deleting false) (refl) h
-asked-state u (DeleteCq q) h = refl
-asked-state u (CreateCq q n base) h = refl
-asked-state u (CreateSq q n base) h = refl
+asked-state u kind h = refl
 
 settled-asked : (u : Tables) (kind : AdminKind) → Settled u → AsksOf kind u → Settled (asked kind u)
-settled-asked u (Abort q cid) s h = s
 settled-asked u (DeleteSq q) s h = settled-state u q (Deleting false) s (refl) h
-settled-asked u (DeleteCq q) s h = s
-settled-asked u (CreateCq q n base) s h = s
-settled-asked u (CreateSq q n base) s h = s
+settled-asked u kind s h = s
 
 -- The machine's step
 
 send-after : (s : State) (kind : AdminKind) (cid : ℕ) → grants_none kind ≡ true → a.after s (sending kind) (events.Sent cid) ≡ asked_in kind (sent_in kind cid s)
 unfolding asked_in
-send-after s (Abort q c) cid plain = refl
-send-after s (DeleteSq q) cid plain = refl
-send-after s (DeleteCq q) cid plain = refl
 send-after s (CreateCq q n base) cid plain = cc
 send-after s (CreateSq q n base) cid plain = cc
+send-after s kind cid plain = refl
 
 send-answers : (s : State) (kind : AdminKind) (cid : ℕ) → grants_none kind ≡ true → IsNewIdentifier s 0 cid → Answers s (sending kind) (events.Sent cid)
-send-answers s (Abort q c) cid plain h = h
-send-answers s (DeleteSq q) cid plain h = h
-send-answers s (DeleteCq q) cid plain h = h
 send-answers s (CreateCq q n base) cid plain h = cc
 send-answers s (CreateSq q n base) cid plain h = cc
+send-answers s kind cid plain h = h
 
 is-hosts : (kind : AdminKind) → IsController (sending kind) ≡ false
 is-hosts (Abort q cid) = refl
-is-hosts (DeleteSq q) = refl
-is-hosts (DeleteCq q) = refl
-is-hosts (CreateCq q n base) = refl
-is-hosts (CreateSq q n base) = refl
+is-hosts kind = refl
 
 is-proper : (kind : AdminKind) → IsProper (sending kind)
 is-proper (Abort q cid) = tt
-is-proper (DeleteSq q) = tt
-is-proper (DeleteCq q) = tt
-is-proper (CreateCq q n base) = tt
-is-proper (CreateSq q n base) = tt
+is-proper kind = tt
 
 pub send-exact : (t : Tables) (kind : AdminKind) (cid : ℕ) → IsWhole t → (can : CanSend t kind cid) → IsTyped (admin_entry kind cid)
     → Exactly (state_of t) (sending kind) (events.Sent cid) (state_of (asked kind (sent kind cid can.slot.queue t)))
@@ -230,24 +193,12 @@ send-exact t kind cid w can is = (
       ∙ (ap (asked_in kind) (sent-exact t kind cid (settled-of t w) can.slot (half-in t cid w can.slot) is) ∙ sym (send-after (state_of t) kind cid can.plain)),
 )
 
--- What a sending makes of whole tables: a step of the machine, and whole tables.
-pub record SendsTo (t : Tables) (kind : AdminKind) (cid : ℕ) (new : Tables) : Type 0 where
-  pub step : Step (state_of t) (sending kind) (events.Sent cid) (state_of new)
-  pub whole : IsWhole new
-
-send-made : (t : Tables) (kind : AdminKind) (cid : ℕ) → IsWhole t → (can : CanSend t kind cid) → IsTyped (admin_entry kind cid) → SendsTo t kind cid (asked kind (sent kind cid can.slot.queue t))
-send-made t kind cid w can is =
+pub send_made : (t new : Tables) (kind : AdminKind) (cid : ℕ) → IsWhole t → CanSend t kind cid → IsTyped (admin_entry kind cid) → Sends t kind cid new → Steps t
+    (sending kind) (events.Sent cid) new
+send_made t new kind cid w can is sends =
     let u : Tables = sent kind cid can.slot.queue t in
-    let step : Step (state_of t) (sending kind) (events.Sent cid) (state_of (asked kind u)) =
-    host_step t (asked kind u) (sending kind) (events.Sent cid) (is-hosts kind) (is-proper kind) (send-exact t kind cid w can is) in
-    record {
-      step = step;
-      whole = whole-of (asked kind u) (settled-asked u kind (settled-sent t kind cid (settled-of t w) can.slot (half-in t cid w can.slot) is) (asks-sent t kind cid can.slot.queue can.none))
-          (sound_after (state_of t) (sending kind) (events.Sent cid) (state_of (asked kind u)) step w.sound);
-    }
-
-pub send_made : (t new : Tables) (kind : AdminKind) (cid : ℕ) → IsWhole t → CanSend t kind cid → IsTyped (admin_entry kind cid) → Sends t kind cid new → SendsTo t kind cid new
-send_made t new kind cid w can is sends = subst (λ (y : Tables). SendsTo t kind cid y) (sym (sends can.slot.queue can.slot.at)) (send-made t kind cid w can is)
+    rw (sends can.slot.queue can.slot.at) (steps t (asked kind u) (sending kind) (events.Sent cid) w (is-hosts kind) (is-proper kind) (send-exact t kind cid w can is)
+    (settled-asked u kind (settled-sent t kind cid (settled-of t w) can.slot (half-in t cid w can.slot) is) (asks-sent t kind cid can.slot.queue can.none)))
 
 -- What a refusal makes of it
 
@@ -262,11 +213,9 @@ abbrev room_causes : State → List (Bool × Refusal)
 room_causes s = (no_identifier s 0, refusal.NoIdentifier) ∷ (queue_full s 0, refusal.QueueFull) ∷ []
 
 by-name : (s : State) (kind : AdminKind) → grants_none kind ≡ true → refusal_of s (sending kind) ≡ first_passing (named_causes s kind ++ room_causes s)
-by-name s (Abort q cid) plain = refl
-by-name s (DeleteSq q) plain = refl
-by-name s (DeleteCq q) plain = refl
 by-name s (CreateCq q n base) plain = cc
 by-name s (CreateSq q n base) plain = cc
+by-name s kind plain = refl
 
 pub past : (xs ys : List (Bool × Refusal)) → first_passing xs ≡ None → first_passing (xs ++ ys) ≡ first_passing ys
 past [] ys h = refl
@@ -276,19 +225,9 @@ past ((false, x) ∷ xs) ys h = past xs ys h
 behind : (s : State) (kind : AdminKind) → grants_none kind ≡ true → first_passing (named_causes s kind) ≡ None → refusal_of s (sending kind) ≡ first_passing (room_causes s)
 behind s kind plain free = by-name s kind plain ∙ past (named_causes s kind) (room_causes s) free
 
-untouched-identifier : (s : State) (kind : AdminKind) → [] ≡ touched_by_refusal s (sending kind) refusal.NoIdentifier
-untouched-identifier s (Abort q cid) = refl
-untouched-identifier s (DeleteSq q) = refl
-untouched-identifier s (DeleteCq q) = refl
-untouched-identifier s (CreateCq q n base) = refl
-untouched-identifier s (CreateSq q n base) = refl
-
-untouched-full : (s : State) (kind : AdminKind) → [] ≡ touched_by_refusal s (sending kind) refusal.QueueFull
-untouched-full s (Abort q cid) = refl
-untouched-full s (DeleteSq q) = refl
-untouched-full s (DeleteCq q) = refl
-untouched-full s (CreateCq q n base) = refl
-untouched-full s (CreateSq q n base) = refl
+untouched : (s : State) (kind : AdminKind) (why : Refusal) → [] ≡ touched_by_refusal s (sending kind) why
+untouched s (Abort q cid) why = refl
+untouched s kind why = refl
 
 pub first-there : (xs : List Queue) → 2 ≤ length xs → (x : Queue) × (slice_get xs 0 ≡ Some x)
 first-there [] l = absurd (omega (arith, l))
@@ -303,14 +242,14 @@ pub send-no_identifier : (t : Tables) (kind : AdminKind) (queues : List Queue) �
 send-no_identifier t kind queues w plain free same next =
     let x = first-there t.queues w.some_queues in
     let none = none-left t w 0 x.0 x.1 (sym (next x.0 (ap (λ (qs : List Queue). slice_get qs 0) same ∙ x.1))) in
-    (behind (state_of t) kind plain free ∙ rw none refl, untouched-identifier (state_of t) kind)
+    (behind (state_of t) kind plain free ∙ rw none refl, untouched (state_of t) kind refusal.NoIdentifier)
 
 pub send-full : (t : Tables) (kind : AdminKind) (queues : List Queue) (cid : ℕ) → IsWhole t → grants_none kind ≡ true → first_passing (named_causes (state_of t) kind) ≡ None → queues ≡ t.queues → Next queues (Some cid)
     → queue_full (state_of t) 0 ≡ true → Refuses (state_of t) (sending kind) refusal.QueueFull []
 send-full t kind queues cid w plain free same next full =
     let x = first-there t.queues w.some_queues in
     let left = next-left t w 0 cid x.0 x.1 (sym (next x.0 (ap (λ (qs : List Queue). slice_get qs 0) same ∙ x.1))) in
-    (behind (state_of t) kind plain free ∙ rw (left, full) refl, untouched-full (state_of t) kind)
+    (behind (state_of t) kind plain free ∙ rw (left, full) refl, untouched (state_of t) kind refusal.QueueFull)
 
 pub send-ready : (t : Tables) (kind : AdminKind) (queues : List Queue) (cid : ℕ) → IsWhole t → grants_none kind ≡ true → first_passing (named_causes (state_of t) kind) ≡ None → queues ≡ t.queues → Next queues (Some cid)
     → queue_full (state_of t) 0 ≡ false → CanSend t kind cid

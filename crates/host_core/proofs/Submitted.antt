@@ -2,54 +2,53 @@
 use Rattle.machine_model.specs.After as a
 use Rattle.machine_model.specs.Events as events
 use Rattle.machine_model.specs.declared.words.Refusal.TheVariants as refusal
-use Rattle.std.proofs.Common.{◌≡◌, ℕ, ◌+◌, ◌/◌, ◌%◌, ◌<◌, ◌≤◌, ◌++◌, ◌∷◌, [], Bool, true, false, not, Option, Some, None, IsSome, is_none, List, length, refl, ap, sym, ◌∙◌, subst, length-set, slice_get, arith}
-use Rattle.std.{proofs.lemmas.{Bool.true≢false, Option.{slice_get-map, slice_get_within}}, specs.{List.AllByRecursion, Option.{option_map_or, option_map}}}
+use Rattle.std.proofs.Common.{◌≡◌, ℕ, ◌+◌, ◌/◌, ◌%◌, ◌<◌, ◌++◌, ◌∷◌, [], Bool, true, false, not, Option, Some, None, IsSome, is_none, List, length, refl, ap, sym, ◌∙◌, subst, length-set, slice_get, arith, inl, inr}
+use Rattle.std.proofs.lemmas.{Bool.{true≢false, false_from_ne_true}, Option.{slice_get-map, slice_get_within}}
+use Rattle.std.specs.{List.AllByRecursion, Option.{option_map_or, option_map}}
 use Rattle.entry_codec.specs.{Submission.{submission_bytes, FitsSubmission}, declared.submission.SubEntry.SubEntry}
 use Rattle.io_commands.{proofs.Building.carries_entry, specs.{DataBytes.PagesOut, Drafts.{DraftContents, draft_first}, Values.numbers_of}}
 use Rattle.sgl_chain.proofs.Spelled.{length-spelling}
-use Rattle.machine_model.{proofs.{Counting.held_once, Kept.live_has_sq, Steps.{length-with_pages, first_fails, found_all}}, specs.After.{change, after_submit}}
+use Rattle.machine_model.proofs.{Cases.option_is, Counting.held_once, Kept.live_has_sq, Steps.{length-with_pages, first_fails, found_all}}
+use Rattle.machine_model.specs.After.{change, after_submit}
 use Rattle.machine_model.specs.{Memory.with_pages, Proper.IsProperDraft}
 use Rattle.machine_model.specs.Refusals.{refusal_of, is_drafted, is_of, is_live, in_state, queue_full, record_is, host_queue}
-use Rattle.machine_model.specs.{State.{State, Record, is_at, pages_of, with_record, HostQueue}, Step.{Step, Refuses}, Work.Work}
+use Rattle.machine_model.specs.{State.{State, Record, is_at, pages_of, with_record, HostQueue}, Step.{Refuses}, Work.Work}
 use Rattle.machine_model.specs.declared.words.Work.TheVariants.{Io, Management}
 use Rattle.page_ledger.specs.{Owners.{is_among, owner_at}, declared.owner.Owner.TheVariants.{Queue as OfQueue, Command}}
-use Rattle.page_memory.specs.{Pages.Pages, declared.page.Half.{Half, TheVariants.Submission}}
+use Rattle.page_memory.specs.{Pages.Pages, declared.page.Half.{TheVariants.Submission}}
 use Rattle.queue_pair.specs.{Memory.half_pages, Slots.is_full}
-use Rattle.host_core.proofs.{Ending.{cancel_brings, joined-pages, Finishes, belongs-passes, belongs_brings, ended_can_put}, Granting.in_state-is}
+use Rattle.host_core.proofs.{Ending.{cancel_brings, joined-pages, belongs-passes, belongs_brings, ended_can_put}, Granting.in_state-is}
 use Rattle.host_core.proofs.{Lists.{all-from, some_is}, PageOwners.{command-owner, pool-with, with-other}}
-use Rattle.host_core.proofs.QueueLists.{posted-exact, posted-queue, tail-in, tail-fits, submission_length, pool-with_bytes, each-change, submission-owner, submission_page-in, host_step, sound_after, length-change}
+use Rattle.host_core.proofs.QueueLists.{posted-exact, posted-queue, tail-in, tail-fits, submission_length, pool-with_bytes, submission-owner}
+use Rattle.host_core.proofs.QueueLists.{submission_page-in, Settled, settled-of, settled-turned, Steps, steps}
 use Rattle.host_core.proofs.RowRecords.{Marks, marked-claims, marked-records, marked-tells, Spares}
 use Rattle.host_core.specs.{Commands.{Brings, BelongsToDraft, CanPut, passes, state_at}, Exact.Exactly}
 use Rattle.host_core.specs.{Posting.{with_tail_moved, tail_place, CanPost, CanPostTo, Posts}, Rows.Queue}
 use Rattle.host_core.specs.{Submitting.{brought_in, submitted, CanSubmit, IsReady, Submits}, Tables.{Tables, state_of, host_queue_of}}
-use Rattle.host_core.specs.Whole.{IsWhole, IsQueue, IsRecord, ClaimsIdentifiers, TellsCommand, TellsQueue, FitsWork, AreQueues}
+use Rattle.host_core.specs.Whole.{IsWhole, IsRecord, TellsCommand, FitsWork, AreQueues}
 
 -- A submitted draft on the tables is the machine's, and leaves them whole.
 
 brings : (t : Tables) (d : DraftContents) (x : Queue) (entry : SubEntry) → CanSubmit t d x entry → Brings t d.q d.cid (d.data_pages ++ d.chain_pages)
-brings t d x entry c = cancel_brings t d (cancel (not (record_is (is_of is_drafted d.request (numbers_of d.data_pages) (numbers_of d.chain_pages)) (state_of t) d.q d.cid)) refl)
-  where
-    cancel : (b : Bool) → not (record_is (is_of is_drafted d.request (numbers_of d.data_pages) (numbers_of d.chain_pages)) (state_of t) d.q d.cid) ≡ b → refusal_of (state_of t) (events.Cancel d) ≡ None
-    cancel false e = rw e refl
-    cancel true e = absurd (true≢false (sym e ∙ first_fails _ refusal.Stranger
-        ((is_none d.entry, refusal.NotBuilt) ∷ (not (in_state is_live (state_of t) d.q), refusal.QueueGone) ∷ (queue_full (state_of t) d.q, refusal.QueueFull) ∷ []) c.none))
+brings t d x entry c =
+    let mine = first_fails _ refusal.Stranger ((is_none d.entry, refusal.NotBuilt) ∷ (not (in_state is_live (state_of t) d.q), refusal.QueueGone) ∷
+    (queue_full (state_of t) d.q, refusal.QueueFull) ∷ []) c.none in
+    cancel_brings t d (rw mine refl)
 
 -- and its pages are none of a queue's halves
 spares : (t : Tables) (d : DraftContents) (x : Queue) (entry : SubEntry) → IsWhole t → CanSubmit t d x entry → Spares t (brought_in d t).pages
-spares t d x entry whole c = record { same = λ k half p at. with-other (d.data_pages ++ d.chain_pages) t.pages p (other k half p at (is_among (numbers_of (d.data_pages ++ d.chain_pages)) p) refl) }
+spares t d x entry whole c = record {
+  same = λ k half p at. with-other pages t.pages p (false_from_ne_true (is_among (numbers_of pages) p) (λ e.
+      let o = command-owner t.owners b.entry (found_all (TellsCommand t.owners) (is_at d.q d.cid) t.records b.entry b.was whole.owners.commands_told) p
+      (held_once p (pages_of b.entry) (rw (← b.numbers) e)) in
+      let same : OfQueue k half ≡ Command b.entry.q b.entry.cid o.0 = some_is (sym at ∙ o.1) in cc));
+}
   where
+    pages : PagesOut
+    pages = d.data_pages ++ d.chain_pages
+
     b : Brings t d.q d.cid (d.data_pages ++ d.chain_pages)
     b = brings t d x entry c
-
-    mine : TellsCommand t.owners b.entry
-    mine = found_all (TellsCommand t.owners) (is_at d.q d.cid) t.records b.entry b.was whole.owners.commands_told
-
-    other : (k : ℕ) (half : Half) (p : ℕ) → owner_at t.owners p ≡ Some (OfQueue k half) → (f : Bool) → is_among (numbers_of (d.data_pages ++ d.chain_pages)) p ≡ f → f ≡ false
-    other k half p at false e = refl
-    other k half p at true e =
-        let o = command-owner t.owners b.entry mine p (held_once p (pages_of b.entry) (ap (λ (ps : List ℕ). is_among ps p) (sym b.numbers) ∙ e)) in
-        let same : OfQueue k half ≡ Command b.entry.q b.entry.cid o.0 = some_is (sym at ∙ o.1) in
-        absurd cc
 
 are-pages : (d : DraftContents) → IsProperDraft d → AllByRecursion (λ (page : ℕ × List ℕ). length page.1 ≡ 4096) (d.data_pages ++ d.chain_pages)
 are-pages d proper =
@@ -109,36 +108,24 @@ submitted-fits n r h = record { queue = h.queue; work = still r.work r h.work; p
     still (Io request) r h = h
     still (Management kind) r h = tt
 
-pub submit-whole : (t : Tables) (d : DraftContents) (x : Queue) (entry : SubEntry) → IsWhole t → CanSubmit t d x entry → IsWhole (submitted d x entry t)
-submit-whole t d x entry w c =
-    let new : Tables = submitted d x entry t in
-    let step = host_step t new (events.Submit d) events.Accepted refl c.proper (submit-exact t d x entry w c) in
+pub submit-settled : (t : Tables) (d : DraftContents) (x : Queue) (entry : SubEntry) → IsWhole t → CanSubmit t d x entry → Settled (submitted d x entry t)
+submit-settled t d x entry w c =
     let post = can-post t d x entry w c in
     let count : length (submission_bytes entry) ≡ 64 = submission_length entry (draft-sgl1 d entry c.proper c.built) in
-    let size : length (change d.q with_tail_moved t.queues) ≡ length t.queues = length-change d.q with_tail_moved t.queues in
     let claims = marked-claims a.submitted marks-submitted t.records t.queues d.q d.cid w.identifiers in
-    record {
-      sound = sound_after (state_of t) (events.Submit d) events.Accepted (state_of new) step w.sound;
+    settled-turned t d.q with_tail_moved (submitted d x entry t).pages t.owners (with_record d.q d.cid a.submitted t.records) (settled-of t w)
+    (record {
       pool = pool-with_bytes (brought_in d t).pages (tail_place x / 4096) (tail_place x % 4096) (submission_bytes entry) (tail-in (brought_in d t) d.q x entry post)
-          (subst (λ (k : ℕ). tail_place x % 4096 + k ≤ 4096) (sym count) (tail-fits x)) post.pool;
+          (omega (arith, count, tail-fits x)) post.pool;
       table = w.table ∙ sym (length-set (brought_in d t).pages (tail_place x / 4096) _ ∙ length-with_pages (d.data_pages ++ d.chain_pages) t.pages);
-      least_entries = w.least_entries;
-      most_entries = w.most_entries;
-      least_segment = w.least_segment;
-      most_segment = w.most_segment;
-      some_queues = subst (λ (n : ℕ). 2 ≤ n) (sym size) w.some_queues;
-      few_queues = subst (λ (n : ℕ). n ≤ 65) (sym size) w.few_queues;
-      record_queues = w.record_queues ∙ sym size;
-      record_places = w.record_places;
-      queues = record { each = each-change (IsQueue t.entries) d.q with_tail_moved t.queues (λ k y _ at. w.queues.each k y at) (λ y at. posted-queue t.entries d.q y (w.queues.each d.q y at)) };
-      identifiers = record { each = each-change (λ (k : ℕ) (y : Queue). ClaimsIdentifiers (with_record d.q d.cid a.submitted t.records) k y.host.claimed) d.q with_tail_moved t.queues (λ k y _ at. claims.each k y at) (λ y at. claims.each d.q y at) };
-      owners = record {
-        queues_told = each-change (TellsQueue t.owners) d.q with_tail_moved t.queues (λ k y _ at. w.owners.queues_told k y at)
-            (λ y at. let told = w.owners.queues_told d.q y at in record { submission = told.submission; completion = told.completion });
-        commands_told = marked-tells a.submitted marks-submitted t.owners t.records d.q d.cid w.owners.commands_told;
-      };
-      records = subst (λ (n : ℕ). AllByRecursion (IsRecord n) (with_record d.q d.cid a.submitted t.records)) (sym size) (marked-records a.submitted (length t.queues) t.records d.q d.cid (λ r _ fits. submitted-fits (length t.queues) r fits) w.records);
-    }
+      queue = λ y at. posted-queue t.entries d.q y (w.queues.each d.q y at);
+      identifiers = claims.each;
+      claims = claims.each d.q;
+      others = λ k y _ at. w.owners.queues_told k y at;
+      own = λ y at. let told = w.owners.queues_told d.q y at in record { submission = told.submission; completion = told.completion };
+      commands = marked-tells a.submitted marks-submitted t.owners t.records d.q d.cid w.owners.commands_told;
+      records = marked-records a.submitted (length t.queues) t.records d.q d.cid (λ r _ fits. submitted-fits (length t.queues) r fits) w.records;
+    })
 
 -- The calls of a submission: what is found before it, and what it leaves.
 
@@ -155,11 +142,10 @@ drafted : (t : Tables) (d : DraftContents) → BelongsToDraft t.records d → is
 drafted t d belongs = belongs-passes t false d.q d.cid d.request (numbers_of d.data_pages) (numbers_of d.chain_pages) belongs
 
 live_queue : (queues : List Queue) (q : ℕ) → passes is_live (state_at queues q) ≡ true → (x : Queue) × (slice_get queues q ≡ Some x) × (is_live x.state ≡ true)
-live_queue queues q live = go (slice_get queues q) refl live
-  where
-    go : (o : Option Queue) → slice_get queues q ≡ o → passes is_live (option_map (λ queue. queue.state) o) ≡ true → (x : Queue) × (slice_get queues q ≡ Some x) × (is_live x.state ≡ true)
-    go None e h = absurd (true≢false (sym h))
-    go (Some x) e h = (x, e, h)
+live_queue queues q live = elim (option_is (slice_get queues q)) [
+  | inl e ↦ absurd (true≢false (sym (rw e at live)))
+  | inr (x, e) ↦ (x, e, rw e at live)
+]
 
 pub live_within : (queues : List Queue) (q : ℕ) → passes is_live (state_at queues q) ≡ true → q < length queues
 live_within queues q live = let x = live_queue queues q live in slice_get_within queues q x.0 x.1
@@ -220,9 +206,7 @@ submit_there t u d entry q ready eu e =
 
 pub submit_can_post : (t u : Tables) (d : DraftContents) (entry : SubEntry) (q : ℕ) → IsWhole t → IsReady t d entry → u ≡ brought_in d t → q ≡ d.q → CanPostTo u q entry
 submit_can_post t u d entry q whole ready eu eq =
-    subst (λ (v : Tables). CanPostTo v q entry) (sym eu)
-    (subst (λ (k : ℕ). CanPostTo (brought_in d t) k entry) (sym eq)
-    (λ y at. subst (λ (z : Queue). CanPost (brought_in d t) d.q z entry) (some_is (sym ready.can.at ∙ at)) (can-post t d ready.queue entry whole ready.can)))
+    rw (eu, eq) (λ y at. subst (λ (z : Queue). CanPost (brought_in d t) d.q z entry) (some_is (sym ready.can.at ∙ at)) (can-post t d ready.queue entry whole ready.can))
 
 pub submits_apart : (t u new : Tables) (d : DraftContents) (entry : SubEntry) (q : ℕ) → u ≡ brought_in d t → q ≡ d.q → Posts u q entry new → Submits t d entry new
 submits_apart t u new d entry q eu eq posts =
@@ -230,16 +214,11 @@ submits_apart t u new d entry q eu eq posts =
 
 -- The whole of a submission
 
-pub submit_made : (t new : Tables) (d : DraftContents) (entry : SubEntry) → IsWhole t → IsReady t d entry → Submits t d entry new → Finishes t new (events.Submit d)
+pub submit_made : (t new : Tables) (d : DraftContents) (entry : SubEntry) → IsWhole t → IsReady t d entry → Submits t d entry new → Steps t (events.Submit d) events.Accepted new
 submit_made t new d entry whole ready left =
     let x = ready.queue in
     let can = ready.can in
-    let is : new ≡ submitted d x entry t = left x can.at in
-    record {
-      step = subst (λ (y : Tables). Step (state_of t) (events.Submit d) events.Accepted (state_of y)) (sym is)
-          (host_step t (submitted d x entry t) (events.Submit d) events.Accepted refl can.proper (submit-exact t d x entry whole can));
-      whole = subst (λ (y : Tables). IsWhole y) (sym is) (submit-whole t d x entry whole can);
-    }
+    rw (left x can.at) (steps t (submitted d x entry t) (events.Submit d) events.Accepted whole refl can.proper (submit-exact t d x entry whole can) (submit-settled t d x entry whole can))
 
 -- queue 0 is live
 

@@ -4,15 +4,16 @@ use Rattle.host_core.specs.Rows as declared
 use Rattle.machine_model.specs.Events as events
 use Rattle.machine_model.specs.declared.words.Refusal.TheVariants as refusal
 use Rattle.admin_commands.specs.declared.AdminKind.TheVariants as kinds
-use Rattle.std.proofs.Common.{◌≡◌, ℕ, suc, ◌+◌, ◌<◌, ◌==◌, nat_lt, Bool, true, false, not, ◌||◌, Option, Some, None, List, [], ◌∷◌, ◌++◌, length, map, flat_map, filter, sum_by, slice_get, refl, ap, ap₂, sym, ◌∙◌, arith, subst, eqb-true, eq-eqb, lt-ltb, length-append, if◌then◌else◌, ◌&&◌, MatchBool}
-use Rattle.std.{proofs.lemmas.{Bool.true≢false, List.{take-append-drop, Sums.sum_by-cons}}, specs.{List.{AllByRecursion, Contains}, Option.option_map_or}}
+use Rattle.std.proofs.Common.{◌≡◌, ℕ, suc, ◌+◌, ◌<◌, ◌==◌, nat_lt, Bool, true, false, not, ◌||◌, Some, None, List, [], ◌∷◌, ◌++◌, length, map, flat_map, filter, sum_by, slice_get, refl, ap, ap₂, sym, ◌∙◌, arith, subst, eqb-true, eq-eqb, lt-ltb, length-append, if◌then◌else◌, ◌&&◌, MatchBool, inl, inr}
+use Rattle.std.proofs.lemmas.{Bool.{true≢false, cases_Bool, cond_both, or_left, or_right}, List.{take-append-drop, Sums.sum_by-cons}}
+use Rattle.std.specs.{List.{AllByRecursion, Contains}, Option.option_map_or}
 use Rattle.machine_model.proofs.{Counting.{one, times-cons, times-append, times-filter, times-pages, held_once, length_of_all}, Headline.firsts}
 use Rattle.machine_model.specs.{After.after, Claims.{claimed, claims_of, claims_of_queues, claims_of_record, counts_of}, Events.{Event, Reply}}
 use Rattle.machine_model.specs.{Refusals.refusal_of, State.{HostQueue, Record, State}}
 use Rattle.machine_model.specs.Step.{times, IsController, HostPart, Leaves, LeavesByController, LeavesByHost, MayRefuse, Refuses, forges, resets}
 use Rattle.machine_model.specs.declared.words.Refusal.{Refusal}
 use Rattle.page_ledger.specs.Counting.{is_queue_page, is_chain_page, is_data_page}
-use Rattle.page_ledger.specs.{Owners.{is_among, is_free, is_owned_at, owner_at, pages_from, pages_owned, free_pages}, declared.owner.Counts.Counts}
+use Rattle.page_ledger.specs.{Owners.{is_owned_at, owner_at, pages_from, pages_owned, free_pages}, declared.owner.Counts.Counts}
 use Rattle.page_ledger.specs.declared.owner.{Owner.{Owner, TheVariants.{Free, Queue, Command}}, Role.TheVariants.{Data, Chain}}
 use Rattle.page_memory.specs.{Pages.{Pages, Contents}, declared.page.Half.{Half, TheVariants.{Submission, Completion}}}
 use Rattle.host_core.specs.{Alone.{HostView, alone}, Laws.{shown, LeavesJust, LeavesOne, RefusesJust, WritesLeaveOver}}
@@ -21,6 +22,7 @@ use Rattle.host_core.specs.{Touching.{TouchesBy, refused_touches, sent_touches},
 use Rattle.admin_commands.specs.declared.AdminKind.{AdminKind}
 use Rattle.io_commands.specs.{Asked.Request, DataBytes.PagesOut, Requests.data_count, Values.{data_part, chain_part}}
 use Rattle.queue_pair.specs.Memory.{half_pages}
+use Rattle.host_core.proofs.PageOwners.{free-owner}
 
 -- What the table of owners tells of the machine's claims: whose each page is, and how many pages each class has.
 
@@ -35,14 +37,7 @@ told-append owners (c ∷ a) b ha hb = (ha.0, told-append owners a b ha.1 hb)
 
 told-claimed : (owners : List Owner) (o : Owner) (pages : List ℕ) → HaveOwner owners o pages → Told owners (claimed o pages)
 told-claimed owners o [] h = tt
-told-claimed owners o (p ∷ pages) h = (h p (now (p == p) (is_among pages p) (eq-eqb p p refl)), told-claimed owners o pages (λ q e. h q (later (p == q) (is_among pages q) e)))
-  where
-    now : (u v : Bool) → u ≡ true → (u || v) ≡ true
-    now u v e = rw e refl
-
-    later : (u v : Bool) → v ≡ true → (u || v) ≡ true
-    later true v e = refl
-    later false v e = e
+told-claimed owners o (p ∷ pages) h = (h p (or_left (p == p) _ (eq-eqb p p refl)), told-claimed owners o pages (λ q e. h q (or_right (p == q) _ e)))
 
 told-queues : (owners : List Owner) (queues : List declared.Queue) (k : ℕ) → ((q : ℕ) (queue : declared.Queue) → slice_get queues q ≡ Some queue → TellsQueue owners (k + q) queue)
     → Told owners (claims_of_queues k (map host_queue_of queues))
@@ -66,24 +61,8 @@ told-records owners (r ∷ records) h =
     (told-claimed owners (Command r.q r.cid Data) r.data_pages h.0.data_pages) (told-claimed owners (Command r.q r.cid Chain) r.chain_pages h.0.chain_pages))
     (told-records owners records h.1)
 
-free-is : (o : Owner) → is_free o ≡ true → o ≡ Free
-free-is Free h = refl
-free-is (Queue q half) h = absurd (true≢false (sym h))
-free-is (Command q cid role) h = absurd (true≢false (sym h))
-
 free-have : (owners : List Owner) → HaveOwner owners Free (free_pages owners)
-free-have owners p h = go (owner_at owners p) refl (is_owned_at is_free owners p) refl
-  where
-    count : times p (free_pages owners) ≡ (if is_owned_at is_free owners p then times p (pages_from 0 (length owners)) else 0)
-    count = times-filter p (is_owned_at is_free owners) (pages_from 0 (length owners))
-
-    some : 0 < times p (free_pages owners)
-    some = held_once p (free_pages owners) h
-
-    go : (o : Option Owner) → owner_at owners p ≡ o → (b : Bool) → is_owned_at is_free owners p ≡ b → o ≡ Some Free
-    go o at false e = let t = rw e at count in absurd (omega (arith, some, t))
-    go None at true e = absurd (true≢false (sym (sym (ap (λ x. option_map_or is_free x false) at) ∙ e)))
-    go (Some x) at true e = ap Some (free-is x (sym (ap (λ x. option_map_or is_free x false) at) ∙ e))
+free-have owners p h = free-owner owners p (held_once p (free_pages owners) h)
 
 told : (t : Tables) → IsHost t → Told t.owners (claims_of (state_of t).host)
 told t w =
@@ -97,29 +76,20 @@ told t w =
 
 claim-there : (owners : List Owner) (claims : List (ℕ × Owner)) (p : ℕ) (o : Owner) → owner_at owners p ≡ Some o → Told owners claims → 0 < times p (firsts claims) → Contains claims (p, o)
 claim-there owners [] p o at h some = absurd (omega arith)
-claim-there owners (c ∷ claims) p o at h some = go (c.0 == p) refl (claim-there owners claims p o at h.1)
-  where
-    some_is : {x y : Owner} → Some x ≡ Some y → x ≡ y
-    some_is e = cc
-
-    go : (b : Bool) → (c.0 == p) ≡ b → (0 < times p (firsts claims) → Contains claims (p, o)) → Contains (c ∷ claims) (p, o)
-    go true e ih =
-        let same : c.0 ≡ p = eqb-true c.0 p e in
-        let owner : c.1 ≡ o = some_is (sym h.0 ∙ (ap (owner_at owners) same ∙ at)) in
-        (0, omega arith, ap₂ (λ (x : ℕ) (y : Owner). (x, y)) same owner)
-    go false e ih =
-        let rest : 0 < times p (firsts claims) = omega (arith, times-cons p c.0 (firsts claims), ap one e) in
-        let there = ih rest in
-        (suc there.0, omega (arith, there.1), there.2)
+claim-there owners (c ∷ claims) p o at h some = elim (cases_Bool (c.0 == p)) [
+  | inl e ↦
+      let same : c.0 ≡ p = eqb-true c.0 p e in
+      let is : Some c.1 ≡ Some o = sym h.0 ∙ (ap (owner_at owners) same ∙ at) in
+      let own : c.1 ≡ o = cc in
+      (0, omega arith, ap₂ (λ (x : ℕ) (y : Owner). (x, y)) same own)
+  | inr e ↦
+      let there = claim-there owners claims p o at h.1 (omega (arith, some, times-cons p c.0 (firsts claims), ap one e)) in
+      (suc there.0, omega (arith, there.1), there.2)
+]
 
 -- The owner of a page of the pool is that of its claim.
 pub owner_claims : (t : Tables) → IsHost t → (p : ℕ) (o : Owner) → p < length t.owners → owner_at t.owners p ≡ Some o → Contains (claims_of (state_of t).host) (p, o)
-owner_claims t w p o l at =
-    claim-there t.owners (claims_of (state_of t).host) p o at (told t w) (once (nat_lt p (length t.owners)) refl)
-  where
-    once : (b : Bool) → nat_lt p (length t.owners) ≡ b → 0 < times p (firsts (claims_of (state_of t).host))
-    once true e = omega (arith, w.sound.owners p, ap one e)
-    once false e = absurd (true≢false (sym (lt-ltb p (length t.owners) l) ∙ e))
+owner_claims t w p o l at = claim-there t.owners (claims_of (state_of t).host) p o at (told t w) (omega (arith, w.sound.owners p, ap one (lt-ltb p (length t.owners) l)))
 
 -- How many pages each class has
 
@@ -127,13 +97,11 @@ owner_claims t w p o l at =
 split-all : (f : ℕ → Bool) (n : ℕ) (xs : List ℕ) → ((p : ℕ) → times p xs ≡ one (nat_lt p n)) → length (filter f xs) + length (filter (λ p. not (f p)) (pages_from 0 n)) ≡ n
 split-all f n xs each = sym (length-append (filter f xs) (filter (λ p. not (f p)) (pages_from 0 n))) ∙ length_of_all n (filter f xs ++ filter (λ p. not (f p)) (pages_from 0 n)) at
   where
-    go : (p : ℕ) (b : Bool) → times p (filter f xs) ≡ (if b then times p xs else 0) → times p (filter (λ p. not (f p)) (pages_from 0 n)) ≡ (if not b then times p (pages_from 0 n) else 0)
-        → times p (filter f xs) + times p (filter (λ p. not (f p)) (pages_from 0 n)) ≡ one (nat_lt p n)
-    go p true a b = omega (arith, each p)
-    go p false a b = omega (arith, times-pages p n)
-
     at : (p : ℕ) → times p (filter f xs ++ filter (λ p. not (f p)) (pages_from 0 n)) ≡ one (nat_lt p n)
-    at p = times-append p (filter f xs) (filter (λ p. not (f p)) (pages_from 0 n)) ∙ go p (f p) (times-filter p f xs) (times-filter p (λ p. not (f p)) (pages_from 0 n))
+    at p = rw (times-append p (filter f xs) (filter (λ p. not (f p)) (pages_from 0 n)), times-filter p f xs, times-filter p (λ p. not (f p)) (pages_from 0 n)) (elim (cases_Bool (f p)) [
+      | inl e ↦ rw e (omega (arith, each p))
+      | inr e ↦ rw e (omega (arith, times-pages p n))
+    ])
 
 same-length : (f : ℕ → Bool) (n : ℕ) (xs : List ℕ) → ((p : ℕ) → times p xs ≡ one (nat_lt p n)) → length (filter f (pages_from 0 n)) ≡ length (filter f xs)
 same-length f n xs each = omega (arith, split-all f n xs each, split-all f n (pages_from 0 n) (λ p. times-pages p n))
@@ -158,14 +126,12 @@ classed-append test [] b = omega arith
 classed-append test (c ∷ a) b = omega (arith, classed-append test a b)
 
 classed-claimed : (test : Owner → Bool) (o : Owner) (pages : List ℕ) (b : Bool) → test o ≡ b → classed test (claimed o pages) ≡ (if b then length pages else 0)
-classed-claimed test o [] true e = refl
-classed-claimed test o [] false e = refl
+classed-claimed test o [] b e = cond_both b 0 0 (λ n. 0 ≡ n) (λ _. refl) (λ _. refl)
 classed-claimed test o (p ∷ pages) true e = omega (arith, classed-claimed test o pages true e, ap one e)
 classed-claimed test o (p ∷ pages) false e = omega (arith, classed-claimed test o pages false e, ap one e)
 
 sum-if : (b : Bool) (m n : ℕ) → (if b then m + n else 0) ≡ (if b then m else 0) + (if b then n else 0)
-sum-if true m n = refl
-sum-if false m n = refl
+sum-if b m n = grind arith
 
 classed-queues : (test : Owner → Bool) (b : Bool) → ((q : ℕ) (half : Half) → test (Queue q half) ≡ b) → (k : ℕ) (queues : List HostQueue)
     → classed test (claims_of_queues k queues) ≡ (if b then sum_by (λ queue. length queue.sq_pages + length queue.cq_pages) queues else 0)
@@ -189,10 +155,7 @@ classed-queues test b h k (x ∷ queues) =
 
 classed-records : (test : Owner → Bool) (d c : Bool) → ((q cid : ℕ) → test (Command q cid Data) ≡ d) → ((q cid : ℕ) → test (Command q cid Chain) ≡ c) → (records : List Record)
     → classed test (flat_map claims_of_record records) ≡ (if d then sum_by (λ r. length r.data_pages) records else 0) + (if c then sum_by (λ r. length r.chain_pages) records else 0)
-classed-records test true true hd hc [] = refl
-classed-records test true false hd hc [] = refl
-classed-records test false true hd hc [] = refl
-classed-records test false false hd hc [] = refl
+classed-records test d c hd hc [] = grind arith
 classed-records test d c hd hc (r ∷ records) =
     let a = claimed (Command r.q r.cid Data) r.data_pages in
     let b = claimed (Command r.q r.cid Chain) r.chain_pages in
@@ -262,9 +225,8 @@ Just next v pages = (v ≡ shown next) × (pages ≡ next.memory)
 by-leaving : (r f c : Bool) (s next : State) (v : HostView) (pages : Pages) → c ≡ false
     → MatchBool (r || (not f && false)) (alone v pages ≡ next) (MatchBool c (LeavesByController s next (alone v pages)) (LeavesByHost s next (alone v pages))) → Just next v pages
 by-leaving true f c s next v pages e h = (ap shown h, ap (λ (x : State). x.memory) h)
-by-leaving false f true s next v pages e h = cc
-by-leaving false true false s next v pages e h = (ap of_part h.part, h.memory)
-by-leaving false false false s next v pages e h = (ap of_part h.part, h.memory)
+by-leaving false true c s next v pages e h = let left : LeavesByHost s next (alone v pages) = rw e at h in (ap of_part left.part, left.memory)
+by-leaving false false c s next v pages e h = let left : LeavesByHost s next (alone v pages) = rw e at h in (ap of_part left.part, left.memory)
 
 just : (v v' : HostView) (pages pages' : Pages) (e : Event) (reply : Reply) → IsController e ≡ false → Leaves (alone v pages) e reply (alone v' pages') → Just (after (alone v pages) e reply) v' pages'
 just v v' pages pages' e (events.Refused why touched) c h = (ap shown h, ap (λ (s : State). s.memory) h)
@@ -280,8 +242,7 @@ leaves_one v v' v'' pages pages' pages'' e reply c one other =
     (a.0 ∙ sym b.0, a.1 ∙ sym b.1)
 
 by-refusing : (c : Bool) (A B : Type 0) → c ≡ false → MatchBool (not c) A B → A
-by-refusing true A B e h = cc
-by-refusing false A B e h = h
+by-refusing c A B e h = rw e at h
 
 memory-cause : (s : State) (e : Event) (why : Refusal) → Refuses s e why [] → why ≡ refusal.Memory → refusal_of s e ≡ None
 memory-cause s e why h is = let m : Refuses s e refusal.Memory [] = subst (λ (w : Refusal). Refuses s e w []) is h in m.1
@@ -320,10 +281,7 @@ both_parts request pages =
 -- a refused admin command touches nothing
 pub sending_refused : (kind : AdminKind) (why : Refusal) → refused_touches (sending kind) why ≡ 0
 sending_refused (kinds.Abort q cid) why = refl
-sending_refused (kinds.DeleteSq q) why = refl
-sending_refused (kinds.DeleteCq q) why = refl
-sending_refused (kinds.CreateCq q n base) why = refl
-sending_refused (kinds.CreateSq q n base) why = refl
+sending_refused kind why = refl
 
 pub creating_refused : (half : Half) (q : ℕ) (why : Refusal) → refused_touches (creating half q) why ≡ 0
 creating_refused Completion q why = refl
@@ -331,11 +289,9 @@ creating_refused Submission q why = refl
 
 -- one that is sent touches the page of its entry, and the pages of the half that is granted with it
 pub sending_sent : (n : ℕ) (kind : AdminKind) → grants_none kind ≡ true → sent_touches n (sending kind) ≡ 1
-sending_sent n (kinds.Abort q cid) plain = refl
-sending_sent n (kinds.DeleteSq q) plain = refl
-sending_sent n (kinds.DeleteCq q) plain = refl
 sending_sent n (kinds.CreateCq q k base) plain = absurd (true≢false (sym plain))
 sending_sent n (kinds.CreateSq q k base) plain = absurd (true≢false (sym plain))
+sending_sent n kind plain = refl
 
 pub creating_sent : (n : ℕ) (half : Half) (q : ℕ) → sent_touches n (creating half q) ≡ half_pages n half + 1
 creating_sent n Completion q = refl

@@ -1,7 +1,7 @@
 -- A host over its pages, with the drafts, the tickets and the finished commands that are about. What each call may answer, and what it leaves.
 use Rattle.host_core.specs.{Alone.{HasPlacedPages, IsLowest, alone}, CommandValues.{without_first, with_first}, Doorbells.{head_bell, tail_bell}, Laws.shown}
 use Rattle.host_core.specs.{Ringing.{head_rung, tail_of}, Values.{Call, Reply}}
-use Rattle.std.specs.{List.list_any, Option.option_map, Prelude.{◌≡◌, ℕ, Bool, true, false, Option, Some, None, List, [], ◌∷◌, ◌++◌, length, if◌then◌else◌}}
+use Rattle.std.specs.{List.list_any, Option.option_map, Prelude.{◌≡◌, ℕ, Bool, true, false, Option, Some, None, List, [], ◌∷◌, ◌++◌, length}}
 use Rattle.io_commands.specs.{Drafts.{DraftContents, built}, Values.{FinishedContents, gathered_from}}
 use Rattle.machine_model.specs.{After.after_reset, Events.Event, Image.{is_draft, draft_of}}
 use Rattle.machine_model.specs.{Script.{Table, is_finished, finished_at, is_ticket, fill_fault, filled_draft}, State.State}

@@ -1,10 +1,9 @@
 -- A host over its pages and the values that are about, as a table.
-use Rattle.std.specs.{List.AllByRecursion, Prelude.{◌≡◌, ℕ, ◌-◌, None, Some, Option, List, length, filter_map, find, Result, Ok, Err}}
-use Rattle.io_commands.specs.{Asked.Request, Drafts.{DraftContents, built}, Values.{FinishedContents, TicketContents}}
-use Rattle.machine_model.specs.{Script.{Table, fill_fault, filled_draft}, State.{State, Record, is_at}, declared.words.Work.TheVariants.Io}
+use Rattle.std.specs.{Prelude.{◌≡◌, ℕ, None, Some, List}}
+use Rattle.io_commands.specs.{Drafts.{DraftContents, built}}
+use Rattle.machine_model.specs.{Script.{Table, fill_fault, filled_draft}, State.{State}}
 use Rattle.host_core.specs.{Alone.{IsOver, alone}, CommandValues.{table_with, IsBench}, Opening.{opened_pages, opened_view}, Values.Reply}
 use Rattle.host_core.specs.declared.{config.Config.Config, kept.Kept.Kept}
-use Rattle.slot_table.specs.{Rows.{Row, IsDistinct, value_at, with_value}, Table.{TableOf, AreInside}}
 use Rattle.machine_model.specs.declared.words.Refusal.TheVariants as refusal
 use Rattle.host_core.specs.declared.call.Reply.TheVariants as reply
 

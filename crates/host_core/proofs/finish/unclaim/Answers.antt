@@ -1,5 +1,5 @@
 use Rattle.std.proofs.Common.{◌≡◌, ℕ, ap, ◌∙◌, subst, get_or, slice_set}
-use Rattle.host_core.{proofs.Lists.{change-at-lists as change-at, get-at-lists as get-at}, specs.Commands.without_claim}
+use Rattle.host_core.{proofs.Lists.{change-at-lists as change-at, get-at}, specs.Commands.without_claim}
 use Rattle.host_core.proofs.finish.unclaim.Goals as goal
 
 pub free_claimed-requires : goal.free_claimed-requires

@@ -1,5 +1,5 @@
 use Rattle.std.proofs.Common.{◌≡◌, ℕ, ap, ◌∙◌, subst, get_or, slice_set}
-use Rattle.host_core.{proofs.Lists.{change-at-lists as change-at, get-at-lists as get-at}, specs.Commands.with_claim}
+use Rattle.host_core.{proofs.Lists.{change-at-lists as change-at, get-at}, specs.Commands.with_claim}
 use Rattle.host_core.proofs.queues.claim.Goals as goal
 
 pub claim_next-requires : goal.claim_next-requires

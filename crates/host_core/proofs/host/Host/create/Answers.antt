@@ -16,9 +16,7 @@ commit_create-requires-clause-whole g c = whole_at (tables_of c.self.inside.part
 
 pub commit_create-requires-clause-ready : goal.commit_create-requires-clause-ready
 commit_create-requires-clause-ready g c =
-    let t : Tables = tables_of c.self.inside.parts c.args.store.now.pages in
-    let w : IsWhole t = whole_at (tables_of c.self.inside.parts []) c.args.self.now c.args.store.now.pages c.self.view_is c.self.invariant c.requires in
-    c.in-Ok.ensures.ready c.args.store.now.pages w
+    c.in-Ok.ensures.ready c.args.store.now.pages (whole_at (tables_of c.self.inside.parts []) c.args.self.now c.args.store.now.pages c.self.view_is c.self.invariant c.requires)
 
 pub invariant_of-self : goal.invariant_of-self
 invariant_of-self g c =
@@ -29,33 +27,19 @@ invariant_of-self g c =
     let made = created_made t new c.args.half c.args.q c.in-Ok.creation.cid c.in-Ok.creation.first w ready c.commit_create.ensures.creates in
     host_of (tables_of c.commit_create.new.self []) c.commit_create.new.store.pages made.whole
 
-pub returns-clause-step : goal.returns-clause-step
-returns-clause-step g c =
+pub returns : goal.returns
+returns g c =
     let t : Tables = tables_of c.self.inside.parts c.args.store.now.pages in
     let w : IsWhole t = whole_at (tables_of c.self.inside.parts []) c.args.self.now c.args.store.now.pages c.self.view_is c.self.invariant c.requires in
     let ready = c.in-Ok.ensures.ready c.args.store.now.pages w in
     let new : Tables = tables_of c.commit_create.new.self c.commit_create.new.store.pages in
     let made = created_made t new c.args.half c.args.q c.in-Ok.creation.cid c.in-Ok.creation.first w ready c.commit_create.ensures.creates in
-    step_at t new c.args.self.now (creating c.args.half c.args.q) (events.Sent c.in-Ok.creation.cid) c.self.view_is made.step
-
-pub returns-clause-over : goal.returns-clause-over
-returns-clause-over g c =
-    let t : Tables = tables_of c.self.inside.parts c.args.store.now.pages in
-    let w : IsWhole t = whole_at (tables_of c.self.inside.parts []) c.args.self.now c.args.store.now.pages c.self.view_is c.self.invariant c.requires in
-    let ready = c.in-Ok.ensures.ready c.args.store.now.pages w in
-    let new : Tables = tables_of c.commit_create.new.self c.commit_create.new.store.pages in
-    let made = created_made t new c.args.half c.args.q c.in-Ok.creation.cid c.in-Ok.creation.first w ready c.commit_create.ensures.creates in
-    over_of new made.whole
-
-pub returns-clause-identifier : goal.returns-clause-identifier
-returns-clause-identifier g c =
-    let t : Tables = tables_of c.self.inside.parts c.args.store.now.pages in
-    let w : IsWhole t = whole_at (tables_of c.self.inside.parts []) c.args.self.now c.args.store.now.pages c.self.view_is c.self.invariant c.requires in
-    let ready = c.in-Ok.ensures.ready c.args.store.now.pages w in
-    subst (λ (v : HostView). IsLowest v.host 0 c.in-Ok.creation.cid) c.self.view_is (next-lowest t w 0 c.in-Ok.creation.cid ready.slot.queue ready.slot.at ready.slot.next)
+    record {
+      step = step_at t new c.args.self.now (creating c.args.half c.args.q) (events.Sent c.in-Ok.creation.cid) c.self.view_is made.step;
+      touches = rw (creating_sent c.args.self.now.entries c.args.half c.args.q, ← c.self.view_is) c.commit_create.ensures.touches;
+      identifier = subst (λ (v : HostView). IsLowest v.host 0 c.in-Ok.creation.cid) c.self.view_is (next-lowest t w 0 c.in-Ok.creation.cid ready.slot.queue ready.slot.at ready.slot.next);
+      over = over_of new made.whole;
+    }
 
 pub returns-in-Err-clause-touches : goal.returns-in-Err-clause-touches
 returns-in-Err-clause-touches g c = rw (creating_refused c.args.half c.args.q c.in-Err.why) (touches_none c.args.store.now)
-
-pub returns-clause-touches : goal.returns-clause-touches
-returns-clause-touches g c = rw (creating_sent c.args.self.now.entries c.args.half c.args.q, ← c.self.view_is) c.commit_create.ensures.touches

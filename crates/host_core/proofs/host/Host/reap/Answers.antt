@@ -1,4 +1,4 @@
-use Rattle.std.proofs.Common.{◌≡◌, ◌<◌, [], ℕ, None, Some, false, length, slice_get, arith, ap, sym, ◌∙◌, subst}
+use Rattle.std.proofs.Common.{rules, ◌≡◌, ◌<◌, [], ℕ, None, Some, false, length, slice_get, arith, ap, sym, ◌∙◌, subst}
 use Rattle.page_memory.specs.Pages.{Pages}
 use Rattle.host_core.proofs.{Identifiers.{host_of, over_of}, Openings.{whole_at, step_at, stays_at, head-told}, QueueLists.{queue-at, completion-inside}}
 use Rattle.host_core.{proofs.Reaps.{looks, reaps-none}, specs.{Alone.{HostStep, IsOver}, Parts.tables_of, Reaping.lacks_completion, Tables.{Tables, view_of}}}
@@ -36,30 +36,22 @@ invariant_of-self g c =
     let made = c.take-found.ensures.reaps c.args.store.now.pages w c.in-Some.ensures.seen in
     host_of (tables_of c.take-found.new.self []) c.args.store.now.pages made.whole
 
-pub returns-clause-step : goal.returns-clause-step
-returns-clause-step g c =
+pub returns : goal.returns
+returns g c =
     let t : Tables = tables_of c.self.inside.parts c.args.store.now.pages in
     let w : IsWhole t = whole_at (tables_of c.self.inside.parts []) c.args.self.now c.args.store.now.pages c.self.view_is c.self.invariant c.requires in
     let new : Tables = tables_of c.take-found.new.self c.args.store.now.pages in
     let made = c.take-found.ensures.reaps c.args.store.now.pages w c.in-Some.ensures.seen in
-    subst (λ (pages : Pages). HostStep c.args.self.now c.args.store.now.pages (events.Reap c.args.q) (events.Reaps c.take-found.result) (view_of new) pages) (sym c.see.ensures.same)
-    (step_at t new c.args.self.now (events.Reap c.args.q) (events.Reaps c.take-found.result) c.self.view_is made.step)
-
-pub returns-clause-head : goal.returns-clause-head
-returns-clause-head g c =
-    let t : Tables = tables_of c.self.inside.parts c.args.store.now.pages in
-    let w : IsWhole t = whole_at (tables_of c.self.inside.parts []) c.args.self.now c.args.store.now.pages c.self.view_is c.self.invariant c.requires in
     let there : lacks_completion (slice_get t.queues c.args.q) ≡ false = sym (rw c.deref.ensures.value at c.has_no_completion.ensures) ∙ c.if-has_no_completion.false in
     let inside : c.args.q < length c.take-found.new.self.queues.items =
     subst (λ (n : ℕ). c.args.q < n) (sym c.take-found.ensures.many) (completion-inside t.queues c.args.q there) in
-    let new : Tables = tables_of c.take-found.new.self [] in
-    sym (c.take-found.ensures.taken (view_of new)
-    ∙ (head-told new c.args.q c.index.result.now (queue-at new c.args.q c.from.result c.index.result.now inside c.from.ensures c.index.ensures) ∙ ap (λ (n : ℕ). Some n) (sym c.head_value-head.ensures.head)))
-
-pub returns-clause-over : goal.returns-clause-over
-returns-clause-over g c =
-    let t : Tables = tables_of c.self.inside.parts c.args.store.now.pages in
-    let w : IsWhole t = whole_at (tables_of c.self.inside.parts []) c.args.self.now c.args.store.now.pages c.self.view_is c.self.invariant c.requires in
-    let new : Tables = tables_of c.take-found.new.self c.args.store.now.pages in
-    let made = c.take-found.ensures.reaps c.args.store.now.pages w c.in-Some.ensures.seen in
-    subst (λ (pages : Pages). IsOver (view_of new) pages) (sym c.see.ensures.same) (over_of new made.whole)
+    let bare : Tables = tables_of c.take-found.new.self [] in
+    record {
+      step = subst (λ (pages : Pages). HostStep c.args.self.now c.args.store.now.pages (events.Reap c.args.q) (events.Reaps c.take-found.result) (view_of new) pages) (sym c.see.ensures.same)
+          (step_at t new c.args.self.now (events.Reap c.args.q) (events.Reaps c.take-found.result) c.self.view_is made.step);
+      head = sym (c.take-found.ensures.taken (view_of new)
+          ∙ (head-told bare c.args.q c.index.result.now (queue-at bare c.args.q c.from.result c.index.result.now inside c.from.ensures c.index.ensures)
+          ∙ ap (λ (n : ℕ). Some n) (sym c.head_value-head.ensures.head)));
+      touches = search rules;
+      over = subst (λ (pages : Pages). IsOver (view_of new) pages) (sym c.see.ensures.same) (over_of new made.whole);
+    }

@@ -1,7 +1,7 @@
-use Rattle.std.proofs.Common.{◌++◌, [], sym, ◌∙◌, subst, true}
+use Rattle.std.proofs.Common.{rules, ◌++◌, [], sym, ◌∙◌, subst, true}
 use Rattle.io_commands.specs.{DataBytes.PagesOut, Values.{FinishedContents, numbers_of}}
 use Rattle.machine_model.specs.Proper.{ArePages}
-use Rattle.host_core.proofs.Ending.{reads_from, belongs-from, read_has, read_belongs, release_refused, release_made, belongs_brings, ended_apart, brings_apart}
+use Rattle.host_core.proofs.Ending.{reads_from, belongs-from, read_has, release_refused, release_made, belongs_brings, ended_apart, brings_apart}
 use Rattle.host_core.{proofs.{Identifiers.{host_of, over_of}, Openings.{whole_at, step_at, stays_at}}, specs.{Parts.tables_of, Tables.Tables, Whole.IsWhole}}
 use Rattle.machine_model.specs.Events as events
 use Rattle.machine_model.specs.declared.words.Refusal.TheVariants as refusal
@@ -28,8 +28,8 @@ commit_end-requires-clause-brings g c =
     let d : FinishedContents = c.args.finished in
     let reads = reads_from d.q d.cid d.request d.data_pages d.chain_pages c.q.result c.cid.result c.request-request.result.now c.pages-2.result.now c.data_pages.result c.split_at.result.0.now c.split_at.result.1.now
     c.q.ensures c.cid.ensures c.request-request.ensures c.pages-2.ensures c.data_pages.ensures c.split_at.ensures.front c.split_at.ensures.back in
-    let found = belongs-from t.records true c.q.result c.cid.result c.request-request.result.now (numbers_of c.split_at.result.0.now) (numbers_of c.split_at.result.1.now) (sym c.has_record.ensures ∙ c.if-not-has_record.false) in
-    let belongs = read_belongs t.records true d.q d.cid d.request d.data_pages d.chain_pages c.q.result c.cid.result c.request-request.result.now c.split_at.result.0.now c.split_at.result.1.now reads found in
+    let belongs = belongs-from t.records true d.q d.cid d.request (numbers_of d.data_pages) (numbers_of d.chain_pages)
+    (sym (read_has t.records true d.q d.cid d.request d.data_pages d.chain_pages c.q.result c.cid.result c.request-request.result.now c.split_at.result.0.now c.split_at.result.1.now reads) ∙ (sym c.has_record.ensures ∙ c.if-not-has_record.false)) in
     brings_apart t d.q d.cid (d.data_pages ++ d.chain_pages) c.apart-parts.result.q c.apart-parts.result.cid c.apart-parts.result.pages.items c.apart-parts.ensures.queue c.apart-parts.ensures.identifier c.apart-parts.ensures.pages
     (belongs_brings t true d.q d.cid d.request d.data_pages d.chain_pages belongs)
 
@@ -41,42 +41,31 @@ invariant_of-self g c =
     let reads = reads_from d.q d.cid d.request d.data_pages d.chain_pages c.q.result c.cid.result c.request-request.result.now c.pages-2.result.now c.data_pages.result c.split_at.result.0.now c.split_at.result.1.now
     c.q.ensures c.cid.ensures c.request-request.ensures c.pages-2.ensures c.data_pages.ensures c.split_at.ensures.front c.split_at.ensures.back in
     let are = subst (λ (ps : PagesOut). ArePages ps) c.pages.ensures c.read_pages.ensures in
-    let found = belongs-from t.records true c.q.result c.cid.result c.request-request.result.now (numbers_of c.split_at.result.0.now) (numbers_of c.split_at.result.1.now) (sym c.has_record.ensures ∙ c.if-not-has_record.false) in
-    let belongs = read_belongs t.records true d.q d.cid d.request d.data_pages d.chain_pages c.q.result c.cid.result c.request-request.result.now c.split_at.result.0.now c.split_at.result.1.now reads found in
+    let belongs = belongs-from t.records true d.q d.cid d.request (numbers_of d.data_pages) (numbers_of d.chain_pages)
+    (sym (read_has t.records true d.q d.cid d.request d.data_pages d.chain_pages c.q.result c.cid.result c.request-request.result.now c.split_at.result.0.now c.split_at.result.1.now reads) ∙ (sym c.has_record.ensures ∙ c.if-not-has_record.false)) in
     let new : Tables = tables_of c.commit_end.new.self c.commit_end.new.store.pages in
     let left = ended_apart t new d.q d.cid (d.data_pages ++ d.chain_pages) c.apart-parts.result.q c.apart-parts.result.cid c.apart-parts.result.pages.items
     c.apart-parts.ensures.queue c.apart-parts.ensures.identifier c.apart-parts.ensures.pages c.commit_end.ensures.ended in
     let made = release_made t new d w are belongs left in
     host_of (tables_of c.commit_end.new.self []) c.commit_end.new.store.pages made.whole
 
-pub returns-clause-step : goal.returns-clause-step
-returns-clause-step g c =
+pub returns : goal.returns
+returns g c =
     let t : Tables = tables_of c.self.inside.parts c.args.store.now.pages in
     let w : IsWhole t = whole_at (tables_of c.self.inside.parts []) c.args.self.now c.args.store.now.pages c.self.view_is c.self.invariant c.requires in
     let d : FinishedContents = c.args.finished in
     let reads = reads_from d.q d.cid d.request d.data_pages d.chain_pages c.q.result c.cid.result c.request-request.result.now c.pages-2.result.now c.data_pages.result c.split_at.result.0.now c.split_at.result.1.now
     c.q.ensures c.cid.ensures c.request-request.ensures c.pages-2.ensures c.data_pages.ensures c.split_at.ensures.front c.split_at.ensures.back in
     let are = subst (λ (ps : PagesOut). ArePages ps) c.pages.ensures c.read_pages.ensures in
-    let found = belongs-from t.records true c.q.result c.cid.result c.request-request.result.now (numbers_of c.split_at.result.0.now) (numbers_of c.split_at.result.1.now) (sym c.has_record.ensures ∙ c.if-not-has_record.false) in
-    let belongs = read_belongs t.records true d.q d.cid d.request d.data_pages d.chain_pages c.q.result c.cid.result c.request-request.result.now c.split_at.result.0.now c.split_at.result.1.now reads found in
+    let belongs = belongs-from t.records true d.q d.cid d.request (numbers_of d.data_pages) (numbers_of d.chain_pages)
+    (sym (read_has t.records true d.q d.cid d.request d.data_pages d.chain_pages c.q.result c.cid.result c.request-request.result.now c.split_at.result.0.now c.split_at.result.1.now reads) ∙ (sym c.has_record.ensures ∙ c.if-not-has_record.false)) in
     let new : Tables = tables_of c.commit_end.new.self c.commit_end.new.store.pages in
     let left = ended_apart t new d.q d.cid (d.data_pages ++ d.chain_pages) c.apart-parts.result.q c.apart-parts.result.cid c.apart-parts.result.pages.items
     c.apart-parts.ensures.queue c.apart-parts.ensures.identifier c.apart-parts.ensures.pages c.commit_end.ensures.ended in
     let made = release_made t new d w are belongs left in
-    step_at t new c.args.self.now (events.Release d) events.Accepted c.self.view_is made.step
-
-pub returns-clause-over : goal.returns-clause-over
-returns-clause-over g c =
-    let t : Tables = tables_of c.self.inside.parts c.args.store.now.pages in
-    let w : IsWhole t = whole_at (tables_of c.self.inside.parts []) c.args.self.now c.args.store.now.pages c.self.view_is c.self.invariant c.requires in
-    let d : FinishedContents = c.args.finished in
-    let reads = reads_from d.q d.cid d.request d.data_pages d.chain_pages c.q.result c.cid.result c.request-request.result.now c.pages-2.result.now c.data_pages.result c.split_at.result.0.now c.split_at.result.1.now
-    c.q.ensures c.cid.ensures c.request-request.ensures c.pages-2.ensures c.data_pages.ensures c.split_at.ensures.front c.split_at.ensures.back in
-    let are = subst (λ (ps : PagesOut). ArePages ps) c.pages.ensures c.read_pages.ensures in
-    let found = belongs-from t.records true c.q.result c.cid.result c.request-request.result.now (numbers_of c.split_at.result.0.now) (numbers_of c.split_at.result.1.now) (sym c.has_record.ensures ∙ c.if-not-has_record.false) in
-    let belongs = read_belongs t.records true d.q d.cid d.request d.data_pages d.chain_pages c.q.result c.cid.result c.request-request.result.now c.split_at.result.0.now c.split_at.result.1.now reads found in
-    let new : Tables = tables_of c.commit_end.new.self c.commit_end.new.store.pages in
-    let left = ended_apart t new d.q d.cid (d.data_pages ++ d.chain_pages) c.apart-parts.result.q c.apart-parts.result.cid c.apart-parts.result.pages.items
-    c.apart-parts.ensures.queue c.apart-parts.ensures.identifier c.apart-parts.ensures.pages c.commit_end.ensures.ended in
-    let made = release_made t new d w are belongs left in
-    over_of new made.whole
+    record {
+      step = step_at t new c.args.self.now (events.Release d) events.Accepted c.self.view_is made.step;
+      touches = search rules;
+      over = over_of new made.whole;
+      back = search rules;
+    }

@@ -37,9 +37,7 @@ commit_reserve-requires-clause-whole g c =
 
 pub commit_reserve-requires-clause-granted : goal.commit_reserve-requires-clause-granted
 commit_reserve-requires-clause-granted g c =
-    let t : Tables = tables_of c.self.inside.parts c.args.store.now.pages in
-    let w : IsWhole t = whole_at (tables_of c.self.inside.parts []) c.args.self.now c.args.store.now.pages c.self.view_is c.self.invariant c.requires in
-    c.in-Ok.ensures.granted c.args.store.now.pages w
+    c.in-Ok.ensures.granted c.args.store.now.pages (whole_at (tables_of c.self.inside.parts []) c.args.self.now c.args.store.now.pages c.self.view_is c.self.invariant c.requires)
 
 pub invariant_of-self : goal.invariant_of-self
 invariant_of-self g c =
@@ -51,38 +49,22 @@ invariant_of-self g c =
     let made = reserve_made t new c.args.q c.in-Ok.grant.cid c.args.request c.in-Ok.grant.front c.in-Ok.grant.back c.commit_reserve.result w fits grants c.commit_reserve.ensures.draft c.commit_reserve.ensures.new in
     host_of (tables_of c.commit_reserve.new.self []) c.commit_reserve.new.store.pages made.whole
 
-pub returns-clause-step : goal.returns-clause-step
-returns-clause-step g c =
+pub returns : goal.returns
+returns g c =
     let fits : FitsRequest c.args.request = search rules in
     let t : Tables = tables_of c.self.inside.parts c.args.store.now.pages in
     let w : IsWhole t = whole_at (tables_of c.self.inside.parts []) c.args.self.now c.args.store.now.pages c.self.view_is c.self.invariant c.requires in
     let grants : Grants t c.args.q c.args.request c.in-Ok.grant.cid c.in-Ok.grant.front c.in-Ok.grant.back = c.in-Ok.ensures.granted c.args.store.now.pages w in
     let new : Tables = tables_of c.commit_reserve.new.self c.commit_reserve.new.store.pages in
     let made = reserve_made t new c.args.q c.in-Ok.grant.cid c.args.request c.in-Ok.grant.front c.in-Ok.grant.back c.commit_reserve.result w fits grants c.commit_reserve.ensures.draft c.commit_reserve.ensures.new in
-    step_at t new c.args.self.now (events.Reserve c.args.q c.args.request) (events.Reserved c.commit_reserve.result) c.self.view_is made.step
-
-pub returns-clause-over : goal.returns-clause-over
-returns-clause-over g c =
-    let fits : FitsRequest c.args.request = search rules in
-    let t : Tables = tables_of c.self.inside.parts c.args.store.now.pages in
-    let w : IsWhole t = whole_at (tables_of c.self.inside.parts []) c.args.self.now c.args.store.now.pages c.self.view_is c.self.invariant c.requires in
-    let grants : Grants t c.args.q c.args.request c.in-Ok.grant.cid c.in-Ok.grant.front c.in-Ok.grant.back = c.in-Ok.ensures.granted c.args.store.now.pages w in
-    let new : Tables = tables_of c.commit_reserve.new.self c.commit_reserve.new.store.pages in
-    let made = reserve_made t new c.args.q c.in-Ok.grant.cid c.args.request c.in-Ok.grant.front c.in-Ok.grant.back c.commit_reserve.result w fits grants c.commit_reserve.ensures.draft c.commit_reserve.ensures.new in
-    over_of new made.whole
-
-pub returns-clause-identifier : goal.returns-clause-identifier
-returns-clause-identifier g c =
-    let t : Tables = tables_of c.self.inside.parts c.args.store.now.pages in
-    let w : IsWhole t = whole_at (tables_of c.self.inside.parts []) c.args.self.now c.args.store.now.pages c.self.view_is c.self.invariant c.requires in
-    let grants : Grants t c.args.q c.args.request c.in-Ok.grant.cid c.in-Ok.grant.front c.in-Ok.grant.back = c.in-Ok.ensures.granted c.args.store.now.pages w in
-    subst (λ (v : HostView). IsLowest v.host c.args.q c.commit_reserve.result.cid) c.self.view_is
-    (subst (λ (k : ℕ). IsLowest (view_of t).host c.args.q k) (sym (ap (λ (d : DraftContents). d.cid) c.commit_reserve.ensures.draft)) (grant-lowest t w c.args.q c.in-Ok.grant.cid c.args.request c.in-Ok.grant.front c.in-Ok.grant.back grants))
-
-pub returns-clause-pages : goal.returns-clause-pages
-returns-clause-pages g c =
-    let t : Tables = tables_of c.self.inside.parts c.args.store.now.pages in
-    let w : IsWhole t = whole_at (tables_of c.self.inside.parts []) c.args.self.now c.args.store.now.pages c.self.view_is c.self.invariant c.requires in
-    let grants : Grants t c.args.q c.args.request c.in-Ok.grant.cid c.in-Ok.grant.front c.in-Ok.grant.back = c.in-Ok.ensures.granted c.args.store.now.pages w in
-    subst (λ (v : HostView). HasPlacedPages v.host c.commit_reserve.result) c.self.view_is
-    (placed_pages t c.args.q c.in-Ok.grant.cid c.args.request c.in-Ok.grant.front c.in-Ok.grant.back c.commit_reserve.result grants c.commit_reserve.ensures.draft)
+    record {
+      step = step_at t new c.args.self.now (events.Reserve c.args.q c.args.request) (events.Reserved c.commit_reserve.result) c.self.view_is made.step;
+      identifier = subst (λ (v : HostView). IsLowest v.host c.args.q c.commit_reserve.result.cid) c.self.view_is
+          (subst (λ (k : ℕ). IsLowest (view_of t).host c.args.q k) (sym (ap (λ (d : DraftContents). d.cid) c.commit_reserve.ensures.draft))
+          (grant-lowest t w c.args.q c.in-Ok.grant.cid c.args.request c.in-Ok.grant.front c.in-Ok.grant.back grants));
+      pages = subst (λ (v : HostView). HasPlacedPages v.host c.commit_reserve.result) c.self.view_is
+          (placed_pages t c.args.q c.in-Ok.grant.cid c.args.request c.in-Ok.grant.front c.in-Ok.grant.back c.commit_reserve.result grants c.commit_reserve.ensures.draft);
+      touches = search rules;
+      over = over_of new made.whole;
+      back = search rules;
+    }

@@ -7,9 +7,8 @@ use Rattle.host_core.proofs.host.Host.reserve_refusal.Goals as goal
 
 pub returns-in-Ok : goal.returns-in-Ok
 returns-in-Ok g c = λ pages over.
-    let t : Tables = tables_of c.self.inside.parts pages in
-    let w : IsWhole t = whole_at (tables_of c.self.inside.parts []) c.args.self.now pages c.self.view_is c.self.invariant over in
-    subst (λ (v : HostView). None ≡ refusal_of (alone v pages) (events.Reserve c.args.q c.args.request.now)) c.self.view_is (sym (c.in-Ok.ensures.granted pages w).none)
+    subst (λ (v : HostView). None ≡ refusal_of (alone v pages) (events.Reserve c.args.q c.args.request.now)) c.self.view_is
+    (sym (c.in-Ok.ensures.granted pages (whole_at (tables_of c.self.inside.parts []) c.args.self.now pages c.self.view_is c.self.invariant over)).none)
 
 pub returns-in-Err : goal.returns-in-Err
 returns-in-Err g c = λ pages over.

@@ -1,4 +1,4 @@
-use Rattle.std.proofs.Common.{◌≡◌, ◌∙◌, [], ap, subst, sym}
+use Rattle.std.proofs.Common.{rules, ◌≡◌, ◌∙◌, [], ap, subst, sym}
 use Rattle.machine_model.specs.After.{after_reset}
 use Rattle.page_memory.specs.Pages.{Pages}
 use Rattle.host_core.proofs.{Identifiers.{host_of, over_of, over_pages}, Openings.whole_at, Resets.{halves-renewed, places-renewed, view-reset, whole-reset}}
@@ -30,23 +30,16 @@ invariant_of-self g c =
     c.lose_queues.ensures pages ∙ ap with_io_queues_gone (c.reset_commands.ensures pages ∙ ap with_records_reset c.renew_admin.ensures.renewed) in
     host_of (tables_of c.lose_queues.new.self []) pages (subst IsWhole (sym left) (whole-reset t w))
 
-pub returns-clause-host : goal.returns-clause-host
-returns-clause-host g c =
+pub returns : goal.returns
+returns g c =
     let pages : Pages = c.renew_admin.new.store.pages in
     let t : Tables = tables_of c.self.inside.parts c.args.store.now.pages in
     let w : IsWhole t = whole_at (tables_of c.self.inside.parts []) c.args.self.now c.args.store.now.pages c.self.view_is c.self.invariant c.requires in
     let left : tables_of c.lose_queues.new.self pages ≡ tables_reset t =
     c.lose_queues.ensures pages ∙ ap with_io_queues_gone (c.reset_commands.ensures pages ∙ ap with_records_reset c.renew_admin.ensures.renewed) in
-    ap view_of left ∙ (view-reset t w ∙ ap (λ (v : HostView). shown (after_reset (alone v c.args.store.now.pages))) c.self.view_is)
-
-pub returns-clause-over : goal.returns-clause-over
-returns-clause-over g c =
-    let pages : Pages = c.renew_admin.new.store.pages in
-    let t : Tables = tables_of c.self.inside.parts c.args.store.now.pages in
-    let w : IsWhole t = whole_at (tables_of c.self.inside.parts []) c.args.self.now c.args.store.now.pages c.self.view_is c.self.invariant c.requires in
-    let left : tables_of c.lose_queues.new.self pages ≡ tables_reset t =
-    c.lose_queues.ensures pages ∙ ap with_io_queues_gone (c.reset_commands.ensures pages ∙ ap with_records_reset c.renew_admin.ensures.renewed) in
-    over_of (tables_of c.lose_queues.new.self pages) (subst IsWhole (sym left) (whole-reset t w))
-
-pub returns-clause-touches : goal.returns-clause-touches
-returns-clause-touches g c = rw (← c.self.view_is) c.renew_admin.ensures.touches
+    record {
+      host = ap view_of left ∙ (view-reset t w ∙ ap (λ (v : HostView). shown (after_reset (alone v c.args.store.now.pages))) c.self.view_is);
+      pages = search rules;
+      touches = rw (← c.self.view_is) c.renew_admin.ensures.touches;
+      over = over_of (tables_of c.lose_queues.new.self pages) (subst IsWhole (sym left) (whole-reset t w));
+    }

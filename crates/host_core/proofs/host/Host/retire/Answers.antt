@@ -1,4 +1,4 @@
-use Rattle.std.proofs.Common.{◌≡◌, [], List, true, ap, sym, ◌∙◌, subst}
+use Rattle.std.proofs.Common.{rules, ◌≡◌, [], List, true, ap, sym, ◌∙◌, subst}
 use Rattle.machine_model.specs.Refusals.{is_deleted}
 use Rattle.page_memory.specs.Pages.{Pages}
 use Rattle.host_core.proofs.{Identifiers.{host_of, over_of}, Openings.{whole_at, step_at, stays_at}, Reaps.{retire-half, retire-made, retire-drained}}
@@ -36,23 +36,17 @@ invariant_of-self g c =
     let made = retire-made t new w c.args.q deleted c.in-None.ensures.seen (c.commit_retire.ensures c.args.store.now.pages) in
     host_of (tables_of c.commit_retire.new.self []) c.args.store.now.pages made.whole
 
-pub returns-in-None-clause-step : goal.returns-in-None-clause-step
-returns-in-None-clause-step g c =
+pub returns-in-None : goal.returns-in-None
+returns-in-None g c =
     let t : Tables = tables_of c.self.inside.parts c.args.store.now.pages in
     let w : IsWhole t = whole_at (tables_of c.self.inside.parts []) c.args.self.now c.args.store.now.pages c.self.view_is c.self.invariant c.requires in
     let deleted : passes is_deleted (state_at t.queues c.args.q) ≡ true =
     ap (passes is_deleted) (sym (c.host_state.ensures ∙ ap (λ (qs : List Queue). state_at qs c.args.q) c.deref.ensures.value)) ∙ (sym c.is_deleted.ensures ∙ c.if-not-is_deleted.false) in
     let new : Tables = tables_of c.commit_retire.new.self c.args.store.now.pages in
     let made = retire-made t new w c.args.q deleted c.in-None.ensures.seen (c.commit_retire.ensures c.args.store.now.pages) in
-    subst (λ (pages : Pages). HostStep c.args.self.now c.args.store.now.pages (events.Retire c.args.q) events.Accepted (view_of new) pages) (sym c.see.ensures.same)
-    (step_at t new c.args.self.now (events.Retire c.args.q) events.Accepted c.self.view_is made.step)
-
-pub returns-in-None-clause-over : goal.returns-in-None-clause-over
-returns-in-None-clause-over g c =
-    let t : Tables = tables_of c.self.inside.parts c.args.store.now.pages in
-    let w : IsWhole t = whole_at (tables_of c.self.inside.parts []) c.args.self.now c.args.store.now.pages c.self.view_is c.self.invariant c.requires in
-    let deleted : passes is_deleted (state_at t.queues c.args.q) ≡ true =
-    ap (passes is_deleted) (sym (c.host_state.ensures ∙ ap (λ (qs : List Queue). state_at qs c.args.q) c.deref.ensures.value)) ∙ (sym c.is_deleted.ensures ∙ c.if-not-is_deleted.false) in
-    let new : Tables = tables_of c.commit_retire.new.self c.args.store.now.pages in
-    let made = retire-made t new w c.args.q deleted c.in-None.ensures.seen (c.commit_retire.ensures c.args.store.now.pages) in
-    subst (λ (pages : Pages). IsOver (view_of new) pages) (sym c.see.ensures.same) (over_of new made.whole)
+    record {
+      step = subst (λ (pages : Pages). HostStep c.args.self.now c.args.store.now.pages (events.Retire c.args.q) events.Accepted (view_of new) pages) (sym c.see.ensures.same)
+          (step_at t new c.args.self.now (events.Retire c.args.q) events.Accepted c.self.view_is made.step);
+      touches = search rules;
+      over = subst (λ (pages : Pages). IsOver (view_of new) pages) (sym c.see.ensures.same) (over_of new made.whole);
+    }

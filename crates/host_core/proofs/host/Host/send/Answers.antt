@@ -1,4 +1,4 @@
-use Rattle.std.proofs.Common.{[], subst}
+use Rattle.std.proofs.Common.{rules, [], subst}
 use Rattle.host_core.proofs.{Granting.next-lowest, Identifiers.{host_of, over_of}, Openings.{whole_at, step_at, stays_at}}
 use Rattle.host_core.proofs.{Sending.{send-typed, send_made, send-refused}, Told.{sending_refused, sending_sent, touches_none}}
 use Rattle.host_core.specs.{Alone.{HostView, IsLowest}, Parts.tables_of, Sending.sending, Tables.Tables, Whole.IsWhole}
@@ -17,9 +17,7 @@ commit_send-requires-clause-whole g c =
 
 pub commit_send-requires-clause-ready : goal.commit_send-requires-clause-ready
 commit_send-requires-clause-ready g c =
-    let t : Tables = tables_of c.self.inside.parts c.args.store.now.pages in
-    let w : IsWhole t = whole_at (tables_of c.self.inside.parts []) c.args.self.now c.args.store.now.pages c.self.view_is c.self.invariant c.requires.over in
-    c.in-Ok.ensures.ready c.args.store.now.pages w
+    c.in-Ok.ensures.ready c.args.store.now.pages (whole_at (tables_of c.self.inside.parts []) c.args.self.now c.args.store.now.pages c.self.view_is c.self.invariant c.requires.over)
 
 pub invariant_of-self : goal.invariant_of-self
 invariant_of-self g c =
@@ -30,33 +28,19 @@ invariant_of-self g c =
     let made = send_made t new c.args.kind c.in-Ok.cid w ready (send-typed c.args.kind c.in-Ok.cid) c.commit_send.ensures.sends in
     host_of (tables_of c.commit_send.new.self []) c.commit_send.new.store.pages made.whole
 
-pub returns-clause-step : goal.returns-clause-step
-returns-clause-step g c =
+pub returns : goal.returns
+returns g c =
     let t : Tables = tables_of c.self.inside.parts c.args.store.now.pages in
     let w : IsWhole t = whole_at (tables_of c.self.inside.parts []) c.args.self.now c.args.store.now.pages c.self.view_is c.self.invariant c.requires.over in
     let ready = c.in-Ok.ensures.ready c.args.store.now.pages w in
     let new : Tables = tables_of c.commit_send.new.self c.commit_send.new.store.pages in
     let made = send_made t new c.args.kind c.in-Ok.cid w ready (send-typed c.args.kind c.in-Ok.cid) c.commit_send.ensures.sends in
-    step_at t new c.args.self.now (sending c.args.kind) (events.Sent c.in-Ok.cid) c.self.view_is made.step
-
-pub returns-clause-over : goal.returns-clause-over
-returns-clause-over g c =
-    let t : Tables = tables_of c.self.inside.parts c.args.store.now.pages in
-    let w : IsWhole t = whole_at (tables_of c.self.inside.parts []) c.args.self.now c.args.store.now.pages c.self.view_is c.self.invariant c.requires.over in
-    let ready = c.in-Ok.ensures.ready c.args.store.now.pages w in
-    let new : Tables = tables_of c.commit_send.new.self c.commit_send.new.store.pages in
-    let made = send_made t new c.args.kind c.in-Ok.cid w ready (send-typed c.args.kind c.in-Ok.cid) c.commit_send.ensures.sends in
-    over_of new made.whole
-
-pub returns-clause-identifier : goal.returns-clause-identifier
-returns-clause-identifier g c =
-    let t : Tables = tables_of c.self.inside.parts c.args.store.now.pages in
-    let w : IsWhole t = whole_at (tables_of c.self.inside.parts []) c.args.self.now c.args.store.now.pages c.self.view_is c.self.invariant c.requires.over in
-    let ready = c.in-Ok.ensures.ready c.args.store.now.pages w in
-    subst (λ (v : HostView). IsLowest v.host 0 c.in-Ok.cid) c.self.view_is (next-lowest t w 0 c.in-Ok.cid ready.slot.queue ready.slot.at ready.slot.next)
+    record {
+      step = step_at t new c.args.self.now (sending c.args.kind) (events.Sent c.in-Ok.cid) c.self.view_is made.step;
+      touches = search rules;
+      identifier = subst (λ (v : HostView). IsLowest v.host 0 c.in-Ok.cid) c.self.view_is (next-lowest t w 0 c.in-Ok.cid ready.slot.queue ready.slot.at ready.slot.next);
+      over = over_of new made.whole;
+    }
 
 pub returns-in-Err-clause-touches : goal.returns-in-Err-clause-touches
 returns-in-Err-clause-touches g c = rw (sending_refused c.args.kind c.in-Err.why) (touches_none c.args.store.now)
-
-pub returns-clause-touches : goal.returns-clause-touches
-returns-clause-touches g c = rw (sending_sent c.args.self.now.entries c.args.kind c.requires.plain) c.commit_send.ensures.touches

@@ -1,4 +1,4 @@
-use Rattle.std.proofs.Common.{[], refl}
+use Rattle.std.proofs.Common.{rules, [], refl}
 use Rattle.host_core.proofs.{Identifiers.{host_of, over_of}, Openings.{whole_at, step_at, stays_at}, QueueLists.host_step, Submitted.submit_made}
 use Rattle.host_core.specs.{Parts.tables_of, Tables.Tables, Whole.IsWhole}
 use Rattle.machine_model.specs.Events as events
@@ -17,9 +17,7 @@ commit_submit-requires-clause-whole g c =
 
 pub commit_submit-requires-clause-ready : goal.commit_submit-requires-clause-ready
 commit_submit-requires-clause-ready g c =
-    let t : Tables = tables_of c.self.inside.parts c.args.store.now.pages in
-    let w : IsWhole t = whole_at (tables_of c.self.inside.parts []) c.args.self.now c.args.store.now.pages c.self.view_is c.self.invariant c.requires in
-    c.in-Ok.ensures.ready c.args.store.now.pages w
+    c.in-Ok.ensures.ready c.args.store.now.pages (whole_at (tables_of c.self.inside.parts []) c.args.self.now c.args.store.now.pages c.self.view_is c.self.invariant c.requires)
 
 pub invariant_of-self : goal.invariant_of-self
 invariant_of-self g c =
@@ -29,18 +27,16 @@ invariant_of-self g c =
     let made = submit_made t new c.args.draft c.in-Ok.entry w (c.in-Ok.ensures.ready c.args.store.now.pages w) c.commit_submit.ensures.submits in
     host_of (tables_of c.commit_submit.new.self []) c.commit_submit.new.store.pages made.whole
 
-pub returns-clause-step : goal.returns-clause-step
-returns-clause-step g c =
+pub returns : goal.returns
+returns g c =
     let t : Tables = tables_of c.self.inside.parts c.args.store.now.pages in
     let w : IsWhole t = whole_at (tables_of c.self.inside.parts []) c.args.self.now c.args.store.now.pages c.self.view_is c.self.invariant c.requires in
     let new : Tables = tables_of c.commit_submit.new.self c.commit_submit.new.store.pages in
     let made = submit_made t new c.args.draft c.in-Ok.entry w (c.in-Ok.ensures.ready c.args.store.now.pages w) c.commit_submit.ensures.submits in
-    step_at t new c.args.self.now (events.Submit c.args.draft) events.Accepted c.self.view_is made.step
-
-pub returns-clause-over : goal.returns-clause-over
-returns-clause-over g c =
-    let t : Tables = tables_of c.self.inside.parts c.args.store.now.pages in
-    let w : IsWhole t = whole_at (tables_of c.self.inside.parts []) c.args.self.now c.args.store.now.pages c.self.view_is c.self.invariant c.requires in
-    let new : Tables = tables_of c.commit_submit.new.self c.commit_submit.new.store.pages in
-    let made = submit_made t new c.args.draft c.in-Ok.entry w (c.in-Ok.ensures.ready c.args.store.now.pages w) c.commit_submit.ensures.submits in
-    over_of new made.whole
+    record {
+      step = step_at t new c.args.self.now (events.Submit c.args.draft) events.Accepted c.self.view_is made.step;
+      touches = search rules;
+      over = over_of new made.whole;
+      back = search rules;
+      ticket = search rules;
+    }

@@ -1,9 +1,9 @@
-use Rattle.host_core.{proofs.Benches.{no_gather, gathers, gathers_nothing}, specs.Kept.state_of}
-use Rattle.std.proofs.Common.{◌∙◌, sym}
+use Rattle.host_core.{proofs.Benches.{finished_there, gathers, gathers_nothing}, specs.Kept.state_of}
+use Rattle.std.proofs.Common.{◌∙◌, sym, refl}
 use Rattle.host_core.proofs.kept.Kept.gather.Goals as goal
 
 pub returns-in_default-clause-does : goal.returns-in_default-clause-does
-returns-in_default-clause-does g c = no_gather (state_of c.args.self.now) c.args.self.now.values c.args.q c.args.cid c.requires.bench (sym c.in_default.ensures)
+returns-in_default-clause-does g c = rw (finished_there (state_of c.args.self.now) c.args.self.now.values c.args.q c.args.cid c.requires.bench ∙ sym c.in_default.ensures) (refl, refl)
 
 pub returns-in-Ok-clause-does : goal.returns-in-Ok-clause-does
 returns-in-Ok-clause-does g c =

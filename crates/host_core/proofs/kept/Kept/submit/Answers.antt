@@ -1,9 +1,14 @@
-use Rattle.host_core.{proofs.{Benches.{no_submit, submits, submit_refused}, KeptRows.{is_empty, place_there}}, specs.{Alone.alone, Kept.state_of}}
+use Rattle.std.proofs.Common.{refl, ◌∙◌}
+use Rattle.host_core.{proofs.{Benches.{draft_at, submits, submit_refused}, KeptRows.{is_empty, place_there}}, specs.{Alone.alone, Kept.state_of}}
 use Rattle.host_core.specs.declared.values.CommandValue.TheVariants as value
 use Rattle.host_core.proofs.kept.Kept.submit.Goals as goal
 
 pub returns-in_default-clause-does : goal.returns-in_default-clause-does
-returns-in_default-clause-does g c = rw c.in_default.ensures.kept (no_submit (state_of c.args.self.now) c.args.self.now.values c.args.q c.args.cid c.requires.bench c.in_default.ensures.none)
+returns-in_default-clause-does g c = rw (
+  c.in_default.ensures.kept,
+  draft_at (state_of c.args.self.now) c.args.self.now.values c.args.q c.args.cid c.requires.bench
+      ∙ c.in_default.ensures.none,
+) (refl, refl)
 
 pub put_next-requires : goal.put_next-requires
 put_next-requires g c = place_there c.args.self.now.values c.take_draft.new.values c.args.q c.args.cid (value.Draft c.in-Some.draft) c.in-Some.ensures.out (state_of c.args.self.now) c.requires.bench

@@ -31,28 +31,6 @@ make-requires-clause-enough g c =
     collect_enough t c.args.q c.args.cid c.args.room.request c.take_pages.new.into.items c.requires.whole c.requires.stands told.0
     (c.take_pages.ensures.items ∙ ap (λ (x : Record). taken_pages x.data_pages t.pages ++ taken_pages x.chain_pages (without_pages x.data_pages t.pages)) same)
 
-pub returns-clause-step : goal.returns-clause-step
-returns-clause-step g c =
-    let t : Tables = tables_of c.args.self.now c.args.store.now.pages in
-    let told = c.requires.tells c.requires.stands.entry c.requires.stands.was in
-    let same : record_of c.args.q c.args.cid c.in-Some.entry.now ≡ c.requires.stands.entry = some_is (sym (found-row c.args.self.now.records.rows c.args.q c.args.cid c.in-Some.entry.now (sym c.in-Some.ensures.value)) ∙ c.requires.stands.was) in
-    let items = c.take_pages.ensures.items ∙ ap (λ (x : Record). taken_pages x.data_pages t.pages ++ taken_pages x.chain_pages (without_pages x.data_pages t.pages)) same in
-    let pages = c.take_pages.ensures.pages ∙ ap (λ (x : Record). without_pages x.chain_pages (without_pages x.data_pages t.pages)) same in
-    let new : Tables = tables_of c.mark_collected.new.self c.take_pages.new.store.pages in
-    let left = c.mark_collected.ensures c.take_pages.new.store.pages ∙ collected_tables t c.args.q c.args.cid c.take_pages.new.store.pages c.requires.stands pages in
-    (collect_made t new c.args.q c.args.cid c.args.room.request c.args.room.status c.take_pages.new.into.items c.make.result c.requires.whole c.requires.stands told.0 told.1 items c.make.ensures left).step
-
-pub returns-clause-whole : goal.returns-clause-whole
-returns-clause-whole g c =
-    let t : Tables = tables_of c.args.self.now c.args.store.now.pages in
-    let told = c.requires.tells c.requires.stands.entry c.requires.stands.was in
-    let same : record_of c.args.q c.args.cid c.in-Some.entry.now ≡ c.requires.stands.entry = some_is (sym (found-row c.args.self.now.records.rows c.args.q c.args.cid c.in-Some.entry.now (sym c.in-Some.ensures.value)) ∙ c.requires.stands.was) in
-    let items = c.take_pages.ensures.items ∙ ap (λ (x : Record). taken_pages x.data_pages t.pages ++ taken_pages x.chain_pages (without_pages x.data_pages t.pages)) same in
-    let pages = c.take_pages.ensures.pages ∙ ap (λ (x : Record). without_pages x.chain_pages (without_pages x.data_pages t.pages)) same in
-    let new : Tables = tables_of c.mark_collected.new.self c.take_pages.new.store.pages in
-    let left = c.mark_collected.ensures c.take_pages.new.store.pages ∙ collected_tables t c.args.q c.args.cid c.take_pages.new.store.pages c.requires.stands pages in
-    (collect_made t new c.args.q c.args.cid c.args.room.request c.args.room.status c.take_pages.new.into.items c.make.result c.requires.whole c.requires.stands told.0 told.1 items c.make.ensures left).whole
-
 pub take_pages-requires-clause-room : goal.take_pages-requires-clause-room
 take_pages-requires-clause-room g c =
     let room = c.requires.space (record_of c.args.q c.args.cid c.in-Some.entry.now) (found-row c.args.self.now.records.rows c.args.q c.args.cid c.in-Some.entry.now (sym c.in-Some.ensures.value)) in
@@ -62,12 +40,23 @@ pub unreachable-requires : goal.unreachable-requires
 unreachable-requires g c =
     none_is_not (sym (no-row c.args.self.now.records.rows c.args.q c.args.cid (sym c.in-None.ensures.value)) ∙ c.requires.stands.was)
 
-pub returns-clause-touches : goal.returns-clause-touches
-returns-clause-touches g c =
+pub returns : goal.returns
+returns g c =
     let t : Tables = tables_of c.args.self.now c.args.store.now.pages in
+    let told = c.requires.tells c.requires.stands.entry c.requires.stands.was in
+    let same : record_of c.args.q c.args.cid c.in-Some.entry.now ≡ c.requires.stands.entry = some_is (sym (found-row c.args.self.now.records.rows c.args.q c.args.cid c.in-Some.entry.now (sym c.in-Some.ensures.value)) ∙ c.requires.stands.was) in
+    let items = c.take_pages.ensures.items ∙ ap (λ (x : Record). taken_pages x.data_pages t.pages ++ taken_pages x.chain_pages (without_pages x.data_pages t.pages)) same in
+    let pages = c.take_pages.ensures.pages ∙ ap (λ (x : Record). without_pages x.chain_pages (without_pages x.data_pages t.pages)) same in
+    let new : Tables = tables_of c.mark_collected.new.self c.take_pages.new.store.pages in
+    let left = c.mark_collected.ensures c.take_pages.new.store.pages ∙ collected_tables t c.args.q c.args.cid c.take_pages.new.store.pages c.requires.stands pages in
+    let made = collect_made t new c.args.q c.args.cid c.args.room.request c.args.room.status c.take_pages.new.into.items c.make.result c.requires.whole c.requires.stands told.0 told.1 items c.make.ensures left in
     let front = c.in-Some.entry.now.data_pages in
     let back = c.in-Some.entry.now.chain_pages in
     let behind = without_pages front t.pages in
-    let items = ap length c.take_pages.ensures.items ∙ length-append (taken_pages front t.pages) (taken_pages back behind) in
+    let many = ap length c.take_pages.ensures.items ∙ length-append (taken_pages front t.pages) (taken_pages back behind) in
     let parts = ap (λ (f : FinishedContents). length f.data_pages + length f.chain_pages) c.make.ensures ∙ both_parts c.args.room.request c.take_pages.new.into.items in
-    omega (arith, c.take_pages.ensures.touches, items, length-taken front t.pages, length-taken back behind, parts)
+    record {
+      step = made.step;
+      whole = made.whole;
+      touches = omega (arith, c.take_pages.ensures.touches, many, length-taken front t.pages, length-taken back behind, parts);
+    }

@@ -20,7 +20,7 @@ note_sent-requires-clause-place g c =
     let t : Tables = tables_of c.args.self.now c.args.store.now.pages in
     let u : Tables = tables_of c.grant_half.new.self c.grant_half.new.store.pages in
     let s = granted-settled t u c.args.half c.args.q c.args.creation.cid c.args.creation.first c.requires.whole c.requires.ready c.grant_half.ensures.granted in
-    place-of c.grant_half.new.self c.grant_half.new.store.pages 0 c.args.creation.cid s.record_queues s.record_places
+    place-of c.grant_half.new.self c.grant_half.new.store.pages 0 c.args.creation.cid s.limits.record_queues s.limits.record_places
     (granted-there t u c.args.half c.args.q c.args.creation.cid c.args.creation.first c.requires.whole c.requires.ready c.grant_half.ensures.granted)
     (granted-new t u c.args.half c.args.q c.args.creation.cid c.args.creation.first c.requires.whole c.requires.ready c.grant_half.ensures.granted)
 

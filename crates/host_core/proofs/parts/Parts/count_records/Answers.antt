@@ -1,4 +1,4 @@
-use Rattle.std.proofs.{Common.{◌≡◌, ◌+◌, ◌≤◌, ◌==◌, ℕ, Bool, drop, if◌then◌else◌, sym, ap, ◌∙◌, arith}, lemmas.Bool.{eq-eqb, ne_eqb}}
+use Rattle.std.proofs.{Common.{◌≡◌, ◌+◌, ◌≤◌, Bool, drop, if◌then◌else◌, sym, ap, ◌∙◌, arith}, lemmas.Bool.{eq-eqb, ne_eqb}}
 use Rattle.slot_table.proofs.Walks.{step_behind}
 use Rattle.host_core.{proofs.{Lists.{all_counted, none_counted, row_counted}, parts.Parts.count_records.Goals.{then-p-q, else-p-q}}, specs.Rows.rows_on}
 use Rattle.host_core.proofs.parts.Parts.count_records.Goals as goal

@@ -1,5 +1,5 @@
 use Rattle.std.proofs.Common.{[], length, arith, ap, ◌∙◌}
-use Rattle.host_core.{proofs.{QueueLists.length-change, Reaps.{over-claims, over-tables}}, specs.{Parts.tables_of, Reaping.with_answer_heard, Tables.Tables}}
+use Rattle.host_core.{proofs.{Lists.length-change, Reaps.{over-claims, over-tables}}, specs.{Parts.tables_of, Reaping.with_answer_heard, Tables.Tables}}
 use Rattle.host_core.proofs.parts.Parts.end_command.Goals as goal
 
 pub unclaim-requires-clause-there : goal.unclaim-requires-clause-there

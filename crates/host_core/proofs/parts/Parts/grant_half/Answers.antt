@@ -1,7 +1,7 @@
 use Rattle.std.proofs.Common.{◌≡◌, ◌∙◌, ◌<◌, ℕ, length, ap, subst, sym}
 use Rattle.machine_model.specs.After.{change}
 use Rattle.page_ledger.specs.Owners.{pages_from, with_owner}
-use Rattle.host_core.proofs.{Lists.{none_is_not, some_is}, Making.{half-can-zero, made-granted, run-lowest, run-within}, QueueLists.change-at}
+use Rattle.host_core.proofs.{Lists.{change-at-lists as change-at, none_is_not, some_is}, Making.{half-can-zero, made-granted, run-lowest, run-within}}
 use Rattle.host_core.specs.{Commands.CanZero, Parts.tables_of, Sending.making, Tables.Tables}
 use Rattle.page_ledger.specs.declared.owner.Owner.TheVariants as owner
 use Rattle.host_core.proofs.parts.Parts.grant_half.Goals as goal

@@ -1,5 +1,5 @@
 use Rattle.std.proofs.Common.{[], Some, length, ap, ◌∙◌}
-use Rattle.host_core.{proofs.{QueueLists.length-change, Reaps.{looks, reaps-rejected}}, specs.{Parts.tables_of, Reaping.with_answer_taken, Tables.Tables}}
+use Rattle.host_core.{proofs.{Lists.length-change, Reaps.{looks, reaps-rejected}}, specs.{Parts.tables_of, Reaping.with_answer_taken, Tables.Tables}}
 use Rattle.host_core.proofs.parts.Parts.take.Goals as goal
 
 pub returns-in-Err-clause-reaps : goal.returns-in-Err-clause-reaps
