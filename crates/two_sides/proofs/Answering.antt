@@ -327,11 +327,7 @@ heard v c = with_side (record c.device { ring = hearing_head v c.device.ring }) 
 
 taken_seen : (m : Memory) (head : ℕ) (h : HostQueue) (c : ControllerQueue) → c.cq_there ≡ true → HasAnswer m h c
     → device_queue_of m (taken c.device.entries head h).ring (heard (next_slot c.device.entries h.ring.head) c) ≡ one_fewer (device_queue_of m h.ring c)
-taken_seen m head h c cq a =
-    let with_answers : List Answer → DeviceQueue = λ answers. record (device_queue_of m h.ring c) { answers = answers } in
-    ap (λ (b : Bool). with_answers (if b then map answer_of (behind m h c) else [])) cq
-    ∙ ap (λ (es : List ComEntry). with_answers (drop 1 (map answer_of es))) (sym a.list)
-    ∙ sym (ap (λ (b : Bool). with_answers (drop 1 (if b then map answer_of (completions_between m h.ring c.device) else []))) cq)
+taken_seen m head h c cq a = grind arith
 
 taken_stands : (s : Sides) (q head : ℕ) (h : HostQueue) (c : ControllerQueue) → Sees s q h c → Follows h c (byte_at s.pages) head
     → RingsStand (byte_at s.pages) q (taken c.device.entries head h) (heard (next_slot c.device.entries h.ring.head) c)

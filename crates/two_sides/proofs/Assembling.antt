@@ -124,9 +124,7 @@ sides_behind s e reply host pages sides c step over =
 
 -- nothing changes
 nothing_left : (f c : Bool) (s next : State) → AreWhole s.memory → next ≡ s → MatchBool f (s ≡ next) (MatchBool c (LeavesByController s next s) (LeavesByHost s next s))
-nothing_left true c s next whole same = sym same
-nothing_left false true s next whole same = record { part = ap host_part (sym same); pages = whole; device = record { image = refl; queues = refl } }
-nothing_left false false s next whole same = record { part = ap host_part (sym same); memory = ap (λ (x : State). x.memory) (sym same); device = record { image = refl; queues = refl } }
+nothing_left f c s next whole same = grind arith
 
 stays_left : (s : State) (e : Event) (reply : Reply) → AreWhole s.memory → after s e reply ≡ s → Leaves s e reply s
 stays_left s e (events.Refused why touched) whole same = refl
@@ -154,9 +152,7 @@ exactly_left s e reply host pages t f same = due (machine.resets e) (forges e) s
     due : (z b t' : Bool) → b ≡ false → t' ≡ true
         → MatchBool (z || (not b && t')) (state_of (behind s e reply host pages) ≡ after (state_of s) e reply)
         (MatchBool (machine.IsController e) (LeavesByController (state_of s) (after (state_of s) e reply) (state_of (behind s e reply host pages))) (LeavesByHost (state_of s) (after (state_of s) e reply) (state_of (behind s e reply host pages))))
-    due false true t' x y = absurd (true≢false x)
-    due false false false x y = absurd (true≢false (sym y))
-    due z b t' x y = same
+    due z b t' x y = grind arith
 
 -- the same completion stands at the head for the host and for the machine
 heads_alike : (o p : Option ComEntry) → told o ≡ told p → option_map head_of_entry p ≡ option_map head_of_entry o

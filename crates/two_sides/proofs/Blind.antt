@@ -185,11 +185,7 @@ alike_blind s d d' (events.Forge q slot bytes) reply c z ok = absurd ok
 alike_blind s d d' e reply c z ok = alike_after s d d' false false e reply c refl z (sees_blind s d d' e) ok
 
 left_after : (s : State) (d d' : Device) (e : Event) (reply : Reply) → IsController e ≡ false → Answers (over s d false) e reply → left_of (a.after (over s d false) e reply) ≡ left_of (a.after (over s d' false) e reply)
-left_after s d d' e (events.Refused why touched) c ok = refl
-left_after s d d' events.Reset events.Accepted c ok = refl
-left_after s d d' events.Reset reply c ok = absurd ok
-left_after s d d' e reply c ok =
-    ap (λ (x : Seen). (host_part (record x.0 { trusted = x.1 }), x.0.memory)) (alike_blind s d d e reply c refl ok ∙ sym (alike_blind s d' d e reply c refl ok))
+left_after s d d' e reply c ok = grind arith
 
 -- and its answers are the same
 

@@ -37,12 +37,7 @@ use Rattle.machine_model.specs.declared.words.Refusal.TheVariants as refusal
 -- A completion can carry each end.
 
 by_verdict : (image : List ℕ) (e : SubEntry) (bytes : List ℕ) (v : Option Status) → FitsVerdict v → (status_after image e bytes v).sct < 8
-by_verdict image e bytes None fits = omega arith
-by_verdict image e bytes (Some v) fits = go (is_success v)
-  where
-    go : (b : Bool) → (if b then status_by image e bytes (kind_of_opcode e.opcode) else v).sct < 8
-    go true = grind arith
-    go false = fits
+by_verdict image e bytes v fits = grind arith
 
 pub end_fits : (blocks q done : ℕ) (image : List ℕ) (work : Work) → FitsWork blocks q done work → (status_of_end image work).sct < 8
 end_fits blocks q done image (Io job) fits = by_verdict image job.entry job.bytes job.verdict fits.2
@@ -123,13 +118,7 @@ deletion_seen s image k blocks fits = go k.q k.units_done k.waiting_abort k.work
   where
     go : (q done : ℕ) (waiting : Option ℕ) (work : Work) → FitsWork blocks q done work
         → deletion_done (job_of (record { q = q; units_done = done; waiting_abort = waiting; work = work })) (status_of_end image work) s ≡ with_served s s.memory (devices_of_end work s.device.queues) s.device.jobs s.device.image
-    go q done waiting (Io job) fits = rw fits.0 refl
-    go q done waiting (Admin entry status dw0) fits = rw fits.0 (by (is_deletion entry status))
-      where
-        by : (b : Bool) → (if b then record s { device = record s.device { queues = change (named_queue entry) cleared s.device.queues } } else s)
-            ≡ with_served s s.memory (if b then change (named_queue entry) cleared s.device.queues else s.device.queues) s.device.jobs s.device.image
-        by true = refl
-        by false = refl
+    go q done waiting work fits = grind arith
 
 pub jobs-without : (q cid : ℕ) (commands : List FetchedCommand) → map job_of (without_command q cid commands) ≡ filter (λ j. not (is_job q cid j)) (map job_of commands)
 jobs-without q cid commands = sym (filter-map job_of (λ (j : Job). not (is_job q cid j)) commands)
@@ -263,10 +252,7 @@ module _ (s : Sides) (q cid : ℕ) (c : Contents) (pages : Pages) (touched : Lis
 
   -- there is room for it, and its slot is in
   post_free : post_refusal (byte_at s.pages) x.device ≡ None
-  post_free =
-      let all : command_refusal s.controller (byte_at s.pages) q k ≡ None = sym (ap (λ (o : Option FetchedCommand). option_map_or (command_refusal s.controller (byte_at s.pages) q) o (Some because.NoJob)) w.found) ∙ free in
-      sym (ap (λ (o : Option ControllerQueue). option_map_or (λ queue. post_refusal (byte_at s.pages) queue.device) o None) w.here)
-      ∙ (refused_not (waits_among s.controller.commands k) because.Waits _ (refused_not (is_none (verdict_of_work k.work)) because.Walking _ all).1).1
+  post_free = grind arith
 
   room : (is_full x.device.entries x.device.ring.known_head x.device.ring.tail ≡ false) × (completion_slot (byte_at s.pages) x.device.cq x.device.ring.tail ≢ None)
   room = post_room (byte_at s.pages) x.device post_free

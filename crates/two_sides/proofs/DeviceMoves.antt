@@ -41,15 +41,7 @@ abbrev pub answers : ℕ → ℕ → Status → ℕ → State → State
 answers q cid st dw0 s = a.on_device_queue q (λ at. record at { answers = at.answers ++ answer_of q cid st dw0 s ∷ [] }) (record s { memory = answered_bytes q cid st dw0 s })
 
 pub answers_is : (q cid : ℕ) (st : Status) (dw0 : ℕ) (s : State) → answers q cid st dw0 s ≡ a.answered q cid st dw0 s
-answers_is q cid st dw0 s = go (host_queue s q)
-  where
-    go : (o : Option HostQueue)
-        → a.on_device_queue q (λ at. record at { answers = at.answers ++ answer_of q cid st dw0 s ∷ [] })
-        (record s { memory = option_map_or (λ queue. with_page_bytes s.memory (slot_page queue.cq_pages 16 (post_slot s q)) (slot_offset 16 (post_slot s q)) (completion_bytes (record { dw0 = dw0; sqhd = fetch_slot s q; sqid = q; cid = cid; phase = a.post_phase s q queue; status = st }))) o s.memory })
-        ≡ a.on_device_queue q (λ at. record at { answers = at.answers ++ answer_of q cid st dw0 s ∷ [] })
-        (option_map_or (λ queue. a.on_memory (λ m. with_page_bytes m (slot_page queue.cq_pages 16 (post_slot s q)) (slot_offset 16 (post_slot s q)) (completion_bytes (record { dw0 = dw0; sqhd = fetch_slot s q; sqid = q; cid = cid; phase = a.post_phase s q queue; status = st }))) s) o s)
-    go None = refl
-    go (Some queue) = refl
+answers_is q cid st dw0 s = grind arith
 
 -- Fetching
 
@@ -108,10 +100,7 @@ walks_is s q cid j Source (Moves place n offset) at = ap (λ (js : List Job). re
     one : (k : Job) (b : Bool) → is_job q cid k ≡ b
         → (if b then record k { bytes = with_bytes k.bytes offset (a.page_bytes s.memory place n); units_done = k.units_done + 1; verdict = verdict_of (a.next_answer s j) } else k)
         ≡ (let x : Job = (if b then record k { bytes = with_bytes k.bytes offset (a.page_bytes s.memory place n) } else k) in if is_job q cid x then record x { units_done = x.units_done + 1; verdict = verdict_of (a.next_answer s j) } else x)
-    one k true e =
-        let x : Job = record k { bytes = with_bytes k.bytes offset (a.page_bytes s.memory place n) } in
-        ap (λ (b : Bool). if b then record x { units_done = x.units_done + 1; verdict = verdict_of (a.next_answer s j) } else x) (sym e)
-    one k false e = ap (λ (b : Bool). if b then record k { units_done = k.units_done + 1; verdict = verdict_of (a.next_answer s j) } else k) (sym e)
+    one k b e = grind arith
 
     fuse : (js : List Job) → map (λ (k : Job). if is_job q cid k then record k { bytes = with_bytes k.bytes offset (a.page_bytes s.memory place n); units_done = k.units_done + 1; verdict = verdict_of (a.next_answer s j) } else k) js
         ≡ map (λ (k : Job). if is_job q cid k then record k { units_done = k.units_done + 1; verdict = verdict_of (a.next_answer s j) } else k) (map (λ (k : Job). if is_job q cid k then record k { bytes = with_bytes k.bytes offset (a.page_bytes s.memory place n) } else k) js)
@@ -165,11 +154,7 @@ ring_left n q f hs same h = all_changed (λ queue. IsInRing n queue.ring) q f hs
 
 -- a head pointer that fits is a slot
 fits_below : (s : State) (q : ℕ) (e : ComEntry) → fits_ring s q e ≡ true → e.sqhd < s.entries
-fits_below s q e h = go (host_queue s q) h
-  where
-    go : (o : Option HostQueue) → option_map_or (λ queue. is_in_range s.entries queue.ring.known_head queue.ring.tail e.sqhd) o false ≡ true → e.sqhd < s.entries
-    go None h = absurd (true≢false (sym h))
-    go (Some queue) h = in_range_below s.entries queue.ring.known_head queue.ring.tail e.sqhd h
+fits_below s q e h = grind arith
 
 pub rings_event : (s : State) (e : Event) (reply : Reply) → Accepts s e reply → IsController e ≡ false → IsKept InRings s e reply
 rings_event s e reply ok c h =

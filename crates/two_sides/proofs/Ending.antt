@@ -522,15 +522,7 @@ abbrev of_either : List ℕ → List ℕ → ℕ → Bool
 of_either chain_pages data_pages p = is_among chain_pages p || is_among data_pages p
 
 pub act_touches : (chain_pages data_pages : List ℕ) (a : Act) → ActIn (on_pages chain_pages) (on_pages data_pages) a → list_all (of_either chain_pages data_pages) (touched a) ≡ true
-act_touches chain_pages data_pages Stays h = refl
-act_touches chain_pages data_pages (Reads place) h =
-    range_pages (of_either chain_pages data_pages) place 16
-    (or_left _ _ (subst (λ (q : ℕ). on_pages chain_pages q ≡ true) (add-zero place) (h 0 (omega arith))))
-    (or_left _ _ (subst (λ (q : ℕ). on_pages chain_pages q ≡ true) (omega arith) (h 15 (omega arith))))
-act_touches chain_pages data_pages (Moves place n offset) h =
-    range_pages (of_either chain_pages data_pages) place n
-    (or_right _ _ (subst (λ (q : ℕ). on_pages data_pages q ≡ true) (add-zero place) (h.2 0 h.0)))
-    (or_right _ _ (subst (λ (q : ℕ). on_pages data_pages q ≡ true) (omega arith) (h.2 (n - 1) (omega (arith, h.0)))))
+act_touches chain_pages data_pages a h = grind arith
 
 touches_in : (chain_pages data_pages : List ℕ) (c : Course) → CourseIn (on_pages chain_pages) (on_pages data_pages) c
     → AllByRecursion (λ a. list_all (λ p. is_among chain_pages p || is_among data_pages p) (touched a) ≡ true) (units c)

@@ -90,10 +90,7 @@ next_seen s q h c e shown can at =
     ∙ by (is_live c.state) (is_absent c.state) (distance c.device.entries ring.head ring.bell) (unfetched_between (byte_at s.pages) h.ring c.device) _ can.live (not_absent c.state can.live) far (entries_first s q h c e can at)
   where
     by : (l b : Bool) (k : ℕ) (us vs : List SubEntry) → l ≡ true → b ≡ false → k ≢ 0 → us ≡ e ∷ vs → (if l && nat_lt 0 (if b then 0 else k) then slice_get (if b then [] else us) 0 else None) ≡ Some e
-    by false b k us vs el eb far eu = absurd (true≢false (sym el))
-    by true true k us vs el eb far eu = absurd (true≢false eb)
-    by true false zero us vs el eb far eu = absurd (far refl)
-    by true false (suc k) us vs el eb far eu = ap (λ (b : Bool). if b then slice_get us 0 else None) (lt-ltb 0 (suc k) (omega arith)) ∙ ap (λ (xs : List SubEntry). slice_get xs 0) eu
+    by l b k us vs el eb far eu = grind arith
 
 pub seen : (s : Sides) (q : ℕ) (c : ControllerQueue) (e : SubEntry) → IsWorld s → s.trusted ≡ true → IsLooked s q c e → IsSeen s q c e
 seen s q c e world t l =
@@ -297,12 +294,7 @@ taken_stand s q c e l is all =
 -- An entry of an I/O queue
 
 begun_stands : (m : Memory) (e : SubEntry) (job : JobContents) (fault : Option Status) → fault ≡ None → BeginsWalk e fault job.walk → job_course m job ≡ course_of_list m e.sgl1 (direction_of_entry e) (need_of_entry e)
-begun_stands m e job (Some st) none begins = cc
-begun_stands m e job None none begins = go job.walk begins
-  where
-    go : (w : Option Walk) → BeginsWalk e None w → course_of_walk m w ≡ course_of_list m e.sgl1 (direction_of_entry e) (need_of_entry e)
-    go None begins = absurd begins
-    go (Some w) begins = begins m
+begun_stands m e job fault none begins = grind arith
 
 begins_walk : (m : Memory) (q : ℕ) (image : List ℕ) (e : SubEntry) (job : JobContents) (commands : List FetchedCommand) → IsBegun image e job → WalksStand m commands → WalksStand m (commands ++ command_of q (Io job) ∷ [])
 begins_walk m q image e job commands b walks =

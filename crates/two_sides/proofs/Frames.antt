@@ -192,16 +192,12 @@ half_in s world q h e pages part first many same =
 
 -- a half that has pages begins with the first of them
 pub first_of_half : (n first : ℕ) (h : HostQueue) → 0 < n → h.cq_pages ≡ pages_from first (half_pages n Completion) → first_completion_page h ≡ first
-first_of_half n first h some same =
-    let no_more : (k : ℕ) → k + 0 ≡ k = λ k. omega arith in
-    ap (λ (ps : List ℕ). slice_index ps 0) same ∙ index-from (half_pages n Completion) first 0 (omega (arith, some)) ∙ no_more first
+first_of_half n first h some same = grind arith
 
 -- a completion half that lies together lies from the first of its pages
 lies_from_first : (n first : ℕ) (h : HostQueue) → 0 < n → has_cq h.state ≡ true → h.cq_pages ≡ pages_from first (if has_cq h.state then half_pages n Completion else 0)
     → h.cq_pages ≡ pages_from (first_completion_page h) (half_pages n Completion)
-lies_from_first n first h some there lies =
-    let whole : h.cq_pages ≡ pages_from first (half_pages n Completion) = lies ∙ ap (λ (b : Bool). pages_from first (if b then half_pages n Completion else 0)) there in
-    whole ∙ ap (λ (k : ℕ). pages_from k (half_pages n Completion)) (sym (first_of_half n first h some whole))
+lies_from_first n first h some there lies = grind arith
 
 pub half_lies : (n : ℕ) (h : HostQueue) → 0 < n → HasHalves n h → has_cq h.state ≡ true → h.cq_pages ≡ pages_from (first_completion_page h) (half_pages n Completion)
 half_lies n h some halves there = lies_from_first n halves.completion.0 h some there halves.completion.1

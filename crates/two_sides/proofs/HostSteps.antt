@@ -74,10 +74,7 @@ reaped_told : (s : State) (q : ℕ) (o : Option ComEntry) → option_map_or (rea
 reaped_told s q o = grind arith
 
 reaped_alike : (s : Sides) (q : ℕ) → told (seen_entry (alone s.host s.pages) q) ≡ told (seen_entry (state_of s) q) → reaped (alone s.host s.pages) q ≡ reaped (state_of s) q
-reaped_alike s q alike =
-    reaped_told (alone s.host s.pages) q (seen_entry (alone s.host s.pages) q)
-    ∙ ap (λ (o : Option ComEntry). option_map_or (reaped_entry (state_of s) q) o found.Empty) alike
-    ∙ sym (reaped_told (state_of s) q (seen_entry (state_of s) q))
+reaped_alike s q alike = grind arith
 
 -- What the controller hears
 

@@ -294,13 +294,7 @@ pub stood_stays : (old new : State) (e : Event) (reply : Reply) → Stood old �
 stood_stays old new (events.Walk q cid) (events.Refused why touched) stood trusted step = refused_walk why step.1
   where
     refused_walk : (why : Refusal) → Permits old (events.Walk q cid) (events.Refused why touched) → (list_all (is_among (allowed old)) touched && list_all (is_among (pages_of_command old q cid)) touched) ≡ true
-    refused_walk why permits =
-        let none : touched ≡ [] = empty why (permitted _ old.trusted false trusted permits) in
-        subst (λ (pages : List ℕ). (list_all (is_among (allowed old)) pages && list_all (is_among (pages_of_command old q cid)) pages) ≡ true) (sym none) refl
-      where
-        empty : (why : Refusal) → Refuses old (events.Walk q cid) why touched → touched ≡ []
-        empty refusal.Memory h = h.2
-        empty why h = h.1
+    refused_walk why permits = grind arith
 stood_stays old new (events.Walk q cid) (events.Walked outcome pages) stood trusted step = walk_stays old q cid outcome pages (permitted _ old.trusted false trusted step.1) stood
 stood_stays old new (events.Walk q cid) (events.Fetched c touched) stood trusted step = absurd (permitted _ old.trusted false trusted step.1).1
 stood_stays old new (events.Walk q cid) (events.Completed touched) stood trusted step = absurd (permitted _ old.trusted false trusted step.1).1

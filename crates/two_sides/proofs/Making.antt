@@ -44,9 +44,7 @@ submission_seen m n base h c is = subst (λ (ring : HostRing). device_queue_of m
 -- A queue that stops
 
 pub stopping_seen : (m : Memory) (h : HostQueue) (c : ControllerQueue) → is_live c.state ≡ true → device_queue_of m h.ring (stopping c) ≡ record (device_queue_of m h.ring c) { state = Stopping }
-stopping_seen m h c live =
-    ap (λ (b : Bool). record (device_queue_of m h.ring (stopping c)) { unfetched = if b then [] else unfetched_between m h.ring c.device; rung = if b then zero else distance c.device.entries c.device.ring.head c.device.ring.bell })
-    (sym (not_absent c.state live))
+stopping_seen m h c live = grind arith
 
 pub stopping_stands : (n : ℕ) (m : Memory) (q : ℕ) (h : HostQueue) (c : ControllerQueue) → is_live c.state ≡ true → QueueStands n m q h c → QueueStands n m q h (stopping c)
 stopping_stands n m q h c live stands =

@@ -69,14 +69,7 @@ stopped_seen q k = go (k.q == q) k.work
     go : (b : Bool) (work : Work)
         → job_of (if b then record k { work = stopped_work ABORTED_SQ_DELETION work } else record k { work = work })
         ≡ (if b && is_none (verdict_of_work work) then record (job_of (record k { work = work })) { verdict = Some ABORTED_SQ_DELETION } else job_of (record k { work = work }))
-    go true (Io job) = by job.verdict
-      where
-        by : (v : Option Status)
-            → job_of (record k { work = Io (if is_none v then record job { verdict = Some ABORTED_SQ_DELETION } else record job { verdict = v }) })
-            ≡ (if is_none v then record (job_of (record k { work = Io (record job { verdict = v }) })) { verdict = Some ABORTED_SQ_DELETION } else job_of (record k { work = Io (record job { verdict = v }) }))
-        by None = refl
-        by (Some st) = refl
-    go x work = refl
+    go b work = grind arith
 
 -- where at most one command is named, what holds of the one that is found holds of each that is
 counted : {A : Type 0} (p : A → Bool) (xs : List A) → total (λ x. one (p x)) xs ≡ count_by p xs

@@ -137,11 +137,7 @@ one_job s stood q cid =
     omega (arith, same s.device.jobs, stood.places q (λ c. one (c == cid)), few s.host.records, stood.grounds.stands.0.once q cid)
   where
     same : (js : List Job) → total (λ j. one (is_job q cid j)) js ≤ total (job_weight q (λ c. one (c == cid))) js
-    same [] = omega arith
-    same (j ∷ js) = omega (arith, same js, each (j.q == q) (j.entry.cid == cid))
-      where
-        each : (x y : Bool) → one (x && y) ≤ (if x then one y else 0)
-        each x y = grind arith
+    same js = grind arith
 
     few : (rs : List Record) → total (sent q (λ c. one (c == cid))) rs ≤ total (here q cid) rs
     few [] = omega arith
@@ -356,10 +352,7 @@ no_cause s r (events.Submit d) =
     ((λ t. refl), λ own. ((λ t. refl), λ built. ((λ t. refl), λ live. ((λ t. absurd (true≢false (sym t ∙ room (not-false _ own) (not-false _ live)))), λ f. tt))))
   where
     some_there : in_state is_live s d.q ≡ true → is_some (host_queue s d.q) ≡ true
-    some_there live = go (host_queue s d.q) live
-      where
-        go : (o : Option HostQueue) → option_map_or (λ queue. is_live queue.state) o false ≡ true → is_some o ≡ true
-        go o e = grind arith
+    some_there live = grind arith
 
     room : record_is (is_of is_drafted d.request (numbers_of d.data_pages) (numbers_of d.chain_pages)) s d.q d.cid ≡ true → in_state is_live s d.q ≡ true → queue_full s d.q ≡ false
     room own live =

@@ -171,9 +171,7 @@ seen_alone s world q h c e k has =
 -- Where nothing was forged, the answers in the ring
 
 no_answer : (m : Memory) (h : HostQueue) (c : ControllerQueue) → h.ring.head ≡ c.device.ring.tail → completions_between m h.ring c.device ≡ []
-no_answer m h c same =
-    ap (λ (head : ℕ). present (answers_between m c.device.cq c.device.entries head c.device.ring.tail)) same
-    ∙ ap present (answers_none m c.device.cq c.device.entries c.device.ring.tail)
+no_answer m h c same = grind arith
 
 -- the answer at the head, and those behind it
 pub record HasAnswer (m : Memory) (h : HostQueue) (c : ControllerQueue) : Type 0 where

@@ -118,9 +118,7 @@ trusted_before old e reply new step other t = elim (cases_Bool old.trusted) [
 
 -- a reset is never refused, and leaves one state
 pub reset_leaves : (old : State) (reply : Reply) (new : State) → Step old events.Reset reply new → new ≡ a.after_reset old
-reset_leaves old (events.Refused refusal.Memory touched) new step = absurd (true≢false (sym (surely _ old.trusted false refl step.1).0))
-reset_leaves old (events.Refused why touched) new step = let h = surely _ old.trusted false refl step.1 in absurd cc
-reset_leaves old reply new step = step.2
+reset_leaves old reply new step = grind arith
 
 pub trust_restored : resets_restore_trust
 trust_restored old reply new step = ap (λ (s : State). s.trusted) (reset_leaves old reply new step)
@@ -137,10 +135,7 @@ trusted_or_reset old e reply new step t = go (resets e) refl
 
 -- a step between trusted states forges nothing
 pub unforged_step : (old : State) (e : Event) (reply : Reply) (new : State) → Step old e reply new → old.trusted ≡ true → new.trusted ≡ true → forges_by e reply ≡ false
-unforged_step old (events.Forge q slot bytes) events.Accepted new step t u =
-    let ok = permitted _ old.trusted true t step.1 in
-    absurd (true≢false (sym u ∙ (ap (λ (part : HostPart). part.trusted) (part_left old (events.Forge q slot bytes) events.Accepted new step.2) ∙ forged_untrusted old q slot bytes ok.0)))
-unforged_step old e reply new step t u = refl
+unforged_step old e reply new step t u = grind arith
 
 -- steps without a reset to a trusted state came from one, and forged nothing
 came_trusted : (made : List Made) (s end : State) → Steps s made end → list_any is_reset made ≡ false → end.trusted ≡ true → (s.trusted ≡ true) × (list_any is_forgery made ≡ false)

@@ -326,17 +326,10 @@ module _ (s : Sides) (mid : Pages) (q : ℕ) (h : HostQueue) (c : ControllerQueu
 -- Positions behind a take
 
 not_last : (n known head tail : ℕ) → known < n → head < n → tail < n → is_in_range n known tail head ≡ true → head ≢ tail → distance n known head + 1 < n
-not_last n known head tail k h t inside some =
-    let parts = distance_parts n known head tail k h t (in_range_near n known tail head inside) in
-    let least = distance_below n known tail k t in
-    let apart : distance n head tail ≢ 0 = λ e. some (distance_none n head tail h t e) in
-    omega arith
+not_last n known head tail k h t inside some = grind arith
 
 not_taken : (n head bell tail : ℕ) → head < n → bell < n → is_in_range n head tail bell ≡ true → head ≢ bell → head ≢ tail
-not_taken n head bell tail h b inside some e =
-    let near = in_range_near n head tail bell inside in
-    let none : distance n head tail ≡ 0 = ap (distance n head) (sym e) ∙ distance_same n head in
-    some (distance_none n head bell h b (omega arith))
+not_taken n head bell tail h b inside some e = grind arith
 
 heads_on : (n from to : ℕ) (es : List ComEntry) → from < n → to < n → distance n from to + 1 < n → HeadsFollow n from to es → HeadsFollow n from (next_slot n to) es
 heads_on n from to [] f t last h = in_range n from (next_slot n to) (next_slot n to) (next_below n to t) (omega arith)

@@ -103,10 +103,7 @@ ties s e reply host pages mid q h c entry hs can spares permits unheard leaves p
 -- Identifiers are small
 
 pub few_entries : (s : Sides) → IsWorld s → (q : ℕ) (h : HostQueue) → slice_get s.host.host.queues q ≡ Some h → s.host.entries ≤ 1024
-few_entries s world q h at =
-    let c = controller_at s world q h at in
-    let share = (placed s world q h c.0 at c.1).share in
-    omega (arith, share.entries, share.side.most)
+few_entries s world q h at = grind arith
 
 small_identifier : (s : Sides) → IsWorld s → (q cid : ℕ) (r : Record) → record_at s.host.host q cid ≡ Some r → cid < s.host.entries - 1
 small_identifier s world q cid r found =

@@ -379,9 +379,7 @@ same_list s t stood j l same there =
 -- Requests that pass as the same are
 
 pieces_same : (x y : Piece) → same_piece x y ≡ true → x ≡ y
-pieces_same (Data o n) (Data p m) h = let both = and_parts (o == p) (n == m) h in rw (eqb-true o p both.0, eqb-true n m both.1) refl
-pieces_same (Bucket n) (Bucket m) h = ap Bucket (eqb-true n m h)
-pieces_same x y h = absurd (true≢false (sym h))
+pieces_same x y h = grind arith
 
 lists_same : (xs ys : List Piece) → same_pieces xs ys ≡ true → xs ≡ ys
 lists_same [] [] h = refl

@@ -274,9 +274,7 @@ serve_controller_event s e reply ok c agree h = absurd (true≢false (sym c))
 
 -- a queue that is deleted is one that changes
 deleting_changes : (hs : List HostQueue) (q : ℕ) → awaited_at is_deleting hs q ≡ true → awaited_at is_changing hs q ≡ true
-deleting_changes [] q w = absurd (true≢false (sym w))
-deleting_changes (h ∷ hs) zero w = grind arith
-deleting_changes (h ∷ hs) (suc q) w = deleting_changes hs q w
+deleting_changes hs q w = grind arith
 
 differ : (x y : ℕ) (b : Bool) → (x ≡ y → b ≡ true) → b ≡ false → (x == y) ≡ false
 differ x y b same stays = grind arith

@@ -132,14 +132,7 @@ placed_other rs d k f other h = placed_change rs d k f (waiting_other f k d.queu
 
 pub device-answered : (q cid : ℕ) (st : Status) (dw0 : ℕ) (s : State)
     → (a.answered q cid st dw0 s).device ≡ record s.device { queues = change q (λ at. record at { answers = at.answers ++ record { cid = cid; status = st; dw0 = dw0; sq_head = fetch_slot s q } ∷ [] }) s.device.queues }
-device-answered q cid st dw0 s =
-    ap (λ (d : Device). record d { queues = change q (λ at. record at { answers = at.answers ++ record { cid = cid; status = st; dw0 = dw0; sq_head = fetch_slot s q } ∷ [] }) d.queues }) (go (host_queue s q))
-  where
-    go : (o : Option HostQueue)
-        → (option_map_or (λ queue. a.on_memory (λ m. with_page_bytes m (slot_page queue.cq_pages 16 (post_slot s q)) (slot_offset 16 (post_slot s q))
-        (completion_bytes (record { dw0 = dw0; sqhd = fetch_slot s q; sqid = q; cid = cid; phase = a.post_phase s q queue; status = st }))) s) o s).device ≡ s.device
-    go None = refl
-    go (Some queue) = refl
+device-answered q cid st dw0 s = grind arith
 
 pub device-posted : (q : ℕ) (entry : SubEntry) (s : State)
     → (a.posted q entry s).device ≡ record s.device { queues = change q (λ at. record at { unfetched = at.unfetched ++ entry ∷ [] }) s.device.queues }
@@ -199,11 +192,7 @@ stops_mild q = record {
     not_success st v ok = let same : st ≡ ABORTED_SQ_DELETION = cc in absurd (true≢false (sym ok ∙ ap (λ x. is_success x) same))
 
 pub runs_there : (s : State) (q : ℕ) → is_running (a.sq_state s q) ≡ true → gone_at s.device.queues q ≡ false
-runs_there s q h = go (device_queue s q) h
-  where
-    go : (o : Option DeviceQueue) → is_running (option_map_or (λ at. at.state) o Absent) ≡ true → option_map_or (λ at. is_absent at.state) o true ≡ false
-    go None h = absurd (true≢false (sym h))
-    go (Some at) h = grind arith
+runs_there s q h = grind arith
 
 placed_managed : (rs : List Record) (e : SubEntry) (s : State) → Holding rs e s.device → PlacedIn rs (a.managed e s).device
 placed_managed rs e s h =
@@ -284,9 +273,7 @@ other_mild q cid f other fq fe = record {
 }
   where
     go : (j : Job) (st : Status) → j.q ≡ 0 → (b : Bool) → ((j.q == q) && (j.entry.cid == cid)) ≡ b → (if b then f j else j).verdict ≡ Some st → j.verdict ≡ Some st
-    go j st z true e v =
-        absurd (true≢false (sym (eq-eqb q 0 (sym (eqb-true j.q q (and_parts (j.q == q) (j.entry.cid == cid) e).0) ∙ z)) ∙ other))
-    go j st z false e v = v
+    go j st z b e v = grind arith
 
 placed_on_job : (rs : List Record) (q cid : ℕ) (f : Job → Job) (s : State) → (q == 0) ≡ false → ((j : Job) → (f j).q ≡ j.q) → ((j : Job) → (f j).entry ≡ j.entry)
     → PlacedIn rs s.device → PlacedIn rs (a.on_job q cid f s).device
@@ -311,10 +298,7 @@ verdict_there j h = go j.verdict h
 
 -- its deletion was of an I/O queue
 pub clears_io : (rs : List Record) (s : State) (j : Job) (st : Status) → JobKnown rs j → j.q ≡ 0 → j.verdict ≡ Some st → clears s j ≡ true → (named_queue j.entry == 0) ≡ false
-clears_io rs s j st known jq v c =
-    let deletes = and_parts ((j.q == 0) && (j.entry.opcode == DELETE_IO_SQ)) (is_success (a.final_status s j)) c in
-    let k = known jq in
-    let h1 = k.2 in let h2 = (and_parts (j.q == 0) (j.entry.opcode == DELETE_IO_SQ) deletes.0).1 in let h3 = k.3 st v (ap (λ (x : Status). is_success x) (sym (final_admin s j st jq v)) ∙ deletes.1) in grind arith
+clears_io rs s j st known jq v c = grind arith
 
 -- the answer of a job of queue 0 takes its place
 placed_answer : (rs : List Record) (cid : ℕ) (d : Device) (ds : List DeviceQueue) (j : Job) (an : Answer) → find (is_job 0 cid) d.jobs ≡ Some j → an.cid ≡ cid
@@ -560,9 +544,7 @@ forged_ends None f s h e = absurd (true≢false (sym e))
 forged_ends (Some x) f s h e = h x
 
 pub forged_untrusted : (s : State) (q slot : ℕ) (bytes : List ℕ) → refusal_of s (events.Forge q slot bytes) ≡ None → (a.after_forge q slot bytes s).trusted ≡ false
-forged_untrusted s q slot bytes ok =
-    forged_ends (host_queue s q) (λ queue. record (a.on_memory (λ m. with_page_bytes m (slot_page queue.cq_pages 16 slot) (slot_offset 16 slot) bytes) s) { trusted = false }) s (λ queue. refl)
-    (not-false _ (first_fails (not (in_state is_reaped s q)) refusal.NoQueue ((nat_le s.entries slot, refusal.NoSlot) ∷ []) ok))
+forged_untrusted s q slot bytes ok = grind arith
 
 -- Admin commands stand in one place
 

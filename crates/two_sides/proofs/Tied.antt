@@ -47,10 +47,7 @@ pub deleted_is_gone : (s : State) → FitS s → (q : ℕ) (queue : HostQueue) �
 deleted_is_gone s h q queue e over = grind arith
 
 pub freed_is_gone : (s : State) → FitS s → (q : ℕ) (queue : HostQueue) → host_queue s q ≡ Some queue → is_gone queue.state ≡ true → there_at s.device.queues q ≡ false
-freed_is_gone s h q queue e gone = elim (cases_Bool (there_at s.device.queues q)) [
-  | inl is ↦ absurd (omega (arith, h.tokens.completion q, ap one (ap (λ (o : Option HostQueue). option_map_or (λ h. is_gone h.state) o false) e ∙ gone), ap one is))
-  | inr is ↦ is
-]
+freed_is_gone s h q queue e gone = grind arith
 
 pub tied_from_fit : (s : State) → FitS s → Tied s
 tied_from_fit s h = record { some_entries = h.some_entries; pairs = h.pairs; jobs = h.jobs; over = deleted_is_gone s h; gone = freed_is_gone s h }
@@ -109,11 +106,7 @@ tie_managed part e s there served h =
     still f same = stays_false (λ (d : DeviceQueue). is_absent d.state) true (named_queue e) f s.device.queues 0 (λ d ed z. same d) there
 
 pub rung_gone : (s : State) (q : ℕ) (e : SubEntry) → next_rung s q ≡ Some e → gone_at s.device.queues q ≡ false
-rung_gone s q e h = go (device_queue s q) h
-  where
-    go : (o : Option DeviceQueue) → option_and_then (λ queue. if is_running queue.state && nat_lt 0 queue.rung then slice_get queue.unfetched 0 else None) o ≡ Some e → option_map_or (λ at. is_absent at.state) o true ≡ false
-    go None h = absurd cc
-    go (Some at) h = grind arith
+rung_gone s q e h = grind arith
 
 -- an entry that is fetched is one of a queue in service
 rung_served : (part : HostPart) (s : State) (q : ℕ) (e : SubEntry) → next_rung s q ≡ Some e → Paired part.entries part.host.queues s.device.queues → out_at part.host.queues q ≡ false
@@ -152,14 +145,7 @@ waited : (s : State) (j : Job) (st : Status) → j.verdict ≡ Some st → is_su
 waited s j st v ok q0 op w = none_left (named_queue j.entry) s.device.jobs (go (list_any (λ k. k.q == named_queue j.entry) s.device.jobs) refl)
   where
     go : (b : Bool) → list_any (λ k. k.q == named_queue j.entry) s.device.jobs ≡ b → list_any (λ k. k.q == named_queue j.entry) s.device.jobs ≡ false
-    go false e = e
-    go true e =
-        let right : ((j.entry.opcode == DELETE_IO_SQ) && option_map_or is_success j.verdict false && list_any (λ k. k.q == named_queue j.entry) s.device.jobs) ≡ true = rw (op, v, ok, e) refl in
-        let inner = or_parts (list_any (λ k. refusals.is_abort_of j.entry.cid k.waiting_abort) s.device.jobs) ((j.entry.opcode == DELETE_IO_SQ) && option_map_or is_success j.verdict false && list_any (λ k. k.q == named_queue j.entry) s.device.jobs) (left_true (j.q == 0) _ q0 w) in
-        absurd (true≢false (sym right ∙ inner.1))
-      where
-        left_true : (x y : Bool) → x ≡ true → (x && y) ≡ false → y ≡ false
-        left_true x y e h = grind arith
+    go b e = grind arith
 
 pub tie_complete : (part : HostPart) (q cid : ℕ) (s : State) → refusal_of s (events.Complete q cid) ≡ None → TieP part s.device → TieP part (a.after_complete q cid s).device
 tie_complete part q cid s none h =
@@ -202,10 +188,7 @@ tie_posts q entry s takes h =
 -- Reaping
 
 made : (s : State) (q : ℕ) → refusal_of s (events.Reap q) ≡ None → (x : HostQueue) → slice_get s.host.queues q ≡ Some x → is_making x.state ≡ false
-made s q none x e =
-    let y = queue_found is_reaped s q (not-false _ (unrefused s (events.Reap q) none).0) in
-    let same : y.0 ≡ x = cc (y.1, e) in
-    ap (λ (z : HostQueue). is_making z.state) (sym same) ∙ reaped_in_use y.0.state y.2
+made s q none x e = grind arith
 
 tie_consumed : (q : ℕ) (s : State) → refusal_of s (events.Reap q) ≡ None → TieS s → TieS (a.consumed q s)
 tie_consumed q s none h =
@@ -220,12 +203,7 @@ tie_heard q e s none h =
 -- Retiring: its completions are reaped
 
 pub no_answers : (s : State) (q : ℕ) → s.trusted ≡ true → refusal_of s (events.Retire q) ≡ None → (d : DeviceQueue) → slice_get s.device.queues q ≡ Some d → d.answers ≡ []
-no_answers s q t none d ed = empty d.answers (ap (λ (o : Option DeviceQueue). is_some (option_map (entry_of q) (option_and_then (λ queue. first_answer queue.answers) o))) (sym ed)
-    ∙ subst (λ (o : Option ComEntry). is_some o ≡ false) (seen_trusted s q t) (unrefused s (events.Retire q) none).1.0)
-  where
-    empty : (xs : List Answer) → is_some (option_map (entry_of q) (first_answer xs)) ≡ false → xs ≡ []
-    empty [] e = refl
-    empty (x ∷ xs) e = absurd (true≢false e)
+no_answers s q t none d ed = grind arith
 
 -- Every event
 

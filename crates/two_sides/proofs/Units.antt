@@ -164,6 +164,4 @@ few_reached : (place n : ℕ) → length (pages_reached place n) < 3
 few_reached place n = grind arith
 
 pub few_touched : (act : Act) → length (touched act) < 3
-few_touched Stays = omega arith
-few_touched (Reads place) = few_reached place 16
-few_touched (Moves place n offset) = few_reached place n
+few_touched act = grind arith

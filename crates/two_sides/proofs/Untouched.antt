@@ -142,12 +142,7 @@ post_stays_in s q linked there = go (host_queue s q) refl
 
 -- a queue with a rung entry is no absent one
 pub rung_there : (s : State) (q : ℕ) → is_none (next_rung s q) ≡ false → absent s q ≡ false
-rung_there s q h = go (device_queue s q) h
-  where
-    go : (o : Option DeviceQueue) → is_none (option_and_then (λ queue. if is_running queue.state && nat_lt 0 queue.rung then slice_get queue.unfetched 0 else None) o) ≡ false
-        → option_map_or (λ at. is_absent at.state) o true ≡ false
-    go None h = absurd (true≢false h)
-    go (Some at) h = grind arith
+rung_there s q h = grind arith
 
 first_other : {A : Type 0} (c : Bool) (x y : A) (rest : List (Bool × A)) → first_passing ((c, x) ∷ rest) ≡ Some y → (x ≡ y → ⊥) → c ≡ false
 first_other c x y rest h far = grind arith
@@ -366,14 +361,7 @@ served_there st h = reaped_has_cq st (service_is_reaped st h)
 
 -- an entry that is fetched is one of a queue in service
 fetched_there : (s : State) → Grounds s → (q : ℕ) (e : SubEntry) → next_rung s q ≡ Some e → (queue : HostQueue) → host_queue s q ≡ Some queue → has_cq queue.state ≡ true
-fetched_there s g q e rung queue at = elim (cases_Bool (in_service queue.state)) [
-  | inl served ↦ served_there queue.state served
-  | inr out ↦ let (d, there, fits) = pair_at s g q queue at in
-      absurd (elim (cases_Bool (is_running d.state && nat_lt 0 d.rung)) [
-        | inl runs ↦ let none : None ≡ Some e = rw (there, runs, fits.unfetched out) at rung in cc
-        | inr stops ↦ let none : None ≡ Some e = rw (there, stops) at rung in cc
-      ])
-]
+fetched_there s g q e rung queue at = grind arith
 
 -- so is the queue of a job
 completed_there : (s : State) → Grounds s → (q cid : ℕ) (j : Job) → job_at s q cid ≡ Some j → (queue : HostQueue) → host_queue s q ≡ Some queue → has_cq queue.state ≡ true
