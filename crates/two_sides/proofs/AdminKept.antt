@@ -1,7 +1,7 @@
 -- What is decided of admin commands.
 use Rattle.machine_model.specs.After as a
 use Rattle.machine_model.specs.Events as events
-use Rattle.std.proofs.Common.{◌≡◌, ℕ, zero, suc, ◌+◌, ◌/◌, ◌%◌, ◌==◌, nat_lt, Bool, true, false, not, ◌&&◌, ◌||◌, Option, refl, arith, Some, None, List, [], ◌∷◌, slice_get, if◌then◌else◌, ap, sym, ◌∙◌, subst}
+use Rattle.std.proofs.Common.{◌≡◌, ℕ, zero, suc, ◌+◌, ◌/◌, ◌%◌, ◌==◌, nat_lt, Bool, true, false, not, ◌&&◌, ◌||◌, Option, refl, arith, Some, List, [], ◌∷◌, slice_get, if◌then◌else◌, ap, sym, ◌∙◌, subst, inl, inr}
 use Rattle.std.{proofs.lemmas.Bool.{not-false, or_parts, and_parts, cond_both, true≢false}, specs.Option.option_map_or}
 use Rattle.admin_commands.specs.Entries.{named_queue, named_command, named_size, named_base, named_completion_queue, is_contiguous, is_opcode}
 use Rattle.admin_commands.specs.Verdicts.{create_cq_verdict, create_sq_verdict, decision, delete_cq_verdict, delete_sq_verdict, half_fault, is_absent, is_io_queue, is_live}
@@ -18,9 +18,8 @@ use Rattle.controller_core.specs.Managing.{queues_after, stopping, with_completi
 use Rattle.controller_core.specs.declared.{command.Work.TheVariants.{Io, Admin}, queue.ControllerQueue.ControllerQueue}
 use Rattle.host_core.specs.{Alone.{HostView, HostStep, alone}, Ringing.{tail_of, head_rung}}
 use Rattle.machine_model.proofs.{Kept.{making_cq_as_heard, making_sq_as_heard}, Moves.{half_from, host_moves}, Owned.{HoldsPart, holds_from_sound}}
-use Rattle.machine_model.{proofs.Steps.{Accepts, kept_anyway, part_left}, specs.{After.change, Claims.{AdminLives, IsSound}, Events.{Event, Reply}}}
-use Rattle.machine_model.specs.{Refusals.{has_cq_alone, is_live as is_live_refusals}, State.{State, HostQueue}, Step.{HostPart, IsController, host_part}}
-use Rattle.machine_model.specs.declared.words.HostState.{HostState}
+use Rattle.machine_model.{proofs.{Steps.{Accepts, kept_anyway, part_left}, Cases.option_is}, specs.{After.change, Claims.{AdminLives, IsSound}}}
+use Rattle.machine_model.specs.{Events.{Event, Reply}, Refusals.is_live as is_live_refusals, State.{State, HostQueue}, Step.{HostPart, IsController, host_part}}
 use Rattle.page_ledger.specs.Owners.{pages_from}
 
 -- What the rule of an admin entry saw where it decided so.
@@ -50,9 +49,6 @@ Decides e view (DropCompletion q) = (e.opcode == DELETE_IO_CQ) ≡ true × (q �
 Decides e view (MakeCompletion q base) = MakesFree e view q base
 Decides e view (MakeSubmission q base) = MakesPaired e view q base
 
-last : (u v w x y : Bool) → u ≡ false → v ≡ false → w ≡ false → x ≡ false → (u || v || w || x || y) ≡ true → y ≡ true
-last u v w x y eu ev ew ex h = grind arith
-
 -- an I/O queue isn't queue 0
 not_admin : (q : ℕ) (view : DeviceView) → not (is_io_queue q view) ≡ false → (q == 0) ≡ false
 not_admin zero view e = absurd (true≢false e)
@@ -60,27 +56,44 @@ not_admin (suc q) view e = ne_zero q
 
 pub decides : (e : SubEntry) (view : DeviceView) → Decides e view (decision e view)
 decides e view =
+    let q : ℕ = named_queue e in
+    let stopping : Q (delete_sq_verdict q view) =
+    cond_both ((q == 0) || not (is_live view.sq)) _ _ Q (λ w. tt) (λ w. (refl, not-false (is_live view.sq) (or_parts (q == 0) (not (is_live view.sq)) w).1)) in
+    let dropping : (e.opcode == DELETE_IO_CQ) ≡ true → Q (delete_cq_verdict q view) = λ is4.
+    cond_both ((q == 0) || not view.cq_there) _ _ Q (λ w. tt)
+    (λ w. cond_both (not (is_absent view.sq)) _ _ Q (λ x. tt) (λ x. (is4, refl, not-false view.cq_there (or_parts (q == 0) (not view.cq_there) w).1, not-false (is_absent view.sq) x))) in
+    let completing : (e.opcode == CREATE_IO_CQ) ≡ true → Q (create_cq_verdict e view) = λ is5.
+    cond_both (not (is_io_queue q view) || view.cq_there) _ _ Q (λ w. tt)
+    (λ w. halving Completion (MakeCompletion q (named_base e)) (record {
+      opcode = is5;
+      queue = refl;
+      other = not_admin q view (or_parts (not (is_io_queue q view)) view.cq_there w).0;
+      begins = refl;
+      free = (or_parts (not (is_io_queue q view)) view.cq_there w).1;
+    })) in
+    let submitting : (e.opcode == CREATE_IO_SQ) ≡ true → Q (create_sq_verdict e view) = λ is1.
+    cond_both (not (is_io_queue q view) || not (is_absent view.sq)) _ _ Q (λ w. tt)
+    (λ w. cond_both (not (is_io_queue (named_completion_queue e) view)) _ _ Q (λ c. tt)
+    (λ known. cond_both (not view.cq_there || not (named_completion_queue e == q)) _ _ Q (λ c. tt)
+    (λ v. halving Submission (MakeSubmission q (named_base e))
+    (record {
+      opcode = is1;
+      queue = refl;
+      other = not_admin q view (or_parts (not (is_io_queue q view)) (not (is_absent view.sq)) w).0;
+      begins = refl;
+      free = not-false (is_absent view.sq) (or_parts (not (is_io_queue q view)) (not (is_absent view.sq)) w).1;
+      there = not-false view.cq_there (or_parts (not view.cq_there) (not (named_completion_queue e == q)) v).0;
+    })))) in
     cond_both (not (is_opcode e.opcode)) _ _ Q (λ c. tt)
     (λ known. cond_both (not (e.fuse == 0)) _ _ Q (λ c. tt)
     (λ unfused. cond_both (e.opcode == ABORT) _ _ Q (λ is8. (cond_both (view.target_walks && not (q == 0)) _ _ Q (λ w. (refl, refl, (and_parts view.target_walks (not (q == 0)) w).0)) (λ w. tt)))
     (λ not8. cond_both (e.opcode == DELETE_IO_SQ) _ _ Q (λ is0. stopping)
     (λ not0. cond_both (e.opcode == DELETE_IO_CQ) _ _ Q dropping
     (λ not4. cond_both (e.opcode == CREATE_IO_CQ) _ _ Q completing
-    (λ not5. submitting (last (e.opcode == ABORT) (e.opcode == DELETE_IO_SQ) (e.opcode == DELETE_IO_CQ) (e.opcode == CREATE_IO_CQ) (e.opcode == CREATE_IO_SQ) not8 not0 not4 not5 (not-false _ known))))))))
+    (λ not5. submitting (grind arith)))))))
   where
     Q : AdminVerdict → Type 0
     Q v = Decides e view v
-
-    q : ℕ
-    q = named_queue e
-
-    stopping : Q (delete_sq_verdict q view)
-    stopping = cond_both ((q == 0) || not (is_live view.sq)) _ _ Q (λ w. tt) (λ w. (refl, not-false (is_live view.sq) (or_parts (q == 0) (not (is_live view.sq)) w).1))
-
-    dropping : (e.opcode == DELETE_IO_CQ) ≡ true → Q (delete_cq_verdict q view)
-    dropping is4 =
-        cond_both ((q == 0) || not view.cq_there) _ _ Q (λ w. tt)
-        (λ w. cond_both (not (is_absent view.sq)) _ _ Q (λ x. tt) (λ x. (is4, refl, not-false view.cq_there (or_parts (q == 0) (not view.cq_there) w).1, not-false (is_absent view.sq) x)))
 
     -- a half that has a fault, and one that has none
     halving : (half : Half) (v : AdminVerdict) → Q v → Q (option_map_or (λ fault. Answer fault 0) (half_fault half e view) v)
@@ -92,32 +105,6 @@ decides e view =
       where
         R : Option Status → Type 0
         R o = Q (option_map_or (λ fault. Answer fault 0) o v)
-
-    completing : (e.opcode == CREATE_IO_CQ) ≡ true → Q (create_cq_verdict e view)
-    completing is5 =
-        cond_both (not (is_io_queue q view) || view.cq_there) _ _ Q (λ w. tt)
-        (λ w. halving Completion (MakeCompletion q (named_base e)) (record {
-          opcode = is5;
-          queue = refl;
-          other = not_admin q view (or_parts (not (is_io_queue q view)) view.cq_there w).0;
-          begins = refl;
-          free = (or_parts (not (is_io_queue q view)) view.cq_there w).1;
-        }))
-
-    submitting : (e.opcode == CREATE_IO_SQ) ≡ true → Q (create_sq_verdict e view)
-    submitting is1 =
-        cond_both (not (is_io_queue q view) || not (is_absent view.sq)) _ _ Q (λ w. tt)
-        (λ w. cond_both (not (is_io_queue (named_completion_queue e) view)) _ _ Q (λ c. tt)
-        (λ known. cond_both (not view.cq_there || not (named_completion_queue e == q)) _ _ Q (λ c. tt)
-        (λ v. halving Submission (MakeSubmission q (named_base e))
-        (record {
-          opcode = is1;
-          queue = refl;
-          other = not_admin q view (or_parts (not (is_io_queue q view)) (not (is_absent view.sq)) w).0;
-          begins = refl;
-          free = not-false (is_absent view.sq) (or_parts (not (is_io_queue q view)) (not (is_absent view.sq)) w).1;
-          there = not-false view.cq_there (or_parts (not view.cq_there) (not (named_completion_queue e == q)) v).0;
-        }))))
 
 -- The size of the rings is looked at where an I/O queue is named.
 pub same_decision : (e : SubEntry) (view : DeviceView) (n : ℕ) → (is_io_queue (named_queue e) view ≡ true → view.entries ≡ n) → decision e view ≡ decision e (record view { entries = n })
@@ -146,10 +133,9 @@ shares_left n (suc k) f (x ∷ hs) (c ∷ cs) leaves h = h
 -- or a change of a queue that is not live, so it isn't queue 0
 shares_past : (n k : ℕ) (f : HostQueue → HostQueue) (hs : List HostQueue) (cs : List ControllerQueue) → ((x : HostQueue) → slice_get hs k ≡ Some x → is_live_refusals x.state ≡ false)
     → AdminStands n hs cs → SharesAdmin n (change k f hs) cs
-shares_past n k f [] cs past h = h.shares
 shares_past n zero f (x ∷ hs) cs past h = absurd (true≢false (sym h.lives ∙ past x refl))
 shares_past n (suc k) f (x ∷ hs) [] past h = tt
-shares_past n (suc k) f (x ∷ hs) (c ∷ cs) past h = h.shares
+shares_past n k f x cs past h = h.shares
 
 lives_ring : (k : ℕ) (g : HostRing → HostRing) (hs : List HostQueue) → AdminLives hs → AdminLives (change k (λ x. record x { ring = g x.ring }) hs)
 lives_ring k g [] h = h
@@ -159,12 +145,15 @@ lives_ring (suc k) g (x ∷ hs) h = h
 stands_ring : (n k : ℕ) (g : HostRing → HostRing) (hs : List HostQueue) (cs : List ControllerQueue) → AdminStands n hs cs → AdminStands n (change k (λ x. record x { ring = g x.ring }) hs) cs
 stands_ring n k g hs cs h = record { lives = lives_ring k g hs h.lives; shares = shares_left n k (λ x. record x { ring = g x.ring }) hs cs (λ x. (refl, refl)) h.shares }
 
-alone_past : (st : HostState) → has_cq_alone st ≡ true → is_live_refusals st ≡ false
-alone_past st e = grind arith
-
 event : (cs : List ControllerQueue) (s : State) (e : Event) (reply : Reply) → Accepts s e reply → IsController e ≡ false → HoldsPart (host_part s)
     → SharesAdmin s.entries s.host.queues cs → SharesAdmin (a.after s e reply).entries (a.after s e reply).host.queues cs
 event cs s e reply ok c holds share =
+    let h : AdminStands n hs cs = record { lives = holds.admin; shares = share } in
+    let told : (q : ℕ) (e : ComEntry) → AdminStands n (a.heard q e s).host.queues cs = λ q e.
+    stands_ring n q (knowing e.sqhd) (change q (λ x. record x { ring = next_head n x.ring }) hs) cs (stands_ring n q (next_head n) hs cs h) in
+    let behind : (q : ℕ) (e : ComEntry) (k : ℕ) (f : HostQueue → HostQueue) → ((x : HostQueue) → slice_get (a.heard q e s).host.queues k ≡ Some x → is_live_refusals x.state ≡ false)
+    → SharesAdmin n (change k f (a.heard q e s).host.queues) cs = λ q e k f past.
+    shares_past n k f (a.heard q e s).host.queues cs past (told q e) in
     let sent : AdminStands n (change 0 (λ x. record x { ring = next_tail n x.ring }) hs) cs = stands_ring n 0 (next_tail n) hs cs h in
     host_moves (λ (e : Event) (reply : Reply) (t : State). SharesAdmin t.entries t.host.queues cs) s e reply ok c
     (record {
@@ -177,7 +166,7 @@ event cs s e reply ok c holds share =
       tells = λ q cid st what e r request t heard w. (told q e).shares;
       hears = λ q cid st what e r adm t heard w quiet unmade. (told q e).shares;
       notes = λ q cid st what e r k t heard w. shares_left n k (λ x. record x { state = _ }) (a.heard q e s).host.queues cs (λ x. (refl, refl)) (told q e).shares;
-      frees = λ q cid st what e r k queue t heard w at alone good. behind q e k a.gone (λ x ex. same at ex (alone_past queue.state alone));
+      frees = λ q cid st what e r k queue t heard w at alone good. behind q e k a.gone (λ x ex. same at ex (grind arith));
       makes_cq = λ q cid st what e r k size base t heard w good. shares_left n k a.half_made (a.heard q e s).host.queues cs (λ x. (refl, refl)) (told q e).shares;
       unmakes_cq = λ q cid st what e r k size base queue t heard w at bad. behind q e k a.gone (λ x ex. ap is_live_refusals (making_cq_as_heard s q cid st e r k size base holds heard w x ex));
       makes_sq = λ q cid st what e r k size base t heard w good. shares_left n k a.live (a.heard q e s).host.queues cs (λ x. (refl, refl)) (told q e).shares;
@@ -204,18 +193,8 @@ event cs s e reply ok c holds share =
     hs : List HostQueue
     hs = s.host.queues
 
-    h : AdminStands n hs cs
-    h = record { lives = holds.admin; shares = share }
-
-    told : (q : ℕ) (e : ComEntry) → AdminStands n (a.heard q e s).host.queues cs
-    told q e = stands_ring n q (knowing e.sqhd) (change q (λ x. record x { ring = next_head n x.ring }) hs) cs (stands_ring n q (next_head n) hs cs h)
-
     same : {o : Option HostQueue} {x y : HostQueue} → o ≡ Some x → o ≡ Some y → is_live_refusals x.state ≡ false → is_live_refusals y.state ≡ false
     same {o} {x} {y} at ex past = let is : x ≡ y = cc (at, ex) in subst (λ (z : HostQueue). is_live_refusals z.state ≡ false) is past
-
-    behind : (q : ℕ) (e : ComEntry) (k : ℕ) (f : HostQueue → HostQueue) → ((x : HostQueue) → slice_get (a.heard q e s).host.queues k ≡ Some x → is_live_refusals x.state ≡ false)
-        → SharesAdmin n (change k f (a.heard q e s).host.queues) cs
-    behind q e k f past = shares_past n k f (a.heard q e s).host.queues cs past (told q e)
 
     reset : (hs : List HostQueue) (cs : List ControllerQueue) → SharesAdmin n hs cs → SharesAdmin n (a.reset_queues hs) cs
     reset [] cs share = share
@@ -255,31 +234,25 @@ head_leaves v c =
     cond_both (is_in_range c.device.entries c.device.ring.known_head c.device.ring.tail v) (with_side (record c.device { ring = hearing_head v c.device.ring }) c) c (λ x. (x.device.sq ≡ c.device.sq) × (x.device.cq ≡ c.device.cq))
     (λ e. (refl, refl)) (λ e. (refl, refl))
 
-hearing : (e : Event) (reply : Reply) (v : HostView) (n : ℕ) (hs : List HostQueue) (c : Contents) → SharesAdmin n hs c.queues → SharesAdmin n hs (heard e reply v c).queues
-hearing e (events.Refused why touched) v n hs c h = h
-hearing (events.Ring q) events.Accepted v n hs c h = go (tail_of v q)
-  where
-    go : (o : Option ℕ) → SharesAdmin n hs (option_map_or (λ tail. record c { queues = change q (with_tail tail) c.queues }) o c).queues
-    go None = h
-    go (Some tail) = places_left n q (with_tail tail) hs c.queues (tail_leaves tail) h
-hearing (events.Reap q) (events.Reaps what) v n hs c h = go (head_rung v q what)
-  where
-    go : (o : Option ℕ) → SharesAdmin n hs (option_map_or (λ head. record c { queues = change q (with_head head) c.queues }) o c).queues
-    go None = h
-    go (Some head) = places_left n q (with_head head) hs c.queues (head_leaves head) h
-hearing e reply v n hs c h = h
+-- what holds of its queues where it heard nothing, and where it heard a tail or a head
+pub heard_by : (P : List ControllerQueue → Type 0) (e : Event) (reply : Reply) (v : HostView) (c : Contents) → ((q tail : ℕ) → P c.queues → P (change q (with_tail tail) c.queues))
+    → ((q head : ℕ) → P c.queues → P (change q (with_head head) c.queues)) → P c.queues → P (heard e reply v c).queues
+heard_by P e (events.Refused why touched) v c tails heads h = h
+heard_by P (events.Ring q) events.Accepted v c tails heads h = elim (option_is (tail_of v q)) [ inl e ↦ rw e h | inr (tail, e) ↦ rw e (tails q tail h) ]
+heard_by P (events.Reap q) (events.Reaps what) v c tails heads h = elim (option_is (head_rung v q what)) [ inl e ↦ rw e h | inr (head, e) ↦ rw e (heads q head h) ]
+heard_by P e reply v c tails heads h = h
 
 -- a step of the host, and what the controller hears of it
 pub admin_behind : (s : Sides) (e : Event) (reply : Reply) (host : HostView) (pages : Pages) → IsController e ≡ false → HostStep s.host s.pages e reply host pages → IsSound (alone s.host s.pages)
     → SharesAdmin s.host.entries s.host.host.queues s.controller.queues → SharesAdmin host.entries host.host.queues (heard e reply host s.controller).queues
 admin_behind s e reply host pages c step sound share =
+    let Shares : HostPart → Type 0 = λ part. SharesAdmin part.entries part.host.queues s.controller.queues in
     let before : State = alone s.host s.pages in
-    hearing e reply host host.entries host.host.queues s.controller
+    heard_by (SharesAdmin host.entries host.host.queues) e reply host s.controller
+    (λ q tail. places_left host.entries q (with_tail tail) host.host.queues s.controller.queues (tail_leaves tail))
+    (λ q head. places_left host.entries q (with_head head) host.host.queues s.controller.queues (head_leaves head))
     (subst Shares (sym (part_left before e reply (alone host pages) step.2))
     (kept_anyway Shares before e reply (IsController e) refl step.1 (λ ok c'. event s.controller.queues before e reply ok c' (holds_from_sound before sound)) share))
-  where
-    Shares : HostPart → Type 0
-    Shares part = SharesAdmin part.entries part.host.queues s.controller.queues
 
 -- What an entry of queue 0 decides, and what the end of a command leaves
 

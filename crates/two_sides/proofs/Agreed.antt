@@ -2,7 +2,7 @@
 use Rattle.machine_model.specs.After as a
 use Rattle.machine_model.specs.Events as events
 use Rattle.machine_model.specs.declared.words.Refusal.TheVariants as refusal
-use Rattle.std.proofs.Common.{◌≡◌, ℕ, ◌-◌, ◌<◌, ◌≤◌, Bool, true, false, ◌||◌, Option, Some, None, List, [], ◌∷◌, length, slice_get, if◌then◌else◌, MatchBool, arith, refl, ap, sym, ◌∙◌, subst, not, suc, zero, ◌==◌, filter, cond, eqb-true, inl, inr, ◌⊎◌, nat_lt, is_some, is_none, get_or, ◌&&◌, ◌++◌}
+use Rattle.std.proofs.Common.{◌≡◌, ℕ, ◌-◌, ◌<◌, ◌≤◌, Bool, true, false, ◌||◌, Option, Some, None, List, [], ◌∷◌, length, slice_get, if◌then◌else◌, MatchBool, arith, refl, ap, sym, ◌∙◌, subst, not, suc, zero, ◌==◌, filter, eqb-true, inl, inr, ◌⊎◌, is_some, is_none, get_or, ◌&&◌, ◌++◌}
 use Rattle.std.proofs.lemmas.{Bool.{true≢false, or_parts, cases_Bool, and_parts, Decides.nat_tests}, Option.slice_get-get_or}
 use Rattle.std.specs.{List.{AllByRecursion, list_all}, Option.option_map_or}
 use Rattle.machine_model.proofs.{Cases.option_is, Counting.{all_at, find_sound}}
@@ -17,7 +17,7 @@ use Rattle.machine_model.specs.{Claims.IsSound, Events.{Event, Reply}, Memory.{w
 use Rattle.machine_model.specs.{Positions.IsInRing, Proper.IsProper}
 use Rattle.machine_model.specs.{Refusals.{refusal_of, is_live, has_sq, has_cq, job_at, causes, no_identifier, is_job, job_is, post_page, is_submitted}, Run.Run}
 use Rattle.machine_model.specs.{Standing.{CommandStands, IsSized}, State.{State, HostQueue, Record, Job, outstanding_on, is_at, with_record, without_record}}
-use Rattle.machine_model.specs.Step.{Step, Refuses, MayRefuse, Answers, AnswersAnything, IsController, Leaves, LeavesByController, LeavesByHost, IsNewIdentifier, allocates, reaped, touched_by_refusal, unit_answered, is_exact, HostPart, KeepsDevice}
+use Rattle.machine_model.specs.Step.{Step, Refuses, MayRefuse, Answers, IsController, LeavesByController, LeavesByHost, IsNewIdentifier, allocates, reaped, touched_by_refusal, is_exact, HostPart, KeepsDevice}
 use Rattle.machine_model.specs.{Work.Work, declared.words.{HostState.TheVariants.Live, Phase.TheVariants.Held, Refusal.Refusal, Work.TheVariants.Io}}
 use Rattle.two_sides.proofs.{Along.{along_proper, each_proper_step, stays_trusted}, Heads.heads_at_opening}
 use Rattle.two_sides.proofs.JobLaws.{stood_has_chains, stood_has_jobs, stood_keeps_chains, stood_keeps_lists, stood_linked, stood_stays, stood_keeps_pages_whole}
@@ -130,26 +130,22 @@ agrees_after_reset s agree =
 -- whatever was forged
 pub reset_recovers : resets_recover
 reset_recovers s can =
+    let lives : (x : HostQueue) → slice_get s.host.queues 0 ≡ Some x → x.state ≡ Live = λ x e.
+    live_is x.state (sym (ap (λ (o : Option HostQueue). option_map_or (λ queue. is_live queue.state) o true) e) ∙ can.sound.admin) in
+    let at : (x : HostQueue) → slice_get s.host.queues 0 ≡ Some x → HasHalves s.entries x = λ x e. all_at (HasHalves s.entries) s.host.queues 0 x e can.provided.queues in
+    let sized : (r : Record) (request : Request) → FitsRequest request × IsGood request → length r.data_pages ≡ data_count request.pieces → IsSized r request = λ r request checked pages.
+    record { fits = checked.0; good = checked.1; pages = pages } in
     recovered s can.sound can.some_entries can.few_queues can.few_pages can.paired
     (record { sub = λ x e. half Submission (has_sq x.state) x.sq_pages (ap has_sq (lives x e)) (at x e).submission; comp = λ x e. half Completion (has_cq x.state) x.cq_pages (ap has_cq (lives x e)) (at x e).completion })
     (all_in_both (λ r. IsProvided s.entries s.segment r) (λ r. IsChecked r.work) IsSizedIfIo s.host.records (λ r within checked p request w. sized r request (subst IsChecked w checked) (has_pages r request w p.pages)) can.checked can.provided.commands)
     (all_in (λ r. IsProvided s.entries s.segment r) (λ r. r.cid < s.entries - 1) s.host.records (λ r within p. p.identifier) can.provided.commands)
   where
-    lives : (x : HostQueue) → slice_get s.host.queues 0 ≡ Some x → x.state ≡ Live
-    lives x e = live_is x.state (sym (ap (λ (o : Option HostQueue). option_map_or (λ queue. is_live queue.state) o true) e) ∙ can.sound.admin)
-
-    at : (x : HostQueue) → slice_get s.host.queues 0 ≡ Some x → HasHalves s.entries x
-    at x e = all_at (HasHalves s.entries) s.host.queues 0 x e can.provided.queues
-
     half : (of : Half) (has : Bool) (pages : List ℕ) → has ≡ true → LieTogether (if has then half_pages s.entries of else 0) pages → length pages ≡ half_pages s.entries of
     half of has pages is lies =
         ap length lies.1 ∙ length-range lies.0 (if has then half_pages s.entries of else 0) ∙ ap (λ (b : Bool). if b then half_pages s.entries of else 0) is
 
     has_pages : (r : Record) (request : Request) → r.work ≡ Io request → HasPagesFor s.segment r.work r.data_pages r.chain_pages → length r.data_pages ≡ data_count request.pieces
     has_pages r request w pages = (subst (λ (x : Work). HasPagesFor s.segment x r.data_pages r.chain_pages) w pages).0
-
-    sized : (r : Record) (request : Request) → FitsRequest request × IsGood request → length r.data_pages ≡ data_count request.pieces → IsSized r request
-    sized r request checked pages = record { fits = checked.0; good = checked.1; pages = pages }
 
 -- Where it holds
 
@@ -220,13 +216,12 @@ fewer n (x ∷ xs) h = grind (arith, as_few n xs, fewer n xs)
 
 still : (n k : ℕ) (xs : List ℕ) → k < n → is_among (others n xs) k ≡ false → is_among xs k ≡ false
 still n k [] l h = refl
-still n k (x ∷ xs) l h = elim (cases_Bool (x == n)) [
-  | inl e ↦ let g = rw e at h in let ih = still n k xs l in rw (differs e) (ih g)
-  | inr e ↦ let g = rw e at h in let ih = still n k xs l in let both = or_parts (x == k) (is_among (others n xs) k) g in rw both.0 (ih both.1)
-]
-  where
-    differs : (x == n) ≡ true → (x == k) ≡ false
-    differs e = let same : x ≡ n = eqb-true x n e in grind (arith, nat_tests)
+still n k (x ∷ xs) l h =
+    let differs : (x == n) ≡ true → (x == k) ≡ false = λ e. let same : x ≡ n = eqb-true x n e in grind (arith, nat_tests) in
+    elim (cases_Bool (x == n)) [
+      | inl e ↦ let g = rw e at h in let ih = still n k xs l in rw (differs e) (ih g)
+      | inr e ↦ let g = rw e at h in let ih = still n k xs l in let both = or_parts (x == k) (is_among (others n xs) k) g in rw both.0 (ih both.1)
+    ]
 
 -- a list of fewer than n numbers lacks one below n
 pub not_among : (n : ℕ) (xs : List ℕ) → length xs < n → (k : ℕ) × (k < n) × (is_among xs k ≡ false)
@@ -305,13 +300,10 @@ left_by s next e (inl host) = elim (cases_Bool (is_exact e s.trusted)) [
   | inr loose ↦ (record next { device = s.device }, unjudged _ _ loose (unjudged _ _ host (record { part = refl; memory = refl; device = record { image = refl; queues = refl } })))
 ]
 
--- a refusal is no answer of an accepted event
-pub refusal_is_none : (s : State) (e : Event) (why : Refusal) (touched : List ℕ) → Answers s e (events.Refused why touched) → ⊥
-refusal_is_none s e why touched h = grind arith
-
 -- a reply that no cause is against
 pub done : (s : State) (e : Event) (reply : Reply) → IsProper e → IsJudged s e → IsController e ≡ false ⊎ (is_exact e s.trusted ≡ true) → refusal_of s e ≡ None → Answers s e reply → IsDone s e reply
-done s e (events.Refused why touched) proper j x none answer = absurd (refusal_is_none s e why touched answer)
+-- a refusal is no answer of an accepted event
+done s e (events.Refused why touched) proper j x none answer = absurd (grind arith)
 done s e (events.Reserved d) proper j x none answer = let left = left_by s (after s e (events.Reserved d)) e x in (left.0, (proper, judged _ _ j (none, answer), left.1))
 done s e reply proper j x none answer = let left = left_by s (after s e reply) e x in (left.0, (proper, judged _ _ j (none, answer), left.1))
 
@@ -332,10 +324,8 @@ walk_allowed s q cid none =
 
 pub has_unit : (s : State) (q cid : ℕ) (j : Job) → s.trusted ≡ true → IsInOrder s → job_at s q cid ≡ Some j → j.verdict ≡ None → (j.q == 0) ≡ false → (act : Act) × (next_unit s j ≡ Some act)
 has_unit s q cid j t order found unfinished io =
-    let ids = and_parts (j.q == q) (j.entry.cid == cid) (find_sound (is_job q cid) s.device.jobs j found) in
-    let some : (q == 0) ≡ false = ap (λ (k : ℕ). k == 0) (sym (eqb-true j.q q ids.0)) ∙ io in
-    let stands = stood_has_jobs s (stood_of s (order.agree t)) q cid j (grind (arith, nat_tests, some)) found in
-    there (units (course_of s j)) j.units_done (stands.unit_left unfinished)
+    let some : (q == 0) ≡ false = ap (λ (k : ℕ). k == 0) (sym (eqb-true j.q q (and_parts (j.q == q) (j.entry.cid == cid) (find_sound (is_job q cid) s.device.jobs j found)).0)) ∙ io in
+    there (units (course_of s j)) j.units_done ((stood_has_jobs s (stood_of s (order.agree t)) q cid j (grind (arith, nat_tests, some)) found).unit_left unfinished)
   where
     there : (acts : List Act) (k : ℕ) → k < length acts → (act : Act) × (slice_get acts k ≡ Some act)
     there [] k l = absurd (omega arith)
@@ -414,6 +404,8 @@ CheckedPart part = AllChecked part.host.records
 
 checked_event : (s : State) (e : Event) (reply : Reply) → IsProper e → Accepts s e reply → IsController e ≡ false → IsKept CheckedPart s e reply
 checked_event s e reply proper ok c h =
+    let more : (new : Record) → IsChecked new.work → AllChecked (s.host.records ++ new ∷ []) = λ new own. all_append (λ r. IsChecked r.work) s.host.records (new ∷ []) h (own, tt) in
+    let without : (q cid : ℕ) → AllChecked (without_record q cid s.host.records) = λ q cid. all_filter (λ r. IsChecked r.work) (λ r. not (is_at q cid r)) s.host.records h in
     host_moves (λ (e : Event) (reply : Reply) (t : State). IsProper e → AllChecked t.host.records) s e reply ok c
     (record {
       reserves = λ q request d none is pr. more (drafted_record d) (subst (λ (x : Request). FitsRequest x × IsGood x) (sym is.request) (pr, good q request none));
@@ -448,12 +440,6 @@ checked_event s e reply proper ok c h =
 
     good : (q : ℕ) (request : Request) → refusal_of s (events.Reserve q request) ≡ None → IsGood request
     good q request none = no_fault (fault_of request.kind request.blocks request.pieces) (unrefused s (events.Reserve q request) none).1.1.0
-
-    more : (new : Record) → IsChecked new.work → AllChecked (s.host.records ++ new ∷ [])
-    more new own = all_append (λ r. IsChecked r.work) s.host.records (new ∷ []) h (own, tt)
-
-    without : (q cid : ℕ) → AllChecked (without_record q cid s.host.records)
-    without q cid = all_filter (λ r. IsChecked r.work) (λ r. not (is_at q cid r)) s.host.records h
 
     with : (q cid : ℕ) (f : Record → Record) → ((r : Record) → (f r).work ≡ r.work) → AllChecked (with_record q cid f s.host.records)
     with q cid f same = all_map (λ r. IsChecked r.work) (λ r. IsChecked r.work) (λ r. if is_at q cid r then f r else r) s.host.records (λ r p. go r (is_at q cid r) p) h

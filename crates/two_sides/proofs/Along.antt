@@ -1,14 +1,12 @@
 -- What holds along a run.
 use Rattle.machine_model.specs.After as a
 use Rattle.machine_model.specs.Events as events
-use Rattle.std.proofs.Common.{◌≡◌, Bool, true, false, not, refl, ap, ◌∙◌, inl, inr, ℕ, List, [], ◌∷◌, ◌++◌, sym, subst, append-nil, append_assoc, Some, filter, find, if◌then◌else◌, ◌||◌, IsTrue, map}
+use Rattle.std.proofs.Common.{◌≡◌, Bool, true, false, not, refl, ap, ◌∙◌, inl, inr, ℕ, List, [], ◌∷◌, ◌++◌, sym, subst, append-nil, append_assoc, ◌||◌, IsTrue, map}
 use Rattle.std.{proofs.lemmas.{Bool.{true≢false, cases_Bool, or_parts, not-true}, List.Folds.list_any-append}, specs.List.list_any}
 use Rattle.machine_model.{proofs.{Moves.host_moves, Steps.{Accepts, part_controller, part_left, permitted, exact}}, specs.{Events.{Event, Reply}, Image.Made}}
-use Rattle.machine_model.specs.{Opening.{opening, Opens}, Proper.IsProper, Run.Run, State.{State, Record, is_at}}
-use Rattle.machine_model.specs.{Step.{Step, IsController, HostPart, forges, resets}, Trusted.{forges_by, Steps, TrustedRun, is_forgery}}
-use Rattle.machine_model.specs.declared.words.Refusal.{Refusal}
+use Rattle.machine_model.specs.{Opening.{opening, Opens}, Proper.IsProper, Run.Run, State.State, Step.{Step, IsController, HostPart, forges, resets}}
+use Rattle.machine_model.specs.{Trusted.{forges_by, Steps, TrustedRun, is_forgery}, declared.words.Refusal.Refusal}
 use Rattle.two_sides.{proofs.Standing.forged_untrusted, specs.{Histories.unforged_runs_end_trusted, InOrder.{has_forgery, runs_are_made}}}
-use Rattle.two_sides.specs.Recovering.{resets_leave_io_commands}
 
 -- The flag of trust: no event but a forgery and a reset changes it, and a reset sets it.
 
@@ -208,8 +206,6 @@ record MadeAs (s : State) (es : List Event) (replies : List Reply) (end : State)
 
 run_made_as : (s : State) (es : List Event) (replies : List Reply) (end : State) → Run s es replies end → MadeAs s es replies end
 run_made_as s [] [] end run = record { made = []; happened = refl; answered = refl; steps = run; forged = refl }
-run_made_as s [] (reply ∷ replies) end run = absurd run
-run_made_as s (e ∷ es) [] end run = absurd run
 run_made_as s (e ∷ es) (reply ∷ replies) end run =
     let rest = run_made_as run.0 es replies end run.2 in
     record {
@@ -219,6 +215,7 @@ run_made_as s (e ∷ es) (reply ∷ replies) end run =
       steps = (refl, run.0, run.1, rest.steps);
       forged = ap (λ (b : Bool). forges_by e reply || b) rest.forged;
     }
+run_made_as s x y end run = absurd run
 
 pub run_is_made : runs_are_made
 run_is_made pages queues n s image es replies end opens bytes run unforged =

@@ -1,7 +1,7 @@
 -- Completions that are posted, taken and forged.
 use Rattle.controller_core.specs.declared.refusal.Refusal.TheVariants as refusal
 use Rattle.machine_model.specs.Events as events
-use Rattle.std.proofs.Common.{◌≡◌, ◌≢◌, ℕ, ◌+◌, ◌*◌, ◌/◌, ◌%◌, ◌<◌, Bool, true, false, Option, Some, None, IsSome, List, [], ◌∷◌, ◌++◌, length, map, is_none, slice_get, if◌then◌else◌, refl, ap, ap₂, sym, ◌∙◌, arith, subst, inl, inr, zero, suc, drop, nat_le, is_some}
+use Rattle.std.proofs.Common.{◌≡◌, ◌≢◌, ℕ, ◌+◌, ◌*◌, ◌/◌, ◌%◌, ◌<◌, Bool, true, false, Option, Some, None, IsSome, List, [], ◌∷◌, ◌++◌, length, map, is_none, slice_get, if◌then◌else◌, refl, ap, ap₂, sym, ◌∙◌, arith, subst, inl, inr, zero, suc, drop, is_some}
 use Rattle.std.{proofs.lemmas.Bool.{true≢false, not-false, Decides.nat_tests}, specs.{List.AllByRecursion, Option.{option_map, option_map_or}}}
 use Rattle.machine_model.proofs.{Cases.option_is, Counting.held_once, Kept.reaped_has_cq, Steps.{in_store-with_bytes, unrefused}}
 use Rattle.machine_model.specs.{After.{answered, change, after, on_memory}, Always.HasHalves, Memory.is_in}
@@ -10,8 +10,8 @@ use Rattle.machine_model.specs.{State.{State, HostQueue, Answer, DeviceQueue}, S
 use Rattle.admin_commands.specs.Verdicts.{is_absent}
 use Rattle.controller_core.specs.{Answering.{completion_by, memory_posted, page_posted, post_refusal, with_answer}, Doorbells.{with_side, with_head}}
 use Rattle.controller_core.specs.declared.queue.ControllerQueue.{ControllerQueue}
-use Rattle.entry_codec.{proofs.CompletionLemmas.round_trip, specs.{Completion.{completion_bytes, FitsCompletion, IsComEntry}, declared.completion.ComEntry.ComEntry}}
-use Rattle.entry_codec.specs.declared.{status.Status.Status, submission.SubEntry.SubEntry}
+use Rattle.entry_codec.{proofs.CompletionLemmas.round_trip, specs.Completion.{completion_bytes, FitsCompletion, IsComEntry}}
+use Rattle.entry_codec.specs.declared.{completion.ComEntry.ComEntry, status.Status.Status, submission.SubEntry.SubEntry}
 use Rattle.two_sides.proofs.{Agreed.recovery_kept, Assembling.{ends_in_range, sides_served, into}}
 use Rattle.two_sides.proofs.Frames.{SparesQueue, SparesSubmitted, apart_from_queues, halves_apart, own_halves_apart, one_queue, one_stands, IsKnown, queue_ring, controller_at, known, reaped_ring, half_in, half_lies, tied_of, queue_page_in}
 use Rattle.two_sides.proofs.JobLaws.{length-completion_bytes}
@@ -62,9 +62,8 @@ pub post_room : (m : Memory) (device : DeviceSide) → post_refusal m device ≡
 post_room m device none = go (is_full device.entries device.ring.known_head device.ring.tail) (completion_slot m device.cq device.ring.tail) none
   where
     go : (full : Bool) (slot : Option (List ℕ)) → (if full then Some refusal.Full else if is_none slot then Some refusal.SlotOut else None) ≡ None → (full ≡ false) × (slot ≢ None)
-    go true slot e = cc
-    go false None e = cc
     go false (Some bytes) e = (refl, λ none. cc)
+    go x slot e = cc
 
 -- and both sides have the queue
 pub answer_shares : (n i : ℕ) (h : HostQueue) (c : ControllerQueue) → ShareQueue n i h c → ShareQueue n i h (with_answer c)
@@ -150,12 +149,11 @@ present-append (Some y ∷ xs) x = ap (λ ys. y ∷ ys) (present-append xs x)
 entries_stay : (s : Sides) (q : ℕ) (h : HostQueue) (c : ControllerQueue) (e : ComEntry) → IsWorld s → slice_get s.host.host.queues q ≡ Some h → CanAnswer s q h c e
     → unfetched_between (byte_at (with_completion s c e)) h.ring c.device ≡ unfetched_between (byte_at s.pages) h.ring c.device
 entries_stay s q h c e world at can =
-    let has = queue_ring s q h c can.known can.there in
     let sq = can.known.submission can.there in
     let n = can.known.placed.share.entries in
     let many = half_pages c.device.entries Submission in
     let spared : (p : ℕ) → p < many → page_at s.pages (c.device.sq + p) ≡ page_at (with_completion s c e) (c.device.sq + p) =
-    λ p l. sym (page_spared s q h c e (c.device.sq + p) can.known has (own_halves_apart s world q h (c.device.sq + p) at
+    λ p l. sym (page_spared s q h c e (c.device.sq + p) can.known (queue_ring s q h c can.known can.there) (own_halves_apart s world q h (c.device.sq + p) at
     (subst (λ (pages : List ℕ). is_among pages (c.device.sq + p) ≡ true) (sym sq) (among-from c.device.sq (half_pages s.host.entries Submission) p (subst (λ (k : ℕ). p < half_pages k Submission) n l))))) in
     ap present (sym (entries_agree (byte_at s.pages) (byte_at (with_completion s c e)) c.device.sq c.device.entries c.device.ring.head h.ring.tail
     (pages_agree s.pages (with_completion s c e) c.device.sq many spared) can.known.placed.share.side.head))
@@ -200,7 +198,6 @@ answer_rings s q cid st dw0 h c world can =
     let old = rings_of s q h c e can in
     let side = can.known.placed.share.side in
     let n = c.device.entries in
-    let has = queue_ring s q h c can.known can.there in
     let grown = completions_grow s q h c e world can in
     record {
       fetched = old.fetched;
@@ -208,7 +205,7 @@ answer_rings s q cid st dw0 h c world can =
       heard = old.heard;
       expected = old.expected
           ∙ sym (tie_kept_by_post n h.ring.head c.device.ring.tail c.device.ring.phase (in_ring s q h c can.known).head side.tail (subst (λ (k : ℕ). is_full n k c.device.ring.tail ≡ false) old.heard can.room));
-      phases = subst (λ (m : Memory). HasPhases m (with_answer c).device) (sym (posted_shown s q h c e world can.known has))
+      phases = subst (λ (m : Memory). HasPhases m (with_answer c).device) (sym (posted_shown s q h c e world can.known (queue_ring s q h c can.known can.there)))
           (phases_kept (byte_at s.pages) c.device.cq n c.device.ring.tail c.device.ring.phase (completion_bytes e) (length-completion_bytes e) (ap (λ (y : ComEntry). y.phase) (round_trip e can.typed can.fits)) side.tail old.phases);
       owned = subst (AllByRecursion (λ (y : ComEntry). y.sqid ≡ q)) (sym grown) (all_append (λ (y : ComEntry). y.sqid ≡ q) (completions_between (byte_at s.pages) h.ring c.device) (e ∷ []) old.owned (refl, tt));
       follow = subst (HeadsFollow n h.ring.known_head c.device.ring.head) (sym grown)
@@ -256,16 +253,10 @@ answer_is u s q cid st dw0 h c shown memory can =
 
 -- Positions: what is in range from a later position is so from an earlier one, and the other way round
 
-range_before : (n from mid to s : ℕ) → from < n → to < n → is_in_range n from to mid ≡ true → is_in_range n mid to s ≡ true → is_in_range n from to s ≡ true
-range_before n from mid to s lf lt hm hs = grind (arith, nat_tests)
-
-range_behind : (n from mid to s : ℕ) → from < n → to < n → is_in_range n from to s ≡ true → is_in_range n from s mid ≡ true → is_in_range n mid to s ≡ true
-range_behind n from mid to s lf lt hs hm = grind (arith, nat_tests)
-
 -- heads that follow from a later head follow from an earlier one
 follow_before : (n from mid to : ℕ) (es : List ComEntry) → from < n → to < n → is_in_range n from to mid ≡ true → HeadsFollow n mid to es → HeadsFollow n from to es
 follow_before n from mid to [] lf lt hm h = ends_in_range n from to lt
-follow_before n from mid to (e ∷ es) lf lt hm h = (range_before n from mid to e.sqhd lf lt hm h.0, h.1)
+follow_before n from mid to (e ∷ es) lf lt hm h = (grind (arith, nat_tests), h.1)
 
 -- What is known where the host sees an entry
 
@@ -317,11 +308,10 @@ known_follows s q h c x =
 
 pub answer_follows : (s : Sides) (q : ℕ) (h : HostQueue) (c : ControllerQueue) → (x : Sees s q h c) → Follows h c (byte_at s.pages) x.answer.entry.sqhd
 answer_follows s q h c x =
-    let first = first_follows s q h c x in
     let n : c.device.entries ≡ s.host.entries = x.known.placed.share.entries in
     let known : h.ring.known_head < c.device.entries = subst (λ (n : ℕ). h.ring.known_head < n) (sym n) x.known.placed.ring.known_head in
     let tail : h.ring.tail < c.device.entries = subst (λ (n : ℕ). h.ring.tail < n) (sym n) x.known.placed.ring.tail in
-    record { fetched = range_behind c.device.entries h.ring.known_head x.answer.entry.sqhd h.ring.tail c.device.ring.head known tail (x.known.rings x.has).fetched first.0; heads = first.1 }
+    record { fetched = grind (arith, nat_tests); heads = (first_follows s q h c x).1 }
 
 -- The queue without that answer
 
@@ -337,13 +327,7 @@ heard v c = with_side (record c.device { ring = hearing_head v c.device.ring }) 
 
 taken_seen : (m : Memory) (head : ℕ) (h : HostQueue) (c : ControllerQueue) → c.cq_there ≡ true → HasAnswer m h c
     → device_queue_of m (taken c.device.entries head h).ring (heard (next_slot c.device.entries h.ring.head) c) ≡ one_fewer (device_queue_of m h.ring c)
-taken_seen m head h c cq a =
-    ap (λ (b : Bool). with_answers (if b then map answer_of (behind m h c) else [])) cq
-    ∙ ap (λ (es : List ComEntry). with_answers (drop 1 (map answer_of es))) (sym a.list)
-    ∙ sym (ap (λ (b : Bool). with_answers (drop 1 (if b then map answer_of (completions_between m h.ring c.device) else []))) cq)
-  where
-    with_answers : List Answer → DeviceQueue
-    with_answers answers = record (device_queue_of m h.ring c) { answers = answers }
+taken_seen m head h c cq a = grind arith
 
 taken_stands : (s : Sides) (q head : ℕ) (h : HostQueue) (c : ControllerQueue) → Sees s q h c → Follows h c (byte_at s.pages) head
     → RingsStand (byte_at s.pages) q (taken c.device.entries head h) (heard (next_slot c.device.entries h.ring.head) c)
@@ -359,15 +343,6 @@ taken_stands s q head h c x follows =
       owned = (subst (λ (es : List ComEntry). AllByRecursion (λ e. e.sqid ≡ q) es) x.answer.list rings.owned).1;
       follow = follows.heads;
       drained = λ over. absurd (x.apart (rings.drained over));
-    }
-
-queue_taken : (s : Sides) (q head : ℕ) (h : HostQueue) (c : ControllerQueue) → Sees s q h c → Follows h c (byte_at s.pages) head
-    → QueueStands s.host.entries (byte_at s.pages) q (taken c.device.entries head h) (heard (next_slot c.device.entries h.ring.head) c)
-queue_taken s q head h c x follows =
-    record {
-      halves = record { submission = x.known.submission; completion = x.known.completion };
-      rings = λ has. taken_stands s q head h c x follows;
-      granted = x.known.granted;
     }
 
 -- All queues, once the answer is taken and its head is heard
@@ -410,7 +385,11 @@ takes s world tied q head h c f x follows is =
           (only (λ (y : HostQueue) (d : ControllerQueue). QueueStands s.host.entries m q y d → QueueStands s.host.entries m q (f y) (with_head v d)) hs cs q h c x.at x.there
           (λ stands. subst (λ (y : HostQueue). QueueStands s.host.entries m q y (with_head v c)) (sym is)
           (subst (λ (d : ControllerQueue). QueueStands s.host.entries m q (taken s.host.entries head h) d) (sym heard_here)
-          (subst (λ (n : ℕ). QueueStands s.host.entries m q (taken n head h) (heard (next_slot n h.ring.head) c)) n (queue_taken s q head h c x follows)))))
+          (subst (λ (n : ℕ). QueueStands s.host.entries m q (taken n head h) (heard (next_slot n h.ring.head) c)) n (record {
+            halves = record { submission = x.known.submission; completion = x.known.completion };
+            rings = λ has. taken_stands s q head h c x follows;
+            granted = x.known.granted;
+          })))))
           (λ i y d far at there stands. stands) tied.queues;
       head = ap (option_map (λ y. y.ring.head)) (at_changed f q hs h x.at) ∙ ap (λ (y : HostQueue). Some y.ring.head) is;
     }
@@ -426,14 +405,11 @@ slot_of : (s : Sides) (q slot : ℕ) (bytes : List ℕ) (h : HostQueue) → IsWo
 slot_of s q slot bytes h world none at =
     let causes = unrefused (state_of s) (events.Forge q slot bytes) none in
     let reaped : is_reaped h.state ≡ true = sym (ap (λ (o : Option HostQueue). option_map_or (λ queue. is_reaped queue.state) o false) at) ∙ not-false _ causes.0 in
-    let below = within s.host.entries slot causes.1.0 in
+    let below = (let within : slot < s.host.entries = grind (arith, nat_tests) in within) in
     record {
       below = below;
       half = half_lies s.host.entries h (omega (arith, below)) (all_at (HasHalves s.host.entries) s.host.host.queues q h at world.sides.provided.queues) (reaped_has_cq h.state reaped);
     }
-  where
-    within : (n slot : ℕ) → nat_le n slot ≡ false → slot < n
-    within n slot l = grind (arith, nat_tests)
 
 pub slots_are_in : completion_slots_are_in
 slots_are_in s q slot bytes h world none at out =
@@ -446,14 +422,8 @@ page_is_in_forgery : (s : Sides) (q slot : ℕ) (h : HostQueue) → IsWorld s �
 page_is_in_forgery s q slot h world at is =
     let first = first_completion_page h in
     let own : is_among h.cq_pages (completion_page first slot) ≡ true =
-    ap (λ (ps : List ℕ). is_among ps (completion_page first slot)) is.half ∙ among-from first (half_pages s.host.entries Completion) (slot / 256) (page_below s.host.entries slot is.below) in
+    ap (λ (ps : List ℕ). is_among ps (completion_page first slot)) is.half ∙ among-from first (half_pages s.host.entries Completion) (slot / 256) (omega arith) in
     queue_page_in s world.sides q h (completion_page first slot) at (omega (arith, held_once (completion_page first slot) h.cq_pages own))
-  where
-    page_below : (n slot : ℕ) → slot < n → slot / 256 < half_pages n Completion
-    page_below n slot l = omega arith
-
-slot_place_forgery : (cq slot : ℕ) → completion_place cq slot ≡ 4096 * completion_page cq slot + slot_offset 16 slot
-slot_place_forgery cq slot = omega arith
 
 pages_forged : (s : Sides) (q slot : ℕ) (bytes : List ℕ) (h : HostQueue) (pages : Pages) → IsWorld s → slice_get s.host.host.queues q ≡ Some h → IsSlot s slot h → length bytes ≡ 16 → LeavesPages s.pages pages
     → byte_at pages ≡ written (byte_at s.pages) (completion_place (first_completion_page h) slot) bytes → pages ≡ with_page_bytes s.pages (slot_page h.cq_pages 16 slot) (slot_offset 16 slot) bytes
@@ -461,11 +431,17 @@ pages_forged s q slot bytes h pages world at is count leaves wrote =
     let first = first_completion_page h in
     let page : slot_page h.cq_pages 16 slot ≡ completion_page first slot = ap (λ (ps : List ℕ). slot_page ps 16 slot) is.half ∙ completion_slot_page first s.host.entries slot is.below in
     page-written s.pages pages (completion_page first slot) (slot_offset 16 slot) bytes (page_is_in_forgery s q slot h world at is) (omega (arith, count)) world.sides.over.pool leaves.whole leaves.count
-    (wrote ∙ ap (λ (place : ℕ). written (byte_at s.pages) place bytes) (slot_place_forgery first slot))
+    (wrote ∙ ap (λ (place : ℕ). written (byte_at s.pages) place bytes) (omega arith))
     ∙ ap (λ (p : ℕ). with_page_bytes s.pages p (slot_offset 16 slot) bytes) (sym page)
 
 pub forged_stepped : forged_entries_step
 forged_stepped s q slot bytes h pages world count none at leaves wrote =
+    let forges_at : (u : State) (h : HostQueue) → host_queue u q ≡ Some h
+    → after u (events.Forge q slot bytes) events.Accepted ≡ record (on_memory (λ m. with_page_bytes m (slot_page h.cq_pages 16 slot) (slot_offset 16 slot) bytes) u) { trusted = false } = λ u h e.
+    rw e refl in
+    let due : after (state_of s) (events.Forge q slot bytes) events.Accepted
+    ≡ record (on_memory (λ m. with_page_bytes m (slot_page h.cq_pages 16 slot) (slot_offset 16 slot) bytes) (state_of s)) { trusted = false } =
+    forges_at (state_of s) h at in
     let memory : pages ≡ with_page_bytes s.pages (slot_page h.cq_pages 16 slot) (slot_offset 16 slot) bytes =
     pages_forged s q slot bytes h pages world at (slot_of s q slot bytes h world none at) count leaves wrote in
     let sides : AreSides (served s s.controller pages) = sides_served s s.controller pages world.sides (record {
@@ -496,11 +472,3 @@ forged_stepped s q slot bytes h pages world count none at leaves wrote =
         tied = tt;
       },
     )
-  where
-    forges_at : (u : State) (h : HostQueue) → host_queue u q ≡ Some h
-        → after u (events.Forge q slot bytes) events.Accepted ≡ record (on_memory (λ m. with_page_bytes m (slot_page h.cq_pages 16 slot) (slot_offset 16 slot) bytes) u) { trusted = false }
-    forges_at u h e = rw e refl
-
-    due : after (state_of s) (events.Forge q slot bytes) events.Accepted
-        ≡ record (on_memory (λ m. with_page_bytes m (slot_page h.cq_pages 16 slot) (slot_offset 16 slot) bytes) (state_of s)) { trusted = false }
-    due = forges_at (state_of s) h at

@@ -8,15 +8,16 @@ use Rattle.host_core.{proofs.Told.leaves_just, specs.Alone.{alone, HostView, Hos
 use Rattle.machine_model.proofs.{Counting.held_once, Headline.{sound_from_both, steps_keep}, HostLeaves.host_leaves}
 use Rattle.machine_model.proofs.{Moves.{collected_away, drafted_away, is_of_found, queue_found}, Owned.{holds_from_sound, taken_from_out}, Sound.Both}
 use Rattle.machine_model.{proofs.Steps.{Accepts, part_controller, found, unrefused}, specs.After.{after, collected, on_memory, on_records}}
-use Rattle.machine_model.specs.{Claims.{HasOneOwner, IsSound}, Events.{Event, Reply}, Memory.{memory_of, without_pages}, Proper.IsProper}
+use Rattle.machine_model.specs.{Claims.HasOneOwner, Events.{Event, Reply}, Memory.{memory_of, without_pages}, Proper.IsProper}
 use Rattle.machine_model.specs.Refusals.{refusal_of, is_reaped, seen_entry, in_service, is_collected, is_drafted, is_held, is_submitted}
 use Rattle.machine_model.specs.State.{State, Device, HostQueue, DeviceQueue, Record, is_at, pages_of, record_at, with_record}
-use Rattle.machine_model.specs.Step.{Answers, IsController, IsNewIdentifier, Permits, Refuses, touched_by_refusal, Leaves, LeavesByController, LeavesByHost, HostPart, Step, forges, host_part, is_exact, times}
+use Rattle.machine_model.specs.Step.{Answers, IsController, IsNewIdentifier, Permits, Refuses, touched_by_refusal, Leaves, LeavesByController, LeavesByHost, Step, forges, host_part, is_exact, times}
 use Rattle.machine_model.specs.declared.words.Refusal.{Refusal}
-use Rattle.two_sides.proofs.{AdminKept.admin_behind, Agreed.{step_keeps_agreement, recovery_kept}, Blind.out_of, DeviceMoves.steps_stay_in_rings}
+use Rattle.two_sides.proofs.{AdminKept.admin_behind, Agreed.{step_keeps_agreement, recovery_kept}, Blind.{out_of, SeesAlike, bare, head_of_entry, left_alike}}
+use Rattle.two_sides.proofs.DeviceMoves.{steps_stay_in_rings}
 use Rattle.two_sides.proofs.Frames.{tied_of, known, Spares, all_stand_still, free_apart_from_queues, one_queue, one_stands, queues_stay, unchanged, walks_after, commands_apart}
 use Rattle.two_sides.proofs.{Places.{seen_alike, told, tails_heard, in_ring, length-unfetched}, Provided.{steps_provide, in_found}, Serving.step_keeps_serving}
-use Rattle.two_sides.proofs.Shared.{SeesAlike, bare, head_of_entry, left_alike, refused_leaves, length-device, forged_step, commands-heard, image-heard, length-heard, share_queues, unreset}
+use Rattle.two_sides.proofs.Shared.{refused_leaves, length-device, forged_step, commands-heard, image-heard, length-heard, share_queues, unreset}
 use Rattle.two_sides.{proofs.Untouched.{with_elsewhere, without_elsewhere}, specs.Hearing.heard}
 use Rattle.two_sides.specs.Laws.{looks_at_completions, hosts_answer, hosts_refuse, behind}
 use Rattle.two_sides.specs.{Sides.{Sides, state_of, device_of, device_queue_of, device_queues_of}, Stepping.{StepsTo, LeavesPages, served}}
@@ -70,9 +71,8 @@ answers s (events.Complete q cid) reply c l h = absurd (true≢false c)
 answers s e reply c l h = absurd h
 
 pub into : {A : Type 0} (B : Type 0) (t c : Bool) → c ≡ false → A → MatchBool (t || not c) A B
-into B true c e h = h
 into B false true e h = absurd (true≢false e)
-into B false false e h = h
+into x y c e h = h
 
 permits : (s : Sides) (e : Event) (reply : Reply) → IsController e ≡ false → looks_at_completions e ≡ false → Permits (alone s.host s.pages) e reply → Permits (state_of s) e reply
 permits s e (events.Refused why touched) c l h = into _ s.trusted (IsController e) c (refuses s e why touched c (same_refusal s e c l) (out_of _ (IsController e) c h))
@@ -96,17 +96,6 @@ refuse_as_machine s e why touched host pages c l step = (
 
 -- A controller that hears a doorbell
 
-hears : (e : Event) (reply : Reply) (v : HostView) (c : Contents) → ContentsIsController c → ContentsIsController (heard e reply v c)
-hears e reply v c is =
-    let same = commands-heard e reply v c in
-    let blocks : block_count (heard e reply v c).image ≡ block_count c.image = ap block_count (image-heard e reply v c) in
-    record {
-      commands = subst (λ (k : List FetchedCommand). AreCommands (block_count (heard e reply v c).image) (length (heard e reply v c).queues) k) (sym same)
-          (subst (λ (n : ℕ). AreCommands n (length (heard e reply v c).queues) c.commands) (sym blocks)
-          (subst (λ (n : ℕ). AreCommands (block_count c.image) n c.commands) (sym (length-heard e reply v c)) is.commands));
-      awaited = subst AreAwaited (sym same) is.awaited;
-    }
-
 -- What holds whatever was forged stays behind each step of the host.
 pub sides_behind : (s : Sides) (e : Event) (reply : Reply) (host : HostView) (pages : Pages) → AreSides s → machine.IsController e ≡ false
     → HostStep s.host s.pages e reply host pages → IsOver host pages → AreSides (behind s e reply host pages)
@@ -121,16 +110,21 @@ sides_behind s e reply host pages sides c step over =
       };
       kept = kept;
       provided = steps_provide (alone s.host s.pages) e reply (alone host pages) step sides.kept sides.provided;
-      controller = hears e reply host s.controller sides.controller;
+      controller =
+          let same = commands-heard e reply host s.controller in
+          record {
+            commands = subst (λ (k : List FetchedCommand). AreCommands (block_count (heard e reply host s.controller).image) (length (heard e reply host s.controller).queues) k) (sym same)
+                (subst (λ (n : ℕ). AreCommands n (length (heard e reply host s.controller).queues) s.controller.commands) (sym (ap block_count (image-heard e reply host s.controller)))
+                (subst (λ (n : ℕ). AreCommands (block_count s.controller.image) n s.controller.commands) (sym (length-heard e reply host s.controller)) sides.controller.commands));
+            awaited = subst AreAwaited (sym same) sides.controller.awaited;
+          };
       queues = share_queues s e reply host pages c step sides.queues;
       admin = admin_behind s e reply host pages c step sides.kept sides.admin;
     }
 
 -- nothing changes
 nothing_left : (f c : Bool) (s next : State) → AreWhole s.memory → next ≡ s → MatchBool f (s ≡ next) (MatchBool c (LeavesByController s next s) (LeavesByHost s next s))
-nothing_left true c s next whole same = sym same
-nothing_left false true s next whole same = record { part = ap host_part (sym same); pages = whole; device = record { image = refl; queues = refl } }
-nothing_left false false s next whole same = record { part = ap host_part (sym same); memory = ap (λ (x : State). x.memory) (sym same); device = record { image = refl; queues = refl } }
+nothing_left f c s next whole same = grind arith
 
 stays_left : (s : State) (e : Event) (reply : Reply) → AreWhole s.memory → after s e reply ≡ s → Leaves s e reply s
 stays_left s e (events.Refused why touched) whole same = refl
@@ -158,10 +152,7 @@ exactly_left s e reply host pages t f same = due (machine.resets e) (forges e) s
     due : (z b t' : Bool) → b ≡ false → t' ≡ true
         → MatchBool (z || (not b && t')) (state_of (behind s e reply host pages) ≡ after (state_of s) e reply)
         (MatchBool (machine.IsController e) (LeavesByController (state_of s) (after (state_of s) e reply) (state_of (behind s e reply host pages))) (LeavesByHost (state_of s) (after (state_of s) e reply) (state_of (behind s e reply host pages))))
-    due true b t' x y = same
-    due false true t' x y = absurd (true≢false x)
-    due false false true x y = same
-    due false false false x y = absurd (true≢false (sym y))
+    due z b t' x y = grind arith
 
 -- the same completion stands at the head for the host and for the machine
 heads_alike : (o p : Option ComEntry) → told o ≡ told p → option_map head_of_entry p ≡ option_map head_of_entry o
@@ -241,14 +232,11 @@ pub record ServesOver (s : Sides) (c : Contents) (pages : Pages) : Type 0 where
   pub admin : SharesAdmin s.host.entries s.host.host.queues c.queues
   pub image : length c.image ≡ length s.controller.image
 
--- what is kept speaks of the host's part alone
-sound_alike : (s t : State) → host_part t ≡ host_part s → IsSound s → IsSound t
-sound_alike s t same sound = sound_from_both t (subst Both (sym same) (holds_from_sound s sound, taken_from_out s sound.out))
-
 pub sides_served : (s : Sides) (c : Contents) (pages : Pages) → AreSides s → ServesOver s c pages → AreSides (served s c pages)
 sides_served s c pages sides serves =
     let store : host_part (alone s.host pages) ≡ host_part (alone s.host s.pages) = ap (λ (bits : List Bool). record (host_part (alone s.host s.pages)) { in_store = bits }) serves.in_store in
-    let kept = sound_alike (alone s.host s.pages) (alone s.host pages) store sides.kept in
+    -- what is kept speaks of the host's part alone
+    let kept = (sound_from_both (alone s.host pages) (subst Both (sym store) (holds_from_sound (alone s.host s.pages) sides.kept, taken_from_out (alone s.host s.pages) sides.kept.out))) in
     record {
       over = record {
         pool = record { few = subst (λ (n : ℕ). n ≤ 65536) (sym serves.leaves.count) sides.over.pool.few; whole = serves.leaves.whole };
@@ -265,9 +253,8 @@ sides_served s c pages sides serves =
 
 as_many : (n q : ℕ) (hs : List HostQueue) (cs : List ControllerQueue) → ShareQueues n q hs cs → length cs ≡ length hs
 as_many n q [] [] share = refl
-as_many n q [] (c ∷ cs) share = absurd share
-as_many n q (h ∷ hs) [] share = absurd share
 as_many n q (h ∷ hs) (c ∷ cs) share = ap suc (as_many n (suc q) hs cs share.1)
+as_many n q x y share = absurd share
 
 proper_serve : (e : Event) → machine.IsController e ≡ true → IsProper e
 proper_serve (events.Fetch q) c = tt
@@ -414,15 +401,14 @@ release_ties s f host pages world t step =
 pub collect_ties : (s : Sides) (q cid : ℕ) (f : FinishedContents) (host : HostView) (pages : Pages) → IsWorld s → s.trusted ≡ true
     → HostStep s.host s.pages (events.Collect q cid) (events.Collects f) host pages → Ties s (events.Collect q cid) (events.Collects f) host pages
 collect_ties s q cid f host pages world t step =
+    let collects : (u : State) (r : Record) → record_at u.host q cid ≡ Some r
+    → after u (events.Collect q cid) (events.Collects f) ≡ on_records (with_record q cid collected) (on_memory (without_pages (pages_of r)) u) = λ u r e.
+    rw e refl in
     let its = found (λ r. is_submitted r.phase || is_held r.phase) (alone s.host s.pages) q cid (not-false _ (unrefused (alone s.host s.pages) (events.Collect q cid) step.1.0).0) in
     quiet_ties s (events.Collect q cid) (events.Collects f) host pages world t step refl refl refl refl
     (ap (λ (x : State). x.host.queues) (collects (alone s.host s.pages) its.0 its.1)) (ap (λ (x : State). x.device) (collects (state_of s) its.0 its.1)) step.1 step.1
     (subst (λ (x : State). Spares s x.memory) (sym (collects (alone s.host s.pages) its.0 its.1))
     (spares_from s _ (pages_of its.0) (command_apart s world q cid its.0 _ its.1 refl) (without_elsewhere (pages_of its.0) s.pages)))
-  where
-    collects : (u : State) (r : Record) → record_at u.host q cid ≡ Some r
-        → after u (events.Collect q cid) (events.Collects f) ≡ on_records (with_record q cid collected) (on_memory (without_pages (pages_of r)) u)
-    collects u r e = rw e refl
 
 -- The controller hears a tail.
 

@@ -3,7 +3,7 @@ use Rattle.machine_model.specs.After as a
 use Rattle.machine_model.specs.Events as events
 use Rattle.std.proofs.Common.{◌≡◌, ℕ, ◌-◌, ◌%◌, ◌==◌, Bool, true, false, not, ◌&&◌, Option, Some, None, List, [], ◌∷◌, ◌++◌, length, map, filter, drop, slice_get, if◌then◌else◌, refl, ap, sym, ◌∙◌, subst, arith, zero, suc, ◌+◌, ◌<◌, ◌≤◌, is_some, eq-eqb, ◌/◌, ◌||◌, take, eqb-true, add-zero, inl, inr}
 use Rattle.std.{proofs.lemmas.{Bool.{true≢false, and_from, or_left, or_right, and_parts, or_parts, cases_Bool}, List.length-map}, specs.List.AllByRecursion}
-use Rattle.std.specs.Option.{option_map_or, option_and_then}
+use Rattle.std.specs.Option.{option_map_or}
 use Rattle.sgl_descriptor.specs.{Spelling.spelling, declared.Direction.{Direction, TheVariants.{Destination, Source}}}
 use Rattle.sgl_chain.{proofs.Back.spells_there, specs.{Laws.HasBytesOf, Spells.Spells}}
 use Rattle.page_ledger.specs.Owners.{is_among}
@@ -13,17 +13,17 @@ use Rattle.admin_commands.specs.declared.SqState.TheVariants.{Stopping}
 use Rattle.entry_codec.specs.declared.{status.{Status.Status, TheConstants.Status.{ABORT_REQUESTED, ABORTED_SQ_DELETION}}, submission.SubEntry.SubEntry}
 use Rattle.io_commands.{proofs.Building.carries_entry, specs.{Asked.Request, Drafts.{io_entry, DraftContents, draft_first, draft_parts, draft_entry}}}
 use Rattle.io_commands.specs.{Jobs.{io_fault, bytes_after_check, direction_of_entry}, Requests.{joined_parts, fault_of, data_count, FitsRequest}}
-use Rattle.io_commands.specs.{Values.numbers_of, declared.request.RequestFault.RequestFault}
-use Rattle.machine_model.proofs.{Counting.{held_once, times-append}, HostLeaves.ids_of, Kept.{live_has_sq, live_serves}}
+use Rattle.io_commands.specs.Values.{numbers_of}
+use Rattle.machine_model.proofs.{Counting.{held_once, times-append}, HostLeaves.ids_of, Kept.live_has_sq}
 use Rattle.machine_model.proofs.Moves.{IsOf, posts, host_moves, sends, sent_record, creates_cq, creates_sq, grants_cq, grants_sq}
 use Rattle.machine_model.proofs.{Owned.{in_record, in_queue, all_reset}, Steps.{managed_by, Accepts, unrefused, part_controller}, Tokens.find_sound}
 use Rattle.machine_model.proofs.TokensKept.{reset_command, sized_of}
 use Rattle.machine_model.specs.{Agreeing.{CommandsStand as Commands, is_out_of_service_at as past_at, unfetched_count, job_weight}, Claims.OwnsFit}
 use Rattle.machine_model.specs.{Events.{Event, Reply}, Memory.{with_pages, without_pages, zeroed_pages}, Proper.IsProper}
 use Rattle.machine_model.specs.Reached.{only, on_pages, ActIn, CourseIn}
-use Rattle.machine_model.specs.Refusals.{is_submitted, is_job, is_drafted, is_live, asks_for, in_state, in_service, refusal_of, job_at, job_is, slot_page, slot_offset}
+use Rattle.machine_model.specs.Refusals.{is_submitted, is_job, is_drafted, is_live, asks_for, in_state, refusal_of, job_at, job_is, slot_page, slot_offset}
 use Rattle.machine_model.specs.Standing.{HasEntry, ListStands, StandsAs, CommandStands, unfetched_at}
-use Rattle.machine_model.specs.State.{Answer, State, DeviceQueue, Record, Job, pages_of, HostQueue, is_at, with_record, record_at, without_record}
+use Rattle.machine_model.specs.State.{Answer, State, DeviceQueue, Record, Job, pages_of, is_at, with_record, record_at, without_record}
 use Rattle.machine_model.specs.{Step.{times, HostPart, IsController}, Weights.{one, total, sent}, Work.Work, declared.words.Phase.TheVariants.{Drafted, Held}}
 use Rattle.machine_model.specs.declared.words.Work.TheVariants.{Io, Management}
 use Rattle.queue_pair.specs.Members.{change}
@@ -92,6 +92,13 @@ keeps_answered s t q an keeps =
 
 keeps_managed : (s : State) (e : SubEntry) → InHand s 0 e → Keeps s.device.queues s.device.jobs (a.managed e (a.taken_off 0 s)).device.queues (a.managed e (a.taken_off 0 s)).device.jobs
 keeps_managed s e hand =
+    let stop : Job → Job = λ j. record j { verdict = Some ABORT_REQUESTED; waiting_abort = Some e.cid } in
+    let qs : List DeviceQueue = (a.taken_off 0 s).device.queues in
+    let off : Keeps s.device.queues s.device.jobs (a.taken_off 0 s).device.queues s.device.jobs = keeps_off s 0 in
+    let queue : (f : DeviceQueue → DeviceQueue) → ((P : SubEntry → Type 0) (at : DeviceQueue) → AllByRecursion P at.unfetched → AllByRecursion P (f at).unfetched) → Keeps s.device.queues s.device.jobs (change (named_queue e) f qs) s.device.jobs = λ f step.
+    keeps_both s.device.queues qs (change (named_queue e) f qs) s.device.jobs s.device.jobs s.device.jobs off (keeps_queue qs s.device.jobs (named_queue e) f step) in
+    let decided : (t : State) → Keeps s.device.queues s.device.jobs t.device.queues t.device.jobs → (st : Status) (dw0 : ℕ) → Keeps s.device.queues s.device.jobs (a.decided e st dw0 t).device.queues (a.decided e st dw0 t).device.jobs = λ t keeps st dw0.
+    keeps_job s 0 e hand t.device.queues t.device.jobs (a.new_job 0 e (Some st) dw0 []) refl refl keeps in
     let s0 : State = a.taken_off 0 s in
     managed_by (λ (t : State). Keeps s.device.queues s.device.jobs t.device.queues t.device.jobs) e s0
     (record {
@@ -109,21 +116,6 @@ keeps_managed s e hand =
       makes_completion = λ is5 q0 none. decided (a.on_device_queue (named_queue e) a.completion_made s0) (queue a.completion_made (λ P at all. all)) _ 0;
       makes_submission = λ is1 q0 gone there. decided (a.on_device_queue (named_queue e) a.submission_made s0) (queue a.submission_made (λ P at all. tt)) _ 0;
     })
-  where
-    stop : Job → Job
-    stop j = record j { verdict = Some ABORT_REQUESTED; waiting_abort = Some e.cid }
-
-    qs : List DeviceQueue
-    qs = (a.taken_off 0 s).device.queues
-
-    off : Keeps s.device.queues s.device.jobs (a.taken_off 0 s).device.queues s.device.jobs
-    off = keeps_off s 0
-
-    queue : (f : DeviceQueue → DeviceQueue) → ((P : SubEntry → Type 0) (at : DeviceQueue) → AllByRecursion P at.unfetched → AllByRecursion P (f at).unfetched) → Keeps s.device.queues s.device.jobs (change (named_queue e) f qs) s.device.jobs
-    queue f step = keeps_both s.device.queues qs (change (named_queue e) f qs) s.device.jobs s.device.jobs s.device.jobs off (keeps_queue qs s.device.jobs (named_queue e) f step)
-
-    decided : (t : State) → Keeps s.device.queues s.device.jobs t.device.queues t.device.jobs → (st : Status) (dw0 : ℕ) → Keeps s.device.queues s.device.jobs (a.decided e st dw0 t).device.queues (a.decided e st dw0 t).device.jobs
-    decided t keeps st dw0 = keeps_job s 0 e hand t.device.queues t.device.jobs (a.new_job 0 e (Some st) dw0 []) refl refl keeps
 
 pub keeps_fetch : (s : State) (q : ℕ) → Keeps s.device.queues s.device.jobs (a.after_fetch q s).device.queues (a.after_fetch q s).device.jobs
 keeps_fetch s q =
@@ -189,9 +181,6 @@ CommandsIn s = Commands s.memory s.device.queues s.device.jobs s.host.records
 abbrev Fine : Record → Type 0
 Fine r = OwnsFit r.q r.work (pages_of r) × Unit {0}
 
-fine : (rs : List Record) → AllByRecursion (λ r. OwnsFit r.q r.work (pages_of r)) rs → AllByRecursion Fine rs
-fine rs h = all_in (λ r. OwnsFit r.q r.work (pages_of r)) Fine rs (λ r within f. (f, tt)) h
-
 -- pages of submitted commands stay
 abbrev pub SamePages : State → Pages → Type 0
 SamePages s m = (p : ℕ) → 0 < total (sent_page p) s.host.records → page_at m p ≡ page_at s.memory p
@@ -201,7 +190,7 @@ pub still : (s : State) (m : Pages) (qs : List DeviceQueue) (js : List Job) → 
 still s m qs js g same keeps h =
     commands_still (λ r. Unit {0}) s.memory m s.device.queues qs s.device.jobs js s.host.records
     (λ r within sub p c. same p (counts_sent s r within sub p (chain_of r p c)))
-    (λ r x other sub entry e. keeps r.q r.cid entry e) (fine s.host.records g.stands.0.admins) h
+    (λ r x other sub entry e. keeps r.q r.cid entry e) (all_in (λ r. OwnsFit r.q r.work (pages_of r)) Fine s.host.records (λ r within f. (f, tt)) g.stands.0.admins) h
 
 pub keeps_nothing : (qs : List DeviceQueue) (js : List Job) → Keeps qs js qs js
 keeps_nothing qs js q cid entry h = h
@@ -210,6 +199,7 @@ keeps_nothing qs js q cid entry h = h
 
 pub commands_reserve : (s : State) (q : ℕ) (r : Request) (d : DraftContents) → IsProper (events.Reserve q r) → Accepts s (events.Reserve q r) (events.Reserved d) → Grounds s → CommandsIn s → CommandsIn (a.after_reserve d s)
 commands_reserve s q r d proper ok g h =
+    let good : fault_of r.kind r.blocks r.pieces ≡ None = let e = (unrefused s (events.Reserve q r) ok.0).1.1.0 in grind arith in
     let new : Record = record { q = d.q; cid = d.cid; phase = Drafted; work = Io d.request; data_pages = numbers_of d.data_pages; chain_pages = numbers_of d.chain_pages; status = None } in
     let m = without_pages (numbers_of d.data_pages ++ numbers_of d.chain_pages) s.memory in
     all_append (CommandStands m s.device.queues s.device.jobs) s.host.records (new ∷ [])
@@ -224,9 +214,6 @@ commands_reserve s q r d proper ok g h =
       ),
       tt,
     )
-  where
-    good : fault_of r.kind r.blocks r.pieces ≡ None
-    good = let e = (unrefused s (events.Reserve q r) ok.0).1.1.0 in grind arith
 
 -- Submitting
 
@@ -237,12 +224,11 @@ nobody id c P (x ∷ xs) none = ((λ e. absurd (omega (arith, none, ap one (eq-e
 
 pub no_job : (q c : ℕ) (P : Job → Type 0) (js : List Job) → total (job_weight q (λ n. one (n == c))) js ≡ 0 → AllByRecursion (λ j. j.q ≡ q → j.entry.cid ≡ c → P j) js
 no_job q c P [] none = tt
-no_job q c P (j ∷ js) none = ((λ eq ec. absurd (some eq ec none)), no_job q c P js (omega (arith, none)))
-  where
-    some : j.q ≡ q → j.entry.cid ≡ c → job_weight q (λ n. one (n == c)) j + total (job_weight q (λ n. one (n == c))) js ≡ 0 → ⊥
-    some eq ec n =
-        let mine : job_weight q (λ n. one (n == c)) j ≡ 1 = subst (λ (b : Bool). (if b then one (j.entry.cid == c) else 0) ≡ 1) (sym (eq-eqb j.q q eq)) (ap one (eq-eqb j.entry.cid c ec)) in
-        omega (arith, n, mine)
+no_job q c P (j ∷ js) none =
+    let some : j.q ≡ q → j.entry.cid ≡ c → job_weight q (λ n. one (n == c)) j + total (job_weight q (λ n. one (n == c))) js ≡ 0 → ⊥ = λ eq ec n.
+    let mine : job_weight q (λ n. one (n == c)) j ≡ 1 = subst (λ (b : Bool). (if b then one (j.entry.cid == c) else 0) ≡ 1) (sym (eq-eqb j.q q eq)) (ap one (eq-eqb j.entry.cid c ec)) in
+    omega (arith, n, mine) in
+    ((λ eq ec. absurd (some eq ec none)), no_job q c P js (omega (arith, none)))
 
 right_part : {B : Type 0} (P : B → Type 0) (xs ys : List B) → AllByRecursion P (xs ++ ys) → AllByRecursion P ys
 right_part P [] ys h = h
@@ -320,9 +306,6 @@ commands_submit d entry r s proper e its live g few places same h =
         let counted : unfetched_count d.q (λ n. one (n == d.cid)) s.host.queues s.device.queues ≡ total (λ (e : SubEntry). one (e.cid == d.cid)) (unfetched_at s.device.queues d.q) =
         ap (λ (b : Bool). if b then 0 else total (λ (e : SubEntry). one (e.cid == d.cid)) (unfetched_at s.device.queues d.q)) not_past in
         nobody (λ (e : SubEntry). e.cid) d.cid (λ e. e ≡ draft_entry d) (unfetched_at s.device.queues d.q) (omega (arith, counted, places d.q (λ n. one (n == d.cid)), unsent))
-
-    appended : SubEntry → DeviceQueue → DeviceQueue
-    appended entry at = record at { unfetched = at.unfetched ++ entry ∷ [] }
 
     new_entry : (entry : SubEntry) → entry ≡ draft_entry d → HasEntry (change d.q (λ at. record at { unfetched = at.unfetched ++ entry ∷ [] }) s.device.queues) s.device.jobs d.q d.cid (draft_entry d)
     new_entry entry is = record {
@@ -422,6 +405,8 @@ commands_consumed q s g h = still s s.memory (change q (λ at. record at { answe
 
 commands_host : (s : State) (e : Event) (reply : Reply) → IsProper e → Accepts s e reply → IsController e ≡ false → is_walk e ≡ false → Stood s → CommandsIn (a.after s e reply)
 commands_host s e reply pr ok c w h =
+    let without : (q cid : ℕ) → Commands s.memory (a.consumed q s).device.queues s.device.jobs (without_record q cid s.host.records) = λ q cid.
+    all_filter (CommandStands s.memory (a.consumed q s).device.queues s.device.jobs) (λ r. not (is_at q cid r)) s.host.records (commands_consumed q s h.grounds h.commands) in
     host_moves (λ (e : Event) (reply : Reply) (t : State). IsProper e → SamePages s t.memory → CommandsIn t) s e reply ok c
     (record {
       reserves = λ q request d none is pr same. commands_reserve s q request d pr (none, is) h.grounds h.commands;
@@ -460,9 +445,6 @@ commands_host s e reply pr ok c w h =
           (λ r io p. reset_command m (a.reset_device_queues s.device.queues) [] r (sized_of s.memory s.device.queues s.device.jobs r p)) s.host.records h.commands;
     }) pr (same_pages s e reply ok w h.grounds)
   where
-    without : (q cid : ℕ) → Commands s.memory (a.consumed q s).device.queues s.device.jobs (without_record q cid s.host.records)
-    without q cid = all_filter (CommandStands s.memory (a.consumed q s).device.queues s.device.jobs) (λ r. not (is_at q cid r)) s.host.records (commands_consumed q s h.grounds h.commands)
-
     lose : (r : Record) (b : Bool) → CommandStands s.memory s.device.queues s.device.jobs r
         → CommandStands s.memory s.device.queues s.device.jobs (if b then record r { phase = Held; status = Some ABORTED_SQ_DELETION } else r)
     lose r true c = quiet_stands s.memory s.device.queues s.device.jobs (λ x. record x { phase = Held; status = Some ABORTED_SQ_DELETION }) (λ x. refl) (λ x. refl) r refl c
@@ -497,9 +479,9 @@ pub record Walking (s : State) (q cid : ℕ) (j : Job) : Type 0 where
 
 pub walking : (s : State) (q cid : ℕ) (j : Job) → refusal_of s (events.Walk q cid) ≡ None → Stood s → job_at s q cid ≡ Some j → Walking s q cid j
 walking s q cid j none stood e =
+    let idle : job_is (λ j. is_some j.verdict || (j.q == 0)) s q cid ≡ false = (unrefused s (events.Walk q cid) none).1.0 in
     let ids = and_parts (j.q == q) (j.entry.cid == cid) (find_sound (is_job q cid) s.device.jobs j e) in
-    let quiet = sym (ap (λ (o : Option Job). option_map_or (λ j. is_some j.verdict || (j.q == 0)) o false) e) ∙ idle in
-    let parts = or_parts (is_some j.verdict) (j.q == 0) quiet in
+    let parts = or_parts (is_some j.verdict) (j.q == 0) (sym (ap (λ (o : Option Job). option_map_or (λ j. is_some j.verdict || (j.q == 0)) o false) e) ∙ idle) in
     record {
       found = e;
       its_queue = eqb-true j.q q ids.0;
@@ -508,9 +490,6 @@ walking s q cid j none stood e =
       verdict = (let e = parts.0 in grind arith);
       list = job_list s stood j (in_found (is_job q cid) s.device.jobs j e) parts.1 (λ P all. all_at_found P (is_job q cid) s.device.jobs j e all);
     }
-  where
-    idle : job_is (λ j. is_some j.verdict || (j.q == 0)) s q cid ≡ false
-    idle = (unrefused s (events.Walk q cid) none).1.0
 
 -- what a unit writes lies on its data pages
 pub unit_elsewhere : (s : State) (j : Job) (p : ℕ) (data_pages : List ℕ) (chain : ℕ → Bool) (dir : Direction) (act : Act) → (dir ≡ Destination → is_among data_pages p ≡ false) → ActIn chain (on_pages data_pages) act

@@ -9,7 +9,7 @@ use Rattle.admin_commands.specs.{Entries.named_queue, Verdicts.is_absent}
 use Rattle.entry_codec.specs.{Completion.completion_bytes, declared.{admin_opcode.TheConstants.DELETE_IO_SQ, completion.ComEntry.ComEntry}}
 use Rattle.entry_codec.specs.declared.{status.Status.Status, submission.SubEntry.SubEntry}
 use Rattle.host_core.proofs.Lists.{change-other}
-use Rattle.io_commands.specs.{Jobs.{kind_of_opcode, is_success, status_after, status_by}, declared.request.Kind.Kind}
+use Rattle.io_commands.specs.Jobs.{kind_of_opcode, is_success, status_after, status_by}
 use Rattle.machine_model.proofs.{Counting.{one, total}, Steps.{in_store, in_store-with_bytes}, Tokens.is_job}
 use Rattle.machine_model.specs.After.{change, deletion_done, final_status, image_completed, on_device, without_job, after_complete, answered}
 use Rattle.machine_model.specs.{Agreeing.on_queue, Memory.{is_in, memory_of}}
@@ -36,16 +36,8 @@ use Rattle.machine_model.specs.declared.words.Refusal.TheVariants as refusal
 
 -- A completion can carry each end.
 
-by_kind : (image : List ℕ) (e : SubEntry) (bytes : List ℕ) (kind : Option Kind) → (status_by image e bytes kind).sct < 8
-by_kind image e bytes kind = grind arith
-
 by_verdict : (image : List ℕ) (e : SubEntry) (bytes : List ℕ) (v : Option Status) → FitsVerdict v → (status_after image e bytes v).sct < 8
-by_verdict image e bytes None fits = omega arith
-by_verdict image e bytes (Some v) fits = go (is_success v)
-  where
-    go : (b : Bool) → (if b then status_by image e bytes (kind_of_opcode e.opcode) else v).sct < 8
-    go true = by_kind image e bytes (kind_of_opcode e.opcode)
-    go false = fits
+by_verdict image e bytes v fits = grind arith
 
 pub end_fits : (blocks q done : ℕ) (image : List ℕ) (work : Work) → FitsWork blocks q done work → (status_of_end image work).sct < 8
 end_fits blocks q done image (Io job) fits = by_verdict image job.entry job.bytes job.verdict fits.2
@@ -126,13 +118,7 @@ deletion_seen s image k blocks fits = go k.q k.units_done k.waiting_abort k.work
   where
     go : (q done : ℕ) (waiting : Option ℕ) (work : Work) → FitsWork blocks q done work
         → deletion_done (job_of (record { q = q; units_done = done; waiting_abort = waiting; work = work })) (status_of_end image work) s ≡ with_served s s.memory (devices_of_end work s.device.queues) s.device.jobs s.device.image
-    go q done waiting (Io job) fits = rw fits.0 refl
-    go q done waiting (Admin entry status dw0) fits = rw fits.0 (by (is_deletion entry status))
-      where
-        by : (b : Bool) → (if b then record s { device = record s.device { queues = change (named_queue entry) cleared s.device.queues } } else s)
-            ≡ with_served s s.memory (if b then change (named_queue entry) cleared s.device.queues else s.device.queues) s.device.jobs s.device.image
-        by true = refl
-        by false = refl
+    go q done waiting work fits = grind arith
 
 pub jobs-without : (q cid : ℕ) (commands : List FetchedCommand) → map job_of (without_command q cid commands) ≡ filter (λ j. not (is_job q cid j)) (map job_of commands)
 jobs-without q cid commands = sym (filter-map job_of (λ (j : Job). not (is_job q cid j)) commands)
@@ -169,9 +155,6 @@ refused_by : (s : State) (q cid : ℕ) (j : Job) (waiting full : Bool) → job_a
     → refusal_of s (events.Complete q cid) ≡ (if is_none j.verdict then Some refusal.Walking else if waiting then Some refusal.Waits else if full then Some refusal.Full else None)
 refused_by s q cid j waiting full ej ew ef ei = rw (← ew, ← ef, ej, ei) refl
 
-refused_none : (s : State) (q cid : ℕ) → job_at s q cid ≡ None → refusal_of s (events.Complete q cid) ≡ Some refusal.NoJob
-refused_none s q cid e = rw e refl
-
 waits_seen : (s : Sides) (k : FetchedCommand) → waits (state_of s) (job_of k) ≡ waits_among s.controller.commands k
 waits_seen s k =
     ap₂ (λ (a b : Bool). (k.q == 0) && (a || (((entry_of_work k.work).opcode == DELETE_IO_SQ) && has_success k.work && b)))
@@ -181,11 +164,8 @@ waits_seen s k =
 same_causes : (none waiting full out : Bool) → out ≡ false
     → (if none then Some refusal.Walking else if waiting then Some refusal.Waits else if full then Some refusal.Full else None)
     ≡ option_map why_of (if none then Some because.Walking else if waiting then Some because.Waits else if full then Some because.Full else if out then Some because.SlotOut else None)
-same_causes true waiting full out e = refl
-same_causes false true full out e = refl
-same_causes false false true out e = refl
 same_causes false false false true e = absurd (true≢false e)
-same_causes false false false false e = refl
+same_causes x waiting full out e = refl
 
 pub complete_refused_alike : completes_refuse_alike
 complete_refused_alike s q cid world t = go (find (is_command q cid) s.controller.commands) refl
@@ -195,7 +175,7 @@ complete_refused_alike s q cid world t = go (find (is_command q cid) s.controlle
 
     go : (o : Option FetchedCommand) → find (is_command q cid) s.controller.commands ≡ o
         → refusal_of (state_of s) (events.Complete q cid) ≡ option_map why_of (option_map_or (command_refusal s.controller (byte_at s.pages) q) o (Some because.NoJob))
-    go None e = refused_none (state_of s) q cid (job-at s q cid ∙ ap (option_map job_of) e)
+    go None e = rw (job-at s q cid ∙ ap (option_map job_of) e) refl
     go (Some k) e =
         let found = is_found s world q cid k e in
         let h = found.host in
@@ -205,10 +185,9 @@ complete_refused_alike s q cid world t = go (find (is_command q cid) s.controlle
         let used = there_ring h c has in
         let shown = shows s q h c found.host_here found.queue_here in
         let full = is_full c.device.entries c.device.ring.known_head c.device.ring.tail in
-        let out = is_none (completion_slot (byte_at s.pages) c.device.cq c.device.ring.tail) in
         refused_by (state_of s) q cid (job_of k) (waits_among s.controller.commands k) full (job-found s q cid k e) (waits_seen s k) (answers_full_is (state_of s) s q h c shown known has)
         (ap (is_in s.pages) (post_page_is (state_of s) s q h c shown known has) ∙ page_is_in s q h c known used)
-        ∙ same_causes (is_none (verdict_of_work k.work)) (waits_among s.controller.commands k) full out
+        ∙ same_causes (is_none (verdict_of_work k.work)) (waits_among s.controller.commands k) full (is_none (completion_slot (byte_at s.pages) c.device.cq c.device.ring.tail))
         (none_some _ (completion_there (byte_at s.pages) c.device.cq s.host.entries c.device.ring.tail (known.completion_in used) (subst (λ (n : ℕ). c.device.ring.tail < n) known.placed.share.entries known.placed.share.side.tail)))
         ∙ ap (λ (o : Option ControllerQueue). option_map why_of (if is_none (verdict_of_work k.work) then Some because.Walking else if waits_among s.controller.commands k then Some because.Waits else option_map_or (λ queue. post_refusal (byte_at s.pages) queue.device) o None)) (sym found.queue_here)
 
@@ -273,10 +252,7 @@ module _ (s : Sides) (q cid : ℕ) (c : Contents) (pages : Pages) (touched : Lis
 
   -- there is room for it, and its slot is in
   post_free : post_refusal (byte_at s.pages) x.device ≡ None
-  post_free =
-      let all : command_refusal s.controller (byte_at s.pages) q k ≡ None = sym (ap (λ (o : Option FetchedCommand). option_map_or (command_refusal s.controller (byte_at s.pages) q) o (Some because.NoJob)) w.found) ∙ free in
-      sym (ap (λ (o : Option ControllerQueue). option_map_or (λ queue. post_refusal (byte_at s.pages) queue.device) o None) w.here)
-      ∙ (refused_not (waits_among s.controller.commands k) because.Waits _ (refused_not (is_none (verdict_of_work k.work)) because.Walking _ all).1).1
+  post_free = grind arith
 
   room : (is_full x.device.entries x.device.ring.known_head x.device.ring.tail ≡ false) × (completion_slot (byte_at s.pages) x.device.cq x.device.ring.tail ≢ None)
   room = post_room (byte_at s.pages) x.device post_free

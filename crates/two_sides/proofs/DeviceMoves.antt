@@ -1,7 +1,7 @@
 -- How a step of the controller changes a state, and what it leaves at its place.
 use Rattle.machine_model.specs.After as a
 use Rattle.std.proofs.Common.{◌≡◌, ℕ, ◌+◌, ◌/◌, ◌%◌, ◌==◌, Bool, true, false, ◌&&◌, Option, Some, None, List, [], ◌∷◌, ◌++◌, map, take, drop, if◌then◌else◌, refl, ap, ap₂, sym, ◌∙◌, subst, eqb-true, inl, inr, zero, suc, ◌<◌, arith, length, find, slice_get, is_some, ◌≤◌, not}
-use Rattle.std.{proofs.lemmas.Bool.{true≢false, cases_Bool, and_parts, Decides.nat_tests}, specs.{List.AllByRecursion, Option.option_map_or}}
+use Rattle.std.{proofs.lemmas.Bool.{true≢false, cases_Bool}, specs.{List.AllByRecursion, Option.option_map_or}}
 use Rattle.machine_model.proofs.{Cases.option_is, Counting.{all_changed, all_at}, Headline.{in_limits, limits_say}, Kept.{sq_stays, cq_stays}}
 use Rattle.machine_model.proofs.{Moves.{host_moves, half_from}, Owned.all_reset_queues, Sound.{asked_at, asks}}
 use Rattle.machine_model.proofs.Steps.{Accepts, IsKept, each_step, each_run, part_controller}
@@ -10,8 +10,7 @@ use Rattle.machine_model.specs.Agreeing.{is_absent_at as gone_at, has_completion
 use Rattle.machine_model.specs.{Events.{Event, Reply}, Linked.{absent, IsLinked}, Opening.{opening, queues_from, Opens}, Positions.IsInRing}
 use Rattle.machine_model.specs.Refusals.{host_queue, next_rung, job_at, is_job, conflicts, fetch_slot, post_slot, slot_page, slot_offset, has_cq, is_gone, has_sq, in_service, is_making}
 use Rattle.machine_model.specs.{State.{State, HostQueue, DeviceQueue, Job, Answer, Record}, Step.{HostPart, host_part, IsController, fits_ring}}
-use Rattle.machine_model.specs.{Weights.{one, total}, declared.words.HostState.HostState}
-use Rattle.machine_model.specs.declared.words.HostState.TheVariants.{Live, Deleting, Retired, Gone, MakingCq, HalfMade, MakingSq}
+use Rattle.machine_model.specs.Weights.{one, total}
 use Rattle.admin_commands.specs.{Entries.named_queue, Verdicts.is_absent, declared.SqState.TheVariants.{Absent, Stopping}}
 use Rattle.controller_walk.specs.Units.{Act, Stays, Reads, Moves}
 use Rattle.sgl_descriptor.specs.declared.Direction.{Direction, TheVariants.{Destination, Source}}
@@ -20,7 +19,7 @@ use Rattle.entry_codec.specs.declared.{status.{Status.Status, TheConstants.Statu
 use Rattle.io_commands.specs.Jobs.{is_success, verdict_of, direction_of_entry}
 use Rattle.page_memory.specs.{Pages.{Pages, with_bytes, with_page_bytes}, declared.page.Half.TheVariants.{Submission, Completion}}
 use Rattle.queue_pair.{proofs.Rings.{in_range_below, next_below}, specs.{Members.change, Memory.half_pages}}
-use Rattle.queue_pair.specs.{Rings.{HostRing, fresh_host_ring, next_tail, next_head, knowing}, Slots.{next_slot, is_in_range}}
+use Rattle.queue_pair.specs.{Rings.{HostRing, fresh_host_ring, next_tail, next_head, knowing}, Slots.is_in_range}
 use Rattle.two_sides.specs.Provided.{each_step_stays_in_rings, every_run_stays_in_rings}
 pub use Rattle.machine_model.proofs.Counting.{all_at}
 pub use Rattle.machine_model.specs.Agreeing.{is_known_deleted as is_over, QueueFits as PairOk, QueuesFit as Paired, on_queue, is_out_of_service_at as out_at}
@@ -42,15 +41,7 @@ abbrev pub answers : ℕ → ℕ → Status → ℕ → State → State
 answers q cid st dw0 s = a.on_device_queue q (λ at. record at { answers = at.answers ++ answer_of q cid st dw0 s ∷ [] }) (record s { memory = answered_bytes q cid st dw0 s })
 
 pub answers_is : (q cid : ℕ) (st : Status) (dw0 : ℕ) (s : State) → answers q cid st dw0 s ≡ a.answered q cid st dw0 s
-answers_is q cid st dw0 s = go (host_queue s q)
-  where
-    go : (o : Option HostQueue)
-        → a.on_device_queue q (λ at. record at { answers = at.answers ++ answer_of q cid st dw0 s ∷ [] })
-        (record s { memory = option_map_or (λ queue. with_page_bytes s.memory (slot_page queue.cq_pages 16 (post_slot s q)) (slot_offset 16 (post_slot s q)) (completion_bytes (record { dw0 = dw0; sqhd = fetch_slot s q; sqid = q; cid = cid; phase = a.post_phase s q queue; status = st }))) o s.memory })
-        ≡ a.on_device_queue q (λ at. record at { answers = at.answers ++ answer_of q cid st dw0 s ∷ [] })
-        (option_map_or (λ queue. a.on_memory (λ m. with_page_bytes m (slot_page queue.cq_pages 16 (post_slot s q)) (slot_offset 16 (post_slot s q)) (completion_bytes (record { dw0 = dw0; sqhd = fetch_slot s q; sqid = q; cid = cid; phase = a.post_phase s q queue; status = st }))) s) o s)
-    go None = refl
-    go (Some queue) = refl
+answers_is q cid st dw0 s = grind arith
 
 -- Fetching
 
@@ -109,10 +100,7 @@ walks_is s q cid j Source (Moves place n offset) at = ap (λ (js : List Job). re
     one : (k : Job) (b : Bool) → is_job q cid k ≡ b
         → (if b then record k { bytes = with_bytes k.bytes offset (a.page_bytes s.memory place n); units_done = k.units_done + 1; verdict = verdict_of (a.next_answer s j) } else k)
         ≡ (let x : Job = (if b then record k { bytes = with_bytes k.bytes offset (a.page_bytes s.memory place n) } else k) in if is_job q cid x then record x { units_done = x.units_done + 1; verdict = verdict_of (a.next_answer s j) } else x)
-    one k true e =
-        let x : Job = record k { bytes = with_bytes k.bytes offset (a.page_bytes s.memory place n) } in
-        ap (λ (b : Bool). if b then record x { units_done = x.units_done + 1; verdict = verdict_of (a.next_answer s j) } else x) (sym e)
-    one k false e = ap (λ (b : Bool). if b then record k { units_done = k.units_done + 1; verdict = verdict_of (a.next_answer s j) } else k) (sym e)
+    one k b e = grind arith
 
     fuse : (js : List Job) → map (λ (k : Job). if is_job q cid k then record k { bytes = with_bytes k.bytes offset (a.page_bytes s.memory place n); units_done = k.units_done + 1; verdict = verdict_of (a.next_answer s j) } else k) js
         ≡ map (λ (k : Job). if is_job q cid k then record k { units_done = k.units_done + 1; verdict = verdict_of (a.next_answer s j) } else k) (map (λ (k : Job). if is_job q cid k then record k { bytes = with_bytes k.bytes offset (a.page_bytes s.memory place n) } else k) js)
@@ -154,9 +142,6 @@ complete_by P s q cid idle clearing plain = elim (option_is (job_at s q cid)) [ 
 abbrev pub InRings : HostPart → Type 0
 InRings part = AllByRecursion (λ queue. IsInRing part.entries queue.ring) part.host.queues
 
-abbrev In : State → Type 0
-In s = InRings (host_part s)
-
 -- moves stay inside
 
 ring_moved : (n q : ℕ) (g : HostRing → HostRing) (hs : List HostQueue) → ((ring : HostRing) → IsInRing n ring → IsInRing n (g ring)) → AllByRecursion (λ queue. IsInRing n queue.ring) hs
@@ -169,15 +154,21 @@ ring_left n q f hs same h = all_changed (λ queue. IsInRing n queue.ring) q f hs
 
 -- a head pointer that fits is a slot
 fits_below : (s : State) (q : ℕ) (e : ComEntry) → fits_ring s q e ≡ true → e.sqhd < s.entries
-fits_below s q e h = go (host_queue s q) h
-  where
-    go : (o : Option HostQueue) → option_map_or (λ queue. is_in_range s.entries queue.ring.known_head queue.ring.tail e.sqhd) o false ≡ true → e.sqhd < s.entries
-    go None h = absurd (true≢false (sym h))
-    go (Some queue) h = in_range_below s.entries queue.ring.known_head queue.ring.tail e.sqhd h
+fits_below s q e h = grind arith
 
 pub rings_event : (s : State) (e : Event) (reply : Reply) → Accepts s e reply → IsController e ≡ false → IsKept InRings s e reply
 rings_event s e reply ok c h =
-    host_moves (λ (e : Event) (reply : Reply) (t : State). In t) s e reply ok c
+    let tail_moved : (q : ℕ) (hs : List HostQueue) → AllByRecursion (λ queue. IsInRing s.entries queue.ring) hs → AllByRecursion (λ queue. IsInRing s.entries queue.ring) (change q (λ queue. record queue { ring = next_tail s.entries queue.ring }) hs) = λ q hs h.
+    ring_moved s.entries q (next_tail s.entries) hs (λ ring r. record { head = r.head; known_head = r.known_head; tail = next_below s.entries ring.tail r.tail }) h in
+    -- rings as they open begin at slot 0, and a slot of the ring that was there is below its entries
+    let granted_fresh : (q : ℕ) (f : HostQueue → HostQueue) → ((x : HostQueue) → (f x).ring ≡ fresh_host_ring) → AllByRecursion (λ queue. IsInRing s.entries queue.ring) (change q f s.host.queues) = λ q f fresh.
+    all_changed (λ queue. IsInRing s.entries queue.ring) q f s.host.queues
+    (λ x e r. let some : 0 < s.entries = omega (arith, r.tail) in subst (IsInRing s.entries) (sym (fresh x)) (record { head = some; known_head = some; tail = some })) h in
+    let head_moved : (q : ℕ) → AllByRecursion (λ queue. IsInRing s.entries queue.ring) (change q (λ queue. record queue { ring = next_head s.entries queue.ring }) s.host.queues) = λ q.
+    ring_moved s.entries q (next_head s.entries) s.host.queues (λ ring r. record { head = next_below s.entries ring.head r.head; known_head = r.known_head; tail = r.tail }) h in
+    let told : (q : ℕ) (e : ComEntry) → fits_ring s q e ≡ true → InRings (host_part (a.heard q e s)) = λ q e fits.
+    ring_moved s.entries q (knowing e.sqhd) (change q (λ queue. record queue { ring = next_head s.entries queue.ring }) s.host.queues) (λ ring r. record { head = r.head; known_head = fits_below s q e fits; tail = r.tail }) (head_moved q) in
+    host_moves (λ (e : Event) (reply : Reply) (t : State). (InRings (host_part t))) s e reply ok c
     (record {
       reserves = λ q request d none is. h;
       submits = λ d entry r none built its live. tail_moved d.q s.host.queues h;
@@ -205,15 +196,6 @@ rings_event s e reply ok c h =
       resets = reset_fresh s.host.queues h;
     })
   where
-    tail_moved : (q : ℕ) (hs : List HostQueue) → AllByRecursion (λ queue. IsInRing s.entries queue.ring) hs → AllByRecursion (λ queue. IsInRing s.entries queue.ring) (change q (λ queue. record queue { ring = next_tail s.entries queue.ring }) hs)
-    tail_moved q hs h = ring_moved s.entries q (next_tail s.entries) hs (λ ring r. record { head = r.head; known_head = r.known_head; tail = next_below s.entries ring.tail r.tail }) h
-
-    -- rings as they open begin at slot 0, and a slot of the ring that was there is below its entries
-    granted_fresh : (q : ℕ) (f : HostQueue → HostQueue) → ((x : HostQueue) → (f x).ring ≡ fresh_host_ring) → AllByRecursion (λ queue. IsInRing s.entries queue.ring) (change q f s.host.queues)
-    granted_fresh q f fresh =
-        all_changed (λ queue. IsInRing s.entries queue.ring) q f s.host.queues
-        (λ x e r. let some : 0 < s.entries = omega (arith, r.tail) in subst (IsInRing s.entries) (sym (fresh x)) (record { head = some; known_head = some; tail = some })) h
-
     reset_fresh : (hs : List HostQueue) → AllByRecursion (λ queue. IsInRing s.entries queue.ring) hs → AllByRecursion (λ queue. IsInRing s.entries queue.ring) (a.reset_queues hs)
     reset_fresh [] r = tt
     reset_fresh (x ∷ hs) r =
@@ -221,15 +203,8 @@ rings_event s e reply ok c h =
         let fresh : IsInRing s.entries fresh_host_ring = record { head = some; known_head = some; tail = some } in
         all_reset_queues (λ queue. IsInRing s.entries queue.ring) (λ queue. IsInRing s.entries queue.ring) (x ∷ hs) (λ y e p. fresh) fresh r
 
-    head_moved : (q : ℕ) → AllByRecursion (λ queue. IsInRing s.entries queue.ring) (change q (λ queue. record queue { ring = next_head s.entries queue.ring }) s.host.queues)
-    head_moved q = ring_moved s.entries q (next_head s.entries) s.host.queues (λ ring r. record { head = next_below s.entries ring.head r.head; known_head = r.known_head; tail = r.tail }) h
-
-    told : (q : ℕ) (e : ComEntry) → fits_ring s q e ≡ true → In (a.heard q e s)
-    told q e fits =
-        ring_moved s.entries q (knowing e.sqhd) (change q (λ queue. record queue { ring = next_head s.entries queue.ring }) s.host.queues) (λ ring r. record { head = r.head; known_head = fits_below s q e fits; tail = r.tail }) (head_moved q)
-
 -- whatever the event
-pub rings_on : (s : State) (e : Event) (reply : Reply) → Accepts s e reply → In s → In (a.after s e reply)
+pub rings_on : (s : State) (e : Event) (reply : Reply) → Accepts s e reply → InRings (host_part s) → InRings (host_part (a.after s e reply))
 rings_on s e reply ok h = elim (cases_Bool (IsController e)) [ inl c ↦ subst InRings (sym (part_controller s e reply c)) h | inr c ↦ rings_event s e reply ok c h ]
 
 -- The statements
@@ -252,26 +227,23 @@ runs_stay_in_rings pages queues n s image es replies new opens run = each_run In
 pub paired_host : (n k : ℕ) (f : HostQueue → HostQueue) (hs : List HostQueue) (ds : List DeviceQueue)
     → ((h : HostQueue) (d : DeviceQueue) → slice_get hs k ≡ Some h → slice_get ds k ≡ Some d → PairOk n h d → PairOk n (f h) d) → Paired n hs ds → Paired n (change k f hs) ds
 paired_host n k f [] [] step p = p
-paired_host n k f [] (d ∷ ds) step p = absurd p
-paired_host n k f (h ∷ hs) [] step p = absurd p
 paired_host n zero f (h ∷ hs) (d ∷ ds) step p = (step h d refl refl p.0, p.1)
 paired_host n (suc k) f (h ∷ hs) (d ∷ ds) step p = (p.0, paired_host n k f hs ds step p.1)
+paired_host n k f x y step p = absurd p
 
 pub paired_device : (n k : ℕ) (f : DeviceQueue → DeviceQueue) (hs : List HostQueue) (ds : List DeviceQueue)
     → ((h : HostQueue) (d : DeviceQueue) → slice_get hs k ≡ Some h → slice_get ds k ≡ Some d → PairOk n h d → PairOk n h (f d)) → Paired n hs ds → Paired n hs (change k f ds)
 paired_device n k f [] [] step p = p
-paired_device n k f [] (d ∷ ds) step p = absurd p
-paired_device n k f (h ∷ hs) [] step p = absurd p
 paired_device n zero f (h ∷ hs) (d ∷ ds) step p = (step h d refl refl p.0, p.1)
 paired_device n (suc k) f (h ∷ hs) (d ∷ ds) step p = (p.0, paired_device n k f hs ds step p.1)
+paired_device n k f x y step p = absurd p
 
 -- a queue of the controller stands at the host
 pub paired_at : (n k : ℕ) (hs : List HostQueue) (ds : List DeviceQueue) (d : DeviceQueue) → slice_get ds k ≡ Some d → Paired n hs ds → (h : HostQueue) × (slice_get hs k ≡ Some h) × PairOk n h d
 paired_at n k [] [] d e p = absurd cc
-paired_at n k [] (x ∷ ds) d e p = absurd p
-paired_at n k (h ∷ hs) [] d e p = absurd p
 paired_at n zero (h ∷ hs) (x ∷ ds) d e p = let same : x ≡ d = cc in (h, refl, subst (λ (y : DeviceQueue). PairOk n h y) same p.0)
 paired_at n (suc k) (h ∷ hs) (x ∷ ds) d e p = paired_at n k hs ds d e p.1
+paired_at n k x y d e p = absurd p
 
 -- with whether each job's queue is there, what a touch needs
 pub record Tied (s : State) : Type 0 where
@@ -295,9 +267,6 @@ completion_queue s q h = elim (option_is (slice_get s.device.queues q)) [
   | inr (d, e) ↦ let h = rw e at h in (d, e, h)
 ]
 
-no_cq_is_gone : (st : HostState) → has_cq st ≡ false → is_gone st ≡ true
-no_cq_is_gone st o = grind arith
-
 pub linked_from_tied : (s : State) → InRings (host_part s) → Tied s → IsLinked s
 linked_from_tied s rings tied = record {
   entries = tied.some_entries;
@@ -311,15 +280,13 @@ linked_from_tied s rings tied = record {
       let d = completion_queue s q there in
       let p = paired_at s.entries q s.host.queues s.device.queues d.0 d.1 tied.pairs in
       let same : p.0 ≡ queue = cc (p.1, e) in
-      subst (λ (h : HostQueue). length h.cq_pages ≡ half_pages s.entries Completion) same (p.2.comp (cq_stays p.0.state (λ o. true≢false (sym there ∙ tied.gone q p.0 p.1 (no_cq_is_gone p.0.state o)))));
+      subst (λ (h : HostQueue). length h.cq_pages ≡ half_pages s.entries Completion) same (p.2.comp (cq_stays p.0.state (λ o. true≢false (sym there ∙ tied.gone q p.0 p.1 (grind arith)))));
   known = λ q there.
       let d = there_queue s q there in
-      let p = paired_at s.entries q s.host.queues s.device.queues d.0 d.1 tied.pairs in
-      ap is_some p.1;
+      ap is_some (paired_at s.entries q s.host.queues s.device.queues d.0 d.1 tied.pairs).1;
   completion_stays = λ q there.
       let d = there_queue s q there in
-      let p = paired_at s.entries q s.host.queues s.device.queues d.0 d.1 tied.pairs in
-      ap (λ o. option_map_or (λ (at : DeviceQueue). at.cq_there) o false) d.1 ∙ p.2.half d.2;
+      ap (λ o. option_map_or (λ (at : DeviceQueue). at.cq_there) o false) d.1 ∙ (paired_at s.entries q s.host.queues s.device.queues d.0 d.1 tied.pairs).2.half d.2;
   jobs_have_queues = λ q cid is. job_queue q cid is;
 }
   where
@@ -359,11 +326,9 @@ tie_of n rs hs ds js h = record { pairs = h.pairs; jobs = h.jobs; service = h.se
 -- what a queue passes not, it passes not as one is changed
 pub stays_false : {A : Type 0} (g : A → Bool) (b : Bool) (k : ℕ) (f : A → A) (xs : List A) (q : ℕ) → ((x : A) → slice_get xs k ≡ Some x → k ≡ q → g x ≡ false → g (f x) ≡ false)
     → option_map_or g (slice_get xs q) b ≡ false → option_map_or g (slice_get (change k f xs) q) b ≡ false
-stays_false g b k f [] q step h = h
 stays_false g b zero f (x ∷ xs) zero step h = step x refl refl h
-stays_false g b zero f (x ∷ xs) (suc q) step h = h
-stays_false g b (suc k) f (x ∷ xs) zero step h = h
 stays_false g b (suc k) f (x ∷ xs) (suc q) step h = stays_false g b k f xs q (λ y e same. step y e (ap suc same)) h
+stays_false g b k f x q step h = h
 
 -- fewer jobs
 pub tie_jobs : (n : ℕ) (hs : List HostQueue) (ds : List DeviceQueue) (js js' : List Job) → ((q : ℕ) → total (on_queue q) js' ≤ total (on_queue q) js) → Tie n hs ds js → Tie n hs ds js'
@@ -381,11 +346,8 @@ pub tie_host : (n : ℕ) (hs : List HostQueue) (ds : List DeviceQueue) (js : Lis
 tie_host n hs ds js k f pair served h = record {
   pairs = paired_host n k f hs ds pair h.pairs;
   jobs = h.jobs;
-  service = λ q some. stays_false (λ (x : HostQueue). not (in_service x.state)) false k f hs q (λ x e same out. still x e (subst (λ (z : ℕ). 0 < total (on_queue z) js) (sym same) some) (in_service x.state) refl out) (h.service q some);
+  service = λ q some. stays_false (λ (x : HostQueue). not (in_service x.state)) false k f hs q (λ x e same out. grind arith) (h.service q some);
 }
-  where
-    still : (x : HostQueue) → slice_get hs k ≡ Some x → 0 < total (on_queue k) js → (b : Bool) → in_service x.state ≡ b → not (in_service x.state) ≡ false → not (in_service (f x).state) ≡ false
-    still x e some b is out = grind arith
 
 -- one of the controller's
 pub tie_device : (n : ℕ) (hs : List HostQueue) (ds : List DeviceQueue) (js : List Job) (k : ℕ) (f : DeviceQueue → DeviceQueue)

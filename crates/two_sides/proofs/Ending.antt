@@ -35,15 +35,11 @@ only_places chain m zero place bytes e k lt = absurd (omega arith)
 only_places chain m (suc n) place bytes e zero lt = rw (add-zero place) (grind arith)
 only_places chain m (suc n) place bytes e (suc k) lt =
     let rest = go (if chain place then m place else None) (bytes_at (only chain m) (place + 1) n) e in
-    subst (λ (q : ℕ). chain q ≡ true) (one_more place k) (only_places chain m n (place + 1) rest.0 rest.1 k (omega arith))
+    subst (λ (q : ℕ). chain q ≡ true) (omega arith) (only_places chain m n (place + 1) rest.0 rest.1 k (omega arith))
   where
     go : (o : Option ℕ) (r : Option (List ℕ)) → joined o r ≡ Some bytes → (bs : List ℕ) × (r ≡ Some bs)
     go (Some byte) (Some bs) e = (bs, refl)
-    go (Some byte) None e = absurd cc
-    go None r e = absurd cc
-
-    one_more : (place k : ℕ) → place + 1 + k ≡ place + suc k
-    one_more place k = omega arith
+    go x r e = absurd cc
 
 -- What stands ahead: so many descriptors of a segment, which spell parts with the segments behind it
 
@@ -73,11 +69,9 @@ pub first_ahead : (m : Memory) (named : Named) (d : Descriptor) (ds : List Descr
     → Ahead m named (d ∷ ds) segments parts → PartFirst m named d ds segments parts ⊎ LinkFirst m named d ds segments parts
 first_ahead m named d ds segments [] (inl e) = absurd (let e = e.2 in cc)
 first_ahead m named d ds segments (p ∷ ps) (inl (by, none, e)) =
+    let others : d ∷ ds ≡ descriptor_of_part p ∷ map descriptor_of_part ps → map descriptor_of_part ps ≡ ds = λ e. cc in
     inl (record { part = p; parts' = ps; is = cc; all = refl; behind_it = λ z. (by, none, no_parts ps (others e ∙ z)); ahead = inl (by, none, cc) })
   where
-    others : d ∷ ds ≡ descriptor_of_part p ∷ map descriptor_of_part ps → map descriptor_of_part ps ≡ ds
-    others e = cc
-
     no_parts : (ps : List Part) → map descriptor_of_part ps ≡ [] → ps ≡ []
     no_parts [] e = refl
     no_parts (p ∷ ps) e = absurd (far e)
@@ -88,11 +82,9 @@ first_ahead m named d ds segments parts (inr (by, [], last, rest, e, link, all, 
     let same : last ≡ d = cc in
     inr (record { is_last = cc; named_so = by; link = subst IsLink same link; by = subst (λ (x : Descriptor). SpellsBy m x segments parts) same (subst (λ (ps : List Part). SpellsBy m last segments ps) (sym all) spells) })
 first_ahead m named d ds segments parts (inr (by, f ∷ fs, last, rest, e, link, all, spells)) =
+    let others : d ∷ ds ≡ descriptor_of_part f ∷ (map descriptor_of_part fs ++ last ∷ []) → ds ≡ map descriptor_of_part fs ++ last ∷ [] = λ e. cc in
     inl (record { part = f; parts' = fs ++ rest; is = cc; all = all; behind_it = λ z. absurd (some fs (sym (others e) ∙ z)); ahead = inr (by, fs, last, rest, others e, link, refl, spells) })
   where
-    others : d ∷ ds ≡ descriptor_of_part f ∷ (map descriptor_of_part fs ++ last ∷ []) → ds ≡ map descriptor_of_part fs ++ last ∷ []
-    others e = cc
-
     some : (fs : List Part) → map descriptor_of_part fs ++ last ∷ [] ≡ [] → ⊥
     some [] e = cc
     some (f ∷ fs) e = cc
@@ -109,11 +101,10 @@ pub record LinkedTo (m : Memory) (named : Named) (addr len : ℕ) (behind : List
   pub ahead : Ahead m named (first ∷ others) segments parts
 
 pub linked_last : (m : Memory) (addr len : ℕ) (segments : List (List Descriptor)) (parts : List Part) → SpellsBy m (LastSegment addr len) segments parts → LinkedTo m ByLastSegment addr len segments parts
-linked_last m addr len [] parts by = absurd by
 linked_last m addr len ([] ∷ []) parts by = absurd (omega (arith, by.0.1, by.0.2))
 linked_last m addr len ((d ∷ ds) ∷ []) parts by =
     record { first = d; others = ds; segments = []; are = refl; whole = by.0.2; aligned = by.0.0; stand = by.0.3; ahead = inl (refl, refl, by.1) }
-linked_last m addr len (x ∷ y ∷ xs) parts by = absurd by
+linked_last m addr len x parts by = absurd by
 
 pub linked_on : (m : Memory) (addr len : ℕ) (segments : List (List Descriptor)) (parts : List Part) → SpellsBy m (Segment addr len) segments parts → LinkedTo m BySegment addr len segments parts
 linked_on m addr len [] parts by = absurd by
@@ -131,13 +122,10 @@ moves_in chain own m rest h (suc n) place len offset pages lies =
     let less : n ≡ pages_spanned (place + first_part place len) (len - first_part place len) = omega (arith, pages, pages_step place len (some place len n pages)) in
     both (is_some (bytes_at m place (first_part place len))) _
     (moves_in chain own m rest h n (place + first_part place len) (len - first_part place len) (offset + first_part place len) less
-    (λ k lt. subst (λ (q : ℕ). own q ≡ true) (sum place (first_part place len) k) (lies (first_part place len + k) (omega arith))))
+    (λ k lt. subst (λ (q : ℕ). own q ≡ true) (omega arith) (lies (first_part place len + k) (omega arith))))
   where
     some : (place len n : ℕ) → suc n ≡ pages_spanned place len → 0 < len
     some place len n e = grind (arith, nat_tests)
-
-    sum : (a b c : ℕ) → a + (b + c) ≡ a + b + c
-    sum a b c = omega arith
 
     part : (place len : ℕ) → 0 < len → (0 < first_part place len) × (first_part place len ≤ len) × (place % 4096 + first_part place len ≤ 4096)
     part place len some = grind (arith, nat_tests)
@@ -168,12 +156,10 @@ next_in : (chain own : ℕ → Bool) (m : Memory) (dir : Direction) (need k : �
 next_in chain own m dir need k from c wanted d [] segments parts left stand ahead lie =
     subst (λ (n : ℕ). CourseIn chain own (rest_of k m dir need (if nat_lt 1 n then Some (record { place = c.place + 16; left = c.left - 1; named = c.named }) else None) wanted)) (sym left) tt
 next_in chain own m dir need k from c wanted d (e ∷ es) segments parts left stand ahead lie =
+    let more : (n l : ℕ) → n ≡ suc (suc l) → nat_lt 1 n ≡ true = λ n l e. grind (arith, nat_tests) in
     subst (λ (b : Bool). CourseIn chain own (rest_of k m dir need (if b then Some (record { place = c.place + 16; left = c.left - 1; named = c.named }) else None) wanted)) (sym (more c.left (length es) left))
     (wanted_in chain own m dir need k (record { place = c.place + 16; left = c.left - 1; named = c.named }) wanted
     (from (record { place = c.place + 16; left = c.left - 1; named = c.named }) wanted e es segments parts (omega (arith, left)) stand ahead lie))
-  where
-    more : (n l : ℕ) → n ≡ suc (suc l) → nat_lt 1 n ≡ true
-    more n l e = grind (arith, nat_tests)
 
 unless_in : (chain own : ℕ → Bool) (f : Option Status) (c : Course) → CourseIn chain own c → CourseIn chain own (unless_fault f c)
 unless_in chain own (Some status) c h = tt
@@ -195,10 +181,9 @@ start_in chain own m dir need k from named addr len wanted segments parts to lie
 -- what follows a link
 link_in : (chain own : ℕ → Bool) (m : Memory) (dir : Direction) (need k : ℕ) → FromIn chain own m dir need k → (c : Cursor) (wanted : ℕ) (d : Descriptor) (segments : List (List Descriptor)) (parts : List Part)
     → IsLink d → SpellsBy (only chain m) d segments parts → AllByRecursion (LiesIn own) parts → CourseIn chain own (goes_on m dir need c wanted (rest_of k m dir need) d)
-link_in chain own m dir need k from c wanted (DataBlock addr len) segments parts link by lie = absurd (true≢false (sym link))
-link_in chain own m dir need k from c wanted (BitBucket len) segments parts link by lie = absurd (true≢false (sym link))
 link_in chain own m dir need k from c wanted (Segment addr len) segments parts link by lie = start_in chain own m dir need k from BySegment addr len wanted segments parts (linked_on (only chain m) addr len segments parts by) lie
 link_in chain own m dir need k from c wanted (LastSegment addr len) segments parts link by lie = start_in chain own m dir need k from ByLastSegment addr len wanted segments parts (linked_last (only chain m) addr len segments parts by) lie
+link_in chain own m dir need k from c wanted x segments parts link by lie = absurd (true≢false (sym link))
 
 read_in : (chain own : ℕ → Bool) (m : Memory) (dir : Direction) (need k : ℕ) → FromIn chain own m dir need k → (c : Cursor) (wanted : ℕ) (d : Descriptor) (ds : List Descriptor) (segments : List (List Descriptor)) (parts : List Part)
     → c.left ≡ length (d ∷ ds) → Stand (only chain m) (c.place + 16) ds → Ahead (only chain m) c.named (d ∷ ds) segments parts → AllByRecursion (LiesIn own) parts
@@ -216,22 +201,19 @@ from_in : (chain own : ℕ → Bool) (m : Memory) (dir : Direction) (need k : �
 unfolding from_place
 from_in chain own m dir need zero c wanted d ds segments parts left stand ahead lie = (tt, tt)
 from_in chain own m dir need (suc k) c wanted d ds segments parts left ((bytes, there, is), stand) ahead lie =
+    let sub_suc : (k : ℕ) → suc k - 1 ≡ k = λ k. omega arith in
     subst (CourseIn chain own) (sym (from_read (suc k) m dir need c wanted bytes (omega arith) (only_bytes chain m 16 c.place bytes there)))
     (subst (λ (n : ℕ). CourseIn chain own (Does (Reads c.place) (after_read m dir need c wanted (rest_of n m dir need) (descriptor_of bytes)))) (sym (sub_suc k))
     (subst (λ (o : Option Descriptor). CourseIn chain own (Does (Reads c.place) (after_read m dir need c wanted (rest_of k m dir need) o))) (sym (found bytes d is))
     (only_places chain m 16 c.place bytes there, read_in chain own m dir need k (from_in chain own m dir need k) c wanted d ds segments parts left stand ahead lie)))
-  where
-    sub_suc : (k : ℕ) → suc k - 1 ≡ k
-    sub_suc k = omega arith
 
 -- a list's first descriptor stands in a segment of one
 pub spells_ahead : (m : Memory) (d : Descriptor) (segments : List (List Descriptor)) (parts : List Part) → SpellsBy m d segments parts → Ahead m Unnamed (d ∷ []) segments parts
-spells_ahead m (DataBlock addr len) [] parts by = inl (refl, refl, ap (map descriptor_of_part) (sym by))
 spells_ahead m (DataBlock addr len) (x ∷ xs) parts by = absurd by
-spells_ahead m (BitBucket len) [] parts by = inl (refl, refl, ap (map descriptor_of_part) (sym by))
 spells_ahead m (BitBucket len) (x ∷ xs) parts by = absurd by
 spells_ahead m (Segment addr len) segments parts by = inr (refl, [], Segment addr len, parts, refl, refl, refl, by)
 spells_ahead m (LastSegment addr len) segments parts by = inr (refl, [], LastSegment addr len, parts, refl, refl, refl, by)
+spells_ahead m x segments parts by = inl (refl, refl, ap (map descriptor_of_part) (sym by))
 
 pub list_in : (chain own : ℕ → Bool) (m : Memory) (sgl1 : List ℕ) (first : Descriptor) (parts : List Part) (dir : Direction) (need : ℕ)
     → descriptor_of sgl1 ≡ Some first → Spells (only chain m) first parts → AllByRecursion (LiesIn own) parts → CourseIn chain own (course_of_list m sgl1 dir need)
@@ -249,29 +231,20 @@ pub bytes_there : (m : Memory) (n place : ℕ) → ((k : ℕ) → k < n → is_s
 unfolding bytes_at
 bytes_there m zero place there = refl
 bytes_there m (suc n) place there =
+    let go : (a : Option ℕ) (b : Option (List ℕ)) → is_some a ≡ true → is_some b ≡ true → is_some (joined a b) ≡ true = λ a b e f. grind arith in
     go (m place) (bytes_at m (place + 1) n) (subst (λ (q : ℕ). is_some (m q) ≡ true) (add-zero place) (there 0 (omega arith)))
-    (bytes_there m n (place + 1) (λ k lt. subst (λ (q : ℕ). is_some (m q) ≡ true) (one_more place k) (there (suc k) (omega arith))))
-  where
-    one_more : (place k : ℕ) → place + suc k ≡ place + 1 + k
-    one_more place k = omega arith
-
-    go : (a : Option ℕ) (b : Option (List ℕ)) → is_some a ≡ true → is_some b ≡ true → is_some (joined a b) ≡ true
-    go a b e f = grind arith
+    (bytes_there m n (place + 1) (λ k lt. subst (λ (q : ℕ). is_some (m q) ≡ true) (omega arith) (there (suc k) (omega arith))))
 
 last_there : (m : Memory) (n place : ℕ) (bytes : List ℕ) → bytes_at m place (suc n) ≡ Some bytes → is_some (m (place + n)) ≡ true
 unfolding bytes_at
 last_there m zero place bytes e = rw (add-zero place) (grind arith)
 last_there m (suc n) place bytes e =
     let rest = go (m place) (bytes_at m (place + 1) (suc n)) e in
-    subst (λ (q : ℕ). is_some (m q) ≡ true) (one_more place n) (last_there m n (place + 1) rest.0 rest.1)
+    subst (λ (q : ℕ). is_some (m q) ≡ true) (omega arith) (last_there m n (place + 1) rest.0 rest.1)
   where
     go : (a : Option ℕ) (b : Option (List ℕ)) → joined a b ≡ Some bytes → (bs : List ℕ) × (b ≡ Some bs)
     go (Some x) (Some xs) e = (xs, refl)
-    go (Some x) None e = absurd cc
-    go None b e = absurd cc
-
-    one_more : (place n : ℕ) → place + 1 + n ≡ place + suc n
-    one_more place n = omega arith
+    go x b e = absurd cc
 
 -- where descriptors stand, their last byte does
 end_of_stand : (m : Memory) (place : ℕ) (d : Descriptor) (ds : List Descriptor) → Stand m place (d ∷ ds) → is_some (m (place + 16 * length ds + 15)) ≡ true
@@ -289,12 +262,8 @@ not_less : (a b : ℕ) → b ≤ a → nat_lt a b ≡ false
 not_less a b h = grind (arith, nat_tests)
 
 fourth_row : (named : Named) (left : ℕ) → (left ≡ 1 → named_on named ≡ false) → (named_on named && nat_eq left 1) ≡ false
-fourth_row Unnamed left h = refl
-fourth_row ByLastSegment left h = refl
-fourth_row BySegment left h = other left (λ e. true≢false (h e))
-  where
-    other : (left : ℕ) → (left ≡ 1 → ⊥) → nat_eq left 1 ≡ false
-    other left h = grind (arith, nat_tests)
+fourth_row BySegment left h = grind (arith, nat_tests)
+fourth_row x left h = refl
 
 part_fits : (m : Memory) (part : Part) → IsThere m part → passes_end (descriptor_of_part part) ≡ false
 part_fits m (Data addr len) there = not_less (2 ^ 64) (addr + len) there.0
@@ -302,15 +271,6 @@ part_fits m (Bucket len) there = not_less (2 ^ 64) (0 + len) (omega (arith, ther
 
 no_link : (part : Part) → is_link (descriptor_of_part part) ≡ false
 no_link part = grind arith
-
-no_fault_of_part : (c : Cursor) (m : Memory) (part : Part) → IsThere m part → (c.left ≡ 1 → named_on c.named ≡ false) → first_fault c (descriptor_of_part part) ≡ None
-no_fault_of_part c m part there last =
-    no_fault c (descriptor_of_part part)
-    (subst (λ (b : Bool). (b && named_last c.named) ≡ false) (sym (no_link part)) refl)
-    (subst (λ (b : Bool). (b && nat_lt 1 c.left) ≡ false) (sym (no_link part)) refl)
-    (subst (λ (b : Bool). (b && names_no_segment (descriptor_of_part part)) ≡ false) (sym (no_link part)) refl)
-    (subst (λ (b : Bool). (not b && named_on c.named && nat_eq c.left 1) ≡ false) (sym (no_link part)) (fourth_row c.named c.left last))
-    (part_fits m part there)
 
 -- the fault of a link that names a whole segment, from the last place of one that no Last Segment descriptor names
 names_one : (addr len l : ℕ) → addr % 8 ≡ 0 → len ≡ 16 * suc l → names_no_segment (Segment addr len) ≡ false
@@ -330,29 +290,21 @@ front_of wanted (Data addr len) = Data addr (min len wanted)
 front_of wanted (Bucket len) = Bucket (min len wanted)
 
 range_front : (addr len wanted : ℕ) → map (λ place. Place place) (range_with_len addr (min len wanted)) ≡ take wanted (map (λ place. Place place) (range_with_len addr len))
-range_front addr len wanted = elim (cases_lt wanted len) [
-  | inl less ↦ ap (λ (n : ℕ). map (λ place. Place place) (range_with_len addr n)) (shorter less) ∙ sym (take-map-range_with_len (λ place. Place place) addr len wanted (omega arith))
-  | inr most ↦ ap (λ (n : ℕ). map (λ place. Place place) (range_with_len addr n)) (whole most)
-      ∙ sym (take_all wanted (map (λ place. Place place) (range_with_len addr len)) (omega (arith, length-map-range_with_len (λ place. Place place) addr len)))
-]
-  where
-    shorter : wanted < len → min len wanted ≡ wanted
-    shorter less = omega arith
-
-    whole : len ≤ wanted → min len wanted ≡ len
-    whole most = omega arith
+range_front addr len wanted =
+    let shorter : wanted < len → min len wanted ≡ wanted = λ less. omega arith in
+    elim (cases_lt wanted len) [
+      | inl less ↦ ap (λ (n : ℕ). map (λ place. Place place) (range_with_len addr n)) (shorter less) ∙ sym (take-map-range_with_len (λ place. Place place) addr len wanted (omega arith))
+      | inr most ↦ ap (λ (n : ℕ). map (λ place. Place place) (range_with_len addr n)) (omega arith)
+          ∙ sym (take_all wanted (map (λ place. Place place) (range_with_len addr len)) (omega (arith, length-map-range_with_len (λ place. Place place) addr len)))
+    ]
 
 discarded_front : (len wanted : ℕ) → replicate (min len wanted) Discarded ≡ take wanted (replicate len Discarded)
-discarded_front len wanted = elim (cases_lt wanted len) [
-  | inl less ↦ ap (λ (n : ℕ). replicate n Discarded) (shorter less) ∙ sym (take-replicate wanted len Discarded (omega arith))
-  | inr most ↦ ap (λ (n : ℕ). replicate n Discarded) (whole most) ∙ sym (take_all wanted (replicate len Discarded) (omega (arith, length-replicate len Discarded)))
-]
-  where
-    shorter : wanted < len → min len wanted ≡ wanted
-    shorter less = omega arith
-
-    whole : len ≤ wanted → min len wanted ≡ len
-    whole most = omega arith
+discarded_front len wanted =
+    let whole : len ≤ wanted → min len wanted ≡ len = λ most. omega arith in
+    elim (cases_lt wanted len) [
+      | inl less ↦ ap (λ (n : ℕ). replicate n Discarded) (let shorter : min len wanted ≡ wanted = omega arith in shorter) ∙ sym (take-replicate wanted len Discarded (omega arith))
+      | inr most ↦ ap (λ (n : ℕ). replicate n Discarded) (whole most) ∙ sym (take_all wanted (replicate len Discarded) (omega (arith, length-replicate len Discarded)))
+    ]
 
 front_targets : (dir : Direction) (wanted : ℕ) (part : Part) → targets_of_part dir (front_of wanted part) ≡ take wanted (targets_of_part dir part)
 front_targets dir wanted (Data addr len) = range_front addr len wanted
@@ -360,25 +312,19 @@ front_targets Destination wanted (Bucket len) = discarded_front len wanted
 front_targets Source wanted (Bucket len) = sym (take_all wanted [] (omega arith))
 
 take_front : (n k : ℕ) (xs ys : List Target) → k ≡ n - length xs → take n (xs ++ ys) ≡ take n xs ++ take k ys
-take_front zero k [] ys e = let none : k ≡ 0 = omega (arith, e) in rw none refl
 take_front (suc n) k [] ys e = let all : k ≡ suc n = omega (arith, e) in rw all refl
-take_front zero k (x ∷ xs) ys e = let none : k ≡ 0 = omega (arith, e) in rw none refl
 take_front (suc n) k (x ∷ xs) ys e = ap (λ (ts : List Target). x ∷ ts) (take_front n k xs ys (omega (arith, e)))
-
-front_and_rest : (dir : Direction) (wanted : ℕ) (part : Part) (parts : List Part)
-    → targets dir (front_of wanted part ∷ []) ++ take (wanted - counted dir (descriptor_of_part part)) (targets dir parts) ≡ take wanted (targets dir (part ∷ parts))
-front_and_rest dir wanted part parts =
-    ap (λ (ts : List Target). ts ++ take (wanted - counted dir (descriptor_of_part part)) (targets dir parts))
-    (flat_map-cons (targets_of_part dir) (front_of wanted part) [] ∙ append-nil (targets_of_part dir (front_of wanted part)) ∙ front_targets dir wanted part)
-    ∙ sym (take_front wanted (wanted - counted dir (descriptor_of_part part)) (targets_of_part dir part) (targets dir parts) (ap (λ (n : ℕ). wanted - n) (sym (length-targets_of_part dir part))))
-    ∙ ap (take wanted) (sym (flat_map-cons (targets_of_part dir) part parts))
+take_front x k y ys e = let none : k ≡ 0 = omega (arith, e) in rw none refl
 
 fronts_join : (dir : Direction) (before : List Part) (wanted : ℕ) (part : Part) (parts : List Part)
     → targets dir (before ++ front_of wanted part ∷ []) ++ take (wanted - counted dir (descriptor_of_part part)) (targets dir parts) ≡ targets dir before ++ take wanted (targets dir (part ∷ parts))
 fronts_join dir before wanted part parts =
     ap (λ (ts : List Target). ts ++ take (wanted - counted dir (descriptor_of_part part)) (targets dir parts)) (targets-append dir before (front_of wanted part ∷ []))
     ∙ append_assoc (targets dir before) (targets dir (front_of wanted part ∷ [])) (take (wanted - counted dir (descriptor_of_part part)) (targets dir parts))
-    ∙ ap (λ (ts : List Target). targets dir before ++ ts) (front_and_rest dir wanted part parts)
+    ∙ ap (λ (ts : List Target). targets dir before ++ ts) (ap (λ (ts : List Target). ts ++ take (wanted - counted dir (descriptor_of_part part)) (targets dir parts))
+    (flat_map-cons (targets_of_part dir) (front_of wanted part) [] ∙ append-nil (targets_of_part dir (front_of wanted part)) ∙ front_targets dir wanted part)
+    ∙ sym (take_front wanted (wanted - counted dir (descriptor_of_part part)) (targets_of_part dir part) (targets dir parts) (ap (λ (n : ℕ). wanted - n) (sym (length-targets_of_part dir part))))
+    ∙ ap (take wanted) (sym (flat_map-cons (targets_of_part dir) part parts)))
 
 -- Courses that end
 
@@ -392,17 +338,12 @@ moves_on : (m : Memory) (dir : Direction) (need wanted : ℕ) (parts : List Part
 unfolding moving
 moves_on m dir need wanted parts rest h zero place len offset pages there = h
 moves_on m dir need wanted parts rest h (suc n) place len offset pages there =
+    let less : n ≡ pages_spanned (place + first_part place len) (len - first_part place len) = omega (arith, pages, pages_step place len (grind (arith, nat_tests))) in
     subst (λ (b : Bool). EndsWith m dir need wanted parts (cond b (Does (Moves place (first_part place len) offset) (moving m n (place + first_part place len) (len - first_part place len) (offset + first_part place len) rest)) (Does Stays (Closes (Fault DATA_TRANSFER_ERROR)))))
     (sym (bytes_there m (first_part place len) place (λ k lt. there k (omega (arith, (part_most place len).0)))))
     (moved (moves_on m dir need wanted parts rest h n (place + first_part place len) (len - first_part place len) (offset + first_part place len) less
-    (λ k lt. subst (λ (q : ℕ). is_some (m q) ≡ true) (sum place (first_part place len) k) (there (first_part place len + k) (omega arith)))))
+    (λ k lt. subst (λ (q : ℕ). is_some (m q) ≡ true) (omega arith) (there (first_part place len + k) (omega arith)))))
   where
-    less : n ≡ pages_spanned (place + first_part place len) (len - first_part place len)
-    less = omega (arith, pages, pages_step place len (grind (arith, nat_tests)))
-
-    sum : (a b c : ℕ) → a + (b + c) ≡ a + b + c
-    sum a b c = omega arith
-
     moved : {c : Course} → EndsWith m dir need wanted parts c → EndsWith m dir need wanted parts (Does (Moves place (first_part place len) offset) c)
     moved h = record { ends = h.ends; takes = h.takes }
 
@@ -415,10 +356,7 @@ over_ends m dir need k (Some c) wanted parts none = rw none (record { ends = ref
 wanted_ends : (m : Memory) (dir : Direction) (need k : ℕ) (c : Cursor) (wanted : ℕ) (parts : List Part) → 0 < wanted → EndsWith m dir need wanted parts (from_place k m dir need c wanted)
     → EndsWith m dir need wanted parts (rest_of k m dir need (Some c) wanted)
 wanted_ends m dir need k c wanted parts some h =
-    subst (λ (b : Bool). EndsWith m dir need wanted parts (cond b (Closes End) (from_place k m dir need c wanted))) (sym (still_wants wanted (nonzero wanted some))) h
-  where
-    nonzero : (n : ℕ) → 0 < n → n ≢ 0
-    nonzero n some none = omega (arith, some, none)
+    subst (λ (b : Bool). EndsWith m dir need wanted parts (cond b (Closes End) (from_place k m dir need c wanted))) (sym (still_wants wanted (λ none. omega (arith, some, none)))) h
 
 abbrev FromEnds : Memory → Direction → ℕ → ℕ → Type 0
 FromEnds m dir need k =
@@ -432,16 +370,15 @@ next_ends : (m : Memory) (dir : Direction) (need k : ℕ) → FromEnds m dir nee
     → wanted ≤ counted_in dir parts → AllByRecursion (IsThere m) parts → EndsWith m dir need wanted parts (rest_of k m dir need (next c) wanted)
 next_ends m dir need k from c wanted d [] segments parts left stand ahead none few count there =
     let zero' : counted_in dir parts ≡ 0 = ap (counted_in dir) (none refl) in over_ends m dir need k (next c) wanted parts (omega (arith, count, zero'))
-next_ends m dir need k from c wanted d (e ∷ es) segments parts left stand ahead none few count there = elim (cases_Bool (nat_eq wanted 0)) [
-  | inl z ↦ over_ends m dir need k (next c) wanted parts ((is_wanted wanted).0 z)
-  | inr z ↦
-      subst (λ (b : Bool). EndsWith m dir need wanted parts (rest_of k m dir need (if b then Some (record { place = c.place + 16; left = c.left - 1; named = c.named }) else None) wanted)) (sym (more c.left (length es) left))
-      (wanted_ends m dir need k (record { place = c.place + 16; left = c.left - 1; named = c.named }) wanted parts ((is_wanted wanted).1 z)
-      (from (record { place = c.place + 16; left = c.left - 1; named = c.named }) wanted e es segments parts (omega (arith, left)) stand ahead few count there))
-]
-  where
-    more : (n l : ℕ) → n ≡ suc (suc l) → nat_lt 1 n ≡ true
-    more n l e = grind (arith, nat_tests)
+next_ends m dir need k from c wanted d (e ∷ es) segments parts left stand ahead none few count there =
+    let more : (n l : ℕ) → n ≡ suc (suc l) → nat_lt 1 n ≡ true = λ n l e. grind (arith, nat_tests) in
+    elim (cases_Bool (nat_eq wanted 0)) [
+      | inl z ↦ over_ends m dir need k (next c) wanted parts ((is_wanted wanted).0 z)
+      | inr z ↦
+          subst (λ (b : Bool). EndsWith m dir need wanted parts (rest_of k m dir need (if b then Some (record { place = c.place + 16; left = c.left - 1; named = c.named }) else None) wanted)) (sym (more c.left (length es) left))
+          (wanted_ends m dir need k (record { place = c.place + 16; left = c.left - 1; named = c.named }) wanted parts ((is_wanted wanted).1 z)
+          (from (record { place = c.place + 16; left = c.left - 1; named = c.named }) wanted e es segments parts (omega (arith, left)) stand ahead few count there))
+    ]
 
 -- a part's course, its descriptor taken already
 abbrev EndsBehind : Memory → Direction → ℕ → ℕ → Descriptor → List Part → Course → Type 0
@@ -521,7 +458,12 @@ read_ends m dir need k low from c wanted d ds segments parts left stand ahead fe
         subst (λ (x : Descriptor). EndsBehind m dir need wanted x parts (after_read m dir need c wanted (rest_of k m dir need) (Some x))) (sym p.is)
         (subst (λ (ps : List Part). EndsBehind m dir need wanted (descriptor_of_part p.part) ps (after_read m dir need c wanted (rest_of k m dir need) (Some (descriptor_of_part p.part)))) (sym p.all)
         (unless_ends m dir need wanted (descriptor_of_part p.part) (p.part ∷ p.parts') (first_fault c (descriptor_of_part p.part)) (goes_on m dir need c wanted (rest_of k m dir need) (descriptor_of_part p.part))
-        (no_fault_of_part c m p.part there'.0 (λ one. (p.behind_it (alone ds (sym left ∙ one))).0))
+        (no_fault c (descriptor_of_part p.part)
+        (subst (λ (b : Bool). (b && named_last c.named) ≡ false) (sym (no_link p.part)) refl)
+        (subst (λ (b : Bool). (b && nat_lt 1 c.left) ≡ false) (sym (no_link p.part)) refl)
+        (subst (λ (b : Bool). (b && names_no_segment (descriptor_of_part p.part)) ≡ false) (sym (no_link p.part)) refl)
+        (subst (λ (b : Bool). (not b && named_on c.named && nat_eq c.left 1) ≡ false) (sym (no_link p.part)) (fourth_row c.named c.left (λ one. (p.behind_it (alone ds (sym left ∙ one))).0)))
+        (part_fits m p.part there'.0))
         (part_ends m dir need k c wanted p.part p.parts' there'.0
         (next_ends m dir need k from c (wanted - counted dir (descriptor_of_part p.part)) d ds segments p.parts' left stand p.ahead (λ z. (p.behind_it z).2) few (omega (arith, count, count')) there'.1))))
       where
@@ -534,6 +476,7 @@ read_ends m dir need k low from c wanted d ds segments parts left stand ahead fe
 from_ends : (m : Memory) (dir : Direction) (need : ℕ) → ((place : ℕ) → is_some (m place) ≡ true → place < 2 ^ 64) → (k : ℕ) → FromEnds m dir need k
 from_ends m dir need low zero c wanted d ds segments parts left stand ahead few count there = absurd (omega (arith, few))
 from_ends m dir need low (suc k) c wanted d ds segments parts left ((bytes, is_there, is), stand) ahead few count there =
+    let sub_suc : (k : ℕ) → suc k - 1 ≡ k = λ k. omega arith in
     subst (EndsWith m dir need wanted parts) (sym (from_read (suc k) m dir need c wanted bytes (omega arith) is_there))
     (subst (λ (n : ℕ). EndsWith m dir need wanted parts (Does (Reads c.place) (after_read m dir need c wanted (rest_of n m dir need) (descriptor_of bytes)))) (sym (sub_suc k))
     (let ends = read_ends m dir need k low (from_ends m dir need low k) c wanted d ds segments parts left stand ahead (omega (arith, few)) count there in
@@ -543,9 +486,6 @@ from_ends m dir need low (suc k) c wanted d ds segments parts left ((bytes, is_t
           subst (λ (o : Option (List ℕ)). targets dir (parts_taken m dir need (taken dir need before (option_and_then descriptor_of o)) (after_read m dir need c wanted (rest_of k m dir need) (descriptor_of bytes))) ≡ targets dir before ++ take wanted (targets dir parts)) (sym is_there)
           (subst (λ (o : Option Descriptor). targets dir (parts_taken m dir need (taken dir need before o) (after_read m dir need c wanted (rest_of k m dir need) o)) ≡ targets dir before ++ take wanted (targets dir parts)) (sym (found bytes d is)) (ends.1 before sum));
     }))
-  where
-    sub_suc : (k : ℕ) → suc k - 1 ≡ k
-    sub_suc k = omega arith
 
 pub long_lists_end : long_lists_end_well
 long_lists_end m sgl1 first parts dir need low spelled (segments, few, by) there count =
@@ -582,21 +522,7 @@ abbrev of_either : List ℕ → List ℕ → ℕ → Bool
 of_either chain_pages data_pages p = is_among chain_pages p || is_among data_pages p
 
 pub act_touches : (chain_pages data_pages : List ℕ) (a : Act) → ActIn (on_pages chain_pages) (on_pages data_pages) a → list_all (of_either chain_pages data_pages) (touched a) ≡ true
-act_touches chain_pages data_pages Stays h = refl
-act_touches chain_pages data_pages (Reads place) h =
-    range_pages (of_either chain_pages data_pages) place 16
-    (or_left _ _ (subst (λ (q : ℕ). on_pages chain_pages q ≡ true) (add-zero place) (h 0 (omega arith))))
-    (or_left _ _ (subst (λ (q : ℕ). on_pages chain_pages q ≡ true) (last place) (h 15 (omega arith))))
-  where
-    last : (place : ℕ) → place + 15 ≡ place + 16 - 1
-    last place = omega arith
-act_touches chain_pages data_pages (Moves place n offset) h =
-    range_pages (of_either chain_pages data_pages) place n
-    (or_right _ _ (subst (λ (q : ℕ). on_pages data_pages q ≡ true) (add-zero place) (h.2 0 h.0)))
-    (or_right _ _ (subst (λ (q : ℕ). on_pages data_pages q ≡ true) (last place n h.0) (h.2 (n - 1) (omega (arith, h.0)))))
-  where
-    last : (place n : ℕ) → 0 < n → place + (n - 1) ≡ place + n - 1
-    last place n some = omega arith
+act_touches chain_pages data_pages a h = grind arith
 
 touches_in : (chain_pages data_pages : List ℕ) (c : Course) → CourseIn (on_pages chain_pages) (on_pages data_pages) c
     → AllByRecursion (λ a. list_all (λ p. is_among chain_pages p || is_among data_pages p) (touched a) ≡ true) (units c)

@@ -81,22 +81,16 @@ pub record IsSeen (s : Sides) (q : ℕ) (c : ControllerQueue) (e : SubEntry) : T
   pub unknown : is_known s.controller q e ≡ false
   pub alone : conflicts (state_of s) q ≡ false
 
-next_by : (u : State) (q : ℕ) (d : DeviceQueue) → slice_get u.device.queues q ≡ Some d → next_rung u q ≡ (if is_live d.state && nat_lt 0 d.rung then slice_get d.unfetched 0 else None)
-next_by u q d e = rw e refl
-
 next_seen : (s : Sides) (q : ℕ) (h : HostQueue) (c : ControllerQueue) (e : SubEntry) → Shows (state_of s) s q h c → CanTake s q h c → entry_at (byte_at s.pages) c.device.sq c.device.ring.head ≡ Some e → next_rung (state_of s) q ≡ Some e
 next_seen s q h c e shown can at =
     let ring = c.device.ring in
     let side = can.known.placed.share.side in
     let far : distance c.device.entries ring.head ring.bell ≢ 0 = λ none. can.rung (distance_none c.device.entries ring.head ring.bell side.head side.bell none) in
-    next_by (state_of s) q (device_queue_of (byte_at s.pages) h.ring c) shown.device
+    rw shown.device refl
     ∙ by (is_live c.state) (is_absent c.state) (distance c.device.entries ring.head ring.bell) (unfetched_between (byte_at s.pages) h.ring c.device) _ can.live (not_absent c.state can.live) far (entries_first s q h c e can at)
   where
     by : (l b : Bool) (k : ℕ) (us vs : List SubEntry) → l ≡ true → b ≡ false → k ≢ 0 → us ≡ e ∷ vs → (if l && nat_lt 0 (if b then 0 else k) then slice_get (if b then [] else us) 0 else None) ≡ Some e
-    by false b k us vs el eb far eu = absurd (true≢false (sym el))
-    by true true k us vs el eb far eu = absurd (true≢false eb)
-    by true false zero us vs el eb far eu = absurd (far refl)
-    by true false (suc k) us vs el eb far eu = ap (λ (b : Bool). if b then slice_get us 0 else None) (lt-ltb 0 (suc k) (omega arith)) ∙ ap (λ (xs : List SubEntry). slice_get xs 0) eu
+    by l b k us vs el eb far eu = grind arith
 
 pub seen : (s : Sides) (q : ℕ) (c : ControllerQueue) (e : SubEntry) → IsWorld s → s.trusted ≡ true → IsLooked s q c e → IsSeen s q c e
 seen s q c e world t l =
@@ -123,13 +117,9 @@ seen s q c e world t l =
 
 -- nothing is rung where the controller finds nothing
 no_device : (m : Memory) (hs : List HostQueue) (cs : List ControllerQueue) (q : ℕ) → slice_get cs q ≡ None → slice_get (device_queues_of m hs cs) q ≡ None
-no_device m [] cs q e = refl
-no_device m (h ∷ hs) [] q e = refl
 no_device m (h ∷ hs) (c ∷ cs) zero e = cc
 no_device m (h ∷ hs) (c ∷ cs) (suc q) e = no_device m hs cs q e
-
-next_none : (u : State) (q : ℕ) → slice_get u.device.queues q ≡ None → next_rung u q ≡ None
-next_none u q e = rw e refl
+no_device m x cs q e = refl
 
 next_idle : (s : Sides) (q : ℕ) (c : ControllerQueue) → IsWorld s → slice_get s.controller.queues q ≡ Some c → (is_live c.state ≡ false) ⊎ ((c.device.ring.head == c.device.ring.bell) ≡ true) → next_rung (state_of s) q ≡ None
 next_idle s q c world here idle =
@@ -137,7 +127,7 @@ next_idle s q c world here idle =
     let d = device_queue_of (byte_at s.pages) h.ring c in
     let ring = c.device.ring in
     let n = c.device.entries in
-    next_by (state_of s) q d (shows s q h c found here).device
+    rw (shows s q h c found here).device refl
     ∙ elim idle [
       | inl dead ↦ ap (λ (b : Bool). if b && nat_lt 0 d.rung then slice_get d.unfetched 0 else None) dead
       | inr same ↦
@@ -153,13 +143,10 @@ Looks s q =
 
 pub looks : (s : Sides) (q : ℕ) → IsWorld s → s.trusted ≡ true → Looks s q
 looks s q world t = elim (option_is (slice_get s.controller.queues q)) [
-  | inl e ↦ inl (rw e refl, rw e refl, next_none (state_of s) q (no_device m s.host.host.queues s.controller.queues q e))
+  | inl e ↦ inl (rw e refl, rw e refl, rw (no_device (byte_at s.pages) s.host.host.queues s.controller.queues q e) refl)
   | inr (c, e) ↦ found c e (is_live c.state) refl (c.device.ring.head == c.device.ring.bell) refl
 ]
   where
-    m : Memory
-    m = byte_at s.pages
-
     found : (c : ControllerQueue) → slice_get s.controller.queues q ≡ Some c → (a : Bool) → is_live c.state ≡ a → (b : Bool) → (c.device.ring.head == c.device.ring.bell) ≡ b → Looks s q
     found c here false live b same = inl (rw (here, live) refl, rw (here, live) refl, next_idle s q c world here (inl live))
     found c here true live true same = inl (rw (here, live, same) refl, rw (here, live, same) refl, next_idle s q c world here (inr same))
@@ -307,12 +294,7 @@ taken_stand s q c e l is all =
 -- An entry of an I/O queue
 
 begun_stands : (m : Memory) (e : SubEntry) (job : JobContents) (fault : Option Status) → fault ≡ None → BeginsWalk e fault job.walk → job_course m job ≡ course_of_list m e.sgl1 (direction_of_entry e) (need_of_entry e)
-begun_stands m e job (Some st) none begins = cc
-begun_stands m e job None none begins = go job.walk begins
-  where
-    go : (w : Option Walk) → BeginsWalk e None w → course_of_walk m w ≡ course_of_list m e.sgl1 (direction_of_entry e) (need_of_entry e)
-    go None begins = absurd begins
-    go (Some w) begins = begins m
+begun_stands m e job fault none begins = grind arith
 
 begins_walk : (m : Memory) (q : ℕ) (image : List ℕ) (e : SubEntry) (job : JobContents) (commands : List FetchedCommand) → IsBegun image e job → WalksStand m commands → WalksStand m (commands ++ command_of q (Io job) ∷ [])
 begins_walk m q image e job commands b walks =

@@ -18,11 +18,11 @@ use Rattle.admin_commands.specs.Verdicts.{is_absent}
 use Rattle.controller_core.specs.{Contents.{FetchedCommand, FitsCommand, FitsWork, Work}, declared.command.Work.TheVariants.{Io, Admin}}
 use Rattle.controller_core.specs.declared.queue.ControllerQueue.{ControllerQueue}
 use Rattle.page_memory.specs.{Memory.Memory, Pages.{byte_at, Pages, page_at}, declared.page.Half.TheVariants.{Submission, Completion}}
-use Rattle.queue_pair.{proofs.{Halves.{pages_in, pages_agree, entries_agree, answers_agree, phases_agree}, Rings.answers_none}, specs.Halves.{IsIn, Agree}}
-use Rattle.queue_pair.specs.{Lists.{PhasesStand, answers_between}, Members.change, Memory.half_pages, Rings.{HostRing, DeviceSide}}
+use Rattle.queue_pair.{proofs.Halves.{pages_in, pages_agree, entries_agree, answers_agree, phases_agree}, specs.{Halves.{IsIn, Agree}, Lists.PhasesStand}}
+use Rattle.queue_pair.specs.{Members.change, Memory.half_pages}
 use Rattle.block_image.specs.Blocks.{block_count}
 use Rattle.controller_walk.{proofs.Same.{list_served, walk_served}, specs.{Laws.after_units, Serving.Serves}}
-use Rattle.controller_walk.specs.{Units.{Stays, Reads, Moves, Course, Closes, Does, course_of_list}, declared.walk.Walk.Walk}
+use Rattle.controller_walk.specs.{Units.{Stays, Reads, Moves, Course, Does, course_of_list}, declared.walk.Walk.Walk}
 use Rattle.io_commands.specs.Jobs.{JobContents, job_course, course_of_walk, direction_of_entry, need_of_entry}
 use Rattle.entry_codec.specs.declared.{completion.ComEntry.ComEntry, submission.SubEntry.SubEntry}
 
@@ -47,8 +47,7 @@ both_count w (z ∷ xs) (suc i) (suc j) x y e f apart = omega (arith, both_count
 pub commands_apart : (s : Sides) → AreSides s → (q : ℕ) (h : HostQueue) (r : Record) (p : ℕ) → slice_get s.host.host.queues q ≡ Some h → In r s.host.host.records → is_among (pages_of r) p ≡ true
     → (is_among h.sq_pages p ≡ false) × (is_among h.cq_pages p ≡ false)
 commands_apart s sides q h r p e within among =
-    let own = held_once p (pages_of r) among in
-    let none' : in_queue p h ≡ 0 = omega (arith, own, owned_once s sides p, within (in_record p), in_at s.host.host.queues q h e (in_queue p)) in
+    let none' : in_queue p h ≡ 0 = omega (arith, held_once p (pages_of r) among, owned_once s sides p, within (in_record p), in_at s.host.host.queues q h e (in_queue p)) in
     (among_counts p h.sq_pages (omega (arith, none')), among_counts p h.cq_pages (omega (arith, none')))
 
 -- a page of a queue's half is in
@@ -118,10 +117,9 @@ controller_at s world q h e = controller_of s.host.entries 0 q s.host.host.queue
 
 host_of : (n i k : ℕ) (hs : List HostQueue) (cs : List ControllerQueue) (c : ControllerQueue) → ShareQueues n i hs cs → slice_get cs k ≡ Some c → (h : HostQueue) × (slice_get hs k ≡ Some h)
 host_of n i k [] [] c share e = absurd cc
-host_of n i k [] (x ∷ cs) c share e = absurd share
-host_of n i k (h ∷ hs) [] c share e = absurd share
 host_of n i zero (h ∷ hs) (x ∷ cs) c share e = (h, refl)
 host_of n i (suc k) (h ∷ hs) (x ∷ cs) c share e = host_of n (suc i) k hs cs c share.1 e
+host_of n i k x y c share e = absurd share
 
 pub host_at : (s : Sides) → IsWorld s → (q : ℕ) (c : ControllerQueue) → slice_get s.controller.queues q ≡ Some c → (h : HostQueue) × (slice_get s.host.host.queues q ≡ Some h)
 host_at s world q c e = host_of s.host.entries 0 q s.host.host.queues s.controller.queues c world.sides.queues e
@@ -130,13 +128,12 @@ host_at s world q c e = host_of s.host.entries 0 q s.host.host.queues s.controll
 
 device_of : (m : Memory) (q : ℕ) (hs : List HostQueue) (cs : List ControllerQueue) (h : HostQueue) (c : ControllerQueue) → slice_get hs q ≡ Some h → slice_get cs q ≡ Some c
     → slice_get (device_queues_of m hs cs) q ≡ Some (device_queue_of m h.ring c)
-device_of m q [] cs h c e f = absurd cc
-device_of m q (x ∷ hs) [] h c e f = absurd cc
 device_of m zero (x ∷ hs) (y ∷ cs) h c e f =
     let host : x ≡ h = cc in
     let controller : y ≡ c = cc in
     ap (λ (z : HostQueue). Some (device_queue_of m z.ring y)) host ∙ ap (λ (z : ControllerQueue). Some (device_queue_of m h.ring z)) controller
 device_of m (suc q) (x ∷ hs) (y ∷ cs) h c e f = device_of m q hs cs h c e f
+device_of m q x cs h c e f = absurd cc
 
 pub device_at : (s : Sides) (q : ℕ) (h : HostQueue) (c : ControllerQueue) → slice_get s.host.host.queues q ≡ Some h → slice_get s.controller.queues q ≡ Some c
     → device_queue (state_of s) q ≡ Some (device_queue_of (byte_at s.pages) h.ring c)
@@ -147,8 +144,6 @@ pub from_zero : (q : ℕ) → 0 + q ≡ q
 from_zero q = omega arith
 
 pub share_of : (n i q : ℕ) (hs : List HostQueue) (cs : List ControllerQueue) (h : HostQueue) (c : ControllerQueue) → ShareQueues n i hs cs → slice_get hs q ≡ Some h → slice_get cs q ≡ Some c → ShareQueue n (i + q) h c
-share_of n i q [] cs h c share e f = absurd cc
-share_of n i q (x ∷ hs) [] h c share e f = absurd cc
 share_of n i zero (x ∷ hs) (y ∷ cs) h c share e f =
     let host : x ≡ h = cc in
     let controller : y ≡ c = cc in
@@ -157,11 +152,10 @@ share_of n i zero (x ∷ hs) (y ∷ cs) h c share e f =
 share_of n i (suc q) (x ∷ hs) (y ∷ cs) h c share e f =
     let next : suc i + q ≡ i + suc q = omega arith in
     subst (λ (k : ℕ). ShareQueue n k h c) next (share_of n (suc i) q hs cs h c share.1 e f)
+share_of n i q x cs h c share e f = absurd cc
 
 pub stands_of : (n : ℕ) (m : Memory) (i q : ℕ) (hs : List HostQueue) (cs : List ControllerQueue) (h : HostQueue) (c : ControllerQueue)
     → AllQueuesStand n m i hs cs → slice_get hs q ≡ Some h → slice_get cs q ≡ Some c → QueueStands n m (i + q) h c
-stands_of n m i q [] cs h c all e f = absurd cc
-stands_of n m i q (x ∷ hs) [] h c all e f = absurd cc
 stands_of n m i zero (x ∷ hs) (y ∷ cs) h c all e f =
     let host : x ≡ h = cc in
     let controller : y ≡ c = cc in
@@ -170,15 +164,15 @@ stands_of n m i zero (x ∷ hs) (y ∷ cs) h c all e f =
 stands_of n m i (suc q) (x ∷ hs) (y ∷ cs) h c all e f =
     let next : suc i + q ≡ i + suc q = omega arith in
     subst (λ (k : ℕ). QueueStands n m k h c) next (stands_of n m (suc i) q hs cs h c all.1 e f)
+stands_of n m i q x cs h c all e f = absurd cc
 
 pub fits_of : (n q : ℕ) (hs : List HostQueue) (ds : List DeviceQueue) (h : HostQueue) (d : DeviceQueue) → QueuesFit n hs ds → slice_get hs q ≡ Some h → slice_get ds q ≡ Some d → QueueFits n h d
-fits_of n q [] ds h d fits e f = absurd cc
-fits_of n q (x ∷ hs) [] h d fits e f = absurd cc
 fits_of n zero (x ∷ hs) (y ∷ ds) h d fits e f =
     let host : x ≡ h = cc in
     let device : y ≡ d = cc in
     subst (λ (z : DeviceQueue). QueueFits n h z) device (subst (λ (z : HostQueue). QueueFits n z y) host fits.0)
 fits_of n (suc q) (x ∷ hs) (y ∷ ds) h d fits e f = fits_of n q hs ds h d fits.1 e f
+fits_of n q x ds h d fits e f = absurd cc
 
 pub placed : (s : Sides) → IsWorld s → (q : ℕ) (h : HostQueue) (c : ControllerQueue)
     → slice_get s.host.host.queues q ≡ Some h → slice_get s.controller.queues q ≡ Some c → IsPlaced s q h c
@@ -198,23 +192,15 @@ half_in s world q h e pages part first many same =
 
 -- a half that has pages begins with the first of them
 pub first_of_half : (n first : ℕ) (h : HostQueue) → 0 < n → h.cq_pages ≡ pages_from first (half_pages n Completion) → first_completion_page h ≡ first
-first_of_half n first h some same = ap (λ (ps : List ℕ). slice_index ps 0) same ∙ index-from (half_pages n Completion) first 0 (omega (arith, some)) ∙ no_more first
-  where
-    no_more : (k : ℕ) → k + 0 ≡ k
-    no_more k = omega arith
+first_of_half n first h some same = grind arith
 
 -- a completion half that lies together lies from the first of its pages
 lies_from_first : (n first : ℕ) (h : HostQueue) → 0 < n → has_cq h.state ≡ true → h.cq_pages ≡ pages_from first (if has_cq h.state then half_pages n Completion else 0)
     → h.cq_pages ≡ pages_from (first_completion_page h) (half_pages n Completion)
-lies_from_first n first h some there lies =
-    let whole : h.cq_pages ≡ pages_from first (half_pages n Completion) = lies ∙ ap (λ (b : Bool). pages_from first (if b then half_pages n Completion else 0)) there in
-    whole ∙ ap (λ (k : ℕ). pages_from k (half_pages n Completion)) (sym (first_of_half n first h some whole))
+lies_from_first n first h some there lies = grind arith
 
 pub half_lies : (n : ℕ) (h : HostQueue) → 0 < n → HasHalves n h → has_cq h.state ≡ true → h.cq_pages ≡ pages_from (first_completion_page h) (half_pages n Completion)
 half_lies n h some halves there = lies_from_first n halves.completion.0 h some there halves.completion.1
-
-making_has_cq : (st : HostState) → is_making_cq st ≡ true → has_cq st ≡ true
-making_has_cq st e = grind arith
 
 pub tied_of : (s : Sides) → IsWorld s → s.trusted ≡ true → AreTied s
 tied_of s world t = OnTrue_at t world.tied
@@ -236,7 +222,7 @@ known s world t q h c e f =
       completion_in = λ has. half_in s world q h e h.cq_pages (λ p l. omega (arith, l)) c.device.cq (half_pages n Completion) (stands.halves.completion has);
       rings = stands.rings;
       granted = stands.granted;
-      granted_pages = λ making. half_lies n h some (all_at (HasHalves n) s.host.host.queues q h e world.sides.provided.queues) (making_has_cq h.state making);
+      granted_pages = λ making. half_lies n h some (all_at (HasHalves n) s.host.host.queues q h e world.sides.provided.queues) (grind arith);
       fits = fits_of n q s.host.host.queues (device_queues_of m s.host.host.queues s.controller.queues) h _ tied.agree.pairs e (device_at s q h c e f);
       served = tied.serve.serves q h _ e (device_at s q h c e f);
     }
@@ -249,11 +235,10 @@ stood s world t = stood_of (state_of s) (tied_of s world t).agree
 -- What serves a course serves what is left of it.
 
 serves_after : (m other : Memory) (n : ℕ) (c : Course) → Serves m other c → Serves m other (after_units n c)
-serves_after m other zero c s = s
-serves_after m other (suc n) (Closes v) s = s
 serves_after m other (suc n) (Does Stays rest) s = serves_after m other n rest s
 serves_after m other (suc n) (Does (Reads place) rest) s = serves_after m other n rest s.1
 serves_after m other (suc n) (Does (Moves place count offset) rest) s = serves_after m other n rest s.1
+serves_after m other x c s = s
 
 walk_again : (m other : Memory) (o : Option Walk) → Serves m other (course_of_walk m o) → course_of_walk other o ≡ course_of_walk m o
 walk_again m other None s = refl
@@ -301,41 +286,34 @@ one_more n i = omega arith
 same_queues : (m m' : Memory) (hs : List HostQueue) (cs : List ControllerQueue)
     → ((i : ℕ) (h : HostQueue) (c : ControllerQueue) → slice_get hs i ≡ Some h → slice_get cs i ≡ Some c → device_queue_of m' h.ring c ≡ device_queue_of m h.ring c)
     → device_queues_of m' hs cs ≡ device_queues_of m hs cs
-same_queues m m' [] cs each = refl
-same_queues m m' (h ∷ hs) [] each = refl
 same_queues m m' (h ∷ hs) (c ∷ cs) each = ap₂ (λ (d : DeviceQueue) (ds : List DeviceQueue). d ∷ ds) (each 0 h c refl refl) (same_queues m m' hs cs (λ i x y e f. each (suc i) x y e f))
+same_queues m m' x cs each = refl
 
 -- One queue is changed on both sides, and the machine's; of the others both memories show the same.
 pub one_queue : (m m' : Memory) (q : ℕ) (f : HostQueue → HostQueue) (g : ControllerQueue → ControllerQueue) (k : DeviceQueue → DeviceQueue) (hs : List HostQueue) (cs : List ControllerQueue)
     → ((h : HostQueue) (c : ControllerQueue) → slice_get hs q ≡ Some h → slice_get cs q ≡ Some c → device_queue_of m' (f h).ring (g c) ≡ k (device_queue_of m h.ring c))
     → ((i : ℕ) (h : HostQueue) (c : ControllerQueue) → i ≢ q → slice_get hs i ≡ Some h → slice_get cs i ≡ Some c → device_queue_of m' h.ring c ≡ device_queue_of m h.ring c)
     → device_queues_of m' (change q f hs) (change q g cs) ≡ change q k (device_queues_of m hs cs)
-one_queue m m' q f g k [] cs here there = refl
-one_queue m m' zero f g k (h ∷ hs) [] here there = refl
-one_queue m m' (suc q) f g k (h ∷ hs) [] here there = refl
 one_queue m m' zero f g k (h ∷ hs) (c ∷ cs) here there =
     ap₂ (λ (d : DeviceQueue) (ds : List DeviceQueue). d ∷ ds) (here h c refl refl) (same_queues m m' hs cs (λ i x y e f. there (suc i) x y (λ n. cc) e f))
 one_queue m m' (suc q) f g k (h ∷ hs) (c ∷ cs) here there =
     ap₂ (λ (d : DeviceQueue) (ds : List DeviceQueue). d ∷ ds) (there 0 h c (λ n. cc) refl refl)
     (one_queue m m' q f g k hs cs here (λ i x y other e f. there (suc i) x y (λ n. other (omega (arith, n))) e f))
+one_queue m m' q f g k x cs here there = refl
 
 same_stand : (n : ℕ) (m m' : Memory) (k : ℕ) (hs : List HostQueue) (cs : List ControllerQueue)
     → ((i : ℕ) (h : HostQueue) (c : ControllerQueue) → slice_get hs i ≡ Some h → slice_get cs i ≡ Some c → QueueStands n m (k + i) h c → QueueStands n m' (k + i) h c)
     → AllQueuesStand n m k hs cs → AllQueuesStand n m' k hs cs
-same_stand n m m' k [] cs each all = tt
-same_stand n m m' k (h ∷ hs) [] each all = tt
 same_stand n m m' k (h ∷ hs) (c ∷ cs) each all = (
   subst (λ (j : ℕ). QueueStands n m j h c → QueueStands n m' j h c) (no_more k) (each 0 h c refl refl) all.0,
   same_stand n m m' (suc k) hs cs (λ i x y e f. subst (λ (j : ℕ). QueueStands n m j x y → QueueStands n m' j x y) (one_more k i) (each (suc i) x y e f)) all.1,
 )
+same_stand n m m' k x cs each all = tt
 
 one_stands_from : (n : ℕ) (m m' : Memory) (k q : ℕ) (f : HostQueue → HostQueue) (g : ControllerQueue → ControllerQueue) (hs : List HostQueue) (cs : List ControllerQueue)
     → ((h : HostQueue) (c : ControllerQueue) → slice_get hs q ≡ Some h → slice_get cs q ≡ Some c → QueueStands n m (k + q) h c → QueueStands n m' (k + q) (f h) (g c))
     → ((i : ℕ) (h : HostQueue) (c : ControllerQueue) → i ≢ q → slice_get hs i ≡ Some h → slice_get cs i ≡ Some c → QueueStands n m (k + i) h c → QueueStands n m' (k + i) h c)
     → AllQueuesStand n m k hs cs → AllQueuesStand n m' k (change q f hs) (change q g cs)
-one_stands_from n m m' k q f g [] cs here there all = tt
-one_stands_from n m m' k zero f g (h ∷ hs) [] here there all = tt
-one_stands_from n m m' k (suc q) f g (h ∷ hs) [] here there all = tt
 one_stands_from n m m' k zero f g (h ∷ hs) (c ∷ cs) here there all = (
   subst (λ (j : ℕ). QueueStands n m j h c → QueueStands n m' j (f h) (g c)) (no_more k) (here h c refl refl) all.0,
   same_stand n m m' (suc k) hs cs (λ i x y e d. subst (λ (j : ℕ). QueueStands n m j x y → QueueStands n m' j x y) (one_more k i) (there (suc i) x y (λ z. cc) e d)) all.1,
@@ -345,6 +323,7 @@ one_stands_from n m m' k (suc q) f g (h ∷ hs) (c ∷ cs) here there all = (
   one_stands_from n m m' (suc k) q f g hs cs (λ x y e d. subst (λ (j : ℕ). QueueStands n m j x y → QueueStands n m' j (f x) (g y)) (one_more k q) (here x y e d))
       (λ i x y other e d. subst (λ (j : ℕ). QueueStands n m j x y → QueueStands n m' j x y) (one_more k i) (there (suc i) x y (λ z. other (omega (arith, z))) e d)) all.1,
 )
+one_stands_from n m m' k q f g x cs here there all = tt
 
 pub one_stands : (n : ℕ) (m m' : Memory) (q : ℕ) (f : HostQueue → HostQueue) (g : ControllerQueue → ControllerQueue) (hs : List HostQueue) (cs : List ControllerQueue)
     → ((h : HostQueue) (c : ControllerQueue) → slice_get hs q ≡ Some h → slice_get cs q ≡ Some c → QueueStands n m q h c → QueueStands n m' q (f h) (g c))
@@ -402,12 +381,6 @@ same_run : (s : Sides) (pages : Pages) (own : List ℕ) (first many : ℕ) → (
 same_run s pages own first many same lie =
     pages_agree pages s.pages first many (λ p l. same (first + p) (ap (λ (ps : List ℕ). is_among ps (first + p)) lie ∙ among-from first many p l))
 
-submission_agrees : (s : Sides) (pages : Pages) (q : ℕ) (h : HostQueue) (c : ControllerQueue) → IsKnown s q h c → SparesQueue s.pages pages h → is_absent c.state ≡ false
-    → Agree (byte_at pages) (byte_at s.pages) c.device.sq (half_pages c.device.entries Submission)
-submission_agrees s pages q h c known spares there =
-    subst (λ (n : ℕ). Agree (byte_at pages) (byte_at s.pages) c.device.sq (half_pages n Submission)) (sym known.placed.share.entries)
-    (same_run s pages h.sq_pages c.device.sq (half_pages s.host.entries Submission) spares.submission (known.submission there))
-
 pub completion_agrees : (s : Sides) (pages : Pages) (q : ℕ) (h : HostQueue) (c : ControllerQueue) → IsKnown s q h c → SparesQueue s.pages pages h → has_ring h c ≡ true
     → Agree (byte_at pages) (byte_at s.pages) c.device.cq (half_pages c.device.entries Completion)
 completion_agrees s pages q h c known spares has =
@@ -437,7 +410,8 @@ queue_stays s pages q h c known spares = ap₂ (λ (us : List SubEntry) (ans : L
     unfetched true e = refl
     unfetched false e =
         ap present (entries_agree (byte_at pages) (byte_at s.pages) c.device.sq c.device.entries c.device.ring.head h.ring.tail
-        (submission_agrees s pages q h c known spares e) known.placed.share.side.head)
+        (subst (λ (n : ℕ). Agree (byte_at pages) (byte_at s.pages) c.device.sq (half_pages n Submission)) (sym known.placed.share.entries)
+        (same_run s pages h.sq_pages c.device.sq (half_pages s.host.entries Submission) spares.submission (known.submission e))) known.placed.share.side.head)
 
     answers : (b : Bool) → c.cq_there ≡ b → (if b then map answer_of (completions_between (byte_at pages) h.ring c.device) else []) ≡ (if b then map answer_of (completions_between (byte_at s.pages) h.ring c.device) else [])
     answers false e = refl
@@ -542,36 +516,29 @@ apart_from_queues s world q i h r p e f among = commands_apart s world.sides q h
 pub apart_from_commands : (s : Sides) → IsWorld s → (i j : ℕ) (r k : Record) (p : ℕ) → slice_get s.host.host.records i ≡ Some r → slice_get s.host.host.records j ≡ Some k → i ≢ j
     → is_among (pages_of r) p ≡ true → is_among (pages_of k) p ≡ false
 apart_from_commands s world i j r k p e f apart among =
-    let own = held_once p (pages_of r) among in
-    among_counts p (pages_of k) (omega (arith, own, owned_once s world.sides p, both_count (in_record p) s.host.host.records i j r k e f apart))
+    among_counts p (pages_of k) (omega (arith, held_once p (pages_of r) among, owned_once s world.sides p, both_count (in_record p) s.host.host.records i j r k e f apart))
 
 -- free pages are no queue's and no command's
 pub free_apart_from_queues : (s : Sides) → IsWorld s → (q : ℕ) (h : HostQueue) (p : ℕ) → slice_get s.host.host.queues q ≡ Some h → is_among s.host.host.free p ≡ true
     → (is_among h.sq_pages p ≡ false) × (is_among h.cq_pages p ≡ false)
 free_apart_from_queues s world q h p e free =
-    let own = held_once p s.host.host.free free in
-    let none : in_queue p h ≡ 0 = omega (arith, own, owned_once s world.sides p, in_at s.host.host.queues q h e (in_queue p)) in
+    let none : in_queue p h ≡ 0 = omega (arith, held_once p s.host.host.free free, owned_once s world.sides p, in_at s.host.host.queues q h e (in_queue p)) in
     (among_counts p h.sq_pages (omega (arith, none)), among_counts p h.cq_pages (omega (arith, none)))
 
 pub free_apart_from_commands : (s : Sides) → IsWorld s → (i : ℕ) (r : Record) (p : ℕ) → slice_get s.host.host.records i ≡ Some r → is_among s.host.host.free p ≡ true
     → is_among (pages_of r) p ≡ false
 free_apart_from_commands s world i r p e free =
-    let own = held_once p s.host.host.free free in
-    among_counts p (pages_of r) (omega (arith, own, owned_once s world.sides p, in_at s.host.host.records i r e (in_record p)))
+    among_counts p (pages_of r) (omega (arith, held_once p s.host.host.free free, owned_once s world.sides p, in_at s.host.host.records i r e (in_record p)))
 
 -- the halves of two queues, and the two halves of one, share no page
 pub halves_apart : (s : Sides) → IsWorld s → (q k : ℕ) (h x : HostQueue) (p : ℕ) → slice_get s.host.host.queues q ≡ Some h → slice_get s.host.host.queues k ≡ Some x → q ≢ k
     → (is_among h.sq_pages p ≡ true → (is_among x.sq_pages p ≡ false) × (is_among x.cq_pages p ≡ false))
     × (is_among h.cq_pages p ≡ true → (is_among x.sq_pages p ≡ false) × (is_among x.cq_pages p ≡ false))
-halves_apart s world q k h x p e f apart = (λ sq. other (held_queue (held_once p h.sq_pages sq)), λ cq. other (let l = held_once p h.cq_pages cq in omega (arith, l)))
-  where
-    held_queue : 0 < times p h.sq_pages → 0 < in_queue p h
-    held_queue l = omega (arith, l)
-
-    other : 0 < in_queue p h → (is_among x.sq_pages p ≡ false) × (is_among x.cq_pages p ≡ false)
-    other own =
-        let none : in_queue p x ≡ 0 = omega (arith, own, owned_once s world.sides p, both_count (in_queue p) s.host.host.queues q k h x e f apart) in
-        (among_counts p x.sq_pages (omega (arith, none)), among_counts p x.cq_pages (omega (arith, none)))
+halves_apart s world q k h x p e f apart =
+    let other : 0 < in_queue p h → (is_among x.sq_pages p ≡ false) × (is_among x.cq_pages p ≡ false) = λ own.
+    let none : in_queue p x ≡ 0 = omega (arith, own, owned_once s world.sides p, both_count (in_queue p) s.host.host.queues q k h x e f apart) in
+    (among_counts p x.sq_pages (omega (arith, none)), among_counts p x.cq_pages (omega (arith, none))) in
+    (λ sq. other (omega (arith, (held_once p h.sq_pages sq))), λ cq. other (let l = held_once p h.cq_pages cq in omega (arith, l)))
 
 pub own_halves_apart : (s : Sides) → IsWorld s → (q : ℕ) (h : HostQueue) (p : ℕ) → slice_get s.host.host.queues q ≡ Some h
     → is_among h.sq_pages p ≡ true → is_among h.cq_pages p ≡ false

@@ -90,14 +90,12 @@ zeros_granted pages n first zeros = zeros_stand (byte_at pages) first n (pages_z
 
 no_devices : (m m' : Memory) (q : ℕ) (hs : List HostQueue) (cs : List ControllerQueue)
     → device_queues_of m' (map (λ other. a.no_queue) hs) (queues_reset (suc q) cs) ≡ map (λ other. a.no_device_queue) (device_queues_of m hs cs)
-no_devices m m' q [] cs = refl
-no_devices m m' q (h ∷ hs) [] = refl
 no_devices m m' q (h ∷ hs) (c ∷ cs) = ap (λ (ds : List DeviceQueue). a.no_device_queue ∷ ds) (no_devices m m' (suc q) hs cs)
+no_devices m m' q x cs = refl
 
 pub devices_reset : (m m' : Memory) (hs : List HostQueue) (cs : List ControllerQueue) → device_queues_of m' (a.reset_queues hs) (queues_reset 0 cs) ≡ a.reset_device_queues (device_queues_of m hs cs)
-devices_reset m m' [] cs = refl
-devices_reset m m' (h ∷ hs) [] = refl
 devices_reset m m' (h ∷ hs) (c ∷ cs) = ap (λ (ds : List DeviceQueue). a.reset_device_admin ∷ ds) (no_devices m m' 0 hs cs)
+devices_reset m m' x cs = refl
 
 -- What both sides share
 
@@ -124,14 +122,10 @@ shared_reset n (h ∷ hs) [] share = absurd share
 shared_reset n (h ∷ hs) (c ∷ cs) share = (ring_reset n 0 0 h (a.reset_admin h) c share.0, no_queues_shared n 1 hs cs share.1)
 
 pub admin_reset : (n : ℕ) (hs : List HostQueue) (cs : List ControllerQueue) → SharesAdmin n hs cs → SharesAdmin n (a.reset_queues hs) (queues_reset 0 cs)
-admin_reset n [] cs share = tt
-admin_reset n (h ∷ hs) [] share = tt
 admin_reset n (h ∷ hs) (c ∷ cs) share = record { submission = share.submission; completion = share.completion }
+admin_reset n x cs share = tt
 
 -- The rings of queue 0 stand over zero pages
-
-among_behind : (ps qs : List ℕ) (p : ℕ) → is_among qs p ≡ true → is_among (ps ++ qs) p ≡ true
-among_behind ps qs p e = among-append ps qs p ∙ grind arith
 
 fresh_rings : (n : ℕ) (m : Memory) (h : HostQueue) (c : ControllerQueue) → ShareQueue n 0 h c → IsZero m c.device.cq (half_pages n Completion) → RingsStand m 0 (a.reset_admin h) (queue_reset 0 c)
 fresh_rings n m h c share zeros =
@@ -152,8 +146,6 @@ admin_stands n m h c share admin zeros =
     record { halves = record { submission = λ e. admin.submission; completion = λ e. admin.completion }; rings = λ e. fresh_rings n m h c share zeros; granted = λ making. absurd (true≢false (sym making)) }
 
 none_stand : (n : ℕ) (m : Memory) (q : ℕ) (hs : List HostQueue) (cs : List ControllerQueue) → AllQueuesStand n m (suc q) (map (λ other. a.no_queue) hs) (queues_reset (suc q) cs)
-none_stand n m q [] cs = tt
-none_stand n m q (h ∷ hs) [] = tt
 none_stand n m q (h ∷ hs) (c ∷ cs) = (
   record {
     halves = record { submission = λ e. absurd (true≢false e); completion = λ e. absurd (true≢false (sym e)) };
@@ -162,12 +154,11 @@ none_stand n m q (h ∷ hs) (c ∷ cs) = (
   },
   none_stand n m (suc q) hs cs,
 )
+none_stand n m q x cs = tt
 
 pub stands_reset : (n : ℕ) (pages : Pages) (hs : List HostQueue) (cs : List ControllerQueue) → ShareQueues n 0 hs cs → SharesAdmin n hs cs
     → ((h : HostQueue) (p : ℕ) → slice_get hs 0 ≡ Some h → is_among h.cq_pages p ≡ true → p < length pages)
     → AllQueuesStand n (byte_at (with_pages (zeroed_pages (a.admin_pages hs)) pages)) 0 (a.reset_queues hs) (queues_reset 0 cs)
-stands_reset n pages [] cs share admin inside = tt
-stands_reset n pages (h ∷ hs) [] share admin inside = tt
 stands_reset n pages (h ∷ hs) (c ∷ cs) share admin inside =
     let own : List ℕ = h.sq_pages ++ h.cq_pages in
     let zeroed : Pages = with_pages (zeroed_pages own) pages in
@@ -176,5 +167,6 @@ stands_reset n pages (h ∷ hs) (c ∷ cs) share admin inside =
     (λ p l. let mine : is_among h.cq_pages (c.device.cq + p) ≡ true =
     ap (λ (ps : List ℕ). is_among ps (c.device.cq + p)) admin.completion ∙ among-from c.device.cq (half_pages n Completion) p l in
     zeroed_there own pages (c.device.cq + p) (inside h (c.device.cq + p) refl mine)
-    (λ none. absurd (true≢false (sym (among_behind h.sq_pages h.cq_pages (c.device.cq + p) mine) ∙ none)))) in
+    (λ none. absurd (true≢false (sym (among-append h.sq_pages h.cq_pages (c.device.cq + p) ∙ grind arith) ∙ none)))) in
     (admin_stands n (byte_at zeroed) h c share.0 admin zeros, none_stand n (byte_at zeroed) 0 hs cs)
+stands_reset n pages x cs share admin inside = tt

@@ -5,7 +5,7 @@ use Rattle.std.proofs.Common.{◌≡◌, ◌≢◌, ◌⊎◌, inl, inr, ℕ, ze
 use Rattle.std.{proofs.lemmas.Bool.{true≢false, and_parts, eqb-false, Decides.nat_tests}, specs.{List.AllByRecursion, Option.option_map_or}}
 use Rattle.queue_pair.{proofs.Rings.{next_below, distance_same, next_full, distance_grows, distance_shrinks}, specs.{Members.change, Memory.half_pages}}
 use Rattle.queue_pair.specs.{Rings.{HostRing, fresh_host_ring, next_tail, next_head, knowing}, Slots.{next_slot, distance, moved}}
-use Rattle.machine_model.proofs.{Counting.{get_other, total-append, total_with, total_without, total-map, get_other as changed_elsewhere}, HostLeaves.ids_of}
+use Rattle.machine_model.proofs.{Counting.{total-append, total_with, total_without, total-map, get_other as changed_elsewhere}, HostLeaves.ids_of}
 use Rattle.machine_model.proofs.Kept.{making_sq_as_heard, ring_at, asked_serves}
 use Rattle.machine_model.proofs.Moves.{posts, sends, sent_record, host_moves, drafted_record, heard_without, half_from, creates_cq, creates_sq, grants_cq, grants_sq, IsHeard, answer_heard}
 use Rattle.machine_model.proofs.{Owned.{all_reset, lost_keeps}, Sound.{still_live, asked_note}, Steps.{Accepts, part_controller, managed_by, unrefused}}
@@ -43,11 +43,8 @@ behind_posted n tail k (an ∷ ans) t few h =
     let grows : distance n an.sq_head (next_slot n tail) ≡ suc (distance n an.sq_head tail) = distance_grows n an.sq_head tail h.0 t (λ e. absurd (omega (arith, e, h.1, few))) in (
       h.0,
       omega (arith, grows, h.1),
-      subst (λ (m : ℕ). AnswersBehind n (next_slot n tail) m ans) (same k h.1) (behind_posted n tail (k - 1) ans t (omega (arith, few)) h.2),
+      subst (λ (m : ℕ). AnswersBehind n (next_slot n tail) m ans) (omega (arith, h.1)) (behind_posted n tail (k - 1) ans t (omega (arith, few)) h.2),
     )
-  where
-    same : (k : ℕ) → distance n an.sq_head tail < k → k - 1 + 1 ≡ k + 1 - 1
-    same k some = omega (arith, some)
 
 pub behind_answered : (n tail k : ℕ) (ans : List Answer) (an : Answer) → an.sq_head < n → distance n an.sq_head tail + length ans < k → AnswersBehind n tail k ans → AnswersBehind n tail k (ans ++ an ∷ [])
 behind_answered n tail k [] an head less h = (head, omega (arith, less), tt)
@@ -81,20 +78,13 @@ low_id q b r = if (r.q == q) && nat_lt r.cid b then 1 else 0
 
 none_low : (q : ℕ) (rs : List Record) → total (low_id q 0) rs ≡ 0
 none_low q [] = refl
-none_low q (r ∷ rs) = omega (arith, none_low q rs, each (r.q == q) (nat_lt r.cid 0) (grind (arith, nat_tests)))
-  where
-    each : (a b : Bool) → b ≡ false → (if a && b then 1 else 0) ≡ zero
-    each a b e = grind arith
+none_low q (r ∷ rs) = omega (arith, none_low q rs, let each : (if (r.q == q) && (nat_lt r.cid 0) then 1 else 0) ≡ zero = grind arith in each)
 
 low_step : (q b : ℕ) (rs : List Record) → total (low_id q (suc b)) rs ≤ total (low_id q b) rs + total (here q b) rs
 low_step q b [] = omega arith
-low_step q b (r ∷ rs) = omega (arith, low_step q b rs, each (r.q == q) (nat_lt r.cid (suc b)) (nat_lt r.cid b) (r.cid == b) (cases r.cid b))
-  where
-    cases : (c b : ℕ) → nat_lt c (suc b) ≡ true → nat_lt c b ≡ false → (c == b) ≡ true
-    cases c b h g = grind (arith, nat_tests)
-
-    each : (a x y z : Bool) → (x ≡ true → y ≡ false → z ≡ true) → (if a && x then 1 else 0) ≤ (if a && y then 1 else 0) + one (a && z)
-    each a x y z h = grind arith
+low_step q b (r ∷ rs) =
+    let each : (a x y z : Bool) → (x ≡ true → y ≡ false → z ≡ true) → (if a && x then 1 else 0) ≤ (if a && y then 1 else 0) + one (a && z) = λ a x y z h. grind arith in
+    omega (arith, low_step q b rs, each (r.q == q) (nat_lt r.cid (suc b)) (nat_lt r.cid b) (r.cid == b) (λ h g. grind (arith, nat_tests)))
 
 low_few : (q b : ℕ) (rs : List Record) → ((c : ℕ) → total (here q c) rs < 2) → total (low_id q b) rs ≤ b
 low_few q zero rs once = omega (arith, none_low q rs)
@@ -105,10 +95,7 @@ on_queue' q r = one (r.q == q)
 
 all_low : (q b : ℕ) (rs : List Record) → AllByRecursion (λ r. r.cid < b) rs → total (on_queue' q) rs ≡ total (low_id q b) rs
 all_low q b [] h = refl
-all_low q b (r ∷ rs) h = omega (arith, all_low q b rs h.1, each (r.q == q) (nat_lt r.cid b) (let l = h.0 in grind (arith, nat_tests)))
-  where
-    each : (a x : Bool) → x ≡ true → one a ≡ (if a && x then 1 else 0)
-    each a x e = grind arith
+all_low q b (r ∷ rs) h = omega (arith, all_low q b rs h.1, let each : one (r.q == q) ≡ (if (r.q == q) && (nat_lt r.cid b) then 1 else 0) = grind arith in each)
 
 pub few_outstanding : (q b : ℕ) (rs : List Record) → AllByRecursion (λ r. r.cid < b) rs → ((q c : ℕ) → total (here q c) rs < 2) → total (on_queue' q) rs ≤ b
 few_outstanding q b rs h once = omega (arith, all_low q b rs h, low_few q b rs (once q))
@@ -116,10 +103,7 @@ few_outstanding q b rs h once = omega (arith, all_low q b rs h, low_few q b rs (
 -- of which some are submitted
 pub sent_outstanding : (q : ℕ) (rs : List Record) → sent_count q rs ≤ total (on_queue' q) rs
 sent_outstanding q [] = omega arith
-sent_outstanding q (r ∷ rs) = omega (arith, sent_outstanding q rs, each (r.q == q) (is_submitted r.phase))
-  where
-    each : (a b : Bool) → (if a && b then 1 else 0) ≤ one a
-    each a b = grind arith
+sent_outstanding q (r ∷ rs) = omega (arith, sent_outstanding q rs, let each : (if (r.q == q) && (is_submitted r.phase) then 1 else 0) ≤ one (r.q == q) = grind arith in each)
 
 pub length_outstanding : (q : ℕ) (rs : List Record) → length (map (λ r. r.cid) (filter (λ r. r.q == q) rs)) ≡ total (on_queue' q) rs
 length_outstanding q [] = refl
@@ -129,12 +113,11 @@ length_outstanding q (r ∷ rs) = grind (arith, length_outstanding q rs)
 pub changed_at : {A : Type 0} (k : ℕ) (f : A → A) (xs : List A) (q : ℕ) (y : A) → slice_get (change k f xs) q ≡ Some y → ((k ≡ q) × ((x : A) × (slice_get xs q ≡ Some x) × (y ≡ f x))) ⊎ ((k ≡ q → ⊥) × (slice_get xs q ≡ Some y))
 changed_at k f [] q y e = absurd cc
 changed_at zero f (x ∷ xs) zero y e = inl (refl, (x, refl, cc))
-changed_at zero f (x ∷ xs) (suc q) y e = inr ((λ z. absurd (omega (arith, z))), e)
-changed_at (suc k) f (x ∷ xs) zero y e = inr ((λ z. absurd (omega (arith, z))), e)
 changed_at (suc k) f (x ∷ xs) (suc q) y e = elim (changed_at k f xs q y e) [
   | inl h ↦ inl (ap suc h.0, h.1)
   | inr h ↦ inr ((λ z. h.0 (omega (arith, z))), h.1)
 ]
+changed_at k f x q y e = inr ((λ z. absurd (omega (arith, z))), e)
 
 pub total_ones : {A : Type 0} (xs : List A) → total (λ x. 1) xs ≡ length xs
 total_ones [] = refl
@@ -142,11 +125,8 @@ total_ones (x ∷ xs) = omega (arith, total_ones xs)
 
 -- Every event keeps the heads behind the tail.
 
-abbrev pub HeadsIn : HostPart → List DeviceQueue → Type 0
-HeadsIn part qs = Heads part.entries part.host.queues part.host.records qs
-
 abbrev pub HeadsS : State → Type 0
-HeadsS s = HeadsIn (host_part s) s.device.queues
+HeadsS s = (Heads (host_part s).entries (host_part s).host.queues (host_part s).host.records s.device.queues)
 
 -- What does not concern heads
 
@@ -190,11 +170,9 @@ heads_state n k f hs rs qs ring past h = heads_change n k f hs rs qs (λ x e ope
 -- answers stay, or are gone
 pub list_emptied : {B : Type 0} (get : DeviceQueue → List B) (k : ℕ) (f : DeviceQueue → DeviceQueue) (qs : List DeviceQueue) (q : ℕ) → ((at : DeviceQueue) → get (f at) ≡ [])
     → (list_at get (change k f qs) q ≡ list_at get qs q) ⊎ (list_at get (change k f qs) q ≡ [])
-list_emptied get k f [] q none = inl refl
 list_emptied get zero f (x ∷ qs) zero none = inr (none x)
-list_emptied get zero f (x ∷ qs) (suc q) none = inl refl
-list_emptied get (suc k) f (x ∷ qs) zero none = inl refl
 list_emptied get (suc k) f (x ∷ qs) (suc q) none = list_emptied get k f qs q none
+list_emptied get k f x q none = inl refl
 
 pub heads_fewer : (n : ℕ) (hs : List HostQueue) (rs : List Record) (qs qs' : List DeviceQueue) → ((q : ℕ) → (answers_at qs' q ≡ answers_at qs q) ⊎ (answers_at qs' q ≡ [])) → Heads n hs rs qs → Heads n hs rs qs'
 heads_fewer n hs rs qs qs' fewer h = record { ids = h.ids; behind = λ q queue e open'. at q queue (h.behind q queue e open') (fewer q) }
@@ -225,9 +203,6 @@ heads_posted q entry s rs ids more few rings h = record {
       (at k queue open' (changed_at q (λ x. record x { ring = next_tail s.entries x.ring }) s.host.queues k queue e));
 }
   where
-    n : ℕ
-    n = s.entries
-
     at : (k : ℕ) (queue : HostQueue) → in_service queue.state ≡ true
         → ((q ≡ k) × ((x : HostQueue) × (slice_get s.host.queues k ≡ Some x) × (queue ≡ record x { ring = next_tail s.entries x.ring }))) ⊎ ((q ≡ k → ⊥) × (slice_get s.host.queues k ≡ Some queue))
         → HeadBehind s.entries (sent_count k s.host.records) queue (answers_at s.device.queues k)
@@ -254,15 +229,13 @@ few_sent s g h q = few_outstanding q (s.entries - 1) s.host.records h.ids g.stan
 
 pub heads_sent : (adm : AdminKind) (id : ℕ) (s : State) → id < s.entries - 1 → no_identifier s 0 ≡ false → ((queue : HostQueue) → slice_get s.host.queues 0 ≡ Some queue → IsInRing s.entries queue.ring) → HeadsS s → HeadsS (sends adm id s)
 heads_sent adm id s low room rings h =
+    let below : (a b : ℕ) → nat_le a b ≡ false → b < a = λ a b e. grind (arith, nat_tests) in
     let r = sent_record adm id in
     heads_posted 0 (admin_entry adm id) (a.on_records (λ records. records ++ r ∷ []) s) s.host.records
     (all_append (λ r. r.cid < s.entries - 1) s.host.records (r ∷ []) h.ids (low, tt))
     (λ k. omega (arith, total-append (sent k (λ c. 1)) s.host.records (r ∷ []), sent_is 0 id k (λ c. 1) r refl refl refl))
     (omega (arith, sent_outstanding 0 s.host.records, length_outstanding 0 s.host.records, below (s.entries - 1) (length (outstanding_on s.host 0)) room))
     rings h
-  where
-    below : (a b : ℕ) → nat_le a b ≡ false → b < a
-    below a b e = grind (arith, nat_tests)
 
 -- a drafted command itself has an identifier, so one of a queue's is not submitted
 pub drafted_room : (s : State) (q : ℕ) (r : Record) → r.q ≡ q → In r s.host.records → is_submitted r.phase ≡ false → Grounds s → HeadsS s → sent_count q s.host.records < s.entries - 1
@@ -411,8 +384,7 @@ heads_retire q s h = record { ids = ids; behind = λ k x ex open'. at k x open' 
       where
         each : (r : Record) (b : Bool) → ((r.q == q) && is_submitted r.phase) ≡ b → sent k (λ c. 1) (if b then record r { phase = Held; status = Some ABORTED_SQ_DELETION } else r) ≡ sent k (λ c. 1) r
         each r true e =
-            let at = and_parts (r.q == q) (is_submitted r.phase) e in
-            let elsewhere : (r.q == k) ≡ false = ap (λ (n : ℕ). n == k) (eqb-true r.q q at.0) ∙ far in
+            let elsewhere : (r.q == k) ≡ false = ap (λ (n : ℕ). n == k) (eqb-true r.q q (and_parts (r.q == q) (is_submitted r.phase) e).0) ∙ far in
             sent_not k (λ c. 1) (record r { phase = Held; status = Some ABORTED_SQ_DELETION }) refl ∙ sym (ap (λ (b : Bool). one (b && is_submitted r.phase)) elsewhere)
         each r false e = refl
 
@@ -427,9 +399,6 @@ heads_retire q s h = record { ids = ids; behind = λ k x ex open'. at k x open' 
 pub no_conflict : (s : State) → Stood s → (q : ℕ) (e : SubEntry) → InHand s q e → is_some (job_at s q e.cid) ≡ false
 no_conflict s stood q e hand = go (job_at s q e.cid) refl
   where
-    w : ℕ → ℕ
-    w c = one (c == e.cid)
-
     here_first : 1 ≤ total (λ (x : SubEntry). one (x.cid == e.cid)) (unfetched_at s.device.queues q)
     here_first =
         subst (λ (o : Option DeviceQueue). 1 ≤ total (λ (x : SubEntry). one (x.cid == e.cid)) (option_map_or (λ at. at.unfetched) o [])) (sym hand.at)
@@ -460,6 +429,11 @@ same_off s q k = list_same (λ at. at.answers) q (λ at. record at { unfetched =
 
 fewer_managed : (s : State) (e : SubEntry) → Fewer s (a.managed e (a.taken_off 0 s)).device
 fewer_managed s e =
+    let emptied : (f : DeviceQueue → DeviceQueue) → ((at : DeviceQueue) → (f at).answers ≡ []) → Fewer s (a.on_device_queue (named_queue e) f (a.taken_off 0 s)).device = λ f none k.
+    elim (list_emptied (λ at. at.answers) (named_queue e) f (a.taken_off 0 s).device.queues k none) [
+      | inl same ↦ inl (same ∙ same_off s 0 k)
+      | inr gone ↦ inr gone
+    ] in
     managed_by (λ (t : State). Fewer s t.device) e (a.taken_off 0 s)
     (record {
       refuses = λ st bad k. inl (same_off s 0 k);
@@ -470,12 +444,6 @@ fewer_managed s e =
       makes_completion = λ is5 q0 none. emptied a.completion_made (λ at. refl);
       makes_submission = λ is1 q0 gone there. emptied a.submission_made (λ at. refl);
     })
-  where
-    emptied : (f : DeviceQueue → DeviceQueue) → ((at : DeviceQueue) → (f at).answers ≡ []) → Fewer s (a.on_device_queue (named_queue e) f (a.taken_off 0 s)).device
-    emptied f none k = elim (list_emptied (λ at. at.answers) (named_queue e) f (a.taken_off 0 s).device.queues k none) [
-      | inl same ↦ inl (same ∙ same_off s 0 k)
-      | inr gone ↦ inr gone
-    ]
 
 fewer_fetch : (s : State) → Stood s → (q : ℕ) → Fewer s (a.after_fetch q s).device
 fewer_fetch s stood q =
@@ -497,16 +465,13 @@ few_sent_heads_all s g h q = omega (arith, sent_outstanding q s.host.records, fe
 heads_answered : (q cid : ℕ) (st : Status) (dw0 : ℕ) (t : State) → 0 < t.entries → ((k : ℕ) → sent_count k t.host.records ≤ t.entries - 1)
     → ((queue : HostQueue) → slice_get t.host.queues q ≡ Some queue → IsInRing t.entries queue.ring)
     → PlacesIn (answers q cid st dw0 t) → HeadsS t → HeadsS (answers q cid st dw0 t)
-heads_answered q cid st dw0 t pos few rings placed h = record { ids = h.ids; behind = λ k queue e open'. at k queue e open' (q == k) refl }
+heads_answered q cid st dw0 t pos few rings placed h =
+    let f : DeviceQueue → DeviceQueue = λ at. record at { answers = at.answers ++ record { cid = cid; status = st; dw0 = dw0; sq_head = fetch_slot t q } ∷ [] } in
+    let after : List DeviceQueue = change q (λ at. record at { answers = at.answers ++ record { cid = cid; status = st; dw0 = dw0; sq_head = fetch_slot t q } ∷ [] }) t.device.queues in
+    record { ids = h.ids; behind = λ k queue e open'. at k queue e open' (q == k) refl }
   where
     an : Answer
     an = record { cid = cid; status = st; dw0 = dw0; sq_head = fetch_slot t q }
-
-    f : DeviceQueue → DeviceQueue
-    f at = record at { answers = at.answers ++ record { cid = cid; status = st; dw0 = dw0; sq_head = fetch_slot t q } ∷ [] }
-
-    after : List DeviceQueue
-    after = change q (λ at. record at { answers = at.answers ++ record { cid = cid; status = st; dw0 = dw0; sq_head = fetch_slot t q } ∷ [] }) t.device.queues
 
     elsewhere : (q k : ℕ) (qs : List DeviceQueue) (g : DeviceQueue → DeviceQueue) → (q == k) ≡ false → answers_at (change q g qs) k ≡ answers_at qs k
     elsewhere q k [] g far = refl
@@ -567,26 +532,27 @@ heads_answered q cid st dw0 t pos few rings placed h = record { ids = h.ids; beh
 
 heads_complete : (q cid : ℕ) (s : State) → Grounds s → PlacesIn (a.after_complete q cid s) → HeadsS s → HeadsS (a.after_complete q cid s)
 heads_complete q cid s g places h =
+    let answered : (t : State) (j : Job) → t.entries ≡ s.entries → t.host ≡ s.host → HeadsS t → PlacesIn (answers q cid (a.final_status s j) j.dw0 t) → HeadsS (answers q cid (a.final_status s j) j.dw0 t) = λ t j n host ht places.
+    heads_answered q cid (a.final_status s j) j.dw0 t (subst (λ (k : ℕ). 0 < k) (sym n) g.fit.some_entries)
+    (λ k. subst (λ (x : Host). sent_count k x.records ≤ t.entries - 1) (sym host) (subst (λ (m : ℕ). sent_count k s.host.records ≤ m - 1) (sym n) (few_sent_heads_all s g h k)))
+    (λ queue e. subst (λ (m : ℕ). IsInRing m queue.ring) (sym n) (ring_in s g q queue (subst (λ (x : Host). slice_get x.queues q ≡ Some queue) host e))) places ht in
     complete_by (λ (t : State). PlacesIn t → HeadsS t) s q cid (λ places. h)
     (λ j at c. answered (a.on_device_queue (named_queue j.entry) cleared (finished q cid j s)) j refl refl
     (heads_device s.entries s.host.queues s.host.records s.device.queues (change (named_queue j.entry) cleared s.device.queues) (λ n. list_same (λ at. at.answers) (named_queue j.entry) cleared s.device.queues n (λ at. refl)) h))
     (λ j at c. answered (finished q cid j s) j refl refl h) places
-  where
-    answered : (t : State) (j : Job) → t.entries ≡ s.entries → t.host ≡ s.host → HeadsS t → PlacesIn (answers q cid (a.final_status s j) j.dw0 t) → HeadsS (answers q cid (a.final_status s j) j.dw0 t)
-    answered t j n host ht places =
-        heads_answered q cid (a.final_status s j) j.dw0 t (subst (λ (k : ℕ). 0 < k) (sym n) g.fit.some_entries)
-        (λ k. subst (λ (x : Host). sent_count k x.records ≤ t.entries - 1) (sym host) (subst (λ (m : ℕ). sent_count k s.host.records ≤ m - 1) (sym n) (few_sent_heads_all s g h k)))
-        (λ queue e. subst (λ (m : ℕ). IsInRing m queue.ring) (sym n) (ring_in s g q queue (subst (λ (x : Host). slice_get x.queues q ≡ Some queue) host e))) places ht
 
 -- Every event
 
 controller_heads : (s : State) (e : Event) (reply : Reply) → IsController e ≡ true → Fewer s (a.after s e reply).device → HeadsS s → HeadsS (a.after s e reply)
 controller_heads s e reply c fewer h =
-    subst (λ (part : HostPart). HeadsIn part (a.after s e reply).device.queues) (sym (part_controller s e reply c))
+    subst (λ (part : HostPart). (Heads part.entries part.host.queues part.host.records (a.after s e reply).device.queues)) (sym (part_controller s e reply c))
     (heads_fewer s.entries s.host.queues s.host.records s.device.queues (a.after s e reply).device.queues fewer h)
 
 heads_host : (s : State) (e : Event) (reply : Reply) → Accepts s e reply → IsController e ≡ false → s.trusted ≡ true → Grounds s → HeadsS s → HeadsS (a.after s e reply)
 heads_host s e reply ok c t g h =
+    let without : (q cid : ℕ) (st : Status) (e : ComEntry) (r : Record) → IsHeard s q cid st e r → HeadsS (heard_without q cid e s) = λ q cid st e r heard.
+    good q cid st e r heard (without_record q cid s.host.records) (all_filter (λ r. r.cid < s.entries - 1) (λ r. not (is_at q cid r)) s.host.records h.ids)
+    (λ k. omega (arith, total_without (sent k (λ c. 1)) q cid s.host.records r heard.found (g.stands.0.once q cid))) in
     host_moves (λ (e : Event) (reply : Reply) (t : State). HeadsS t) s e reply ok c
     (record {
       reserves = λ q request d none is.
@@ -682,11 +648,6 @@ heads_host s e reply ok c t g h =
             let y = ring_at q k (next_head s.entries) s.host.queues b.0 b.1 in
             true≢false (sym (zero_lives s g y.0 (subst (λ (z : ℕ). slice_get s.host.queues z ≡ Some y.0) zero' y.1)) ∙ ap is_live (sym y.2 ∙ sym b.2 ∙ making))
 
-    without : (q cid : ℕ) (st : Status) (e : ComEntry) (r : Record) → IsHeard s q cid st e r → HeadsS (heard_without q cid e s)
-    without q cid st e r heard =
-        good q cid st e r heard (without_record q cid s.host.records) (all_filter (λ r. r.cid < s.entries - 1) (λ r. not (is_at q cid r)) s.host.records h.ids)
-        (λ k. omega (arith, total_without (sent k (λ c. 1)) q cid s.host.records r heard.found (g.stands.0.once q cid)))
-
 pub heads_event : (s : State) (e : Event) (reply : Reply) → IsProper e → Accepts s e reply → s.trusted ≡ true → Stood s → HeadsS s → HeadsS (a.after s e reply)
 heads_event s (events.Fetch q) (events.Fetched c touched) pr ok t stood h = controller_heads s (events.Fetch q) (events.Fetched c touched) refl (fewer_fetch s stood q) h
 heads_event s (events.Walk q cid) (events.Walked o touched) pr ok t stood h = controller_heads s (events.Walk q cid) (events.Walked o touched) refl (fewer_walk s q cid) h
@@ -708,9 +669,8 @@ opened_heads page n (suc count) zero queue e = let same : queue.ring ≡ fresh_h
 opened_heads page n (suc count) (suc q) queue e = opened_heads (page + half_pages n Submission + half_pages n Completion) n count q queue e
 
 nothing_answered : (k q : ℕ) → answers_at (replicate k opened) q ≡ []
-nothing_answered zero q = refl
-nothing_answered (suc k) zero = refl
 nothing_answered (suc k) (suc q) = nothing_answered k q
+nothing_answered x q = refl
 
 pub heads_at_opening : (pages queues n s : ℕ) (image : List ℕ) → Opens pages queues n s → HeadsS (opening pages queues n s image)
 heads_at_opening pages queues n s image opens = record {

@@ -5,31 +5,62 @@ use Rattle.machine_model.specs.Events as events
 use Rattle.machine_model.specs.declared.words.Reaped.TheVariants as found
 use Rattle.machine_model.specs.declared.words.Refusal.TheVariants as refusal
 use Rattle.std.proofs.Common.{◌≡◌, ℕ, zero, suc, ◌<◌, Bool, true, false, Option, Some, None, List, [], ◌∷◌, slice_get, if◌then◌else◌, refl, ap, sym, ◌∙◌, subst, arith, inl, inr, not, is_some, map}
-use Rattle.std.{proofs.lemmas.{Bool.{OnTrue_at, not-false, cases_eq, true≢false}, Option.slice_get_within}, specs.Option.option_map_or}
+use Rattle.std.{proofs.lemmas.{Bool.{OnTrue_at, not-false, cases_eq, true≢false}, Option.slice_get_within}, specs.Option.{option_map_or, option_map}}
 use Rattle.machine_model.proofs.Cases.{option_is}
 use Rattle.machine_model.proofs.Kept.{asked_as_heard, making_cq_as_heard, making_sq_as_heard, ring_at, service_is_reaped as served_reaped, deleted_serves}
 use Rattle.machine_model.proofs.{Moves.{HostMoves, IsHeard, heard_without, host_moves, named, queue_found}, Owned.HoldsPart}
 use Rattle.machine_model.{proofs.Steps.{first_fails, Accepts, unrefused}, specs.After.{after, after_reap, after_retire}}
 use Rattle.machine_model.specs.{Agreeing.{has_completions_at, is_known_deleted}, Events.{Event, Reply}}
-use Rattle.machine_model.specs.{Refusals.{in_service, is_reaped, refusal_of, seen_entry, in_state, is_deleted}, State.{State, HostQueue, Record, with_record}}
-use Rattle.machine_model.specs.{Step.{host_part, reaped, reaped_entry, IsController}, declared.words.HostState.{HostState, TheVariants.{Live, Deleting}}}
-use Rattle.machine_model.specs.declared.words.{Reaped.Reaped, Refusal.Refusal, RejectedFor.RejectedFor, Work.TheVariants.Management}
-use Rattle.admin_commands.specs.{Verdicts.is_absent, declared.AdminKind.TheVariants.{DeleteSq, DeleteCq, CreateCq, CreateSq}}
+use Rattle.machine_model.specs.Refusals.{in_service, is_reaped, refusal_of, seen_entry, in_state, is_deleted}
+use Rattle.machine_model.specs.{State.{State, HostQueue, Record, with_record, Device}, Step.{host_part, reaped, reaped_entry, Permits}}
+use Rattle.machine_model.specs.declared.words.{HostState.{HostState, TheVariants.{Live, Deleting}}, Reaped.Reaped, Refusal.Refusal, RejectedFor.RejectedFor}
+use Rattle.machine_model.specs.{declared.words.Work.TheVariants.Management, Memory.memory_of}
+use Rattle.admin_commands.specs.{Verdicts.is_absent, declared.AdminKind.TheVariants.{DeleteSq, DeleteCq, CreateCq, CreateSq, Abort}}
 use Rattle.controller_core.specs.{Contents.Contents, declared.queue.ControllerQueue.ControllerQueue}
 use Rattle.entry_codec.specs.declared.{completion.ComEntry.ComEntry, status.Status.Status}
 use Rattle.host_core.specs.{Alone.{HostView, HostStep, alone}, Ringing.{head_of, head_rung}}
 use Rattle.io_commands.specs.Jobs.{is_success}
 use Rattle.two_sides.proofs.{Agreed.stood_of, Answering.{Follows, IsTaken, answer_follows, known_follows, sees, taken, takes}}
-use Rattle.two_sides.proofs.Assembling.{Ties, host_refused, host_stepped, into, refuses, refuse_as_machine, cancel_ties, collect_ties, release_ties, reserve_ties, ring_ties}
-use Rattle.two_sides.proofs.Frames.{host_stands, known, IsKnown, reaped_ring}
-use Rattle.two_sides.proofs.Looking.{Leads, bare, bare_reap, head_kept, leads_to_ties, left_alone, rings_kept, view, bare_retire}
+use Rattle.two_sides.proofs.Assembling.{Ties, host_refused, host_stepped, into, refuses, refuse_as_machine, cancel_ties, collect_ties, release_ties, reserve_ties, ring_ties, left_bare}
+use Rattle.two_sides.proofs.{Frames.{host_stands, known, IsKnown, reaped_ring}, Blind.bare}
 use Rattle.two_sides.proofs.Places.{comes_live, frees_half, makes_half, still_serves, unmakes_half, retires_half, seen_alike, told, answer_there, completions_seen, has_answer, seen_first, absent_is, carried, completions_is, freed_not_there, made_there, unmade_absent, unmade_not_there, known_absent}
 use Rattle.two_sides.proofs.{Posting.{create_cq_ties, create_sq_ties, abort_ties, delete_cq_ties, delete_sq_ties, submit_ties}, Shared.never_alone}
-use Rattle.two_sides.specs.{Hearing.heard, Laws.{behind, looks_at_completions}, Sides.{Sides, state_of, device_of}, Stepping.{StepsTo, hosts_step}}
-use Rattle.two_sides.specs.Ties.{AllQueuesStand, AreTied, IsWorld, QueueStands, has_ring}
-use Rattle.page_memory.specs.Pages.{Pages, byte_at}
+use Rattle.two_sides.specs.{Hearing.heard, Laws.behind, Sides.{Sides, state_of, device_of, device_queue_of, device_queues_of}, Stepping.{StepsTo, hosts_step}}
+use Rattle.two_sides.specs.Ties.{AllQueuesStand, AreTied, IsWorld, QueueStands, has_ring, WalksStand}
+use Rattle.page_memory.specs.{Pages.{Pages, byte_at}, Memory.Memory}
 use Rattle.queue_pair.specs.{Members.change, Rings.{hearing_head, knowing, next_head}, Slots.{is_in_range, next_slot}}
 use Rattle.controller_walk.specs.Units.{first_passing}
+
+abbrev pub view : State → HostView
+view n = record { entries = n.entries; segment = n.segment; host = n.host }
+
+-- What is left, by the machine's host and memory
+
+record Leads (s : Sides) (e : Event) (reply : Reply) (host : HostView) (pages : Pages) (left : Device) : Type 0 where
+  pub device : device_of (behind s e reply host pages) ≡ left
+  pub queues : AllQueuesStand s.host.entries (byte_at pages) zero host.host.queues (heard e reply host s.controller).queues
+  pub walks : WalksStand (memory_of pages) s.controller.commands
+
+leads_to_ties : (s : Sides) (e : Event) (reply : Reply) (host : HostView) (pages : Pages) (n : State) → Permits (state_of s) e reply → alone host pages ≡ bare n → n ≡ after (state_of s) e reply
+    → Leads s e reply (view n) n.memory n.device → Ties s e reply host pages
+leads_to_ties s e reply host pages n permits same is leads =
+    let here : Leads s e reply host pages n.device = subst (λ (x : State). Leads s e reply (view x) x.memory n.device) (sym same) leads in
+    record { permits = permits; device = here.device ∙ ap (λ (x : State). x.device) is; queues = here.queues; walks = here.walks }
+
+-- A queue in another state: the machine's queues are the same
+
+rings_kept : (m : Memory) (k : ℕ) (f : HostQueue → HostQueue) (hs : List HostQueue) (cs : List ControllerQueue) → ((h : HostQueue) → (f h).ring ≡ h.ring) → device_queues_of m (change k f hs) cs ≡ device_queues_of m hs cs
+rings_kept m zero f (h ∷ hs) (c ∷ cs) same = ap (λ ring. device_queue_of m ring c ∷ device_queues_of m hs cs) (same h)
+rings_kept m (suc k) f (h ∷ hs) (c ∷ cs) same = ap (λ queues. device_queue_of m h.ring c ∷ queues) (rings_kept m k f hs cs same)
+rings_kept m k f x cs same = refl
+
+head_kept : (k q : ℕ) (f : HostQueue → HostQueue) (hs : List HostQueue) → ((h : HostQueue) → (f h).ring ≡ h.ring)
+    → option_map (λ h. h.ring.head) (slice_get (change k f hs) q) ≡ option_map (λ h. h.ring.head) (slice_get hs q)
+head_kept k q f [] same = refl
+head_kept zero zero f (h ∷ hs) same = ap (λ ring. Some ring.head) (same h)
+head_kept zero (suc q) f (h ∷ hs) same = refl
+head_kept (suc k) zero f (h ∷ hs) same = refl
+head_kept (suc k) (suc q) f (h ∷ hs) same = head_kept k q f hs same
 
 -- A reap: its answer is the machine's, and the answer that it takes is gone on both sides.
 
@@ -43,10 +74,7 @@ reaped_told : (s : State) (q : ℕ) (o : Option ComEntry) → option_map_or (rea
 reaped_told s q o = grind arith
 
 reaped_alike : (s : Sides) (q : ℕ) → told (seen_entry (alone s.host s.pages) q) ≡ told (seen_entry (state_of s) q) → reaped (alone s.host s.pages) q ≡ reaped (state_of s) q
-reaped_alike s q alike =
-    reaped_told (alone s.host s.pages) q (seen_entry (alone s.host s.pages) q)
-    ∙ ap (λ (o : Option ComEntry). option_map_or (reaped_entry (state_of s) q) o found.Empty) alike
-    ∙ sym (reaped_told (state_of s) q (seen_entry (state_of s) q))
+reaped_alike s q alike = grind arith
 
 -- What the controller hears
 
@@ -89,12 +117,11 @@ hears : (s : Sides) → IsWorld s → AreTied s → s.trusted ≡ true → (q : 
 hears s world tied t q e none seen =
     let h = reaped_queue s q none in
     let x = sees s world t q h.0 e h.1 h.2 seen in
-    let follows = subst (λ (head : ℕ). Follows h.0 x.0 (byte_at s.pages) head) x.2 (answer_follows s q h.0 x.0 x.1) in
     let n : ℕ = s.host.entries in (
       next_slot n h.0.ring.head,
       subst (λ (hs : List HostQueue). IsTaken s q (next_slot n h.0.ring.head) hs)
           (sym (change_twice (λ (queue : HostQueue). record queue { ring = knowing e.sqhd queue.ring }) (λ (queue : HostQueue). record queue { ring = next_head n queue.ring }) q s.host.host.queues))
-          (takes s world tied q e.sqhd h.0 x.0 (taken n e.sqhd) x.1 follows refl),
+          (takes s world tied q e.sqhd h.0 x.0 (taken n e.sqhd) x.1 (subst (λ (head : ℕ). Follows h.0 x.0 (byte_at s.pages) head) x.2 (answer_follows s q h.0 x.0 x.1)) refl),
     )
 
 -- a rejected one is consumed
@@ -265,13 +292,6 @@ moves s world tied t =
 
 -- The step
 
--- the host and the memory are those that the machine leaves, whatever was forged
-pub reap_left : (s : Sides) (q : ℕ) (what : Reaped) (host : HostView) (pages : Pages) → IsWorld s → HostStep s.host s.pages (events.Reap q) (events.Reaps what) host pages
-    → alone host pages ≡ bare (after_reap q what (state_of s))
-reap_left s q what host pages world step =
-    let h = reaped_queue s q step.1.0 in
-    left_alone (alone s.host s.pages) (after_reap q what (alone s.host s.pages)) (after_reap q what (state_of s)) host pages step.2 (bare_reap q what (state_of s) (seen_alike s world q h.0 h.1 h.2))
-
 pub reap_ties : (s : Sides) (q : ℕ) (what : Reaped) (host : HostView) (pages : Pages) → IsWorld s → s.trusted ≡ true → HostStep s.host s.pages (events.Reap q) (events.Reaps what) host pages
     → Ties s (events.Reap q) (events.Reaps what) host pages
 reap_ties s q what host pages world t step =
@@ -280,7 +300,7 @@ reap_ties s q what host pages world t step =
     let accepts : Accepts (state_of s) (events.Reap q) (events.Reaps what) = (none, step.1.1 ∙ reaped_alike s q (seen_alike s world q h.0 h.1 h.2)) in
     let leads : ReapLeads s (events.Reap q) (events.Reaps what) (after (state_of s) (events.Reap q) (events.Reaps what)) =
     host_moves (ReapLeads s) (state_of s) (events.Reap q) (events.Reaps what) accepts refl (moves s world (OnTrue_at t world.tied) t) in
-    leads_to_ties s (events.Reap q) (events.Reaps what) host pages (after_reap q what (state_of s)) (into _ s.trusted false refl accepts) (reap_left s q what host pages world step) refl (leads none)
+    leads_to_ties s (events.Reap q) (events.Reaps what) host pages (after_reap q what (state_of s)) (into _ s.trusted false refl accepts) (left_bare s (events.Reap q) (events.Reaps what) host pages world refl refl step step.1) refl (leads none)
 
 pub reap_refused : (s : Sides) (q : ℕ) (why : Refusal) (touched : List ℕ) (host : HostView) (pages : Pages) → IsWorld s → HostStep s.host s.pages (events.Reap q) (events.Refused why touched) host pages
     → StepsTo s (events.Reap q) (events.Refused why touched) (behind s (events.Reap q) (events.Refused why touched) host pages)
@@ -295,9 +315,6 @@ reap_refused s q why touched host pages world step =
 deleted_known : (st : HostState) → is_deleted st ≡ true → is_known_deleted st ≡ true
 deleted_known st e = grind arith
 
-deleted_queue : (s : Sides) (q : ℕ) → in_state is_deleted (state_of s) q ≡ true → (h : HostQueue) × (slice_get s.host.host.queues q ≡ Some h) × (is_deleted h.state ≡ true)
-deleted_queue s q deleted = queue_found is_deleted (state_of s) q deleted
-
 retire_refusal : (s : Sides) → IsWorld s → (q : ℕ) → refusal_of (alone s.host s.pages) (events.Retire q) ≡ refusal_of (state_of s) (events.Retire q)
 retire_refusal s world q = go (in_state is_deleted (state_of s) q) refl
   where
@@ -305,7 +322,7 @@ retire_refusal s world q = go (in_state is_deleted (state_of s) q) refl
         → first_passing ((not b, refusal.NotDeleted) ∷ (is_some (seen_entry (alone s.host s.pages) q), refusal.NotDrained) ∷ [])
         ≡ first_passing ((not b, refusal.NotDeleted) ∷ (is_some (seen_entry (state_of s) q), refusal.NotDrained) ∷ [])
     go true e =
-        let h = deleted_queue s q e in
+        let h = (queue_found is_deleted (state_of s) q e) in
         ap (λ (b : Bool). first_passing ((false, refusal.NotDeleted) ∷ (b, refusal.NotDrained) ∷ [])) (completions_seen s q h.0 world h.1 (served_reaped h.0.state (deleted_serves h.0.state h.2)))
     go false e = refl
 
@@ -346,33 +363,25 @@ retire_leads s world tied t q h at deleted none =
       walks = tied.walks;
     }
 
--- the host and the memory are those that the machine leaves, whatever was forged
-pub retire_left : (s : Sides) (q : ℕ) (host : HostView) (pages : Pages) → HostStep s.host s.pages (events.Retire q) events.Accepted host pages → alone host pages ≡ bare (after_retire q (state_of s))
-retire_left s q host pages step = left_alone (alone s.host s.pages) (after_retire q (alone s.host s.pages)) (after_retire q (state_of s)) host pages step.2 (bare_retire q (state_of s))
-
 pub retire_ties : (s : Sides) (q : ℕ) (host : HostView) (pages : Pages) → IsWorld s → s.trusted ≡ true → HostStep s.host s.pages (events.Retire q) events.Accepted host pages → Ties s (events.Retire q) events.Accepted host pages
 retire_ties s q host pages world t step =
     let none : refusal_of (state_of s) (events.Retire q) ≡ None = sym (retire_refusal s world q) ∙ step.1.0 in
     let passed = unrefused (state_of s) (events.Retire q) none in
-    let h = deleted_queue s q (not-false _ passed.0) in
+    let h = (queue_found is_deleted (state_of s) q (not-false _ passed.0)) in
     let lost : State = a.on_records (λ records. map (a.lost q) records) (state_of s) in
     let is : after_retire q (state_of s) ≡ retired q h.0 (state_of s) = ap (λ (o : Option HostQueue). option_map_or (λ queue. a.on_host_queue q a.retired (a.given_back queue.sq_pages lost)) o lost) h.1 in
     leads_to_ties s (events.Retire q) events.Accepted host pages (retired q h.0 (state_of s)) (into _ s.trusted false refl (none, tt))
-    (retire_left s q host pages step ∙ ap bare is) (sym is)
+    (left_bare s (events.Retire q) events.Accepted host pages world refl refl step step.1 ∙ ap bare is) (sym is)
     (retire_leads s world (OnTrue_at t world.tied) t q h.0 h.1 h.2 passed.1.0)
 
 -- Each call of the host, with what the controller hears of it, is a step of the machine, and leaves both sides tied.
 
-refused : (s : Sides) (e : Event) (why : Refusal) (touched : List ℕ) (host : HostView) (pages : Pages) → IsWorld s → IsController e ≡ false → looks_at_completions e ≡ false
-    → HostStep s.host s.pages e (events.Refused why touched) host pages → StepsTo s e (events.Refused why touched) (behind s e (events.Refused why touched) host pages)
-refused s e why touched host pages world c looks step =
-    let left = refuse_as_machine s e why touched host pages c looks step in
-    subst (λ (x : Sides). StepsTo s e (events.Refused why touched) x) (sym left.0) (left.1, world)
-
 pub hosts_stepped : hosts_step
 hosts_stepped s (events.Reap q) (events.Refused why touched) host pages world c f step over = reap_refused s q why touched host pages world step
 hosts_stepped s (events.Retire q) (events.Refused why touched) host pages world c f step over = retire_refused s q why touched host pages world step
-hosts_stepped s e (events.Refused why touched) host pages world c f step over = refused s e why touched host pages world c refl step
+hosts_stepped s e (events.Refused why touched) host pages world c f step over =
+    let left = refuse_as_machine s e why touched host pages c refl step in
+    subst (λ (x : Sides). StepsTo s e (events.Refused why touched) x) (sym left.0) (left.1, world)
 hosts_stepped s (events.Reserve q r) (events.Reserved d) host pages world c f step over = host_stepped s _ _ host pages world c f step over (λ t. reserve_ties s q r d host pages world t step)
 hosts_stepped s (events.Submit d) events.Accepted host pages world c f step over = host_stepped s _ _ host pages world c f step over (λ t. submit_ties s d host pages world t step)
 hosts_stepped s (events.Cancel d) events.Accepted host pages world c f step over = host_stepped s _ _ host pages world c f step over (λ t. cancel_ties s d host pages world t step)

@@ -2,22 +2,22 @@
 use Rattle.machine_model.specs.After as a
 use Rattle.machine_model.specs.Events as events
 use Rattle.machine_model.specs.declared.words.Refusal.TheVariants as refusal
-use Rattle.std.proofs.Common.{◌≡◌, ℕ, zero, suc, ◌+◌, ◌*◌, ◌/◌, ◌%◌, ◌≤◌, Option, Some, None, List, [], ◌++◌, length, take, drop, slice_get, ◌∙◌, arith, ◌⊎◌, inl, inr, ◌==◌, nat_lt, Bool, true, false, not, ◌&&◌, ◌||◌, ◌∷◌, filter, find, flat_map, is_some, All, if◌then◌else◌, refl, ap, sym, subst, eqb-true, slice_set, option_and_then, IfSome, MatchBool, length-append}
+use Rattle.std.proofs.Common.{◌≡◌, ℕ, zero, suc, ◌+◌, ◌*◌, ◌/◌, ◌%◌, ◌≤◌, Option, Some, None, List, [], ◌++◌, length, take, drop, slice_get, ◌∙◌, arith, ◌⊎◌, inl, inr, ◌==◌, nat_lt, Bool, true, false, not, ◌&&◌, ◌||◌, ◌∷◌, filter, find, flat_map, is_some, if◌then◌else◌, refl, ap, sym, subst, eqb-true, slice_set, option_and_then, IfSome, MatchBool, length-append}
 use Rattle.std.proofs.lemmas.{Bool.{true≢false, and_parts, and_from, cases_Bool, Decides.nat_tests}, Grind.common_steps}
-use Rattle.std.{proofs.lemmas.List.Elements.{All-nil, All-cons, All-head, All-tail, All-append}, specs.{List.{AllByRecursion, list_all}, Option.option_map_or}}
+use Rattle.std.{proofs.lemmas.List.Elements.{All-head, All-tail, All-append}, specs.{List.{AllByRecursion, list_all}, Option.option_map_or}}
 use Rattle.page_memory.{proofs.Bytes.length-zero_page, specs.{Memory.Memory, Pages.{page_at, with_bytes, Pages, byte_at, with_page_bytes, zero_page, AreWhole}}}
 use Rattle.page_memory.specs.declared.page.Half.TheVariants.{Submission, Completion}
 use Rattle.sgl_descriptor.specs.{Spelling.{descriptor_of, spelling}, declared.{Direction.{Direction, TheVariants.{Destination, Source}}, Part.Part}}
 use Rattle.controller_walk.{proofs.Along.list_moves_along, specs.Along.{MovesAlong, taken, descriptor_at}}
 use Rattle.controller_walk.specs.{Units.{Stays, Reads, Moves, Course, Closes, Does, units, Act, touched}, declared.walk.WalkState.WalkState}
-use Rattle.io_commands.{proofs.Building.carries_entry, specs.Drafts.{io_entry, DraftContents, draft_entry, draft_first}}
-use Rattle.io_commands.specs.{Jobs.{direction_of_entry, need_of_entry}, Requests.joined_parts, Values.numbers_of}
+use Rattle.io_commands.{proofs.Building.carries_entry, specs.{Drafts.{io_entry, DraftContents, draft_first}, Jobs.{direction_of_entry, need_of_entry}}}
+use Rattle.io_commands.specs.{Requests.joined_parts, Values.numbers_of}
 use Rattle.block_image.specs.Blocks.{with_blocks}
 use Rattle.machine_model.proofs.Moves.{host_moves, posted_bytes, sends, sent_record, half_from, creates_cq, creates_sq, grants_cq, grants_sq}
 use Rattle.machine_model.{proofs.{Steps.{Accepts, part_left, permitted, exact, managed_by, surely}, Tokens.find_sound}, specs.After.course_of}
 use Rattle.machine_model.specs.{Events.{Event, Reply}, Image.Made, Linked.IsLinked, Memory.{memory_of, with_pages, without_pages, zeroed_pages}}
 use Rattle.machine_model.specs.{Proper.{IsProper, IsPage, ArePages, IsProperDraft}, Reached.{only, on_pages, ActIn}}
-use Rattle.machine_model.specs.Refusals.{is_submitted, job_at, is_job, refusal_of, host_queue, slot_page, slot_offset, post_slot, fetch_slot}
+use Rattle.machine_model.specs.Refusals.{is_submitted, job_at, is_job, host_queue, slot_page, slot_offset, post_slot, fetch_slot}
 use Rattle.machine_model.specs.Standing.{HasEntry, StandsAs, CommandStands, HasUnitLeft, JobStands}
 use Rattle.machine_model.specs.State.{State, Job, DeviceQueue, Record, record_at, pages_of, is_at, HostQueue, with_record}
 use Rattle.machine_model.specs.Step.{Step, IsController, unit_answered, Permits, Refuses, HostPart, LeavesByController, LeavesByHost, forges}
@@ -51,9 +51,7 @@ moves_within m dir need parts (Closes v) k place n offset h u = absurd cc
 moves_within m dir need parts (Does Stays rest) zero place n offset h u = absurd cc
 moves_within m dir need parts (Does (Reads p) rest) zero place n offset h u = absurd cc
 moves_within m dir need parts (Does (Moves p n' o) rest) zero place n offset h u =
-    let same_n : n' ≡ n = moved_many u in
-    let same_o : o ≡ offset = moved_offset u in
-    omega (arith, h.0, same_n, same_o)
+    omega (arith, h.0, moved_many u, moved_offset u)
   where
     moved_many : {p n o p' n' o' : ℕ} → Some (Moves p n o) ≡ Some (Moves p' n' o') → n ≡ n'
     moved_many u = cc
@@ -257,9 +255,6 @@ job_pages : (s : State) (rs : List Record) (r : Record) (q cid : ℕ) → find (
 job_pages s [] r q cid e job p h = absurd cc
 job_pages s (x ∷ rs) r q cid e job p h = go (is_at q cid x) refl e (λ e'. job_pages s rs r q cid e' job p h)
   where
-    rest : List ℕ
-    rest = flat_map (λ r. if is_some (job_at s r.q r.cid) then pages_of r else []) rs
-
     go : (b : Bool) → is_at q cid x ≡ b → (if b then Some x else find (is_at q cid) rs) ≡ Some r
         → (find (is_at q cid) rs ≡ Some r → is_among (flat_map (λ r. if is_some (job_at s r.q r.cid) then pages_of r else []) rs) p ≡ true)
         → is_among (flat_map (λ r. if is_some (job_at s r.q r.cid) then pages_of r else []) (x ∷ rs)) p ≡ true
@@ -299,13 +294,7 @@ pub stood_stays : (old new : State) (e : Event) (reply : Reply) → Stood old �
 stood_stays old new (events.Walk q cid) (events.Refused why touched) stood trusted step = refused_walk why step.1
   where
     refused_walk : (why : Refusal) → Permits old (events.Walk q cid) (events.Refused why touched) → (list_all (is_among (allowed old)) touched && list_all (is_among (pages_of_command old q cid)) touched) ≡ true
-    refused_walk why permits =
-        let none : touched ≡ [] = empty why (permitted _ old.trusted false trusted permits) in
-        subst (λ (pages : List ℕ). (list_all (is_among (allowed old)) pages && list_all (is_among (pages_of_command old q cid)) pages) ≡ true) (sym none) refl
-      where
-        empty : (why : Refusal) → Refuses old (events.Walk q cid) why touched → touched ≡ []
-        empty refusal.Memory h = h.2
-        empty why h = h.1
+    refused_walk why permits = grind arith
 stood_stays old new (events.Walk q cid) (events.Walked outcome pages) stood trusted step = walk_stays old q cid outcome pages (permitted _ old.trusted false trusted step.1) stood
 stood_stays old new (events.Walk q cid) (events.Fetched c touched) stood trusted step = absurd (permitted _ old.trusted false trusted step.1).1
 stood_stays old new (events.Walk q cid) (events.Completed touched) stood trusted step = absurd (permitted _ old.trusted false trusted step.1).1
@@ -346,12 +335,6 @@ whole_written m p at new fits whole = whole_set m p (option_and_then (λ page. S
 
 -- Slots lie in one page
 
-entry_fits : (slot : ℕ) (bytes : List ℕ) → length bytes ≡ 64 → slot_offset 64 slot + length bytes ≤ 4096
-entry_fits slot bytes count = omega (arith, count)
-
-answer_fits : (slot : ℕ) (bytes : List ℕ) → length bytes ≡ 16 → slot_offset 16 slot + length bytes ≤ 4096
-answer_fits slot bytes count = omega (arith, count)
-
 length-submission_bytes : (entry : SubEntry) → length entry.sgl1 ≡ 16 → length (submission_bytes entry) ≡ 64
 unfolding submission_bytes
 length-submission_bytes entry count = omega (arith, length-append entry.sgl1 (command_words entry), count)
@@ -363,11 +346,7 @@ length-completion_bytes entry = refl
 -- the entry of a proper draft, and that of an admin command
 draft_length : (d : DraftContents) (entry : SubEntry) → IsProperDraft d → d.entry ≡ Some entry → length (submission_bytes entry) ≡ 64
 draft_length d entry proper e =
-    let is : entry ≡ draft_entry d = carries_entry d entry proper.draft e in
-    length-submission_bytes entry (ap (λ (x : SubEntry). length x.sgl1) is ∙ length-spelling (draft_first d))
-
-admin_length : (adm : AdminKind) (id : ℕ) → length (submission_bytes (admin_entry adm id)) ≡ 64
-admin_length adm id = length-submission_bytes (admin_entry adm id) refl
+    length-submission_bytes entry (ap (λ (x : SubEntry). length x.sgl1) (carries_entry d entry proper.draft e) ∙ length-spelling (draft_first d))
 
 -- What the host does
 
@@ -376,7 +355,7 @@ whole-posted q entry s count whole = go (host_queue s q)
   where
     go : (o : Option HostQueue) → AreWhole (option_map_or (λ queue. with_page_bytes s.memory (slot_page queue.sq_pages 64 queue.ring.tail) (slot_offset 64 queue.ring.tail) (submission_bytes entry)) o s.memory)
     go None = whole
-    go (Some queue) = whole_written s.memory (slot_page queue.sq_pages 64 queue.ring.tail) (slot_offset 64 queue.ring.tail) (submission_bytes entry) (entry_fits queue.ring.tail (submission_bytes entry) count) whole
+    go (Some queue) = whole_written s.memory (slot_page queue.sq_pages 64 queue.ring.tail) (slot_offset 64 queue.ring.tail) (submission_bytes entry) (omega (arith, count)) whole
 
 brought_pages : (xs ys : List (ℕ × List ℕ)) (m : Pages) → ArePages xs → ArePages ys → AreWhole m → AreWhole (with_pages (xs ++ ys) m)
 brought_pages xs ys m x y whole = whole_brought (xs ++ ys) m (All-append (λ page. IsPage page.1) xs ys x y) whole
@@ -392,7 +371,7 @@ whole-answered q cid st dw0 s whole = go (host_queue s q)
     go None = whole
     go (Some queue) =
         let entry : ComEntry = record { dw0 = dw0; sqhd = fetch_slot s q; sqid = q; cid = cid; phase = a.post_phase s q queue; status = st } in
-        whole_written s.memory (slot_page queue.cq_pages 16 (post_slot s q)) (slot_offset 16 (post_slot s q)) (completion_bytes entry) (answer_fits (post_slot s q) (completion_bytes entry) (length-completion_bytes entry)) whole
+        whole_written s.memory (slot_page queue.cq_pages 16 (post_slot s q)) (slot_offset 16 (post_slot s q)) (completion_bytes entry) (omega (arith, (length-completion_bytes entry))) whole
 
 whole-managed : (e : SubEntry) (s : State) → AreWhole s.memory → AreWhole (a.managed e s).memory
 whole-managed e s whole =
@@ -411,19 +390,12 @@ whole-fetch : (q : ℕ) (s : State) → AreWhole s.memory → AreWhole (a.after_
 whole-fetch q s whole =
     fetch_by (λ (t : State). AreWhole t.memory) s q whole (λ e n c. whole-answered q e.cid COMMAND_ID_CONFLICT 0 (a.taken_off q s) whole) (λ e n c z. whole-managed e (a.taken_off 0 s) whole) (λ e n c other. whole)
 
-whole-complete : (q cid : ℕ) (s : State) → AreWhole s.memory → AreWhole (a.after_complete q cid s).memory
-whole-complete q cid s whole =
-    complete_by (λ (t : State). AreWhole t.memory) s q cid whole
-    (λ j at c. whole-answered q cid (a.final_status s j) j.dw0 (a.on_device_queue (named_queue j.entry) cleared (finished q cid j s)) whole)
-    (λ j at c. whole-answered q cid (a.final_status s j) j.dw0 (finished q cid j s) whole)
-
 taken_few : (n offset : ℕ) (bytes : List ℕ) → length (take n (drop offset bytes)) ≤ n
 taken_few n offset bytes = few n (drop offset bytes)
   where
     few : (n : ℕ) (xs : List ℕ) → length (take n xs) ≤ n
-    few zero xs = omega arith
-    few (suc n) [] = omega arith
     few (suc n) (x ∷ xs) = omega (arith, few n xs)
+    few x xs = omega arith
 
 -- a unit of a walk moves bytes of one page
 whole-moved : (chain own : ℕ → Bool) (s : State) (j : Job) (dir : Direction) (act : Act) → ActIn chain own act → AreWhole s.memory → AreWhole (unit_memory s j dir act)
@@ -433,23 +405,25 @@ whole-moved chain own s j Source (Moves place n offset) inside whole = whole
 whole-moved chain own s j Destination (Moves place n offset) inside whole =
     whole_written s.memory (place / 4096) (place % 4096) (take n (drop offset j.bytes)) (omega (arith, taken_few n offset j.bytes, inside.1)) whole
 
-whole-walk : (q cid : ℕ) (s : State) → refusal_of s (events.Walk q cid) ≡ None → Stood s → AreWhole s.memory → AreWhole (a.after_walk q cid s).memory
-whole-walk q cid s none stood whole =
-    walk_by (λ (t : State). AreWhole t.memory) s q cid whole
-    (λ j act at next. let w = walking s q cid j none stood at in
-    whole-moved (on_pages w.list.command.chain_pages) (on_pages w.list.command.data_pages) s j (direction_of_entry j.entry) act
-    (unit_in (on_pages w.list.command.chain_pages) (on_pages w.list.command.data_pages) (a.course_of s j) j.units_done act (course_in s j w.list) next) whole)
-
 -- Every accepted event
 
 whole_after : (s : State) (e : Event) (reply : Reply) → IsProper e → Accepts s e reply → (IsController e ≡ true → Stood s) → AreWhole s.memory → AreWhole (a.after s e reply).memory
 whole_after s (events.Fetch q) (events.Fetched cid touched) pr ok stood whole = whole-fetch q s whole
-whole_after s (events.Walk q cid) (events.Walked outcome touched) pr ok stood whole = whole-walk q cid s ok.0 (stood refl) whole
-whole_after s (events.Complete q cid) (events.Completed touched) pr ok stood whole = whole-complete q cid s whole
+whole_after s (events.Walk q cid) (events.Walked outcome touched) pr ok stood whole =
+    walk_by (λ (t : State). AreWhole t.memory) s q cid whole
+    (λ j act at next. let w = walking s q cid j ok.0 (stood refl) at in
+    whole-moved (on_pages w.list.command.chain_pages) (on_pages w.list.command.data_pages) s j (direction_of_entry j.entry) act
+    (unit_in (on_pages w.list.command.chain_pages) (on_pages w.list.command.data_pages) (a.course_of s j) j.units_done act (course_in s j w.list) next) whole)
+whole_after s (events.Complete q cid) (events.Completed touched) pr ok stood whole =
+    complete_by (λ (t : State). AreWhole t.memory) s q cid whole
+    (λ j at c. whole-answered q cid (a.final_status s j) j.dw0 (a.on_device_queue (named_queue j.entry) cleared (finished q cid j s)) whole)
+    (λ j at c. whole-answered q cid (a.final_status s j) j.dw0 (finished q cid j s) whole)
 whole_after s (events.Fetch q) reply pr ok stood whole = absurd ok.1
 whole_after s (events.Walk q cid) reply pr ok stood whole = absurd ok.1
 whole_after s (events.Complete q cid) reply pr ok stood whole = absurd ok.1
 whole_after s e reply pr ok stood whole =
+    let sent : (adm : AdminKind) (id : ℕ) (s : State) → AreWhole s.memory → AreWhole (sends adm id s).memory = λ adm id s whole.
+    whole-posted 0 (admin_entry adm id) (a.on_records (λ records. records ++ sent_record adm id ∷ []) s) (length-submission_bytes (admin_entry adm id) refl) whole in
     host_moves (λ (e : Event) (reply : Reply) (t : State). IsProper e → AreWhole t.memory) s e reply ok refl
     (record {
       reserves = λ q request d none is pr. whole_without (numbers_of d.data_pages ++ numbers_of d.chain_pages) s.memory whole;
@@ -476,12 +450,9 @@ whole_after s e reply pr ok stood whole =
       creates_cqs = λ q id first queue none new granted pr. sent (creates_cq q first s) id (grants_cq q first s) (whole_zeroed (half_from Completion first s) s.memory whole);
       creates_sqs = λ q id first queue none new granted pr. sent (creates_sq q first s) id (grants_sq q first s) (whole_zeroed (half_from Submission first s) s.memory whole);
       retires = λ q queue none at deleted pr. whole;
-      forges = λ q slot bytes queue none at pr. whole_written s.memory (slot_page queue.cq_pages 16 slot) (slot_offset 16 slot) bytes (answer_fits slot bytes pr) whole;
+      forges = λ q slot bytes queue none at pr. whole_written s.memory (slot_page queue.cq_pages 16 slot) (slot_offset 16 slot) bytes (omega (arith, pr)) whole;
       resets = λ pr. whole_zeroed (a.admin_pages s.host.queues) s.memory whole;
     }) pr
-  where
-    sent : (adm : AdminKind) (id : ℕ) (s : State) → AreWhole s.memory → AreWhole (sends adm id s).memory
-    sent adm id s whole = whole-posted 0 (admin_entry adm id) (a.on_records (λ records. records ++ sent_record adm id ∷ []) s) (admin_length adm id) whole
 
 -- Steps
 
@@ -489,10 +460,9 @@ whole_after s e reply pr ok stood whole =
 whole_forged : (t f c : Bool) (old next new : State) → t ≡ false → (c ≡ false → AreWhole next.memory)
     → MatchBool (not f && t) (new ≡ next) (MatchBool c (LeavesByController old next new) (LeavesByHost old next new)) → AreWhole new.memory
 whole_forged true f c old next new untrusted due h = absurd (true≢false untrusted)
-whole_forged false true true old next new untrusted due h = h.pages
 whole_forged false true false old next new untrusted due h = subst AreWhole (sym h.memory) (due refl)
-whole_forged false false true old next new untrusted due h = h.pages
 whole_forged false false false old next new untrusted due h = subst AreWhole (sym h.memory) (due refl)
+whole_forged x f c old next new untrusted due h = h.pages
 
 untrusted_step : (old : State) (e : Event) (reply : Reply) (new : State) → old.trusted ≡ false → Step old e reply new → AreWhole old.memory → AreWhole new.memory
 untrusted_step old e (events.Refused why touched) new untrusted step whole = subst (λ (s : State). AreWhole s.memory) (sym step.2) whole

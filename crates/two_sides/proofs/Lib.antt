@@ -6,7 +6,6 @@ pub mod Frames
 pub mod Serving
 pub mod Granting
 pub mod Answering
-pub mod Looking
 pub mod HostSteps
 pub mod Posted
 pub mod Posting

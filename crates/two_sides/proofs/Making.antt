@@ -1,19 +1,16 @@
 -- Queues that are made and named.
 use Rattle.machine_model.specs.After as after
 use Rattle.machine_model.specs.declared.words.HostState.TheVariants as states
-use Rattle.std.proofs.Common.{◌≡◌, ℕ, ◌/◌, ◌<◌, nat_lt, ◌||◌, ◌&&◌, Bool, true, false, List, [], zero, lt-ltb, if◌then◌else◌, refl, ap, ap₂, sym, ◌∙◌, arith, subst, suc, ◌+◌, ◌*◌, ◌-◌, ◌^◌, ◌%◌, ◌≤◌, ◌==◌, Option, Some, ◌∷◌, length, filter, find, slice_get, eq-eqb, inl, inr}
-use Rattle.std.{proofs.lemmas.{Bool.{true≢false, cases_Bool}, Nat.from_le_bytes-to_le_bytes_8}, specs.Int.{w64, to_le_bytes, from_le_bytes}}
-use Rattle.std.specs.Option.{option_map_or}
+use Rattle.std.proofs.Common.{◌≡◌, ℕ, ◌/◌, ◌<◌, nat_lt, ◌&&◌, Bool, true, false, List, [], zero, lt-ltb, if◌then◌else◌, refl, ap, ap₂, sym, ◌∙◌, arith, subst, suc, ◌+◌, ◌*◌, ◌-◌, ◌%◌, ◌≤◌, ◌==◌, Option, Some, ◌∷◌, length, filter, find, slice_get, eq-eqb, inl, inr}
+use Rattle.std.{proofs.lemmas.{Bool.{true≢false, cases_Bool}, Nat.from_le_bytes-to_le_bytes_8}, specs.Option.option_map_or}
 use Rattle.admin_commands.specs.{Entries.{admin_entry, named_base, named_queue}, Verdicts.{is_absent, is_live}, declared.AdminKind.AdminKind}
-use Rattle.admin_commands.specs.declared.{AdminKind.TheVariants.{Abort, DeleteSq, DeleteCq, CreateCq, CreateSq}, SqState.TheVariants.{Live, Stopping}}
+use Rattle.admin_commands.specs.declared.{AdminKind.TheVariants.{CreateCq, CreateSq}, SqState.TheVariants.Stopping}
 use Rattle.controller_core.{proofs.Lists.some_is, specs.Managing.{stopping, with_completion, with_submission, without_completion}}
 use Rattle.controller_core.specs.declared.queue.ControllerQueue.{ControllerQueue}
 use Rattle.entry_codec.specs.declared.{admin_opcode.TheConstants.{CREATE_IO_CQ, CREATE_IO_SQ}, submission.SubEntry.SubEntry}
 use Rattle.machine_model.{proofs.{Counting.{held_once, one}, Owned.{awaits, length_awaits, in_queue}}, specs.Agreeing.{EntryKnown, Knows}}
-use Rattle.machine_model.specs.{Always.NamesItsHalf, Memory.is_in}
-use Rattle.machine_model.specs.Refusals.{in_service, is_making_cq, is_reaped, creates_cq_of, creates_sq_of, is_making, is_making_sq}
-use Rattle.machine_model.specs.{State.{Answer, DeviceQueue, HostQueue, Record, is_at}, Step.times, Work.Work, declared.words.HostState.HostState}
-use Rattle.machine_model.specs.declared.words.Work.TheVariants.{Management}
+use Rattle.machine_model.specs.{Always.NamesItsHalf, Memory.is_in, Refusals.{in_service, is_making_cq, creates_cq_of, creates_sq_of, is_making, is_making_sq}}
+use Rattle.machine_model.specs.{State.{HostQueue, Record, is_at}, Step.times, Work.Work, declared.words.{HostState.HostState, Work.TheVariants.Management}}
 use Rattle.page_ledger.specs.Owners.{pages_from, is_among}
 use Rattle.page_memory.specs.{Memory.Memory, Pages.Pages, declared.page.Half.TheVariants.{Submission, Completion}}
 use Rattle.queue_pair.specs.{Lists.{PhasesStand, expected_phase}, Memory.half_pages, Rings.{HostRing, fresh_host_ring, fresh_device_ring, DeviceRing}}
@@ -39,27 +36,15 @@ pub record IsGrantedBeside (n base : ℕ) (h : HostQueue) (c : ControllerQueue) 
   pub there : c.cq_there ≡ true
 
 pub completion_seen : (m : Memory) (n base : ℕ) (h : HostQueue) (c : ControllerQueue) → IsGranted n base h c → device_queue_of m h.ring (with_completion base c) ≡ after.completion_made (device_queue_of m h.ring c)
-completion_seen m n base h c is = subst (λ (ring : HostRing). device_queue_of m ring (with_completion base c) ≡ after.completion_made (device_queue_of m ring c)) (sym is.fresh) (by (is_absent c.state) _ _ _ _ is.absent)
-  where
-    as_made : List SubEntry → ℕ → DeviceQueue
-    as_made us k = record { state = c.state; cq_there = true; unfetched = us; rung = k; answers = [] }
-
-    by : (b : Bool) (us vs : List SubEntry) (k l : ℕ) → b ≡ true
-        → as_made (if b then [] else us) (if b then 0 else k) ≡ as_made (if b then [] else vs) (if b then 0 else l)
-    by b us vs k l e = grind arith
+completion_seen m n base h c is = subst (λ (ring : HostRing). device_queue_of m ring (with_completion base c) ≡ after.completion_made (device_queue_of m ring c)) (sym is.fresh) (grind arith)
 
 pub submission_seen : (m : Memory) (n base : ℕ) (h : HostQueue) (c : ControllerQueue) → IsGrantedBeside n base h c → device_queue_of m h.ring (with_submission base c) ≡ after.submission_made (device_queue_of m h.ring c)
 submission_seen m n base h c is = subst (λ (ring : HostRing). device_queue_of m ring (with_submission base c) ≡ after.submission_made (device_queue_of m ring c)) (sym is.fresh) (grind arith)
-  where
-    as_made : Bool → List Answer → DeviceQueue
-    as_made b answers = record { state = Live; cq_there = b; unfetched = []; rung = 0; answers = answers }
 
 -- A queue that stops
 
 pub stopping_seen : (m : Memory) (h : HostQueue) (c : ControllerQueue) → is_live c.state ≡ true → device_queue_of m h.ring (stopping c) ≡ record (device_queue_of m h.ring c) { state = Stopping }
-stopping_seen m h c live =
-    ap (λ (b : Bool). record (device_queue_of m h.ring (stopping c)) { unfetched = if b then [] else unfetched_between m h.ring c.device; rung = if b then zero else distance c.device.entries c.device.ring.head c.device.ring.bell })
-    (sym (not_absent c.state live))
+stopping_seen m h c live = grind arith
 
 pub stopping_stands : (n : ℕ) (m : Memory) (q : ℕ) (h : HostQueue) (c : ControllerQueue) → is_live c.state ≡ true → QueueStands n m q h c → QueueStands n m q h (stopping c)
 stopping_stands n m q h c live stands =
@@ -79,29 +64,23 @@ fresh_phases m q h c fresh unserved r =
     sym (ap₂ (λ (head at : ℕ). expected_phase head at c.device.ring.phase) (ap (λ (ring : HostRing). ring.head) fresh) tail) ∙ sym r.expected ∙ ap (λ (ring : HostRing). ring.phase) fresh in
     subst (λ (p : Bool). PhasesStand m c.device.cq c.device.entries 0 p) phase (subst (λ (k : ℕ). PhasesStand m c.device.cq c.device.entries k c.device.ring.phase) tail r.phases)
 
-unserved_cq : (st : HostState) → is_making_cq st ≡ true → in_service st ≡ false
-unserved_cq st e = grind arith
-
 pub dropped_stands : (n : ℕ) (m : Memory) (q : ℕ) (h : HostQueue) (c : ControllerQueue) → ShareQueue n q h c → (is_making_cq h.state ≡ true → h.ring ≡ fresh_host_ring) → QueueStands n m q h c
     → QueueStands n m q h (without_completion c)
 dropped_stands n m q h c share fresh stands =
     record {
-      halves = record { submission = stands.halves.submission; completion = λ has. stands.halves.completion (reaped (is_reaped h.state) c.cq_there has) };
-      rings = λ has. let r = stands.rings (reaped (is_reaped h.state) c.cq_there has) in
+      halves = record { submission = stands.halves.submission; completion = λ has. stands.halves.completion (grind arith) };
+      rings = λ has. let r = stands.rings (grind arith) in
           record { fetched = r.fetched; rung = r.rung; heard = r.heard; expected = r.expected; phases = r.phases; owned = r.owned; follow = r.follow; drained = r.drained };
       granted = λ making none. granted making c.cq_there refl;
     }
   where
-    reaped : (a b : Bool) → (a || false) ≡ true → (a || b) ≡ true
-    reaped a b e = grind arith
-
     granted : is_making_cq h.state ≡ true → (b : Bool) → c.cq_there ≡ b → PhasesStand m (first_completion_page h) n 0 true
     granted making false e = stands.granted making e
     granted making true e =
         let has = there_ring h c e in
         let some : 0 < n = omega (arith, share.entries, share.side.least) in
         subst (λ (first : ℕ). PhasesStand m first n 0 true) (sym (first_of_half n c.device.cq h some (stands.halves.completion has)))
-        (subst (λ (k : ℕ). PhasesStand m c.device.cq k 0 true) share.entries (fresh_phases m q h c (fresh making) (unserved_cq h.state making) (stands.rings has)))
+        (subst (λ (k : ℕ). PhasesStand m c.device.cq k 0 true) share.entries (fresh_phases m q h c (fresh making) (grind arith) (stands.rings has)))
 
 -- A ring that is made
 
@@ -151,53 +130,31 @@ submission_shares n base i h c x =
 
 -- The command of an entry, by its opcode
 
-pub record MakesCq (rs : List Record) (e : SubEntry) : Type 0 where
-  pub queue : ℕ
-  pub size : ℕ
-  pub base : ℕ
-  pub knows : Knows rs e.cid (CreateCq queue size base)
-  pub is : e ≡ admin_entry (CreateCq queue size base) e.cid
+record Makes (make : ℕ → ℕ → ℕ → AdminKind) (rs : List Record) (e : SubEntry) : Type 0 where
+  queue : ℕ
+  size : ℕ
+  base : ℕ
+  knows : Knows rs e.cid (make queue size base)
+  is : e ≡ admin_entry (make queue size base) e.cid
 
-pub record MakesSq (rs : List Record) (e : SubEntry) : Type 0 where
-  pub queue : ℕ
-  pub size : ℕ
-  pub base : ℕ
-  pub knows : Knows rs e.cid (CreateSq queue size base)
-  pub is : e ≡ admin_entry (CreateSq queue size base) e.cid
+creation : (make : ℕ → ℕ → ℕ → AdminKind) (code : ℕ) → ((adm : AdminKind) (cid : ℕ) → ((admin_entry adm cid).opcode == code) ≡ true → (q : ℕ) × (size : ℕ) × (base : ℕ) × (adm ≡ make q size base))
+    → (rs : List Record) (e : SubEntry) → EntryKnown rs e → (e.opcode == code) ≡ true → Makes make rs e
+creation make code only rs e (adm, knows, is) opcode =
+    let (q, size, base, same) = only adm e.cid (ap (λ (x : SubEntry). x.opcode == code) (sym is) ∙ opcode) in
+    record { queue = q; size = size; base = base; knows = subst (Knows rs e.cid) same knows; is = is ∙ ap (λ (k : AdminKind). admin_entry k e.cid) same }
 
-cq_creation : (rs : List Record) (e : SubEntry) → EntryKnown rs e → (e.opcode == CREATE_IO_CQ) ≡ true → MakesCq rs e
-cq_creation rs e (adm, knows, is) code = go adm knows is
-  where
-    other : (adm : AdminKind) → e ≡ admin_entry adm e.cid → ((admin_entry adm e.cid).opcode == CREATE_IO_CQ) ≡ false → MakesCq rs e
-    other adm is differs = absurd (true≢false (sym code ∙ (ap (λ (x : SubEntry). x.opcode == CREATE_IO_CQ) is ∙ differs)))
+only_cq : (adm : AdminKind) (cid : ℕ) → ((admin_entry adm cid).opcode == CREATE_IO_CQ) ≡ true → (q : ℕ) × (size : ℕ) × (base : ℕ) × (adm ≡ CreateCq q size base)
+only_cq (CreateCq q size base) cid e = (q, size, base, refl)
+only_cq adm cid e = absurd (true≢false (sym e))
 
-    go : (adm : AdminKind) → Knows rs e.cid adm → e ≡ admin_entry adm e.cid → MakesCq rs e
-    go (Abort q cid) knows is = other (Abort q cid) is refl
-    go (DeleteSq q) knows is = other (DeleteSq q) is refl
-    go (DeleteCq q) knows is = other (DeleteCq q) is refl
-    go (CreateCq q size base) knows is = record { queue = q; size = size; base = base; knows = knows; is = is }
-    go (CreateSq q size base) knows is = other (CreateSq q size base) is refl
-
-sq_creation : (rs : List Record) (e : SubEntry) → EntryKnown rs e → (e.opcode == CREATE_IO_SQ) ≡ true → MakesSq rs e
-sq_creation rs e (adm, knows, is) code = go adm knows is
-  where
-    other : (adm : AdminKind) → e ≡ admin_entry adm e.cid → ((admin_entry adm e.cid).opcode == CREATE_IO_SQ) ≡ false → MakesSq rs e
-    other adm is differs = absurd (true≢false (sym code ∙ (ap (λ (x : SubEntry). x.opcode == CREATE_IO_SQ) is ∙ differs)))
-
-    go : (adm : AdminKind) → Knows rs e.cid adm → e ≡ admin_entry adm e.cid → MakesSq rs e
-    go (Abort q cid) knows is = other (Abort q cid) is refl
-    go (DeleteSq q) knows is = other (DeleteSq q) is refl
-    go (DeleteCq q) knows is = other (DeleteCq q) is refl
-    go (CreateCq q size base) knows is = other (CreateCq q size base) is refl
-    go (CreateSq q size base) knows is = record { queue = q; size = size; base = base; knows = knows; is = is }
+only_sq : (adm : AdminKind) (cid : ℕ) → ((admin_entry adm cid).opcode == CREATE_IO_SQ) ≡ true → (q : ℕ) × (size : ℕ) × (base : ℕ) × (adm ≡ CreateSq q size base)
+only_sq (CreateSq q size base) cid e = (q, size, base, refl)
+only_sq adm cid e = absurd (true≢false (sym e))
 
 -- What it names
 
 low : (q more : ℕ) → q < 65536 → (q + 65536 * more) % 65536 ≡ q
 low q more few = omega arith
-
-base_back : (base : ℕ) → base < 2 ^ 64 → from_le_bytes w64 (to_le_bytes w64 base) ≡ base
-base_back base few = from_le_bytes-to_le_bytes_8 base few
 
 -- A page of the pool has a number that an address can begin with.
 pub page_below : (pages : Pages) (p : ℕ) → is_in pages p ≡ true → p < length pages
@@ -216,14 +173,10 @@ first_below : (s : Sides) → IsWorld s → (q : ℕ) (h : HostQueue) → slice_
 first_below s world q h at pages part first many some same =
     let here : first + 0 ≡ first = omega arith in
     let among : is_among pages first ≡ true = ap (λ (ps : List ℕ). is_among ps first) same ∙ subst (λ (p : ℕ). is_among (pages_from first many) p ≡ true) here (among-from first many 0 some) in
-    let inside = page_below s.pages first (queue_page_in s world.sides q h first at (part first (held_once first pages among))) in
-    omega (arith, inside, world.sides.over.pool.few)
+    omega (arith, page_below s.pages first (queue_page_in s world.sides q h first at (part first (held_once first pages among))), world.sides.over.pool.few)
 
 begins_at : (first base : ℕ) → base ≡ 4096 * first → base / 4096 ≡ first
 begins_at first base e = omega (arith, e)
-
-address_below : (first base : ℕ) → base ≡ 4096 * first → first < 65536 → base < 2 ^ 64
-address_below first base e few = omega (arith, e, few)
 
 -- A creation that is outstanding has its queue wait for it.
 waited_for : (of : ℕ → Work → Bool) (test : HostState → Bool) (rs : List Record) (hs : List HostQueue) (q c : ℕ) (r : Record) (h : HostQueue) → find (is_at 0 c) rs ≡ Some r → of q r.work ≡ true → slice_get hs q ≡ Some h
@@ -244,13 +197,10 @@ making_sq : (st : HostState) → is_making_sq st ≡ true → (is_making st ≡ 
 making_sq states.MakingSq e = (refl, refl)
 making_sq st e = absurd (true≢false (sym e))
 
-emptied : (a b : Bool) → (a ≡ false → b ≡ true) → b ≡ false → a ≡ true
-emptied a b half none = grind arith
-
 pub completion_granted : (s : Sides) → IsWorld s → (e : SubEntry) → EntryKnown s.host.host.records e → length s.host.host.queues ≤ 65536 → (h : HostQueue) (c : ControllerQueue)
     → slice_get s.host.host.queues (named_queue e) ≡ Some h → IsKnown s (named_queue e) h c → (e.opcode == CREATE_IO_CQ) ≡ true → c.cq_there ≡ false → IsGranted s.host.entries (named_base e) h c
 completion_granted s world e entry few h c at known code none =
-    let made = cq_creation s.host.host.records e entry code in
+    let made = creation CreateCq CREATE_IO_CQ only_cq s.host.host.records e entry code in
     let n = s.host.entries in
     let q = named_queue e in
     let (r, found, work) = made.knows in
@@ -262,22 +212,21 @@ completion_granted s world e entry few h c at known code none =
     let some : 0 < n = omega (arith, known.placed.share.entries, known.placed.share.side.least) in
     let whole : h.cq_pages ≡ pages_from lies.first (half_pages n Completion) = ap (λ (x : HostQueue). x.cq_pages) (sym same) ∙ lies.consecutive in
     let below = first_below s world q h at h.cq_pages (λ p l. omega (arith, l)) lies.first (half_pages n Completion) (omega (arith, some)) whole in
-    let based : named_base e ≡ made.base = ap named_base made.is ∙ base_back made.base (address_below lies.first made.base lies.begins below) in
-    let first : named_base e / 4096 ≡ lies.first = ap (λ (b : ℕ). b / 4096) based ∙ begins_at lies.first made.base lies.begins in
+    let based : named_base e ≡ made.base = ap named_base made.is ∙ (from_le_bytes-to_le_bytes_8 made.base (omega (arith, lies.begins, below))) in
     let asked : is_making_cq h.state ≡ true =
     waited_for creates_cq_of is_making_cq s.host.host.records s.host.host.queues q e.cid r h found (ap (creates_cq_of q) work ∙ eq-eqb made.queue q its) at (world.sides.kept.creations q).0 in
     record {
       asked = asked;
       fresh = known.fits.fresh (making_cq h.state asked);
-      half = whole ∙ ap (λ (k : ℕ). pages_from k (half_pages n Completion)) (sym first);
-      absent = emptied (is_absent c.state) c.cq_there known.fits.half none;
+      half = whole ∙ ap (λ (k : ℕ). pages_from k (half_pages n Completion)) (sym (ap (λ (b : ℕ). b / 4096) based ∙ begins_at lies.first made.base lies.begins));
+      absent = grind arith;
       none = none;
     }
 
 pub submission_granted : (s : Sides) → IsWorld s → (e : SubEntry) → EntryKnown s.host.host.records e → length s.host.host.queues ≤ 65536 → (h : HostQueue) (c : ControllerQueue)
     → slice_get s.host.host.queues (named_queue e) ≡ Some h → IsKnown s (named_queue e) h c → (e.opcode == CREATE_IO_SQ) ≡ true → c.cq_there ≡ true → IsGrantedBeside s.host.entries (named_base e) h c
 submission_granted s world e entry few h c at known code has =
-    let made = sq_creation s.host.host.records e entry code in
+    let made = creation CreateSq CREATE_IO_SQ only_sq s.host.host.records e entry code in
     let n = s.host.entries in
     let q = named_queue e in
     let (r, found, work) = made.knows in
@@ -289,14 +238,13 @@ submission_granted s world e entry few h c at known code has =
     let some : 0 < n = omega (arith, known.placed.share.entries, known.placed.share.side.least) in
     let whole : h.sq_pages ≡ pages_from lies.first (half_pages n Submission) = ap (λ (x : HostQueue). x.sq_pages) (sym same) ∙ lies.consecutive in
     let below = first_below s world q h at h.sq_pages (λ p l. omega (arith, l)) lies.first (half_pages n Submission) (omega (arith, some)) whole in
-    let based : named_base e ≡ made.base = ap named_base made.is ∙ base_back made.base (address_below lies.first made.base lies.begins below) in
-    let first : named_base e / 4096 ≡ lies.first = ap (λ (b : ℕ). b / 4096) based ∙ begins_at lies.first made.base lies.begins in
+    let based : named_base e ≡ made.base = ap named_base made.is ∙ (from_le_bytes-to_le_bytes_8 made.base (omega (arith, lies.begins, below))) in
     let asked : is_making_sq h.state ≡ true =
     waited_for creates_sq_of is_making_sq s.host.host.records s.host.host.queues q e.cid r h found (ap (creates_sq_of q) work ∙ eq-eqb made.queue q its) at (world.sides.kept.creations q).1 in
     let making = making_sq h.state asked in
     record {
       unserved = making.1;
       fresh = known.fits.fresh making.0;
-      half = whole ∙ ap (λ (k : ℕ). pages_from k (half_pages n Submission)) (sym first);
+      half = whole ∙ ap (λ (k : ℕ). pages_from k (half_pages n Submission)) (sym (ap (λ (b : ℕ). b / 4096) based ∙ begins_at lies.first made.base lies.begins));
       there = has;
     }

@@ -29,11 +29,10 @@ use Rattle.queue_pair.specs.Rings.{fresh_host_ring}
 state_at : (m : Memory) (hs : List HostQueue) (cs : List ControllerQueue) (n i q : ℕ) → ShareQueues n i hs cs
     → (option_map_or (λ at. at.state) (slice_get (device_queues_of m hs cs) q) Absent ≡ option_map_or (λ queue. queue.state) (slice_get cs q) Absent)
     × (option_map_or (λ at. at.cq_there) (slice_get (device_queues_of m hs cs) q) false ≡ option_map_or (λ queue. queue.cq_there) (slice_get cs q) false)
-state_at m [] [] n i q share = (refl, refl)
 state_at m [] (c ∷ cs) n i q share = absurd share
 state_at m (h ∷ hs) [] n i q share = absurd share
-state_at m (h ∷ hs) (c ∷ cs) n i zero share = (refl, refl)
 state_at m (h ∷ hs) (c ∷ cs) n i (suc q) share = state_at m hs cs n (suc i) q share.1
+state_at m x y n i q share = (refl, refl)
 
 -- the machine's size of the rings is that of each queue
 view_seen : (t : Sides) (e : SubEntry) → ShareQueues t.host.entries zero t.host.host.queues t.controller.queues
@@ -56,14 +55,6 @@ entries_at (h ∷ hs) (c ∷ cs) n i (suc q) share l = entries_at hs cs n (suc i
 below_queues : (q k : ℕ) → (nat_lt 0 q && nat_le q (k - 1)) ≡ true → q < k
 below_queues q k h = let parts = and_parts (nat_lt 0 q) (nat_le q (k - 1)) h in omega (arith, ltb-true 0 q parts.0, leb-true q (k - 1) parts.1)
 
--- so both decide alike
-decides_alike : (t : Sides) (e : SubEntry) → ShareQueues t.host.entries zero t.host.host.queues t.controller.queues
-    → decision e (view_for (length t.pages) t.controller.queues t.controller.commands e) ≡ decision e (after.view_of (state_of t) e)
-decides_alike t e share =
-    same_decision e (view_for (length t.pages) t.controller.queues t.controller.commands e) t.host.entries
-    (λ io. entries_at t.host.host.queues t.controller.queues t.host.entries zero (named_queue e) share (below_queues (named_queue e) (length t.controller.queues) io))
-    ∙ ap (decision e) (sym (view_seen t e share))
-
 -- The commands that are stopped
 
 abbrev marked : ℕ → Job → Job
@@ -78,15 +69,7 @@ stopped_seen q k = go (k.q == q) k.work
     go : (b : Bool) (work : Work)
         → job_of (if b then record k { work = stopped_work ABORTED_SQ_DELETION work } else record k { work = work })
         ≡ (if b && is_none (verdict_of_work work) then record (job_of (record k { work = work })) { verdict = Some ABORTED_SQ_DELETION } else job_of (record k { work = work }))
-    go true (Io job) = by job.verdict
-      where
-        by : (v : Option Status)
-            → job_of (record k { work = Io (if is_none v then record job { verdict = Some ABORTED_SQ_DELETION } else record job { verdict = v }) })
-            ≡ (if is_none v then record (job_of (record k { work = Io (record job { verdict = v }) })) { verdict = Some ABORTED_SQ_DELETION } else job_of (record k { work = Io (record job { verdict = v }) }))
-        by None = refl
-        by (Some st) = refl
-    go true (Admin entry status dw0) = refl
-    go false work = refl
+    go b work = grind arith
 
 -- where at most one command is named, what holds of the one that is found holds of each that is
 counted : {A : Type 0} (p : A → Bool) (xs : List A) → total (λ x. one (p x)) xs ≡ count_by p xs
@@ -135,9 +118,6 @@ IsActed t e v = state_of (acted e v t) ≡ after.acted e v (state_of t)
 abbrev with_device : State → List DeviceQueue → List Job → State
 with_device u queues jobs = record u { device = record u.device { queues = queues; jobs = jobs } }
 
-plainly : (t : Sides) (e : SubEntry) (st : Status) (dw0 : ℕ) → IsActed t e (Answer st dw0)
-plainly t e st dw0 = ap (with_device (state_of t) (state_of t).device.queues) (map-append job_of t.controller.commands (command_of zero (Admin e st dw0)))
-
 aborts : (t : Sides) (e : SubEntry) (q cid : ℕ) → AllByRecursion (λ k. is_command q cid k ≡ true → is_none (verdict_of_work k.work) ≡ true) t.controller.commands → IsActed t e (AbortJob q cid)
 aborts t e q cid walks =
     let commands = t.controller.commands in
@@ -161,7 +141,7 @@ drops t e q =
     (map-append job_of t.controller.commands (command_of zero (Admin e SUCCESS zero)))
 
 acts : (t : Sides) (e : SubEntry) (v : AdminVerdict) → Suits t v → IsActed t e v
-acts t e (Answer st dw0) suits = plainly t e st dw0
+acts t e (Answer st dw0) suits = ap (with_device (state_of t) (state_of t).device.queues) (map-append job_of t.controller.commands (command_of zero (Admin e st dw0)))
 acts t e (AbortJob q cid) suits = aborts t e q cid suits
 acts t e (StopQueue q) suits = stops t e q suits
 acts t e (DropCompletion q) suits = drops t e q
@@ -180,17 +160,19 @@ pub managed_is : (t : Sides) (e : SubEntry) → ShareQueues t.host.entries zero 
     → state_of (acted e (decision e (view_for (length t.pages) t.controller.queues t.controller.commands e)) t) ≡ after.managed e (state_of t)
 managed_is t e share suits =
     let v = decision e (view_for (length t.pages) t.controller.queues t.controller.commands e) in
-    acts t e v suits ∙ ap (λ (v : AdminVerdict). after.acted e v (state_of t)) (decides_alike t e share)
+    -- so both decide alike
+    acts t e v suits ∙ ap (λ (v : AdminVerdict). after.acted e v (state_of t)) (same_decision e (view_for (length t.pages) t.controller.queues t.controller.commands e) t.host.entries
+    (λ io. entries_at t.host.host.queues t.controller.queues t.host.entries zero (named_queue e) share (below_queues (named_queue e) (length t.controller.queues) io))
+    ∙ ap (decision e) (sym (view_seen t e share)))
 
 -- What it leaves: the queues where they lie, the rings, and the walks
 
 pub verdict_shares : (v : AdminVerdict) (n : ℕ) (hs : List HostQueue) (cs : List ControllerQueue) → ShareQueues n zero hs cs → ShareQueues n zero hs (queues_after v cs)
-verdict_shares (Answer st dw0) n hs cs share = share
-verdict_shares (AbortJob q cid) n hs cs share = share
 verdict_shares (StopQueue q) n hs cs share = belled n zero q stopping hs cs (λ i h c x. record { number = x.number; entries = x.entries; side = x.side }) share
 verdict_shares (DropCompletion q) n hs cs share = belled n zero q without_completion hs cs (λ i h c x. record { number = x.number; entries = x.entries; side = x.side }) share
 verdict_shares (MakeCompletion q base) n hs cs share = belled n zero q (with_completion base) hs cs (completion_shares n base) share
 verdict_shares (MakeSubmission q base) n hs cs share = belled n zero q (with_submission base) hs cs (submission_shares n base) share
+verdict_shares x n hs cs share = share
 
 pub verdict_stand : (v : AdminVerdict) (t : Sides) → Suits t v → ShareQueues t.host.entries zero t.host.host.queues t.controller.queues
     → AllQueuesStand t.host.entries (byte_at t.pages) zero t.host.host.queues t.controller.queues → AllQueuesStand t.host.entries (byte_at t.pages) zero t.host.host.queues (queues_after v t.controller.queues)
@@ -216,12 +198,11 @@ verdict_stand v t suits share all = go v suits
     changed q g here = stands_changed n m m q g hs cs here (λ i h c far e f stands. stands) all
 
     go : (v : AdminVerdict) → Suits t v → AllQueuesStand n m zero hs (queues_after v cs)
-    go (Answer st dw0) suits = all
-    go (AbortJob q cid) suits = all
     go (StopQueue q) suits = changed q stopping (λ h c e f stands. stopping_stands n m q h c (suits h c e f) stands)
     go (DropCompletion q) suits = changed q without_completion (λ h c e f stands. dropped_stands n m q h c (shared q h c e f) (suits h c e f) stands)
     go (MakeCompletion q base) suits = changed q (with_completion base) (λ h c e f stands. completion_stands n m q base h c (shared q h c e f) (suits h c e f) stands)
     go (MakeSubmission q base) suits = changed q (with_submission base) (λ h c e f stands. submission_stands n m q base h c (shared q h c e f) (suits h c e f) stands)
+    go x suits = all
 
 -- a walk that is stopped has nothing to stand for
 stopped_stands : (m : Memory) (done : ℕ) (st : Status) (work : Work) → WalkStands m done work → WalkStands m done (stopped_work st work)
@@ -232,16 +213,13 @@ abbrev Stands : Memory → FetchedCommand → Type 0
 Stands m k = WalkStands m k.units_done k.work
 
 pub verdict_walks : (v : AdminVerdict) (m : Memory) (abort : ℕ) (commands : List FetchedCommand) → WalksStand m commands → WalksStand m (commands_after abort v commands)
-verdict_walks (Answer st dw0) m abort commands h = h
 verdict_walks (AbortJob q cid) m abort commands h =
     all-map (Stands m) (aborted q cid abort)
     (λ k s. cond_both (is_command q cid k) (record k { work = stopped_work ABORT_REQUESTED k.work; waiting_abort = Some abort }) k (Stands m) (λ e. stopped_stands m k.units_done ABORT_REQUESTED k.work s) (λ e. s)) commands h
 verdict_walks (StopQueue q) m abort commands h =
     all-map (Stands m) (stopped_with_queue q)
     (λ k s. cond_both (k.q == q) (record k { work = stopped_work ABORTED_SQ_DELETION k.work }) k (Stands m) (λ e. stopped_stands m k.units_done ABORTED_SQ_DELETION k.work s) (λ e. s)) commands h
-verdict_walks (DropCompletion q) m abort commands h = h
-verdict_walks (MakeCompletion q base) m abort commands h = h
-verdict_walks (MakeSubmission q base) m abort commands h = h
+verdict_walks x m abort commands h = h
 
 -- Taking the entry changes nothing that the rule of an admin entry looks at.
 taken_at : (cs : List ControllerQueue) (q k : ℕ)
@@ -257,8 +235,7 @@ taken_at (c ∷ cs) (suc q) (suc k) = taken_at cs q k
 pub taken_view : (pages : ℕ) (cs : List ControllerQueue) (commands : List FetchedCommand) (q : ℕ) (e : SubEntry) → view_for pages (change q with_taken cs) commands e ≡ view_for pages cs commands e
 taken_view pages cs commands q e =
     let at = taken_at cs q (named_queue e) in
-    let many : length (change q with_taken cs) ≡ length cs = length-change q with_taken cs in
-    λ i. record (view_for pages cs commands e) { sq = at.0 i; cq_there = at.1 i; entries = at.2 i; queues = many i - 1 }
+    λ i. record (view_for pages cs commands e) { sq = at.0 i; cq_there = at.1 i; entries = at.2 i; queues = (length-change q with_taken cs) i - 1 }
 
 -- What is decided of an admin entry suits both sides, where nothing was forged.
 
@@ -277,9 +254,8 @@ taken_alike (y ∷ cs) zero zero x c e f =
     let new : with_taken y ≡ x = cc in
     let old : y ≡ c = cc in
     record { state = sym (ap (λ (z : ControllerQueue). z.state) new) ∙ ap (λ (z : ControllerQueue). z.state) old; there = sym (ap (λ (z : ControllerQueue). z.cq_there) new) ∙ ap (λ (z : ControllerQueue). z.cq_there) old }
-taken_alike (y ∷ cs) zero (suc q) x c e f = let same : x ≡ c = cc in record { state = ap (λ (z : ControllerQueue). z.state) same; there = ap (λ (z : ControllerQueue). z.cq_there) same }
-taken_alike (y ∷ cs) (suc k) zero x c e f = let same : x ≡ c = cc in record { state = ap (λ (z : ControllerQueue). z.state) same; there = ap (λ (z : ControllerQueue). z.cq_there) same }
 taken_alike (y ∷ cs) (suc k) (suc q) x c e f = taken_alike cs k q x c e f
+taken_alike y k q x c e f = let same : x ≡ c = cc in record { state = ap (λ (z : ControllerQueue). z.state) same; there = ap (λ (z : ControllerQueue). z.cq_there) same }
 
 -- the entry in hand is that of its record
 pub entry_known : (s : Sides) → IsWorld s → s.trusted ≡ true → (e : SubEntry) → next_rung (state_of s) 0 ≡ Some e → EntryKnown s.host.host.records e

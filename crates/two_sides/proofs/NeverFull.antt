@@ -7,7 +7,7 @@ use Rattle.std.proofs.lemmas.{Bool.{true≢false, cases_Bool, not-false, and_par
 use Rattle.std.{proofs.lemmas.List.Elements.{All-nil, All-cons}, specs.{List.AllByRecursion, Option.option_map_or}}
 use Rattle.page_ledger.specs.Owners.{is_among}
 use Rattle.controller_walk.specs.{Laws.after_units, Units.{Act, Course, Closes, Does, units, verdict, course_of_list, first_passing}, Walks.answer}
-use Rattle.controller_walk.specs.declared.walk.WalkState.{WalkState, TheVariants.End}
+use Rattle.controller_walk.specs.declared.walk.WalkState.TheVariants.{End}
 use Rattle.admin_commands.specs.{Entries.{named_queue, named_command}, Verdicts.is_absent, declared.SqState.TheVariants.Stopping}
 use Rattle.entry_codec.specs.declared.status.{Status.Status, TheConstants.Status.{SUCCESS, ABORT_REQUESTED, ABORTED_SQ_DELETION}}
 use Rattle.entry_codec.specs.declared.submission.SubEntry.{SubEntry}
@@ -68,8 +68,7 @@ stay_untouched s e reply ok w stood = record {
 -- what is in stays in
 still_in : (m m' : Pages) (p : ℕ) → in_store m' ≡ in_store m → p < length m → is_some (page_at m p) ≡ true → is_some (page_at m' p) ≡ true
 still_in m m' p same l h =
-    let len : length m' ≡ length m = sym (length-in_store m') ∙ ap length same ∙ length-in_store m in
-    some_is (sym (in_is m' p (omega (arith, l, len))) ∙ ap (λ (bits : List Bool). slice_get bits p) same ∙ in_is m p l) ∙ h
+    some_is (sym (in_is m' p (omega (arith, l, sym (length-in_store m') ∙ ap length same ∙ length-in_store m))) ∙ ap (λ (bits : List Bool). slice_get bits p) same ∙ in_is m p l) ∙ h
 
 pub stay_walk : (s : State) (q cid : ℕ) → refusal_of s (events.Walk q cid) ≡ None → Stood s → ListsStay s (a.after_walk q cid s).memory
 stay_walk s q cid none stood = record {
@@ -138,11 +137,7 @@ one_job s stood q cid =
     omega (arith, same s.device.jobs, stood.places q (λ c. one (c == cid)), few s.host.records, stood.grounds.stands.0.once q cid)
   where
     same : (js : List Job) → total (λ j. one (is_job q cid j)) js ≤ total (job_weight q (λ c. one (c == cid))) js
-    same [] = omega arith
-    same (j ∷ js) = omega (arith, same js, each (j.q == q) (j.entry.cid == cid))
-      where
-        each : (x y : Bool) → one (x && y) ≤ (if x then one y else 0)
-        each x y = grind arith
+    same js = grind arith
 
     few : (rs : List Record) → total (sent q (λ c. one (c == cid))) rs ≤ total (here q cid) rs
     few [] = omega arith
@@ -157,6 +152,10 @@ Either m q cid f k = UnitLeft m k × (is_job q cid k ≡ true → UnitLeft m (f 
 
 units_walk : (q cid : ℕ) (s : State) → refusal_of s (events.Walk q cid) ≡ None → Stood s → Units (a.after_walk q cid s).memory s → Units (a.after_walk q cid s).memory (a.after_walk q cid s)
 units_walk q cid s none stood h =
+    let before : (j : Job) (act : Act) → Walking s q cid j → AllByRecursion (Either (a.after_walk q cid s).memory q cid (unit_done s j act)) s.device.jobs = λ j act w.
+    all_in_both (λ k. is_job q cid k ≡ true → k ≡ j) (UnitLeft (a.after_walk q cid s).memory) (Either (a.after_walk q cid s).memory q cid (unit_done s j act)) s.device.jobs
+    (λ k within left same. (left, λ t. subst (λ (x : Job). UnitLeft (a.after_walk q cid s).memory (unit_done s j act x)) (sym (same t)) (stepped j w)))
+    h (only_found (is_job q cid) s.device.jobs j w.found (one_job s stood q cid)) in
     walk_by (λ (t : State). Units (a.after_walk q cid s).memory t) s q cid h
     (λ j act at u. all_map (Either (a.after_walk q cid s).memory q cid (unit_done s j act)) (UnitLeft (a.after_walk q cid s).memory) (λ k. if (k.q == q) && (k.entry.cid == cid) then unit_done s j act k else k) s.device.jobs
     (λ k left. each (unit_done s j act) k ((k.q == q) && (k.entry.cid == cid)) refl left) (before j act (walking s q cid j none stood at)))
@@ -170,12 +169,6 @@ units_walk q cid s none stood h =
     stepped : (j : Job) → Walking s q cid j → UnitLeft (a.after_walk q cid s).memory (record j { units_done = j.units_done + 1; verdict = verdict_of (a.next_answer s j) })
     stepped j w other more =
         subst (λ (c : Course). j.units_done + 1 < length (units c)) (sym (stays j w)) (more_left (course_of s j) (j.units_done + 1) (course_ends s stood j w.list) more)
-
-    before : (j : Job) (act : Act) → Walking s q cid j → AllByRecursion (Either (a.after_walk q cid s).memory q cid (unit_done s j act)) s.device.jobs
-    before j act w =
-        all_in_both (λ k. is_job q cid k ≡ true → k ≡ j) (UnitLeft (a.after_walk q cid s).memory) (Either (a.after_walk q cid s).memory q cid (unit_done s j act)) s.device.jobs
-        (λ k within left same. (left, λ t. subst (λ (x : Job). UnitLeft (a.after_walk q cid s).memory (unit_done s j act x)) (sym (same t)) (stepped j w)))
-        h (only_found (is_job q cid) s.device.jobs j w.found (one_job s stood q cid))
 
     each : (f : Job → Job) (k : Job) (b : Bool) → is_job q cid k ≡ b → Either (a.after_walk q cid s).memory q cid f k → UnitLeft (a.after_walk q cid s).memory (if b then f k else k)
     each f k true t left = left.1 t
@@ -220,14 +213,12 @@ few_opened : (pages queues n s : ℕ) → Opens pages queues n s → pages ≤ 6
 few_opened pages queues n s opens = (limits_of pages queues n s (in_limits pages queues n s opens)).pages_most
 
 nothing_unfetched : (w : ℕ → ℕ) (k q : ℕ) → total (λ (e : SubEntry). w e.cid) (unfetched_at (replicate k opened) q) ≡ 0
-nothing_unfetched w zero q = refl
-nothing_unfetched w (suc k) zero = refl
 nothing_unfetched w (suc k) (suc q) = nothing_unfetched w k q
+nothing_unfetched w x q = refl
 
 nothing_answered : (w : ℕ → ℕ) (k q : ℕ) → total (λ (an : Answer). w an.cid) (answers_at (replicate k opened) q) ≡ 0
-nothing_answered w zero q = refl
-nothing_answered w (suc k) zero = refl
 nothing_answered w (suc k) (suc q) = nothing_answered w k q
+nothing_answered w x q = refl
 
 pub stood_at_opening : (pages queues n s : ℕ) (image : List ℕ) → Opens pages queues n s → Stood (opening pages queues n s image)
 stood_at_opening pages queues n s image opens = record {
@@ -291,11 +282,9 @@ zero_there (x ∷ xs) q h = refl
 -- queue 0 has room for one more identifier
 zero_room : (s : State) → Roomy s → (q : ℕ) → is_none (host_queue s q) ≡ false → no_identifier s 0 ≡ false → queue_full s 0 ≡ false
 zero_room s r q there room =
+    let below : (a b : ℕ) → nat_le a b ≡ false → b < a = λ a b e. grind (arith, nat_tests) in
     not_full s r 0 (λ queue e. sym (ap (λ (o : Option HostQueue). option_map_or (λ h. is_live h.state) o true) e) ∙ r.stood.grounds.zero_live) (zero_there s.host.queues q there)
     (omega (arith, sent_outstanding 0 s.host.records, length_outstanding 0 s.host.records, below (s.entries - 1) (length (outstanding_on s.host 0)) room))
-  where
-    below : (a b : ℕ) → nat_le a b ≡ false → b < a
-    below a b e = grind (arith, nat_tests)
 
 no_io_there : (s : State) (q : ℕ) → no_io_queue s q ≡ false → is_none (host_queue s q) ≡ false
 no_io_there s q h =
@@ -317,9 +306,7 @@ room_for_answer s r q cid job = go (device_queue s q) refl
     some_job : (o : Option Job) → job_at s q cid ≡ o → is_none o ≡ false → 1 ≤ total (job_weight q (λ c. 1)) s.device.jobs
     some_job None e h = absurd (true≢false h)
     some_job (Some j) e h =
-        let ids = and_parts (j.q == q) (j.entry.cid == cid) (find_sound (is_job q cid) s.device.jobs j e) in
-        let mine : job_weight q (λ c. 1) j ≡ 1 = ap one ids.0 in
-        omega (arith, mine, in_found (is_job q cid) s.device.jobs j e (job_weight q (λ c. 1)))
+        omega (arith, ap one (and_parts (j.q == q) (j.entry.cid == cid) (find_sound (is_job q cid) s.device.jobs j e)).0, in_found (is_job q cid) s.device.jobs j e (job_weight q (λ c. 1)))
 
     there : absent s q ≡ false
     there = (linked s r).jobs_have_queues q cid (not_none (job_at s q cid) job)
@@ -365,10 +352,7 @@ no_cause s r (events.Submit d) =
     ((λ t. refl), λ own. ((λ t. refl), λ built. ((λ t. refl), λ live. ((λ t. absurd (true≢false (sym t ∙ room (not-false _ own) (not-false _ live)))), λ f. tt))))
   where
     some_there : in_state is_live s d.q ≡ true → is_some (host_queue s d.q) ≡ true
-    some_there live = go (host_queue s d.q) live
-      where
-        go : (o : Option HostQueue) → option_map_or (λ queue. is_live queue.state) o false ≡ true → is_some o ≡ true
-        go o e = grind arith
+    some_there live = grind arith
 
     room : record_is (is_of is_drafted d.request (numbers_of d.data_pages) (numbers_of d.chain_pages)) s d.q d.cid ≡ true → in_state is_live s d.q ≡ true → queue_full s d.q ≡ false
     room own live =

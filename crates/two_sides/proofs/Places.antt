@@ -97,35 +97,24 @@ shows s q h c e f = record { entries = refl; host = e; device = device_at s q h 
 
 -- The positions
 
-fetch_slot-by : (u : State) (q : ℕ) (h : HostQueue) (d : DeviceQueue) (n : ℕ) → u.entries ≡ n → host_queue u q ≡ Some h → device_queue u q ≡ Some d → fetch_slot u q ≡ moved n h.ring.tail (n - length d.unfetched)
-fetch_slot-by u q h d n en eh ed = rw (eh, ed, en) refl
-
-post_slot-by : (u : State) (q : ℕ) (h : HostQueue) (d : DeviceQueue) (n : ℕ) → u.entries ≡ n → host_queue u q ≡ Some h → device_queue u q ≡ Some d → post_slot u q ≡ moved n h.ring.head (length d.answers)
-post_slot-by u q h d n en eh ed = rw (eh, ed, en) refl
-
 pub fetch_slot_is : (u : State) (s : Sides) (q : ℕ) (h : HostQueue) (c : ControllerQueue) → Shows u s q h c → IsKnown s q h c → is_absent c.state ≡ false → fetch_slot u q ≡ c.device.ring.head
 fetch_slot_is u s q h c shown known there =
-    let n = known.placed.share.entries in
-    fetch_slot-by u q h (device_queue_of (byte_at s.pages) h.ring c) c.device.entries (shown.entries ∙ sym n) shown.host shown.device
+    rw (shown.host, shown.device, (shown.entries ∙ sym known.placed.share.entries)) refl
     ∙ ap (λ (b : Bool). moved c.device.entries h.ring.tail (c.device.entries - length (if b then [] else unfetched_between (byte_at s.pages) h.ring c.device))) there
     ∙ ap (λ (k : ℕ). moved c.device.entries h.ring.tail (c.device.entries - k)) (length-unfetched s q h c known there)
     ∙ sym (head_moved c.device.entries c.device.ring.head h.ring.tail known.placed.share.side.head (in_ring s q h c known).tail)
 
 pub post_slot_is : (u : State) (s : Sides) (q : ℕ) (h : HostQueue) (c : ControllerQueue) → Shows u s q h c → IsKnown s q h c → c.cq_there ≡ true → post_slot u q ≡ c.device.ring.tail
 post_slot_is u s q h c shown known there =
-    let n = known.placed.share.entries in
-    post_slot-by u q h (device_queue_of (byte_at s.pages) h.ring c) c.device.entries (shown.entries ∙ sym n) shown.host shown.device
+    rw (shown.host, shown.device, (shown.entries ∙ sym known.placed.share.entries)) refl
     ∙ ap (λ (k : ℕ). moved c.device.entries h.ring.head k) (length-answers s q h c known there)
     ∙ sym (tail_moved c.device.entries h.ring.head c.device.ring.tail (in_ring s q h c known).head known.placed.share.side.tail)
-
--- whether the completion ring has room
-full_by : (u : State) (q : ℕ) (d : DeviceQueue) (n : ℕ) → u.entries ≡ n → device_queue u q ≡ Some d → answers_full u q ≡ (length d.answers == n - 1)
-full_by u q d n en ed = rw (ed, en) refl
 
 pub answers_full_is : (u : State) (s : Sides) (q : ℕ) (h : HostQueue) (c : ControllerQueue) → Shows u s q h c → IsKnown s q h c → c.cq_there ≡ true
     → answers_full u q ≡ is_full c.device.entries c.device.ring.known_head c.device.ring.tail
 answers_full_is u s q h c shown known there =
-    full_by u q (device_queue_of (byte_at s.pages) h.ring c) c.device.entries (shown.entries ∙ sym known.placed.share.entries) shown.device
+    -- whether the completion ring has room
+    rw (shown.device, (shown.entries ∙ sym known.placed.share.entries)) refl
     ∙ ap (λ (k : ℕ). k == c.device.entries - 1) (length-answers s q h c known there)
     ∙ ap (λ (k : ℕ). is_full c.device.entries k c.device.ring.tail) (sym (known.rings (there_ring h c there)).heard)
 
@@ -141,9 +130,6 @@ submission_slot_page first n slot l =
     let k : slot * 64 / 4096 ≡ slot / 64 = omega arith in
     ap (slice_index (pages_from first (half_pages n Submission))) k ∙ index-from (half_pages n Submission) first (slot / 64) (omega arith)
 
-fetch_page-by : (u : State) (q : ℕ) (h : HostQueue) (head : ℕ) → host_queue u q ≡ Some h → fetch_slot u q ≡ head → fetch_page u q ≡ slot_page h.sq_pages 64 head
-fetch_page-by u q h head eh ef = rw (ef, eh) refl
-
 post_page-by : (u : State) (q : ℕ) (h : HostQueue) (tail : ℕ) → host_queue u q ≡ Some h → post_slot u q ≡ tail → post_page u q ≡ slot_page h.cq_pages 16 tail
 post_page-by u q h tail eh et = rw (et, eh) refl
 
@@ -154,7 +140,7 @@ own_page s q h c known has =
 
 pub fetch_page_is : (u : State) (s : Sides) (q : ℕ) (h : HostQueue) (c : ControllerQueue) → Shows u s q h c → IsKnown s q h c → is_absent c.state ≡ false → fetch_page u q ≡ submission_page c.device.sq c.device.ring.head
 fetch_page_is u s q h c shown known there =
-    fetch_page-by u q h c.device.ring.head shown.host (fetch_slot_is u s q h c shown known there)
+    rw ((fetch_slot_is u s q h c shown known there), shown.host) refl
     ∙ ap (λ (ps : List ℕ). slot_page ps 64 c.device.ring.head) (known.submission there)
     ∙ submission_slot_page c.device.sq s.host.entries c.device.ring.head (omega (arith, known.placed.share.entries, known.placed.share.side.head))
 
@@ -173,26 +159,19 @@ told o = option_map (phased true) o
 then_map : {X Y Z : Type 0} (f : Y → Option Z) (g : X → Y) (o : Option X) → option_and_then (λ x. f (g x)) o ≡ option_and_then f (option_map g o)
 then_map f g o = grind arith
 
-slot_below : (n slot : ℕ) → slot < n → slot < 256 * half_pages n Completion
-slot_below n slot l = omega arith
-
 seen_alone : (s : Sides) → IsWorld s → (q : ℕ) (h : HostQueue) (c : ControllerQueue) → slice_get s.host.host.queues q ≡ Some h → IsKnown s q h c → has_ring h c ≡ true
     → seen_entry (alone s.host s.pages) q ≡ new_completion_at (byte_at s.pages) c.device.cq h.ring.head h.ring.phase
 seen_alone s world q h c e k has =
+    let at_head : Option (List ℕ) → Option ComEntry = λ o. option_and_then (λ bytes. with_phase h.ring.phase (completion_of bytes)) o in
     ap (option_and_then (slot_entry s.pages)) e
     ∙ ap (λ (pages : List ℕ). at_head (slot_bytes s.pages pages 16 h.ring.head)) (k.completion has)
-    ∙ ap at_head (answers_stand s.pages c.device.cq (half_pages s.host.entries Completion) h.ring.head world.sides.over.pool.whole (slot_below s.host.entries h.ring.head k.placed.ring.head))
+    ∙ ap at_head (answers_stand s.pages c.device.cq (half_pages s.host.entries Completion) h.ring.head world.sides.over.pool.whole (omega arith))
     ∙ then_map (with_phase h.ring.phase) completion_of (completion_slot (byte_at s.pages) c.device.cq h.ring.head)
-  where
-    at_head : Option (List ℕ) → Option ComEntry
-    at_head o = option_and_then (λ bytes. with_phase h.ring.phase (completion_of bytes)) o
 
 -- Where nothing was forged, the answers in the ring
 
 no_answer : (m : Memory) (h : HostQueue) (c : ControllerQueue) → h.ring.head ≡ c.device.ring.tail → completions_between m h.ring c.device ≡ []
-no_answer m h c same =
-    ap (λ (head : ℕ). present (answers_between m c.device.cq c.device.entries head c.device.ring.tail)) same
-    ∙ ap present (answers_none m c.device.cq c.device.entries c.device.ring.tail)
+no_answer m h c same = grind arith
 
 -- the answer at the head, and those behind it
 pub record HasAnswer (m : Memory) (h : HostQueue) (c : ControllerQueue) : Type 0 where
@@ -249,6 +228,8 @@ owned_first q e own = ap (λ (i : ℕ). Some (record { dw0 = e.dw0; sqhd = e.sqh
 trusted_alike : (s : Sides) → IsWorld s → s.trusted ≡ true → (q : ℕ) (h : HostQueue) (c : ControllerQueue) → slice_get s.host.host.queues q ≡ Some h → slice_get s.controller.queues q ≡ Some c → is_reaped h.state ≡ true
     → told (seen_entry (alone s.host s.pages) q) ≡ told (seen_entry (state_of s) q)
 trusted_alike s world t q h c e f reaped =
+    let newest : new_completion_at m c.device.cq h.ring.head (expected_phase h.ring.head c.device.ring.tail c.device.ring.phase) ≡ front (answers_between m c.device.cq c.device.entries h.ring.head c.device.ring.tail) =
+    new_is_front m c.device.cq c.device.entries h.ring.head c.device.ring.tail c.device.ring.phase (head_below s q h c k.placed) k.placed.share.side.tail rings.phases in
     ap told (seen_alone s world q h c e k has ∙ ap (new_completion_at m c.device.cq h.ring.head) rings.expected ∙ newest)
     ∙ elim (cases_eq h.ring.head c.device.ring.tail) [
       | inl same ↦ ap (λ (head : ℕ). told (front (answers_between m c.device.cq c.device.entries head c.device.ring.tail))) same
@@ -269,13 +250,9 @@ trusted_alike s world t q h c e f reaped =
     rings : RingsStand m q h c
     rings = k.rings has
 
-    newest : new_completion_at m c.device.cq h.ring.head (expected_phase h.ring.head c.device.ring.tail c.device.ring.phase) ≡ front (answers_between m c.device.cq c.device.entries h.ring.head c.device.ring.tail)
-    newest = new_is_front m c.device.cq c.device.entries h.ring.head c.device.ring.tail c.device.ring.phase (head_below s q h c k.placed) k.placed.share.side.tail rings.phases
-
     there : c.cq_there ≡ true → HasAnswer m h c → told (front (answers_between m c.device.cq c.device.entries h.ring.head c.device.ring.tail)) ≡ told (seen_entry (state_of s) q)
     there cq a =
-        let own = subst (λ (xs : List ComEntry). AllByRecursion (λ e. e.sqid ≡ q) xs) a.list rings.owned in
-        ap told a.front ∙ owned_first q a.entry own.0 ∙ sym (ap told (seen_first s q h c t e f cq a))
+        ap told a.front ∙ owned_first q a.entry (subst (λ (xs : List ComEntry). AllByRecursion (λ e. e.sqid ≡ q) xs) a.list rings.owned).0 ∙ sym (ap told (seen_first s q h c t e f cq a))
 
 pub seen_alike : (s : Sides) → IsWorld s → (q : ℕ) (h : HostQueue) → slice_get s.host.host.queues q ≡ Some h → is_reaped h.state ≡ true
     → told (seen_entry (alone s.host s.pages) q) ≡ told (seen_entry (state_of s) q)
@@ -386,8 +363,7 @@ pub tails_heard : tails_are_heard
 tails_heard s q h c sides e f =
     let share = share_of s.host.entries 0 q s.host.host.queues s.controller.queues h c sides.queues e f in
     let inside = all_at (λ (queue : HostQueue). IsInRing s.host.entries queue.ring) s.host.host.queues q h e sides.sound.positions in
-    let below : h.ring.tail < c.device.entries = subst (λ (n : ℕ). h.ring.tail < n) (sym share.entries) inside.tail in
-    rw (lt-ltb h.ring.tail c.device.entries below) refl
+    rw (lt-ltb h.ring.tail c.device.entries (subst (λ (n : ℕ). h.ring.tail < n) (sym share.entries) inside.tail)) refl
 
 next_in_range : (n head tail : ℕ) → head < n → tail < n → head ≢ tail → is_in_range n head tail (next_slot n head) ≡ true
 next_in_range n head tail h t apart = grind (arith, nat_tests)
@@ -396,11 +372,9 @@ pub heads_heard : heads_are_heard
 heads_heard s q h c sides tied e f has apart =
     let share = share_of s.host.entries 0 q s.host.host.queues s.controller.queues h c sides.queues e f in
     let stands = stands_of s.host.entries (byte_at s.pages) 0 q s.host.host.queues s.controller.queues h c tied.queues e f in
-    let rings = stands.rings has in
     let inside = all_at (λ (queue : HostQueue). IsInRing s.host.entries queue.ring) s.host.host.queues q h e sides.sound.positions in
-    let tail : c.device.ring.tail < s.host.entries = subst (λ (n : ℕ). c.device.ring.tail < n) share.entries share.side.tail in
-    let fits = next_in_range s.host.entries h.ring.head c.device.ring.tail inside.head tail apart in
-    let here : is_in_range c.device.entries c.device.ring.known_head c.device.ring.tail (next_slot s.host.entries h.ring.head) ≡ true = rw (share.entries, rings.heard) fits in
+    let fits = next_in_range s.host.entries h.ring.head c.device.ring.tail inside.head (subst (λ (n : ℕ). c.device.ring.tail < n) share.entries share.side.tail) apart in
+    let here : is_in_range c.device.entries c.device.ring.known_head c.device.ring.tail (next_slot s.host.entries h.ring.head) ≡ true = rw (share.entries, (stands.rings has).heard) fits in
     rw here refl
 
 -- What the host's state of a queue, and an answer that it hears, tell of the controller's queue, where nothing was forged.
@@ -434,22 +408,18 @@ pub record Carries (s : State) (adm : AdminKind) (ok : Bool) : Type 0 where
 
 pub carried : (s : State) (q cid : ℕ) (st : Status) (e : ComEntry) (r : Record) (adm : AdminKind) → s.trusted ≡ true → SidesAgree s → IsHeard s q cid st e r → r.work ≡ Management adm → Carries s adm (is_success st)
 carried s q cid st e r adm t agree heard w =
+    let rs : List Record = s.host.records in
+    let at_zero : IsHeard s 0 cid st e r → Carries s adm (is_success st) = λ heard.
+    let an = answer_heard s 0 cid st e r t heard in
+    let first = answering_rest s.device.queues an.answer an.first in
+    let kind : (test : AdminKind → Bool) → is_kind test rs an.answer.cid ≡ test adm = λ test. ap (is_kind test rs) an.its_id ∙ kind_known test rs cid adm (r, heard.found, w) in
+    record {
+      answered = λ test. subst (λ (xs : List Answer). one_counting (test adm && is_success st) ≤ answered_well test rs xs) (sym first)
+          (omega (arith, ap (λ (b : Bool). one_counting (b && is_success an.answer.status)) (kind test), ap (λ (x : Status). one_counting (test adm && is_success x)) an.its_status));
+      unmade = λ test. subst (λ (xs : List Answer). one_counting (test adm && not (is_success st)) ≤ unmade test rs (waiting s.device.queues) s.device.jobs xs) (sym first)
+          (omega (arith, ap (λ (b : Bool). one_counting (b && not (is_success an.answer.status))) (kind test), ap (λ (x : Status). one_counting (test adm && not (is_success x))) an.its_status));
+    } in
     at_zero (subst (λ (z : ℕ). IsHeard s z cid st e r) (admin_zero s q cid r adm (stood_of s agree).grounds.stands.0 heard.found w) heard)
-  where
-    rs : List Record
-    rs = s.host.records
-
-    at_zero : IsHeard s 0 cid st e r → Carries s adm (is_success st)
-    at_zero heard =
-        let an = answer_heard s 0 cid st e r t heard in
-        let first = answering_rest s.device.queues an.answer an.first in
-        let kind : (test : AdminKind → Bool) → is_kind test rs an.answer.cid ≡ test adm = λ test. ap (is_kind test rs) an.its_id ∙ kind_known test rs cid adm (r, heard.found, w) in
-        record {
-          answered = λ test. subst (λ (xs : List Answer). one_counting (test adm && is_success st) ≤ answered_well test rs xs) (sym first)
-              (omega (arith, ap (λ (b : Bool). one_counting (b && is_success an.answer.status)) (kind test), ap (λ (x : Status). one_counting (test adm && is_success x)) an.its_status));
-          unmade = λ test. subst (λ (xs : List Answer). one_counting (test adm && not (is_success st)) ≤ unmade test rs (waiting s.device.queues) s.device.jobs xs) (sym first)
-              (omega (arith, ap (λ (b : Bool). one_counting (b && not (is_success an.answer.status))) (kind test), ap (λ (x : Status). one_counting (test adm && not (is_success x))) an.its_status));
-        }
 
 -- a number of a queue is what its command names
 named_so : (k : ℕ) (b : Bool) → k < 65536 → b ≡ true → ((k % 65536 == k) && b) ≡ true

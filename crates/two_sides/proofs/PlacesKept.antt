@@ -8,16 +8,16 @@ use Rattle.machine_model.proofs.{Cases.option_is, Counting.{total-append, total-
 use Rattle.machine_model.proofs.Kept.{asked_serves, submissions_awaited}
 use Rattle.machine_model.proofs.Moves.{seen_trusted, named, Tells, heard_of, answer_heard, host_moves, posts, sends, sent_record, drafted_record, heard_without, IsHeard, making_sq_is, half_from, grants_cq, grants_sq, creates_cq, creates_sq}
 use Rattle.machine_model.proofs.{Owned.{awaited_at, was_awaited, awaited_is}, Sound.{still_live, asked_note}}
-use Rattle.machine_model.proofs.{Steps.{managed_by, Accepts, part_controller, unrefused}, Tokens.find_sound, TokensKept.reset_places}
+use Rattle.machine_model.proofs.{Steps.{managed_by, Accepts, part_controller, unrefused}, TokensKept.reset_places}
 use Rattle.machine_model.specs.Agreeing.{CommandsStandOnce as Places, is_out_of_service_at as past_at, answers_at, unfetched_count, job_weight, is_absent_at as gone_at, is_known_deleted as is_over, on_queue}
 use Rattle.machine_model.specs.{Events.{Event, Reply}, Memory.with_pages, Proper.IsProper}
 use Rattle.machine_model.specs.Refusals.{device_queue, next_rung, job_at, first_answer, is_job, is_submitted, is_drafted, is_held, host_queue, refusal_of, seen_entry, entry_of, in_service, is_making_sq, creates_sq_of}
 use Rattle.machine_model.specs.Standing.{unfetched_at}
-use Rattle.machine_model.specs.State.{State, Device, HostQueue, DeviceQueue, Record, Job, Answer, is_at, record_at, with_record, without_record}
-use Rattle.machine_model.specs.{Step.{HostPart, IsController, reaped}, Weights.{total, sent, one}, declared.words.HostState.TheVariants.{Live, Deleting}}
-use Rattle.machine_model.specs.declared.words.{Phase.{Phase, TheVariants.{Drafted, Submitted, Held, Collected}}, Reaped.Reaped, Work.TheVariants.Management}
+use Rattle.machine_model.specs.State.{State, Device, HostQueue, DeviceQueue, Record, Job, Answer, record_at, with_record, without_record}
+use Rattle.machine_model.specs.{Step.{HostPart, IsController, reaped}, Weights.{total, sent}, declared.words.HostState.TheVariants.{Live, Deleting}}
+use Rattle.machine_model.specs.declared.words.{Phase.{Phase, TheVariants.Held}, Reaped.Reaped, Work.TheVariants.Management}
 use Rattle.admin_commands.specs.{Entries.{named_queue, named_command, admin_entry}, Verdicts.is_live as is_running, declared.AdminKind.AdminKind}
-use Rattle.admin_commands.specs.declared.{AdminKind.TheVariants.{Abort, DeleteSq, DeleteCq, CreateCq, CreateSq}, SqState.TheVariants.{Absent, Stopping}}
+use Rattle.admin_commands.specs.declared.{AdminKind.TheVariants.{Abort, DeleteSq, DeleteCq, CreateSq}, SqState.TheVariants.{Absent, Stopping}}
 use Rattle.entry_codec.specs.declared.{completion.ComEntry.ComEntry, status.Status.Status}
 use Rattle.entry_codec.specs.declared.{status.TheConstants.Status.{COMMAND_ID_CONFLICT, ABORT_REQUESTED, ABORTED_SQ_DELETION}, submission.SubEntry.SubEntry}
 use Rattle.io_commands.{proofs.Building.carries_entry, specs.Jobs.{io_fault, bytes_after_check, is_success}}
@@ -61,8 +61,7 @@ pub lessens_state : (hs : List HostQueue) (qs : List DeviceQueue) (js : List Job
     → Lessens hs qs js (change k f qs) js
 lessens_state hs qs js k f un an q w =
     let u : unfetched_count q w hs (change k f qs) ≡ unfetched_count q w hs qs = ap (λ (xs : List SubEntry). if past_at hs q then 0 else total (entries_weigh w) xs) (list_same (λ at. at.unfetched) k f qs q un) in
-    let v : total (answers_weigh w) (answers_at (change k f qs) q) ≡ total (answers_weigh w) (answers_at qs q) = ap (total (answers_weigh w)) (list_same (λ at. at.answers) k f qs q an) in
-    omega (arith, u, v)
+    omega (arith, u, ap (total (answers_weigh w)) (list_same (λ at. at.answers) k f qs q an))
 
 -- its entries or answers go
 lessens_less : (hs : List HostQueue) (qs : List DeviceQueue) (js : List Job) (k : ℕ) (f : DeviceQueue → DeviceQueue)
@@ -89,12 +88,9 @@ head_of : (xs : List Answer) (an : Answer) → first_answer xs ≡ Some an → x
 head_of [] an h = absurd cc
 head_of (x ∷ xs) an h = let same : x ≡ an = cc in ap (λ y. y ∷ xs) same
 
--- jobs that keep their queue and entry
-pub job_map : (q : ℕ) (w : ℕ → ℕ) (f : Job → Job) → ((j : Job) → (f j).q ≡ j.q) → ((j : Job) → (f j).entry ≡ j.entry) → (js : List Job) → total (job_weight q w) (map f js) ≡ total (job_weight q w) js
-job_map q w f sq se js = total-map (job_weight q w) f (λ j. rw (sq j, se j) refl) js
-
 pub lessens_jobs : (hs : List HostQueue) (qs : List DeviceQueue) (js : List Job) (f : Job → Job) → ((j : Job) → (f j).q ≡ j.q) → ((j : Job) → (f j).entry ≡ j.entry) → Lessens hs qs js qs (map f js)
-lessens_jobs hs qs js f sq se q w = omega (arith, job_map q w f sq se js)
+-- jobs that keep their queue and entry
+lessens_jobs hs qs js f sq se q w = omega (arith, total-map (job_weight q w) f (λ j. rw (sq j, se j) refl) js)
 
 pub lessens_both : (hs : List HostQueue) (qs qs' qs'' : List DeviceQueue) (js js' js'' : List Job) → Lessens hs qs js qs' js' → Lessens hs qs' js' qs'' js'' → Lessens hs qs js qs'' js''
 lessens_both hs qs qs' qs'' js js' js'' a b q w = omega (arith, a q w, b q w)
@@ -135,14 +131,12 @@ first_is (x ∷ xs) e h = let same : x ≡ e = cc in ap (λ y. y ∷ xs) same
 taken_off_load : (hs : List HostQueue) (s : State) (q : ℕ) (e : SubEntry) → InHand s q e → past_at hs q ≡ false → (k : ℕ) (w : ℕ → ℕ)
     → load k w hs (change q (λ at. record at { unfetched = drop 1 at.unfetched; rung = at.rung - 1 }) s.device.queues) s.device.jobs + (if q == k then w e.cid else 0) ≤ load k w hs s.device.queues s.device.jobs
 taken_off_load hs s q e hand past k w =
+    let none : (b : Bool) → (q == k) ≡ b → past_at hs k ≡ true → (if b then w e.cid else 0) ≡ 0 = λ b z p. grind arith in
     let f : DeviceQueue → DeviceQueue = λ at. record at { unfetched = drop 1 at.unfetched; rung = at.rung - 1 } in
     let qs = s.device.queues in
     let u = less_at (λ at. at.unfetched) (entries_weigh w) q f (w e.cid) qs k hand.queue hand.at (omega (arith, dropped_head (entries_weigh w) (λ xs. None) hand.queue.unfetched e (first_is hand.queue.unfetched e hand.first))) in
     let v : total (answers_weigh w) (answers_at (change q f qs) k) ≡ total (answers_weigh w) (answers_at qs k) = ap (total (answers_weigh w)) (list_same (λ at. at.answers) q f qs k (λ at. refl)) in
     omega (arith, v, count_less (past_at hs k) (total (entries_weigh w) (unfetched_at qs k)) (total (entries_weigh w) (unfetched_at (change q f qs) k)) (if q == k then w e.cid else 0) (none (q == k) refl) u)
-  where
-    none : (b : Bool) → (q == k) ≡ b → past_at hs k ≡ true → (if b then w e.cid else 0) ≡ 0
-    none b z p = grind arith
 
 -- an answer more
 answered_load : (hs : List HostQueue) (qs : List DeviceQueue) (js : List Job) (q : ℕ) (an : Answer) (k : ℕ) (w : ℕ → ℕ)
@@ -195,16 +189,15 @@ fetches_managed hs s e =
 
 pub lessens_fetch : (hs : List HostQueue) (s : State) (q : ℕ) → ((e : SubEntry) → InHand s q e → past_at hs q ≡ false) → Lessens hs s.device.queues s.device.jobs (a.after_fetch q s).device.queues (a.after_fetch q s).device.jobs
 lessens_fetch hs s q past k w =
+    let off : (e : SubEntry) → next_rung s q ≡ Some e
+    → load k w hs (change q (λ at. record at { unfetched = drop 1 at.unfetched; rung = at.rung - 1 }) s.device.queues) s.device.jobs + (if q == k then w e.cid else 0) ≤ load k w hs s.device.queues s.device.jobs = λ e n.
+    taken_off_load hs s q e (in_hand s q e n) (past e (in_hand s q e n)) k w in
     fetch_by (λ (t : State). load k w hs t.device.queues t.device.jobs ≤ load k w hs s.device.queues s.device.jobs) s q (omega arith)
     (λ e n c. omega (arith, off e n, answered_load hs (a.taken_off q s).device.queues s.device.jobs q (answer_of q e.cid COMMAND_ID_CONFLICT 0 (a.taken_off q s)) k w))
     (λ e n c z. let off' = subst (λ (n : ℕ). load k w hs (change n (λ at. record at { unfetched = drop 1 at.unfetched; rung = at.rung - 1 }) s.device.queues) s.device.jobs + (if n == k then w e.cid else 0) ≤ load k w hs s.device.queues s.device.jobs) z (off e n) in
     omega (arith, off', fetches_managed hs s e k w))
     (λ e n c other. let t = a.taken_off q s in
     omega (arith, off e n, job_load hs t.device.queues t.device.jobs (a.new_job q e (io_fault (a.image_blocks t) e) 0 (bytes_after_check t.device.image e (io_fault (a.image_blocks t) e))) k w))
-  where
-    off : (e : SubEntry) → next_rung s q ≡ Some e
-        → load k w hs (change q (λ at. record at { unfetched = drop 1 at.unfetched; rung = at.rung - 1 }) s.device.queues) s.device.jobs + (if q == k then w e.cid else 0) ≤ load k w hs s.device.queues s.device.jobs
-    off e n = taken_off_load hs s q e (in_hand s q e n) (past e (in_hand s q e n)) k w
 
 pub lessens_walk : (hs : List HostQueue) (q cid : ℕ) (s : State) → Lessens hs s.device.queues s.device.jobs (a.after_walk q cid s).device.queues (a.after_walk q cid s).device.jobs
 lessens_walk hs q cid s =
@@ -255,10 +248,7 @@ reaped_load hs qs js q k w =
     let f : DeviceQueue → DeviceQueue = λ at. record at { answers = drop 1 at.answers } in
     let u : unfetched_count k w hs (change q f qs) ≡ unfetched_count k w hs qs = ap (λ (xs : List SubEntry). if past_at hs k then 0 else total (entries_weigh w) xs) (list_same (λ at. at.unfetched) q f qs k (λ at. refl)) in
     let v = more_at (λ at. at.answers) (answers_weigh w) q f 0 qs k (λ at. omega (arith, dropped (answers_weigh w) at.answers)) in
-    omega (arith, u, v, nothing (q == k))
-  where
-    nothing : (b : Bool) → (if b then 0 else 0) ≡ zero
-    nothing b = grind arith
+    omega (arith, u, v, let nothing : (if (q == k) then 0 else 0) ≡ zero = grind arith in nothing)
 
 -- and it was this one
 pub heard_load : (hs : List HostQueue) (qs : List DeviceQueue) (js : List Job) (q : ℕ) (an : Answer) → option_and_then (λ (queue : DeviceQueue). first_answer queue.answers) (slice_get qs q) ≡ Some an → (k : ℕ) (w : ℕ → ℕ)
@@ -272,9 +262,6 @@ heard_load hs qs js q an h k w = elim (option_is (slice_get qs q)) [
       let v = less_at (λ at. at.answers) (answers_weigh w) q (λ at. record at { answers = drop 1 at.answers }) (w an.cid) qs k queue e (omega (arith, dropped_head (answers_weigh w) first_answer queue.answers an (head_of queue.answers an h))) in
       omega (arith, u, v)
 ]
-  where
-    f : DeviceQueue → DeviceQueue
-    f at = record at { answers = drop 1 at.answers }
 
 -- Queues of the host that are no more retired than before
 pub retired_count : (b b' : Bool) (n : ℕ) → (b ≡ true → b' ≡ true) → (if b' then 0 else n) ≤ (if b then 0 else n)
@@ -282,9 +269,6 @@ retired_count b b' n h = grind arith
 
 pub places_hosts : (hs hs' : List HostQueue) (rs : List Record) (qs : List DeviceQueue) (js : List Job) → ((q : ℕ) → past_at hs q ≡ true → past_at hs' q ≡ true) → Places hs rs qs js → Places hs' rs qs js
 places_hosts hs hs' rs qs js past h q w = omega (arith, h q w, retired_count (past_at hs q) (past_at hs' q) (total (entries_weigh w) (unfetched_at qs q)) (past q))
-
-pub places_records : (hs : List HostQueue) (rs rs' : List Record) (qs : List DeviceQueue) (js : List Job) → ((q : ℕ) (w : ℕ → ℕ) → total (sent q w) rs ≤ total (sent q w) rs') → Places hs rs qs js → Places hs rs' qs js
-places_records hs rs rs' qs js more h q w = omega (arith, h q w, more q w)
 
 -- Every event keeps an entry of a submitted command in one place at most.
 
@@ -301,26 +285,20 @@ sent_is q cid k w r rq rc sub = rw (rq, rc, sub) (grind arith)
 
 -- Host events
 
-posted_past : (n k q : ℕ) (hs : List HostQueue) → past_at (change k (λ x. record x { ring = next_tail n x.ring }) hs) q ≡ past_at hs q
-posted_past n k q hs = past_same k (λ x. record x { ring = next_tail n x.ring }) hs q (λ x e. refl)
-
 -- an entry is posted, and a submitted command comes with it
 places_posted : (q : ℕ) (entry : SubEntry) (s : State) (rs : List Record) → ((k : ℕ) (w : ℕ → ℕ) → total (sent k w) rs + (if q == k then w entry.cid else 0) ≤ total (sent k w) s.host.records)
     → Places s.host.queues rs s.device.queues s.device.jobs → PlacesIn (posts q entry s)
 places_posted q entry s rs more h =
     places_hosts s.host.queues (change q (λ x. record x { ring = next_tail s.entries x.ring }) s.host.queues) s.host.records (change q (λ at. record at { unfetched = at.unfetched ++ entry ∷ [] }) s.device.queues) s.device.jobs
-    (λ k p. posted_past s.entries q k s.host.queues ∙ p)
+    (λ k p. (past_same q (λ x. record x { ring = next_tail s.entries x.ring }) s.host.queues k (λ x e. refl)) ∙ p)
     (λ k w. omega (arith, posted_load s.host.queues s.device.queues s.device.jobs q entry k w, h k w, more k w))
-
-admin_cid : (adm : AdminKind) (id : ℕ) → (admin_entry adm id).cid ≡ id
-admin_cid adm id = grind arith
 
 places_sent : (adm : AdminKind) (id : ℕ) (s : State) → PlacesIn s → PlacesIn (sends adm id s)
 places_sent adm id s h =
     places_posted 0 (admin_entry adm id) (a.on_records (λ records. records ++ sent_record adm id ∷ []) s) s.host.records
     (λ k w.
     let mine : sent k w (sent_record adm id) ≡ (if 0 == k then w id else 0) = sent_is 0 id k w (sent_record adm id) refl refl refl in
-    let same : (if 0 == k then w (admin_entry adm id).cid else 0) ≡ (if 0 == k then w id else 0) = ap (λ (c : ℕ). if 0 == k then w c else 0) (admin_cid adm id) in
+    let same : (if 0 == k then w (admin_entry adm id).cid else 0) ≡ (if 0 == k then w id else 0) = ap (λ (c : ℕ). if 0 == k then w c else 0) (grind arith) in
     omega (arith, total-append (sent k w) s.host.records (sent_record adm id ∷ []), mine, same)) h
 
 pub drafted_not : (ph : Phase) → is_drafted ph ≡ true → is_submitted ph ≡ false
@@ -340,34 +318,30 @@ reaped_answer s q cid t h = go (reaped s q) refl h
     of st what tells = let x = heard_of s q cid st what tells in let an = answer_heard s q cid st x.0 x.1 t x.2 in (an.answer, an.first, an.its_id, x.2.seen ∙ ap Some an.is)
 
     go : (what : Reaped) → reaped s q ≡ what → named what ≡ Some cid → (an : Answer) × (option_and_then (λ queue. first_answer queue.answers) (device_queue s q) ≡ Some an) × (an.cid ≡ cid) × (seen_entry s q ≡ Some (entry_of q an))
-    go outcome.Empty is n = absurd cc
-    go (outcome.Rejected why) is n = absurd cc
     go (outcome.Done c st) is n = of st (outcome.Done c st) (record { is = sym is; names = n; status = refl })
     go (outcome.AdminDone c st dw0) is n = of st (outcome.AdminDone c st dw0) (record { is = sym is; names = n; status = refl })
+    go x is n = absurd cc
 
 consumed_past : (q : ℕ) (g : HostRing → HostRing) (hs : List HostQueue) (k : ℕ) → past_at hs k ≡ true → past_at (change q (λ x. record x { ring = g x.ring }) hs) k ≡ true
 consumed_past q g hs k p = past_same q (λ x. record x { ring = g x.ring }) hs k (λ x e. refl) ∙ p
 
 -- a queue of the host goes out of service, or stays so
 out_past : (k : ℕ) (f : HostQueue → HostQueue) (hs : List HostQueue) (n : ℕ) → ((x : HostQueue) → in_service (f x).state ≡ false) → past_at hs n ≡ true → past_at (change k f hs) n ≡ true
-out_past k f [] n out p = p
 out_past zero f (x ∷ hs) zero out p = ap not (out x)
-out_past zero f (x ∷ hs) (suc n) out p = p
-out_past (suc k) f (x ∷ hs) zero out p = p
 out_past (suc k) f (x ∷ hs) (suc n) out p = out_past k f hs n out p
+out_past k f x n out p = p
 
 places_out : (k : ℕ) (f : HostQueue → HostQueue) (s : State) → ((x : HostQueue) → in_service (f x).state ≡ false) → PlacesIn s → Places (change k f s.host.queues) s.host.records s.device.queues s.device.jobs
 places_out k f s out h = places_hosts s.host.queues (change k f s.host.queues) s.host.records s.device.queues s.device.jobs (λ n p. out_past k f s.host.queues n out p) h
 
 -- one comes into service that has no entry
 places_opens : (k : ℕ) (f : HostQueue → HostQueue) (s : State) → unfetched_at s.device.queues k ≡ [] → PlacesIn s → Places (change k f s.host.queues) s.host.records s.device.queues s.device.jobs
-places_opens k f s none h q w = elim (cases_Bool (k == q)) [
-  | inl is ↦ omega (arith, h q w, nothing (past_at (change k f s.host.queues) q) (unfetched_at s.device.queues q) (subst (λ (z : ℕ). unfetched_at s.device.queues z ≡ []) (eqb-true k q is) none))
-  | inr is ↦ omega (arith, h q w, ap (λ (b : Bool). if b then 0 else total (λ (e : SubEntry). w e.cid) (unfetched_at s.device.queues q)) (past_other k f s.host.queues q (eqb-false k q is)))
-]
-  where
-    nothing : (b : Bool) (xs : List SubEntry) → xs ≡ [] → (if b then 0 else total (λ (e : SubEntry). w e.cid) xs) ≡ 0
-    nothing b xs e = grind arith
+places_opens k f s none h q w =
+    let nothing : (b : Bool) (xs : List SubEntry) → xs ≡ [] → (if b then 0 else total (λ (e : SubEntry). w e.cid) xs) ≡ 0 = λ b xs e. grind arith in
+    elim (cases_Bool (k == q)) [
+      | inl is ↦ omega (arith, h q w, nothing (past_at (change k f s.host.queues) q) (unfetched_at s.device.queues q) (subst (λ (z : ℕ). unfetched_at s.device.queues z ≡ []) (eqb-true k q is) none))
+      | inr is ↦ omega (arith, h q w, ap (λ (b : Bool). if b then 0 else total (λ (e : SubEntry). w e.cid) (unfetched_at s.device.queues q)) (past_other k f s.host.queues q (eqb-false k q is)))
+    ]
 
 -- the answer is gone, and so is the submitted command
 places_heard : (q cid : ℕ) (st : Status) (e : ComEntry) (r : Record) (s : State) (rs : List Record) → s.trusted ≡ true → IsHeard s q cid st e r
@@ -408,12 +382,10 @@ places_retire q queue s t none e deleted g h = λ k w. elim (cases_Bool (q == k)
       let past : past_at (change q a.retired s.host.queues) k ≡ true = subst (λ (n : ℕ). past_at (change q a.retired s.host.queues) n ≡ true) here' (past_here q a.retired s.host.queues (λ x. refl) queue e) in
       let none_un : unfetched_count k w (change q a.retired s.host.queues) s.device.queues ≡ 0 = ap (λ (b : Bool). if b then 0 else total (λ (e : SubEntry). w e.cid) (unfetched_at s.device.queues k)) past in
       let none_jobs : total (job_weight k w) s.device.jobs ≡ 0 = no_jobs k w s.device.jobs (subst (λ (n : ℕ). total (on_queue n) s.device.jobs ≡ 0) here' jobless) in
-      let none_answers : total (λ (an : Answer). w an.cid) (answers_at s.device.queues k) ≡ 0 = ap (total (λ (an : Answer). w an.cid)) (subst (λ (n : ℕ). answers_at s.device.queues n ≡ []) here' no_answers) in
-      omega (arith, none_un, none_jobs, none_answers)
+      omega (arith, none_un, none_jobs, ap (total (λ (an : Answer). w an.cid)) (subst (λ (n : ℕ). answers_at s.device.queues n ≡ []) here' no_answers))
   | inr far ↦
       let past : past_at (change q a.retired s.host.queues) k ≡ past_at s.host.queues k = past_other q a.retired s.host.queues k (eqb-false q k far) in
-      let un : unfetched_count k w (change q a.retired s.host.queues) s.device.queues ≡ unfetched_count k w s.host.queues s.device.queues = ap (λ (b : Bool). if b then 0 else total (λ (e : SubEntry). w e.cid) (unfetched_at s.device.queues k)) past in
-      omega (arith, un, h k w, same_sent k w far)
+      omega (arith, ap (λ (b : Bool). if b then 0 else total (λ (e : SubEntry). w e.cid) (unfetched_at s.device.queues k)) past, h k w, same_sent k w far)
 ]
   where
     no_answers : answers_at s.device.queues q ≡ []
@@ -440,8 +412,7 @@ places_retire q queue s t none e deleted g h = λ k w. elim (cases_Bool (q == k)
       where
         each : (r : Record) (b : Bool) → ((r.q == q) && is_submitted r.phase) ≡ b → sent k w (if b then record r { phase = Held; status = Some ABORTED_SQ_DELETION } else r) ≡ sent k w r
         each r true e =
-            let at = and_parts (r.q == q) (is_submitted r.phase) e in
-            let elsewhere : (r.q == k) ≡ false = ap (λ (n : ℕ). n == k) (eqb-true r.q q at.0) ∙ far in
+            let elsewhere : (r.q == k) ≡ false = ap (λ (n : ℕ). n == k) (eqb-true r.q q (and_parts (r.q == q) (is_submitted r.phase) e).0) ∙ far in
             sent_not k w (record r { phase = Held; status = Some ABORTED_SQ_DELETION }) refl ∙ sym (ap (λ (b : Bool). if b && is_submitted r.phase then w r.cid else 0) elsewhere)
         each r false e = refl
 
@@ -470,11 +441,16 @@ by_controller s e reply c less h =
 
 places_host : (s : State) (e : Event) (reply : Reply) → IsProper e → Accepts s e reply → IsController e ≡ false → s.trusted ≡ true → Grounds s → PlacesIn s → PlacesIn (a.after s e reply)
 places_host s e reply pr ok c t g h =
+    let same_places : (rs : List Record) → ((k : ℕ) (w : ℕ → ℕ) → total (sent k w) s.host.records ≤ total (sent k w) rs) → Places s.host.queues rs s.device.queues s.device.jobs = λ rs more.
+    (λ q w. omega (arith, h q w, more q w)) in
+    let ended : (q cid : ℕ) (r : Record) → record_at s.host q cid ≡ Some r → is_submitted r.phase ≡ false → Places s.host.queues (without_record q cid s.host.records) s.device.queues s.device.jobs = λ q cid r at quiet.
+    same_places (without_record q cid s.host.records) (λ k w. omega (arith, total_without (sent k w) q cid s.host.records r at (g.stands.0.once q cid), sent_not k w r quiet)) in
+    let without : (q cid : ℕ) (st : Status) (e : ComEntry) (r : Record) → IsHeard s q cid st e r → PlacesIn (heard_without q cid e s) = λ q cid st e r heard.
+    places_heard q cid st e r s (without_record q cid s.host.records) t heard (λ k v. omega (arith, total_without (sent k v) q cid s.host.records r heard.found (g.stands.0.once q cid))) h in
     host_moves (λ (e : Event) (reply : Reply) (t : State). IsProper e → PlacesIn t) s e reply ok c
     (record {
       reserves = λ q request d none is pr. same_places (s.host.records ++ drafted_record d ∷ []) (λ k w. omega (arith, total-append (sent k w) s.host.records (drafted_record d ∷ [])));
       submits = λ d entry r none built its live pr.
-          let cid : entry.cid ≡ d.cid = ap (λ (x : SubEntry). x.cid) (carries_entry d entry pr.draft built) in
           let ids = ids_of s d.q d.cid r its.found in
           places_posted d.q entry (a.on_records (with_record d.q d.cid a.submitted) (a.on_memory (with_pages (d.data_pages ++ d.chain_pages)) s)) s.host.records
           (λ k w. omega (
@@ -482,7 +458,7 @@ places_host s e reply pr ok c t g h =
             total_with (sent k w) d.q d.cid a.submitted s.host.records r its.found (g.stands.0.once d.q d.cid),
             sent_not k w r its.quiet,
             sent_is d.q d.cid k w (a.submitted r) ids.0 ids.1 refl,
-            ap (λ (c : ℕ). if d.q == k then w c else 0) cid,
+            ap (λ (c : ℕ). if d.q == k then w c else 0) (ap (λ (x : SubEntry). x.cid) (carries_entry d entry pr.draft built)),
           )) h;
       cancels = λ d r its pr. ended d.q d.cid r its.found its.quiet;
       rings = λ q none pr.
@@ -521,16 +497,6 @@ places_host s e reply pr ok c t g h =
       resets = λ pr. reset_places (a.reset_queues s.host.queues) (a.reset_records s.host.records) s.device.queues;
     }) pr
   where
-    same_places : (rs : List Record) → ((k : ℕ) (w : ℕ → ℕ) → total (sent k w) s.host.records ≤ total (sent k w) rs) → Places s.host.queues rs s.device.queues s.device.jobs
-    same_places rs more = places_records s.host.queues s.host.records rs s.device.queues s.device.jobs more h
-
-    ended : (q cid : ℕ) (r : Record) → record_at s.host q cid ≡ Some r → is_submitted r.phase ≡ false → Places s.host.queues (without_record q cid s.host.records) s.device.queues s.device.jobs
-    ended q cid r at quiet = same_places (without_record q cid s.host.records) (λ k w. omega (arith, total_without (sent k w) q cid s.host.records r at (g.stands.0.once q cid), sent_not k w r quiet))
-
-    without : (q cid : ℕ) (st : Status) (e : ComEntry) (r : Record) → IsHeard s q cid st e r → PlacesIn (heard_without q cid e s)
-    without q cid st e r heard =
-        places_heard q cid st e r s (without_record q cid s.host.records) t heard (λ k v. omega (arith, total_without (sent k v) q cid s.host.records r heard.found (g.stands.0.once q cid))) h
-
     -- a queue that is being made has no entry
     unstarted : (q cid : ℕ) (st : Status) (e : ComEntry) (r : Record) (k n base : ℕ) → IsHeard s q cid st e r → r.work ≡ Management (CreateSq k n base) → unfetched_at (a.heard q e s).device.queues k ≡ []
     unstarted q cid st e r k n base heard w = list_same (λ (at : DeviceQueue). at.unfetched) q (λ at. record at { answers = drop 1 at.answers }) s.device.queues k (λ at. refl) ∙ elim (option_is (slice_get s.host.queues k)) [

@@ -2,27 +2,21 @@
 use Rattle.machine_model.specs.After as a
 use Rattle.machine_model.specs.Events as events
 use Rattle.machine_model.specs.declared.words.Refusal.TheVariants as refusal
-use Rattle.std.proofs.Common.{◌≡◌, ℕ, ◌%◌, ◌<◌, true, Option, Some, None, List, length, slice_get, slice_index, IfSome, is_some, refl, sym, ap, zero, suc, ◌+◌, ◌-◌, ◌*◌, ◌/◌, ◌≤◌, take, drop, ◌∙◌, false, [], ◌∷◌, ◌++◌, length-set, Bool, not, ◌||◌, if◌then◌else◌, inl, inr}
+use Rattle.std.proofs.Common.{◌≡◌, ℕ, ◌%◌, ◌<◌, true, Option, Some, None, List, length, slice_get, slice_index, IfSome, is_some, refl, sym, ap, zero, suc, ◌+◌, ◌-◌, ◌*◌, ◌/◌, ◌≤◌, take, drop, ◌∙◌, false, [], ◌∷◌, Bool, not, ◌||◌, if◌then◌else◌, inl, inr}
 use Rattle.std.{proofs.lemmas.{Bool.{true≢false, or_parts, cases_Bool}, Option.slice_get-get_or}, specs.List.list_any}
 use Rattle.std.specs.Prelude.{option_map, option_and_then, slice_range}
 use native.Mathlib.Omega.{arith}
 use Rattle.page_memory.{proofs.Bytes.{bytes_within, bytes_missing, byte_at-with_page_bytes}, specs.Memory.{page_of, bytes_at, written}}
-use Rattle.page_memory.specs.{Pages.{page_at, byte_at, Pages, with_page_bytes}, declared.page.Half.TheVariants.{Submission, Completion}}
+use Rattle.page_memory.specs.Pages.{page_at, byte_at, Pages, with_page_bytes}
 use Rattle.controller_walk.{proofs.Same.list_same, specs.{Laws.ReadsWithin, Units.{Stays, Reads, Moves, Course, Closes, Does, course_of_list}}}
-use Rattle.machine_model.proofs.HostLeaves.{host_leaves}
-use Rattle.machine_model.proofs.Moves.{host_moves, posted_bytes, posted_bits, sent_record, sends, half_from, creates_cq, creates_sq, grants_cq, grants_sq}
-use Rattle.machine_model.proofs.Steps.{length-in_store, length-with_pages, length-without_pages, Accepts, IsKept, kept_anyway, surely, part_left, permitted}
-use Rattle.machine_model.specs.{Events.{Event, Reply}, Image.Made, Memory.{memory_of, with_pages, zeroed_pages}, Refusals.{slot_offset, slot_page}}
-use Rattle.machine_model.specs.{State.{State, pages_of, with_record}, Step.{IsController, resets, Step, HostPart}}
+use Rattle.machine_model.{proofs.{HostLeaves.host_leaves, Steps.{Accepts, kept_anyway, surely, part_left, permitted}}, specs.Events.{Event, Reply}}
+use Rattle.machine_model.specs.{Image.Made, Memory.memory_of, Refusals.slot_offset, State.State, Step.{IsController, resets, Step, HostPart}}
 use Rattle.machine_model.specs.Trusted.{Steps, forges_by, is_forgery, is_reset}
 use Rattle.two_sides.{proofs.Standing.forged_untrusted, specs.Histories.{trusted_ends_are_unforged, since_reset, resets_restore_trust}}
 use Rattle.two_sides.specs.Lists.{walks_read_the_pool, walks_go_as_in_the_pool}
 use Rattle.two_sides.specs.Slots.{entries_lie_in_pages, answers_lie_in_pages, entries_stand_in_memory, answers_stand_in_memory, entries_are_written, answers_are_written}
 use Rattle.page_ledger.specs.Owners.{pages_from}
 use Rattle.queue_pair.specs.Memory.{submission_page, completion_page}
-use Rattle.io_commands.specs.Values.{numbers_of}
-use Rattle.admin_commands.specs.{Entries.admin_entry, declared.AdminKind.{AdminKind, TheVariants.{Abort, DeleteSq, DeleteCq}}}
-use Rattle.entry_codec.specs.declared.submission.SubEntry.{SubEntry}
 
 -- The memory that a walk reads is the pool's.
 
@@ -114,22 +108,17 @@ host_jobs s e reply ok c other = (host_leaves s e reply ok c).jobs other
 abbrev Distrusts : HostPart → Type 0
 Distrusts part = part.trusted ≡ false
 
-distrust_event : (s : State) (e : Event) (reply : Reply) → resets e ≡ false → Accepts s e reply → IsController e ≡ false → IsKept Distrusts s e reply
-distrust_event s e reply other ok c h = (host_leaves s e reply ok c).distrusts other h
-
 pub trusted_before : (old : State) (e : Event) (reply : Reply) (new : State) → Step old e reply new → resets e ≡ false → new.trusted ≡ true → old.trusted ≡ true
 trusted_before old e reply new step other t = elim (cases_Bool old.trusted) [
   | inl e' ↦ e'
   | inr e' ↦
       absurd (true≢false (sym t ∙ (ap (λ (part : HostPart). part.trusted) (part_left old e reply new step.2)
-      ∙ kept_anyway Distrusts old e reply (IsController e) refl step.1 (λ ok c. distrust_event old e reply other ok c) e')))
+      ∙ kept_anyway Distrusts old e reply (IsController e) refl step.1 (λ ok c. λ h. (host_leaves old e reply ok c).distrusts other h) e')))
 ]
 
 -- a reset is never refused, and leaves one state
 pub reset_leaves : (old : State) (reply : Reply) (new : State) → Step old events.Reset reply new → new ≡ a.after_reset old
-reset_leaves old (events.Refused refusal.Memory touched) new step = absurd (true≢false (sym (surely _ old.trusted false refl step.1).0))
-reset_leaves old (events.Refused why touched) new step = let h = surely _ old.trusted false refl step.1 in absurd cc
-reset_leaves old reply new step = step.2
+reset_leaves old reply new step = grind arith
 
 pub trust_restored : resets_restore_trust
 trust_restored old reply new step = ap (λ (s : State). s.trusted) (reset_leaves old reply new step)
@@ -146,10 +135,7 @@ trusted_or_reset old e reply new step t = go (resets e) refl
 
 -- a step between trusted states forges nothing
 pub unforged_step : (old : State) (e : Event) (reply : Reply) (new : State) → Step old e reply new → old.trusted ≡ true → new.trusted ≡ true → forges_by e reply ≡ false
-unforged_step old (events.Forge q slot bytes) events.Accepted new step t u =
-    let ok = permitted _ old.trusted true t step.1 in
-    absurd (true≢false (sym u ∙ (ap (λ (part : HostPart). part.trusted) (part_left old (events.Forge q slot bytes) events.Accepted new step.2) ∙ forged_untrusted old q slot bytes ok.0)))
-unforged_step old e reply new step t u = refl
+unforged_step old e reply new step t u = grind arith
 
 -- steps without a reset to a trusted state came from one, and forged nothing
 came_trusted : (made : List Made) (s end : State) → Steps s made end → list_any is_reset made ≡ false → end.trusted ≡ true → (s.trusted ≡ true) × (list_any is_forgery made ≡ false)
@@ -160,9 +146,6 @@ came_trusted (m ∷ made) s end (is, mid, step, rest) none t =
     let before = trusted_before s m.event m.reply mid step both.0 behind.0 in
     (before, (ap (λ (x : Bool). x || list_any is_forgery made) (unforged_step s m.event m.reply mid step before behind.0) ∙ behind.1))
 
-pub unforged_without_reset : (made : List Made) (s end : State) → Steps s made end → list_any is_reset made ≡ false → end.trusted ≡ true → not (list_any is_forgery made) ≡ true
-unforged_without_reset made s end steps none t = ap not (came_trusted made s end steps none t).1
-
 pub ends_unforged : trusted_ends_are_unforged
 ends_unforged [] s end steps t = refl
 ends_unforged (m ∷ made) s end steps t = go (ends_unforged made steps.1 end steps.3 t) (list_any is_reset made) (is_reset m) refl refl
@@ -170,5 +153,5 @@ ends_unforged (m ∷ made) s end steps t = go (ends_unforged made steps.1 end st
     go : not (list_any is_forgery (since_reset made)) ≡ true → (b c : Bool) → list_any is_reset made ≡ b → is_reset m ≡ c
         → not (list_any is_forgery (if b then since_reset made else if c then made else m ∷ made)) ≡ true
     go ih true c rest first = ih
-    go ih false true rest first = unforged_without_reset made steps.1 end steps.3 rest t
-    go ih false false rest first = unforged_without_reset (m ∷ made) s end steps (ap (λ (b : Bool). b || list_any is_reset made) first ∙ rest) t
+    go ih false true rest first = ap not (came_trusted made steps.1 end steps.3 rest t).1
+    go ih false false rest first = ap not (came_trusted (m ∷ made) s end steps (ap (λ (b : Bool). b || list_any is_reset made) first ∙ rest) t).1

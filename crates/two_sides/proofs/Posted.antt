@@ -6,7 +6,7 @@ use Rattle.admin_commands.specs.declared.{AdminKind.AdminKind, SqState.SqState}
 use Rattle.entry_codec.{proofs.SubmissionLemmas.round_trip, specs.Bytes.IsBytes}
 use Rattle.entry_codec.specs.{Submission.{FitsSubmission, IsSubEntry, command_words, submission_bytes, submission_of}, declared.completion.ComEntry.ComEntry}
 use Rattle.entry_codec.specs.declared.submission.SubEntry.{SubEntry}
-use Rattle.io_commands.{proofs.Building.carries_entry, specs.{Drafts.{DraftContents, draft_first}, Requests.opcode_of, declared.request.Kind.Kind}}
+use Rattle.io_commands.{proofs.Building.carries_entry, specs.Drafts.{DraftContents, draft_first}}
 use Rattle.machine_model.{proofs.Cases.option_is, specs.{Memory.memory_of, Proper.IsProperDraft, Refusals.{slot_page, slot_offset}}}
 use Rattle.machine_model.specs.State.{HostQueue, DeviceQueue}
 use Rattle.sgl_descriptor.specs.{Spelling.{spelling, descriptor_bytes}, declared.Descriptor.Descriptor}
@@ -69,15 +69,12 @@ pointer_is_bytes address =
 
 -- The entries
 
-opcode_below : (kind : Kind) → opcode_of kind < 2 ^ 8
-opcode_below kind = grind arith
-
 pub draft_typed : (d : DraftContents) (entry : SubEntry) → IsProperDraft d → d.cid < 2 ^ 16 → d.entry ≡ Some entry → IsTyped entry
 draft_typed d entry proper cid built =
     let request = proper.request in
     subst IsTyped (sym (carries_entry d entry proper.draft built)) (record {
       typed = record {
-        opcode = opcode_below d.request.kind;
+        opcode = grind arith;
         cid = cid;
         nsid = omega arith;
         mptr = omega arith;
@@ -94,6 +91,7 @@ draft_typed d entry proper cid built =
 
 pub admin_typed : (kind : AdminKind) (cid : ℕ) → cid < 2 ^ 16 → named_by kind < 2 ^ 32 → qualified_by kind < 2 ^ 32 → IsTyped (admin_entry kind cid)
 admin_typed kind cid id named qualified =
+    let opcode : (k : AdminKind) → (admin_entry k cid).opcode < 2 ^ 8 = λ k. grind arith in
     record {
       typed = record {
         opcode = opcode kind;
@@ -110,9 +108,6 @@ admin_typed kind cid id named qualified =
       };
       fits = record { fuse = omega arith; psdt = omega arith };
     }
-  where
-    opcode : (k : AdminKind) → (admin_entry k cid).opcode < 2 ^ 8
-    opcode k = grind arith
 
 -- The host posts an entry over a memory in which each half stands as it did: the machine's queues have it, and the queues stand behind it.
 
@@ -147,13 +142,12 @@ submission_length entry typed = omega (arith, length-append entry.sgl1 (command_
 
 -- a page with a byte is in
 page_of_byte : (pages : Pages) (p : ℕ) → IsSome (byte_at pages (4096 * p + 0)) → (page : List ℕ) × (page_at pages p ≡ Some page)
-page_of_byte pages p there = elim (option_is (page_at pages p)) [
-  | inl e ↦ let none : byte_at pages (4096 * p + 0) ≡ None = rw (index p, e) refl in absurd cc
-  | inr (page, e) ↦ (page, e)
-]
-  where
-    index : (p : ℕ) → (4096 * p + 0) / 4096 ≡ p
-    index p = omega arith
+page_of_byte pages p there =
+    let index : (p : ℕ) → (4096 * p + 0) / 4096 ≡ p = λ p. omega arith in
+    elim (option_is (page_at pages p)) [
+      | inl e ↦ let none : byte_at pages (4096 * p + 0) ≡ None = rw (index p, e) refl in absurd cc
+      | inr (page, e) ↦ (page, e)
+    ]
 
 is_whole : (pages : Pages) (p : ℕ) (page : List ℕ) → AreWhole pages → page_at pages p ≡ Some page → length page ≡ 4096
 is_whole pages p page whole e = subst (λ (o : Option (List ℕ)). IfSome o (λ x. length x ≡ 4096)) e (whole p)
@@ -332,40 +326,17 @@ module _ (s : Sides) (mid : Pages) (q : ℕ) (h : HostQueue) (c : ControllerQueu
 -- Positions behind a take
 
 not_last : (n known head tail : ℕ) → known < n → head < n → tail < n → is_in_range n known tail head ≡ true → head ≢ tail → distance n known head + 1 < n
-not_last n known head tail k h t inside some =
-    let parts = distance_parts n known head tail k h t (in_range_near n known tail head inside) in
-    let least = distance_below n known tail k t in
-    let apart : distance n head tail ≢ 0 = λ e. some (distance_none n head tail h t e) in
-    omega arith
-
-head_inside : (n known head tail : ℕ) → known < n → head < n → tail < n → is_in_range n known tail head ≡ true → head ≢ tail → is_in_range n known tail (next_slot n head) ≡ true
-head_inside n known head tail k h t inside some =
-    let last = not_last n known head tail k h t inside some in
-    let grows = distance_grows n known head k h (λ e. absurd (omega arith)) in
-    let parts = distance_parts n known head tail k h t (in_range_near n known tail head inside) in
-    let apart : distance n head tail ≢ 0 = λ e. some (distance_none n head tail h t e) in
-    in_range n known tail (next_slot n head) (next_below n head h) (omega arith)
-
-bell_inside : (n head bell tail : ℕ) → head < n → bell < n → tail < n → is_in_range n head tail bell ≡ true → head ≢ bell → head ≢ tail → is_in_range n (next_slot n head) tail bell ≡ true
-bell_inside n head bell tail h b t inside some some' =
-    let near = in_range_near n head tail bell inside in
-    let first = distance_shrinks n head bell h b some in
-    let second = distance_shrinks n head tail h t some' in
-    in_range n (next_slot n head) tail bell b (omega arith)
+not_last n known head tail k h t inside some = grind arith
 
 not_taken : (n head bell tail : ℕ) → head < n → bell < n → is_in_range n head tail bell ≡ true → head ≢ bell → head ≢ tail
-not_taken n head bell tail h b inside some e =
-    let near = in_range_near n head tail bell inside in
-    let none : distance n head tail ≡ 0 = ap (distance n head) (sym e) ∙ distance_same n head in
-    some (distance_none n head bell h b (omega arith))
+not_taken n head bell tail h b inside some e = grind arith
 
 heads_on : (n from to : ℕ) (es : List ComEntry) → from < n → to < n → distance n from to + 1 < n → HeadsFollow n from to es → HeadsFollow n from (next_slot n to) es
 heads_on n from to [] f t last h = in_range n from (next_slot n to) (next_slot n to) (next_below n to t) (omega arith)
 heads_on n from to (e ∷ es) f t last h =
     let below = in_range_below n from to e.sqhd h.0 in
-    let near = in_range_near n from to e.sqhd h.0 in
     let grows = distance_grows n from to f t (λ x. absurd (omega arith)) in
-    let parts = distance_parts n from e.sqhd to f below t near in
+    let parts = distance_parts n from e.sqhd to f below t (in_range_near n from to e.sqhd h.0) in
     (in_range n from (next_slot n to) e.sqhd below (omega arith), heads_on n e.sqhd to es below t (omega arith) h.1)
 
 -- The queue itself
@@ -414,8 +385,7 @@ taken_seen s q h c can =
     let ring = c.device.ring in
     let side = can.known.placed.share.side in
     let (e, at) = entry_there s q h c can in
-    let shrinks = distance_shrinks n ring.head ring.bell side.head side.bell can.rung in
-    let less : distance n (next_slot n ring.head) ring.bell ≡ distance n ring.head ring.bell - 1 = omega (arith, shrinks) in
+    let less : distance n (next_slot n ring.head) ring.bell ≡ distance n ring.head ring.bell - 1 = omega (arith, distance_shrinks n ring.head ring.bell side.head side.bell can.rung) in
     by (is_absent c.state) (unfetched_between m h.ring (with_taken c).device) (unfetched_between m h.ring c.device) (distance n (next_slot n ring.head) ring.bell) (distance n ring.head ring.bell)
     (not_absent c.state can.live) (ap (drop 1) (sym (entries_first s q h c e can at))) less
   where
@@ -435,8 +405,17 @@ taken_rings s q h c can =
     let is = in_ring s q h c can.known in
     let left = some_left s q h c can in
     record {
-      fetched = head_inside n h.ring.known_head ring.head h.ring.tail is.known_head side.head is.tail old.fetched left;
-      rung = bell_inside n ring.head ring.bell h.ring.tail side.head side.bell is.tail old.rung can.rung left;
+      fetched =
+          let last = not_last n h.ring.known_head ring.head h.ring.tail is.known_head side.head is.tail old.fetched left in
+          let grows = distance_grows n h.ring.known_head ring.head is.known_head side.head (λ e. absurd (omega arith)) in
+          let parts = distance_parts n h.ring.known_head ring.head h.ring.tail is.known_head side.head is.tail (in_range_near n h.ring.known_head h.ring.tail ring.head old.fetched) in
+          let apart : distance n ring.head h.ring.tail ≢ 0 = λ e. left (distance_none n ring.head h.ring.tail side.head is.tail e) in
+          in_range n h.ring.known_head h.ring.tail (next_slot n ring.head) (next_below n ring.head side.head) (omega arith);
+      rung =
+          let near = in_range_near n ring.head h.ring.tail ring.bell old.rung in
+          let first = distance_shrinks n ring.head ring.bell side.head side.bell can.rung in
+          let second = distance_shrinks n ring.head h.ring.tail side.head is.tail left in
+          in_range n (next_slot n ring.head) h.ring.tail ring.bell side.bell (omega arith);
       heard = old.heard;
       expected = old.expected;
       phases = old.phases;

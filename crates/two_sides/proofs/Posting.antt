@@ -10,8 +10,8 @@ use Rattle.machine_model.proofs.{Moves.{IsOf, draft_found, draft_lives, queue_fo
 use Rattle.machine_model.{proofs.Tokens.find_sound, specs.{After.after, Agreeing.is_known_deleted, Always.IsProvided, Events.{Event, Reply}}}
 use Rattle.machine_model.specs.{Memory.{memory_of, with_pages}, Placement.first_of_run, Proper.IsProperDraft}
 use Rattle.machine_model.specs.Refusals.{has_cq, host_queue, in_service, in_state, is_drafted, is_live, is_submitted, queue_full, refusal_of, is_gone, is_half_made, is_making}
-use Rattle.machine_model.specs.State.{Device, DeviceQueue, HostQueue, Record, State, is_at, pages_of, record_at, with_record}
-use Rattle.machine_model.specs.{Step.{HostPart, LeavesByHost, Permits}, declared.words.HostState.{HostState, TheVariants.{Deleting, MakingSq}}}
+use Rattle.machine_model.specs.{State.{Device, HostQueue, Record, State, is_at, pages_of, record_at, with_record}, Step.{HostPart, LeavesByHost, Permits}}
+use Rattle.machine_model.specs.declared.words.HostState.{HostState, TheVariants.{Deleting, MakingSq}}
 use Rattle.admin_commands.specs.{Entries.{admin_entry, named_by, qualified_by}, Verdicts.is_absent, declared.AdminKind.AdminKind}
 use Rattle.admin_commands.specs.declared.AdminKind.TheVariants.{Abort, DeleteSq, DeleteCq, CreateCq, CreateSq}
 use Rattle.controller_core.specs.{Contents.Contents, declared.queue.ControllerQueue.ControllerQueue}
@@ -85,6 +85,7 @@ ties : (s : Sides) (e : Event) (reply : Reply) (host : HostView) (pages mid : Pa
     → Posts s e reply q h entry mid hs → StaysAlike s.host.entries (byte_at (slot_written h entry mid)) s.controller.queues (change q (tail_moved s.host.entries) s.host.host.queues) hs
     → Ties s e reply host pages
 ties s e reply host pages mid q h c entry hs can spares permits unheard leaves posts stays =
+    let shown : Pages → List HostQueue → Contents → Device = λ ps xs k. record { queues = device_queues_of (byte_at ps) xs k.queues; jobs = map job_of k.commands; image = k.image } in
     let new : Pages = slot_written h entry mid in
     let queues : host.host.queues ≡ hs = ap (λ (part : HostPart). part.host.queues) leaves.part ∙ posts.queues in
     let memory : pages ≡ new = leaves.memory ∙ posts.memory in
@@ -92,35 +93,22 @@ ties s e reply host pages mid q h c entry hs can spares permits unheard leaves p
       permits = permits;
       device = ap (shown pages host.host.queues) unheard
           ∙ (ap₂ (λ (ps : Pages) (xs : List HostQueue). shown ps xs s.controller) memory queues
-          ∙ (ap with_queues (stays.lists ∙ post_queues s mid q h c entry can) ∙ sym posts.device));
+          ∙ (ap (λ qs. record (device_of s) { queues = qs }) (stays.lists ∙ post_queues s mid q h c entry can) ∙ sym posts.device));
       queues = subst (λ (k : Contents). AllQueuesStand s.host.entries (byte_at pages) zero host.host.queues k.queues) (sym unheard)
           (subst (λ (xs : List HostQueue). AllQueuesStand s.host.entries (byte_at pages) zero xs s.controller.queues) (sym queues)
           (subst (λ (ps : Pages). AllQueuesStand s.host.entries (byte_at ps) zero hs s.controller.queues) (sym memory) (stays.stands (post_stands s mid q h c entry can))));
       walks = subst (λ (ps : Pages). WalksStand (memory_of ps) s.controller.commands) (sym memory) (post_walks s mid q h c entry can spares);
     }
-  where
-    with_queues : List DeviceQueue → Device
-    with_queues qs = record (device_of s) { queues = qs }
-
-    shown : Pages → List HostQueue → Contents → Device
-    shown ps xs k = record { queues = device_queues_of (byte_at ps) xs k.queues; jobs = map job_of k.commands; image = k.image }
-
-same_queues : (n : ℕ) (m : Memory) (cs : List ControllerQueue) (hs : List HostQueue) → StaysAlike n m cs hs hs
-same_queues n m cs hs = record { lists = refl; stands = λ stands. stands }
 
 -- Identifiers are small
 
 pub few_entries : (s : Sides) → IsWorld s → (q : ℕ) (h : HostQueue) → slice_get s.host.host.queues q ≡ Some h → s.host.entries ≤ 1024
-few_entries s world q h at =
-    let c = controller_at s world q h at in
-    let share = (placed s world q h c.0 at c.1).share in
-    omega (arith, share.entries, share.side.most)
+few_entries s world q h at = grind arith
 
 small_identifier : (s : Sides) → IsWorld s → (q cid : ℕ) (r : Record) → record_at s.host.host q cid ≡ Some r → cid < s.host.entries - 1
 small_identifier s world q cid r found =
-    let at = and_parts (r.q == q) (r.cid == cid) (find_sound (is_at q cid) s.host.host.records r found) in
     let given = all_at_found (IsProvided s.host.entries s.host.segment) (is_at q cid) s.host.host.records r found world.sides.provided.commands in
-    omega (arith, given.identifier, eqb-true r.cid cid at.1)
+    omega (arith, given.identifier, eqb-true r.cid cid (and_parts (r.q == q) (r.cid == cid) (find_sound (is_at q cid) s.host.host.records r found)).1)
 
 -- A draft is submitted
 
@@ -163,37 +151,33 @@ module _ (s : Sides) (d : DraftContents) (r : Record) (world : IsWorld s) (is : 
 submitted_posts : (s : Sides) (d : DraftContents) (entry : SubEntry) (h : HostQueue) → d.entry ≡ Some entry → slice_get s.host.host.queues d.q ≡ Some h
     → Posts s (events.Submit d) events.Accepted d.q h entry (brought s d) (change d.q (tail_moved s.host.entries) s.host.host.queues)
 submitted_posts s d entry h built at =
+    let marked : State → State = λ x. a.on_records (with_record d.q d.cid a.submitted) (a.on_memory (with_pages (d.data_pages ++ d.chain_pages)) x) in
+    let leaves : (x : State) → host_queue x d.q ≡ Some h → a.after_submit d x ≡ a.on_ring d.q (next_tail x.entries) (a.on_device_queue d.q (with_entry entry) (a.on_memory (slot_written h entry) (marked x))) = λ x at.
+    ap (λ (o : Option SubEntry). option_map_or (λ e. a.posted d.q e (marked x)) o x) built ∙ after_posts d.q entry h (marked x) at in
     record {
       queues = ap (λ (x : State). x.host.queues) (leaves (alone s.host s.pages) at);
       memory = ap (λ (x : State). x.memory) (leaves (alone s.host s.pages) at);
       device = ap (λ (x : State). x.device) (leaves (state_of s) at);
     }
-  where
-    marked : State → State
-    marked x = a.on_records (with_record d.q d.cid a.submitted) (a.on_memory (with_pages (d.data_pages ++ d.chain_pages)) x)
-
-    leaves : (x : State) → host_queue x d.q ≡ Some h → a.after_submit d x ≡ a.on_ring d.q (next_tail x.entries) (a.on_device_queue d.q (with_entry entry) (a.on_memory (slot_written h entry) (marked x)))
-    leaves x at = ap (λ (o : Option SubEntry). option_map_or (λ e. a.posted d.q e (marked x)) o x) built ∙ after_posts d.q entry h (marked x) at
 
 pub submit_ties : (s : Sides) (d : DraftContents) (host : HostView) (pages : Pages) → IsWorld s → s.trusted ≡ true → HostStep s.host s.pages (events.Submit d) events.Accepted host pages
     → Ties s (events.Submit d) events.Accepted host pages
-submit_ties s d host pages world t step = elim (option_is d.entry) [
-  | inl e ↦ absurd (true≢false (ap is_none (sym e) ∙ (unrefused (state_of s) (events.Submit d) none).1.0))
-  | inr (entry, e) ↦
-      let r = draft_found (state_of s) d none in
-      let live = queue_found is_live (state_of s) d.q (draft_lives (state_of s) d none) in
-      let h : HostQueue = live.0 in
-      let small : d.cid < 2 ^ 16 = omega (arith, small_identifier s world d.q d.cid r.0 r.1.found, few_entries s world d.q h live.1) in
-      let room : is_full s.host.entries h.ring.known_head h.ring.tail ≡ false =
-      sym (ap (λ (o : Option HostQueue). option_map_or (λ x. is_full s.host.entries x.ring.known_head x.ring.tail) o true) live.1) ∙ (unrefused (state_of s) (events.Submit d) none).1.1.1.0 in
-      let can = can_post s (brought s d) d.q h entry world t live.1 live.2 room (draft_typed d entry step.0 small e) (brought_whole s d world step.0) (spares_halves s d r.0 world r.1) in
-      ties s (events.Submit d) events.Accepted host pages (brought s d) d.q h can.0 entry (change d.q (tail_moved s.host.entries) s.host.host.queues) can.1 (spares_walks s d r.0 world r.1)
-      (answer_as_machine s (events.Submit d) events.Accepted host pages refl refl step) refl step.2 (submitted_posts s d entry h e live.1)
-      (same_queues s.host.entries (byte_at (slot_written h entry (brought s d))) s.controller.queues (change d.q (tail_moved s.host.entries) s.host.host.queues))
-]
-  where
-    none : refusal_of (state_of s) (events.Submit d) ≡ None
-    none = step.1.0
+submit_ties s d host pages world t step =
+    let none : refusal_of (state_of s) (events.Submit d) ≡ None = step.1.0 in
+    elim (option_is d.entry) [
+      | inl e ↦ absurd (true≢false (ap is_none (sym e) ∙ (unrefused (state_of s) (events.Submit d) none).1.0))
+      | inr (entry, e) ↦
+          let r = draft_found (state_of s) d none in
+          let live = queue_found is_live (state_of s) d.q (draft_lives (state_of s) d none) in
+          let h : HostQueue = live.0 in
+          let small : d.cid < 2 ^ 16 = omega (arith, small_identifier s world d.q d.cid r.0 r.1.found, few_entries s world d.q h live.1) in
+          let room : is_full s.host.entries h.ring.known_head h.ring.tail ≡ false =
+          sym (ap (λ (o : Option HostQueue). option_map_or (λ x. is_full s.host.entries x.ring.known_head x.ring.tail) o true) live.1) ∙ (unrefused (state_of s) (events.Submit d) none).1.1.1.0 in
+          let can = can_post s (brought s d) d.q h entry world t live.1 live.2 room (draft_typed d entry step.0 small e) (brought_whole s d world step.0) (spares_halves s d r.0 world r.1) in
+          ties s (events.Submit d) events.Accepted host pages (brought s d) d.q h can.0 entry (change d.q (tail_moved s.host.entries) s.host.host.queues) can.1 (spares_walks s d r.0 world r.1)
+          (answer_as_machine s (events.Submit d) events.Accepted host pages refl refl step) refl step.2 (submitted_posts s d entry h e live.1)
+          (record { lists = refl; stands = λ stands. stands })
+    ]
 
 -- An admin command is sent
 
@@ -210,6 +194,10 @@ sent_ties : (s : Sides) (e : Event) (kind : AdminKind) (id : ℕ) (host : HostVi
     → ((m : Memory) → StaysAlike s.host.entries m s.controller.queues (change 0 (tail_moved s.host.entries) s.host.host.queues) (g (change 0 (tail_moved s.host.entries) s.host.host.queues)))
     → Ties s e (events.Sent id) host pages
 sent_ties s e kind id host pages g world t free new named qualified is permits unheard leaves stays =
+    let noted : State → State = λ x. a.on_records (λ records. records ++ sent_record kind id ∷ []) x in
+    let posts : (h : HostQueue) (x : State) → host_queue x 0 ≡ Some h
+    → a.sent kind id (admin_entry kind id) x ≡ a.on_ring 0 (next_tail x.entries) (a.on_device_queue 0 (with_entry (admin_entry kind id)) (a.on_memory (slot_written h (admin_entry kind id)) (noted x))) = λ h x at.
+    after_posts 0 (admin_entry kind id) h (noted x) at in
     let room = room_found (state_of s) 0 free in
     let h : HostQueue = room.0 in
     let small : id < 2 ^ 16 = omega (arith, new, few_entries s world 0 h room.1) in
@@ -223,13 +211,6 @@ sent_ties s e kind id host pages g world t free new named qualified is permits u
       device = ap (λ (x : State). x.device) (is (state_of s)) ∙ ap (λ (x : State). x.device) (posts h (state_of s) room.1);
     })
     (stays (byte_at (slot_written h (admin_entry kind id) s.pages)))
-  where
-    noted : State → State
-    noted x = a.on_records (λ records. records ++ sent_record kind id ∷ []) x
-
-    posts : (h : HostQueue) (x : State) → host_queue x 0 ≡ Some h
-        → a.sent kind id (admin_entry kind id) x ≡ a.on_ring 0 (next_tail x.entries) (a.on_device_queue 0 (with_entry (admin_entry kind id)) (a.on_memory (slot_written h (admin_entry kind id)) (noted x)))
-    posts h x at = after_posts 0 (admin_entry kind id) h (noted x) at
 
 -- queues are few
 pub queue_below : (s : Sides) → IsWorld s → s.trusted ≡ true → (test : HostState → Bool) (q : ℕ) → in_state test (state_of s) q ≡ true → q < 65536
@@ -247,7 +228,7 @@ abort_ties s q cid id host pages world t step =
     let named : q + 65536 * cid < 2 ^ 32 = omega (arith, queue, small_identifier s world q cid r.0 r.1, few_entries s world 0 room.0 room.1) in
     sent_ties s (events.Abort q cid) (Abort q cid) id host pages (λ hs. hs) world t causes.1.1.1.1.0 step.1.1.in_range named (omega arith) (λ x. refl)
     (answer_as_machine s (events.Abort q cid) (events.Sent id) host pages refl refl step) refl step.2
-    (λ m. same_queues s.host.entries m s.controller.queues (change 0 (tail_moved s.host.entries) s.host.host.queues))
+    (λ m. record { lists = refl; stands = λ stands. stands })
 
 pub delete_cq_ties : (s : Sides) (q id : ℕ) (host : HostView) (pages : Pages) → IsWorld s → s.trusted ≡ true → HostStep s.host s.pages (events.DeleteCq q) (events.Sent id) host pages
     → Ties s (events.DeleteCq q) (events.Sent id) host pages
@@ -256,7 +237,7 @@ delete_cq_ties s q id host pages world t step =
     let queue = queue_below s world t has_cq q (not-false _ (or_parts (q == 0) (not (in_state has_cq (state_of s) q)) causes.0).1) in
     sent_ties s (events.DeleteCq q) (DeleteCq q) id host pages (λ hs. hs) world t causes.1.1.1.0 step.1.1.in_range (omega (arith, queue)) (omega arith) (λ x. refl)
     (answer_as_machine s (events.DeleteCq q) (events.Sent id) host pages refl refl step) refl step.2
-    (λ m. same_queues s.host.entries m s.controller.queues (change 0 (tail_moved s.host.entries) s.host.host.queues))
+    (λ m. record { lists = refl; stands = λ stands. stands })
 
 -- the deletion of a submission queue is asked for: only the host's state of it changes
 
@@ -328,6 +309,12 @@ pub made_ties : (s : Sides) (e : Event) (kind : AdminKind) (id : ℕ) (host : Ho
     → ((h : HostQueue) (c : ControllerQueue) → CanPost s (granted_pool s world count first run) 0 h c (admin_entry kind id) → IsMade s (byte_at (slot_written h (admin_entry kind id) (granted_pool s world count first run))) q f)
     → Ties s e (events.Sent id) host pages
 made_ties s e kind id host pages q count first f world t io run free new named qualified is permits unheard leaves made =
+    let granted_to : Device → Bool → State = λ d b. a.on_host_queue q f (a.half_granted (pages_from first count) (seen_by s d b)) in
+    let noted : State → State = λ x. a.on_records (λ records. records ++ sent_record kind id ∷ []) x in
+    let leaves_of : (h : HostQueue) → slice_get s.host.host.queues 0 ≡ Some h → (d : Device) (b : Bool)
+    → after (seen_by s d b) e (events.Sent id)
+    ≡ a.on_ring 0 (next_tail s.host.entries) (a.on_device_queue 0 (with_entry (admin_entry kind id)) (a.on_memory (slot_written h (admin_entry kind id)) (noted (granted_to d b)))) = λ h at d b.
+    is d b ∙ after_posts 0 (admin_entry kind id) h (noted (granted_to d b)) (first_stays f q s.host.host.queues io ∙ at) in
     let room = room_found (state_of s) 0 free in
     let h : HostQueue = room.0 in
     let entry : SubEntry = admin_entry kind id in
@@ -348,24 +335,10 @@ made_ties s e kind id host pages q count first f world t io run free new named q
       stands = host_stands s.host.entries (byte_at (slot_written h entry mid)) q f sent s.controller.queues
           (λ x c at there. its.stands x c (sym (past_first (tail_moved s.host.entries) q s.host.host.queues io) ∙ at) there);
     })
-  where
-    granted_to : Device → Bool → State
-    granted_to d b = a.on_host_queue q f (a.half_granted (pages_from first count) (seen_by s d b))
-
-    noted : State → State
-    noted x = a.on_records (λ records. records ++ sent_record kind id ∷ []) x
-
-    leaves_of : (h : HostQueue) → slice_get s.host.host.queues 0 ≡ Some h → (d : Device) (b : Bool)
-        → after (seen_by s d b) e (events.Sent id)
-        ≡ a.on_ring 0 (next_tail s.host.entries) (a.on_device_queue 0 (with_entry (admin_entry kind id)) (a.on_memory (slot_written h (admin_entry kind id)) (noted (granted_to d b))))
-    leaves_of h at d b = is d b ∙ after_posts 0 (admin_entry kind id) h (noted (granted_to d b)) (first_stays f q s.host.host.queues io ∙ at)
 
 -- A queue is made again: the host grants it a half, and posts the command that makes it.
 
 -- States
-
-gone_known : (st : HostState) → is_gone st ≡ true → is_known_deleted st ≡ true
-gone_known st e = grind arith
 
 half_known : (st : HostState) → is_half_made st ≡ true → (is_known_deleted st ≡ true) × (is_making st ≡ true) × (in_service st ≡ false)
 half_known states.HalfMade e = (refl, refl, refl)
@@ -398,6 +371,10 @@ half_is_granted s world first run entry h x c can some =
 pub create_cq_ties : (s : Sides) (q id : ℕ) (host : HostView) (pages : Pages) → IsWorld s → s.trusted ≡ true → HostStep s.host s.pages (events.CreateCq q) (events.Sent id) host pages
     → Ties s (events.CreateCq q) (events.Sent id) host pages
 create_cq_ties s q id host pages world t step =
+    let sends : Device → Bool → List ℕ → State = λ d b ps.
+    a.sent (CreateCq q s.host.entries (a.base_of ps)) id (admin_entry (CreateCq q s.host.entries (a.base_of ps)) id) (a.on_host_queue q (a.making_cq ps) (a.half_granted ps (seen_by s d b))) in
+    let is_gone_here : ((x : HostQueue) × (slice_get s.host.host.queues q ≡ Some x) × (is_gone x.state ≡ true)) → (x : HostQueue) → slice_get s.host.host.queues q ≡ Some x → is_gone x.state ≡ true = λ its x at.
+    found_here (λ y. is_gone y.state ≡ true) s.host.host.queues q its.0 x its.1 at its.2 in
     let causes = unrefused (state_of s) (events.CreateCq q) step.1.0 in
     let io = io_queue (state_of s) q causes.0 in
     let its = queue_found is_gone (state_of s) q (not-false _ causes.1.0) in
@@ -413,23 +390,15 @@ create_cq_ties s q id host pages world t step =
     (λ h c can. record {
       lists = λ x y at there. let gone = is_gone_here its x at in
           absent_alike (byte_at (slot_written h (admin_entry kind id) (granted_pool s world (half_pages n Completion) run.0 run.1))) fresh_host_ring x.ring y
-          (known_absent s world t q x y at there (gone_known x.state gone)) (known_gone s world t q x y at there gone);
+          (known_absent s world t q x y at there (grind arith)) (known_gone s world t q x y at there gone);
       stands = λ x y at there stands.
-          let gone = is_gone_here its x at in
-          let absent = known_absent s world t q x y at there (gone_known x.state gone) in
-          let none = known_gone s world t q x y at there gone in
+          let none = known_gone s world t q x y at there (is_gone_here its x at) in
           record {
-            halves = record { submission = λ e. absurd (true≢false (sym absent ∙ e)); completion = λ e. absurd (true≢false (sym e ∙ none)) };
+            halves = record { submission = λ e. absurd (true≢false (sym (known_absent s world t q x y at there (grind arith)) ∙ e)); completion = λ e. absurd (true≢false (sym e ∙ none)) };
             rings = λ e. absurd (true≢false (sym e ∙ none));
             granted = λ making e. half_is_granted s world run.0 run.1 (admin_entry kind id) h x c can (omega (arith, step.1.1.in_range));
           };
     })
-  where
-    sends : Device → Bool → List ℕ → State
-    sends d b ps = a.sent (CreateCq q s.host.entries (a.base_of ps)) id (admin_entry (CreateCq q s.host.entries (a.base_of ps)) id) (a.on_host_queue q (a.making_cq ps) (a.half_granted ps (seen_by s d b)))
-
-    is_gone_here : ((x : HostQueue) × (slice_get s.host.host.queues q ≡ Some x) × (is_gone x.state ≡ true)) → (x : HostQueue) → slice_get s.host.host.queues q ≡ Some x → is_gone x.state ≡ true
-    is_gone_here its x at = found_here (λ y. is_gone y.state ≡ true) s.host.host.queues q its.0 x its.1 at its.2
 
 -- The submission half
 
@@ -450,6 +419,12 @@ half_gets_submission s world t m q h c half at there made fresh stands =
 pub create_sq_ties : (s : Sides) (q id : ℕ) (host : HostView) (pages : Pages) → IsWorld s → s.trusted ≡ true → HostStep s.host s.pages (events.CreateSq q) (events.Sent id) host pages
     → Ties s (events.CreateSq q) (events.Sent id) host pages
 create_sq_ties s q id host pages world t step =
+    let sends : Device → Bool → List ℕ → State = λ d b ps.
+    a.sent (CreateSq q s.host.entries (a.base_of ps)) id (admin_entry (CreateSq q s.host.entries (a.base_of ps)) id) (a.on_host_queue q (a.making_sq ps) (a.half_granted ps (seen_by s d b))) in
+    let here : ((x : HostQueue) × (slice_get s.host.host.queues q ≡ Some x) × (is_half_made x.state ≡ true)) → (x : HostQueue) → slice_get s.host.host.queues q ≡ Some x → is_half_made x.state ≡ true = λ its x at.
+    found_here (λ y. is_half_made y.state ≡ true) s.host.host.queues q its.0 x its.1 at its.2 in
+    let fresh : ((x : HostQueue) × (slice_get s.host.host.queues q ≡ Some x) × (is_half_made x.state ≡ true)) → (x : HostQueue) (y : ControllerQueue) → slice_get s.host.host.queues q ≡ Some x → slice_get s.controller.queues q ≡ Some y → x.ring ≡ fresh_host_ring = λ its x y at there.
+    (known s world t q x y at there).fits.fresh (half_known x.state (here its x at)).1 in
     let causes = unrefused (state_of s) (events.CreateSq q) step.1.0 in
     let io = io_queue (state_of s) q causes.0 in
     let is = not-false _ (or_parts (not (in_state is_half_made (state_of s) q)) _ causes.1.0).0 in
@@ -469,12 +444,3 @@ create_sq_ties s q id host pages world t step =
       lists = λ x y at there. ap (λ (r : HostRing). device_queue_of m r y) (sym (fresh its x y at there));
       stands = λ x y at there stands. half_gets_submission s world t m q x y half at there (here its x at) (fresh its x y at there) stands;
     })
-  where
-    sends : Device → Bool → List ℕ → State
-    sends d b ps = a.sent (CreateSq q s.host.entries (a.base_of ps)) id (admin_entry (CreateSq q s.host.entries (a.base_of ps)) id) (a.on_host_queue q (a.making_sq ps) (a.half_granted ps (seen_by s d b)))
-
-    here : ((x : HostQueue) × (slice_get s.host.host.queues q ≡ Some x) × (is_half_made x.state ≡ true)) → (x : HostQueue) → slice_get s.host.host.queues q ≡ Some x → is_half_made x.state ≡ true
-    here its x at = found_here (λ y. is_half_made y.state ≡ true) s.host.host.queues q its.0 x its.1 at its.2
-
-    fresh : ((x : HostQueue) × (slice_get s.host.host.queues q ≡ Some x) × (is_half_made x.state ≡ true)) → (x : HostQueue) (y : ControllerQueue) → slice_get s.host.host.queues q ≡ Some x → slice_get s.controller.queues q ≡ Some y → x.ring ≡ fresh_host_ring
-    fresh its x y at there = (known s world t q x y at there).fits.fresh (half_known x.state (here its x at)).1

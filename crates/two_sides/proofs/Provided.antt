@@ -230,6 +230,23 @@ NamesS s = NamesAll s.entries s.host.queues s.host.records
 
 pub names_event : (s : State) (e : Event) (reply : Reply) → Accepts s e reply → IsController e ≡ false → HoldsPart (host_part s) → NamesS s → NamesS (a.after s e reply)
 names_event s e reply ok c holds h =
+    let without : (q cid : ℕ) → NamesAll s.entries s.host.queues (without_record q cid s.host.records) = λ q cid.
+    all_filter (Names s.entries s.host.queues) (λ r. not (is_at q cid r)) s.host.records h in
+    let began : (new : Record) (hs : List HostQueue) → Names s.entries hs new → NamesAll s.entries hs s.host.records → NamesAll s.entries hs (s.host.records ++ new ∷ []) = λ new hs own all.
+    all_append (Names s.entries hs) s.host.records (new ∷ []) all (own, tt) in
+    let told : (q : ℕ) (e : ComEntry) (rs : List Record) → NamesAll s.entries s.host.queues rs → NamesAll s.entries (a.heard q e s).host.queues rs = λ q e rs all.
+    names_ring s.entries q (knowing e.sqhd) (change q (λ x. record x { ring = next_head s.entries x.ring }) s.host.queues) rs (names_ring s.entries q (next_head s.entries) s.host.queues rs all) in
+    let sent : (adm : AdminKind) (id : ℕ) (hs : List HostQueue) → NamesItsHalf s.entries hs (Management adm) → NamesAll s.entries hs s.host.records
+    → NamesAll s.entries (change 0 (λ x. record x { ring = next_tail s.entries x.ring }) hs) (s.host.records ++ sent_record adm id ∷ []) = λ adm id hs own all.
+    names_ring s.entries 0 (next_tail s.entries) hs (s.host.records ++ sent_record adm id ∷ []) (began (sent_record adm id) hs own all) in
+    -- a completion half is given back only where none is being made
+    let freed : (q cid : ℕ) (e : ComEntry) (k : ℕ) → Awaited creates_cq_of is_making_cq (without_record q cid s.host.records) (change k a.gone (a.heard q e s).host.queues)
+    → NamesAll s.entries (change k a.gone (a.heard q e s).host.queues) (without_record q cid s.host.records) = λ q cid e k fit.
+    names_queues s.entries k a.gone (a.heard q e s).host.queues (without_record q cid s.host.records)
+    (λ r within. record {
+      cq = λ is x ex. absurd (none_after creates_cq_of is_making_cq (without_record q cid s.host.records) k a.gone (a.heard q e s).host.queues x r fit ex refl within is);
+      sq = λ is x ex. refl;
+    }) (told q e (without_record q cid s.host.records) (without q cid)) in
     let fits : CreationsFit (a.after s e reply).host = creations_event s e reply ok c holds in
     host_moves (λ (e : Event) (reply : Reply) (t : State). CreationsAwaited t → NamesS t) s e reply ok c
     (record {
@@ -300,40 +317,14 @@ names_event s e reply ok c holds h =
         go r true p = each r p
         go r false p = p
 
-    without : (q cid : ℕ) → NamesAll s.entries s.host.queues (without_record q cid s.host.records)
-    without q cid = all_filter (Names s.entries s.host.queues) (λ r. not (is_at q cid r)) s.host.records h
-
-    began : (new : Record) (hs : List HostQueue) → Names s.entries hs new → NamesAll s.entries hs s.host.records → NamesAll s.entries hs (s.host.records ++ new ∷ [])
-    began new hs own all = all_append (Names s.entries hs) s.host.records (new ∷ []) all (own, tt)
-
-    told : (q : ℕ) (e : ComEntry) (rs : List Record) → NamesAll s.entries s.host.queues rs → NamesAll s.entries (a.heard q e s).host.queues rs
-    told q e rs all = names_ring s.entries q (knowing e.sqhd) (change q (λ x. record x { ring = next_head s.entries x.ring }) s.host.queues) rs (names_ring s.entries q (next_head s.entries) s.host.queues rs all)
-
-    sent : (adm : AdminKind) (id : ℕ) (hs : List HostQueue) → NamesItsHalf s.entries hs (Management adm) → NamesAll s.entries hs s.host.records
-        → NamesAll s.entries (change 0 (λ x. record x { ring = next_tail s.entries x.ring }) hs) (s.host.records ++ sent_record adm id ∷ [])
-    sent adm id hs own all = names_ring s.entries 0 (next_tail s.entries) hs (s.host.records ++ sent_record adm id ∷ []) (began (sent_record adm id) hs own all)
-
-    -- a completion half is given back only where none is being made
-    freed : (q cid : ℕ) (e : ComEntry) (k : ℕ) → Awaited creates_cq_of is_making_cq (without_record q cid s.host.records) (change k a.gone (a.heard q e s).host.queues)
-        → NamesAll s.entries (change k a.gone (a.heard q e s).host.queues) (without_record q cid s.host.records)
-    freed q cid e k fit =
-        names_queues s.entries k a.gone (a.heard q e s).host.queues (without_record q cid s.host.records)
-        (λ r within. record {
-          cq = λ is x ex. absurd (none_after creates_cq_of is_making_cq (without_record q cid s.host.records) k a.gone (a.heard q e s).host.queues x r fit ex refl within is);
-          sq = λ is x ex. refl;
-        }) (told q e (without_record q cid s.host.records) (without q cid))
-
     lose : (r : Record) (b : Bool) → Names s.entries s.host.queues r → Names s.entries s.host.queues (if b then record r { phase = Held; status = Some ABORTED_SQ_DELETION } else r)
     lose r true p = p
     lose r false p = p
 
 -- Every step leaves the host's queues their halves, and its commands their pages.
 
-abbrev Provided : HostPart → Type 0
-Provided part = IsHostProvided part.entries part.segment part.host
-
 abbrev ProvidedS : State → Type 0
-ProvidedS s = Provided (host_part s)
+ProvidedS s = (IsHostProvided (host_part s).entries (host_part s).segment (host_part s).host)
 
 -- Records that change
 
@@ -396,6 +387,13 @@ HasAll s = AllByRecursion (HasHalves s.entries) s.host.queues × AllByRecursion 
 
 provided_host : (s : State) (e : Event) (reply : Reply) → Accepts s e reply → IsController e ≡ false → HoldsPart (host_part s) → ProvidedS s → HasAll (a.after s e reply)
 provided_host s e reply ok c holds h =
+    let with : (q cid : ℕ) (f : Record → Record) → ((r : Record) → IsProvided s.entries s.segment r → IsProvided s.entries s.segment (f r)) → AllByRecursion (IsProvided s.entries s.segment) (with_record q cid f s.host.records) = λ q cid f each.
+    all_with_provided s.entries s.segment q cid f each s.host.records h.commands in
+    let began : (new : Record) → IsProvided s.entries s.segment new → AllByRecursion (IsProvided s.entries s.segment) (s.host.records ++ new ∷ []) = λ new is.
+    all_append (IsProvided s.entries s.segment) s.host.records (new ∷ []) h.commands (is, tt) in
+    let sent : (adm : AdminKind) (id : ℕ) (hs : List HostQueue) → IsNewIdentifier s 0 id → ((x : HostQueue) → slice_get hs 0 ≡ Some x → is_making x.state ≡ false) → AllByRecursion (HasHalves s.entries) hs
+    → AllByRecursion (HasHalves s.entries) (change 0 (λ x. record x { ring = next_tail s.entries x.ring }) hs) × AllByRecursion (IsProvided s.entries s.segment) (s.host.records ++ sent_record adm id ∷ []) = λ adm id hs new used all.
+    (queues_ring s.entries 0 (next_tail s.entries) hs used all, began (sent_record adm id) (record { identifier = new.in_range; pages = tt })) in
     host_moves (λ (e : Event) (reply : Reply) (t : State). refusal_of s e ≡ None → HasAll t) s e reply ok c
     (record {
       reserves = λ q request d none is n. (
@@ -417,36 +415,18 @@ provided_host s e reply ok c holds h =
       rejects = λ q why is n. (queues_ring s.entries q (next_head s.entries) s.host.queues (in_use is_reaped reaped_in_use s q (reaps s q n)) h.queues, h.commands);
       tells = λ q cid st what e r request t heard w n. (told q e n, with q cid (a.held st) (λ x p. record { identifier = p.identifier; pages = p.pages }));
       hears = λ q cid st what e r adm t heard w quiet unmade n. (told q e n, without q cid);
-      notes = λ q cid st what e r k t heard w n. (
-        all_changed (HasHalves s.entries) k (λ queue. record queue { state = if is_success st then Deleting true else Live }) (a.heard q e s).host.queues
-            (λ x ex p. noted s.entries x (is_success st) (asked_as_heard s q cid st e r k holds heard w x ex) p) (told q e n),
-        without q cid,
-      );
-      frees = λ q cid st what e r k queue t heard w at alone good n. (
-        all_changed (HasHalves s.entries) k a.gone (a.heard q e s).host.queues
-            (λ x ex p. let same : queue ≡ x = cc (at, ex) in without_cq s.entries x (ap (λ (y : HostQueue). has_sq y.state) (sym same) ∙ alone_has_no_sq queue.state alone) p) (told q e n),
-        without q cid,
-      );
-      makes_cq = λ q cid st what e r k size base t heard w good n. (
-        all_changed (HasHalves s.entries) k a.half_made (a.heard q e s).host.queues
-            (λ x ex p. in_state_of s.entries x MakingCq HalfMade (making_cq_as_heard s q cid st e r k size base holds heard w x ex) refl refl (λ m. refl) p) (told q e n),
-        without q cid,
-      );
-      unmakes_cq = λ q cid st what e r k size base queue t heard w at bad n. (
-        all_changed (HasHalves s.entries) k a.gone (a.heard q e s).host.queues
-            (λ x ex p. without_cq s.entries x (ap has_sq (making_cq_as_heard s q cid st e r k size base holds heard w x ex)) p) (told q e n),
-        without q cid,
-      );
-      makes_sq = λ q cid st what e r k size base t heard w good n. (
-        all_changed (HasHalves s.entries) k a.live (a.heard q e s).host.queues
-            (λ x ex p. in_state_of s.entries x MakingSq Live (making_sq_as_heard s q cid st e r k size base holds heard w x ex) refl refl (λ m. absurd (true≢false (sym m))) p) (told q e n),
-        without q cid,
-      );
-      unmakes_sq = λ q cid st what e r k size base queue t heard w at bad n. (
-        all_changed (HasHalves s.entries) k a.unmade_sq (a.heard q e s).host.queues
-            (λ x ex p. let is = making_sq_as_heard s q cid st e r k size base holds heard w x ex in without_sq s.entries x HalfMade refl (ap has_cq is) (λ m. ap is_making is) p) (told q e n),
-        without q cid,
-      );
+      notes = λ q cid st what e r k t heard w n. behind q cid e n k (λ queue. record queue { state = if is_success st then Deleting true else Live })
+          (λ x ex p. noted s.entries x (is_success st) (asked_as_heard s q cid st e r k holds heard w x ex) p);
+      frees = λ q cid st what e r k queue t heard w at alone good n. behind q cid e n k a.gone
+          (λ x ex p. let same : queue ≡ x = cc (at, ex) in without_cq s.entries x (ap (λ (y : HostQueue). has_sq y.state) (sym same) ∙ alone_has_no_sq queue.state alone) p);
+      makes_cq = λ q cid st what e r k size base t heard w good n. behind q cid e n k a.half_made
+          (λ x ex p. in_state_of s.entries x MakingCq HalfMade (making_cq_as_heard s q cid st e r k size base holds heard w x ex) refl refl (λ m. refl) p);
+      unmakes_cq = λ q cid st what e r k size base queue t heard w at bad n. behind q cid e n k a.gone
+          (λ x ex p. without_cq s.entries x (ap has_sq (making_cq_as_heard s q cid st e r k size base holds heard w x ex)) p);
+      makes_sq = λ q cid st what e r k size base t heard w good n. behind q cid e n k a.live
+          (λ x ex p. in_state_of s.entries x MakingSq Live (making_sq_as_heard s q cid st e r k size base holds heard w x ex) refl refl (λ m. absurd (true≢false (sym m))) p);
+      unmakes_sq = λ q cid st what e r k size base queue t heard w at bad n. behind q cid e n k a.unmade_sq
+          (λ x ex p. let is = making_sq_as_heard s q cid st e r k size base holds heard w x ex in without_sq s.entries x HalfMade refl (ap has_cq is) (λ m. ap is_making is) p);
       collects = λ q cid r f at held is n. (h.queues, with q cid a.collected (λ x p. record { identifier = p.identifier; pages = p.pages }));
       releases = λ f r its n. (h.queues, without f.q f.cid);
       aborts = λ q cid id none new n. sent (Abort q cid) id s.host.queues new (admin_in_use s.host.queues holds.admin) h.queues;
@@ -495,14 +475,8 @@ provided_host s e reply ok c holds h =
     })
     ok.0
   where
-    with : (q cid : ℕ) (f : Record → Record) → ((r : Record) → IsProvided s.entries s.segment r → IsProvided s.entries s.segment (f r)) → AllByRecursion (IsProvided s.entries s.segment) (with_record q cid f s.host.records)
-    with q cid f each = all_with_provided s.entries s.segment q cid f each s.host.records h.commands
-
     without : (q cid : ℕ) → AllByRecursion (IsProvided s.entries s.segment) (without_record q cid s.host.records)
     without q cid = all_filter (IsProvided s.entries s.segment) (λ r. not (is_at q cid r)) s.host.records h.commands
-
-    began : (new : Record) → IsProvided s.entries s.segment new → AllByRecursion (IsProvided s.entries s.segment) (s.host.records ++ new ∷ [])
-    began new is = all_append (IsProvided s.entries s.segment) s.host.records (new ∷ []) h.commands (is, tt)
 
     told : (q : ℕ) (e : ComEntry) → refusal_of s (events.Reap q) ≡ None → AllByRecursion (HasHalves s.entries) (a.heard q e s).host.queues
     told q e none =
@@ -510,9 +484,10 @@ provided_host s e reply ok c holds h =
         queues_ring s.entries q (knowing e.sqhd) (change q (λ x. record x { ring = next_head s.entries x.ring }) s.host.queues)
         (λ y ey. let x = ring_at q q (next_head s.entries) s.host.queues y ey in ap is_making x.2 ∙ used x.0 x.1) (queues_ring s.entries q (next_head s.entries) s.host.queues used h.queues)
 
-    sent : (adm : AdminKind) (id : ℕ) (hs : List HostQueue) → IsNewIdentifier s 0 id → ((x : HostQueue) → slice_get hs 0 ≡ Some x → is_making x.state ≡ false) → AllByRecursion (HasHalves s.entries) hs
-        → AllByRecursion (HasHalves s.entries) (change 0 (λ x. record x { ring = next_tail s.entries x.ring }) hs) × AllByRecursion (IsProvided s.entries s.segment) (s.host.records ++ sent_record adm id ∷ [])
-    sent adm id hs new used all = (queues_ring s.entries 0 (next_tail s.entries) hs used all, began (sent_record adm id) (record { identifier = new.in_range; pages = tt }))
+    behind : (q cid : ℕ) (e : ComEntry) → refusal_of s (events.Reap q) ≡ None → (k : ℕ) (f : HostQueue → HostQueue)
+        → ((x : HostQueue) → slice_get (a.heard q e s).host.queues k ≡ Some x → HasHalves s.entries x → HasHalves s.entries (f x))
+        → AllByRecursion (HasHalves s.entries) (change k f (a.heard q e s).host.queues) × AllByRecursion (IsProvided s.entries s.segment) (without_record q cid s.host.records)
+    behind q cid e n k f each = (all_changed (HasHalves s.entries) k f (a.heard q e s).host.queues each (told q e n), without q cid)
 
     -- a half for another queue leaves queue 0 in use
     still_in_use : (q : ℕ) (f : HostQueue → HostQueue) → (q == 0) ≡ false → (x : HostQueue) → slice_get (change q f s.host.queues) 0 ≡ Some x → is_making x.state ≡ false
@@ -538,7 +513,7 @@ opened_halves page n (suc count) = (
 -- The statements
 
 abbrev All : HostPart → Type 0
-All part = HoldsPart part × Provided part
+All part = HoldsPart part × (IsHostProvided part.entries part.segment part.host)
 
 all_events : (s : State) (e : Event) (reply : Reply) → Accepts s e reply → IsController e ≡ false → IsKept All s e reply
 all_events s e reply ok c h =

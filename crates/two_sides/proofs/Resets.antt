@@ -151,20 +151,14 @@ all_at (suc n) (suc k) x l = all_at n k x (omega arith)
 zero_at : (n p : ℕ) → p < n → page_at (replicate n (Some zero_page)) p ≡ Some zero_page
 zero_at n p l = ap (λ (o : Option (Option (List ℕ))). option_and_then (λ slot. slot) o) (all_at n p (Some zero_page) l)
 
-next_fits : (page a b count all : ℕ) → page + suc count * (a + b) ≤ all → page + a + b + count * (a + b) ≤ all
-next_fits page a b count all l = omega (arith, l)
-
-here_fits : (page a b count all p : ℕ) → page + suc count * (a + b) ≤ all → p < b → page + a + p < all
-here_fits page a b count all p l h = omega (arith, l, h)
-
 all_stand : (all page n q count : ℕ) → 0 < n → page + count * (half_pages n Submission + half_pages n Completion) ≤ all
     → AllQueuesStand n (byte_at (replicate all (Some zero_page))) q (machine.queues_from page n count) (queues_from n q (halves_from page n count))
 all_stand all page n q zero some fits = tt
 all_stand all page n q (suc count) some fits = (
   fresh_stands (byte_at (replicate all (Some zero_page))) page n q some
       (pages_zero (replicate all (Some zero_page)) (page + half_pages n Submission) (half_pages n Completion)
-      (λ p h. zero_at all (page + half_pages n Submission + p) (here_fits page (half_pages n Submission) (half_pages n Completion) count all p fits h))),
-  all_stand all (page + half_pages n Submission + half_pages n Completion) n (suc q) count some (next_fits page (half_pages n Submission) (half_pages n Completion) count all fits),
+      (λ p h. zero_at all (page + half_pages n Submission + p) (omega (arith, fits, h)))),
+  all_stand all (page + half_pages n Submission + half_pages n Completion) n (suc q) count some (omega (arith, fits)),
 )
 
 blank_pool : (n p : ℕ) → IfSome (page_at (replicate n (Some zero_page)) p) (λ page. length page ≡ 4096)
@@ -174,9 +168,8 @@ blank_pool (suc n) (suc p) = blank_pool n p
 
 -- Each queue has its completion queue as it opens, and none is being deleted.
 all_same : {X : Type 0} (n k : ℕ) (x y : X) → slice_get (replicate n x) k ≡ Some y → x ≡ y
-all_same zero k x y e = cc
-all_same (suc n) zero x y e = cc
 all_same (suc n) (suc k) x y e = all_same n k x y e
+all_same z k x y e = cc
 
 all_live : (page n count q : ℕ) (h : HostQueue) → slice_get (machine.queues_from page n count) q ≡ Some h → is_deleting h.state ≡ false
 all_live page n zero q h e = absurd cc

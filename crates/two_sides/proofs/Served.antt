@@ -1,15 +1,14 @@
 -- What is served was submitted.
 use Rattle.machine_model.specs.Events as events
 use Rattle.machine_model.specs.declared.words.Refusal.TheVariants as refusal
-use Rattle.std.proofs.Common.{◌≡◌, ℕ, ◌+◌, ◌*◌, ◌%◌, ◌<◌, ◌≤◌, ◌==◌, nat_lt, true, false, not, ◌||◌, Option, Some, None, List, [], ◌∷◌, length, is_some, slice_index, All, refl, sym, ◌∙◌, arith, subst, eq-eqb, ◌-◌, ◌^◌, ◌⊎◌, inl, inr, Bool, if◌then◌else◌, zero, suc, ◌++◌, slice_get, find, ap, eqb-true, add-zero, ltb-true, nat_le, ◌&&◌, slice_set, length-set, IfSome, MatchBool}
+use Rattle.std.proofs.Common.{◌≡◌, ℕ, ◌+◌, ◌*◌, ◌%◌, ◌<◌, ◌≤◌, ◌==◌, nat_lt, true, false, not, ◌||◌, Option, Some, None, List, [], ◌∷◌, length, is_some, slice_index, All, refl, sym, ◌∙◌, arith, subst, eq-eqb, ◌-◌, ◌^◌, ◌⊎◌, inl, inr, Bool, if◌then◌else◌, zero, suc, ◌++◌, slice_get, find, ap, eqb-true, ltb-true, nat_le, ◌&&◌, slice_set, length-set, IfSome, MatchBool}
 use Rattle.std.proofs.lemmas.{Bool.{or_left, or_right, or_parts, cases_lt, true≢false, and_parts, cases_Bool, not-false, Decides.nat_tests}, Grind.common_steps}
 use Rattle.std.proofs.lemmas.{List.{Elements.{All-head, All-tail, All-nil, All-cons}, Sums.sum_by-cons}, Option.{slice_get-get_or, slice_get_within}}
 use Rattle.std.specs.{List.{AllByRecursion, list_any}, Option.option_map_or, Prelude.{option_map, option_and_then}}
 use Rattle.page_ledger.specs.Owners.{is_among}
-use Rattle.page_memory.{proofs.Bytes.{byte_in, length-zero_page}, specs.Memory.{page_of, Memory, bytes_at}}
-use Rattle.page_memory.specs.Pages.{Pages, page_at, byte_at, zero_page, AreWhole}
+use Rattle.page_memory.{proofs.Bytes.{byte_in, length-zero_page}, specs.{Memory.{page_of, Memory}, Pages.{Pages, page_at, byte_at, zero_page, AreWhole}}}
 use Rattle.sgl_descriptor.{proofs.Spells.reads_itself, specs.{Spelling.{Fits, spelling, descriptor_of}, Targets.{counted_in, descriptor_of_part, targets}}}
-use Rattle.sgl_descriptor.specs.declared.{Descriptor.TheVariants.{Segment, LastSegment}, Part.{Part, TheVariants.{Data as PartData, Bucket as PartBucket}}}
+use Rattle.sgl_descriptor.specs.declared.{Descriptor.TheVariants.{Segment, LastSegment}, Part.{Part, TheVariants.Data as PartData}}
 use Rattle.io_commands.{proofs.Building.{joined_parts_few, built_drafts_spell, few_pieces}, specs.Asked.Request}
 use Rattle.io_commands.specs.Drafts.{io_entry, DraftContents, HoldsPages, draft_first, draft_parts, IsDraft, IsBuiltIfAny}
 use Rattle.io_commands.specs.Jobs.{direction_of_entry, need_of_entry}
@@ -17,7 +16,7 @@ use Rattle.io_commands.specs.Requests.{parts_of, data_count, is_empty_piece, cro
 use Rattle.io_commands.specs.{Values.{IsGood, numbers_of, FinishedContents}, declared.request.{Kind.{Kind, TheVariants.{Read, Write, Compare}}, Piece.Piece}}
 use Rattle.io_commands.specs.declared.request.{Piece.TheVariants.{Data, Bucket}, RequestFault.RequestFault}
 use Rattle.io_commands.specs.declared.request.RequestFault.TheVariants.{TooManyPieces, EmptyPiece, CrossesPage, BadCount, LengthMismatch}
-use Rattle.machine_model.proofs.Counting.{times-append, held_once, not_held, times-cons}
+use Rattle.machine_model.proofs.Counting.{times-append, held_once, times-cons}
 use Rattle.machine_model.proofs.Owned.{in_record, is_out, taken, none_here, in_is, holds_from_sound, taken_le, taken_from_out}
 use Rattle.machine_model.{proofs.{Steps.{first_fails, rest_fails, in_store, length-in_store, found}, Tokens.{find_sound, find_all}}, specs.After.course_of}
 use Rattle.machine_model.specs.{Claims.{OwnsFit, IsSound}, Memory.{memory_of, with_pages, is_in}, Proper.{IsPage, ArePages, IsProperDraft}}
@@ -25,14 +24,13 @@ use Rattle.machine_model.specs.Reached.{on_pages, LiesIn, IsThere, only, CourseI
 use Rattle.machine_model.specs.Refusals.{is_submitted, same_piece, same_pieces, same_kind, same_request, refusal_of, no_io_queue, in_state, is_deleting, no_identifier, pages_wanted, record_is, is_held}
 use Rattle.machine_model.specs.{Standing.{IsSized, ListStands, StandsAs, CommandStands, HasUnitLeft}, State.{State, Record, Job, is_at, record_at, pages_of}}
 use Rattle.machine_model.specs.{Step.{times, IsReserved, AnswersAnything, asked_by, finished_from, pages_with_bytes, zeroed}, Weights.{one, total}, Work.Work}
-use Rattle.machine_model.specs.declared.words.{Phase.{Phase, TheVariants.{Drafted, Submitted, Held, Collected}}, Refusal.Refusal}
-use Rattle.machine_model.specs.declared.words.Work.TheVariants.{Io, Management}
+use Rattle.machine_model.specs.declared.words.{Phase.TheVariants.{Drafted, Submitted, Held, Collected}, Refusal.Refusal, Work.TheVariants.{Io, Management}}
 use Rattle.sgl_chain.proofs.{Back.spells_there, Joins.{joined_from, from_list, same_targets, same_count}, Spelled.spells}
 use Rattle.sgl_chain.specs.{Chains.{first_of, pages_needed}, Joining.{joins, both, joined}, Laws.HasBytesOf, Spells.{Spells, Holds}}
 use Rattle.controller_walk.{proofs.Same.list_served, specs.{Along.parts_of_list, Serving.Serves, Units.{Stays, Reads, Moves, Course, Closes, Does, verdict}}}
-use Rattle.controller_walk.specs.declared.walk.WalkState.TheVariants.{End, Fault}
-use Rattle.entry_codec.specs.declared.{status.{Status.Status, TheConstants.Status.DATA_TRANSFER_ERROR}, submission.SubEntry.SubEntry}
-use Rattle.two_sides.proofs.{Ending.{list_in, lists_end, bytes_there}, Provided.{In, in_found, all_at_found, sent_found, some_is}, TiedAll.Grounds}
+use Rattle.controller_walk.specs.declared.walk.WalkState.TheVariants.{End}
+use Rattle.entry_codec.specs.declared.{status.Status.Status, submission.SubEntry.SubEntry}
+use Rattle.two_sides.proofs.{Ending.{list_in, lists_end, bytes_there}, Provided.{In, in_found, sent_found, some_is}, TiedAll.Grounds}
 use Rattle.two_sides.proofs.Untouched.{sent_page, owned_once, with_elsewhere, among_counts, holds_right, holds_left, holds_right as among_right}
 use Rattle.two_sides.specs.InOrder.{IsInOrder, reserved_drafts_are_proper, collected_commands_are_proper}
 use Rattle.queue_pair.proofs.Rings.{bytes_agree}
@@ -53,23 +51,16 @@ good_is r h =
     let fourth = ((r.blocks == 0) || nat_lt 2048 r.blocks, BadCount) ∷ (not (counted_lengths r.kind r.pieces == 512 * r.blocks), LengthMismatch) ∷ [] in
     let third = (list_any crosses_page r.pieces, CrossesPage) ∷ ((r.blocks == 0) || nat_lt 2048 r.blocks, BadCount) ∷ (not (counted_lengths r.kind r.pieces == 512 * r.blocks), LengthMismatch) ∷ [] in
     let second = (list_any is_empty_piece r.pieces, EmptyPiece) ∷ third in
-    let h2 = rest_fails (nat_lt 1024 (length r.pieces)) TooManyPieces second h in
-    let h3 = rest_fails (list_any is_empty_piece r.pieces) EmptyPiece third h2 in
+    let h3 = rest_fails (list_any is_empty_piece r.pieces) EmptyPiece third (rest_fails (nat_lt 1024 (length r.pieces)) TooManyPieces second h) in
     let h4 = rest_fails (list_any crosses_page r.pieces) CrossesPage fourth h3 in
     let h5 = rest_fails ((r.blocks == 0) || nat_lt 2048 r.blocks) BadCount last h4 in
     let bad = first_fails ((r.blocks == 0) || nat_lt 2048 r.blocks) BadCount last h4 in
     record {
       crosses = first_fails (list_any crosses_page r.pieces) CrossesPage fourth h3;
-      some = positive r.blocks (or_parts (r.blocks == 0) (nat_lt 2048 r.blocks) bad).0;
-      few = at_most r.blocks (or_parts (r.blocks == 0) (nat_lt 2048 r.blocks) bad).1;
+      some = grind (arith, nat_tests);
+      few = grind (arith, nat_tests);
       counted = (let e = first_fails (not (counted_lengths r.kind r.pieces == 512 * r.blocks)) LengthMismatch [] h5 in grind (arith, nat_tests));
     }
-  where
-    positive : (n : ℕ) → (n == 0) ≡ false → 0 < n
-    positive n e = grind (arith, nat_tests)
-
-    at_most : (n : ℕ) → nat_lt 2048 n ≡ false → n ≤ 2048
-    at_most n e = grind (arith, nat_tests)
 
 -- The entry moves the request's bytes in its direction
 
@@ -105,14 +96,13 @@ not_crossing a b h = grind (arith, nat_tests)
 
 pub parts_lie : (all : List ℕ) (pieces : List Piece) (pages : List ℕ) → list_any crosses_page pieces ≡ false → ((p : ℕ) → is_among pages p ≡ true → is_among all p ≡ true)
     → AllByRecursion (LiesIn (on_pages all)) (parts_of pieces pages)
-parts_lie all [] pages crosses within = tt
 parts_lie all (Bucket len ∷ pieces) pages crosses within = (tt, parts_lie all pieces pages crosses within)
-parts_lie all (Data offset len ∷ pieces) [] crosses within = tt
 parts_lie all (Data offset len ∷ pieces) (page ∷ pages) crosses within =
     let c = or_parts (nat_lt 4096 (offset + len)) (list_any crosses_page pieces) crosses in (
       (λ k lt. subst (λ (q : ℕ). is_among all q ≡ true) (sym (in_page page offset len k (not_crossing offset len c.0) lt)) (within page (or_left (page == page) (is_among pages page) (eq-eqb page page refl)))),
       parts_lie all pieces pages c.1 (λ p h. within p (or_right (page == p) (is_among pages p) h)),
     )
+parts_lie all x pages crosses within = tt
 
 -- and is there, where the pages are in
 pub there_in : (m : Pages) (place : ℕ) → is_some (page_at m (page_of place)) ≡ true → is_some (memory_of m place) ≡ true
@@ -120,11 +110,8 @@ there_in m place h = grind arith
 
 pub parts_there : (m : Pages) (pieces : List Piece) (pages : List ℕ) → list_any crosses_page pieces ≡ false → All FitsPiece pieces → ((p : ℕ) → is_among pages p ≡ true → (p < 65536) × (is_some (page_at m p) ≡ true))
     → AllByRecursion (IsThere (memory_of m)) (parts_of pieces pages)
-parts_there m [] pages crosses fit are = tt
 parts_there m (Bucket len ∷ pieces) pages crosses fit are =
-    let here = All-head FitsPiece (Bucket len) pieces fit in
-    (omega (arith, here), parts_there m pieces pages crosses (All-tail FitsPiece (Bucket len) pieces fit) are)
-parts_there m (Data offset len ∷ pieces) [] crosses fit are = tt
+    (omega (arith, All-head FitsPiece (Bucket len) pieces fit), parts_there m pieces pages crosses (All-tail FitsPiece (Bucket len) pieces fit) are)
 parts_there m (Data offset len ∷ pieces) (page ∷ pages) crosses fit are =
     let c = or_parts (nat_lt 4096 (offset + len)) (list_any crosses_page pieces) crosses in
     let inside = not_crossing offset len c.0 in
@@ -132,6 +119,7 @@ parts_there m (Data offset len ∷ pieces) (page ∷ pages) crosses fit are =
       (omega (arith, inside, here.0), λ k lt. there_in m (4096 * page + offset + k) (subst (λ (q : ℕ). is_some (page_at m q) ≡ true) (sym (in_page page offset len k inside lt)) here.1)),
       parts_there m pieces pages c.1 (All-tail FitsPiece (Data offset len) pieces fit) (λ p h. are p (or_right (page == p) (is_among pages p) h)),
     )
+parts_there m x pages crosses fit are = tt
 
 -- Joined parts: what holds of each part, and of two that join, holds of the joined parts.
 
@@ -155,9 +143,6 @@ all_joined P one (part ∷ parts) ps = subst (AllByRecursion P) (sym (from_list 
 ends_there : (addr len next more : ℕ) → joins (PartData addr len) (PartData next more) ≡ true → addr + len ≡ next
 ends_there addr len next more is = grind (arith, nat_tests)
 
-fits_there : (addr len next more : ℕ) → joins (PartData addr len) (PartData next more) ≡ true → len + more < 2 ^ 32
-fits_there addr len next more is = grind (arith, nat_tests)
-
 -- a place of two parts is one of the first or one of the second
 place_of_two : (X : ℕ → Type 0) (addr len next more : ℕ) → addr + len ≡ next → ((k : ℕ) → k < len → X (addr + k)) → ((k : ℕ) → k < more → X (next + k)) → (k : ℕ) → k < len + more → X (addr + k)
 place_of_two X addr len next more is front behind k lt = go (cases_lt k len)
@@ -168,21 +153,18 @@ place_of_two X addr len next more is front behind k lt = go (cases_lt k len)
 
 lies_both : (at : ℕ → Bool) (part next : Part) → joins part next ≡ true → LiesIn at part → LiesIn at next → LiesIn at (both part next)
 lies_both at (PartData addr len) (PartData next more) is front behind = place_of_two (λ (place : ℕ). at place ≡ true) addr len next more (ends_there addr len next more is) front behind
-lies_both at (PartData addr len) (PartBucket more) is front behind = absurd cc
-lies_both at (PartBucket len) next is front behind = absurd cc
+lies_both at x next is front behind = absurd cc
 
 there_both : (m : Memory) (part next : Part) → joins part next ≡ true → IsThere m part → IsThere m next → IsThere m (both part next)
 there_both m (PartData addr len) (PartData next more) is front behind = (
   omega (arith, ends_there addr len next more is, behind.0),
   place_of_two (λ (place : ℕ). is_some (m place) ≡ true) addr len next more (ends_there addr len next more is) front.1 behind.1,
 )
-there_both m (PartData addr len) (PartBucket more) is front behind = absurd cc
-there_both m (PartBucket len) next is front behind = absurd cc
+there_both m x next is front behind = absurd cc
 
 fits_both : (part next : Part) → joins part next ≡ true → Fits (descriptor_of_part part) → Fits (descriptor_of_part next) → Fits (descriptor_of_part (both part next))
-fits_both (PartData addr len) (PartData next more) is front behind = (front.0, fits_there addr len next more is)
-fits_both (PartData addr len) (PartBucket more) is front behind = absurd cc
-fits_both (PartBucket len) next is front behind = absurd cc
+fits_both (PartData addr len) (PartData next more) is front behind = (front.0, grind (arith, nat_tests))
+fits_both x next is front behind = absurd cc
 
 pub joined_lie : (at : ℕ → Bool) (parts : List Part) → AllByRecursion (LiesIn at) parts → AllByRecursion (LiesIn at) (joined parts)
 joined_lie at parts lie = all_joined (LiesIn at) (lies_both at) parts lie
@@ -250,8 +232,7 @@ job_list s stood j within other at =
           entry = at (λ k. k.q ≡ r.q → k.entry.cid ≡ r.cid → k.entry ≡ io_entry r.cid request (spelling list.first)) list.entry.fetched (sym rq) (sym rc);
         }
     of_work r e sub rq rc (Management adm) is fit stands =
-        let fit' : OwnsFit r.q (Management adm) (pages_of r) = subst (λ (x : Work). OwnsFit r.q x (pages_of r)) is fit in
-        absurd (true≢false (sym (eq-eqb j.q 0 (sym rq ∙ fit'.0)) ∙ other))
+        absurd (true≢false (sym (eq-eqb j.q 0 (sym rq ∙ (subst (λ (x : Work). OwnsFit r.q x (pages_of r)) is fit).0)) ∙ other))
 
 -- Its pages
 
@@ -287,8 +268,7 @@ page_there s g r within sub p h =
 
 pub counts_sent : (s : State) (r : Record) → In r s.host.records → is_submitted r.phase ≡ true → (p : ℕ) → is_among (pages_of r) p ≡ true → 0 < total (sent_page p) s.host.records
 counts_sent s r within sub p h =
-    let mine : sent_page p r ≡ in_record p r = subst (λ (b : Bool). (if b then in_record p r else 0) ≡ in_record p r) (sym sub) refl in
-    omega (arith, within (sent_page p), mine, held_once p (pages_of r) h)
+    omega (arith, within (sent_page p), subst (λ (b : Bool). (if b then in_record p r else 0) ≡ in_record p r) (sym sub) refl, held_once p (pages_of r) h)
 
 pub data_of : (r : Record) (p : ℕ) → is_among r.data_pages p ≡ true → is_among (pages_of r) p ≡ true
 data_of r p h = holds_left p r.data_pages r.chain_pages h
@@ -313,8 +293,7 @@ pool_bytes m at place byte e = go (at place) (page_at m (page_of place)) e
     go : (b : Bool) (o : Option (List ℕ)) → (if b then option_and_then (λ bytes. slice_get bytes (place % 4096)) o else None) ≡ Some byte
         → (if b then option_map (λ page. slice_index page (place % 4096)) o else None) ≡ Some byte
     go true (Some bytes) e = inner bytes e
-    go true None e = absurd cc
-    go false o e = absurd cc
+    go x o e = absurd cc
 
 -- What the walk of a job reaches
 
@@ -340,8 +319,7 @@ more_than_only at m place byte e = grind arith
 low_places : (m : Pages) → length m ≤ 65536 → (place : ℕ) → is_some (memory_of m place) ≡ true → place < 2 ^ 64
 low_places m few place h =
     let page : is_some (page_at m (page_of place)) ≡ true = (grind arith) in
-    let low : page_of place < length m = inside m (page_of place) page in
-    omega (arith, low, few)
+    omega (arith, inside m (page_of place) page, few)
   where
     inside : (m : Pages) (p : ℕ) → is_some (page_at m p) ≡ true → p < length m
     inside [] p h = absurd (true≢false (sym h))
@@ -378,10 +356,7 @@ course_ends s stood j l = (course_whole s stood j l).ends
 
 pub serves_in : (m m' : Pages) (chain own : List ℕ) → ((p : ℕ) → is_among chain p ≡ true → page_at m' p ≡ page_at m p) → ((p : ℕ) → is_among own p ≡ true → is_some (page_at m' p) ≡ true)
     → (c : Course) → CourseIn (on_pages chain) (on_pages own) c → verdict c ≡ End → Serves (memory_of m) (memory_of m') c
-serves_in m m' chain own same there (Closes v) h e = λ f. ended (sym e ∙ f)
-  where
-    ended : End ≡ Fault DATA_TRANSFER_ERROR → ⊥
-    ended e = cc
+serves_in m m' chain own same there (Closes v) h e = λ f. cc
 serves_in m m' chain own same there (Does Stays rest) h e = serves_in m m' chain own same there rest h.1 e
 serves_in m m' chain own same there (Does (Reads place) rest) h e = (
   bytes_agree (memory_of m') (memory_of m) place 16 (λ k lt. ap (λ (o : Option (List ℕ)). option_map (λ page. slice_index page ((place + k) % 4096)) o) (same (page_of (place + k)) (h.0 k lt))),
@@ -404,46 +379,38 @@ same_list s t stood j l same there =
 -- Requests that pass as the same are
 
 pieces_same : (x y : Piece) → same_piece x y ≡ true → x ≡ y
-pieces_same (Data o n) (Data p m) h = let both = and_parts (o == p) (n == m) h in rw (eqb-true o p both.0, eqb-true n m both.1) refl
-pieces_same (Data o n) (Bucket m) h = absurd (true≢false (sym h))
-pieces_same (Bucket n) (Data p m) h = absurd (true≢false (sym h))
-pieces_same (Bucket n) (Bucket m) h = ap Bucket (eqb-true n m h)
+pieces_same x y h = grind arith
 
 lists_same : (xs ys : List Piece) → same_pieces xs ys ≡ true → xs ≡ ys
 lists_same [] [] h = refl
-lists_same [] (y ∷ ys) h = absurd (true≢false (sym h))
-lists_same (x ∷ xs) [] h = absurd (true≢false (sym h))
 lists_same (x ∷ xs) (y ∷ ys) h = let both = and_parts (same_piece x y) (same_pieces xs ys) h in rw (pieces_same x y both.0, lists_same xs ys both.1) refl
+lists_same x y h = absurd (true≢false (sym h))
 
 kinds_same : (a b : Kind) → same_kind a b ≡ true → a ≡ b
 kinds_same a b h = grind arith
 
 pub requests_same : (a b : Request) → same_request a b ≡ true → a ≡ b
 requests_same a b h =
+    let of : Kind → ℕ → ℕ → List Piece → Request = λ k s n ps. record { kind = k; slba = s; blocks = n; pieces = ps } in
+    let made : (k k' : Kind) (s s' n n' : ℕ) (ps ps' : List Piece) → k ≡ k' → s ≡ s' → n ≡ n' → ps ≡ ps' → of k s n ps ≡ of k' s' n' ps' = λ k k' s s' n n' ps ps' ek es en ep.
+    rw (ek, es, en, ep) refl in
     let abc_d = and_parts (same_kind a.kind b.kind && (a.slba == b.slba) && (a.blocks == b.blocks)) (same_pieces a.pieces b.pieces) h in
     let ab_c = and_parts (same_kind a.kind b.kind && (a.slba == b.slba)) (a.blocks == b.blocks) abc_d.0 in
     let a_b = and_parts (same_kind a.kind b.kind) (a.slba == b.slba) ab_c.0 in
     made a.kind b.kind a.slba b.slba a.blocks b.blocks a.pieces b.pieces (kinds_same a.kind b.kind a_b.0) (eqb-true a.slba b.slba a_b.1) (eqb-true a.blocks b.blocks ab_c.1) (lists_same a.pieces b.pieces abc_d.1)
-  where
-    of : Kind → ℕ → ℕ → List Piece → Request
-    of k s n ps = record { kind = k; slba = s; blocks = n; pieces = ps }
-
-    made : (k k' : Kind) (s s' n n' : ℕ) (ps ps' : List Piece) → k ≡ k' → s ≡ s' → n ≡ n' → ps ≡ ps' → of k s n ps ≡ of k' s' n' ps'
-    made k k' s s' n n' ps ps' ek es en ep = rw (ek, es, en, ep) refl
 
 -- A descriptor whose fields fit is read back
 
 parts_fit : (pieces : List Piece) (numbers : List ℕ) → All FitsPiece pieces → ((n : ℕ) → is_among numbers n ≡ true → n < 65536)
     → AllByRecursion (λ part. Fits (descriptor_of_part part)) (parts_of pieces numbers)
-parts_fit [] numbers fit low = tt
 parts_fit (Bucket len ∷ pieces) numbers fit low = (All-head FitsPiece (Bucket len) pieces fit, parts_fit pieces numbers (All-tail FitsPiece (Bucket len) pieces fit) low)
-parts_fit (Data offset len ∷ pieces) [] fit low = tt
 parts_fit (Data offset len ∷ pieces) (n ∷ numbers) fit low =
     let here = All-head FitsPiece (Data offset len) pieces fit in
     let page = low n (or_left (n == n) (is_among numbers n) (eq-eqb n n refl)) in (
       (omega (arith, here.0, page), here.1),
       parts_fit pieces numbers (All-tail FitsPiece (Data offset len) pieces fit) (λ k h. low k (or_right (n == k) (is_among numbers k) h)),
     )
+parts_fit x numbers fit low = tt
 
 first_fits : (s : ℕ) (pages : List ℕ) (parts : List Part) → s ≤ 256 → length parts ≤ 1024 → AllByRecursion (λ part. Fits (descriptor_of_part part)) parts
     → ((n : ℕ) → is_among pages n ≡ true → n < 65536) → Fits (first_of s pages parts)
@@ -461,10 +428,9 @@ first_fits s [] (part ∷ parts) high few fit low = fit.0
 pub first_read : (d : DraftContents) → IsProperDraft d → ((n : ℕ) → is_among (numbers_of d.data_pages) n ≡ true → n < 65536) → ((n : ℕ) → is_among (numbers_of d.chain_pages) n ≡ true → n < 65536)
     → descriptor_of (spelling (draft_first d)) ≡ Some (draft_first d)
 first_read d proper low low' =
-    let few = few_pieces d.request.kind d.request.blocks d.request.pieces proper.draft.good in
     reads_itself (draft_first d)
     (first_fits d.segment (numbers_of d.chain_pages) (draft_parts d) proper.draft.high
-    (omega (arith, few, joined_parts_few d.request.pieces (numbers_of d.data_pages)))
+    (omega (arith, few_pieces d.request.kind d.request.blocks d.request.pieces proper.draft.good, joined_parts_few d.request.pieces (numbers_of d.data_pages)))
     (joined_fit (parts_of d.request.pieces (numbers_of d.data_pages)) (parts_fit d.request.pieces (numbers_of d.data_pages) proper.request.pieces low)) low')
 
 -- Its pages in the store
@@ -528,36 +494,31 @@ hosts_own B false h = h
 
 -- Reserved drafts
 
-zero_whole : (bytes : List ℕ) → bytes ≡ zero_page → IsPage bytes
-zero_whole bytes e = ap length e ∙ length-zero_page
-
 right_zeroed : (ys : List (ℕ × List ℕ)) → zeroed ys → ArePages ys
 right_zeroed [] h = All-nil (λ (page : ℕ × List ℕ). IsPage page.1)
 right_zeroed (y ∷ ys) h =
     All-cons (λ (page : ℕ × List ℕ). IsPage page.1) y ys
-    (zero_whole y.1 (All-head (λ (page : ℕ × List ℕ). page.1 ≡ zero_page) y ys h))
+    (ap length (All-head (λ (page : ℕ × List ℕ). page.1 ≡ zero_page) y ys h) ∙ length-zero_page)
     (right_zeroed ys (All-tail (λ (page : ℕ × List ℕ). page.1 ≡ zero_page) y ys h))
 
 both_zeroed : (xs ys : List (ℕ × List ℕ)) → zeroed (xs ++ ys) → ArePages xs × ArePages ys
 both_zeroed [] ys h = (All-nil (λ (page : ℕ × List ℕ). IsPage page.1), right_zeroed ys h)
 both_zeroed (x ∷ xs) ys h =
     let rest = both_zeroed xs ys (All-tail (λ (page : ℕ × List ℕ). page.1 ≡ zero_page) x (xs ++ ys) h) in (
-      All-cons (λ (page : ℕ × List ℕ). IsPage page.1) x xs (zero_whole x.1 (All-head (λ (page : ℕ × List ℕ). page.1 ≡ zero_page) x (xs ++ ys) h)) rest.0,
+      All-cons (λ (page : ℕ × List ℕ). IsPage page.1) x xs (ap length (All-head (λ (page : ℕ × List ℕ). page.1 ≡ zero_page) x (xs ++ ys) h) ∙ length-zero_page) rest.0,
       rest.1,
     )
 
 -- a request that is not refused passes its check
 reserved_is_good : (s : State) (q : ℕ) (r : Request) → refusal_of s (events.Reserve q r) ≡ None → IsGood r
 reserved_is_good s q r h =
+    let go : (o : Option RequestFault) → is_some o ≡ false → o ≡ None = λ o e. grind arith in
     let bad : Option RequestFault = fault_of r.kind r.blocks r.pieces in
     let later : List (Bool × Refusal) = (no_identifier s q, refusal.NoIdentifier) ∷ (nat_lt (length s.host.free) (pages_wanted s r), refusal.NoPages (pages_wanted s r) (length s.host.free)) ∷ [] in
     go bad
     (first_fails (is_some bad) (option_map_or refusal.Bad bad refusal.NoQueue) later
     (rest_fails (in_state is_deleting s q) refusal.Deleting ((is_some bad, option_map_or refusal.Bad bad refusal.NoQueue) ∷ later)
     (rest_fails (no_io_queue s q) refusal.NoQueue ((in_state is_deleting s q, refusal.Deleting) ∷ (is_some bad, option_map_or refusal.Bad bad refusal.NoQueue) ∷ later) h)))
-  where
-    go : (o : Option RequestFault) → is_some o ≡ false → o ≡ None
-    go o e = grind arith
 
 reserved_draft : (s : State) (q : ℕ) (r : Request) (d : DraftContents) → IsInOrder s → IsGood r → IsReserved s q r d → IsDraft d
 reserved_draft s q r d order good reserved = record {
@@ -598,8 +559,7 @@ out_beside p q cid (x ∷ rs) r e stays = go (is_at q cid x) e (λ e. out_beside
         → total (taken p) (x ∷ rs) + in_record p r ≤ total (in_record p) (x ∷ rs)
     go true e ih =
         let same : x ≡ r = cc in
-        let none : taken p x ≡ 0 = ap (taken p) same ∙ ap (λ (b : Bool). if b then in_record p r else 0) stays in
-        omega (arith, none, ap (in_record p) same, taken_le p rs)
+        omega (arith, ap (taken p) same ∙ ap (λ (b : Bool). if b then in_record p r else 0) stays, ap (in_record p) same, taken_le p rs)
     go false e ih = omega (arith, ih e, one_record (is_out x.phase))
 
 -- a page of a command whose pages are not out is in
@@ -634,9 +594,6 @@ whole_pages m (k ∷ pages) whole there =
     (whole_bytes (page_at m k) (there k (ap (λ (b : Bool). b || is_among pages k) (eq-eqb k k refl))) (whole k))
     (whole_pages m pages whole (λ p h. there p (among_right p (k ∷ []) pages h)))
 
-waiting_stays : (ph : Phase) → (is_submitted ph || is_held ph) ≡ true → is_out ph ≡ false
-waiting_stays ph e = grind arith
-
 -- a collected command has the pages of its record, with their bytes
 collected_pages : (s : State) (r : Record) (f : FinishedContents) → finished_from s r ≡ Some f
     → ArePages (pages_with_bytes s.memory r.data_pages) × ArePages (pages_with_bytes s.memory r.chain_pages) → ArePages f.data_pages × ArePages f.chain_pages
@@ -669,6 +626,6 @@ collected_is_proper s new q cid f order step =
     let there = found (λ r. is_submitted r.phase || is_held r.phase) s q cid
     (not-false waits (first_fails (not waits) refusal.Stranger ((record_is (λ r. is_submitted r.phase) s q cid, refusal.NotYet) ∷ []) ok.0)) in
     let r = there.0 in
-    let stays = page_in s order.sound q cid r there.1 (waiting_stays r.phase there.2) in
+    let stays = page_in s order.sound q cid r there.1 (grind arith) in
     collected_pages s r f (ap (option_and_then (finished_from s)) (sym there.1) ∙ ok.1)
     (whole_pages s.memory r.data_pages order.whole (λ p h. stays p (data_of r p h)), whole_pages s.memory r.chain_pages order.whole (λ p h. stays p (chain_of r p h)))

@@ -42,12 +42,9 @@ found_awaited test hs q w = elim (option_is (slice_get hs q)) [ inl e ↦ let w 
 awaited_found : (test : HostState → Bool) (hs : List HostQueue) (q : ℕ) (h : HostQueue) → slice_get hs q ≡ Some h → test h.state ≡ true → awaited_at test hs q ≡ true
 awaited_found test hs q h e is = ap (λ (o : Option HostQueue). option_map_or (λ h. test h.state) o false) e ∙ is
 
-served_deleting : (st : HostState) → is_deleting st ≡ true → in_service st ≡ true
-served_deleting st e = grind arith
-
 pub serve_of : (s : State) → CompletionsServe s → ServeS s
 serve_of s serve = record {
-  keeps = λ q w. let (h, at, deleting) = found_awaited is_deleting s.host.queues q w in by (slice_get s.device.queues q) (λ d f. serve.serves q h d at f (served_deleting h.state deleting)) refl;
+  keeps = λ q w. let (h, at, deleting) = found_awaited is_deleting s.host.queues q w in by (slice_get s.device.queues q) (λ d f. serve.serves q h d at f (grind arith)) refl;
   order = λ q w. let (h, at, deleting) = found_awaited is_deleting s.host.queues q w in serve.order q h at deleting;
 }
   where
@@ -95,11 +92,9 @@ serve_back s agree h = record {
 
 pub still_awaited : (test : HostState → Bool) (f : HostQueue → HostQueue) (k : ℕ) (hs : List HostQueue) → ((h : HostQueue) → slice_get hs k ≡ Some h → test (f h).state ≡ true → test h.state ≡ true)
     → (q : ℕ) → awaited_at test (change k f hs) q ≡ true → awaited_at test hs q ≡ true
-still_awaited test f k [] was q w = w
 still_awaited test f zero (h ∷ hs) was zero w = was h refl w
-still_awaited test f zero (h ∷ hs) was (suc q) w = w
-still_awaited test f (suc k) (h ∷ hs) was zero w = w
 still_awaited test f (suc k) (h ∷ hs) was (suc q) w = still_awaited test f k hs was q w
+still_awaited test f k x was q w = w
 
 pub serve_host : (f : HostQueue → HostQueue) (k : ℕ) (hs : List HostQueue) (ds : List DeviceQueue) (un : List SubEntry) → ((h : HostQueue) → slice_get hs k ≡ Some h → is_deleting (f h).state ≡ true → is_deleting h.state ≡ true)
     → Serve hs ds un → Serve (change k f hs) ds un
@@ -111,18 +106,14 @@ serve_ring g k hs ds un h = serve_host (λ x. record x { ring = g x.ring }) k hs
 -- The controller's queues
 
 pub keeps_still : (g : DeviceQueue → DeviceQueue) (k : ℕ) (ds : List DeviceQueue) → ((d : DeviceQueue) → d.cq_there ≡ true → (g d).cq_there ≡ true) → (q : ℕ) → keeps_at ds q ≡ true → keeps_at (change k g ds) q ≡ true
-keeps_still g k [] stays q h = h
 keeps_still g zero (d ∷ ds) stays zero h = stays d h
-keeps_still g zero (d ∷ ds) stays (suc q) h = h
-keeps_still g (suc k) (d ∷ ds) stays zero h = h
 keeps_still g (suc k) (d ∷ ds) stays (suc q) h = keeps_still g k ds stays q h
+keeps_still g k x stays q h = h
 
 pub keeps_other : (g : DeviceQueue → DeviceQueue) (k : ℕ) (ds : List DeviceQueue) (q : ℕ) → (k ≡ q → ⊥) → keeps_at (change k g ds) q ≡ keeps_at ds q
-keeps_other g k [] q far = refl
 keeps_other g zero (d ∷ ds) zero far = absurd (far refl)
-keeps_other g zero (d ∷ ds) (suc q) far = refl
-keeps_other g (suc k) (d ∷ ds) zero far = refl
 keeps_other g (suc k) (d ∷ ds) (suc q) far = keeps_other g k ds q (λ e. far (ap suc e))
+keeps_other g k x q far = refl
 
 pub serve_device : (g : DeviceQueue → DeviceQueue) (k : ℕ) (hs : List HostQueue) (ds : List DeviceQueue) (un : List SubEntry) → ((d : DeviceQueue) → d.cq_there ≡ true → (g d).cq_there ≡ true) → Serve hs ds un → Serve hs (change k g ds) un
 serve_device g k hs ds un stays h = record { keeps = λ q w. keeps_still g k ds stays q (h.keeps q w); order = h.order }
@@ -249,11 +240,9 @@ fetch_serves s q agree h =
         let rs = s.host.records in
         let known = subst (AllByRecursion (EntryKnown rs)) split agree.admin_commands.entries in
         let asks : asks_cq_deletion z e ≡ true = ap (λ (b : Bool). b && (named_queue e == z)) is4 ∙ its in
-        let ordered = subst (Before z) split (h.order z w) in
-        let some = asked_unmade rs z (waiting ds0) known.1 (ordered.0 asks) in
         let all : total (λ e. one (is_kind (deletes_sq z) rs e.cid)) (waiting ds) ≡ one (is_kind (deletes_sq z) rs e.cid) + total (λ e. one (is_kind (deletes_sq z) rs e.cid)) (waiting ds0) =
         ap (total (λ (e : SubEntry). one (is_kind (deletes_sq z) rs e.cid))) split in
-        agree.tokens.there z (awaited_below is_deleting hs z w) (omega (arith, some, all))
+        agree.tokens.there z (awaited_below is_deleting hs z w) (omega (arith, asked_unmade rs z (waiting ds0) known.1 ((subst (Before z) split (h.order z w)).0 asks), all))
 
     dropped : (e : SubEntry) → next_rung s 0 ≡ Some e → (e.opcode == DELETE_IO_CQ) ≡ true → (named_queue e == 0) ≡ false → is_absent (a.sq_state (a.taken_off 0 s) (named_queue e)) ≡ true
         → Serve hs (change (named_queue e) a.dropped ds0) (waiting (change (named_queue e) a.dropped ds0))
@@ -269,16 +258,13 @@ fetch_serves s q agree h =
             sym (device_same (λ at. is_absent at.state) true taken_from 0 ds (λ d ed. refl) z) ∙ subst (λ (k : ℕ). is_absent_at ds0 k ≡ true) (eqb-true (named_queue e) z its) (absent_state (a.taken_off 0 s) (named_queue e) gone) in
             absurd (true≢false (sym absent ∙ served e z next is4 its w))
 
-complete_serves : (s : State) (q cid : ℕ) → ServeS s → ServeS (a.after_complete q cid s)
-complete_serves s q cid h =
-    complete_by ServeS s q cid h
-    (λ j at c. answered_serve q cid (a.final_status s j) j.dw0 (a.on_device_queue (named_queue j.entry) _ (finished q cid j s)) (serve_cleared (named_queue j.entry) s.host.queues s.device.queues h))
-    (λ j at c. answered_serve q cid (a.final_status s j) j.dw0 (finished q cid j s) h)
-
 pub serve_controller_event : (s : State) (e : Event) (reply : Reply) → Accepts s e reply → IsController e ≡ true → SidesAgree s → ServeS s → ServeS (a.after s e reply)
 serve_controller_event s (events.Fetch q) (events.Fetched cid touched) ok c agree h = fetch_serves s q agree h
 serve_controller_event s (events.Walk q cid) (events.Walked o touched) ok c agree h = walk_by ServeS s q cid h (λ j act at u. h)
-serve_controller_event s (events.Complete q cid) (events.Completed touched) ok c agree h = complete_serves s q cid h
+serve_controller_event s (events.Complete q cid) (events.Completed touched) ok c agree h =
+    complete_by ServeS s q cid h
+    (λ j at c. answered_serve q cid (a.final_status s j) j.dw0 (a.on_device_queue (named_queue j.entry) _ (finished q cid j s)) (serve_cleared (named_queue j.entry) s.host.queues s.device.queues h))
+    (λ j at c. answered_serve q cid (a.final_status s j) j.dw0 (finished q cid j s) h)
 serve_controller_event s (events.Fetch q) reply ok c agree h = absurd ok.1
 serve_controller_event s (events.Walk q cid) reply ok c agree h = absurd ok.1
 serve_controller_event s (events.Complete q cid) reply ok c agree h = absurd ok.1
@@ -288,9 +274,7 @@ serve_controller_event s e reply ok c agree h = absurd (true≢false (sym c))
 
 -- a queue that is deleted is one that changes
 deleting_changes : (hs : List HostQueue) (q : ℕ) → awaited_at is_deleting hs q ≡ true → awaited_at is_changing hs q ≡ true
-deleting_changes [] q w = absurd (true≢false (sym w))
-deleting_changes (h ∷ hs) zero w = grind arith
-deleting_changes (h ∷ hs) (suc q) w = deleting_changes hs q w
+deleting_changes hs q w = grind arith
 
 differ : (x y : ℕ) (b : Bool) → (x ≡ y → b ≡ true) → b ≡ false → (x == y) ≡ false
 differ x y b same stays = grind arith

@@ -4,7 +4,7 @@ use Rattle.machine_model.specs.Refusals as refusals
 use Rattle.machine_model.specs.Events as events
 use Rattle.machine_model.specs.declared.words.Refusal.TheVariants as refusal
 use Rattle.std.proofs.Common.{◌≡◌, ℕ, zero, suc, ◌+◌, ◌≤◌, ◌==◌, Bool, true, false, Some, List, [], ◌∷◌, slice_get, if◌then◌else◌, refl, ap, sym, arith, subst, not, ◌-◌, nat_lt, ◌&&◌, Option, None, ◌++◌, length, map, filter, find, drop, is_some, is_none, option_and_then, ◌∙◌, eqb-true, eq-eqb, ◌<◌, ◌||◌, inl, inr, replicate}
-use Rattle.std.{proofs.lemmas.Bool.{true≢false, ne_eqb, and_parts, or_parts, cases_Bool, not-false, Decides.nat_tests}, specs.List.AllByRecursion}
+use Rattle.std.{proofs.lemmas.Bool.{true≢false, and_parts, or_parts, cases_Bool, not-false, Decides.nat_tests}, specs.List.AllByRecursion}
 use Rattle.std.specs.{Option.option_map_or, Prelude.nat_le}
 use Rattle.machine_model.proofs.{Cases.option_is, Counting.{total-append, total-map, times-append, times-cons, times-outstanding}}
 use Rattle.machine_model.proofs.Moves.{host_moves, posts, sends, sent_record, drafted_record, heard_without, creates_cq, creates_sq, grants_cq, grants_sq, IsHeard, answer_heard}
@@ -13,18 +13,17 @@ use Rattle.machine_model.proofs.Steps.{managed_by, first_fails, rest_fails, foun
 use Rattle.machine_model.proofs.Tokens.{find_all, find_sound, MildJob, placed_jobs, placed_decided, placed_conflict, placed_completed, placed_job_more, placed_job_less, find_more, find_map, find_filter, placed_records, placed_sent, placed_reaped}
 use Rattle.machine_model.specs.Agreeing.{is_out_of_service_at as past_at, DeletesIo, JobKnown, AdminCommandsStand as Placed, is_absent_at as gone_at, Knows, waiting, answering, job_is}
 use Rattle.machine_model.specs.{Claims.OwnsFit, Events.{Event, Reply}, Memory.{is_in, with_pages}, Opening.{opening, device_queue as opened}}
-use Rattle.machine_model.specs.Refusals.{in_service, host_queue, device_queue, next_rung, job_at, conflicts, slot_page, slot_offset, post_slot, fetch_slot, refusal_of, answers_full, post_page, is_job, seen_entry, entry_of, first_answer, is_submitted, is_retired, is_drafted, is_collected, is_of, asks_for, record_is, in_state, is_live, queue_full, is_reaped}
+use Rattle.machine_model.specs.Refusals.{in_service, host_queue, device_queue, next_rung, job_at, slot_page, slot_offset, post_slot, fetch_slot, refusal_of, answers_full, post_page, is_job, first_answer, is_submitted, in_state, is_reaped}
 use Rattle.machine_model.specs.State.{DeviceQueue, HostQueue, State, Device, Record, Job, Answer, is_at, record_at, pages_of, without_record, with_record, outstanding_on}
 use Rattle.machine_model.specs.{Step.{host_part, HostPart, IsController, times}, Weights.{total, one, here}, Work.Work, declared.words.Phase.TheVariants.Held}
 use Rattle.machine_model.specs.declared.words.{Refusal.Refusal, Work.TheVariants.{Io, Management}}
 use Rattle.queue_pair.specs.Members.{change}
-use Rattle.entry_codec.specs.{Completion.completion_bytes, Submission.submission_bytes}
-use Rattle.entry_codec.specs.declared.{admin_opcode.TheConstants.{ABORT, DELETE_IO_SQ, DELETE_IO_CQ, CREATE_IO_CQ, CREATE_IO_SQ}, completion.ComEntry.ComEntry}
-use Rattle.entry_codec.specs.declared.status.{Status.Status, TheConstants.Status.{SUCCESS, COMMAND_ID_CONFLICT, ABORT_REQUESTED, ABORTED_SQ_DELETION}}
+use Rattle.entry_codec.specs.{Completion.completion_bytes, declared.admin_opcode.TheConstants.{ABORT, DELETE_IO_SQ, DELETE_IO_CQ, CREATE_IO_CQ, CREATE_IO_SQ}}
+use Rattle.entry_codec.specs.declared.{completion.ComEntry.ComEntry, status.Status.Status}
+use Rattle.entry_codec.specs.declared.status.TheConstants.Status.{SUCCESS, COMMAND_ID_CONFLICT, ABORT_REQUESTED, ABORTED_SQ_DELETION}
 use Rattle.entry_codec.specs.declared.submission.SubEntry.{SubEntry}
 use Rattle.admin_commands.specs.{Entries.{admin_entry, named_queue, named_command}, Verdicts.{is_absent, is_live as is_running}, declared.AdminKind.AdminKind}
-use Rattle.admin_commands.specs.declared.{AdminKind.TheVariants.{Abort, DeleteSq, DeleteCq, CreateCq, CreateSq}, SqState.SqState}
-use Rattle.admin_commands.specs.declared.SqState.TheVariants.{Absent, Live as Running, Stopping}
+use Rattle.admin_commands.specs.declared.{AdminKind.TheVariants.{Abort, DeleteSq, DeleteCq, CreateCq, CreateSq}, SqState.TheVariants.{Absent, Stopping}}
 use Rattle.page_memory.specs.Pages.{with_page_bytes}
 use Rattle.io_commands.specs.{Asked.Request, Jobs.{is_success, io_fault, bytes_after_check}}
 use Rattle.two_sides.{proofs.DeviceMoves.{answer_of, unit_done, finished, cleared, clears, fetch_by, walk_by, complete_by}, specs.MachineLaws.admin_places}
@@ -36,9 +35,6 @@ pub use Rattle.machine_model.proofs.Moves.{named, seen_trusted}
 abbrev pub list_at : {B : Type 0} → (DeviceQueue → List B) → List DeviceQueue → ℕ → List B
 list_at get qs q = option_map_or get (slice_get qs q) []
 
-pub same_suc : (k q : ℕ) → (suc k == suc q) ≡ (k == q)
-same_suc k q = grind (arith, nat_tests)
-
 far_zero : (q : ℕ) → (0 == suc q) ≡ false
 far_zero q = grind (arith, nat_tests)
 
@@ -46,23 +42,19 @@ pub far_suc : (k : ℕ) → (suc k == 0) ≡ false
 far_suc k = grind (arith, nat_tests)
 
 at_suc : (k q n : ℕ) → (if suc k == suc q then n else 0) ≡ (if k == q then n else 0)
-at_suc k q n = ap (λ (b : Bool). if b then n else 0) (same_suc k q)
+at_suc k q n = ap (λ (b : Bool). if b then n else 0) (grind (arith, nat_tests))
 
 pub list_same : {B : Type 0} (get : DeviceQueue → List B) (k : ℕ) (f : DeviceQueue → DeviceQueue) (qs : List DeviceQueue) (q : ℕ) → ((at : DeviceQueue) → get (f at) ≡ get at) → list_at get (change k f qs) q ≡ list_at get qs q
-list_same get k f [] q same = refl
 list_same get zero f (x ∷ qs) zero same = same x
-list_same get zero f (x ∷ qs) (suc q) same = refl
-list_same get (suc k) f (x ∷ qs) zero same = refl
 list_same get (suc k) f (x ∷ qs) (suc q) same = list_same get k f qs q same
+list_same get k f x q same = refl
 
 -- a queue's list counts more by so much at most
 pub more_at : {B : Type 0} (get : DeviceQueue → List B) (w : B → ℕ) (k : ℕ) (f : DeviceQueue → DeviceQueue) (extra : ℕ) (qs : List DeviceQueue) (q : ℕ) → ((at : DeviceQueue) → total w (get (f at)) ≤ total w (get at) + extra)
     → total w (list_at get (change k f qs) q) ≤ total w (list_at get qs q) + (if k == q then extra else 0)
-more_at get w k f extra [] q h = omega arith
 more_at get w zero f extra (x ∷ qs) zero h = h x
-more_at get w zero f extra (x ∷ qs) (suc q) h = omega arith
-more_at get w (suc k) f extra (x ∷ qs) zero h = omega arith
 more_at get w (suc k) f extra (x ∷ qs) (suc q) h = omega (arith, more_at get w k f extra qs q h, at_suc k q extra)
+more_at get w k f extra x q h = omega arith
 
 -- or less by so much at least
 pub less_at : {B : Type 0} (get : DeviceQueue → List B) (w : B → ℕ) (k : ℕ) (f : DeviceQueue → DeviceQueue) (less : ℕ) (qs : List DeviceQueue) (q : ℕ) (at : DeviceQueue) → slice_get qs k ≡ Some at
@@ -77,27 +69,21 @@ less_at get w (suc k) f less (x ∷ qs) (suc q) at e h = omega (arith, less_at g
 -- what holds of all in a queue's list
 pub all_list : {B : Type 0} (P : B → Type 0) (get : DeviceQueue → List B) (k : ℕ) (f : DeviceQueue → DeviceQueue) (qs : List DeviceQueue) (q : ℕ)
     → ((at : DeviceQueue) → k ≡ q → AllByRecursion P (get at) → AllByRecursion P (get (f at))) → AllByRecursion P (list_at get qs q) → AllByRecursion P (list_at get (change k f qs) q)
-all_list P get k f [] q step all = all
 all_list P get zero f (x ∷ qs) zero step all = step x refl all
-all_list P get zero f (x ∷ qs) (suc q) step all = all
-all_list P get (suc k) f (x ∷ qs) zero step all = all
 all_list P get (suc k) f (x ∷ qs) (suc q) step all = all_list P get k f qs q (λ at e. step at (ap suc e)) all
+all_list x get k f y q step all = all
 
 -- whether a queue of the host is out of service
 
 pub past_same : (k : ℕ) (f : HostQueue → HostQueue) (hs : List HostQueue) (q : ℕ) → ((x : HostQueue) → slice_get hs k ≡ Some x → in_service (f x).state ≡ in_service x.state) → past_at (change k f hs) q ≡ past_at hs q
-past_same k f [] q same = refl
 past_same zero f (x ∷ hs) zero same = ap not (same x refl)
-past_same zero f (x ∷ hs) (suc q) same = refl
-past_same (suc k) f (x ∷ hs) zero same = refl
 past_same (suc k) f (x ∷ hs) (suc q) same = past_same k f hs q same
+past_same k f x q same = refl
 
 pub past_other : (k : ℕ) (f : HostQueue → HostQueue) (hs : List HostQueue) (q : ℕ) → (k ≡ q → ⊥) → past_at (change k f hs) q ≡ past_at hs q
-past_other k f [] q far = refl
 past_other zero f (x ∷ hs) zero far = absurd (far refl)
-past_other zero f (x ∷ hs) (suc q) far = refl
-past_other (suc k) f (x ∷ hs) zero far = refl
 past_other (suc k) f (x ∷ hs) (suc q) far = past_other k f hs q (λ e. far (ap suc e))
+past_other k f x q far = refl
 
 pub past_here : (k : ℕ) (f : HostQueue → HostQueue) (hs : List HostQueue) → ((x : HostQueue) → in_service (f x).state ≡ false) → (x : HostQueue) → slice_get hs k ≡ Some x → past_at (change k f hs) k ≡ true
 past_here k f [] past x e = absurd cc
@@ -146,14 +132,7 @@ placed_other rs d k f other h = placed_change rs d k f (waiting_other f k d.queu
 
 pub device-answered : (q cid : ℕ) (st : Status) (dw0 : ℕ) (s : State)
     → (a.answered q cid st dw0 s).device ≡ record s.device { queues = change q (λ at. record at { answers = at.answers ++ record { cid = cid; status = st; dw0 = dw0; sq_head = fetch_slot s q } ∷ [] }) s.device.queues }
-device-answered q cid st dw0 s =
-    ap (λ (d : Device). record d { queues = change q (λ at. record at { answers = at.answers ++ record { cid = cid; status = st; dw0 = dw0; sq_head = fetch_slot s q } ∷ [] }) d.queues }) (go (host_queue s q))
-  where
-    go : (o : Option HostQueue)
-        → (option_map_or (λ queue. a.on_memory (λ m. with_page_bytes m (slot_page queue.cq_pages 16 (post_slot s q)) (slot_offset 16 (post_slot s q))
-        (completion_bytes (record { dw0 = dw0; sqhd = fetch_slot s q; sqid = q; cid = cid; phase = a.post_phase s q queue; status = st }))) s) o s).device ≡ s.device
-    go None = refl
-    go (Some queue) = refl
+device-answered q cid st dw0 s = grind arith
 
 pub device-posted : (q : ℕ) (entry : SubEntry) (s : State)
     → (a.posted q entry s).device ≡ record s.device { queues = change q (λ at. record at { unfetched = at.unfetched ++ entry ∷ [] }) s.device.queues }
@@ -213,14 +192,21 @@ stops_mild q = record {
     not_success st v ok = let same : st ≡ ABORTED_SQ_DELETION = cc in absurd (true≢false (sym ok ∙ ap (λ x. is_success x) same))
 
 pub runs_there : (s : State) (q : ℕ) → is_running (a.sq_state s q) ≡ true → gone_at s.device.queues q ≡ false
-runs_there s q h = go (device_queue s q) h
-  where
-    go : (o : Option DeviceQueue) → is_running (option_map_or (λ at. at.state) o Absent) ≡ true → option_map_or (λ at. is_absent at.state) o true ≡ false
-    go None h = absurd (true≢false (sym h))
-    go (Some at) h = grind arith
+runs_there s q h = grind arith
 
 placed_managed : (rs : List Record) (e : SubEntry) (s : State) → Holding rs e s.device → PlacedIn rs (a.managed e s).device
 placed_managed rs e s h =
+    let changing : (f : DeviceQueue → DeviceQueue) → (named_queue e == 0) ≡ false → ((e.opcode == DELETE_IO_SQ) ≡ true → (named_queue e == 0) ≡ false)
+    → PlacedIn rs (a.decided e SUCCESS 0 (a.on_device_queue (named_queue e) f s)).device = λ f q0 io.
+    decide rs e SUCCESS 0 (a.on_device_queue (named_queue e) f s) (λ adm same ok. deletes_io e io adm same)
+    (rw (waiting_other f (named_queue e) s.device.queues q0, answering_other f (named_queue e) s.device.queues q0) h) in
+    let stopping : (e.opcode == DELETE_IO_SQ) ≡ true → (named_queue e == 0) ≡ false → is_running (a.sq_state s (named_queue e)) ≡ true
+    → PlacedIn rs (a.decided e SUCCESS 0 (a.on_device (λ d. record d { jobs = map (a.stopped (named_queue e)) d.jobs }) (a.on_device_queue (named_queue e) (λ at. record at { state = Stopping }) s))).device = λ is0 q0 runs.
+    let stop : DeviceQueue → DeviceQueue = λ at. record at { state = Stopping } in
+    decide rs e SUCCESS 0 (a.on_device (λ d. record d { jobs = map (a.stopped (named_queue e)) d.jobs }) (a.on_device_queue (named_queue e) (λ at. record at { state = Stopping }) s))
+    (λ adm same ok. deletes_io e (λ z. q0) adm same)
+    (rw (waiting_other stop (named_queue e) s.device.queues q0, answering_other stop (named_queue e) s.device.queues q0)
+    (placed_jobs rs (e ∷ waiting s.device.queues) s.device.jobs (answering s.device.queues) (a.stopped (named_queue e)) (stops_mild (named_queue e)) h)) in
     managed_by (λ (t : State). PlacedIn rs t.device) e s
     (record {
       refuses = λ st bad. decide rs e st 0 s (λ adm same ok. absurd (true≢false (sym ok ∙ bad))) h;
@@ -236,21 +222,6 @@ placed_managed rs e s h =
   where
     other : {P : Type 0} (n : ℕ) → (e.opcode == n) ≡ true → (n == DELETE_IO_SQ) ≡ false → (e.opcode == DELETE_IO_SQ) ≡ true → P
     other n is differs deletes = absurd (true≢false (sym deletes ∙ ap (λ (o : ℕ). o == DELETE_IO_SQ) (eqb-true e.opcode n is) ∙ differs))
-
-    changing : (f : DeviceQueue → DeviceQueue) → (named_queue e == 0) ≡ false → ((e.opcode == DELETE_IO_SQ) ≡ true → (named_queue e == 0) ≡ false)
-        → PlacedIn rs (a.decided e SUCCESS 0 (a.on_device_queue (named_queue e) f s)).device
-    changing f q0 io =
-        decide rs e SUCCESS 0 (a.on_device_queue (named_queue e) f s) (λ adm same ok. deletes_io e io adm same)
-        (rw (waiting_other f (named_queue e) s.device.queues q0, answering_other f (named_queue e) s.device.queues q0) h)
-
-    stopping : (e.opcode == DELETE_IO_SQ) ≡ true → (named_queue e == 0) ≡ false → is_running (a.sq_state s (named_queue e)) ≡ true
-        → PlacedIn rs (a.decided e SUCCESS 0 (a.on_device (λ d. record d { jobs = map (a.stopped (named_queue e)) d.jobs }) (a.on_device_queue (named_queue e) (λ at. record at { state = Stopping }) s))).device
-    stopping is0 q0 runs =
-        let stop : DeviceQueue → DeviceQueue = λ at. record at { state = Stopping } in
-        decide rs e SUCCESS 0 (a.on_device (λ d. record d { jobs = map (a.stopped (named_queue e)) d.jobs }) (a.on_device_queue (named_queue e) (λ at. record at { state = Stopping }) s))
-        (λ adm same ok. deletes_io e (λ z. q0) adm same)
-        (rw (waiting_other stop (named_queue e) s.device.queues q0, answering_other stop (named_queue e) s.device.queues q0)
-        (placed_jobs rs (e ∷ waiting s.device.queues) s.device.jobs (answering s.device.queues) (a.stopped (named_queue e)) (stops_mild (named_queue e)) h))
 
 placed_answered_other : (rs : List Record) (q : ℕ) (an : Answer) (d : Device) → (q == 0) ≡ false → PlacedIn rs d → PlacedIn rs (record d { queues = change q (λ at. record at { answers = at.answers ++ an ∷ [] }) d.queues })
 placed_answered_other rs q an d other h = placed_other rs d q (λ at. record at { answers = at.answers ++ an ∷ [] }) other h
@@ -271,6 +242,10 @@ some_still f (suc k) (at ∷ ds) h = refl
 
 pub placed_fetch : (rs : List Record) (q : ℕ) (s : State) → PlacedIn rs s.device → PlacedIn rs (a.after_fetch q s).device
 placed_fetch rs zero s h =
+    let off : DeviceQueue → DeviceQueue = λ at. record at { unfetched = drop 1 at.unfetched; rung = at.rung - 1 } in
+    let ds1 : State → List DeviceQueue = λ s. change 0 (λ at. record at { unfetched = drop 1 at.unfetched; rung = at.rung - 1 }) s.device.queues in
+    let in_hand : (e : SubEntry) → next_rung s 0 ≡ Some e → Placed rs (e ∷ waiting (ds1 s)) s.device.jobs (answering (ds1 s)) = λ e next.
+    rw (answering_same off (λ at. refl) 0 s.device.queues) (subst (λ un. Placed rs un s.device.jobs (answering s.device.queues)) (taken_entry s.device.queues e next) h.placed) in
     fetch_by (λ (t : State). PlacedIn rs t.device) s 0 h
     (λ e next c.
     let an = answer_of 0 e.cid COMMAND_ID_CONFLICT 0 (a.taken_off 0 s) in
@@ -279,16 +254,6 @@ placed_fetch rs zero s h =
     record { placed = rw (waiting_same more (λ at. refl) 0 (ds1 s), answering_more (ds1 s) an (some_still off 0 s.device.queues (some_zero s.device.queues e next))) done })
     (λ e next c z. placed_managed rs e (a.taken_off 0 s) (in_hand e next))
     (λ e next c other. absurd (true≢false other))
-  where
-    off : DeviceQueue → DeviceQueue
-    off at = record at { unfetched = drop 1 at.unfetched; rung = at.rung - 1 }
-
-    ds1 : State → List DeviceQueue
-    ds1 s = change 0 (λ at. record at { unfetched = drop 1 at.unfetched; rung = at.rung - 1 }) s.device.queues
-
-    in_hand : (e : SubEntry) → next_rung s 0 ≡ Some e → Placed rs (e ∷ waiting (ds1 s)) s.device.jobs (answering (ds1 s))
-    in_hand e next =
-        rw (answering_same off (λ at. refl) 0 s.device.queues) (subst (λ un. Placed rs un s.device.jobs (answering s.device.queues)) (taken_entry s.device.queues e next) h.placed)
 placed_fetch rs (suc k) s h =
     let base : PlacedIn rs (a.taken_off (suc k) s).device = placed_other rs s.device (suc k) (λ at. record at { unfetched = drop 1 at.unfetched; rung = at.rung - 1 }) (far_suc k) h in
     fetch_by (λ (t : State). PlacedIn rs t.device) s (suc k) h
@@ -308,11 +273,7 @@ other_mild q cid f other fq fe = record {
 }
   where
     go : (j : Job) (st : Status) → j.q ≡ 0 → (b : Bool) → ((j.q == q) && (j.entry.cid == cid)) ≡ b → (if b then f j else j).verdict ≡ Some st → j.verdict ≡ Some st
-    go j st z true e v =
-        let p = and_parts (j.q == q) (j.entry.cid == cid) e in
-        let same : j.q ≡ q = eqb-true j.q q p.0 in
-        absurd (true≢false (sym (eq-eqb q 0 (sym same ∙ z)) ∙ other))
-    go j st z false e v = v
+    go j st z b e v = grind arith
 
 placed_on_job : (rs : List Record) (q cid : ℕ) (f : Job → Job) (s : State) → (q == 0) ≡ false → ((j : Job) → (f j).q ≡ j.q) → ((j : Job) → (f j).entry ≡ j.entry)
     → PlacedIn rs s.device → PlacedIn rs (a.on_job q cid f s).device
@@ -337,10 +298,7 @@ verdict_there j h = go j.verdict h
 
 -- its deletion was of an I/O queue
 pub clears_io : (rs : List Record) (s : State) (j : Job) (st : Status) → JobKnown rs j → j.q ≡ 0 → j.verdict ≡ Some st → clears s j ≡ true → (named_queue j.entry == 0) ≡ false
-clears_io rs s j st known jq v c =
-    let deletes = and_parts ((j.q == 0) && (j.entry.opcode == DELETE_IO_SQ)) (is_success (a.final_status s j)) c in
-    let k = known jq in
-    let h1 = k.2 in let h2 = (and_parts (j.q == 0) (j.entry.opcode == DELETE_IO_SQ) deletes.0).1 in let h3 = k.3 st v (ap (λ (x : Status). is_success x) (sym (final_admin s j st jq v)) ∙ deletes.1) in grind arith
+clears_io rs s j st known jq v c = grind arith
 
 -- the answer of a job of queue 0 takes its place
 placed_answer : (rs : List Record) (cid : ℕ) (d : Device) (ds : List DeviceQueue) (j : Job) (an : Answer) → find (is_job 0 cid) d.jobs ≡ Some j → an.cid ≡ cid
@@ -379,12 +337,11 @@ placed_complete rs zero cid s none h =
     })
     (λ j e c. record { placed = placed_answer rs cid s.device s.device.queues j (answer_of 0 cid (a.final_status s j) j.dw0 (finished 0 cid j s)) e refl refl refl there h })
 placed_complete rs (suc k) cid s none h =
+    let its_queue : (j : Job) → job_at s (suc k) cid ≡ Some j → (j.q == 0) ≡ false = λ j e.
+    ap (λ (n : ℕ). n == 0) (eqb-true j.q (suc k) (and_parts (j.q == suc k) (j.entry.cid == cid) (find_sound (is_job (suc k) cid) s.device.jobs j e)).0) ∙ far_suc k in
     complete_by (λ (t : State). PlacedIn rs t.device) s (suc k) cid h (λ j e c. absurd (true≢false (sym (and_parts (j.q == 0) (j.entry.opcode == DELETE_IO_SQ) (and_parts ((j.q == 0) && (j.entry.opcode == DELETE_IO_SQ)) (is_success (a.final_status s j)) c).0).0 ∙ its_queue j e)))
     (λ j e c. placed_answered_other rs (suc k) (answer_of (suc k) cid (a.final_status s j) j.dw0 (finished (suc k) cid j s)) (finished (suc k) cid j s).device (far_suc k)
     (record { placed = placed_job_less rs (waiting s.device.queues) s.device.jobs (answering s.device.queues) (λ j'. not (is_job (suc k) cid j')) h.placed }))
-  where
-    its_queue : (j : Job) → job_at s (suc k) cid ≡ Some j → (j.q == 0) ≡ false
-    its_queue j e = ap (λ (n : ℕ). n == 0) (eqb-true j.q (suc k) (and_parts (j.q == suc k) (j.entry.cid == cid) (find_sound (is_job (suc k) cid) s.device.jobs j e)).0) ∙ far_suc k
 
 -- The host's events keep where admin commands stand; every trusted run does.
 
@@ -415,12 +372,10 @@ records_with rs q cid f d fq fc fw h =
 -- a record of another queue goes
 records_less : (rs : List Record) (q cid : ℕ) (d : Device) → (q == 0) ≡ false → PlacedIn rs d → PlacedIn (without_record q cid rs) d
 records_less rs q cid d other h =
+    let differs : (r : Record) → (r.q == 0) ≡ true → (r.q == q) ≡ true → ⊥ = λ r z e. true≢false (sym (eq-eqb q 0 (sym (eqb-true r.q q e) ∙ eqb-true r.q 0 z)) ∙ other) in
     records_change rs (without_record q cid rs) d (λ c. all c rs)
     (λ c adm k. (k.0, find_filter (is_at 0 c) (λ r. not (is_at q cid r)) (λ r t. (elim (cases_Bool (is_at q cid r)) [ inl e ↦ absurd (differs r (and_parts (r.q == 0) (r.cid == c) t).0 (and_parts (r.q == q) (r.cid == cid) e).0) | inr e ↦ rw e refl ])) rs k.0 k.1, k.2)) h
   where
-    differs : (r : Record) → (r.q == 0) ≡ true → (r.q == q) ≡ true → ⊥
-    differs r z e = true≢false (sym (eq-eqb q 0 (sym (eqb-true r.q q e) ∙ eqb-true r.q 0 z)) ∙ other)
-
     all : (c : ℕ) (rs : List Record) → total (here 0 c) rs ≤ total (here 0 c) (without_record q cid rs)
     all c [] = omega arith
     all c (r ∷ rs) = go (is_at q cid r) (is_at 0 c r) refl refl (all c rs)
@@ -471,12 +426,9 @@ answering_less rs d h = record { placed = shorter d.queues h.placed }
     shorter [] p = p
     shorter (at ∷ ds) p = cut at.unfetched at.answers p
 
-stands_consumed_other : (q : ℕ) (s : State) → (q == 0) ≡ false → Stands s → Stands (a.consumed q s)
-stands_consumed_other q s other h = placed_other s.host.records s.device q (λ at. record at { answers = drop 1 at.answers }) other h
-
 stands_consumed : (q : ℕ) (s : State) → Stands s → Stands (a.consumed q s)
 stands_consumed zero s h = answering_less s.host.records s.device h
-stands_consumed (suc k) s h = stands_consumed_other (suc k) s (far_suc k) h
+stands_consumed (suc k) s h = placed_other s.host.records s.device (suc k) (λ at. record at { answers = drop 1 at.answers }) (far_suc k) h
 
 -- the oldest answer of queue 0 goes with its record
 stands_reaped : (cid : ℕ) (an : Answer) (s : State) → option_and_then (λ queue. first_answer queue.answers) (device_queue s 0) ≡ Some an → an.cid ≡ cid → total (here 0 cid) s.host.records < 2 → Stands s
@@ -554,20 +506,17 @@ stands_host s e reply ok c t h =
         (stands_reaped cid an.answer s (subst (λ (z : ℕ). option_and_then (λ (queue : DeviceQueue). first_answer queue.answers) (device_queue s z) ≡ Some an.answer) zero' an.first) an.its_id (h.0.once 0 cid) h.1)
 
 stands_walk : (q cid : ℕ) (s : State) → refusal_of s (events.Walk q cid) ≡ None → Stands s → PlacedIn s.host.records (a.after_walk q cid s).device
-stands_walk q cid s none h = elim (option_is (job_at s q cid)) [
-  | inl e ↦ absurd (true≢false (rw e at (first_fails (is_none (job_at s q cid)) refusal.NoJob ((refusals.job_is (λ j. is_some j.verdict || (j.q == 0)) s q cid, refusal.Nothing) ∷ []) none)))
-  | inr (j, e) ↦
-      let judged : (is_some j.verdict || (j.q == 0)) ≡ false = rw e at nothing in
-      let jq : (j.q == 0) ≡ false = (or_parts (is_some j.verdict) (j.q == 0) judged).1 in
-      let at = and_parts (j.q == q) (j.entry.cid == cid) (find_sound (is_job q cid) s.device.jobs j e) in
-      placed_walk s.host.records q cid s (ap (λ (k : ℕ). k == 0) (sym (eqb-true j.q q at.0)) ∙ jq) h
-]
-  where
-    rest : List (Bool × Refusal)
-    rest = (refusals.job_is (λ j. is_some j.verdict || (j.q == 0)) s q cid, refusal.Nothing) ∷ []
-
-    nothing : refusals.job_is (λ j. is_some j.verdict || (j.q == 0)) s q cid ≡ false
-    nothing = first_fails (refusals.job_is (λ j. is_some j.verdict || (j.q == 0)) s q cid) refusal.Nothing [] (rest_fails (is_none (job_at s q cid)) refusal.NoJob ((refusals.job_is (λ j. is_some j.verdict || (j.q == 0)) s q cid, refusal.Nothing) ∷ []) none)
+stands_walk q cid s none h =
+    let nothing : refusals.job_is (λ j. is_some j.verdict || (j.q == 0)) s q cid ≡ false =
+    first_fails (refusals.job_is (λ j. is_some j.verdict || (j.q == 0)) s q cid) refusal.Nothing [] (rest_fails (is_none (job_at s q cid)) refusal.NoJob ((refusals.job_is (λ j. is_some j.verdict || (j.q == 0)) s q cid, refusal.Nothing) ∷ []) none) in
+    elim (option_is (job_at s q cid)) [
+      | inl e ↦ absurd (true≢false (rw e at (first_fails (is_none (job_at s q cid)) refusal.NoJob ((refusals.job_is (λ j. is_some j.verdict || (j.q == 0)) s q cid, refusal.Nothing) ∷ []) none)))
+      | inr (j, e) ↦
+          let judged : (is_some j.verdict || (j.q == 0)) ≡ false = rw e at nothing in
+          let jq : (j.q == 0) ≡ false = (or_parts (is_some j.verdict) (j.q == 0) judged).1 in
+          let at = and_parts (j.q == q) (j.entry.cid == cid) (find_sound (is_job q cid) s.device.jobs j e) in
+          placed_walk s.host.records q cid s (ap (λ (k : ℕ). k == 0) (sym (eqb-true j.q q at.0)) ∙ jq) h
+    ]
 
 controller_records : (s : State) (e : Event) (reply : Reply) → IsController e ≡ true → (a.after s e reply).host.records ≡ s.host.records
 controller_records s e reply c = ap (λ (part : HostPart). part.host.records) (part_controller s e reply c)
@@ -595,9 +544,7 @@ forged_ends None f s h e = absurd (true≢false (sym e))
 forged_ends (Some x) f s h e = h x
 
 pub forged_untrusted : (s : State) (q slot : ℕ) (bytes : List ℕ) → refusal_of s (events.Forge q slot bytes) ≡ None → (a.after_forge q slot bytes s).trusted ≡ false
-forged_untrusted s q slot bytes ok =
-    forged_ends (host_queue s q) (λ queue. record (a.on_memory (λ m. with_page_bytes m (slot_page queue.cq_pages 16 slot) (slot_offset 16 slot) bytes) s) { trusted = false }) s (λ queue. refl)
-    (not-false _ (first_fails (not (in_state is_reaped s q)) refusal.NoQueue ((nat_le s.entries slot, refusal.NoSlot) ∷ []) ok))
+forged_untrusted s q slot bytes ok = grind arith
 
 -- Admin commands stand in one place
 
@@ -637,11 +584,10 @@ pub stands_once : (new : State) (cid : ℕ) → StandsSound new → times cid (a
 stands_once new cid stands =
     let un = map (λ (e : SubEntry). e.cid) (waiting new.device.queues) in
     let js = map (λ (j : Job). j.entry.cid) (filter (λ (j : Job). j.q == 0) new.device.jobs) in
-    let ans = map (λ (an : Answer). an.cid) (answering new.device.queues) in
     omega (
       arith,
       stands.1.placed.places cid,
-      times-append cid (un ++ js) ans,
+      times-append cid (un ++ js) (map (λ (an : Answer). an.cid) (answering new.device.queues)),
       times-append cid un js,
       times-map (λ (e : SubEntry). e.cid) cid (waiting new.device.queues),
       times-jobs cid new.device.jobs,

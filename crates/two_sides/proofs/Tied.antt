@@ -10,14 +10,14 @@ use Rattle.machine_model.proofs.Moves.{host_moves, seen_trusted, posts, sends, q
 use Rattle.machine_model.proofs.{Owned.{HoldsPart, awaited_at, at_same, at_other, at_found, at_changed}, Sound.still_live}
 use Rattle.machine_model.proofs.{Steps.{managed_by, absent_state, unrefused, Accepts}, Tokens.{find_more, fewer_kept, knows_back, kind_known}}
 use Rattle.machine_model.proofs.TokensKept.{same_length, halves_fit, reset_pairs, TokensHeld}
-use Rattle.machine_model.specs.Agreeing.{knows_deleted_at, is_gone_at, is_absent_at as gone_at, has_completions_at as there_at, QueueFits as PairOk, QueuesFit as Paired, on_queue, is_out_of_service_at as out_at, is_known_deleted as is_over, is_known_deleted, AdminCommandsStand as Placed, Knows, is_kind, unmade, answered_well, done_well, deletes_sq, deletes_cq, creates_cq as creates_cq_agreeing, creates_sq as creates_sq_agreeing}
+use Rattle.machine_model.specs.Agreeing.{is_absent_at as gone_at, has_completions_at as there_at, QueueFits as PairOk, QueuesFit as Paired, on_queue, is_out_of_service_at as out_at, is_known_deleted as is_over, is_known_deleted, AdminCommandsStand as Placed, Knows, is_kind, unmade, answered_well, done_well, deletes_sq, deletes_cq, creates_cq as creates_cq_agreeing, creates_sq as creates_sq_agreeing}
 use Rattle.machine_model.specs.{Claims.AdminLives, Events.{Event, Reply}, Memory.with_pages}
 use Rattle.machine_model.specs.Refusals.{host_queue, device_queue, next_rung, waits, in_service, is_gone, is_job, refusal_of, entry_of, first_answer, has_sq, has_cq, is_live, is_making, is_reaped, has_cq_alone}
 use Rattle.machine_model.specs.State.{State, Device, HostQueue, DeviceQueue, Job, Answer, with_record, Record, is_at, without_record}
 use Rattle.machine_model.specs.{Step.{HostPart, host_part, IsController}, Weights.{one, total}, declared.words.HostState.HostState}
-use Rattle.machine_model.specs.declared.words.HostState.TheVariants.{Live, Deleting, Retired, Gone, MakingCq, HalfMade, MakingSq}
+use Rattle.machine_model.specs.declared.words.HostState.TheVariants.{Live, Deleting, Gone, MakingCq, HalfMade, MakingSq}
 use Rattle.admin_commands.specs.{Entries.{named_queue, named_command, admin_entry}, Verdicts.{is_absent, is_live as is_running}, declared.AdminKind.AdminKind}
-use Rattle.admin_commands.specs.declared.{AdminKind.TheVariants.{Abort, DeleteSq, DeleteCq}, SqState.{SqState, TheVariants.{Absent, Live as Running, Stopping}}}
+use Rattle.admin_commands.specs.declared.{AdminKind.TheVariants.{Abort, DeleteSq, DeleteCq}, SqState.TheVariants.Stopping}
 use Rattle.entry_codec.specs.declared.{admin_opcode.TheConstants.DELETE_IO_SQ, completion.ComEntry.ComEntry, status.Status.Status}
 use Rattle.entry_codec.specs.declared.{status.TheConstants.Status.{SUCCESS, ABORT_REQUESTED, ABORTED_SQ_DELETION}, submission.SubEntry.SubEntry}
 use Rattle.io_commands.specs.Jobs.{is_success, io_fault, bytes_after_check}
@@ -44,19 +44,10 @@ below (x ∷ xs) (suc k) h = omega (arith, below xs k h)
 
 -- what the tokens say of a queue
 pub deleted_is_gone : (s : State) → FitS s → (q : ℕ) (queue : HostQueue) → host_queue s q ≡ Some queue → is_over queue.state ≡ true → gone_at s.device.queues q ≡ true
-deleted_is_gone s h q queue e over = go (gone_at s.device.queues q) refl
-  where
-    known : knows_deleted_at s.host.queues q ≡ true
-    known = ap (λ (o : Option HostQueue). option_map_or (λ h. is_over h.state) o false) e ∙ over
-
-    go : (b : Bool) → gone_at s.device.queues q ≡ b → gone_at s.device.queues q ≡ true
-    go b is = grind arith
+deleted_is_gone s h q queue e over = grind arith
 
 pub freed_is_gone : (s : State) → FitS s → (q : ℕ) (queue : HostQueue) → host_queue s q ≡ Some queue → is_gone queue.state ≡ true → there_at s.device.queues q ≡ false
-freed_is_gone s h q queue e gone = elim (cases_Bool (there_at s.device.queues q)) [
-  | inl is ↦ absurd (omega (arith, h.tokens.completion q, ap one (ap (λ (o : Option HostQueue). option_map_or (λ h. is_gone h.state) o false) e ∙ gone), ap one is))
-  | inr is ↦ is
-]
+freed_is_gone s h q queue e gone = grind arith
 
 pub tied_from_fit : (s : State) → FitS s → Tied s
 tied_from_fit s h = record { some_entries = h.some_entries; pairs = h.pairs; jobs = h.jobs; over = deleted_is_gone s h; gone = freed_is_gone s h }
@@ -90,6 +81,8 @@ stopped_q q j = (elim ((j.q == q) && is_none j.verdict) as (λ b. (if b then rec
 
 tie_managed : (part : HostPart) (e : SubEntry) (s : State) → gone_at s.device.queues 0 ≡ false → out_at part.host.queues 0 ≡ false → TieP part s.device → TieP part (a.managed e s).device
 tie_managed part e s there served h =
+    let decided : (st : Status) (dw0 : ℕ) (t : State) → gone_at t.device.queues 0 ≡ false → TieP part t.device → TieP part (a.decided e st dw0 t).device = λ st dw0 t is.
+    tie_more part t.device (a.new_job 0 e (Some st) dw0 []) is served in
     managed_by (λ (t : State). TieP part t.device) e s
     (record {
       refuses = λ st bad. decided st 0 s there h;
@@ -109,18 +102,11 @@ tie_managed part e s there served h =
           (tie_submission part.entries part.host.queues s.device.queues s.device.jobs (named_queue e) has h);
     })
   where
-    decided : (st : Status) (dw0 : ℕ) (t : State) → gone_at t.device.queues 0 ≡ false → TieP part t.device → TieP part (a.decided e st dw0 t).device
-    decided st dw0 t is = tie_more part t.device (a.new_job 0 e (Some st) dw0 []) is served
-
     still : (f : DeviceQueue → DeviceQueue) → ((d : DeviceQueue) → is_absent d.state ≡ false → is_absent (f d).state ≡ false) → gone_at (change (named_queue e) f s.device.queues) 0 ≡ false
     still f same = stays_false (λ (d : DeviceQueue). is_absent d.state) true (named_queue e) f s.device.queues 0 (λ d ed z. same d) there
 
 pub rung_gone : (s : State) (q : ℕ) (e : SubEntry) → next_rung s q ≡ Some e → gone_at s.device.queues q ≡ false
-rung_gone s q e h = go (device_queue s q) h
-  where
-    go : (o : Option DeviceQueue) → option_and_then (λ queue. if is_running queue.state && nat_lt 0 queue.rung then slice_get queue.unfetched 0 else None) o ≡ Some e → option_map_or (λ at. is_absent at.state) o true ≡ false
-    go None h = absurd cc
-    go (Some at) h = grind arith
+rung_gone s q e h = grind arith
 
 -- an entry that is fetched is one of a queue in service
 rung_served : (part : HostPart) (s : State) (q : ℕ) (e : SubEntry) → next_rung s q ≡ Some e → Paired part.entries part.host.queues s.device.queues → out_at part.host.queues q ≡ false
@@ -136,17 +122,15 @@ rung_served part s q e h pairs = go (slice_get s.device.queues q) refl h
 
 pub tie_fetch : (part : HostPart) (q : ℕ) (s : State) → TieP part s.device → TieP part (a.after_fetch q s).device
 tie_fetch part q s h =
+    let off : (k : ℕ) → TieP part (a.taken_off k s).device = λ k.
+    tie_less part.entries part.host.queues s.device.queues s.device.jobs k (λ at. record at { unfetched = drop 1 at.unfetched; rung = at.rung - 1 }) (λ d. refl) (λ d. refl) (λ d none. ap (drop 1) none) (λ d none. none) h in
+    let kept : (e : SubEntry) → next_rung s q ≡ Some e → (k : ℕ) → gone_at (a.taken_off k s).device.queues q ≡ false = λ e next k.
+    stays_false (λ (d : DeviceQueue). is_absent d.state) true k (λ at. record at { unfetched = drop 1 at.unfetched; rung = at.rung - 1 }) s.device.queues q (λ d ed z i. i) (rung_gone s q e next) in
     fetch_by (λ (t : State). TieP part t.device) s q h
     (λ e next c. tie_answered part.entries part.host.queues (a.taken_off q s).device.queues s.device.jobs q _ (rung_served part s q e next h.pairs) (off q))
     (λ e next c z. tie_managed part e (a.taken_off 0 s) (subst (λ (k : ℕ). gone_at (a.taken_off 0 s).device.queues k ≡ false) z (kept e next 0)) (subst (λ (k : ℕ). out_at part.host.queues k ≡ false) z (rung_served part s q e next h.pairs)) (off 0))
     (λ e next c other. let fault = io_fault (a.image_blocks (a.taken_off q s)) e in
     tie_more part (a.taken_off q s).device (a.new_job q e fault 0 (bytes_after_check s.device.image e fault)) (kept e next q) (rung_served part s q e next h.pairs) (off q))
-  where
-    off : (k : ℕ) → TieP part (a.taken_off k s).device
-    off k = tie_less part.entries part.host.queues s.device.queues s.device.jobs k (λ at. record at { unfetched = drop 1 at.unfetched; rung = at.rung - 1 }) (λ d. refl) (λ d. refl) (λ d none. ap (drop 1) none) (λ d none. none) h
-
-    kept : (e : SubEntry) → next_rung s q ≡ Some e → (k : ℕ) → gone_at (a.taken_off k s).device.queues q ≡ false
-    kept e next k = stays_false (λ (d : DeviceQueue). is_absent d.state) true k (λ at. record at { unfetched = drop 1 at.unfetched; rung = at.rung - 1 }) s.device.queues q (λ d ed z i. i) (rung_gone s q e next)
 
 pub tie_walk : (part : HostPart) (q cid : ℕ) (s : State) → TieP part s.device → TieP part (a.after_walk q cid s).device
 tie_walk part q cid s h = walk_by (λ (t : State). TieP part t.device) s q cid h (λ j act at u. tie_on_job part q cid (unit_done s j act) s (λ j. refl) h)
@@ -161,17 +145,13 @@ waited : (s : State) (j : Job) (st : Status) → j.verdict ≡ Some st → is_su
 waited s j st v ok q0 op w = none_left (named_queue j.entry) s.device.jobs (go (list_any (λ k. k.q == named_queue j.entry) s.device.jobs) refl)
   where
     go : (b : Bool) → list_any (λ k. k.q == named_queue j.entry) s.device.jobs ≡ b → list_any (λ k. k.q == named_queue j.entry) s.device.jobs ≡ false
-    go false e = e
-    go true e =
-        let right : ((j.entry.opcode == DELETE_IO_SQ) && option_map_or is_success j.verdict false && list_any (λ k. k.q == named_queue j.entry) s.device.jobs) ≡ true = rw (op, v, ok, e) refl in
-        let inner = or_parts (list_any (λ k. refusals.is_abort_of j.entry.cid k.waiting_abort) s.device.jobs) ((j.entry.opcode == DELETE_IO_SQ) && option_map_or is_success j.verdict false && list_any (λ k. k.q == named_queue j.entry) s.device.jobs) (left_true (j.q == 0) _ q0 w) in
-        absurd (true≢false (sym right ∙ inner.1))
-      where
-        left_true : (x y : Bool) → x ≡ true → (x && y) ≡ false → y ≡ false
-        left_true x y e h = grind arith
+    go b e = grind arith
 
 pub tie_complete : (part : HostPart) (q cid : ℕ) (s : State) → refusal_of s (events.Complete q cid) ≡ None → TieP part s.device → TieP part (a.after_complete q cid s).device
 tie_complete part q cid s none h =
+    let rest : List Job = filter (λ k. not (is_job q cid k)) s.device.jobs in
+    let less : Tie part.entries part.host.queues s.device.queues (filter (λ k. not (is_job q cid k)) s.device.jobs) =
+    tie_jobs part.entries part.host.queues s.device.queues s.device.jobs (filter (λ k. not (is_job q cid k)) s.device.jobs) (λ z. total-filter (on_queue z) (λ k. not (is_job q cid k)) s.device.jobs) h in
     complete_by (λ (t : State). TieP part t.device) s q cid h
     (λ j e c.
     let judged : is_none j.verdict ≡ false = rw e at (unrefused s (events.Complete q cid) none).1.0 in
@@ -180,17 +160,10 @@ tie_complete part q cid s none h =
     let c1 = and_parts ((j.q == 0) && (j.entry.opcode == DELETE_IO_SQ)) (is_success (a.final_status s j)) c in
     let c2 = and_parts (j.q == 0) (j.entry.opcode == DELETE_IO_SQ) c1.0 in
     let ok : is_success v.0 ≡ true = ap is_success (sym (final_admin s j v.0 (eqb-true j.q 0 c2.0) v.1)) ∙ c1.1 in
-    let nobody = waited s j v.0 v.1 ok c2.0 c2.1 free in
     tie_answered part.entries part.host.queues (change (named_queue j.entry) cleared s.device.queues) rest q _ (h.service q (found_counts q cid s.device.jobs j e))
     (tie_kill part.entries part.host.queues s.device.queues rest (named_queue j.entry)
-    (omega (arith, nobody, total-filter (on_queue (named_queue j.entry)) (λ k. not (is_job q cid k)) s.device.jobs)) less))
+    (omega (arith, waited s j v.0 v.1 ok c2.0 c2.1 free, total-filter (on_queue (named_queue j.entry)) (λ k. not (is_job q cid k)) s.device.jobs)) less))
     (λ j e c. tie_answered part.entries part.host.queues s.device.queues rest q _ (h.service q (found_counts q cid s.device.jobs j e)) less)
-  where
-    rest : List Job
-    rest = filter (λ k. not (is_job q cid k)) s.device.jobs
-
-    less : Tie part.entries part.host.queues s.device.queues (filter (λ k. not (is_job q cid k)) s.device.jobs)
-    less = tie_jobs part.entries part.host.queues s.device.queues s.device.jobs (filter (λ k. not (is_job q cid k)) s.device.jobs) (λ z. total-filter (on_queue z) (λ k. not (is_job q cid k)) s.device.jobs) h
 
 -- The host's events keep the controller's queues tied to the host's.
 
@@ -215,10 +188,7 @@ tie_posts q entry s takes h =
 -- Reaping
 
 made : (s : State) (q : ℕ) → refusal_of s (events.Reap q) ≡ None → (x : HostQueue) → slice_get s.host.queues q ≡ Some x → is_making x.state ≡ false
-made s q none x e =
-    let y = queue_found is_reaped s q (not-false _ (unrefused s (events.Reap q) none).0) in
-    let same : y.0 ≡ x = cc (y.1, e) in
-    ap (λ (z : HostQueue). is_making z.state) (sym same) ∙ reaped_in_use y.0.state y.2
+made s q none x e = grind arith
 
 tie_consumed : (q : ℕ) (s : State) → refusal_of s (events.Reap q) ≡ None → TieS s → TieS (a.consumed q s)
 tie_consumed q s none h =
@@ -233,12 +203,7 @@ tie_heard q e s none h =
 -- Retiring: its completions are reaped
 
 pub no_answers : (s : State) (q : ℕ) → s.trusted ≡ true → refusal_of s (events.Retire q) ≡ None → (d : DeviceQueue) → slice_get s.device.queues q ≡ Some d → d.answers ≡ []
-no_answers s q t none d ed = empty d.answers (ap (λ (o : Option DeviceQueue). is_some (option_map (entry_of q) (option_and_then (λ queue. first_answer queue.answers) o))) (sym ed)
-    ∙ subst (λ (o : Option ComEntry). is_some o ≡ false) (seen_trusted s q t) (unrefused s (events.Retire q) none).1.0)
-  where
-    empty : (xs : List Answer) → is_some (option_map (entry_of q) (first_answer xs)) ≡ false → xs ≡ []
-    empty [] e = refl
-    empty (x ∷ xs) e = absurd (true≢false e)
+no_answers s q t none d ed = grind arith
 
 -- Every event
 
@@ -264,6 +229,14 @@ takes_still s q f other takes x e = sym (get_other q f s.host.queues 0 (eqb-fals
 
 pub tie_host_event : (s : State) (e : Event) (reply : Reply) → Accepts s e reply → IsController e ≡ false → Ground s → TieS s → TieS (a.after s e reply)
 tie_host_event s e reply ok c g h =
+    let sent : (adm : AdminKind) (id : ℕ) → TieS (sends adm id s) = λ adm id.
+    let takes = takes_zero s g in tie_posts 0 (admin_entry adm id) (a.on_records (λ records. records ++ sent_record adm id ∷ []) s) (record { live = takes.live; there = takes.there }) h in
+    let elsewhere : (adm : AdminKind) (id q : ℕ) (f : HostQueue → HostQueue) (t : State) → t.entries ≡ s.entries → t.host.queues ≡ change q f s.host.queues → t.device.queues ≡ s.device.queues → t.device.jobs ≡ s.device.jobs → (q == 0) ≡ false
+    → Tie s.entries (change q f s.host.queues) s.device.queues s.device.jobs → TieS (sends adm id t) = λ adm id q f t es hs ds js other tie.
+    let takes = takes_zero s g in
+    let back : (x : HostQueue) → slice_get t.host.queues 0 ≡ Some x → slice_get s.host.queues 0 ≡ Some x = λ x e. takes_still s q f other takes x (ap (λ xs. slice_get xs 0) (sym hs) ∙ e) in
+    tie_posts 0 (admin_entry adm id) (a.on_records (λ records. records ++ sent_record adm id ∷ []) t)
+    (record { live = λ x e. takes.live x (back x e); there = λ x e. ap (λ xs. gone_at xs 0) ds ∙ takes.there x (back x e) }) (rw (es, hs, ds, js) tie) in
     host_moves (λ (e : Event) (reply : Reply) (t : State). refusal_of s e ≡ None → TieS t) s e reply ok c
     (record {
       reserves = λ q request d none is none'. h;
@@ -340,10 +313,9 @@ tie_host_event s e reply ok c g h =
           tie_host s.entries s.host.queues s.device.queues s.device.jobs q a.retired
           (λ x d ex ed p.
           let same : queue ≡ x = cc (at, ex) in
-          let has : has_cq x.state ≡ true = ap (λ (z : HostQueue). has_cq z.state) (sym same) ∙ ap has_cq deleted in
           record {
             sub = λ o. absurd (true≢false (sym o));
-            comp = λ o. p.comp has;
+            comp = λ o. p.comp (ap (λ (z : HostQueue). has_cq z.state) (sym same) ∙ ap has_cq deleted);
             half = p.half;
             emptied = p.emptied;
             unfetched = λ o. p.emptied (sym (ap (λ (o : Option DeviceQueue). option_map_or (λ at. is_absent at.state) o true) ed) ∙ gone);
@@ -359,17 +331,6 @@ tie_host_event s e reply ok c g h =
       };
     }) ok.0
   where
-    sent : (adm : AdminKind) (id : ℕ) → TieS (sends adm id s)
-    sent adm id = let takes = takes_zero s g in tie_posts 0 (admin_entry adm id) (a.on_records (λ records. records ++ sent_record adm id ∷ []) s) (record { live = takes.live; there = takes.there }) h
-
-    elsewhere : (adm : AdminKind) (id q : ℕ) (f : HostQueue → HostQueue) (t : State) → t.entries ≡ s.entries → t.host.queues ≡ change q f s.host.queues → t.device.queues ≡ s.device.queues → t.device.jobs ≡ s.device.jobs → (q == 0) ≡ false
-        → Tie s.entries (change q f s.host.queues) s.device.queues s.device.jobs → TieS (sends adm id t)
-    elsewhere adm id q f t es hs ds js other tie =
-        let takes = takes_zero s g in
-        let back : (x : HostQueue) → slice_get t.host.queues 0 ≡ Some x → slice_get s.host.queues 0 ≡ Some x = λ x e. takes_still s q f other takes x (ap (λ xs. slice_get xs 0) (sym hs) ∙ e) in
-        tie_posts 0 (admin_entry adm id) (a.on_records (λ records. records ++ sent_record adm id ∷ []) t)
-        (record { live = λ x e. takes.live x (back x e); there = λ x e. ap (λ xs. gone_at xs 0) ds ∙ takes.there x (back x e) }) (rw (es, hs, ds, js) tie)
-
     noted : (x : HostQueue) (d : DeviceQueue) → x.state ≡ Deleting false → PairOk s.entries x d → (b : Bool) → PairOk s.entries (record x { state = if b then Deleting true else Live }) d
     noted x d is p true = pair_moves s.entries x (record x { state = Deleting true }) d (λ o. p.sub (ap has_sq is)) (λ o. p.comp (ap has_cq is)) (λ o. absurd (true≢false o)) (λ o. absurd (true≢false (sym o))) p
     noted x d is p false = pair_moves s.entries x (record x { state = Live }) d (λ o. p.sub (ap has_sq is)) (λ o. p.comp (ap has_cq is)) (λ o. absurd (true≢false o)) (λ o. absurd (true≢false (sym o))) p
@@ -474,15 +435,13 @@ pub record Hears (rs : List Record) (un : List SubEntry) (js : List Job) (ans : 
 pub hears_first : (rs : List Record) (cid : ℕ) (un : List SubEntry) (js : List Job) (an : Answer) (ans : List Answer) (adm : AdminKind) → an.cid ≡ cid → Knows rs cid adm → Placed (without_record 0 cid rs) un js ans
     → Hears rs un js (an ∷ ans) (without_record 0 cid rs) ans adm (is_success an.status)
 hears_first rs cid un js an ans adm same k placed =
+    let kind : (test : AdminKind → Bool) → is_kind test rs an.cid ≡ test adm = λ test. ap (λ (c : ℕ). is_kind test rs c) same ∙ kind_known test rs cid adm k in
     let few = (fewer_kept (without_record 0 cid rs) rs un js ans placed (knows_back 0 cid rs)).1 in
     record {
       unmade = λ test. omega (arith, few.unmade test, ap (λ (b : Bool). one (b && not (is_success an.status))) (kind test));
       answered = λ test. omega (arith, few.answered test, ap (λ (b : Bool). one (b && is_success an.status)) (kind test));
       done = λ test. omega (arith, few.done test, ap (λ (b : Bool). one (b && is_success an.status)) (kind test));
     }
-  where
-    kind : (test : AdminKind → Bool) → is_kind test rs an.cid ≡ test adm
-    kind test = ap (λ (c : ℕ). is_kind test rs c) same ∙ kind_known test rs cid adm k
 
 pub record MovesOn (hs hs' : List HostQueue) (adm : AdminKind) (ok : Bool) : Type 0 where
   pub long : length hs' ≡ length hs
@@ -502,11 +461,9 @@ tokens_hears rs rs' hs hs' ds un js ans ans' adm ok f m h = record {
 moves_at : (test : HostState → Bool) (gain : ℕ → ℕ) (hs : List HostQueue) (k : ℕ) (f : HostQueue → HostQueue)
     → ((x : HostQueue) → slice_get hs k ≡ Some x → one (test (f x).state) ≤ one (test x.state) + gain k)
     → (q : ℕ) → one (awaited_at test (change k f hs) q) ≤ one (awaited_at test hs q) + gain q
-moves_at test gain [] k f own q = omega arith
 moves_at test gain (x ∷ hs) zero f own zero = own x refl
-moves_at test gain (x ∷ hs) zero f own (suc q) = omega arith
-moves_at test gain (x ∷ hs) (suc k) f own zero = omega arith
 moves_at test gain (x ∷ hs) (suc k) f own (suc q) = moves_at test (λ n. gain (suc n)) hs k f own q
+moves_at test gain x k f own q = omega arith
 
 pub moves_on : (adm : AdminKind) (ok : Bool) (hs : List HostQueue) (k : ℕ) (f : HostQueue → HostQueue)
     → ((x : HostQueue) → slice_get hs k ≡ Some x → (one (is_known_deleted (f x).state) ≤ one (is_known_deleted x.state) + (one (deletes_sq k adm && ok) + one (creates_sq_agreeing k adm && not ok)))

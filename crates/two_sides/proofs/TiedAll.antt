@@ -9,14 +9,13 @@ use Rattle.io_commands.specs.Jobs.{is_success}
 use Rattle.queue_pair.specs.{Members.change, Memory.half_pages, Rings.{next_tail, next_head, knowing}}
 use Rattle.machine_model.proofs.{Counting.all_at, Headline.{in_limits, limits_say, length-range, holds_at_opening, fits_pool, taken_at_opening}}
 use Rattle.machine_model.proofs.{HostLeaves.host_leaves, Kept.{submissions_awaited, zero_host, zero_opened}}
-use Rattle.machine_model.proofs.{Moves.{host_moves, half_from, grants_cq, grants_sq}, Owned.{HoldsPart, awaited_at, reset_length}}
+use Rattle.machine_model.proofs.{Moves.{host_moves, half_from, grants_cq, grants_sq}, Owned.{HoldsPart, reset_length}}
 use Rattle.machine_model.proofs.Sound.{asks, asked_event, asked_at, opened_quiet, opened_waits_not, TakenPart, Both, both_events}
 use Rattle.machine_model.proofs.{Steps.{Accepts, part_controller, unrefused}, Tokens.find_sound, TokensKept.{tokens_of, tokens_to, same_length}}
-use Rattle.machine_model.specs.Agreeing.{TokensGoRound, is_known_deleted, is_live_at, waiting, answering, is_absent_at as gone_at, has_completions_at as there_at, QueuesFit as Paired, QueueFits as PairOk}
+use Rattle.machine_model.specs.Agreeing.{is_known_deleted, waiting, answering, is_absent_at as gone_at, has_completions_at as there_at, QueuesFit as Paired, QueueFits as PairOk}
 use Rattle.machine_model.specs.{Claims.AdminLives, Events.{Event, Reply}, Opening.{Opens, opening, queues_from, device_queue as opened}, Positions.IsInRing}
 use Rattle.machine_model.specs.{Refusals.{is_live, is_gone, job_at, refusal_of, is_job, host_queue}, State.{State, HostQueue, Job, DeviceQueue}}
-use Rattle.machine_model.specs.{Step.{HostPart, host_part, IsController}, Weights.{one, total}, declared.words.HostState.HostState}
-use Rattle.machine_model.specs.declared.words.HostState.TheVariants.{Live, Deleting}
+use Rattle.machine_model.specs.{Step.{HostPart, host_part, IsController}, Weights.{one, total}, declared.words.HostState.TheVariants.{Live, Deleting}}
 use Rattle.two_sides.proofs.DeviceMoves.{tie_of, length-change, InRings, rings_on, rings_at_opening}
 use Rattle.two_sides.proofs.Standing.{StandsSound, stands_event, both_on, opening_stands}
 use Rattle.two_sides.proofs.Tied.{FitP, FitS, TieP, below, deleted_is_gone, tie_fetch, tie_walk, tie_complete, TieS, Ground, tie_host_event}
@@ -28,8 +27,7 @@ use Rattle.two_sides.proofs.Tokens.{KnowingP, TokensP, tokens_fetch, tokens_walk
 
 pub live_is_there : (s : State) → FitS s → (q : ℕ) (x : HostQueue) → slice_get s.host.queues q ≡ Some x → is_live x.state ≡ true → gone_at s.device.queues q ≡ false
 live_is_there s h q x e live =
-    let known : is_live_at s.host.queues q ≡ true = ap (λ (o : Option HostQueue). option_map_or (λ h. is_live h.state) o false) e ∙ live in
-    h.tokens.there q (below s.host.queues q (ap is_some e)) (omega (arith, ap one known))
+    h.tokens.there q (below s.host.queues q (ap is_some e)) (omega (arith, ap one (ap (λ (o : Option HostQueue). option_map_or (λ h. is_live h.state) o false) e ∙ live)))
 
 ground : (s : State) → s.trusted ≡ true → AdminLives s.host.queues → HoldsPart (host_part s) → FitS s → Ground s
 ground s t zero' holds h = record { trusted = t; holds = holds; zero_live = zero'; live = live_is_there s h; over = deleted_is_gone s h }
@@ -60,6 +58,10 @@ whole s pos few asked tie held = record {
 -- how many queues there are stays
 pub queues_stay : (s : State) (e : Event) (reply : Reply) → Accepts s e reply → IsController e ≡ false → length (a.after s e reply).host.queues ≡ length s.host.queues
 queues_stay s e reply ok c =
+    let few : (k : ℕ) (f : HostQueue → HostQueue) (hs : List HostQueue) → length hs ≡ length s.host.queues → length (change k f hs) ≡ length s.host.queues = λ k f hs l.
+    length-change k f hs ∙ l in
+    let heard_few : (q : ℕ) (e : ComEntry) → length (a.heard q e s).host.queues ≡ length s.host.queues = λ q e.
+    length-change q (λ x. record x { ring = knowing e.sqhd x.ring }) (a.consumed q s).host.queues ∙ length-change q (λ x. record x { ring = next_head s.entries x.ring }) s.host.queues in
     host_moves (λ (e : Event) (reply : Reply) (t : State). length t.host.queues ≡ length s.host.queues) s e reply ok c
     (record {
       reserves = λ q request d none is. refl;
@@ -87,12 +89,6 @@ queues_stay s e reply ok c =
       forges = λ q slot bytes queue none at. refl;
       resets = reset_length s.host.queues;
     })
-  where
-    few : (k : ℕ) (f : HostQueue → HostQueue) (hs : List HostQueue) → length hs ≡ length s.host.queues → length (change k f hs) ≡ length s.host.queues
-    few k f hs l = length-change k f hs ∙ l
-
-    heard_few : (q : ℕ) (e : ComEntry) → length (a.heard q e s).host.queues ≡ length s.host.queues
-    heard_few q e = length-change q (λ x. record x { ring = knowing e.sqhd x.ring }) (a.consumed q s).host.queues ∙ length-change q (λ x. record x { ring = next_head s.entries x.ring }) s.host.queues
 
 -- and so do the entries of each
 pub limits_stay : (n : ℕ) (s : State) (e : Event) (reply : Reply) → Accepts s e reply → IsController e ≡ false → (0 < s.entries) × (length s.host.queues ≡ n) → (0 < (a.after s e reply).entries) × (length (a.after s e reply).host.queues ≡ n)
@@ -115,8 +111,7 @@ by_controller s e reply c f tie held =
 -- of the host
 by_host : (s : State) (e : Event) (reply : Reply) → Accepts s e reply → IsController e ≡ false → s.trusted ≡ true → AdminLives s.host.queues → StandsSound s → FitS s → FitS (a.after s e reply)
 by_host s e reply ok c t zero' h f =
-    let g = ground s t zero' h.0 f in
-    let tie = tie_host_event s e reply ok c g (tie_of s.entries s.host.records s.host.queues s.device.queues s.device.jobs f) in
+    let tie = tie_host_event s e reply ok c (ground s t zero' h.0 f) (tie_of s.entries s.host.records s.host.queues s.device.queues s.device.jobs f) in
     let held = tokens_host_event s e reply ok c t f.few (same_length s.entries s.host.queues s.device.queues f.pairs) h.0 h.1 (stands_event s e reply ok t h) (tokens_of s.host.records s.host.queues s.device.queues s.device.jobs f.tokens) in
     let limits = limits_stay (length s.host.queues) s e reply ok c (f.some_entries, refl) in
     whole (a.after s e reply) limits.0 (subst (λ (k : ℕ). k ≤ 65536) (sym limits.1) f.few) (asked_event s e reply ok c h.0 f.asked) tie held
@@ -182,16 +177,6 @@ opened_waiting : (count : ℕ) → (waiting (replicate count opened) ≡ []) × 
 opened_waiting zero = (refl, refl)
 opened_waiting (suc count) = (refl, refl)
 
-opened_tokens : (n count : ℕ) → TokensGoRound [] (queues_from 0 n count) (replicate count opened) []
-opened_tokens n count =
-    tokens_to [] (queues_from 0 n count) (replicate count opened) []
-    (rw ((opened_waiting count).0, (opened_waiting count).1)
-    (record {
-      submission = λ q. omega (arith, ap one (opened_waits_not is_known_deleted refl 0 n count q), small (not (gone_at (replicate count opened) q)));
-      completion = λ q. omega (arith, ap one (opened_waits_not is_gone refl 0 n count q), small (there_at (replicate count opened) q));
-      there = λ q inside some. opened_there count q (omega (arith, inside, opened_length 0 n count));
-    }))
-
 fit-opening : (pages queues n s : ℕ) (image : List ℕ) → 0 < n → queues < 65536 → FitS (opening pages queues n s image)
 fit-opening pages queues n s image pos few = record {
   some_entries = pos;
@@ -200,13 +185,15 @@ fit-opening pages queues n s image pos few = record {
   pairs = opened_pairs 0 n (queues + 1);
   jobs = λ q some. absurd (omega arith);
   service = λ q some. absurd (omega arith);
-  tokens = opened_tokens n (queues + 1);
+  tokens =
+      tokens_to [] (queues_from 0 n (queues + 1)) (replicate (queues + 1) opened) []
+      (rw ((opened_waiting (queues + 1)).0, (opened_waiting (queues + 1)).1)
+      (record {
+        submission = λ q. omega (arith, ap one (opened_waits_not is_known_deleted refl 0 n (queues + 1) q), small (not (gone_at (replicate (queues + 1) opened) q)));
+        completion = λ q. omega (arith, ap one (opened_waits_not is_gone refl 0 n (queues + 1) q), small (there_at (replicate (queues + 1) opened) q));
+        there = λ q inside some. opened_there (queues + 1) q (omega (arith, inside, opened_length 0 n (queues + 1)));
+      }));
 }
-
-pub fit_limits : (pages queues n s : ℕ) (image : List ℕ) → Opens pages queues n s → FitS (opening pages queues n s image)
-fit_limits pages queues n s image opens =
-    let limits = in_limits pages queues n s opens in
-    fit-opening pages queues n s image (limits_say pages queues n s limits).0 (limits_say pages queues n s limits).1
 
 -- What is known of every state of a trusted run, taken together.
 
@@ -220,17 +207,16 @@ pub record Grounds (s : State) : Type 0 where
   pub zero_live : AdminLives s.host.queues
 
 pub grounds_on : (s : State) (e : Event) (reply : Reply) → Accepts s e reply → s.trusted ≡ true → Grounds s → Grounds (a.after s e reply)
-grounds_on s e reply ok t g = record {
-  taken = (both (IsController e) refl).1;
-  rings = rings_on s e reply ok g.rings;
-  stands = all'.0;
-  fit = all'.1;
-  zero_live = zeros (IsController e) refl;
-}
+grounds_on s e reply ok t g =
+    let all' : StandsSound (a.after s e reply) × FitS (a.after s e reply) = all_on s e reply ok t g.zero_live (g.stands, g.fit) in
+    record {
+      taken = (both (IsController e) refl).1;
+      rings = rings_on s e reply ok g.rings;
+      stands = all'.0;
+      fit = all'.1;
+      zero_live = zeros (IsController e) refl;
+    }
   where
-    all' : StandsSound (a.after s e reply) × FitS (a.after s e reply)
-    all' = all_on s e reply ok t g.zero_live (g.stands, g.fit)
-
     both : (b : Bool) → IsController e ≡ b → Both (host_part (a.after s e reply))
     both true c = subst Both (sym (part_controller s e reply c)) (g.stands.0, g.taken)
     both false c = both_events s e reply ok c (g.stands.0, g.taken)
@@ -244,7 +230,9 @@ grounds_at_opening pages queues n s image opens = record {
   taken = taken_at_opening pages queues n s image;
   rings = rings_at_opening pages queues n s image opens;
   stands = (holds_at_opening pages queues n s image (fits_pool pages queues n s opens), opening_stands pages queues n s image);
-  fit = fit_limits pages queues n s image opens;
+  fit =
+      let limits = in_limits pages queues n s opens in
+      fit-opening pages queues n s image (limits_say pages queues n s limits).0 (limits_say pages queues n s limits).1;
   zero_live = zero_opened 0 n (queues + 1);
 }
 
@@ -252,10 +240,9 @@ grounds_at_opening pages queues n s image opens = record {
 
 paired_host_at : (n k : ℕ) (hs : List HostQueue) (ds : List DeviceQueue) (h : HostQueue) → slice_get hs k ≡ Some h → Paired n hs ds → (d : DeviceQueue) × (slice_get ds k ≡ Some d) × PairOk n h d
 paired_host_at n k [] [] h e p = absurd cc
-paired_host_at n k [] (d ∷ ds) h e p = absurd p
-paired_host_at n k (x ∷ hs) [] h e p = absurd p
 paired_host_at n zero (x ∷ hs) (d ∷ ds) h e p = let same : x ≡ h = cc in (d, refl, subst (λ (y : HostQueue). PairOk n y d) same p.0)
 paired_host_at n (suc k) (x ∷ hs) (d ∷ ds) h e p = paired_host_at n k hs ds h e p.1
+paired_host_at n k x y h e p = absurd p
 
 pub pair_at : (s : State) → Grounds s → (q : ℕ) (queue : HostQueue) → host_queue s q ≡ Some queue → (d : DeviceQueue) × (slice_get s.device.queues q ≡ Some d) × PairOk s.entries queue d
 pair_at s g q queue e = paired_host_at s.entries q s.host.queues s.device.queues queue e g.fit.pairs

@@ -20,8 +20,7 @@ use Rattle.machine_model.specs.Events.{Event, Reply}
 use Rattle.machine_model.specs.Refusals.{is_asked, is_live, is_making_sq, deletes_sq_of, creates_sq_of, job_at, next_rung, refusal_of, is_job, is_gone, is_submitted, has_cq_alone}
 use Rattle.machine_model.specs.State.{State, HostQueue, DeviceQueue, Device, Record, Job, Answer, is_at, without_record, with_record}
 use Rattle.machine_model.specs.{Step.{host_part, IsController}, Weights.{one, total, here}, Work.Work, declared.words.HostState.HostState}
-use Rattle.machine_model.specs.declared.words.{HostState.TheVariants.{Live, Deleting, Retired, Gone, MakingCq, HalfMade, MakingSq}, Phase.TheVariants.Held}
-use Rattle.machine_model.specs.declared.words.Work.TheVariants.{Management}
+use Rattle.machine_model.specs.declared.words.{HostState.TheVariants.{Live, Deleting}, Phase.TheVariants.Held, Work.TheVariants.Management}
 use Rattle.queue_pair.specs.{Members.change, Rings.{next_tail, next_head, knowing}}
 use Rattle.two_sides.proofs.{DeviceMoves.{answer_of, unit_done, finished, cleared, clears, fetch_by, walk_by, complete_by, length-change}, Provided.only_found}
 use Rattle.two_sides.proofs.Standing.{clears_io, answering_more, some_zero, some_still, queue_there, waiting_same, answering_same, waiting_other, answering_other, runs_there, taken_entry, verdict_there, final_admin, PlacedIn, far_suc as ne_zero, Stands, admin_zero, io_other, answering_rest}
@@ -48,31 +47,15 @@ fewer_jobs rs un js ans f same = record {
         → one (((f j).q == 0) && is_kind test rs (f j).entry.cid && g (succeeds (f j))) ≡ one ((j.q == 0) && is_kind test rs j.entry.cid && g (succeeds j))
     one_job test g j h = rw (h.0, h.1) (elim (cases_Bool (j.q == 0)) [ inl e ↦ rw (h.2 (eqb-true j.q 0 e)) | inr e ↦ rw e ])
 
--- a job of another queue more, or less
-fewer_more : (rs : List Record) (un : List SubEntry) (js : List Job) (ans : List Answer) (j : Job) → (j.q == 0) ≡ false → Fewer rs un js ans rs un (js ++ j ∷ []) ans
-fewer_more rs un js ans j other = record {
-  unmade = λ test. let none : failing test rs j ≡ 0 = rw other refl in omega (arith, total-append (failing test rs) js (j ∷ []), none);
-  answered = λ test. omega arith;
-  done = λ test. let none : succeeding test rs j ≡ 0 = rw other refl in omega (arith, total-append (succeeding test rs) js (j ∷ []), none);
-}
-
-fewer_less : (rs : List Record) (un : List SubEntry) (js : List Job) (ans : List Answer) (keep : Job → Bool) → Fewer rs un js ans rs un (filter keep js) ans
-fewer_less rs un js ans keep = record {
-  unmade = λ test. omega (arith, total-filter (failing test rs) keep js);
-  answered = λ test. omega arith;
-  done = λ test. omega (arith, total-filter (succeeding test rs) keep js);
-}
-
 -- an entry is answered at once, without success
 fewer_conflict : (rs : List Record) (e : SubEntry) (un : List SubEntry) (js : List Job) (ans : List Answer) (an : Answer) → an.cid ≡ e.cid → is_success an.status ≡ false → Fewer rs (e ∷ un) js ans rs un js (ans ++ an ∷ [])
-fewer_conflict rs e un js ans an same bad = record {
-  unmade = λ test. let fails : failed test rs an ≤ one (is_kind test rs e.cid) = rw same (grind arith) in omega (arith, total-append (failed test rs) ans (an ∷ []), fails);
-  answered = λ test. omega (arith, total-append (succeeded test rs) ans (an ∷ []), wins test);
-  done = λ test. omega (arith, total-append (succeeded test rs) ans (an ∷ []), wins test);
-}
-  where
-    wins : (test : AdminKind → Bool) → succeeded test rs an ≡ 0
-    wins test = grind (arith, bad)
+fewer_conflict rs e un js ans an same bad =
+    let wins : (test : AdminKind → Bool) → succeeded test rs an ≡ 0 = λ test. grind (arith, bad) in
+    record {
+      unmade = λ test. let fails : failed test rs an ≤ one (is_kind test rs e.cid) = rw same (grind arith) in omega (arith, total-append (failed test rs) ans (an ∷ []), fails);
+      answered = λ test. omega (arith, total-append (succeeded test rs) ans (an ∷ []), wins test);
+      done = λ test. omega (arith, total-append (succeeded test rs) ans (an ∷ []), wins test);
+    }
 
 -- What is known where a controller's event begins
 
@@ -95,22 +78,20 @@ same_where f test j same = elim (cases_Bool (test j)) [ inl e ↦ rw e (same e) 
 
 marks_same : (s : State) (q cid : ℕ) (f : Job → Job) → ((j : Job) → (f j).q ≡ j.q) → ((j : Job) → (f j).entry ≡ j.entry) → ((j : Job) → succeeds (f j) ≡ false)
     → a.walks s q cid ≡ true → total (job_is cid) s.device.jobs < 2 → AllByRecursion (Same (λ j. if is_job q cid j then f j else j)) s.device.jobs
-marks_same s q cid f fq fe fs walks few = elim (cases_Bool (q == 0)) [
-  | inl z ↦
-      let (j, e, none) = walking in
-      all_into (λ x. is_job 0 cid x ≡ true → x ≡ j) _ (λ x only. mark x (λ is at. ap succeeds (only (rw (eqb-true q 0 z) at is)) ∙ none)) s.device.jobs
-      (only_found (is_job 0 cid) s.device.jobs j (subst (λ (n : ℕ). find (is_job n cid) s.device.jobs ≡ Some j) (eqb-true q 0 z) e) few)
-  | inr z ↦ all_each _ (λ x. mark x (λ is at. absurd (true≢false (sym (eq-eqb q 0 (sym (eqb-true x.q q (and_parts (x.q == q) (x.entry.cid == cid) is).0) ∙ at)) ∙ z)))) s.device.jobs
-]
-  where
-    walking : (j : Job) × (job_at s q cid ≡ Some j) × (succeeds j ≡ false)
-    walking = elim (option_is (job_at s q cid)) [
+marks_same s q cid f fq fe fs walks few =
+    let walking : (j : Job) × (job_at s q cid ≡ Some j) × (succeeds j ≡ false) = elim (option_is (job_at s q cid)) [
       | inl none ↦ absurd (true≢false (sym (rw none at walks)))
       | inr (j, e) ↦ (j, e, elim (option_is j.verdict) [ inl none ↦ rw none | inr (st, some) ↦ absurd (true≢false (sym (rw (e, some) at walks))) ])
+    ] in
+    let mark : (j : Job) → (is_job q cid j ≡ true → (j.q ≡ 0) → succeeds j ≡ false) → Same (λ j. if is_job q cid j then f j else j) j = λ j quiet.
+    same_where f (is_job q cid) j (λ e. (fq j, fe j, λ z. fs j ∙ sym (quiet e z))) in
+    elim (cases_Bool (q == 0)) [
+      | inl z ↦
+          let (j, e, none) = walking in
+          all_into (λ x. is_job 0 cid x ≡ true → x ≡ j) _ (λ x only. mark x (λ is at. ap succeeds (only (rw (eqb-true q 0 z) at is)) ∙ none)) s.device.jobs
+          (only_found (is_job 0 cid) s.device.jobs j (subst (λ (n : ℕ). find (is_job n cid) s.device.jobs ≡ Some j) (eqb-true q 0 z) e) few)
+      | inr z ↦ all_each _ (λ x. mark x (λ is at. absurd (true≢false (sym (eq-eqb q 0 (sym (eqb-true x.q q (and_parts (x.q == q) (x.entry.cid == cid) is).0) ∙ at)) ∙ z)))) s.device.jobs
     ]
-
-    mark : (j : Job) → (is_job q cid j ≡ true → (j.q ≡ 0) → succeeds j ≡ false) → Same (λ j. if is_job q cid j then f j else j) j
-    mark j quiet = same_where f (is_job q cid) j (λ e. (fq j, fe j, λ z. fs j ∙ sym (quiet e z)))
 
 stops_same : (q : ℕ) → (q == 0) ≡ false → (js : List Job) → AllByRecursion (Same (a.stopped q)) js
 stops_same q other js = all_each _ (λ j. same_where (λ j. record j { verdict = Some ABORTED_SQ_DELETION }) (λ j. (j.q == q) && is_none j.verdict) j
@@ -126,6 +107,14 @@ TokensP rs hs d = TokensHeld rs hs d.queues (waiting d.queues) d.jobs (answering
 tokens_managed : (rs : List Record) (hs : List HostQueue) (e : SubEntry) (s : State) → Knowing rs hs s.device.queues (e ∷ waiting s.device.queues) s.device.jobs (answering s.device.queues)
     → InHand rs hs e s.device → TokensP rs hs (a.managed e s).device
 tokens_managed rs hs e s g h =
+    let taken : (js : List Job) (dw0 : ℕ) → Fetched rs e (waiting s.device.queues) js (js ++ a.new_job 0 e (Some SUCCESS) dw0 [] ∷ []) (answering s.device.queues) true = λ js dw0.
+    fetched rs e (waiting s.device.queues) js (answering s.device.queues) (a.new_job 0 e (Some SUCCESS) dw0 []) SUCCESS refl refl refl in
+    let plain : (n : ℕ) → (e.opcode == n) ≡ true → (n == DELETE_IO_CQ) ≡ false → (n == CREATE_IO_SQ) ≡ false → (js : List Job) (dw0 : ℕ) → TokensHeld rs hs s.device.queues (e ∷ waiting s.device.queues) js (answering s.device.queues)
+    → TokensHeld rs hs s.device.queues (waiting s.device.queues) (js ++ a.new_job 0 e (Some SUCCESS) dw0 [] ∷ []) (answering s.device.queues) = λ n is no4 no1 js dw0 h.
+    let named : Named rs e = named rs e g.placed.entries.0.0 g.placed.entries.0.1 g.placed.entries.0.2 in
+    tokens_plain rs hs s.device.queues e (waiting s.device.queues) js (js ++ a.new_job 0 e (Some SUCCESS) dw0 [] ∷ []) (answering s.device.queues) true
+    (fetched rs e (waiting s.device.queues) js (answering s.device.queues) (a.new_job 0 e (Some SUCCESS) dw0 []) SUCCESS refl refl refl)
+    (λ q. rw (named.deletes_cq q, eqb-true e.opcode n is, no4) refl) (λ q. rw (named.creates_sq q, eqb-true e.opcode n is, no1) refl) h in
     let ds : List DeviceQueue = s.device.queues in
     let un : List SubEntry = waiting s.device.queues in
     let ans : List Answer = answering s.device.queues in
@@ -160,17 +149,6 @@ tokens_managed rs hs e s g h =
     js : List Job
     js = s.device.jobs
 
-    taken : (js : List Job) (dw0 : ℕ) → Fetched rs e (waiting s.device.queues) js (js ++ a.new_job 0 e (Some SUCCESS) dw0 [] ∷ []) (answering s.device.queues) true
-    taken js dw0 = fetched rs e (waiting s.device.queues) js (answering s.device.queues) (a.new_job 0 e (Some SUCCESS) dw0 []) SUCCESS refl refl refl
-
-    plain : (n : ℕ) → (e.opcode == n) ≡ true → (n == DELETE_IO_CQ) ≡ false → (n == CREATE_IO_SQ) ≡ false → (js : List Job) (dw0 : ℕ) → TokensHeld rs hs s.device.queues (e ∷ waiting s.device.queues) js (answering s.device.queues)
-        → TokensHeld rs hs s.device.queues (waiting s.device.queues) (js ++ a.new_job 0 e (Some SUCCESS) dw0 [] ∷ []) (answering s.device.queues)
-    plain n is no4 no1 js dw0 h =
-        let named : Named rs e = named rs e g.placed.entries.0.0 g.placed.entries.0.1 g.placed.entries.0.2 in
-        tokens_plain rs hs s.device.queues e (waiting s.device.queues) js (js ++ a.new_job 0 e (Some SUCCESS) dw0 [] ∷ []) (answering s.device.queues) true
-        (fetched rs e (waiting s.device.queues) js (answering s.device.queues) (a.new_job 0 e (Some SUCCESS) dw0 []) SUCCESS refl refl refl)
-        (λ q. rw (named.deletes_cq q, eqb-true e.opcode n is, no4) refl) (λ q. rw (named.creates_sq q, eqb-true e.opcode n is, no1) refl) h
-
 -- an entry taken off
 taken_off_tokens : (rs : List Record) (hs : List HostQueue) (q : ℕ) (d : Device) → TokensHeld rs hs d.queues (waiting d.queues) d.jobs (answering d.queues)
     → TokensHeld rs hs (change q (λ at. record at { unfetched = drop 1 at.unfetched; rung = at.rung - 1 }) d.queues) (waiting d.queues) d.jobs (answering d.queues)
@@ -199,27 +177,11 @@ KnowingP rs hs d = Knowing rs hs d.queues (waiting d.queues) d.jobs (answering d
 
 pub tokens_fetch : (rs : List Record) (hs : List HostQueue) (q : ℕ) (s : State) → KnowingP rs hs s.device → TokensP rs hs s.device → TokensP rs hs (a.after_fetch q s).device
 tokens_fetch rs hs zero s g h =
-    fetch_by (λ (t : State). TokensP rs hs t.device) s 0 h
-    (λ e next c. let t = (a.taken_off 0 s).device in let an = answer_of 0 e.cid COMMAND_ID_CONFLICT 0 (a.taken_off 0 s) in
-    answered_zero rs hs an t (some_still off 0 s.device.queues (some_zero s.device.queues e next))
-    (tokens_fewer rs rs hs t.queues (e ∷ waiting t.queues) (waiting t.queues) s.device.jobs s.device.jobs (answering t.queues) (answering t.queues ++ an ∷ [])
-    (fewer_conflict rs e (waiting t.queues) s.device.jobs (answering t.queues) an refl refl) (hand e next)))
-    (λ e next c z. tokens_managed rs hs e (a.taken_off 0 s) (knows e next) (hand e next))
-    (λ e next c other. absurd (true≢false other))
-  where
-    off : DeviceQueue → DeviceQueue
-    off at = record at { unfetched = drop 1 at.unfetched; rung = at.rung - 1 }
-
-    same : answering (a.taken_off 0 s).device.queues ≡ answering s.device.queues
-    same = answering_same (λ at. record at { unfetched = drop 1 at.unfetched; rung = at.rung - 1 }) (λ at. refl) 0 s.device.queues
-
-    hand : (e : SubEntry) → next_rung s 0 ≡ Some e → InHand rs hs e (a.taken_off 0 s).device
-    hand e next =
-        rw (answering_same (λ at. record at { unfetched = drop 1 at.unfetched; rung = at.rung - 1 }) (λ at. refl) 0 s.device.queues)
-        (subst (λ un. TokensHeld rs hs (a.taken_off 0 s).device.queues un s.device.jobs (answering s.device.queues)) (taken_entry s.device.queues e next) (taken_off_tokens rs hs 0 s.device h))
-
-    knows : (e : SubEntry) → next_rung s 0 ≡ Some e → Knowing rs hs (a.taken_off 0 s).device.queues (e ∷ waiting (a.taken_off 0 s).device.queues) s.device.jobs (answering (a.taken_off 0 s).device.queues)
-    knows e next = record {
+    let hand : (e : SubEntry) → next_rung s 0 ≡ Some e → InHand rs hs e (a.taken_off 0 s).device = λ e next.
+    rw (answering_same (λ at. record at { unfetched = drop 1 at.unfetched; rung = at.rung - 1 }) (λ at. refl) 0 s.device.queues)
+    (subst (λ un. TokensHeld rs hs (a.taken_off 0 s).device.queues un s.device.jobs (answering s.device.queues)) (taken_entry s.device.queues e next) (taken_off_tokens rs hs 0 s.device h)) in
+    let knows : (e : SubEntry) → next_rung s 0 ≡ Some e → Knowing rs hs (a.taken_off 0 s).device.queues (e ∷ waiting (a.taken_off 0 s).device.queues) s.device.jobs (answering (a.taken_off 0 s).device.queues) = λ e next.
+    record {
       placed = rw (answering_same (λ at. record at { unfetched = drop 1 at.unfetched; rung = at.rung - 1 }) (λ at. refl) 0 s.device.queues)
           (subst (λ un. Placed rs un s.device.jobs (answering s.device.queues)) (taken_entry s.device.queues e next) g.placed);
       once = g.once;
@@ -227,7 +189,14 @@ tokens_fetch rs hs zero s g h =
       long = length-change 0 (λ at. record at { unfetched = drop 1 at.unfetched; rung = at.rung - 1 }) s.device.queues ∙ g.long;
       asked = g.asked;
       making = g.making;
-    }
+    } in
+    fetch_by (λ (t : State). TokensP rs hs t.device) s 0 h
+    (λ e next c. let t = (a.taken_off 0 s).device in let an = answer_of 0 e.cid COMMAND_ID_CONFLICT 0 (a.taken_off 0 s) in
+    answered_zero rs hs an t (some_still (λ at. record at { unfetched = drop 1 at.unfetched; rung = at.rung - 1 }) 0 s.device.queues (some_zero s.device.queues e next))
+    (tokens_fewer rs rs hs t.queues (e ∷ waiting t.queues) (waiting t.queues) s.device.jobs s.device.jobs (answering t.queues) (answering t.queues ++ an ∷ [])
+    (fewer_conflict rs e (waiting t.queues) s.device.jobs (answering t.queues) an refl refl) (hand e next)))
+    (λ e next c z. tokens_managed rs hs e (a.taken_off 0 s) (knows e next) (hand e next))
+    (λ e next c other. absurd (true≢false other))
 tokens_fetch rs hs (suc k) s g h =
     let base : TokensP rs hs (a.taken_off (suc k) s).device =
     let f : DeviceQueue → DeviceQueue = λ at. record at { unfetched = drop 1 at.unfetched; rung = at.rung - 1 } in
@@ -239,7 +208,12 @@ tokens_fetch rs hs (suc k) s g h =
     let fault = io_fault (a.image_blocks (a.taken_off (suc k) s)) e in
     let t = (a.taken_off (suc k) s).device in
     let j = a.new_job (suc k) e fault 0 (bytes_after_check s.device.image e fault) in
-    tokens_fewer rs rs hs t.queues (waiting t.queues) (waiting t.queues) t.jobs (t.jobs ++ j ∷ []) (answering t.queues) (answering t.queues) (fewer_more rs (waiting t.queues) t.jobs (answering t.queues) j (ne_zero k)) base)
+    -- a job of another queue more, or less
+    tokens_fewer rs rs hs t.queues (waiting t.queues) (waiting t.queues) t.jobs (t.jobs ++ j ∷ []) (answering t.queues) (answering t.queues) (record {
+      unmade = λ test. let none : failing test rs j ≡ 0 = rw (ne_zero k) refl in omega (arith, total-append (failing test rs) t.jobs (j ∷ []), none);
+      answered = λ test. omega arith;
+      done = λ test. let none : succeeding test rs j ≡ 0 = rw (ne_zero k) refl in omega (arith, total-append (succeeding test rs) t.jobs (j ∷ []), none);
+    }) base)
 
 -- Walking, a job of another queue
 
@@ -263,17 +237,16 @@ pub record Completed (rs : List Record) (un : List SubEntry) (js js' : List Job)
 
 completed : (rs : List Record) (un : List SubEntry) (js : List Job) (ans : List Answer) (cid : ℕ) (j : Job) (an : Answer) (st : Status) → find (is_job 0 cid) js ≡ Some j → j.verdict ≡ Some st → an.cid ≡ cid → an.status ≡ st
     → Completed rs un js (filter (λ k. not (is_job 0 cid k)) js) ans (ans ++ an ∷ []) cid (is_success st)
-completed rs un js ans cid j an st found jv ac as' = record {
-  unmade = λ test. omega (arith, total_gone (failing test rs) (is_job 0 cid) js j found, total-append (failed test rs) ans (an ∷ []), job test not, answer test not);
-  answered = λ test. omega (arith, total-append (succeeded test rs) ans (an ∷ []), answer test (λ b. b));
-  done = λ test. omega (arith, total_gone (succeeding test rs) (is_job 0 cid) js j found, total-append (succeeded test rs) ans (an ∷ []), job test (λ b. b), answer test (λ b. b));
-}
-  where
-    job : (test : AdminKind → Bool) (g : Bool → Bool) → one ((j.q == 0) && is_kind test rs j.entry.cid && g (succeeds j)) ≡ one (is_kind test rs cid && g (is_success st))
-    job test g = let p = and_parts (j.q == 0) (j.entry.cid == cid) (find_sound (is_job 0 cid) js j found) in rw (p.0, eqb-true j.entry.cid cid p.1, jv)
-
-    answer : (test : AdminKind → Bool) (g : Bool → Bool) → one (is_kind test rs an.cid && g (is_success an.status)) ≡ one (is_kind test rs cid && g (is_success st))
-    answer test g = rw (ac, as')
+completed rs un js ans cid j an st found jv ac as' =
+    let job : (test : AdminKind → Bool) (g : Bool → Bool) → one ((j.q == 0) && is_kind test rs j.entry.cid && g (succeeds j)) ≡ one (is_kind test rs cid && g (is_success st)) = λ test g.
+    let p = and_parts (j.q == 0) (j.entry.cid == cid) (find_sound (is_job 0 cid) js j found) in rw (p.0, eqb-true j.entry.cid cid p.1, jv) in
+    let answer : (test : AdminKind → Bool) (g : Bool → Bool) → one (is_kind test rs an.cid && g (is_success an.status)) ≡ one (is_kind test rs cid && g (is_success st)) = λ test g.
+    rw (ac, as') in
+    record {
+      unmade = λ test. omega (arith, total_gone (failing test rs) (is_job 0 cid) js j found, total-append (failed test rs) ans (an ∷ []), job test not, answer test not);
+      answered = λ test. omega (arith, total-append (succeeded test rs) ans (an ∷ []), answer test (λ b. b));
+      done = λ test. omega (arith, total_gone (succeeding test rs) (is_job 0 cid) js j found, total-append (succeeded test rs) ans (an ∷ []), job test (λ b. b), answer test (λ b. b));
+    }
 
 -- one that doesn't delete a submission queue with success
 tokens_answered : (rs : List Record) (hs : List HostQueue) (ds : List DeviceQueue) (un : List SubEntry) (js js' : List Job) (ans ans' : List Answer) (c : ℕ) (ok : Bool) → Completed rs un js js' ans ans' c ok
@@ -288,14 +261,12 @@ tokens_answered rs hs ds un js js' ans ans' c ok f quiet h = record {
 
 none_stands : (rs : List Record) (test : AdminKind → Bool) → ((c : ℕ) → is_kind test rs c ≡ false) → (un : List SubEntry) (js : List Job) (ans : List Answer)
     → (unmade test rs un js ans ≡ 0) × (answered_well test rs ans ≡ 0) × (done_well test rs js ans ≡ 0)
-none_stands rs test none un js ans = (
-  omega (arith, total_none (λ (e : SubEntry). one (is_kind test rs e.cid)) (λ e. ap one (none e.cid)) un, total_none (failing test rs) (λ j. job not j) js, total_none (failed test rs) (λ an. rw (none an.cid)) ans),
-  total_none (succeeded test rs) (λ an. rw (none an.cid)) ans,
-  omega (arith, total_none (succeeding test rs) (λ j. job (λ b. b) j) js, total_none (succeeded test rs) (λ an. rw (none an.cid)) ans),
-)
-  where
-    job : (g : Bool → Bool) (j : Job) → one ((j.q == 0) && is_kind test rs j.entry.cid && g (succeeds j)) ≡ 0
-    job g j = rw (none j.entry.cid) (grind arith)
+none_stands rs test none un js ans =
+    let job : (g : Bool → Bool) (j : Job) → one ((j.q == 0) && is_kind test rs j.entry.cid && g (succeeds j)) ≡ 0 = λ g j. rw (none j.entry.cid) (grind arith) in (
+      omega (arith, total_none (λ (e : SubEntry). one (is_kind test rs e.cid)) (λ e. ap one (none e.cid)) un, total_none (failing test rs) (λ j. job not j) js, total_none (failed test rs) (λ an. rw (none an.cid)) ans),
+      total_none (succeeded test rs) (λ an. rw (none an.cid)) ans,
+      omega (arith, total_none (succeeding test rs) (λ j. job (λ b. b) j) js, total_none (succeeded test rs) (λ an. rw (none an.cid)) ans),
+    )
 
 pub small : (k n : ℕ) → k < n → n ≤ 65536 → k % 65536 ≡ k
 small k n l m = omega arith
@@ -338,12 +309,6 @@ names_deletion : (q : ℕ) (adm : AdminKind) → deletes_sq q adm ≡ true → (
 names_deletion q (DeleteSq a) t = (a, eq-eqb a a refl, t)
 names_deletion q adm t = absurd (true≢false (sym t))
 
-abbrev Deletes : List Record → List HostQueue → ℕ → ℕ → Type 0
-Deletes rs hs q c = Asks deletes_sq_of is_asked rs hs q c
-
-deletes : (rs : List Record) (hs : List HostQueue) (q c : ℕ) → ((a c : ℕ) → total (here a c) rs < 2) → length hs ≤ 65536 → Awaited deletes_sq_of is_asked rs hs → is_kind (deletes_sq q) rs c ≡ true → Deletes rs hs q c
-deletes = asks_by deletes_sq_of is_asked deletes_sq names_deletion
-
 pub no_creation : (rs : List Record) (hs : List HostQueue) (q : ℕ) → ((a c : ℕ) → total (here a c) rs < 2) → length hs ≤ 65536 → Awaited creates_sq_of is_making_sq rs hs → awaited_at is_making_sq hs q ≡ false → (c : ℕ) → is_kind (creates_sq q) rs c ≡ false
 no_creation rs hs q once few h = quiet_by creates_sq_of is_making_sq (creates_sq q) rs hs q (λ c. asks_by creates_sq_of is_making_sq creates_sq names_creation rs hs q c once few h)
 
@@ -352,16 +317,15 @@ one_deletion : (rs : List Record) (hs : List HostQueue) (q c c' : ℕ) → ((a c
 one_deletion rs hs q c c' once few h e e' = elim (cases_Bool (c' == c)) [
   | inl is ↦ is
   | inr far ↦
-      let d = deletes rs hs q c once few h e in
-      let d' = deletes rs hs q c' once few h e' in
+      let d = (asks_by deletes_sq_of is_asked deletes_sq names_deletion) rs hs q c once few h e in
+      let d' = (asks_by deletes_sq_of is_asked deletes_sq names_deletion) rs hs q c' once few h e' in
       let keeps : (x : Record) → is_at 0 c' x ≡ true → not (is_at 0 c x) ≡ true = λ x t. let is = eqb-true x.cid c' (and_parts (x.q == 0) (x.cid == c') t).1 in
       let other : (x.cid == c) ≡ false = ap (λ (z : ℕ). z == c) is ∙ far in grind (arith, other) in
-      let other : find (is_at 0 c') (without_record 0 c rs) ≡ Some d'.r = find_filter (is_at 0 c') (λ x. not (is_at 0 c x)) keeps rs d'.r d'.found in
       let bit : one (awaited_at is_asked hs q) ≤ 1 = grind arith in
       absurd (omega (
         arith,
         total_without (awaits deletes_sq_of q) 0 c rs d.r d.found (once 0 c),
-        total_gone (awaits deletes_sq_of q) (is_at 0 c') (without_record 0 c rs) d'.r other,
+        total_gone (awaits deletes_sq_of q) (is_at 0 c') (without_record 0 c rs) d'.r (find_filter (is_at 0 c') (λ x. not (is_at 0 c x)) keeps rs d'.r d'.found),
         ap one d.asks,
         ap one d'.asks,
         h q,
@@ -388,8 +352,8 @@ tokens_cleared rs hs ds un js ans cid j an st found jv ac as' ok op names g h = 
     kind : (q : ℕ) (b : Bool) → (named_queue j.entry == q) ≡ b → is_kind (deletes_sq q) rs cid ≡ b
     kind q b at = ap (λ (c : ℕ). is_kind (deletes_sq q) rs c) (sym ids.1) ∙ names.deletes_sq q ∙ rw (op, at) refl
 
-    own : (q : ℕ) → (named_queue j.entry == q) ≡ true → Deletes rs hs q cid
-    own q at = deletes rs hs q cid g.once g.few g.asked (kind q true at)
+    own : (q : ℕ) → (named_queue j.entry == q) ≡ true → Asks deletes_sq_of is_asked rs hs q cid
+    own q at = (asks_by deletes_sq_of is_asked deletes_sq names_deletion) rs hs q cid g.once g.few g.asked (kind q true at)
 
     -- what the host's state of such a queue says
     not_other : (q : ℕ) (test : HostState → Bool) → ((st : HostState) → is_asked st ≡ true → test st ≡ false) → awaited_at is_asked hs q ≡ true → awaited_at test hs q ≡ false
@@ -430,12 +394,11 @@ tokens_cleared rs hs ds un js ans cid j an st found jv ac as' ok op names g h = 
     submits : (q : ℕ) (b : Bool) → (named_queue j.entry == q) ≡ b
         → one (not (gone_at (change (named_queue j.entry) cleared ds) q)) + (answered_well (deletes_sq q) rs (ans ++ an ∷ []) + (one (knows_deleted_at hs q) + unmade (creates_sq q) rs un (filter (λ k. not (is_job 0 cid k)) js) (ans ++ an ∷ []))) ≤ 1
     submits q true at =
-        let none = none_stands rs (creates_sq q) (uncreated q at) un (filter (λ k. not (is_job 0 cid k)) js) (ans ++ an ∷ []) in
         let off : gone_at (change (named_queue j.entry) cleared ds) q ≡ true = subst (λ (z : ℕ). gone_at (change z cleared ds) q ≡ true) (sym (eqb-true (named_queue j.entry) q at)) (gone_cleared q ds) in
         omega (
           arith,
           ap (λ (b : Bool). one (not b)) off,
-          none.0,
+          (none_stands rs (creates_sq q) (uncreated q at) un (filter (λ k. not (is_job 0 cid k)) js) (ans ++ an ∷ [])).0,
           f.answered (deletes_sq q),
           answers_less q at,
           alone,
@@ -468,6 +431,9 @@ tokens_cleared rs hs ds un js ans cid j an st found jv ac as' ok op names g h = 
 
 pub tokens_complete : (rs : List Record) (hs : List HostQueue) (q cid : ℕ) (s : State) → refusal_of s (events.Complete q cid) ≡ None → KnowingP rs hs s.device → TokensP rs hs s.device → TokensP rs hs (a.after_complete q cid s).device
 tokens_complete rs hs zero cid s none g h =
+    let there : is_some (slice_get s.device.queues 0) ≡ true = queue_there s (unrefused s (events.Complete 0 cid) none).1.1.1.0 in
+    let its_queue : (j : Job) → job_at s 0 cid ≡ Some j → j.q ≡ 0 = λ j e. eqb-true j.q 0 (and_parts (j.q == 0) (j.entry.cid == cid) (find_sound (is_job 0 cid) s.device.jobs j e)).0 in
+    let verdict : (j : Job) → job_at s 0 cid ≡ Some j → (st : Status) × (j.verdict ≡ Some st) = λ j e. verdict_there j (rw e at (unrefused s (events.Complete 0 cid) none).1.0) in
     complete_by (λ (t : State). TokensP rs hs t.device) s 0 cid h
     (λ j e c.
     let v = verdict j e in
@@ -488,15 +454,6 @@ tokens_complete rs hs zero cid s none g h =
     (tokens_answered rs hs ds (waiting ds) s.device.jobs (filter (λ k. not (is_job 0 cid k)) s.device.jobs) (answering ds) (answering ds ++ an ∷ []) cid (is_success v.0)
     (completed rs (waiting ds) s.device.jobs (answering ds) cid j an v.0 e v.1 refl (final_admin s j v.0 (its_queue j e) v.1)) (quiet j e v.0 v.1 c) h))
   where
-    there : is_some (slice_get s.device.queues 0) ≡ true
-    there = queue_there s (unrefused s (events.Complete 0 cid) none).1.1.1.0
-
-    its_queue : (j : Job) → job_at s 0 cid ≡ Some j → j.q ≡ 0
-    its_queue j e = eqb-true j.q 0 (and_parts (j.q == 0) (j.entry.cid == cid) (find_sound (is_job 0 cid) s.device.jobs j e)).0
-
-    verdict : (j : Job) → job_at s 0 cid ≡ Some j → (st : Status) × (j.verdict ≡ Some st)
-    verdict j e = verdict_there j (rw e at (unrefused s (events.Complete 0 cid) none).1.0)
-
     names : (j : Job) → job_at s 0 cid ≡ Some j → Named rs j.entry
     names j e =
         let k = find_all (JobKnown rs) (is_job 0 cid) s.device.jobs j e g.placed.jobs (eqb-true j.q 0 (and_parts (j.q == 0) (j.entry.cid == cid) (find_sound (is_job 0 cid) s.device.jobs j e)).0) in
@@ -509,14 +466,17 @@ tokens_complete rs hs zero cid s none g h =
         let c' : ((j.entry.opcode == DELETE_IO_SQ) && is_success st) ≡ false = rw (final_admin s j st (eqb-true j.q 0 p.0) v, p.0) at c in
         rw k (grind (arith, c'))
 tokens_complete rs hs (suc k) cid s none g h =
+    let other : (j : Job) → job_at s (suc k) cid ≡ Some j → (j.q == 0) ≡ false = λ j e.
+    ap (λ (n : ℕ). n == 0) (eqb-true j.q (suc k) (and_parts (j.q == suc k) (j.entry.cid == cid) (find_sound (is_job (suc k) cid) s.device.jobs j e)).0) ∙ ne_zero k in
     complete_by (λ (t : State). TokensP rs hs t.device) s (suc k) cid h
     (λ j e c. absurd (true≢false (sym (and_parts (j.q == 0) (j.entry.opcode == DELETE_IO_SQ) (and_parts ((j.q == 0) && (j.entry.opcode == DELETE_IO_SQ)) (is_success (a.final_status s j)) c).0).0 ∙ other j e)))
     (λ j e c. answered_elsewhere rs hs (suc k) (answer_of (suc k) cid (a.final_status s j) j.dw0 (finished (suc k) cid j s)) (finished (suc k) cid j s).device (ne_zero k)
     (tokens_fewer rs rs hs s.device.queues (waiting s.device.queues) (waiting s.device.queues) s.device.jobs (filter (λ j'. not (is_job (suc k) cid j')) s.device.jobs) (answering s.device.queues) (answering s.device.queues)
-    (fewer_less rs (waiting s.device.queues) s.device.jobs (answering s.device.queues) (λ j'. not (is_job (suc k) cid j'))) h))
-  where
-    other : (j : Job) → job_at s (suc k) cid ≡ Some j → (j.q == 0) ≡ false
-    other j e = ap (λ (n : ℕ). n == 0) (eqb-true j.q (suc k) (and_parts (j.q == suc k) (j.entry.cid == cid) (find_sound (is_job (suc k) cid) s.device.jobs j e)).0) ∙ ne_zero k
+    (record {
+      unmade = λ test. omega (arith, total-filter (failing test rs) (λ j'. not (is_job (suc k) cid j')) s.device.jobs);
+      answered = λ test. omega arith;
+      done = λ test. omega (arith, total-filter (succeeding test rs) (λ j'. not (is_job (suc k) cid j')) s.device.jobs);
+    }) h))
 
 -- Every event of the host keeps the tokens of what is deleted and made.
 
@@ -634,6 +594,37 @@ alone_known st h = grind arith
 pub tokens_host_event : (s : State) (e : Event) (reply : Reply) → Accepts s e reply → IsController e ≡ false → s.trusted ≡ true → length s.host.queues ≤ 65536 → length s.device.queues ≡ length s.host.queues → HoldsPart (host_part s) → Stands s → Stands (a.after s e reply)
     → TokensS s → TokensS (a.after s e reply)
 tokens_host_event s e reply ok c t few long holds stands left h =
+    let posted : AdminKind → ℕ → List DeviceQueue = λ adm id. change 0 (λ at. record at { unfetched = at.unfetched ++ admin_entry adm id ∷ [] }) s.device.queues in
+    let with : (q cid : ℕ) (f : Record → Record) → KeepsKinds f → TokensHeld (with_record q cid f s.host.records) s.host.queues s.device.queues (waiting s.device.queues) s.device.jobs (answering s.device.queues) = λ q cid f same.
+    tokens_map s.host.records (λ r. if is_at q cid r then f r else r) s.host.queues s.device.queues (waiting s.device.queues) s.device.jobs (answering s.device.queues) (keeps_with q cid f same) stands.placed h in
+    let less : (q cid : ℕ) → Placed (without_record q cid s.host.records) (waiting s.device.queues) s.device.jobs (answering s.device.queues) → TokensHeld (without_record q cid s.host.records) s.host.queues s.device.queues (waiting s.device.queues) s.device.jobs (answering s.device.queues) = λ q cid placed.
+    tokens_fewer s.host.records (without_record q cid s.host.records) s.host.queues s.device.queues (waiting s.device.queues) (waiting s.device.queues) s.device.jobs s.device.jobs (answering s.device.queues) (answering s.device.queues)
+    (fewer_kept (without_record q cid s.host.records) s.host.records (waiting s.device.queues) s.device.jobs (answering s.device.queues) placed (knows_back q cid s.host.records)).1 h in
+    let sent : (adm : AdminKind) (id : ℕ) → total (here 0 id) s.host.records ≡ 0 → ((z : ℕ) → (makes_sq z adm ≡ false) × (makes_cq z adm ≡ false) × (deletes_sq z adm ≡ false)) → TokensS (sends adm id s) = λ adm id none quiet.
+    let p = change 0 (λ at. record at { unfetched = at.unfetched ++ admin_entry adm id ∷ [] }) s.device.queues in
+    tokens_alike (s.host.records ++ sent_record adm id ∷ []) s.host.queues (change 0 (λ x. record x { ring = next_tail s.entries x.ring }) s.host.queues) p (waiting p) s.device.jobs (answering p) (alike_ring 0 (next_tail s.entries) s.host.queues)
+    (sent_tokens adm id s s.host.queues none stands (turns_not adm s.host.queues quiet) h) in
+    let both : (x y : Bool) → x ≡ true → y ≡ true → (x && y) ≡ true = λ x y e f. grind arith in
+    -- a queue of the host is named by its number
+    let named : (k : ℕ) (x : HostQueue) (hs : List HostQueue) → slice_get hs k ≡ Some x → length hs ≤ 65536 → ((k % 65536 == k) ≡ true) × (k % 65536 ≡ k) = λ k x hs e few.
+    let is = small k (length hs) (below hs k (ap is_some e)) few in (eq-eqb (k % 65536) k is, is) in
+    let moved : (q cid : ℕ) (st : Status) (e : ComEntry) (r : Record) (adm : AdminKind) → IsHeard s q cid st e r → r.work ≡ Management adm
+    → PlacedIn (without_record q cid s.host.records) (record s.device { queues = change q (λ at. record at { answers = drop 1 at.answers }) s.device.queues }) → (k : ℕ) (f : HostQueue → HostQueue)
+    → ((x : HostQueue) → slice_get (a.heard q e s).host.queues k ≡ Some x → (k % 65536 == k) ≡ true → (one (is_known_deleted (f x).state) ≤ one (is_known_deleted x.state) + (one (deletes_sq k adm && is_success st) + one (makes_sq k adm && not (is_success st))))
+    × (one (is_gone (f x).state) ≤ one (is_gone x.state) + (one (deletes_cq k adm && is_success st) + one (makes_cq k adm && not (is_success st))))
+    × (one (is_live (f x).state) ≤ one (is_live x.state) + (one (deletes_sq k adm && not (is_success st)) + one (makes_sq k adm && is_success st))))
+    → TokensP (without_record q cid s.host.records) (change k f (a.heard q e s).host.queues) (record s.device { queues = change q (λ at. record at { answers = drop 1 at.answers }) s.device.queues }) = λ q cid st e r adm heard w placed k f each.
+    let hs1 = (a.heard q e s).host.queues in
+    let long : length hs1 ≤ 65536 = subst (λ (n : ℕ). n ≤ 65536) (sym (heard_alike q e s).long) few in
+    heard_tokens q cid st e r adm s (change k f hs1) (admin_zero s q cid r adm holds heard.found w) t heard w placed
+    (moves_on adm (is_success st) hs1 k f (λ x ex. each x ex (eq-eqb (k % 65536) k (small k (length hs1) (below hs1 k (ap is_some ex)) long)))) h in
+    let alike_retired : (q : ℕ) (hs : List HostQueue) → ((x : HostQueue) → slice_get hs q ≡ Some x → x.state ≡ Deleting true) → Alike hs (change q a.retired hs) = λ q hs is.
+    record {
+      long = length-change q a.retired hs;
+      known = at_same is_known_deleted a.retired q hs (λ x e. sym (ap is_known_deleted (is x e)));
+      gone = at_same is_gone a.retired q hs (λ x e. sym (ap is_gone (is x e)));
+      live = at_same is_live a.retired q hs (λ x e. sym (ap is_live (is x e)));
+    } in
     let rs : List Record = s.host.records in
     let ds : List DeviceQueue = s.device.queues in
     let un : List SubEntry = waiting s.device.queues in
@@ -719,52 +710,8 @@ tokens_host_event s e reply ok c t few long holds stands left h =
     hs : List HostQueue
     hs = s.host.queues
 
-    posted : AdminKind → ℕ → List DeviceQueue
-    posted adm id = change 0 (λ at. record at { unfetched = at.unfetched ++ admin_entry adm id ∷ [] }) s.device.queues
-
-    with : (q cid : ℕ) (f : Record → Record) → KeepsKinds f → TokensHeld (with_record q cid f s.host.records) s.host.queues s.device.queues (waiting s.device.queues) s.device.jobs (answering s.device.queues)
-    with q cid f same = tokens_map s.host.records (λ r. if is_at q cid r then f r else r) s.host.queues s.device.queues (waiting s.device.queues) s.device.jobs (answering s.device.queues) (keeps_with q cid f same) stands.placed h
-
-    less : (q cid : ℕ) → Placed (without_record q cid s.host.records) (waiting s.device.queues) s.device.jobs (answering s.device.queues) → TokensHeld (without_record q cid s.host.records) s.host.queues s.device.queues (waiting s.device.queues) s.device.jobs (answering s.device.queues)
-    less q cid placed =
-        tokens_fewer s.host.records (without_record q cid s.host.records) s.host.queues s.device.queues (waiting s.device.queues) (waiting s.device.queues) s.device.jobs s.device.jobs (answering s.device.queues) (answering s.device.queues)
-        (fewer_kept (without_record q cid s.host.records) s.host.records (waiting s.device.queues) s.device.jobs (answering s.device.queues) placed (knows_back q cid s.host.records)).1 h
-
-    sent : (adm : AdminKind) (id : ℕ) → total (here 0 id) s.host.records ≡ 0 → ((z : ℕ) → (makes_sq z adm ≡ false) × (makes_cq z adm ≡ false) × (deletes_sq z adm ≡ false)) → TokensS (sends adm id s)
-    sent adm id none quiet =
-        let p = change 0 (λ at. record at { unfetched = at.unfetched ++ admin_entry adm id ∷ [] }) s.device.queues in
-        tokens_alike (s.host.records ++ sent_record adm id ∷ []) s.host.queues (change 0 (λ x. record x { ring = next_tail s.entries x.ring }) s.host.queues) p (waiting p) s.device.jobs (answering p) (alike_ring 0 (next_tail s.entries) s.host.queues)
-        (sent_tokens adm id s s.host.queues none stands (turns_not adm s.host.queues quiet) h)
-
-    both : (x y : Bool) → x ≡ true → y ≡ true → (x && y) ≡ true
-    both x y e f = grind arith
-
-    -- a queue of the host is named by its number
-    named : (k : ℕ) (x : HostQueue) (hs : List HostQueue) → slice_get hs k ≡ Some x → length hs ≤ 65536 → ((k % 65536 == k) ≡ true) × (k % 65536 ≡ k)
-    named k x hs e few = let is = small k (length hs) (below hs k (ap is_some e)) few in (eq-eqb (k % 65536) k is, is)
-
-    moved : (q cid : ℕ) (st : Status) (e : ComEntry) (r : Record) (adm : AdminKind) → IsHeard s q cid st e r → r.work ≡ Management adm
-        → PlacedIn (without_record q cid s.host.records) (record s.device { queues = change q (λ at. record at { answers = drop 1 at.answers }) s.device.queues }) → (k : ℕ) (f : HostQueue → HostQueue)
-        → ((x : HostQueue) → slice_get (a.heard q e s).host.queues k ≡ Some x → (k % 65536 == k) ≡ true → (one (is_known_deleted (f x).state) ≤ one (is_known_deleted x.state) + (one (deletes_sq k adm && is_success st) + one (makes_sq k adm && not (is_success st))))
-        × (one (is_gone (f x).state) ≤ one (is_gone x.state) + (one (deletes_cq k adm && is_success st) + one (makes_cq k adm && not (is_success st))))
-        × (one (is_live (f x).state) ≤ one (is_live x.state) + (one (deletes_sq k adm && not (is_success st)) + one (makes_sq k adm && is_success st))))
-        → TokensP (without_record q cid s.host.records) (change k f (a.heard q e s).host.queues) (record s.device { queues = change q (λ at. record at { answers = drop 1 at.answers }) s.device.queues })
-    moved q cid st e r adm heard w placed k f each =
-        let hs1 = (a.heard q e s).host.queues in
-        let long : length hs1 ≤ 65536 = subst (λ (n : ℕ). n ≤ 65536) (sym (heard_alike q e s).long) few in
-        heard_tokens q cid st e r adm s (change k f hs1) (admin_zero s q cid r adm holds heard.found w) t heard w placed
-        (moves_on adm (is_success st) hs1 k f (λ x ex. each x ex (eq-eqb (k % 65536) k (small k (length hs1) (below hs1 k (ap is_some ex)) long)))) h
-
     noted : (n m l : ℕ) (b : Bool) (k : ℕ) → (k % 65536 == k) ≡ true
         → (one (is_known_deleted (if b then Deleting true else Live)) ≤ n + (one ((k % 65536 == k) && b) + one (false && not b))) × (one (is_gone (if b then Deleting true else Live)) ≤ m + (one (false && b) + one (false && not b)))
         × (one (is_live (if b then Deleting true else Live)) ≤ l + (one ((k % 65536 == k) && not b) + one (false && b)))
     noted n m l true k kk = (omega (arith, ap (λ (b : Bool). one (b && true)) kk), omega arith, omega arith)
     noted n m l false k kk = (omega arith, omega arith, omega (arith, ap (λ (b : Bool). one (b && true)) kk))
-
-    alike_retired : (q : ℕ) (hs : List HostQueue) → ((x : HostQueue) → slice_get hs q ≡ Some x → x.state ≡ Deleting true) → Alike hs (change q a.retired hs)
-    alike_retired q hs is = record {
-      long = length-change q a.retired hs;
-      known = at_same is_known_deleted a.retired q hs (λ x e. sym (ap is_known_deleted (is x e)));
-      gone = at_same is_gone a.retired q hs (λ x e. sym (ap is_gone (is x e)));
-      live = at_same is_live a.retired q hs (λ x e. sym (ap is_live (is x e)));
-    }

@@ -56,12 +56,6 @@ abbrev pub HeadInPage : Course → Type 0
 HeadInPage (Closes v) = Unit {0}
 HeadInPage (Does act rest) = InPage act
 
-first_part_fits : (place len : ℕ) → 0 < len → (0 < first_part place len) × (place % 4096 + first_part place len ≤ 4096)
-first_part_fits place len some = elim (cases_Bool (nat_le len (4096 - place % 4096))) [
-  | inl e ↦ rw e (some, omega (arith, leb-true len (4096 - place % 4096) e))
-  | inr e ↦ rw e (omega arith, omega arith)
-]
-
 some_spanned : (place len : ℕ) → 0 < pages_spanned place len → 0 < len
 some_spanned place zero h = h
 some_spanned place (suc len) h = omega arith
@@ -72,7 +66,11 @@ head_moving m zero place len offset rest some h = h
 head_moving m (suc n) place len offset rest some h = go (is_some (bytes_at m place (first_part place len)))
   where
     go : (b : Bool) → HeadInPage (cond b (Does (Moves place (first_part place len) offset) (moving m n (place + first_part place len) (len - first_part place len) (offset + first_part place len) rest)) (Does Stays (Closes (Fault DATA_TRANSFER_ERROR))))
-    go true = first_part_fits place len (some (omega arith))
+    go true =
+        elim (cases_Bool (nat_le len (4096 - place % 4096))) [
+          | inl e ↦ rw e ((some (omega arith)), omega (arith, leb-true len (4096 - place % 4096) e))
+          | inr e ↦ rw e (omega arith, omega arith)
+        ]
     go false = tt
 
 head_from : (k : ℕ) (m : Memory) (dir : Direction) (need : ℕ) (c : Cursor) (wanted : ℕ) → HeadInPage (from_place k m dir need c wanted)
@@ -107,20 +105,18 @@ head_in_page m (Some w) = head_in m w w.state
 
 -- the page of a move is in
 page_of_move : (pages : Pages) (place n : ℕ) (found : List ℕ) → 0 < n → bytes_at (byte_at pages) place n ≡ Some found → (page : List ℕ) × (page_at pages (place / 4096) ≡ Some page)
-page_of_move pages place n found some e = elim (option_is (page_at pages (place / 4096))) [
-  | inl f ↦
-      let missing : bytes_at (byte_at pages) place n ≡ None = subst (λ (x : ℕ). bytes_at (byte_at pages) x n ≡ None) parts (bytes_missing pages (place / 4096) n (place % 4096) f (omega arith) some) in
-      absurd (let no : None ≡ Some found = sym missing ∙ e in cc)
-  | inr (page, f) ↦ (page, f)
-]
-  where
-    parts : 4096 * (place / 4096) + place % 4096 ≡ place
-    parts = omega arith
+page_of_move pages place n found some e =
+    let parts : 4096 * (place / 4096) + place % 4096 ≡ place = omega arith in
+    elim (option_is (page_at pages (place / 4096))) [
+      | inl f ↦
+          let missing : bytes_at (byte_at pages) place n ≡ None = subst (λ (x : ℕ). bytes_at (byte_at pages) x n ≡ None) parts (bytes_missing pages (place / 4096) n (place % 4096) f (omega arith) some) in
+          absurd (let no : None ≡ Some found = sym missing ∙ e in cc)
+      | inr (page, f) ↦ (page, f)
+    ]
 
 short_take : {A : Type 0} (n : ℕ) (xs : List A) → length (take n xs) ≤ n
-short_take zero xs = omega arith
-short_take (suc n) [] = omega arith
 short_take (suc n) (x ∷ xs) = omega (arith, short_take n xs)
+short_take x xs = omega arith
 
 range_is : (bytes : List ℕ) (offset n : ℕ) → slice_range bytes offset (offset + n) ≡ take n (drop offset bytes)
 range_is bytes offset n = let k : offset + n - offset ≡ n = omega arith in ap (λ (x : ℕ). take x (drop offset bytes)) k
@@ -130,15 +126,12 @@ same_pool old new whole whole' size e = told new old whole' whole size (λ place
 
 pub effect_told : (s : State) (j : Job) (new : Pages) (dir : Direction) (act : Act) (bytes' : List ℕ) → IsPool s.memory → AreWhole new → length new ≡ length s.memory → InPage act
     → Effect dir act (byte_at s.memory) (byte_at new) j.bytes bytes' → (new ≡ unit_memory s j dir act) × (bytes' ≡ unit_bytes s dir act j.bytes)
-effect_told s j new dir Stays bytes' pool whole size fits e = (same_pool s.memory new pool.whole whole size e.0, e.1)
-effect_told s j new dir (Reads place) bytes' pool whole size fits e = (same_pool s.memory new pool.whole whole size e.0, e.1)
 effect_told s j new Destination (Moves place n offset) bytes' pool whole size fits e =
     let (found, there, wrote) = e.0 in
     let (page, at) = page_of_move s.memory place n found fits.0 there in
     let parts : 4096 * (place / 4096) + place % 4096 ≡ place = omega arith in
-    let is : IsSome (page_at s.memory (place / 4096)) = subst IsSome (sym at) refl in
     let short : length (take n (drop offset j.bytes)) ≤ n = short_take n (drop offset j.bytes) in (
-      page-written s.memory new (place / 4096) (place % 4096) (take n (drop offset j.bytes)) is (omega (arith, short, fits.1)) pool whole size
+      page-written s.memory new (place / 4096) (place % 4096) (take n (drop offset j.bytes)) (subst IsSome (sym at) refl) (omega (arith, short, fits.1)) pool whole size
           (wrote ∙ ap₂ (λ (p : ℕ) (xs : List ℕ). written (byte_at s.memory) p xs) (sym parts) (range_is j.bytes offset n)),
       e.1,
     )
@@ -157,6 +150,7 @@ effect_told s j new Source (Moves place n offset) bytes' pool whole size fits e 
           ∙ (ap₂ (λ (xs : List ℕ) (k : ℕ). take offset j.bytes ++ (xs ++ drop (offset + k) j.bytes)) (same ∙ sym is) (sym many)
           ∙ sym (append_assoc (take offset j.bytes) (page_bytes s.memory place n) (drop (offset + length (page_bytes s.memory place n)) j.bytes))),
     )
+effect_told s j new dir x bytes' pool whole size fits e = (same_pool s.memory new pool.whole whole size e.0, e.1)
 
 -- which pages are in stays
 pub unit_stays : (s : State) (j : Job) (dir : Direction) (act : Act) → in_store (unit_memory s j dir act) ≡ in_store s.memory
@@ -170,6 +164,4 @@ few_reached : (place n : ℕ) → length (pages_reached place n) < 3
 few_reached place n = grind arith
 
 pub few_touched : (act : Act) → length (touched act) < 3
-few_touched Stays = omega arith
-few_touched (Reads place) = few_reached place 16
-few_touched (Moves place n offset) = few_reached place n
+few_touched act = grind arith

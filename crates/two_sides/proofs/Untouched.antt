@@ -8,19 +8,18 @@ use Rattle.std.specs.{List.list_all, Option.option_map_or}
 use Rattle.machine_model.proofs.{Cases.option_is, Counting.{held_once, times-append, get_other, find_sound, run_times, zeroed_numbers}}
 use Rattle.machine_model.proofs.Kept.{live_has_sq, reaped_has_cq, service_is_reaped}
 use Rattle.machine_model.proofs.Moves.{host_moves, posts, posted_is, sends, sent_record, half_from, creates_cq, creates_sq, grants_cq, grants_sq}
-use Rattle.machine_model.proofs.{Owned.{Holds, in_queue, in_record}, Steps.{first_fails, permitted, managed_by, Accepts, unrefused}}
-use Rattle.machine_model.specs.{Agreeing.{QueueFits as PairOk, on_queue}, Events.{Event, Reply}, Linked.{absent, IsLinked}}
-use Rattle.machine_model.specs.{Memory.{is_in, with_pages, without_pages, zeroed_pages}, Positions.IsInRing}
+use Rattle.machine_model.{proofs.{Owned.{Holds, in_queue, in_record}, Steps.{first_fails, permitted, managed_by, Accepts, unrefused}}, specs.Agreeing.on_queue}
+use Rattle.machine_model.specs.{Events.{Event, Reply}, Linked.{absent, IsLinked}, Memory.{is_in, with_pages, without_pages, zeroed_pages}, Positions.IsInRing}
 use Rattle.machine_model.specs.Refusals.{host_queue, device_queue, next_rung, slot_page, fetch_slot, post_slot, fetch_page, post_page, conflicts, job_at, answers_full, job_is, waits, is_submitted, is_drafted, is_collected, is_live, has_cq, in_service, is_reaped, slot_offset, refusal_of, in_state, is_job}
 use Rattle.machine_model.specs.State.{State, HostQueue, DeviceQueue, pages_of, Host, Record, Job, record_at, with_record}
 use Rattle.machine_model.specs.Step.{Step, Refuses, IsController, touched_by_refusal, touched_by_fetch, times}
 use Rattle.machine_model.specs.{Touch.{allowed, pages_at_queue, pages_at_queues, pages_of_queue, own_pages, stays_allowed, stays_own}, Weights.{one, total}}
-use Rattle.machine_model.specs.declared.words.{HostState.HostState, Phase.{Phase, TheVariants.{Drafted, Submitted, Held, Collected}}, Refusal.Refusal}
+use Rattle.machine_model.specs.declared.words.{HostState.HostState, Refusal.Refusal}
 use Rattle.page_ledger.specs.Owners.{is_among}
 use Rattle.admin_commands.specs.{Entries.{admin_entry, named_queue}, Verdicts.{is_absent, is_live as is_running}, declared.AdminKind.AdminKind}
-use Rattle.admin_commands.specs.declared.{AdminKind.TheVariants.{Abort, DeleteSq, DeleteCq}, SqState.{SqState, TheVariants.{Live as Running, Absent, Stopping}}}
+use Rattle.admin_commands.specs.declared.AdminKind.TheVariants.{Abort, DeleteSq, DeleteCq}
 use Rattle.controller_walk.specs.Units.{first_passing}
-use Rattle.queue_pair.{proofs.Rings.{next_below, moved_below}, specs.{Members.change, Memory.half_pages, Slots.{next_slot, moved}}}
+use Rattle.queue_pair.{proofs.Rings.moved_below, specs.{Members.change, Memory.half_pages, Slots.moved}}
 use Rattle.page_memory.specs.{Pages.{Pages, page_at, with_page_bytes, with_bytes}, declared.page.Half.TheVariants.{Submission, Completion}}
 use Rattle.io_commands.specs.Values.{numbers_of}
 use Rattle.two_sides.proofs.{DeviceMoves.{answers, answers_is, finished, cleared, fetch_by, complete_by}, Provided.{In, in_at, in_found}}
@@ -59,14 +58,13 @@ holds_index (x ∷ xs) (suc k) l = or_right (x == slice_index xs k) (is_among xs
 -- the pages of the queue at an index
 at_queues : (p k : ℕ) (queues : List HostQueue) (ats : List DeviceQueue) (queue : HostQueue) (at : DeviceQueue) → slice_get queues k ≡ Some queue → slice_get ats k ≡ Some at
     → is_among (pages_at_queue queue at) p ≡ true → is_among (pages_at_queues queues ats) p ≡ true
-at_queues p k [] ats queue at e e' h = absurd cc
-at_queues p k (x ∷ queues) [] queue at e e' h = absurd cc
 at_queues p zero (x ∷ queues) (y ∷ ats) queue at e e' h =
     let same : x ≡ queue = cc in
     let same' : y ≡ at = cc in
     holds_left p (pages_at_queue x y) (pages_at_queues queues ats) (rw (same, same') h)
 at_queues p (suc k) (x ∷ queues) (y ∷ ats) queue at e e' h =
     holds_right p (pages_at_queue x y) (pages_at_queues queues ats) (at_queues p k queues ats queue at e e' h)
+at_queues p k x ats queue at e e' h = absurd cc
 
 -- a slot of a ring lies on a page of a whole half
 pub entry_inside : (n k : ℕ) → k < n → k * 64 / 4096 < half_pages n Submission
@@ -144,12 +142,7 @@ post_stays_in s q linked there = go (host_queue s q) refl
 
 -- a queue with a rung entry is no absent one
 pub rung_there : (s : State) (q : ℕ) → is_none (next_rung s q) ≡ false → absent s q ≡ false
-rung_there s q h = go (device_queue s q) h
-  where
-    go : (o : Option DeviceQueue) → is_none (option_and_then (λ queue. if is_running queue.state && nat_lt 0 queue.rung then slice_get queue.unfetched 0 else None) o) ≡ false
-        → option_map_or (λ at. is_absent at.state) o true ≡ false
-    go None h = absurd (true≢false h)
-    go (Some at) h = grind arith
+rung_there s q h = grind arith
 
 first_other : {A : Type 0} (c : Bool) (x y : A) (rest : List (Bool × A)) → first_passing ((c, x) ∷ rest) ≡ Some y → (x ≡ y → ⊥) → c ≡ false
 first_other c x y rest h far = grind arith
@@ -240,11 +233,9 @@ stays old e reply new step trusted linked w = refl
 -- Pages set
 
 pub set_elsewhere : (m : Pages) (k p : ℕ) (x : Option (List ℕ)) → (k ≡ p → ⊥) → page_at (slice_set m k x) p ≡ page_at m p
-set_elsewhere [] k p x e = refl
 set_elsewhere (y ∷ m) zero zero x e = absurd (e refl)
-set_elsewhere (y ∷ m) zero (suc p) x e = refl
-set_elsewhere (y ∷ m) (suc k) zero x e = refl
 set_elsewhere (y ∷ m) (suc k) (suc p) x e = set_elsewhere m k p x (λ h. e (ap suc h))
+set_elsewhere y k p x e = refl
 
 pub bytes_elsewhere : (m : Pages) (k p at : ℕ) (new : List ℕ) → (k ≡ p → ⊥) → page_at (with_page_bytes m k at new) p ≡ page_at m p
 bytes_elsewhere m k p at new e = set_elsewhere m k p (option_and_then (λ page. Some (with_bytes page at new)) (page_at m k)) e
@@ -279,17 +270,16 @@ owned_once count p h holds = omega (arith, holds.owner p, small (nat_lt p count)
 pub not_free : (count p : ℕ) (h : Host) → Holds count h → 0 < total (sent_page p) h.records → times p h.free ≡ 0
 not_free count p h holds some = omega (arith, owned_once count p h holds, some, sent_less p h.records)
 
-pub not_queues : (count p q : ℕ) (h : Host) (queue : HostQueue) → Holds count h → slice_get h.queues q ≡ Some queue → 0 < total (sent_page p) h.records → in_queue p queue ≡ 0
-not_queues count p q h queue holds e some = omega (arith, owned_once count p h holds, some, sent_less p h.records, in_at h.queues q queue e (in_queue p))
-
 pub not_others : (count p : ℕ) (h : Host) (r : Record) → Holds count h → In r h.records → is_submitted r.phase ≡ false → 0 < total (sent_page p) h.records → in_record p r ≡ 0
 not_others count p h r holds within far some =
+    -- a record and the submitted ones count apart
+    let apart : Record → ℕ = λ x. if is_submitted x.phase then 0 else in_record p x in
+    let split : (rs : List Record) → In r rs → total (sent_page p) rs + in_record p r ≤ total (in_record p) rs = λ rs within.
+    let own : in_record p r ≤ total (λ x. if is_submitted x.phase then 0 else in_record p x) rs =
+    subst (λ (b : Bool). (if b then 0 else in_record p r) ≤ total (λ x. if is_submitted x.phase then 0 else in_record p x) rs) far (within (λ x. if is_submitted x.phase then 0 else in_record p x)) in
+    omega (arith, own, both rs) in
     omega (arith, owned_once count p h holds, some, split h.records within)
   where
-    -- a record and the submitted ones count apart
-    apart : Record → ℕ
-    apart x = if is_submitted x.phase then 0 else in_record p x
-
     both : (rs : List Record) → total (sent_page p) rs + total (λ x. if is_submitted x.phase then 0 else in_record p x) rs ≡ total (in_record p) rs
     both [] = refl
     both (x ∷ rs) = go (is_submitted x.phase) (both rs)
@@ -297,12 +287,6 @@ not_others count p h r holds within far some =
         go : (b : Bool) → total (sent_page p) rs + total (λ x. if is_submitted x.phase then 0 else in_record p x) rs ≡ total (in_record p) rs
             → (if b then in_record p x else 0) + total (sent_page p) rs + ((if b then 0 else in_record p x) + total (λ x. if is_submitted x.phase then 0 else in_record p x) rs) ≡ in_record p x + total (in_record p) rs
         go b ih = grind arith
-
-    split : (rs : List Record) → In r rs → total (sent_page p) rs + in_record p r ≤ total (in_record p) rs
-    split rs within =
-        let own : in_record p r ≤ total (λ x. if is_submitted x.phase then 0 else in_record p x) rs =
-        subst (λ (b : Bool). (if b then 0 else in_record p r) ≤ total (λ x. if is_submitted x.phase then 0 else in_record p x) rs) far (within (λ x. if is_submitted x.phase then 0 else in_record p x)) in
-        omega (arith, own, both rs)
 
 -- a page that does not stand in a list is not in it
 pub among_counts : (p : ℕ) (xs : List ℕ) → times p xs ≡ 0 → is_among xs p ≡ false
@@ -365,13 +349,11 @@ answers_elsewhere q cid st dw0 s p known = ap (λ (t : State). page_at t.memory 
 
 pub posts_live : (s : State) → Grounds s → (q p : ℕ) → ((queue : HostQueue) → host_queue s q ≡ Some queue → is_live queue.state ≡ true) → Kept s p → PostsElsewhere s q p
 posts_live s g q p live some queue e =
-    let pair = pair_at s g q queue e in
-    (omega (arith, some.queues q queue e), pair.2.sub (live_has_sq queue.state (live queue e)), (ring_in s g q queue e).tail)
+    (omega (arith, some.queues q queue e), (pair_at s g q queue e).2.sub (live_has_sq queue.state (live queue e)), (ring_in s g q queue e).tail)
 
 answers_there : (s : State) → Grounds s → (q p : ℕ) → ((queue : HostQueue) → host_queue s q ≡ Some queue → has_cq queue.state ≡ true) → Kept s p → AnswersElsewhere s q p
 answers_there s g q p there some queue e =
-    let pair = pair_at s g q queue e in
-    (omega (arith, some.queues q queue e), pair.2.comp (there queue e), (ring_in s g q queue e).head)
+    (omega (arith, some.queues q queue e), (pair_at s g q queue e).2.comp (there queue e), (ring_in s g q queue e).head)
 
 -- a queue in service has its completion half
 served_there : (st : HostState) → in_service st ≡ true → has_cq st ≡ true
@@ -379,14 +361,7 @@ served_there st h = reaped_has_cq st (service_is_reaped st h)
 
 -- an entry that is fetched is one of a queue in service
 fetched_there : (s : State) → Grounds s → (q : ℕ) (e : SubEntry) → next_rung s q ≡ Some e → (queue : HostQueue) → host_queue s q ≡ Some queue → has_cq queue.state ≡ true
-fetched_there s g q e rung queue at = elim (cases_Bool (in_service queue.state)) [
-  | inl served ↦ served_there queue.state served
-  | inr out ↦ let (d, there, fits) = pair_at s g q queue at in
-      absurd (elim (cases_Bool (is_running d.state && nat_lt 0 d.rung)) [
-        | inl runs ↦ let none : None ≡ Some e = rw (there, runs, fits.unfetched out) at rung in cc
-        | inr stops ↦ let none : None ≡ Some e = rw (there, stops) at rung in cc
-      ])
-]
+fetched_there s g q e rung queue at = grind arith
 
 -- so is the queue of a job
 completed_there : (s : State) → Grounds s → (q cid : ℕ) (j : Job) → job_at s q cid ≡ Some j → (queue : HostQueue) → host_queue s q ≡ Some queue → has_cq queue.state ≡ true
@@ -410,9 +385,6 @@ kept_managed e s =
       makes_submission = λ is1 q0 gone there. refl;
     })
 
-same-page : (m : Pages) (s : State) (p : ℕ) → m ≡ s.memory → Same m s p
-same-page m s p e = ap (λ (x : Pages). page_at x p) e
-
 -- Each event
 
 -- free pages are others
@@ -429,15 +401,13 @@ live_queue s q h queue e = sym (ap (λ (o : Option HostQueue). option_map_or (λ
 fetch_elsewhere : (q p : ℕ) (s : State) → Grounds s → Kept s p → Same (a.after_fetch q s).memory s p
 fetch_elsewhere q p s g some =
     fetch_by (λ (t : State). Same t.memory s p) s q refl (λ e n c. answers_elsewhere q e.cid COMMAND_ID_CONFLICT 0 (a.taken_off q s) p (answers_there s g q p (fetched_there s g q e n) some))
-    (λ e n c z. same-page _ s p (kept_managed e (a.taken_off 0 s))) (λ e n c other. refl)
+    (λ e n c z. ap (λ (x : Pages). page_at x p) (kept_managed e (a.taken_off 0 s))) (λ e n c other. refl)
 
 complete_elsewhere : (q cid p : ℕ) (s : State) → Grounds s → Kept s p → Same (a.after_complete q cid s).memory s p
 complete_elsewhere q cid p s g some =
+    let known : (j : Job) → job_at s q cid ≡ Some j → AnswersElsewhere s q p = λ j at. answers_there s g q p (completed_there s g q cid j at) some in
     complete_by (λ (t : State). Same t.memory s p) s q cid refl (λ j at c. answers_elsewhere q cid (a.final_status s j) j.dw0 (a.on_device_queue (named_queue j.entry) cleared (finished q cid j s)) p (known j at))
     (λ j at c. answers_elsewhere q cid (a.final_status s j) j.dw0 (finished q cid j s) p (known j at))
-  where
-    known : (j : Job) → job_at s q cid ≡ Some j → AnswersElsewhere s q p
-    known j at = answers_there s g q p (completed_there s g q cid j at) some
 
 -- a page that nobody else has is as it was, whatever happens but a walk, and the collecting of its command
 pub untouched_kept : (s : State) (e : Event) (reply : Reply) → Accepts s e reply → is_walk e ≡ false → Grounds s → (p : ℕ) → Kept s p
@@ -448,6 +418,15 @@ untouched_kept s (events.Fetch q) reply ok w g p some away = absurd ok.1
 untouched_kept s (events.Walk q cid) reply ok w g p some away = absurd (true≢false w)
 untouched_kept s (events.Complete q cid) reply ok w g p some away = absurd ok.1
 untouched_kept s e reply ok w g p some away =
+    let below : (n slot : ℕ) → nat_le n slot ≡ false → slot < n = λ n slot h. grind (arith, nat_tests) in
+    let ended : (q cid : ℕ) (r : Record) (pages : List (ℕ × List ℕ)) → record_at s.host q cid ≡ Some r → (is_drafted r.phase || is_collected r.phase) ≡ true → numbers_of pages ≡ pages_of r → Same (with_pages pages s.memory) s p = λ q cid r pages at away same.
+    with_elsewhere pages s.memory p (ap (λ (xs : List ℕ). is_among xs p) same ∙ others_elsewhere s q cid p r at away some) in
+    let sent : (adm : AdminKind) (id : ℕ) (s : State) → PostsElsewhere s 0 p → Same (sends adm id s).memory s p = λ adm id s known.
+    posts_elsewhere 0 (admin_entry adm id) (a.on_records (λ records. records ++ sent_record adm id ∷ []) s) p known in
+    -- a half that another queue gets leaves queue 0 as it is, and is made of free pages
+    let posts_beside : (q : ℕ) (f : HostQueue → HostQueue) → (q == 0) ≡ false → (queue : HostQueue) → slice_get (change q f s.host.queues) 0 ≡ Some queue
+    → (times p queue.sq_pages ≡ 0) × (length queue.sq_pages ≡ half_pages s.entries Submission) × (queue.ring.tail < s.entries) = λ q f other queue at.
+    posts_live s g 0 p (zero_lives s g) some queue (sym (get_other q f s.host.queues 0 (eqb-false q 0 other)) ∙ at) in
     host_moves (λ (e : Event) (reply : Reply) (t : State). ((q cid : ℕ) (r : Record) → e ≡ events.Collect q cid → record_at s.host q cid ≡ Some r → is_among (pages_of r) p ≡ false) → Same t.memory s p) s e reply ok refl
     (record {
       reserves = λ q request d none is away.
@@ -489,45 +468,24 @@ untouched_kept s e reply ok w g p some away =
           (ap (λ (ps : List ℕ). is_among ps p) (zeroed_numbers (a.admin_pages s.host.queues)) ∙ admin_elsewhere s.host.queues (λ queue e. some.queues 0 queue e));
     }) away
   where
-    below : (n slot : ℕ) → nat_le n slot ≡ false → slot < n
-    below n slot h = grind (arith, nat_tests)
-
-    ended : (q cid : ℕ) (r : Record) (pages : List (ℕ × List ℕ)) → record_at s.host q cid ≡ Some r → (is_drafted r.phase || is_collected r.phase) ≡ true → numbers_of pages ≡ pages_of r → Same (with_pages pages s.memory) s p
-    ended q cid r pages at away same = with_elsewhere pages s.memory p (ap (λ (xs : List ℕ). is_among xs p) same ∙ others_elsewhere s q cid p r at away some)
-
     admin_elsewhere : (hs : List HostQueue) → ((queue : HostQueue) → slice_get hs 0 ≡ Some queue → in_queue p queue ≡ 0) → is_among (a.admin_pages hs) p ≡ false
     admin_elsewhere [] none = refl
     admin_elsewhere (x ∷ hs) none = among_counts p (a.halves_of x) (omega (arith, none x refl, times-append p x.sq_pages x.cq_pages))
 
-    sent : (adm : AdminKind) (id : ℕ) (s : State) → PostsElsewhere s 0 p → Same (sends adm id s).memory s p
-    sent adm id s known = posts_elsewhere 0 (admin_entry adm id) (a.on_records (λ records. records ++ sent_record adm id ∷ []) s) p known
-
-    -- a half that another queue gets leaves queue 0 as it is, and is made of free pages
-    posts_beside : (q : ℕ) (f : HostQueue → HostQueue) → (q == 0) ≡ false → (queue : HostQueue) → slice_get (change q f s.host.queues) 0 ≡ Some queue
-        → (times p queue.sq_pages ≡ 0) × (length queue.sq_pages ≡ half_pages s.entries Submission) × (queue.ring.tail < s.entries)
-    posts_beside q f other queue at = posts_live s g 0 p (zero_lives s g) some queue (sym (get_other q f s.host.queues 0 (eqb-false q 0 other)) ∙ at)
-
     granted_elsewhere : (pages : List ℕ) → ((p : ℕ) → times p pages ≡ (if is_among pages p && is_among s.host.free p then 1 else 0)) → Same (with_pages (zeroed_pages pages) s.memory) s p
     granted_elsewhere pages are = with_elsewhere (zeroed_pages pages) s.memory p (ap (λ (ps : List ℕ). is_among ps p) (zeroed_numbers pages) ∙ free_elsewhere s pages p are some)
 
--- so is a page of a submitted command
-kept_sent : (s : State) → Grounds s → (p : ℕ) → 0 < total (sent_page p) s.host.records → Kept s p
-kept_sent s g p some = record {
-  free = not_free _ p s.host g.stands.0 some;
-  queues = λ q queue e. not_queues _ p q s.host queue g.stands.0 e some;
-  others = λ r within away. not_others _ p s.host r g.stands.0 within (away_not r.phase away) some;
-}
-  where
-    away_not : (ph : Phase) → (is_drafted ph || is_collected ph) ≡ true → is_submitted ph ≡ false
-    away_not ph e = grind arith
-
 collects_no_sent : (s : State) (e : Event) (reply : Reply) → Accepts s e reply → (q cid : ℕ) (r : Record) → e ≡ events.Collect q cid → record_at s.host q cid ≡ Some r → is_submitted r.phase ≡ false
 collects_no_sent s e reply ok q cid r is at =
-    let none : refusal_of s (events.Collect q cid) ≡ None = subst (λ (x : Event). refusal_of s x ≡ None) is ok.0 in
-    sym (ap (λ (o : Option Record). option_map_or (λ r. is_submitted r.phase) o false) at) ∙ (unrefused s (events.Collect q cid) none).1.0
+    sym (ap (λ (o : Option Record). option_map_or (λ r. is_submitted r.phase) o false) at) ∙ (unrefused s (events.Collect q cid) (subst (λ (x : Event). refusal_of s x ≡ None) is ok.0)).1.0
 
 pub untouched : (s : State) (e : Event) (reply : Reply) → Accepts s e reply → is_walk e ≡ false → Grounds s → (p : ℕ) → 0 < total (sent_page p) s.host.records
     → page_at (a.after s e reply).memory p ≡ page_at s.memory p
 untouched s e reply ok w g p some =
-    untouched_kept s e reply ok w g p (kept_sent s g p some)
+    -- so is a page of a submitted command
+    untouched_kept s e reply ok w g p (record {
+      free = not_free _ p s.host g.stands.0 some;
+      queues = λ q queue e. omega (arith, owned_once _ p s.host g.stands.0, some, sent_less p s.host.records, in_at s.host.queues q queue e (in_queue p));
+      others = λ r within away. not_others _ p s.host r g.stands.0 within (grind arith) some;
+    })
     (λ q cid r is at. among_counts p (pages_of r) (not_others _ p s.host r g.stands.0 (in_found _ s.host.records r at) (collects_no_sent s e reply ok q cid r is at) some))

@@ -11,9 +11,9 @@ use Rattle.controller_core.specs.{Walking.{WalksTo, ended_refusal, stepped, walk
 use Rattle.controller_walk.specs.{Laws.after_units, Units.Act, Walks.{IfMore, answer}, declared.walk.WalkState.{WalkState, TheVariants.{More, End, Fault}}}
 use Rattle.entry_codec.specs.declared.{status.Status.Status, submission.SubEntry.SubEntry}
 use Rattle.io_commands.specs.Jobs.{job_course, direction_of_entry, verdict_of}
-use Rattle.two_sides.proofs.{Assembling.{ServesOver, serve_refused, served_stepped}, Commands.{Walking, walk_writes}}
+use Rattle.two_sides.proofs.{Assembling.{serve_refused, served_stepped}, Commands.{Walking, walk_writes}}
 use Rattle.two_sides.proofs.DeviceMoves.{unit_bytes, unit_done, unit_memory, walk_is}
-use Rattle.two_sides.proofs.Frames.{Spares, all_stand_still, apart_from_queues, queues_stay, tied_of, job_served, stands_again, still_stands, stood, whole_course}
+use Rattle.two_sides.proofs.Frames.{Spares, all_stand_still, apart_from_queues, queues_stay, tied_of, job_served, stands_again, still_stands, stood}
 use Rattle.two_sides.proofs.{NeverFull.{ListsStay, stay_walk}, Places.{find_place, is_found, job-at, job-found, map_one, seen, seen_is}}
 use Rattle.two_sides.proofs.{PoolBytes.reads_the_pool, Served.data_of, Serving.{either_by, same_pages, with_served}}
 use Rattle.two_sides.{proofs.Units.{FirstUnit, HeadInPage, effect_told, few_touched, first_unit, head_in_page, next_done, unit_stays}, specs.Serving.why_of}
@@ -33,13 +33,10 @@ use Rattle.machine_model.specs.declared.words.Refusal.TheVariants as refusal
 refused_by : (s : State) (q cid : ℕ) (j : Job) → job_at s q cid ≡ Some j → refusal_of s (events.Walk q cid) ≡ (if is_some j.verdict || (j.q == 0) then Some refusal.Nothing else None)
 refused_by s q cid j e = rw e refl
 
-refused_none : (s : State) (q cid : ℕ) → job_at s q cid ≡ None → refusal_of s (events.Walk q cid) ≡ Some refusal.NoJob
-refused_none s q cid e = rw e refl
-
 -- whatever was forged, the controller refuses what the machine does
 refusal_is : (s : Sides) (q cid : ℕ) → IsWorld s → refusal_of (state_of s) (events.Walk q cid) ≡ option_map why_of (walk_refusal s.controller q cid)
 refusal_is s q cid world = elim (option_is (find (is_command q cid) s.controller.commands)) [
-  | inl e ↦ rw e (refused_none (state_of s) q cid (job-at s q cid ∙ ap (option_map job_of) e))
+  | inl e ↦ rw e (rw (job-at s q cid ∙ ap (option_map job_of) e) refl)
   | inr (k, e) ↦ rw e (refused_by (state_of s) q cid (job_of k) (job-found s q cid k e) ∙ by k.work (block_count s.controller.image) k.q k.units_done (is_found s world q cid k e).fits.1)
 ]
   where
@@ -103,17 +100,6 @@ module _ (s : Sides) (q cid : ℕ) (outcome : WalkState) (c : Contents) (pages :
   told =
       effect_told (state_of s) j pages dir unit.act w.among.job'.bytes world.sides.over.pool leaves.whole leaves.count
       (subst HeadInPage unit.is (head_in_page (byte_at s.pages) w.among.job.walk)) unit.effect
-
-  -- whatever was forged
-  serves : IsController c → ServesOver s c pages
-  serves is = record {
-    leaves = leaves;
-    in_store = ap in_store told.0 ∙ unit_stays (state_of s) j dir unit.act;
-    controller = is;
-    queues = subst (ShareQueues s.host.entries 0 s.host.host.queues) (sym w.queues) world.sides.queues;
-    admin = subst (SharesAdmin s.host.entries s.host.host.queues) (sym w.queues) world.sides.admin;
-    image = ap length w.image;
-  }
 
   module _ (t : s.trusted ≡ true) where
     -- where nothing was forged, that is the next unit of the machine's list
@@ -186,14 +172,6 @@ module _ (s : Sides) (q cid : ℕ) (outcome : WalkState) (c : Contents) (pages :
     queues_walked : AllQueuesStand s.host.entries (byte_at pages) 0 s.host.host.queues c.queues
     queues_walked = subst (AllQueuesStand s.host.entries (byte_at pages) 0 s.host.host.queues) (sym w.queues) (all_stand_still s pages world t spared)
 
-    -- its walk stands one unit further
-    further : w.among.job'.verdict ≡ None → job_course (memory_of s.pages) w.among.job' ≡ after_units (k.units_done + 1) (whole_course (memory_of s.pages) w.among.job')
-    further none =
-        ap (λ (m : Memory). job_course m w.among.job') (same_memory s.pages world.sides.over.pool.whole)
-        ∙ more_verdict outcome (sym w.among.unit.verdict ∙ none) _ unit.goes_on
-        ∙ sym next.1
-        ∙ ap (λ (e : SubEntry). after_units (k.units_done + 1) (course_of (state_of s) (record j { entry = e }))) (sym w.among.unit.entry)
-
     other : (k.q == 0) ≡ false
     other = (subst (λ (work : Work). FitsWork (block_count s.controller.image) k.q k.units_done work) w.among.work (is_found s world q cid k w.among.found).fits.1).0
 
@@ -207,7 +185,11 @@ module _ (s : Sides) (q cid : ℕ) (outcome : WalkState) (c : Contents) (pages :
         (λ none. stands_again (memory_of s.pages) (memory_of pages) (k.units_done + 1) w.among.job'
         (subst (λ (e : SubEntry). serving.Serves (memory_of s.pages) (memory_of pages) (course_of (state_of s) (record j { entry = e }))) (sym w.among.unit.entry)
         (job_served (state_of s) pages w.among.place j (stood s world t) lists_stay job_at_place other))
-        (further none)))
+        -- its walk stands one unit further
+        (ap (λ (m : Memory). job_course m w.among.job') (same_memory s.pages world.sides.over.pool.whole)
+        ∙ more_verdict outcome (sym w.among.unit.verdict ∙ none) _ unit.goes_on
+        ∙ sym next.1
+        ∙ ap (λ (e : SubEntry). after_units (k.units_done + 1) (course_of (state_of s) (record j { entry = e }))) (sym w.among.unit.entry))))
 
   permits : Permits (state_of s) (events.Walk q cid) (events.Walked outcome touched)
   permits =
@@ -217,7 +199,15 @@ module _ (s : Sides) (q cid : ℕ) (outcome : WalkState) (c : Contents) (pages :
 
   walk_done : IsController c → StepsTo s (events.Walk q cid) (events.Walked outcome touched) (served s c pages)
   walk_done is =
-      served_stepped s (events.Walk q cid) (events.Walked outcome touched) c pages world refl (serves is) (λ new. refl) permits (λ t. (state_walked t, queues_walked t, walks_walked t))
+      -- whatever was forged
+      served_stepped s (events.Walk q cid) (events.Walked outcome touched) c pages world refl (record {
+        leaves = leaves;
+        in_store = ap in_store told.0 ∙ unit_stays (state_of s) j dir unit.act;
+        controller = is;
+        queues = subst (ShareQueues s.host.entries 0 s.host.host.queues) (sym w.queues) world.sides.queues;
+        admin = subst (SharesAdmin s.host.entries s.host.host.queues) (sym w.queues) world.sides.admin;
+        image = ap length w.image;
+      }) (λ new. refl) permits (λ t. (state_walked t, queues_walked t, walks_walked t))
 
 pub walk_steps : walks_step
 walk_steps s q cid (Ok outcome) c pages touched world is leaves w = walk_done s q cid outcome c pages touched world leaves w.0 w.1 is

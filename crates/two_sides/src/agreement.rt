@@ -6,6 +6,7 @@ ghost use Rattle.two_sides.specs.AgreeingLaws.{openings_agree, steps_keep_agreem
 /// makes them agree whatever was forged, `law_of_resets` says.
 ///
 /// So they agree behind each run in which nothing was forged.
+#[tactic(auto, using(crate::proofs::Agreed::step_keeps_agreement))]
 pub fn law_of_agreement()
     ensures openings { openings_agree }
     ensures steps { steps_keep_agreement }
@@ -14,17 +15,20 @@ pub fn law_of_agreement()
 
 /// Where both sides agree, each queue that the controller has, and each that has a job, stands at the host with its halves, and a
 /// submission queue that is live at the host is there at the controller.
+#[tactic(auto, using(crate::proofs::Agreed::agreed_linked, crate::proofs::Agreed::agreed_there))]
 pub fn law_of_agreed_queues()
     ensures linked { agreeing_sides_are_linked }
     ensures live { agreed_live_queues_are_there }
 {}
 
 /// Where nothing was forged and both sides agree, no step is refused because a ring is full or a page of a queue is out.
+#[tactic(auto, using(crate::proofs::Agreed::agreed_room))]
 pub fn law_of_agreed_room()
     ensures { agreeing_sides_have_room }
 {}
 
 /// Where both sides agree, each admin command stands at the controller once, and only while it is outstanding.
+#[tactic(auto, using(crate::proofs::Agreed::agreed_once))]
 pub fn law_of_agreed_places()
     ensures { agreed_admin_commands_stand_once }
 {}
@@ -33,6 +37,7 @@ pub fn law_of_agreed_places()
 /// would end well.
 ///
 /// Where nothing was forged, a step that forges nothing and leaves the job there leaves its list the same list.
+#[tactic(auto, using(crate::proofs::Agreed::agreed_jobs))]
 pub fn law_of_agreed_jobs()
     ensures stand { agreed_jobs_stand }
     ensures keep { agreed_jobs_keep_their_lists }
@@ -40,6 +45,7 @@ pub fn law_of_agreed_jobs()
 
 /// Where both sides agree, the chain of each submitted command spells its parts, from the descriptor of its entry, and where nothing
 /// was forged no step changes a byte of its chain pages.
+#[tactic(auto, using(crate::proofs::Agreed::agreed_chains, crate::proofs::Agreed::agreed_chain_pages))]
 pub fn law_of_agreed_chains()
     ensures stand { agreed_chains_stand }
     ensures stay { agreed_chains_stay }
@@ -47,6 +53,7 @@ pub fn law_of_agreed_chains()
 
 /// Where nothing was forged and both sides agree, each step of the controller, accepted or refused, touches only allowed pages: a `fetch` and a `complete`
 /// pages of their own queue, and a `walk` pages of its own command.
+#[tactic(auto, using(crate::proofs::Agreed::agreed_stays))]
 pub fn law_of_agreed_touches()
     ensures { agreeing_steps_stay_allowed }
 {}

@@ -3,6 +3,7 @@
 ghost use Rattle.two_sides.specs.Laws.{tails_are_heard, heads_are_heard};
 
 /// The tail that a host rings is heard, whatever was forged. The head that it rings is heard where nothing was.
+#[tactic(auto, using(crate::proofs::Places::tails_heard, crate::proofs::Places::heads_heard))]
 pub fn doorbells_are_heard()
     ensures tails { tails_are_heard }
     ensures heads { heads_are_heard }

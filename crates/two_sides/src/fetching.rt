@@ -8,6 +8,7 @@ pub fn fetches_are_the_machines()
 {}
 
 /// Where nothing was forged the controller refuses a fetch as the machine does.
+#[tactic(auto, using(crate::proofs::FetchSteps::refuse_alike))]
 pub fn fetches_refuse_as_the_machine()
     ensures { fetches_refuse_alike }
 {}

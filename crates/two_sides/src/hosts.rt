@@ -5,6 +5,7 @@ ghost use Rattle.two_sides.specs.Stepping.{hosts_step};
 
 /// Whatever was forged: where both sides have equally many queues, and each at the controller has its number, as many entries as the host's
 /// and a side that fits them, a step of the host leaves it so.
+#[tactic(auto, using(crate::proofs::Shared::share_queues))]
 pub fn hosts_keep_their_queues()
     ensures { hosts_share_queues }
 {}
@@ -15,11 +16,13 @@ pub fn forged_hosts_are_the_machine()
 {}
 
 /// What the host answers to a call that looks at no completion ring is what the machine may answer, whatever was forged.
+#[tactic(auto, using(crate::proofs::Assembling::answer_as_machine))]
 pub fn hosts_answer_as_the_machine()
     ensures { hosts_answer }
 {}
 
 /// A refusal of such a call changes neither side, and is a step of the machine.
+#[tactic(auto, using(crate::proofs::Assembling::refuse_as_machine))]
 pub fn hosts_refuse_as_the_machine()
     ensures { hosts_refuse }
 {}

@@ -16,6 +16,7 @@ pub fn law_of_forged_worlds()
 
 /// The host's positions in its rings are slots of them: after every run from an opening, forged entries or not, and a step that
 /// begins so ends so.
+#[tactic(auto, using(crate::proofs::DeviceMoves::steps_stay_in_rings, crate::proofs::DeviceMoves::runs_stay_in_rings))]
 pub fn law_of_positions()
     ensures steps { each_step_stays_in_rings }
     ensures runs { every_run_stays_in_rings }
@@ -26,6 +27,7 @@ pub fn law_of_positions()
 ///
 /// Each outstanding command has an identifier below its queue's entries less one, and an I/O command as many data and chain pages as its
 /// request wants. A sound state that is provided so stays so, whatever the step.
+#[tactic(auto, using(crate::proofs::Provided::steps_provide, crate::proofs::Provided::runs_provide))]
 pub fn law_of_provisions()
     ensures steps { each_step_provides }
     ensures runs { every_run_provides }
@@ -49,6 +51,7 @@ pub fn law_of_touches()
 /// The memory that a walk reads in the machine is the pool's, byte for byte, where each page that is in has its 4,096 bytes.
 ///
 /// A list has the same course in both.
+#[tactic(auto, using(crate::proofs::PoolBytes::reads_the_pool))]
 pub fn law_of_memory()
     ensures memory { walks_read_the_pool }
     ensures courses { walks_go_as_in_the_pool }
@@ -87,6 +90,7 @@ pub fn law_of_live_queues()
 
 /// A run from an opening in which no forgery was accepted ends in a trusted state. And steps that lead to a trusted state, from
 /// wherever they began, accepted no forgery since the last reset among them: no other event restores the trust.
+#[tactic(auto, using(crate::proofs::PoolBytes::ends_unforged))]
 pub fn law_of_trust()
     ensures ends { unforged_runs_end_trusted }
     ensures unforged { trusted_ends_are_unforged }
@@ -96,6 +100,7 @@ pub fn law_of_trust()
 /// (`law_of_order`). So behind it every law of `agreement` speaks of the machine again.
 ///
 /// Each I/O command is outstanding as before, and held with status 0:08 where it was submitted.
+#[tactic(auto, using(crate::proofs::Agreed::runs_recover, crate::proofs::PoolBytes::trust_restored, machine_model::proofs::HostLeaves::io_left))]
 pub fn law_of_resets()
     ensures trust { resets_restore_trust }
     ensures agreement { resets_recover }
@@ -108,6 +113,7 @@ pub fn law_of_resets()
 /// was forged since the last reset, and fit to agree behind a reset. An opening is in order.
 ///
 /// What it hands out is fit to be handed in again: the draft of a reserved command, and the pages of a collected one.
+#[tactic(auto, using(crate::proofs::Agreed::order_kept, crate::proofs::Served::reserved_is_proper, crate::proofs::Served::collected_is_proper))]
 pub fn law_of_order()
     ensures openings { openings_are_in_order }
     ensures steps { steps_keep_order }
@@ -116,6 +122,7 @@ pub fn law_of_order()
 {}
 
 /// In a state in order each event may happen, forged entries or not: there is an answer that it may get, and a state that this leads to.
+#[tactic(auto, using(crate::proofs::Agreed::answers_every_event))]
 pub fn law_of_answers()
     ensures { every_event_is_answered }
 {}
@@ -138,6 +145,7 @@ pub fn law_of_jobs()
 
 /// The slots of a queue, which the machine finds by the list of the queue's pages, are those that `queue_pair` finds in the memory
 /// from the first page on: their pages, their bytes, and what a post writes.
+#[tactic(auto, using(crate::proofs::PoolBytes::entry_pages, crate::proofs::PoolBytes::answer_pages, crate::proofs::PoolBytes::entries_stand, crate::proofs::PoolBytes::answers_stand))]
 pub fn law_of_slots()
     ensures entry_pages { entries_lie_in_pages }
     ensures answer_pages { answers_lie_in_pages }
