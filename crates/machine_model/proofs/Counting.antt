@@ -34,11 +34,9 @@ get_changed zero f (y ∷ xs) x e = let same : y ≡ x = cc in ap (λ z. Some (f
 get_changed (suc k) f (y ∷ xs) x e = get_changed k f xs x e
 
 pub get_other : {A : Type 0} (k : ℕ) (f : A → A) (xs : List A) (q : ℕ) → (k ≡ q → ⊥) → slice_get (change k f xs) q ≡ slice_get xs q
-get_other k f [] q far = refl
 get_other zero f (y ∷ xs) zero far = absurd (far refl)
-get_other zero f (y ∷ xs) (suc q) far = refl
-get_other (suc k) f (y ∷ xs) zero far = refl
 get_other (suc k) f (y ∷ xs) (suc q) far = get_other k f xs q (λ e. far (ap suc e))
+get_other k f xs q far = refl
 
 -- How often a number stands in a list.
 
@@ -61,16 +59,7 @@ times_there p x xs e = rw e refl
 -- a filter keeps a number everywhere or nowhere
 kept : (p x : ℕ) (f : ℕ → Bool) (xs : List ℕ) (b e : Bool) → f x ≡ b → (x == p) ≡ e → times p (filter f xs) ≡ (if f p then times p xs else 0)
     → times p (if b then x ∷ filter f xs else filter f xs) ≡ (if f p then times p (x ∷ xs) else 0)
-kept p x f xs true true fb xe ih =
-    let fp : f p ≡ true = ap f (sym (eqb-true x p xe)) ∙ fb in
-    let ih' : times p (filter f xs) ≡ times p xs = rw fp at ih in
-    rw (fp, xe) (ap (λ n. 1 + n) ih')
-kept p x f xs false true fb xe ih =
-    let fp : f p ≡ false = ap f (sym (eqb-true x p xe)) ∙ fb in
-    let ih' : times p (filter f xs) ≡ 0 = rw fp at ih in
-    rw fp ih'
-kept p x f xs true false fb xe ih = rw xe ih
-kept p x f xs false false fb xe ih = rw xe ih
+kept p x f xs b e fb xe ih = grind arith
 
 pub times-filter : (p : ℕ) (f : ℕ → Bool) (xs : List ℕ) → times p (filter f xs) ≡ (if f p then times p xs else 0)
 times-filter p f [] = grind arith
@@ -101,14 +90,7 @@ times-pages p (suc n) = ap (times p) (pages_from-suc 0 n ∙ ap (λ (q : ℕ). p
         rw m (omega (arith, times-append p (pages_from 0 n) (n ∷ []), times_here p n [] e))
     go false e ih =
         let a : times p (pages_from 0 n ++ n ∷ []) ≡ times p (pages_from 0 n) = omega (arith, times-append p (pages_from 0 n) (n ∷ []), times_there p n [] e) in
-        a ∙ ih ∙ ap one (same (nat_lt p n) refl)
-      where
-        same : (b : Bool) → nat_lt p n ≡ b → nat_lt p n ≡ nat_lt p (suc n)
-        same true l = l ∙ sym (lt-ltb p (suc n) (omega (arith, ltb-true p n l)))
-        same false l =
-            let far : n ≡ p → ⊥ = eqb-false n p e in
-            let le : n ≤ p = ltb-false p n l in
-            l ∙ sym (le-ltb p (suc n) (omega (arith, far)))
+        a ∙ ih ∙ ap one (grind arith)
 
 -- what is granted goes from the free numbers
 pub times_granted : (p : ℕ) (pages free : List ℕ) → times p pages ≡ (if is_among pages p && is_among free p then 1 else 0) → times p free ≤ 1
@@ -139,12 +121,10 @@ times_joined p count pages free few = go (is_among free p) (is_among pages p) (n
     go : (f b l : Bool) → is_among free p ≡ f → is_among pages p ≡ b → nat_lt p count ≡ l
         → times p (joined_in_order count pages free) ≡ times p free + times p pages
     go f b false ef eb el =
+        let none : (c : Bool) → times p (pages_from 0 count) ≡ 0 → (if c then times p (pages_from 0 count) else 0) ≡ 0 = λ c u. grind arith in
         let few' : times p free + times p pages ≤ 0 = rw el at few in
         let u : times p (pages_from 0 count) ≡ 0 = rw el at (times-pages p count) in
         whole ∙ none (is_among free p || is_among pages p) u ∙ omega arith
-      where
-        none : (c : Bool) → times p (pages_from 0 count) ≡ 0 → (if c then times p (pages_from 0 count) else 0) ≡ 0
-        none c u = grind arith
     go true b true ef eb el =
         let few' : times p free + times p pages ≤ 1 = rw el at few in
         let u : times p (pages_from 0 count) ≡ 1 = rw el at (times-pages p count) in
@@ -163,18 +143,13 @@ times_joined p count pages free few = go (is_among free p) (is_among pages p) (n
 pub length_of_all : (count : ℕ) (xs : List ℕ) → ((p : ℕ) → times p xs ≡ one (nat_lt p count)) → length xs ≡ count
 length_of_all zero [] h = refl
 length_of_all zero (x ∷ xs) h = absurd (let e = h x ∙ none_below x in let t = times_here x x xs (eq-eqb x x refl) in omega arith)
-length_of_all (suc n) xs h = omega (arith, cut, each (length_of_all n (filter (λ x. not (x == n)) xs)))
+length_of_all (suc n) xs h =
+    let cut : length (filter (λ x. not (x == n)) xs) + 1 ≡ length xs = let l : nat_lt n (suc n) ≡ true = lt-ltb n (suc n) (omega arith) in omega (arith, length_cut n xs, h n ∙ ap one l) in
+    omega (arith, cut, each (length_of_all n (filter (λ x. not (x == n)) xs)))
   where
     length_cut : (n : ℕ) (ys : List ℕ) → length (filter (λ x. not (x == n)) ys) + times n ys ≡ length ys
     length_cut n [] = refl
-    length_cut n (y ∷ ys) = step (y == n) (length_cut n ys)
-      where
-        step : (b : Bool) → length (filter (λ x. not (x == n)) ys) + times n ys ≡ length ys
-            → length (if not b then y ∷ filter (λ x. not (x == n)) ys else filter (λ x. not (x == n)) ys) + (if b then 1 + times n ys else times n ys) ≡ suc (length ys)
-        step b e = grind arith
-
-    cut : length (filter (λ x. not (x == n)) xs) + 1 ≡ length xs
-    cut = let l : nat_lt n (suc n) ≡ true = lt-ltb n (suc n) (omega arith) in omega (arith, length_cut n xs, h n ∙ ap one l)
+    length_cut n (y ∷ ys) = grind (arith, length_cut n ys)
 
     each : (((p : ℕ) → times p (filter (λ x. not (x == n)) xs) ≡ one (nat_lt p n)) → length (filter (λ x. not (x == n)) xs) ≡ n) → length (filter (λ x. not (x == n)) xs) ≡ n
     each go = go (λ p. at p (p == n) refl)
@@ -187,14 +162,7 @@ length_of_all (suc n) xs h = omega (arith, cut, each (length_of_all n (filter (�
             w ∙ ap one (sym l)
         at p false e =
             let w : times p (filter (λ x. not (x == n)) xs) ≡ times p xs = rw e at (times-filter p (λ x. not (x == n)) xs) in
-            w ∙ h p ∙ ap one (more (nat_lt p n) refl)
-          where
-            more : (b : Bool) → nat_lt p n ≡ b → nat_lt p (suc n) ≡ nat_lt p n
-            more true l = lt-ltb p (suc n) (omega (arith, ltb-true p n l)) ∙ sym l
-            more false l =
-                let far : p ≡ n → ⊥ = eqb-false p n e in
-                let le : n ≤ p = ltb-false p n l in
-                le-ltb p (suc n) (omega (arith, far)) ∙ sym l
+            w ∙ h p ∙ ap one (grind arith)
 
 -- Sums over the records of a host.
 
@@ -208,29 +176,16 @@ total-map w f same (x ∷ xs) = omega (arith, same x, total-map w f same xs)
 
 pub times-outstanding : (cid q : ℕ) (records : List Record) → times cid (map (λ r. r.cid) (filter (λ r. r.q == q) records)) ≡ total (here q cid) records
 times-outstanding cid q [] = refl
-times-outstanding cid q (r ∷ records) = go (r.q == q) (times-outstanding cid q records)
-  where
-    go : (b : Bool) → times cid (map (λ r. r.cid) (filter (λ r. r.q == q) records)) ≡ total (here q cid) records
-        → times cid (map (λ r. r.cid) (if b then r ∷ filter (λ r. r.q == q) records else filter (λ r. r.q == q) records)) ≡ one (b && (r.cid == cid)) + total (here q cid) records
-    go true ih = times-cons cid r.cid (map (λ r. r.cid) (filter (λ r. r.q == q) records)) ∙ ap (λ n. one (r.cid == cid) + n) ih
-    go false ih = omega (arith, ih)
+times-outstanding cid q (r ∷ records) = grind (arith, times-outstanding cid q records)
 
 -- where none is there, nothing is changed or left out
 none_without : (q cid : ℕ) (records : List Record) → total (here q cid) records ≡ 0 → without_record q cid records ≡ records
 none_without q cid [] none = refl
-none_without q cid (r ∷ records) none = go (is_at q cid r) refl (none_without q cid records)
-  where
-    go : (b : Bool) → is_at q cid r ≡ b → (total (here q cid) records ≡ 0 → without_record q cid records ≡ records) → without_record q cid (r ∷ records) ≡ r ∷ records
-    go true e ih = let h = rw e at none in absurd (omega arith)
-    go false e ih = let h : 0 + total (here q cid) records ≡ 0 = rw e at none in rw e (ap (λ rs. r ∷ rs) (ih (omega arith)))
+none_without q cid (r ∷ records) none = grind (arith, none_without q cid records)
 
 none_with : (q cid : ℕ) (f : Record → Record) (records : List Record) → total (here q cid) records ≡ 0 → with_record q cid f records ≡ records
 none_with q cid f [] none = refl
-none_with q cid f (r ∷ records) none = go (is_at q cid r) refl (none_with q cid f records)
-  where
-    go : (b : Bool) → is_at q cid r ≡ b → (total (here q cid) records ≡ 0 → with_record q cid f records ≡ records) → with_record q cid f (r ∷ records) ≡ r ∷ records
-    go true e ih = let h = rw e at none in absurd (omega arith)
-    go false e ih = let h : 0 + total (here q cid) records ≡ 0 = rw e at none in rw e (ap (λ rs. r ∷ rs) (ih (omega arith)))
+none_with q cid f (r ∷ records) none = grind (arith, none_with q cid f records)
 
 some_is : {A : Type 0} {x y : A} → Some x ≡ Some y → x ≡ y
 some_is e = cc
@@ -291,10 +246,9 @@ total-change w f (suc k) (y ∷ xs) x e = omega (arith, total-change w f k xs x 
 -- none of them stands twice
 none_before : (p first count : ℕ) → p < first → times p (pages_from first count) ≡ 0
 none_before p first zero l = refl
-none_before p first (suc count) l = omega (arith, times-cons p first (pages_from (first + 1) count), differ (first == p) refl, none_before p (first + 1) count (omega (arith, l)))
-  where
-    differ : (b : Bool) → (first == p) ≡ b → one (first == p) ≡ 0
-    differ b e = grind arith
+none_before p first (suc count) l =
+    let differ : (b : Bool) → (first == p) ≡ b → one (first == p) ≡ 0 = λ b e. grind arith in
+    omega (arith, times-cons p first (pages_from (first + 1) count), differ (first == p) refl, none_before p (first + 1) count (omega (arith, l)))
 
 pub once_in_run : (p first count : ℕ) → times p (pages_from first count) ≤ 1
 once_in_run p first zero = omega arith
@@ -307,13 +261,12 @@ once_in_run p first (suc count) = elim (cases_Bool (first == p)) [
 
 pub all_among : (pages free : List ℕ) (p : ℕ) → list_all (is_among free) pages ≡ true → is_among pages p ≡ true → is_among free p ≡ true
 all_among [] free p all h = absurd (true≢false (sym h))
-all_among (x ∷ pages) free p all h = elim (cases_Bool (x == p)) [
-  | inl e ↦ ap (is_among free) (sym (eqb-true x p e)) ∙ parts.0
-  | inr e ↦ let ih = all_among pages free p parts.1 in ih (rw e at h)
-]
-  where
-    parts : (is_among free x ≡ true) × (list_all (is_among free) pages ≡ true)
-    parts = and_parts (is_among free x) (list_all (is_among free) pages) all
+all_among (x ∷ pages) free p all h =
+    let parts = and_parts (is_among free x) (list_all (is_among free) pages) all in
+    elim (cases_Bool (x == p)) [
+      | inl e ↦ ap (is_among free) (sym (eqb-true x p e)) ∙ parts.0
+      | inr e ↦ let ih = all_among pages free p parts.1 in ih (rw e at h)
+    ]
 
 -- the lowest run of free pages takes free pages, each once
 pub run_times : (free : List ℕ) (count first : ℕ) → first_of_run free count ≡ Some first → (p : ℕ)

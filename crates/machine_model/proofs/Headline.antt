@@ -22,9 +22,8 @@ use Rattle.queue_pair.specs.Memory.{half_pages}
 -- Pages that are placed
 
 take_times : (p n : ℕ) (xs : List ℕ) → times p (take n xs) ≤ times p xs
-take_times p zero xs = omega arith
-take_times p (suc n) [] = omega arith
 take_times p (suc n) (x ∷ xs) = omega (arith, times-cons p x (take n xs), times-cons p x xs, take_times p n xs)
+take_times p n xs = omega arith
 
 length_taken : (n : ℕ) (xs : List ℕ) → n ≤ length xs → length (take n xs) ≡ n
 length_taken zero xs h = refl
@@ -32,11 +31,10 @@ length_taken (suc n) [] h = absurd (omega (arith, h))
 length_taken (suc n) (x ∷ xs) h = ap suc (length_taken n xs (omega (arith, h)))
 
 pub length_placed : (free : List ℕ) (count : ℕ) → count ≤ length free → length (placed free count) ≡ count
-length_placed free count enough = go (first_of_run free count)
-  where
-    go : (o : Option ℕ) → length (option_map_or (λ first. pages_from first count) o (take count free)) ≡ count
-    go None = length_taken count free enough
-    go (Some first) = length_run first count
+length_placed free count enough = elim (option_is (first_of_run free count)) [
+  | inl e ↦ rw e (length_taken count free enough)
+  | inr (first, e) ↦ rw e (length_run first count)
+]
 
 pub placed_times : (p : ℕ) (free : List ℕ) (count : ℕ) → times p (placed free count) ≤ times p free
 placed_times p free count = elim (option_is (first_of_run free count)) [
@@ -50,17 +48,16 @@ placed_times p free count = elim (option_is (first_of_run free count)) [
 
 -- of free pages, some and then some of those that are left
 pub two_placed : (p : ℕ) (pages free more : List ℕ) → times p pages ≤ times p free → times p more ≤ times p (without_numbers pages free) → times p (pages ++ more) ≤ times p free
-two_placed p pages free more some rest = elim (cases_Bool (is_among pages p)) [
-  | inl e ↦
-      let none : times p (without_numbers pages free) ≡ 0 = rw e at left in
-      omega (arith, times-append p pages more, some, rest, none)
-  | inr e ↦
-      let all : times p (without_numbers pages free) ≡ times p free = rw e at left in
-      omega (arith, times-append p pages more, not_held p pages e, rest, all)
-]
-  where
-    left : times p (without_numbers pages free) ≡ (if not (is_among pages p) then times p free else 0)
-    left = times-filter p (λ x. not (is_among pages x)) free
+two_placed p pages free more some rest =
+    let left = times-filter p (λ x. not (is_among pages x)) free in
+    elim (cases_Bool (is_among pages p)) [
+      | inl e ↦
+          let none : times p (without_numbers pages free) ≡ 0 = rw e at left in
+          omega (arith, times-append p pages more, some, rest, none)
+      | inr e ↦
+          let all : times p (without_numbers pages free) ≡ times p free = rw e at left in
+          omega (arith, times-append p pages more, not_held p pages e, rest, all)
+    ]
 
 -- How many are left
 
@@ -79,35 +76,23 @@ length_left [] free some once = omega (arith, all free)
     all [] = refl
     all (x ∷ xs) = ap suc (all xs)
 length_left (d ∷ pages) free some once =
+    let few : (p : ℕ) → times p (filter (λ p. not (d == p)) free) ≤ 1 = λ p. grind (arith, times-filter p (λ x. not (d == x)) free) in
     let one_there : 1 ≤ times d free = omega (arith, here, some d) in
-    omega (arith, ap length (left_in_turn d pages free), length_left pages others fewer few, one_less d free, one_there, once d)
+    omega (arith, ap length (left_in_turn d pages free), length_left pages (filter (λ p. not (d == p)) free) fewer few, one_less d free, one_there, once d)
   where
-    others : List ℕ
-    others = filter (λ p. not (d == p)) free
-
     here : times d (d ∷ pages) ≡ 1 + times d pages
     here = times-cons d d pages ∙ ap (λ (k : ℕ). k + times d pages) (ap one (eq-eqb d d refl))
 
-    fewer : (p : ℕ) → times p pages ≤ times p others
-    fewer p = go (d == p) refl
-      where
-        kept : times p others ≡ (if not (d == p) then times p free else 0)
-        kept = times-filter p (λ x. not (d == x)) free
-
-        go : (b : Bool) → (d == p) ≡ b → times p pages ≤ times p others
-        go true e =
-            let same : d ≡ p = eqb-true d p e in
-            let gone : times d pages ≡ 0 = omega (arith, here, some d, once d) in
-            omega (arith, ap (λ (x : ℕ). times x pages) same, gone)
-        go false e =
-            let all : times p others ≡ times p free = rw e at kept in
-            omega (arith, all, some p, times-cons p d pages)
-
-    few : (p : ℕ) → times p others ≤ 1
-    few p = go (not (d == p)) (times-filter p (λ x. not (d == x)) free)
-      where
-        go : (b : Bool) → times p others ≡ (if b then times p free else 0) → times p others ≤ 1
-        go b e = grind arith
+    fewer : (p : ℕ) → times p pages ≤ times p (filter (λ p. not (d == p)) free)
+    fewer p = elim (cases_Bool (d == p)) [
+      | inl e ↦
+          let same : d ≡ p = eqb-true d p e in
+          let gone : times d pages ≡ 0 = omega (arith, here, some d, once d) in
+          omega (arith, ap (λ (x : ℕ). times x pages) same, gone)
+      | inr e ↦
+          let all : times p (filter (λ p. not (d == p)) free) ≡ times p free = rw e at (times-filter p (λ x. not (d == x)) free) in
+          omega (arith, all, some p, times-cons p d pages)
+    ]
 
 -- A request's pages
 

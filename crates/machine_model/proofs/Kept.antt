@@ -73,16 +73,14 @@ making_sq_as_heard s q cid st e r k n base holds heard w x ex =
 pub ring_at : (k q : ℕ) (g : HostRing → HostRing) (hs : List HostQueue) (y : HostQueue) → slice_get (change k (λ x. record x { ring = g x.ring }) hs) q ≡ Some y → (x : HostQueue) × (slice_get hs q ≡ Some x) × (y.state ≡ x.state)
 ring_at k q g [] y e = absurd cc
 ring_at zero zero g (h ∷ hs) y e = let same : record h { ring = g h.ring } ≡ y = cc in (h, refl, ap (λ (z : HostQueue). z.state) (sym same))
-ring_at zero (suc q) g (h ∷ hs) y e = (y, e, refl)
-ring_at (suc k) zero g (h ∷ hs) y e = (y, e, refl)
 ring_at (suc k) (suc q) g (h ∷ hs) y e = ring_at k q g hs y e
+ring_at k q g (h ∷ hs) y e = (y, e, refl)
 
 pub ring_after : (k q : ℕ) (g : HostRing → HostRing) (hs : List HostQueue) (x : HostQueue) → slice_get hs q ≡ Some x → (y : HostQueue) × (slice_get (change k (λ x. record x { ring = g x.ring }) hs) q ≡ Some y) × (y.state ≡ x.state)
 ring_after k q g [] x e = absurd cc
 ring_after zero zero g (h ∷ hs) x e = let same : h ≡ x = cc in (record h { ring = g h.ring }, refl, ap (λ (z : HostQueue). z.state) same)
-ring_after zero (suc q) g (h ∷ hs) x e = (x, e, refl)
-ring_after (suc k) zero g (h ∷ hs) x e = (x, e, refl)
 ring_after (suc k) (suc q) g (h ∷ hs) x e = ring_after k q g hs x e
+ring_after k q g (h ∷ hs) x e = (x, e, refl)
 
 -- What a queue waits for: the commands, and the states
 
@@ -108,17 +106,10 @@ pub record Waits (of : ℕ → Work → Bool) (test : HostState → Bool) : Type
   pub half_made : test HalfMade ≡ false
 
 alone_waits_not : (of : ℕ → Work → Bool) (test : HostState → Bool) → Waits of test → (st : HostState) → has_cq_alone st ≡ true → test st ≡ false
-alone_waits_not of test w Live e = absurd (true≢false (sym e))
-alone_waits_not of test w (Deleting noted) e = absurd (true≢false (sym e))
-alone_waits_not of test w Retired e = w.retired
-alone_waits_not of test w Gone e = absurd (true≢false (sym e))
-alone_waits_not of test w MakingCq e = absurd (true≢false (sym e))
-alone_waits_not of test w HalfMade e = w.half_made
-alone_waits_not of test w MakingSq e = absurd (true≢false (sym e))
+alone_waits_not of test w st e = grind arith
 
 noted_waits_not : (of : ℕ → Work → Bool) (test : HostState → Bool) → Waits of test → (b : Bool) → test (if b then Deleting true else Live) ≡ false
-noted_waits_not of test w true = w.noted
-noted_waits_not of test w false = w.live
+noted_waits_not of test w b = grind arith
 
 -- Each event
 
@@ -205,11 +196,9 @@ awaited_event of test waits s e reply ok c holds h =
         → ((k : ℕ) → (creates_cq_of k (Management adm) || creates_sq_of k (Management adm)) ≡ true → host_queue (a.heard q e s) k ≡ None) → (z : ℕ) (b : Bool) → of z r.work ≡ b → of z r.work ≡ false
     nobody_waits q cid st e r adm heard w quiet unmade z false its = its
     nobody_waits q cid st e r adm heard w quiet unmade z true its =
+        let second : (x y : Bool) → x ≡ false → (x || y) ≡ true → y ≡ true = λ x y e h. grind arith in
         let kind = second (deletes_sq_of z (Management adm)) _ (quiet z) (waits.kinds z (Management adm) (sym (ap (of z) w) ∙ its)) in
         absurd (true≢false (sym (was_awaited of test s.host.records (a.heard q e s).host.queues z q cid r heard.found its (holds.once q cid) (told q e)) ∙ ap (λ (o : Option HostQueue). option_map_or (λ h. test h.state) o false) (unmade z kind)))
-      where
-        second : (x y : Bool) → x ≡ false → (x || y) ≡ true → y ≡ true
-        second x y e h = grind arith
 
 -- Queue 0 is never deleted, whatever was forged.
 
@@ -232,6 +221,10 @@ zero_past k f hs past h = zero_change k f hs (λ x e z l. absurd (true≢false (
 
 pub zero_host : (s : State) (e : Event) (reply : Reply) → Accepts s e reply → IsController e ≡ false → HoldsPart (host_part s) → Zero (a.after s e reply)
 zero_host s e reply ok c holds =
+    let h = holds.admin in
+    let told : (q : ℕ) (e : ComEntry) → Zero (a.heard q e s) =
+    λ q e. zero_ring q (knowing e.sqhd) (change q (λ x. record x { ring = next_head s.entries x.ring }) s.host.queues) (zero_ring q (next_head s.entries) s.host.queues h) in
+    let sent = zero_ring 0 (next_tail s.entries) s.host.queues h in
     host_moves (λ (e : Event) (reply : Reply) (t : State). Zero t) s e reply ok c
     (record {
       reserves = λ q request d none is. h;
@@ -267,18 +260,9 @@ zero_host s e reply ok c holds =
       resets = still s.host.queues;
     })
   where
-    h : Zero s
-    h = holds.admin
-
     still : (hs : List HostQueue) → AdminLives (a.reset_queues hs)
     still [] = refl
     still (x ∷ hs) = refl
-
-    told : (q : ℕ) (e : ComEntry) → Zero (a.heard q e s)
-    told q e = zero_ring q (knowing e.sqhd) (change q (λ x. record x { ring = next_head s.entries x.ring }) s.host.queues) (zero_ring q (next_head s.entries) s.host.queues h)
-
-    sent : AdminLives (change 0 (λ x. record x { ring = next_tail s.entries x.ring }) s.host.queues)
-    sent = zero_ring 0 (next_tail s.entries) s.host.queues h
 
 -- As it opens
 
@@ -372,6 +356,9 @@ whole x sq cq = record { submission = λ no. absurd (true≢false (sym sq ∙ no
 
 pub halves_event : (s : State) (e : Event) (reply : Reply) → Accepts s e reply → IsController e ≡ false → HoldsPart (host_part s) → AllByRecursion HasNoOtherPages (a.after s e reply).host.queues
 halves_event s e reply ok c holds =
+    let h = holds.halves in
+    let told : (q : ℕ) (e : ComEntry) → Fit (a.heard q e s).host.queues =
+    λ q e. fit_ring q (knowing e.sqhd) (change q (λ x. record x { ring = next_head s.entries x.ring }) s.host.queues) (fit_ring q (next_head s.entries) s.host.queues h) in
     let sent : Fit (change 0 (λ x. record x { ring = next_tail s.entries x.ring }) s.host.queues) = fit_ring 0 (next_tail s.entries) s.host.queues h in
     host_moves (λ (e : Event) (reply : Reply) (t : State). Fit t.host.queues) s e reply ok c
     (record {
@@ -414,12 +401,6 @@ halves_event s e reply ok c holds =
       forges = λ q slot bytes queue none at. h;
       resets = all_reset_queues HasNoOtherPages HasNoOtherPages s.host.queues (λ x e p. whole (a.reset_admin x) refl refl) (record { submission = λ no. refl; completion = λ no. refl }) h;
     })
-  where
-    h : Fit s.host.queues
-    h = holds.halves
-
-    told : (q : ℕ) (e : ComEntry) → Fit (a.heard q e s).host.queues
-    told q e = fit_ring q (knowing e.sqhd) (change q (λ x. record x { ring = next_head s.entries x.ring }) s.host.queues) (fit_ring q (next_head s.entries) s.host.queues h)
 
 -- as it opens
 pub halves_at_opening : (page n count : ℕ) → AllByRecursion HasNoOtherPages (queues_from page n count)
@@ -472,11 +453,9 @@ bare_more rs hs new used h q making = elim (cases_Bool (new.q == q)) [
 
 making_before : (k : ℕ) (f : HostQueue → HostQueue) (hs : List HostQueue) → ((x : HostQueue) → slice_get hs k ≡ Some x → is_making (f x).state ≡ true → is_making x.state ≡ true)
     → (q : ℕ) → awaited_at is_making (change k f hs) q ≡ true → awaited_at is_making hs q ≡ true
-making_before k f [] each q h = h
 making_before zero f (x ∷ hs) each zero h = each x refl h
-making_before zero f (x ∷ hs) each (suc q) h = h
-making_before (suc k) f (x ∷ hs) each zero h = h
 making_before (suc k) f (x ∷ hs) each (suc q) h = making_before k f hs each q h
+making_before k f hs each q h = h
 
 -- a queue that is made again was made again before
 bare_change : (rs : List Record) (k : ℕ) (f : HostQueue → HostQueue) (hs : List HostQueue) → ((x : HostQueue) → slice_get hs k ≡ Some x → is_making (f x).state ≡ true → is_making x.state ≡ true)
@@ -496,15 +475,10 @@ bare_begins rs k f hs none h q making = elim (cases_Bool (k == q)) [
 -- Queues in use
 
 service_used : (s : State) (q : ℕ) → in_state in_service s q ≡ true → awaited_at is_making s.host.queues q ≡ false
-service_used s q serves = go (slice_get s.host.queues q) serves
-  where
-    go : (o : Option HostQueue) → option_map_or (λ x. in_service x.state) o false ≡ true → option_map_or (λ x. is_making x.state) o false ≡ false
-    go None h = refl
-    go (Some x) h = service_in_use x.state h
+service_used s q serves = grind arith
 
 admin_used : (o : Option HostQueue) → option_map_or (λ x. is_live x.state) o true ≡ true → option_map_or (λ x. is_making x.state) o false ≡ false
-admin_used None h = refl
-admin_used (Some x) h = live_in_use x.state h
+admin_used o h = grind arith
 
 -- Every event of the host
 

@@ -163,11 +163,7 @@ owns_more count h new free unused fit moved owns = record {
 -- one record less
 admins-filter : (f : Record → Bool) (records : List Record) → AllByRecursion (λ r. OwnsFit r.q r.work (pages_of r)) records → AllByRecursion (λ r. OwnsFit r.q r.work (pages_of r)) (filter f records)
 admins-filter f [] all = tt
-admins-filter f (r ∷ records) all = go (f r) (admins-filter f records all.1)
-  where
-    go : (b : Bool) → AllByRecursion (λ r. OwnsFit r.q r.work (pages_of r)) (filter f records) → AllByRecursion (λ r. OwnsFit r.q r.work (pages_of r)) (if b then r ∷ filter f records else filter f records)
-    go true rest = (all.0, rest)
-    go false rest = rest
+admins-filter f (r ∷ records) all = grind (arith, admins-filter f records all.1)
 
 pub owns_less : (count : ℕ) (h : Host) (q cid : ℕ) (r : Record) (free : List ℕ) → record_at h q cid ≡ Some r
     → ((p : ℕ) → times p free ≡ times p h.free + in_record p r)
@@ -183,18 +179,14 @@ owns_less count h q cid r free found moved owns = record {
 -- Pages set
 
 set_same : (m : Pages) (k p : ℕ) (x : Option (List ℕ)) → k ≡ p → p < length m → slice_get (in_store (slice_set m k x)) p ≡ Some (is_some x)
-set_same [] k p x e l = absurd (omega arith)
 set_same (y ∷ m) zero zero x e l = refl
-set_same (y ∷ m) zero (suc p) x e l = absurd (omega arith)
-set_same (y ∷ m) (suc k) zero x e l = absurd (omega arith)
 set_same (y ∷ m) (suc k) (suc p) x e l = set_same m k p x (omega arith) (omega arith)
+set_same m k p x e l = absurd (omega arith)
 
 set_other : (m : Pages) (k p : ℕ) (x : Option (List ℕ)) → (k ≡ p → ⊥) → slice_get (in_store (slice_set m k x)) p ≡ slice_get (in_store m) p
-set_other [] k p x e = refl
 set_other (y ∷ m) zero zero x e = absurd (e refl)
-set_other (y ∷ m) zero (suc p) x e = refl
-set_other (y ∷ m) (suc k) zero x e = refl
 set_other (y ∷ m) (suc k) (suc p) x e = set_other m k p x (λ h. e (ap suc h))
+set_other m k p x e = refl
 
 pub out_other : (ps : List ℕ) (m : Pages) (p : ℕ) → is_among ps p ≡ false → slice_get (in_store (without_pages ps m)) p ≡ slice_get (in_store m) p
 out_other [] m p h = refl
@@ -204,18 +196,10 @@ out_other (k ∷ ps) m p h =
 
 pub out_same : (ps : List ℕ) (m : Pages) (p : ℕ) → is_among ps p ≡ true → p < length m → slice_get (in_store (without_pages ps m)) p ≡ Some false
 out_same [] m p h l = absurd (true≢false (sym h))
-out_same (k ∷ ps) m p h l = go (is_among ps p) refl (out_same ps (slice_set m k None) p)
-  where
-    room : p < length (slice_set m k None)
-    room = omega (arith, length-set m k None)
-
-    go : (b : Bool) → is_among ps p ≡ b → (is_among ps p ≡ true → p < length (slice_set m k None) → slice_get (in_store (without_pages ps (slice_set m k None))) p ≡ Some false)
-        → slice_get (in_store (without_pages ps (slice_set m k None))) p ≡ Some false
-    go true e ih = ih e room
-    go false e ih = out_other ps (slice_set m k None) p e ∙ set_same m k p None (eqb-true k p (here_it (k == p) (is_among ps p) h e)) l
-      where
-        here_it : (x y : Bool) → (x || y) ≡ true → y ≡ false → x ≡ true
-        here_it x y a b = grind arith
+out_same (k ∷ ps) m p h l = elim (cases_Bool (is_among ps p)) [
+  | inl e ↦ (out_same ps (slice_set m k None) p) e (omega (arith, length-set m k None))
+  | inr e ↦ out_other ps (slice_set m k None) p e ∙ set_same m k p None (eqb-true k p (grind (arith, h, e))) l
+]
 
 pub in_other : (pages : List (ℕ × List ℕ)) (m : Pages) (p : ℕ) → is_among (numbers_of pages) p ≡ false → slice_get (in_store (with_pages pages m)) p ≡ slice_get (in_store m) p
 in_other [] m p h = refl
@@ -225,18 +209,10 @@ in_other (page ∷ pages) m p h =
 
 pub in_same : (pages : List (ℕ × List ℕ)) (m : Pages) (p : ℕ) → is_among (numbers_of pages) p ≡ true → p < length m → slice_get (in_store (with_pages pages m)) p ≡ Some true
 in_same [] m p h l = absurd (true≢false (sym h))
-in_same (page ∷ pages) m p h l = go (is_among (numbers_of pages) p) refl (in_same pages (slice_set m page.0 (Some page.1)) p)
-  where
-    room : p < length (slice_set m page.0 (Some page.1))
-    room = omega (arith, length-set m page.0 (Some page.1))
-
-    go : (b : Bool) → is_among (numbers_of pages) p ≡ b → (is_among (numbers_of pages) p ≡ true → p < length (slice_set m page.0 (Some page.1)) → slice_get (in_store (with_pages pages (slice_set m page.0 (Some page.1)))) p ≡ Some true)
-        → slice_get (in_store (with_pages pages (slice_set m page.0 (Some page.1)))) p ≡ Some true
-    go true e ih = ih e room
-    go false e ih = in_other pages (slice_set m page.0 (Some page.1)) p e ∙ set_same m page.0 p (Some page.1) (eqb-true page.0 p (here_it (page.0 == p) (is_among (numbers_of pages) p) h e)) l
-      where
-        here_it : (x y : Bool) → (x || y) ≡ true → y ≡ false → x ≡ true
-        here_it x y a b = grind arith
+in_same (page ∷ pages) m p h l = elim (cases_Bool (is_among (numbers_of pages) p)) [
+  | inl e ↦ (in_same pages (slice_set m page.0 (Some page.1)) p) e (omega (arith, length-set m page.0 (Some page.1)))
+  | inr e ↦ in_other pages (slice_set m page.0 (Some page.1)) p e ∙ set_same m page.0 p (Some page.1) (eqb-true page.0 p (grind (arith, h, e))) l
+]
 
 -- How many taken commands have a page
 
@@ -253,12 +229,10 @@ none zero = true
 none (suc n) = false
 
 pub none_here : (n : ℕ) → n ≡ 0 → none n ≡ true
-none_here zero e = refl
-none_here (suc n) e = absurd (omega arith)
+none_here n e = grind arith
 
 pub some_here : (n : ℕ) → 0 < n → none n ≡ false
-some_here zero e = absurd (omega arith)
-some_here (suc n) e = refl
+some_here n e = grind arith
 
 pub taken_le : (p : ℕ) (records : List Record) → total (taken p) records ≤ total (in_record p) records
 taken_le p [] = omega arith
@@ -272,9 +246,8 @@ Taken bits records = (p : ℕ) → p < length bits → slice_get bits p ≡ Some
 
 pub in_is : (m : Pages) (p : ℕ) → p < length m → slice_get (in_store m) p ≡ Some (is_in m p)
 in_is [] p l = absurd (omega arith)
-in_is (None ∷ m) zero l = refl
-in_is (Some bytes ∷ m) zero l = refl
 in_is (page ∷ m) (suc p) l = in_is m p (omega arith)
+in_is m zero l = refl
 
 away_is : (r : Record) → is_away r ≡ is_out r.phase
 away_is r = grind arith
@@ -325,11 +298,9 @@ length_awaits of q (r ∷ rs) = grind (arith, length_awaits of q rs)
 -- Queues that change
 
 pub at_other : (test : HostState → Bool) (f : HostQueue → HostQueue) (k : ℕ) (hs : List HostQueue) (q : ℕ) → (k ≡ q → ⊥) → awaited_at test (change k f hs) q ≡ awaited_at test hs q
-at_other test f k [] q far = refl
 at_other test f zero (h ∷ hs) zero far = absurd (far refl)
-at_other test f zero (h ∷ hs) (suc q) far = refl
-at_other test f (suc k) (h ∷ hs) zero far = refl
 at_other test f (suc k) (h ∷ hs) (suc q) far = at_other test f k hs q (λ e. far (ap suc e))
+at_other test f k hs q far = refl
 
 pub at_found : (test : HostState → Bool) (hs : List HostQueue) (k : ℕ) (x : HostQueue) → slice_get hs k ≡ Some x → awaited_at test hs k ≡ test x.state
 at_found test hs k x e = ap (λ (o : Option HostQueue). option_map_or (λ h. test h.state) o false) e
@@ -346,11 +317,9 @@ at_nobody test f (suc k) (h ∷ hs) e = at_nobody test f k hs e
 
 -- where the test says the same of what a queue becomes
 pub at_same : (test : HostState → Bool) (f : HostQueue → HostQueue) (k : ℕ) (hs : List HostQueue) → ((h : HostQueue) → slice_get hs k ≡ Some h → test (f h).state ≡ test h.state) → (q : ℕ) → awaited_at test (change k f hs) q ≡ awaited_at test hs q
-at_same test f k [] same q = refl
 at_same test f zero (h ∷ hs) same zero = same h refl
-at_same test f zero (h ∷ hs) same (suc q) = refl
-at_same test f (suc k) (h ∷ hs) same zero = refl
 at_same test f (suc k) (h ∷ hs) same (suc q) = at_same test f k hs same q
+at_same test f k hs same q = refl
 
 pub awaited_same : (of : ℕ → Work → Bool) (test : HostState → Bool) (rs : List Record) (f : HostQueue → HostQueue) (k : ℕ) (hs : List HostQueue)
     → ((h : HostQueue) → slice_get hs k ≡ Some h → test (f h).state ≡ test h.state) → Awaited of test rs hs → Awaited of test rs (change k f hs)
@@ -456,10 +425,7 @@ admin_total w same none rs = reset_total w same rs ∙ nothing rs
   where
     nothing : (rs : List Record) → total w (io_records rs) ≡ 0
     nothing [] = refl
-    nothing (r ∷ rs) = go (a.is_of_io r.work) refl (nothing rs)
-      where
-        go : (b : Bool) → a.is_of_io r.work ≡ b → total w (io_records rs) ≡ 0 → total w (if b then r ∷ io_records rs else io_records rs) ≡ 0
-        go b e ih = grind arith
+    nothing (r ∷ rs) = grind (arith, nothing rs)
 
 pub all_reset : (P Q : Record → Type 0) → ((r : Record) → a.is_of_io r.work ≡ true → P r → Q (a.lost_anywhere r)) → (rs : List Record) → AllByRecursion P rs → AllByRecursion Q (a.reset_records rs)
 all_reset P Q each [] all = tt
@@ -477,14 +443,7 @@ reset_pages p rs fit =
 pub reset_taken : (p : ℕ) (rs : List Record) → AllByRecursion (λ r. OwnsFit r.q r.work (pages_of r)) rs → total (taken p) (a.reset_records rs) ≡ total (taken p) rs
 reset_taken p rs fit =
     reset_total (taken p) (lost_taken p) rs
-    ∙ io_total (λ r. OwnsFit r.q r.work (pages_of r)) (taken p) (λ r f adm. no_pages p r.q r.work r.phase (pages_of r) f adm) rs fit
-  where
-    no_pages : (p q : ℕ) (w : Work) (ph : Phase) (pages : List ℕ) → OwnsFit q w pages → a.is_of_io w ≡ false → (if is_out ph then times p pages else 0) ≡ 0
-    no_pages p q (Io request) ph pages f kind = absurd (true≢false kind)
-    no_pages p q (Management adm) ph pages f kind = go (is_out ph)
-      where
-        go : (b : Bool) → (if b then times p pages else 0) ≡ 0
-        go b = grind arith
+    ∙ io_total (λ r. OwnsFit r.q r.work (pages_of r)) (taken p) (λ r f adm. (grind (arith, adm))) rs fit
 
 -- Queues
 
@@ -541,12 +500,10 @@ admin_has p (x ∷ hs) = omega (arith, times-append p x.sq_pages x.cq_pages)
 -- Nothing waits at the controller, so no admin command stands there
 
 pub no_waiting : (ds : List DeviceQueue) → waiting (a.reset_device_queues ds) ≡ []
-no_waiting [] = refl
-no_waiting (d ∷ ds) = refl
+no_waiting ds = grind arith
 
 pub no_answering : (ds : List DeviceQueue) → answering (a.reset_device_queues ds) ≡ []
-no_answering [] = refl
-no_answering (d ∷ ds) = refl
+no_answering ds = grind arith
 
 pub reset_admin_commands : (rs : List Record) → AdminCommandsStand rs [] [] []
 reset_admin_commands rs = record { places = λ c. omega arith; entries = tt; jobs = tt; answers = tt }

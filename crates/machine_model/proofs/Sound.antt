@@ -322,6 +322,7 @@ io_queue s q r none =
 
 owns_event : (s : State) (e : Event) (reply : Reply) → Accepts s e reply → IsController e ≡ false → HoldsPart (host_part s) → OwnsPart (host_part (a.after s e reply))
 owns_event s e reply ok c holds =
+    let others : (q : ℕ) (queue : HostQueue) → host_queue s q ≡ Some queue → HasNoOtherPages queue = λ q queue there. all_at HasNoOtherPages s.host.queues q queue there holds.halves in
     host_moves (λ (e : Event) (reply : Reply) (t : State). Ok t) s e reply ok c
     (record {
       reserves = λ q request d none is. ok-reserve s d (ap (λ (k : ℕ). k == 0) is.queue ∙ io_queue s q request none) (subst (λ (k : ℕ). IsNewIdentifier s k d.cid) (sym is.queue) is.identifier) is.free h;
@@ -378,9 +379,6 @@ owns_event s e reply ok c holds =
     h : Ok s
     h = owns_of (length (in_store s.memory)) s.host holds
 
-    others : (q : ℕ) (queue : HostQueue) → host_queue s q ≡ Some queue → HasNoOtherPages queue
-    others q queue there = all_at HasNoOtherPages s.host.queues q queue there holds.halves
-
     told : (q : ℕ) (e : ComEntry) → Ok (a.heard q e s)
     told q e = ok-ring q (knowing e.sqhd) (a.consumed q s) (ok-ring q (next_head s.entries) s h)
 
@@ -429,38 +427,33 @@ at_most s p h = omega (arith, taken_le p s.host.records, h.owner p, small (nat_l
 -- pages go out with a command that is then taken
 taken_out : (s : State) (pages : List ℕ) (records : List Record) → ((p : ℕ) → total (taken p) records ≡ total (taken p) s.host.records + times p pages)
     → Fits s → Taken (in_store (without_pages pages s.memory)) records
-taken_out s pages records more h p l = elim (cases_Bool (is_among pages p)) [
-  | inl e ↦ out_same pages s.memory p e l' ∙ ap Some (sym (some_here _ (omega (arith, more p, held_once p pages e))))
-  | inr e ↦ out_other pages s.memory p e ∙ h p (omega (arith, l', length-in_store s.memory)) ∙ ap (λ n. Some (none n)) (omega (arith, more p, not_held p pages e))
-]
-  where
-    l' : p < length s.memory
-    l' = omega (arith, length-in_store (without_pages pages s.memory), length-without_pages pages s.memory)
+taken_out s pages records more h p l =
+    let l' : p < length s.memory = omega (arith, length-in_store (without_pages pages s.memory), length-without_pages pages s.memory) in
+    elim (cases_Bool (is_among pages p)) [
+      | inl e ↦ out_same pages s.memory p e l' ∙ ap Some (sym (some_here _ (omega (arith, more p, held_once p pages e))))
+      | inr e ↦ out_other pages s.memory p e ∙ h p (omega (arith, l', length-in_store s.memory)) ∙ ap (λ n. Some (none n)) (omega (arith, more p, not_held p pages e))
+    ]
 
 -- pages come in with a command that was taken and no longer is
 brought_in : (s : State) (pages : List (ℕ × List ℕ)) (records : List Record) → ((p : ℕ) → total (taken p) records + times p (numbers_of pages) ≡ total (taken p) s.host.records)
     → HoldsPart (host_part s) → Fits s → Taken (in_store (with_pages pages s.memory)) records
-brought_in s pages records less holds h p l = elim (cases_Bool (is_among (numbers_of pages) p)) [
-  | inl e ↦ in_same pages s.memory p e l' ∙ ap Some (sym (none_here _ (omega (arith, less p, held_once p (numbers_of pages) e, at_most s p holds))))
-  | inr e ↦ in_other pages s.memory p e ∙ h p (omega (arith, l', length-in_store s.memory)) ∙ ap (λ n. Some (none n)) (omega (arith, less p, not_held p (numbers_of pages) e))
-]
-  where
-    l' : p < length s.memory
-    l' = omega (arith, length-in_store (with_pages pages s.memory), length-with_pages pages s.memory)
+brought_in s pages records less holds h p l =
+    let l' : p < length s.memory = omega (arith, length-in_store (with_pages pages s.memory), length-with_pages pages s.memory) in
+    elim (cases_Bool (is_among (numbers_of pages) p)) [
+      | inl e ↦ in_same pages s.memory p e l' ∙ ap Some (sym (none_here _ (omega (arith, less p, held_once p (numbers_of pages) e, at_most s p holds))))
+      | inr e ↦ in_other pages s.memory p e ∙ h p (omega (arith, l', length-in_store s.memory)) ∙ ap (λ n. Some (none n)) (omega (arith, less p, not_held p (numbers_of pages) e))
+    ]
 
 -- free pages are in, and stay in as a half is granted
 zeroed_in : (s : State) (pages : List ℕ) → ((p : ℕ) → times p pages ≡ (if is_among pages p && is_among s.host.free p then 1 else 0)) → HoldsPart (host_part s) → Fits s → Taken (in_store (with_pages (zeroed_pages pages) s.memory)) s.host.records
-zeroed_in s pages are holds h p l = elim (cases_Bool (is_among pages p)) [
-  | inl e ↦ in_same (zeroed_pages pages) s.memory p (among ∙ e) l' ∙ ap Some (sym (none_here _ (untaken e)))
-  | inr e ↦ in_other (zeroed_pages pages) s.memory p (among ∙ e) ∙ h p (omega (arith, l', length-in_store s.memory))
-]
+zeroed_in s pages are holds h p l =
+    let l' : p < length s.memory = omega (arith, length-in_store (with_pages (zeroed_pages pages) s.memory), length-with_pages (zeroed_pages pages) s.memory) in
+    let among = ap (λ (ps : List ℕ). is_among ps p) (zeroed_numbers pages) in
+    elim (cases_Bool (is_among pages p)) [
+      | inl e ↦ in_same (zeroed_pages pages) s.memory p (among ∙ e) l' ∙ ap Some (sym (none_here _ (untaken e)))
+      | inr e ↦ in_other (zeroed_pages pages) s.memory p (among ∙ e) ∙ h p (omega (arith, l', length-in_store s.memory))
+    ]
   where
-    l' : p < length s.memory
-    l' = omega (arith, length-in_store (with_pages (zeroed_pages pages) s.memory), length-with_pages (zeroed_pages pages) s.memory)
-
-    among : is_among (numbers_of (zeroed_pages pages)) p ≡ is_among pages p
-    among = ap (λ (ps : List ℕ). is_among ps p) (zeroed_numbers pages)
-
     -- a page of the run is free, so no command has it
     untaken : is_among pages p ≡ true → total (taken p) s.host.records ≡ 0
     untaken e = elim (cases_Bool (is_among s.host.free p)) [
@@ -515,23 +508,14 @@ reaped_submitted s q cid h = go (reaped s q) refl h
     of st what t = let x = heard_of s q cid st what t in (x.1, x.2.found, x.2.submitted)
 
     go : (what : Reaped) → reaped s q ≡ what → named what ≡ Some cid → IsSubmittedAt s q cid
-    go events.Empty is n = absurd cc
-    go (events.Rejected why) is n = absurd cc
     go (events.Done c st) is n = of st (events.Done c st) (record { is = sym is; names = n; status = refl })
     go (events.AdminDone c st dw0) is n = of st (events.AdminDone c st dw0) (record { is = sym is; names = n; status = refl })
+    go what is n = absurd cc
 
 -- Each event
 
 fits-lost : (p q : ℕ) (r : Record) → taken p (a.lost q r) ≡ taken p r
-fits-lost p q r = go ((r.q == q) && is_submitted r.phase) (λ e. submitted_in r.phase (and_right' (r.q == q) (is_submitted r.phase) e)) refl
-  where
-    and_right' : (x y : Bool) → (x && y) ≡ true → y ≡ true
-    and_right' true y e = e
-    and_right' false y e = absurd (true≢false (sym e))
-
-    go : (b : Bool) → (((r.q == q) && is_submitted r.phase) ≡ true → is_out r.phase ≡ false) → ((r.q == q) && is_submitted r.phase) ≡ b
-        → taken p (if b then record r { phase = Held; status = Some ABORTED_SQ_DELETION } else r) ≡ taken p r
-    go b out e = grind arith
+fits-lost p q r = grind arith
 
 fits_event : (s : State) (e : Event) (reply : Reply) → Accepts s e reply → IsController e ≡ false → Both (host_part s) → Fits (a.after s e reply)
 fits_event s e reply ok c h =

@@ -22,6 +22,7 @@ use Rattle.machine_model.specs.{Run.Run, State.{State, Job, HostQueue, Record, P
 use Rattle.machine_model.specs.Step.{HostPart, host_part, Step, Leaves, LeavesByController, LeavesByHost, Permits, Answers, IsController, is_exact}
 use Rattle.controller_walk.specs.Units.{Act, Stays, Reads, Moves, first_passing}
 use Rattle.sgl_descriptor.specs.declared.Direction.{Direction, TheVariants.{Destination, Source}}
+use Rattle.std.proofs.lemmas.Bool.{cases_Bool}
 
 -- What an admin entry's fetch leaves, by the cases of its verdict.
 
@@ -51,6 +52,8 @@ pub record Manages (P : State → Type 0) (e : SubEntry) (s : State) : Type 0 wh
 -- where each case holds, the statement holds of what the fetch leaves
 pub managed_by : (P : State → Type 0) (e : SubEntry) (s : State) → Manages P e s → P (managed e s)
 managed_by P e s m =
+    let aborting : (e.opcode == ABORT) ≡ true → Q (abort_verdict q (named_command e) view) =
+    λ is8. by-if Q (walks s q (named_command e) && not (q == 0)) _ _ (λ w. m.aborts is8 (and_parts (walks s q (named_command e)) (not (q == 0)) w).0) (λ w. m.is_late is8) in
     by-if Q (not (is_opcode e.opcode)) _ _ (λ c. m.refuses INVALID_OPCODE refl)
     (λ known. by-if Q (not (e.fuse == 0)) _ _ (λ c. m.refuses INVALID_FIELD refl)
     (λ unfused. by-if Q (e.opcode == ABORT) _ _ aborting
@@ -67,10 +70,6 @@ managed_by P e s m =
 
     view : DeviceView
     view = view_of s e
-
-    aborting : (e.opcode == ABORT) ≡ true → Q (abort_verdict q (named_command e) view)
-    aborting is8 =
-        by-if Q (walks s q (named_command e) && not (q == 0)) _ _ (λ w. m.aborts is8 (and_parts (walks s q (named_command e)) (not (q == 0)) w).0) (λ w. m.is_late is8)
 
     stopping : (e.opcode == DELETE_IO_SQ) ≡ true → Q (delete_sq_verdict q view)
     stopping is0 =
@@ -132,8 +131,7 @@ pub part-bytes : (s : State) (p at : ℕ) (new : List ℕ) → host_part (on_mem
 part-bytes s p at new = ap (λ bits. record (host_part s) { in_store = bits }) (in_store-with_bytes s.memory p at new)
 
 pub part-option : {A : Type 0} (f : A → State) (o : Option A) (s : State) → ((x : A) → host_part (f x) ≡ host_part s) → host_part (option_map_or f o s) ≡ host_part s
-part-option f None s each = refl
-part-option f (Some x) s each = each x
+part-option f o s each = grind arith
 
 pub part-if : (b : Bool) (t u s : State) → host_part t ≡ host_part s → host_part u ≡ host_part s → host_part (if b then t else u) ≡ host_part s
 part-if b t u s et eu = grind arith
@@ -257,17 +255,13 @@ part_controller s (events.Complete q cid) reply c = part-complete q cid s
 part_controller s e reply c = absurd (true≢false (sym c))
 
 forged_part : (b : Bool) (s u t : State) → MatchBool b (LeavesByController u s t) (LeavesByHost u s t) → host_part t ≡ host_part s
-forged_part true s u t h = h.part
-forged_part false s u t h = h.part
+forged_part b s u t h = grind arith
 
 either_part : (b c : Bool) (s u t : State) → MatchBool b (t ≡ s) (MatchBool c (LeavesByController u s t) (LeavesByHost u s t)) → host_part t ≡ host_part s
-either_part true c s u t h = ap host_part h
-either_part false c s u t h = forged_part c s u t h
+either_part b c s u t h = grind arith
 
 pub part_left : (s : State) (e : Event) (reply : Reply) (new : State) → Leaves s e reply new → host_part new ≡ host_part (after s e reply)
-part_left s e (events.Refused why touched) new h = ap host_part h
-part_left s e (events.Reserved d) new h = either_part (is_exact e s.trusted) (IsController e) (after s e (events.Reserved d)) s new h
-part_left s e reply new h = either_part (is_exact e s.trusted) (IsController e) (after s e reply) s new h
+part_left s e reply new h = grind arith
 
 -- what is permitted, and what is left, where nothing was forged
 pub permitted : {A : Type 0} (B : Type 0) (t c : Bool) → t ≡ true → MatchBool (t || c) A B → A
@@ -282,9 +276,8 @@ abbrev pub Accepts : State → Event → Reply → Type 0
 Accepts s e reply = (refusal_of s e ≡ None) × Answers s e reply
 
 pub surely : {A : Type 0} (B : Type 0) (t c : Bool) → c ≡ false → MatchBool (t || not c) A B → A
-surely B true c e h = h
 surely B false true e h = absurd (true≢false e)
-surely B false false e h = h
+surely B t c e h = h
 
 -- P is of the host's part
 abbrev pub IsKept : (HostPart → Type 0) → State → Event → Reply → Type 0
@@ -294,7 +287,6 @@ pub kept_anyway : (P : HostPart → Type 0) (s : State) (e : Event) (reply : Rep
     → (Accepts s e reply → IsController e ≡ false → IsKept P s e reply) → IsKept P s e reply
 kept_anyway P s e reply true c permits each = λ h. subst P (sym (part_controller s e reply c)) h
 kept_anyway P s e (events.Refused why touched) false c permits each = λ h. h
-kept_anyway P s e (events.Reserved d) false c permits each = each (surely _ s.trusted (IsController e) c permits) c
 kept_anyway P s e reply false c permits each = each (surely _ s.trusted (IsController e) c permits) c
 
 pub each_step : (P : HostPart → Type 0)
@@ -307,7 +299,6 @@ pub each_run : (P : HostPart → Type 0)
     → ((s : State) (e : Event) (reply : Reply) → Accepts s e reply → IsController e ≡ false → IsKept P s e reply)
     → (old : State) (es : List Event) (replies : List Reply) (new : State) → Run old es replies new → P (host_part old) → P (host_part new)
 each_run P each old [] [] new run h = subst (λ (s : State). P (host_part s)) (sym run) h
-each_run P each old [] (reply ∷ replies) new run h = absurd run
-each_run P each old (e ∷ es) [] new run h = absurd run
 each_run P each old (e ∷ es) (reply ∷ replies) new run h =
     each_run P each run.0 es replies new run.2 (each_step P each old e reply run.0 run.1 h)
+each_run P each old es replies new run h = absurd run

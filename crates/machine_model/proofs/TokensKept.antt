@@ -50,11 +50,9 @@ tokens_device rs hs ds ds' un js ans gone there h = record {
 
 pub device_same : {A : Type 0} (g : DeviceQueue → A) (nothing : A) (f : DeviceQueue → DeviceQueue) (k : ℕ) (ds : List DeviceQueue) → ((d : DeviceQueue) → slice_get ds k ≡ Some d → g (f d) ≡ g d) → (q : ℕ)
     → option_map_or g (slice_get (change k f ds) q) nothing ≡ option_map_or g (slice_get ds q) nothing
-device_same g nothing f k [] same q = refl
 device_same g nothing f zero (d ∷ ds) same zero = same d refl
-device_same g nothing f zero (d ∷ ds) same (suc q) = refl
-device_same g nothing f (suc k) (d ∷ ds) same zero = refl
 device_same g nothing f (suc k) (d ∷ ds) same (suc q) = device_same g nothing f k ds same q
+device_same g nothing f k ds same q = refl
 
 pub device_other : {A : Type 0} (g : DeviceQueue → A) (nothing : A) (f : DeviceQueue → DeviceQueue) (k : ℕ) (ds : List DeviceQueue) (q : ℕ) → (k == q) ≡ false → option_map_or g (slice_get (change k f ds) q) nothing ≡ option_map_or g (slice_get ds q) nothing
 device_other g nothing f k ds q far = ap (λ (o : Option DeviceQueue). option_map_or g o nothing) (get_other k f ds q (eqb-false k q far))
@@ -98,21 +96,16 @@ tokens_plain rs hs ds e un js js' ans ok f cq sq h = record {
 -- a completion queue is dropped: it was there
 pub tokens_drop : (rs : List Record) (hs : List HostQueue) (ds : List DeviceQueue) (e : SubEntry) (un : List SubEntry) (js js' : List Job) (ans : List Answer) → Fetched rs e un js js' ans true
     → Named rs e → (e.opcode == DELETE_IO_CQ) ≡ true → there_at ds (named_queue e) ≡ true → TokensHeld rs hs ds (e ∷ un) js ans → TokensHeld rs hs (change (named_queue e) dropped ds) un js' ans
-tokens_drop rs hs ds e un js js' ans f names is has h = record {
-  submission = λ q. omega (arith, h.submission q, f.unmade (creates_sq q), ap (λ (b : Bool). one (not b)) (same q));
-  completion = λ q. completes q (named_queue e == q) refl;
-  there = λ q inside some. same q ∙ h.there q inside (omega (arith, some, f.unmade (deletes_sq q), f.done (creates_sq q), ap one (sq q)));
-}
+tokens_drop rs hs ds e un js js' ans f names is has h =
+    let k = named_queue e in
+    let same : (q : ℕ) → gone_at (change (named_queue e) dropped ds) q ≡ gone_at ds q = λ q. device_same (λ at. is_absent at.state) true dropped (named_queue e) ds (λ d ed. refl) q in
+    let sq : (q : ℕ) → (is_kind (creates_sq q) rs e.cid && true) ≡ false = λ q. rw (names.creates_sq q, eqb-true e.opcode DELETE_IO_CQ is) refl in
+    record {
+      submission = λ q. omega (arith, h.submission q, f.unmade (creates_sq q), ap (λ (b : Bool). one (not b)) (same q));
+      completion = λ q. completes q (named_queue e == q) refl;
+      there = λ q inside some. same q ∙ h.there q inside (omega (arith, some, f.unmade (deletes_sq q), f.done (creates_sq q), ap one (sq q)));
+    }
   where
-    k : ℕ
-    k = named_queue e
-
-    same : (q : ℕ) → gone_at (change (named_queue e) dropped ds) q ≡ gone_at ds q
-    same q = device_same (λ at. is_absent at.state) true dropped (named_queue e) ds (λ d ed. refl) q
-
-    sq : (q : ℕ) → (is_kind (creates_sq q) rs e.cid && true) ≡ false
-    sq q = rw (names.creates_sq q, eqb-true e.opcode DELETE_IO_CQ is) refl
-
     its : (q : ℕ) (b : Bool) → (named_queue e == q) ≡ b → (is_kind (deletes_cq q) rs e.cid && true) ≡ b
     its q b at = grind arith
 
@@ -133,18 +126,16 @@ tokens_drop rs hs ds e un js js' ans f names is has h = record {
 -- one is made: it was not there
 pub tokens_completion : (rs : List Record) (hs : List HostQueue) (ds : List DeviceQueue) (e : SubEntry) (un : List SubEntry) (js js' : List Job) (ans : List Answer) → Fetched rs e un js js' ans true
     → Named rs e → (e.opcode == CREATE_IO_CQ) ≡ true → there_at ds (named_queue e) ≡ false → TokensHeld rs hs ds (e ∷ un) js ans → TokensHeld rs hs (change (named_queue e) completion_made ds) un js' ans
-tokens_completion rs hs ds e un js js' ans f names is has h = record {
-  submission = λ q. omega (arith, h.submission q, f.unmade (creates_sq q), ap (λ (b : Bool). one (not b)) (same q));
-  completion = λ q. completes q (named_queue e == q) refl;
-  there = λ q inside some. same q ∙ h.there q inside (omega (arith, some, f.unmade (deletes_sq q), f.done (creates_sq q), ap one (sq q)));
-}
+tokens_completion rs hs ds e un js js' ans f names is has h =
+    let same : (q : ℕ) → gone_at (change (named_queue e) completion_made ds) q ≡ gone_at ds q =
+    λ q. device_same (λ at. is_absent at.state) true completion_made (named_queue e) ds (λ d ed. refl) q in
+    let sq : (q : ℕ) → (is_kind (creates_sq q) rs e.cid && true) ≡ false = λ q. rw (names.creates_sq q, eqb-true e.opcode CREATE_IO_CQ is) refl in
+    record {
+      submission = λ q. omega (arith, h.submission q, f.unmade (creates_sq q), ap (λ (b : Bool). one (not b)) (same q));
+      completion = λ q. completes q (named_queue e == q) refl;
+      there = λ q inside some. same q ∙ h.there q inside (omega (arith, some, f.unmade (deletes_sq q), f.done (creates_sq q), ap one (sq q)));
+    }
   where
-    same : (q : ℕ) → gone_at (change (named_queue e) completion_made ds) q ≡ gone_at ds q
-    same q = device_same (λ at. is_absent at.state) true completion_made (named_queue e) ds (λ d ed. refl) q
-
-    sq : (q : ℕ) → (is_kind (creates_sq q) rs e.cid && true) ≡ false
-    sq q = rw (names.creates_sq q, eqb-true e.opcode CREATE_IO_CQ is) refl
-
     cq : (q : ℕ) → (is_kind (deletes_cq q) rs e.cid && true) ≡ false
     cq q = rw (names.deletes_cq q, eqb-true e.opcode CREATE_IO_CQ is) refl
 
@@ -162,15 +153,14 @@ tokens_completion rs hs ds e un js js' ans f names is has h = record {
 -- a submission queue is made: it was not there
 pub tokens_submission : (rs : List Record) (hs : List HostQueue) (ds : List DeviceQueue) (e : SubEntry) (un : List SubEntry) (js js' : List Job) (ans : List Answer) → length ds ≡ length hs → Fetched rs e un js js' ans true
     → Named rs e → (e.opcode == CREATE_IO_SQ) ≡ true → gone_at ds (named_queue e) ≡ true → TokensHeld rs hs ds (e ∷ un) js ans → TokensHeld rs hs (change (named_queue e) submission_made ds) un js' ans
-tokens_submission rs hs ds e un js js' ans long f names is has h = record {
-  submission = λ q. submits q (named_queue e == q) refl;
-  completion = λ q. omega (arith, h.completion q, f.unmade (creates_cq q), f.done (deletes_cq q), ap one (cq q), ap one (device_same (λ at. at.cq_there) false submission_made (named_queue e) ds (λ d ed. refl) q));
-  there = λ q inside some. comes q inside (named_queue e == q) refl some;
-}
+tokens_submission rs hs ds e un js js' ans long f names is has h =
+    let cq : (q : ℕ) → (is_kind (deletes_cq q) rs e.cid && true) ≡ false = λ q. rw (names.deletes_cq q, eqb-true e.opcode CREATE_IO_SQ is) refl in
+    record {
+      submission = λ q. submits q (named_queue e == q) refl;
+      completion = λ q. omega (arith, h.completion q, f.unmade (creates_cq q), f.done (deletes_cq q), ap one (cq q), ap one (device_same (λ at. at.cq_there) false submission_made (named_queue e) ds (λ d ed. refl) q));
+      there = λ q inside some. comes q inside (named_queue e == q) refl some;
+    }
   where
-    cq : (q : ℕ) → (is_kind (deletes_cq q) rs e.cid && true) ≡ false
-    cq q = rw (names.deletes_cq q, eqb-true e.opcode CREATE_IO_SQ is) refl
-
     its : (q : ℕ) (b : Bool) → (named_queue e == q) ≡ b → (is_kind (creates_sq q) rs e.cid && true) ≡ b
     its q b at = grind arith
 
@@ -210,9 +200,8 @@ no_unfetched (d ∷ ds) zero = refl
 no_unfetched (d ∷ ds) (suc q) = rest ds q
   where
     rest : (ds : List DeviceQueue) (q : ℕ) → unfetched_at (map (λ other. a.no_device_queue) ds) q ≡ []
-    rest [] q = refl
-    rest (d ∷ ds) zero = refl
     rest (d ∷ ds) (suc q) = rest ds q
+    rest ds q = refl
 
 pub no_answers_at : (ds : List DeviceQueue) (q : ℕ) → answers_at (a.reset_device_queues ds) q ≡ []
 no_answers_at [] q = refl
@@ -220,9 +209,8 @@ no_answers_at (d ∷ ds) zero = refl
 no_answers_at (d ∷ ds) (suc q) = rest ds q
   where
     rest : (ds : List DeviceQueue) (q : ℕ) → answers_at (map (λ other. a.no_device_queue) ds) q ≡ []
-    rest [] q = refl
-    rest (d ∷ ds) zero = refl
     rest (d ∷ ds) (suc q) = rest ds q
+    rest ds q = refl
 
 -- Queue by queue
 
@@ -233,9 +221,8 @@ pub record AreAdminHalves (n : ℕ) (hs : List HostQueue) : Type 0 where
 
 pub same_length : (n : ℕ) (hs : List HostQueue) (ds : List DeviceQueue) → QueuesFit n hs ds → length ds ≡ length hs
 same_length n [] [] p = refl
-same_length n [] (d ∷ ds) p = absurd p
-same_length n (x ∷ hs) [] p = absurd p
 same_length n (x ∷ hs) (d ∷ ds) p = ap suc (same_length n hs ds p.1)
+same_length n hs ds p = absurd p
 
 pub live_is : (st : HostState) → is_live st ≡ true → st ≡ Live
 live_is st e = grind arith
@@ -267,8 +254,6 @@ reset_pairs n (x ∷ hs) (d ∷ ds) same whole = (
   where
     rest : (hs : List HostQueue) (ds : List DeviceQueue) → length ds ≡ length hs → QueuesFit n (map (λ other. a.no_queue) hs) (map (λ other. a.no_device_queue) ds)
     rest [] [] same = tt
-    rest [] (d ∷ ds) same = absurd cc
-    rest (x ∷ hs) [] same = absurd cc
     rest (x ∷ hs) (d ∷ ds) same = (
       record {
         sub = λ o. absurd (true≢false (sym o));
@@ -281,23 +266,21 @@ reset_pairs n (x ∷ hs) (d ∷ ds) same whole = (
       },
       rest hs ds (omega (arith, same)),
     )
+    rest hs ds same = absurd cc
 
 -- The tokens of what is deleted and made
 
 absent_past : (ds : List DeviceQueue) (q : ℕ) → is_absent_at (map (λ other. a.no_device_queue) ds) q ≡ true
-absent_past [] q = refl
-absent_past (d ∷ ds) zero = refl
 absent_past (d ∷ ds) (suc q) = absent_past ds q
+absent_past ds q = refl
 
 no_completions_past : (ds : List DeviceQueue) (q : ℕ) → has_completions_at (map (λ other. a.no_device_queue) ds) q ≡ false
-no_completions_past [] q = refl
-no_completions_past (d ∷ ds) zero = refl
 no_completions_past (d ∷ ds) (suc q) = no_completions_past ds q
+no_completions_past ds q = refl
 
 not_live_past : (hs : List HostQueue) (q : ℕ) → is_live_at (map (λ other. a.no_queue) hs) q ≡ false
-not_live_past [] q = refl
-not_live_past (x ∷ hs) zero = refl
 not_live_past (x ∷ hs) (suc q) = not_live_past hs q
+not_live_past hs q = refl
 
 pub reset_tokens : (rs : List Record) (hs : List HostQueue) (ds : List DeviceQueue) → length ds ≡ length hs → TokensHeld rs (a.reset_queues hs) (a.reset_device_queues ds) [] [] []
 reset_tokens rs hs ds same = record { submission = submission hs ds; completion = completion hs ds; there = there hs ds same }
