@@ -50,12 +50,6 @@ pub times-append : (p : ℕ) (xs ys : List ℕ) → times p (xs ++ ys) ≡ times
 times-append p [] ys = omega arith
 times-append p (x ∷ xs) ys = omega (arith, times-cons p x (xs ++ ys), times-cons p x xs, times-append p xs ys)
 
-times_here : (p x : ℕ) (xs : List ℕ) → (x == p) ≡ true → times p (x ∷ xs) ≡ 1 + times p xs
-times_here p x xs e = rw e refl
-
-times_there : (p x : ℕ) (xs : List ℕ) → (x == p) ≡ false → times p (x ∷ xs) ≡ times p xs
-times_there p x xs e = rw e refl
-
 -- a filter keeps a number everywhere or nowhere
 kept : (p x : ℕ) (f : ℕ → Bool) (xs : List ℕ) (b e : Bool) → f x ≡ b → (x == p) ≡ e → times p (filter f xs) ≡ (if f p then times p xs else 0)
     → times p (if b then x ∷ filter f xs else filter f xs) ≡ (if f p then times p (x ∷ xs) else 0)
@@ -74,11 +68,14 @@ pub not_held : (p : ℕ) (xs : List ℕ) → is_among xs p ≡ false → times p
 not_held p [] h = refl
 not_held p (x ∷ xs) h = grind (arith, not_held p xs)
 
-pub none_below : (p : ℕ) → one (nat_lt p 0) ≡ 0
-none_below p = ap one (le-ltb p 0 (omega arith))
+times_here : (p x : ℕ) (xs : List ℕ) → (x == p) ≡ true → times p (x ∷ xs) ≡ 1 + times p xs
+times_here p x xs e = rw e refl
+
+times_there : (p x : ℕ) (xs : List ℕ) → (x == p) ≡ false → times p (x ∷ xs) ≡ times p xs
+times_there p x xs e = rw e refl
 
 pub times-pages : (p count : ℕ) → times p (pages_from 0 count) ≡ one (nat_lt p count)
-times-pages p zero = sym (none_below p)
+times-pages p zero = sym (ap one (le-ltb p 0 (omega arith)))
 times-pages p (suc n) = ap (times p) (pages_from-suc 0 n ∙ ap (λ (q : ℕ). pages_from 0 n ++ q ∷ []) (omega arith)) ∙ go (n == p) refl (times-pages p n)
   where
     go : (b : Bool) → (n == p) ≡ b → times p (pages_from 0 n) ≡ one (nat_lt p n) → times p (pages_from 0 n ++ n ∷ []) ≡ one (nat_lt p (suc n))
@@ -142,7 +139,7 @@ times_joined p count pages free few = go (is_among free p) (is_among pages p) (n
 -- numbers that are those below a bound, each once, are as many
 pub length_of_all : (count : ℕ) (xs : List ℕ) → ((p : ℕ) → times p xs ≡ one (nat_lt p count)) → length xs ≡ count
 length_of_all zero [] h = refl
-length_of_all zero (x ∷ xs) h = absurd (let e = h x ∙ none_below x in let t = times_here x x xs (eq-eqb x x refl) in omega arith)
+length_of_all zero (x ∷ xs) h = absurd (let e = h x ∙ (ap one (le-ltb x 0 (omega arith))) in let t = times_here x x xs (eq-eqb x x refl) in omega arith)
 length_of_all (suc n) xs h =
     let cut : length (filter (λ x. not (x == n)) xs) + 1 ≡ length xs = let l : nat_lt n (suc n) ≡ true = lt-ltb n (suc n) (omega arith) in omega (arith, length_cut n xs, h n ∙ ap one l) in
     omega (arith, cut, each (length_of_all n (filter (λ x. not (x == n)) xs)))

@@ -256,9 +256,6 @@ counts_are_all count h owners = sym (all_claims h) ∙ length_of_all count (firs
 
 -- The invariant that is kept, and the statement
 
-both_from_sound : (s : State) → IsSound s → Both (host_part s)
-both_from_sound s sound = (holds_from_sound s sound, taken_from_out s sound.out)
-
 pub sound_from_both : (s : State) → Both (host_part s) → IsSound s
 sound_from_both s both =
     let owners : HasOneOwner (length s.memory) s.host = subst (λ (k : ℕ). HasOneOwner k s.host) (length-in_store s.memory) (owners_from_holds _ s.host both.0) in
@@ -276,7 +273,7 @@ sound_from_both s both =
     }
 
 pub steps_keep : each_step_keeps
-steps_keep old e reply new step sound = sound_from_both new (each_step Both both_events old e reply new step (both_from_sound old sound))
+steps_keep old e reply new step sound = sound_from_both new (each_step Both both_events old e reply new step ((holds_from_sound old sound, taken_from_out old sound.out)))
 
 pub runs_are_sound : every_run_is_sound
 runs_are_sound pages queues n s image es replies new opens run =

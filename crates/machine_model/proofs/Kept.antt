@@ -105,12 +105,6 @@ pub record Waits (of : ℕ → Work → Bool) (test : HostState → Bool) : Type
   pub gone : test Gone ≡ false
   pub half_made : test HalfMade ≡ false
 
-alone_waits_not : (of : ℕ → Work → Bool) (test : HostState → Bool) → Waits of test → (st : HostState) → has_cq_alone st ≡ true → test st ≡ false
-alone_waits_not of test w st e = grind arith
-
-noted_waits_not : (of : ℕ → Work → Bool) (test : HostState → Bool) → Waits of test → (b : Bool) → test (if b then Deleting true else Live) ≡ false
-noted_waits_not of test w b = grind arith
-
 -- Each event
 
 abbrev pub AwaitedS : (ℕ → Work → Bool) → (HostState → Bool) → State → Type 0
@@ -132,10 +126,10 @@ awaited_event of test waits s e reply ok c holds h =
           awaited_less of test s.host.records (a.heard q e s).host.queues q cid r heard.found (holds.once q cid) (λ z. nobody_waits q cid st e r adm heard w quiet unmade z (of z r.work) refl) (told q e);
       notes = λ q cid st what e r k t heard w.
           ends q cid st e r k (λ queue. record queue { state = if is_success st then Deleting true else Live }) heard (λ z far. ap (of z) w ∙ waits.deletes z k far) (Deleting false) (asked_as_heard s q cid st e r k holds heard w) (ap (of k) w ∙ waits.asked k)
-          (λ x. noted_waits_not of test waits (is_success st));
+          (λ x. (grind (arith, waits)));
       frees = λ q cid st what e r k queue t heard w at alone good.
           awaited_same of test (without_record q cid s.host.records) a.gone k (a.heard q e s).host.queues
-          (λ y ey. let same : queue ≡ y = cc (at, ey) in waits.gone ∙ sym (alone_waits_not of test waits y.state (ap (λ (x : HostQueue). has_cq_alone x.state) (sym same) ∙ alone)))
+          (λ y ey. let same : queue ≡ y = cc (at, ey) in waits.gone ∙ sym (grind (arith, waits, ap (λ (x : HostQueue). has_cq_alone x.state) (sym same) ∙ alone)))
           (awaited_less of test s.host.records (a.heard q e s).host.queues q cid r heard.found (holds.once q cid) (λ z. ap (of z) w ∙ waits.drops z k) (told q e));
       makes_cq = λ q cid st what e r k n base t heard w good.
           ends q cid st e r k a.half_made heard (λ z far. ap (of z) w ∙ waits.creates_cq z k n base far) MakingCq (making_cq_as_heard s q cid st e r k n base holds heard w) (ap (of k) w ∙ waits.making_cq k n base) (λ x. waits.half_made);
@@ -421,9 +415,6 @@ length_standing : (q : ℕ) (rs : List Record) → length (map (λ r. r.cid) (fi
 length_standing q [] = refl
 length_standing q (r ∷ rs) = grind (arith, length_standing q rs)
 
-bare_lists : (h : Host) → NewQueuesAreBare h → Bare h.records h.queues
-bare_lists h bare q making = sym (length_standing q h.records) ∙ bare q making
-
 new_queues : (h : Host) → Bare h.records h.queues → NewQueuesAreBare h
 new_queues h bare q making = length_standing q h.records ∙ bare q making
 
@@ -474,13 +465,10 @@ bare_begins rs k f hs none h q making = elim (cases_Bool (k == q)) [
 
 -- Queues in use
 
-service_used : (s : State) (q : ℕ) → in_state in_service s q ≡ true → awaited_at is_making s.host.queues q ≡ false
-service_used s q serves = grind arith
-
-admin_used : (o : Option HostQueue) → option_map_or (λ x. is_live x.state) o true ≡ true → option_map_or (λ x. is_making x.state) o false ≡ false
-admin_used o h = grind arith
-
 -- Every event of the host
+
+bare_lists : (h : Host) → NewQueuesAreBare h → Bare h.records h.queues
+bare_lists h bare q making = sym (length_standing q h.records) ∙ bare q making
 
 bare_of : (s : State) (e : Event) (reply : Reply) → Accepts s e reply → IsController e ≡ false → HoldsPart (host_part s) → Bare (a.after s e reply).host.records (a.after s e reply).host.queues
 bare_of s e reply ok c holds =
@@ -488,7 +476,7 @@ bare_of s e reply ok c holds =
     (record {
       reserves = λ q request d none is.
           let known = or_parts (q == 0) (not (in_state in_service s q)) (unrefused s (events.Reserve q request) none).0 in
-          bare_more s.host.records s.host.queues (drafted_record d) (ap (awaited_at is_making s.host.queues) is.queue ∙ service_used s q (not-false _ known.1)) h;
+          bare_more s.host.records s.host.queues (drafted_record d) (ap (awaited_at is_making s.host.queues) is.queue ∙ (grind (arith, not-false _ known.1))) h;
       submits = λ d entry r none built its live. bare_ring _ d.q (next_tail s.entries) s.host.queues (bare_with d.q d.cid a.submitted (λ r'. refl) s.host.records s.host.queues h);
       cancels = λ d r its. bare_less d.q d.cid s.host.records s.host.queues h;
       rings = λ q none. h;
@@ -540,7 +528,7 @@ bare_of s e reply ok c holds =
     used q cid e k f after = bare_change _ k f (a.heard q e s).host.queues (λ x ex m. absurd (true≢false (sym m ∙ after x))) (ended q cid e)
 
     zero_used : awaited_at is_making s.host.queues 0 ≡ false
-    zero_used = admin_used (slice_get s.host.queues 0) holds.admin
+    zero_used = (grind (arith, holds.admin))
 
     -- a half for another queue leaves queue 0 in use
     still_used : (q : ℕ) (f : HostQueue → HostQueue) → (q == 0) ≡ false → awaited_at is_making (change q f s.host.queues) 0 ≡ false

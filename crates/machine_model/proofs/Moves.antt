@@ -229,9 +229,6 @@ live_queue s q known deleting =
 pub deleted_is : (st : HostState) → is_deleted st ≡ true → st ≡ Deleting true
 deleted_is st e = grind arith
 
-pub gone_is : (st : HostState) → is_gone st ≡ true → st ≡ Gone
-gone_is st e = grind arith
-
 pub half_made_is : (st : HostState) → is_half_made st ≡ true → st ≡ HalfMade
 half_made_is st e = grind arith
 
@@ -277,9 +274,6 @@ pub answer_heard : (s : State) (q cid : ℕ) (st : Status) (e : ComEntry) (r : R
 answer_heard s q cid st e r t heard = grind (arith, sym (seen_trusted s q t) ∙ heard.seen)
 
 -- Each event of the host is one of the cases
-
-no_refused : (s : State) (e : Event) (why : events.Refusal) (touched : List ℕ) → Answers s e (events.Refused why touched) → ⊥
-no_refused s e why touched h = grind arith
 
 nobody : (hs : List HostQueue) (z k : ℕ) → (k == z) ≡ true → slice_get hs k ≡ None → slice_get hs z ≡ None
 nobody hs z k is at = subst (λ (n : ℕ). slice_get hs n ≡ None) (eqb-true k z is) at
@@ -332,7 +326,7 @@ told P s q cid st what move t =
         made false bad = unmade (host_queue (a.heard q e s) k) refl bad
 
 pub host_moves : (P : Event → Reply → State → Type 0) (s : State) (e : Event) (reply : Reply) → Accepts s e reply → IsController e ≡ false → HostMoves P s → P e reply (a.after s e reply)
-host_moves P s e (events.Refused why touched) ok c move = absurd (no_refused s e why touched ok.1)
+host_moves P s e (events.Refused why touched) ok c move = absurd (grind (arith, ok.1))
 host_moves P s (events.Reserve q request) (events.Reserved d) ok c move = move.reserves q request d ok.0 ok.1
 host_moves P s (events.Submit d) events.Accepted ok c move = go d.entry refl
   where
@@ -365,7 +359,7 @@ host_moves P s (events.CreateCq q) (events.Sent id) ok c move =
     let fails = unrefused s (events.CreateCq q) ok.0 in
     let x = queue_found is_gone s q (not-false _ fails.1.0) in
     let run = run_found s Completion fails.1.1.1.1.0 in
-    let granted : IsGranted s q Completion Gone x.0 run.0 = record { there = x.1; state = gone_is x.0.state x.2; other = io_queue s q fails.0; run = run.1 } in
+    let granted : IsGranted s q Completion Gone x.0 run.0 = record { there = x.1; state = (grind (arith, x.2)); other = io_queue s q fails.0; run = run.1 } in
     let pages = half_from Completion run.0 s in
     subst (λ (ps : List ℕ). P (events.CreateCq q) (events.Sent id) (a.sent (CreateCq q s.entries (a.base_of ps)) id (admin_entry (CreateCq q s.entries (a.base_of ps)) id) (a.on_host_queue q (a.making_cq ps) (a.half_granted ps s))))
     (sym (ap (λ (o : Option ℕ). option_map_or (λ first. pages_from first (half_pages s.entries Completion)) o []) run.1))

@@ -249,11 +249,11 @@ in_is [] p l = absurd (omega arith)
 in_is (page ∷ m) (suc p) l = in_is m p (omega arith)
 in_is m zero l = refl
 
-away_is : (r : Record) → is_away r ≡ is_out r.phase
-away_is r = grind arith
-
 abbrev has_away : ℕ → Record → Bool
 has_away p r = is_away r && is_among (pages_of r) p
+
+away_is : (r : Record) → is_away r ≡ is_out r.phase
+away_is r = grind arith
 
 any_is : (p : ℕ) (records : List Record) → not (list_any (has_away p) records) ≡ none (total (taken p) records)
 any_is p [] = refl
@@ -265,12 +265,9 @@ any_is p (r ∷ records) = rw (away_is r) (go (is_out r.phase) (is_among (pages_
     go true true e ih = sym (some_here _ (omega (arith, held_once p (pages_of r) e)))
     go true false e ih = ih ∙ ap none (omega (arith, not_held p (pages_of r) e))
 
-some_same : {x y : Bool} → Some x ≡ Some y → x ≡ y
-some_same e = cc
-
 pub out_from_taken : (s : State) → Taken (in_store s.memory) s.host.records → IsOutWithItsCommand s
 out_from_taken s h p l =
-    some_same (sym (in_is s.memory p l) ∙ h p (omega (arith, length-in_store s.memory))) ∙ sym (any_is p s.host.records)
+    (cc (sym (in_is s.memory p l) ∙ h p (omega (arith, length-in_store s.memory)))) ∙ sym (any_is p s.host.records)
 
 pub taken_from_out : (s : State) → IsOutWithItsCommand s → Taken (in_store s.memory) s.host.records
 taken_from_out s h p l =

@@ -134,9 +134,6 @@ submissions_wait = record {
 pub asked_event : (s : State) (e : Event) (reply : Reply) → Accepts s e reply → IsController e ≡ false → HoldsPart (host_part s) → AskedS s → AskedS (a.after s e reply)
 asked_event s e reply ok c holds h = awaited_event deletes_sq_of is_asked deletions_wait s e reply ok c holds h
 
-pub deletions_event : (s : State) (e : Event) (reply : Reply) → Accepts s e reply → IsController e ≡ false → HoldsPart (host_part s) → DeletionsFit (a.after s e reply).host
-deletions_event s e reply ok c holds = deletions_fit (a.after s e reply).host (asked_event s e reply ok c holds (deletions_awaited s.host holds.deletions))
-
 pub creations_event : (s : State) (e : Event) (reply : Reply) → Accepts s e reply → IsController e ≡ false → HoldsPart (host_part s) → CreationsFit (a.after s e reply).host
 creations_event s e reply ok c holds =
     creations_fit (a.after s e reply).host (awaited_event creates_cq_of is_making_cq completions_wait s e reply ok c holds (completions_awaited s.host holds.creations))
@@ -396,7 +393,7 @@ host_event s e reply ok c holds =
       owner = owns.owner;
       once = owns.once;
       admins = owns.admins;
-      deletions = deletions_event s e reply ok c holds;
+      deletions = (deletions_fit (a.after s e reply).host (asked_event s e reply ok c holds (deletions_awaited s.host holds.deletions)));
       creations = creations_event s e reply ok c holds;
       bare = bare_event s e reply ok c holds;
       halves = halves_event s e reply ok c holds;
@@ -490,9 +487,6 @@ taken_when p r b e = rw e refl
 drafted_out : (ph : Phase) → is_drafted ph ≡ true → is_out ph ≡ true
 drafted_out ph e = grind arith
 
-collected_out : (ph : Phase) → is_collected ph ≡ true → is_out ph ≡ true
-collected_out ph e = grind arith
-
 held_in : (ph : Phase) → is_held ph ≡ true → is_out ph ≡ false
 held_in ph e = grind arith
 
@@ -544,7 +538,7 @@ fits_event s e reply ok c h =
       collects = λ q cid r f at held is.
           taken_out s (pages_of r) (with_record q cid a.collected s.host.records)
           (λ p. omega (arith, total_with (taken p) q cid a.collected s.host.records r at (h.0.once q cid), taken_when p r false (held_in r.phase held))) h.1;
-      releases = λ f r its. ended f.q f.cid r (f.data_pages ++ f.chain_pages) its.found (collected_out r.phase its.phase) its.pages;
+      releases = λ f r its. ended f.q f.cid r (f.data_pages ++ f.chain_pages) its.found (grind (arith, its.phase)) its.pages;
       aborts = λ q cid id none new. sent (Abort q cid) id s h.1;
       asks = λ q id queue none new live. sent (DeleteSq q) id s h.1;
       drops = λ q id none new. sent (DeleteCq q) id s h.1;

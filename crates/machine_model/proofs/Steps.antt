@@ -156,14 +156,11 @@ part-managed e s =
       makes_submission = λ is1 q0 gone there. refl;
     })
 
-part-begun : (q : ℕ) (e : SubEntry) (s : State) → host_part (begun q e s) ≡ host_part s
-part-begun q e s = refl
-
 pub part-fetch : (q : ℕ) (s : State) → host_part (after_fetch q s) ≡ host_part s
 part-fetch q s =
     part-option _ (next_rung s q) s
     (λ e. part-if (conflicts s q) _ _ s (part-answered q e.cid COMMAND_ID_CONFLICT 0 (taken_off q s))
-    (part-if (q == 0) _ _ s (part-managed e (taken_off 0 s)) (part-begun q e (taken_off q s))))
+    (part-if (q == 0) _ _ s (part-managed e (taken_off 0 s)) (refl)))
 
 part-moved : (d : Direction) (act : Act) (q cid : ℕ) (s : State) → host_part (moved d act q cid s) ≡ host_part s
 part-moved d Stays q cid s = refl

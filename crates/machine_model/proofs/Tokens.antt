@@ -284,15 +284,6 @@ kind_found test rs c h = elim (option_is (find (is_at 0 c) rs)) [
 pub names_sq_deletion : (q c : ℕ) (adm : AdminKind) → deletes_sq q adm ≡ (((admin_entry adm c).opcode == DELETE_IO_SQ) && (named_queue (admin_entry adm c) == q))
 names_sq_deletion q c adm = grind arith
 
-pub names_cq_deletion : (q c : ℕ) (adm : AdminKind) → deletes_cq q adm ≡ (((admin_entry adm c).opcode == DELETE_IO_CQ) && (named_queue (admin_entry adm c) == q))
-names_cq_deletion q c adm = grind arith
-
-pub names_cq_creation : (q c : ℕ) (adm : AdminKind) → creates_cq q adm ≡ (((admin_entry adm c).opcode == CREATE_IO_CQ) && (named_queue (admin_entry adm c) == q))
-names_cq_creation q c adm = grind arith
-
-pub names_sq_creation : (q c : ℕ) (adm : AdminKind) → creates_sq q adm ≡ (((admin_entry adm c).opcode == CREATE_IO_SQ) && (named_queue (admin_entry adm c) == q))
-names_sq_creation q c adm = grind arith
-
 -- the kinds of a known entry
 pub record Named (rs : List Record) (e : SubEntry) : Type 0 where
   pub deletes_sq : (q : ℕ) → is_kind (deletes_sq q) rs e.cid ≡ ((e.opcode == DELETE_IO_SQ) && (named_queue e == q))
@@ -303,9 +294,9 @@ pub record Named (rs : List Record) (e : SubEntry) : Type 0 where
 pub named : (rs : List Record) (e : SubEntry) (adm : AdminKind) → Knows rs e.cid adm → e ≡ admin_entry adm e.cid → Named rs e
 named rs e adm k is = record {
   deletes_sq = λ q. kind_known (deletes_sq q) rs e.cid adm k ∙ names_sq_deletion q e.cid adm ∙ ap (λ (x : SubEntry). (x.opcode == DELETE_IO_SQ) && (named_queue x == q)) (sym is);
-  deletes_cq = λ q. kind_known (deletes_cq q) rs e.cid adm k ∙ names_cq_deletion q e.cid adm ∙ ap (λ (x : SubEntry). (x.opcode == DELETE_IO_CQ) && (named_queue x == q)) (sym is);
-  creates_cq = λ q. kind_known (creates_cq q) rs e.cid adm k ∙ names_cq_creation q e.cid adm ∙ ap (λ (x : SubEntry). (x.opcode == CREATE_IO_CQ) && (named_queue x == q)) (sym is);
-  creates_sq = λ q. kind_known (creates_sq q) rs e.cid adm k ∙ names_sq_creation q e.cid adm ∙ ap (λ (x : SubEntry). (x.opcode == CREATE_IO_SQ) && (named_queue x == q)) (sym is);
+  deletes_cq = λ q. kind_known (deletes_cq q) rs e.cid adm k ∙ (grind arith) ∙ ap (λ (x : SubEntry). (x.opcode == DELETE_IO_CQ) && (named_queue x == q)) (sym is);
+  creates_cq = λ q. kind_known (creates_cq q) rs e.cid adm k ∙ (grind arith) ∙ ap (λ (x : SubEntry). (x.opcode == CREATE_IO_CQ) && (named_queue x == q)) (sym is);
+  creates_sq = λ q. kind_known (creates_sq q) rs e.cid adm k ∙ (grind arith) ∙ ap (λ (x : SubEntry). (x.opcode == CREATE_IO_SQ) && (named_queue x == q)) (sym is);
 }
 
 -- What one count after a change has of it before: no more, of each kind

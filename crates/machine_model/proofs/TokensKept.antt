@@ -336,9 +336,6 @@ no_service_past [] q queue e = absurd cc
 no_service_past (x ∷ hs) zero queue e = let same : a.no_queue ≡ queue = cc in ap (λ (y : HostQueue). in_service y.state) (sym same)
 no_service_past (x ∷ hs) (suc q) queue e = no_service_past hs q queue e
 
-fresh_distance : (n k : ℕ) → distance n fresh_host_ring.known_head fresh_host_ring.tail ≤ k
-fresh_distance n k = omega arith
-
 pub reset_heads : (n : ℕ) (hs : List HostQueue) (rs : List Record) (ds : List DeviceQueue) → AllByRecursion (λ r. r.cid < n - 1) rs → AreHeadsBehind n (a.reset_queues hs) rs (a.reset_device_queues ds)
 reset_heads n hs rs ds ids = record { ids = ids; behind = behind hs }
   where
@@ -347,5 +344,5 @@ reset_heads n hs rs ds ids = record { ids = ids; behind = behind hs }
     behind (x ∷ hs) zero queue e serves =
         let same : a.reset_admin x ≡ queue = cc in
         subst (λ ans. IsHeadBehind n (sent_count 0 rs) queue ans) (sym (no_answers_at ds 0))
-        (subst (λ y. IsHeadBehind n (sent_count 0 rs) y []) same (record { known = fresh_distance n (sent_count 0 rs); answers = tt }))
+        (subst (λ y. IsHeadBehind n (sent_count 0 rs) y []) same (record { known = (omega arith); answers = tt }))
     behind (x ∷ hs) (suc q) queue e serves = absurd (true≢false (sym serves ∙ no_service_past hs q queue e))
