@@ -1,6 +1,6 @@
 -- The headline of a state.
-use Rattle.std.proofs.Common.{◌≡◌, ℕ, zero, suc, ◌+◌, ◌≤◌, ◌==◌, Bool, true, false, not, Option, Some, None, List, [], ◌∷◌, ◌++◌, length, take, filter, if◌then◌else◌, refl, ap, ◌∙◌, arith, eqb-true, eq-eqb, inl, inr, ◌-◌, ◌*◌, ◌<◌, nat_lt, ltb-false, nat_le, leb-true, ◌&&◌, drop, replicate, slice_get, ap₂, sym, zero-mul, zero-add, map, flat_map, sum_by, length-append, subst}
-use Rattle.std.{proofs.lemmas.{Bool.{cases_Bool, not-false, and_parts}, List.{length-replicate, Sums.sum_by-cons}}, specs.Option.option_map_or}
+use Rattle.std.proofs.Common.{◌≡◌, ℕ, zero, suc, ◌+◌, ◌≤◌, ◌==◌, Bool, true, false, not, Some, List, [], ◌∷◌, ◌++◌, length, take, filter, refl, ap, ◌∙◌, arith, eqb-true, eq-eqb, inl, inr, ◌-◌, ◌*◌, ◌<◌, nat_lt, ltb-false, nat_le, leb-true, ◌&&◌, drop, replicate, slice_get, ap₂, sym, zero-mul, zero-add, map, flat_map, sum_by, length-append, subst}
+use Rattle.std.{proofs.lemmas.{Bool.{not-false, and_parts}, List.{length-replicate, Sums.sum_by-cons}}}
 use Rattle.machine_model.proofs.Cases.{option_is}
 use Rattle.machine_model.proofs.Counting.{one, times-cons, times-append, times-filter, held_once, not_held, times-pages, length_of_all, find_sound, once_in_run, all_among, total}
 use Rattle.machine_model.proofs.Kept.{bare_at_opening, halves_at_opening, zero_opened}
@@ -12,7 +12,7 @@ use Rattle.machine_model.specs.Opening.{opening, queues_from, pages_of_queues, i
 use Rattle.machine_model.specs.Placement.{is_run, first_of_run, placed, without_numbers, data_placed, chain_wanted, chain_placed, wanted_of}
 use Rattle.machine_model.specs.{State.{State, Host, HostQueue, Record}, Step.{times, host_part}}
 use Rattle.page_ledger.{proofs.Pages.length-pages_from as length_run, specs.{Counting.total as total_counting, Owners.{is_among, pages_from}}}
-use Rattle.page_ledger.specs.declared.owner.{Owner.{Owner, TheVariants.{Free, Queue, Command}}, Role.TheVariants.{Data, Chain}}
+use Rattle.page_ledger.specs.declared.owner.{Owner.{Owner, TheVariants.{Queue, Command}}, Role.TheVariants.{Data, Chain}}
 use Rattle.io_commands.specs.{Requests.data_count, declared.request.Piece.Piece}
 use Rattle.page_memory.specs.{Pages.zero_page, declared.page.Half.TheVariants.{Submission, Completion}}
 use Rattle.queue_pair.specs.Memory.{half_pages}
@@ -31,10 +31,7 @@ length_taken (suc n) [] h = absurd (omega (arith, h))
 length_taken (suc n) (x ∷ xs) h = ap suc (length_taken n xs (omega (arith, h)))
 
 pub length_placed : (free : List ℕ) (count : ℕ) → count ≤ length free → length (placed free count) ≡ count
-length_placed free count enough = elim (option_is (first_of_run free count)) [
-  | inl e ↦ rw e (length_taken count free enough)
-  | inr (first, e) ↦ rw e (length_run first count)
-]
+length_placed free count enough = grind (arith, length_taken, length_run)
 
 pub placed_times : (p : ℕ) (free : List ℕ) (count : ℕ) → times p (placed free count) ≤ times p free
 placed_times p free count = elim (option_is (first_of_run free count)) [
@@ -48,16 +45,7 @@ placed_times p free count = elim (option_is (first_of_run free count)) [
 
 -- of free pages, some and then some of those that are left
 pub two_placed : (p : ℕ) (pages free more : List ℕ) → times p pages ≤ times p free → times p more ≤ times p (without_numbers pages free) → times p (pages ++ more) ≤ times p free
-two_placed p pages free more some rest =
-    let left = times-filter p (λ x. not (is_among pages x)) free in
-    elim (cases_Bool (is_among pages p)) [
-      | inl e ↦
-          let none : times p (without_numbers pages free) ≡ 0 = rw e at left in
-          omega (arith, times-append p pages more, some, rest, none)
-      | inr e ↦
-          let all : times p (without_numbers pages free) ≡ times p free = rw e at left in
-          omega (arith, times-append p pages more, not_held p pages e, rest, all)
-    ]
+two_placed p pages free more some rest = grind (arith, times-filter, times-append, not_held)
 
 -- How many are left
 
@@ -84,22 +72,12 @@ length_left (d ∷ pages) free some once =
     here = times-cons d d pages ∙ ap (λ (k : ℕ). k + times d pages) (ap one (eq-eqb d d refl))
 
     fewer : (p : ℕ) → times p pages ≤ times p (filter (λ p. not (d == p)) free)
-    fewer p = elim (cases_Bool (d == p)) [
-      | inl e ↦
-          let same : d ≡ p = eqb-true d p e in
-          let gone : times d pages ≡ 0 = omega (arith, here, some d, once d) in
-          omega (arith, ap (λ (x : ℕ). times x pages) same, gone)
-      | inr e ↦
-          let all : times p (filter (λ p. not (d == p)) free) ≡ times p free = rw e at (times-filter p (λ x. not (d == x)) free) in
-          omega (arith, all, some p, times-cons p d pages)
-    ]
+    fewer p = grind (arith, eqb-true, filter, times-filter, times-cons)
 
 -- A request's pages
 
 pub placement_times : (p : ℕ) (free : List ℕ) (segment : ℕ) (pieces : List Piece) → times p (data_placed free pieces ++ chain_placed free segment pieces) ≤ times p free
-placement_times p free segment pieces =
-    two_placed p (data_placed free pieces) free (chain_placed free segment pieces) (placed_times p free (data_count pieces))
-    (placed_times p (without_numbers (data_placed free pieces) free) (chain_wanted free segment pieces))
+placement_times p free segment pieces = grind (arith, two_placed, placed_times)
 
 pub length_chain : (free : List ℕ) (segment : ℕ) (pieces : List Piece) → ((p : ℕ) → times p free ≤ 1) → data_count pieces + chain_wanted free segment pieces ≤ length free
     → length (chain_placed free segment pieces) ≡ chain_wanted free segment pieces
@@ -245,11 +223,7 @@ in_commands (r ∷ records) =
     omega (arith, length-append (a ++ b) (flat_map claims_of_record records), length-append a b, length_claimed (Command r.q r.cid Data) r.data_pages, length_claimed (Command r.q r.cid Chain) r.chain_pages, in_commands records, sum_by-cons (λ (x : Record). length x.chain_pages) r records, sum_by-cons (λ (x : Record). length x.data_pages) r records)
 
 all_claims : (h : Host) → length (firsts (claims_of h)) ≡ total_counting (counts_of h)
-all_claims h =
-    let a = claimed Free h.free in
-    let b = claims_of_queues 0 h.queues in
-    let c = flat_map claims_of_record h.records in
-    omega (arith, length_firsts (claims_of h), length-append (a ++ b) c, length-append a b, length_claimed Free h.free, in_halves 0 h.queues, in_commands h.records)
+all_claims h = grind (arith, flat_map, length_firsts, length-append, length_claimed, in_halves, in_commands)
 
 pub counts_are_all : counts_add_up
 counts_are_all count h owners = sym (all_claims h) ∙ length_of_all count (firsts (claims_of h)) owners

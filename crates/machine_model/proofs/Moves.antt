@@ -6,8 +6,8 @@ use Rattle.std.specs.Option.{option_map, option_map_or, option_and_then}
 use Rattle.machine_model.proofs.{Cases.option_is, Steps.{Accepts, unrefused, first_fails, found, same_lists, in_store, in_store-with_bytes}}
 use Rattle.machine_model.specs.{Claims.is_away, Commands.{Work, Io, Management}, Events.{Event, Reply, Reaped}, Memory.{with_pages, without_pages}}
 use Rattle.machine_model.specs.Refusals.{device_queue, first_answer, entry_of, refusal_of, host_queue, seen_entry, is_of, asks_for, is_drafted, is_submitted, is_held, is_collected, is_live, is_deleting, is_deleted, is_gone, is_half_made, is_asked, is_making_cq, is_making_sq, has_cq_alone, in_service, is_reaped, run_for, in_state, record_is, no_io_queue, is_io_queue, deletes_sq_of, creates_cq_of, creates_sq_of, slot_page, slot_offset}
-use Rattle.machine_model.specs.State.{State, Answer, HostQueue, HostState, Live, Deleting, Gone, MakingCq, HalfMade, MakingSq, Record, Phase, Drafted, Submitted, Held, Collected, record_at, with_record, without_record, pages_of}
-use Rattle.machine_model.specs.Step.{IsController, IsReserved, IsNewIdentifier, Answers, finished_from, reaped, reaped_entry, reaped_as, fits_ring}
+use Rattle.machine_model.specs.State.{State, Answer, HostQueue, HostState, Live, Deleting, Gone, MakingCq, HalfMade, MakingSq, Record, Phase, Drafted, Submitted, Collected, record_at, with_record, without_record, pages_of}
+use Rattle.machine_model.specs.Step.{IsController, IsReserved, IsNewIdentifier, finished_from, reaped, reaped_as, fits_ring}
 use Rattle.admin_commands.specs.{Entries.admin_entry, declared.AdminKind.{AdminKind, TheVariants.{Abort, DeleteSq, DeleteCq, CreateCq, CreateSq}}}
 use Rattle.entry_codec.specs.{Submission.submission_bytes, declared.{completion.ComEntry.ComEntry, status.Status.Status, submission.SubEntry.SubEntry}}
 use Rattle.io_commands.specs.{Asked.Request, Drafts.DraftContents, Jobs.is_success, Values.{FinishedContents, numbers_of}}
@@ -31,10 +31,7 @@ pub posted_is : (q : ℕ) (entry : SubEntry) (s : State) → posts q entry s ≡
 posted_is q entry s = grind arith
 
 pub posted_bits : (q : ℕ) (entry : SubEntry) (s : State) → in_store (posted_bytes q entry s) ≡ in_store s.memory
-posted_bits q entry s = elim (option_is (host_queue s q)) [
-  | inl e ↦ rw e refl
-  | inr (queue, e) ↦ rw e (in_store-with_bytes s.memory (slot_page queue.sq_pages 64 queue.ring.tail) (slot_offset 64 queue.ring.tail) (submission_bytes entry))
-]
+posted_bits q entry s = grind (arith, in_store-with_bytes)
 
 -- Records that begin
 

@@ -1,14 +1,14 @@
 -- One owner for each page.
 use Rattle.machine_model.specs.After as a
-use Rattle.std.proofs.Common.{◌≡◌, ℕ, ◌+◌, ◌<◌, ◌==◌, nat_lt, Bool, true, false, not, Some, List, [], ◌∷◌, ◌++◌, length, map, filter, flat_map, if◌then◌else◌, refl, ap, sym, ◌∙◌, arith, eqb-true, subst, inl, inr, zero, suc, ◌≤◌, ◌&&◌, ◌||◌, Option, None, slice_get, slice_set, is_some, length-set, find}
-use Rattle.std.{proofs.lemmas.{Bool.{and_parts, cases_Bool, true≢false, eqb-false, or_parts}, List.map-append}, specs.List.{AllByRecursion, list_any}}
+use Rattle.std.proofs.Common.{◌≡◌, ℕ, ◌+◌, ◌<◌, ◌==◌, nat_lt, Bool, true, false, not, Some, List, [], ◌∷◌, ◌++◌, length, map, filter, flat_map, if◌then◌else◌, refl, ap, sym, ◌∙◌, arith, eqb-true, subst, inl, inr, zero, suc, ◌≤◌, ◌&&◌, Option, None, slice_get, slice_set, is_some, length-set, find}
+use Rattle.std.{proofs.lemmas.{Bool.{cases_Bool, true≢false, eqb-false, or_parts}, List.map-append}, specs.List.{AllByRecursion, list_any}}
 use Rattle.std.specs.Option.{option_map_or}
-use Rattle.page_ledger.specs.{Owners.is_among, declared.owner.{Owner.{Owner, TheVariants.{Queue, Free, Command}}, Role.TheVariants.{Data, Chain}}}
-use Rattle.page_memory.specs.{Pages.Pages, declared.page.Half.TheVariants.{Submission, Completion}}
+use Rattle.page_ledger.specs.{Owners.is_among, declared.owner.{Owner.{Owner}}}
+use Rattle.page_memory.specs.{Pages.Pages}
 use Rattle.machine_model.proofs.Counting.{one, times-append, times-cons, held_once, not_held, total, total-append, total-map, total_without, total-filter, here, times-outstanding}
 use Rattle.machine_model.{proofs.Steps.{length-in_store, in_store}, specs.{After.change, Agreeing.{waiting, answering, AdminCommandsStand}}}
 use Rattle.machine_model.specs.Claims.{claims_of, claimed, claims_of_queues, claims_of_record, IsSound, HasOneOwner, IdentifiersDiffer, OwnsFit, DeletionsFit, CreationsFit, NewQueuesAreBare, HasNoOtherPages, AdminLives, is_away, IsOutWithItsCommand}
-use Rattle.machine_model.specs.{Commands.{Work, Io, Management}, Memory.{is_in, with_pages, without_pages}, Refusals.is_submitted}
+use Rattle.machine_model.specs.{Commands.{Work}, Memory.{is_in, with_pages, without_pages}, Refusals.is_submitted}
 use Rattle.machine_model.specs.State.{State, Host, HostQueue, Record, is_at, record_at, pages_of, without_record, Phase, Submitted, Held, HostState, with_record, Live, Gone, DeviceQueue}
 use Rattle.machine_model.specs.Step.{times, HostPart, host_part}
 use Rattle.io_commands.specs.Values.{numbers_of}
@@ -40,25 +40,14 @@ firsts-append p a b = ap (times p) (map-append (λ claim. claim.0) a b) ∙ time
 
 firsts_of_queues : (p q : ℕ) (queues : List HostQueue) → firsts p (claims_of_queues q queues) ≡ total (in_queue p) queues
 firsts_of_queues p q [] = refl
-firsts_of_queues p q (queue ∷ queues) =
-    let a = claimed (Queue q Submission) queue.sq_pages in
-    let b = claimed (Queue q Completion) queue.cq_pages in
-    let c = claims_of_queues (q + 1) queues in
-    omega (arith, firsts-append p (a ++ b) c, firsts-append p a b, first_of_claims p (Queue q Submission) queue.sq_pages, first_of_claims p (Queue q Completion) queue.cq_pages, firsts_of_queues p (q + 1) queues)
+firsts_of_queues p q (queue ∷ queues) = grind (arith, firsts_of_queues p (q + 1) queues, firsts-append, first_of_claims)
 
 firsts_of_records : (p : ℕ) (records : List Record) → firsts p (flat_map claims_of_record records) ≡ total (in_record p) records
 firsts_of_records p [] = refl
-firsts_of_records p (r ∷ records) =
-    let a = claimed (Command r.q r.cid Data) r.data_pages in
-    let b = claimed (Command r.q r.cid Chain) r.chain_pages in
-    omega (arith, firsts-append p (a ++ b) (flat_map claims_of_record records), firsts-append p a b, first_of_claims p (Command r.q r.cid Data) r.data_pages, first_of_claims p (Command r.q r.cid Chain) r.chain_pages, times-append p r.data_pages r.chain_pages, firsts_of_records p records)
+firsts_of_records p (r ∷ records) = grind (arith, firsts_of_records p records, firsts-append, flat_map, first_of_claims, times-append)
 
 pub owned_is : (p : ℕ) (h : Host) → times p (map (λ claim. claim.0) (claims_of h)) ≡ owned p h
-owned_is p h =
-    let a = claimed Free h.free in
-    let b = claims_of_queues 0 h.queues in
-    let c = flat_map claims_of_record h.records in
-    omega (arith, firsts-append p (a ++ b) c, firsts-append p a b, first_of_claims p Free h.free, firsts_of_queues p 0 h.queues, firsts_of_records p h.records)
+owned_is p h = grind (arith, flat_map, firsts-append, first_of_claims, firsts_of_queues, firsts_of_records)
 
 -- the invariant by sums
 
@@ -136,15 +125,7 @@ owns_map count h f keeps owns = record {
 -- one record more
 once_more : (records : List Record) (new : Record) → total (here new.q new.cid) records ≡ 0 → ((q cid : ℕ) → total (here q cid) records < 2)
     → (q cid : ℕ) → total (here q cid) (records ++ new ∷ []) < 2
-once_more records new unused once q cid = elim (cases_Bool (is_at q cid new)) [
-  | inl e ↦
-      let both = and_parts (new.q == q) (new.cid == cid) e in
-      let eq : new.q ≡ q = eqb-true new.q q both.0 in
-      let ec : new.cid ≡ cid = eqb-true new.cid cid both.1 in
-      let none : total (here q cid) records ≡ 0 = subst (λ (k : ℕ). total (here k cid) records ≡ 0) eq (subst (λ (k : ℕ). total (here new.q k) records ≡ 0) ec unused) in
-      omega (arith, total-append (here q cid) records (new ∷ []), none, ap one e)
-  | inr e ↦ omega (arith, total-append (here q cid) records (new ∷ []), once q cid, ap one e)
-]
+once_more records new unused once q cid = grind (arith, eqb-true, total, here, total-append)
 
 admins_more : (records : List Record) (new : Record) → OwnsFit new.q new.work (pages_of new)
     → AllByRecursion (λ r. OwnsFit r.q r.work (pages_of r)) records → AllByRecursion (λ r. OwnsFit r.q r.work (pages_of r)) (records ++ new ∷ [])
@@ -196,10 +177,7 @@ out_other (k ∷ ps) m p h =
 
 pub out_same : (ps : List ℕ) (m : Pages) (p : ℕ) → is_among ps p ≡ true → p < length m → slice_get (in_store (without_pages ps m)) p ≡ Some false
 out_same [] m p h l = absurd (true≢false (sym h))
-out_same (k ∷ ps) m p h l = elim (cases_Bool (is_among ps p)) [
-  | inl e ↦ (out_same ps (slice_set m k None) p) e (omega (arith, length-set m k None))
-  | inr e ↦ out_other ps (slice_set m k None) p e ∙ set_same m k p None (eqb-true k p (grind (arith, h, e))) l
-]
+out_same (k ∷ ps) m p h l = grind (arith, out_same ps (slice_set m k None) p, slice_set, length-set, out_other, set_same, eqb-true)
 
 pub in_other : (pages : List (ℕ × List ℕ)) (m : Pages) (p : ℕ) → is_among (numbers_of pages) p ≡ false → slice_get (in_store (with_pages pages m)) p ≡ slice_get (in_store m) p
 in_other [] m p h = refl
@@ -209,10 +187,7 @@ in_other (page ∷ pages) m p h =
 
 pub in_same : (pages : List (ℕ × List ℕ)) (m : Pages) (p : ℕ) → is_among (numbers_of pages) p ≡ true → p < length m → slice_get (in_store (with_pages pages m)) p ≡ Some true
 in_same [] m p h l = absurd (true≢false (sym h))
-in_same (page ∷ pages) m p h l = elim (cases_Bool (is_among (numbers_of pages) p)) [
-  | inl e ↦ (in_same pages (slice_set m page.0 (Some page.1)) p) e (omega (arith, length-set m page.0 (Some page.1)))
-  | inr e ↦ in_other pages (slice_set m page.0 (Some page.1)) p e ∙ set_same m page.0 p (Some page.1) (eqb-true page.0 p (grind (arith, h, e))) l
-]
+in_same (page ∷ pages) m p h l = grind (arith, in_same pages (slice_set m page.0 (Some page.1)) p, slice_set, length-set, in_other, set_same, eqb-true)
 
 -- How many taken commands have a page
 
@@ -257,13 +232,7 @@ away_is r = grind arith
 
 any_is : (p : ℕ) (records : List Record) → not (list_any (has_away p) records) ≡ none (total (taken p) records)
 any_is p [] = refl
-any_is p (r ∷ records) = rw (away_is r) (go (is_out r.phase) (is_among (pages_of r) p) refl (any_is p records))
-  where
-    go : (b c : Bool) → is_among (pages_of r) p ≡ c → not (list_any (has_away p) records) ≡ none (total (taken p) records)
-        → not ((b && c) || list_any (has_away p) records) ≡ none ((if b then in_record p r else 0) + total (taken p) records)
-    go false c e ih = ih ∙ ap none (omega arith)
-    go true true e ih = sym (some_here _ (omega (arith, held_once p (pages_of r) e)))
-    go true false e ih = ih ∙ ap none (omega (arith, not_held p (pages_of r) e))
+any_is p (r ∷ records) = grind (arith, any_is p records, away_is, total, false, true, some_here, held_once, not_held)
 
 pub out_from_taken : (s : State) → Taken (in_store s.memory) s.host.records → IsOutWithItsCommand s
 out_from_taken s h p l =
@@ -433,14 +402,10 @@ all_reset P Q each (r ∷ rs) all = elim (cases_Bool (a.is_of_io r.work)) [
 
 -- its pages: an admin command has none
 pub reset_pages : (p : ℕ) (rs : List Record) → AllByRecursion (λ r. OwnsFit r.q r.work (pages_of r)) rs → total (in_record p) (a.reset_records rs) ≡ total (in_record p) rs
-reset_pages p rs fit =
-    reset_total (in_record p) (λ r. ap (times p) (lost_keeps.pages r)) rs
-    ∙ io_total (λ r. OwnsFit r.q r.work (pages_of r)) (in_record p) (λ r f adm. grind arith) rs fit
+reset_pages p rs fit = grind (arith, reset_total, lost_keeps, io_total)
 
 pub reset_taken : (p : ℕ) (rs : List Record) → AllByRecursion (λ r. OwnsFit r.q r.work (pages_of r)) rs → total (taken p) (a.reset_records rs) ≡ total (taken p) rs
-reset_taken p rs fit =
-    reset_total (taken p) (lost_taken p) rs
-    ∙ io_total (λ r. OwnsFit r.q r.work (pages_of r)) (taken p) (λ r f adm. (grind (arith, adm))) rs fit
+reset_taken p rs fit = grind (arith, reset_total, lost_taken, io_total)
 
 -- Queues
 

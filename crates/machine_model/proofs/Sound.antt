@@ -1,8 +1,8 @@
 -- A sound state stays sound.
 use Rattle.machine_model.specs.After as a
 use Rattle.machine_model.specs.Events as events
-use Rattle.std.proofs.Common.{◌≡◌, ℕ, zero, suc, ◌+◌, ◌<◌, Bool, true, false, ◌||◌, Some, List, [], find, slice_get, refl, ap, sym, ◌∙◌, arith, eq-eqb, ◌≤◌, ◌==◌, nat_lt, ◌&&◌, None, ◌∷◌, ◌++◌, length, map, is_some, if◌then◌else◌, subst, length-set, not, inl, inr}
-use Rattle.std.{proofs.lemmas.Bool.{not-true, or_parts, true≢false, cases_Bool}, specs.Option.option_map_or}
+use Rattle.std.proofs.Common.{◌≡◌, ℕ, zero, suc, ◌+◌, ◌<◌, Bool, true, false, ◌||◌, Some, List, [], find, slice_get, refl, ap, sym, ◌∙◌, arith, eq-eqb, ◌≤◌, ◌==◌, nat_lt, ◌&&◌, None, ◌∷◌, ◌++◌, length, map, is_some, if◌then◌else◌, subst, length-set, inl, inr}
+use Rattle.std.{proofs.lemmas.Bool.{not-true, cases_Bool}}
 use Rattle.entry_codec.specs.declared.{completion.ComEntry.ComEntry, status.{Status.Status, TheConstants.Status.ABORTED_SQ_DELETION}}
 use Rattle.entry_codec.specs.declared.submission.SubEntry.{SubEntry}
 use Rattle.admin_commands.specs.{Entries.admin_entry, declared.AdminKind.{AdminKind, TheVariants.{DeleteSq, Abort, DeleteCq, CreateCq, CreateSq}}}
@@ -16,11 +16,11 @@ use Rattle.machine_model.proofs.Steps.{Accepts, IsKept, in_store, length-in_stor
 use Rattle.machine_model.specs.{After.change, Claims.{DeletionsFit, CreationsFit, OwnsFit, HasNoOtherPages}, Commands.{Work, Management, Io}}
 use Rattle.machine_model.specs.{Events.{Event, Reply, Reaped}, Memory.{with_pages, without_pages, zeroed_pages}, Opening.{opening, queues_from}}
 use Rattle.machine_model.specs.Placement.{without_numbers}
-use Rattle.machine_model.specs.Refusals.{is_asked, is_making_cq, is_making_sq, deletes_sq_of, creates_cq_of, creates_sq_of, slot_page, slot_offset, host_queue, refusal_of, is_submitted, is_deleting, has_sq, has_cq, in_service, in_state, no_io_queue, no_identifier, pages_wanted, is_drafted, is_collected, is_held}
+use Rattle.machine_model.specs.Refusals.{is_asked, is_making_cq, is_making_sq, deletes_sq_of, creates_cq_of, creates_sq_of, slot_page, slot_offset, host_queue, refusal_of, is_submitted, has_sq, has_cq, is_drafted, is_held}
 use Rattle.machine_model.specs.State.{State, Host, HostQueue, HostState, Live, Record, is_at, Held, Drafted, Deleting, record_at, pages_of, with_record, without_record, outstanding_on, Phase}
 use Rattle.machine_model.specs.Step.{HostPart, host_part, IsController, IsNewIdentifier, times, reaped}
 use Rattle.page_ledger.specs.Owners.{is_among}
-use Rattle.io_commands.specs.{Asked.Request, Drafts.DraftContents, Jobs.is_success, Requests.fault_of, Values.numbers_of}
+use Rattle.io_commands.specs.{Asked.Request, Drafts.DraftContents, Jobs.is_success, Values.numbers_of}
 pub use Rattle.machine_model.proofs.Moves.{named, status_in}
 
 -- One deletion of a queue's submission side is outstanding where the host waits for it, and one creation of a half where it waits for that: each event of the host keeps it so.
@@ -59,10 +59,7 @@ asked_note s q cid st e r k holds f heard w x ex = ap is_asked (asked_as_heard s
 
 -- a live queue behind a move of a ring
 pub still_live : (s : State) (q k : ℕ) (g : HostRing → HostRing) (queue y : HostQueue) → IsLiveQueue s q queue → slice_get (change k (λ x. record x { ring = g x.ring }) s.host.queues) q ≡ Some y → y.state ≡ Live
-still_live s q k g queue y live e =
-    let x = ring_at k q g s.host.queues y e in
-    let same : queue ≡ x.0 = cc (live.there, x.1) in
-    x.2 ∙ ap (λ (z : HostQueue). z.state) (sym same) ∙ live.live
+still_live s q k g queue y live e = grind (arith, ring_at)
 
 -- What waits for what
 
@@ -311,11 +308,7 @@ ok-reset s h =
 
 -- a queue on which something is reserved is an I/O queue
 pub io_queue : (s : State) (q : ℕ) (r : Request) → refusal_of s (events.Reserve q r) ≡ None → (q == 0) ≡ false
-io_queue s q r none =
-    let no = first_fails (no_io_queue s q) events.NoQueue
-    ((in_state is_deleting s q, events.Deleting) ∷ (is_some (fault_of r.kind r.blocks r.pieces), option_map_or events.Bad (fault_of r.kind r.blocks r.pieces) events.NoQueue) ∷ (no_identifier s q, events.NoIdentifier)
-    ∷ (nat_lt (length s.host.free) (pages_wanted s r), events.NoPages (pages_wanted s r) (length s.host.free)) ∷ []) none in
-    (or_parts (q == 0) (not (in_state in_service s q)) no).0
+io_queue s q r none = grind (arith, first_fails, is_some, nat_lt, length, none)
 
 owns_event : (s : State) (e : Event) (reply : Reply) → Accepts s e reply → IsController e ≡ false → HoldsPart (host_part s) → OwnsPart (host_part (a.after s e reply))
 owns_event s e reply ok c holds =
@@ -453,10 +446,7 @@ zeroed_in s pages are holds h p l =
   where
     -- a page of the run is free, so no command has it
     untaken : is_among pages p ≡ true → total (taken p) s.host.records ≡ 0
-    untaken e = elim (cases_Bool (is_among s.host.free p)) [
-      | inl f ↦ omega (arith, taken_le p s.host.records, holds.owner p, held_once p s.host.free f, small (nat_lt p (length (in_store s.memory))))
-      | inr f ↦ let none : times p pages ≡ 0 = rw (e, f) at (are p) in absurd (omega (arith, none, held_once p pages e))
-    ]
+    untaken e = grind (arith, taken_le, held_once, small, nat_lt, length, in_store, none)
 
 -- the pages of queue 0 are in, and stay in as they are made zero; the admin commands that go had no page
 reset_in : (s : State) → HoldsPart (host_part s) → Fits s → Fits (a.after_reset s)

@@ -3,7 +3,7 @@ use Rattle.machine_model.specs.Events as events
 use Rattle.std.proofs.Common.{◌≡◌, ℕ, ◌+◌, ◌/◌, ◌%◌, ◌==◌, nat_lt, nat_le, Bool, true, false, not, ◌&&◌, ◌||◌, Option, Some, if◌then◌else◌, refl, map, sym, subst, arith, zero, suc, take, drop, None, List, [], ◌∷◌, length, is_some, slice_set, option_and_then, ap, ◌∙◌, length-set, ◌++◌, find, ap₂, nat_eq, inl, inr, MatchBool}
 use Rattle.std.{proofs.lemmas.{Bool.{true≢false, not-false, or_parts, and_parts, ne_eqb}, List.map-append}, specs.Cmp.Lexicographic.{pointwise, same_text}}
 use Rattle.std.specs.{List.AllByRecursion, Option.option_map_or}
-use Rattle.entry_codec.specs.{Completion.completion_bytes, Submission.submission_bytes}
+use Rattle.entry_codec.specs.{Completion.completion_bytes}
 use Rattle.entry_codec.specs.declared.{admin_opcode.TheConstants.{ABORT, DELETE_IO_SQ, DELETE_IO_CQ, CREATE_IO_CQ, CREATE_IO_SQ}, status.Status.Status}
 use Rattle.entry_codec.specs.declared.status.TheConstants.Status.{SUCCESS, INVALID_OPCODE, INVALID_FIELD, ABORT_REQUESTED, INVALID_QUEUE_IDENTIFIER, INVALID_QUEUE_SIZE, INVALID_QUEUE_DELETION, COMPLETION_QUEUE_INVALID, COMMAND_ID_CONFLICT}
 use Rattle.entry_codec.specs.declared.submission.SubEntry.{SubEntry}
@@ -11,18 +11,17 @@ use Rattle.admin_commands.specs.Entries.{named_queue, named_command, named_size,
 use Rattle.admin_commands.specs.Verdicts.{is_absent, is_live as is_running, is_io_queue, half_fault, abort_verdict, delete_sq_verdict, delete_cq_verdict, create_cq_verdict, create_sq_verdict}
 use Rattle.admin_commands.specs.declared.{AdminVerdict.{AdminVerdict, TheVariants.{Answer, MakeCompletion, MakeSubmission}}, DeviceView.DeviceView}
 use Rattle.admin_commands.specs.declared.SqState.TheVariants.{Stopping}
-use Rattle.io_commands.specs.{Asked.Request, Jobs.{is_success, direction_of_entry}, Values.numbers_of}
+use Rattle.io_commands.specs.{Asked.Request, Jobs.{is_success}, Values.numbers_of}
 use Rattle.page_memory.specs.{Pages.{Pages, page_at, with_page_bytes, with_bytes}, declared.page.Half.{Half, TheVariants.{Submission, Completion}}}
-use Rattle.queue_pair.specs.{Memory.half_pages, Rings.next_tail}
+use Rattle.queue_pair.specs.{Memory.half_pages}
 use Rattle.machine_model.proofs.Cases.{option_is}
-use Rattle.machine_model.specs.After.{acted, managed, decided, on_job, on_device, on_device_queue, stopped, dropped, completion_made, submission_made, sq_state, cq_there, walks, view_of, posted, on_ring, change, on_memory, after_fetch, after_walk, after_complete, answered, post_phase, taken_off, begun, moved, next_unit, final_status, deletion_done, after}
+use Rattle.machine_model.specs.After.{acted, managed, decided, on_job, on_device, on_device_queue, stopped, dropped, completion_made, submission_made, sq_state, cq_there, walks, view_of, on_memory, after_fetch, after_walk, after_complete, answered, post_phase, taken_off, moved, deletion_done, after}
 use Rattle.machine_model.specs.{Events.{Event, Reply}, Linked.absent, Memory.{with_pages, without_pages}}
-use Rattle.machine_model.specs.Refusals.{host_queue, next_rung, job_at, conflicts, slot_page, slot_offset, post_slot, fetch_slot, causes, refusal_of, record_is, is_of, asks_for}
+use Rattle.machine_model.specs.Refusals.{host_queue, next_rung, conflicts, slot_page, slot_offset, post_slot, fetch_slot, causes, refusal_of, record_is, is_of, asks_for}
 use Rattle.machine_model.specs.{Run.Run, State.{State, Job, HostQueue, Record, Phase, record_at, pages_of}}
-use Rattle.machine_model.specs.Step.{HostPart, host_part, Step, Leaves, LeavesByController, LeavesByHost, Permits, Answers, IsController, is_exact}
+use Rattle.machine_model.specs.Step.{HostPart, host_part, Step, Leaves, LeavesByController, LeavesByHost, Permits, Answers, IsController}
 use Rattle.controller_walk.specs.Units.{Act, Stays, Reads, Moves, first_passing}
 use Rattle.sgl_descriptor.specs.declared.Direction.{Direction, TheVariants.{Destination, Source}}
-use Rattle.std.proofs.lemmas.Bool.{cases_Bool}
 
 -- What an admin entry's fetch leaves, by the cases of its verdict.
 
@@ -165,24 +164,17 @@ part-fetch q s =
 part-moved : (d : Direction) (act : Act) (q cid : ℕ) (s : State) → host_part (moved d act q cid s) ≡ host_part s
 part-moved d Stays q cid s = refl
 part-moved d (Reads place) q cid s = refl
-part-moved Destination (Moves place n offset) q cid s =
-    part-option (λ j. on_memory (λ m. with_page_bytes m (place / 4096) (place % 4096) (take n (drop offset j.bytes))) s) (job_at s q cid) s
-    (λ j. part-bytes s (place / 4096) (place % 4096) (take n (drop offset j.bytes)))
+part-moved Destination (Moves place n offset) q cid s = grind (arith, part-option, take, drop, part-bytes)
 part-moved Source (Moves place n offset) q cid s = refl
 
 pub part-walk : (q cid : ℕ) (s : State) → host_part (after_walk q cid s) ≡ host_part s
-part-walk q cid s =
-    part-option _ (job_at s q cid) s
-    (λ j. part-option _ (next_unit s j) s
-    (λ act. part-moved (direction_of_entry j.entry) act q cid s))
+part-walk q cid s = grind (arith, part-option, part-moved)
 
 part-deletion : (j : Job) (st : Status) (s : State) → host_part (deletion_done j st s) ≡ host_part s
 part-deletion j st s = part-if _ _ _ s refl refl
 
 pub part-complete : (q cid : ℕ) (s : State) → host_part (after_complete q cid s) ≡ host_part s
-part-complete q cid s =
-    part-option _ (job_at s q cid) s
-    (λ j. part-answered q cid _ _ _ ∙ part-deletion j (final_status s j) _)
+part-complete q cid s = grind (arith, part-option, part-answered, part-deletion)
 
 -- how many pages there are
 pub length-in_store : (m : Pages) → length (in_store m) ≡ length m

@@ -143,10 +143,7 @@ all-both P Q R f (x ∷ xs) p q = (f x p.0 q.0, all-both P Q R f xs p.1 q.1)
 
 pub find_sound : {A : Type 0} (test : A → Bool) (xs : List A) (x : A) → find test xs ≡ Some x → test x ≡ true
 find_sound test [] x e = absurd cc
-find_sound test (y ∷ xs) x e = elim (cases_Bool (test y)) [
-  | inl t ↦ let e = rw t at e in let same : y ≡ x = cc in ap test (sym same) ∙ t
-  | inr t ↦ let e = rw t at e in let ih = find_sound test xs x in ih e
-]
+find_sound test (y ∷ xs) x e = grind (arith, find_sound test xs x)
 
 pub find_all : {A : Type 0} (P : A → Type 0) (test : A → Bool) (xs : List A) (x : A) → find test xs ≡ Some x → AllByRecursion P xs → P x
 find_all P test [] x e all = absurd cc
@@ -193,14 +190,7 @@ placed_reaped rs un js an ans once h =
 
 pub total_gone : {A : Type 0} (w : A → ℕ) (test : A → Bool) (xs : List A) (x : A) → find test xs ≡ Some x → total w (filter (λ y. not (test y)) xs) + w x ≤ total w xs
 total_gone w test [] x e = absurd cc
-total_gone w test (y ∷ xs) x e = go (test y) e (total_gone w test xs x)
-  where
-    go : (b : Bool) → (if b then Some y else find test xs) ≡ Some x → (find test xs ≡ Some x → total w (filter (λ y. not (test y)) xs) + w x ≤ total w xs)
-        → total w (if not b then y ∷ filter (λ y. not (test y)) xs else filter (λ y. not (test y)) xs) + w x ≤ w y + total w xs
-    go true e ih =
-        let same : y ≡ x = cc in
-        omega (arith, ap w same, total-filter w (λ y. not (test y)) xs)
-    go false e ih = omega (arith, ih e)
+total_gone w test (y ∷ xs) x e = grind (arith, total_gone w test xs x, find, total, filter, true, total-filter, false)
 
 pub placed_completed : (rs : List Record) (un : List SubEntry) (js : List Job) (ans : List Answer) (cid : ℕ) (j : Job) (an : Answer)
     → find (is_job 0 cid) js ≡ Some j → an.cid ≡ cid → Placed rs un js ans → Placed rs un (filter (λ k. not (is_job 0 cid k)) js) (ans ++ an ∷ [])
@@ -360,12 +350,4 @@ pub knows_back : (q cid : ℕ) (rs : List Record) (c : ℕ) (adm : AdminKind) �
 knows_back q cid rs c adm k = (k.0, found_back q cid c rs k.0 far k.1, k.2)
   where
     far : (x : Record) → is_at q cid x ≡ true → is_at 0 c x ≡ true → ⊥
-    far x t u =
-        let r = k.0 in
-        let a = and_parts (x.q == q) (x.cid == cid) t in
-        let b = and_parts (x.q == 0) (x.cid == c) u in
-        let m = and_parts (r.q == 0) (r.cid == c) (find_sound (is_at 0 c) (without_record q cid rs) r k.1) in
-        let rq : r.q ≡ q = eqb-true r.q 0 m.0 ∙ sym (eqb-true x.q 0 b.0) ∙ eqb-true x.q q a.0 in
-        let rc : r.cid ≡ cid = eqb-true r.cid c m.1 ∙ sym (eqb-true x.cid c b.1) ∙ eqb-true x.cid cid a.1 in
-        let is : is_at q cid r ≡ true = rw (eq-eqb r.q q rq, eq-eqb r.cid cid rc) refl in
-        true≢false (sym is ∙ without_other q cid c rs r k.1)
+    far x t u = grind (arith, find_sound, eqb-true, true, eq-eqb, without_other)

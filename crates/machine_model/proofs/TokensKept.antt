@@ -14,7 +14,7 @@ use Rattle.machine_model.specs.{Claims.AdminLives, Commands.{Work, Io, Managemen
 use Rattle.machine_model.specs.Standing.{CommandStands, StandsAs, IsSized, unfetched_at}
 use Rattle.machine_model.specs.State.{HostQueue, DeviceQueue, Record, Job, Answer, HostState, Live, Held}
 use Rattle.page_memory.specs.{Pages.Pages, declared.page.Half.TheVariants.{Submission, Completion}}
-use Rattle.queue_pair.specs.{Memory.half_pages, Rings.fresh_host_ring, Slots.distance}
+use Rattle.queue_pair.specs.{Memory.half_pages}
 
 -- The controller's events keep the tokens of what is deleted and made.
 
@@ -166,9 +166,7 @@ tokens_submission rs hs ds e un js js' ans long f names is has h =
 
     submits : (q : ℕ) (b : Bool) → (named_queue e == q) ≡ b
         → one (not (gone_at (change (named_queue e) submission_made ds) q)) + (answered_well (deletes_sq q) rs ans + (one (knows_deleted_at hs q) + unmade (creates_sq q) rs un js' ans)) ≤ 1
-    submits q true at =
-        let was : gone_at ds q ≡ true = subst (λ (z : ℕ). gone_at ds z ≡ true) (eqb-true (named_queue e) q at) has in
-        omega (arith, h.submission q, f.unmade (creates_sq q), ap one (its q true at), ap (λ (b : Bool). one (not b)) was, small (not (gone_at (change (named_queue e) submission_made ds) q)))
+    submits q true at = grind (arith, gone_at, true, eqb-true, unmade, creates_sq, small)
     submits q false at =
         omega (arith, h.submission q, f.unmade (creates_sq q), ap one (its q false at), ap (λ (b : Bool). one (not b)) (device_other (λ (at : DeviceQueue). is_absent at.state) true submission_made (named_queue e) ds q at))
 
@@ -186,9 +184,7 @@ tokens_submission rs hs ds e un js js' ans long f names is has h =
     comes q inside true at some =
         let x = found q (omega (arith, inside, long)) (slice_get ds q) refl in
         subst (λ (z : ℕ). gone_at (change z submission_made ds) q ≡ false) (sym (eqb-true (named_queue e) q at)) (device_here (λ (at : DeviceQueue). is_absent at.state) true submission_made q ds false (λ d. refl) x.0 x.1)
-    comes q inside false at some =
-        device_other (λ (at : DeviceQueue). is_absent at.state) true submission_made (named_queue e) ds q at
-        ∙ h.there q inside (omega (arith, some, f.unmade (deletes_sq q), f.done (creates_sq q), ap one (its q false at)))
+    comes q inside false at some = grind (arith, device_other, true, unmade, deletes_sq, creates_sq, false)
 
 -- The controller behind a reset: nothing waits there, and both sides fit.
 
