@@ -76,12 +76,7 @@ times-pages p zero = sym (ap one (le-ltb p 0 (omega arith)))
 times-pages p (suc n) = ap (times p) (pages_from-suc 0 n ∙ ap (λ (q : ℕ). pages_from 0 n ++ q ∷ []) (omega arith)) ∙ go (n == p) refl (times-pages p n)
   where
     go : (b : Bool) → (n == p) ≡ b → times p (pages_from 0 n) ≡ one (nat_lt p n) → times p (pages_from 0 n ++ n ∷ []) ≡ one (nat_lt p (suc n))
-    go true e ih =
-        let h : n ≡ p = eqb-true n p e in
-        let l : nat_lt p n ≡ false = le-ltb p n (omega arith) in
-        let m : nat_lt p (suc n) ≡ true = lt-ltb p (suc n) (omega arith) in
-        let t : times p (pages_from 0 n) ≡ 0 = ih ∙ ap one l in
-        rw m (omega (arith, times-append p (pages_from 0 n) (n ∷ []), times_here p n [] e))
+    go true e ih = grind (arith, eqb-true, le-ltb, lt-ltb, times-append, times_here)
     go false e ih = grind (arith, times-append, times_there)
 
 -- what is granted goes from the free numbers

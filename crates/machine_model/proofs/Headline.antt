@@ -34,14 +34,7 @@ pub length_placed : (free : List ℕ) (count : ℕ) → count ≤ length free �
 length_placed free count enough = grind (arith, length_taken, length_run)
 
 pub placed_times : (p : ℕ) (free : List ℕ) (count : ℕ) → times p (placed free count) ≤ times p free
-placed_times p free count = elim (option_is (first_of_run free count)) [
-  | inl e ↦ rw e (take_times p count free)
-  | inr (first, e) ↦ rw e (run first (find_sound (is_run free count) free first e) (is_among (pages_from first count) p) refl)
-]
-  where
-    run : (first : ℕ) → is_run free count first ≡ true → (b : Bool) → is_among (pages_from first count) p ≡ b → times p (pages_from first count) ≤ times p free
-    run first is true e = omega (arith, once_in_run p first count, held_once p free (all_among (pages_from first count) free p is e))
-    run first is false e = omega (arith, not_held p (pages_from first count) e)
+placed_times p free count = grind (arith, take_times, find_sound, once_in_run, held_once, all_among, not_held)
 
 -- of free pages, some and then some of those that are left
 pub two_placed : (p : ℕ) (pages free more : List ℕ) → times p pages ≤ times p free → times p more ≤ times p (without_numbers pages free) → times p (pages ++ more) ≤ times p free
@@ -63,16 +56,7 @@ length_left [] free some once = omega (arith, all free)
     all : (xs : List ℕ) → length (without_numbers [] xs) ≡ length xs
     all [] = refl
     all (x ∷ xs) = ap suc (all xs)
-length_left (d ∷ pages) free some once =
-    let few : (p : ℕ) → times p (filter (λ p. not (d == p)) free) ≤ 1 = λ p. grind (arith, times-filter p (λ x. not (d == x)) free) in
-    let one_there : 1 ≤ times d free = omega (arith, here, some d) in
-    omega (arith, ap length (left_in_turn d pages free), length_left pages (filter (λ p. not (d == p)) free) fewer few, one_less d free, one_there, once d)
-  where
-    here : times d (d ∷ pages) ≡ 1 + times d pages
-    here = times-cons d d pages ∙ ap (λ (k : ℕ). k + times d pages) (ap one (eq-eqb d d refl))
-
-    fewer : (p : ℕ) → times p pages ≤ times p (filter (λ p. not (d == p)) free)
-    fewer p = grind (arith, eqb-true, filter, times-filter, times-cons)
+length_left (d ∷ pages) free some once = grind (arith, length_left pages (filter (λ p. not (d == p)) free), times-filter, left_in_turn, one_less, times-cons, eq-eqb, eqb-true)
 
 -- A request's pages
 
@@ -95,8 +79,7 @@ room_for free segment pieces enough = grind arith
 range_split : (a c d n : ℕ) → c + d ≡ n → pages_from a n ≡ pages_from a c ++ pages_from (a + c) d
 range_split a zero d n e = ap₂ pages_from (omega arith) (omega arith)
 range_split a (suc c) d zero e = absurd (omega arith)
-range_split a (suc c) d (suc n) e =
-    ap (λ xs. a ∷ xs) (range_split (a + 1) c d n (omega arith) ∙ ap (λ k. pages_from (a + 1) c ++ pages_from k d) (omega arith))
+range_split a (suc c) d (suc n) e = grind (arith, range_split (a + 1) c d n)
 
 pub length-range : (a n : ℕ) → length (pages_from a n) ≡ n
 length-range a zero = refl
@@ -146,8 +129,7 @@ fits_pool pages queues n s opens =
     (rest_fails (not (is_config pages queues n s)) BadConfig ((nat_lt pages (pages_of_queues queues n), NoPages (pages_of_queues queues n) pages) ∷ []) opens))
 
 pub in_limits : (pages queues n s : ℕ) → Opens pages queues n s → is_config pages queues n s ≡ true
-in_limits pages queues n s opens =
-    not-false _ (first_fails (not (is_config pages queues n s)) BadConfig ((nat_lt pages (pages_of_queues queues n), NoPages (pages_of_queues queues n) pages) ∷ []) opens)
+in_limits pages queues n s opens = grind (arith, first_fails)
 
 pub record Limits (pages queues n s : ℕ) : Type 0 where
   pub pages_most : pages ≤ 65536

@@ -29,8 +29,7 @@ owned p h = times p h.free + (total (in_queue p) h.queues + total (in_record p) 
 
 first_of_claims : (p : ℕ) (owner : Owner) (pages : List ℕ) → times p (map (λ claim. claim.0) (claimed owner pages)) ≡ times p pages
 first_of_claims p owner [] = refl
-first_of_claims p owner (x ∷ pages) =
-    times-cons p x (map (λ claim. claim.0) (claimed owner pages)) ∙ ap (λ n. one (x == p) + n) (first_of_claims p owner pages) ∙ sym (times-cons p x pages)
+first_of_claims p owner (x ∷ pages) = grind (arith, first_of_claims p owner pages, times-cons)
 
 abbrev firsts : ℕ → List (ℕ × Owner) → ℕ
 firsts p claims = times p (map (λ claim. claim.0) claims)

@@ -200,8 +200,7 @@ ok-memory g s e h = recount (length (in_store s.memory)) (length (in_store (g s.
 -- Reserving
 
 pub unused : (s : State) (q cid : ℕ) → IsNewIdentifier s q cid → total (here q cid) s.host.records ≡ 0
-unused s q cid new =
-    sym (times-outstanding cid q s.host.records) ∙ not_held cid (outstanding_on s.host q) (not-true _ new.unused)
+unused s q cid new = grind (arith, times-outstanding, not_held)
 
 few_free : (count p : ℕ) (h : Host) → Owns count h → times p h.free ≤ one (nat_lt p count)
 few_free count p h holds = omega (arith, holds.owner p)

@@ -256,8 +256,7 @@ all_into P Q f (x ∷ xs) all = (f x all.0, all_into P Q f xs all.1)
 -- Kinds
 
 pub kind_known : (test : AdminKind → Bool) (rs : List Record) (c : ℕ) (adm : AdminKind) → Knows rs c adm → is_kind test rs c ≡ test adm
-kind_known test rs c adm k =
-    ap (λ (o : Option Record). option_map_or test (option_and_then (λ r. kind_of r.work) o) false) k.1 ∙ ap (λ (w : Work). option_map_or test (kind_of w) false) k.2
+kind_known test rs c adm k = grind arith
 
 -- what an identifier's command is for, if it passes
 pub kind_found : (test : AdminKind → Bool) (rs : List Record) (c : ℕ) → is_kind test rs c ≡ true → (adm : AdminKind) × Knows rs c adm × (test adm ≡ true)

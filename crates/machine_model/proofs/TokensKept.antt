@@ -147,8 +147,7 @@ tokens_completion rs hs ds e un js js' ans f names is has h =
     completes q true at =
         let was : there_at ds q ≡ false = subst (λ (z : ℕ). there_at ds z ≡ false) (eqb-true (named_queue e) q at) has in
         omega (arith, h.completion q, f.unmade (creates_cq q), f.done (deletes_cq q), ap one (cq q), ap one (its q true at), ap one was, small (there_at (change (named_queue e) completion_made ds) q))
-    completes q false at =
-        omega (arith, h.completion q, f.unmade (creates_cq q), f.done (deletes_cq q), ap one (cq q), ap one (its q false at), ap one (device_other (λ (at : DeviceQueue). at.cq_there) false completion_made (named_queue e) ds q at))
+    completes q false at = grind (arith, unmade, creates_cq, deletes_cq, device_other)
 
 -- a submission queue is made: it was not there
 pub tokens_submission : (rs : List Record) (hs : List HostQueue) (ds : List DeviceQueue) (e : SubEntry) (un : List SubEntry) (js js' : List Job) (ans : List Answer) → length ds ≡ length hs → Fetched rs e un js js' ans true
@@ -167,8 +166,7 @@ tokens_submission rs hs ds e un js js' ans long f names is has h =
     submits : (q : ℕ) (b : Bool) → (named_queue e == q) ≡ b
         → one (not (gone_at (change (named_queue e) submission_made ds) q)) + (answered_well (deletes_sq q) rs ans + (one (knows_deleted_at hs q) + unmade (creates_sq q) rs un js' ans)) ≤ 1
     submits q true at = grind (arith, gone_at, true, eqb-true, unmade, creates_sq, small)
-    submits q false at =
-        omega (arith, h.submission q, f.unmade (creates_sq q), ap one (its q false at), ap (λ (b : Bool). one (not b)) (device_other (λ (at : DeviceQueue). is_absent at.state) true submission_made (named_queue e) ds q at))
+    submits q false at = grind (arith, unmade, creates_sq, device_other)
 
     found : (q : ℕ) → q < length ds → (o : Option DeviceQueue) → slice_get ds q ≡ o → (x : DeviceQueue) × (slice_get ds q ≡ Some x)
     found q inside (Some x) e = (x, e)
