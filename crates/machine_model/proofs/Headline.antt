@@ -1,21 +1,21 @@
 -- The headline of a state.
-use Rattle.std.proofs.Common.{◌≡◌, ℕ, zero, suc, ◌+◌, ◌≤◌, ◌==◌, Bool, true, false, not, Some, List, [], ◌∷◌, ◌++◌, length, take, filter, refl, ap, ◌∙◌, arith, eqb-true, eq-eqb, inl, inr, ◌-◌, ◌*◌, ◌<◌, nat_lt, ltb-false, nat_le, leb-true, ◌&&◌, drop, replicate, slice_get, ap₂, sym, zero-mul, zero-add, map, flat_map, sum_by, length-append, subst}
-use Rattle.std.{proofs.lemmas.{Bool.{not-false, and_parts}, List.{length-replicate, Sums.sum_by-cons}}}
-use Rattle.machine_model.proofs.Cases.{option_is}
+use Rattle.std.proofs.Common.{◌≡◌, ℕ, zero, suc, ◌+◌, ◌≤◌, ◌==◌, true, not, Some, List, [], ◌∷◌, ◌++◌, length, take, filter, refl, ap, ◌∙◌, arith, eqb-true, eq-eqb, ◌-◌, ◌*◌, ◌<◌, nat_lt, ltb-false, nat_le, leb-true, ◌&&◌, drop, replicate, slice_get, ap₂, sym, zero-mul, zero-add, map, flat_map, sum_by, length-append, subst}
+use Rattle.std.{proofs.lemmas.{Bool.{and_parts}, List.{length-replicate, Sums.sum_by-cons}}}
 use Rattle.machine_model.proofs.Counting.{one, times-cons, times-append, times-filter, held_once, not_held, times-pages, length_of_all, find_sound, once_in_run, all_among, total}
 use Rattle.machine_model.proofs.Kept.{bare_at_opening, halves_at_opening, zero_opened}
 use Rattle.machine_model.proofs.Owned.{in_queue, HoldsPart, holds_from_sound, owners_from_holds, identifiers_from_holds, Taken, out_from_taken, taken_from_out}
 use Rattle.machine_model.proofs.Sound.{deletions_at_opening, creations_at_opening, Both, both_events}
 use Rattle.machine_model.proofs.Steps.{first_fails, rest_fails, in_store, length-in_store, each_step, each_run}
 use Rattle.machine_model.specs.Claims.{each_step_keeps, every_run_is_sound, every_run_takes_out, counts_add_up, claimed, claims_of, claims_of_queues, claims_of_record, IsSound, HasOneOwner, counts_of}
-use Rattle.machine_model.specs.Opening.{opening, queues_from, pages_of_queues, is_config, Opens, BadConfig, NoPages}
-use Rattle.machine_model.specs.Placement.{is_run, first_of_run, placed, without_numbers, data_placed, chain_wanted, chain_placed, wanted_of}
+use Rattle.machine_model.specs.Opening.{opening, queues_from, pages_of_queues, is_config, Opens}
+use Rattle.machine_model.specs.Placement.{placed, without_numbers, data_placed, chain_wanted, chain_placed, wanted_of}
 use Rattle.machine_model.specs.{State.{State, Host, HostQueue, Record}, Step.{times, host_part}}
-use Rattle.page_ledger.{proofs.Pages.length-pages_from as length_run, specs.{Counting.total as total_counting, Owners.{is_among, pages_from}}}
-use Rattle.page_ledger.specs.declared.owner.{Owner.{Owner, TheVariants.{Queue, Command}}, Role.TheVariants.{Data, Chain}}
+use Rattle.page_ledger.{proofs.Pages.length-pages_from as length_run, specs.{Counting.total as total_counting, Owners.{pages_from}}}
+use Rattle.page_ledger.specs.declared.owner.{Owner.{Owner}}
 use Rattle.io_commands.specs.{Requests.data_count, declared.request.Piece.Piece}
 use Rattle.page_memory.specs.{Pages.zero_page, declared.page.Half.TheVariants.{Submission, Completion}}
 use Rattle.queue_pair.specs.Memory.{half_pages}
+use Rattle.std.proofs.lemmas.Grind.{common_steps}
 
 -- What is placed are free pages, each once, and as many as are wanted where there are so many.
 
@@ -123,10 +123,7 @@ FitsPool pages queues n = pages_of_queues queues n ≤ pages
 
 -- what opens has pages enough, and its limits
 pub fits_pool : (pages queues n s : ℕ) → Opens pages queues n s → FitsPool pages queues n
-fits_pool pages queues n s opens =
-    ltb-false pages (pages_of_queues queues n)
-    (first_fails (nat_lt pages (pages_of_queues queues n)) (NoPages (pages_of_queues queues n) pages) []
-    (rest_fails (not (is_config pages queues n s)) BadConfig ((nat_lt pages (pages_of_queues queues n), NoPages (pages_of_queues queues n) pages) ∷ []) opens))
+fits_pool pages queues n s opens = grind (arith, ltb-false, first_fails, rest_fails)
 
 pub in_limits : (pages queues n s : ℕ) → Opens pages queues n s → is_config pages queues n s ≡ true
 in_limits pages queues n s opens = grind (arith, first_fails)
@@ -191,18 +188,11 @@ length_firsts (claim ∷ claims) = ap suc (length_firsts claims)
 
 in_halves : (q : ℕ) (queues : List HostQueue) → length (claims_of_queues q queues) ≡ sum_by (λ queue. length queue.sq_pages + length queue.cq_pages) queues
 in_halves q [] = refl
-in_halves q (queue ∷ queues) =
-    let a = claimed (Queue q Submission) queue.sq_pages in
-    let b = claimed (Queue q Completion) queue.cq_pages in
-    let c = claims_of_queues (q + 1) queues in
-    omega (arith, length-append (a ++ b) c, length-append a b, length_claimed (Queue q Submission) queue.sq_pages, length_claimed (Queue q Completion) queue.cq_pages, in_halves (q + 1) queues, sum_by-cons (λ (at : HostQueue). length at.sq_pages + length at.cq_pages) queue queues)
+in_halves q (queue ∷ queues) = grind (arith, in_halves (q + 1) queues, length-append, length_claimed, sum_by-cons, common_steps)
 
 in_commands : (records : List Record) → length (flat_map claims_of_record records) ≡ sum_by (λ r. length r.chain_pages) records + sum_by (λ r. length r.data_pages) records
 in_commands [] = refl
-in_commands (r ∷ records) =
-    let a = claimed (Command r.q r.cid Data) r.data_pages in
-    let b = claimed (Command r.q r.cid Chain) r.chain_pages in
-    omega (arith, length-append (a ++ b) (flat_map claims_of_record records), length-append a b, length_claimed (Command r.q r.cid Data) r.data_pages, length_claimed (Command r.q r.cid Chain) r.chain_pages, in_commands records, sum_by-cons (λ (x : Record). length x.chain_pages) r records, sum_by-cons (λ (x : Record). length x.data_pages) r records)
+in_commands (r ∷ records) = grind (arith, in_commands records, length-append, length_claimed, sum_by-cons, common_steps)
 
 all_claims : (h : Host) → length (firsts (claims_of h)) ≡ total_counting (counts_of h)
 all_claims h = grind (arith, flat_map, length_firsts, length-append, length_claimed, in_halves, in_commands)

@@ -1,8 +1,8 @@
 -- What each step keeps.
 use Rattle.machine_model.specs.After as a
 use Rattle.machine_model.specs.Events as events
-use Rattle.std.proofs.Common.{◌≡◌, ℕ, zero, suc, ◌==◌, Bool, true, false, ◌||◌, Option, Some, None, List, [], ◌∷◌, ◌++◌, map, slice_get, if◌then◌else◌, refl, ap, sym, ◌∙◌, arith, eq-eqb, subst, not, ◌&&◌, ◌+◌, ◌≤◌, nat_lt, length, filter, eqb-true, ltb-false, inl, inr}
-use Rattle.std.{proofs.lemmas.Bool.{true≢false, not-false, or_parts, eqb-false, cases_Bool}, specs.{List.AllByRecursion, Option.option_map_or}}
+use Rattle.std.proofs.Common.{◌≡◌, ℕ, zero, suc, ◌==◌, Bool, true, false, ◌||◌, Option, Some, None, List, [], ◌∷◌, ◌++◌, map, slice_get, if◌then◌else◌, refl, ap, sym, ◌∙◌, arith, eq-eqb, subst, not, ◌&&◌, ◌+◌, ◌≤◌, nat_lt, length, filter, eqb-true, ltb-false}
+use Rattle.std.{proofs.lemmas.Bool.{true≢false, not-false, or_parts, eqb-false}, specs.{List.AllByRecursion, Option.option_map_or}}
 use Rattle.admin_commands.specs.declared.AdminKind.{AdminKind, TheVariants.{Abort, DeleteSq, DeleteCq, CreateCq, CreateSq}}
 use Rattle.entry_codec.specs.declared.{completion.ComEntry.ComEntry, status.Status.Status}
 use Rattle.io_commands.specs.{Asked.Request, Jobs.is_success}
@@ -435,10 +435,7 @@ bare_less k c rs hs h = bare_fewer rs (without_record k c rs) hs (λ q. total-fi
 
 -- one more, of a queue in use
 bare_more : (rs : List Record) (hs : List HostQueue) (new : Record) → awaited_at is_making hs new.q ≡ false → Bare rs hs → Bare (rs ++ new ∷ []) hs
-bare_more rs hs new used h q making = elim (cases_Bool (new.q == q)) [
-  | inl e ↦ absurd (true≢false (sym making ∙ ap (awaited_at is_making hs) (sym (eqb-true new.q q e)) ∙ used))
-  | inr e ↦ omega (arith, h q making, total-append (stands_on q) rs (new ∷ []), ap one e)
-]
+bare_more rs hs new used h q making = grind (arith, awaited_at, eqb-true, total-append)
 
 -- Queues that change
 
@@ -458,10 +455,7 @@ bare_ring rs k g hs h = bare_change rs k (λ x. record x { ring = g x.ring }) hs
 
 -- or none of its commands is outstanding
 bare_begins : (rs : List Record) (k : ℕ) (f : HostQueue → HostQueue) (hs : List HostQueue) → total (stands_on k) rs ≡ 0 → Bare rs hs → Bare rs (change k f hs)
-bare_begins rs k f hs none h q making = elim (cases_Bool (k == q)) [
-  | inl e ↦ subst (λ (z : ℕ). total (stands_on z) rs ≡ 0) (eqb-true k q e) none
-  | inr e ↦ h q (sym (at_other is_making f k hs q (eqb-false k q e)) ∙ making)
-]
+bare_begins rs k f hs none h q making = grind (arith, total, eqb-true, at_other, eqb-false)
 
 -- Queues in use
 

@@ -7,7 +7,7 @@ use Rattle.machine_model.proofs.{Cases.option_is, Steps.{Accepts, unrefused, fir
 use Rattle.machine_model.specs.{Claims.is_away, Commands.{Work, Io, Management}, Events.{Event, Reply, Reaped}, Memory.{with_pages, without_pages}}
 use Rattle.machine_model.specs.Refusals.{device_queue, first_answer, entry_of, refusal_of, host_queue, seen_entry, is_of, asks_for, is_drafted, is_submitted, is_held, is_collected, is_live, is_deleting, is_deleted, is_gone, is_half_made, is_asked, is_making_cq, is_making_sq, has_cq_alone, in_service, is_reaped, run_for, in_state, record_is, no_io_queue, is_io_queue, deletes_sq_of, creates_cq_of, creates_sq_of, slot_page, slot_offset}
 use Rattle.machine_model.specs.State.{State, Answer, HostQueue, HostState, Live, Deleting, Gone, MakingCq, HalfMade, MakingSq, Record, Phase, Drafted, Submitted, Collected, record_at, with_record, without_record, pages_of}
-use Rattle.machine_model.specs.Step.{IsController, IsReserved, IsNewIdentifier, finished_from, reaped, reaped_as, fits_ring}
+use Rattle.machine_model.specs.Step.{IsController, IsReserved, IsNewIdentifier, finished_from, reaped, fits_ring}
 use Rattle.admin_commands.specs.{Entries.admin_entry, declared.AdminKind.{AdminKind, TheVariants.{Abort, DeleteSq, DeleteCq, CreateCq, CreateSq}}}
 use Rattle.entry_codec.specs.{Submission.submission_bytes, declared.{completion.ComEntry.ComEntry, status.Status.Status, submission.SubEntry.SubEntry}}
 use Rattle.io_commands.specs.{Asked.Request, Drafts.DraftContents, Jobs.is_success, Values.{FinishedContents, numbers_of}}
@@ -207,10 +207,7 @@ draft_lives s d none = not-false _ (unrefused s (events.Submit d) none).1.1.0
 
 -- a queue whose state passes a test
 pub queue_found : (test : HostState → Bool) (s : State) (q : ℕ) → in_state test s q ≡ true → (queue : HostQueue) × (host_queue s q ≡ Some queue) × (test queue.state ≡ true)
-queue_found test s q h = elim (option_is (host_queue s q)) [
-  | inl e ↦ let h = rw e at h in absurd (true≢false (sym h))
-  | inr (queue, e) ↦ let h = rw e at h in (queue, e, h)
-]
+queue_found test s q h = grind arith
 
 -- then it is known
 pub queue_known : (test : HostState → Bool) (s : State) (q : ℕ) → not (in_state test s q) ≡ false → is_none (host_queue s q) ≡ false
@@ -246,14 +243,7 @@ pub run_found : (s : State) (half : Half) → is_none (run_for s half) ≡ false
 run_found s half h = elim (option_is (run_for s half)) [ inl e ↦ let h = rw e at h in absurd (true≢false h) | inr (first, e) ↦ (first, e) ]
 
 pub heard_of : (s : State) (q cid : ℕ) (st : Status) (what : Reaped) → Tells s q cid st what → (e : ComEntry) × (r : Record) × IsHeard s q cid st e r
-heard_of s q cid st what t = elim (option_is (seen_entry s q)) [
-  | inl seen ↦ absurd cc
-  | inr (e, seen) ↦ grind arith
-]
-  where
-    named_as : (e : ComEntry) (w : Work) → (named (reaped_as q e w) ≡ Some e.cid) × (status_in (reaped_as q e w) ≡ Some e.status)
-    named_as e (Io r) = (refl, refl)
-    named_as e (Management adm) = (refl, refl)
+heard_of s q cid st what t = grind arith
 
 -- Where nothing was forged, an entry that is heard is the oldest answer
 
@@ -340,10 +330,7 @@ host_moves P s (events.Reap q) (events.Reaps events.Empty) ok c move = move.rest
 host_moves P s (events.Reap q) (events.Reaps (events.Rejected why)) ok c move = move.rejects q why ok.1
 host_moves P s (events.Reap q) (events.Reaps (events.Done cid st)) ok c move = told P s q cid st (events.Done cid st) move (record { is = ok.1; names = refl; status = refl })
 host_moves P s (events.Reap q) (events.Reaps (events.AdminDone cid st dw0)) ok c move = told P s q cid st (events.AdminDone cid st dw0) move (record { is = ok.1; names = refl; status = refl })
-host_moves P s (events.Collect q cid) (events.Collects f) ok c move = let fails = unrefused s (events.Collect q cid) ok.0 in elim (option_is (record_at s.host q cid)) [
-  | inl e ↦ rw e (absurd (true≢false (rw e at fails.0)))
-  | inr (r, e) ↦ rw e (move.collects q cid r f e (grind (arith, (rw e at fails.0), (rw e at fails.1.0))) (rw e at ok.1))
-]
+host_moves P s (events.Collect q cid) (events.Collects f) ok c move = grind (arith, unrefused)
 host_moves P s (events.Release f) events.Accepted ok c move =
     let r = is_of_found s is_collected f.request f.q f.cid f.data_pages f.chain_pages collected_away (first_fails _ events.Stranger [] ok.0) in move.releases f r.0 r.1
 host_moves P s (events.Abort q cid) (events.Sent id) ok c move = subst (P (events.Abort q cid) (events.Sent id)) (posted_is 0 (admin_entry (Abort q cid) id) (a.on_records (λ records. records ++ sent_record (Abort q cid) id ∷ []) s)) (move.aborts q cid id ok.0 ok.1)

@@ -13,6 +13,7 @@ use Rattle.machine_model.specs.State.{State, Host, HostQueue, Record, is_at, rec
 use Rattle.machine_model.specs.Step.{times, HostPart, host_part}
 use Rattle.io_commands.specs.Values.{numbers_of}
 use Rattle.entry_codec.specs.declared.status.TheConstants.Status.{ABORTED_SQ_DELETION}
+use Rattle.std.proofs.lemmas.Grind.{common_steps}
 
 -- Every page has one owner, and no identifier is outstanding twice: what each host event does to that.
 
@@ -322,26 +323,13 @@ awaited_is test hs k x h e = sym (at_found test hs k x e) ∙ h
 -- one is sent, and its queue waits for it
 pub awaited_starts : (of : ℕ → Work → Bool) (test : HostState → Bool) (rs : List Record) (hs : List HostQueue) (f : HostQueue → HostQueue) (k : ℕ) (new : Record) (x : HostQueue) → slice_get hs k ≡ Some x
     → ((q : ℕ) → (k == q) ≡ false → of q new.work ≡ false) → one (test (f x).state) ≡ one (test x.state) + one (of k new.work) → Awaited of test rs hs → Awaited of test (rs ++ new ∷ []) (change k f hs)
-awaited_starts of test rs hs f k new x there others moves h q = elim (cases_Bool (k == q)) [
-  | inl e ↦ subst (λ (z : ℕ). total (awaits of z) (rs ++ new ∷ []) ≡ one (awaited_at test (change k f hs) z)) (eqb-true k q e) own
-  | inr e ↦ omega (arith, h q, total-append (awaits of q) rs (new ∷ []), ap one (others q e), ap one (at_other test f k hs q (eqb-false k q e)))
-]
-  where
-    own : total (awaits of k) (rs ++ new ∷ []) ≡ one (awaited_at test (change k f hs) k)
-    own = omega (arith, h k, total-append (awaits of k) rs (new ∷ []), ap one (at_found test hs k x there), ap one (at_changed test f k hs x there), moves)
+awaited_starts of test rs hs f k new x there others moves h q = grind (arith, total, eqb-true, total-append, at_other, eqb-false, at_found, at_changed)
 
 -- one is answered, and its queue waits no longer
 pub awaited_ends : (of : ℕ → Work → Bool) (test : HostState → Bool) (rs : List Record) (hs : List HostQueue) (f : HostQueue → HostQueue) (k at c : ℕ) (r : Record) → find (is_at at c) rs ≡ Some r → total (here at c) rs < 2
     → ((q : ℕ) → (k == q) ≡ false → of q r.work ≡ false) → ((x : HostQueue) → slice_get hs k ≡ Some x → one (test (f x).state) + one (of k r.work) ≡ one (test x.state))
     → Awaited of test rs hs → Awaited of test (without_record at c rs) (change k f hs)
-awaited_ends of test rs hs f k at c r is once others moves h q = elim (cases_Bool (k == q)) [
-  | inl e ↦ subst (λ (z : ℕ). total (awaits of z) (without_record at c rs) ≡ one (awaited_at test (change k f hs) z)) (eqb-true k q e) (own (slice_get hs k) refl)
-  | inr e ↦ omega (arith, h q, total_without (awaits of q) at c rs r is once, ap one (others q e), ap one (at_other test f k hs q (eqb-false k q e)))
-]
-  where
-    own : (o : Option HostQueue) → slice_get hs k ≡ o → total (awaits of k) (without_record at c rs) ≡ one (awaited_at test (change k f hs) k)
-    own None e = omega (arith, h k, total_without (awaits of k) at c rs r is once, ap one (ap (λ (o : Option HostQueue). option_map_or (λ h. test h.state) o false) e), ap one (at_nobody test f k hs e))
-    own (Some x) e = omega (arith, h k, total_without (awaits of k) at c rs r is once, ap one (at_found test hs k x e), ap one (at_changed test f k hs x e), moves x e)
+awaited_ends of test rs hs f k at c r is once others moves h q = grind (arith, total, eqb-true, total_without, at_other, eqb-false, at_nobody, at_found, at_changed)
 
 -- What a reset makes of records and queues: how their sums and what holds of all of them change.
 
@@ -430,19 +418,11 @@ all_reset_queues P Q (x ∷ hs) admin gone all = (admin x refl all.0, rest hs)
 
 pub reset_length : (hs : List HostQueue) → length (a.reset_queues hs) ≡ length hs
 reset_length [] = refl
-reset_length (x ∷ hs) = ap suc (rest hs)
-  where
-    rest : (hs : List HostQueue) → length (map (λ other. a.no_queue) hs) ≡ length hs
-    rest [] = refl
-    rest (x ∷ hs) = ap suc (rest hs)
+reset_length (x ∷ hs) = grind (arith, common_steps)
 
 pub reset_device_length : (ds : List DeviceQueue) → length (a.reset_device_queues ds) ≡ length ds
 reset_device_length [] = refl
-reset_device_length (x ∷ ds) = ap suc (rest ds)
-  where
-    rest : (ds : List DeviceQueue) → length (map (λ other. a.no_device_queue) ds) ≡ length ds
-    rest [] = refl
-    rest (x ∷ ds) = ap suc (rest ds)
+reset_device_length (x ∷ ds) = grind (arith, common_steps)
 
 -- the pages of the I/O queues leave them
 pub reset_halves : (p : ℕ) (hs : List HostQueue) → total (in_queue p) (a.reset_queues hs) + times p (a.io_pages hs) ≡ total (in_queue p) hs

@@ -2,7 +2,7 @@
 use Rattle.machine_model.specs.After as a
 use Rattle.machine_model.specs.Events as events
 use Rattle.std.proofs.Common.{◌≡◌, ℕ, zero, suc, ◌+◌, ◌<◌, Bool, true, false, ◌||◌, Some, List, [], find, slice_get, refl, ap, sym, ◌∙◌, arith, eq-eqb, ◌≤◌, ◌==◌, nat_lt, ◌&&◌, None, ◌∷◌, ◌++◌, length, map, is_some, if◌then◌else◌, subst, length-set, inl, inr}
-use Rattle.std.{proofs.lemmas.Bool.{not-true, cases_Bool}}
+use Rattle.std.{proofs.lemmas.Bool.{cases_Bool}}
 use Rattle.entry_codec.specs.declared.{completion.ComEntry.ComEntry, status.{Status.Status, TheConstants.Status.ABORTED_SQ_DELETION}}
 use Rattle.entry_codec.specs.declared.submission.SubEntry.{SubEntry}
 use Rattle.admin_commands.specs.{Entries.admin_entry, declared.AdminKind.{AdminKind, TheVariants.{DeleteSq, Abort, DeleteCq, CreateCq, CreateSq}}}
@@ -17,11 +17,12 @@ use Rattle.machine_model.specs.{After.change, Claims.{DeletionsFit, CreationsFit
 use Rattle.machine_model.specs.{Events.{Event, Reply, Reaped}, Memory.{with_pages, without_pages, zeroed_pages}, Opening.{opening, queues_from}}
 use Rattle.machine_model.specs.Placement.{without_numbers}
 use Rattle.machine_model.specs.Refusals.{is_asked, is_making_cq, is_making_sq, deletes_sq_of, creates_cq_of, creates_sq_of, slot_page, slot_offset, host_queue, refusal_of, is_submitted, has_sq, has_cq, is_drafted, is_held}
-use Rattle.machine_model.specs.State.{State, Host, HostQueue, HostState, Live, Record, is_at, Held, Drafted, Deleting, record_at, pages_of, with_record, without_record, outstanding_on, Phase}
+use Rattle.machine_model.specs.State.{State, Host, HostQueue, HostState, Live, Record, is_at, Held, Drafted, Deleting, record_at, pages_of, with_record, without_record, Phase}
 use Rattle.machine_model.specs.Step.{HostPart, host_part, IsController, IsNewIdentifier, times, reaped}
 use Rattle.page_ledger.specs.Owners.{is_among}
 use Rattle.io_commands.specs.{Asked.Request, Drafts.DraftContents, Jobs.is_success, Values.numbers_of}
 pub use Rattle.machine_model.proofs.Moves.{named, status_in}
+use Rattle.std.proofs.lemmas.Grind.{common_steps}
 
 -- One deletion of a queue's submission side is outstanding where the host waits for it, and one creation of a half where it waits for that: each event of the host keeps it so.
 
@@ -416,22 +417,12 @@ at_most s p h = omega (arith, taken_le p s.host.records, h.owner p, small (nat_l
 -- pages go out with a command that is then taken
 taken_out : (s : State) (pages : List ℕ) (records : List Record) → ((p : ℕ) → total (taken p) records ≡ total (taken p) s.host.records + times p pages)
     → Fits s → Taken (in_store (without_pages pages s.memory)) records
-taken_out s pages records more h p l =
-    let l' : p < length s.memory = omega (arith, length-in_store (without_pages pages s.memory), length-without_pages pages s.memory) in
-    elim (cases_Bool (is_among pages p)) [
-      | inl e ↦ out_same pages s.memory p e l' ∙ ap Some (sym (some_here _ (omega (arith, more p, held_once p pages e))))
-      | inr e ↦ out_other pages s.memory p e ∙ h p (omega (arith, l', length-in_store s.memory)) ∙ ap (λ n. Some (none n)) (omega (arith, more p, not_held p pages e))
-    ]
+taken_out s pages records more h p l = grind (arith, length-in_store, length-without_pages, out_same, some_here, held_once, out_other, not_held)
 
 -- pages come in with a command that was taken and no longer is
 brought_in : (s : State) (pages : List (ℕ × List ℕ)) (records : List Record) → ((p : ℕ) → total (taken p) records + times p (numbers_of pages) ≡ total (taken p) s.host.records)
     → HoldsPart (host_part s) → Fits s → Taken (in_store (with_pages pages s.memory)) records
-brought_in s pages records less holds h p l =
-    let l' : p < length s.memory = omega (arith, length-in_store (with_pages pages s.memory), length-with_pages pages s.memory) in
-    elim (cases_Bool (is_among (numbers_of pages) p)) [
-      | inl e ↦ in_same pages s.memory p e l' ∙ ap Some (sym (none_here _ (omega (arith, less p, held_once p (numbers_of pages) e, at_most s p holds))))
-      | inr e ↦ in_other pages s.memory p e ∙ h p (omega (arith, l', length-in_store s.memory)) ∙ ap (λ n. Some (none n)) (omega (arith, less p, not_held p (numbers_of pages) e))
-    ]
+brought_in s pages records less holds h p l = grind (arith, length-in_store, length-with_pages, in_same, none_here, held_once, at_most, in_other, not_held)
 
 -- free pages are in, and stay in as a half is granted
 zeroed_in : (s : State) (pages : List ℕ) → ((p : ℕ) → times p pages ≡ (if is_among pages p && is_among s.host.free p then 1 else 0)) → HoldsPart (host_part s) → Fits s → Taken (in_store (with_pages (zeroed_pages pages) s.memory)) s.host.records
@@ -461,9 +452,7 @@ reset_in s holds h p l =
     pages = a.admin_pages s.host.queues
 
     untaken : is_among pages p ≡ true → total (taken p) (a.reset_records s.host.records) ≡ 0
-    untaken e =
-        reset_taken p s.host.records holds.admins
-        ∙ omega (arith, taken_le p s.host.records, holds.owner p, held_once p pages e, admin_has p s.host.queues, small (nat_lt p (length (in_store s.memory))))
+    untaken e = grind (arith, reset_taken, taken_le, held_once, admin_has, small, in_store, common_steps)
 
 -- records change and the store doesn't
 same_taken : (s : State) (records : List Record) → ((p : ℕ) → total (taken p) records ≡ total (taken p) s.host.records) → Fits s → Taken (in_store s.memory) records

@@ -1,6 +1,6 @@
 -- What an event leaves, part by part.
 use Rattle.machine_model.specs.Events as events
-use Rattle.std.proofs.Common.{◌≡◌, ℕ, ◌+◌, ◌/◌, ◌%◌, ◌==◌, nat_lt, nat_le, Bool, true, false, not, ◌&&◌, ◌||◌, Option, Some, if◌then◌else◌, refl, map, sym, subst, arith, zero, suc, take, drop, None, List, [], ◌∷◌, length, is_some, slice_set, option_and_then, ap, ◌∙◌, length-set, ◌++◌, find, ap₂, nat_eq, inl, inr, MatchBool}
+use Rattle.std.proofs.Common.{◌≡◌, ℕ, ◌+◌, ◌/◌, ◌%◌, ◌==◌, nat_lt, nat_le, Bool, true, false, not, ◌&&◌, ◌||◌, Option, Some, if◌then◌else◌, refl, map, sym, subst, arith, zero, suc, take, drop, None, List, [], ◌∷◌, length, is_some, slice_set, option_and_then, ap, ◌∙◌, length-set, ◌++◌, find, ap₂, nat_eq, MatchBool}
 use Rattle.std.{proofs.lemmas.{Bool.{true≢false, not-false, or_parts, and_parts, ne_eqb}, List.map-append}, specs.Cmp.Lexicographic.{pointwise, same_text}}
 use Rattle.std.specs.{List.AllByRecursion, Option.option_map_or}
 use Rattle.entry_codec.specs.{Completion.completion_bytes}
@@ -14,7 +14,6 @@ use Rattle.admin_commands.specs.declared.SqState.TheVariants.{Stopping}
 use Rattle.io_commands.specs.{Asked.Request, Jobs.{is_success}, Values.numbers_of}
 use Rattle.page_memory.specs.{Pages.{Pages, page_at, with_page_bytes, with_bytes}, declared.page.Half.{Half, TheVariants.{Submission, Completion}}}
 use Rattle.queue_pair.specs.{Memory.half_pages}
-use Rattle.machine_model.proofs.Cases.{option_is}
 use Rattle.machine_model.specs.After.{acted, managed, decided, on_job, on_device, on_device_queue, stopped, dropped, completion_made, submission_made, sq_state, cq_there, walks, view_of, on_memory, after_fetch, after_walk, after_complete, answered, post_phase, taken_off, moved, deletion_done, after}
 use Rattle.machine_model.specs.{Events.{Event, Reply}, Linked.absent, Memory.{with_pages, without_pages}}
 use Rattle.machine_model.specs.Refusals.{host_queue, next_rung, conflicts, slot_page, slot_offset, post_slot, fetch_slot, causes, refusal_of, record_is, is_of, asks_for}
@@ -71,9 +70,7 @@ managed_by P e s m =
     view = view_of s e
 
     stopping : (e.opcode == DELETE_IO_SQ) ≡ true → Q (delete_sq_verdict q view)
-    stopping is0 =
-        by-if Q ((q == 0) || not (is_running (sq_state s q))) _ _ (λ w. m.refuses INVALID_QUEUE_IDENTIFIER refl)
-        (λ w. let parts = or_parts (q == 0) (not (is_running (sq_state s q))) w in m.stops is0 parts.0 (not-false (is_running (sq_state s q)) parts.1))
+    stopping is0 = grind (arith, by-if)
 
     dropping : (e.opcode == DELETE_IO_CQ) ≡ true → Q (delete_cq_verdict q view)
     dropping is4 =
@@ -211,10 +208,7 @@ same_lists xs ys h = same_text xs ys (sym h)
 
 -- the record that passes a test
 pub found : (test : Record → Bool) (s : State) (q cid : ℕ) → record_is test s q cid ≡ true → (r : Record) × (record_at s.host q cid ≡ Some r) × (test r ≡ true)
-found test s q cid h = elim (option_is (record_at s.host q cid)) [
-  | inl e ↦ let h = rw e at h in absurd (true≢false (sym h))
-  | inr (r, e) ↦ let h = rw e at h in (r, e, h)
-]
+found test s q cid h = grind arith
 
 pub pages_match : (phase : Phase → Bool) (request : Request) (bytes chain : List (ℕ × List ℕ)) (r : Record)
     → is_of phase request (numbers_of bytes) (numbers_of chain) r ≡ true → (numbers_of (bytes ++ chain) ≡ pages_of r) × (phase r.phase ≡ true)
@@ -228,11 +222,7 @@ pages_match phase request bytes chain r h =
 
 pub found_all : (P : Record → Type 0) (test : Record → Bool) (records : List Record) (r : Record) → find test records ≡ Some r → AllByRecursion P records → P r
 found_all P test [] r h all = absurd cc
-found_all P test (x ∷ records) r h all = go (test x) h (λ e. found_all P test records r e all.1)
-  where
-    go : (b : Bool) → (if b then Some x else find test records) ≡ Some r → (find test records ≡ Some r → P r) → P r
-    go true e ih = let same : x ≡ r = cc in subst P same all.0
-    go false e ih = ih e
+found_all P test (x ∷ records) r h all = grind (arith, found_all P test records r)
 
 -- What every step keeps, if each accepted event of the host does.
 

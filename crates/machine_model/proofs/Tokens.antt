@@ -1,12 +1,12 @@
 -- Places of commands, and tokens.
-use Rattle.std.proofs.Common.{◌≡◌, ℕ, ◌+◌, ◌<◌, ◌≤◌, ◌==◌, Bool, true, false, not, Some, List, [], ◌∷◌, ◌++◌, map, filter, find, if◌then◌else◌, refl, ap, sym, ◌∙◌, arith, subst, eqb-true, eq-eqb, inl, inr, ◌&&◌, Option, option_and_then}
-use Rattle.std.{proofs.lemmas.Bool.{true≢false, and_parts, cases_Bool}, specs.{List.AllByRecursion, Option.option_map_or}}
+use Rattle.std.proofs.Common.{◌≡◌, ℕ, ◌+◌, ◌<◌, ◌≤◌, ◌==◌, Bool, true, false, not, Some, List, [], ◌∷◌, ◌++◌, map, filter, find, refl, ap, sym, ◌∙◌, arith, eqb-true, eq-eqb, inl, inr, ◌&&◌}
+use Rattle.std.{proofs.lemmas.Bool.{true≢false, and_parts, cases_Bool}, specs.{List.AllByRecursion}}
 use Rattle.admin_commands.specs.{Entries.{admin_entry, named_queue}, declared.AdminKind.AdminKind}
 use Rattle.entry_codec.specs.declared.{admin_opcode.TheConstants.{DELETE_IO_SQ, DELETE_IO_CQ, CREATE_IO_CQ, CREATE_IO_SQ}, status.Status.Status}
 use Rattle.entry_codec.specs.declared.submission.SubEntry.{SubEntry}
 use Rattle.io_commands.specs.Jobs.{is_success}
-use Rattle.machine_model.proofs.{Cases.option_is, Counting.{one, total, total-append, total_without, total-filter, here}}
-use Rattle.machine_model.specs.{Commands.{Management, Work, Io}, State.{Record, Job, Answer, is_at, without_record}}
+use Rattle.machine_model.proofs.{Counting.{one, total, total-append, total_without, total-filter, here}}
+use Rattle.machine_model.specs.{Commands.{Management}, State.{Record, Job, Answer, is_at, without_record}}
 pub use Rattle.machine_model.specs.Refusals.{is_job}
 pub use Rattle.machine_model.specs.Agreeing.{is_absent_at as gone_at, has_completions_at as there_at, Knows, DeletesIo, EntryKnown, JobKnown, AnswerKnown, entry_is, job_is, answer_is, AdminCommandsStand as Placed, kind_of, kind_at, is_kind, succeeds, unmade, answered_well, done_well, deletes_sq, deletes_cq, creates_cq, creates_sq}
 
@@ -147,11 +147,7 @@ find_sound test (y ∷ xs) x e = grind (arith, find_sound test xs x)
 
 pub find_all : {A : Type 0} (P : A → Type 0) (test : A → Bool) (xs : List A) (x : A) → find test xs ≡ Some x → AllByRecursion P xs → P x
 find_all P test [] x e all = absurd cc
-find_all P test (y ∷ xs) x e all = go (test y) e (λ d. find_all P test xs x d all.1)
-  where
-    go : (b : Bool) → (if b then Some y else find test xs) ≡ Some x → (find test xs ≡ Some x → P x) → P x
-    go true e ih = let same : y ≡ x = cc in subst P same all.0
-    go false e ih = ih e
+find_all P test (y ∷ xs) x e all = grind (arith, find_all P test xs x)
 
 all-filter : {A : Type 0} (P : A → Type 0) (keep : A → Bool) (xs : List A) → AllByRecursion P xs → AllByRecursion P (filter keep xs)
 all-filter P keep [] all = tt
@@ -260,14 +256,7 @@ kind_known test rs c adm k = grind arith
 
 -- what an identifier's command is for, if it passes
 pub kind_found : (test : AdminKind → Bool) (rs : List Record) (c : ℕ) → is_kind test rs c ≡ true → (adm : AdminKind) × Knows rs c adm × (test adm ≡ true)
-kind_found test rs c h = elim (option_is (find (is_at 0 c) rs)) [
-  | inl e ↦ let t = rw e at h in absurd (true≢false (sym t))
-  | inr (r, e) ↦ let t = rw e at h in of r e r.work refl t
-]
-  where
-    of : (r : Record) → find (is_at 0 c) rs ≡ Some r → (w : Work) → r.work ≡ w → option_map_or test (kind_of w) false ≡ true → (adm : AdminKind) × Knows rs c adm × (test adm ≡ true)
-    of r e (Io request) is t = absurd (true≢false (sym t))
-    of r e (Management adm) is t = (adm, (r, e, is), t)
+kind_found test rs c h = grind arith
 
 -- what an entry's opcode and queue say of it
 pub names_sq_deletion : (q c : ℕ) (adm : AdminKind) → deletes_sq q adm ≡ (((admin_entry adm c).opcode == DELETE_IO_SQ) && (named_queue (admin_entry adm c) == q))
@@ -346,7 +335,4 @@ found_back q cid c [] r far e = absurd cc
 found_back q cid c (x ∷ rs) r far e = grind (arith, found_back q cid c rs r far)
 
 pub knows_back : (q cid : ℕ) (rs : List Record) (c : ℕ) (adm : AdminKind) → Knows (without_record q cid rs) c adm → Knows rs c adm
-knows_back q cid rs c adm k = (k.0, found_back q cid c rs k.0 far k.1, k.2)
-  where
-    far : (x : Record) → is_at q cid x ≡ true → is_at 0 c x ≡ true → ⊥
-    far x t u = grind (arith, find_sound, eqb-true, true, eq-eqb, without_other)
+knows_back q cid rs c adm k = grind (arith, found_back, find_sound, eqb-true, eq-eqb, without_other)

@@ -1,6 +1,6 @@
 -- Tokens from step to step.
 use Rattle.machine_model.specs.After as a
-use Rattle.std.proofs.Common.{◌≡◌, ℕ, zero, suc, ◌+◌, ◌<◌, ◌≤◌, ◌==◌, Bool, true, false, not, ◌&&◌, Option, Some, None, List, [], ◌∷◌, ◌++◌, length, slice_get, refl, ap, sym, ◌∙◌, arith, subst, eqb-true, eq-eqb, ◌-◌, map, if◌then◌else◌}
+use Rattle.std.proofs.Common.{◌≡◌, ℕ, zero, suc, ◌+◌, ◌<◌, ◌≤◌, ◌==◌, Bool, true, false, not, ◌&&◌, Option, Some, None, List, [], ◌∷◌, ◌++◌, length, slice_get, refl, ap, sym, ◌∙◌, arith, subst, eqb-true, eq-eqb, ◌-◌, map}
 use Rattle.std.{proofs.lemmas.Bool.{true≢false, eqb-false}, specs.{List.AllByRecursion, Option.option_map_or}}
 use Rattle.admin_commands.specs.{Entries.named_queue, Verdicts.is_absent, declared.AdminKind.AdminKind}
 use Rattle.entry_codec.specs.declared.{admin_opcode.TheConstants.{DELETE_IO_CQ, CREATE_IO_CQ, CREATE_IO_SQ}, status.Status.Status}
@@ -9,7 +9,7 @@ use Rattle.io_commands.specs.{Asked.Request, Jobs.is_success}
 use Rattle.machine_model.proofs.{Counting.{one, total-append, total, get_changed, get_other}, Owned.lost_by, Sound.small}
 use Rattle.machine_model.proofs.Tokens.{gone_at, there_at, Named, Fewer, is_kind, succeeds, unmade, answered_well, done_well, deletes_sq, deletes_cq, creates_cq, creates_sq, failing, succeeding}
 use Rattle.machine_model.specs.After.{change, dropped, completion_made, submission_made}
-use Rattle.machine_model.specs.Agreeing.{TokensGoRound, knows_deleted_at, is_gone_at, is_live_at, waiting, answering, QueuesFit, is_absent_at, has_completions_at, answers_at, is_out_of_service_at, CommandsStandOnce, AreHeadsBehind, IsHeadBehind, sent_count}
+use Rattle.machine_model.specs.Agreeing.{TokensGoRound, knows_deleted_at, is_gone_at, is_live_at, waiting, answering, QueuesFit, is_absent_at, has_completions_at, answers_at, CommandsStandOnce, AreHeadsBehind, IsHeadBehind, sent_count}
 use Rattle.machine_model.specs.{Claims.AdminLives, Commands.{Work, Io, Management}, Refusals.{is_live, in_service, is_submitted, has_sq, has_cq}}
 use Rattle.machine_model.specs.Standing.{CommandStands, StandsAs, IsSized, unfetched_at}
 use Rattle.machine_model.specs.State.{HostQueue, DeviceQueue, Record, Job, Answer, HostState, Live, Held}
@@ -317,11 +317,7 @@ reset_command m ds js r sized =
     (λ request w. let is = sized request w in record { fits = is.fits; good = is.good; pages = is.pages }))
 
 pub reset_places : (hs : List HostQueue) (rs : List Record) (ds : List DeviceQueue) → CommandsStandOnce hs rs (a.reset_device_queues ds) []
-reset_places hs rs ds q w = omega (arith, unfetched (is_out_of_service_at hs q), ap (λ ans. total (λ an. w an.cid) ans) (no_answers_at ds q))
-  where
-    unfetched : (b : Bool) → (if b then 0 else total (λ e. w e.cid) (unfetched_at (a.reset_device_queues ds) q)) ≡ 0
-    unfetched true = refl
-    unfetched false = ap (λ un. total (λ e. w e.cid) un) (no_unfetched ds q)
+reset_places hs rs ds q w = grind (arith, total, no_answers_at, no_unfetched)
 
 -- Heads
 
