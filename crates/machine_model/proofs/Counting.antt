@@ -1,7 +1,7 @@
 -- Claims are counted.
-use Rattle.std.proofs.Common.{◌≡◌, ℕ, zero, suc, Bool, true, Some, List, [], ◌∷◌, find, slice_get, refl, ap, subst, inl, inr, ◌+◌, ◌<◌, ◌≤◌, ◌==◌, nat_lt, false, not, ◌&&◌, ◌||◌, ◌++◌, length, filter, if◌then◌else◌, sym, ◌∙◌, arith, eqb-true, eq-eqb, ltb-true, ltb-false, lt-ltb, le-ltb, map}
-use Rattle.std.{proofs.lemmas.Bool.{cases_Bool, eqb-false, true≢false, and_parts}, specs.List.{AllByRecursion, list_all}}
-use Rattle.machine_model.specs.{After.{change, joined_in_order}, Memory.zeroed_pages, Placement.{without_numbers, is_run, first_of_run}}
+use Rattle.std.proofs.Common.{◌≡◌, ℕ, zero, suc, Bool, true, Some, List, [], ◌∷◌, find, slice_get, refl, ap, subst, ◌+◌, ◌<◌, ◌≤◌, ◌==◌, nat_lt, false, not, ◌&&◌, ◌++◌, length, filter, if◌then◌else◌, sym, ◌∙◌, arith, eqb-true, eq-eqb, lt-ltb, le-ltb, map}
+use Rattle.std.{proofs.lemmas.Bool.{true≢false}, specs.List.{AllByRecursion, list_all}}
+use Rattle.machine_model.specs.{After.{change, joined_in_order}, Memory.zeroed_pages, Placement.{without_numbers, first_of_run}}
 use Rattle.machine_model.specs.{State.{Record, is_at, without_record, with_record}, Step.times}
 use Rattle.page_ledger.{proofs.Pages.pages_from-suc, specs.Owners.{is_among, pages_from}}
 use Rattle.io_commands.specs.Values.{numbers_of}
@@ -12,10 +12,7 @@ pub use Rattle.machine_model.specs.Weights.{one, total, here}
 -- what is found passes the test
 pub find_sound : {A : Type 0} (test : A → Bool) (xs : List A) (x : A) → find test xs ≡ Some x → test x ≡ true
 find_sound test [] x e = absurd cc
-find_sound test (y ∷ xs) x e = elim (cases_Bool (test y)) [
-  | inl t ↦ let e = rw t at e in let same : y ≡ x = cc in subst (λ z. test z ≡ true) same t
-  | inr t ↦ let e = rw t at e in let ih = find_sound test xs x in ih e
-]
+find_sound test (y ∷ xs) x e = grind (arith, find_sound test xs x, true)
 
 pub all_at : {A : Type 0} (P : A → Type 0) (xs : List A) (k : ℕ) (x : A) → slice_get xs k ≡ Some x → AllByRecursion P xs → P x
 all_at P [] k x e h = absurd cc
@@ -34,11 +31,9 @@ get_changed zero f (y ∷ xs) x e = let same : y ≡ x = cc in ap (λ z. Some (f
 get_changed (suc k) f (y ∷ xs) x e = get_changed k f xs x e
 
 pub get_other : {A : Type 0} (k : ℕ) (f : A → A) (xs : List A) (q : ℕ) → (k ≡ q → ⊥) → slice_get (change k f xs) q ≡ slice_get xs q
-get_other k f [] q far = refl
 get_other zero f (y ∷ xs) zero far = absurd (far refl)
-get_other zero f (y ∷ xs) (suc q) far = refl
-get_other (suc k) f (y ∷ xs) zero far = refl
 get_other (suc k) f (y ∷ xs) (suc q) far = get_other k f xs q (λ e. far (ap suc e))
+get_other k f xs q far = refl
 
 -- How often a number stands in a list.
 
@@ -52,25 +47,10 @@ pub times-append : (p : ℕ) (xs ys : List ℕ) → times p (xs ++ ys) ≡ times
 times-append p [] ys = omega arith
 times-append p (x ∷ xs) ys = omega (arith, times-cons p x (xs ++ ys), times-cons p x xs, times-append p xs ys)
 
-times_here : (p x : ℕ) (xs : List ℕ) → (x == p) ≡ true → times p (x ∷ xs) ≡ 1 + times p xs
-times_here p x xs e = rw e refl
-
-times_there : (p x : ℕ) (xs : List ℕ) → (x == p) ≡ false → times p (x ∷ xs) ≡ times p xs
-times_there p x xs e = rw e refl
-
 -- a filter keeps a number everywhere or nowhere
 kept : (p x : ℕ) (f : ℕ → Bool) (xs : List ℕ) (b e : Bool) → f x ≡ b → (x == p) ≡ e → times p (filter f xs) ≡ (if f p then times p xs else 0)
     → times p (if b then x ∷ filter f xs else filter f xs) ≡ (if f p then times p (x ∷ xs) else 0)
-kept p x f xs true true fb xe ih =
-    let fp : f p ≡ true = ap f (sym (eqb-true x p xe)) ∙ fb in
-    let ih' : times p (filter f xs) ≡ times p xs = rw fp at ih in
-    rw (fp, xe) (ap (λ n. 1 + n) ih')
-kept p x f xs false true fb xe ih =
-    let fp : f p ≡ false = ap f (sym (eqb-true x p xe)) ∙ fb in
-    let ih' : times p (filter f xs) ≡ 0 = rw fp at ih in
-    rw fp ih'
-kept p x f xs true false fb xe ih = rw xe ih
-kept p x f xs false false fb xe ih = rw xe ih
+kept p x f xs b e fb xe ih = grind arith
 
 pub times-filter : (p : ℕ) (f : ℕ → Bool) (xs : List ℕ) → times p (filter f xs) ≡ (if f p then times p xs else 0)
 times-filter p f [] = grind arith
@@ -85,116 +65,44 @@ pub not_held : (p : ℕ) (xs : List ℕ) → is_among xs p ≡ false → times p
 not_held p [] h = refl
 not_held p (x ∷ xs) h = grind (arith, not_held p xs)
 
-pub none_below : (p : ℕ) → one (nat_lt p 0) ≡ 0
-none_below p = ap one (le-ltb p 0 (omega arith))
+times_here : (p x : ℕ) (xs : List ℕ) → (x == p) ≡ true → times p (x ∷ xs) ≡ 1 + times p xs
+times_here p x xs e = rw e refl
+
+times_there : (p x : ℕ) (xs : List ℕ) → (x == p) ≡ false → times p (x ∷ xs) ≡ times p xs
+times_there p x xs e = rw e refl
 
 pub times-pages : (p count : ℕ) → times p (pages_from 0 count) ≡ one (nat_lt p count)
-times-pages p zero = sym (none_below p)
+times-pages p zero = sym (ap one (le-ltb p 0 (omega arith)))
 times-pages p (suc n) = ap (times p) (pages_from-suc 0 n ∙ ap (λ (q : ℕ). pages_from 0 n ++ q ∷ []) (omega arith)) ∙ go (n == p) refl (times-pages p n)
   where
     go : (b : Bool) → (n == p) ≡ b → times p (pages_from 0 n) ≡ one (nat_lt p n) → times p (pages_from 0 n ++ n ∷ []) ≡ one (nat_lt p (suc n))
-    go true e ih =
-        let h : n ≡ p = eqb-true n p e in
-        let l : nat_lt p n ≡ false = le-ltb p n (omega arith) in
-        let m : nat_lt p (suc n) ≡ true = lt-ltb p (suc n) (omega arith) in
-        let t : times p (pages_from 0 n) ≡ 0 = ih ∙ ap one l in
-        rw m (omega (arith, times-append p (pages_from 0 n) (n ∷ []), times_here p n [] e))
-    go false e ih =
-        let a : times p (pages_from 0 n ++ n ∷ []) ≡ times p (pages_from 0 n) = omega (arith, times-append p (pages_from 0 n) (n ∷ []), times_there p n [] e) in
-        a ∙ ih ∙ ap one (same (nat_lt p n) refl)
-      where
-        same : (b : Bool) → nat_lt p n ≡ b → nat_lt p n ≡ nat_lt p (suc n)
-        same true l = l ∙ sym (lt-ltb p (suc n) (omega (arith, ltb-true p n l)))
-        same false l =
-            let far : n ≡ p → ⊥ = eqb-false n p e in
-            let le : n ≤ p = ltb-false p n l in
-            l ∙ sym (le-ltb p (suc n) (omega (arith, far)))
+    go true e ih = grind (arith, eqb-true, le-ltb, lt-ltb, times-append, times_here)
+    go false e ih = grind (arith, times-append, times_there)
 
 -- what is granted goes from the free numbers
 pub times_granted : (p : ℕ) (pages free : List ℕ) → times p pages ≡ (if is_among pages p && is_among free p then 1 else 0) → times p free ≤ 1
     → times p (without_numbers pages free) + times p pages ≡ times p free
-times_granted p pages free are few = go (is_among pages p) (is_among free p) refl refl
-  where
-    go : (b f : Bool) → is_among pages p ≡ b → is_among free p ≡ f → times p (without_numbers pages free) + times p pages ≡ times p free
-    go true true eb ef =
-        let one' : times p pages ≡ 1 = rw (eb, ef) at are in
-        let left : times p (without_numbers pages free) ≡ 0 = rw eb at (times-filter p (λ x. not (is_among pages x)) free) in
-        omega (arith, held_once p free ef)
-    go true false eb ef =
-        let one' : times p pages ≡ 0 = rw (eb, ef) at are in
-        let left : times p (without_numbers pages free) ≡ 0 = rw eb at (times-filter p (λ x. not (is_among pages x)) free) in
-        omega (arith, not_held p free ef)
-    go false f eb ef =
-        let left : times p (without_numbers pages free) ≡ times p free = rw eb at (times-filter p (λ x. not (is_among pages x)) free) in
-        omega (arith, not_held p pages eb)
+times_granted p pages free are few = grind (arith, true, times-filter, held_once, false, not_held)
 
 -- what comes back joins them
 pub times_joined : (p count : ℕ) (pages free : List ℕ) → times p free + times p pages ≤ one (nat_lt p count)
     → times p (joined_in_order count pages free) ≡ times p free + times p pages
-times_joined p count pages free few = go (is_among free p) (is_among pages p) (nat_lt p count) refl refl refl
-  where
-    whole : times p (joined_in_order count pages free) ≡ (if is_among free p || is_among pages p then times p (pages_from 0 count) else 0)
-    whole = times-filter p (λ x. is_among free x || is_among pages x) (pages_from 0 count)
-
-    go : (f b l : Bool) → is_among free p ≡ f → is_among pages p ≡ b → nat_lt p count ≡ l
-        → times p (joined_in_order count pages free) ≡ times p free + times p pages
-    go f b false ef eb el =
-        let few' : times p free + times p pages ≤ 0 = rw el at few in
-        let u : times p (pages_from 0 count) ≡ 0 = rw el at (times-pages p count) in
-        whole ∙ none (is_among free p || is_among pages p) u ∙ omega arith
-      where
-        none : (c : Bool) → times p (pages_from 0 count) ≡ 0 → (if c then times p (pages_from 0 count) else 0) ≡ 0
-        none c u = grind arith
-    go true b true ef eb el =
-        let few' : times p free + times p pages ≤ 1 = rw el at few in
-        let u : times p (pages_from 0 count) ≡ 1 = rw el at (times-pages p count) in
-        let w : times p (joined_in_order count pages free) ≡ times p (pages_from 0 count) = rw ef at whole in
-        omega (arith, held_once p free ef)
-    go false true true ef eb el =
-        let few' : times p free + times p pages ≤ 1 = rw el at few in
-        let u : times p (pages_from 0 count) ≡ 1 = rw el at (times-pages p count) in
-        let w : times p (joined_in_order count pages free) ≡ times p (pages_from 0 count) = rw (ef, eb) at whole in
-        omega (arith, held_once p pages eb)
-    go false false true ef eb el =
-        let w : times p (joined_in_order count pages free) ≡ 0 = rw (ef, eb) at whole in
-        omega (arith, not_held p free ef, not_held p pages eb)
+times_joined p count pages free few = grind (arith, nat_lt, times-filter, false, times-pages, true, held_once, not_held)
 
 -- numbers that are those below a bound, each once, are as many
 pub length_of_all : (count : ℕ) (xs : List ℕ) → ((p : ℕ) → times p xs ≡ one (nat_lt p count)) → length xs ≡ count
 length_of_all zero [] h = refl
-length_of_all zero (x ∷ xs) h = absurd (let e = h x ∙ none_below x in let t = times_here x x xs (eq-eqb x x refl) in omega arith)
-length_of_all (suc n) xs h = omega (arith, cut, each (length_of_all n (filter (λ x. not (x == n)) xs)))
+length_of_all zero (x ∷ xs) h = absurd (let e = h x ∙ (ap one (le-ltb x 0 (omega arith))) in let t = times_here x x xs (eq-eqb x x refl) in omega arith)
+length_of_all (suc n) xs h =
+    let cut : length (filter (λ x. not (x == n)) xs) + 1 ≡ length xs = let l : nat_lt n (suc n) ≡ true = lt-ltb n (suc n) (omega arith) in omega (arith, length_cut n xs, h n ∙ ap one l) in
+    omega (arith, cut, each (length_of_all n (filter (λ x. not (x == n)) xs)))
   where
     length_cut : (n : ℕ) (ys : List ℕ) → length (filter (λ x. not (x == n)) ys) + times n ys ≡ length ys
     length_cut n [] = refl
-    length_cut n (y ∷ ys) = step (y == n) (length_cut n ys)
-      where
-        step : (b : Bool) → length (filter (λ x. not (x == n)) ys) + times n ys ≡ length ys
-            → length (if not b then y ∷ filter (λ x. not (x == n)) ys else filter (λ x. not (x == n)) ys) + (if b then 1 + times n ys else times n ys) ≡ suc (length ys)
-        step b e = grind arith
-
-    cut : length (filter (λ x. not (x == n)) xs) + 1 ≡ length xs
-    cut = let l : nat_lt n (suc n) ≡ true = lt-ltb n (suc n) (omega arith) in omega (arith, length_cut n xs, h n ∙ ap one l)
+    length_cut n (y ∷ ys) = grind (arith, length_cut n ys)
 
     each : (((p : ℕ) → times p (filter (λ x. not (x == n)) xs) ≡ one (nat_lt p n)) → length (filter (λ x. not (x == n)) xs) ≡ n) → length (filter (λ x. not (x == n)) xs) ≡ n
-    each go = go (λ p. at p (p == n) refl)
-      where
-        at : (p : ℕ) (b : Bool) → (p == n) ≡ b → times p (filter (λ x. not (x == n)) xs) ≡ one (nat_lt p n)
-        at p true e =
-            let eq : p ≡ n = eqb-true p n e in
-            let l : nat_lt p n ≡ false = le-ltb p n (omega arith) in
-            let w : times p (filter (λ x. not (x == n)) xs) ≡ 0 = rw e at (times-filter p (λ x. not (x == n)) xs) in
-            w ∙ ap one (sym l)
-        at p false e =
-            let w : times p (filter (λ x. not (x == n)) xs) ≡ times p xs = rw e at (times-filter p (λ x. not (x == n)) xs) in
-            w ∙ h p ∙ ap one (more (nat_lt p n) refl)
-          where
-            more : (b : Bool) → nat_lt p n ≡ b → nat_lt p (suc n) ≡ nat_lt p n
-            more true l = lt-ltb p (suc n) (omega (arith, ltb-true p n l)) ∙ sym l
-            more false l =
-                let far : p ≡ n → ⊥ = eqb-false p n e in
-                let le : n ≤ p = ltb-false p n l in
-                le-ltb p (suc n) (omega (arith, far)) ∙ sym l
+    each go = grind (arith, filter, nat_lt, true, eqb-true, false, le-ltb, times-filter)
 
 -- Sums over the records of a host.
 
@@ -208,29 +116,16 @@ total-map w f same (x ∷ xs) = omega (arith, same x, total-map w f same xs)
 
 pub times-outstanding : (cid q : ℕ) (records : List Record) → times cid (map (λ r. r.cid) (filter (λ r. r.q == q) records)) ≡ total (here q cid) records
 times-outstanding cid q [] = refl
-times-outstanding cid q (r ∷ records) = go (r.q == q) (times-outstanding cid q records)
-  where
-    go : (b : Bool) → times cid (map (λ r. r.cid) (filter (λ r. r.q == q) records)) ≡ total (here q cid) records
-        → times cid (map (λ r. r.cid) (if b then r ∷ filter (λ r. r.q == q) records else filter (λ r. r.q == q) records)) ≡ one (b && (r.cid == cid)) + total (here q cid) records
-    go true ih = times-cons cid r.cid (map (λ r. r.cid) (filter (λ r. r.q == q) records)) ∙ ap (λ n. one (r.cid == cid) + n) ih
-    go false ih = omega (arith, ih)
+times-outstanding cid q (r ∷ records) = grind (arith, times-outstanding cid q records)
 
 -- where none is there, nothing is changed or left out
 none_without : (q cid : ℕ) (records : List Record) → total (here q cid) records ≡ 0 → without_record q cid records ≡ records
 none_without q cid [] none = refl
-none_without q cid (r ∷ records) none = go (is_at q cid r) refl (none_without q cid records)
-  where
-    go : (b : Bool) → is_at q cid r ≡ b → (total (here q cid) records ≡ 0 → without_record q cid records ≡ records) → without_record q cid (r ∷ records) ≡ r ∷ records
-    go true e ih = let h = rw e at none in absurd (omega arith)
-    go false e ih = let h : 0 + total (here q cid) records ≡ 0 = rw e at none in rw e (ap (λ rs. r ∷ rs) (ih (omega arith)))
+none_without q cid (r ∷ records) none = grind (arith, none_without q cid records)
 
 none_with : (q cid : ℕ) (f : Record → Record) (records : List Record) → total (here q cid) records ≡ 0 → with_record q cid f records ≡ records
 none_with q cid f [] none = refl
-none_with q cid f (r ∷ records) none = go (is_at q cid r) refl (none_with q cid f records)
-  where
-    go : (b : Bool) → is_at q cid r ≡ b → (total (here q cid) records ≡ 0 → with_record q cid f records ≡ records) → with_record q cid f (r ∷ records) ≡ r ∷ records
-    go true e ih = let h = rw e at none in absurd (omega arith)
-    go false e ih = let h : 0 + total (here q cid) records ≡ 0 = rw e at none in rw e (ap (λ rs. r ∷ rs) (ih (omega arith)))
+none_with q cid f (r ∷ records) none = grind (arith, none_with q cid f records)
 
 some_is : {A : Type 0} {x y : A} → Some x ≡ Some y → x ≡ y
 some_is e = cc
@@ -239,34 +134,12 @@ some_is e = cc
 pub total_without : (w : Record → ℕ) (q cid : ℕ) (records : List Record) (r : Record) → find (is_at q cid) records ≡ Some r → total (here q cid) records < 2
     → total w (without_record q cid records) + w r ≡ total w records
 total_without w q cid [] r found once = absurd cc
-total_without w q cid (x ∷ records) r found once = elim (cases_Bool (is_at q cid x)) [
-  | inl e ↦
-      let same : x ≡ r = some_is (rw e at found) in
-      let few : 1 + total (here q cid) records < 2 = rw e at once in
-      let rest : total w (without_record q cid records) ≡ total w records = ap (total w) (none_without q cid records (omega arith)) in
-      rw e (omega (arith, rest, ap w same))
-  | inr e ↦
-      let ih = total_without w q cid records r in
-      let few : 0 + total (here q cid) records < 2 = rw e at once in
-      let rest = ih (rw e at found) (omega arith) in
-      rw e (omega arith)
-]
+total_without w q cid (x ∷ records) r found once = grind (arith, total_without w q cid records r, some_is, none_without)
 
 pub total_with : (w : Record → ℕ) (q cid : ℕ) (f : Record → Record) (records : List Record) (r : Record) → find (is_at q cid) records ≡ Some r → total (here q cid) records < 2
     → total w (with_record q cid f records) + w r ≡ total w records + w (f r)
 total_with w q cid f [] r found once = absurd cc
-total_with w q cid f (x ∷ records) r found once = elim (cases_Bool (is_at q cid x)) [
-  | inl e ↦
-      let same : x ≡ r = some_is (rw e at found) in
-      let few : 1 + total (here q cid) records < 2 = rw e at once in
-      let rest : total w (with_record q cid f records) ≡ total w records = ap (total w) (none_with q cid f records (omega arith)) in
-      rw e (omega (arith, rest, ap w same, ap (λ y. w (f y)) same))
-  | inr e ↦
-      let ih = total_with w q cid f records r in
-      let few : 0 + total (here q cid) records < 2 = rw e at once in
-      let rest = ih (rw e at found) (omega arith) in
-      rw e (omega arith)
-]
+total_with w q cid f (x ∷ records) r found once = grind (arith, total_with w q cid f records r, some_is, none_with)
 
 -- a filter lessens a sum
 pub total-filter : {A : Type 0} (w : A → ℕ) (f : A → Bool) (xs : List A) → total w (filter f xs) ≤ total w xs
@@ -281,9 +154,7 @@ total-change_same w f same (suc k) (x ∷ xs) = ap (λ n. w x + n) (total-change
 
 pub total-change : {A : Type 0} (w : A → ℕ) (f : A → A) (k : ℕ) (xs : List A) (x : A) → slice_get xs k ≡ Some x → total w (change k f xs) + w x ≡ total w xs + w (f x)
 total-change w f k [] x e = absurd cc
-total-change w f zero (y ∷ xs) x e =
-    let same : y ≡ x = some_is e in
-    omega (arith, ap w same, ap (λ z. w (f z)) same)
+total-change w f zero (y ∷ xs) x e = grind (arith, some_is)
 total-change w f (suc k) (y ∷ xs) x e = omega (arith, total-change w f k xs x e)
 
 -- Runs of free pages: each page of a run is free and stands in it once.
@@ -291,37 +162,20 @@ total-change w f (suc k) (y ∷ xs) x e = omega (arith, total-change w f k xs x 
 -- none of them stands twice
 none_before : (p first count : ℕ) → p < first → times p (pages_from first count) ≡ 0
 none_before p first zero l = refl
-none_before p first (suc count) l = omega (arith, times-cons p first (pages_from (first + 1) count), differ (first == p) refl, none_before p (first + 1) count (omega (arith, l)))
-  where
-    differ : (b : Bool) → (first == p) ≡ b → one (first == p) ≡ 0
-    differ b e = grind arith
+none_before p first (suc count) l = grind (arith, none_before p (first + 1) count, times-cons)
 
 pub once_in_run : (p first count : ℕ) → times p (pages_from first count) ≤ 1
 once_in_run p first zero = omega arith
-once_in_run p first (suc count) = elim (cases_Bool (first == p)) [
-  | inl e ↦
-      let same = eqb-true first p e in
-      omega (arith, times-cons p first (pages_from (first + 1) count), ap one e, none_before p (first + 1) count (omega (arith, same)))
-  | inr e ↦ let ih = once_in_run p (first + 1) count in omega (arith, times-cons p first (pages_from (first + 1) count), ap one e, ih)
-]
+once_in_run p first (suc count) = grind (arith, once_in_run p (first + 1) count, eqb-true, times-cons, none_before)
 
 pub all_among : (pages free : List ℕ) (p : ℕ) → list_all (is_among free) pages ≡ true → is_among pages p ≡ true → is_among free p ≡ true
 all_among [] free p all h = absurd (true≢false (sym h))
-all_among (x ∷ pages) free p all h = elim (cases_Bool (x == p)) [
-  | inl e ↦ ap (is_among free) (sym (eqb-true x p e)) ∙ parts.0
-  | inr e ↦ let ih = all_among pages free p parts.1 in ih (rw e at h)
-]
-  where
-    parts : (is_among free x ≡ true) × (list_all (is_among free) pages ≡ true)
-    parts = and_parts (is_among free x) (list_all (is_among free) pages) all
+all_among (x ∷ pages) free p all h = grind (arith, all_among pages free p, eqb-true)
 
 -- the lowest run of free pages takes free pages, each once
 pub run_times : (free : List ℕ) (count first : ℕ) → first_of_run free count ≡ Some first → (p : ℕ)
     → times p (pages_from first count) ≡ (if is_among (pages_from first count) p && is_among free p then 1 else 0)
-run_times free count first is p = elim (cases_Bool (is_among (pages_from first count) p)) [
-  | inl e ↦ rw e (rw (all_among (pages_from first count) free p (find_sound (is_run free count) free first is) e) (let some = held_once p (pages_from first count) e in omega (arith, some, once_in_run p first count)))
-  | inr e ↦ rw e (not_held p (pages_from first count) e)
-]
+run_times free count first is p = grind (arith, all_among, find_sound, held_once, once_in_run, not_held)
 
 -- pages of zeros have the numbers that they were made with
 pub zeroed_numbers : (pages : List ℕ) → numbers_of (zeroed_pages pages) ≡ pages

@@ -1,30 +1,29 @@
 -- The headline of a state.
-use Rattle.std.proofs.Common.{◌≡◌, ℕ, zero, suc, ◌+◌, ◌≤◌, ◌==◌, Bool, true, false, not, Option, Some, None, List, [], ◌∷◌, ◌++◌, length, take, filter, if◌then◌else◌, refl, ap, ◌∙◌, arith, eqb-true, eq-eqb, inl, inr, ◌-◌, ◌*◌, ◌<◌, nat_lt, ltb-false, nat_le, leb-true, ◌&&◌, drop, replicate, slice_get, ap₂, sym, zero-mul, zero-add, map, flat_map, sum_by, length-append, subst}
-use Rattle.std.{proofs.lemmas.{Bool.{cases_Bool, not-false, and_parts}, List.{length-replicate, Sums.sum_by-cons}}, specs.Option.option_map_or}
-use Rattle.machine_model.proofs.Cases.{option_is}
+use Rattle.std.proofs.Common.{◌≡◌, ℕ, zero, suc, ◌+◌, ◌≤◌, ◌==◌, true, not, Some, List, [], ◌∷◌, ◌++◌, length, take, filter, refl, ap, ◌∙◌, arith, eqb-true, eq-eqb, ◌-◌, ◌*◌, ◌<◌, nat_lt, ltb-false, nat_le, leb-true, ◌&&◌, drop, replicate, slice_get, ap₂, sym, zero-mul, zero-add, map, flat_map, sum_by, length-append, subst}
+use Rattle.std.{proofs.lemmas.{Bool.{and_parts}, List.{length-replicate, Sums.sum_by-cons}}}
 use Rattle.machine_model.proofs.Counting.{one, times-cons, times-append, times-filter, held_once, not_held, times-pages, length_of_all, find_sound, once_in_run, all_among, total}
 use Rattle.machine_model.proofs.Kept.{bare_at_opening, halves_at_opening, zero_opened}
 use Rattle.machine_model.proofs.Owned.{in_queue, HoldsPart, holds_from_sound, owners_from_holds, identifiers_from_holds, Taken, out_from_taken, taken_from_out}
 use Rattle.machine_model.proofs.Sound.{deletions_at_opening, creations_at_opening, Both, both_events}
 use Rattle.machine_model.proofs.Steps.{first_fails, rest_fails, in_store, length-in_store, each_step, each_run}
 use Rattle.machine_model.specs.Claims.{each_step_keeps, every_run_is_sound, every_run_takes_out, counts_add_up, claimed, claims_of, claims_of_queues, claims_of_record, IsSound, HasOneOwner, counts_of}
-use Rattle.machine_model.specs.Opening.{opening, queues_from, pages_of_queues, is_config, Opens, BadConfig, NoPages}
-use Rattle.machine_model.specs.Placement.{is_run, first_of_run, placed, without_numbers, data_placed, chain_wanted, chain_placed, wanted_of}
+use Rattle.machine_model.specs.Opening.{opening, queues_from, pages_of_queues, is_config, Opens}
+use Rattle.machine_model.specs.Placement.{placed, without_numbers, data_placed, chain_wanted, chain_placed, wanted_of}
 use Rattle.machine_model.specs.{State.{State, Host, HostQueue, Record}, Step.{times, host_part}}
-use Rattle.page_ledger.{proofs.Pages.length-pages_from as length_run, specs.{Counting.total as total_counting, Owners.{is_among, pages_from}}}
-use Rattle.page_ledger.specs.declared.owner.{Owner.{Owner, TheVariants.{Free, Queue, Command}}, Role.TheVariants.{Data, Chain}}
+use Rattle.page_ledger.{proofs.Pages.length-pages_from as length_run, specs.{Counting.total as total_counting, Owners.{pages_from}}}
+use Rattle.page_ledger.specs.declared.owner.{Owner.{Owner}}
 use Rattle.io_commands.specs.{Requests.data_count, declared.request.Piece.Piece}
 use Rattle.page_memory.specs.{Pages.zero_page, declared.page.Half.TheVariants.{Submission, Completion}}
 use Rattle.queue_pair.specs.Memory.{half_pages}
+use Rattle.std.proofs.lemmas.Grind.{common_steps}
 
 -- What is placed are free pages, each once, and as many as are wanted where there are so many.
 
 -- Pages that are placed
 
 take_times : (p n : ℕ) (xs : List ℕ) → times p (take n xs) ≤ times p xs
-take_times p zero xs = omega arith
-take_times p (suc n) [] = omega arith
 take_times p (suc n) (x ∷ xs) = omega (arith, times-cons p x (take n xs), times-cons p x xs, take_times p n xs)
+take_times p n xs = omega arith
 
 length_taken : (n : ℕ) (xs : List ℕ) → n ≤ length xs → length (take n xs) ≡ n
 length_taken zero xs h = refl
@@ -32,35 +31,14 @@ length_taken (suc n) [] h = absurd (omega (arith, h))
 length_taken (suc n) (x ∷ xs) h = ap suc (length_taken n xs (omega (arith, h)))
 
 pub length_placed : (free : List ℕ) (count : ℕ) → count ≤ length free → length (placed free count) ≡ count
-length_placed free count enough = go (first_of_run free count)
-  where
-    go : (o : Option ℕ) → length (option_map_or (λ first. pages_from first count) o (take count free)) ≡ count
-    go None = length_taken count free enough
-    go (Some first) = length_run first count
+length_placed free count enough = grind (arith, length_taken, length_run)
 
 pub placed_times : (p : ℕ) (free : List ℕ) (count : ℕ) → times p (placed free count) ≤ times p free
-placed_times p free count = elim (option_is (first_of_run free count)) [
-  | inl e ↦ rw e (take_times p count free)
-  | inr (first, e) ↦ rw e (run first (find_sound (is_run free count) free first e) (is_among (pages_from first count) p) refl)
-]
-  where
-    run : (first : ℕ) → is_run free count first ≡ true → (b : Bool) → is_among (pages_from first count) p ≡ b → times p (pages_from first count) ≤ times p free
-    run first is true e = omega (arith, once_in_run p first count, held_once p free (all_among (pages_from first count) free p is e))
-    run first is false e = omega (arith, not_held p (pages_from first count) e)
+placed_times p free count = grind (arith, take_times, find_sound, once_in_run, held_once, all_among, not_held)
 
 -- of free pages, some and then some of those that are left
 pub two_placed : (p : ℕ) (pages free more : List ℕ) → times p pages ≤ times p free → times p more ≤ times p (without_numbers pages free) → times p (pages ++ more) ≤ times p free
-two_placed p pages free more some rest = elim (cases_Bool (is_among pages p)) [
-  | inl e ↦
-      let none : times p (without_numbers pages free) ≡ 0 = rw e at left in
-      omega (arith, times-append p pages more, some, rest, none)
-  | inr e ↦
-      let all : times p (without_numbers pages free) ≡ times p free = rw e at left in
-      omega (arith, times-append p pages more, not_held p pages e, rest, all)
-]
-  where
-    left : times p (without_numbers pages free) ≡ (if not (is_among pages p) then times p free else 0)
-    left = times-filter p (λ x. not (is_among pages x)) free
+two_placed p pages free more some rest = grind (arith, times-filter, times-append, not_held)
 
 -- How many are left
 
@@ -78,43 +56,12 @@ length_left [] free some once = omega (arith, all free)
     all : (xs : List ℕ) → length (without_numbers [] xs) ≡ length xs
     all [] = refl
     all (x ∷ xs) = ap suc (all xs)
-length_left (d ∷ pages) free some once =
-    let one_there : 1 ≤ times d free = omega (arith, here, some d) in
-    omega (arith, ap length (left_in_turn d pages free), length_left pages others fewer few, one_less d free, one_there, once d)
-  where
-    others : List ℕ
-    others = filter (λ p. not (d == p)) free
-
-    here : times d (d ∷ pages) ≡ 1 + times d pages
-    here = times-cons d d pages ∙ ap (λ (k : ℕ). k + times d pages) (ap one (eq-eqb d d refl))
-
-    fewer : (p : ℕ) → times p pages ≤ times p others
-    fewer p = go (d == p) refl
-      where
-        kept : times p others ≡ (if not (d == p) then times p free else 0)
-        kept = times-filter p (λ x. not (d == x)) free
-
-        go : (b : Bool) → (d == p) ≡ b → times p pages ≤ times p others
-        go true e =
-            let same : d ≡ p = eqb-true d p e in
-            let gone : times d pages ≡ 0 = omega (arith, here, some d, once d) in
-            omega (arith, ap (λ (x : ℕ). times x pages) same, gone)
-        go false e =
-            let all : times p others ≡ times p free = rw e at kept in
-            omega (arith, all, some p, times-cons p d pages)
-
-    few : (p : ℕ) → times p others ≤ 1
-    few p = go (not (d == p)) (times-filter p (λ x. not (d == x)) free)
-      where
-        go : (b : Bool) → times p others ≡ (if b then times p free else 0) → times p others ≤ 1
-        go b e = grind arith
+length_left (d ∷ pages) free some once = grind (arith, length_left pages (filter (λ p. not (d == p)) free), times-filter, left_in_turn, one_less, times-cons, eq-eqb, eqb-true)
 
 -- A request's pages
 
 pub placement_times : (p : ℕ) (free : List ℕ) (segment : ℕ) (pieces : List Piece) → times p (data_placed free pieces ++ chain_placed free segment pieces) ≤ times p free
-placement_times p free segment pieces =
-    two_placed p (data_placed free pieces) free (chain_placed free segment pieces) (placed_times p free (data_count pieces))
-    (placed_times p (without_numbers (data_placed free pieces) free) (chain_wanted free segment pieces))
+placement_times p free segment pieces = grind (arith, two_placed, placed_times)
 
 pub length_chain : (free : List ℕ) (segment : ℕ) (pieces : List Piece) → ((p : ℕ) → times p free ≤ 1) → data_count pieces + chain_wanted free segment pieces ≤ length free
     → length (chain_placed free segment pieces) ≡ chain_wanted free segment pieces
@@ -132,8 +79,7 @@ room_for free segment pieces enough = grind arith
 range_split : (a c d n : ℕ) → c + d ≡ n → pages_from a n ≡ pages_from a c ++ pages_from (a + c) d
 range_split a zero d n e = ap₂ pages_from (omega arith) (omega arith)
 range_split a (suc c) d zero e = absurd (omega arith)
-range_split a (suc c) d (suc n) e =
-    ap (λ xs. a ∷ xs) (range_split (a + 1) c d n (omega arith) ∙ ap (λ k. pages_from (a + 1) c ++ pages_from k d) (omega arith))
+range_split a (suc c) d (suc n) e = grind (arith, range_split (a + 1) c d n)
 
 pub length-range : (a n : ℕ) → length (pages_from a n) ≡ n
 length-range a zero = refl
@@ -177,14 +123,10 @@ FitsPool pages queues n = pages_of_queues queues n ≤ pages
 
 -- what opens has pages enough, and its limits
 pub fits_pool : (pages queues n s : ℕ) → Opens pages queues n s → FitsPool pages queues n
-fits_pool pages queues n s opens =
-    ltb-false pages (pages_of_queues queues n)
-    (first_fails (nat_lt pages (pages_of_queues queues n)) (NoPages (pages_of_queues queues n) pages) []
-    (rest_fails (not (is_config pages queues n s)) BadConfig ((nat_lt pages (pages_of_queues queues n), NoPages (pages_of_queues queues n) pages) ∷ []) opens))
+fits_pool pages queues n s opens = grind (arith, ltb-false, first_fails, rest_fails)
 
 pub in_limits : (pages queues n s : ℕ) → Opens pages queues n s → is_config pages queues n s ≡ true
-in_limits pages queues n s opens =
-    not-false _ (first_fails (not (is_config pages queues n s)) BadConfig ((nat_lt pages (pages_of_queues queues n), NoPages (pages_of_queues queues n) pages) ∷ []) opens)
+in_limits pages queues n s opens = grind (arith, first_fails)
 
 pub record Limits (pages queues n s : ℕ) : Type 0 where
   pub pages_most : pages ≤ 65536
@@ -246,33 +188,19 @@ length_firsts (claim ∷ claims) = ap suc (length_firsts claims)
 
 in_halves : (q : ℕ) (queues : List HostQueue) → length (claims_of_queues q queues) ≡ sum_by (λ queue. length queue.sq_pages + length queue.cq_pages) queues
 in_halves q [] = refl
-in_halves q (queue ∷ queues) =
-    let a = claimed (Queue q Submission) queue.sq_pages in
-    let b = claimed (Queue q Completion) queue.cq_pages in
-    let c = claims_of_queues (q + 1) queues in
-    omega (arith, length-append (a ++ b) c, length-append a b, length_claimed (Queue q Submission) queue.sq_pages, length_claimed (Queue q Completion) queue.cq_pages, in_halves (q + 1) queues, sum_by-cons (λ (at : HostQueue). length at.sq_pages + length at.cq_pages) queue queues)
+in_halves q (queue ∷ queues) = grind (arith, in_halves (q + 1) queues, length-append, length_claimed, sum_by-cons, common_steps)
 
 in_commands : (records : List Record) → length (flat_map claims_of_record records) ≡ sum_by (λ r. length r.chain_pages) records + sum_by (λ r. length r.data_pages) records
 in_commands [] = refl
-in_commands (r ∷ records) =
-    let a = claimed (Command r.q r.cid Data) r.data_pages in
-    let b = claimed (Command r.q r.cid Chain) r.chain_pages in
-    omega (arith, length-append (a ++ b) (flat_map claims_of_record records), length-append a b, length_claimed (Command r.q r.cid Data) r.data_pages, length_claimed (Command r.q r.cid Chain) r.chain_pages, in_commands records, sum_by-cons (λ (x : Record). length x.chain_pages) r records, sum_by-cons (λ (x : Record). length x.data_pages) r records)
+in_commands (r ∷ records) = grind (arith, in_commands records, length-append, length_claimed, sum_by-cons, common_steps)
 
 all_claims : (h : Host) → length (firsts (claims_of h)) ≡ total_counting (counts_of h)
-all_claims h =
-    let a = claimed Free h.free in
-    let b = claims_of_queues 0 h.queues in
-    let c = flat_map claims_of_record h.records in
-    omega (arith, length_firsts (claims_of h), length-append (a ++ b) c, length-append a b, length_claimed Free h.free, in_halves 0 h.queues, in_commands h.records)
+all_claims h = grind (arith, flat_map, length_firsts, length-append, length_claimed, in_halves, in_commands)
 
 pub counts_are_all : counts_add_up
 counts_are_all count h owners = sym (all_claims h) ∙ length_of_all count (firsts (claims_of h)) owners
 
 -- The invariant that is kept, and the statement
-
-both_from_sound : (s : State) → IsSound s → Both (host_part s)
-both_from_sound s sound = (holds_from_sound s sound, taken_from_out s sound.out)
 
 pub sound_from_both : (s : State) → Both (host_part s) → IsSound s
 sound_from_both s both =
@@ -291,7 +219,7 @@ sound_from_both s both =
     }
 
 pub steps_keep : each_step_keeps
-steps_keep old e reply new step sound = sound_from_both new (each_step Both both_events old e reply new step (both_from_sound old sound))
+steps_keep old e reply new step sound = sound_from_both new (each_step Both both_events old e reply new step ((holds_from_sound old sound, taken_from_out old sound.out)))
 
 pub runs_are_sound : every_run_is_sound
 runs_are_sound pages queues n s image es replies new opens run =

@@ -1,7 +1,7 @@
 -- What no event of the host changes: the limits, the image, how many pages there are; and but for a reset the jobs, and that something was forged.
 use Rattle.machine_model.specs.After as a
 use Rattle.machine_model.specs.Events as events
-use Rattle.std.proofs.Common.{◌≡◌, ℕ, ◌==◌, Bool, true, false, Some, None, List, [], ◌∷◌, ◌++◌, length, length-set, filter, find, if◌then◌else◌, eqb-true, refl, ap, sym, ◌∙◌}
+use Rattle.std.proofs.Common.{◌≡◌, ℕ, ◌==◌, Bool, true, false, Some, List, [], ◌∷◌, ◌++◌, length, length-set, filter, find, if◌then◌else◌, eqb-true, refl, ap, sym, ◌∙◌}
 use Rattle.std.proofs.lemmas.Bool.{true≢false, and_parts}
 use Rattle.io_commands.specs.{Asked.Request, Values.numbers_of}
 use Rattle.admin_commands.specs.{Entries.admin_entry, declared.AdminKind.{AdminKind, TheVariants.{Abort, DeleteSq, DeleteCq}}}
@@ -10,7 +10,7 @@ use Rattle.page_memory.specs.declared.page.Half.TheVariants.{Submission, Complet
 use Rattle.machine_model.proofs.Moves.{host_moves, posted_bytes, posted_bits, sent_record, sends, half_from, creates_cq, creates_sq, grants_cq, grants_sq}
 use Rattle.machine_model.proofs.{Owned.{io_records, lost_keeps}, Steps.{length-in_store, length-with_pages, length-without_pages, Accepts}}
 use Rattle.machine_model.{proofs.Tokens.{find_map, find_sound}, specs.{Events.{Event, Reply}, Memory.{with_pages, zeroed_pages}, Refusals.slot_page}}
-use Rattle.machine_model.specs.{State.{State, Record, is_at, pages_of, record_at, with_record}, Step.{IsController, resets}, Work.Work}
+use Rattle.machine_model.specs.{State.{State, Record, is_at, pages_of, record_at, with_record}, Step.{IsController, resets}}
 use Rattle.machine_model.specs.declared.words.Work.TheVariants.{Io}
 
 pub record HostLeaves (s : State) (e : Event) (t : State) : Type 0 where

@@ -1,8 +1,8 @@
 -- What each step keeps.
 use Rattle.machine_model.specs.After as a
 use Rattle.machine_model.specs.Events as events
-use Rattle.std.proofs.Common.{◌≡◌, ℕ, zero, suc, ◌==◌, Bool, true, false, ◌||◌, Option, Some, None, List, [], ◌∷◌, ◌++◌, map, slice_get, if◌then◌else◌, refl, ap, sym, ◌∙◌, arith, eq-eqb, subst, not, ◌&&◌, ◌+◌, ◌≤◌, nat_lt, length, filter, eqb-true, ltb-false, inl, inr}
-use Rattle.std.{proofs.lemmas.Bool.{true≢false, not-false, or_parts, eqb-false, cases_Bool}, specs.{List.AllByRecursion, Option.option_map_or}}
+use Rattle.std.proofs.Common.{◌≡◌, ℕ, zero, suc, ◌==◌, Bool, true, false, ◌||◌, Option, Some, None, List, [], ◌∷◌, ◌++◌, map, slice_get, if◌then◌else◌, refl, ap, sym, ◌∙◌, arith, eq-eqb, subst, not, ◌&&◌, ◌+◌, ◌≤◌, nat_lt, length, filter, eqb-true, ltb-false}
+use Rattle.std.{proofs.lemmas.Bool.{true≢false, not-false, or_parts, eqb-false}, specs.{List.AllByRecursion, Option.option_map_or}}
 use Rattle.admin_commands.specs.declared.AdminKind.{AdminKind, TheVariants.{Abort, DeleteSq, DeleteCq, CreateCq, CreateSq}}
 use Rattle.entry_codec.specs.declared.{completion.ComEntry.ComEntry, status.Status.Status}
 use Rattle.io_commands.specs.{Asked.Request, Jobs.is_success}
@@ -73,16 +73,14 @@ making_sq_as_heard s q cid st e r k n base holds heard w x ex =
 pub ring_at : (k q : ℕ) (g : HostRing → HostRing) (hs : List HostQueue) (y : HostQueue) → slice_get (change k (λ x. record x { ring = g x.ring }) hs) q ≡ Some y → (x : HostQueue) × (slice_get hs q ≡ Some x) × (y.state ≡ x.state)
 ring_at k q g [] y e = absurd cc
 ring_at zero zero g (h ∷ hs) y e = let same : record h { ring = g h.ring } ≡ y = cc in (h, refl, ap (λ (z : HostQueue). z.state) (sym same))
-ring_at zero (suc q) g (h ∷ hs) y e = (y, e, refl)
-ring_at (suc k) zero g (h ∷ hs) y e = (y, e, refl)
 ring_at (suc k) (suc q) g (h ∷ hs) y e = ring_at k q g hs y e
+ring_at k q g (h ∷ hs) y e = (y, e, refl)
 
 pub ring_after : (k q : ℕ) (g : HostRing → HostRing) (hs : List HostQueue) (x : HostQueue) → slice_get hs q ≡ Some x → (y : HostQueue) × (slice_get (change k (λ x. record x { ring = g x.ring }) hs) q ≡ Some y) × (y.state ≡ x.state)
 ring_after k q g [] x e = absurd cc
 ring_after zero zero g (h ∷ hs) x e = let same : h ≡ x = cc in (record h { ring = g h.ring }, refl, ap (λ (z : HostQueue). z.state) same)
-ring_after zero (suc q) g (h ∷ hs) x e = (x, e, refl)
-ring_after (suc k) zero g (h ∷ hs) x e = (x, e, refl)
 ring_after (suc k) (suc q) g (h ∷ hs) x e = ring_after k q g hs x e
+ring_after k q g (h ∷ hs) x e = (x, e, refl)
 
 -- What a queue waits for: the commands, and the states
 
@@ -107,19 +105,6 @@ pub record Waits (of : ℕ → Work → Bool) (test : HostState → Bool) : Type
   pub gone : test Gone ≡ false
   pub half_made : test HalfMade ≡ false
 
-alone_waits_not : (of : ℕ → Work → Bool) (test : HostState → Bool) → Waits of test → (st : HostState) → has_cq_alone st ≡ true → test st ≡ false
-alone_waits_not of test w Live e = absurd (true≢false (sym e))
-alone_waits_not of test w (Deleting noted) e = absurd (true≢false (sym e))
-alone_waits_not of test w Retired e = w.retired
-alone_waits_not of test w Gone e = absurd (true≢false (sym e))
-alone_waits_not of test w MakingCq e = absurd (true≢false (sym e))
-alone_waits_not of test w HalfMade e = w.half_made
-alone_waits_not of test w MakingSq e = absurd (true≢false (sym e))
-
-noted_waits_not : (of : ℕ → Work → Bool) (test : HostState → Bool) → Waits of test → (b : Bool) → test (if b then Deleting true else Live) ≡ false
-noted_waits_not of test w true = w.noted
-noted_waits_not of test w false = w.live
-
 -- Each event
 
 abbrev pub AwaitedS : (ℕ → Work → Bool) → (HostState → Bool) → State → Type 0
@@ -141,10 +126,10 @@ awaited_event of test waits s e reply ok c holds h =
           awaited_less of test s.host.records (a.heard q e s).host.queues q cid r heard.found (holds.once q cid) (λ z. nobody_waits q cid st e r adm heard w quiet unmade z (of z r.work) refl) (told q e);
       notes = λ q cid st what e r k t heard w.
           ends q cid st e r k (λ queue. record queue { state = if is_success st then Deleting true else Live }) heard (λ z far. ap (of z) w ∙ waits.deletes z k far) (Deleting false) (asked_as_heard s q cid st e r k holds heard w) (ap (of k) w ∙ waits.asked k)
-          (λ x. noted_waits_not of test waits (is_success st));
+          (λ x. (grind (arith, waits)));
       frees = λ q cid st what e r k queue t heard w at alone good.
           awaited_same of test (without_record q cid s.host.records) a.gone k (a.heard q e s).host.queues
-          (λ y ey. let same : queue ≡ y = cc (at, ey) in waits.gone ∙ sym (alone_waits_not of test waits y.state (ap (λ (x : HostQueue). has_cq_alone x.state) (sym same) ∙ alone)))
+          (λ y ey. let same : queue ≡ y = cc (at, ey) in waits.gone ∙ sym (grind (arith, waits, ap (λ (x : HostQueue). has_cq_alone x.state) (sym same) ∙ alone)))
           (awaited_less of test s.host.records (a.heard q e s).host.queues q cid r heard.found (holds.once q cid) (λ z. ap (of z) w ∙ waits.drops z k) (told q e));
       makes_cq = λ q cid st what e r k n base t heard w good.
           ends q cid st e r k a.half_made heard (λ z far. ap (of z) w ∙ waits.creates_cq z k n base far) MakingCq (making_cq_as_heard s q cid st e r k n base holds heard w) (ap (of k) w ∙ waits.making_cq k n base) (λ x. waits.half_made);
@@ -205,11 +190,9 @@ awaited_event of test waits s e reply ok c holds h =
         → ((k : ℕ) → (creates_cq_of k (Management adm) || creates_sq_of k (Management adm)) ≡ true → host_queue (a.heard q e s) k ≡ None) → (z : ℕ) (b : Bool) → of z r.work ≡ b → of z r.work ≡ false
     nobody_waits q cid st e r adm heard w quiet unmade z false its = its
     nobody_waits q cid st e r adm heard w quiet unmade z true its =
+        let second : (x y : Bool) → x ≡ false → (x || y) ≡ true → y ≡ true = λ x y e h. grind arith in
         let kind = second (deletes_sq_of z (Management adm)) _ (quiet z) (waits.kinds z (Management adm) (sym (ap (of z) w) ∙ its)) in
         absurd (true≢false (sym (was_awaited of test s.host.records (a.heard q e s).host.queues z q cid r heard.found its (holds.once q cid) (told q e)) ∙ ap (λ (o : Option HostQueue). option_map_or (λ h. test h.state) o false) (unmade z kind)))
-      where
-        second : (x y : Bool) → x ≡ false → (x || y) ≡ true → y ≡ true
-        second x y e h = grind arith
 
 -- Queue 0 is never deleted, whatever was forged.
 
@@ -232,6 +215,10 @@ zero_past k f hs past h = zero_change k f hs (λ x e z l. absurd (true≢false (
 
 pub zero_host : (s : State) (e : Event) (reply : Reply) → Accepts s e reply → IsController e ≡ false → HoldsPart (host_part s) → Zero (a.after s e reply)
 zero_host s e reply ok c holds =
+    let h = holds.admin in
+    let told : (q : ℕ) (e : ComEntry) → Zero (a.heard q e s) =
+    λ q e. zero_ring q (knowing e.sqhd) (change q (λ x. record x { ring = next_head s.entries x.ring }) s.host.queues) (zero_ring q (next_head s.entries) s.host.queues h) in
+    let sent = zero_ring 0 (next_tail s.entries) s.host.queues h in
     host_moves (λ (e : Event) (reply : Reply) (t : State). Zero t) s e reply ok c
     (record {
       reserves = λ q request d none is. h;
@@ -267,18 +254,9 @@ zero_host s e reply ok c holds =
       resets = still s.host.queues;
     })
   where
-    h : Zero s
-    h = holds.admin
-
     still : (hs : List HostQueue) → AdminLives (a.reset_queues hs)
     still [] = refl
     still (x ∷ hs) = refl
-
-    told : (q : ℕ) (e : ComEntry) → Zero (a.heard q e s)
-    told q e = zero_ring q (knowing e.sqhd) (change q (λ x. record x { ring = next_head s.entries x.ring }) s.host.queues) (zero_ring q (next_head s.entries) s.host.queues h)
-
-    sent : AdminLives (change 0 (λ x. record x { ring = next_tail s.entries x.ring }) s.host.queues)
-    sent = zero_ring 0 (next_tail s.entries) s.host.queues h
 
 -- As it opens
 
@@ -372,6 +350,9 @@ whole x sq cq = record { submission = λ no. absurd (true≢false (sym sq ∙ no
 
 pub halves_event : (s : State) (e : Event) (reply : Reply) → Accepts s e reply → IsController e ≡ false → HoldsPart (host_part s) → AllByRecursion HasNoOtherPages (a.after s e reply).host.queues
 halves_event s e reply ok c holds =
+    let h = holds.halves in
+    let told : (q : ℕ) (e : ComEntry) → Fit (a.heard q e s).host.queues =
+    λ q e. fit_ring q (knowing e.sqhd) (change q (λ x. record x { ring = next_head s.entries x.ring }) s.host.queues) (fit_ring q (next_head s.entries) s.host.queues h) in
     let sent : Fit (change 0 (λ x. record x { ring = next_tail s.entries x.ring }) s.host.queues) = fit_ring 0 (next_tail s.entries) s.host.queues h in
     host_moves (λ (e : Event) (reply : Reply) (t : State). Fit t.host.queues) s e reply ok c
     (record {
@@ -414,12 +395,6 @@ halves_event s e reply ok c holds =
       forges = λ q slot bytes queue none at. h;
       resets = all_reset_queues HasNoOtherPages HasNoOtherPages s.host.queues (λ x e p. whole (a.reset_admin x) refl refl) (record { submission = λ no. refl; completion = λ no. refl }) h;
     })
-  where
-    h : Fit s.host.queues
-    h = holds.halves
-
-    told : (q : ℕ) (e : ComEntry) → Fit (a.heard q e s).host.queues
-    told q e = fit_ring q (knowing e.sqhd) (change q (λ x. record x { ring = next_head s.entries x.ring }) s.host.queues) (fit_ring q (next_head s.entries) s.host.queues h)
 
 -- as it opens
 pub halves_at_opening : (page n count : ℕ) → AllByRecursion HasNoOtherPages (queues_from page n count)
@@ -439,9 +414,6 @@ Bare rs hs = (q : ℕ) → awaited_at is_making hs q ≡ true → total (stands_
 length_standing : (q : ℕ) (rs : List Record) → length (map (λ r. r.cid) (filter (λ r. r.q == q) rs)) ≡ total (stands_on q) rs
 length_standing q [] = refl
 length_standing q (r ∷ rs) = grind (arith, length_standing q rs)
-
-bare_lists : (h : Host) → NewQueuesAreBare h → Bare h.records h.queues
-bare_lists h bare q making = sym (length_standing q h.records) ∙ bare q making
 
 new_queues : (h : Host) → Bare h.records h.queues → NewQueuesAreBare h
 new_queues h bare q making = length_standing q h.records ∙ bare q making
@@ -463,20 +435,15 @@ bare_less k c rs hs h = bare_fewer rs (without_record k c rs) hs (λ q. total-fi
 
 -- one more, of a queue in use
 bare_more : (rs : List Record) (hs : List HostQueue) (new : Record) → awaited_at is_making hs new.q ≡ false → Bare rs hs → Bare (rs ++ new ∷ []) hs
-bare_more rs hs new used h q making = elim (cases_Bool (new.q == q)) [
-  | inl e ↦ absurd (true≢false (sym making ∙ ap (awaited_at is_making hs) (sym (eqb-true new.q q e)) ∙ used))
-  | inr e ↦ omega (arith, h q making, total-append (stands_on q) rs (new ∷ []), ap one e)
-]
+bare_more rs hs new used h q making = grind (arith, awaited_at, eqb-true, total-append)
 
 -- Queues that change
 
 making_before : (k : ℕ) (f : HostQueue → HostQueue) (hs : List HostQueue) → ((x : HostQueue) → slice_get hs k ≡ Some x → is_making (f x).state ≡ true → is_making x.state ≡ true)
     → (q : ℕ) → awaited_at is_making (change k f hs) q ≡ true → awaited_at is_making hs q ≡ true
-making_before k f [] each q h = h
 making_before zero f (x ∷ hs) each zero h = each x refl h
-making_before zero f (x ∷ hs) each (suc q) h = h
-making_before (suc k) f (x ∷ hs) each zero h = h
 making_before (suc k) f (x ∷ hs) each (suc q) h = making_before k f hs each q h
+making_before k f hs each q h = h
 
 -- a queue that is made again was made again before
 bare_change : (rs : List Record) (k : ℕ) (f : HostQueue → HostQueue) (hs : List HostQueue) → ((x : HostQueue) → slice_get hs k ≡ Some x → is_making (f x).state ≡ true → is_making x.state ≡ true)
@@ -488,25 +455,14 @@ bare_ring rs k g hs h = bare_change rs k (λ x. record x { ring = g x.ring }) hs
 
 -- or none of its commands is outstanding
 bare_begins : (rs : List Record) (k : ℕ) (f : HostQueue → HostQueue) (hs : List HostQueue) → total (stands_on k) rs ≡ 0 → Bare rs hs → Bare rs (change k f hs)
-bare_begins rs k f hs none h q making = elim (cases_Bool (k == q)) [
-  | inl e ↦ subst (λ (z : ℕ). total (stands_on z) rs ≡ 0) (eqb-true k q e) none
-  | inr e ↦ h q (sym (at_other is_making f k hs q (eqb-false k q e)) ∙ making)
-]
+bare_begins rs k f hs none h q making = grind (arith, total, eqb-true, at_other, eqb-false)
 
 -- Queues in use
 
-service_used : (s : State) (q : ℕ) → in_state in_service s q ≡ true → awaited_at is_making s.host.queues q ≡ false
-service_used s q serves = go (slice_get s.host.queues q) serves
-  where
-    go : (o : Option HostQueue) → option_map_or (λ x. in_service x.state) o false ≡ true → option_map_or (λ x. is_making x.state) o false ≡ false
-    go None h = refl
-    go (Some x) h = service_in_use x.state h
-
-admin_used : (o : Option HostQueue) → option_map_or (λ x. is_live x.state) o true ≡ true → option_map_or (λ x. is_making x.state) o false ≡ false
-admin_used None h = refl
-admin_used (Some x) h = live_in_use x.state h
-
 -- Every event of the host
+
+bare_lists : (h : Host) → NewQueuesAreBare h → Bare h.records h.queues
+bare_lists h bare q making = sym (length_standing q h.records) ∙ bare q making
 
 bare_of : (s : State) (e : Event) (reply : Reply) → Accepts s e reply → IsController e ≡ false → HoldsPart (host_part s) → Bare (a.after s e reply).host.records (a.after s e reply).host.queues
 bare_of s e reply ok c holds =
@@ -514,7 +470,7 @@ bare_of s e reply ok c holds =
     (record {
       reserves = λ q request d none is.
           let known = or_parts (q == 0) (not (in_state in_service s q)) (unrefused s (events.Reserve q request) none).0 in
-          bare_more s.host.records s.host.queues (drafted_record d) (ap (awaited_at is_making s.host.queues) is.queue ∙ service_used s q (not-false _ known.1)) h;
+          bare_more s.host.records s.host.queues (drafted_record d) (ap (awaited_at is_making s.host.queues) is.queue ∙ (grind (arith, not-false _ known.1))) h;
       submits = λ d entry r none built its live. bare_ring _ d.q (next_tail s.entries) s.host.queues (bare_with d.q d.cid a.submitted (λ r'. refl) s.host.records s.host.queues h);
       cancels = λ d r its. bare_less d.q d.cid s.host.records s.host.queues h;
       rings = λ q none. h;
@@ -566,7 +522,7 @@ bare_of s e reply ok c holds =
     used q cid e k f after = bare_change _ k f (a.heard q e s).host.queues (λ x ex m. absurd (true≢false (sym m ∙ after x))) (ended q cid e)
 
     zero_used : awaited_at is_making s.host.queues 0 ≡ false
-    zero_used = admin_used (slice_get s.host.queues 0) holds.admin
+    zero_used = (grind (arith, holds.admin))
 
     -- a half for another queue leaves queue 0 in use
     still_used : (q : ℕ) (f : HostQueue → HostQueue) → (q == 0) ≡ false → awaited_at is_making (change q f s.host.queues) 0 ≡ false

@@ -6,8 +6,8 @@ use Rattle.std.specs.Option.{option_map, option_map_or, option_and_then}
 use Rattle.machine_model.proofs.{Cases.option_is, Steps.{Accepts, unrefused, first_fails, found, same_lists, in_store, in_store-with_bytes}}
 use Rattle.machine_model.specs.{Claims.is_away, Commands.{Work, Io, Management}, Events.{Event, Reply, Reaped}, Memory.{with_pages, without_pages}}
 use Rattle.machine_model.specs.Refusals.{device_queue, first_answer, entry_of, refusal_of, host_queue, seen_entry, is_of, asks_for, is_drafted, is_submitted, is_held, is_collected, is_live, is_deleting, is_deleted, is_gone, is_half_made, is_asked, is_making_cq, is_making_sq, has_cq_alone, in_service, is_reaped, run_for, in_state, record_is, no_io_queue, is_io_queue, deletes_sq_of, creates_cq_of, creates_sq_of, slot_page, slot_offset}
-use Rattle.machine_model.specs.State.{State, Answer, HostQueue, HostState, Live, Deleting, Gone, MakingCq, HalfMade, MakingSq, Record, Phase, Drafted, Submitted, Held, Collected, record_at, with_record, without_record, pages_of}
-use Rattle.machine_model.specs.Step.{IsController, IsReserved, IsNewIdentifier, Answers, finished_from, reaped, reaped_entry, reaped_as, fits_ring}
+use Rattle.machine_model.specs.State.{State, Answer, HostQueue, HostState, Live, Deleting, Gone, MakingCq, HalfMade, MakingSq, Record, Phase, Drafted, Submitted, Collected, record_at, with_record, without_record, pages_of}
+use Rattle.machine_model.specs.Step.{IsController, IsReserved, IsNewIdentifier, finished_from, reaped, fits_ring}
 use Rattle.admin_commands.specs.{Entries.admin_entry, declared.AdminKind.{AdminKind, TheVariants.{Abort, DeleteSq, DeleteCq, CreateCq, CreateSq}}}
 use Rattle.entry_codec.specs.{Submission.submission_bytes, declared.{completion.ComEntry.ComEntry, status.Status.Status, submission.SubEntry.SubEntry}}
 use Rattle.io_commands.specs.{Asked.Request, Drafts.DraftContents, Jobs.is_success, Values.{FinishedContents, numbers_of}}
@@ -16,6 +16,7 @@ use Rattle.queue_pair.specs.{Memory.half_pages, Rings.next_tail}
 use Rattle.page_ledger.specs.Owners.{pages_from}
 use Rattle.machine_model.specs.After as a
 use Rattle.machine_model.specs.Events as events
+use Rattle.std.proofs.lemmas.Bool.{cases_Bool}
 
 -- What a posted entry leaves: the memory alone hangs on whether the queue is there
 
@@ -27,23 +28,10 @@ abbrev pub posts : ℕ → SubEntry → State → State
 posts q entry s = a.on_ring q (next_tail s.entries) (a.on_device_queue q (λ at. record at { unfetched = at.unfetched ++ entry ∷ [] }) (record s { memory = posted_bytes q entry s }))
 
 pub posted_is : (q : ℕ) (entry : SubEntry) (s : State) → posts q entry s ≡ a.posted q entry s
-posted_is q entry s = go (host_queue s q)
-  where
-    go : (o : Option HostQueue)
-        → a.on_ring q (next_tail s.entries) (a.on_device_queue q (λ at. record at { unfetched = at.unfetched ++ entry ∷ [] })
-        (record s { memory = option_map_or (λ queue. with_page_bytes s.memory (slot_page queue.sq_pages 64 queue.ring.tail) (slot_offset 64 queue.ring.tail) (submission_bytes entry)) o s.memory }))
-        ≡ a.on_ring q (next_tail s.entries) (a.on_device_queue q (λ at. record at { unfetched = at.unfetched ++ entry ∷ [] })
-        (option_map_or (λ queue. a.on_memory (λ m. with_page_bytes m (slot_page queue.sq_pages 64 queue.ring.tail) (slot_offset 64 queue.ring.tail) (submission_bytes entry)) s) o s))
-    go None = refl
-    go (Some queue) = refl
+posted_is q entry s = grind arith
 
 pub posted_bits : (q : ℕ) (entry : SubEntry) (s : State) → in_store (posted_bytes q entry s) ≡ in_store s.memory
-posted_bits q entry s = go (host_queue s q)
-  where
-    go : (o : Option HostQueue)
-        → in_store (option_map_or (λ queue. with_page_bytes s.memory (slot_page queue.sq_pages 64 queue.ring.tail) (slot_offset 64 queue.ring.tail) (submission_bytes entry)) o s.memory) ≡ in_store s.memory
-    go None = refl
-    go (Some queue) = in_store-with_bytes s.memory (slot_page queue.sq_pages 64 queue.ring.tail) (slot_offset 64 queue.ring.tail) (submission_bytes entry)
+posted_bits q entry s = grind (arith, in_store-with_bytes)
 
 -- Records that begin
 
@@ -204,15 +192,11 @@ is_of_found s phase request q cid bytes chain away fits =
 
 pub drafted_away : (ph : Phase) → is_drafted ph ≡ true → ((is_drafted ph || is_collected ph) ≡ true) × (is_submitted ph ≡ false)
 drafted_away Drafted h = (refl, refl)
-drafted_away Submitted h = absurd (true≢false (sym h))
-drafted_away Held h = absurd (true≢false (sym h))
-drafted_away Collected h = absurd (true≢false (sym h))
+drafted_away ph h = absurd (true≢false (sym h))
 
 pub collected_away : (ph : Phase) → is_collected ph ≡ true → ((is_drafted ph || is_collected ph) ≡ true) × (is_submitted ph ≡ false)
-collected_away Drafted h = absurd (true≢false (sym h))
-collected_away Submitted h = absurd (true≢false (sym h))
-collected_away Held h = absurd (true≢false (sym h))
 collected_away Collected h = (refl, refl)
+collected_away ph h = absurd (true≢false (sym h))
 
 -- the record of a draft that is submitted, and its queue
 pub draft_found : (s : State) (d : DraftContents) → refusal_of s (events.Submit d) ≡ None → (r : Record) × IsOf s is_drafted d.request d.q d.cid d.data_pages d.chain_pages r
@@ -223,10 +207,7 @@ draft_lives s d none = not-false _ (unrefused s (events.Submit d) none).1.1.0
 
 -- a queue whose state passes a test
 pub queue_found : (test : HostState → Bool) (s : State) (q : ℕ) → in_state test s q ≡ true → (queue : HostQueue) × (host_queue s q ≡ Some queue) × (test queue.state ≡ true)
-queue_found test s q h = elim (option_is (host_queue s q)) [
-  | inl e ↦ let h = rw e at h in absurd (true≢false (sym h))
-  | inr (queue, e) ↦ let h = rw e at h in (queue, e, h)
-]
+queue_found test s q h = grind arith
 
 -- then it is known
 pub queue_known : (test : HostState → Bool) (s : State) (q : ℕ) → not (in_state test s q) ≡ false → is_none (host_queue s q) ≡ false
@@ -234,18 +215,13 @@ queue_known test s q h = ap is_none (queue_found test s q (not-false _ h)).1
 
 pub live_queue : (s : State) (q : ℕ) → no_io_queue s q ≡ false → in_state is_deleting s q ≡ false → (queue : HostQueue) × IsLiveQueue s q queue
 live_queue s q known deleting =
+    let live : (st : HostState) → in_service st ≡ true → is_deleting st ≡ false → st ≡ Live = λ st h d. grind arith in
     let known = or_parts (q == 0) (not (in_state in_service s q)) known in
     let x = queue_found in_service s q (not-false _ known.1) in
     (x.0, record { there = x.1; live = live x.0.state x.2 (sym (ap (λ (o : Option HostQueue). option_map_or (λ queue. is_deleting queue.state) o false) x.1) ∙ deleting); other = known.0 })
-  where
-    live : (st : HostState) → in_service st ≡ true → is_deleting st ≡ false → st ≡ Live
-    live st h d = grind arith
 
 pub deleted_is : (st : HostState) → is_deleted st ≡ true → st ≡ Deleting true
 deleted_is st e = grind arith
-
-pub gone_is : (st : HostState) → is_gone st ≡ true → st ≡ Gone
-gone_is st e = grind arith
 
 pub half_made_is : (st : HostState) → is_half_made st ≡ true → st ≡ HalfMade
 half_made_is st e = grind arith
@@ -267,32 +243,7 @@ pub run_found : (s : State) (half : Half) → is_none (run_for s half) ≡ false
 run_found s half h = elim (option_is (run_for s half)) [ inl e ↦ let h = rw e at h in absurd (true≢false h) | inr (first, e) ↦ (first, e) ]
 
 pub heard_of : (s : State) (q cid : ℕ) (st : Status) (what : Reaped) → Tells s q cid st what → (e : ComEntry) × (r : Record) × IsHeard s q cid st e r
-heard_of s q cid st what t = go (seen_entry s q) refl (ap named (sym t.is) ∙ t.names) (ap status_in (sym t.is) ∙ t.status)
-  where
-    named_as : (e : ComEntry) (w : Work) → (named (reaped_as q e w) ≡ Some e.cid) × (status_in (reaped_as q e w) ≡ Some e.status)
-    named_as e (Io r) = (refl, refl)
-    named_as e (Management adm) = (refl, refl)
-
-    go : (o : Option ComEntry) → seen_entry s q ≡ o → named (option_map_or (reaped_entry s q) o events.Empty) ≡ Some cid → status_in (option_map_or (reaped_entry s q) o events.Empty) ≡ Some st → (e : ComEntry) × (r : Record) × IsHeard s q cid st e r
-    go None seen n d = absurd cc
-    go (Some e) seen n d = by (not (e.sqid == q)) (fits_ring s q e) (record_at s.host q e.cid) refl refl n d
-      where
-        by : (b f : Bool) (o : Option Record) → fits_ring s q e ≡ f → record_at s.host q e.cid ≡ o
-            → named (if b then events.Rejected events.WrongQueue else if not f then events.Rejected events.BadHead else option_map_or (λ r. reaped_as q e r.work) (option_map_or (λ r. if is_submitted r.phase then Some r else None) o None) (events.Rejected events.UnknownId)) ≡ Some cid
-            → status_in (if b then events.Rejected events.WrongQueue else if not f then events.Rejected events.BadHead else option_map_or (λ r. reaped_as q e r.work) (option_map_or (λ r. if is_submitted r.phase then Some r else None) o None) (events.Rejected events.UnknownId)) ≡ Some st
-            → (e : ComEntry) × (r : Record) × IsHeard s q cid st e r
-        by true f o fits at n d = absurd cc
-        by false false o fits at n d = absurd cc
-        by false true None fits at n d = absurd cc
-        by false true (Some r) fits at n d = on (is_submitted r.phase) refl n d
-          where
-            on : (b : Bool) → is_submitted r.phase ≡ b → named (option_map_or (λ r. reaped_as q e r.work) (if b then Some r else None) (events.Rejected events.UnknownId)) ≡ Some cid
-                → status_in (option_map_or (λ r. reaped_as q e r.work) (if b then Some r else None) (events.Rejected events.UnknownId)) ≡ Some st → (e : ComEntry) × (r : Record) × IsHeard s q cid st e r
-            on false sub n d = absurd cc
-            on true sub n d =
-                let id : e.cid ≡ cid = cc ((named_as e r.work).0, n) in
-                let status : e.status ≡ st = cc ((named_as e r.work).1, d) in
-                (e, r, record { seen = seen; its_id = id; its_status = status; fits = fits; found = subst (λ (k : ℕ). record_at s.host q k ≡ Some r) id at; submitted = sub })
+heard_of s q cid st what t = grind arith
 
 -- Where nothing was forged, an entry that is heard is the oldest answer
 
@@ -307,24 +258,9 @@ pub seen_trusted : (s : State) (q : ℕ) → s.trusted ≡ true → seen_entry s
 seen_trusted s q t = rw t refl
 
 pub answer_heard : (s : State) (q cid : ℕ) (st : Status) (e : ComEntry) (r : Record) → s.trusted ≡ true → IsHeard s q cid st e r → HeardAnswer s q cid st e
-answer_heard s q cid st e r t heard = go (option_and_then (λ queue. first_answer queue.answers) (device_queue s q)) refl (sym (seen_trusted s q t) ∙ heard.seen)
-  where
-    go : (o : Option Answer) → option_and_then (λ queue. first_answer queue.answers) (device_queue s q) ≡ o → option_map (entry_of q) o ≡ Some e → HeardAnswer s q cid st e
-    go None first is = absurd cc
-    go (Some an) first is =
-        let same : entry_of q an ≡ e = cc in
-        record {
-          answer = an;
-          first = first;
-          its_id = ap (λ (x : ComEntry). x.cid) same ∙ heard.its_id;
-          its_status = ap (λ (x : ComEntry). x.status) same ∙ heard.its_status;
-          is = sym same;
-        }
+answer_heard s q cid st e r t heard = grind (arith, sym (seen_trusted s q t) ∙ heard.seen)
 
 -- Each event of the host is one of the cases
-
-no_refused : (s : State) (e : Event) (why : events.Refusal) (touched : List ℕ) → Answers s e (events.Refused why touched) → ⊥
-no_refused s e why touched h = grind arith
 
 nobody : (hs : List HostQueue) (z k : ℕ) → (k == z) ≡ true → slice_get hs k ≡ None → slice_get hs z ≡ None
 nobody hs z k is at = subst (λ (n : ℕ). slice_get hs n ≡ None) (eqb-true k z is) at
@@ -350,24 +286,20 @@ told P s q cid st what move t =
 
         free : (b : Bool) → is_success st ≡ b → (o : Option HostQueue) → host_queue (a.heard q e s) k ≡ o
             → P (events.Reap q) (events.Reaps what) (if b && option_map_or (λ queue. has_cq_alone queue.state) o false then option_map_or (λ queue. a.on_host_queue k a.gone (a.given_back queue.cq_pages (heard_without q cid e s))) o (heard_without q cid e s) else heard_without q cid e s)
-        free false good o at = kept
-        free true good None at = kept
-        free true good (Some queue) at = on (has_cq_alone queue.state) refl
-          where
-            on : (b : Bool) → has_cq_alone queue.state ≡ b → P (events.Reap q) (events.Reaps what) (if b then a.on_host_queue k a.gone (a.given_back queue.cq_pages (heard_without q cid e s)) else heard_without q cid e s)
-            on true is = move.frees q cid st what e r k queue t heard w at is good
-            on false is = kept
-    by e r heard (Management (CreateCq k n base)) w = made (is_success st) refl
+        free true good (Some queue) at = elim (cases_Bool (has_cq_alone queue.state)) [
+          | inl is ↦ rw is (move.frees q cid st what e r k queue t heard w at is good)
+          | inr is ↦ rw is (kept)
+        ]
+        free b good o at = kept
+    by e r heard (Management (CreateCq k n base)) w = elim (cases_Bool (is_success st)) [
+      | inl good ↦ rw good (move.makes_cq q cid st what e r k n base t heard w good)
+      | inr bad ↦ rw bad (unmade (host_queue (a.heard q e s) k) refl bad)
+    ]
       where
         unmade : (o : Option HostQueue) → host_queue (a.heard q e s) k ≡ o → is_success st ≡ false
             → P (events.Reap q) (events.Reaps what) (option_map_or (λ queue. a.on_host_queue k a.gone (a.given_back queue.cq_pages (heard_without q cid e s))) o (heard_without q cid e s))
         unmade None at bad = move.hears q cid st what e r (CreateCq k n base) t heard w (λ k. refl) (λ z is. nobody (a.heard q e s).host.queues z k (alone (k == z) is) at)
         unmade (Some queue) at bad = move.unmakes_cq q cid st what e r k n base queue t heard w at bad
-
-        made : (b : Bool) → is_success st ≡ b
-            → P (events.Reap q) (events.Reaps what) (if b then a.on_host_queue k a.half_made (heard_without q cid e s) else option_map_or (λ queue. a.on_host_queue k a.gone (a.given_back queue.cq_pages (heard_without q cid e s))) (host_queue (a.heard q e s) k) (heard_without q cid e s))
-        made true good = move.makes_cq q cid st what e r k n base t heard w good
-        made false bad = unmade (host_queue (a.heard q e s) k) refl bad
     by e r heard (Management (CreateSq k n base)) w = made (is_success st) refl
       where
         unmade : (o : Option HostQueue) → host_queue (a.heard q e s) k ≡ o → is_success st ≡ false
@@ -381,7 +313,7 @@ told P s q cid st what move t =
         made false bad = unmade (host_queue (a.heard q e s) k) refl bad
 
 pub host_moves : (P : Event → Reply → State → Type 0) (s : State) (e : Event) (reply : Reply) → Accepts s e reply → IsController e ≡ false → HostMoves P s → P e reply (a.after s e reply)
-host_moves P s e (events.Refused why touched) ok c move = absurd (no_refused s e why touched ok.1)
+host_moves P s e (events.Refused why touched) ok c move = absurd (grind (arith, ok.1))
 host_moves P s (events.Reserve q request) (events.Reserved d) ok c move = move.reserves q request d ok.0 ok.1
 host_moves P s (events.Submit d) events.Accepted ok c move = go d.entry refl
   where
@@ -398,16 +330,7 @@ host_moves P s (events.Reap q) (events.Reaps events.Empty) ok c move = move.rest
 host_moves P s (events.Reap q) (events.Reaps (events.Rejected why)) ok c move = move.rejects q why ok.1
 host_moves P s (events.Reap q) (events.Reaps (events.Done cid st)) ok c move = told P s q cid st (events.Done cid st) move (record { is = ok.1; names = refl; status = refl })
 host_moves P s (events.Reap q) (events.Reaps (events.AdminDone cid st dw0)) ok c move = told P s q cid st (events.AdminDone cid st dw0) move (record { is = ok.1; names = refl; status = refl })
-host_moves P s (events.Collect q cid) (events.Collects f) ok c move = let fails = unrefused s (events.Collect q cid) ok.0 in go (record_at s.host q cid) refl fails.0 fails.1.0 ok.1
-  where
-    held : (x y : Bool) → not (x || y) ≡ false → x ≡ false → y ≡ true
-    held true y h z = absurd (true≢false z)
-    held false y h z = not-false y h
-
-    go : (o : Option Record) → record_at s.host q cid ≡ o → not (option_map_or (λ r. is_submitted r.phase || is_held r.phase) o false) ≡ false → option_map_or (λ r. is_submitted r.phase) o false ≡ false → option_and_then (finished_from s) o ≡ Some f
-        → P (events.Collect q cid) (events.Collects f) (option_map_or (λ r. a.on_records (with_record q cid a.collected) (a.on_memory (without_pages (pages_of r)) s)) o s)
-    go None e known later is = absurd (true≢false known)
-    go (Some r) e known later is = move.collects q cid r f e (held (is_submitted r.phase) (is_held r.phase) known later) is
+host_moves P s (events.Collect q cid) (events.Collects f) ok c move = grind (arith, unrefused)
 host_moves P s (events.Release f) events.Accepted ok c move =
     let r = is_of_found s is_collected f.request f.q f.cid f.data_pages f.chain_pages collected_away (first_fails _ events.Stranger [] ok.0) in move.releases f r.0 r.1
 host_moves P s (events.Abort q cid) (events.Sent id) ok c move = subst (P (events.Abort q cid) (events.Sent id)) (posted_is 0 (admin_entry (Abort q cid) id) (a.on_records (λ records. records ++ sent_record (Abort q cid) id ∷ []) s)) (move.aborts q cid id ok.0 ok.1)
@@ -420,7 +343,7 @@ host_moves P s (events.CreateCq q) (events.Sent id) ok c move =
     let fails = unrefused s (events.CreateCq q) ok.0 in
     let x = queue_found is_gone s q (not-false _ fails.1.0) in
     let run = run_found s Completion fails.1.1.1.1.0 in
-    let granted : IsGranted s q Completion Gone x.0 run.0 = record { there = x.1; state = gone_is x.0.state x.2; other = io_queue s q fails.0; run = run.1 } in
+    let granted : IsGranted s q Completion Gone x.0 run.0 = record { there = x.1; state = (grind (arith, x.2)); other = io_queue s q fails.0; run = run.1 } in
     let pages = half_from Completion run.0 s in
     subst (λ (ps : List ℕ). P (events.CreateCq q) (events.Sent id) (a.sent (CreateCq q s.entries (a.base_of ps)) id (admin_entry (CreateCq q s.entries (a.base_of ps)) id) (a.on_host_queue q (a.making_cq ps) (a.half_granted ps s))))
     (sym (ap (λ (o : Option ℕ). option_map_or (λ first. pages_from first (half_pages s.entries Completion)) o []) run.1))

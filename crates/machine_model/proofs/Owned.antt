@@ -1,18 +1,19 @@
 -- One owner for each page.
 use Rattle.machine_model.specs.After as a
-use Rattle.std.proofs.Common.{◌≡◌, ℕ, ◌+◌, ◌<◌, ◌==◌, nat_lt, Bool, true, false, not, Some, List, [], ◌∷◌, ◌++◌, length, map, filter, flat_map, if◌then◌else◌, refl, ap, sym, ◌∙◌, arith, eqb-true, subst, inl, inr, zero, suc, ◌≤◌, ◌&&◌, ◌||◌, Option, None, slice_get, slice_set, is_some, length-set, find}
-use Rattle.std.{proofs.lemmas.{Bool.{and_parts, cases_Bool, true≢false, eqb-false, or_parts}, List.map-append}, specs.List.{AllByRecursion, list_any}}
+use Rattle.std.proofs.Common.{◌≡◌, ℕ, ◌+◌, ◌<◌, ◌==◌, nat_lt, Bool, true, false, not, Some, List, [], ◌∷◌, ◌++◌, length, map, filter, flat_map, if◌then◌else◌, refl, ap, sym, ◌∙◌, arith, eqb-true, subst, inl, inr, zero, suc, ◌≤◌, ◌&&◌, Option, None, slice_get, slice_set, is_some, length-set, find}
+use Rattle.std.{proofs.lemmas.{Bool.{cases_Bool, true≢false, eqb-false, or_parts}, List.map-append}, specs.List.{AllByRecursion, list_any}}
 use Rattle.std.specs.Option.{option_map_or}
-use Rattle.page_ledger.specs.{Owners.is_among, declared.owner.{Owner.{Owner, TheVariants.{Queue, Free, Command}}, Role.TheVariants.{Data, Chain}}}
-use Rattle.page_memory.specs.{Pages.Pages, declared.page.Half.TheVariants.{Submission, Completion}}
+use Rattle.page_ledger.specs.{Owners.is_among, declared.owner.{Owner.{Owner}}}
+use Rattle.page_memory.specs.{Pages.Pages}
 use Rattle.machine_model.proofs.Counting.{one, times-append, times-cons, held_once, not_held, total, total-append, total-map, total_without, total-filter, here, times-outstanding}
 use Rattle.machine_model.{proofs.Steps.{length-in_store, in_store}, specs.{After.change, Agreeing.{waiting, answering, AdminCommandsStand}}}
 use Rattle.machine_model.specs.Claims.{claims_of, claimed, claims_of_queues, claims_of_record, IsSound, HasOneOwner, IdentifiersDiffer, OwnsFit, DeletionsFit, CreationsFit, NewQueuesAreBare, HasNoOtherPages, AdminLives, is_away, IsOutWithItsCommand}
-use Rattle.machine_model.specs.{Commands.{Work, Io, Management}, Memory.{is_in, with_pages, without_pages}, Refusals.is_submitted}
+use Rattle.machine_model.specs.{Commands.{Work}, Memory.{is_in, with_pages, without_pages}, Refusals.is_submitted}
 use Rattle.machine_model.specs.State.{State, Host, HostQueue, Record, is_at, record_at, pages_of, without_record, Phase, Submitted, Held, HostState, with_record, Live, Gone, DeviceQueue}
 use Rattle.machine_model.specs.Step.{times, HostPart, host_part}
 use Rattle.io_commands.specs.Values.{numbers_of}
 use Rattle.entry_codec.specs.declared.status.TheConstants.Status.{ABORTED_SQ_DELETION}
+use Rattle.std.proofs.lemmas.Grind.{common_steps}
 
 -- Every page has one owner, and no identifier is outstanding twice: what each host event does to that.
 
@@ -29,8 +30,7 @@ owned p h = times p h.free + (total (in_queue p) h.queues + total (in_record p) 
 
 first_of_claims : (p : ℕ) (owner : Owner) (pages : List ℕ) → times p (map (λ claim. claim.0) (claimed owner pages)) ≡ times p pages
 first_of_claims p owner [] = refl
-first_of_claims p owner (x ∷ pages) =
-    times-cons p x (map (λ claim. claim.0) (claimed owner pages)) ∙ ap (λ n. one (x == p) + n) (first_of_claims p owner pages) ∙ sym (times-cons p x pages)
+first_of_claims p owner (x ∷ pages) = grind (arith, first_of_claims p owner pages, times-cons)
 
 abbrev firsts : ℕ → List (ℕ × Owner) → ℕ
 firsts p claims = times p (map (λ claim. claim.0) claims)
@@ -40,25 +40,14 @@ firsts-append p a b = ap (times p) (map-append (λ claim. claim.0) a b) ∙ time
 
 firsts_of_queues : (p q : ℕ) (queues : List HostQueue) → firsts p (claims_of_queues q queues) ≡ total (in_queue p) queues
 firsts_of_queues p q [] = refl
-firsts_of_queues p q (queue ∷ queues) =
-    let a = claimed (Queue q Submission) queue.sq_pages in
-    let b = claimed (Queue q Completion) queue.cq_pages in
-    let c = claims_of_queues (q + 1) queues in
-    omega (arith, firsts-append p (a ++ b) c, firsts-append p a b, first_of_claims p (Queue q Submission) queue.sq_pages, first_of_claims p (Queue q Completion) queue.cq_pages, firsts_of_queues p (q + 1) queues)
+firsts_of_queues p q (queue ∷ queues) = grind (arith, firsts_of_queues p (q + 1) queues, firsts-append, first_of_claims)
 
 firsts_of_records : (p : ℕ) (records : List Record) → firsts p (flat_map claims_of_record records) ≡ total (in_record p) records
 firsts_of_records p [] = refl
-firsts_of_records p (r ∷ records) =
-    let a = claimed (Command r.q r.cid Data) r.data_pages in
-    let b = claimed (Command r.q r.cid Chain) r.chain_pages in
-    omega (arith, firsts-append p (a ++ b) (flat_map claims_of_record records), firsts-append p a b, first_of_claims p (Command r.q r.cid Data) r.data_pages, first_of_claims p (Command r.q r.cid Chain) r.chain_pages, times-append p r.data_pages r.chain_pages, firsts_of_records p records)
+firsts_of_records p (r ∷ records) = grind (arith, firsts_of_records p records, firsts-append, flat_map, first_of_claims, times-append)
 
 pub owned_is : (p : ℕ) (h : Host) → times p (map (λ claim. claim.0) (claims_of h)) ≡ owned p h
-owned_is p h =
-    let a = claimed Free h.free in
-    let b = claims_of_queues 0 h.queues in
-    let c = flat_map claims_of_record h.records in
-    omega (arith, firsts-append p (a ++ b) c, firsts-append p a b, first_of_claims p Free h.free, firsts_of_queues p 0 h.queues, firsts_of_records p h.records)
+owned_is p h = grind (arith, flat_map, firsts-append, first_of_claims, firsts_of_queues, firsts_of_records)
 
 -- the invariant by sums
 
@@ -136,15 +125,7 @@ owns_map count h f keeps owns = record {
 -- one record more
 once_more : (records : List Record) (new : Record) → total (here new.q new.cid) records ≡ 0 → ((q cid : ℕ) → total (here q cid) records < 2)
     → (q cid : ℕ) → total (here q cid) (records ++ new ∷ []) < 2
-once_more records new unused once q cid = elim (cases_Bool (is_at q cid new)) [
-  | inl e ↦
-      let both = and_parts (new.q == q) (new.cid == cid) e in
-      let eq : new.q ≡ q = eqb-true new.q q both.0 in
-      let ec : new.cid ≡ cid = eqb-true new.cid cid both.1 in
-      let none : total (here q cid) records ≡ 0 = subst (λ (k : ℕ). total (here k cid) records ≡ 0) eq (subst (λ (k : ℕ). total (here new.q k) records ≡ 0) ec unused) in
-      omega (arith, total-append (here q cid) records (new ∷ []), none, ap one e)
-  | inr e ↦ omega (arith, total-append (here q cid) records (new ∷ []), once q cid, ap one e)
-]
+once_more records new unused once q cid = grind (arith, eqb-true, total, here, total-append)
 
 admins_more : (records : List Record) (new : Record) → OwnsFit new.q new.work (pages_of new)
     → AllByRecursion (λ r. OwnsFit r.q r.work (pages_of r)) records → AllByRecursion (λ r. OwnsFit r.q r.work (pages_of r)) (records ++ new ∷ [])
@@ -163,11 +144,7 @@ owns_more count h new free unused fit moved owns = record {
 -- one record less
 admins-filter : (f : Record → Bool) (records : List Record) → AllByRecursion (λ r. OwnsFit r.q r.work (pages_of r)) records → AllByRecursion (λ r. OwnsFit r.q r.work (pages_of r)) (filter f records)
 admins-filter f [] all = tt
-admins-filter f (r ∷ records) all = go (f r) (admins-filter f records all.1)
-  where
-    go : (b : Bool) → AllByRecursion (λ r. OwnsFit r.q r.work (pages_of r)) (filter f records) → AllByRecursion (λ r. OwnsFit r.q r.work (pages_of r)) (if b then r ∷ filter f records else filter f records)
-    go true rest = (all.0, rest)
-    go false rest = rest
+admins-filter f (r ∷ records) all = grind (arith, admins-filter f records all.1)
 
 pub owns_less : (count : ℕ) (h : Host) (q cid : ℕ) (r : Record) (free : List ℕ) → record_at h q cid ≡ Some r
     → ((p : ℕ) → times p free ≡ times p h.free + in_record p r)
@@ -183,18 +160,14 @@ owns_less count h q cid r free found moved owns = record {
 -- Pages set
 
 set_same : (m : Pages) (k p : ℕ) (x : Option (List ℕ)) → k ≡ p → p < length m → slice_get (in_store (slice_set m k x)) p ≡ Some (is_some x)
-set_same [] k p x e l = absurd (omega arith)
 set_same (y ∷ m) zero zero x e l = refl
-set_same (y ∷ m) zero (suc p) x e l = absurd (omega arith)
-set_same (y ∷ m) (suc k) zero x e l = absurd (omega arith)
 set_same (y ∷ m) (suc k) (suc p) x e l = set_same m k p x (omega arith) (omega arith)
+set_same m k p x e l = absurd (omega arith)
 
 set_other : (m : Pages) (k p : ℕ) (x : Option (List ℕ)) → (k ≡ p → ⊥) → slice_get (in_store (slice_set m k x)) p ≡ slice_get (in_store m) p
-set_other [] k p x e = refl
 set_other (y ∷ m) zero zero x e = absurd (e refl)
-set_other (y ∷ m) zero (suc p) x e = refl
-set_other (y ∷ m) (suc k) zero x e = refl
 set_other (y ∷ m) (suc k) (suc p) x e = set_other m k p x (λ h. e (ap suc h))
+set_other m k p x e = refl
 
 pub out_other : (ps : List ℕ) (m : Pages) (p : ℕ) → is_among ps p ≡ false → slice_get (in_store (without_pages ps m)) p ≡ slice_get (in_store m) p
 out_other [] m p h = refl
@@ -204,18 +177,7 @@ out_other (k ∷ ps) m p h =
 
 pub out_same : (ps : List ℕ) (m : Pages) (p : ℕ) → is_among ps p ≡ true → p < length m → slice_get (in_store (without_pages ps m)) p ≡ Some false
 out_same [] m p h l = absurd (true≢false (sym h))
-out_same (k ∷ ps) m p h l = go (is_among ps p) refl (out_same ps (slice_set m k None) p)
-  where
-    room : p < length (slice_set m k None)
-    room = omega (arith, length-set m k None)
-
-    go : (b : Bool) → is_among ps p ≡ b → (is_among ps p ≡ true → p < length (slice_set m k None) → slice_get (in_store (without_pages ps (slice_set m k None))) p ≡ Some false)
-        → slice_get (in_store (without_pages ps (slice_set m k None))) p ≡ Some false
-    go true e ih = ih e room
-    go false e ih = out_other ps (slice_set m k None) p e ∙ set_same m k p None (eqb-true k p (here_it (k == p) (is_among ps p) h e)) l
-      where
-        here_it : (x y : Bool) → (x || y) ≡ true → y ≡ false → x ≡ true
-        here_it x y a b = grind arith
+out_same (k ∷ ps) m p h l = grind (arith, out_same ps (slice_set m k None) p, slice_set, length-set, out_other, set_same, eqb-true)
 
 pub in_other : (pages : List (ℕ × List ℕ)) (m : Pages) (p : ℕ) → is_among (numbers_of pages) p ≡ false → slice_get (in_store (with_pages pages m)) p ≡ slice_get (in_store m) p
 in_other [] m p h = refl
@@ -225,18 +187,7 @@ in_other (page ∷ pages) m p h =
 
 pub in_same : (pages : List (ℕ × List ℕ)) (m : Pages) (p : ℕ) → is_among (numbers_of pages) p ≡ true → p < length m → slice_get (in_store (with_pages pages m)) p ≡ Some true
 in_same [] m p h l = absurd (true≢false (sym h))
-in_same (page ∷ pages) m p h l = go (is_among (numbers_of pages) p) refl (in_same pages (slice_set m page.0 (Some page.1)) p)
-  where
-    room : p < length (slice_set m page.0 (Some page.1))
-    room = omega (arith, length-set m page.0 (Some page.1))
-
-    go : (b : Bool) → is_among (numbers_of pages) p ≡ b → (is_among (numbers_of pages) p ≡ true → p < length (slice_set m page.0 (Some page.1)) → slice_get (in_store (with_pages pages (slice_set m page.0 (Some page.1)))) p ≡ Some true)
-        → slice_get (in_store (with_pages pages (slice_set m page.0 (Some page.1)))) p ≡ Some true
-    go true e ih = ih e room
-    go false e ih = in_other pages (slice_set m page.0 (Some page.1)) p e ∙ set_same m page.0 p (Some page.1) (eqb-true page.0 p (here_it (page.0 == p) (is_among (numbers_of pages) p) h e)) l
-      where
-        here_it : (x y : Bool) → (x || y) ≡ true → y ≡ false → x ≡ true
-        here_it x y a b = grind arith
+in_same (page ∷ pages) m p h l = grind (arith, in_same pages (slice_set m page.0 (Some page.1)) p, slice_set, length-set, in_other, set_same, eqb-true)
 
 -- How many taken commands have a page
 
@@ -253,12 +204,10 @@ none zero = true
 none (suc n) = false
 
 pub none_here : (n : ℕ) → n ≡ 0 → none n ≡ true
-none_here zero e = refl
-none_here (suc n) e = absurd (omega arith)
+none_here n e = grind arith
 
 pub some_here : (n : ℕ) → 0 < n → none n ≡ false
-some_here zero e = absurd (omega arith)
-some_here (suc n) e = refl
+some_here n e = grind arith
 
 pub taken_le : (p : ℕ) (records : List Record) → total (taken p) records ≤ total (in_record p) records
 taken_le p [] = omega arith
@@ -272,32 +221,22 @@ Taken bits records = (p : ℕ) → p < length bits → slice_get bits p ≡ Some
 
 pub in_is : (m : Pages) (p : ℕ) → p < length m → slice_get (in_store m) p ≡ Some (is_in m p)
 in_is [] p l = absurd (omega arith)
-in_is (None ∷ m) zero l = refl
-in_is (Some bytes ∷ m) zero l = refl
 in_is (page ∷ m) (suc p) l = in_is m p (omega arith)
-
-away_is : (r : Record) → is_away r ≡ is_out r.phase
-away_is r = grind arith
+in_is m zero l = refl
 
 abbrev has_away : ℕ → Record → Bool
 has_away p r = is_away r && is_among (pages_of r) p
 
+away_is : (r : Record) → is_away r ≡ is_out r.phase
+away_is r = grind arith
+
 any_is : (p : ℕ) (records : List Record) → not (list_any (has_away p) records) ≡ none (total (taken p) records)
 any_is p [] = refl
-any_is p (r ∷ records) = rw (away_is r) (go (is_out r.phase) (is_among (pages_of r) p) refl (any_is p records))
-  where
-    go : (b c : Bool) → is_among (pages_of r) p ≡ c → not (list_any (has_away p) records) ≡ none (total (taken p) records)
-        → not ((b && c) || list_any (has_away p) records) ≡ none ((if b then in_record p r else 0) + total (taken p) records)
-    go false c e ih = ih ∙ ap none (omega arith)
-    go true true e ih = sym (some_here _ (omega (arith, held_once p (pages_of r) e)))
-    go true false e ih = ih ∙ ap none (omega (arith, not_held p (pages_of r) e))
-
-some_same : {x y : Bool} → Some x ≡ Some y → x ≡ y
-some_same e = cc
+any_is p (r ∷ records) = grind (arith, any_is p records, away_is, total, false, true, some_here, held_once, not_held)
 
 pub out_from_taken : (s : State) → Taken (in_store s.memory) s.host.records → IsOutWithItsCommand s
 out_from_taken s h p l =
-    some_same (sym (in_is s.memory p l) ∙ h p (omega (arith, length-in_store s.memory))) ∙ sym (any_is p s.host.records)
+    (cc (sym (in_is s.memory p l) ∙ h p (omega (arith, length-in_store s.memory)))) ∙ sym (any_is p s.host.records)
 
 pub taken_from_out : (s : State) → IsOutWithItsCommand s → Taken (in_store s.memory) s.host.records
 taken_from_out s h p l =
@@ -325,11 +264,9 @@ length_awaits of q (r ∷ rs) = grind (arith, length_awaits of q rs)
 -- Queues that change
 
 pub at_other : (test : HostState → Bool) (f : HostQueue → HostQueue) (k : ℕ) (hs : List HostQueue) (q : ℕ) → (k ≡ q → ⊥) → awaited_at test (change k f hs) q ≡ awaited_at test hs q
-at_other test f k [] q far = refl
 at_other test f zero (h ∷ hs) zero far = absurd (far refl)
-at_other test f zero (h ∷ hs) (suc q) far = refl
-at_other test f (suc k) (h ∷ hs) zero far = refl
 at_other test f (suc k) (h ∷ hs) (suc q) far = at_other test f k hs q (λ e. far (ap suc e))
+at_other test f k hs q far = refl
 
 pub at_found : (test : HostState → Bool) (hs : List HostQueue) (k : ℕ) (x : HostQueue) → slice_get hs k ≡ Some x → awaited_at test hs k ≡ test x.state
 at_found test hs k x e = ap (λ (o : Option HostQueue). option_map_or (λ h. test h.state) o false) e
@@ -346,11 +283,9 @@ at_nobody test f (suc k) (h ∷ hs) e = at_nobody test f k hs e
 
 -- where the test says the same of what a queue becomes
 pub at_same : (test : HostState → Bool) (f : HostQueue → HostQueue) (k : ℕ) (hs : List HostQueue) → ((h : HostQueue) → slice_get hs k ≡ Some h → test (f h).state ≡ test h.state) → (q : ℕ) → awaited_at test (change k f hs) q ≡ awaited_at test hs q
-at_same test f k [] same q = refl
 at_same test f zero (h ∷ hs) same zero = same h refl
-at_same test f zero (h ∷ hs) same (suc q) = refl
-at_same test f (suc k) (h ∷ hs) same zero = refl
 at_same test f (suc k) (h ∷ hs) same (suc q) = at_same test f k hs same q
+at_same test f k hs same q = refl
 
 pub awaited_same : (of : ℕ → Work → Bool) (test : HostState → Bool) (rs : List Record) (f : HostQueue → HostQueue) (k : ℕ) (hs : List HostQueue)
     → ((h : HostQueue) → slice_get hs k ≡ Some h → test (f h).state ≡ test h.state) → Awaited of test rs hs → Awaited of test rs (change k f hs)
@@ -388,26 +323,13 @@ awaited_is test hs k x h e = sym (at_found test hs k x e) ∙ h
 -- one is sent, and its queue waits for it
 pub awaited_starts : (of : ℕ → Work → Bool) (test : HostState → Bool) (rs : List Record) (hs : List HostQueue) (f : HostQueue → HostQueue) (k : ℕ) (new : Record) (x : HostQueue) → slice_get hs k ≡ Some x
     → ((q : ℕ) → (k == q) ≡ false → of q new.work ≡ false) → one (test (f x).state) ≡ one (test x.state) + one (of k new.work) → Awaited of test rs hs → Awaited of test (rs ++ new ∷ []) (change k f hs)
-awaited_starts of test rs hs f k new x there others moves h q = elim (cases_Bool (k == q)) [
-  | inl e ↦ subst (λ (z : ℕ). total (awaits of z) (rs ++ new ∷ []) ≡ one (awaited_at test (change k f hs) z)) (eqb-true k q e) own
-  | inr e ↦ omega (arith, h q, total-append (awaits of q) rs (new ∷ []), ap one (others q e), ap one (at_other test f k hs q (eqb-false k q e)))
-]
-  where
-    own : total (awaits of k) (rs ++ new ∷ []) ≡ one (awaited_at test (change k f hs) k)
-    own = omega (arith, h k, total-append (awaits of k) rs (new ∷ []), ap one (at_found test hs k x there), ap one (at_changed test f k hs x there), moves)
+awaited_starts of test rs hs f k new x there others moves h q = grind (arith, total, eqb-true, total-append, at_other, eqb-false, at_found, at_changed)
 
 -- one is answered, and its queue waits no longer
 pub awaited_ends : (of : ℕ → Work → Bool) (test : HostState → Bool) (rs : List Record) (hs : List HostQueue) (f : HostQueue → HostQueue) (k at c : ℕ) (r : Record) → find (is_at at c) rs ≡ Some r → total (here at c) rs < 2
     → ((q : ℕ) → (k == q) ≡ false → of q r.work ≡ false) → ((x : HostQueue) → slice_get hs k ≡ Some x → one (test (f x).state) + one (of k r.work) ≡ one (test x.state))
     → Awaited of test rs hs → Awaited of test (without_record at c rs) (change k f hs)
-awaited_ends of test rs hs f k at c r is once others moves h q = elim (cases_Bool (k == q)) [
-  | inl e ↦ subst (λ (z : ℕ). total (awaits of z) (without_record at c rs) ≡ one (awaited_at test (change k f hs) z)) (eqb-true k q e) (own (slice_get hs k) refl)
-  | inr e ↦ omega (arith, h q, total_without (awaits of q) at c rs r is once, ap one (others q e), ap one (at_other test f k hs q (eqb-false k q e)))
-]
-  where
-    own : (o : Option HostQueue) → slice_get hs k ≡ o → total (awaits of k) (without_record at c rs) ≡ one (awaited_at test (change k f hs) k)
-    own None e = omega (arith, h k, total_without (awaits of k) at c rs r is once, ap one (ap (λ (o : Option HostQueue). option_map_or (λ h. test h.state) o false) e), ap one (at_nobody test f k hs e))
-    own (Some x) e = omega (arith, h k, total_without (awaits of k) at c rs r is once, ap one (at_found test hs k x e), ap one (at_changed test f k hs x e), moves x e)
+awaited_ends of test rs hs f k at c r is once others moves h q = grind (arith, total, eqb-true, total_without, at_other, eqb-false, at_nobody, at_found, at_changed)
 
 -- What a reset makes of records and queues: how their sums and what holds of all of them change.
 
@@ -456,10 +378,7 @@ admin_total w same none rs = reset_total w same rs ∙ nothing rs
   where
     nothing : (rs : List Record) → total w (io_records rs) ≡ 0
     nothing [] = refl
-    nothing (r ∷ rs) = go (a.is_of_io r.work) refl (nothing rs)
-      where
-        go : (b : Bool) → a.is_of_io r.work ≡ b → total w (io_records rs) ≡ 0 → total w (if b then r ∷ io_records rs else io_records rs) ≡ 0
-        go b e ih = grind arith
+    nothing (r ∷ rs) = grind (arith, nothing rs)
 
 pub all_reset : (P Q : Record → Type 0) → ((r : Record) → a.is_of_io r.work ≡ true → P r → Q (a.lost_anywhere r)) → (rs : List Record) → AllByRecursion P rs → AllByRecursion Q (a.reset_records rs)
 all_reset P Q each [] all = tt
@@ -470,21 +389,10 @@ all_reset P Q each (r ∷ rs) all = elim (cases_Bool (a.is_of_io r.work)) [
 
 -- its pages: an admin command has none
 pub reset_pages : (p : ℕ) (rs : List Record) → AllByRecursion (λ r. OwnsFit r.q r.work (pages_of r)) rs → total (in_record p) (a.reset_records rs) ≡ total (in_record p) rs
-reset_pages p rs fit =
-    reset_total (in_record p) (λ r. ap (times p) (lost_keeps.pages r)) rs
-    ∙ io_total (λ r. OwnsFit r.q r.work (pages_of r)) (in_record p) (λ r f adm. grind arith) rs fit
+reset_pages p rs fit = grind (arith, reset_total, lost_keeps, io_total)
 
 pub reset_taken : (p : ℕ) (rs : List Record) → AllByRecursion (λ r. OwnsFit r.q r.work (pages_of r)) rs → total (taken p) (a.reset_records rs) ≡ total (taken p) rs
-reset_taken p rs fit =
-    reset_total (taken p) (lost_taken p) rs
-    ∙ io_total (λ r. OwnsFit r.q r.work (pages_of r)) (taken p) (λ r f adm. no_pages p r.q r.work r.phase (pages_of r) f adm) rs fit
-  where
-    no_pages : (p q : ℕ) (w : Work) (ph : Phase) (pages : List ℕ) → OwnsFit q w pages → a.is_of_io w ≡ false → (if is_out ph then times p pages else 0) ≡ 0
-    no_pages p q (Io request) ph pages f kind = absurd (true≢false kind)
-    no_pages p q (Management adm) ph pages f kind = go (is_out ph)
-      where
-        go : (b : Bool) → (if b then times p pages else 0) ≡ 0
-        go b = grind arith
+reset_taken p rs fit = grind (arith, reset_total, lost_taken, io_total)
 
 -- Queues
 
@@ -510,19 +418,11 @@ all_reset_queues P Q (x ∷ hs) admin gone all = (admin x refl all.0, rest hs)
 
 pub reset_length : (hs : List HostQueue) → length (a.reset_queues hs) ≡ length hs
 reset_length [] = refl
-reset_length (x ∷ hs) = ap suc (rest hs)
-  where
-    rest : (hs : List HostQueue) → length (map (λ other. a.no_queue) hs) ≡ length hs
-    rest [] = refl
-    rest (x ∷ hs) = ap suc (rest hs)
+reset_length (x ∷ hs) = grind (arith, common_steps)
 
 pub reset_device_length : (ds : List DeviceQueue) → length (a.reset_device_queues ds) ≡ length ds
 reset_device_length [] = refl
-reset_device_length (x ∷ ds) = ap suc (rest ds)
-  where
-    rest : (ds : List DeviceQueue) → length (map (λ other. a.no_device_queue) ds) ≡ length ds
-    rest [] = refl
-    rest (x ∷ ds) = ap suc (rest ds)
+reset_device_length (x ∷ ds) = grind (arith, common_steps)
 
 -- the pages of the I/O queues leave them
 pub reset_halves : (p : ℕ) (hs : List HostQueue) → total (in_queue p) (a.reset_queues hs) + times p (a.io_pages hs) ≡ total (in_queue p) hs
@@ -541,12 +441,10 @@ admin_has p (x ∷ hs) = omega (arith, times-append p x.sq_pages x.cq_pages)
 -- Nothing waits at the controller, so no admin command stands there
 
 pub no_waiting : (ds : List DeviceQueue) → waiting (a.reset_device_queues ds) ≡ []
-no_waiting [] = refl
-no_waiting (d ∷ ds) = refl
+no_waiting ds = grind arith
 
 pub no_answering : (ds : List DeviceQueue) → answering (a.reset_device_queues ds) ≡ []
-no_answering [] = refl
-no_answering (d ∷ ds) = refl
+no_answering ds = grind arith
 
 pub reset_admin_commands : (rs : List Record) → AdminCommandsStand rs [] [] []
 reset_admin_commands rs = record { places = λ c. omega arith; entries = tt; jobs = tt; answers = tt }

@@ -1,8 +1,8 @@
 -- A sound state stays sound.
 use Rattle.machine_model.specs.After as a
 use Rattle.machine_model.specs.Events as events
-use Rattle.std.proofs.Common.{◌≡◌, ℕ, zero, suc, ◌+◌, ◌<◌, Bool, true, false, ◌||◌, Some, List, [], find, slice_get, refl, ap, sym, ◌∙◌, arith, eq-eqb, ◌≤◌, ◌==◌, nat_lt, ◌&&◌, None, ◌∷◌, ◌++◌, length, map, is_some, if◌then◌else◌, subst, length-set, not, inl, inr}
-use Rattle.std.{proofs.lemmas.Bool.{not-true, or_parts, true≢false, cases_Bool}, specs.Option.option_map_or}
+use Rattle.std.proofs.Common.{◌≡◌, ℕ, zero, suc, ◌+◌, ◌<◌, Bool, true, false, ◌||◌, Some, List, [], find, slice_get, refl, ap, sym, ◌∙◌, arith, eq-eqb, ◌≤◌, ◌==◌, nat_lt, ◌&&◌, None, ◌∷◌, ◌++◌, length, map, is_some, if◌then◌else◌, subst, length-set, inl, inr}
+use Rattle.std.{proofs.lemmas.Bool.{cases_Bool}}
 use Rattle.entry_codec.specs.declared.{completion.ComEntry.ComEntry, status.{Status.Status, TheConstants.Status.ABORTED_SQ_DELETION}}
 use Rattle.entry_codec.specs.declared.submission.SubEntry.{SubEntry}
 use Rattle.admin_commands.specs.{Entries.admin_entry, declared.AdminKind.{AdminKind, TheVariants.{DeleteSq, Abort, DeleteCq, CreateCq, CreateSq}}}
@@ -16,12 +16,13 @@ use Rattle.machine_model.proofs.Steps.{Accepts, IsKept, in_store, length-in_stor
 use Rattle.machine_model.specs.{After.change, Claims.{DeletionsFit, CreationsFit, OwnsFit, HasNoOtherPages}, Commands.{Work, Management, Io}}
 use Rattle.machine_model.specs.{Events.{Event, Reply, Reaped}, Memory.{with_pages, without_pages, zeroed_pages}, Opening.{opening, queues_from}}
 use Rattle.machine_model.specs.Placement.{without_numbers}
-use Rattle.machine_model.specs.Refusals.{is_asked, is_making_cq, is_making_sq, deletes_sq_of, creates_cq_of, creates_sq_of, slot_page, slot_offset, host_queue, refusal_of, is_submitted, is_deleting, has_sq, has_cq, in_service, in_state, no_io_queue, no_identifier, pages_wanted, is_drafted, is_collected, is_held}
-use Rattle.machine_model.specs.State.{State, Host, HostQueue, HostState, Live, Record, is_at, Held, Drafted, Deleting, record_at, pages_of, with_record, without_record, outstanding_on, Phase}
+use Rattle.machine_model.specs.Refusals.{is_asked, is_making_cq, is_making_sq, deletes_sq_of, creates_cq_of, creates_sq_of, slot_page, slot_offset, host_queue, refusal_of, is_submitted, has_sq, has_cq, is_drafted, is_held}
+use Rattle.machine_model.specs.State.{State, Host, HostQueue, HostState, Live, Record, is_at, Held, Drafted, Deleting, record_at, pages_of, with_record, without_record, Phase}
 use Rattle.machine_model.specs.Step.{HostPart, host_part, IsController, IsNewIdentifier, times, reaped}
 use Rattle.page_ledger.specs.Owners.{is_among}
-use Rattle.io_commands.specs.{Asked.Request, Drafts.DraftContents, Jobs.is_success, Requests.fault_of, Values.numbers_of}
+use Rattle.io_commands.specs.{Asked.Request, Drafts.DraftContents, Jobs.is_success, Values.numbers_of}
 pub use Rattle.machine_model.proofs.Moves.{named, status_in}
+use Rattle.std.proofs.lemmas.Grind.{common_steps}
 
 -- One deletion of a queue's submission side is outstanding where the host waits for it, and one creation of a half where it waits for that: each event of the host keeps it so.
 
@@ -59,10 +60,7 @@ asked_note s q cid st e r k holds f heard w x ex = ap is_asked (asked_as_heard s
 
 -- a live queue behind a move of a ring
 pub still_live : (s : State) (q k : ℕ) (g : HostRing → HostRing) (queue y : HostQueue) → IsLiveQueue s q queue → slice_get (change k (λ x. record x { ring = g x.ring }) s.host.queues) q ≡ Some y → y.state ≡ Live
-still_live s q k g queue y live e =
-    let x = ring_at k q g s.host.queues y e in
-    let same : queue ≡ x.0 = cc (live.there, x.1) in
-    x.2 ∙ ap (λ (z : HostQueue). z.state) (sym same) ∙ live.live
+still_live s q k g queue y live e = grind (arith, ring_at)
 
 -- What waits for what
 
@@ -134,9 +132,6 @@ submissions_wait = record {
 pub asked_event : (s : State) (e : Event) (reply : Reply) → Accepts s e reply → IsController e ≡ false → HoldsPart (host_part s) → AskedS s → AskedS (a.after s e reply)
 asked_event s e reply ok c holds h = awaited_event deletes_sq_of is_asked deletions_wait s e reply ok c holds h
 
-pub deletions_event : (s : State) (e : Event) (reply : Reply) → Accepts s e reply → IsController e ≡ false → HoldsPart (host_part s) → DeletionsFit (a.after s e reply).host
-deletions_event s e reply ok c holds = deletions_fit (a.after s e reply).host (asked_event s e reply ok c holds (deletions_awaited s.host holds.deletions))
-
 pub creations_event : (s : State) (e : Event) (reply : Reply) → Accepts s e reply → IsController e ≡ false → HoldsPart (host_part s) → CreationsFit (a.after s e reply).host
 creations_event s e reply ok c holds =
     creations_fit (a.after s e reply).host (awaited_event creates_cq_of is_making_cq completions_wait s e reply ok c holds (completions_awaited s.host holds.creations))
@@ -206,8 +201,7 @@ ok-memory g s e h = recount (length (in_store s.memory)) (length (in_store (g s.
 -- Reserving
 
 pub unused : (s : State) (q cid : ℕ) → IsNewIdentifier s q cid → total (here q cid) s.host.records ≡ 0
-unused s q cid new =
-    sym (times-outstanding cid q s.host.records) ∙ not_held cid (outstanding_on s.host q) (not-true _ new.unused)
+unused s q cid new = grind (arith, times-outstanding, not_held)
 
 few_free : (count p : ℕ) (h : Host) → Owns count h → times p h.free ≤ one (nat_lt p count)
 few_free count p h holds = omega (arith, holds.owner p)
@@ -314,14 +308,11 @@ ok-reset s h =
 
 -- a queue on which something is reserved is an I/O queue
 pub io_queue : (s : State) (q : ℕ) (r : Request) → refusal_of s (events.Reserve q r) ≡ None → (q == 0) ≡ false
-io_queue s q r none =
-    let no = first_fails (no_io_queue s q) events.NoQueue
-    ((in_state is_deleting s q, events.Deleting) ∷ (is_some (fault_of r.kind r.blocks r.pieces), option_map_or events.Bad (fault_of r.kind r.blocks r.pieces) events.NoQueue) ∷ (no_identifier s q, events.NoIdentifier)
-    ∷ (nat_lt (length s.host.free) (pages_wanted s r), events.NoPages (pages_wanted s r) (length s.host.free)) ∷ []) none in
-    (or_parts (q == 0) (not (in_state in_service s q)) no).0
+io_queue s q r none = grind (arith, first_fails, is_some, nat_lt, length, none)
 
 owns_event : (s : State) (e : Event) (reply : Reply) → Accepts s e reply → IsController e ≡ false → HoldsPart (host_part s) → OwnsPart (host_part (a.after s e reply))
 owns_event s e reply ok c holds =
+    let others : (q : ℕ) (queue : HostQueue) → host_queue s q ≡ Some queue → HasNoOtherPages queue = λ q queue there. all_at HasNoOtherPages s.host.queues q queue there holds.halves in
     host_moves (λ (e : Event) (reply : Reply) (t : State). Ok t) s e reply ok c
     (record {
       reserves = λ q request d none is. ok-reserve s d (ap (λ (k : ℕ). k == 0) is.queue ∙ io_queue s q request none) (subst (λ (k : ℕ). IsNewIdentifier s k d.cid) (sym is.queue) is.identifier) is.free h;
@@ -378,9 +369,6 @@ owns_event s e reply ok c holds =
     h : Ok s
     h = owns_of (length (in_store s.memory)) s.host holds
 
-    others : (q : ℕ) (queue : HostQueue) → host_queue s q ≡ Some queue → HasNoOtherPages queue
-    others q queue there = all_at HasNoOtherPages s.host.queues q queue there holds.halves
-
     told : (q : ℕ) (e : ComEntry) → Ok (a.heard q e s)
     told q e = ok-ring q (knowing e.sqhd) (a.consumed q s) (ok-ring q (next_head s.entries) s h)
 
@@ -398,7 +386,7 @@ host_event s e reply ok c holds =
       owner = owns.owner;
       once = owns.once;
       admins = owns.admins;
-      deletions = deletions_event s e reply ok c holds;
+      deletions = (deletions_fit (a.after s e reply).host (asked_event s e reply ok c holds (deletions_awaited s.host holds.deletions)));
       creations = creations_event s e reply ok c holds;
       bare = bare_event s e reply ok c holds;
       halves = halves_event s e reply ok c holds;
@@ -429,44 +417,26 @@ at_most s p h = omega (arith, taken_le p s.host.records, h.owner p, small (nat_l
 -- pages go out with a command that is then taken
 taken_out : (s : State) (pages : List ℕ) (records : List Record) → ((p : ℕ) → total (taken p) records ≡ total (taken p) s.host.records + times p pages)
     → Fits s → Taken (in_store (without_pages pages s.memory)) records
-taken_out s pages records more h p l = elim (cases_Bool (is_among pages p)) [
-  | inl e ↦ out_same pages s.memory p e l' ∙ ap Some (sym (some_here _ (omega (arith, more p, held_once p pages e))))
-  | inr e ↦ out_other pages s.memory p e ∙ h p (omega (arith, l', length-in_store s.memory)) ∙ ap (λ n. Some (none n)) (omega (arith, more p, not_held p pages e))
-]
-  where
-    l' : p < length s.memory
-    l' = omega (arith, length-in_store (without_pages pages s.memory), length-without_pages pages s.memory)
+taken_out s pages records more h p l = grind (arith, length-in_store, length-without_pages, out_same, some_here, held_once, out_other, not_held)
 
 -- pages come in with a command that was taken and no longer is
 brought_in : (s : State) (pages : List (ℕ × List ℕ)) (records : List Record) → ((p : ℕ) → total (taken p) records + times p (numbers_of pages) ≡ total (taken p) s.host.records)
     → HoldsPart (host_part s) → Fits s → Taken (in_store (with_pages pages s.memory)) records
-brought_in s pages records less holds h p l = elim (cases_Bool (is_among (numbers_of pages) p)) [
-  | inl e ↦ in_same pages s.memory p e l' ∙ ap Some (sym (none_here _ (omega (arith, less p, held_once p (numbers_of pages) e, at_most s p holds))))
-  | inr e ↦ in_other pages s.memory p e ∙ h p (omega (arith, l', length-in_store s.memory)) ∙ ap (λ n. Some (none n)) (omega (arith, less p, not_held p (numbers_of pages) e))
-]
-  where
-    l' : p < length s.memory
-    l' = omega (arith, length-in_store (with_pages pages s.memory), length-with_pages pages s.memory)
+brought_in s pages records less holds h p l = grind (arith, length-in_store, length-with_pages, in_same, none_here, held_once, at_most, in_other, not_held)
 
 -- free pages are in, and stay in as a half is granted
 zeroed_in : (s : State) (pages : List ℕ) → ((p : ℕ) → times p pages ≡ (if is_among pages p && is_among s.host.free p then 1 else 0)) → HoldsPart (host_part s) → Fits s → Taken (in_store (with_pages (zeroed_pages pages) s.memory)) s.host.records
-zeroed_in s pages are holds h p l = elim (cases_Bool (is_among pages p)) [
-  | inl e ↦ in_same (zeroed_pages pages) s.memory p (among ∙ e) l' ∙ ap Some (sym (none_here _ (untaken e)))
-  | inr e ↦ in_other (zeroed_pages pages) s.memory p (among ∙ e) ∙ h p (omega (arith, l', length-in_store s.memory))
-]
+zeroed_in s pages are holds h p l =
+    let l' : p < length s.memory = omega (arith, length-in_store (with_pages (zeroed_pages pages) s.memory), length-with_pages (zeroed_pages pages) s.memory) in
+    let among = ap (λ (ps : List ℕ). is_among ps p) (zeroed_numbers pages) in
+    elim (cases_Bool (is_among pages p)) [
+      | inl e ↦ in_same (zeroed_pages pages) s.memory p (among ∙ e) l' ∙ ap Some (sym (none_here _ (untaken e)))
+      | inr e ↦ in_other (zeroed_pages pages) s.memory p (among ∙ e) ∙ h p (omega (arith, l', length-in_store s.memory))
+    ]
   where
-    l' : p < length s.memory
-    l' = omega (arith, length-in_store (with_pages (zeroed_pages pages) s.memory), length-with_pages (zeroed_pages pages) s.memory)
-
-    among : is_among (numbers_of (zeroed_pages pages)) p ≡ is_among pages p
-    among = ap (λ (ps : List ℕ). is_among ps p) (zeroed_numbers pages)
-
     -- a page of the run is free, so no command has it
     untaken : is_among pages p ≡ true → total (taken p) s.host.records ≡ 0
-    untaken e = elim (cases_Bool (is_among s.host.free p)) [
-      | inl f ↦ omega (arith, taken_le p s.host.records, holds.owner p, held_once p s.host.free f, small (nat_lt p (length (in_store s.memory))))
-      | inr f ↦ let none : times p pages ≡ 0 = rw (e, f) at (are p) in absurd (omega (arith, none, held_once p pages e))
-    ]
+    untaken e = grind (arith, taken_le, held_once, small, nat_lt, length, in_store, none)
 
 -- the pages of queue 0 are in, and stay in as they are made zero; the admin commands that go had no page
 reset_in : (s : State) → HoldsPart (host_part s) → Fits s → Fits (a.after_reset s)
@@ -482,9 +452,7 @@ reset_in s holds h p l =
     pages = a.admin_pages s.host.queues
 
     untaken : is_among pages p ≡ true → total (taken p) (a.reset_records s.host.records) ≡ 0
-    untaken e =
-        reset_taken p s.host.records holds.admins
-        ∙ omega (arith, taken_le p s.host.records, holds.owner p, held_once p pages e, admin_has p s.host.queues, small (nat_lt p (length (in_store s.memory))))
+    untaken e = grind (arith, reset_taken, taken_le, held_once, admin_has, small, in_store, common_steps)
 
 -- records change and the store doesn't
 same_taken : (s : State) (records : List Record) → ((p : ℕ) → total (taken p) records ≡ total (taken p) s.host.records) → Fits s → Taken (in_store s.memory) records
@@ -496,9 +464,6 @@ taken_when p r b e = rw e refl
 
 drafted_out : (ph : Phase) → is_drafted ph ≡ true → is_out ph ≡ true
 drafted_out ph e = grind arith
-
-collected_out : (ph : Phase) → is_collected ph ≡ true → is_out ph ≡ true
-collected_out ph e = grind arith
 
 held_in : (ph : Phase) → is_held ph ≡ true → is_out ph ≡ false
 held_in ph e = grind arith
@@ -515,23 +480,14 @@ reaped_submitted s q cid h = go (reaped s q) refl h
     of st what t = let x = heard_of s q cid st what t in (x.1, x.2.found, x.2.submitted)
 
     go : (what : Reaped) → reaped s q ≡ what → named what ≡ Some cid → IsSubmittedAt s q cid
-    go events.Empty is n = absurd cc
-    go (events.Rejected why) is n = absurd cc
     go (events.Done c st) is n = of st (events.Done c st) (record { is = sym is; names = n; status = refl })
     go (events.AdminDone c st dw0) is n = of st (events.AdminDone c st dw0) (record { is = sym is; names = n; status = refl })
+    go what is n = absurd cc
 
 -- Each event
 
 fits-lost : (p q : ℕ) (r : Record) → taken p (a.lost q r) ≡ taken p r
-fits-lost p q r = go ((r.q == q) && is_submitted r.phase) (λ e. submitted_in r.phase (and_right' (r.q == q) (is_submitted r.phase) e)) refl
-  where
-    and_right' : (x y : Bool) → (x && y) ≡ true → y ≡ true
-    and_right' true y e = e
-    and_right' false y e = absurd (true≢false (sym e))
-
-    go : (b : Bool) → (((r.q == q) && is_submitted r.phase) ≡ true → is_out r.phase ≡ false) → ((r.q == q) && is_submitted r.phase) ≡ b
-        → taken p (if b then record r { phase = Held; status = Some ABORTED_SQ_DELETION } else r) ≡ taken p r
-    go b out e = grind arith
+fits-lost p q r = grind arith
 
 fits_event : (s : State) (e : Event) (reply : Reply) → Accepts s e reply → IsController e ≡ false → Both (host_part s) → Fits (a.after s e reply)
 fits_event s e reply ok c h =
@@ -560,7 +516,7 @@ fits_event s e reply ok c h =
       collects = λ q cid r f at held is.
           taken_out s (pages_of r) (with_record q cid a.collected s.host.records)
           (λ p. omega (arith, total_with (taken p) q cid a.collected s.host.records r at (h.0.once q cid), taken_when p r false (held_in r.phase held))) h.1;
-      releases = λ f r its. ended f.q f.cid r (f.data_pages ++ f.chain_pages) its.found (collected_out r.phase its.phase) its.pages;
+      releases = λ f r its. ended f.q f.cid r (f.data_pages ++ f.chain_pages) its.found (grind (arith, its.phase)) its.pages;
       aborts = λ q cid id none new. sent (Abort q cid) id s h.1;
       asks = λ q id queue none new live. sent (DeleteSq q) id s h.1;
       drops = λ q id none new. sent (DeleteCq q) id s h.1;

@@ -1,9 +1,9 @@
 -- What an event leaves, part by part.
 use Rattle.machine_model.specs.Events as events
-use Rattle.std.proofs.Common.{◌≡◌, ℕ, ◌+◌, ◌/◌, ◌%◌, ◌==◌, nat_lt, nat_le, Bool, true, false, not, ◌&&◌, ◌||◌, Option, Some, if◌then◌else◌, refl, map, sym, subst, arith, zero, suc, take, drop, None, List, [], ◌∷◌, length, is_some, slice_set, option_and_then, ap, ◌∙◌, length-set, ◌++◌, find, ap₂, nat_eq, inl, inr, MatchBool}
+use Rattle.std.proofs.Common.{◌≡◌, ℕ, ◌+◌, ◌/◌, ◌%◌, ◌==◌, nat_lt, nat_le, Bool, true, false, not, ◌&&◌, ◌||◌, Option, Some, if◌then◌else◌, refl, map, sym, subst, arith, zero, suc, take, drop, None, List, [], ◌∷◌, length, is_some, slice_set, option_and_then, ap, ◌∙◌, length-set, ◌++◌, find, ap₂, nat_eq, MatchBool}
 use Rattle.std.{proofs.lemmas.{Bool.{true≢false, not-false, or_parts, and_parts, ne_eqb}, List.map-append}, specs.Cmp.Lexicographic.{pointwise, same_text}}
 use Rattle.std.specs.{List.AllByRecursion, Option.option_map_or}
-use Rattle.entry_codec.specs.{Completion.completion_bytes, Submission.submission_bytes}
+use Rattle.entry_codec.specs.{Completion.completion_bytes}
 use Rattle.entry_codec.specs.declared.{admin_opcode.TheConstants.{ABORT, DELETE_IO_SQ, DELETE_IO_CQ, CREATE_IO_CQ, CREATE_IO_SQ}, status.Status.Status}
 use Rattle.entry_codec.specs.declared.status.TheConstants.Status.{SUCCESS, INVALID_OPCODE, INVALID_FIELD, ABORT_REQUESTED, INVALID_QUEUE_IDENTIFIER, INVALID_QUEUE_SIZE, INVALID_QUEUE_DELETION, COMPLETION_QUEUE_INVALID, COMMAND_ID_CONFLICT}
 use Rattle.entry_codec.specs.declared.submission.SubEntry.{SubEntry}
@@ -11,15 +11,14 @@ use Rattle.admin_commands.specs.Entries.{named_queue, named_command, named_size,
 use Rattle.admin_commands.specs.Verdicts.{is_absent, is_live as is_running, is_io_queue, half_fault, abort_verdict, delete_sq_verdict, delete_cq_verdict, create_cq_verdict, create_sq_verdict}
 use Rattle.admin_commands.specs.declared.{AdminVerdict.{AdminVerdict, TheVariants.{Answer, MakeCompletion, MakeSubmission}}, DeviceView.DeviceView}
 use Rattle.admin_commands.specs.declared.SqState.TheVariants.{Stopping}
-use Rattle.io_commands.specs.{Asked.Request, Jobs.{is_success, direction_of_entry}, Values.numbers_of}
+use Rattle.io_commands.specs.{Asked.Request, Jobs.{is_success}, Values.numbers_of}
 use Rattle.page_memory.specs.{Pages.{Pages, page_at, with_page_bytes, with_bytes}, declared.page.Half.{Half, TheVariants.{Submission, Completion}}}
-use Rattle.queue_pair.specs.{Memory.half_pages, Rings.next_tail}
-use Rattle.machine_model.proofs.Cases.{option_is}
-use Rattle.machine_model.specs.After.{acted, managed, decided, on_job, on_device, on_device_queue, stopped, dropped, completion_made, submission_made, sq_state, cq_there, walks, view_of, posted, on_ring, change, on_memory, after_fetch, after_walk, after_complete, answered, post_phase, taken_off, begun, moved, next_unit, final_status, deletion_done, after}
+use Rattle.queue_pair.specs.{Memory.half_pages}
+use Rattle.machine_model.specs.After.{acted, managed, decided, on_job, on_device, on_device_queue, stopped, dropped, completion_made, submission_made, sq_state, cq_there, walks, view_of, on_memory, after_fetch, after_walk, after_complete, answered, post_phase, taken_off, moved, deletion_done, after}
 use Rattle.machine_model.specs.{Events.{Event, Reply}, Linked.absent, Memory.{with_pages, without_pages}}
-use Rattle.machine_model.specs.Refusals.{host_queue, next_rung, job_at, conflicts, slot_page, slot_offset, post_slot, fetch_slot, causes, refusal_of, record_is, is_of, asks_for}
+use Rattle.machine_model.specs.Refusals.{host_queue, next_rung, conflicts, slot_page, slot_offset, post_slot, fetch_slot, causes, refusal_of, record_is, is_of, asks_for}
 use Rattle.machine_model.specs.{Run.Run, State.{State, Job, HostQueue, Record, Phase, record_at, pages_of}}
-use Rattle.machine_model.specs.Step.{HostPart, host_part, Step, Leaves, LeavesByController, LeavesByHost, Permits, Answers, IsController, is_exact}
+use Rattle.machine_model.specs.Step.{HostPart, host_part, Step, Leaves, LeavesByController, LeavesByHost, Permits, Answers, IsController}
 use Rattle.controller_walk.specs.Units.{Act, Stays, Reads, Moves, first_passing}
 use Rattle.sgl_descriptor.specs.declared.Direction.{Direction, TheVariants.{Destination, Source}}
 
@@ -51,6 +50,8 @@ pub record Manages (P : State → Type 0) (e : SubEntry) (s : State) : Type 0 wh
 -- where each case holds, the statement holds of what the fetch leaves
 pub managed_by : (P : State → Type 0) (e : SubEntry) (s : State) → Manages P e s → P (managed e s)
 managed_by P e s m =
+    let aborting : (e.opcode == ABORT) ≡ true → Q (abort_verdict q (named_command e) view) =
+    λ is8. by-if Q (walks s q (named_command e) && not (q == 0)) _ _ (λ w. m.aborts is8 (and_parts (walks s q (named_command e)) (not (q == 0)) w).0) (λ w. m.is_late is8) in
     by-if Q (not (is_opcode e.opcode)) _ _ (λ c. m.refuses INVALID_OPCODE refl)
     (λ known. by-if Q (not (e.fuse == 0)) _ _ (λ c. m.refuses INVALID_FIELD refl)
     (λ unfused. by-if Q (e.opcode == ABORT) _ _ aborting
@@ -68,14 +69,8 @@ managed_by P e s m =
     view : DeviceView
     view = view_of s e
 
-    aborting : (e.opcode == ABORT) ≡ true → Q (abort_verdict q (named_command e) view)
-    aborting is8 =
-        by-if Q (walks s q (named_command e) && not (q == 0)) _ _ (λ w. m.aborts is8 (and_parts (walks s q (named_command e)) (not (q == 0)) w).0) (λ w. m.is_late is8)
-
     stopping : (e.opcode == DELETE_IO_SQ) ≡ true → Q (delete_sq_verdict q view)
-    stopping is0 =
-        by-if Q ((q == 0) || not (is_running (sq_state s q))) _ _ (λ w. m.refuses INVALID_QUEUE_IDENTIFIER refl)
-        (λ w. let parts = or_parts (q == 0) (not (is_running (sq_state s q))) w in m.stops is0 parts.0 (not-false (is_running (sq_state s q)) parts.1))
+    stopping is0 = grind (arith, by-if)
 
     dropping : (e.opcode == DELETE_IO_CQ) ≡ true → Q (delete_cq_verdict q view)
     dropping is4 =
@@ -132,8 +127,7 @@ pub part-bytes : (s : State) (p at : ℕ) (new : List ℕ) → host_part (on_mem
 part-bytes s p at new = ap (λ bits. record (host_part s) { in_store = bits }) (in_store-with_bytes s.memory p at new)
 
 pub part-option : {A : Type 0} (f : A → State) (o : Option A) (s : State) → ((x : A) → host_part (f x) ≡ host_part s) → host_part (option_map_or f o s) ≡ host_part s
-part-option f None s each = refl
-part-option f (Some x) s each = each x
+part-option f o s each = grind arith
 
 pub part-if : (b : Bool) (t u s : State) → host_part t ≡ host_part s → host_part u ≡ host_part s → host_part (if b then t else u) ≡ host_part s
 part-if b t u s et eu = grind arith
@@ -158,36 +152,26 @@ part-managed e s =
       makes_submission = λ is1 q0 gone there. refl;
     })
 
-part-begun : (q : ℕ) (e : SubEntry) (s : State) → host_part (begun q e s) ≡ host_part s
-part-begun q e s = refl
-
 pub part-fetch : (q : ℕ) (s : State) → host_part (after_fetch q s) ≡ host_part s
 part-fetch q s =
     part-option _ (next_rung s q) s
     (λ e. part-if (conflicts s q) _ _ s (part-answered q e.cid COMMAND_ID_CONFLICT 0 (taken_off q s))
-    (part-if (q == 0) _ _ s (part-managed e (taken_off 0 s)) (part-begun q e (taken_off q s))))
+    (part-if (q == 0) _ _ s (part-managed e (taken_off 0 s)) (refl)))
 
 part-moved : (d : Direction) (act : Act) (q cid : ℕ) (s : State) → host_part (moved d act q cid s) ≡ host_part s
 part-moved d Stays q cid s = refl
 part-moved d (Reads place) q cid s = refl
-part-moved Destination (Moves place n offset) q cid s =
-    part-option (λ j. on_memory (λ m. with_page_bytes m (place / 4096) (place % 4096) (take n (drop offset j.bytes))) s) (job_at s q cid) s
-    (λ j. part-bytes s (place / 4096) (place % 4096) (take n (drop offset j.bytes)))
+part-moved Destination (Moves place n offset) q cid s = grind (arith, part-option, take, drop, part-bytes)
 part-moved Source (Moves place n offset) q cid s = refl
 
 pub part-walk : (q cid : ℕ) (s : State) → host_part (after_walk q cid s) ≡ host_part s
-part-walk q cid s =
-    part-option _ (job_at s q cid) s
-    (λ j. part-option _ (next_unit s j) s
-    (λ act. part-moved (direction_of_entry j.entry) act q cid s))
+part-walk q cid s = grind (arith, part-option, part-moved)
 
 part-deletion : (j : Job) (st : Status) (s : State) → host_part (deletion_done j st s) ≡ host_part s
 part-deletion j st s = part-if _ _ _ s refl refl
 
 pub part-complete : (q cid : ℕ) (s : State) → host_part (after_complete q cid s) ≡ host_part s
-part-complete q cid s =
-    part-option _ (job_at s q cid) s
-    (λ j. part-answered q cid _ _ _ ∙ part-deletion j (final_status s j) _)
+part-complete q cid s = grind (arith, part-option, part-answered, part-deletion)
 
 -- how many pages there are
 pub length-in_store : (m : Pages) → length (in_store m) ≡ length m
@@ -224,10 +208,7 @@ same_lists xs ys h = same_text xs ys (sym h)
 
 -- the record that passes a test
 pub found : (test : Record → Bool) (s : State) (q cid : ℕ) → record_is test s q cid ≡ true → (r : Record) × (record_at s.host q cid ≡ Some r) × (test r ≡ true)
-found test s q cid h = elim (option_is (record_at s.host q cid)) [
-  | inl e ↦ let h = rw e at h in absurd (true≢false (sym h))
-  | inr (r, e) ↦ let h = rw e at h in (r, e, h)
-]
+found test s q cid h = grind arith
 
 pub pages_match : (phase : Phase → Bool) (request : Request) (bytes chain : List (ℕ × List ℕ)) (r : Record)
     → is_of phase request (numbers_of bytes) (numbers_of chain) r ≡ true → (numbers_of (bytes ++ chain) ≡ pages_of r) × (phase r.phase ≡ true)
@@ -241,11 +222,7 @@ pages_match phase request bytes chain r h =
 
 pub found_all : (P : Record → Type 0) (test : Record → Bool) (records : List Record) (r : Record) → find test records ≡ Some r → AllByRecursion P records → P r
 found_all P test [] r h all = absurd cc
-found_all P test (x ∷ records) r h all = go (test x) h (λ e. found_all P test records r e all.1)
-  where
-    go : (b : Bool) → (if b then Some x else find test records) ≡ Some r → (find test records ≡ Some r → P r) → P r
-    go true e ih = let same : x ≡ r = cc in subst P same all.0
-    go false e ih = ih e
+found_all P test (x ∷ records) r h all = grind (arith, found_all P test records r)
 
 -- What every step keeps, if each accepted event of the host does.
 
@@ -257,17 +234,13 @@ part_controller s (events.Complete q cid) reply c = part-complete q cid s
 part_controller s e reply c = absurd (true≢false (sym c))
 
 forged_part : (b : Bool) (s u t : State) → MatchBool b (LeavesByController u s t) (LeavesByHost u s t) → host_part t ≡ host_part s
-forged_part true s u t h = h.part
-forged_part false s u t h = h.part
+forged_part b s u t h = grind arith
 
 either_part : (b c : Bool) (s u t : State) → MatchBool b (t ≡ s) (MatchBool c (LeavesByController u s t) (LeavesByHost u s t)) → host_part t ≡ host_part s
-either_part true c s u t h = ap host_part h
-either_part false c s u t h = forged_part c s u t h
+either_part b c s u t h = grind arith
 
 pub part_left : (s : State) (e : Event) (reply : Reply) (new : State) → Leaves s e reply new → host_part new ≡ host_part (after s e reply)
-part_left s e (events.Refused why touched) new h = ap host_part h
-part_left s e (events.Reserved d) new h = either_part (is_exact e s.trusted) (IsController e) (after s e (events.Reserved d)) s new h
-part_left s e reply new h = either_part (is_exact e s.trusted) (IsController e) (after s e reply) s new h
+part_left s e reply new h = grind arith
 
 -- what is permitted, and what is left, where nothing was forged
 pub permitted : {A : Type 0} (B : Type 0) (t c : Bool) → t ≡ true → MatchBool (t || c) A B → A
@@ -282,9 +255,8 @@ abbrev pub Accepts : State → Event → Reply → Type 0
 Accepts s e reply = (refusal_of s e ≡ None) × Answers s e reply
 
 pub surely : {A : Type 0} (B : Type 0) (t c : Bool) → c ≡ false → MatchBool (t || not c) A B → A
-surely B true c e h = h
 surely B false true e h = absurd (true≢false e)
-surely B false false e h = h
+surely B t c e h = h
 
 -- P is of the host's part
 abbrev pub IsKept : (HostPart → Type 0) → State → Event → Reply → Type 0
@@ -294,7 +266,6 @@ pub kept_anyway : (P : HostPart → Type 0) (s : State) (e : Event) (reply : Rep
     → (Accepts s e reply → IsController e ≡ false → IsKept P s e reply) → IsKept P s e reply
 kept_anyway P s e reply true c permits each = λ h. subst P (sym (part_controller s e reply c)) h
 kept_anyway P s e (events.Refused why touched) false c permits each = λ h. h
-kept_anyway P s e (events.Reserved d) false c permits each = each (surely _ s.trusted (IsController e) c permits) c
 kept_anyway P s e reply false c permits each = each (surely _ s.trusted (IsController e) c permits) c
 
 pub each_step : (P : HostPart → Type 0)
@@ -307,7 +278,6 @@ pub each_run : (P : HostPart → Type 0)
     → ((s : State) (e : Event) (reply : Reply) → Accepts s e reply → IsController e ≡ false → IsKept P s e reply)
     → (old : State) (es : List Event) (replies : List Reply) (new : State) → Run old es replies new → P (host_part old) → P (host_part new)
 each_run P each old [] [] new run h = subst (λ (s : State). P (host_part s)) (sym run) h
-each_run P each old [] (reply ∷ replies) new run h = absurd run
-each_run P each old (e ∷ es) [] new run h = absurd run
 each_run P each old (e ∷ es) (reply ∷ replies) new run h =
     each_run P each run.0 es replies new run.2 (each_step P each old e reply run.0 run.1 h)
+each_run P each old es replies new run h = absurd run

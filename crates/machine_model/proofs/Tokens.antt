@@ -1,12 +1,12 @@
 -- Places of commands, and tokens.
-use Rattle.std.proofs.Common.{◌≡◌, ℕ, ◌+◌, ◌<◌, ◌≤◌, ◌==◌, Bool, true, false, not, Some, List, [], ◌∷◌, ◌++◌, map, filter, find, if◌then◌else◌, refl, ap, sym, ◌∙◌, arith, subst, eqb-true, eq-eqb, inl, inr, ◌&&◌, Option, option_and_then}
-use Rattle.std.{proofs.lemmas.Bool.{true≢false, and_parts, cases_Bool}, specs.{List.AllByRecursion, Option.option_map_or}}
+use Rattle.std.proofs.Common.{◌≡◌, ℕ, ◌+◌, ◌<◌, ◌≤◌, ◌==◌, Bool, true, false, not, Some, List, [], ◌∷◌, ◌++◌, map, filter, find, refl, ap, sym, ◌∙◌, arith, eqb-true, eq-eqb, inl, inr, ◌&&◌}
+use Rattle.std.{proofs.lemmas.Bool.{true≢false, and_parts, cases_Bool}, specs.{List.AllByRecursion}}
 use Rattle.admin_commands.specs.{Entries.{admin_entry, named_queue}, declared.AdminKind.AdminKind}
 use Rattle.entry_codec.specs.declared.{admin_opcode.TheConstants.{DELETE_IO_SQ, DELETE_IO_CQ, CREATE_IO_CQ, CREATE_IO_SQ}, status.Status.Status}
 use Rattle.entry_codec.specs.declared.submission.SubEntry.{SubEntry}
 use Rattle.io_commands.specs.Jobs.{is_success}
-use Rattle.machine_model.proofs.{Cases.option_is, Counting.{one, total, total-append, total_without, total-filter, here}}
-use Rattle.machine_model.specs.{Commands.{Management, Work, Io}, State.{Record, Job, Answer, is_at, without_record}}
+use Rattle.machine_model.proofs.{Counting.{one, total, total-append, total_without, total-filter, here}}
+use Rattle.machine_model.specs.{Commands.{Management}, State.{Record, Job, Answer, is_at, without_record}}
 pub use Rattle.machine_model.specs.Refusals.{is_job}
 pub use Rattle.machine_model.specs.Agreeing.{is_absent_at as gone_at, has_completions_at as there_at, Knows, DeletesIo, EntryKnown, JobKnown, AnswerKnown, entry_is, job_is, answer_is, AdminCommandsStand as Placed, kind_of, kind_at, is_kind, succeeds, unmade, answered_well, done_well, deletes_sq, deletes_cq, creates_cq, creates_sq}
 
@@ -63,40 +63,20 @@ placed_jobs rs un js ans f mild h = record {
 
 pub find_more : (test : Record → Bool) (rs : List Record) (new r : Record) → find test rs ≡ Some r → find test (rs ++ new ∷ []) ≡ Some r
 find_more test [] new r e = absurd cc
-find_more test (x ∷ rs) new r e = go (test x) e (find_more test rs new r)
-  where
-    go : (b : Bool) → (if b then Some x else find test rs) ≡ Some r → (find test rs ≡ Some r → find test (rs ++ new ∷ []) ≡ Some r) → (if b then Some x else find test (rs ++ new ∷ [])) ≡ Some r
-    go true e ih = e
-    go false e ih = ih e
+find_more test (x ∷ rs) new r e = grind (arith, find_more test rs new r)
 
 pub find_new : (test : Record → Bool) (rs : List Record) (new : Record) → total (λ r. one (test r)) rs ≡ 0 → test new ≡ true → find test (rs ++ new ∷ []) ≡ Some new
 find_new test [] new none e = rw e refl
-find_new test (x ∷ rs) new none e = go (test x) none (find_new test rs new)
-  where
-    go : (b : Bool) → one b + total (λ r. one (test r)) rs ≡ 0 → (total (λ r. one (test r)) rs ≡ 0 → test new ≡ true → find test (rs ++ new ∷ []) ≡ Some new)
-        → (if b then Some x else find test (rs ++ new ∷ [])) ≡ Some new
-    go true none ih = absurd (omega arith)
-    go false none ih = ih (omega arith) e
+find_new test (x ∷ rs) new none e = grind (arith, find_new test rs new)
 
 pub find_map : (test : Record → Bool) (f : Record → Record) → ((r : Record) → test (f r) ≡ test r) → (rs : List Record) (r : Record) → find test rs ≡ Some r → find test (map f rs) ≡ Some (f r)
 find_map test f same [] r e = absurd cc
-find_map test f same (x ∷ rs) r e = rw (same x) (go (test x) e (find_map test f same rs r))
-  where
-    go : (b : Bool) → (if b then Some x else find test rs) ≡ Some r → (find test rs ≡ Some r → find test (map f rs) ≡ Some (f r)) → (if b then Some (f x) else find test (map f rs)) ≡ Some (f r)
-    go true e ih = let x≡r : x ≡ r = cc in ap (λ y. Some (f y)) x≡r
-    go false e ih = ih e
+find_map test f same (x ∷ rs) r e = rw (same x) (grind (arith, e, (find_map test f same rs r)))
 
 -- a filter that keeps each record that passes
 pub find_filter : (test keep : Record → Bool) → ((r : Record) → test r ≡ true → keep r ≡ true) → (rs : List Record) (r : Record) → find test rs ≡ Some r → find test (filter keep rs) ≡ Some r
 find_filter test keep all [] r e = absurd cc
-find_filter test keep all (x ∷ rs) r e = go (test x) (keep x) refl refl e (find_filter test keep all rs r)
-  where
-    go : (b k : Bool) → test x ≡ b → keep x ≡ k → (if b then Some x else find test rs) ≡ Some r → (find test rs ≡ Some r → find test (filter keep rs) ≡ Some r)
-        → find test (if k then x ∷ filter keep rs else filter keep rs) ≡ Some r
-    go true true eb ek e ih = rw eb e
-    go true false eb ek e ih = absurd (true≢false (sym (all x eb) ∙ ek))
-    go false true eb ek e ih = rw eb (ih e)
-    go false false eb ek e ih = ih e
+find_filter test keep all (x ∷ rs) r e = grind (arith, find_filter test keep all rs r)
 
 -- Sending an admin command
 
@@ -118,11 +98,7 @@ placed_sent rs un js ans adm id new none at work h =
         → total (here 0 c) (rs ++ new ∷ []) ≡ total (here 0 c) rs + (here 0 c new + 0)
         → total (entry_is c) (un ++ admin_entry adm id ∷ []) ≡ total (entry_is c) un + (one (id == c) + 0)
         → total (entry_is c) (un ++ admin_entry adm id ∷ []) + (total (job_is c) js + total (answer_is c) ans) ≤ total (here 0 c) (rs ++ new ∷ [])
-    more c true e r u =
-        let same : id ≡ c = eqb-true id c e in
-        let h' : here 0 c new ≡ 1 = subst (λ (k : ℕ). one (is_at 0 k new) ≡ 1) same (ap one at) in
-        omega (arith, r, u, h.places c, ap one e, h')
-    more c false e r u = omega (arith, r, u, h.places c, ap one e)
+    more c b e r u = grind arith
 
 -- Fetching one
 
@@ -167,26 +143,15 @@ all-both P Q R f (x ∷ xs) p q = (f x p.0 q.0, all-both P Q R f xs p.1 q.1)
 
 pub find_sound : {A : Type 0} (test : A → Bool) (xs : List A) (x : A) → find test xs ≡ Some x → test x ≡ true
 find_sound test [] x e = absurd cc
-find_sound test (y ∷ xs) x e = elim (cases_Bool (test y)) [
-  | inl t ↦ let e = rw t at e in let same : y ≡ x = cc in ap test (sym same) ∙ t
-  | inr t ↦ let e = rw t at e in let ih = find_sound test xs x in ih e
-]
+find_sound test (y ∷ xs) x e = grind (arith, find_sound test xs x)
 
 pub find_all : {A : Type 0} (P : A → Type 0) (test : A → Bool) (xs : List A) (x : A) → find test xs ≡ Some x → AllByRecursion P xs → P x
 find_all P test [] x e all = absurd cc
-find_all P test (y ∷ xs) x e all = go (test y) e (λ d. find_all P test xs x d all.1)
-  where
-    go : (b : Bool) → (if b then Some y else find test xs) ≡ Some x → (find test xs ≡ Some x → P x) → P x
-    go true e ih = let same : y ≡ x = cc in subst P same all.0
-    go false e ih = ih e
+find_all P test (y ∷ xs) x e all = grind (arith, find_all P test xs x)
 
 all-filter : {A : Type 0} (P : A → Type 0) (keep : A → Bool) (xs : List A) → AllByRecursion P xs → AllByRecursion P (filter keep xs)
 all-filter P keep [] all = tt
-all-filter P keep (x ∷ xs) all = go (keep x) (all-filter P keep xs all.1)
-  where
-    go : (b : Bool) → AllByRecursion P (filter keep xs) → AllByRecursion P (if b then x ∷ filter keep xs else filter keep xs)
-    go true rest = (all.0, rest)
-    go false rest = rest
+all-filter P keep (x ∷ xs) all = grind (arith, all-filter P keep xs all.1)
 
 jobs_others : (c : ℕ) (js : List Job) → total (job_is c) js ≡ 0 → AllByRecursion (λ j. j.q ≡ 0 → j.entry.cid ≡ c → ⊥) js
 jobs_others c [] none = tt
@@ -196,6 +161,8 @@ jobs_others c (j ∷ js) none =
 pub placed_reaped : (rs : List Record) (un : List SubEntry) (js : List Job) (an : Answer) (ans : List Answer)
     → total (here 0 an.cid) rs < 2 → Placed rs un js (an ∷ ans) → Placed (without_record 0 an.cid rs) un js ans
 placed_reaped rs un js an ans once h =
+    let still : (c : ℕ) (adm : AdminKind) → (c ≡ an.cid → ⊥) → Knows rs c adm → Knows (without_record 0 an.cid rs) c adm =
+    λ c adm far k. (k.0, find_filter (is_at 0 c) (λ r. not (is_at 0 an.cid r)) (λ r t. (grind arith)) rs k.0 k.1, k.2) in
     let knows = h.answers.0.1 in
     let r = knows.0 in
     let at = and_parts (r.q == 0) (r.cid == an.cid) (find_sound (is_at 0 an.cid) rs r knows.1) in
@@ -214,29 +181,12 @@ placed_reaped rs un js an ans once h =
           (λ j k far z. let w = k z in (w.0, still j.entry.cid w.0 (far z) w.1, w.2, w.3)) js h.jobs no_job;
       answers = all-both (AnswerKnown rs) (λ a. a.cid ≡ an.cid → ⊥) (AnswerKnown (without_record 0 an.cid rs)) (λ a k far. (k.0, still a.cid k.0 far k.1)) ans h.answers.1 no_answer;
     }
-  where
-    still : (c : ℕ) (adm : AdminKind) → (c ≡ an.cid → ⊥) → Knows rs c adm → Knows (without_record 0 an.cid rs) c adm
-    still c adm far k = (k.0, find_filter (is_at 0 c) (λ r. not (is_at 0 an.cid r)) (λ r t. keeps r t (is_at 0 an.cid r) refl) rs k.0 k.1, k.2)
-      where
-        keeps : (r : Record) → is_at 0 c r ≡ true → (b : Bool) → is_at 0 an.cid r ≡ b → not b ≡ true
-        keeps r t true e =
-            let a1 = and_parts (r.q == 0) (r.cid == c) t in
-            let a2 = and_parts (r.q == 0) (r.cid == an.cid) e in
-            absurd (far (sym (eqb-true r.cid c a1.1) ∙ eqb-true r.cid an.cid a2.1))
-        keeps r t false e = refl
 
 -- Completing one
 
 pub total_gone : {A : Type 0} (w : A → ℕ) (test : A → Bool) (xs : List A) (x : A) → find test xs ≡ Some x → total w (filter (λ y. not (test y)) xs) + w x ≤ total w xs
 total_gone w test [] x e = absurd cc
-total_gone w test (y ∷ xs) x e = go (test y) e (total_gone w test xs x)
-  where
-    go : (b : Bool) → (if b then Some y else find test xs) ≡ Some x → (find test xs ≡ Some x → total w (filter (λ y. not (test y)) xs) + w x ≤ total w xs)
-        → total w (if not b then y ∷ filter (λ y. not (test y)) xs else filter (λ y. not (test y)) xs) + w x ≤ w y + total w xs
-    go true e ih =
-        let same : y ≡ x = cc in
-        omega (arith, ap w same, total-filter w (λ y. not (test y)) xs)
-    go false e ih = omega (arith, ih e)
+total_gone w test (y ∷ xs) x e = grind (arith, total_gone w test xs x, find, total, filter, true, total-filter, false)
 
 pub placed_completed : (rs : List Record) (un : List SubEntry) (js : List Job) (ans : List Answer) (cid : ℕ) (j : Job) (an : Answer)
     → find (is_job 0 cid) js ≡ Some j → an.cid ≡ cid → Placed rs un js ans → Placed rs un (filter (λ k. not (is_job 0 cid k)) js) (ans ++ an ∷ [])
@@ -302,32 +252,15 @@ all_into P Q f (x ∷ xs) all = (f x all.0, all_into P Q f xs all.1)
 -- Kinds
 
 pub kind_known : (test : AdminKind → Bool) (rs : List Record) (c : ℕ) (adm : AdminKind) → Knows rs c adm → is_kind test rs c ≡ test adm
-kind_known test rs c adm k =
-    ap (λ (o : Option Record). option_map_or test (option_and_then (λ r. kind_of r.work) o) false) k.1 ∙ ap (λ (w : Work). option_map_or test (kind_of w) false) k.2
+kind_known test rs c adm k = grind arith
 
 -- what an identifier's command is for, if it passes
 pub kind_found : (test : AdminKind → Bool) (rs : List Record) (c : ℕ) → is_kind test rs c ≡ true → (adm : AdminKind) × Knows rs c adm × (test adm ≡ true)
-kind_found test rs c h = elim (option_is (find (is_at 0 c) rs)) [
-  | inl e ↦ let t = rw e at h in absurd (true≢false (sym t))
-  | inr (r, e) ↦ let t = rw e at h in of r e r.work refl t
-]
-  where
-    of : (r : Record) → find (is_at 0 c) rs ≡ Some r → (w : Work) → r.work ≡ w → option_map_or test (kind_of w) false ≡ true → (adm : AdminKind) × Knows rs c adm × (test adm ≡ true)
-    of r e (Io request) is t = absurd (true≢false (sym t))
-    of r e (Management adm) is t = (adm, (r, e, is), t)
+kind_found test rs c h = grind arith
 
 -- what an entry's opcode and queue say of it
 pub names_sq_deletion : (q c : ℕ) (adm : AdminKind) → deletes_sq q adm ≡ (((admin_entry adm c).opcode == DELETE_IO_SQ) && (named_queue (admin_entry adm c) == q))
 names_sq_deletion q c adm = grind arith
-
-pub names_cq_deletion : (q c : ℕ) (adm : AdminKind) → deletes_cq q adm ≡ (((admin_entry adm c).opcode == DELETE_IO_CQ) && (named_queue (admin_entry adm c) == q))
-names_cq_deletion q c adm = grind arith
-
-pub names_cq_creation : (q c : ℕ) (adm : AdminKind) → creates_cq q adm ≡ (((admin_entry adm c).opcode == CREATE_IO_CQ) && (named_queue (admin_entry adm c) == q))
-names_cq_creation q c adm = grind arith
-
-pub names_sq_creation : (q c : ℕ) (adm : AdminKind) → creates_sq q adm ≡ (((admin_entry adm c).opcode == CREATE_IO_SQ) && (named_queue (admin_entry adm c) == q))
-names_sq_creation q c adm = grind arith
 
 -- the kinds of a known entry
 pub record Named (rs : List Record) (e : SubEntry) : Type 0 where
@@ -339,9 +272,9 @@ pub record Named (rs : List Record) (e : SubEntry) : Type 0 where
 pub named : (rs : List Record) (e : SubEntry) (adm : AdminKind) → Knows rs e.cid adm → e ≡ admin_entry adm e.cid → Named rs e
 named rs e adm k is = record {
   deletes_sq = λ q. kind_known (deletes_sq q) rs e.cid adm k ∙ names_sq_deletion q e.cid adm ∙ ap (λ (x : SubEntry). (x.opcode == DELETE_IO_SQ) && (named_queue x == q)) (sym is);
-  deletes_cq = λ q. kind_known (deletes_cq q) rs e.cid adm k ∙ names_cq_deletion q e.cid adm ∙ ap (λ (x : SubEntry). (x.opcode == DELETE_IO_CQ) && (named_queue x == q)) (sym is);
-  creates_cq = λ q. kind_known (creates_cq q) rs e.cid adm k ∙ names_cq_creation q e.cid adm ∙ ap (λ (x : SubEntry). (x.opcode == CREATE_IO_CQ) && (named_queue x == q)) (sym is);
-  creates_sq = λ q. kind_known (creates_sq q) rs e.cid adm k ∙ names_sq_creation q e.cid adm ∙ ap (λ (x : SubEntry). (x.opcode == CREATE_IO_SQ) && (named_queue x == q)) (sym is);
+  deletes_cq = λ q. kind_known (deletes_cq q) rs e.cid adm k ∙ (grind arith) ∙ ap (λ (x : SubEntry). (x.opcode == DELETE_IO_CQ) && (named_queue x == q)) (sym is);
+  creates_cq = λ q. kind_known (creates_cq q) rs e.cid adm k ∙ (grind arith) ∙ ap (λ (x : SubEntry). (x.opcode == CREATE_IO_CQ) && (named_queue x == q)) (sym is);
+  creates_sq = λ q. kind_known (creates_sq q) rs e.cid adm k ∙ (grind arith) ∙ ap (λ (x : SubEntry). (x.opcode == CREATE_IO_SQ) && (named_queue x == q)) (sym is);
 }
 
 -- What one count after a change has of it before: no more, of each kind
@@ -367,10 +300,18 @@ pub record Fewer (rs : List Record) (un : List SubEntry) (js : List Job) (ans : 
 
 pub fewer_kept : (rs rs' : List Record) (un : List SubEntry) (js : List Job) (ans : List Answer) → Placed rs un js ans
     → ((c : ℕ) (adm : AdminKind) → Knows rs c adm → Knows rs' c adm) → Fewer rs un js ans rs' un js ans × Fewer rs' un js ans rs un js ans
-fewer_kept rs rs' un js ans placed still = (
-  record { unmade = λ test. omega (arith, entries test, fails test, answers_fail test); answered = λ test. omega (arith, answers_well test); done = λ test. omega (arith, wins test, answers_well test) },
-  record { unmade = λ test. omega (arith, entries test, fails test, answers_fail test); answered = λ test. omega (arith, answers_well test); done = λ test. omega (arith, wins test, answers_well test) },
-)
+fewer_kept rs rs' un js ans placed still =
+    let fails : (test : AdminKind → Bool) → total (failing test rs') js ≡ total (failing test rs) js =
+    λ test. total_all _ _ js (all_into (JobKnown rs) _ (λ j k. job_same test (λ j. not (succeeds j)) j k) js placed.jobs) in
+    let wins : (test : AdminKind → Bool) → total (succeeding test rs') js ≡ total (succeeding test rs) js =
+    λ test. total_all _ _ js (all_into (JobKnown rs) _ (λ j k. job_same test succeeds j k) js placed.jobs) in
+    let answers_fail : (test : AdminKind → Bool) → total (failed test rs') ans ≡ total (failed test rs) ans =
+    λ test. total_all _ _ ans (all_into (AnswerKnown rs) _ (λ an k. ap (λ (b : Bool). one (b && not (is_success an.status))) (same test an.cid k.0 k.1)) ans placed.answers) in
+    let answers_well : (test : AdminKind → Bool) → total (succeeded test rs') ans ≡ total (succeeded test rs) ans =
+    λ test. total_all _ _ ans (all_into (AnswerKnown rs) _ (λ an k. ap (λ (b : Bool). one (b && is_success an.status)) (same test an.cid k.0 k.1)) ans placed.answers) in (
+      record { unmade = λ test. omega (arith, entries test, fails test, answers_fail test); answered = λ test. omega (arith, answers_well test); done = λ test. omega (arith, wins test, answers_well test) },
+      record { unmade = λ test. omega (arith, entries test, fails test, answers_fail test); answered = λ test. omega (arith, answers_well test); done = λ test. omega (arith, wins test, answers_well test) },
+    )
   where
     same : (test : AdminKind → Bool) (c : ℕ) (adm : AdminKind) → Knows rs c adm → is_kind test rs' c ≡ is_kind test rs c
     same test c adm k = kind_known test rs' c adm (still c adm k) ∙ sym (kind_known test rs c adm k)
@@ -379,64 +320,19 @@ fewer_kept rs rs' un js ans placed still = (
     entries test = total_all _ _ un (all_into (EntryKnown rs) _ (λ e k. ap one (same test e.cid k.0 k.1)) un placed.entries)
 
     job_same : (test : AdminKind → Bool) (g : Job → Bool) (j : Job) → JobKnown rs j → one ((j.q == 0) && is_kind test rs' j.entry.cid && g j) ≡ one ((j.q == 0) && is_kind test rs j.entry.cid && g j)
-    job_same test g j k = go (j.q == 0) refl
-      where
-        go : (b : Bool) → (j.q == 0) ≡ b → one (b && is_kind test rs' j.entry.cid && g j) ≡ one (b && is_kind test rs j.entry.cid && g j)
-        go true e = let w = k (eqb-true j.q 0 e) in ap (λ (b : Bool). one (b && g j)) (same test j.entry.cid w.0 w.1)
-        go false e = refl
-
-    fails : (test : AdminKind → Bool) → total (failing test rs') js ≡ total (failing test rs) js
-    fails test = total_all _ _ js (all_into (JobKnown rs) _ (λ j k. job_same test (λ j. not (succeeds j)) j k) js placed.jobs)
-
-    wins : (test : AdminKind → Bool) → total (succeeding test rs') js ≡ total (succeeding test rs) js
-    wins test = total_all _ _ js (all_into (JobKnown rs) _ (λ j k. job_same test succeeds j k) js placed.jobs)
-
-    answers_fail : (test : AdminKind → Bool) → total (failed test rs') ans ≡ total (failed test rs) ans
-    answers_fail test = total_all _ _ ans (all_into (AnswerKnown rs) _ (λ an k. ap (λ (b : Bool). one (b && not (is_success an.status))) (same test an.cid k.0 k.1)) ans placed.answers)
-
-    answers_well : (test : AdminKind → Bool) → total (succeeded test rs') ans ≡ total (succeeded test rs) ans
-    answers_well test = total_all _ _ ans (all_into (AnswerKnown rs) _ (λ an k. ap (λ (b : Bool). one (b && is_success an.status)) (same test an.cid k.0 k.1)) ans placed.answers)
+    job_same test g j k = elim (cases_Bool (j.q == 0)) [
+      | inl e ↦ rw e (let w = k (eqb-true j.q 0 e) in ap (λ (b : Bool). one (b && g j)) (same test j.entry.cid w.0 w.1))
+      | inr e ↦ rw e refl
+    ]
 
 -- what is found without a record is another, and is found with it
 without_other : (q cid c : ℕ) (rs : List Record) (r : Record) → find (is_at 0 c) (without_record q cid rs) ≡ Some r → is_at q cid r ≡ false
 without_other q cid c [] r e = absurd cc
-without_other q cid c (x ∷ rs) r e = go (is_at q cid x) refl e (without_other q cid c rs r)
-  where
-    go : (b : Bool) → is_at q cid x ≡ b → find (is_at 0 c) (if not b then x ∷ without_record q cid rs else without_record q cid rs) ≡ Some r → (find (is_at 0 c) (without_record q cid rs) ≡ Some r → is_at q cid r ≡ false) → is_at q cid r ≡ false
-    go true t e ih = ih e
-    go false t e ih = inner (is_at 0 c x) e
-      where
-        inner : (b : Bool) → (if b then Some x else find (is_at 0 c) (without_record q cid rs)) ≡ Some r → is_at q cid r ≡ false
-        inner true e = let same : x ≡ r = cc in subst (λ (y : Record). is_at q cid y ≡ false) same t
-        inner false e = ih e
+without_other q cid c (x ∷ rs) r e = grind (arith, without_other q cid c rs r)
 
 found_back : (q cid c : ℕ) (rs : List Record) (r : Record) → ((x : Record) → is_at q cid x ≡ true → is_at 0 c x ≡ true → ⊥) → find (is_at 0 c) (without_record q cid rs) ≡ Some r → find (is_at 0 c) rs ≡ Some r
 found_back q cid c [] r far e = absurd cc
-found_back q cid c (x ∷ rs) r far e = go (is_at q cid x) refl e (found_back q cid c rs r far)
-  where
-    go : (b : Bool) → is_at q cid x ≡ b → find (is_at 0 c) (if not b then x ∷ without_record q cid rs else without_record q cid rs) ≡ Some r → (find (is_at 0 c) (without_record q cid rs) ≡ Some r → find (is_at 0 c) rs ≡ Some r)
-        → find (is_at 0 c) (x ∷ rs) ≡ Some r
-    go true t e ih = passed (is_at 0 c x) refl
-      where
-        passed : (b : Bool) → is_at 0 c x ≡ b → (if b then Some x else find (is_at 0 c) rs) ≡ Some r
-        passed true u = absurd (far x t u)
-        passed false u = ih e
-    go false t e ih = inner (is_at 0 c x) e
-      where
-        inner : (b : Bool) → (if b then Some x else find (is_at 0 c) (without_record q cid rs)) ≡ Some r → (if b then Some x else find (is_at 0 c) rs) ≡ Some r
-        inner true e = e
-        inner false e = ih e
+found_back q cid c (x ∷ rs) r far e = grind (arith, found_back q cid c rs r far)
 
 pub knows_back : (q cid : ℕ) (rs : List Record) (c : ℕ) (adm : AdminKind) → Knows (without_record q cid rs) c adm → Knows rs c adm
-knows_back q cid rs c adm k = (k.0, found_back q cid c rs k.0 far k.1, k.2)
-  where
-    far : (x : Record) → is_at q cid x ≡ true → is_at 0 c x ≡ true → ⊥
-    far x t u =
-        let r = k.0 in
-        let a = and_parts (x.q == q) (x.cid == cid) t in
-        let b = and_parts (x.q == 0) (x.cid == c) u in
-        let m = and_parts (r.q == 0) (r.cid == c) (find_sound (is_at 0 c) (without_record q cid rs) r k.1) in
-        let rq : r.q ≡ q = eqb-true r.q 0 m.0 ∙ sym (eqb-true x.q 0 b.0) ∙ eqb-true x.q q a.0 in
-        let rc : r.cid ≡ cid = eqb-true r.cid c m.1 ∙ sym (eqb-true x.cid c b.1) ∙ eqb-true x.cid cid a.1 in
-        let is : is_at q cid r ≡ true = rw (eq-eqb r.q q rq, eq-eqb r.cid cid rc) refl in
-        true≢false (sym is ∙ without_other q cid c rs r k.1)
+knows_back q cid rs c adm k = grind (arith, found_back, find_sound, eqb-true, eq-eqb, without_other)

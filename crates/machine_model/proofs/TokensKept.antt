@@ -1,6 +1,6 @@
 -- Tokens from step to step.
 use Rattle.machine_model.specs.After as a
-use Rattle.std.proofs.Common.{◌≡◌, ℕ, zero, suc, ◌+◌, ◌<◌, ◌≤◌, ◌==◌, Bool, true, false, not, ◌&&◌, Option, Some, None, List, [], ◌∷◌, ◌++◌, length, slice_get, refl, ap, sym, ◌∙◌, arith, subst, eqb-true, eq-eqb, ◌-◌, map, if◌then◌else◌}
+use Rattle.std.proofs.Common.{◌≡◌, ℕ, zero, suc, ◌+◌, ◌<◌, ◌≤◌, ◌==◌, Bool, true, false, not, ◌&&◌, Option, Some, None, List, [], ◌∷◌, ◌++◌, length, slice_get, refl, ap, sym, ◌∙◌, arith, subst, eqb-true, eq-eqb, ◌-◌, map}
 use Rattle.std.{proofs.lemmas.Bool.{true≢false, eqb-false}, specs.{List.AllByRecursion, Option.option_map_or}}
 use Rattle.admin_commands.specs.{Entries.named_queue, Verdicts.is_absent, declared.AdminKind.AdminKind}
 use Rattle.entry_codec.specs.declared.{admin_opcode.TheConstants.{DELETE_IO_CQ, CREATE_IO_CQ, CREATE_IO_SQ}, status.Status.Status}
@@ -9,12 +9,12 @@ use Rattle.io_commands.specs.{Asked.Request, Jobs.is_success}
 use Rattle.machine_model.proofs.{Counting.{one, total-append, total, get_changed, get_other}, Owned.lost_by, Sound.small}
 use Rattle.machine_model.proofs.Tokens.{gone_at, there_at, Named, Fewer, is_kind, succeeds, unmade, answered_well, done_well, deletes_sq, deletes_cq, creates_cq, creates_sq, failing, succeeding}
 use Rattle.machine_model.specs.After.{change, dropped, completion_made, submission_made}
-use Rattle.machine_model.specs.Agreeing.{TokensGoRound, knows_deleted_at, is_gone_at, is_live_at, waiting, answering, QueuesFit, is_absent_at, has_completions_at, answers_at, is_out_of_service_at, CommandsStandOnce, AreHeadsBehind, IsHeadBehind, sent_count}
+use Rattle.machine_model.specs.Agreeing.{TokensGoRound, knows_deleted_at, is_gone_at, is_live_at, waiting, answering, QueuesFit, is_absent_at, has_completions_at, answers_at, CommandsStandOnce, AreHeadsBehind, IsHeadBehind, sent_count}
 use Rattle.machine_model.specs.{Claims.AdminLives, Commands.{Work, Io, Management}, Refusals.{is_live, in_service, is_submitted, has_sq, has_cq}}
 use Rattle.machine_model.specs.Standing.{CommandStands, StandsAs, IsSized, unfetched_at}
 use Rattle.machine_model.specs.State.{HostQueue, DeviceQueue, Record, Job, Answer, HostState, Live, Held}
 use Rattle.page_memory.specs.{Pages.Pages, declared.page.Half.TheVariants.{Submission, Completion}}
-use Rattle.queue_pair.specs.{Memory.half_pages, Rings.fresh_host_ring, Slots.distance}
+use Rattle.queue_pair.specs.{Memory.half_pages}
 
 -- The controller's events keep the tokens of what is deleted and made.
 
@@ -50,11 +50,9 @@ tokens_device rs hs ds ds' un js ans gone there h = record {
 
 pub device_same : {A : Type 0} (g : DeviceQueue → A) (nothing : A) (f : DeviceQueue → DeviceQueue) (k : ℕ) (ds : List DeviceQueue) → ((d : DeviceQueue) → slice_get ds k ≡ Some d → g (f d) ≡ g d) → (q : ℕ)
     → option_map_or g (slice_get (change k f ds) q) nothing ≡ option_map_or g (slice_get ds q) nothing
-device_same g nothing f k [] same q = refl
 device_same g nothing f zero (d ∷ ds) same zero = same d refl
-device_same g nothing f zero (d ∷ ds) same (suc q) = refl
-device_same g nothing f (suc k) (d ∷ ds) same zero = refl
 device_same g nothing f (suc k) (d ∷ ds) same (suc q) = device_same g nothing f k ds same q
+device_same g nothing f k ds same q = refl
 
 pub device_other : {A : Type 0} (g : DeviceQueue → A) (nothing : A) (f : DeviceQueue → DeviceQueue) (k : ℕ) (ds : List DeviceQueue) (q : ℕ) → (k == q) ≡ false → option_map_or g (slice_get (change k f ds) q) nothing ≡ option_map_or g (slice_get ds q) nothing
 device_other g nothing f k ds q far = ap (λ (o : Option DeviceQueue). option_map_or g o nothing) (get_other k f ds q (eqb-false k q far))
@@ -98,21 +96,16 @@ tokens_plain rs hs ds e un js js' ans ok f cq sq h = record {
 -- a completion queue is dropped: it was there
 pub tokens_drop : (rs : List Record) (hs : List HostQueue) (ds : List DeviceQueue) (e : SubEntry) (un : List SubEntry) (js js' : List Job) (ans : List Answer) → Fetched rs e un js js' ans true
     → Named rs e → (e.opcode == DELETE_IO_CQ) ≡ true → there_at ds (named_queue e) ≡ true → TokensHeld rs hs ds (e ∷ un) js ans → TokensHeld rs hs (change (named_queue e) dropped ds) un js' ans
-tokens_drop rs hs ds e un js js' ans f names is has h = record {
-  submission = λ q. omega (arith, h.submission q, f.unmade (creates_sq q), ap (λ (b : Bool). one (not b)) (same q));
-  completion = λ q. completes q (named_queue e == q) refl;
-  there = λ q inside some. same q ∙ h.there q inside (omega (arith, some, f.unmade (deletes_sq q), f.done (creates_sq q), ap one (sq q)));
-}
+tokens_drop rs hs ds e un js js' ans f names is has h =
+    let k = named_queue e in
+    let same : (q : ℕ) → gone_at (change (named_queue e) dropped ds) q ≡ gone_at ds q = λ q. device_same (λ at. is_absent at.state) true dropped (named_queue e) ds (λ d ed. refl) q in
+    let sq : (q : ℕ) → (is_kind (creates_sq q) rs e.cid && true) ≡ false = λ q. rw (names.creates_sq q, eqb-true e.opcode DELETE_IO_CQ is) refl in
+    record {
+      submission = λ q. omega (arith, h.submission q, f.unmade (creates_sq q), ap (λ (b : Bool). one (not b)) (same q));
+      completion = λ q. completes q (named_queue e == q) refl;
+      there = λ q inside some. same q ∙ h.there q inside (omega (arith, some, f.unmade (deletes_sq q), f.done (creates_sq q), ap one (sq q)));
+    }
   where
-    k : ℕ
-    k = named_queue e
-
-    same : (q : ℕ) → gone_at (change (named_queue e) dropped ds) q ≡ gone_at ds q
-    same q = device_same (λ at. is_absent at.state) true dropped (named_queue e) ds (λ d ed. refl) q
-
-    sq : (q : ℕ) → (is_kind (creates_sq q) rs e.cid && true) ≡ false
-    sq q = rw (names.creates_sq q, eqb-true e.opcode DELETE_IO_CQ is) refl
-
     its : (q : ℕ) (b : Bool) → (named_queue e == q) ≡ b → (is_kind (deletes_cq q) rs e.cid && true) ≡ b
     its q b at = grind arith
 
@@ -133,18 +126,16 @@ tokens_drop rs hs ds e un js js' ans f names is has h = record {
 -- one is made: it was not there
 pub tokens_completion : (rs : List Record) (hs : List HostQueue) (ds : List DeviceQueue) (e : SubEntry) (un : List SubEntry) (js js' : List Job) (ans : List Answer) → Fetched rs e un js js' ans true
     → Named rs e → (e.opcode == CREATE_IO_CQ) ≡ true → there_at ds (named_queue e) ≡ false → TokensHeld rs hs ds (e ∷ un) js ans → TokensHeld rs hs (change (named_queue e) completion_made ds) un js' ans
-tokens_completion rs hs ds e un js js' ans f names is has h = record {
-  submission = λ q. omega (arith, h.submission q, f.unmade (creates_sq q), ap (λ (b : Bool). one (not b)) (same q));
-  completion = λ q. completes q (named_queue e == q) refl;
-  there = λ q inside some. same q ∙ h.there q inside (omega (arith, some, f.unmade (deletes_sq q), f.done (creates_sq q), ap one (sq q)));
-}
+tokens_completion rs hs ds e un js js' ans f names is has h =
+    let same : (q : ℕ) → gone_at (change (named_queue e) completion_made ds) q ≡ gone_at ds q =
+    λ q. device_same (λ at. is_absent at.state) true completion_made (named_queue e) ds (λ d ed. refl) q in
+    let sq : (q : ℕ) → (is_kind (creates_sq q) rs e.cid && true) ≡ false = λ q. rw (names.creates_sq q, eqb-true e.opcode CREATE_IO_CQ is) refl in
+    record {
+      submission = λ q. omega (arith, h.submission q, f.unmade (creates_sq q), ap (λ (b : Bool). one (not b)) (same q));
+      completion = λ q. completes q (named_queue e == q) refl;
+      there = λ q inside some. same q ∙ h.there q inside (omega (arith, some, f.unmade (deletes_sq q), f.done (creates_sq q), ap one (sq q)));
+    }
   where
-    same : (q : ℕ) → gone_at (change (named_queue e) completion_made ds) q ≡ gone_at ds q
-    same q = device_same (λ at. is_absent at.state) true completion_made (named_queue e) ds (λ d ed. refl) q
-
-    sq : (q : ℕ) → (is_kind (creates_sq q) rs e.cid && true) ≡ false
-    sq q = rw (names.creates_sq q, eqb-true e.opcode CREATE_IO_CQ is) refl
-
     cq : (q : ℕ) → (is_kind (deletes_cq q) rs e.cid && true) ≡ false
     cq q = rw (names.deletes_cq q, eqb-true e.opcode CREATE_IO_CQ is) refl
 
@@ -156,31 +147,26 @@ tokens_completion rs hs ds e un js js' ans f names is has h = record {
     completes q true at =
         let was : there_at ds q ≡ false = subst (λ (z : ℕ). there_at ds z ≡ false) (eqb-true (named_queue e) q at) has in
         omega (arith, h.completion q, f.unmade (creates_cq q), f.done (deletes_cq q), ap one (cq q), ap one (its q true at), ap one was, small (there_at (change (named_queue e) completion_made ds) q))
-    completes q false at =
-        omega (arith, h.completion q, f.unmade (creates_cq q), f.done (deletes_cq q), ap one (cq q), ap one (its q false at), ap one (device_other (λ (at : DeviceQueue). at.cq_there) false completion_made (named_queue e) ds q at))
+    completes q false at = grind (arith, unmade, creates_cq, deletes_cq, device_other)
 
 -- a submission queue is made: it was not there
 pub tokens_submission : (rs : List Record) (hs : List HostQueue) (ds : List DeviceQueue) (e : SubEntry) (un : List SubEntry) (js js' : List Job) (ans : List Answer) → length ds ≡ length hs → Fetched rs e un js js' ans true
     → Named rs e → (e.opcode == CREATE_IO_SQ) ≡ true → gone_at ds (named_queue e) ≡ true → TokensHeld rs hs ds (e ∷ un) js ans → TokensHeld rs hs (change (named_queue e) submission_made ds) un js' ans
-tokens_submission rs hs ds e un js js' ans long f names is has h = record {
-  submission = λ q. submits q (named_queue e == q) refl;
-  completion = λ q. omega (arith, h.completion q, f.unmade (creates_cq q), f.done (deletes_cq q), ap one (cq q), ap one (device_same (λ at. at.cq_there) false submission_made (named_queue e) ds (λ d ed. refl) q));
-  there = λ q inside some. comes q inside (named_queue e == q) refl some;
-}
+tokens_submission rs hs ds e un js js' ans long f names is has h =
+    let cq : (q : ℕ) → (is_kind (deletes_cq q) rs e.cid && true) ≡ false = λ q. rw (names.deletes_cq q, eqb-true e.opcode CREATE_IO_SQ is) refl in
+    record {
+      submission = λ q. submits q (named_queue e == q) refl;
+      completion = λ q. omega (arith, h.completion q, f.unmade (creates_cq q), f.done (deletes_cq q), ap one (cq q), ap one (device_same (λ at. at.cq_there) false submission_made (named_queue e) ds (λ d ed. refl) q));
+      there = λ q inside some. comes q inside (named_queue e == q) refl some;
+    }
   where
-    cq : (q : ℕ) → (is_kind (deletes_cq q) rs e.cid && true) ≡ false
-    cq q = rw (names.deletes_cq q, eqb-true e.opcode CREATE_IO_SQ is) refl
-
     its : (q : ℕ) (b : Bool) → (named_queue e == q) ≡ b → (is_kind (creates_sq q) rs e.cid && true) ≡ b
     its q b at = grind arith
 
     submits : (q : ℕ) (b : Bool) → (named_queue e == q) ≡ b
         → one (not (gone_at (change (named_queue e) submission_made ds) q)) + (answered_well (deletes_sq q) rs ans + (one (knows_deleted_at hs q) + unmade (creates_sq q) rs un js' ans)) ≤ 1
-    submits q true at =
-        let was : gone_at ds q ≡ true = subst (λ (z : ℕ). gone_at ds z ≡ true) (eqb-true (named_queue e) q at) has in
-        omega (arith, h.submission q, f.unmade (creates_sq q), ap one (its q true at), ap (λ (b : Bool). one (not b)) was, small (not (gone_at (change (named_queue e) submission_made ds) q)))
-    submits q false at =
-        omega (arith, h.submission q, f.unmade (creates_sq q), ap one (its q false at), ap (λ (b : Bool). one (not b)) (device_other (λ (at : DeviceQueue). is_absent at.state) true submission_made (named_queue e) ds q at))
+    submits q true at = grind (arith, gone_at, true, eqb-true, unmade, creates_sq, small)
+    submits q false at = grind (arith, unmade, creates_sq, device_other)
 
     found : (q : ℕ) → q < length ds → (o : Option DeviceQueue) → slice_get ds q ≡ o → (x : DeviceQueue) × (slice_get ds q ≡ Some x)
     found q inside (Some x) e = (x, e)
@@ -196,9 +182,7 @@ tokens_submission rs hs ds e un js js' ans long f names is has h = record {
     comes q inside true at some =
         let x = found q (omega (arith, inside, long)) (slice_get ds q) refl in
         subst (λ (z : ℕ). gone_at (change z submission_made ds) q ≡ false) (sym (eqb-true (named_queue e) q at)) (device_here (λ (at : DeviceQueue). is_absent at.state) true submission_made q ds false (λ d. refl) x.0 x.1)
-    comes q inside false at some =
-        device_other (λ (at : DeviceQueue). is_absent at.state) true submission_made (named_queue e) ds q at
-        ∙ h.there q inside (omega (arith, some, f.unmade (deletes_sq q), f.done (creates_sq q), ap one (its q false at)))
+    comes q inside false at some = grind (arith, device_other, true, unmade, deletes_sq, creates_sq, false)
 
 -- The controller behind a reset: nothing waits there, and both sides fit.
 
@@ -210,9 +194,8 @@ no_unfetched (d ∷ ds) zero = refl
 no_unfetched (d ∷ ds) (suc q) = rest ds q
   where
     rest : (ds : List DeviceQueue) (q : ℕ) → unfetched_at (map (λ other. a.no_device_queue) ds) q ≡ []
-    rest [] q = refl
-    rest (d ∷ ds) zero = refl
     rest (d ∷ ds) (suc q) = rest ds q
+    rest ds q = refl
 
 pub no_answers_at : (ds : List DeviceQueue) (q : ℕ) → answers_at (a.reset_device_queues ds) q ≡ []
 no_answers_at [] q = refl
@@ -220,9 +203,8 @@ no_answers_at (d ∷ ds) zero = refl
 no_answers_at (d ∷ ds) (suc q) = rest ds q
   where
     rest : (ds : List DeviceQueue) (q : ℕ) → answers_at (map (λ other. a.no_device_queue) ds) q ≡ []
-    rest [] q = refl
-    rest (d ∷ ds) zero = refl
     rest (d ∷ ds) (suc q) = rest ds q
+    rest ds q = refl
 
 -- Queue by queue
 
@@ -233,9 +215,8 @@ pub record AreAdminHalves (n : ℕ) (hs : List HostQueue) : Type 0 where
 
 pub same_length : (n : ℕ) (hs : List HostQueue) (ds : List DeviceQueue) → QueuesFit n hs ds → length ds ≡ length hs
 same_length n [] [] p = refl
-same_length n [] (d ∷ ds) p = absurd p
-same_length n (x ∷ hs) [] p = absurd p
 same_length n (x ∷ hs) (d ∷ ds) p = ap suc (same_length n hs ds p.1)
+same_length n hs ds p = absurd p
 
 pub live_is : (st : HostState) → is_live st ≡ true → st ≡ Live
 live_is st e = grind arith
@@ -267,8 +248,6 @@ reset_pairs n (x ∷ hs) (d ∷ ds) same whole = (
   where
     rest : (hs : List HostQueue) (ds : List DeviceQueue) → length ds ≡ length hs → QueuesFit n (map (λ other. a.no_queue) hs) (map (λ other. a.no_device_queue) ds)
     rest [] [] same = tt
-    rest [] (d ∷ ds) same = absurd cc
-    rest (x ∷ hs) [] same = absurd cc
     rest (x ∷ hs) (d ∷ ds) same = (
       record {
         sub = λ o. absurd (true≢false (sym o));
@@ -281,23 +260,21 @@ reset_pairs n (x ∷ hs) (d ∷ ds) same whole = (
       },
       rest hs ds (omega (arith, same)),
     )
+    rest hs ds same = absurd cc
 
 -- The tokens of what is deleted and made
 
 absent_past : (ds : List DeviceQueue) (q : ℕ) → is_absent_at (map (λ other. a.no_device_queue) ds) q ≡ true
-absent_past [] q = refl
-absent_past (d ∷ ds) zero = refl
 absent_past (d ∷ ds) (suc q) = absent_past ds q
+absent_past ds q = refl
 
 no_completions_past : (ds : List DeviceQueue) (q : ℕ) → has_completions_at (map (λ other. a.no_device_queue) ds) q ≡ false
-no_completions_past [] q = refl
-no_completions_past (d ∷ ds) zero = refl
 no_completions_past (d ∷ ds) (suc q) = no_completions_past ds q
+no_completions_past ds q = refl
 
 not_live_past : (hs : List HostQueue) (q : ℕ) → is_live_at (map (λ other. a.no_queue) hs) q ≡ false
-not_live_past [] q = refl
-not_live_past (x ∷ hs) zero = refl
 not_live_past (x ∷ hs) (suc q) = not_live_past hs q
+not_live_past hs q = refl
 
 pub reset_tokens : (rs : List Record) (hs : List HostQueue) (ds : List DeviceQueue) → length ds ≡ length hs → TokensHeld rs (a.reset_queues hs) (a.reset_device_queues ds) [] [] []
 reset_tokens rs hs ds same = record { submission = submission hs ds; completion = completion hs ds; there = there hs ds same }
@@ -340,11 +317,7 @@ reset_command m ds js r sized =
     (λ request w. let is = sized request w in record { fits = is.fits; good = is.good; pages = is.pages }))
 
 pub reset_places : (hs : List HostQueue) (rs : List Record) (ds : List DeviceQueue) → CommandsStandOnce hs rs (a.reset_device_queues ds) []
-reset_places hs rs ds q w = omega (arith, unfetched (is_out_of_service_at hs q), ap (λ ans. total (λ an. w an.cid) ans) (no_answers_at ds q))
-  where
-    unfetched : (b : Bool) → (if b then 0 else total (λ e. w e.cid) (unfetched_at (a.reset_device_queues ds) q)) ≡ 0
-    unfetched true = refl
-    unfetched false = ap (λ un. total (λ e. w e.cid) un) (no_unfetched ds q)
+reset_places hs rs ds q w = grind (arith, total, no_answers_at, no_unfetched)
 
 -- Heads
 
@@ -352,9 +325,6 @@ no_service_past : (hs : List HostQueue) (q : ℕ) (queue : HostQueue) → slice_
 no_service_past [] q queue e = absurd cc
 no_service_past (x ∷ hs) zero queue e = let same : a.no_queue ≡ queue = cc in ap (λ (y : HostQueue). in_service y.state) (sym same)
 no_service_past (x ∷ hs) (suc q) queue e = no_service_past hs q queue e
-
-fresh_distance : (n k : ℕ) → distance n fresh_host_ring.known_head fresh_host_ring.tail ≤ k
-fresh_distance n k = omega arith
 
 pub reset_heads : (n : ℕ) (hs : List HostQueue) (rs : List Record) (ds : List DeviceQueue) → AllByRecursion (λ r. r.cid < n - 1) rs → AreHeadsBehind n (a.reset_queues hs) rs (a.reset_device_queues ds)
 reset_heads n hs rs ds ids = record { ids = ids; behind = behind hs }
@@ -364,5 +334,5 @@ reset_heads n hs rs ds ids = record { ids = ids; behind = behind hs }
     behind (x ∷ hs) zero queue e serves =
         let same : a.reset_admin x ≡ queue = cc in
         subst (λ ans. IsHeadBehind n (sent_count 0 rs) queue ans) (sym (no_answers_at ds 0))
-        (subst (λ y. IsHeadBehind n (sent_count 0 rs) y []) same (record { known = fresh_distance n (sent_count 0 rs); answers = tt }))
+        (subst (λ y. IsHeadBehind n (sent_count 0 rs) y []) same (record { known = (omega arith); answers = tt }))
     behind (x ∷ hs) (suc q) queue e serves = absurd (true≢false (sym serves ∙ no_service_past hs q queue e))
