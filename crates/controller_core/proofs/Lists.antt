@@ -41,7 +41,10 @@ pub count-filter : {A : Type 0} (p f : A → Bool) (xs : List A) → count_by p 
 count-filter p f [] = omega arith
 count-filter p f (x ∷ xs) =
     let l = count-filter p f xs in
-    elim (f x) as (λ b. count_by p (cond b (x ∷ filter f xs) (filter f xs)) ≤ count_by p (x ∷ xs)) [ true ↦ omega (arith, count-cons p x xs, count-cons p x (filter f xs)) | false ↦ omega (arith, count-cons p x xs) ]
+    elim (f x) as (λ b. count_by p (cond b (x ∷ filter f xs) (filter f xs)) ≤ count_by p (x ∷ xs)) [
+      | true ↦ omega (arith, count-cons p x xs, count-cons p x (filter f xs))
+      | false ↦ omega (arith, count-cons p x xs)
+    ]
 
 pub length-change : {A : Type 0} (k : ℕ) (f : A → A) (xs : List A) → length (change k f xs) ≡ length xs
 length-change k f [] = refl

@@ -161,7 +161,8 @@ unfolding moving
 moving_fits m zero place len offset rest h = h
 moving_fits m (suc n) place len offset rest h =
     let more = moving m n (place + first_part place len) (len - first_part place len) (offset + first_part place len) rest in
-    elim (is_some (bytes_at m place (first_part place len))) as (λ b. EndsFit (cond b (Does (Moves place (first_part place len) offset) more) (Does Stays (Closes (Fault DATA_TRANSFER_ERROR))))) [
+    let last : Course = Does Stays (Closes (Fault DATA_TRANSFER_ERROR)) in
+    elim (is_some (bytes_at m place (first_part place len))) as (λ b. EndsFit (cond b (Does (Moves place (first_part place len) offset) more) last)) [
       | true ↦ moving_fits m n (place + first_part place len) (len - first_part place len) (offset + first_part place len) rest h
       | false ↦ omega arith
     ]

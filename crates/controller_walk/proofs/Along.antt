@@ -144,11 +144,9 @@ none_more : (parts : List Part) → parts ≡ parts ++ []
 none_more parts = grind (arith, common_steps)
 
 more_taken : (dir : Direction) (need : ℕ) (parts : List Part) (found : Option Descriptor) → (more : List Part) × (taken dir need parts found ≡ parts ++ more)
-more_taken dir need parts None = ([], none_more parts)
 more_taken dir need parts (Some (DataBlock addr len)) = (Data addr _ ∷ [], refl)
 more_taken dir need parts (Some (BitBucket len)) = (Bucket _ ∷ [], refl)
-more_taken dir need parts (Some (Segment addr len)) = ([], none_more parts)
-more_taken dir need parts (Some (LastSegment addr len)) = ([], none_more parts)
+more_taken dir need parts v = ([], none_more parts)
 
 pub more_parts : (m : Memory) (dir : Direction) (need : ℕ) (c : Course) (parts : List Part) → (more : List Part) × (parts_taken m dir need parts c ≡ parts ++ more)
 more_parts m dir need (Closes v) parts = ([], none_more parts)

@@ -1,12 +1,12 @@
 -- What is left of a walk, where its definition is stuck; what it reads and moves.
-use Rattle.std.proofs.Common.{arith, ◌≡◌, ◌≢◌, ◌≤◌, ◌<◌, ◌+◌, ◌-◌, min, nat_eq, ℕ, zero, suc, List, Option, Some, None, refl, cond, is_some, Bool, true, false, ◌++◌, Result, Ok, Err, OnOk, ap, subst, take, drop, length, slice_range}
-use Rattle.std.proofs.lemmas.{Bool.Decides.nat_tests, Grind.common_steps}
+use Rattle.std.proofs.Common.{arith, ◌≡◌, ◌≢◌, ◌≤◌, ◌<◌, ◌+◌, ◌-◌, min, nat_eq, ℕ, zero, suc, List, Option, Some, None, refl, cond, is_some, Bool, true, false, ◌++◌, Result, Ok, Err, OnOk, ap, subst, take, drop, length, slice_range, inl, inr}
+use Rattle.std.proofs.lemmas.{Bool.{cases_Bool, Decides.nat_tests}, Grind.common_steps}
 use Rattle.entry_codec.specs.declared.status.{Status.Status, TheConstants.Status.{DATA_TRANSFER_ERROR, INVALID_SGL_COUNT}}
 use Rattle.page_memory.specs.Memory.{Memory, bytes_at, written}
-use Rattle.sgl_descriptor.specs.{Spelling.descriptor_of, declared.Descriptor.{Descriptor, TheVariants.{DataBlock, BitBucket, Segment, LastSegment}}}
+use Rattle.sgl_descriptor.specs.{Spelling.descriptor_of, declared.Descriptor.{Descriptor, TheVariants.{DataBlock}}}
 use Rattle.sgl_descriptor.specs.declared.Direction.{Direction, TheVariants.{Destination, Source}}
 use Rattle.controller_walk.specs.{Faults.next_in, Laws.reads_in, Progress.IsStateOf}
-use Rattle.controller_walk.specs.Units.{Act, Stays, Reads, Moves, Course, Closes, Does, after_read, read_at, from_place, rest_of, behind, moving, first_part, pages_spanned, goes_on, unless_fault, first_fault, entry_cursor, units, units_of_list}
+use Rattle.controller_walk.specs.Units.{Stays, Reads, Moves, Course, Closes, Does, after_read, read_at, from_place, rest_of, behind, moving, first_part, pages_spanned, goes_on, unless_fault, first_fault, entry_cursor, units, units_of_list}
 use Rattle.controller_walk.specs.{Walks.{answer, course_in, Moved}, declared.{cause.WalkFault.WalkFault, cursor.Cursor.Cursor, progress.Block.Block}}
 use Rattle.controller_walk.specs.declared.progress.{Progress.Progress, State.{State, TheVariants.{First, Next, Data, Over}}}
 use Rattle.controller_walk.specs.declared.walk.WalkState.TheVariants.{More, Fault, End}
@@ -39,11 +39,9 @@ pages_step place len some = grind (arith, nat_tests)
 -- where a range is left, there is a step
 pub more_moving : (m : Memory) (place len offset : ℕ) (rest : Course) → 0 < len → answer (moving m (pages_spanned place len) place len offset rest) ≡ More
 unfolding moving
-more_moving m place len offset rest some = rw (pages_step place len some) (both (is_some (bytes_at m place (first_part place len))) _ _)
-  where
-    both : (b : Bool) (a : Act) (c : Course) → answer (cond b (Does a c) (Does Stays (Closes (Fault DATA_TRANSFER_ERROR)))) ≡ More
-    both true a c = refl
-    both false a c = refl
+more_moving m place len offset rest some =
+    rw (pages_step place len some)
+    (elim (cases_Bool (is_some (bytes_at m place (first_part place len)))) [ inl there ↦ rw there refl | inr missing ↦ rw missing refl ])
 
 -- nothing is moved for a range of no bytes
 pub none_moving : (m : Memory) (place len offset : ℕ) (rest : Course) → len ≡ 0 → moving m (pages_spanned place len) place len offset rest ≡ rest
@@ -66,10 +64,7 @@ pub from_read : (k : ℕ) (m : Memory) (dir : Direction) (need : ℕ) (c : Curso
     from_place k m dir need c wanted ≡ Does (Reads c.place) (after_read m dir need c wanted (rest_of (k - 1) m dir need) (descriptor_of bytes))
 unfolding from_place
 from_read zero m dir need c wanted bytes some found = absurd (omega arith)
-from_read (suc k) m dir need c wanted bytes some found = rw (found, sub_suc k) refl
-  where
-    sub_suc : (k : ℕ) → suc k - 1 ≡ k
-    sub_suc k = omega arith
+from_read (suc k) m dir need c wanted bytes some found = let less : suc k - 1 ≡ k = omega arith in rw (found, less) refl
 
 -- the two outcomes of a move
 pub moving_found : (m : Memory) (place len offset : ℕ) (rest : Course) (bytes : List ℕ) → 0 < len → bytes_at m place (first_part place len) ≡ Some bytes →
@@ -111,10 +106,8 @@ moving_reads_none m n place len offset rest from left e =
 
 -- a walk at a descriptor reads that one, if it reads one
 pub next_reads : (m : Memory) (w : Progress) (s : State) (c : Cursor) (place : ℕ) (rest : Course) → s ≡ Next c → course_in m w s ≡ Does (Reads place) rest → c.place ≡ place
-next_reads m w (First sgl1) c place rest is e = cc
 next_reads m w (Next d) c place rest is e = let same : d ≡ c = cc in let there : d.place ≡ place = from_reads w.allowed m w.direction w.need d w.wanted place rest e in cc
-next_reads m w (Data block after) c place rest is e = cc
-next_reads m w (Over fault) c place rest is e = cc
+next_reads m w v c place rest is e = cc
 
 -- a walk that is within a block, or over, reads none
 pub others_read_none : (m : Memory) (w : Progress) (s : State) (place : ℕ) (rest : Course)
@@ -152,9 +145,7 @@ few_moving k m (suc n) place len offset rest h =
 
 few_on : (k : ℕ) (m : Memory) (dir : Direction) (need : ℕ) (c : Cursor) (wanted : ℕ) (later : Option Cursor → ℕ → Course) (d : Descriptor) → FollowsFew k later → ReadsFew k (goes_on m dir need c wanted later d)
 few_on k m dir need c wanted later (DataBlock addr len) h = few_moving k m (pages_spanned addr (min len wanted)) addr (min len wanted) (need - wanted) _ (h _ _)
-few_on k m dir need c wanted later (BitBucket len) h = h _ _
-few_on k m dir need c wanted later (Segment addr len) h = h _ _
-few_on k m dir need c wanted later (LastSegment addr len) h = h _ _
+few_on k m dir need c wanted later v h = h _ _
 
 few_unless : (k : ℕ) (f : Option Status) (c : Course) → ReadsFew k c → ReadsFew k (unless_fault f c)
 few_unless k (Some status) c h = omega arith

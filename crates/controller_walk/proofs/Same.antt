@@ -2,7 +2,7 @@
 use Rattle.std.proofs.Common.{arith, ◌≡◌, ◌<◌, ◌+◌, ◌-◌, ◌&&◌, ℕ, zero, suc, Bool, true, false, List, Option, Some, None, refl, sym, ap, subst, ◌∙◌, cond, is_some, add-zero, min, nat_eq}
 use Rattle.entry_codec.specs.declared.status.{Status.Status, TheConstants.Status.DATA_TRANSFER_ERROR}
 use Rattle.page_memory.specs.Memory.{Memory, bytes_at, joined}
-use Rattle.sgl_descriptor.specs.{Spelling.descriptor_of, declared.Descriptor.{Descriptor, TheVariants.{DataBlock, BitBucket, Segment, LastSegment}}}
+use Rattle.sgl_descriptor.specs.{Spelling.descriptor_of, declared.Descriptor.{Descriptor, TheVariants.{DataBlock}}}
 use Rattle.sgl_descriptor.specs.declared.Direction.{Direction}
 use Rattle.controller_walk.specs.{Laws.{Agree, ReadsWithin, SameCourse}, Serving.{Serves, SameWhereServed, SameListWhereServed}}
 use Rattle.controller_walk.specs.Units.{Stays, Reads, Moves, Course, Closes, Does, after_read, read_at, from_place, behind, goes_on, unless_fault, first_fault, moving, first_part, pages_spanned, entry_cursor}
@@ -51,9 +51,7 @@ moving_same at m m' (suc n) place len offset rest rest' there h look =
 goes_same : (at : ℕ → Bool) (m m' : Memory) (dir : Direction) (need : ℕ) (c : Cursor) (wanted : ℕ) (later later' : Option Cursor → ℕ → Course) (d : Descriptor) → ((q : ℕ) → is_some (m q) ≡ is_some (m' q)) →
     ((a : Option Cursor) (w : ℕ) → ReadsWithin at (later a w) → later a w ≡ later' a w) → ReadsWithin at (goes_on m dir need c wanted later d) → goes_on m dir need c wanted later d ≡ goes_on m' dir need c wanted later' d
 goes_same at m m' dir need c wanted later later' (DataBlock addr len) there h look = moving_same at m m' (pages_spanned addr (min len wanted)) addr (min len wanted) (need - wanted) _ _ there (h _ _) look
-goes_same at m m' dir need c wanted later later' (BitBucket len) there h look = h _ _ look
-goes_same at m m' dir need c wanted later later' (Segment addr len) there h look = h _ _ look
-goes_same at m m' dir need c wanted later later' (LastSegment addr len) there h look = h _ _ look
+goes_same at m m' dir need c wanted later later' v there h look = h _ _ look
 
 fault_same : (at : ℕ → Bool) (f : Option Status) (x y : Course) → (ReadsWithin at x → x ≡ y) → ReadsWithin at (unless_fault f x) → unless_fault f x ≡ unless_fault f y
 fault_same at (Some s) x y h look = refl
@@ -139,9 +137,7 @@ served_moving m other (suc n) place len offset rest rest' h serves =
 served_on : (m other : Memory) (dir : Direction) (need : ℕ) (c : Cursor) (wanted : ℕ) (later later' : Option Cursor → ℕ → Course) (d : Descriptor)
     → Follows m other later later' → Serves m other (goes_on m dir need c wanted later d) → goes_on other dir need c wanted later' d ≡ goes_on m dir need c wanted later d
 served_on m other dir need c wanted later later' (DataBlock addr len) h serves = served_moving m other (pages_spanned addr (min len wanted)) addr (min len wanted) (need - wanted) _ _ (h _ _) serves
-served_on m other dir need c wanted later later' (BitBucket len) h serves = h _ _ serves
-served_on m other dir need c wanted later later' (Segment addr len) h serves = h _ _ serves
-served_on m other dir need c wanted later later' (LastSegment addr len) h serves = h _ _ serves
+served_on m other dir need c wanted later later' v h serves = h _ _ serves
 
 served_unless : (m other : Memory) (f : Option Status) (x y : Course) → (Serves m other x → y ≡ x) → Serves m other (unless_fault f x) → unless_fault f y ≡ unless_fault f x
 served_unless m other (Some s) x y h serves = refl

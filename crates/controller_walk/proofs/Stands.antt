@@ -7,7 +7,7 @@ use Rattle.controller_walk.proofs.Same.{list_same, walk_same}
 use Rattle.controller_walk.specs.Laws.{Agree, ReadsWithin, OverwritesNothing, after_units, StandsAfter, StandsAtFirst, answer_at, DoesUnit, StepDoesUnit}
 use Rattle.controller_walk.specs.Units.{Act, Stays, Reads, Moves, Course, Closes, Does, units, verdict}
 use Rattle.controller_walk.specs.{Walks.{course, answer, Effect, DoesFirst, LeavesRest, IfMore, direction_of}, declared.progress.Progress.Progress}
-use Rattle.controller_walk.specs.declared.walk.WalkState.{WalkState, TheVariants.{More, End, Fault}}
+use Rattle.controller_walk.specs.declared.walk.WalkState.{WalkState, TheVariants.{More}}
 
 agree_sym : (at : ℕ → Bool) (m m' : Memory) → Agree at m m' → Agree at m' m
 agree_sym at m m' agree = record { there = λ q. sym (agree.there q); same = λ q h. sym (agree.same q h) }
@@ -93,9 +93,8 @@ move_agrees at Destination place n offset rest m m' bytes bytes' apart h =
 
 act_agrees : (at : ℕ → Bool) (dir : Direction) (a : Act) (rest : Course) (m m' : Memory) (bytes bytes' : List ℕ) →
     OverwritesNothing at dir (Does a rest) → Effect dir a m m' bytes bytes' → Agree at m m'
-act_agrees at dir Stays rest m m' bytes bytes' apart h = agree_equal at m m' h.0
-act_agrees at dir (Reads place) rest m m' bytes bytes' apart h = agree_equal at m m' h.0
 act_agrees at dir (Moves place n offset) rest m m' bytes bytes' apart h = move_agrees at dir place n offset rest m m' bytes bytes' apart h
+act_agrees at dir v rest m m' bytes bytes' apart h = agree_equal at m m' h.0
 
 overwrites_rest : (at : ℕ → Bool) (dir : Direction) (a : Act) (rest : Course) → OverwritesNothing at dir (Does a rest) → OverwritesNothing at dir rest
 overwrites_rest at Source a rest h = tt
@@ -104,9 +103,8 @@ overwrites_rest at Destination (Reads place) rest h = h
 overwrites_rest at Destination (Moves place n offset) rest h = h.1
 
 reads_rest : (at : ℕ → Bool) (a : Act) (rest : Course) → ReadsWithin at (Does a rest) → ReadsWithin at rest
-reads_rest at Stays rest h = h
 reads_rest at (Reads place) rest h = h.1
-reads_rest at (Moves place n offset) rest h = h
+reads_rest at v rest h = h
 
 reads_after : (at : ℕ → Bool) (t : ℕ) (c : Course) → ReadsWithin at c → ReadsWithin at (after_units t c)
 reads_after at zero c h = h
@@ -155,8 +153,7 @@ left_at (suc t) (Does a rest) left result h = left_at t rest left result h
 
 if_more : (r : WalkState) (P Q : Type 0) → (P → Q) → IfMore r P → IfMore r Q
 if_more More P Q f h = f h
-if_more End P Q f h = tt
-if_more (Fault s) P Q f h = tt
+if_more v P Q f h = tt
 
 -- a walk that stands in its list in one memory stands so in each that agrees with it
 stands_in : (at : ℕ → Bool) (m now : Memory) (t : ℕ) (c : Course) (w : Progress) → Agree at m now → ReadsWithin at c → course now w ≡ after_units t c → StandsAfter at m t c w

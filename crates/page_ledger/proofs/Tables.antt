@@ -139,7 +139,8 @@ walk-count test front (owner ∷ owners) =
     let ih = walk-count test (front ++ owner ∷ []) owners in
     let rest = walk test (front ++ owner ∷ []) owners in
     ap length (walk-cons test front owners owner)
-    ∙ ((elim (test owner) as (λ c. length (cond c (length front ∷ rest) rest) ≡ cond c 1 0 + count_by test owners) [ true ↦ omega arith | false ↦ omega arith ]) ∙ sym (sum_by-cons (λ o. cond (test o) 1 0) owner owners))
+    ∙ ((elim (test owner) as (λ c. length (cond c (length front ∷ rest) rest) ≡ cond c 1 0 + count_by test owners) [ true ↦ omega arith | false ↦ omega arith ])
+    ∙ sym (sum_by-cons (λ o. cond (test o) 1 0) owner owners))
 
 pub length-pages_owned : (test : Owner → Bool) (owners : List Owner) → length (pages_owned test owners) ≡ count_by test owners
 unfolding walk

@@ -128,10 +128,9 @@ same_parts : (parts others : List Part) → map descriptor_of_part parts ≡ map
 same_parts parts others e = sym (parts_found parts) ∙ ap (filter_map part_of) e ∙ parts_found others
 
 pub no_part_of_link : (d : Descriptor) → IsLink d → part_of d ≡ None
-no_part_of_link (DataBlock addr len) is = cc
-no_part_of_link (BitBucket len) is = cc
 no_part_of_link (Segment addr len) is = refl
 no_part_of_link (LastSegment addr len) is = refl
+no_part_of_link v is = cc
 
 same_front : (front others : List Part) (last link : Descriptor) → IsLink last → IsLink link →
     map descriptor_of_part front ++ last ∷ [] ≡ map descriptor_of_part others ++ link ∷ [] → front ≡ others

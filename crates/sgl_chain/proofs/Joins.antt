@@ -1,6 +1,6 @@
 -- Joined parts: how a list of them grows, what they keep, and that none of them join any more.
 use Rattle.std.proofs.Common.{arith, ◌∙◌, sym, ap, refl, ◌≡◌, ◌≤◌, ◌<◌, ◌+◌, ◌++◌, ℕ, zero, suc, Bool, true, false, if◌then◌else◌, Some, None, List, [], ◌∷◌, length, drop, get_or, append_assoc, subst, map}
-use Rattle.std.proofs.{Math.ListN.drop_of_length-le, lemmas.{Bool.Decides.nat_tests, List.{drop_more, map-append, Concat.flat_map-cons}}}
+use Rattle.std.proofs.{lemmas.{Bool.Decides.nat_tests, List.{drop_more, map-append, Concat.flat_map-cons}}}
 use Rattle.std.specs.List.{range_with_len}
 use Rattle.sgl_descriptor.{proofs.Counts.length-targets, specs.{Targets.{Target, Place, targets, targets_of_part, counted_in}, declared.Direction.Direction}}
 use Rattle.sgl_descriptor.specs.declared.Part.{Part, TheVariants.{Data, Bucket}}

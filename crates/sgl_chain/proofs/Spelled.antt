@@ -7,7 +7,7 @@ use Rattle.std.proofs.lemmas.{List.Elements.{All-head, All-tail, All-nil, All-co
 use Rattle.sgl_chain.specs.Chains.{segments_within, pages_needed, link, segments_on, segment_bytes, first_of, AllFit, segment_at, Linked, segments_from}
 use Rattle.sgl_chain.specs.{Laws.{HasPages, AreTyped}, Spells.{IsSegment, SpellsBy, Stand, IsLaid, Holds, Spells, descriptors_in}}
 use Rattle.sgl_descriptor.{proofs.Spells.spells_itself, specs.{Spelling.{spelling, Fits, IsLink}, Targets.descriptor_of_part, declared.Descriptor.Descriptor}}
-use Rattle.sgl_descriptor.specs.declared.{Descriptor.TheVariants.{DataBlock, BitBucket, Segment, LastSegment}, Part.{Part, TheVariants.{Data, Bucket}}}
+use Rattle.sgl_descriptor.specs.declared.{Descriptor.TheVariants.{DataBlock, Segment, LastSegment}, Part.{Part, TheVariants.{Data, Bucket}}}
 use Rattle.page_memory.specs.{Memory.{Memory, bytes_at}, Pages.with_bytes}
 
 -- How many segments parts need.
@@ -164,9 +164,7 @@ length-segments_on s (page ∷ next ∷ pages) parts cut = elim (cases_lt s (len
 
 pub length-spelling : (d : Descriptor) → length (spelling d) ≡ 16
 length-spelling (DataBlock addr len) = refl
-length-spelling (BitBucket len) = refl
-length-spelling (Segment addr len) = refl
-length-spelling (LastSegment addr len) = refl
+length-spelling v = refl
 
 pub length-segment_bytes : (descriptors : List Descriptor) → length (segment_bytes descriptors) ≡ 16 * length descriptors
 length-segment_bytes [] = refl

@@ -125,7 +125,8 @@ module _ {R : Type 0} where
     abbrev table : TableOf R
     table = record { queues = queues; places = places; rows = rows_in places records links }
 
-  module _ {queues places len : ℕ} {records : List (Option R)} {links : List Link} (t : IsThreaded queues places len records links) {q cid place : ℕ} (inside : IsPlace (table t) q cid) (is : place ≡ q * places + cid) where
+  module _ {queues places len : ℕ} {records : List (Option R)} {links : List Link} (t : IsThreaded queues places len records links)
+      {q cid place : ℕ} (inside : IsPlace (table t) q cid) (is : place ≡ q * places + cid) where
     within : place < length records
     within =
         let more : q + 1 ≤ queues = omega (arith, inside.queue) in
@@ -225,7 +226,8 @@ module _ {R : Type 0} where
             let one : ℕ = 1 in
             let some_count : cond (is_some (get_or records place None)) one 0 ≡ one = ap (λ o. cond (is_some o) one 0) own in
             let less : count_by is_some (set records place None) ≡ len - 1 = omega (arith, set_count, some_count, t.occupied) in
-            let left = take (kind t) t.thread place value own (after_of new) (before_of new) (record_at (set records place None)) (len - 1) (omega (arith, set_count, some_count, t.occupied)) (record {
+            let left =
+            take (kind t) t.thread place value own (after_of new) (before_of new) (record_at (set records place None)) (len - 1) (omega (arith, set_count, some_count, t.occupied)) (record {
               after = turned.after;
               before = turned.before;
               other_after = λ z o _. turned.other_after z o;

@@ -21,7 +21,8 @@ pub record Leaves {K P R : Type 0} (at : K → P) (place : K → ℕ × ℕ) (a 
   pub threads : Threads at a b v end count
   pub rows_is : rows_of place v threads.order ≡ rows
 
-module _ {K P R : Type 0} {at : K → P} {place : K → ℕ × ℕ} {show : P → Option (ℕ × ℕ)} {end : P} (kind : IsKind at place show end) {a b : P → P} {v : K → Option R} {count : ℕ} (is : Threads at a b v end count) where
+module _ {K P R : Type 0} {at : K → P} {place : K → ℕ × ℕ} {show : P → Option (ℕ × ℕ)} {end : P}
+    (kind : IsKind at place show end) {a b : P → P} {v : K → Option R} {count : ℕ} (is : Threads at a b v end count) where
   pub length-order : length (rows_of place v is.order) ≡ count
   length-order = length-rows_of place v is.order is.held ∙ is.counted
 
@@ -135,7 +136,8 @@ module _ {K P R : Type 0} {at : K → P} {place : K → ℕ × ℕ} {show : P �
         → Leaves at place c d w end count (with_value (rows_of place v is.order) (place k).0 (place k).1 next)
     write c d w next sa sb sets =
         let m = between in
-        let kept : (xs : List K) → Lacks at (at k) xs → rows_of place w xs ≡ rows_of place v xs = λ xs l. rows_of-same place v w xs (each-two (λ z. at z ≢ at k) (λ z. at z ≢ at k) (λ z. w z ≡ v z) (λ z o _. sets.others z o) xs l l) in
+        let kept : (xs : List K) → Lacks at (at k) xs → rows_of place w xs ≡ rows_of place v xs =
+        λ xs l. rows_of-same place v w xs (each-two (λ z. at z ≢ at k) (λ z. at z ≢ at k) (λ z. w z ≡ v z) (λ z o _. sets.others z o) xs l l) in
         record {
           threads = record {
             order = is.order;

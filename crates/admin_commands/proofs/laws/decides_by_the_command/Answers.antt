@@ -7,12 +7,9 @@ use Rattle.admin_commands.proofs.laws.decides_by_the_command.Goals as goal
 
 -- whether what an entry asks for is the creation of a queue
 abbrev creates : Result AdminKind Status → Bool
-creates (Err fault) = false
-creates (Ok (Abort q cid)) = false
-creates (Ok (DeleteSq q)) = false
-creates (Ok (DeleteCq q)) = false
 creates (Ok (CreateCq q n base)) = true
 creates (Ok (CreateSq q n base)) = true
+creates v = false
 
 -- what is decided of a command that is no creation, or of a fault
 abbrev verdict_on : Result AdminKind Status → DeviceView → AdminVerdict
@@ -20,8 +17,7 @@ verdict_on (Err fault) view = Answer fault 0
 verdict_on (Ok (Abort q cid)) view = abort_verdict q cid view
 verdict_on (Ok (DeleteSq q)) view = delete_sq_verdict q view
 verdict_on (Ok (DeleteCq q)) view = delete_cq_verdict q view
-verdict_on (Ok (CreateCq q n base)) view = Answer INVALID_OPCODE 0
-verdict_on (Ok (CreateSq q n base)) view = Answer INVALID_OPCODE 0
+verdict_on v view = Answer INVALID_OPCODE 0
 
 no_creation : (entry : SubEntry) → entry.opcode ≢ 0x01 → entry.opcode ≢ 0x05 → creates (kind_or_fault entry) ≡ false
 no_creation entry a b = grind arith

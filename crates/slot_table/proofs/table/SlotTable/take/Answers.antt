@@ -40,7 +40,8 @@ pub returns : goal.returns
 returns g c =
     let i = c.self.inside in
     let p = rw (← c.self.view_is) at c.in_ok-place.ensures in
-    let left = take_left c.self.invariant p.0 p.1 _ c.in_ok-value.value c.index_mut.ensures.value (sym c.take.ensures.value ∙ c.in_ok-value.was) _ c.index-link.ensures _ _ c.take.ensures.after c.join.ensures in
+    let has = sym c.take.ensures.value ∙ c.in_ok-value.was in
+    let left = take_left c.self.invariant p.0 p.1 _ c.in_ok-value.value c.index_mut.ensures.value has _ c.index-link.ensures _ _ c.take.ensures.after c.join.ensures in
     rw (← c.self.view_is) (record {
       value = sym c.in_ok-value.was ∙ c.take.ensures.value ∙ found_at c.self.invariant p.0 p.1 _ c.index_mut.ensures.value;
       rest = ap (λ rows. record { queues = i.queues; places = i.places; rows = rows }) left.rows_are;
