@@ -1,5 +1,5 @@
 -- Identifiers, and the places of records.
-use Rattle.std.proofs.Common.{◌≡◌, ℕ, suc, ◌+◌, ◌<◌, Some, List, [], ◌∷◌, length, map, slice_get, refl, sym, ◌∙◌, arith, subst, ◌≢◌, ◌==◌, inl, inr, Bool, true, false, not, ◌&&◌, ◌||◌, cond, ◌++◌, slice_set, ap, length-set, eqb-true, eq-eqb, zero, ◌-◌, None, find, ap₂, is_some, ◌≤◌, nat_lt, if◌then◌else◌, lt-ltb}
+use Rattle.std.proofs.Common.{◌≡◌, ℕ, suc, ◌+◌, ◌<◌, Some, List, [], ◌∷◌, length, map, slice_get, refl, sym, ◌∙◌, arith, subst, ◌≢◌, ◌==◌, inl, inr, Bool, true, false, not, ◌&&◌, ◌||◌, ◌++◌, slice_set, ap, length-set, eqb-true, eq-eqb, zero, ◌-◌, None, find, ap₂, is_some, ◌≤◌, nat_lt, if◌then◌else◌, lt-ltb}
 use Rattle.std.proofs.lemmas.Bool.{true≢false, or_parts, or_right, cases_eq, cases_Bool, cond_both, false_from_ne_true, true_from_ne_false, ne_eqb, not-true, Decides.nat_tests}
 use Rattle.std.proofs.lemmas.List.Folds.{list_any-append}
 use Rattle.std.specs.{List.{AllByRecursion, list_any}, Option.option_map_or}
@@ -211,9 +211,7 @@ claim-less records queues q cid claims there = record {
 -- what none passes is not found
 none-found : {A : Type 0} (test : A → Bool) (xs : List A) → list_any test xs ≡ false → find test xs ≡ None
 none-found test [] h = refl
-none-found test (x ∷ xs) h =
-    let both = or_parts (test x) (list_any test xs) h in
-    ap (λ b. cond b (Some x) (find test xs)) both.0 ∙ none-found test xs both.1
+none-found test (x ∷ xs) h = grind (arith, h, none-found test xs)
 
 pub new-empty : {A : Type 0} (parts : Parts A) (pages : Pages) (q cid : ℕ) → IsNewIdentifier (state_of (tables_of parts pages)) q cid → value_at parts.records.rows q cid ≡ None
 new-empty parts pages q cid new =

@@ -1,9 +1,9 @@
 -- Tables that were just opened, and the halves that were granted for them.
 use Rattle.page_ledger.specs.declared.owner.Owner.TheVariants as owner
 use Rattle.machine_model.specs.declared.words.Refusal.TheVariants as refusal
-use Rattle.std.proofs.Common.{◌≡◌, inl, inr, ℕ, zero, suc, ◌+◌, ◌*◌, ◌<◌, ◌≤◌, false, Some, List, length, replicate, refl, ap, ap₂, sym, ◌∙◌, arith, subst, Option, slice_get, [], Fits, w16, ◌-◌, ◌==◌, ◌&&◌, nat_le, leb-true, Bool, true, None, IfSome, ◌∷◌, map, filter, drop, eqb-true}
+use Rattle.std.proofs.Common.{◌≡◌, inl, inr, ℕ, zero, suc, ◌+◌, ◌*◌, ◌<◌, ◌≤◌, false, Some, List, length, replicate, refl, ap, ap₂, sym, ◌∙◌, arith, subst, Option, slice_get, [], Fits, w16, ◌-◌, ◌==◌, Bool, true, None, IfSome, ◌∷◌, map, filter, drop, eqb-true}
 use Rattle.std.proofs.Math.Nat.{mul-le-mul_right}
-use Rattle.std.proofs.lemmas.{Bool.{true≢false, Decides.nat_tests, cases_Bool, cases_lt, and_parts}, List.{length-replicate, length-map}, Option.slice_get-map}
+use Rattle.std.proofs.lemmas.{Bool.{true≢false, Decides.nat_tests, cases_Bool, cases_lt}, List.{length-replicate, length-map}, Option.slice_get-map}
 use Rattle.std.specs.{List.Contains, Option.{option_map_or, option_map}}
 use Rattle.page_ledger.{proofs.{Pages.finds-lowest_run, Tables.{length-with_owner, owner-changed, owner-kept}}}
 use Rattle.page_ledger.specs.{Owners.{is_free, is_owned_at, owner_at, pages_from, with_owner, is_among, free_pages}, Runs.lowest_run}
@@ -15,10 +15,11 @@ use Rattle.host_core.specs.Opening.{sq_from, cq_from, IsFreeFrom, AreGranted, op
 use Rattle.host_core.specs.{Parts.records_of, Ringing.head_of, Rows.{Queue, Kept}, Tables.{Tables, host_queue_of, state_of, view_of}}
 use Rattle.host_core.specs.{Whole.{IsHost, IsWhole, IsQueue, ClaimsIdentifiers, TellsQueue}, declared.config.Config.Config}
 use Rattle.machine_model.{proofs.Headline.{runs_are_sound, fits_pool, in_limits, length-range}, specs.{Claims.IsSound, Events.{Event, Reply}}}
-use Rattle.machine_model.specs.{Opening.{opening, queues_from, is_config}, Refusals.refusal_of, State.{State, HostQueue}, Step.{Step, Refuses}}
+use Rattle.machine_model.specs.{Opening.{opening, queues_from}, Refusals.refusal_of, State.{State, HostQueue}, Step.{Step, Refuses}}
 use Rattle.machine_model.specs.declared.words.Refusal.{Refusal}
 use Rattle.queue_pair.specs.Memory.{half_pages}
 use Rattle.slot_table.specs.Table.{TableOf}
+use Rattle.host_core.proofs.Making.{claims-none}
 
 -- The halves of one queue more: which pages are granted, and whose the pages are then.
 
@@ -267,11 +268,6 @@ each_fresh P n count h q queue e =
     let same : 0 + q ≡ q = omega arith in
     subst (λ (x : Queue). P q x) (ap (fresh_queue n) (sym same) ∙ at.1) (h q at.0)
 
-all_at : {X : Type 0} (n k : ℕ) (x : X) → k < n → slice_get (replicate n x) k ≡ Some x
-all_at zero k x l = absurd (omega arith)
-all_at (suc n) zero x l = refl
-all_at (suc n) (suc k) x l = all_at n k x (omega arith)
-
 fresh_sides : (n sq cq q : ℕ) → 2 ≤ n → n ≤ 1024 → IsQueue n q (fresh_at n sq cq q)
 fresh_sides n sq cq q least most =
     record {
@@ -279,9 +275,6 @@ fresh_sides n sq cq q least most =
       entries = refl;
       host_side = record { least = least; most = most; head = omega arith; known_head = omega arith; tail = omega arith; identifiers = omega (arith, length-replicate (n - 1) false) };
     }
-
-none_claimed : (q k : ℕ) → ClaimsIdentifiers [] q (replicate k false)
-none_claimed q k = record { told = λ cid l. all_at k cid false (omega (arith, l, length-replicate k false)); inside = λ cid e. absurd (true≢false (sym e)) }
 
 -- The halves
 
@@ -324,7 +317,7 @@ opened_whole c owners opens size granted =
       record_queues = sym many;
       record_places = omega (arith, l.least_entries);
       queues = record { each = each_fresh (IsQueue c.entries) c.entries (c.queues + 1) (λ q h. fresh_sides c.entries _ _ q l.least_entries l.most_entries) };
-      identifiers = record { each = each_fresh (λ q queue. ClaimsIdentifiers [] q queue.host.claimed) c.entries (c.queues + 1) (λ q h. none_claimed q (c.entries - 1)) };
+      identifiers = record { each = each_fresh (λ q queue. ClaimsIdentifiers [] q queue.host.claimed) c.entries (c.queues + 1) (λ q h. claims-none [] q (c.entries - 1) (λ cid. refl)) };
       owners = record { queues_told = each_fresh (TellsQueue owners) c.entries (c.queues + 1) (fresh_told c.entries (c.queues + 1) owners granted); commands_told = tt };
       records = tt;
     }

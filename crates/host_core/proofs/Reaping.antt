@@ -19,8 +19,7 @@ use Rattle.machine_model.specs.declared.words.{Phase.TheVariants.Held, RejectedF
 use Rattle.queue_pair.{proofs.Rings.next_below, specs.{Memory.half_pages, Rings.{knowing, next_head}}}
 use Rattle.host_core.proofs.{Identifiers.claim-less, Granting.in_state-is, Lists.{each-change, length-change, found_is, all-filter, found_any, none_is_not, some_is}}
 use Rattle.host_core.proofs.PageOwners.{OwnsHalf, commands-told, half-listed, half-owned, others-told, owner-stays, given-free}
-use Rattle.host_core.proofs.QueueLists.{map-change, Settled, settled-of, settled-turned, settled-with, cq-kept, none-told, settled-as, settled-half_made}
-use Rattle.host_core.proofs.QueueLists.{settled-state, sq-kept}
+use Rattle.host_core.proofs.QueueLists.{map-change, Settled, settled-of, settled-turned, settled-with, cq-kept, none-told, settled-as, settled-half_made, settled-state, sq-kept}
 use Rattle.host_core.proofs.RowRecords.{Marks, marked-claims, marked-tells, claims_keep_queue, claims_keep_tells, each_claimed}
 use Rattle.host_core.specs.{Commands.{passes, state_at, without_claim}, Exact.Exactly, Halves.HasMeant}
 use Rattle.host_core.specs.Reaping.{consumed, ended_with, seen_at, with_answer_heard, with_answer_taken, heard, gives_back, meant, over, state_deleted, with_state, without_completion, without_submission}

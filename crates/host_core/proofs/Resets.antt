@@ -10,8 +10,8 @@ use Rattle.std.{proofs.lemmas.{List.{map-append, length-map}, Option.{slice_get_
 use Rattle.std.specs.{Option.{option_map_or, option_map}, Prelude.Option}
 use Rattle.machine_model.proofs.{Owned.{all_reset, lost_by}, Steps.length-with_pages, TokensKept.live_is}
 use Rattle.machine_model.specs.{After.{admin_pages, change, after_reset, is_of_io, lost_anywhere, reset_records}, Claims.IsSound}
-use Rattle.machine_model.specs.{Memory.{with_pages, zeroed_pages}, Refusals.is_live, State.{HostQueue, Record, State, is_at}, Step.Step, Work.Work}
-use Rattle.machine_model.specs.declared.words.{HostState.{HostState, TheVariants.Live}, Work.TheVariants.{Io, Management}}
+use Rattle.machine_model.specs.{Memory.{with_pages, zeroed_pages}, Refusals.is_live, State.{HostQueue, Record, State, is_at}, Step.Step}
+use Rattle.machine_model.specs.declared.words.{HostState.{HostState, TheVariants.Live}}
 use Rattle.page_ledger.specs.{Lists.ListsAll, Owners.{is_among, owner_at, pages_from, given_back, is_half, is_owned_at, is_queue, is_same_half}}
 use Rattle.page_ledger.specs.declared.owner.Owner.{Owner, TheVariants.{Free, Queue as OwnerQueue, Command}}
 use Rattle.page_memory.specs.{Pages.{Pages, zero_page}, declared.page.Half.{Half, TheVariants.{Submission, Completion}}}
@@ -19,11 +19,9 @@ use Rattle.queue_pair.specs.{Memory.half_pages, Rings.first_page_of}
 use Rattle.host_core.proofs.Identifiers.{queue-here, alone_sound, host_of, over_pages, places-of}
 use Rattle.host_core.proofs.Lists.{change-at-lists as change-at, get-at, length-change, map-agree, none_is_not, some_is}
 use Rattle.host_core.proofs.Making.{can-zero, some-pages, with-some, claims-none, made-queue, whole-zeros}
-use Rattle.host_core.proofs.PageOwners.{half-from, half-told, among-from, with-append, half-owned, half-lists, half-standing, owner-stays, times-at, times-some}
-use Rattle.host_core.proofs.PageOwners.{among-append, pool-with, given-free}
+use Rattle.host_core.proofs.PageOwners.{half-from, half-told, among-from, with-append, half-lists, half-standing, owner-stays, among-append, pool-with, given-free}
 use Rattle.host_core.proofs.QueueLists.{queue_page-in, host-at, Settled, none-told, settled-of, settled-with, whole-of}
 use Rattle.host_core.proofs.{Reaping.{held-lost, work-cases}, RowRecords.claims-same}
-use Rattle.io_commands.specs.Asked.{Request}
 use Rattle.host_core.specs.{Alone.{HostView, alone}, Commands.CanZero, Halves.{half_of, has_half}, Laws.shown}
 use Rattle.host_core.specs.Resetting.{admin_reset, with_admin_renewed, gone, gone_behind_first, is_of_io_queue, with_queue_gone, ListHalves, ListsHalf, tables_reset, with_records_reset, HasPlaces, IsPlaced}
 use Rattle.host_core.specs.{Rows.{Queue, Queue as RowsQueue}, Tables.{Tables, host_queue_of, sq_pages_of, cq_pages_of, state_of, view_of}}

@@ -19,8 +19,7 @@ use Rattle.page_memory.specs.{Pages.Pages, declared.page.Half.{TheVariants.Submi
 use Rattle.queue_pair.specs.{Memory.half_pages, Slots.is_full}
 use Rattle.host_core.proofs.{Ending.{cancel_brings, joined-pages, belongs-passes, belongs_brings, ended_can_put}, Granting.in_state-is}
 use Rattle.host_core.proofs.{Lists.{all-from, some_is}, PageOwners.{command-owner, pool-with, with-other}}
-use Rattle.host_core.proofs.QueueLists.{posted-exact, posted-queue, tail-in, tail-fits, submission_length, pool-with_bytes, submission-owner}
-use Rattle.host_core.proofs.QueueLists.{submission_page-in, Settled, settled-of, settled-turned, Steps, steps}
+use Rattle.host_core.proofs.QueueLists.{posted-exact, posted-queue, tail-in, tail-fits, submission_length, pool-with_bytes, submission-owner, submission_page-in, Settled, settled-of, settled-turned, Steps, steps}
 use Rattle.host_core.proofs.RowRecords.{Marks, marked-claims, marked-records, marked-tells, Spares}
 use Rattle.host_core.specs.{Commands.{Brings, BelongsToDraft, CanPut, passes, state_at}, Exact.Exactly}
 use Rattle.host_core.specs.{Posting.{with_tail_moved, tail_place, CanPost, CanPostTo, Posts}, Rows.Queue}
