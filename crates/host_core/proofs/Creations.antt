@@ -1,30 +1,25 @@
 -- The command that makes a half, as it is sent: what is found before it, what is written, and the step of the machine that it is.
 use Rattle.std.proofs.Common.{◌≡◌, ℕ, zero, suc, ◌+◌, ◌*◌, ◌<◌, ◌==◌, ◌||◌, ◌&&◌, nat_lt, ◌++◌, ◌∷◌, [], Bool, true, false, not, Option, Some, None, List, is_none, length, position, slice_get, slice_index, refl, ap, ap₂, sym, ◌∙◌, subst, arith, inl, inr}
-use Rattle.std.{proofs.lemmas.{Bool.{true≢false, or_parts}, Option.{slice_get-map}}, specs.List.list_any}
-use Rattle.std.specs.Option.{option_map, option_map_or}
+use Rattle.std.{proofs.lemmas.{Bool.{true≢false, or_parts}, Option.slice_get-map}, specs.{List.list_any, Option.{option_map, option_map_or}}}
 use Rattle.admin_commands.specs.{Entries.admin_entry, declared.AdminKind.{AdminKind, TheVariants.{CreateCq, CreateSq}}}
 use Rattle.controller_walk.specs.Units.{first_passing}
 use Rattle.entry_codec.specs.declared.submission.SubEntry.{SubEntry}
-use Rattle.machine_model.{specs.{After.change, Memory.zeroed_pages, Proper.IsProper}}
+use Rattle.machine_model.{specs.{After.change, Memory.zeroed_pages, Proper.IsProper, State.{HostQueue, Record, State, is_at}}, proofs.Cases.option_is}
 use Rattle.machine_model.specs.Refusals.{in_state, is_gone, is_half_made, is_making, no_identifier, queue_full, refusal_of, run_for}
-use Rattle.machine_model.specs.State.{HostQueue, Record, State, is_at}
 use Rattle.machine_model.specs.{Step.{Answers, IsController, IsNewIdentifier, Refuses, Step, touched_by_refusal}, declared.words.HostState.HostState}
 use Rattle.machine_model.specs.declared.words.{HostState.TheVariants.{Gone, HalfMade}, Refusal.Refusal}
 use Rattle.page_ledger.specs.{Owners.pages_from, Runs.lowest_run}
 use Rattle.page_memory.specs.declared.page.Half.{Half, TheVariants.{Submission, Completion}}
 use Rattle.queue_pair.specs.Memory.{half_pages}
-use Rattle.host_core.proofs.{Granting.{in_state-is, next-fresh, next-left, none-left}, Lists.some_is}
+use Rattle.host_core.proofs.{Granting.{in_state-is, next-fresh, next-left, none-left}, Lists.some_is, QueueLists.{Settled, host_step, Steps, steps}}
 use Rattle.host_core.proofs.Making.{any-count, IsBare, granted-state, half_in, run-within, settled-granted, some-pages, with-some, same-run}
-use Rattle.host_core.proofs.QueueLists.{Settled, host_step, Steps, steps}
 use Rattle.host_core.proofs.Sending.{Next, can-post-to, first-there, past, send-typed, HasHalfIn, half-in, sent-exact, sent_in, settled-sent}
-use Rattle.host_core.{proofs.Submitted.full_is, specs.{Commands.{ClaimsNext, with_claim}, Posting.{CanPostTo, Posts, posted}, Rows.Queue}}
+use Rattle.host_core.{proofs.{Submitted.full_is, Lists.change-here}, specs.{Commands.{ClaimsNext, with_claim}, Posting.{CanPostTo, Posts, posted}, Rows.Queue}}
 use Rattle.host_core.specs.Sending.{CanCreate, Creates, HasSlot, creating, creation, granted, half_from, making, named_causes, noted, sent}
 use Rattle.host_core.specs.{Tables.{Tables, host_queue_of, state_of}, Whole.IsWhole}
 use Rattle.machine_model.specs.After as a
 use Rattle.machine_model.specs.Events as events
 use Rattle.machine_model.specs.declared.words.Refusal.TheVariants as refusal
-use Rattle.machine_model.proofs.Cases.{option_is}
-use Rattle.host_core.proofs.Lists.{change-here}
 use Rattle.std.proofs.lemmas.Option.{slice_get_within}
 
 -- What is against it

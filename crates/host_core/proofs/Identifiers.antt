@@ -1,8 +1,7 @@
 -- Identifiers, and the places of records.
 use Rattle.std.proofs.Common.{◌≡◌, ℕ, suc, ◌+◌, ◌<◌, Some, List, [], ◌∷◌, length, map, slice_get, refl, sym, ◌∙◌, arith, subst, ◌≢◌, ◌==◌, inl, inr, Bool, true, false, not, ◌&&◌, ◌||◌, ◌++◌, slice_set, ap, length-set, eqb-true, eq-eqb, zero, ◌-◌, None, find, ap₂, is_some, ◌≤◌, nat_lt, if◌then◌else◌, lt-ltb}
 use Rattle.std.proofs.lemmas.Bool.{true≢false, or_parts, or_right, cases_eq, cases_Bool, cond_both, false_from_ne_true, true_from_ne_false, ne_eqb, not-true, Decides.nat_tests}
-use Rattle.std.proofs.lemmas.List.Folds.{list_any-append}
-use Rattle.std.specs.{List.{AllByRecursion, list_any}, Option.option_map_or}
+use Rattle.std.{specs.{List.{AllByRecursion, list_any}, Option.option_map_or}, proofs.lemmas.List.Folds.list_any-append}
 use Rattle.machine_model.proofs.Counting.{total as sum_of, here, times-outstanding, one, held_once, not_held, total as total_counting}
 use Rattle.machine_model.{proofs.{Cases.option_is, Headline.counts_are_all}, specs.After.{change, is_of_io, lost}}
 use Rattle.machine_model.specs.{Claims.{IsSound, HasNoOtherPages, HasOneOwner, counts_of, OwnsFit}, Positions.IsInRing, Refusals.{deletes_cq_of, is_submitted}}

@@ -12,8 +12,7 @@ use Rattle.machine_model.specs.Refusals.{has_cq, has_sq, slot_page, slot_offset,
 use Rattle.machine_model.specs.State.{State, Record, pages_of, Device, HostQueue, DeviceQueue}
 use Rattle.machine_model.specs.Step.{Step, IsController, KeepsDevice, forges, resets, LeavesByController, LeavesByHost, host_part}
 use Rattle.machine_model.specs.declared.words.HostState.{HostState, TheVariants.{HalfMade}}
-use Rattle.host_core.proofs.PageOwners.{among-from}
-use Rattle.host_core.proofs.Lists.{change-at-lists as change-at, each-change, get-at, length-change}
+use Rattle.host_core.proofs.{Lists.{change-at-lists as change-at, each-change, get-at, length-change}, PageOwners.among-from}
 use Rattle.host_core.specs.{Alone.alone, Exact.Exactly, Looks.completion_base, Posting.{with_tail_moved, tail_place, posted, CanPost}}
 use Rattle.host_core.specs.{Reaping.{IsCompletionSlot, lacks_completion, with_state}, Rows.Queue}
 use Rattle.host_core.specs.Tables.{Tables, state_of, host_queue_of, sq_pages_of, view_of, cq_pages_of}

@@ -6,8 +6,7 @@ use Rattle.page_ledger.specs.declared.owner.Owner.TheVariants as owner
 use Rattle.host_core.proofs.Lists as lists
 use Rattle.std.proofs.Common.{◌≡◌, ℕ, zero, suc, ◌<◌, ◌∷◌, [], Option, Some, None, List, length, map, slice_get, refl, ap, sym, ◌∙◌, subst, true, ◌==◌, Bool, false, if◌then◌else◌, eqb-true, eq-eqb, filter, find, not, slice_set, length-set, arith, ◌⊎◌, inl, inr}
 use Rattle.std.proofs.lemmas.{Bool.{true≢false, and_parts, and_right, cases_Bool, cond_both, true_from_ne_false}, List.length-map, Option.slice_get-map}
-use Rattle.std.specs.List.{AllByRecursion}
-use Rattle.std.specs.Option.{option_map_or, option_map}
+use Rattle.std.specs.{Option.{option_map_or, option_map}, List.AllByRecursion}
 use Rattle.entry_codec.specs.declared.{completion.ComEntry.ComEntry, status.{Status.Status, TheConstants.Status.ABORTED_SQ_DELETION}}
 use Rattle.io_commands.specs.{Asked.Request, Jobs.is_success}
 use Rattle.machine_model.proofs.{Cases.option_is, Kept.{alone_has_cq, alone_has_no_sq, asked_has_sq}, Steps.found_all}

@@ -15,9 +15,8 @@ use Rattle.machine_model.{proofs.{Cases.option_is, Kept.{sq_with_cq, deleted_has
 use Rattle.machine_model.specs.Refusals.{refusal_of, has_cq_alone, is_submitted, is_reaped, host_queue, is_deleted, is_live, has_cq}
 use Rattle.machine_model.specs.State.{HostQueue, Record, is_at, with_record, without_record, State, pages_of}
 use Rattle.machine_model.specs.{Step.{fits_ring, reaped_as, reaped_entry, submitted_at, Step}, Work.Work, declared.words.HostState.HostState}
-use Rattle.machine_model.specs.declared.words.{HostState.TheVariants.{Live, Gone, HalfMade, Retired}, Phase.Phase}
+use Rattle.machine_model.specs.declared.words.{HostState.TheVariants.{Live, Gone, HalfMade, Retired}, Phase.Phase, Work.TheVariants.{Io, Management}}
 use Rattle.machine_model.specs.declared.words.{Phase.TheVariants.{Submitted, Held}, Refusal.Refusal, RejectedFor.RejectedFor}
-use Rattle.machine_model.specs.declared.words.Work.TheVariants.{Io, Management}
 use Rattle.queue_pair.{proofs.Rings.in_range_below, specs.Slots.is_in_range}
 use Rattle.host_core.proofs.{Granting.in_state-is, Lists.{each-change, length-change, found_any, all-map, any-map, some_is}, RowRecords.claims-same}
 use Rattle.host_core.proofs.PageOwners.{commands-told, half-owned, half-there, others-told, owner-stays, given-free}

@@ -5,10 +5,9 @@ use Rattle.machine_model.specs.After as a
 use Rattle.machine_model.specs.Events as events
 use Rattle.std.proofs.Common.{◌≡◌, ℕ, ◌+◌, ◌-◌, ◌<◌, ◌≤◌, true, Some, List, [], ◌∷◌, ◌++◌, length, map, get_or, slice_get, slice_set, refl, ap, ap₂, sym, ◌∙◌, arith, subst, zero, suc, ◌==◌, nat_lt, not, Bool, false, ◌&&◌, None, if◌then◌else◌, lt-ltb, ◌||◌, inl, inr, flat_map}
 use Rattle.std.proofs.lemmas.Bool.{true≢false, false_from_ne_true, cases_Bool, and_parts, and_right, ne_eqb, not-true, or_cases, or_from, or_left, or_right}
-use Rattle.std.proofs.lemmas.Bool.Decides.{nat_tests}
-use Rattle.std.{proofs.lemmas.{List.{map-append, length-map}, Option.{slice_get_within, slice_get-map}}, specs.List.AllByRecursion}
+use Rattle.std.{proofs.lemmas.{List.{map-append, length-map}, Option.{slice_get_within, slice_get-map}, Bool.Decides.nat_tests}, specs.List.AllByRecursion}
 use Rattle.std.specs.{Option.{option_map_or, option_map}, Prelude.Option}
-use Rattle.machine_model.proofs.{Owned.{all_reset, lost_by}, Steps.length-with_pages, TokensKept.live_is}
+use Rattle.machine_model.proofs.{Owned.{all_reset, lost_by}, Steps.length-with_pages, TokensKept.live_is, Headline.steps_keep}
 use Rattle.machine_model.specs.{After.{admin_pages, change, after_reset, is_of_io, lost_anywhere, reset_records}, Claims.IsSound}
 use Rattle.machine_model.specs.{Memory.{with_pages, zeroed_pages}, Refusals.is_live, State.{HostQueue, Record, State, is_at}, Step.Step}
 use Rattle.machine_model.specs.declared.words.{HostState.{HostState, TheVariants.Live}}
@@ -26,7 +25,6 @@ use Rattle.host_core.specs.{Alone.{HostView, alone}, Commands.CanZero, Halves.{h
 use Rattle.host_core.specs.Resetting.{admin_reset, with_admin_renewed, gone, gone_behind_first, is_of_io_queue, with_queue_gone, ListHalves, ListsHalf, tables_reset, with_records_reset, HasPlaces, IsPlaced}
 use Rattle.host_core.specs.{Rows.{Queue, Queue as RowsQueue}, Tables.{Tables, host_queue_of, sq_pages_of, cq_pages_of, state_of, view_of}}
 use Rattle.host_core.specs.Whole.{IsWhole, IsHost, ClaimsIdentifiers, IsQueue, IsRecord, TellsCommand, TellsQueue, is_outstanding}
-use Rattle.machine_model.proofs.Headline.{steps_keep}
 
 -- Queue 0 at a reset: its pages are made zero, and its rings are as they open.
 

@@ -5,13 +5,12 @@ use Rattle.std.proofs.Common.{is_some, ◌≡◌, ℕ, ◌==◌, Bool, true, fal
 use Rattle.std.{proofs.lemmas.Bool.{and_parts, cases_Bool, cond_both, Decides.nat_tests}, specs.List.AllByRecursion}
 use Rattle.machine_model.{proofs.{Cases.option_is, Owned.{lost_by, lost_keeps}, Sound.changed}, specs.After.{is_of_io, lost, lost_anywhere, change}}
 use Rattle.machine_model.specs.State.{Record, is_at, with_record, without_record}
-use Rattle.slot_table.specs.{Rows.{Row, value_at, without, with_value, NoneAt, IsDistinct}, Table.TableOf}
+use Rattle.slot_table.{specs.{Rows.{Row, value_at, without, with_value, NoneAt, IsDistinct}, Table.TableOf}, proofs.{Rows.without-none, Walks.none_stands}}
 use Rattle.host_core.{proofs.Lists.{some_is, none_is_not, all-filter, all-map, any-map, each-change}, specs.Commands.claims_changed}
 use Rattle.host_core.specs.{Parts.{record_of, records_of, tables_of, Becomes}, Resetting.{HasPlaces, IsPlaced}, Rows.{Kept, Queue}, Tables.Tables}
 use Rattle.host_core.specs.{Whole.{ClaimIdentifiers, ClaimsIdentifiers, IsRecord, TellsCommand, is_outstanding, IsQueue, TellsQueue}, declared.parts.Parts.Parts}
 use Rattle.page_ledger.specs.{Owners.owner_at, declared.owner.Owner.Owner}
 use Rattle.page_memory.specs.{Pages.{Pages, page_at}, declared.page.Half.Half}
-use Rattle.slot_table.proofs.{Rows.without-none, Walks.none_stands}
 
 -- The rows of the table of records, as records.
 

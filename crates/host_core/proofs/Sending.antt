@@ -11,7 +11,7 @@ use Rattle.machine_model.specs.{State.{HostQueue, State}, Step.{Answers, IsContr
 use Rattle.machine_model.specs.declared.words.{HostState.TheVariants.Deleting, Refusal.Refusal}
 use Rattle.page_memory.specs.{Pages.page_at, declared.page.Half.TheVariants.Submission}
 use Rattle.queue_pair.{proofs.Halves.found_within, specs.Memory.half_pages}
-use Rattle.host_core.proofs.{Granting.{in_state-is, next-fresh, next-left, none-left}, Identifiers.claim-more}
+use Rattle.host_core.proofs.{Granting.{in_state-is, next-fresh, next-left, none-left}, Identifiers.claim-more, Lists.change-here}
 use Rattle.host_core.proofs.Lists.{all-append, each-change, length-change, map-change, some_is}
 use Rattle.host_core.proofs.QueueLists.{posted-exact, posted-queue, submission_length, tail-fits, tail-in, pool-with_bytes, submission_page-in, Settled, settled-of, settled-state, settled-turned, settled-with, host_step, Steps, steps}
 use Rattle.host_core.proofs.{Reaping.state-set, RowRecords.{claims_keep_queue, claims_keep_tells, each_claimed}, Submitted.{admin_live, full_is}}
@@ -19,7 +19,6 @@ use Rattle.host_core.specs.{Commands.with_claim, Exact.Exactly, Posting.{CanPost
 use Rattle.host_core.specs.Sending.{CanSend, HasSlot, Sends, asked, grants_none, noted, record_of_admin, sending, sent, named_causes}
 use Rattle.host_core.specs.{Tables.{Tables, state_of, host_queue_of}, Whole.{IsQueue, IsRecord, IsWhole, TellsCommand, TellsQueue}}
 use Rattle.controller_walk.specs.Units.{first_passing}
-use Rattle.host_core.proofs.Lists.{change-here}
 use Rattle.std.proofs.lemmas.Option.{slice_get_within}
 
 -- An admin command that is sent on the tables is the machine's, and leaves them whole.

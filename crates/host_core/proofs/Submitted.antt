@@ -9,11 +9,9 @@ use Rattle.entry_codec.specs.{Submission.{submission_bytes, FitsSubmission}, dec
 use Rattle.io_commands.{proofs.Building.carries_entry, specs.{DataBytes.PagesOut, Drafts.{DraftContents, draft_first}, Values.numbers_of}}
 use Rattle.sgl_chain.proofs.Spelled.{length-spelling}
 use Rattle.machine_model.proofs.{Cases.option_is, Counting.held_once, Kept.live_has_sq, Steps.{length-with_pages, first_fails, found_all}}
-use Rattle.machine_model.specs.After.{change, after_submit}
-use Rattle.machine_model.specs.{Memory.with_pages, Proper.IsProperDraft}
+use Rattle.machine_model.specs.{Memory.with_pages, Proper.IsProperDraft, After.{change, after_submit}, declared.words.Work.TheVariants.{Io, Management}}
 use Rattle.machine_model.specs.Refusals.{refusal_of, is_drafted, is_of, is_live, in_state, queue_full, record_is, host_queue}
 use Rattle.machine_model.specs.{State.{State, Record, is_at, pages_of, with_record, HostQueue}, Step.{Refuses}, Work.Work}
-use Rattle.machine_model.specs.declared.words.Work.TheVariants.{Io, Management}
 use Rattle.page_ledger.specs.{Owners.{is_among, owner_at}, declared.owner.Owner.TheVariants.{Queue as OfQueue, Command}}
 use Rattle.page_memory.specs.{Pages.Pages, declared.page.Half.{TheVariants.Submission}}
 use Rattle.queue_pair.specs.{Memory.half_pages, Slots.is_full}
