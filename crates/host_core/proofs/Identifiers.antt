@@ -127,10 +127,7 @@ once_of t h q cid = subst (λ (n : ℕ). n < 2) (times-outstanding cid q t.recor
 
 pub outstanding-some : (q cid : ℕ) (records : List Record) → is_outstanding records q cid ≡ true → 0 < total_counting (here q cid) records
 outstanding-some q cid [] h = absurd (true≢false (sym h))
-outstanding-some q cid (r ∷ records) h = elim (cases_Bool (is_at q cid r)) [
-  | inl e ↦ omega (arith, ap one e)
-  | inr e ↦ omega (arith, outstanding-some q cid records (rw e at h))
-]
+outstanding-some q cid (r ∷ records) h = grind (arith, h, outstanding-some q cid records)
 
 pub outstanding-among : (h : Host) (q cid : ℕ) → is_outstanding h.records q cid ≡ is_among (outstanding_on h q) cid
 outstanding-among h q cid = elim (cases_Bool (is_among (outstanding_on h q) cid)) [

@@ -163,10 +163,7 @@ all-back P (x ∷ xs) ys all = all-back P xs ys all.1
 -- the rows of a queue are its outstanding commands
 pub rows_on-outstanding : (q : ℕ) (rows : List (Row Kept)) → rows_on q rows ≡ length (map (λ (r : Record). r.cid) (filter (λ (r : Record). r.q == q) (records_of rows)))
 rows_on-outstanding q [] = refl
-rows_on-outstanding q (row ∷ rows) = elim (cases_Bool (row.q == q)) [
-  | inl here ↦ rw here (omega (arith, rows_on-outstanding q rows))
-  | inr far ↦ rw far (rows_on-outstanding q rows)
-]
+rows_on-outstanding q (row ∷ rows) = grind (arith, rows_on-outstanding q rows)
 
 -- the row at which a walk stands, and those behind it
 one_more : (q n p cid : ℕ) (rows : List (Row Kept)) → first_place (drop n rows) ≡ Some (p, cid)

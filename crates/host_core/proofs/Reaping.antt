@@ -392,13 +392,7 @@ each-over P q k cid queues hears frees all =
 
 found-counts : {A : Type 0} (test p : A → Bool) (xs : List A) (x : A) → find test xs ≡ Some x → p x ≡ true → 0 < length (filter p xs)
 found-counts test p [] x h is = absurd (none_is_not h)
-found-counts {A = A} test p (y ∷ xs) x h is = elim (cases_Bool (p y)) [
-  | inl e ↦ rw e (omega arith)
-  | inr e ↦ rw e (elim (cases_Bool (test y)) [
-    | inl f ↦ let same : y ≡ x = some_is (rw f at h) in absurd (true≢false (sym is ∙ (ap p (sym same) ∙ e)))
-    | inr f ↦ found-counts test p xs x (rw f at h) is
-  ])
-]
+found-counts test p (y ∷ xs) x h is = grind (arith, is, found-counts test p xs x)
 
 asked-at : (t : Tables) → IsWhole t → (q cid k : ℕ) (r : Record) → find (is_at q cid) t.records ≡ Some r → r.work ≡ Management (DeleteSq k) → (x : Queue) → slice_get t.queues k ≡ Some x → is_asked x.state ≡ true
 asked-at t w q cid k r was work x at = true_from_ne_false (is_asked x.state) (λ e.

@@ -381,19 +381,11 @@ lost-at q cid r = lost_by (λ (x : Record). is_at q cid x ≡ is_at q cid r) r (
 -- the commands of an I/O queue stay outstanding, and none of queue 0 is
 outstanding-left : (entries queues : ℕ) (rs : List Record) → AllByRecursion (IsPlaced entries queues) rs → (q cid : ℕ) → (q == 0) ≡ false → is_outstanding (reset_records rs) q cid ≡ is_outstanding rs q cid
 outstanding-left entries queues [] all q cid io = refl
-outstanding-left entries queues (r ∷ rs) all q cid io = elim (cases_Bool (is_of_io r.work)) [
-  | inl e ↦ rw e (ap₂ (λ x y. x || y) (lost-at q cid r) (outstanding-left entries queues rs all.1 q cid io))
-  | inr e ↦
-      let far : is_at q cid r ≡ false = grind (arith, nat_tests, all.0.work, e, io) in rw (e, far) (outstanding-left entries queues rs all.1 q cid io)
-]
+outstanding-left entries queues (r ∷ rs) all q cid io = grind (arith, nat_tests, io, all.0.work, lost-at q cid r, outstanding-left entries queues rs all.1 q cid io)
 
 none-left : (entries queues : ℕ) (rs : List Record) → AllByRecursion (IsPlaced entries queues) rs → (cid : ℕ) → is_outstanding (reset_records rs) 0 cid ≡ false
 none-left entries queues [] all cid = refl
-none-left entries queues (r ∷ rs) all cid = elim (cases_Bool (is_of_io r.work)) [
-  | inl e ↦ let far : is_at 0 cid r ≡ false = grind (arith, nat_tests, all.0.work, e) in rw e
-      (or_from (is_at 0 cid (lost_anywhere r)) _ (lost-at 0 cid r ∙ far) (none-left entries queues rs all.1 cid))
-  | inr e ↦ rw e (none-left entries queues rs all.1 cid)
-]
+none-left entries queues (r ∷ rs) all cid = grind (arith, nat_tests, all.0.work, lost-at 0 cid r, none-left entries queues rs all.1 cid)
 
 claims-left : (entries queues : ℕ) (rs : List Record) → AllByRecursion (IsPlaced entries queues) rs → (k : ℕ) (claimed : List Bool) → ClaimsIdentifiers rs (suc k) claimed → ClaimsIdentifiers (reset_records rs) (suc k) claimed
 claims-left entries queues rs all k claimed h = claims-same rs (reset_records rs) (suc k) claimed (λ cid. outstanding-left entries queues rs all (suc k) cid (not-first k)) h
