@@ -7,22 +7,20 @@ use Rattle.host_core.specs.declared.call.Reply.TheVariants as reply
 use Rattle.host_core.specs.declared.call.Call.TheVariants as call
 use Rattle.std.proofs.Common.{◌≡◌, ◌+◌, ◌-◌, Option, [], refl, ap, ap₂, sym, subst, ℕ, Bool, true, false, Some, None, List, ◌∷◌, ◌++◌, length, ◌==◌, ◌&&◌, find, ◌∙◌, ◌≢◌, ◌*◌, ◌<◌, ◌≤◌, inl, inr, is_some, arith, Result, Ok, Err, OnOk, OnErr}
 use Rattle.std.proofs.lemmas.{Bool.{cases_Bool, cases_lt, true_from_ne_false}, List.{append-nil, Elements.filter_map-append}, Option.slice_get-get_or}
-use Rattle.std.specs.List.{list_any}
-use Rattle.std.specs.Option.{option_and_then}
+use Rattle.std.specs.{Option.option_and_then, List.list_any}
 use Rattle.host_core.proofs.KeptRows.{goes_on, opens_tied, length-queues_from, drafts_named, tickets_named, finished_named, named_there, place_free, put_back, put_same, put_next, reserved, row_dropped, renewed, followed, ended, found_at, changed_at, changed_other, taken_at, taken_other}
 use Rattle.host_core.{proofs.{Outstanding.collected_named}, specs.Alone.{HostView, alone, HasPlacedPages, IsLowest}}
 use Rattle.host_core.specs.Calls.{reset_alone, Does, Fills, Builds, Submits, Cancels, Collects, Gathers, Releases}
-use Rattle.host_core.specs.CommandValues.{without_first, with_first, IsBench, table_with, as_draft, as_ticket, as_finished, picked, IsOut}
+use Rattle.host_core.specs.CommandValues.{with_first, IsBench, table_with, as_draft, as_ticket, as_finished, picked, IsOut}
 use Rattle.host_core.specs.{Kept.{FillsDraft, BuildsDraft, opened_alone}, Opening.{opened_pages, opened_view}, Pool.Keeps, Resetting.{host_reset, pages_reset}, Values.Reply}
 use Rattle.host_core.specs.declared.{config.Config.Config, values.CommandValue.CommandValue}
 use Rattle.machine_model.specs.{After.after_reset, Image.{draft_of, is_draft}, Memory.is_in, Script.{Table, finished_at, is_ticket, filled_draft, is_finished}}
-use Rattle.machine_model.specs.{State.State, Step.Step, declared.words.Refusal.Refusal}
+use Rattle.machine_model.{specs.{State.State, Step.Step, declared.words.Refusal.Refusal}, proofs.Cases.option_is}
 use Rattle.page_memory.proofs.Bytes.{byte_in, missing_at, none_of, page_of_place, written_in, written_before, written_after, told}
 use Rattle.page_memory.specs.{Memory.{Memory, bytes_at, written}, Pages.{Pages, AreWhole, byte_at, page_at}}
 use Rattle.slot_table.specs.{Rows.{Row, value_at, with_value, without}, Table.{TableOf, IsPlace, with_row}}
 use Rattle.entry_codec.specs.declared.status.Status.{Status}
 use Rattle.io_commands.specs.{Asked.Request, Drafts.{DraftContents, built}, Values.{FinishedContents, TicketContents, gathered_from}}
-use Rattle.machine_model.proofs.Cases.{option_is}
 
 -- What a reset leaves of a host alone, and what is of the host and not of its pages.
 

@@ -1,29 +1,26 @@
 -- The command that makes a half, as it is sent: what is found before it, what is written, and the step of the machine that it is.
-use Rattle.std.proofs.Common.{◌≡◌, ℕ, zero, suc, ◌+◌, ◌*◌, ◌<◌, ◌==◌, ◌||◌, ◌&&◌, nat_lt, ◌++◌, ◌∷◌, [], Bool, true, false, not, Option, Some, None, List, is_none, is_some, length, position, slice_get, slice_index, refl, ap, ap₂, sym, ◌∙◌, subst, arith, inl, inr}
-use Rattle.std.{proofs.lemmas.{Bool.{true≢false, and_parts, not-false, not-true, or_parts}, Option.{slice_get-map}}, specs.List.list_any}
-use Rattle.std.specs.Option.{option_map, option_map_or}
+use Rattle.std.proofs.Common.{◌≡◌, ℕ, zero, suc, ◌+◌, ◌*◌, ◌<◌, ◌==◌, ◌||◌, ◌&&◌, nat_lt, ◌++◌, ◌∷◌, [], Bool, true, false, not, Option, Some, None, List, is_none, length, position, slice_get, slice_index, refl, ap, ap₂, sym, ◌∙◌, subst, arith, inl, inr}
+use Rattle.std.{proofs.lemmas.{Bool.{true≢false, or_parts}, Option.slice_get-map}, specs.{List.list_any, Option.{option_map, option_map_or}}}
 use Rattle.admin_commands.specs.{Entries.admin_entry, declared.AdminKind.{AdminKind, TheVariants.{CreateCq, CreateSq}}}
 use Rattle.controller_walk.specs.Units.{first_passing}
 use Rattle.entry_codec.specs.declared.submission.SubEntry.{SubEntry}
-use Rattle.machine_model.{proofs.Steps.{first_fails, rest_fails}, specs.{After.change, Memory.zeroed_pages, Proper.IsProper}}
-use Rattle.machine_model.specs.Refusals.{cq_deletion_outstanding, in_state, is_gone, is_half_made, is_io_queue, is_making, no_identifier, queue_full, refusal_of, run_for}
-use Rattle.machine_model.specs.State.{HostQueue, Record, State, is_at, outstanding_on}
+use Rattle.machine_model.{specs.{After.change, Memory.zeroed_pages, Proper.IsProper, State.{HostQueue, Record, State, is_at}}, proofs.Cases.option_is}
+use Rattle.machine_model.specs.Refusals.{in_state, is_gone, is_half_made, is_making, no_identifier, queue_full, refusal_of, run_for}
 use Rattle.machine_model.specs.{Step.{Answers, IsController, IsNewIdentifier, Refuses, Step, touched_by_refusal}, declared.words.HostState.HostState}
 use Rattle.machine_model.specs.declared.words.{HostState.TheVariants.{Gone, HalfMade}, Refusal.Refusal}
 use Rattle.page_ledger.specs.{Owners.pages_from, Runs.lowest_run}
 use Rattle.page_memory.specs.declared.page.Half.{Half, TheVariants.{Submission, Completion}}
 use Rattle.queue_pair.specs.Memory.{half_pages}
-use Rattle.host_core.proofs.{Granting.{in_state-is, next-fresh, next-left, none-left}, Lists.some_is}
+use Rattle.host_core.proofs.{Granting.{in_state-is, next-fresh, next-left, none-left}, Lists.some_is, QueueLists.{Settled, host_step, Steps, steps}}
 use Rattle.host_core.proofs.Making.{any-count, IsBare, granted-state, half_in, run-within, settled-granted, some-pages, with-some, same-run}
-use Rattle.host_core.proofs.QueueLists.{Settled, host_step, Steps, steps}
-use Rattle.host_core.proofs.Sending.{Next, can-post-to, first-there, past, send-typed, HasHalfIn, first-changed, half-in, sent-exact, sent_in, settled-sent, some-first}
-use Rattle.host_core.{proofs.Submitted.full_is, specs.{Commands.{ClaimsNext, with_claim}, Posting.{CanPostTo, Posts, posted}, Rows.Queue}}
+use Rattle.host_core.proofs.Sending.{Next, can-post-to, first-there, past, send-typed, HasHalfIn, half-in, sent-exact, sent_in, settled-sent}
+use Rattle.host_core.{proofs.{Submitted.full_is, Lists.change-here}, specs.{Commands.{ClaimsNext, with_claim}, Posting.{CanPostTo, Posts, posted}, Rows.Queue}}
 use Rattle.host_core.specs.Sending.{CanCreate, Creates, HasSlot, creating, creation, granted, half_from, making, named_causes, noted, sent}
 use Rattle.host_core.specs.{Tables.{Tables, host_queue_of, state_of}, Whole.IsWhole}
 use Rattle.machine_model.specs.After as a
 use Rattle.machine_model.specs.Events as events
 use Rattle.machine_model.specs.declared.words.Refusal.TheVariants as refusal
-use Rattle.machine_model.proofs.Cases.{option_is}
+use Rattle.std.proofs.lemmas.Option.{slice_get_within}
 
 -- What is against it
 
@@ -203,7 +200,7 @@ first-within t half first w run = omega (arith, run-within t half first (half_pa
 pub granted-there : (t u : Tables) (half : Half) (q cid first : ℕ) → IsWhole t → CanCreate t half q cid first → u ≡ granted half q first t → 0 < length u.queues
 granted-there t u half q cid first w can same =
     let slot = granted-slot t half q cid first (bare-of t half q w can.none).other can.slot in
-    subst (λ (v : Tables). 0 < length v.queues) (sym same) (some-first (granted half q first t).queues slot.queue slot.at)
+    subst (λ (v : Tables). 0 < length v.queues) (sym same) (slice_get_within (granted half q first t).queues 0 slot.queue slot.at)
 
 pub granted-next : (t u : Tables) (half : Half) (q cid first : ℕ) → IsWhole t → CanCreate t half q cid first → u ≡ granted half q first t → ClaimsNext u.queues 0 cid
 granted-next t u half q cid first w can same =
@@ -224,7 +221,7 @@ pub granted-noted-there : (t u v : Tables) (half : Half) (q cid first : ℕ) (ki
 granted-noted-there t u v half q cid first kind w can same is =
     let slot = granted-slot t half q cid first (bare-of t half q w can.none).other can.slot in
     subst (λ (y : Tables). 0 < length y.queues) (sym (is ∙ ap (noted kind cid) same))
-    (some-first (noted kind cid (granted half q first t)).queues (with_claim cid slot.queue) (first-changed (with_claim cid) (granted half q first t).queues slot.queue slot.at))
+    (slice_get_within (noted kind cid (granted half q first t)).queues 0 (with_claim cid slot.queue) (change-here 0 (with_claim cid) (granted half q first t).queues slot.queue slot.at))
 
 pub granted-can-post : (t u v : Tables) (half : Half) (q cid first : ℕ) (kind : AdminKind) (entry : SubEntry) → IsWhole t → CanCreate t half q cid first → u ≡ granted half q first t → v ≡ noted kind cid u
     → entry ≡ admin_entry kind cid → CanPostTo v 0 entry
@@ -238,5 +235,5 @@ pub creates-apart : (t u v new : Tables) (half : Half) (q cid first : ℕ) (kind
 creates-apart t u v new half q cid first kind entry other is same noted-is posts-is posts = λ x at.
     let g : Tables = granted half q first t in
     let stands : slice_get g.queues 0 ≡ Some x = kept-at q (making half first) t.queues other ∙ at in
-    let there = subst (λ (y : Tables). Posts y 0 entry new) (noted-is ∙ ap (noted kind cid) same) posts (with_claim cid x) (first-changed (with_claim cid) g.queues x stands) in
+    let there = subst (λ (y : Tables). Posts y 0 entry new) (noted-is ∙ ap (noted kind cid) same) posts (with_claim cid x) (change-here 0 (with_claim cid) g.queues x stands) in
     there ∙ (ap (λ (e : SubEntry). posted 0 (with_claim cid x) e (noted kind cid g)) posts-is ∙ ap (λ (k : AdminKind). sent k cid x g) is)

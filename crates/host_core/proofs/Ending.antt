@@ -16,13 +16,10 @@ use Rattle.machine_model.specs.declared.words.{Phase.TheVariants.{Held, Drafted,
 use Rattle.page_ledger.specs.{Lists.ListsAll, Owners.{free_pages, is_among, is_command, is_owned_at, given_back}, declared.owner.Owner.Owner}
 use Rattle.page_ledger.specs.declared.owner.{Owner.TheVariants.{Free, Command}, Role.TheVariants.{Data, Chain}}
 use Rattle.page_memory.specs.Pages.{Pages, IsPool, page_at}
-use Rattle.host_core.proofs.Identifiers.{claim-less}
-use Rattle.host_core.proofs.Lists.{length-change, map-change, change-same, found_at, found_is, all-filter, all-filter_by, all-from, all-to, all-front, all-back}
-use Rattle.host_core.proofs.Lists.{found_any}
-use Rattle.host_core.proofs.PageOwners.{can-take, pool-without, record-in, set-other, without-append, can-put, pool-with, record-out, record-inside}
-use Rattle.host_core.proofs.PageOwners.{owner-stays, times-at, command-pages, given-free}
+use Rattle.host_core.proofs.Lists.{length-change, map-change, change-same, found_at, found_is, all-filter, all-filter_by, all-from, all-to, all-front, all-back, found_any}
+use Rattle.host_core.proofs.PageOwners.{can-take, pool-without, record-in, set-other, without-append, can-put, pool-with, record-out, record-inside, owner-stays, times-at, command-pages, given-free}
 use Rattle.host_core.proofs.{Outstanding.ids, QueueLists.{host_step, settled-of, settled-with, Steps, steps}, RowRecords.{Marks, marked-claims, marked-records, marked-tells, claims_keep_queue, claims_keep_tells, each_claimed}}
-use Rattle.host_core.specs.{Collecting.{taken_pages, StandsAt}, Exact.Exactly}
+use Rattle.host_core.{specs.{Collecting.{taken_pages, StandsAt}, Exact.Exactly}, proofs.Identifiers.claim-less}
 use Rattle.host_core.specs.Commands.{claims_changed, taken_out, CanTake, ended, without_claim, CanPut, Brings, Belongs, Claims, has_record, phase_of_end}
 use Rattle.host_core.specs.{Rows.Queue, Tables.{Tables, state_of, host_queue_of}}
 use Rattle.host_core.specs.Whole.{IsWhole, IsQueue, ClaimIdentifiers, TellsQueue, TellsCommand, IsRecord, FitsWork, FitsPhase}

@@ -1,29 +1,26 @@
 -- Commands that are reserved.
 use Rattle.machine_model.specs.Events as events
-use Rattle.machine_model.specs.declared.words.Refusal.TheVariants as refusal
 use Rattle.host_core.specs.Rows as declared
-use Rattle.std.proofs.Common.{◌≡◌, ℕ, ◌<◌, ◌≤◌, ◌==◌, nat_lt, Bool, true, false, ◌&&◌, ◌||◌, Option, Some, None, List, [], ◌∷◌, ◌++◌, length, map, slice_get, slice_set, is_some, is_none, refl, ap, ap₂, sym, ◌∙◌, arith, subst, length-set, if◌then◌else◌, not, ◌+◌, All, length-append, inl, inr}
+use Rattle.std.proofs.Common.{◌≡◌, ℕ, ◌<◌, ◌≤◌, ◌==◌, nat_lt, true, false, ◌&&◌, ◌||◌, Option, Some, None, List, [], ◌∷◌, ◌++◌, length, map, slice_get, slice_set, is_some, is_none, refl, ap, ap₂, sym, ◌∙◌, arith, subst, length-set, if◌then◌else◌, not, ◌+◌, All, length-append, inl, inr}
 use Rattle.std.proofs.lemmas.Bool.{true≢false, true_from_ne_false, false_from_ne_true, cases_Bool, cond_both, or_left, or_right, or_parts}
 use Rattle.std.proofs.lemmas.List.{length-map, take_at, drop_at, Elements.{All-map, All-append}}
-use Rattle.std.{proofs.lemmas.Option.{slice_get-map, slice_get_within}, specs.{List.AllByRecursion, Option.{option_map, option_map_or}}}
+use Rattle.std.{proofs.lemmas.Option.{slice_get-map, slice_get_within}, specs.{List.AllByRecursion, Option.{option_map}}}
 use Rattle.io_commands.specs.{Asked.Request, DataBytes.PagesOut, Drafts.DraftContents, Least.pages_with}
 use Rattle.io_commands.specs.{Requests.{fault_of, data_count, FitsRequest, joined_parts}, Values.{numbers_of, data_part, chain_part}}
-use Rattle.machine_model.proofs.Counting.{times-append, held_once, times-filter, times-pages, not_held}
+use Rattle.machine_model.proofs.{Counting.{times-append, held_once, times-filter, times-pages, not_held}, Cases.option_is}
 use Rattle.machine_model.proofs.{Headline.{length_placed, placed_times, two_placed, length_left}, Moves.queue_known}
-use Rattle.machine_model.{proofs.Steps.{length-without_pages, first_fails, rest_fails}, specs.After.{after_reserve, change}}
+use Rattle.machine_model.{proofs.Steps.{length-without_pages}, specs.After.{after_reserve, change}}
 use Rattle.machine_model.specs.{Memory.{without_pages, zeroed_pages}, Placement.{placed, without_numbers, data_placed}}
-use Rattle.machine_model.specs.{Refusals.{refusal_of, no_io_queue, in_state, is_deleting, no_identifier, pages_wanted, in_service}, State.{State, Record}}
-use Rattle.machine_model.specs.{Step.{IsReserved, times}, declared.words.{Phase.TheVariants.Drafted, Refusal.Refusal, Work.TheVariants.Io}}
-use Rattle.page_ledger.proofs.Tables.{length-with_owner, owner-with}
+use Rattle.machine_model.specs.{Refusals.{refusal_of, no_io_queue, in_state, in_service}, State.{State, Record}}
+use Rattle.machine_model.specs.{Step.{IsReserved, times}, declared.words.{Phase.TheVariants.Drafted, Work.TheVariants.Io}}
 use Rattle.page_ledger.specs.{Owners.{is_among, owner_at, with_owner, free_pages, is_free, is_owned_at, pages_from}, declared.owner.Owner.Owner}
-use Rattle.page_ledger.specs.declared.owner.{Owner.TheVariants.{Free, Command}, Role.TheVariants.{Data, Chain}}
+use Rattle.page_ledger.{specs.declared.owner.{Owner.TheVariants.{Free, Command}, Role.TheVariants.{Data, Chain}}, proofs.Tables.{length-with_owner, owner-with}}
 use Rattle.host_core.proofs.{Ending.{Fits, due, moved_is, moved_whole}, Identifiers.claim-more, Lists.{all-append, all-all, some_is}}
 use Rattle.host_core.proofs.{PageOwners.{free-owner, granted-free, among-append, pool-without, can-take, free-in, one-le, without-append}, QueueLists.Steps}
 use Rattle.host_core.specs.{Alone.HasPlacedPages, Commands.{reserved, record_of_draft, first_placed, then_placed, with_claim, CanTake, Grants, new_draft}}
 use Rattle.host_core.specs.{Rows.Queue, Tables.{Tables, state_of, host_queue_of, view_of}, Whole.{IsWhole, TellsCommand, IsRecord}}
 use Rattle.page_memory.specs.Pages.{Pages, zero_page}
 use Rattle.sgl_chain.specs.Chains.{pages_needed}
-use Rattle.machine_model.proofs.Cases.{option_is}
 
 -- A reservation on the tables is the machine's, and leaves them whole.
 

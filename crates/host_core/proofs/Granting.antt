@@ -2,7 +2,7 @@
 use Rattle.std.proofs.Common.{◌≡◌, ℕ, zero, suc, ◌+◌, ◌-◌, ◌<◌, ◌≤◌, ◌==◌, inl, inr, nat_lt, Bool, true, false, not, ◌||◌, Some, None, List, [], ◌∷◌, length, position, slice_get, refl, ap, sym, ◌∙◌, arith, if◌then◌else◌, lt-ltb, le-ltb, eq-eqb}
 use Rattle.std.proofs.lemmas.{Bool.{true_from_ne_false, cases_lt, not-true, Decides.nat_tests}, Option.{slice_get-map, slice_get_within}}
 use Rattle.io_commands.specs.{Asked.Request, Least.least_pages, Requests.{fault_of, data_count}, declared.request.{Piece.Piece}}
-use Rattle.machine_model.{proofs.Counting.{one, times-cons, held_once, not_held}, specs.Placement.{wanted_of, chain_wanted}}
+use Rattle.machine_model.{proofs.{Counting.{one, times-cons, held_once, not_held}, Cases.option_is}, specs.Placement.{wanted_of, chain_wanted}}
 use Rattle.machine_model.specs.Refusals.{refusal_of, no_io_queue, in_state, is_deleting, no_identifier, pages_wanted, in_service}
 use Rattle.machine_model.specs.{State.{State, outstanding_on}, Step.{IsNewIdentifier, Refuses, times}, declared.words.HostState.HostState}
 use Rattle.page_ledger.specs.Owners.{is_among, free_pages}
@@ -12,7 +12,6 @@ use Rattle.host_core.specs.{Commands.{state_at, passes, takes_no_io, Grants}, Ro
 use Rattle.host_core.specs.Whole.{IsWhole, is_outstanding}
 use Rattle.machine_model.specs.Events as events
 use Rattle.machine_model.specs.declared.words.Refusal.TheVariants as refusal
-use Rattle.machine_model.proofs.Cases.{option_is}
 
 -- The host's state of a queue
 

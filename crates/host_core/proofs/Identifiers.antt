@@ -1,8 +1,7 @@
 -- Identifiers, and the places of records.
-use Rattle.std.proofs.Common.{◌≡◌, ℕ, suc, ◌+◌, ◌<◌, Some, List, [], ◌∷◌, length, map, slice_get, refl, sym, ◌∙◌, arith, subst, ◌≢◌, ◌==◌, inl, inr, Bool, true, false, not, ◌&&◌, ◌||◌, cond, ◌++◌, slice_set, ap, length-set, eqb-true, eq-eqb, zero, ◌-◌, None, find, ap₂, is_some, ◌≤◌, nat_lt, if◌then◌else◌, lt-ltb}
+use Rattle.std.proofs.Common.{◌≡◌, ℕ, suc, ◌+◌, ◌<◌, Some, List, [], ◌∷◌, length, map, slice_get, refl, sym, ◌∙◌, arith, subst, ◌≢◌, ◌==◌, inl, inr, Bool, true, false, not, ◌&&◌, ◌||◌, ◌++◌, slice_set, ap, length-set, eqb-true, eq-eqb, zero, ◌-◌, None, find, ap₂, is_some, ◌≤◌, nat_lt, if◌then◌else◌, lt-ltb}
 use Rattle.std.proofs.lemmas.Bool.{true≢false, or_parts, or_right, cases_eq, cases_Bool, cond_both, false_from_ne_true, true_from_ne_false, ne_eqb, not-true, Decides.nat_tests}
-use Rattle.std.proofs.lemmas.List.Folds.{list_any-append}
-use Rattle.std.specs.{List.{AllByRecursion, list_any}, Option.option_map_or}
+use Rattle.std.{specs.{List.{AllByRecursion, list_any}, Option.option_map_or}, proofs.lemmas.List.Folds.list_any-append}
 use Rattle.machine_model.proofs.Counting.{total as sum_of, here, times-outstanding, one, held_once, not_held, total as total_counting}
 use Rattle.machine_model.{proofs.{Cases.option_is, Headline.counts_are_all}, specs.After.{change, is_of_io, lost}}
 use Rattle.machine_model.specs.{Claims.{IsSound, HasNoOtherPages, HasOneOwner, counts_of, OwnsFit}, Positions.IsInRing, Refusals.{deletes_cq_of, is_submitted}}
@@ -128,10 +127,7 @@ once_of t h q cid = subst (λ (n : ℕ). n < 2) (times-outstanding cid q t.recor
 
 pub outstanding-some : (q cid : ℕ) (records : List Record) → is_outstanding records q cid ≡ true → 0 < total_counting (here q cid) records
 outstanding-some q cid [] h = absurd (true≢false (sym h))
-outstanding-some q cid (r ∷ records) h = elim (cases_Bool (is_at q cid r)) [
-  | inl e ↦ omega (arith, ap one e)
-  | inr e ↦ omega (arith, outstanding-some q cid records (rw e at h))
-]
+outstanding-some q cid (r ∷ records) h = grind (arith, h, outstanding-some q cid records)
 
 pub outstanding-among : (h : Host) (q cid : ℕ) → is_outstanding h.records q cid ≡ is_among (outstanding_on h q) cid
 outstanding-among h q cid = elim (cases_Bool (is_among (outstanding_on h q) cid)) [
@@ -211,9 +207,7 @@ claim-less records queues q cid claims there = record {
 -- what none passes is not found
 none-found : {A : Type 0} (test : A → Bool) (xs : List A) → list_any test xs ≡ false → find test xs ≡ None
 none-found test [] h = refl
-none-found test (x ∷ xs) h =
-    let both = or_parts (test x) (list_any test xs) h in
-    ap (λ b. cond b (Some x) (find test xs)) both.0 ∙ none-found test xs both.1
+none-found test (x ∷ xs) h = grind (arith, h, none-found test xs)
 
 pub new-empty : {A : Type 0} (parts : Parts A) (pages : Pages) (q cid : ℕ) → IsNewIdentifier (state_of (tables_of parts pages)) q cid → value_at parts.records.rows q cid ≡ None
 new-empty parts pages q cid new =

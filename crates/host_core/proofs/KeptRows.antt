@@ -6,13 +6,12 @@ use Rattle.std.proofs.lemmas.{Bool.{true≢false, and_parts, cond_both, cases_Bo
 use Rattle.std.specs.{List.{AllByRecursion, cons_option}, Option.option_and_then}
 use Rattle.slot_table.proofs.{Rows.{value_at-none, without-none}, Walks.none_stands}
 use Rattle.slot_table.specs.{Rows.{Row, is_at, value_at, with_value, without, NoneAt, IsDistinct}, Table.{AreInside, TableOf, IsPlace, with_row}}
-use Rattle.host_core.proofs.Lists.{all-all, all-append, some_is}
-use Rattle.host_core.proofs.Outstanding.{ends_by, limits_stay, none_there, record_reserved, reserved_ok, stays_outstanding, found_any}
+use Rattle.host_core.proofs.{Outstanding.{ends_by, limits_stay, none_there, record_reserved, reserved_ok, stays_outstanding, found_any}, RowRecords.here-none}
 use Rattle.host_core.specs.CommandValues.{without_first, with_first, picked, as_draft, as_ticket, as_finished, queue_of, identifier_of, IsOutstanding, IsHeld, IsBench, IsOut}
-use Rattle.host_core.specs.declared.{config.Config.Config, values.CommandValue.CommandValue}
+use Rattle.host_core.{specs.declared.{config.Config.Config, values.CommandValue.CommandValue}, proofs.Lists.{all-all, all-append, some_is}}
 use Rattle.io_commands.specs.{Asked.Request, Drafts.DraftContents, Values.FinishedContents}
 use Rattle.machine_model.{proofs.{Cases.option_is, Moves.{drafted_record, live_queue}, Steps.unrefused}, specs.{Events.Event, Image.is_draft, Opening.queues_from}}
-use Rattle.machine_model.specs.{Script.{is_finished, is_ticket}, State.{State}, Step.{Step, IsReserved}}
+use Rattle.machine_model.specs.{Script.{is_finished, is_ticket}, State.{State, Record}, Step.{Step, IsReserved}}
 use Rattle.page_memory.specs.declared.page.Half.TheVariants.{Submission, Completion}
 use Rattle.queue_pair.specs.Memory.{half_pages}
 
@@ -20,12 +19,6 @@ use Rattle.queue_pair.specs.Memory.{half_pages}
 
 pub names : {V : Type 0} (row : Row V) (q cid : ℕ) → is_at row q cid ≡ true → (row.q ≡ q) × (row.cid ≡ cid)
 names row q cid e = let both = and_parts (row.q == q) (row.cid == cid) e in (eqb-true row.q q both.0, eqb-true row.cid cid both.1)
-
--- no row stands in the place of this one
-none_here : {V : Type 0} (rows : List (Row V)) (row : Row V) (q cid : ℕ) → is_at row q cid ≡ true → NoneAt rows row.q row.cid → NoneAt rows q cid
-none_here rows row q cid here none =
-    let is = names row q cid here in
-    subst (λ (n : ℕ). NoneAt rows q n) is.1 (subst (λ (k : ℕ). NoneAt rows k row.cid) is.0 none)
 
 -- With another value in a row
 
@@ -88,7 +81,7 @@ module _ {V : Type 0} where
   pub all_without_row : (P Q : Row V → Type 0) (rows : List (Row V)) (q cid : ℕ) → IsDistinct rows → ((row : Row V) → is_at row q cid ≡ false → P row → Q row) → AllByRecursion P rows → AllByRecursion Q (without rows q cid)
   all_without_row P Q [] q cid d on all = tt
   all_without_row P Q (row ∷ rows) q cid d on all =
-      cond_both (is_at row q cid) _ _ (AllByRecursion Q) (λ here. all_apart P Q q cid on rows (none_here rows row q cid here d.0) all.1)
+      cond_both (is_at row q cid) _ _ (AllByRecursion Q) (λ here. all_apart P Q q cid on rows (here-none row rows q cid here d.0) all.1)
       (λ far. (on row far all.0, all_without_row P Q rows q cid d.1 on all.1))
 
   none_more : (rows : List (Row V)) (row : Row V) (k n : ℕ) → NoneAt rows k n → is_at row k n ≡ false → NoneAt (rows ++ row ∷ []) k n
@@ -123,7 +116,7 @@ module _ {V : Type 0} where
   pub gone : (rows : List (Row V)) (q cid : ℕ) → IsDistinct rows → value_at (without rows q cid) q cid ≡ None
   gone [] q cid d = refl
   gone (row ∷ rows) q cid d =
-      cond_both (is_at row q cid) _ _ (λ rs. value_at rs q cid ≡ None) (λ here. value_at-none rows q cid (none_here rows row q cid here d.0)) (λ far. rw far (gone rows q cid d.1))
+      cond_both (is_at row q cid) _ _ (λ rs. value_at rs q cid ≡ None) (λ here. value_at-none rows q cid (here-none row rows q cid here d.0)) (λ far. rw far (gone rows q cid d.1))
 
   pub gone_none : (rows : List (Row V)) (q cid : ℕ) → value_at rows q cid ≡ None → value_at (without rows q cid) q cid ≡ None
   gone_none rows q cid none = ap (λ (rs : List (Row V)). value_at rs q cid) (without-none rows q cid (none_stands rows q cid none)) ∙ none
@@ -150,7 +143,7 @@ module _ {V X : Type 0} (pick : V → Option X) (test : ℕ → ℕ → X → Bo
   found_at [] q cid d named = refl
   found_at (row ∷ rows) q cid d named = elim (cases_Bool (is_at row q cid)) [
     | inl here ↦ elim (option_is (pick row.value)) [
-      | inl e ↦ rw (here, e) (found_none rows q cid (none_here rows row q cid here d.0) named.1)
+      | inl e ↦ rw (here, e) (found_none rows q cid (here-none row rows q cid here d.0) named.1)
       | inr (x, e) ↦ rw (here, e, named.0 x e q cid ∙ here) refl
     ]
     | inr far ↦ elim (option_is (pick row.value)) [
@@ -180,7 +173,7 @@ module _ {V X : Type 0} (pick : V → Option X) (test : ℕ → ℕ → X → Bo
   taken_at [] q cid d named = refl
   taken_at (row ∷ rows) q cid d named = elim (cases_Bool (is_at row q cid)) [
     | inl here ↦ elim (option_is (pick row.value)) [
-      | inl e ↦ rw (here, e) (sym (without_absent (test q cid) (picked pick rows) (found_none rows q cid (none_here rows row q cid here d.0) named.1)))
+      | inl e ↦ rw (here, e) (sym (without_absent (test q cid) (picked pick rows) (found_none rows q cid (here-none row rows q cid here d.0) named.1)))
       | inr (y, e) ↦ rw (here, e, named.0 y e q cid ∙ here) refl
     ]
     | inr far ↦ elim (option_is (pick row.value)) [
@@ -296,6 +289,9 @@ module _ {A : Type 0} where
 
   -- What a call leaves
 
+  held_on : {rs new : List Record} (row : Row (Option (CommandValue A))) → IsHeld rs row → IsOutstanding row.q row.cid new → IsHeld new row
+  held_on row h outstanding = record { value = h.value; held = h.held; queue = h.queue; identifier = h.identifier; outstanding = outstanding }
+
   -- the world goes on, and the values stay
   pub goes_on : (s : State) (e : Event) (reply : events.Reply) (new : State) (values : TableOf (Option (CommandValue A))) → Step s e reply new → ((q cid : ℕ) → ends_by q cid e reply ≡ false) → IsBench s values → IsBench new values
   goes_on s e reply new values step far b =
@@ -305,14 +301,7 @@ module _ {A : Type 0} where
         places = b.places ∙ ap (λ (n : ℕ). n - 1) (sym limits.entries);
         inside = b.inside;
         distinct = b.distinct;
-        held = all-all (IsHeld s.host.records) (IsHeld new.host.records)
-            (λ row h. record {
-              value = h.value;
-              held = h.held;
-              queue = h.queue;
-              identifier = h.identifier;
-              outstanding = stays_outstanding row.q row.cid s e reply new step (far row.q row.cid) h.outstanding;
-            }) values.rows b.held;
+        held = all-all (IsHeld s.host.records) (IsHeld new.host.records) (λ row h. held_on row h (stays_outstanding row.q row.cid s e reply new step (far row.q row.cid) h.outstanding)) values.rows b.held;
       }
 
   -- a value is another of its name
@@ -368,14 +357,7 @@ module _ {A : Type 0} where
       }
     where
       on : (row : Row (Option (CommandValue A))) → is_at row q cid ≡ false → IsHeld s.host.records row → IsHeld new.host.records row
-      on row far h =
-          record {
-            value = h.value;
-            held = h.held;
-            queue = h.queue;
-            identifier = h.identifier;
-            outstanding = stays_outstanding row.q row.cid s e reply new step (its row.q row.cid ∙ grind (arith, nat_tests, far)) h.outstanding;
-          }
+      on row far h = held_on row h (stays_outstanding row.q row.cid s e reply new step (its row.q row.cid ∙ grind (arith, nat_tests, far)) h.outstanding)
 
   -- A reservation
 

@@ -1,5 +1,5 @@
 -- Lists of the host's tables.
-use Rattle.std.proofs.Common.{◌≡◌, ◌≢◌, ℕ, zero, suc, ◌<◌, ◌≤◌, List, [], ◌∷◌, Some, length, slice_get, slice_set, get_or, refl, ap, sym, ◌∙◌, arith, Bool, true, false, Option, ◌⊎◌, inl, inr, ◌||◌, None, ◌++◌, map, filter, find, All, ap₂, subst, ◌+◌, ◌==◌, drop, if◌then◌else◌}
+use Rattle.std.proofs.Common.{◌≡◌, ◌≢◌, ℕ, zero, suc, ◌<◌, ◌≤◌, List, [], ◌∷◌, Some, length, slice_get, slice_set, get_or, refl, ap, sym, ◌∙◌, arith, Bool, true, false, Option, inl, inr, ◌||◌, None, ◌++◌, map, filter, find, All, ap₂, subst, ◌+◌, ◌==◌, drop, if◌then◌else◌}
 use Rattle.std.{proofs.lemmas.{Bool.{and_right, cases_Bool, cond_both}, Option.none-some}, specs.{List.{AllByRecursion, list_any}, Option.option_map_or}}
 use Rattle.machine_model.specs.{After.change, Refusals.{same_piece, same_pieces}, State.Record}
 use Rattle.io_commands.specs.declared.request.Piece.{Piece}
@@ -76,30 +76,15 @@ map-change g f same k [] = refl
 map-change g f same zero (x ∷ xs) = ap (λ y. y ∷ map g xs) (same x)
 map-change g f same (suc k) (x ∷ xs) = ap (λ ys. g x ∷ ys) (map-change g f same k xs)
 
--- where a member of the changed list was, and what it was
-pub record Changed (A : Type 0) (k : ℕ) (f : A → A) (xs : List A) (i : ℕ) (y : A) : Type 0 where
-  pub was : A
-  pub at : slice_get xs i ≡ Some was
-  pub is : ((i ≡ k) × (y ≡ f was)) ⊎ ((i ≢ k) × (y ≡ was))
-
-pub changed_at : {A : Type 0} (k : ℕ) (f : A → A) (xs : List A) (i : ℕ) (y : A) → slice_get (change k f xs) i ≡ Some y → Changed A k f xs i y
-changed_at k f [] i y e = absurd (none_is_not e)
-changed_at zero f (x ∷ xs) zero y e = record { was = x; at = refl; is = inl (refl, sym (some_is e)) }
-changed_at zero f (x ∷ xs) (suc i) y e = record { was = y; at = e; is = inr (λ h. absurd (omega arith), refl) }
-changed_at (suc k) f (x ∷ xs) zero y e = record { was = x; at = refl; is = inr (λ h. absurd (omega arith), sym (some_is e)) }
-changed_at (suc k) f (x ∷ xs) (suc i) y e =
-    let c = changed_at k f xs i y e in
-    record { was = c.was; at = c.at; is = elim c.is [ inl h ↦ inl (ap suc h.0, h.1) | inr h ↦ inr (λ g. h.0 (omega arith), h.1) ] }
-
 -- what holds of each member but one, and of that one once it is changed
 pub each-change : {A : Type 0} (P : ℕ → A → Type 0) (q : ℕ) (f : A → A) (xs : List A)
     → ((k : ℕ) (x : A) → k ≢ q → slice_get xs k ≡ Some x → P k x) → ((x : A) → slice_get xs q ≡ Some x → P q (f x))
     → (k : ℕ) (y : A) → slice_get (change q f xs) k ≡ Some y → P k y
-each-change {A = A} P q f xs all one k y e = let c = changed_at q f xs k y e in elim c.is [
-  | inl h ↦
-      let here = one c.was (subst (λ (n : ℕ). slice_get xs n ≡ Some c.was) h.0 c.at) in subst (λ (n : ℕ). P n y) (sym h.0) (subst (λ (z : A). P q z) (sym h.1) here)
-  | inr h ↦ subst (λ (z : A). P k z) (sym h.1) (all k c.was h.0 c.at)
-]
+each-change P q f [] all one k y e = absurd (none_is_not e)
+each-change P zero f (x ∷ xs) all one zero y e = subst (P 0) (some_is e) (one x refl)
+each-change P zero f (x ∷ xs) all one (suc k) y e = all (suc k) y (λ h. cc) e
+each-change P (suc q) f (x ∷ xs) all one zero y e = all 0 y (λ h. cc) e
+each-change P (suc q) f (x ∷ xs) all one (suc k) y e = each-change (λ n. P (suc n)) q f xs (λ n z other. all (suc n) z (λ h. other (omega (arith, h)))) one k y e
 
 pub map-agree : {A B : Type 0} (f g : A → B) (xs : List A) → ((i : ℕ) (x : A) → slice_get xs i ≡ Some x → f x ≡ g x) → map f xs ≡ map g xs
 map-agree f g [] same = refl
@@ -108,10 +93,6 @@ map-agree f g (x ∷ xs) same = ap₂ (λ y ys. y ∷ ys) (same 0 x refl) (map-a
 pub all-append : {A : Type 0} (P : A → Type 0) (xs : List A) (y : A) → AllByRecursion P xs → P y → AllByRecursion P (xs ++ y ∷ [])
 all-append P [] y all here = (here, tt)
 all-append P (x ∷ xs) y all here = (all.0, all-append P xs y all.1 here)
-
-pub all-filter : {A : Type 0} (P : A → Type 0) (f : A → Bool) (xs : List A) → AllByRecursion P xs → AllByRecursion P (filter f xs)
-all-filter P f [] all = tt
-all-filter P f (x ∷ xs) all = cond_both (f x) _ _ (AllByRecursion P) (λ _. (all.0, all-filter P f xs all.1)) (λ _. all-filter P f xs all.1)
 
 pub all-map : {A : Type 0} (P : A → Type 0) (f : A → A) → ((x : A) → P x → P (f x)) → (xs : List A) → AllByRecursion P xs → AllByRecursion P (map f xs)
 all-map P f keeps [] all = tt
@@ -133,6 +114,9 @@ all-slots P (x ∷ xs) each = (each 0 x refl, all-slots P xs (λ i y at. each (s
 pub all-filter_by : {A : Type 0} (P Q : A → Type 0) (f : A → Bool) → ((x : A) → f x ≡ true → P x → Q x) → (xs : List A) → AllByRecursion P xs → AllByRecursion Q (filter f xs)
 all-filter_by P Q f more [] all = tt
 all-filter_by P Q f more (x ∷ xs) all = cond_both (f x) _ _ (AllByRecursion Q) (λ e. (more x e all.0, all-filter_by P Q f more xs all.1)) (λ _. all-filter_by P Q f more xs all.1)
+
+pub all-filter : {A : Type 0} (P : A → Type 0) (f : A → Bool) (xs : List A) → AllByRecursion P xs → AllByRecursion P (filter f xs)
+all-filter P f = all-filter_by P P f (λ x _ h. h)
 
 -- by its members, and by recursion
 pub all-from : {A : Type 0} (P : A → Type 0) (xs : List A) → All P xs → AllByRecursion P xs
@@ -179,10 +163,7 @@ all-back P (x ∷ xs) ys all = all-back P xs ys all.1
 -- the rows of a queue are its outstanding commands
 pub rows_on-outstanding : (q : ℕ) (rows : List (Row Kept)) → rows_on q rows ≡ length (map (λ (r : Record). r.cid) (filter (λ (r : Record). r.q == q) (records_of rows)))
 rows_on-outstanding q [] = refl
-rows_on-outstanding q (row ∷ rows) = elim (cases_Bool (row.q == q)) [
-  | inl here ↦ rw here (omega (arith, rows_on-outstanding q rows))
-  | inr far ↦ rw far (rows_on-outstanding q rows)
-]
+rows_on-outstanding q (row ∷ rows) = grind (arith, rows_on-outstanding q rows)
 
 -- the row at which a walk stands, and those behind it
 one_more : (q n p cid : ℕ) (rows : List (Row Kept)) → first_place (drop n rows) ≡ Some (p, cid)

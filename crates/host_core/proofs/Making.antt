@@ -24,6 +24,7 @@ use Rattle.controller_walk.specs.Units.{first_passing}
 use Rattle.page_memory.{proofs.Bytes.length-zero_page, specs.{Pages.{Pages, page_at, zero_page}, declared.page.Half.Half}}
 use Rattle.page_memory.specs.declared.page.Half.TheVariants.{Submission, Completion}
 use Rattle.queue_pair.specs.{Memory.half_pages, Rings.{IsHostSide, fresh_host_ring, none_claimed}}
+use Rattle.std.proofs.lemmas.Bool.Decides.{nat_tests}
 
 -- Placed pages by their owners: the lowest run of free pages is the one that a ledger finds.
 
@@ -85,10 +86,7 @@ least-in-run free segment first request good is =
 
 pub any-count : (q : ℕ) (rs : List Record) → nat_lt 0 (length (map (λ (r : Record). r.cid) (filter (λ (r : Record). r.q == q) rs))) ≡ list_any (λ (r : Record). r.q == q) rs
 any-count q [] = refl
-any-count q (x ∷ rs) = elim (cases_Bool (x.q == q)) [
-  | inl here ↦ rw here (lt-ltb 0 _ (omega arith))
-  | inr far ↦ rw far (any-count q rs)
-]
+any-count q (x ∷ rs) = grind (arith, nat_tests, any-count q rs)
 
 gone-at : (t : Tables) (q : ℕ) → state_at t.queues q ≡ Some Gone → (x : Queue) × (slice_get t.queues q ≡ Some x) × (x.state ≡ Gone)
 gone-at t q gone = elim (option_is (slice_get t.queues q)) [

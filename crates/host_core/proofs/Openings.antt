@@ -1,21 +1,18 @@
 -- Tables that were just opened, and the halves that were granted for them.
 use Rattle.page_ledger.specs.declared.owner.Owner.TheVariants as owner
 use Rattle.machine_model.specs.declared.words.Refusal.TheVariants as refusal
-use Rattle.std.proofs.Common.{◌≡◌, inl, inr, ℕ, zero, suc, ◌+◌, ◌*◌, ◌<◌, ◌≤◌, false, Some, List, length, replicate, refl, ap, ap₂, sym, ◌∙◌, arith, subst, Option, slice_get, [], Fits, w16, ◌-◌, ◌==◌, ◌&&◌, nat_le, leb-true, Bool, true, None, IfSome, ◌∷◌, map, filter, drop, eqb-true}
-use Rattle.std.proofs.Math.Nat.{mul-le-mul_right}
-use Rattle.std.proofs.lemmas.{Bool.{true≢false, Decides.nat_tests, cases_Bool, cases_lt, and_parts}, List.{length-replicate, length-map}, Option.slice_get-map}
-use Rattle.std.specs.{List.Contains, Option.{option_map_or, option_map}}
-use Rattle.page_ledger.{proofs.{Pages.finds_lowest, Tables.{length-with_owner, owner_changed, owner_kept}}}
+use Rattle.std.proofs.Common.{◌≡◌, inl, inr, ℕ, zero, suc, ◌+◌, ◌*◌, ◌<◌, ◌≤◌, false, Some, List, length, replicate, refl, ap, ap₂, sym, ◌∙◌, arith, subst, Option, slice_get, [], Fits, w16, ◌-◌, ◌==◌, Bool, true, None, IfSome, ◌∷◌, map, filter, drop, eqb-true}
+use Rattle.std.proofs.lemmas.{Bool.{true≢false, Decides.nat_tests, cases_Bool, cases_lt}, List.{length-replicate, length-map}, Option.slice_get-map}
+use Rattle.std.{specs.{List.Contains, Option.{option_map_or, option_map}}, proofs.Math.Nat.mul-le-mul_right}
+use Rattle.page_ledger.{proofs.{Pages.finds-lowest_run, Tables.{length-with_owner, owner-changed, owner-kept}}, specs.declared.owner.Owner.Owner}
 use Rattle.page_ledger.specs.{Owners.{is_free, is_owned_at, owner_at, pages_from, with_owner, is_among, free_pages}, Runs.lowest_run}
-use Rattle.page_ledger.specs.declared.owner.Owner.{Owner}
 use Rattle.page_memory.{proofs.Bytes.length-zero_page, specs.{Pages.{Pages, page_at, zero_page}, declared.page.Half.TheVariants.{Submission, Completion}}}
 use Rattle.host_core.{proofs.{Identifiers.{over_pages, whole_of, alone_sound, host_of, over_of}, Lists.some_is}, specs.Alone.{HostView, HostStep, IsOver, alone}}
-use Rattle.host_core.specs.Looks.{cause_of}
 use Rattle.host_core.specs.Opening.{sq_from, cq_from, IsFreeFrom, AreGranted, opened_view, opened_pages, refusal_of_config, fresh_at, fresh_queue, fresh_queues, HalvesGranted, opened}
-use Rattle.host_core.specs.{Parts.records_of, Ringing.head_of, Rows.{Queue, Kept}, Tables.{Tables, host_queue_of, state_of, view_of}}
-use Rattle.host_core.specs.{Whole.{IsHost, IsWhole, IsQueue, ClaimsIdentifiers, TellsQueue}, declared.config.Config.Config}
+use Rattle.host_core.specs.{Parts.records_of, Ringing.head_of, Rows.{Queue, Kept}, Tables.{Tables, host_queue_of, state_of, view_of}, Looks.cause_of}
+use Rattle.host_core.{specs.{Whole.{IsHost, IsWhole, IsQueue, ClaimsIdentifiers, TellsQueue}, declared.config.Config.Config}, proofs.Making.claims-none}
 use Rattle.machine_model.{proofs.Headline.{runs_are_sound, fits_pool, in_limits, length-range}, specs.{Claims.IsSound, Events.{Event, Reply}}}
-use Rattle.machine_model.specs.{Opening.{opening, queues_from, is_config}, Refusals.refusal_of, State.{State, HostQueue}, Step.{Step, Refuses}}
+use Rattle.machine_model.specs.{Opening.{opening, queues_from}, Refusals.refusal_of, State.{State, HostQueue}, Step.{Step, Refuses}}
 use Rattle.machine_model.specs.declared.words.Refusal.{Refusal}
 use Rattle.queue_pair.specs.Memory.{half_pages}
 use Rattle.slot_table.specs.Table.{TableOf}
@@ -25,7 +22,7 @@ use Rattle.slot_table.specs.Table.{TableOf}
 -- The run that is granted
 
 pub lowest_is : (base k : ℕ) (owners : List Owner) → 0 < k → base + k ≤ length owners → IsFreeFrom base owners → lowest_run k owners ≡ Some base
-lowest_is base k owners some room from = ((finds_lowest k owners some).found base).1 (record {
+lowest_is base k owners some room from = ((finds-lowest_run k owners some).found base).1 (record {
   run = record { free = λ i l. from.free (base + i) (omega arith) (omega arith) };
   lowest = λ q run. elim (cases_lt q base) [
     | inr l ↦ l
@@ -51,13 +48,13 @@ in_run p base (suc k) (zero, l, e) = let same : base ≡ p = e in (omega (arith,
 in_run p base (suc k) (suc i, l, e) = let r = in_run p (base + 1) k (i, omega arith, e) in (omega (arith, r.0), omega (arith, r.1))
 
 run-owner : (owners : List Owner) (base k p : ℕ) (o : Owner) → base + k ≤ length owners → base ≤ p → p < base + k → owner_at (with_owner owners (pages_from base k) o) p ≡ Some o
-run-owner owners base k p o room low high = owner_changed owners (pages_from base k) o p (omega arith) (among_run p base k low high)
+run-owner owners base k p o room low high = owner-changed owners (pages_from base k) o p (omega arith) (among_run p base k low high)
 
 run-before : (owners : List Owner) (base k p : ℕ) (o : Owner) → p < base → owner_at (with_owner owners (pages_from base k) o) p ≡ owner_at owners p
-run-before owners base k p o l = owner_kept owners (pages_from base k) o p (λ h. let r = in_run p base k h in absurd (omega (arith, r.0)))
+run-before owners base k p o l = owner-kept owners (pages_from base k) o p (λ h. let r = in_run p base k h in absurd (omega (arith, r.0)))
 
 run-behind : (owners : List Owner) (base k p : ℕ) (o : Owner) → base + k ≤ p → owner_at (with_owner owners (pages_from base k) o) p ≡ owner_at owners p
-run-behind owners base k p o l = owner_kept owners (pages_from base k) o p (λ h. let r = in_run p base k h in absurd (omega (arith, r.1)))
+run-behind owners base k p o l = owner-kept owners (pages_from base k) o p (λ h. let r = in_run p base k h in absurd (omega (arith, r.1)))
 
 pub granted-from : (base k : ℕ) (owners : List Owner) (o : Owner) → is_free o ≡ false → base + k ≤ length owners → IsFreeFrom base owners → IsFreeFrom (base + k) (with_owner owners (pages_from base k) o)
 granted-from base k owners o owned room from =
@@ -267,11 +264,6 @@ each_fresh P n count h q queue e =
     let same : 0 + q ≡ q = omega arith in
     subst (λ (x : Queue). P q x) (ap (fresh_queue n) (sym same) ∙ at.1) (h q at.0)
 
-all_at : {X : Type 0} (n k : ℕ) (x : X) → k < n → slice_get (replicate n x) k ≡ Some x
-all_at zero k x l = absurd (omega arith)
-all_at (suc n) zero x l = refl
-all_at (suc n) (suc k) x l = all_at n k x (omega arith)
-
 fresh_sides : (n sq cq q : ℕ) → 2 ≤ n → n ≤ 1024 → IsQueue n q (fresh_at n sq cq q)
 fresh_sides n sq cq q least most =
     record {
@@ -279,9 +271,6 @@ fresh_sides n sq cq q least most =
       entries = refl;
       host_side = record { least = least; most = most; head = omega arith; known_head = omega arith; tail = omega arith; identifiers = omega (arith, length-replicate (n - 1) false) };
     }
-
-none_claimed : (q k : ℕ) → ClaimsIdentifiers [] q (replicate k false)
-none_claimed q k = record { told = λ cid l. all_at k cid false (omega (arith, l, length-replicate k false)); inside = λ cid e. absurd (true≢false (sym e)) }
 
 -- The halves
 
@@ -324,7 +313,7 @@ opened_whole c owners opens size granted =
       record_queues = sym many;
       record_places = omega (arith, l.least_entries);
       queues = record { each = each_fresh (IsQueue c.entries) c.entries (c.queues + 1) (λ q h. fresh_sides c.entries _ _ q l.least_entries l.most_entries) };
-      identifiers = record { each = each_fresh (λ q queue. ClaimsIdentifiers [] q queue.host.claimed) c.entries (c.queues + 1) (λ q h. none_claimed q (c.entries - 1)) };
+      identifiers = record { each = each_fresh (λ q queue. ClaimsIdentifiers [] q queue.host.claimed) c.entries (c.queues + 1) (λ q h. claims-none [] q (c.entries - 1) (λ cid. refl)) };
       owners = record { queues_told = each_fresh (TellsQueue owners) c.entries (c.queues + 1) (fresh_told c.entries (c.queues + 1) owners granted); commands_told = tt };
       records = tt;
     }

@@ -76,7 +76,6 @@ anyway : (P : HostPart → Type 0) (s : State) (e : Event) (reply : Reply) (b : 
     → (Accepts s e reply → IsController e ≡ false → P (host_part s) → P (host_part (a.after s e reply))) → P (host_part s) → P (host_part (a.after s e reply))
 anyway P s e reply true c permits each h = subst P (sym (part_controller s e reply c)) h
 anyway P s e (events.Refused why touched) false c permits each h = h
-anyway P s e (events.Reserved d) false c permits each h = each (surely _ s.trusted (IsController e) c permits) c h
 anyway P s e reply false c permits each h = each (surely _ s.trusted (IsController e) c permits) c h
 
 pub one_step : (P : HostPart → Type 0) (s : State) (e : Event) (reply : Reply) (new : State) → Step s e reply new

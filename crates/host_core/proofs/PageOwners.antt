@@ -2,23 +2,20 @@
 use Rattle.host_core.specs.Rows as declared
 use Rattle.std.proofs.Common.{◌≡◌, ◌≢◌, ℕ, zero, suc, ◌+◌, ◌<◌, ◌≤◌, ◌==◌, ◌⊎◌, inl, inr, nat_lt, Bool, true, false, ◌||◌, Option, Some, None, IsSome, IfSome, List, [], ◌∷◌, ◌++◌, length, slice_get, slice_set, is_some, refl, ap, sym, ◌∙◌, arith, subst, length-set, eqb-true, eq-eqb, lt-ltb, le-ltb, if◌then◌else◌, get_or, not, ◌&&◌, map, filter, find, ◌-◌}
 use Rattle.std.proofs.lemmas.Bool.{true≢false, true_from_ne_false, false_from_ne_true, and_parts, cases_Bool, cases_eq, cases_lt, cond_both, eqb-false, or_left, or_right, or_parts, ne_eqb}
-use Rattle.std.proofs.lemmas.List.{Elements.filter_agree, Folds.list_any-append}
 use Rattle.std.{proofs.lemmas.Option.{slice_get_past, slice_get-map, slice_get_within}, specs.List.AllByRecursion}
-use Rattle.std.specs.Option.{option_and_then, option_map_or, option_map}
+use Rattle.std.{specs.Option.{option_and_then, option_map_or, option_map}, proofs.lemmas.List.{Elements.filter_agree, Folds.list_any-append}}
 use Rattle.io_commands.specs.Values.{numbers_of}
-use Rattle.machine_model.proofs.Counting.{one, times-cons, not_held, total, times-append, times-filter, times-pages, held_once, here}
+use Rattle.machine_model.{proofs.Counting.{one, times-cons, not_held, total, times-append, times-filter, times-pages, held_once, here}, specs.Step.times}
 use Rattle.machine_model.proofs.Owned.{in_record, owned, holds_from_sound, taken, taken_from_out, is_out, none_here, some_here, taken_le, in_queue, owned_is}
-use Rattle.machine_model.{proofs.Steps.{in_store, length-in_store, found_all}, specs.{After.joined_in_order, Claims.{IsSound, HasOneOwner}}}
+use Rattle.machine_model.{proofs.{Steps.{in_store, length-in_store, found_all}, Cases.option_is}, specs.{After.joined_in_order, Claims.{IsSound, HasOneOwner}}}
 use Rattle.machine_model.specs.{Memory.{is_in, without_pages, with_pages, zeroed_pages}, Placement.without_numbers, State.{State, Record, pages_of, is_at}}
-use Rattle.machine_model.specs.Step.{times}
-use Rattle.page_ledger.{proofs.{Pages.filter-agree, Tables.{slice_get-set_same, slice_get-set_other, free-others, free_given_back}}, specs.Lists.ListsAll}
+use Rattle.page_ledger.{proofs.{Pages.filter-agree, Tables.{slice_get-set_same, slice_get-set_other, free-others, free-given_back}}, specs.Lists.ListsAll}
 use Rattle.page_ledger.specs.Owners.{is_among, pages_from, is_free, is_command, is_owned_at, owner_at, free_pages, with_owner, given_back, is_half, is_same_half}
 use Rattle.page_ledger.specs.declared.owner.{Owner.{Owner, TheVariants.{Free, Queue, Command}}, Role.{Role, TheVariants.{Data, Chain}}}
 use Rattle.host_core.{proofs.Lists.{some_is, none_is_not}, specs.{Commands.{CanTake, CanPut, CanZero}, Halves.{HasHalf, half_of, has_half}}}
 use Rattle.host_core.specs.{Tables.{Tables, state_of, host_queue_of, sq_pages_of, cq_pages_of, view_of}, Whole.{Tells, TellsCommand, TellsQueue, IsHost}}
 use Rattle.page_memory.specs.{Pages.{Pages, page_at, AreWhole, IsPool, zero_page}, declared.page.Half.{Half, TheVariants.{Submission, Completion}}}
 use Rattle.queue_pair.specs.{Memory.half_pages, Rings.first_page_of}
-use Rattle.machine_model.proofs.Cases.{option_is}
 
 -- Pages taken out and put in, their owners, and the free ones.
 
@@ -268,7 +265,7 @@ pub given-free : (owners : List Owner) (named : Owner → Bool) (n : ℕ) (pages
     → ((p : ℕ) → p < n → is_owned_at named owners p ≡ is_among pages p)
     → free_pages (given_back named owners) ≡ joined_in_order n pages (free_pages owners)
 given-free owners named n pages size same =
-    free_given_back named owners
+    free-given_back named owners
     ∙ (ap (λ (k : ℕ). filter (is_owned_at (λ owner. is_free owner || named owner) owners) (pages_from 0 k)) (sym size)
     ∙ filter-agree (is_owned_at (λ owner. is_free owner || named owner) owners) (λ p. is_among (free_pages owners) p || is_among pages p) 0 n at)
   where

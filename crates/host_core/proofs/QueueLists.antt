@@ -2,8 +2,8 @@
 use Rattle.machine_model.specs.Events as events
 use Rattle.page_ledger.specs.declared.owner.Owner.TheVariants as owner
 use Rattle.machine_model.specs.After as a
-use Rattle.std.proofs.Common.{◌≡◌, ℕ, zero, suc, Bool, true, false, not, ◌&&◌, ◌||◌, List, [], ◌∷◌, length, MatchBool, refl, ap, ◌≢◌, ◌+◌, ◌<◌, ◌≤◌, Some, IsSome, ◌++◌, map, slice_get, slice_set, get_or, sym, ◌∙◌, subst, arith, ◌==◌, eq-eqb, ◌*◌, ◌/◌, ◌%◌, Option, None, take, drop, length-set, length-append, ◌-◌, if◌then◌else◌, inl, inr}
-use Rattle.std.proofs.lemmas.Bool.{and_right, false_from_ne_true, not-false, not-true, or_from, or_left, or_right}
+use Rattle.std.proofs.Common.{◌≡◌, ℕ, zero, suc, Bool, true, false, not, ◌&&◌, ◌||◌, List, [], ◌∷◌, length, MatchBool, refl, ap, ◌≢◌, ◌+◌, ◌<◌, ◌≤◌, Some, IsSome, ◌++◌, map, slice_get, slice_set, get_or, sym, ◌∙◌, subst, arith, ◌==◌, ◌*◌, ◌/◌, ◌%◌, Option, None, take, drop, length-set, length-append, ◌-◌, if◌then◌else◌, inl, inr}
+use Rattle.std.proofs.lemmas.Bool.{and_right, false_from_ne_true, not-false, not-true, or_from}
 use Rattle.std.proofs.lemmas.{List.{length-take-le, length-drop, Folds.list_any-append}, Option.{slice_get_within, slice_get-map}}
 use Rattle.std.specs.{List.{AllByRecursion, list_any}, Option.{option_and_then, option_map, option_map_or}, Prelude.{slice_index, slice_range}}
 use Rattle.machine_model.{proofs.{Cases.option_is, Headline.steps_keep, Kept.{reaped_has_cq, sq_with_cq}}, specs.{After.{after, change}, Claims.{IsSound, is_away}}}
@@ -11,9 +11,8 @@ use Rattle.machine_model.specs.{Events.{Event, Reply}, Memory.is_in, Proper.IsPr
 use Rattle.machine_model.specs.Refusals.{has_cq, has_sq, slot_page, slot_offset, host_queue, in_state, seen_entry, slot_bytes, slot_entry, is_reaped}
 use Rattle.machine_model.specs.State.{State, Record, pages_of, Device, HostQueue, DeviceQueue}
 use Rattle.machine_model.specs.Step.{Step, IsController, KeepsDevice, forges, resets, LeavesByController, LeavesByHost, host_part}
-use Rattle.machine_model.specs.declared.words.HostState.{HostState, TheVariants.{Gone, HalfMade}}
-use Rattle.host_core.proofs.PageOwners.{among-from}
-use Rattle.host_core.proofs.Lists.{change-at-lists as change-at, each-change, get-at, length-change}
+use Rattle.machine_model.specs.declared.words.HostState.{HostState, TheVariants.{HalfMade}}
+use Rattle.host_core.proofs.{Lists.{change-at-lists as change-at, each-change, get-at, length-change}, PageOwners.among-from}
 use Rattle.host_core.specs.{Alone.alone, Exact.Exactly, Looks.completion_base, Posting.{with_tail_moved, tail_place, posted, CanPost}}
 use Rattle.host_core.specs.{Reaping.{IsCompletionSlot, lacks_completion, with_state}, Rows.Queue}
 use Rattle.host_core.specs.Tables.{Tables, state_of, host_queue_of, sq_pages_of, view_of, cq_pages_of}
@@ -75,13 +74,6 @@ queue_page-in t w q half p mine =
     let inside : p < length t.pages = subst (λ (n : ℕ). p < n) w.table (slice_get_within t.owners p _ mine) in
     w.sound.out p inside ∙ ap not (none-away t.owners q half p mine t.records w.owners.commands_told)
 
-pub completion-in : (t : Tables) → IsWhole t → (q : ℕ) (queue : Queue) → slice_get t.queues q ≡ Some queue → has_cq queue.state ≡ true
-    → IsIn (byte_at t.pages) queue.host.cq (half_pages queue.host.entries Completion)
-completion-in t w q queue at live =
-    pages_in t.pages queue.host.cq (half_pages queue.host.entries Completion) w.pool.whole
-    (λ p l. queue_page-in t w q Completion (queue.host.cq + p)
-    ((w.owners.queues_told q queue at).completion (queue.host.cq + p) (rw live (among-from queue.host.cq (half_pages queue.host.entries Completion) p l))))
-
 pub queue-at : (t : Tables) (q i : ℕ) (x : Queue) → q < length t.queues → i ≡ q → x ≡ get_or t.queues i x → slice_get t.queues q ≡ Some x
 queue-at t q i x l e at = get-at q t.queues x l (subst (λ (k : ℕ). x ≡ get_or t.queues k x) e at)
 
@@ -92,16 +84,18 @@ completion_page-in t w q queue at live k l =
     queue_page-in t w q Completion (queue.host.cq + k)
     ((w.owners.queues_told q queue at).completion (queue.host.cq + k) (rw live (among-from queue.host.cq (half_pages queue.host.entries Completion) k l)))
 
-pub submission_page-in : (t : Tables) → IsWhole t → (q : ℕ) (queue : Queue) → slice_get t.queues q ≡ Some queue → has_sq queue.state ≡ true
-    → (k : ℕ) → k < half_pages queue.host.entries Submission → IsSome (page_at t.pages (queue.host.sq + k))
-submission_page-in t w q queue at live k l =
-    queue_page-in t w q Submission (queue.host.sq + k)
-    ((w.owners.queues_told q queue at).submission (queue.host.sq + k) (rw live (among-from queue.host.sq (half_pages queue.host.entries Submission) k l)))
+pub completion-in : (t : Tables) → IsWhole t → (q : ℕ) (queue : Queue) → slice_get t.queues q ≡ Some queue → has_cq queue.state ≡ true
+    → IsIn (byte_at t.pages) queue.host.cq (half_pages queue.host.entries Completion)
+completion-in t w q queue at live = pages_in t.pages queue.host.cq (half_pages queue.host.entries Completion) w.pool.whole (completion_page-in t w q queue at live)
 
 pub submission-owner : (t : Tables) → IsWhole t → (q : ℕ) (queue : Queue) → slice_get t.queues q ≡ Some queue → has_sq queue.state ≡ true
     → (k : ℕ) → k < half_pages queue.host.entries Submission → owner_at t.owners (queue.host.sq + k) ≡ Some (owner.Queue q Submission)
 submission-owner t w q queue at live k l = (w.owners.queues_told q queue at).submission (queue.host.sq + k)
     (rw live (among-from queue.host.sq (half_pages queue.host.entries Submission) k l))
+
+pub submission_page-in : (t : Tables) → IsWhole t → (q : ℕ) (queue : Queue) → slice_get t.queues q ≡ Some queue → has_sq queue.state ≡ true
+    → (k : ℕ) → k < half_pages queue.host.entries Submission → IsSome (page_at t.pages (queue.host.sq + k))
+submission_page-in t w q queue at live k l = queue_page-in t w q Submission (queue.host.sq + k) (submission-owner t w q queue at live k l)
 
 -- a queue that was written where another stood
 pub queue-written : (t : Tables) (f : Queue → Queue) (q i : ℕ) (x y : Queue) → q < length t.queues → i ≡ q → x ≡ get_or t.queues i x → y ≡ f x

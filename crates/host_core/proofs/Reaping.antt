@@ -6,8 +6,7 @@ use Rattle.page_ledger.specs.declared.owner.Owner.TheVariants as owner
 use Rattle.host_core.proofs.Lists as lists
 use Rattle.std.proofs.Common.{◌≡◌, ℕ, zero, suc, ◌<◌, ◌∷◌, [], Option, Some, None, List, length, map, slice_get, refl, ap, sym, ◌∙◌, subst, true, ◌==◌, Bool, false, if◌then◌else◌, eqb-true, eq-eqb, filter, find, not, slice_set, length-set, arith, ◌⊎◌, inl, inr}
 use Rattle.std.proofs.lemmas.{Bool.{true≢false, and_parts, and_right, cases_Bool, cond_both, true_from_ne_false}, List.length-map, Option.slice_get-map}
-use Rattle.std.specs.List.{AllByRecursion}
-use Rattle.std.specs.Option.{option_map_or, option_map}
+use Rattle.std.specs.{Option.{option_map_or, option_map}, List.AllByRecursion}
 use Rattle.entry_codec.specs.declared.{completion.ComEntry.ComEntry, status.{Status.Status, TheConstants.Status.ABORTED_SQ_DELETION}}
 use Rattle.io_commands.specs.{Asked.Request, Jobs.is_success}
 use Rattle.machine_model.proofs.{Cases.option_is, Kept.{alone_has_cq, alone_has_no_sq, asked_has_sq}, Steps.found_all}
@@ -19,8 +18,7 @@ use Rattle.machine_model.specs.declared.words.{Phase.TheVariants.Held, RejectedF
 use Rattle.queue_pair.{proofs.Rings.next_below, specs.{Memory.half_pages, Rings.{knowing, next_head}}}
 use Rattle.host_core.proofs.{Identifiers.claim-less, Granting.in_state-is, Lists.{each-change, length-change, found_is, all-filter, found_any, none_is_not, some_is}}
 use Rattle.host_core.proofs.PageOwners.{OwnsHalf, commands-told, half-listed, half-owned, others-told, owner-stays, given-free}
-use Rattle.host_core.proofs.QueueLists.{map-change, Settled, settled-of, settled-turned, settled-with, cq-kept, none-told, settled-as, settled-half_made}
-use Rattle.host_core.proofs.QueueLists.{settled-state, sq-kept}
+use Rattle.host_core.proofs.QueueLists.{map-change, Settled, settled-of, settled-turned, settled-with, cq-kept, none-told, settled-as, settled-half_made, settled-state, sq-kept}
 use Rattle.host_core.proofs.RowRecords.{Marks, marked-claims, marked-tells, claims_keep_queue, claims_keep_tells, each_claimed}
 use Rattle.host_core.specs.{Commands.{passes, state_at, without_claim}, Exact.Exactly, Halves.HasMeant}
 use Rattle.host_core.specs.Reaping.{consumed, ended_with, seen_at, with_answer_heard, with_answer_taken, heard, gives_back, meant, over, state_deleted, with_state, without_completion, without_submission}
@@ -394,13 +392,7 @@ each-over P q k cid queues hears frees all =
 
 found-counts : {A : Type 0} (test p : A → Bool) (xs : List A) (x : A) → find test xs ≡ Some x → p x ≡ true → 0 < length (filter p xs)
 found-counts test p [] x h is = absurd (none_is_not h)
-found-counts {A = A} test p (y ∷ xs) x h is = elim (cases_Bool (p y)) [
-  | inl e ↦ rw e (omega arith)
-  | inr e ↦ rw e (elim (cases_Bool (test y)) [
-    | inl f ↦ let same : y ≡ x = some_is (rw f at h) in absurd (true≢false (sym is ∙ (ap p (sym same) ∙ e)))
-    | inr f ↦ found-counts test p xs x (rw f at h) is
-  ])
-]
+found-counts test p (y ∷ xs) x h is = grind (arith, is, found-counts test p xs x)
 
 asked-at : (t : Tables) → IsWhole t → (q cid k : ℕ) (r : Record) → find (is_at q cid) t.records ≡ Some r → r.work ≡ Management (DeleteSq k) → (x : Queue) → slice_get t.queues k ≡ Some x → is_asked x.state ≡ true
 asked-at t w q cid k r was work x at = true_from_ne_false (is_asked x.state) (λ e.

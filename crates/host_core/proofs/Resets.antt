@@ -5,13 +5,12 @@ use Rattle.machine_model.specs.After as a
 use Rattle.machine_model.specs.Events as events
 use Rattle.std.proofs.Common.{◌≡◌, ℕ, ◌+◌, ◌-◌, ◌<◌, ◌≤◌, true, Some, List, [], ◌∷◌, ◌++◌, length, map, get_or, slice_get, slice_set, refl, ap, ap₂, sym, ◌∙◌, arith, subst, zero, suc, ◌==◌, nat_lt, not, Bool, false, ◌&&◌, None, if◌then◌else◌, lt-ltb, ◌||◌, inl, inr, flat_map}
 use Rattle.std.proofs.lemmas.Bool.{true≢false, false_from_ne_true, cases_Bool, and_parts, and_right, ne_eqb, not-true, or_cases, or_from, or_left, or_right}
-use Rattle.std.proofs.lemmas.Bool.Decides.{nat_tests}
-use Rattle.std.{proofs.lemmas.{List.{map-append, length-map}, Option.{slice_get_within, slice_get-map}}, specs.List.AllByRecursion}
+use Rattle.std.{proofs.lemmas.{List.{map-append, length-map}, Option.{slice_get_within, slice_get-map}, Bool.Decides.nat_tests}, specs.List.AllByRecursion}
 use Rattle.std.specs.{Option.{option_map_or, option_map}, Prelude.Option}
-use Rattle.machine_model.proofs.{Owned.{all_reset, lost_by}, Steps.length-with_pages, TokensKept.live_is}
+use Rattle.machine_model.proofs.{Owned.{all_reset, lost_by}, Steps.length-with_pages, TokensKept.live_is, Headline.steps_keep}
 use Rattle.machine_model.specs.{After.{admin_pages, change, after_reset, is_of_io, lost_anywhere, reset_records}, Claims.IsSound}
-use Rattle.machine_model.specs.{Memory.{with_pages, zeroed_pages}, Refusals.is_live, State.{HostQueue, Record, State, is_at}, Step.Step, Work.Work}
-use Rattle.machine_model.specs.declared.words.{HostState.{HostState, TheVariants.Live}, Work.TheVariants.{Io, Management}}
+use Rattle.machine_model.specs.{Memory.{with_pages, zeroed_pages}, Refusals.is_live, State.{HostQueue, Record, State, is_at}, Step.Step}
+use Rattle.machine_model.specs.declared.words.{HostState.{HostState, TheVariants.Live}}
 use Rattle.page_ledger.specs.{Lists.ListsAll, Owners.{is_among, owner_at, pages_from, given_back, is_half, is_owned_at, is_queue, is_same_half}}
 use Rattle.page_ledger.specs.declared.owner.Owner.{Owner, TheVariants.{Free, Queue as OwnerQueue, Command}}
 use Rattle.page_memory.specs.{Pages.{Pages, zero_page}, declared.page.Half.{Half, TheVariants.{Submission, Completion}}}
@@ -19,16 +18,13 @@ use Rattle.queue_pair.specs.{Memory.half_pages, Rings.first_page_of}
 use Rattle.host_core.proofs.Identifiers.{queue-here, alone_sound, host_of, over_pages, places-of}
 use Rattle.host_core.proofs.Lists.{change-at-lists as change-at, get-at, length-change, map-agree, none_is_not, some_is}
 use Rattle.host_core.proofs.Making.{can-zero, some-pages, with-some, claims-none, made-queue, whole-zeros}
-use Rattle.host_core.proofs.PageOwners.{half-from, half-told, among-from, with-append, half-owned, half-lists, half-standing, owner-stays, times-at, times-some}
-use Rattle.host_core.proofs.PageOwners.{among-append, pool-with, given-free}
+use Rattle.host_core.proofs.PageOwners.{half-from, half-told, among-from, with-append, half-lists, half-standing, owner-stays, among-append, pool-with, given-free}
 use Rattle.host_core.proofs.QueueLists.{queue_page-in, host-at, Settled, none-told, settled-of, settled-with, whole-of}
 use Rattle.host_core.proofs.{Reaping.{held-lost, work-cases}, RowRecords.claims-same}
-use Rattle.io_commands.specs.Asked.{Request}
 use Rattle.host_core.specs.{Alone.{HostView, alone}, Commands.CanZero, Halves.{half_of, has_half}, Laws.shown}
 use Rattle.host_core.specs.Resetting.{admin_reset, with_admin_renewed, gone, gone_behind_first, is_of_io_queue, with_queue_gone, ListHalves, ListsHalf, tables_reset, with_records_reset, HasPlaces, IsPlaced}
 use Rattle.host_core.specs.{Rows.{Queue, Queue as RowsQueue}, Tables.{Tables, host_queue_of, sq_pages_of, cq_pages_of, state_of, view_of}}
 use Rattle.host_core.specs.Whole.{IsWhole, IsHost, ClaimsIdentifiers, IsQueue, IsRecord, TellsCommand, TellsQueue, is_outstanding}
-use Rattle.machine_model.proofs.Headline.{steps_keep}
 
 -- Queue 0 at a reset: its pages are made zero, and its rings are as they open.
 
@@ -385,19 +381,11 @@ lost-at q cid r = lost_by (λ (x : Record). is_at q cid x ≡ is_at q cid r) r (
 -- the commands of an I/O queue stay outstanding, and none of queue 0 is
 outstanding-left : (entries queues : ℕ) (rs : List Record) → AllByRecursion (IsPlaced entries queues) rs → (q cid : ℕ) → (q == 0) ≡ false → is_outstanding (reset_records rs) q cid ≡ is_outstanding rs q cid
 outstanding-left entries queues [] all q cid io = refl
-outstanding-left entries queues (r ∷ rs) all q cid io = elim (cases_Bool (is_of_io r.work)) [
-  | inl e ↦ rw e (ap₂ (λ x y. x || y) (lost-at q cid r) (outstanding-left entries queues rs all.1 q cid io))
-  | inr e ↦
-      let far : is_at q cid r ≡ false = grind (arith, nat_tests, all.0.work, e, io) in rw (e, far) (outstanding-left entries queues rs all.1 q cid io)
-]
+outstanding-left entries queues (r ∷ rs) all q cid io = grind (arith, nat_tests, io, all.0.work, lost-at q cid r, outstanding-left entries queues rs all.1 q cid io)
 
 none-left : (entries queues : ℕ) (rs : List Record) → AllByRecursion (IsPlaced entries queues) rs → (cid : ℕ) → is_outstanding (reset_records rs) 0 cid ≡ false
 none-left entries queues [] all cid = refl
-none-left entries queues (r ∷ rs) all cid = elim (cases_Bool (is_of_io r.work)) [
-  | inl e ↦ let far : is_at 0 cid r ≡ false = grind (arith, nat_tests, all.0.work, e) in rw e
-      (or_from (is_at 0 cid (lost_anywhere r)) _ (lost-at 0 cid r ∙ far) (none-left entries queues rs all.1 cid))
-  | inr e ↦ rw e (none-left entries queues rs all.1 cid)
-]
+none-left entries queues (r ∷ rs) all cid = grind (arith, nat_tests, all.0.work, lost-at 0 cid r, none-left entries queues rs all.1 cid)
 
 claims-left : (entries queues : ℕ) (rs : List Record) → AllByRecursion (IsPlaced entries queues) rs → (k : ℕ) (claimed : List Bool) → ClaimsIdentifiers rs (suc k) claimed → ClaimsIdentifiers (reset_records rs) (suc k) claimed
 claims-left entries queues rs all k claimed h = claims-same rs (reset_records rs) (suc k) claimed (λ cid. outstanding-left entries queues rs all (suc k) cid (not-first k)) h

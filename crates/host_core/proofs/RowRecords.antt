@@ -5,8 +5,8 @@ use Rattle.std.proofs.Common.{is_some, ◌≡◌, ℕ, ◌==◌, Bool, true, fal
 use Rattle.std.{proofs.lemmas.Bool.{and_parts, cases_Bool, cond_both, Decides.nat_tests}, specs.List.AllByRecursion}
 use Rattle.machine_model.{proofs.{Cases.option_is, Owned.{lost_by, lost_keeps}, Sound.changed}, specs.After.{is_of_io, lost, lost_anywhere, change}}
 use Rattle.machine_model.specs.State.{Record, is_at, with_record, without_record}
-use Rattle.slot_table.specs.{Rows.{Row, value_at, without, with_value, NoneAt, IsDistinct}, Table.TableOf}
-use Rattle.host_core.{proofs.Lists.{some_is, none_is_not, all-filter, all-map, any-map, changed_at}, specs.Commands.claims_changed}
+use Rattle.slot_table.{specs.{Rows.{Row, value_at, without, with_value, NoneAt, IsDistinct}, Table.TableOf}, proofs.{Rows.without-none, Walks.none_stands}}
+use Rattle.host_core.{proofs.Lists.{some_is, none_is_not, all-filter, all-map, any-map, each-change}, specs.Commands.claims_changed}
 use Rattle.host_core.specs.{Parts.{record_of, records_of, tables_of, Becomes}, Resetting.{HasPlaces, IsPlaced}, Rows.{Kept, Queue}, Tables.Tables}
 use Rattle.host_core.specs.{Whole.{ClaimIdentifiers, ClaimsIdentifiers, IsRecord, TellsCommand, is_outstanding, IsQueue, TellsQueue}, declared.parts.Parts.Parts}
 use Rattle.page_ledger.specs.{Owners.owner_at, declared.owner.Owner.Owner}
@@ -32,10 +32,6 @@ empty-row rows q cid h = let e = sym (find-rows rows q cid) ∙ h in elim (optio
 
 -- no row stands in a place
 
-none-at : (rows : List (Row Kept)) (q cid : ℕ) → value_at rows q cid ≡ None → NoneAt rows q cid
-none-at [] q cid h = tt
-none-at (row ∷ rows) q cid h = let far : table.is_at row q cid ≡ false = grind (arith, h) in (far, none-at rows q cid (rw far at h))
-
 none-with : (rows : List (Row Kept)) (q cid : ℕ) (f : Record → Record) → NoneAt rows q cid → with_record q cid f (records_of rows) ≡ records_of rows
 none-with [] q cid f h = refl
 none-with (row ∷ rows) q cid f h = rw (h.0, none-with rows q cid f h.1) refl
@@ -45,9 +41,9 @@ none-without [] q cid h = refl
 none-without (row ∷ rows) q cid h = rw (h.0, none-without rows q cid h.1) refl
 
 pub with-no_row : (rows : List (Row Kept)) (q cid : ℕ) (f : Record → Record) → value_at rows q cid ≡ None → records_of rows ≡ with_record q cid f (records_of rows)
-with-no_row rows q cid f h = sym (none-with rows q cid f (none-at rows q cid h))
+with-no_row rows q cid f h = sym (none-with rows q cid f (none_stands rows q cid h))
 
-here-none : (row : Row Kept) (rows : List (Row Kept)) (q cid : ℕ) → table.is_at row q cid ≡ true → NoneAt rows row.q row.cid → NoneAt rows q cid
+pub here-none : {V : Type 0} (row : Row V) (rows : List (Row V)) (q cid : ℕ) → table.is_at row q cid ≡ true → NoneAt rows row.q row.cid → NoneAt rows q cid
 here-none row rows q cid h none =
     let both = and_parts (row.q == q) (row.cid == cid) h in
     subst (λ (x : ℕ). NoneAt rows x cid) (eqb-true row.q q both.0) (subst (λ (x : ℕ). NoneAt rows row.q x) (eqb-true row.cid cid both.1) none)
@@ -74,14 +70,10 @@ without-row (row ∷ rows) q cid distinct = elim (cases_Bool (table.is_at row q 
   | inr far ↦ rw far (ap (λ (rs : List Record). record_of row.q row.cid row.value ∷ rs) (without-row rows q cid distinct.1))
 ]
 
-without-none : (rows : List (Row Kept)) (q cid : ℕ) → NoneAt rows q cid → without rows q cid ≡ rows
-without-none [] q cid h = refl
-without-none (row ∷ rows) q cid h = rw (h.0, without-none rows q cid h.1) refl
-
 -- a row taken out, if one stands there
 taken-row : (rows : List (Row Kept)) (q cid : ℕ) (o : Option Kept) → o ≡ value_at rows q cid → IfSome o (λ _. IsDistinct rows) → records_of (without rows q cid) ≡ without_record q cid (records_of rows)
 taken-row rows q cid None at distinct =
-    let none = none-at rows q cid (sym at) in
+    let none = none_stands rows q cid (sym at) in
     ap records_of (without-none rows q cid none) ∙ sym (none-without rows q cid none)
 taken-row rows q cid (Some value) at distinct = without-row rows q cid distinct
 
@@ -244,7 +236,4 @@ claims_keep_tells f owners q queue tells = record { submission = tells.submissio
 -- what holds of each queue holds of each after one got other claims
 pub each_claimed : (P : ℕ → Queue → Type 0) (f : List Bool → List Bool) → ((q : ℕ) (queue : Queue) → P q queue → P q (claims_changed f queue)) → (k : ℕ) (queues : List Queue)
     → ((q : ℕ) (queue : Queue) → slice_get queues q ≡ Some queue → P q queue) → (q : ℕ) (queue : Queue) → slice_get (change k (claims_changed f) queues) q ≡ Some queue → P q queue
-each_claimed P f keeps k queues each q queue e = let c = changed_at k (claims_changed f) queues q queue e in elim c.is [
-  | inl h ↦ subst (λ (x : Queue). P q x) (sym h.1) (keeps q c.was (each q c.was c.at))
-  | inr h ↦ subst (λ (x : Queue). P q x) (sym h.1) (each q c.was c.at)
-]
+each_claimed P f keeps k queues each = each-change P k (claims_changed f) queues (λ q x _ at. each q x at) (λ x at. keeps k x (each k x at))

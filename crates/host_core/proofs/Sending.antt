@@ -2,37 +2,26 @@
 use Rattle.machine_model.specs.After as a
 use Rattle.machine_model.specs.Events as events
 use Rattle.machine_model.specs.declared.words.Refusal.TheVariants as refusal
-use Rattle.std.proofs.Common.{◌≡◌, ℕ, IsSome, ◌+◌, ◌<◌, ◌≤◌, ◌/◌, ◌%◌, ◌==◌, ◌++◌, ◌∷◌, [], Bool, true, false, Option, Some, None, List, length, slice_get, slice_set, refl, ap, sym, ◌∙◌, subst, arith, length-set, not, position}
-use Rattle.std.{proofs.lemmas.{Bool.{or_parts, not-false}, Option.slice_get-map}, specs.{Option.{option_map, option_map_or}}}
-use Rattle.admin_commands.specs.{Entries.admin_entry, declared.AdminKind.{AdminKind, TheVariants.{Abort, DeleteSq, DeleteCq, CreateCq, CreateSq}}}
+use Rattle.std.proofs.Common.{◌≡◌, ℕ, IsSome, ◌+◌, ◌<◌, ◌≤◌, ◌/◌, ◌%◌, ◌++◌, ◌∷◌, [], Bool, true, false, Option, Some, None, List, length, slice_get, slice_set, refl, ap, sym, ◌∙◌, subst, arith, length-set, not, position}
+use Rattle.admin_commands.specs.{Entries.admin_entry, declared.AdminKind.{AdminKind, TheVariants.{Abort, DeleteSq, CreateCq, CreateSq}}}
 use Rattle.entry_codec.specs.{Submission.{submission_bytes, FitsSubmission}, declared.submission.SubEntry.SubEntry}
-use Rattle.machine_model.{proofs.{Kept.{live_has_sq, service_has_sq}, Steps.first_fails}, specs.{After.change, Proper.IsProper}}
-use Rattle.machine_model.specs.Refusals.{in_state, is_deleting, no_identifier, no_io_queue, queue_full, refusal_of, has_sq, in_service}
+use Rattle.machine_model.{proofs.{Kept.{live_has_sq, service_has_sq}}, specs.{After.change, Proper.IsProper}}
+use Rattle.machine_model.specs.Refusals.{in_state, no_identifier, queue_full, refusal_of, has_sq, in_service}
 use Rattle.machine_model.specs.{State.{HostQueue, State}, Step.{Answers, IsController, IsNewIdentifier, Refuses, Step, touched_by_refusal}}
 use Rattle.machine_model.specs.declared.words.{HostState.TheVariants.Deleting, Refusal.Refusal}
 use Rattle.page_memory.specs.{Pages.page_at, declared.page.Half.TheVariants.Submission}
 use Rattle.queue_pair.{proofs.Halves.found_within, specs.Memory.half_pages}
-use Rattle.host_core.proofs.{Granting.{in_state-is, next-fresh, next-left, none-left}, Identifiers.claim-more}
+use Rattle.host_core.proofs.{Granting.{in_state-is, next-fresh, next-left, none-left}, Identifiers.claim-more, Lists.change-here}
 use Rattle.host_core.proofs.Lists.{all-append, each-change, length-change, map-change, some_is}
-use Rattle.host_core.proofs.QueueLists.{posted-exact, posted-queue, submission_length, tail-fits, tail-in, pool-with_bytes, submission_page-in, Settled}
-use Rattle.host_core.proofs.QueueLists.{settled-of, settled-state, settled-turned, settled-with, host_step, Steps, steps}
+use Rattle.host_core.proofs.QueueLists.{posted-exact, posted-queue, submission_length, tail-fits, tail-in, pool-with_bytes, submission_page-in, Settled, settled-of, settled-state, settled-turned, settled-with, host_step, Steps, steps}
 use Rattle.host_core.proofs.{Reaping.state-set, RowRecords.{claims_keep_queue, claims_keep_tells, each_claimed}, Submitted.{admin_live, full_is}}
 use Rattle.host_core.specs.{Commands.with_claim, Exact.Exactly, Posting.{CanPost, posted, tail_place, with_tail_moved, CanPostTo, Posts}, Rows.Queue}
 use Rattle.host_core.specs.Sending.{CanSend, HasSlot, Sends, asked, grants_none, noted, record_of_admin, sending, sent, named_causes}
 use Rattle.host_core.specs.{Tables.{Tables, state_of, host_queue_of}, Whole.{IsQueue, IsRecord, IsWhole, TellsCommand, TellsQueue}}
 use Rattle.controller_walk.specs.Units.{first_passing}
+use Rattle.std.proofs.lemmas.Option.{slice_get_within}
 
 -- An admin command that is sent on the tables is the machine's, and leaves them whole.
-
--- The first of a list, and a change of it
-
-pub first-changed : {A : Type 0} (f : A → A) (xs : List A) (x : A) → slice_get xs 0 ≡ Some x → slice_get (change 0 f xs) 0 ≡ Some (f x)
-first-changed f [] x h = cc
-first-changed f (y ∷ xs) x h = ap (option_map f) h
-
-pub some-first : {A : Type 0} (xs : List A) (x : A) → slice_get xs 0 ≡ Some x → 0 < length xs
-some-first [] x h = cc
-some-first (y ∷ xs) x h = omega arith
 
 -- An identifier of queue 0 is claimed, and the command is outstanding
 
@@ -56,7 +45,7 @@ settled-noted t kind cid s slot =
         queues_told = each_claimed (TellsQueue t.owners) (more cid) (claims_keep_tells (more cid) t.owners) 0 t.queues s.owners.queues_told;
         commands_told = all-append (TellsCommand t.owners) t.records (record_of_admin kind cid) s.owners.commands_told (none-told t kind cid);
       };
-      records = all-append (IsRecord (length t.queues)) t.records (record_of_admin kind cid) s.records (record { queue = some-first t.queues slot.queue slot.at; work = tt; phase = tt });
+      records = all-append (IsRecord (length t.queues)) t.records (record_of_admin kind cid) s.records (record { queue = slice_get_within t.queues 0 slot.queue slot.at; work = tt; phase = tt });
     })
 
 -- the machine shows no claims
@@ -88,7 +77,7 @@ pub can-send : (t : Tables) (kind : AdminKind) (cid : ℕ) → Settled t → (sl
     → CanPost (noted kind cid t) 0 (with_claim cid slot.queue) (admin_entry kind cid)
 can-send t kind cid s slot half is =
     record {
-      at = first-changed (with_claim cid) t.queues slot.queue slot.at;
+      at = change-here 0 (with_claim cid) t.queues slot.queue slot.at;
       kept = half.kept;
       room = slot.room;
       sgl1 = is.sgl1;
@@ -266,7 +255,7 @@ send-ready t kind queues cid w plain free same next room =
 
 pub noted-there : (t u : Tables) (kind : AdminKind) (cid : ℕ) → CanSend t kind cid → u ≡ noted kind cid t → 0 < length u.queues
 noted-there t u kind cid can same =
-    subst (λ (v : Tables). 0 < length v.queues) (sym same) (some-first (noted kind cid t).queues (with_claim cid can.slot.queue) (first-changed (with_claim cid) t.queues can.slot.queue can.slot.at))
+    subst (λ (v : Tables). 0 < length v.queues) (sym same) (slice_get_within (noted kind cid t).queues 0 (with_claim cid can.slot.queue) (change-here 0 (with_claim cid) t.queues can.slot.queue can.slot.at))
 
 pub send-typed : (kind : AdminKind) (cid : ℕ) → IsTyped (admin_entry kind cid)
 send-typed kind cid = record { sgl1 = refl; fits = record { fuse = omega arith; psdt = omega arith } }
@@ -275,7 +264,7 @@ pub can-post-to : (t u : Tables) (kind : AdminKind) (cid : ℕ) (entry : SubEntr
 can-post-to t u kind cid entry s slot half same is =
     subst (λ (v : Tables). CanPostTo v 0 entry) (sym same)
     (subst (λ (e : SubEntry). CanPostTo (noted kind cid t) 0 e) (sym is)
-    (λ y at. subst (λ (z : Queue). CanPost (noted kind cid t) 0 z (admin_entry kind cid)) (some_is (sym (first-changed (with_claim cid) t.queues slot.queue slot.at) ∙ at))
+    (λ y at. subst (λ (z : Queue). CanPost (noted kind cid t) 0 z (admin_entry kind cid)) (some_is (sym (change-here 0 (with_claim cid) t.queues slot.queue slot.at) ∙ at))
     (can-send t kind cid s slot half (send-typed kind cid))))
 
 pub send_can_post : (t u : Tables) (kind : AdminKind) (cid : ℕ) (entry : SubEntry) → IsWhole t → CanSend t kind cid → u ≡ noted kind cid t → entry ≡ admin_entry kind cid → CanPostTo u 0 entry
@@ -283,5 +272,5 @@ send_can_post t u kind cid entry w can same is = can-post-to t u kind cid entry 
 
 pub sends_apart : (t u v new : Tables) (kind : AdminKind) (cid : ℕ) (entry : SubEntry) → u ≡ noted kind cid t → entry ≡ admin_entry kind cid → Posts u 0 entry v → new ≡ asked kind v → Sends t kind cid new
 sends_apart t u v new kind cid entry same is posts left = λ x at.
-    let there = subst (λ (y : Tables). Posts y 0 entry v) same posts (with_claim cid x) (first-changed (with_claim cid) t.queues x at) in
+    let there = subst (λ (y : Tables). Posts y 0 entry v) same posts (with_claim cid x) (change-here 0 (with_claim cid) t.queues x at) in
     left ∙ ap (asked kind) (there ∙ ap (λ (e : SubEntry). posted 0 (with_claim cid x) e (noted kind cid t)) is)

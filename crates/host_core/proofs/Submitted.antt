@@ -9,18 +9,15 @@ use Rattle.entry_codec.specs.{Submission.{submission_bytes, FitsSubmission}, dec
 use Rattle.io_commands.{proofs.Building.carries_entry, specs.{DataBytes.PagesOut, Drafts.{DraftContents, draft_first}, Values.numbers_of}}
 use Rattle.sgl_chain.proofs.Spelled.{length-spelling}
 use Rattle.machine_model.proofs.{Cases.option_is, Counting.held_once, Kept.live_has_sq, Steps.{length-with_pages, first_fails, found_all}}
-use Rattle.machine_model.specs.After.{change, after_submit}
-use Rattle.machine_model.specs.{Memory.with_pages, Proper.IsProperDraft}
+use Rattle.machine_model.specs.{Memory.with_pages, Proper.IsProperDraft, After.{change, after_submit}, declared.words.Work.TheVariants.{Io, Management}}
 use Rattle.machine_model.specs.Refusals.{refusal_of, is_drafted, is_of, is_live, in_state, queue_full, record_is, host_queue}
 use Rattle.machine_model.specs.{State.{State, Record, is_at, pages_of, with_record, HostQueue}, Step.{Refuses}, Work.Work}
-use Rattle.machine_model.specs.declared.words.Work.TheVariants.{Io, Management}
 use Rattle.page_ledger.specs.{Owners.{is_among, owner_at}, declared.owner.Owner.TheVariants.{Queue as OfQueue, Command}}
 use Rattle.page_memory.specs.{Pages.Pages, declared.page.Half.{TheVariants.Submission}}
 use Rattle.queue_pair.specs.{Memory.half_pages, Slots.is_full}
 use Rattle.host_core.proofs.{Ending.{cancel_brings, joined-pages, belongs-passes, belongs_brings, ended_can_put}, Granting.in_state-is}
 use Rattle.host_core.proofs.{Lists.{all-from, some_is}, PageOwners.{command-owner, pool-with, with-other}}
-use Rattle.host_core.proofs.QueueLists.{posted-exact, posted-queue, tail-in, tail-fits, submission_length, pool-with_bytes, submission-owner}
-use Rattle.host_core.proofs.QueueLists.{submission_page-in, Settled, settled-of, settled-turned, Steps, steps}
+use Rattle.host_core.proofs.QueueLists.{posted-exact, posted-queue, tail-in, tail-fits, submission_length, pool-with_bytes, submission-owner, submission_page-in, Settled, settled-of, settled-turned, Steps, steps}
 use Rattle.host_core.proofs.RowRecords.{Marks, marked-claims, marked-records, marked-tells, Spares}
 use Rattle.host_core.specs.{Commands.{Brings, BelongsToDraft, CanPut, passes, state_at}, Exact.Exactly}
 use Rattle.host_core.specs.{Posting.{with_tail_moved, tail_place, CanPost, CanPostTo, Posts}, Rows.Queue}

@@ -9,20 +9,18 @@ use Rattle.std.proofs.lemmas.{Bool.{true≢false, cases_Bool, cond_both, or_left
 use Rattle.std.specs.{List.{AllByRecursion, Contains}, Option.option_map_or}
 use Rattle.machine_model.proofs.{Counting.{one, times-cons, times-append, times-filter, times-pages, held_once, length_of_all}, Headline.firsts}
 use Rattle.machine_model.specs.{After.after, Claims.{claimed, claims_of, claims_of_queues, claims_of_record, counts_of}, Events.{Event, Reply}}
-use Rattle.machine_model.specs.{Refusals.refusal_of, State.{HostQueue, Record, State}}
+use Rattle.machine_model.specs.{Refusals.refusal_of, State.{HostQueue, Record, State}, declared.words.Refusal.Refusal}
 use Rattle.machine_model.specs.Step.{times, IsController, HostPart, Leaves, LeavesByController, LeavesByHost, MayRefuse, Refuses, forges, resets}
-use Rattle.machine_model.specs.declared.words.Refusal.{Refusal}
 use Rattle.page_ledger.specs.Counting.{is_queue_page, is_chain_page, is_data_page}
 use Rattle.page_ledger.specs.{Owners.{is_owned_at, owner_at, pages_from, pages_owned, free_pages}, declared.owner.Counts.Counts}
 use Rattle.page_ledger.specs.declared.owner.{Owner.{Owner, TheVariants.{Free, Queue, Command}}, Role.TheVariants.{Data, Chain}}
 use Rattle.page_memory.specs.{Pages.{Pages, Contents}, declared.page.Half.{Half, TheVariants.{Submission, Completion}}}
-use Rattle.host_core.specs.{Alone.{HostView, alone}, Laws.{shown, LeavesJust, LeavesOne, RefusesJust, WritesLeaveOver}}
+use Rattle.host_core.{specs.{Alone.{HostView, alone}, Laws.{shown, LeavesJust, LeavesOne, RefusesJust, WritesLeaveOver}}, proofs.PageOwners.free-owner}
 use Rattle.host_core.specs.{Sending.{sending, creating, grants_none}, Tables.{Tables, state_of, host_queue_of, sq_pages_of, cq_pages_of}}
 use Rattle.host_core.specs.{Touching.{TouchesBy, refused_touches, sent_touches}, Whole.{HaveOwner, TellsCommand, TellsQueue, IsHost}}
 use Rattle.admin_commands.specs.declared.AdminKind.{AdminKind}
 use Rattle.io_commands.specs.{Asked.Request, DataBytes.PagesOut, Requests.data_count, Values.{data_part, chain_part}}
 use Rattle.queue_pair.specs.Memory.{half_pages}
-use Rattle.host_core.proofs.PageOwners.{free-owner}
 
 -- What the table of owners tells of the machine's claims: whose each page is, and how many pages each class has.
 

@@ -1,6 +1,6 @@
 use Rattle.std.proofs.Common.{rules, [], subst}
 use Rattle.host_core.proofs.{Granting.next-lowest, Identifiers.{host_of, over_of}, Openings.{whole_at, step_at, stays_at}}
-use Rattle.host_core.proofs.{Sending.{send-typed, send_made, send-refused}, Told.{sending_refused, sending_sent, touches_none}}
+use Rattle.host_core.proofs.{Sending.{send-typed, send_made, send-refused}, Told.{sending_refused, touches_none}}
 use Rattle.host_core.specs.{Alone.{HostView, IsLowest}, Parts.tables_of, Sending.sending, Tables.Tables, Whole.IsWhole}
 use Rattle.machine_model.specs.Events as events
 use Rattle.host_core.proofs.host.Host.send.Goals as goal

@@ -1,8 +1,7 @@
 use Rattle.std.proofs.Common.{◌≡◌, ℕ, List, false, ap, sym, ◌∙◌, slice_get}
 use Rattle.machine_model.specs.Refusals.{no_io_queue, in_state, is_deleting}
-use Rattle.host_core.proofs.Granted.{queue_there}
 use Rattle.host_core.proofs.Granting.{in_state-is, no_io-is, refuses-no_identifier, refuses-too_few, none-left, next-left, granted, Asked}
-use Rattle.host_core.specs.{Commands.{state_at, passes, takes_no_io}, Parts.tables_of, Rows.Queue, Tables.{Tables, state_of}}
+use Rattle.host_core.{specs.{Commands.{state_at, passes, takes_no_io}, Parts.tables_of, Rows.Queue, Tables.{Tables, state_of}}, proofs.Granted.queue_there}
 use Rattle.host_core.proofs.parts.Parts.check_reserve.Goals as goal
 
 pub returns-in_default-clause-refused : goal.returns-in_default-clause-refused

@@ -1,7 +1,6 @@
 use Rattle.std.proofs.Common.{[], Some, length, ap, sym, subst, ◌∙◌}
-use Rattle.host_core.proofs.{QueueLists.completion-inside, Reaping.over-has}
 use Rattle.host_core.{proofs.Reaps.{admin-work, answered-claims, heard-many, looks, meant-many, over-many, reaps-admin, reaps-done}, specs.Halves.HasMeant}
-use Rattle.host_core.specs.{Parts.tables_of, Reaping.{meant, over, Answered}, Tables.Tables}
+use Rattle.host_core.{specs.{Parts.tables_of, Reaping.{meant, over, Answered}, Tables.Tables}, proofs.{QueueLists.completion-inside, Reaping.over-has}}
 use Rattle.host_core.proofs.parts.Parts.end.Goals as goal
 
 pub returns-in-None-clause-reaps : goal.returns-in-None-clause-reaps
