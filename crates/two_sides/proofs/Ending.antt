@@ -1,6 +1,6 @@
 -- How a walk ends.
 use Rattle.std.proofs.Common.{arith, ◌≡◌, ◌<◌, ◌≤◌, ◌⊎◌, inl, inr, ◌+◌, ◌-◌, ◌*◌, ◌%◌, ◌++◌, ◌∷◌, [], ℕ, zero, suc, Bool, true, false, List, Option, Some, None, refl, sym, ap, subst, ◌∙◌, cond, is_some, length, map, min, nat_eq, nat_lt, add-zero, if◌then◌else◌, ◌≢◌, ◌^◌, ◌&&◌, not, replicate, take, append-nil, append_assoc, ◌||◌}
-use Rattle.std.proofs.lemmas.{Bool.{true≢false, cases_lt, cases_Bool, or_left, or_right, Decides.nat_tests}, List.{take_all, take-replicate, length-replicate}}
+use Rattle.std.proofs.lemmas.{Bool.{true≢false, cases_lt, cases_Bool, Decides.nat_tests}, List.{take_all, take-replicate, length-replicate}}
 use Rattle.std.proofs.lemmas.List.{Concat.flat_map-cons, FromFn.{length-map-range_with_len, take-map-range_with_len}}
 use Rattle.std.specs.{List.{AllByRecursion, range_with_len, list_all}, Option.option_and_then}
 use Rattle.entry_codec.specs.declared.status.{Status.Status, TheConstants.Status.DATA_TRANSFER_ERROR}

@@ -134,11 +134,9 @@ more_left (Does x rest) (suc k) e h = omega (arith, more_left rest k e h)
 -- one job at most has an identifier
 pub one_job : (s : State) → Stood s → (q cid : ℕ) → total (λ j. one (is_job q cid j)) s.device.jobs < 2
 one_job s stood q cid =
+    let same : (js : List Job) → total (λ j. one (is_job q cid j)) js ≤ total (job_weight q (λ c. one (c == cid))) js = λ js. grind arith in
     omega (arith, same s.device.jobs, stood.places q (λ c. one (c == cid)), few s.host.records, stood.grounds.stands.0.once q cid)
   where
-    same : (js : List Job) → total (λ j. one (is_job q cid j)) js ≤ total (job_weight q (λ c. one (c == cid))) js
-    same js = grind arith
-
     few : (rs : List Record) → total (sent q (λ c. one (c == cid))) rs ≤ total (here q cid) rs
     few [] = omega arith
     few (r ∷ rs) = omega (arith, few rs, each (r.q == q) (is_submitted r.phase) (r.cid == cid))

@@ -19,7 +19,7 @@ use Rattle.entry_codec.specs.declared.submission.SubEntry.{SubEntry}
 use Rattle.host_core.{proofs.{Ending.joined-pages, Lists.all-from, PageOwners.{pool-with, among-from}}, specs.Alone.{HostView, HostStep, alone, nothing}}
 use Rattle.io_commands.specs.Drafts.{DraftContents}
 use Rattle.two_sides.proofs.Assembling.{Ties, answer_as_machine}
-use Rattle.two_sides.proofs.Frames.{Spares, SparesSubmitted, apart_from_commands, apart_from_queues, host_lists, host_stands, state_stands, free_apart_from_queues, controller_at, placed, reaped_ring, first_of_half, known, there_ring}
+use Rattle.two_sides.proofs.Frames.{Spares, SparesSubmitted, apart_from_commands, apart_from_queues, host_lists, host_stands, state_stands, free_apart_from_queues, controller_at, reaped_ring, first_of_half, known, there_ring}
 use Rattle.two_sides.proofs.Granting.{granted_pool, granted_spares, granted_submitted, granted_whole, free, granted_zero, zeros_granted}
 use Rattle.two_sides.proofs.Places.{known_live, known_absent, known_gone}
 use Rattle.two_sides.proofs.Posted.{CanPost, post_queues, post_stands, post_walks, slot_written, tail_moved, with_entry, elsewhere, IsTyped, admin_typed, draft_typed}

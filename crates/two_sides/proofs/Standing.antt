@@ -4,8 +4,7 @@ use Rattle.machine_model.specs.Refusals as refusals
 use Rattle.machine_model.specs.Events as events
 use Rattle.machine_model.specs.declared.words.Refusal.TheVariants as refusal
 use Rattle.std.proofs.Common.{◌≡◌, ℕ, zero, suc, ◌+◌, ◌≤◌, ◌==◌, Bool, true, false, Some, List, [], ◌∷◌, slice_get, if◌then◌else◌, refl, ap, sym, arith, subst, not, ◌-◌, nat_lt, ◌&&◌, Option, None, ◌++◌, length, map, filter, find, drop, is_some, is_none, option_and_then, ◌∙◌, eqb-true, eq-eqb, ◌<◌, ◌||◌, inl, inr, replicate}
-use Rattle.std.{proofs.lemmas.Bool.{true≢false, and_parts, or_parts, cases_Bool, not-false, Decides.nat_tests}, specs.List.AllByRecursion}
-use Rattle.std.specs.{Option.option_map_or, Prelude.nat_le}
+use Rattle.std.{proofs.lemmas.Bool.{true≢false, and_parts, or_parts, cases_Bool, Decides.nat_tests}, specs.{List.AllByRecursion, Option.option_map_or}}
 use Rattle.machine_model.proofs.{Cases.option_is, Counting.{total-append, total-map, times-append, times-cons, times-outstanding}}
 use Rattle.machine_model.proofs.Moves.{host_moves, posts, sends, sent_record, drafted_record, heard_without, creates_cq, creates_sq, grants_cq, grants_sq, IsHeard, answer_heard}
 use Rattle.machine_model.proofs.{Owned.{HoldsPart, no_waiting, no_answering, reset_admin_commands}, Sound.{unused, host_event}}
@@ -13,18 +12,16 @@ use Rattle.machine_model.proofs.Steps.{managed_by, first_fails, rest_fails, foun
 use Rattle.machine_model.proofs.Tokens.{find_all, find_sound, MildJob, placed_jobs, placed_decided, placed_conflict, placed_completed, placed_job_more, placed_job_less, find_more, find_map, find_filter, placed_records, placed_sent, placed_reaped}
 use Rattle.machine_model.specs.Agreeing.{is_out_of_service_at as past_at, DeletesIo, JobKnown, AdminCommandsStand as Placed, is_absent_at as gone_at, Knows, waiting, answering, job_is}
 use Rattle.machine_model.specs.{Claims.OwnsFit, Events.{Event, Reply}, Memory.{is_in, with_pages}, Opening.{opening, device_queue as opened}}
-use Rattle.machine_model.specs.Refusals.{in_service, host_queue, device_queue, next_rung, job_at, slot_page, slot_offset, post_slot, fetch_slot, refusal_of, answers_full, post_page, is_job, first_answer, is_submitted, in_state, is_reaped}
+use Rattle.machine_model.specs.Refusals.{in_service, device_queue, next_rung, job_at, fetch_slot, refusal_of, answers_full, post_page, is_job, first_answer, is_submitted, is_reaped}
 use Rattle.machine_model.specs.State.{DeviceQueue, HostQueue, State, Device, Record, Job, Answer, is_at, record_at, pages_of, without_record, with_record, outstanding_on}
 use Rattle.machine_model.specs.{Step.{host_part, HostPart, IsController, times}, Weights.{total, one, here}, Work.Work, declared.words.Phase.TheVariants.Held}
 use Rattle.machine_model.specs.declared.words.{Refusal.Refusal, Work.TheVariants.{Io, Management}}
 use Rattle.queue_pair.specs.Members.{change}
-use Rattle.entry_codec.specs.{Completion.completion_bytes, declared.admin_opcode.TheConstants.{ABORT, DELETE_IO_SQ, DELETE_IO_CQ, CREATE_IO_CQ, CREATE_IO_SQ}}
-use Rattle.entry_codec.specs.declared.{completion.ComEntry.ComEntry, status.Status.Status}
-use Rattle.entry_codec.specs.declared.status.TheConstants.Status.{SUCCESS, COMMAND_ID_CONFLICT, ABORT_REQUESTED, ABORTED_SQ_DELETION}
+use Rattle.entry_codec.specs.declared.{admin_opcode.TheConstants.{ABORT, DELETE_IO_SQ, DELETE_IO_CQ, CREATE_IO_CQ, CREATE_IO_SQ}, completion.ComEntry.ComEntry}
+use Rattle.entry_codec.specs.declared.status.{Status.Status, TheConstants.Status.{SUCCESS, COMMAND_ID_CONFLICT, ABORT_REQUESTED, ABORTED_SQ_DELETION}}
 use Rattle.entry_codec.specs.declared.submission.SubEntry.{SubEntry}
-use Rattle.admin_commands.specs.{Entries.{admin_entry, named_queue, named_command}, Verdicts.{is_absent, is_live as is_running}, declared.AdminKind.AdminKind}
-use Rattle.admin_commands.specs.declared.{AdminKind.TheVariants.{Abort, DeleteSq, DeleteCq, CreateCq, CreateSq}, SqState.TheVariants.{Absent, Stopping}}
-use Rattle.page_memory.specs.Pages.{with_page_bytes}
+use Rattle.admin_commands.specs.{Entries.{admin_entry, named_queue, named_command}, Verdicts.is_live as is_running, declared.AdminKind.AdminKind}
+use Rattle.admin_commands.specs.declared.{AdminKind.TheVariants.{Abort, DeleteSq, DeleteCq, CreateCq, CreateSq}, SqState.TheVariants.Stopping}
 use Rattle.io_commands.specs.{Asked.Request, Jobs.{is_success, io_fault, bytes_after_check}}
 use Rattle.two_sides.{proofs.DeviceMoves.{answer_of, unit_done, finished, cleared, clears, fetch_by, walk_by, complete_by}, specs.MachineLaws.admin_places}
 pub use Rattle.machine_model.specs.Agreeing.{waiting, answering}
@@ -269,11 +266,8 @@ other_mild : (q cid : ℕ) (f : Job → Job) → (q == 0) ≡ false → ((j : Jo
 other_mild q cid f other fq fe = record {
   q = λ j. (elim ((j.q == q) && (j.entry.cid == cid)) as (λ b. (if b then f j else j).q ≡ j.q) [ true ↦ fq j | false ↦ refl ]);
   entry = λ j. (elim ((j.q == q) && (j.entry.cid == cid)) as (λ b. (if b then f j else j).entry ≡ j.entry) [ true ↦ fe j | false ↦ refl ]);
-  verdict = λ j st z v ok. go j st z ((j.q == q) && (j.entry.cid == cid)) refl v;
+  verdict = λ j st z v ok. grind arith;
 }
-  where
-    go : (j : Job) (st : Status) → j.q ≡ 0 → (b : Bool) → ((j.q == q) && (j.entry.cid == cid)) ≡ b → (if b then f j else j).verdict ≡ Some st → j.verdict ≡ Some st
-    go j st z b e v = grind arith
 
 placed_on_job : (rs : List Record) (q cid : ℕ) (f : Job → Job) (s : State) → (q == 0) ≡ false → ((j : Job) → (f j).q ≡ j.q) → ((j : Job) → (f j).entry ≡ j.entry)
     → PlacedIn rs s.device → PlacedIn rs (a.on_job q cid f s).device

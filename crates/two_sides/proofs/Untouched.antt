@@ -16,7 +16,7 @@ use Rattle.machine_model.specs.Step.{Step, Refuses, IsController, touched_by_ref
 use Rattle.machine_model.specs.{Touch.{allowed, pages_at_queue, pages_at_queues, pages_of_queue, own_pages, stays_allowed, stays_own}, Weights.{one, total}}
 use Rattle.machine_model.specs.declared.words.{HostState.HostState, Refusal.Refusal}
 use Rattle.page_ledger.specs.Owners.{is_among}
-use Rattle.admin_commands.specs.{Entries.{admin_entry, named_queue}, Verdicts.{is_absent, is_live as is_running}, declared.AdminKind.AdminKind}
+use Rattle.admin_commands.specs.{Entries.{admin_entry, named_queue}, Verdicts.is_absent, declared.AdminKind.AdminKind}
 use Rattle.admin_commands.specs.declared.AdminKind.TheVariants.{Abort, DeleteSq, DeleteCq}
 use Rattle.controller_walk.specs.Units.{first_passing}
 use Rattle.queue_pair.{proofs.Rings.moved_below, specs.{Members.change, Memory.half_pages, Slots.moved}}
@@ -359,10 +359,6 @@ answers_there s g q p there some queue e =
 served_there : (st : HostState) → in_service st ≡ true → has_cq st ≡ true
 served_there st h = reaped_has_cq st (service_is_reaped st h)
 
--- an entry that is fetched is one of a queue in service
-fetched_there : (s : State) → Grounds s → (q : ℕ) (e : SubEntry) → next_rung s q ≡ Some e → (queue : HostQueue) → host_queue s q ≡ Some queue → has_cq queue.state ≡ true
-fetched_there s g q e rung queue at = grind arith
-
 -- so is the queue of a job
 completed_there : (s : State) → Grounds s → (q cid : ℕ) (j : Job) → job_at s q cid ≡ Some j → (queue : HostQueue) → host_queue s q ≡ Some queue → has_cq queue.state ≡ true
 completed_there s g q cid j at queue there =
@@ -400,7 +396,8 @@ live_queue s q h queue e = sym (ap (λ (o : Option HostQueue). option_map_or (λ
 
 fetch_elsewhere : (q p : ℕ) (s : State) → Grounds s → Kept s p → Same (a.after_fetch q s).memory s p
 fetch_elsewhere q p s g some =
-    fetch_by (λ (t : State). Same t.memory s p) s q refl (λ e n c. answers_elsewhere q e.cid COMMAND_ID_CONFLICT 0 (a.taken_off q s) p (answers_there s g q p (fetched_there s g q e n) some))
+    -- an entry that is fetched is one of a queue in service
+    fetch_by (λ (t : State). Same t.memory s p) s q refl (λ e n c. answers_elsewhere q e.cid COMMAND_ID_CONFLICT 0 (a.taken_off q s) p (answers_there s g q p (λ queue at. grind arith) some))
     (λ e n c z. ap (λ (x : Pages). page_at x p) (kept_managed e (a.taken_off 0 s))) (λ e n c other. refl)
 
 complete_elsewhere : (q cid p : ℕ) (s : State) → Grounds s → Kept s p → Same (a.after_complete q cid s).memory s p
