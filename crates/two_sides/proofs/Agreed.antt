@@ -89,8 +89,7 @@ reset_is_step : (s : State) → Step s events.Reset events.Accepted (a.after_res
 reset_is_step s = (tt, permits s.trusted, refl)
   where
     permits : (b : Bool) → MatchBool (b || true) (refusal_of s events.Reset ≡ None × Unit {0}) ⊥
-    permits true = (refl, tt)
-    permits false = (refl, tt)
+    permits b = grind arith
 
 -- from what it looks at: the halves of queue 0, the requests and identifiers of records, and the limits
 recovered : (s : State) → IsSound s → 0 < s.entries → length s.host.queues ≤ 65536 → length s.memory ≤ 65536 → length s.device.queues ≡ length s.host.queues → AreAdminHalves s.entries s.host.queues
@@ -250,8 +249,7 @@ rows_tell (row ∷ rows) why all h = let both = and_parts (not (is_memory row.1)
 ]
 
 causes_tell : (s : State) (e : Event) → list_all (λ row. not (is_memory row.1)) (causes s e) ≡ true
-causes_tell s (events.Reserve q r) = elim (option_is (fault_of r.kind r.blocks r.pieces)) [ inl none ↦ rw none | inr (fault, some) ↦ rw some ]
-causes_tell s e = refl
+causes_tell s e = grind arith
 
 refuses_cause : (s : State) (e : Event) (why : Refusal) → is_memory why ≡ false → refusal_of s e ≡ Some why → Refuses s e why (touched_by_refusal s e why)
 refuses_cause s e refusal.Memory n h = absurd (true≢false n)

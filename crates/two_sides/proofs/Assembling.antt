@@ -351,8 +351,7 @@ spares_from s pages numbers apart same q h e =
     }
   where
     go : (p : ℕ) (b : Bool) → is_among numbers p ≡ b → (is_among numbers p ≡ true → ⊥) → page_at pages p ≡ page_at s.pages p
-    go p true x far = absurd (far x)
-    go p false x far = same p x
+    go p b x far = grind arith
 
 -- a command's pages
 command_apart : (s : Sides) → IsWorld s → (q cid : ℕ) (r : Record) (numbers : List ℕ) → record_at s.host.host q cid ≡ Some r → numbers ≡ pages_of r → Apart s numbers

@@ -36,8 +36,7 @@ use Rattle.machine_model.specs.declared.words.Refusal.TheVariants as refusal
 -- A completion can carry each end.
 
 pub end_fits : (blocks q done : ℕ) (image : List ℕ) (work : Work) → FitsWork blocks q done work → (status_of_end image work).sct < 8
-end_fits blocks q done image (Io job) fits = grind arith
-end_fits blocks q done image (Admin entry status dw0) fits = fits.1
+end_fits blocks q done image work fits = grind arith
 
 -- The queues
 
@@ -156,8 +155,7 @@ waits_seen s k =
 same_causes : (none waiting full out : Bool) → out ≡ false
     → (if none then Some refusal.Walking else if waiting then Some refusal.Waits else if full then Some refusal.Full else None)
     ≡ option_map why_of (if none then Some because.Walking else if waiting then Some because.Waits else if full then Some because.Full else if out then Some because.SlotOut else None)
-same_causes false false false true e = absurd (true≢false e)
-same_causes x waiting full out e = refl
+same_causes none waiting full out e = grind arith
 
 pub complete_refused_alike : completes_refuse_alike
 complete_refused_alike s q cid world t = go (find (is_command q cid) s.controller.commands) refl

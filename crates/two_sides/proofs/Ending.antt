@@ -262,12 +262,10 @@ not_less : (a b : ℕ) → b ≤ a → nat_lt a b ≡ false
 not_less a b h = grind (arith, nat_tests)
 
 fourth_row : (named : Named) (left : ℕ) → (left ≡ 1 → named_on named ≡ false) → (named_on named && nat_eq left 1) ≡ false
-fourth_row BySegment left h = grind (arith, nat_tests)
-fourth_row x left h = refl
+fourth_row named left h = grind arith
 
 part_fits : (m : Memory) (part : Part) → IsThere m part → passes_end (descriptor_of_part part) ≡ false
-part_fits m (Data addr len) there = not_less (2 ^ 64) (addr + len) there.0
-part_fits m (Bucket len) there = not_less (2 ^ 64) (0 + len) (omega (arith, there))
+part_fits m part there = grind arith
 
 no_link : (part : Part) → is_link (descriptor_of_part part) ≡ false
 no_link part = grind arith

@@ -64,8 +64,7 @@ room_found s q free = elim (option_is (host_queue s q)) [
 -- of any state
 after_posts : (q : ℕ) (entry : SubEntry) (h : HostQueue) (x : State) → host_queue x q ≡ Some h
     → a.posted q entry x ≡ a.on_ring q (next_tail x.entries) (a.on_device_queue q (with_entry entry) (a.on_memory (slot_written h entry) x))
-after_posts q entry h x at =
-    ap (λ (o : Option HostQueue). a.on_ring q (next_tail x.entries) (a.on_device_queue q (with_entry entry) (option_map_or (λ queue. a.on_memory (slot_written queue entry) x) o x))) at
+after_posts q entry h x at = grind arith
 
 -- A call leaves these queues of the host, and the entry posted over a memory.
 record Posts (s : Sides) (e : Event) (reply : Reply) (q : ℕ) (h : HostQueue) (entry : SubEntry) (mid : Pages) (hs : List HostQueue) : Type 0 where

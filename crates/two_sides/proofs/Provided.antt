@@ -217,8 +217,7 @@ lies_at : (n : ℕ) (half : Half) (first : ℕ) → LieAt n half (a.base_of (pag
 lies_at n half first = record { first = slice_index (pages_from first (half_pages n half)) 0; begins = refl; consecutive = go (half_pages n half) }
   where
     go : (count : ℕ) → pages_from first count ≡ pages_from (slice_index (pages_from first count) 0) count
-    go zero = refl
-    go (suc count) = refl
+    go count = grind arith
 
 -- Each event
 

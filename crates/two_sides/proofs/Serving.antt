@@ -49,8 +49,7 @@ serve_of s serve = record {
 }
   where
     by : {o : Option DeviceQueue} (p : Option DeviceQueue) → ((d : DeviceQueue) → o ≡ Some d → d.cq_there ≡ true) → o ≡ p → option_map_or (λ d. d.cq_there) p true ≡ true
-    by None has e = refl
-    by (Some d) has e = has d e
+    by f has e = grind arith
 
 -- the machine's part of a queue fits the host's
 fits_at : (n q : ℕ) (hs : List HostQueue) (ds : List DeviceQueue) (h : HostQueue) (d : DeviceQueue) → QueuesFit n hs ds → slice_get hs q ≡ Some h → slice_get ds q ≡ Some d → is_absent d.state ≡ false → d.cq_there ≡ true

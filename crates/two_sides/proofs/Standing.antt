@@ -133,8 +133,7 @@ device-answered q cid st dw0 s = grind arith
 
 pub device-posted : (q : ℕ) (entry : SubEntry) (s : State)
     → (a.posted q entry s).device ≡ record s.device { queues = change q (λ at. record at { unfetched = at.unfetched ++ entry ∷ [] }) s.device.queues }
-device-posted q entry s =
-    ap (λ (d : Device). record d { queues = change q (λ at. record at { unfetched = at.unfetched ++ entry ∷ [] }) d.queues }) (grind arith)
+device-posted q entry s = grind arith
 
 -- The entry that is fetched from queue 0
 
@@ -229,8 +228,7 @@ answering_more [] an h = absurd (true≢false (sym h))
 answering_more (at ∷ ds) an h = refl
 
 pub some_zero : (ds : List DeviceQueue) (e : SubEntry) → option_and_then (λ queue. if is_running queue.state && nat_lt 0 queue.rung then slice_get queue.unfetched 0 else None) (slice_get ds 0) ≡ Some e → is_some (slice_get ds 0) ≡ true
-some_zero [] e h = absurd cc
-some_zero (at ∷ ds) e h = refl
+some_zero ds e h = grind arith
 
 pub some_still : (f : DeviceQueue → DeviceQueue) (k : ℕ) (ds : List DeviceQueue) → is_some (slice_get ds 0) ≡ true → is_some (slice_get (change k f ds) 0) ≡ true
 some_still f k [] h = h
@@ -534,8 +532,7 @@ stands_event s e reply ok t h = stands_host s e reply ok refl t h
 
 -- An entry that is forged ends the trust
 forged_ends : (o : Option HostQueue) (f : HostQueue → State) (s : State) → ((x : HostQueue) → (f x).trusted ≡ false) → option_map_or (λ queue. is_reaped queue.state) o false ≡ true → (option_map_or f o s).trusted ≡ false
-forged_ends None f s h e = absurd (true≢false (sym e))
-forged_ends (Some x) f s h e = h x
+forged_ends o f s h e = grind arith
 
 pub forged_untrusted : (s : State) (q slot : ℕ) (bytes : List ℕ) → refusal_of s (events.Forge q slot bytes) ≡ None → (a.after_forge q slot bytes s).trusted ≡ false
 forged_untrusted s q slot bytes ok = grind arith

@@ -57,8 +57,7 @@ HeadInPage (Closes v) = Unit {0}
 HeadInPage (Does act rest) = InPage act
 
 some_spanned : (place len : ℕ) → 0 < pages_spanned place len → 0 < len
-some_spanned place zero h = h
-some_spanned place (suc len) h = omega arith
+some_spanned place len h = grind arith
 
 head_moving : (m : Memory) (n place len offset : ℕ) (rest : Course) → (0 < n → 0 < len) → HeadInPage rest → HeadInPage (moving m n place len offset rest)
 unfolding moving

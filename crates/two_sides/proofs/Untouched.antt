@@ -10,7 +10,7 @@ use Rattle.machine_model.proofs.Kept.{live_has_sq, reaped_has_cq, service_is_rea
 use Rattle.machine_model.proofs.Moves.{host_moves, posts, posted_is, sends, sent_record, half_from, creates_cq, creates_sq, grants_cq, grants_sq}
 use Rattle.machine_model.{proofs.{Owned.{Holds, in_queue, in_record}, Steps.{first_fails, permitted, managed_by, Accepts, unrefused}}, specs.Agreeing.on_queue}
 use Rattle.machine_model.specs.{Events.{Event, Reply}, Linked.{absent, IsLinked}, Memory.{is_in, with_pages, without_pages, zeroed_pages}, Positions.IsInRing}
-use Rattle.machine_model.specs.Refusals.{host_queue, device_queue, next_rung, slot_page, fetch_slot, post_slot, fetch_page, post_page, conflicts, job_at, answers_full, job_is, waits, is_submitted, is_drafted, is_collected, is_live, has_cq, in_service, is_reaped, slot_offset, refusal_of, in_state, is_job}
+use Rattle.machine_model.specs.Refusals.{host_queue, device_queue, next_rung, slot_page, fetch_slot, post_slot, fetch_page, post_page, conflicts, job_at, answers_full, job_is, waits, is_submitted, is_drafted, is_collected, is_live, has_cq, in_service, is_reaped, slot_offset, in_state, is_job}
 use Rattle.machine_model.specs.State.{State, HostQueue, DeviceQueue, pages_of, Host, Record, Job, record_at, with_record}
 use Rattle.machine_model.specs.Step.{Step, Refuses, IsController, touched_by_refusal, touched_by_fetch, times}
 use Rattle.machine_model.specs.{Touch.{allowed, pages_at_queue, pages_at_queues, pages_of_queue, own_pages, stays_allowed, stays_own}, Weights.{one, total}}
@@ -155,8 +155,7 @@ after_idle s q =
     ∷ []
 
 touched_refused : (s : State) (e : Event) (why : Refusal) (touched : List ℕ) → Refuses s e why touched → touched ≡ touched_by_refusal s e why
-touched_refused s e refusal.Memory touched h = h.2
-touched_refused s e why touched h = h.1
+touched_refused s e why touched h = grind arith
 
 -- what is touched stays in a list
 abbrev Within : List ℕ → List ℕ → Bool
@@ -473,8 +472,7 @@ untouched_kept s e reply ok w g p some away =
     granted_elsewhere pages are = with_elsewhere (zeroed_pages pages) s.memory p (ap (λ (ps : List ℕ). is_among ps p) (zeroed_numbers pages) ∙ free_elsewhere s pages p are some)
 
 collects_no_sent : (s : State) (e : Event) (reply : Reply) → Accepts s e reply → (q cid : ℕ) (r : Record) → e ≡ events.Collect q cid → record_at s.host q cid ≡ Some r → is_submitted r.phase ≡ false
-collects_no_sent s e reply ok q cid r is at =
-    sym (ap (λ (o : Option Record). option_map_or (λ r. is_submitted r.phase) o false) at) ∙ (unrefused s (events.Collect q cid) (subst (λ (x : Event). refusal_of s x ≡ None) is ok.0)).1.0
+collects_no_sent s e reply ok q cid r is at = grind arith
 
 pub untouched : (s : State) (e : Event) (reply : Reply) → Accepts s e reply → is_walk e ≡ false → Grounds s → (p : ℕ) → 0 < total (sent_page p) s.host.records
     → page_at (a.after s e reply).memory p ≡ page_at s.memory p
