@@ -345,13 +345,11 @@ Apart s numbers = (q : ℕ) (h : HostQueue) (p : ℕ) → slice_get s.host.host.
 
 spares_from : (s : Sides) (pages : Pages) (numbers : List ℕ) → Apart s numbers → ((p : ℕ) → is_among numbers p ≡ false → page_at pages p ≡ page_at s.pages p) → Spares s pages
 spares_from s pages numbers apart same q h e =
+    let go : (p : ℕ) (b : Bool) → is_among numbers p ≡ b → (is_among numbers p ≡ true → ⊥) → page_at pages p ≡ page_at s.pages p = λ p b x far. grind arith in
     record {
       submission = λ p own. go p (is_among numbers p) refl (λ x. true≢false (sym own ∙ (apart q h p e x).0));
       completion = λ p own. go p (is_among numbers p) refl (λ x. true≢false (sym own ∙ (apart q h p e x).1));
     }
-  where
-    go : (p : ℕ) (b : Bool) → is_among numbers p ≡ b → (is_among numbers p ≡ true → ⊥) → page_at pages p ≡ page_at s.pages p
-    go p b x far = grind arith
 
 -- a command's pages
 command_apart : (s : Sides) → IsWorld s → (q cid : ℕ) (r : Record) (numbers : List ℕ) → record_at s.host.host q cid ≡ Some r → numbers ≡ pages_of r → Apart s numbers

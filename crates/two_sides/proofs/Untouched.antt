@@ -471,9 +471,6 @@ untouched_kept s e reply ok w g p some away =
     granted_elsewhere : (pages : List ℕ) → ((p : ℕ) → times p pages ≡ (if is_among pages p && is_among s.host.free p then 1 else 0)) → Same (with_pages (zeroed_pages pages) s.memory) s p
     granted_elsewhere pages are = with_elsewhere (zeroed_pages pages) s.memory p (ap (λ (ps : List ℕ). is_among ps p) (zeroed_numbers pages) ∙ free_elsewhere s pages p are some)
 
-collects_no_sent : (s : State) (e : Event) (reply : Reply) → Accepts s e reply → (q cid : ℕ) (r : Record) → e ≡ events.Collect q cid → record_at s.host q cid ≡ Some r → is_submitted r.phase ≡ false
-collects_no_sent s e reply ok q cid r is at = grind arith
-
 pub untouched : (s : State) (e : Event) (reply : Reply) → Accepts s e reply → is_walk e ≡ false → Grounds s → (p : ℕ) → 0 < total (sent_page p) s.host.records
     → page_at (a.after s e reply).memory p ≡ page_at s.memory p
 untouched s e reply ok w g p some =
@@ -483,4 +480,4 @@ untouched s e reply ok w g p some =
       queues = λ q queue e. omega (arith, owned_once _ p s.host g.stands.0, some, sent_less p s.host.records, in_at s.host.queues q queue e (in_queue p));
       others = λ r within away. not_others _ p s.host r g.stands.0 within (grind arith) some;
     })
-    (λ q cid r is at. among_counts p (pages_of r) (not_others _ p s.host r g.stands.0 (in_found _ s.host.records r at) (collects_no_sent s e reply ok q cid r is at) some))
+    (λ q cid r is at. among_counts p (pages_of r) (not_others _ p s.host r g.stands.0 (in_found _ s.host.records r at) (grind arith) some))
