@@ -9,7 +9,7 @@ use Rattle.admin_commands.specs.declared.AdminVerdict.{AdminVerdict, TheVariants
 use Rattle.admin_commands.specs.declared.DeviceView.{DeviceView}
 use Rattle.entry_codec.specs.declared.{admin_opcode.TheConstants.{ABORT, DELETE_IO_SQ, DELETE_IO_CQ, CREATE_IO_CQ, CREATE_IO_SQ}, completion.ComEntry.ComEntry}
 use Rattle.entry_codec.specs.declared.{status.Status.Status, submission.SubEntry.SubEntry}
-use Rattle.two_sides.{proofs.Standing.far_suc as ne_zero, specs.{Hearing.heard, Sides.Sides, Ties.SharesAdmin}}
+use Rattle.two_sides.specs.{Hearing.heard, Sides.Sides, Ties.SharesAdmin}
 use Rattle.page_memory.specs.{Pages.Pages, declared.page.Half.{Half, TheVariants.{Submission, Completion}}}
 use Rattle.queue_pair.specs.{Memory.half_pages, Rings.{HostRing, hearing_head, hearing_tail, knowing, next_head, next_tail}, Slots.is_in_range}
 use Rattle.controller_core.specs.{Completing.{queues_of_end, without_submission}, Contents.{Contents, Work, is_deletion}}
@@ -51,8 +51,7 @@ Decides e view (MakeSubmission q base) = MakesPaired e view q base
 
 -- an I/O queue isn't queue 0
 not_admin : (q : ℕ) (view : DeviceView) → not (is_io_queue q view) ≡ false → (q == 0) ≡ false
-not_admin zero view e = absurd (true≢false e)
-not_admin (suc q) view e = ne_zero q
+not_admin q view e = grind arith
 
 pub decides : (e : SubEntry) (view : DeviceView) → Decides e view (decision e view)
 decides e view =

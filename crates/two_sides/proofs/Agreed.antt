@@ -86,11 +86,7 @@ agree_from s roomy = record {
 -- Behind a reset
 
 reset_is_step : (s : State) → Step s events.Reset events.Accepted (a.after_reset s)
-reset_is_step s = (tt, permits s.trusted, refl)
-  where
-    permits : (b : Bool) → MatchBool (b || true) (refusal_of s events.Reset ≡ None × Unit {0}) ⊥
-    permits true = (refl, tt)
-    permits false = (refl, tt)
+reset_is_step s = let permits : (b : Bool) → MatchBool (b || true) (refusal_of s events.Reset ≡ None × Unit {0}) ⊥ = λ b. grind arith in (tt, permits s.trusted, refl)
 
 -- from what it looks at: the halves of queue 0, the requests and identifiers of records, and the limits
 recovered : (s : State) → IsSound s → 0 < s.entries → length s.host.queues ≤ 65536 → length s.memory ≤ 65536 → length s.device.queues ≡ length s.host.queues → AreAdminHalves s.entries s.host.queues
@@ -249,10 +245,6 @@ rows_tell (row ∷ rows) why all h = let both = and_parts (not (is_memory row.1)
   | inr f ↦ rows_tell rows why both.1 (rw f at h)
 ]
 
-causes_tell : (s : State) (e : Event) → list_all (λ row. not (is_memory row.1)) (causes s e) ≡ true
-causes_tell s (events.Reserve q r) = elim (option_is (fault_of r.kind r.blocks r.pieces)) [ inl none ↦ rw none | inr (fault, some) ↦ rw some ]
-causes_tell s e = refl
-
 refuses_cause : (s : State) (e : Event) (why : Refusal) → is_memory why ≡ false → refusal_of s e ≡ Some why → Refuses s e why (touched_by_refusal s e why)
 refuses_cause s e refusal.Memory n h = absurd (true≢false n)
 refuses_cause s e why n h = (h, refl)
@@ -281,7 +273,7 @@ IsDone s e reply = (left : State) × Step s e reply left
 pub refused_or_none : (s : State) (e : Event) → IsProper e → IsJudged s e → IsRefused s e ⊎ (refusal_of s e ≡ None)
 refused_or_none s e proper j = elim (option_is (refusal_of s e)) [
   | inl none ↦ inr none
-  | inr (why, h) ↦ inl (why, touched_by_refusal s e why, (proper, judged (MayRefuse e why _) _ j (refuses_cause s e why (rows_tell (causes s e) why (causes_tell s e) h) h), refl))
+  | inr (why, h) ↦ inl (why, touched_by_refusal s e why, (proper, judged (MayRefuse e why _) _ j (refuses_cause s e why (rows_tell (causes s e) why (grind arith) h) h), refl))
 ]
 
 -- a call that allocates can be refused: for a cause, or for want of memory

@@ -17,7 +17,7 @@ use Rattle.two_sides.proofs.Frames.{SparesQueue, SparesSubmitted, apart_from_que
 use Rattle.two_sides.proofs.JobLaws.{length-completion_bytes}
 use Rattle.two_sides.proofs.Places.{Shows, map-append, fetch_slot_is, post_slot_is, own_page, in_ring, completion_slot_page, heads_heard, HasAnswer, answer_there, has_answer, head_below, seen_first, seen_none}
 use Rattle.two_sides.proofs.{Provided.{all_append, all_at}, Shared.length-device, Untouched.bytes_elsewhere}
-use Rattle.two_sides.specs.Sides.{Sides, answer_of, completions_between, device_queue_of, present, unfetched_between, state_of, device_queues_of}
+use Rattle.two_sides.specs.Sides.{Sides, answer_of, completions_between, device_queue_of, present, state_of, device_queues_of}
 use Rattle.two_sides.specs.Stepping.{LeavesPages, completion_slots_are_in, forged, forged_entries_step, served}
 use Rattle.two_sides.specs.Ties.{HeadsFollow, IsWorld, QueueStands, RingsStand, ShareQueue, has_ring, AllQueuesStand, AreTied, AreSides, first_completion_page}
 use Rattle.page_ledger.specs.Owners.{is_among, pages_from}
@@ -145,19 +145,6 @@ present-append [] x = refl
 present-append (None ∷ xs) x = present-append xs x
 present-append (Some y ∷ xs) x = ap (λ ys. y ∷ ys) (present-append xs x)
 
--- the entries that wait stay, and the completions are one more
-entries_stay : (s : Sides) (q : ℕ) (h : HostQueue) (c : ControllerQueue) (e : ComEntry) → IsWorld s → slice_get s.host.host.queues q ≡ Some h → CanAnswer s q h c e
-    → unfetched_between (byte_at (with_completion s c e)) h.ring c.device ≡ unfetched_between (byte_at s.pages) h.ring c.device
-entries_stay s q h c e world at can =
-    let sq = can.known.submission can.there in
-    let n = can.known.placed.share.entries in
-    let many = half_pages c.device.entries Submission in
-    let spared : (p : ℕ) → p < many → page_at s.pages (c.device.sq + p) ≡ page_at (with_completion s c e) (c.device.sq + p) =
-    λ p l. sym (page_spared s q h c e (c.device.sq + p) can.known (queue_ring s q h c can.known can.there) (own_halves_apart s world q h (c.device.sq + p) at
-    (subst (λ (pages : List ℕ). is_among pages (c.device.sq + p) ≡ true) (sym sq) (among-from c.device.sq (half_pages s.host.entries Submission) p (subst (λ (k : ℕ). p < half_pages k Submission) n l))))) in
-    ap present (sym (entries_agree (byte_at s.pages) (byte_at (with_completion s c e)) c.device.sq c.device.entries c.device.ring.head h.ring.tail
-    (pages_agree s.pages (with_completion s c e) c.device.sq many spared) can.known.placed.share.side.head))
-
 completions_grow : (s : Sides) (q : ℕ) (h : HostQueue) (c : ControllerQueue) (e : ComEntry) → IsWorld s → CanAnswer s q h c e
     → completions_between (byte_at (with_completion s c e)) h.ring (with_answer c).device ≡ completions_between (byte_at s.pages) h.ring c.device ++ e ∷ []
 completions_grow s q h c e world can =
@@ -174,7 +161,15 @@ pub answer_seen : (s : Sides) (q : ℕ) (h : HostQueue) (c : ControllerQueue) (e
     ≡ record (device_queue_of (byte_at s.pages) h.ring c) { answers = (device_queue_of (byte_at s.pages) h.ring c).answers ++ answer_of e ∷ [] }
 answer_seen s q h c e world at can =
     ap₂ (λ (entries : List SubEntry) (answers : List Answer). record (device_queue_of (byte_at s.pages) h.ring c) { unfetched = if is_absent c.state then [] else entries; answers = answers })
-    (entries_stay s q h c e world at can)
+    -- the entries that wait stay, and the completions are one more
+    (let sq = can.known.submission can.there in
+    let n = can.known.placed.share.entries in
+    let many = half_pages c.device.entries Submission in
+    let spared : (p : ℕ) → p < many → page_at s.pages (c.device.sq + p) ≡ page_at (with_completion s c e) (c.device.sq + p) =
+    λ p l. sym (page_spared s q h c e (c.device.sq + p) can.known (queue_ring s q h c can.known can.there) (own_halves_apart s world q h (c.device.sq + p) at
+    (subst (λ (pages : List ℕ). is_among pages (c.device.sq + p) ≡ true) (sym sq) (among-from c.device.sq (half_pages s.host.entries Submission) p (subst (λ (k : ℕ). p < half_pages k Submission) n l))))) in
+    ap present (sym (entries_agree (byte_at s.pages) (byte_at (with_completion s c e)) c.device.sq c.device.entries c.device.ring.head h.ring.tail
+    (pages_agree s.pages (with_completion s c e) c.device.sq many spared) can.known.placed.share.side.head)))
     (more c.cq_there (can.known.fits.half can.there))
   where
     old : List ComEntry
@@ -325,10 +320,6 @@ one_fewer at = record at { answers = drop 1 at.answers }
 abbrev heard : ℕ → ControllerQueue → ControllerQueue
 heard v c = with_side (record c.device { ring = hearing_head v c.device.ring }) c
 
-taken_seen : (m : Memory) (head : ℕ) (h : HostQueue) (c : ControllerQueue) → c.cq_there ≡ true → HasAnswer m h c
-    → device_queue_of m (taken c.device.entries head h).ring (heard (next_slot c.device.entries h.ring.head) c) ≡ one_fewer (device_queue_of m h.ring c)
-taken_seen m head h c cq a = grind arith
-
 taken_stands : (s : Sides) (q head : ℕ) (h : HostQueue) (c : ControllerQueue) → Sees s q h c → Follows h c (byte_at s.pages) head
     → RingsStand (byte_at s.pages) q (taken c.device.entries head h) (heard (next_slot c.device.entries h.ring.head) c)
 taken_stands s q head h c x follows =
@@ -379,7 +370,7 @@ takes s world tied q head h c f x follows is =
           (only (λ (y : HostQueue) (d : ControllerQueue). device_queue_of m (f y).ring (with_head v d) ≡ one_fewer (device_queue_of m y.ring d)) hs cs q h c x.at x.there
           (subst (λ (y : HostQueue). device_queue_of m y.ring (with_head v c) ≡ one_fewer (device_queue_of m h.ring c)) (sym is)
           (subst (λ (d : ControllerQueue). device_queue_of m (taken s.host.entries head h).ring d ≡ one_fewer (device_queue_of m h.ring c)) (sym heard_here)
-          (subst (λ (n : ℕ). device_queue_of m (taken n head h).ring (heard (next_slot n h.ring.head) c) ≡ one_fewer (device_queue_of m h.ring c)) n (taken_seen m head h c x.cq x.answer)))))
+          (subst (λ (n : ℕ). device_queue_of m (taken n head h).ring (heard (next_slot n h.ring.head) c) ≡ one_fewer (device_queue_of m h.ring c)) n (grind arith)))))
           (λ i y d far at there. refl);
       queues = one_stands s.host.entries m m q f (with_head v) hs cs
           (only (λ (y : HostQueue) (d : ControllerQueue). QueueStands s.host.entries m q y d → QueueStands s.host.entries m q (f y) (with_head v d)) hs cs q h c x.at x.there

@@ -11,7 +11,7 @@ use Rattle.machine_model.{proofs.Steps.{Accepts, part_controller, found, unrefus
 use Rattle.machine_model.specs.{Claims.HasOneOwner, Events.{Event, Reply}, Memory.{memory_of, without_pages}, Proper.IsProper}
 use Rattle.machine_model.specs.Refusals.{refusal_of, is_reaped, seen_entry, in_service, is_collected, is_drafted, is_held, is_submitted}
 use Rattle.machine_model.specs.State.{State, Device, HostQueue, DeviceQueue, Record, is_at, pages_of, record_at, with_record}
-use Rattle.machine_model.specs.Step.{Answers, IsController, IsNewIdentifier, Permits, Refuses, touched_by_refusal, Leaves, LeavesByController, LeavesByHost, Step, forges, host_part, is_exact, times}
+use Rattle.machine_model.specs.Step.{Answers, IsController, IsNewIdentifier, Permits, Refuses, touched_by_refusal, Leaves, LeavesByController, LeavesByHost, Step, forges, host_part, times}
 use Rattle.machine_model.specs.declared.words.Refusal.{Refusal}
 use Rattle.two_sides.proofs.{AdminKept.admin_behind, Agreed.{step_keeps_agreement, recovery_kept}, Blind.{out_of, SeesAlike, bare, head_of_entry, left_alike}}
 use Rattle.two_sides.proofs.DeviceMoves.{steps_stay_in_rings}
@@ -122,13 +122,10 @@ sides_behind s e reply host pages sides c step over =
       admin = admin_behind s e reply host pages c step sides.kept sides.admin;
     }
 
--- nothing changes
-nothing_left : (f c : Bool) (s next : State) → AreWhole s.memory → next ≡ s → MatchBool f (s ≡ next) (MatchBool c (LeavesByController s next s) (LeavesByHost s next s))
-nothing_left f c s next whole same = grind arith
-
 stays_left : (s : State) (e : Event) (reply : Reply) → AreWhole s.memory → after s e reply ≡ s → Leaves s e reply s
 stays_left s e (events.Refused why touched) whole same = refl
-stays_left s e reply whole same = nothing_left (is_exact e s.trusted) (machine.IsController e) s (after s e reply) whole same
+-- nothing changes
+stays_left s e reply whole same = grind arith
 
 -- a refused call, also Reap and Retire
 pub host_refused : (s : Sides) (e : Event) (reply : Reply) (host : HostView) (pages : Pages) → IsWorld s → alone host pages ≡ alone s.host s.pages
@@ -147,12 +144,7 @@ pub record Ties (s : Sides) (e : Event) (reply : Reply) (host : HostView) (pages
 exactly_left : (s : Sides) (e : Event) (reply : Reply) (host : HostView) (pages : Pages) → s.trusted ≡ true → forges e ≡ false
     → (state_of (behind s e reply host pages) ≡ after (state_of s) e reply) → Leaves (state_of s) e reply (state_of (behind s e reply host pages))
 exactly_left s e (events.Refused why touched) host pages t f same = same
-exactly_left s e reply host pages t f same = due (machine.resets e) (forges e) s.trusted f t
-  where
-    due : (z b t' : Bool) → b ≡ false → t' ≡ true
-        → MatchBool (z || (not b && t')) (state_of (behind s e reply host pages) ≡ after (state_of s) e reply)
-        (MatchBool (machine.IsController e) (LeavesByController (state_of s) (after (state_of s) e reply) (state_of (behind s e reply host pages))) (LeavesByHost (state_of s) (after (state_of s) e reply) (state_of (behind s e reply host pages))))
-    due z b t' x y = grind arith
+exactly_left s e reply host pages t f same = grind arith
 
 -- the same completion stands at the head for the host and for the machine
 heads_alike : (o p : Option ComEntry) → told o ≡ told p → option_map head_of_entry p ≡ option_map head_of_entry o
@@ -353,14 +345,11 @@ Apart s numbers = (q : ℕ) (h : HostQueue) (p : ℕ) → slice_get s.host.host.
 
 spares_from : (s : Sides) (pages : Pages) (numbers : List ℕ) → Apart s numbers → ((p : ℕ) → is_among numbers p ≡ false → page_at pages p ≡ page_at s.pages p) → Spares s pages
 spares_from s pages numbers apart same q h e =
+    let go : (p : ℕ) (b : Bool) → is_among numbers p ≡ b → (is_among numbers p ≡ true → ⊥) → page_at pages p ≡ page_at s.pages p = λ p b x far. grind arith in
     record {
       submission = λ p own. go p (is_among numbers p) refl (λ x. true≢false (sym own ∙ (apart q h p e x).0));
       completion = λ p own. go p (is_among numbers p) refl (λ x. true≢false (sym own ∙ (apart q h p e x).1));
     }
-  where
-    go : (p : ℕ) (b : Bool) → is_among numbers p ≡ b → (is_among numbers p ≡ true → ⊥) → page_at pages p ≡ page_at s.pages p
-    go p true x far = absurd (far x)
-    go p false x far = same p x
 
 -- a command's pages
 command_apart : (s : Sides) → IsWorld s → (q cid : ℕ) (r : Record) (numbers : List ℕ) → record_at s.host.host q cid ≡ Some r → numbers ≡ pages_of r → Apart s numbers

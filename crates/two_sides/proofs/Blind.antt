@@ -184,9 +184,6 @@ alike_blind s d d' (events.Forge q slot bytes) events.Accepted c z ok =
 alike_blind s d d' (events.Forge q slot bytes) reply c z ok = absurd ok
 alike_blind s d d' e reply c z ok = alike_after s d d' false false e reply c refl z (sees_blind s d d' e) ok
 
-left_after : (s : State) (d d' : Device) (e : Event) (reply : Reply) → IsController e ≡ false → Answers (over s d false) e reply → left_of (a.after (over s d false) e reply) ≡ left_of (a.after (over s d' false) e reply)
-left_after s d d' e reply c ok = grind arith
-
 -- and its answers are the same
 
 same_refusal : (s : State) (d d' : Device) (e : Event) → IsController e ≡ false → refusal_of (over s d false) e ≡ refusal_of (over s d' false) e
@@ -228,10 +225,10 @@ permits_same : (s : State) (d d' : Device) (e : Event) (reply : Reply) → IsCon
 permits_same s d d' e (events.Refused why touched) c h = (into _ (IsController e) c (refuses_same s d d' e why touched c (out_of _ (IsController e) c h)), refl)
 permits_same s d d' e (events.Reserved dr) c h =
     let ok = out_of _ (IsController e) c h in
-    (into _ (IsController e) c (sym (same_refusal s d d' e c) ∙ ok.0, answers_same s d d' e (events.Reserved dr) c ok.1), left_after s d d' e (events.Reserved dr) c ok.1)
+    (into _ (IsController e) c (sym (same_refusal s d d' e c) ∙ ok.0, answers_same s d d' e (events.Reserved dr) c ok.1), grind arith)
 permits_same s d d' e reply c h =
     let ok = out_of _ (IsController e) c h in
-    (into _ (IsController e) c (sym (same_refusal s d d' e c) ∙ ok.0, answers_same s d d' e reply c ok.1), left_after s d d' e reply c ok.1)
+    (into _ (IsController e) c (sym (same_refusal s d d' e c) ∙ ok.0, answers_same s d d' e reply c ok.1), grind arith)
 
 pub blind : hosts_need_no_controller
 blind s d e reply t c h =

@@ -1,15 +1,14 @@
 -- Completions are steps of the machine.
 use Rattle.controller_core.{proofs.{Lists.{change-change, some_is}, Rows.end-posted}, specs.Answering.{completion_by, page_posted, post_refusal, with_answer}}
 use Rattle.controller_core.specs.Completing.{image_of_end, queues_of_end, status_of_end, without_command, without_submission, CompletesTo, command_refusal, complete_refusal, has_success, waits_among}
-use Rattle.controller_core.specs.Contents.{FetchedCommand, FitsVerdict, FitsWork, Work, is_deletion, Contents, IsController, dw0_of_work, entry_of_work, is_command, verdict_of_work}
+use Rattle.controller_core.specs.Contents.{FetchedCommand, FitsWork, Work, is_deletion, Contents, IsController, dw0_of_work, entry_of_work, is_command, verdict_of_work}
 use Rattle.controller_core.specs.declared.{command.Work.TheVariants.{Io, Admin}, queue.ControllerQueue.ControllerQueue}
 use Rattle.std.proofs.Common.{◌≡◌, ℕ, zero, ◌<◌, Bool, true, false, not, Option, Some, None, List, map, filter, slice_get, if◌then◌else◌, refl, ap₂, sym, ◌∙◌, arith, inl, inr, ◌≢◌, ◌==◌, ◌&&◌, ◌||◌, ◌++◌, Ok, Err, IfSome, IsSome, is_none, is_some, [], ◌∷◌, length, find, ap, subst}
 use Rattle.std.{proofs.lemmas.Bool.{eqb-false, true≢false, cases_Bool, and_parts, not-false}, specs.Option.{option_map, option_map_or}}
 use Rattle.admin_commands.specs.{Entries.named_queue, Verdicts.is_absent}
 use Rattle.entry_codec.specs.{Completion.completion_bytes, declared.{admin_opcode.TheConstants.DELETE_IO_SQ, completion.ComEntry.ComEntry}}
-use Rattle.entry_codec.specs.declared.{status.Status.Status, submission.SubEntry.SubEntry}
+use Rattle.entry_codec.specs.declared.status.Status.{Status}
 use Rattle.host_core.proofs.Lists.{change-other}
-use Rattle.io_commands.specs.Jobs.{kind_of_opcode, is_success, status_after, status_by}
 use Rattle.machine_model.proofs.{Counting.{one, total}, Steps.{in_store, in_store-with_bytes}, Tokens.is_job}
 use Rattle.machine_model.specs.After.{change, deletion_done, final_status, image_completed, on_device, without_job, after_complete, answered}
 use Rattle.machine_model.specs.{Agreeing.on_queue, Memory.{is_in, memory_of}}
@@ -36,12 +35,8 @@ use Rattle.machine_model.specs.declared.words.Refusal.TheVariants as refusal
 
 -- A completion can carry each end.
 
-by_verdict : (image : List ℕ) (e : SubEntry) (bytes : List ℕ) (v : Option Status) → FitsVerdict v → (status_after image e bytes v).sct < 8
-by_verdict image e bytes v fits = grind arith
-
 pub end_fits : (blocks q done : ℕ) (image : List ℕ) (work : Work) → FitsWork blocks q done work → (status_of_end image work).sct < 8
-end_fits blocks q done image (Io job) fits = by_verdict image job.entry job.bytes job.verdict fits.2
-end_fits blocks q done image (Admin entry status dw0) fits = fits.1
+end_fits blocks q done image work fits = grind arith
 
 -- The queues
 
@@ -114,11 +109,7 @@ image_seen image k blocks fits = grind arith
 
 deletion_seen : (s : State) (image : List ℕ) (k : FetchedCommand) (blocks : ℕ) → FitsWork blocks k.q k.units_done k.work
     → deletion_done (job_of k) (status_of_end image k.work) s ≡ with_served s s.memory (devices_of_end k.work s.device.queues) s.device.jobs s.device.image
-deletion_seen s image k blocks fits = go k.q k.units_done k.waiting_abort k.work fits
-  where
-    go : (q done : ℕ) (waiting : Option ℕ) (work : Work) → FitsWork blocks q done work
-        → deletion_done (job_of (record { q = q; units_done = done; waiting_abort = waiting; work = work })) (status_of_end image work) s ≡ with_served s s.memory (devices_of_end work s.device.queues) s.device.jobs s.device.image
-    go q done waiting work fits = grind arith
+deletion_seen s image k blocks fits = grind arith
 
 pub jobs-without : (q cid : ℕ) (commands : List FetchedCommand) → map job_of (without_command q cid commands) ≡ filter (λ j. not (is_job q cid j)) (map job_of commands)
 jobs-without q cid commands = sym (filter-map job_of (λ (j : Job). not (is_job q cid j)) commands)
@@ -164,8 +155,7 @@ waits_seen s k =
 same_causes : (none waiting full out : Bool) → out ≡ false
     → (if none then Some refusal.Walking else if waiting then Some refusal.Waits else if full then Some refusal.Full else None)
     ≡ option_map why_of (if none then Some because.Walking else if waiting then Some because.Waits else if full then Some because.Full else if out then Some because.SlotOut else None)
-same_causes false false false true e = absurd (true≢false e)
-same_causes x waiting full out e = refl
+same_causes none waiting full out e = grind arith
 
 pub complete_refused_alike : completes_refuse_alike
 complete_refused_alike s q cid world t = go (find (is_command q cid) s.controller.commands) refl
@@ -250,12 +240,9 @@ module _ (s : Sides) (q cid : ℕ) (c : Contents) (pages : Pages) (touched : Lis
   found : IsFound s q cid k
   found = is_found s world q cid k w.found
 
-  -- there is room for it, and its slot is in
-  post_free : post_refusal (byte_at s.pages) x.device ≡ None
-  post_free = grind arith
-
   room : (is_full x.device.entries x.device.ring.known_head x.device.ring.tail ≡ false) × (completion_slot (byte_at s.pages) x.device.cq x.device.ring.tail ≢ None)
-  room = post_room (byte_at s.pages) x.device post_free
+  -- there is room for it, and its slot is in
+  room = post_room (byte_at s.pages) x.device (grind arith)
 
   pages_are : pages ≡ posted
   pages_are =

@@ -18,8 +18,7 @@ use Rattle.entry_codec.specs.{Completion.completion_bytes, declared.{admin_opcod
 use Rattle.entry_codec.specs.declared.{status.{Status.Status, TheConstants.Status.COMMAND_ID_CONFLICT}, submission.SubEntry.SubEntry}
 use Rattle.io_commands.specs.Jobs.{is_success, verdict_of, direction_of_entry}
 use Rattle.page_memory.specs.{Pages.{Pages, with_bytes, with_page_bytes}, declared.page.Half.TheVariants.{Submission, Completion}}
-use Rattle.queue_pair.{proofs.Rings.{in_range_below, next_below}, specs.{Members.change, Memory.half_pages}}
-use Rattle.queue_pair.specs.{Rings.{HostRing, fresh_host_ring, next_tail, next_head, knowing}, Slots.is_in_range}
+use Rattle.queue_pair.{proofs.Rings.next_below, specs.{Members.change, Memory.half_pages, Rings.{HostRing, fresh_host_ring, next_tail, next_head, knowing}}}
 use Rattle.two_sides.specs.Provided.{each_step_stays_in_rings, every_run_stays_in_rings}
 pub use Rattle.machine_model.proofs.Counting.{all_at}
 pub use Rattle.machine_model.specs.Agreeing.{is_known_deleted as is_over, QueueFits as PairOk, QueuesFit as Paired, on_queue, is_out_of_service_at as out_at}

@@ -1,6 +1,6 @@
 -- How a walk ends.
 use Rattle.std.proofs.Common.{arith, ◌≡◌, ◌<◌, ◌≤◌, ◌⊎◌, inl, inr, ◌+◌, ◌-◌, ◌*◌, ◌%◌, ◌++◌, ◌∷◌, [], ℕ, zero, suc, Bool, true, false, List, Option, Some, None, refl, sym, ap, subst, ◌∙◌, cond, is_some, length, map, min, nat_eq, nat_lt, add-zero, if◌then◌else◌, ◌≢◌, ◌^◌, ◌&&◌, not, replicate, take, append-nil, append_assoc, ◌||◌}
-use Rattle.std.proofs.lemmas.{Bool.{true≢false, cases_lt, cases_Bool, or_left, or_right, Decides.nat_tests}, List.{take_all, take-replicate, length-replicate}}
+use Rattle.std.proofs.lemmas.{Bool.{true≢false, cases_lt, cases_Bool, Decides.nat_tests}, List.{take_all, take-replicate, length-replicate}}
 use Rattle.std.proofs.lemmas.List.{Concat.flat_map-cons, FromFn.{length-map-range_with_len, take-map-range_with_len}}
 use Rattle.std.specs.{List.{AllByRecursion, range_with_len, list_all}, Option.option_and_then}
 use Rattle.entry_codec.specs.declared.status.{Status.Status, TheConstants.Status.DATA_TRANSFER_ERROR}
@@ -262,12 +262,10 @@ not_less : (a b : ℕ) → b ≤ a → nat_lt a b ≡ false
 not_less a b h = grind (arith, nat_tests)
 
 fourth_row : (named : Named) (left : ℕ) → (left ≡ 1 → named_on named ≡ false) → (named_on named && nat_eq left 1) ≡ false
-fourth_row BySegment left h = grind (arith, nat_tests)
-fourth_row x left h = refl
+fourth_row named left h = grind arith
 
 part_fits : (m : Memory) (part : Part) → IsThere m part → passes_end (descriptor_of_part part) ≡ false
-part_fits m (Data addr len) there = not_less (2 ^ 64) (addr + len) there.0
-part_fits m (Bucket len) there = not_less (2 ^ 64) (0 + len) (omega (arith, there))
+part_fits m part there = grind arith
 
 no_link : (part : Part) → is_link (descriptor_of_part part) ≡ false
 no_link part = grind arith

@@ -4,7 +4,7 @@ use Rattle.machine_model.specs.Events as events
 use Rattle.machine_model.specs.declared.words.Refusal.TheVariants as refusal
 use Rattle.controller_core.specs.declared.refusal.Refusal as controller
 use Rattle.machine_model.specs.After as after
-use Rattle.std.proofs.Common.{◌≡◌, ◌≢◌, ◌⊎◌, inl, inr, ℕ, zero, suc, ◌+◌, ◌*◌, ◌/◌, ◌==◌, ◌&&◌, nat_lt, not, Bool, true, false, Option, Some, None, is_none, is_some, List, [], ◌∷◌, slice_get, if◌then◌else◌, refl, ap, sym, ◌∙◌, arith, subst, lt-ltb, eqb-true, ◌-◌, ◌<◌, Ok, Err, ◌++◌, length, map, drop}
+use Rattle.std.proofs.Common.{◌≡◌, ◌≢◌, ◌⊎◌, inl, inr, ℕ, zero, suc, ◌+◌, ◌*◌, ◌/◌, ◌==◌, ◌&&◌, nat_lt, not, Bool, true, false, Option, Some, None, is_none, is_some, List, [], ◌∷◌, slice_get, if◌then◌else◌, refl, ap, sym, ◌∙◌, arith, subst, eqb-true, ◌-◌, ◌<◌, Ok, Err, ◌++◌, length, map, drop}
 use Rattle.std.{proofs.lemmas.Bool.{true≢false, eqb-false, OnTrue_at, cases_Bool}, specs.Option.{option_map, option_map_or}}
 use Rattle.machine_model.{proofs.{Cases.option_is, Steps.in_store-with_bytes}, specs.{After.after_fetch, Memory.{is_in, memory_of}}}
 use Rattle.machine_model.specs.Refusals.{answers_full, conflicts, fetch_page, job_at, next_rung, post_page, refusal_of}
@@ -15,8 +15,8 @@ use Rattle.controller_core.specs.Contents.{Contents, FetchedCommand, IsControlle
 use Rattle.controller_core.specs.Fetching.{LooksAt, fetch_refusal, is_known, live_side, look_refusal, AnswersKnown, IsBegun, RefusedBy, RefusedEntry, Takes, TakesIn, begun, entry_refusal, side_refusal}
 use Rattle.controller_core.specs.Managing.{admin_work, command_of, commands_after, managed, verdict_for, view_for, with_taken}
 use Rattle.controller_core.specs.declared.{command.Work.TheVariants.Io, queue.ControllerQueue.ControllerQueue}
-use Rattle.entry_codec.specs.{Completion.completion_bytes, declared.{completion.ComEntry.ComEntry, status.Status.Status}}
-use Rattle.entry_codec.specs.declared.{status.TheConstants.Status.COMMAND_ID_CONFLICT, submission.SubEntry.SubEntry}
+use Rattle.entry_codec.specs.{Completion.completion_bytes, declared.{completion.ComEntry.ComEntry, status.TheConstants.Status.COMMAND_ID_CONFLICT}}
+use Rattle.entry_codec.specs.declared.submission.SubEntry.{SubEntry}
 use Rattle.two_sides.proofs.{AdminKept.{admin_verdict, places_left}, Agreed.stood_of}
 use Rattle.two_sides.proofs.Answering.{byte_in_page, answer_shares, post_room, slot_is_in, slot_written}
 use Rattle.two_sides.proofs.{Assembling.{ServesOver, serve_refused, served_stepped}, Frames.{host_at, known}, Heads.no_conflict}
@@ -30,9 +30,8 @@ use Rattle.two_sides.specs.Ties.{IsWorld, AllQueuesStand, ShareQueues, SharesAdm
 use Rattle.page_memory.specs.{Memory.Memory, Pages.{byte_at, Pages}}
 use Rattle.queue_pair.{proofs.Rings.{distance_none, distance_same}, specs.{Memory.{entry_at, submission_page, completion_slot}, Rings.DeviceSide}}
 use Rattle.queue_pair.specs.Slots.{distance, is_full}
-use Rattle.block_image.specs.Blocks.{block_count}
-use Rattle.controller_walk.specs.{Units.course_of_list, declared.walk.Walk.Walk}
-use Rattle.io_commands.specs.Jobs.{JobContents, BeginsWalk, course_of_walk, direction_of_entry, io_fault, job_course, need_of_entry}
+use Rattle.controller_walk.specs.Units.{course_of_list}
+use Rattle.io_commands.specs.Jobs.{JobContents, direction_of_entry, need_of_entry}
 
 -- What the controller finds at the head of a queue is what the machine has there, where nothing was forged; so both refuse a fetch alike.
 
@@ -83,14 +82,13 @@ pub record IsSeen (s : Sides) (q : ℕ) (c : ControllerQueue) (e : SubEntry) : T
 
 next_seen : (s : Sides) (q : ℕ) (h : HostQueue) (c : ControllerQueue) (e : SubEntry) → Shows (state_of s) s q h c → CanTake s q h c → entry_at (byte_at s.pages) c.device.sq c.device.ring.head ≡ Some e → next_rung (state_of s) q ≡ Some e
 next_seen s q h c e shown can at =
+    let by : (l b : Bool) (k : ℕ) (us vs : List SubEntry) → l ≡ true → b ≡ false → k ≢ 0 → us ≡ e ∷ vs → (if l && nat_lt 0 (if b then 0 else k) then slice_get (if b then [] else us) 0 else None) ≡ Some e = λ l b k us vs el eb far eu.
+    grind arith in
     let ring = c.device.ring in
     let side = can.known.placed.share.side in
     let far : distance c.device.entries ring.head ring.bell ≢ 0 = λ none. can.rung (distance_none c.device.entries ring.head ring.bell side.head side.bell none) in
     rw shown.device refl
     ∙ by (is_live c.state) (is_absent c.state) (distance c.device.entries ring.head ring.bell) (unfetched_between (byte_at s.pages) h.ring c.device) _ can.live (not_absent c.state can.live) far (entries_first s q h c e can at)
-  where
-    by : (l b : Bool) (k : ℕ) (us vs : List SubEntry) → l ≡ true → b ≡ false → k ≢ 0 → us ≡ e ∷ vs → (if l && nat_lt 0 (if b then 0 else k) then slice_get (if b then [] else us) 0 else None) ≡ Some e
-    by l b k us vs el eb far eu = grind arith
 
 pub seen : (s : Sides) (q : ℕ) (c : ControllerQueue) (e : SubEntry) → IsWorld s → s.trusted ≡ true → IsLooked s q c e → IsSeen s q c e
 seen s q c e world t l =
@@ -293,13 +291,10 @@ taken_stand s q c e l is all =
 
 -- An entry of an I/O queue
 
-begun_stands : (m : Memory) (e : SubEntry) (job : JobContents) (fault : Option Status) → fault ≡ None → BeginsWalk e fault job.walk → job_course m job ≡ course_of_list m e.sgl1 (direction_of_entry e) (need_of_entry e)
-begun_stands m e job fault none begins = grind arith
-
 begins_walk : (m : Memory) (q : ℕ) (image : List ℕ) (e : SubEntry) (job : JobContents) (commands : List FetchedCommand) → IsBegun image e job → WalksStand m commands → WalksStand m (commands ++ command_of q (Io job) ∷ [])
 begins_walk m q image e job commands b walks =
     all-append (λ (k : FetchedCommand). WalkStands m k.units_done k.work) commands (command_of q (Io job)) walks
-    (λ none. begun_stands m e job (io_fault (block_count image) e) (sym b.verdict ∙ none) b.walk
+    (λ none. grind arith
     ∙ ap (λ (x : SubEntry). course_of_list m x.sgl1 (direction_of_entry x) (need_of_entry x)) (sym b.entry))
 
 begun_is : (s : Sides) (q : ℕ) (e : SubEntry) (job : JobContents) → IsBegun s.controller.image e job → state_of (served s (begun q job s.controller) s.pages) ≡ after.begun q e (state_of (taken q s))

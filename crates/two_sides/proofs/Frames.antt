@@ -1,7 +1,7 @@
 -- What a call of one side leaves of the other.
 use Rattle.std.proofs.Common.{◌≡◌, ◌≢◌, ℕ, zero, suc, ◌+◌, ◌<◌, ◌≤◌, nat_lt, Bool, true, false, Some, List, [], ◌∷◌, length, slice_get, refl, ap, sym, ◌∙◌, arith, subst, ltb-true, ◌||◌, if◌then◌else◌, ◌==◌, Option, None, map, is_some, ap₂}
-use Rattle.std.{proofs.lemmas.{Bool.OnTrue_at, Option.slice_get-map}, specs.{List.AllByRecursion, Option.option_map, Prelude.slice_index}}
-use Rattle.host_core.{proofs.{PageOwners.among-from, QueueLists.index-from}, specs.Alone.alone}
+use Rattle.std.{proofs.lemmas.{Bool.OnTrue_at, Option.slice_get-map}, specs.{List.AllByRecursion, Option.option_map}}
+use Rattle.host_core.{proofs.PageOwners.among-from, specs.Alone.alone}
 use Rattle.machine_model.proofs.Counting.{one, held_once, total, not_held}
 use Rattle.machine_model.proofs.Owned.{in_queue, in_record, owned, owned_is, none_here, in_is, taken, taken_le, taken_from_out}
 use Rattle.machine_model.{proofs.Steps.{length-in_store, Accepts}, specs.{After.{course_of, after}, Agreeing.{QueueFits, QueuesFit}, Always.HasHalves}}
@@ -194,13 +194,9 @@ half_in s world q h e pages part first many same =
 pub first_of_half : (n first : ℕ) (h : HostQueue) → 0 < n → h.cq_pages ≡ pages_from first (half_pages n Completion) → first_completion_page h ≡ first
 first_of_half n first h some same = grind arith
 
--- a completion half that lies together lies from the first of its pages
-lies_from_first : (n first : ℕ) (h : HostQueue) → 0 < n → has_cq h.state ≡ true → h.cq_pages ≡ pages_from first (if has_cq h.state then half_pages n Completion else 0)
-    → h.cq_pages ≡ pages_from (first_completion_page h) (half_pages n Completion)
-lies_from_first n first h some there lies = grind arith
-
 pub half_lies : (n : ℕ) (h : HostQueue) → 0 < n → HasHalves n h → has_cq h.state ≡ true → h.cq_pages ≡ pages_from (first_completion_page h) (half_pages n Completion)
-half_lies n h some halves there = lies_from_first n halves.completion.0 h some there halves.completion.1
+-- a completion half that lies together lies from the first of its pages
+half_lies n h some halves there = grind arith
 
 pub tied_of : (s : Sides) → IsWorld s → s.trusted ≡ true → AreTied s
 tied_of s world t = OnTrue_at t world.tied
@@ -276,9 +272,6 @@ still_stands s pages world t stay =
 
 -- What a change of one queue, or of the memory outside the halves, leaves of the machine's queues and of the rings and halves.
 
-no_more : (n : ℕ) → n + 0 ≡ n
-no_more n = omega arith
-
 one_more : (n i : ℕ) → n + suc i ≡ suc n + i
 one_more n i = omega arith
 
@@ -305,7 +298,7 @@ same_stand : (n : ℕ) (m m' : Memory) (k : ℕ) (hs : List HostQueue) (cs : Lis
     → ((i : ℕ) (h : HostQueue) (c : ControllerQueue) → slice_get hs i ≡ Some h → slice_get cs i ≡ Some c → QueueStands n m (k + i) h c → QueueStands n m' (k + i) h c)
     → AllQueuesStand n m k hs cs → AllQueuesStand n m' k hs cs
 same_stand n m m' k (h ∷ hs) (c ∷ cs) each all = (
-  subst (λ (j : ℕ). QueueStands n m j h c → QueueStands n m' j h c) (no_more k) (each 0 h c refl refl) all.0,
+  subst (λ (j : ℕ). QueueStands n m j h c → QueueStands n m' j h c) (omega arith) (each 0 h c refl refl) all.0,
   same_stand n m m' (suc k) hs cs (λ i x y e f. subst (λ (j : ℕ). QueueStands n m j x y → QueueStands n m' j x y) (one_more k i) (each (suc i) x y e f)) all.1,
 )
 same_stand n m m' k x cs each all = tt
@@ -315,11 +308,11 @@ one_stands_from : (n : ℕ) (m m' : Memory) (k q : ℕ) (f : HostQueue → HostQ
     → ((i : ℕ) (h : HostQueue) (c : ControllerQueue) → i ≢ q → slice_get hs i ≡ Some h → slice_get cs i ≡ Some c → QueueStands n m (k + i) h c → QueueStands n m' (k + i) h c)
     → AllQueuesStand n m k hs cs → AllQueuesStand n m' k (change q f hs) (change q g cs)
 one_stands_from n m m' k zero f g (h ∷ hs) (c ∷ cs) here there all = (
-  subst (λ (j : ℕ). QueueStands n m j h c → QueueStands n m' j (f h) (g c)) (no_more k) (here h c refl refl) all.0,
+  subst (λ (j : ℕ). QueueStands n m j h c → QueueStands n m' j (f h) (g c)) (omega arith) (here h c refl refl) all.0,
   same_stand n m m' (suc k) hs cs (λ i x y e d. subst (λ (j : ℕ). QueueStands n m j x y → QueueStands n m' j x y) (one_more k i) (there (suc i) x y (λ z. cc) e d)) all.1,
 )
 one_stands_from n m m' k (suc q) f g (h ∷ hs) (c ∷ cs) here there all = (
-  subst (λ (j : ℕ). QueueStands n m j h c → QueueStands n m' j h c) (no_more k) (there 0 h c (λ z. cc) refl refl) all.0,
+  subst (λ (j : ℕ). QueueStands n m j h c → QueueStands n m' j h c) (omega arith) (there 0 h c (λ z. cc) refl refl) all.0,
   one_stands_from n m m' (suc k) q f g hs cs (λ x y e d. subst (λ (j : ℕ). QueueStands n m j x y → QueueStands n m' j (f x) (g y)) (one_more k q) (here x y e d))
       (λ i x y other e d. subst (λ (j : ℕ). QueueStands n m j x y → QueueStands n m' j x y) (one_more k i) (there (suc i) x y (λ z. other (omega (arith, z))) e d)) all.1,
 )

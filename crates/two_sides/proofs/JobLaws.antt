@@ -20,9 +20,9 @@ use Rattle.machine_model.specs.{Proper.{IsProper, IsPage, ArePages, IsProperDraf
 use Rattle.machine_model.specs.Refusals.{is_submitted, job_at, is_job, host_queue, slot_page, slot_offset, post_slot, fetch_slot}
 use Rattle.machine_model.specs.Standing.{HasEntry, StandsAs, CommandStands, HasUnitLeft, JobStands}
 use Rattle.machine_model.specs.State.{State, Job, DeviceQueue, Record, record_at, pages_of, is_at, HostQueue, with_record}
-use Rattle.machine_model.specs.Step.{Step, IsController, unit_answered, Permits, Refuses, HostPart, LeavesByController, LeavesByHost, forges}
+use Rattle.machine_model.specs.Step.{Step, IsController, unit_answered, HostPart, LeavesByController, LeavesByHost, forges}
 use Rattle.machine_model.specs.{Touch.{allowed, pages_of_command, pages_at_queues, stays_allowed, stays_own}, Trusted.TrustedRun, Work.Work}
-use Rattle.machine_model.specs.declared.words.{Refusal.Refusal, Work.TheVariants.{Io, Management}}
+use Rattle.machine_model.specs.declared.words.Work.TheVariants.{Io, Management}
 use Rattle.page_ledger.specs.Owners.{is_among}
 use Rattle.sgl_chain.proofs.{Back.spells_there, Spelled.length-spelling}
 use Rattle.entry_codec.specs.{Completion.completion_bytes, Submission.{submission_bytes, command_words}, declared.completion.ComEntry.ComEntry}
@@ -291,10 +291,7 @@ walk_stays s q cid outcome pages ok stood =
 
 -- each step from a state that stands so stays in what is allowed
 pub stood_stays : (old new : State) (e : Event) (reply : Reply) → Stood old → old.trusted ≡ true → Step old e reply new → (stays_allowed old reply && stays_own old e reply) ≡ true
-stood_stays old new (events.Walk q cid) (events.Refused why touched) stood trusted step = refused_walk why step.1
-  where
-    refused_walk : (why : Refusal) → Permits old (events.Walk q cid) (events.Refused why touched) → (list_all (is_among (allowed old)) touched && list_all (is_among (pages_of_command old q cid)) touched) ≡ true
-    refused_walk why permits = grind arith
+stood_stays old new (events.Walk q cid) (events.Refused why touched) stood trusted step = grind arith
 stood_stays old new (events.Walk q cid) (events.Walked outcome pages) stood trusted step = walk_stays old q cid outcome pages (permitted _ old.trusted false trusted step.1) stood
 stood_stays old new (events.Walk q cid) (events.Fetched c touched) stood trusted step = absurd (permitted _ old.trusted false trusted step.1).1
 stood_stays old new (events.Walk q cid) (events.Completed touched) stood trusted step = absurd (permitted _ old.trusted false trusted step.1).1

@@ -14,9 +14,8 @@ use Rattle.machine_model.specs.{State.{HostQueue, Record, is_at}, Step.times, Wo
 use Rattle.page_ledger.specs.Owners.{pages_from, is_among}
 use Rattle.page_memory.specs.{Memory.Memory, Pages.Pages, declared.page.Half.TheVariants.{Submission, Completion}}
 use Rattle.queue_pair.specs.{Lists.{PhasesStand, expected_phase}, Memory.half_pages, Rings.{HostRing, fresh_host_ring, fresh_device_ring, DeviceRing}}
-use Rattle.queue_pair.specs.Slots.{distance}
 use Rattle.two_sides.proofs.{Frames.{first_of_half, there_ring, IsKnown, queue_page_in}, Posted.not_absent, Provided.{all_at_found, in_found}}
-use Rattle.two_sides.specs.{Sides.{device_queue_of, unfetched_between, Sides}, Ties.{QueueStands, RingsStand, ShareQueue, first_completion_page, IsWorld}}
+use Rattle.two_sides.specs.{Sides.{device_queue_of, Sides}, Ties.{QueueStands, RingsStand, ShareQueue, first_completion_page, IsWorld}}
 use Rattle.host_core.proofs.PageOwners.{among-from}
 
 -- What the fetch of an admin entry makes of a queue on both sides: a queue stops, its completion queue is deleted, or one of its two rings is made.

@@ -1,6 +1,6 @@
 -- Admin commands are carried out.
 use Rattle.machine_model.specs.After as after
-use Rattle.std.proofs.Common.{◌≡◌, ℕ, zero, suc, ◌+◌, ◌-◌, ◌<◌, ◌==◌, ◌&&◌, nat_lt, nat_le, Bool, true, false, Option, Some, None, is_none, List, [], ◌∷◌, ◌++◌, length, find, map, slice_get, if◌then◌else◌, refl, ap, ap₂, sym, ◌∙◌, arith, subst, ltb-true, leb-true, inl, inr, ◌≤◌}
+use Rattle.std.proofs.Common.{◌≡◌, ℕ, zero, suc, ◌+◌, ◌-◌, ◌<◌, ◌==◌, ◌&&◌, nat_lt, nat_le, Bool, true, false, Option, Some, is_none, List, [], ◌∷◌, ◌++◌, length, find, map, slice_get, if◌then◌else◌, refl, ap, ap₂, sym, ◌∙◌, arith, subst, ltb-true, leb-true, inl, inr, ◌≤◌}
 use Rattle.std.{proofs.lemmas.Bool.{true≢false, and_parts, cond_both}, specs.{List.{AllByRecursion, count_by}, Option.option_map_or}}
 use Rattle.machine_model.{proofs.Cases.option_is, specs.{After.change, Agreeing.EntryKnown, Refusals.{is_making_cq, next_rung}}}
 use Rattle.machine_model.specs.{State.{State, HostQueue, DeviceQueue, Job}, Weights.total}
@@ -63,14 +63,6 @@ marked abort j = record j { verdict = Some ABORT_REQUESTED; waiting_abort = Some
 aborted_seen : (q cid abort : ℕ) (k : FetchedCommand) → (is_command q cid k ≡ true → is_none (verdict_of_work k.work) ≡ true) → job_of (aborted q cid abort k) ≡ (if is_command q cid k then marked abort (job_of k) else job_of k)
 aborted_seen q cid abort k walks = grind arith
 
-stopped_seen : (q : ℕ) (k : FetchedCommand) → job_of (stopped_with_queue q k) ≡ after.stopped q (job_of k)
-stopped_seen q k = go (k.q == q) k.work
-  where
-    go : (b : Bool) (work : Work)
-        → job_of (if b then record k { work = stopped_work ABORTED_SQ_DELETION work } else record k { work = work })
-        ≡ (if b && is_none (verdict_of_work work) then record (job_of (record k { work = work })) { verdict = Some ABORTED_SQ_DELETION } else job_of (record k { work = work }))
-    go b work = grind arith
-
 -- where at most one command is named, what holds of the one that is found holds of each that is
 counted : {A : Type 0} (p : A → Bool) (xs : List A) → total (λ x. one (p x)) xs ≡ count_by p xs
 counted p [] = refl
@@ -130,7 +122,7 @@ stops t e q live =
     let m = byte_at t.pages in
     let queues = devices_changed m m q stopping (λ (at : DeviceQueue). record at { state = Stopping }) t.host.host.queues t.controller.queues
     (λ h c i j. stopping_seen m h c (live h c i j)) (λ k h c far i j. refl) in
-    let jobs = jobs_by commands (stopped_with_queue q) (after.stopped q) (all_of _ commands (λ k among. stopped_seen q k)) in
+    let jobs = jobs_by commands (stopped_with_queue q) (after.stopped q) (all_of _ commands (λ k among. grind arith)) in
     ap₂ (with_device (state_of t)) queues
     (map-append job_of (map (stopped_with_queue q) commands) (command_of zero (Admin e SUCCESS zero)) ∙ ap (λ js. js ++ job_of (command_of zero (Admin e SUCCESS zero)) ∷ []) jobs)
 

@@ -20,7 +20,7 @@ use Rattle.machine_model.proofs.Steps.{part-walk, in_store, length-in_store, Acc
 use Rattle.machine_model.{proofs.Tokens.find_sound, specs.{After.course_of, Agreeing.{job_weight, is_out_of_service_at as past_at, answers_at, sent_count}}}
 use Rattle.machine_model.specs.{Events.{Event, Reply}, Image.Made, Linked.{absent, IsLinked}, Memory.{memory_of, is_in}}
 use Rattle.machine_model.specs.{Opening.{Opens, opening, device_queue as opened}, Proper.IsProper}
-use Rattle.machine_model.specs.Refusals.{is_submitted, refusal_of, is_job, causes, is_live, is_drafted, is_of, has_cq, in_service, is_io_queue, record_is, in_state, queue_full, no_identifier, no_io_queue, host_queue, device_queue, next_rung, job_at, conflicts, answers_full, fetch_page, post_page}
+use Rattle.machine_model.specs.Refusals.{is_submitted, refusal_of, is_job, causes, is_live, is_drafted, is_of, has_cq, is_io_queue, record_is, in_state, queue_full, no_identifier, host_queue, device_queue, next_rung, job_at, conflicts, answers_full, fetch_page, post_page}
 use Rattle.machine_model.specs.{Standing.{HasUnitLeft, unfetched_at}, State.{State, Record, Job, Answer, HostQueue, DeviceQueue, is_at, outstanding_on}}
 use Rattle.machine_model.specs.{Step.{HostPart, IsController, Permits, Refuses}, Touch.pages_of_queue, Weights.{one, total, here, sent}}
 use Rattle.machine_model.specs.declared.words.Refusal.{Refusal}
@@ -134,11 +134,9 @@ more_left (Does x rest) (suc k) e h = omega (arith, more_left rest k e h)
 -- one job at most has an identifier
 pub one_job : (s : State) → Stood s → (q cid : ℕ) → total (λ j. one (is_job q cid j)) s.device.jobs < 2
 one_job s stood q cid =
+    let same : (js : List Job) → total (λ j. one (is_job q cid j)) js ≤ total (job_weight q (λ c. one (c == cid))) js = λ js. grind arith in
     omega (arith, same s.device.jobs, stood.places q (λ c. one (c == cid)), few s.host.records, stood.grounds.stands.0.once q cid)
   where
-    same : (js : List Job) → total (λ j. one (is_job q cid j)) js ≤ total (job_weight q (λ c. one (c == cid))) js
-    same js = grind arith
-
     few : (rs : List Record) → total (sent q (λ c. one (c == cid))) rs ≤ total (here q cid) rs
     few [] = omega arith
     few (r ∷ rs) = omega (arith, few rs, each (r.q == q) (is_submitted r.phase) (r.cid == cid))
@@ -286,10 +284,6 @@ zero_room s r q there room =
     not_full s r 0 (λ queue e. sym (ap (λ (o : Option HostQueue). option_map_or (λ h. is_live h.state) o true) e) ∙ r.stood.grounds.zero_live) (zero_there s.host.queues q there)
     (omega (arith, sent_outstanding 0 s.host.records, length_outstanding 0 s.host.records, below (s.entries - 1) (length (outstanding_on s.host 0)) room))
 
-no_io_there : (s : State) (q : ℕ) → no_io_queue s q ≡ false → is_none (host_queue s q) ≡ false
-no_io_there s q h =
-    queue_known in_service s q (or_parts (q == 0) (not (in_state in_service s q)) h).1
-
 named_there : (s : State) (q : ℕ) → not (is_io_queue s q) ≡ false → is_none (host_queue s q) ≡ false
 named_there s q h = let h1 = (and_parts (not (q == 0)) (is_some (host_queue s q)) (not-false _ h)).1 in grind arith
 
@@ -365,8 +359,8 @@ no_cause s r (events.Reap q) = ((λ t. refl), λ f. tt)
 no_cause s r (events.Collect q cid) = ((λ t. refl), λ f. ((λ t. refl), λ f. tt))
 no_cause s r (events.Release f) = ((λ t. refl), λ f. tt)
 no_cause s r (events.Abort q cid) =
-    ((λ t. refl), λ there. ((λ t. refl), λ f. ((λ t. refl), λ f. ((λ t. refl), λ room. ((λ t. absurd (true≢false (sym t ∙ zero_room s r q (no_io_there s q there) room))), λ f. tt)))))
-no_cause s r (events.DeleteSq q) = ((λ t. refl), λ there. ((λ t. refl), λ f. ((λ t. refl), λ room. ((λ t. absurd (true≢false (sym t ∙ zero_room s r q (no_io_there s q there) room))), λ f. tt))))
+    ((λ t. refl), λ there. ((λ t. refl), λ f. ((λ t. refl), λ f. ((λ t. refl), λ room. ((λ t. absurd (true≢false (sym t ∙ zero_room s r q (grind arith) room))), λ f. tt)))))
+no_cause s r (events.DeleteSq q) = ((λ t. refl), λ there. ((λ t. refl), λ f. ((λ t. refl), λ room. ((λ t. absurd (true≢false (sym t ∙ zero_room s r q (grind arith) room))), λ f. tt))))
 no_cause s r (events.DeleteCq q) = (
   (λ t. refl),
   λ there. (

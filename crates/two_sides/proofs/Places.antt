@@ -9,7 +9,7 @@ use Rattle.controller_core.specs.declared.{command.Work.TheVariants.Io, queue.Co
 use Rattle.host_core.{proofs.{Lists.change-same, QueueLists.index-from}, specs.Alone.alone}
 use Rattle.machine_model.proofs.{Cases.option_is, Counting.one as one_counting, Kept.service_is_reaped as served_reaped}
 use Rattle.machine_model.proofs.{Moves.{seen_trusted, IsHeard, answer_heard}, Tokens.{find_sound, is_job, kind_known}}
-use Rattle.machine_model.specs.Agreeing.{SidesAgree, answered_well, answering, creates_sq, has_completions_at, is_absent_at, is_kind, is_known_deleted, unmade, waiting}
+use Rattle.machine_model.specs.Agreeing.{SidesAgree, answered_well, answering, has_completions_at, is_absent_at, is_kind, is_known_deleted, unmade, waiting}
 use Rattle.machine_model.specs.Positions.{IsInRing}
 use Rattle.machine_model.specs.Refusals.{answers_full, device_queue, fetch_page, fetch_slot, host_queue, post_page, post_slot, slot_page, entry_of, first_answer, in_service, is_reaped, seen_entry, slot_bytes, slot_entry, job_at, is_gone, is_live, is_making_cq}
 use Rattle.machine_model.specs.{State.{State, HostQueue, DeviceQueue, Job, Answer, Record}, declared.words.HostState.HostState}
@@ -437,8 +437,7 @@ pub unmade_absent : (s : State) (k n base : ℕ) (ok : Bool) → SidesAgree s �
 unmade_absent s k n base ok agree l bad says = grind arith
 
 pub made_there : (s : State) (k n base : ℕ) (ok : Bool) → SidesAgree s → k < length s.host.queues → ok ≡ true → Carries s (CreateSq k n base) ok → is_absent_at s.device.queues k ≡ false
-made_there s k n base ok agree l good says =
-    agree.tokens.there k l (omega (arith, says.answered (creates_sq k), ap one_counting (named_so k ok (omega (arith, l, agree.few_queues)) good)))
+made_there s k n base ok agree l good says = grind arith
 
 -- What a call of the controller makes of the machine's queues, and of the rings and halves, where it changes one of its queues.
 

@@ -78,15 +78,13 @@ lessens_cleared hs qs js k = lessens_less hs qs js k (λ at. record at { state =
 
 -- its oldest answer goes
 dropped : {B : Type 0} (w : B → ℕ) (xs : List B) → total w (drop 1 xs) ≤ total w xs
-dropped w [] = omega arith
-dropped w (x ∷ xs) = omega arith
+dropped w e = grind arith
 
 dropped_head : {B : Type 0} (w : B → ℕ) (first : List B → Option B) (xs : List B) (x : B) → (xs ≡ x ∷ drop 1 xs) → total w (drop 1 xs) + w x ≡ total w xs
 dropped_head w first xs x e = sym (ap (total w) e ∙ (omega arith))
 
 head_of : (xs : List Answer) (an : Answer) → first_answer xs ≡ Some an → xs ≡ an ∷ drop 1 xs
-head_of [] an h = absurd cc
-head_of (x ∷ xs) an h = let same : x ≡ an = cc in ap (λ y. y ∷ xs) same
+head_of xs an h = grind arith
 
 pub lessens_jobs : (hs : List HostQueue) (qs : List DeviceQueue) (js : List Job) (f : Job → Job) → ((j : Job) → (f j).q ≡ j.q) → ((j : Job) → (f j).entry ≡ j.entry) → Lessens hs qs js qs (map f js)
 -- jobs that keep their queue and entry
@@ -125,8 +123,7 @@ in_hand s q e h = elim (option_is (device_queue s q)) [
     at queue b false o r h = absurd cc
 
 pub first_is : (xs : List SubEntry) (e : SubEntry) → slice_get xs 0 ≡ Some e → xs ≡ e ∷ drop 1 xs
-first_is [] e h = absurd cc
-first_is (x ∷ xs) e h = let same : x ≡ e = cc in ap (λ y. y ∷ xs) same
+first_is xs e h = grind arith
 
 taken_off_load : (hs : List HostQueue) (s : State) (q : ℕ) (e : SubEntry) → InHand s q e → past_at hs q ≡ false → (k : ℕ) (w : ℕ → ℕ)
     → load k w hs (change q (λ at. record at { unfetched = drop 1 at.unfetched; rung = at.rung - 1 }) s.device.queues) s.device.jobs + (if q == k then w e.cid else 0) ≤ load k w hs s.device.queues s.device.jobs

@@ -9,11 +9,10 @@ use native.Mathlib.Omega.{arith}
 use Rattle.page_memory.{proofs.Bytes.{bytes_within, bytes_missing, byte_at-with_page_bytes}, specs.Memory.{page_of, bytes_at, written}}
 use Rattle.page_memory.specs.Pages.{page_at, byte_at, Pages, with_page_bytes}
 use Rattle.controller_walk.{proofs.Same.list_same, specs.{Laws.ReadsWithin, Units.{Stays, Reads, Moves, Course, Closes, Does, course_of_list}}}
-use Rattle.machine_model.{proofs.{HostLeaves.host_leaves, Steps.{Accepts, kept_anyway, surely, part_left, permitted}}, specs.Events.{Event, Reply}}
-use Rattle.machine_model.specs.{Image.Made, Memory.memory_of, Refusals.slot_offset, State.State, Step.{IsController, resets, Step, HostPart}}
+use Rattle.machine_model.{proofs.{HostLeaves.host_leaves, Steps.{Accepts, kept_anyway, part_left}}, specs.{Events.{Event, Reply}, Image.Made, Memory.memory_of}}
+use Rattle.machine_model.specs.{Refusals.slot_offset, State.State, Step.{IsController, resets, Step, HostPart}}
 use Rattle.machine_model.specs.Trusted.{Steps, forges_by, is_forgery, is_reset}
-use Rattle.two_sides.{proofs.Standing.forged_untrusted, specs.Histories.{trusted_ends_are_unforged, since_reset, resets_restore_trust}}
-use Rattle.two_sides.specs.Lists.{walks_read_the_pool, walks_go_as_in_the_pool}
+use Rattle.two_sides.specs.{Histories.{trusted_ends_are_unforged, since_reset, resets_restore_trust}, Lists.{walks_read_the_pool, walks_go_as_in_the_pool}}
 use Rattle.two_sides.specs.Slots.{entries_lie_in_pages, answers_lie_in_pages, entries_stand_in_memory, answers_stand_in_memory, entries_are_written, answers_are_written}
 use Rattle.page_ledger.specs.Owners.{pages_from}
 use Rattle.queue_pair.specs.Memory.{submission_page, completion_page}

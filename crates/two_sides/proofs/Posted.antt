@@ -21,7 +21,7 @@ use Rattle.page_ledger.specs.Owners.{is_among}
 use Rattle.page_memory.specs.{Memory.written, Pages.{AreWhole, Pages, byte_at, page_at, with_page_bytes}}
 use Rattle.page_memory.specs.declared.page.Half.TheVariants.{Submission, Completion}
 use Rattle.queue_pair.proofs.Halves.{answers_agree, phases_agree, submission_there, pages_agree}
-use Rattle.queue_pair.proofs.Rings.{entries_posted, room, entries_pop, distance_grows, in_range_below, in_range_near, room_ahead, next_below, distance_below, distance_none, distance_same, distance_shrinks, distance_parts}
+use Rattle.queue_pair.proofs.Rings.{entries_posted, room, entries_pop, distance_grows, in_range_below, in_range_near, room_ahead, next_below, distance_none, distance_shrinks, distance_parts}
 use Rattle.queue_pair.specs.{Halves.Agree, Lists.entries_between, Members.change}
 use Rattle.queue_pair.specs.{Memory.{half_pages, submission_page, submission_place, entry_at, submission_slot}, Rings.next_tail}
 use Rattle.queue_pair.specs.Slots.{distance, is_full, is_in_range, next_slot}

@@ -19,7 +19,7 @@ use Rattle.entry_codec.specs.declared.submission.SubEntry.{SubEntry}
 use Rattle.host_core.{proofs.{Ending.joined-pages, Lists.all-from, PageOwners.{pool-with, among-from}}, specs.Alone.{HostView, HostStep, alone, nothing}}
 use Rattle.io_commands.specs.Drafts.{DraftContents}
 use Rattle.two_sides.proofs.Assembling.{Ties, answer_as_machine}
-use Rattle.two_sides.proofs.Frames.{Spares, SparesSubmitted, apart_from_commands, apart_from_queues, host_lists, host_stands, state_stands, free_apart_from_queues, controller_at, placed, reaped_ring, first_of_half, known, there_ring}
+use Rattle.two_sides.proofs.Frames.{Spares, SparesSubmitted, apart_from_commands, apart_from_queues, host_lists, host_stands, state_stands, free_apart_from_queues, controller_at, reaped_ring, first_of_half, known, there_ring}
 use Rattle.two_sides.proofs.Granting.{granted_pool, granted_spares, granted_submitted, granted_whole, free, granted_zero, zeros_granted}
 use Rattle.two_sides.proofs.Places.{known_live, known_absent, known_gone}
 use Rattle.two_sides.proofs.Posted.{CanPost, post_queues, post_stands, post_walks, slot_written, tail_moved, with_entry, elsewhere, IsTyped, admin_typed, draft_typed}
@@ -64,8 +64,7 @@ room_found s q free = elim (option_is (host_queue s q)) [
 -- of any state
 after_posts : (q : ℕ) (entry : SubEntry) (h : HostQueue) (x : State) → host_queue x q ≡ Some h
     → a.posted q entry x ≡ a.on_ring q (next_tail x.entries) (a.on_device_queue q (with_entry entry) (a.on_memory (slot_written h entry) x))
-after_posts q entry h x at =
-    ap (λ (o : Option HostQueue). a.on_ring q (next_tail x.entries) (a.on_device_queue q (with_entry entry) (option_map_or (λ queue. a.on_memory (slot_written queue entry) x) o x))) at
+after_posts q entry h x at = grind arith
 
 -- A call leaves these queues of the host, and the entry posted over a memory.
 record Posts (s : Sides) (e : Event) (reply : Reply) (q : ℕ) (h : HostQueue) (entry : SubEntry) (mid : Pages) (hs : List HostQueue) : Type 0 where

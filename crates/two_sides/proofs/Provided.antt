@@ -214,11 +214,9 @@ none_after of test rs k f hs x r h at quiet within is = omega (arith, within (aw
 -- The half that is granted
 
 lies_at : (n : ℕ) (half : Half) (first : ℕ) → LieAt n half (a.base_of (pages_from first (half_pages n half))) (pages_from first (half_pages n half))
-lies_at n half first = record { first = slice_index (pages_from first (half_pages n half)) 0; begins = refl; consecutive = go (half_pages n half) }
-  where
-    go : (count : ℕ) → pages_from first count ≡ pages_from (slice_index (pages_from first count) 0) count
-    go zero = refl
-    go (suc count) = refl
+lies_at n half first =
+    let go : (count : ℕ) → pages_from first count ≡ pages_from (slice_index (pages_from first count) 0) count = λ count. grind arith in
+    record { first = slice_index (pages_from first (half_pages n half)) 0; begins = refl; consecutive = go (half_pages n half) }
 
 -- Each event
 

@@ -148,16 +148,13 @@ all_at zero k x l = absurd (omega arith)
 all_at (suc n) zero x l = refl
 all_at (suc n) (suc k) x l = all_at n k x (omega arith)
 
-zero_at : (n p : ℕ) → p < n → page_at (replicate n (Some zero_page)) p ≡ Some zero_page
-zero_at n p l = ap (λ (o : Option (Option (List ℕ))). option_and_then (λ slot. slot) o) (all_at n p (Some zero_page) l)
-
 all_stand : (all page n q count : ℕ) → 0 < n → page + count * (half_pages n Submission + half_pages n Completion) ≤ all
     → AllQueuesStand n (byte_at (replicate all (Some zero_page))) q (machine.queues_from page n count) (queues_from n q (halves_from page n count))
 all_stand all page n q zero some fits = tt
 all_stand all page n q (suc count) some fits = (
   fresh_stands (byte_at (replicate all (Some zero_page))) page n q some
       (pages_zero (replicate all (Some zero_page)) (page + half_pages n Submission) (half_pages n Completion)
-      (λ p h. zero_at all (page + half_pages n Submission + p) (omega (arith, fits, h)))),
+      (λ p h. ap (λ (o : Option (Option (List ℕ))). option_and_then (λ slot. slot) o) (all_at all (page + half_pages n Submission + p) (Some zero_page) (omega (arith, fits, h))))),
   all_stand all (page + half_pages n Submission + half_pages n Completion) n (suc q) count some (omega (arith, fits)),
 )
 

@@ -49,8 +49,7 @@ serve_of s serve = record {
 }
   where
     by : {o : Option DeviceQueue} (p : Option DeviceQueue) → ((d : DeviceQueue) → o ≡ Some d → d.cq_there ≡ true) → o ≡ p → option_map_or (λ d. d.cq_there) p true ≡ true
-    by None has e = refl
-    by (Some d) has e = has d e
+    by f has e = grind arith
 
 -- the machine's part of a queue fits the host's
 fits_at : (n q : ℕ) (hs : List HostQueue) (ds : List DeviceQueue) (h : HostQueue) (d : DeviceQueue) → QueuesFit n hs ds → slice_get hs q ≡ Some h → slice_get ds q ≡ Some d → is_absent d.state ≡ false → d.cq_there ≡ true
@@ -272,10 +271,6 @@ serve_controller_event s e reply ok c agree h = absurd (true≢false (sym c))
 
 -- Each event of the host keeps the completion queues of the queues that are deleted.
 
--- a queue that is deleted is one that changes
-deleting_changes : (hs : List HostQueue) (q : ℕ) → awaited_at is_deleting hs q ≡ true → awaited_at is_changing hs q ≡ true
-deleting_changes hs q w = grind arith
-
 differ : (x y : ℕ) (b : Bool) → (x ≡ y → b ≡ true) → b ≡ false → (x == y) ≡ false
 differ x y b same stays = grind arith
 
@@ -360,7 +355,8 @@ serve_host_event s e reply ok c agree h =
         let has : awaited_at has_cq hs q ≡ true = not-false _ (or_parts (q == 0) (not (awaited_at has_cq hs q)) causes.0).1 in
         let still : awaited_at is_changing hs q ≡ false = (or_parts (awaited_at is_changing hs q) _ causes.1.0).0 in
         let same = small q (length hs) (awaited_below has_cq hs q has) agree.few_queues in
-        differ (q % 65536) z (awaited_at is_changing hs q) (λ e. deleting_changes hs q (subst (λ (k : ℕ). awaited_at is_deleting hs k ≡ true) (sym (sym same ∙ e)) w)) still
+        -- a queue that is deleted is one that changes
+        differ (q % 65536) z (awaited_at is_changing hs q) (λ e. grind arith) still
 
     -- the deletion of a live queue's submission side
     asked : (q id : ℕ) (queue : HostQueue) → slice_get hs q ≡ Some queue → queue.state ≡ states.Live

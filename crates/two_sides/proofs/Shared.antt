@@ -112,8 +112,7 @@ to_host : (z f t c : Bool) (s next new : State) → z ≡ false → t ≡ false 
 to_host z f t c s next new y e g h = grind arith
 
 pub refused_leaves : (s : Sides) (host : HostView) (pages : Pages) → alone host pages ≡ alone s.host s.pages → state_of (record s { host = host; pages = pages }) ≡ state_of s
-refused_leaves s host pages same =
-    ap (λ (x : State). state_of (record s { host = record { entries = x.entries; segment = x.segment; host = x.host }; pages = x.memory })) same
+refused_leaves s host pages same = grind arith
 
 accepted_leaves : (s : Sides) (e : Event) (reply : Reply) (host : HostView) (pages : Pages) → s.trusted ≡ false → KeepsDevice (state_of s) (state_of (behind s e reply host pages))
     → host_part (after (state_of s) e reply) ≡ host_part (after (alone s.host s.pages) e reply)

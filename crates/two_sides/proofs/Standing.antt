@@ -4,8 +4,7 @@ use Rattle.machine_model.specs.Refusals as refusals
 use Rattle.machine_model.specs.Events as events
 use Rattle.machine_model.specs.declared.words.Refusal.TheVariants as refusal
 use Rattle.std.proofs.Common.{◌≡◌, ℕ, zero, suc, ◌+◌, ◌≤◌, ◌==◌, Bool, true, false, Some, List, [], ◌∷◌, slice_get, if◌then◌else◌, refl, ap, sym, arith, subst, not, ◌-◌, nat_lt, ◌&&◌, Option, None, ◌++◌, length, map, filter, find, drop, is_some, is_none, option_and_then, ◌∙◌, eqb-true, eq-eqb, ◌<◌, ◌||◌, inl, inr, replicate}
-use Rattle.std.{proofs.lemmas.Bool.{true≢false, and_parts, or_parts, cases_Bool, not-false, Decides.nat_tests}, specs.List.AllByRecursion}
-use Rattle.std.specs.{Option.option_map_or, Prelude.nat_le}
+use Rattle.std.{proofs.lemmas.Bool.{true≢false, and_parts, or_parts, cases_Bool, Decides.nat_tests}, specs.{List.AllByRecursion, Option.option_map_or}}
 use Rattle.machine_model.proofs.{Cases.option_is, Counting.{total-append, total-map, times-append, times-cons, times-outstanding}}
 use Rattle.machine_model.proofs.Moves.{host_moves, posts, sends, sent_record, drafted_record, heard_without, creates_cq, creates_sq, grants_cq, grants_sq, IsHeard, answer_heard}
 use Rattle.machine_model.proofs.{Owned.{HoldsPart, no_waiting, no_answering, reset_admin_commands}, Sound.{unused, host_event}}
@@ -13,18 +12,16 @@ use Rattle.machine_model.proofs.Steps.{managed_by, first_fails, rest_fails, foun
 use Rattle.machine_model.proofs.Tokens.{find_all, find_sound, MildJob, placed_jobs, placed_decided, placed_conflict, placed_completed, placed_job_more, placed_job_less, find_more, find_map, find_filter, placed_records, placed_sent, placed_reaped}
 use Rattle.machine_model.specs.Agreeing.{is_out_of_service_at as past_at, DeletesIo, JobKnown, AdminCommandsStand as Placed, is_absent_at as gone_at, Knows, waiting, answering, job_is}
 use Rattle.machine_model.specs.{Claims.OwnsFit, Events.{Event, Reply}, Memory.{is_in, with_pages}, Opening.{opening, device_queue as opened}}
-use Rattle.machine_model.specs.Refusals.{in_service, host_queue, device_queue, next_rung, job_at, slot_page, slot_offset, post_slot, fetch_slot, refusal_of, answers_full, post_page, is_job, first_answer, is_submitted, in_state, is_reaped}
+use Rattle.machine_model.specs.Refusals.{in_service, device_queue, next_rung, job_at, fetch_slot, refusal_of, answers_full, post_page, is_job, first_answer, is_submitted, is_reaped}
 use Rattle.machine_model.specs.State.{DeviceQueue, HostQueue, State, Device, Record, Job, Answer, is_at, record_at, pages_of, without_record, with_record, outstanding_on}
 use Rattle.machine_model.specs.{Step.{host_part, HostPart, IsController, times}, Weights.{total, one, here}, Work.Work, declared.words.Phase.TheVariants.Held}
 use Rattle.machine_model.specs.declared.words.{Refusal.Refusal, Work.TheVariants.{Io, Management}}
 use Rattle.queue_pair.specs.Members.{change}
-use Rattle.entry_codec.specs.{Completion.completion_bytes, declared.admin_opcode.TheConstants.{ABORT, DELETE_IO_SQ, DELETE_IO_CQ, CREATE_IO_CQ, CREATE_IO_SQ}}
-use Rattle.entry_codec.specs.declared.{completion.ComEntry.ComEntry, status.Status.Status}
-use Rattle.entry_codec.specs.declared.status.TheConstants.Status.{SUCCESS, COMMAND_ID_CONFLICT, ABORT_REQUESTED, ABORTED_SQ_DELETION}
+use Rattle.entry_codec.specs.declared.{admin_opcode.TheConstants.{ABORT, DELETE_IO_SQ, DELETE_IO_CQ, CREATE_IO_CQ, CREATE_IO_SQ}, completion.ComEntry.ComEntry}
+use Rattle.entry_codec.specs.declared.status.{Status.Status, TheConstants.Status.{SUCCESS, COMMAND_ID_CONFLICT, ABORT_REQUESTED, ABORTED_SQ_DELETION}}
 use Rattle.entry_codec.specs.declared.submission.SubEntry.{SubEntry}
-use Rattle.admin_commands.specs.{Entries.{admin_entry, named_queue, named_command}, Verdicts.{is_absent, is_live as is_running}, declared.AdminKind.AdminKind}
-use Rattle.admin_commands.specs.declared.{AdminKind.TheVariants.{Abort, DeleteSq, DeleteCq, CreateCq, CreateSq}, SqState.TheVariants.{Absent, Stopping}}
-use Rattle.page_memory.specs.Pages.{with_page_bytes}
+use Rattle.admin_commands.specs.{Entries.{admin_entry, named_queue, named_command}, Verdicts.is_live as is_running, declared.AdminKind.AdminKind}
+use Rattle.admin_commands.specs.declared.{AdminKind.TheVariants.{Abort, DeleteSq, DeleteCq, CreateCq, CreateSq}, SqState.TheVariants.Stopping}
 use Rattle.io_commands.specs.{Asked.Request, Jobs.{is_success, io_fault, bytes_after_check}}
 use Rattle.two_sides.{proofs.DeviceMoves.{answer_of, unit_done, finished, cleared, clears, fetch_by, walk_by, complete_by}, specs.MachineLaws.admin_places}
 pub use Rattle.machine_model.specs.Agreeing.{waiting, answering}
@@ -136,8 +133,7 @@ device-answered q cid st dw0 s = grind arith
 
 pub device-posted : (q : ℕ) (entry : SubEntry) (s : State)
     → (a.posted q entry s).device ≡ record s.device { queues = change q (λ at. record at { unfetched = at.unfetched ++ entry ∷ [] }) s.device.queues }
-device-posted q entry s =
-    ap (λ (d : Device). record d { queues = change q (λ at. record at { unfetched = at.unfetched ++ entry ∷ [] }) d.queues }) (grind arith)
+device-posted q entry s = grind arith
 
 -- The entry that is fetched from queue 0
 
@@ -232,8 +228,7 @@ answering_more [] an h = absurd (true≢false (sym h))
 answering_more (at ∷ ds) an h = refl
 
 pub some_zero : (ds : List DeviceQueue) (e : SubEntry) → option_and_then (λ queue. if is_running queue.state && nat_lt 0 queue.rung then slice_get queue.unfetched 0 else None) (slice_get ds 0) ≡ Some e → is_some (slice_get ds 0) ≡ true
-some_zero [] e h = absurd cc
-some_zero (at ∷ ds) e h = refl
+some_zero ds e h = grind arith
 
 pub some_still : (f : DeviceQueue → DeviceQueue) (k : ℕ) (ds : List DeviceQueue) → is_some (slice_get ds 0) ≡ true → is_some (slice_get (change k f ds) 0) ≡ true
 some_still f k [] h = h
@@ -269,11 +264,8 @@ other_mild : (q cid : ℕ) (f : Job → Job) → (q == 0) ≡ false → ((j : Jo
 other_mild q cid f other fq fe = record {
   q = λ j. (elim ((j.q == q) && (j.entry.cid == cid)) as (λ b. (if b then f j else j).q ≡ j.q) [ true ↦ fq j | false ↦ refl ]);
   entry = λ j. (elim ((j.q == q) && (j.entry.cid == cid)) as (λ b. (if b then f j else j).entry ≡ j.entry) [ true ↦ fe j | false ↦ refl ]);
-  verdict = λ j st z v ok. go j st z ((j.q == q) && (j.entry.cid == cid)) refl v;
+  verdict = λ j st z v ok. grind arith;
 }
-  where
-    go : (j : Job) (st : Status) → j.q ≡ 0 → (b : Bool) → ((j.q == q) && (j.entry.cid == cid)) ≡ b → (if b then f j else j).verdict ≡ Some st → j.verdict ≡ Some st
-    go j st z b e v = grind arith
 
 placed_on_job : (rs : List Record) (q cid : ℕ) (f : Job → Job) (s : State) → (q == 0) ≡ false → ((j : Job) → (f j).q ≡ j.q) → ((j : Job) → (f j).entry ≡ j.entry)
     → PlacedIn rs s.device → PlacedIn rs (a.on_job q cid f s).device
@@ -540,8 +532,7 @@ stands_event s e reply ok t h = stands_host s e reply ok refl t h
 
 -- An entry that is forged ends the trust
 forged_ends : (o : Option HostQueue) (f : HostQueue → State) (s : State) → ((x : HostQueue) → (f x).trusted ≡ false) → option_map_or (λ queue. is_reaped queue.state) o false ≡ true → (option_map_or f o s).trusted ≡ false
-forged_ends None f s h e = absurd (true≢false (sym e))
-forged_ends (Some x) f s h e = h x
+forged_ends o f s h e = grind arith
 
 pub forged_untrusted : (s : State) (q slot : ℕ) (bytes : List ℕ) → refusal_of s (events.Forge q slot bytes) ≡ None → (a.after_forge q slot bytes s).trusted ≡ false
 forged_untrusted s q slot bytes ok = grind arith

@@ -2,17 +2,17 @@
 use Rattle.machine_model.specs.After as a
 use Rattle.machine_model.specs.Refusals as refusals
 use Rattle.machine_model.specs.Events as events
-use Rattle.std.proofs.Common.{◌≡◌, ℕ, zero, suc, ◌+◌, ◌-◌, ◌<◌, ◌==◌, nat_lt, Bool, true, false, not, ◌&&◌, Option, Some, None, List, [], ◌∷◌, ◌++◌, map, filter, length, drop, slice_get, is_none, is_some, option_and_then, if◌then◌else◌, refl, ap, sym, ◌∙◌, arith, subst, eqb-true, inl, inr, option_map, ◌≤◌}
-use Rattle.std.{proofs.lemmas.Bool.{true≢false, and_parts, or_parts, cases_Bool, not-false, eqb-false}, specs.{List.list_any, Option.option_map_or}}
+use Rattle.std.proofs.Common.{◌≡◌, ℕ, zero, suc, ◌+◌, ◌-◌, ◌<◌, ◌==◌, nat_lt, Bool, true, false, not, ◌&&◌, Option, Some, None, List, [], ◌∷◌, ◌++◌, map, filter, length, drop, slice_get, is_none, is_some, option_and_then, if◌then◌else◌, refl, ap, sym, ◌∙◌, arith, subst, eqb-true, inl, inr, ◌≤◌}
+use Rattle.std.{proofs.lemmas.Bool.{true≢false, and_parts, or_parts, cases_Bool, eqb-false}, specs.{List.list_any, Option.option_map_or}}
 use Rattle.machine_model.proofs.{Counting.{total-append, total-map, total-filter, get_other}, Headline.length-range}
-use Rattle.machine_model.proofs.Kept.{live_serves, reaped_in_use, live_in_use, ring_at, asked_as_heard, making_cq_as_heard, making_sq_as_heard}
-use Rattle.machine_model.proofs.Moves.{host_moves, seen_trusted, posts, sends, queue_found, half_from, grants_cq, grants_sq, creates_cq, creates_sq, sent_record}
+use Rattle.machine_model.proofs.Kept.{live_serves, live_in_use, ring_at, asked_as_heard, making_cq_as_heard, making_sq_as_heard}
+use Rattle.machine_model.proofs.Moves.{host_moves, posts, sends, queue_found, half_from, grants_cq, grants_sq, creates_cq, creates_sq, sent_record}
 use Rattle.machine_model.proofs.{Owned.{HoldsPart, awaited_at, at_same, at_other, at_found, at_changed}, Sound.still_live}
 use Rattle.machine_model.proofs.{Steps.{managed_by, absent_state, unrefused, Accepts}, Tokens.{find_more, fewer_kept, knows_back, kind_known}}
 use Rattle.machine_model.proofs.TokensKept.{same_length, halves_fit, reset_pairs, TokensHeld}
 use Rattle.machine_model.specs.Agreeing.{is_absent_at as gone_at, has_completions_at as there_at, QueueFits as PairOk, QueuesFit as Paired, on_queue, is_out_of_service_at as out_at, is_known_deleted as is_over, is_known_deleted, AdminCommandsStand as Placed, Knows, is_kind, unmade, answered_well, done_well, deletes_sq, deletes_cq, creates_cq as creates_cq_agreeing, creates_sq as creates_sq_agreeing}
 use Rattle.machine_model.specs.{Claims.AdminLives, Events.{Event, Reply}, Memory.with_pages}
-use Rattle.machine_model.specs.Refusals.{host_queue, device_queue, next_rung, waits, in_service, is_gone, is_job, refusal_of, entry_of, first_answer, has_sq, has_cq, is_live, is_making, is_reaped, has_cq_alone}
+use Rattle.machine_model.specs.Refusals.{host_queue, next_rung, waits, in_service, is_gone, is_job, refusal_of, has_sq, has_cq, is_live, is_making, has_cq_alone}
 use Rattle.machine_model.specs.State.{State, Device, HostQueue, DeviceQueue, Job, Answer, with_record, Record, is_at, without_record}
 use Rattle.machine_model.specs.{Step.{HostPart, host_part, IsController}, Weights.{one, total}, declared.words.HostState.HostState}
 use Rattle.machine_model.specs.declared.words.HostState.TheVariants.{Live, Deleting, Gone, MakingCq, HalfMade, MakingSq}
@@ -105,9 +105,6 @@ tie_managed part e s there served h =
     still : (f : DeviceQueue → DeviceQueue) → ((d : DeviceQueue) → is_absent d.state ≡ false → is_absent (f d).state ≡ false) → gone_at (change (named_queue e) f s.device.queues) 0 ≡ false
     still f same = stays_false (λ (d : DeviceQueue). is_absent d.state) true (named_queue e) f s.device.queues 0 (λ d ed z. same d) there
 
-pub rung_gone : (s : State) (q : ℕ) (e : SubEntry) → next_rung s q ≡ Some e → gone_at s.device.queues q ≡ false
-rung_gone s q e h = grind arith
-
 -- an entry that is fetched is one of a queue in service
 rung_served : (part : HostPart) (s : State) (q : ℕ) (e : SubEntry) → next_rung s q ≡ Some e → Paired part.entries part.host.queues s.device.queues → out_at part.host.queues q ≡ false
 rung_served part s q e h pairs = go (slice_get s.device.queues q) refl h
@@ -125,7 +122,7 @@ tie_fetch part q s h =
     let off : (k : ℕ) → TieP part (a.taken_off k s).device = λ k.
     tie_less part.entries part.host.queues s.device.queues s.device.jobs k (λ at. record at { unfetched = drop 1 at.unfetched; rung = at.rung - 1 }) (λ d. refl) (λ d. refl) (λ d none. ap (drop 1) none) (λ d none. none) h in
     let kept : (e : SubEntry) → next_rung s q ≡ Some e → (k : ℕ) → gone_at (a.taken_off k s).device.queues q ≡ false = λ e next k.
-    stays_false (λ (d : DeviceQueue). is_absent d.state) true k (λ at. record at { unfetched = drop 1 at.unfetched; rung = at.rung - 1 }) s.device.queues q (λ d ed z i. i) (rung_gone s q e next) in
+    stays_false (λ (d : DeviceQueue). is_absent d.state) true k (λ at. record at { unfetched = drop 1 at.unfetched; rung = at.rung - 1 }) s.device.queues q (λ d ed z i. i) (grind arith) in
     fetch_by (λ (t : State). TieP part t.device) s q h
     (λ e next c. tie_answered part.entries part.host.queues (a.taken_off q s).device.queues s.device.jobs q _ (rung_served part s q e next h.pairs) (off q))
     (λ e next c z. tie_managed part e (a.taken_off 0 s) (subst (λ (k : ℕ). gone_at (a.taken_off 0 s).device.queues k ≡ false) z (kept e next 0)) (subst (λ (k : ℕ). out_at part.host.queues k ≡ false) z (rung_served part s q e next h.pairs)) (off 0))
@@ -140,13 +137,6 @@ none_left : (n : ℕ) (js : List Job) → list_any (λ k. k.q == n) js ≡ false
 none_left n [] h = refl
 none_left n (j ∷ js) h = let both = or_parts (j.q == n) (list_any (λ k. k.q == n) js) h in omega (arith, ap one both.0, none_left n js both.1)
 
--- a job of queue 0 whose deletion is done has no job of its queue before it
-waited : (s : State) (j : Job) (st : Status) → j.verdict ≡ Some st → is_success st ≡ true → (j.q == 0) ≡ true → (j.entry.opcode == DELETE_IO_SQ) ≡ true → waits s j ≡ false → total (on_queue (named_queue j.entry)) s.device.jobs ≡ 0
-waited s j st v ok q0 op w = none_left (named_queue j.entry) s.device.jobs (go (list_any (λ k. k.q == named_queue j.entry) s.device.jobs) refl)
-  where
-    go : (b : Bool) → list_any (λ k. k.q == named_queue j.entry) s.device.jobs ≡ b → list_any (λ k. k.q == named_queue j.entry) s.device.jobs ≡ false
-    go b e = grind arith
-
 pub tie_complete : (part : HostPart) (q cid : ℕ) (s : State) → refusal_of s (events.Complete q cid) ≡ None → TieP part s.device → TieP part (a.after_complete q cid s).device
 tie_complete part q cid s none h =
     let rest : List Job = filter (λ k. not (is_job q cid k)) s.device.jobs in
@@ -158,11 +148,11 @@ tie_complete part q cid s none h =
     let free : waits s j ≡ false = rw e at (unrefused s (events.Complete q cid) none).1.1.0 in
     let v = verdict_there j judged in
     let c1 = and_parts ((j.q == 0) && (j.entry.opcode == DELETE_IO_SQ)) (is_success (a.final_status s j)) c in
-    let c2 = and_parts (j.q == 0) (j.entry.opcode == DELETE_IO_SQ) c1.0 in
-    let ok : is_success v.0 ≡ true = ap is_success (sym (final_admin s j v.0 (eqb-true j.q 0 c2.0) v.1)) ∙ c1.1 in
+    let ok : is_success v.0 ≡ true = ap is_success (sym (final_admin s j v.0 (eqb-true j.q 0 (and_parts (j.q == 0) (j.entry.opcode == DELETE_IO_SQ) c1.0).0) v.1)) ∙ c1.1 in
     tie_answered part.entries part.host.queues (change (named_queue j.entry) cleared s.device.queues) rest q _ (h.service q (found_counts q cid s.device.jobs j e))
     (tie_kill part.entries part.host.queues s.device.queues rest (named_queue j.entry)
-    (omega (arith, waited s j v.0 v.1 ok c2.0 c2.1 free, total-filter (on_queue (named_queue j.entry)) (λ k. not (is_job q cid k)) s.device.jobs)) less))
+    -- a job of queue 0 whose deletion is done has no job of its queue before it
+    (omega (arith, none_left (named_queue j.entry) s.device.jobs (grind arith), total-filter (on_queue (named_queue j.entry)) (λ k. not (is_job q cid k)) s.device.jobs)) less))
     (λ j e c. tie_answered part.entries part.host.queues s.device.queues rest q _ (h.service q (found_counts q cid s.device.jobs j e)) less)
 
 -- The host's events keep the controller's queues tied to the host's.

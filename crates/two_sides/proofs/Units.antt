@@ -56,10 +56,6 @@ abbrev pub HeadInPage : Course → Type 0
 HeadInPage (Closes v) = Unit {0}
 HeadInPage (Does act rest) = InPage act
 
-some_spanned : (place len : ℕ) → 0 < pages_spanned place len → 0 < len
-some_spanned place zero h = h
-some_spanned place (suc len) h = omega arith
-
 head_moving : (m : Memory) (n place len offset : ℕ) (rest : Course) → (0 < n → 0 < len) → HeadInPage rest → HeadInPage (moving m n place len offset rest)
 unfolding moving
 head_moving m zero place len offset rest some h = h
@@ -94,7 +90,7 @@ head_in : (m : Memory) (w : Progress) (s : progress.State) → HeadInPage (cours
 head_in m w (First sgl1) = tt
 head_in m w (Next c) = head_from w.allowed m w.direction w.need c w.wanted
 head_in m w (Data block after) =
-    head_moving m (pages_spanned block.place block.len) block.place block.len block.offset _ (some_spanned block.place block.len) (head_behind w.allowed m w.direction w.need after w.wanted)
+    head_moving m (pages_spanned block.place block.len) block.place block.len block.offset _ (λ h. grind arith) (head_behind w.allowed m w.direction w.need after w.wanted)
 head_in m w (Over fault) = tt
 
 pub head_in_page : (m : Memory) (o : Option Walk) → HeadInPage (course_of_walk m o)

@@ -10,13 +10,13 @@ use Rattle.machine_model.proofs.Kept.{live_has_sq, reaped_has_cq, service_is_rea
 use Rattle.machine_model.proofs.Moves.{host_moves, posts, posted_is, sends, sent_record, half_from, creates_cq, creates_sq, grants_cq, grants_sq}
 use Rattle.machine_model.{proofs.{Owned.{Holds, in_queue, in_record}, Steps.{first_fails, permitted, managed_by, Accepts, unrefused}}, specs.Agreeing.on_queue}
 use Rattle.machine_model.specs.{Events.{Event, Reply}, Linked.{absent, IsLinked}, Memory.{is_in, with_pages, without_pages, zeroed_pages}, Positions.IsInRing}
-use Rattle.machine_model.specs.Refusals.{host_queue, device_queue, next_rung, slot_page, fetch_slot, post_slot, fetch_page, post_page, conflicts, job_at, answers_full, job_is, waits, is_submitted, is_drafted, is_collected, is_live, has_cq, in_service, is_reaped, slot_offset, refusal_of, in_state, is_job}
+use Rattle.machine_model.specs.Refusals.{host_queue, device_queue, next_rung, slot_page, fetch_slot, post_slot, fetch_page, post_page, conflicts, job_at, answers_full, job_is, waits, is_submitted, is_drafted, is_collected, is_live, has_cq, in_service, is_reaped, slot_offset, in_state, is_job}
 use Rattle.machine_model.specs.State.{State, HostQueue, DeviceQueue, pages_of, Host, Record, Job, record_at, with_record}
 use Rattle.machine_model.specs.Step.{Step, Refuses, IsController, touched_by_refusal, touched_by_fetch, times}
 use Rattle.machine_model.specs.{Touch.{allowed, pages_at_queue, pages_at_queues, pages_of_queue, own_pages, stays_allowed, stays_own}, Weights.{one, total}}
 use Rattle.machine_model.specs.declared.words.{HostState.HostState, Refusal.Refusal}
 use Rattle.page_ledger.specs.Owners.{is_among}
-use Rattle.admin_commands.specs.{Entries.{admin_entry, named_queue}, Verdicts.{is_absent, is_live as is_running}, declared.AdminKind.AdminKind}
+use Rattle.admin_commands.specs.{Entries.{admin_entry, named_queue}, Verdicts.is_absent, declared.AdminKind.AdminKind}
 use Rattle.admin_commands.specs.declared.AdminKind.TheVariants.{Abort, DeleteSq, DeleteCq}
 use Rattle.controller_walk.specs.Units.{first_passing}
 use Rattle.queue_pair.{proofs.Rings.moved_below, specs.{Members.change, Memory.half_pages, Slots.moved}}
@@ -155,8 +155,7 @@ after_idle s q =
     ∷ []
 
 touched_refused : (s : State) (e : Event) (why : Refusal) (touched : List ℕ) → Refuses s e why touched → touched ≡ touched_by_refusal s e why
-touched_refused s e refusal.Memory touched h = h.2
-touched_refused s e why touched h = h.1
+touched_refused s e why touched h = grind arith
 
 -- what is touched stays in a list
 abbrev Within : List ℕ → List ℕ → Bool
@@ -359,10 +358,6 @@ answers_there s g q p there some queue e =
 served_there : (st : HostState) → in_service st ≡ true → has_cq st ≡ true
 served_there st h = reaped_has_cq st (service_is_reaped st h)
 
--- an entry that is fetched is one of a queue in service
-fetched_there : (s : State) → Grounds s → (q : ℕ) (e : SubEntry) → next_rung s q ≡ Some e → (queue : HostQueue) → host_queue s q ≡ Some queue → has_cq queue.state ≡ true
-fetched_there s g q e rung queue at = grind arith
-
 -- so is the queue of a job
 completed_there : (s : State) → Grounds s → (q cid : ℕ) (j : Job) → job_at s q cid ≡ Some j → (queue : HostQueue) → host_queue s q ≡ Some queue → has_cq queue.state ≡ true
 completed_there s g q cid j at queue there =
@@ -400,7 +395,8 @@ live_queue s q h queue e = sym (ap (λ (o : Option HostQueue). option_map_or (λ
 
 fetch_elsewhere : (q p : ℕ) (s : State) → Grounds s → Kept s p → Same (a.after_fetch q s).memory s p
 fetch_elsewhere q p s g some =
-    fetch_by (λ (t : State). Same t.memory s p) s q refl (λ e n c. answers_elsewhere q e.cid COMMAND_ID_CONFLICT 0 (a.taken_off q s) p (answers_there s g q p (fetched_there s g q e n) some))
+    -- an entry that is fetched is one of a queue in service
+    fetch_by (λ (t : State). Same t.memory s p) s q refl (λ e n c. answers_elsewhere q e.cid COMMAND_ID_CONFLICT 0 (a.taken_off q s) p (answers_there s g q p (λ queue at. grind arith) some))
     (λ e n c z. ap (λ (x : Pages). page_at x p) (kept_managed e (a.taken_off 0 s))) (λ e n c other. refl)
 
 complete_elsewhere : (q cid p : ℕ) (s : State) → Grounds s → Kept s p → Same (a.after_complete q cid s).memory s p
@@ -475,10 +471,6 @@ untouched_kept s e reply ok w g p some away =
     granted_elsewhere : (pages : List ℕ) → ((p : ℕ) → times p pages ≡ (if is_among pages p && is_among s.host.free p then 1 else 0)) → Same (with_pages (zeroed_pages pages) s.memory) s p
     granted_elsewhere pages are = with_elsewhere (zeroed_pages pages) s.memory p (ap (λ (ps : List ℕ). is_among ps p) (zeroed_numbers pages) ∙ free_elsewhere s pages p are some)
 
-collects_no_sent : (s : State) (e : Event) (reply : Reply) → Accepts s e reply → (q cid : ℕ) (r : Record) → e ≡ events.Collect q cid → record_at s.host q cid ≡ Some r → is_submitted r.phase ≡ false
-collects_no_sent s e reply ok q cid r is at =
-    sym (ap (λ (o : Option Record). option_map_or (λ r. is_submitted r.phase) o false) at) ∙ (unrefused s (events.Collect q cid) (subst (λ (x : Event). refusal_of s x ≡ None) is ok.0)).1.0
-
 pub untouched : (s : State) (e : Event) (reply : Reply) → Accepts s e reply → is_walk e ≡ false → Grounds s → (p : ℕ) → 0 < total (sent_page p) s.host.records
     → page_at (a.after s e reply).memory p ≡ page_at s.memory p
 untouched s e reply ok w g p some =
@@ -488,4 +480,4 @@ untouched s e reply ok w g p some =
       queues = λ q queue e. omega (arith, owned_once _ p s.host g.stands.0, some, sent_less p s.host.records, in_at s.host.queues q queue e (in_queue p));
       others = λ r within away. not_others _ p s.host r g.stands.0 within (grind arith) some;
     })
-    (λ q cid r is at. among_counts p (pages_of r) (not_others _ p s.host r g.stands.0 (in_found _ s.host.records r at) (collects_no_sent s e reply ok q cid r is at) some))
+    (λ q cid r is at. among_counts p (pages_of r) (not_others _ p s.host r g.stands.0 (in_found _ s.host.records r at) (grind arith) some))
