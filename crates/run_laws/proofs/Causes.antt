@@ -233,6 +233,7 @@ far_zero q h = grind (arith, nat_tests, h)
 managed_keeps : (earlier : List Made) (s : State) (q : ℕ) (e : SubEntry) (c : ℕ) (touched : List ℕ) → q ≡ 0 → next_rung s q ≡ Some e → AllCaused earlier (a.image_blocks s) s.device.jobs
     → Keeps (earlier ++ record { before = s; event = events.Fetch q; reply = events.Fetched c touched } ∷ []) s (a.managed e (a.taken_off 0 s))
 managed_keeps earlier s q e c touched z rung h =
+    let old = all_on earlier (a.image_blocks s) s.device.jobs m (all_of (λ j. (j.q == 0) ≡ false → fetches j.q j.entry.cid m ≡ false) s.device.jobs (λ j within other. far j other)) h in
     managed_by (Keeps (earlier ++ m ∷ []) s) e (a.taken_off 0 s)
     (record {
       refuses = λ st bad. decided st 0 (a.taken_off 0 s) refl old;
@@ -255,9 +256,6 @@ managed_keeps earlier s q e c touched z rung h =
 
     far : (j : Job) → (j.q == 0) ≡ false → fetches j.q j.entry.cid (record { before = s; event = events.Fetch q; reply = events.Fetched c touched }) ≡ false
     far j other = rw z (ap (λ (b : Bool). b && (c == j.entry.cid)) (far_zero j.q other))
-
-    old : AllCaused (earlier ++ record { before = s; event = events.Fetch q; reply = events.Fetched c touched } ∷ []) (a.image_blocks s) s.device.jobs
-    old = all_on earlier (a.image_blocks s) s.device.jobs m (all_of (λ j. (j.q == 0) ≡ false → fetches j.q j.entry.cid m ≡ false) s.device.jobs (λ j within other. far j other)) h
 
     decided : (st : Status) (dw0 : ℕ) (t : State) → t.device.image ≡ s.device.image → AllCaused (earlier ++ record { before = s; event = events.Fetch q; reply = events.Fetched c touched } ∷ []) (a.image_blocks s) t.device.jobs
         → Keeps (earlier ++ record { before = s; event = events.Fetch q; reply = events.Fetched c touched } ∷ []) s (a.decided e st dw0 t)
@@ -481,11 +479,10 @@ job_status earlier m q cid j other e jq jc some c =
     by_kind None e = refl
     by_kind (Some Read) e = refl
     by_kind (Some Write) e = refl
-    by_kind (Some Compare) e = at (bytes_eq (blocks_at m.before.device.image (first_block j.entry) (block_number j.entry)) j.bytes)
-      where
-        at : (b : Bool) → has_cause earlier m q cid (if b then SUCCESS else COMPARE_FAILURE) ≡ true
-        at true = refl
-        at false = differs e
+    by_kind (Some Compare) e = elim (cases_Bool (bytes_eq (blocks_at m.before.device.image (first_block j.entry) (block_number j.entry)) j.bytes)) [
+      | inl e ↦ rw e refl
+      | inr e' ↦ rw e' (differs e)
+    ]
 
     by : (o : Option Status) → j.verdict ≡ o → has_cause earlier m q cid (jobs.status_after m.before.device.image j.entry j.bytes o) ≡ true
     by None v = absurd (true≢false (sym some ∙ ap is_some v))

@@ -286,9 +286,6 @@ course c = record {
     trusted_third : at_third.0.trusted ≡ true
     trusted_third = unforged_end (c.before ++ c.submitted ∷ c.between) s0 at_third.0 at_third.1 unforged_zero
 
-    trusted_first : at_first.0.trusted ≡ true
-    trusted_first = unforged_first.trusted
-
     stood_first : Stood at_first.0
     stood_first = stood_along c.before s0 at_first.0 at_first.1 (unforged_front c.before (c.submitted ∷ c.between) s0 unforged_zero) (stood_at_opening c.run.pages c.run.queues c.run.entries c.run.segment c.image c.run.opens)
 
@@ -299,13 +296,13 @@ course c = record {
     step = subst (λ (e : Event). Step at_first.0 e events.Accepted at_first.2.1) is.0 (subst (λ (reply : Reply). Step at_first.0 c.submitted.event reply at_first.2.1) is.1 at_first.2.2)
 
     going : Going at_first.0 (events.Submit c.draft) events.Accepted
-    going = record { proper = step.0; ok = permitted _ at_first.0.trusted true trusted_first step.1; trusted = trusted_first; stood = stood_first }
+    going = record { proper = step.0; ok = permitted _ at_first.0.trusted true unforged_first.trusted step.1; trusted = unforged_first.trusted; stood = stood_first }
 
     is_second : at_first.2.1 ≡ a.after at_first.0 (events.Submit c.draft) events.Accepted
-    is_second = exact _ at_first.0.trusted trusted_first step.2
+    is_second = exact _ at_first.0.trusted unforged_first.trusted step.2
 
     stood_second : Stood at_first.2.1
-    stood_second = stood_step at_first.0 (events.Submit c.draft) events.Accepted at_first.2.1 step trusted_first unforged_second.trusted stood_first
+    stood_second = stood_step at_first.0 (events.Submit c.draft) events.Accepted at_first.2.1 step unforged_first.trusted unforged_second.trusted stood_first
 
 -- The laws of kept commands
 

@@ -11,7 +11,7 @@ use Rattle.machine_model.{proofs.HostLeaves.ids_of, specs.{Claims.OwnsFit, Event
 use Rattle.machine_model.specs.{Opening.opening, State.{is_at, State, Record, pages_of}, Step.{zeroed, pages_with_bytes, Step}}
 use Rattle.machine_model.specs.{Trusted.{TrustedRun, Steps, drafts_of}, Work.Work}
 use Rattle.run_laws.proofs.Carrying.{Stands}
-use Rattle.run_laws.proofs.DataKept.{along_steps, Going, left_step, stood_step, stood_along, IsOfDraft, found_draft, held_goes, goes_on, reaped_on, sub_goes, Unread, Untouched, Waits, unread_step, unread_submit, Course, course, alone_of, at_draft, request_stays, Collects, collects_held}
+use Rattle.run_laws.proofs.DataKept.{along_steps, Going, left_step, stood_step, stood_along, IsOfDraft, found_draft, held_goes, goes_on, reaped_on, sub_goes, Unread, Untouched, Waits, unread_step, unread_submit, course, alone_of, at_draft, request_stays, Collects, collects_held}
 use Rattle.run_laws.proofs.{DataOnce.once, Images.refused_drafts, Moves.{RecordsMove, records_event}, ReadLaws.{reads_give, stopped_reads}}
 use Rattle.run_laws.specs.Statuses.{fetches}
 use Rattle.run_laws.specs.Submitted.{CollectedCommand, FetchedCommand, submits, was_fetched, unfetched_commands_keep_their_data, unfetched_commands_keep_the_drafts_bytes, unfetched_commands_were_deleted, successful_commands_were_fetched, AreZeros, drafts_of_reserve_are_zero, unfetched_commands_of_zeros_gather_zeros, fetched_commands_have_their_fetch, commands_are_fetched_once, fetched_reads_give_a_prefix, successful_reads_give_their_blocks, collected_commands_were_submitted}
@@ -109,11 +109,10 @@ has_fetch c fetched =
     (record { command = c; before_fetch = x.before; fetched = x.at; after_fetch = x.behind; split = x.split; is_fetch = x.passes }, refl)
 
 pub fetched_once : commands_are_fetched_once
-fetched_once f = ap not (sym (fetched_of f.command (f.before_fetch ++ f.after_fetch)) ∙ once_of)
+fetched_once f =
+    let x = course f.command in
+    ap not (sym (fetched_of f.command (f.before_fetch ++ f.after_fetch)) ∙ once_of)
   where
-    x : Course f.command
-    x = course f.command
-
     at_fetch : fetches f.command.draft.q f.command.draft.cid f.fetched ≡ true
     at_fetch = ap (λ (n : ℕ). fetches n f.command.draft.cid f.fetched) f.command.queue ∙ ap (λ (n : ℕ). fetches f.command.finished.q n f.fetched) f.command.identifier ∙ f.is_fetch
 
@@ -276,9 +275,6 @@ were_submitted image earlier later m end f run is =
     unforged : Unforged (opening run.pages run.queues run.entries run.segment image) earlier
     unforged = unforged_front earlier (m ∷ later) s0 (unforged_run image (earlier ++ m ∷ later) end run)
 
-    trusted : parts.0.trusted ≡ true
-    trusted = unforged_end earlier s0 parts.0 parts.1 unforged
-
     stood0 : Stood (opening run.pages run.queues run.entries run.segment image)
     stood0 = stood_at_opening run.pages run.queues run.entries run.segment image run.opens
 
@@ -286,7 +282,7 @@ were_submitted image earlier later m end f run is =
     stood = stood_along earlier s0 parts.0 parts.1 unforged stood0
 
     found : Collects parts.0 f
-    found = collects_held parts.0 m.event m.reply parts.2.1 f parts.2.2 trusted is
+    found = collects_held parts.0 m.event m.reply parts.2.1 f parts.2.2 (unforged_end earlier s0 parts.0 parts.1 unforged) is
 
     drafted : AllDrafted (drafts_of earlier ++ []) parts.0
     drafted = drafted_along earlier s0 parts.0 [] parts.1 unforged stood0 tt

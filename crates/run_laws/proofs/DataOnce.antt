@@ -185,11 +185,7 @@ once d other (x ∷ xs) ys m s end (is, mid, step, rest) u stood none f =
   where
     among : (zs : List Made) → list_any (fetches d.q d.cid) (zs ++ m ∷ ys) ≡ true
     among [] = ap (λ (b : Bool). b || list_any (fetches d.q d.cid) ys) f
-    among (z ∷ zs) = at (fetches d.q d.cid z) (among zs)
-      where
-        at : (b : Bool) → list_any (fetches d.q d.cid) (zs ++ m ∷ ys) ≡ true → (b || list_any (fetches d.q d.cid) (zs ++ m ∷ ys)) ≡ true
-        at true ih = refl
-        at false ih = ih
+    among (z ∷ zs) = grind (arith, among zs)
 
 -- The list of a submitted command is its draft's, from its submission to its completion.
 
@@ -291,19 +287,21 @@ entry_posted (x ∷ qs) (suc q) at entry P e all = entry_posted qs q at entry P 
 
 pub submitted_first : (s : State) (d : DraftContents) → Going s (events.Submit d) events.Accepted → (entry : SubEntry) → d.entry ≡ Some entry → (r : Record) (request : Request) → r.q ≡ d.q → r.cid ≡ d.cid → d.request ≡ request
     → (l : ListStands (a.after_submit d s).memory (a.after_submit d s).device.queues (a.after_submit d s).device.jobs r request) → l.first ≡ draft_first d
-submitted_first s d g entry built r request its_queue its_cid asked l = elim (option_is (host_queue s d.q)) [
-  | inl e ↦ let h = rw e at live in absurd (true≢false (sym h))
-  | inr (queue, e) ↦
-      let pair = pair_at s g.stood.grounds d.q queue e in
-      let its : entry ≡ draft_entry d = carries_entry d entry g.proper.draft built in
-      let all : AllByRecursion (λ (y : SubEntry). y.cid ≡ r.cid → y ≡ io_entry r.cid request (spelling l.first)) (unfetched_at (change d.q (λ at. record at { unfetched = at.unfetched ++ entry ∷ [] }) s.device.queues) d.q) =
-      subst (λ (qs : List DeviceQueue). AllByRecursion (λ (y : SubEntry). y.cid ≡ r.cid → y ≡ io_entry r.cid request (spelling l.first)) (unfetched_at qs d.q)) queues
-      (subst (λ (n : ℕ). AllByRecursion (λ (y : SubEntry). y.cid ≡ r.cid → y ≡ io_entry r.cid request (spelling l.first)) (unfetched_at (a.after_submit d s).device.queues n)) its_queue l.entry.unfetched) in
-      let is : entry ≡ io_entry r.cid request (spelling l.first) =
-      entry_posted s.device.queues d.q pair.0 entry (λ (y : SubEntry). y.cid ≡ r.cid → y ≡ io_entry r.cid request (spelling l.first)) pair.1 all (ap (λ (y : SubEntry). y.cid) its ∙ sym its_cid) in
-      let spelled : spelling l.first ≡ spelling (draft_first d) = sym (ap (λ (y : SubEntry). y.sgl1) is) ∙ ap (λ (y : SubEntry). y.sgl1) its in
-      some_is (sym l.read ∙ ap descriptor_of spelled ∙ read)
-]
+submitted_first s d g entry built r request its_queue its_cid asked l =
+    let s1 : State = a.on_records (with_record d.q d.cid a.submitted) (a.on_memory (with_pages (d.data_pages ++ d.chain_pages)) s) in
+    elim (option_is (host_queue s d.q)) [
+      | inl e ↦ let h = rw e at live in absurd (true≢false (sym h))
+      | inr (queue, e) ↦
+          let pair = pair_at s g.stood.grounds d.q queue e in
+          let its : entry ≡ draft_entry d = carries_entry d entry g.proper.draft built in
+          let all : AllByRecursion (λ (y : SubEntry). y.cid ≡ r.cid → y ≡ io_entry r.cid request (spelling l.first)) (unfetched_at (change d.q (λ at. record at { unfetched = at.unfetched ++ entry ∷ [] }) s.device.queues) d.q) =
+          subst (λ (qs : List DeviceQueue). AllByRecursion (λ (y : SubEntry). y.cid ≡ r.cid → y ≡ io_entry r.cid request (spelling l.first)) (unfetched_at qs d.q)) queues
+          (subst (λ (n : ℕ). AllByRecursion (λ (y : SubEntry). y.cid ≡ r.cid → y ≡ io_entry r.cid request (spelling l.first)) (unfetched_at (a.after_submit d s).device.queues n)) its_queue l.entry.unfetched) in
+          let is : entry ≡ io_entry r.cid request (spelling l.first) =
+          entry_posted s.device.queues d.q pair.0 entry (λ (y : SubEntry). y.cid ≡ r.cid → y ≡ io_entry r.cid request (spelling l.first)) pair.1 all (ap (λ (y : SubEntry). y.cid) its ∙ sym its_cid) in
+          let spelled : spelling l.first ≡ spelling (draft_first d) = sym (ap (λ (y : SubEntry). y.sgl1) is) ∙ ap (λ (y : SubEntry). y.sgl1) its in
+          some_is (sym l.read ∙ ap descriptor_of spelled ∙ read)
+    ]
   where
     x : Found s d
     x = found_draft s d events.Accepted g
@@ -325,9 +323,6 @@ submitted_first s d g entry built r request its_queue its_cid asked l = elim (op
         (rest_fails (is_none d.entry) refusals.NotBuilt ((not (in_state is_live s d.q), refusals.QueueGone) ∷ (queue_full s d.q, refusals.QueueFull) ∷ [])
         (rest_fails (not (record_is (is_of is_drafted d.request (numbers_of d.data_pages) (numbers_of d.chain_pages)) s d.q d.cid)) refusals.Stranger
         ((is_none d.entry, refusals.NotBuilt) ∷ (not (in_state is_live s d.q), refusals.QueueGone) ∷ (queue_full s d.q, refusals.QueueFull) ∷ []) g.ok.0)))
-
-    s1 : State
-    s1 = a.on_records (with_record d.q d.cid a.submitted) (a.on_memory (with_pages (d.data_pages ++ d.chain_pages)) s)
 
     queues : (a.after_submit d s).device.queues ≡ change d.q (λ at. record at { unfetched = at.unfetched ++ entry ∷ [] }) s.device.queues
     queues =
@@ -374,7 +369,7 @@ chains_move drafts s e reply g = record {
     new d events.Accepted g entry r built at fits (Io request) w stands =
         let ids = ids_of s d.q d.cid r at in
         let of = (submits_of d r fits).0 in
-        let asked : d.request ≡ request = inside (sym of.work ∙ w) in
+        let asked : d.request ≡ request = (cc (sym of.work ∙ w)) in
         let l = (subst (StandsAs (a.after_submit d s).memory (a.after_submit d s).device.queues (a.after_submit d s).device.jobs (a.submitted r)) w stands).1 refl in
         record {
           draft = d;
@@ -385,9 +380,6 @@ chains_move drafts s e reply g = record {
           list = l;
           first = submitted_first s d g entry built (a.submitted r) request ids.0 ids.1 asked l;
         }
-      where
-        inside : {x y : Request} → Io x ≡ Io y → x ≡ y
-        inside e = cc
     new d reply g entry r built at fits (Io request) w stands = absurd g.ok.1
 
 abbrev pub AllChained : List DraftContents → State → Type 0

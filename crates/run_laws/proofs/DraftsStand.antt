@@ -3,7 +3,7 @@ use Rattle.machine_model.specs.Events as events
 use Rattle.machine_model.specs.Step as machine
 use Rattle.step_core.specs.declared.step.Reply.TheVariants as reply
 use Rattle.step_core.specs.declared.step.Step.TheVariants as step
-use Rattle.std.proofs.Common.{◌≡◌, ℕ, ◌==◌, Bool, true, false, ◌&&◌, List, [], ◌∷◌, ◌++◌, refl, ap, sym, ◌∙◌, subst, eqb-true, Some, replicate, eq-eqb, not, is_some, Option, None, length, append_assoc, append-nil, arith}
+use Rattle.std.proofs.Common.{◌≡◌, ℕ, ◌==◌, Bool, true, false, ◌&&◌, List, [], ◌∷◌, ◌++◌, refl, ap, sym, ◌∙◌, subst, eqb-true, Some, replicate, eq-eqb, not, is_some, Option, None, length, append_assoc, append-nil, arith, inl, inr}
 use Rattle.std.{proofs.lemmas.{Bool.{true≢false, and_parts, not-true}, List.Elements.{All-head, All-tail}}, specs.List.{list_any, AllByRecursion}}
 use Rattle.std.specs.Option.{option_map}
 use Rattle.io_commands.specs.{Asked.Request, DataBytes.{PagesOut, filled, gathered}, Drafts.{DraftContents, built}}
@@ -18,6 +18,7 @@ use Rattle.run_laws.specs.Drafts.{ReservedCommand, IsReservedDraft, benches_subm
 use Rattle.run_laws.specs.Values.{Done, Goes}
 use Rattle.page_memory.specs.Pages.{zero_page}
 use Rattle.two_sides.proofs.{Provided.all_at_found, Served.good_is}
+use Rattle.std.proofs.lemmas.Bool.{cases_Bool}
 
 -- Each draft that a bench keeps is that of a drafted command, and it keeps one of each name at most.
 
@@ -28,11 +29,10 @@ pub record DraftsStand (t : Table) : Type 0 where
 -- A reservation
 
 pub none_named : (t : Table) (new : State) (q : ℕ) (request : Request) (d : DraftContents) → machine.Step t.world (events.Reserve q request) (events.Reserved d) new → DraftsStand t → list_any (is_draft d.q d.cid) t.drafts ≡ false
-none_named t new q request d step h = go (list_any (is_draft d.q d.cid) t.drafts) refl
-  where
-    go : (b : Bool) → list_any (is_draft d.q d.cid) t.drafts ≡ b → b ≡ false
-    go false e = refl
-    go true e = grind (arith, found_any, none_there)
+none_named t new q request d step h = elim (cases_Bool (list_any (is_draft d.q d.cid) t.drafts)) [
+  | inl e ↦ rw e (grind (arith, found_any, none_there))
+  | inr e ↦ rw e refl
+]
 
 reserved_drafted : (s new : State) (q : ℕ) (request : Request) (d : DraftContents) → machine.Step s (events.Reserve q request) (events.Reserved d) new → Drafts d.q d.cid new.host.records
 reserved_drafted s new q request d step = (drafted_record d, record_reserved s new q request d step, record { phase = refl; request = d.request; work = refl })
@@ -279,14 +279,13 @@ all_more past m (Filled k n bytes d fill found fits world drafts untaken) h q ci
 all_more past m (Built k n d found world drafts idle) h q cid there =
     one_more past m q cid (idle q cid).1
     (h.all q cid (sym (any_with (is_draft q cid) (is_draft k n) built (λ x. refl) m.before.drafts) ∙ ap (list_any (is_draft q cid)) (sym drafts) ∙ there))
-all_more past m (Taken k n e step takes its drafts none) h q cid there = left (ap (list_any (is_draft q cid)) (sym drafts) ∙ there) ((k == q) && (n == cid)) refl
-  where
-    left : list_any (is_draft q cid) (without_first (is_draft k n) m.before.drafts) ≡ true → (b : Bool) → ((k == q) && (n == cid)) ≡ b → ReservedIn (past ++ m ∷ []) q cid
-    left there false is = one_more past m q cid (its q cid ∙ is) (h.all q cid (any_without (is_draft q cid) (is_draft k n) m.before.drafts there))
-    left there true is =
-        let both = and_parts (k == q) (n == cid) is in
-        absurd (true≢false (sym there ∙ ap (λ (x : ℕ). list_any (is_draft x cid) (without_first (is_draft k n) m.before.drafts)) (sym (eqb-true k q both.0))
-        ∙ ap (λ (x : ℕ). list_any (is_draft k x) (without_first (is_draft k n) m.before.drafts)) (sym (eqb-true n cid both.1)) ∙ gone (is_draft k n) m.before.drafts (h.stand.few k n)))
+all_more past m (Taken k n e step takes its drafts none) h q cid there = elim (cases_Bool ((k == q) && (n == cid))) [
+  | inl is ↦
+      let both = and_parts (k == q) (n == cid) is in
+      absurd (true≢false (sym (ap (list_any (is_draft q cid)) (sym drafts) ∙ there) ∙ ap (λ (x : ℕ). list_any (is_draft x cid) (without_first (is_draft k n) m.before.drafts)) (sym (eqb-true k q both.0))
+      ∙ ap (λ (x : ℕ). list_any (is_draft k x) (without_first (is_draft k n) m.before.drafts)) (sym (eqb-true n cid both.1)) ∙ gone (is_draft k n) m.before.drafts (h.stand.few k n)))
+  | inr is ↦ one_more past m q cid (its q cid ∙ is) (h.all q cid (any_without (is_draft q cid) (is_draft k n) m.before.drafts (ap (list_any (is_draft q cid)) (sym drafts) ∙ there)))
+]
 
 more : (past : List Done) (m : Done) → AreReserved past m.before → AreReserved (past ++ m ∷ []) m.after
 more past m h = record { stand = stand_on m.before m.what m.answer m.after (moves m) h.stand; all = all_more past m (moves m) h }

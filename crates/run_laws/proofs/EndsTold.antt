@@ -501,6 +501,12 @@ KnownIn s done r = In r s.host.records × Known s done r
 held_host : (done : List Made) (s : State) (e : Event) (reply : Reply) → Accepts s e reply → IsController e ≡ false → s.trusted ≡ true → Stood s → ((q : ℕ) → (q == 0) ≡ false → AnswersTold done q s.device.queues)
     → GoneTold done s.host.queues s.device.queues → AllByRecursion (KnownIn s done) s.host.records → AllByRecursion (HeldTold (done ++ made_of s e reply ∷ [])) (a.after s e reply).host.records
 held_host done s e reply ok c trusted stood answers gone h =
+    let less : (e : Event) (reply : Reply) → Accepts s e reply → (q cid : ℕ) → AllByRecursion (HeldTold (done ++ made_of s e reply ∷ [])) (without_record q cid s.host.records) =
+    λ e reply ok q cid. all_filter (HeldTold (done ++ made_of s e reply ∷ [])) (λ r. not (is_at q cid r)) s.host.records (still e reply ok) in
+    let began : (e : Event) (reply : Reply) → Accepts s e reply → (new : Record) → HeldTold (done ++ made_of s e reply ∷ []) new → AllByRecursion (HeldTold (done ++ made_of s e reply ∷ [])) (s.host.records ++ new ∷ []) =
+    λ e reply ok new own. all_append (HeldTold (done ++ made_of s e reply ∷ [])) s.host.records (new ∷ []) (still e reply ok) (own, tt) in
+    let sends : (e : Event) (id : ℕ) → Accepts s e (events.Sent id) → (adm : AdminKind) → AllByRecursion (HeldTold (done ++ made_of s e (events.Sent id) ∷ [])) (s.host.records ++ sent_record adm id ∷ []) =
+    λ e id ok adm. began e (events.Sent id) ok (sent_record adm id) (λ held. absurd (true≢false (sym held))) in
     host_moves (λ (e : Event) (reply : Reply) (t : State). Accepts s e reply → AllByRecursion (HeldTold (done ++ made_of s e reply ∷ [])) t.host.records) s e reply ok c
     (record {
       reserves = λ q request d none is ok. began (events.Reserve q request) (events.Reserved d) ok (drafted_record d) (λ held. absurd (true≢false (sym held)));
@@ -535,15 +541,6 @@ held_host done s e reply ok c trusted stood answers gone h =
   where
     still : (e : Event) (reply : Reply) → Accepts s e reply → AllByRecursion (HeldTold (done ++ made_of s e reply ∷ [])) s.host.records
     still e reply ok = all_in (KnownIn s done) (HeldTold (done ++ made_of s e reply ∷ [])) s.host.records (λ r within k. held_stays done s e reply ok r k.1) h
-
-    less : (e : Event) (reply : Reply) → Accepts s e reply → (q cid : ℕ) → AllByRecursion (HeldTold (done ++ made_of s e reply ∷ [])) (without_record q cid s.host.records)
-    less e reply ok q cid = all_filter (HeldTold (done ++ made_of s e reply ∷ [])) (λ r. not (is_at q cid r)) s.host.records (still e reply ok)
-
-    began : (e : Event) (reply : Reply) → Accepts s e reply → (new : Record) → HeldTold (done ++ made_of s e reply ∷ []) new → AllByRecursion (HeldTold (done ++ made_of s e reply ∷ [])) (s.host.records ++ new ∷ [])
-    began e reply ok new own = all_append (HeldTold (done ++ made_of s e reply ∷ [])) s.host.records (new ∷ []) (still e reply ok) (own, tt)
-
-    sends : (e : Event) (id : ℕ) → Accepts s e (events.Sent id) → (adm : AdminKind) → AllByRecursion (HeldTold (done ++ made_of s e (events.Sent id) ∷ [])) (s.host.records ++ sent_record adm id ∷ [])
-    sends e id ok adm = began e (events.Sent id) ok (sent_record adm id) (λ held. absurd (true≢false (sym held)))
 
     -- a command that is held no more
     moved : (e : Event) (reply : Reply) → Accepts s e reply → (q cid : ℕ) (f : Record → Record) → ((r : Record) → is_held (f r).phase ≡ false) → AllByRecursion (HeldTold (done ++ made_of s e reply ∷ [])) (with_record q cid f s.host.records)

@@ -94,16 +94,7 @@ completed drafts s q cid j stood known at some = go (j.q == 0) refl
     io : JobDraft drafts s q cid j → (o : Option Status) → j.verdict ≡ o → is_some o ≡ true
         → jobs.image_after s.device.image j.entry j.bytes o ≡ (if is_success (jobs.status_after s.device.image j.entry j.bytes o) then option_map_or (λ d. written_by d s.device.image) (draft_of q cid drafts) s.device.image else s.device.image)
     io d None is some = absurd (true≢false (sym some))
-    io d (Some v) is some = by (is_success v) refl
-      where
-        by : (b : Bool) → is_success v ≡ b
-            → (if b then jobs.image_by s.device.image j.entry j.bytes (kind_of_opcode j.entry.opcode) else s.device.image)
-            ≡ (if is_success (if b then jobs.status_by s.device.image j.entry j.bytes (kind_of_opcode j.entry.opcode) else v) then option_map_or (λ d. written_by d s.device.image) (draft_of q cid drafts) s.device.image else s.device.image)
-        by true ok =
-            subst (λ (k : Option Kind). jobs.image_by s.device.image j.entry j.bytes k ≡ (if is_success (jobs.status_by s.device.image j.entry j.bytes k) then option_map_or (λ d. written_by d s.device.image) (draft_of q cid drafts) s.device.image else s.device.image)) (sym d.kind)
-            (subst (λ (o : Option DraftContents). jobs.image_by s.device.image j.entry j.bytes (Some d.list.request.kind) ≡ (if is_success (jobs.status_by s.device.image j.entry j.bytes (Some d.list.request.kind)) then option_map_or (λ d. written_by d s.device.image) o s.device.image else s.device.image)) (sym d.latest)
-            (by_kind drafts s q cid j d v is ok d.list.request.kind refl))
-        by false ok = sym (ap (λ (b : Bool). if b then option_map_or (λ d. written_by d s.device.image) (draft_of q cid drafts) s.device.image else s.device.image) ok)
+    io d (Some v) is some = grind (arith, by_kind)
 
     go : (b : Bool) → (j.q == 0) ≡ b → (if b then s.device.image else jobs.image_after s.device.image j.entry j.bytes j.verdict)
         ≡ (if is_success (if b then unwrap_or j.verdict SUCCESS else jobs.status_after s.device.image j.entry j.bytes j.verdict) then option_map_or (λ d. written_by d s.device.image) (draft_of q cid drafts) s.device.image else s.device.image)
@@ -339,7 +330,7 @@ completed_job s e reply q cid st h = absurd cc
 told_by_draft : (drafts : List DraftContents) (s : State) (q cid : ℕ) (j : Job) (d : DraftContents) → Stood s → Known drafts s → job_at s q cid ≡ Some j → draft_of q cid drafts ≡ Some d → d.request.kind ≡ Compare
     → (j.entry.opcode == COMPARE) ≡ true
 told_by_draft drafts s q cid j d stood known at latest kind = elim (cases_Bool (j.q == 0)) [
-  | inl z ↦ absurd (no_draft (sym (subst (λ (n : ℕ). draft_of n cid drafts ≡ None) (sym (eqb-true j.q 0 z) ∙ its_queue) (known.no_admin cid)) ∙ latest))
+  | inl z ↦ absurd (cc (sym (subst (λ (n : ℕ). draft_of n cid drafts ≡ None) (sym (eqb-true j.q 0 z) ∙ its_queue) (known.no_admin cid)) ∙ latest))
   | inr z ↦
       let k = job_draft drafts s q cid j stood known z at in
       let same : k.of.draft ≡ d = some_is (sym k.latest ∙ latest) in
@@ -348,9 +339,6 @@ told_by_draft drafts s q cid j d stood known at latest kind = elim (cases_Bool (
   where
     its_queue : j.q ≡ q
     its_queue = eqb-true j.q q (and_parts (j.q == q) (j.entry.cid == cid) (find_sound (is_job_tokens q cid) s.device.jobs j at)).0
-
-    no_draft : None ≡ Some d → ⊥
-    no_draft e = cc
 
 pub compares_told : compares_by_their_drafts
 compares_told image earlier later m end q cid st d run status latest kind fine =

@@ -135,6 +135,7 @@ left_at t e r world = record (kept t (asked e) r) { world = world }
 pub released_more : (made : List Made) (t : Table) (f : FinishedContents) (world : State) → machine.Step t.world (events.Release f) events.Accepted world → AreFrom made t
     → AreFrom (made ++ made_at t.world (events.Release f) events.Accepted ∷ []) (left_at t (events.Release f) events.Accepted world)
 released_more made t f world step h =
+    let m = made_at t.world (events.Release f) events.Accepted in
     record {
       tickets = same_tickets made m t t refl h;
       finished = all_without (WasCollected (made ++ m ∷ [])) (is_finished f.q f.cid) t.finished (all_on made m t.finished (λ k n there. refl) h.finished);
@@ -142,9 +143,6 @@ released_more made t f world step h =
       few = λ k n. few_without (is_finished k n) (is_finished f.q f.cid) t.finished (h.few k n);
     }
   where
-    m : Made
-    m = made_at t.world (events.Release f) events.Accepted
-
     left : (k n : ℕ) → list_any (is_finished k n) (without_first (is_finished f.q f.cid) t.finished) ≡ true → (b : Bool) → ((f.q == k) && (f.cid == n)) ≡ b → Stands k n world.host.records
     left k n there false e = step_stands k n t.world (events.Release f) events.Accepted world step e (h.stands k n (any_without (is_finished k n) (is_finished f.q f.cid) t.finished there))
     left k n there true e =
@@ -240,10 +238,7 @@ collected_more made t q cid f world there step h =
     new_name k n late false e = refl
     new_name k n late true e =
         let is = is_name k n late in
-        absurd (true≢false (sym (both_same (eq-eqb q k is.0) (eq-eqb cid n is.1)) ∙ far k n e))
-      where
-        both_same : (q == k) ≡ true → (cid == n) ≡ true → ((q == k) && (cid == n)) ≡ true
-        both_same x y = rw (x, y) refl
+        absurd (true≢false (sym (rw ((eq-eqb q k is.0), (eq-eqb cid n is.1)) refl) ∙ far k n e))
 
 -- What stands behind the values that a bench keeps, behind each of its steps.
 
@@ -331,9 +326,7 @@ same_since [] = refl
 same_since (d ∷ done) = parts (list_any is_reset done) (is_reset d) ∙ go (kind d) (same_since done)
   where
     parts : (b c : Bool) → made_by (if b then since_reset done else if c then done else (d ∷ done)) ≡ (if b then made_by (since_reset done) else if c then made_by done else first_made d (made_by done))
-    parts true c = refl
-    parts false true = refl
-    parts false false = refl
+    parts b c = grind arith
 
     stays : (b c : Bool) → b ≡ list_any laws.is_reset (made_by done) → (if b then histories.since_reset (made_by done) else if c then made_by done else made_by done) ≡ histories.since_reset (made_by done)
     stays true c any = refl
@@ -428,15 +421,12 @@ record IsCompletion (q cid : ℕ) (d : Done) : Type 0 where
 completion : (q cid : ℕ) (d : Done) (touched : List ℕ) → d.what ≡ step.Complete q cid → d.answer ≡ reply.Completed touched → IsCompletion q cid d
 completion q cid d touched what answer = go (kind d)
   where
-    event : event_at d.before d.what ≡ Some (events.Complete q cid)
-    event = ap (event_at d.before) what
-
     go : StepKind d → IsCompletion q cid d
     go (OfMachine e at m same) =
-        let asks : e ≡ events.Complete q cid = inside (sym at ∙ event) in
+        let asks : e ≡ events.Complete q cid = inside (sym at ∙ (ap (event_at d.before) what)) in
         let tells : m.reply ≡ events.Completed touched = completed_told m.reply touched (sym m.tells ∙ answer) in
         record { touched = touched; first = λ made. same made ∙ ap₂ (λ (x : Event) (r : events.Reply). made_at d.before.world x r ∷ made) asks tells }
-    go (OfBench at own same) = absurd (let bad : None ≡ Some (events.Complete q cid) = sym at ∙ event in cc)
+    go (OfBench at own same) = absurd (let bad : None ≡ Some (events.Complete q cid) = sym at ∙ (ap (event_at d.before) what) in cc)
 
 -- the image before a step of a run
 image_then : (image : List ℕ) (before : List Made) (m : Made) (later : List Made) (end : State) → TrustedRun image (before ++ m ∷ later) end → m.before.device.image ≡ image_after image before
@@ -558,6 +548,9 @@ command_of image end f made w run =
 steps_of : (image : List ℕ) (done : List Done) (end : Table) (q cid : ℕ) (f : FinishedContents) (made : List Made) (w : WasCollected made f) (run : TrustedRun image made end.world)
     → made_by done ≡ made → f.q ≡ q → f.cid ≡ cid → IsOfSteps done q cid (command_of image end f made w run)
 steps_of image done end q cid f made w run values queue identifier =
+    let last = split_made done (w.before ++ w.submitted ∷ w.between) w.collected w.later (values ∙ w.parts) in
+    let first = split_made last.earlier w.before w.submitted w.between last.before in
+    let submits = first.is_of.event ∙ ap Some (submission_is w.submitted.event w.submitted.reply w.draft w.is_submission) in
     record {
       earlier = first.earlier;
       submission = first.at;
@@ -575,15 +568,6 @@ steps_of image done end q cid f made w run values queue identifier =
       made_between = first.behind;
       made_later = last.behind;
     }
-  where
-    last : SplitAt done (w.before ++ w.submitted ∷ w.between) w.collected w.later
-    last = split_made done (w.before ++ w.submitted ∷ w.between) w.collected w.later (values ∙ w.parts)
-
-    first : SplitAt last.earlier w.before w.submitted w.between
-    first = split_made last.earlier w.before w.submitted w.between last.before
-
-    submits : event_at first.at.before first.at.what ≡ Some (events.Submit w.draft)
-    submits = first.is_of.event ∙ ap Some (submission_is w.submitted.event w.submitted.reply w.draft w.is_submission)
 
 keeps_command : (image : List ℕ) (done : List Done) (end : Table) (q cid : ℕ) (f : FinishedContents) → TrustedBench image done end → finished_at q cid end.finished ≡ Some f
     → (k : KeepsCommand image done end q cid) × (k.command.finished ≡ f)

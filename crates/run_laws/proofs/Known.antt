@@ -142,10 +142,7 @@ other_draft s (events.Submit d') reply ok g r within sub d is = elim (cases_Bool
 ]
   where
     same : d' ≡ d
-    same = draft_is is
-      where
-        draft_is : {x y : DraftContents} → events.Submit x ≡ events.Submit y → x ≡ y
-        draft_is e = cc
+    same = grind arith
 other_draft s e reply ok g r within sub d is = absurd (cc)
 
 all_pages : (m : Pages) (pages : PagesOut) → ArePages pages → AllByRecursion (λ (page : ℕ × List ℕ). page_at m page.0 ≡ Some page.1) pages → AllByRecursion (Stands m) pages

@@ -361,9 +361,7 @@ front_reaped s f t q there =
     as_work an r (Io request) is rq fit =
         let fit' : OwnsFit r.q (Io request) (pages_of r) = subst (λ (x : Work). OwnsFit r.q x (pages_of r)) is fit in
         sym (ap (λ (b : Bool). if b then AdminDone an.cid an.status an.dw0 else Done an.cid an.status) (ap (λ (k : ℕ). k == 0) (sym rq) ∙ fit'))
-    as_work an r (Management adm) is rq fit =
-        let fit' : OwnsFit r.q (Management adm) (pages_of r) = subst (λ (x : Work). OwnsFit r.q x (pages_of r)) is fit in
-        sym (ap (λ (b : Bool). if b then AdminDone an.cid an.status an.dw0 else Done an.cid an.status) (eq-eqb q 0 (sym rq ∙ fit'.0)))
+    as_work an r (Management adm) is rq fit = grind (arith, eq-eqb)
 
     submitted : (an : Answer) (r : Record) → record_at s.host q an.cid ≡ Some r → is_submitted r.phase ≡ true → submitted_at s q an.cid ≡ Some r
     submitted an r e sub = ap (λ (o : Option Record). option_map_or (λ r. if is_submitted r.phase then Some r else None) o None) e ∙ ap (λ (b : Bool). if b then Some r else None) sub

@@ -236,7 +236,7 @@ collected_read image before fetched between collected later end f run is reads f
       found = found;
       soFar = subst (ReadIfIo (drafts_of (before ++ fetched ∷ between)) (images_of (λ q cid. image) (before ++ fetched ∷ between)) collected.before found.command) found.work
           (all_at_found (ReadRecord (drafts_of (before ++ fetched ∷ between)) (images_of (λ q cid. image) (before ++ fetched ∷ between)) collected.before) (is_at found.at_q found.at_cid) collected.before.host.records found.command found.found known.holds.reads.records
-          (stays found.command.phase found.held)) (reads_kind f reads);
+          (grind (arith, found.held))) (reads_kind f reads);
       member = all_at_found (Member collected.before) (is_at found.at_q found.at_cid) collected.before.host.records found.command found.found (members collected.before known.holds.traced.stood);
       image_is =
           image_at_fetch (λ q cid. image) before fetched between found.command.q found.command.cid
@@ -245,9 +245,6 @@ collected_read image before fetched between collected later end f run is reads f
           ∙ (imaged_before image before (between ++ collected ∷ later) fetched end (subst (λ (made : List Made). TrustedRun image made end) (append_assoc before (fetched ∷ between) (collected ∷ later)) run)).holds.image_is;
       image_long = known.holds.reads.images found.command.q found.command.cid;
     }
-  where
-    stays : (ph : Phase) → is_held ph ≡ true → (is_submitted ph || is_held ph) ≡ true
-    stays ph h = grind arith
 
 -- its pages hold, byte for byte
 gathers_found : (image : List ℕ) (before : List Made) (fetched : Made) (between : List Made) (f : FinishedContents) (x : CollectedRead image before fetched between f)

@@ -401,7 +401,16 @@ quiet_answers s e reply r request x drafts at h sub = record {
     answered : (cid : ℕ) (j : Job) → e ≡ events.Complete r.q cid → job_at s r.q cid ≡ Some j → cid ≡ r.cid → is_success (a.final_status s j) ≡ true → (o : Option Status) → j.verdict ≡ o → Full (read_targets r request) h.k × InImage (a.after s e reply) request
     answered cid j is found same ok None v =
         absurd (true≢false (sym (has_verdict s r.q cid j (subst (λ (y : Event). refusal_of s y ≡ None) is x.ok.0) found) ∙ ap is_some v))
-    answered cid j is found same ok (Some v) verdict = go (is_success v) refl
+    answered cid j is found same ok (Some v) verdict = elim (cases_Bool (is_success v)) [
+      | inl well ↦
+          let reading = all_at_found (ReadingIf at s r request h.k) (is_job r.q cid) s.device.jobs j found (h.jobs sub) sq sc (ap goes_well verdict ∙ well) in (
+            all_came s x.stood at r request x.member x.work x.kind h.k j
+                (job_list s x.stood j (in_found (is_job r.q cid) s.device.jobs j found) other (λ P all. all_at_found P (is_job r.q cid) s.device.jobs j found all)) sq sc v verdict reading,
+            omega (arith, reading.inside, x.image),
+          )
+      | inr failed ↦
+          absurd (true≢false (sym ok ∙ ap is_success (final ∙ ap (λ (b : Bool). if b then jobs.status_by s.device.image j.entry j.bytes (kind_of_opcode j.entry.opcode) else v) failed) ∙ failed))
+    ]
       where
         ids : ((j.q == r.q) ≡ true) × ((j.entry.cid == cid) ≡ true)
         ids = and_parts (j.q == r.q) (j.entry.cid == cid) (find_sound (is_job r.q cid) s.device.jobs j found)
@@ -417,16 +426,6 @@ quiet_answers s e reply r request x drafts at h sub = record {
 
         final : final_status s j ≡ (if is_success v then jobs.status_by s.device.image j.entry j.bytes (kind_of_opcode j.entry.opcode) else v)
         final = ap (λ (b : Bool). if b then unwrap_or j.verdict SUCCESS else jobs.status_after s.device.image j.entry j.bytes j.verdict) other ∙ ap (jobs.status_after s.device.image j.entry j.bytes) verdict
-
-        go : (b : Bool) → is_success v ≡ b → Full (read_targets r request) h.k × InImage (a.after s e reply) request
-        go true well =
-            let reading = all_at_found (ReadingIf at s r request h.k) (is_job r.q cid) s.device.jobs j found (h.jobs sub) sq sc (ap goes_well verdict ∙ well) in (
-              all_came s x.stood at r request x.member x.work x.kind h.k j
-                  (job_list s x.stood j (in_found (is_job r.q cid) s.device.jobs j found) other (λ P all. all_at_found P (is_job r.q cid) s.device.jobs j found all)) sq sc v verdict reading,
-              omega (arith, reading.inside, x.image),
-            )
-        go false failed =
-            absurd (true≢false (sym ok ∙ ap is_success (final ∙ ap (λ (b : Bool). if b then jobs.status_by s.device.image j.entry j.bytes (kind_of_opcode j.entry.opcode) else v) failed) ∙ failed))
 
 -- so it is known after the event, as far
 pub quiet_on : (s : State) (e : Event) (reply : Reply) (r : Record) (request : Request) (x : Quiet s e reply r request) → takes e r ≡ false → (drafts : List DraftContents) (at : Images) (h : ReadSoFar drafts at s r request)

@@ -11,7 +11,7 @@ use Rattle.machine_model.specs.{Image.{Made, submitted_by}, Memory.{memory_of, w
 use Rattle.machine_model.specs.Refusals.{is_submitted, refusal_of, job_at, is_job, is_drafted, is_held, is_of, asks_for, first_answer}
 use Rattle.machine_model.specs.{Standing.unfetched_at, State.{State, DeviceQueue, Record, Job, is_at, Answer, record_at, with_record}}
 use Rattle.machine_model.specs.{Step.{reaped}, Trusted.{TrustedRun, drafts_of}, Weights.{one, total, here, sent}, Work.Work}
-use Rattle.machine_model.specs.declared.words.{Phase.{Phase, TheVariants.Held}, Refusal.Refusal, Work.TheVariants.{Io, Management}}
+use Rattle.machine_model.specs.declared.words.{Phase.{TheVariants.Held}, Refusal.Refusal, Work.TheVariants.{Io, Management}}
 use Rattle.page_ledger.specs.Owners.{is_among}
 use Rattle.page_memory.specs.Pages.{Pages, page_at, with_bytes, with_page_bytes}
 use Rattle.sgl_descriptor.specs.{Spelling.{spelling, descriptor_of}, Targets.{Target, Place, targets}, declared.Direction.{Direction, TheVariants.Destination}}
@@ -371,14 +371,11 @@ reads_move drafts at s e reply x = record {
       (λ z. new d z entry r built found fits r.work refl) x;
   reaps = λ q cid st request r is n status found w p stays.
       subst (ReadIfIo (submitted_by e reply ++ drafts) (fetched_in s e reply at) (a.after s e reply) (a.held st r)) (sym w)
-      (λ kind. reap q cid st request r is n status found w p.0 kind (subst (ReadIfIo drafts at s r) w (p.1 (stays_sub r.phase (reaped_sub q cid r n found))) kind));
-  loses = λ r within sub far p stays. lose r within sub far p.0 r.work refl (p.1 (stays_sub r.phase sub));
+      (λ kind. reap q cid st request r is n status found w p.0 kind (subst (ReadIfIo drafts at s r) w (p.1 (rw (reaped_sub q cid r n found) refl)) kind));
+  loses = λ r within sub far p stays. lose r within sub far p.0 r.work refl (p.1 (rw sub refl));
   collects = λ r p stays. absurd (true≢false (sym stays));
 }
   where
-    stays_sub : (ph : Phase) → is_submitted ph ≡ true → (is_submitted ph || is_held ph) ≡ true
-    stays_sub ph e = rw e refl
-
     stay : (r : Record) → In r s.host.records → Member s r → takes e r ≡ false → (is_submitted r.phase || is_held r.phase) ≡ true → (w : Work) → r.work ≡ w
         → ReadIfIo drafts at s r w → ReadIfIo (submitted_by e reply ++ drafts) (fetched_in s e reply at) (a.after s e reply) r w
     stay r within m far stays (Management adm) w h = tt
@@ -420,7 +417,7 @@ reads_move drafts at s e reply x = record {
         → request.kind ≡ Read → ReadSoFar drafts at s r request → ReadSoFar (submitted_by e reply ++ drafts) (fetched_in s e reply at) (a.after s e reply) (a.held st r) request
     reap q cid st request r is n status found w m kind h =
         let sub = reaped_sub q cid r n found in
-        let y = kept s e reply x r request (in_found (is_at q cid) s.host.records r found) m (stays_sub r.phase sub) (subst (λ (z : Event). takes z r ≡ false) (sym is) refl) w kind drafts at h in
+        let y = kept s e reply x r request (in_found (is_at q cid) s.host.records r found) m (rw sub refl) (subst (λ (z : Event). takes z r ≡ false) (sym is) refl) w kind drafts at h in
         hold st r request y.0
         (λ ok. let f = answered_full s q cid st r request h.k x.trusted n status (ids_of s q cid r found) ok (h.answers sub) in (λ i p target. omega (arith, f.0 i p target, y.1), omega (arith, f.1, x.image)))
 
@@ -428,7 +425,7 @@ reads_move drafts at s e reply x = record {
         → ReadIfIo (submitted_by e reply ++ drafts) (fetched_in s e reply at) (a.after s e reply) (record r { phase = Held; status = Some ABORTED_SQ_DELETION }) w
     lose r within sub far m (Management adm) w h = tt
     lose r within sub far m (Io request) w h = λ kind.
-        hold ABORTED_SQ_DELETION r request (kept s e reply x r request within m (stays_sub r.phase sub) far w kind drafts at (h kind)).0 (λ ok. absurd (true≢false (sym ok)))
+        hold ABORTED_SQ_DELETION r request (kept s e reply x r request within m (rw sub refl) far w kind drafts at (h kind)).0 (λ ok. absurd (true≢false (sym ok)))
 
 -- Steps
 

@@ -59,16 +59,15 @@ counted_same earlier j k m kq kc ku far still h = record {
 -- A step is no fetch of a job, and no walk of a job that it doesn't walk
 
 pub not_refetched : (s : State) (e : Event) (reply : Reply) → Going s e reply → (k : ℕ) (j : Job) → slice_get s.device.jobs k ≡ Some j → fetches_by j.q j.entry.cid e reply ≡ false
-not_refetched s (events.Fetch q) (events.Fetched c touched) g k j at = go ((q == j.q) && (c == j.entry.cid)) refl
-  where
-    go : (b : Bool) → ((q == j.q) && (c == j.entry.cid)) ≡ b → b ≡ false
-    go false e = refl
-    go true e =
-        let ids = and_parts (q == j.q) (c == j.entry.cid) e in
-        let f = fetched_entry s q j.entry.cid c g.ok.1.0 (eqb-true c j.entry.cid ids.1) in
-        let none = not_conflicting s g.stood q f.0 (in_hand s q f.0 f.1) in
-        let no = all_at (λ j. is_job q f.0.cid j ≡ false) s.device.jobs k j at (none_found q f.0.cid s.device.jobs none) in
-        absurd (true≢false (sym (rw (eq-eqb j.q q (sym (eqb-true q j.q ids.0)), eq-eqb j.entry.cid f.0.cid (sym f.2)) refl) ∙ no))
+not_refetched s (events.Fetch q) (events.Fetched c touched) g k j at = elim (cases_Bool ((q == j.q) && (c == j.entry.cid))) [
+  | inl e ↦
+      rw e (let ids = and_parts (q == j.q) (c == j.entry.cid) e in
+      let f = fetched_entry s q j.entry.cid c g.ok.1.0 (eqb-true c j.entry.cid ids.1) in
+      let none = not_conflicting s g.stood q f.0 (in_hand s q f.0 f.1) in
+      let no = all_at (λ j. is_job q f.0.cid j ≡ false) s.device.jobs k j at (none_found q f.0.cid s.device.jobs none) in
+      absurd (true≢false (sym (rw (eq-eqb j.q q (sym (eqb-true q j.q ids.0)), eq-eqb j.entry.cid f.0.cid (sym f.2)) refl) ∙ no)))
+  | inr e ↦ rw e refl
+]
 not_refetched s (events.Fetch q) reply g k j at = absurd g.ok.1
 not_refetched s e reply g k j at = refl
 
@@ -230,12 +229,10 @@ walk_decided s k c q cid far h = go (job_at s k c)
     moved j Source (Moves place n offset) =
         last j (map (λ (x : Job). if (x.q == k) && (x.entry.cid == c) then record x { bytes = with_bytes x.bytes offset (a.page_bytes s.memory place n) } else x) s.device.jobs)
         (other_job q cid k c (λ x. record x { bytes = with_bytes x.bytes offset (a.page_bytes s.memory place n) }) s.device.jobs far (λ x. refl) (λ x. refl) h)
-    moved j Destination (Moves place n offset) = at (job_at s k c)
-      where
-        at : (o : Option Job) → DecidedIn q cid (a.on_job k c (λ x. record x { units_done = x.units_done + 1; verdict = verdict_of (a.next_answer s j) })
-            (option_map_or (λ j. a.on_memory (λ m. with_page_bytes m (place / 4096) (place % 4096) (take n (drop offset j.bytes))) s) o s)).device.jobs
-        at None = last j s.device.jobs h
-        at (Some x) = last j s.device.jobs h
+    moved j Destination (Moves place n offset) = elim (option_is (job_at s k c)) [
+      | inl e ↦ rw e (last j s.device.jobs h)
+      | inr (x, e) ↦ rw e (last j s.device.jobs h)
+    ]
 
     inner : (j : Job) (o : Option Act) → DecidedIn q cid (option_map_or (λ act. a.on_job k c (λ x. record x { units_done = x.units_done + 1; verdict = verdict_of (a.next_answer s j) }) (a.moved (direction_of_entry j.entry) act k c s)) o s).device.jobs
     inner j None = h
@@ -380,9 +377,6 @@ last_ends image before walked between again later end q cid run ends walks = go 
     unforged =
         unforged_front (before ++ walked ∷ between) (again ∷ later) s0 (unforged_run image (before ++ walked ∷ between ++ again ∷ later) end run)
 
-    trusted_again : at_again.0.trusted ≡ true
-    trusted_again = unforged_end (before ++ walked ∷ between) s0 at_again.0 at_again.1 unforged
-
     unforged_walked : Unforged at_walked.0 (walked ∷ between)
     unforged_walked = unforged_back before (walked ∷ between) s0 at_walked.0 at_walked.1 unforged
 
@@ -400,4 +394,4 @@ last_ends image before walked between again later end q cid run ends walks = go 
     go false e =
         let kept = along_steps (Decided q cid) (ends_job q cid) (λ s e reply g far h. let both = or_parts (completes_by q cid e reply) (resets e) far in decided_step q cid s e reply g both.0 both.1 h) between at_walked.2.1 at_again.0 at_walked.2.3 unforged_behind stood_behind e
         (ended at_walked.0 at_walked.2.1 walked.event walked.reply q cid at_walked.2.2 unforged_walked.trusted stood_walked ends) in
-        absurd (not_again at_again.0 at_again.2.1 again.event again.reply q cid at_again.2.2 trusted_again kept.0 walks kept.1)
+        absurd (not_again at_again.0 at_again.2.1 again.event again.reply q cid at_again.2.2 (unforged_end (before ++ walked ∷ between) s0 at_again.0 at_again.1 unforged) kept.0 walks kept.1)
