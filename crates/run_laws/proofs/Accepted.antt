@@ -1,41 +1,35 @@
 -- Which events are accepted.
-use Rattle.machine_model.specs.declared.words.Refusal.TheVariants as refusals
 use Rattle.machine_model.specs.Events as events
 use Rattle.machine_model.specs.After as a
 use Rattle.std.proofs.Common.{◌≡◌, ℕ, suc, ◌≤◌, Bool, true, false, ◌&&◌, List, [], ◌∷◌, ◌++◌, length, if◌then◌else◌, refl, ap, arith, ◌⊎◌, inl, inr, ◌+◌, nat_lt, not, ◌||◌, Option, Some, None, is_some, is_none, MatchBool, ap₂, sym, ◌∙◌, subst, ◌==◌, map, eqb-true}
-use Rattle.std.proofs.lemmas.{Bool.{true≢false, not-false, not-true, and_parts, Decides.nat_tests}, List.Elements.{All-nil, All-cons, All-append}}
-use Rattle.std.specs.{List.AllByRecursion, Option.{option_map, option_and_then, option_map_or}}
+use Rattle.std.proofs.lemmas.{Bool.{true≢false, not-true, and_parts, Decides.nat_tests}, List.Elements.{All-nil, All-cons, All-append}}
+use Rattle.std.specs.{List.AllByRecursion, Option.{option_map, option_and_then}}
 use Rattle.page_ledger.specs.Owners.{is_among}
 use Rattle.page_memory.specs.Pages.{zero_page}
 use Rattle.machine_model.proofs.{Cases.option_is, Counting.{held_once, not_held, zeroed_numbers as numbers_zeroed}}
 use Rattle.machine_model.proofs.Headline.{length_placed, length_chain, placement_times, room_for}
 use Rattle.machine_model.proofs.{Moves.{host_moves, drafted_record, sent_record, creates_cq, creates_sq}, Owned.{holds_from_sound, all_reset, lost_by}}
 use Rattle.machine_model.proofs.{Steps.{part_controller, surely, first_fails, rest_fails, unrefused, Accepts, part_left}, Tokens.find_sound}
-use Rattle.machine_model.specs.{After.next_answer, Claims.{IsSound, OwnsFit, AdminLives}, Events.{Event, Reply}, Memory.{zeroed_pages, is_in}}
+use Rattle.machine_model.specs.{After.next_answer, Claims.{IsSound, OwnsFit, AdminLives}, Events.{Event, Reply}, Memory.{zeroed_pages}}
 use Rattle.machine_model.specs.{Placement.{data_placed, chain_placed, chain_wanted}, Proper.IsProper}
-use Rattle.machine_model.specs.Refusals.{refusal_of, host_queue, next_rung, post_page, fetch_page, conflicts, answers_full, record_is, is_submitted, is_held, no_identifier, pages_wanted, is_live}
+use Rattle.machine_model.specs.Refusals.{refusal_of, host_queue, next_rung, post_page, is_submitted, is_held, no_identifier, pages_wanted}
 use Rattle.machine_model.specs.State.{State, Record, is_at, record_at, HostQueue, pages_of, with_record, without_record}
-use Rattle.machine_model.specs.Step.{times, zeroed, Permits, Refuses, Leaves, Answers, AnswersAnything, IsController, IsReserved, IsNewIdentifier, is_exact, reaped, touched_by_fetch, finished_from, asked_by, pages_with_bytes, Step, HostPart}
-use Rattle.machine_model.specs.{Work.Work, declared.words.{HostState.TheVariants.Deleting, Phase.TheVariants.Held, Refusal.Refusal, Work.TheVariants.Io}}
+use Rattle.machine_model.specs.Step.{times, zeroed, Permits, Answers, AnswersAnything, IsController, IsReserved, IsNewIdentifier, is_exact, reaped, touched_by_fetch, finished_from, asked_by, pages_with_bytes, Step, HostPart}
+use Rattle.machine_model.specs.{Work.Work, declared.words.{HostState.TheVariants.Deleting, Phase.TheVariants.Held, Work.TheVariants.Io}}
 use Rattle.sgl_chain.specs.Chains.{pages_needed}
 use Rattle.controller_walk.specs.{Units.touched, declared.walk.WalkState.TheVariants.More}
 use Rattle.entry_codec.specs.declared.{status.{Status.Status, TheConstants.Status.ABORTED_SQ_DELETION}, submission.SubEntry.SubEntry}
 use Rattle.io_commands.specs.{Asked.Request, Drafts.DraftContents, Requests.{data_count, joined_parts}, Values.FinishedContents}
 use Rattle.two_sides.proofs.Agreed.{IsJudged, host_judged, judged, unjudged, done, new_identifier, walk_allowed, has_unit, opens_in_order, order_kept}
 use Rattle.two_sides.{proofs.{Provided.{all_at_found, all_map, all_filter, all_append, all_in_both}, Untouched.owned_once}, specs.InOrder.IsInOrder}
-use Rattle.run_laws.specs.Accepted.{HasEnded, EndedIfHeld, IsReady, IsAccepted, is_refusal, every_event_is_accepted_or_has_a_cause, every_reset_is_accepted, IsAcceptedReset, resets_have_one_answer, queue_of, forged_worlds_accept_the_controller, forged_worlds_know_their_queues, openings_are_ready, steps_keep_ready}
+use Rattle.run_laws.specs.Accepted.{HasEnded, EndedIfHeld, IsReady, IsAccepted, is_refusal, every_event_is_accepted_or_has_a_cause, every_reset_is_accepted, resets_have_one_answer, forged_worlds_accept_the_controller, forged_worlds_know_their_queues, openings_are_ready, steps_keep_ready}
 use Rattle.admin_commands.specs.declared.AdminKind.{AdminKind, TheVariants.{Abort, DeleteSq, DeleteCq}}
 
 -- Where pages do not run out, there are free ones.
 
 -- pages of which none stands twice, among free ones
 pub counted_free : (p : ℕ) (xs free : List ℕ) → times p xs ≤ times p free → times p free ≤ 1 → times p xs ≡ (if is_among xs p && is_among free p then 1 else 0)
-counted_free p xs free less once = go (is_among xs p) refl (is_among free p) refl
-  where
-    go : (a : Bool) → is_among xs p ≡ a → (b : Bool) → is_among free p ≡ b → times p xs ≡ (if a && b then 1 else 0)
-    go true e true f = omega (arith, held_once p xs e, less, once)
-    go true e false f = absurd (omega (arith, held_once p xs e, less, not_held p free f))
-    go false e b f = not_held p xs e
+counted_free p xs free less once = grind (arith, held_once, not_held)
 
 all_zeroed : (xs : List ℕ) → zeroed (zeroed_pages xs)
 all_zeroed [] = All-nil (λ (page : ℕ × List ℕ). page.1 ≡ zero_page)
@@ -54,10 +48,7 @@ length_zeroed (x ∷ xs) = ap suc (length_zeroed xs)
 accepted_by : (s : State) (e : Event) (reply : Reply) → IsProper e → IsJudged s e → IsController e ≡ false ⊎ (is_exact e s.trusted ≡ true) → refusal_of s e ≡ None → Answers s e reply → IsAccepted s e
 accepted_by s e reply proper judged exact none answer =
     let left = done s e reply proper judged exact none answer in
-    record { reply = reply; left = left.0; accepted = accepts reply answer; step = left.1 }
-  where
-    accepts : (reply : Reply) → Answers s e reply → not (is_refusal reply) ≡ true
-    accepts reply answer = grind arith
+    record { reply = reply; left = left.0; accepted = (grind arith); step = left.1 }
 
 by_host : (s : State) (e : Event) (reply : Reply) → IsProper e → IsController e ≡ false → refusal_of s e ≡ None → Answers s e reply → IsAccepted s e
 by_host s e reply proper host = accepted_by s e reply proper (host_judged s e host) (inl host)
@@ -116,17 +107,7 @@ by_reserve s q r sound proper none =
 
 -- the record that a collection finds is held
 held_found : (s : State) (q cid : ℕ) → refusal_of s (events.Collect q cid) ≡ None → (r : Record) × (record_at s.host q cid ≡ Some r) × (is_held r.phase ≡ true)
-held_found s q cid none = elim (option_is (record_at s.host q cid)) [
-  | inl e ↦ absurd (true≢false (sym (rw e at known)))
-  | inr (r, e) ↦ let h = rw e at known in let g = rw e at ended in (r, e, grind (arith, h, g))
-]
-  where
-    known : record_is (λ r. is_submitted r.phase || is_held r.phase) s q cid ≡ true
-    known = not-false _ (first_fails (not (record_is (λ r. is_submitted r.phase || is_held r.phase) s q cid)) refusals.Stranger ((record_is (λ r. is_submitted r.phase) s q cid, refusals.NotYet) ∷ []) none)
-
-    ended : record_is (λ r. is_submitted r.phase) s q cid ≡ false
-    ended = first_fails (record_is (λ r. is_submitted r.phase) s q cid) refusals.NotYet []
-        (rest_fails (not (record_is (λ r. is_submitted r.phase || is_held r.phase) s q cid)) refusals.Stranger ((record_is (λ r. is_submitted r.phase) s q cid, refusals.NotYet) ∷ []) none)
+held_found s q cid none = grind (arith, first_fails, rest_fails)
 
 -- and so there is what is handed out
 finished_of : (s : State) (r : Record) → HasEnded r → (f : FinishedContents) × (finished_from s r ≡ Some f)
@@ -152,15 +133,12 @@ by_collect s q cid ready none =
 -- The controller's events, where nothing was forged
 
 by_fetch : (s : State) (q : ℕ) → s.trusted ≡ true → refusal_of s (events.Fetch q) ≡ None → IsAccepted s (events.Fetch q)
-by_fetch s q t none = elim (option_is (next_rung s q)) [
-  | inl e ↦ absurd (true≢false (rw e at some))
-  | inr (entry, e) ↦ by_controller s (events.Fetch q) (events.Fetched entry.cid (touched_by_fetch s q)) t tt refl none (ap (option_map (λ (x : SubEntry). x.cid)) e, refl)
-]
-  where
-    some : is_none (next_rung s q) ≡ false
-    some =
-        first_fails (is_none (next_rung s q)) refusals.Idle
-        ((not (is_in s.memory (fetch_page s q)), refusals.SlotOut) ∷ (conflicts s q && answers_full s q, refusals.Full) ∷ (conflicts s q && not (is_in s.memory (post_page s q)), refusals.SlotOut) ∷ []) none
+by_fetch s q t none =
+    let some : is_none (next_rung s q) ≡ false = grind (arith, first_fails) in
+    elim (option_is (next_rung s q)) [
+      | inl e ↦ absurd (true≢false (rw e at some))
+      | inr (entry, e) ↦ by_controller s (events.Fetch q) (events.Fetched entry.cid (touched_by_fetch s q)) t tt refl none (ap (option_map (λ (x : SubEntry). x.cid)) e, refl)
+    ]
 
 by_walk : (s : State) (q cid : ℕ) → s.trusted ≡ true → IsInOrder s → refusal_of s (events.Walk q cid) ≡ None → IsAccepted s (events.Walk q cid)
 by_walk s q cid t order none =
@@ -200,19 +178,7 @@ pub reset_accepted : every_reset_is_accepted
 reset_accepted s = (tt, judged _ _ (host_judged s events.Reset refl) (refl, tt), refl)
 
 pub reset_answered : resets_have_one_answer
-reset_answered s new reply step = go reply step.1 step.2
-  where
-    refused : (why : Refusal) (pages : List ℕ) → Refuses s events.Reset why pages → ⊥
-    refused refusals.Memory pages h = true≢false (sym h.0)
-    refused why pages h = none h.0
-      where
-        none : None ≡ Some why → ⊥
-        none e = cc
-
-    go : (reply : Reply) → Permits s events.Reset reply → Leaves s events.Reset reply new → IsAcceptedReset s reply new
-    go events.Accepted permits left = record { accepted = refl; left = left }
-    go (events.Refused why pages) permits left = absurd (refused why pages (surely _ s.trusted false refl permits))
-    go reply permits left = absurd (surely _ s.trusted false refl permits).1
+reset_answered s new reply step = grind arith
 
 -- Once something was forged
 
@@ -241,17 +207,7 @@ answered_anything : {B : Type 0} (A : Type 0) (t : Bool) → t ≡ false → Mat
 answered_anything A t e h = rw e at h
 
 pub queues_known : forged_worlds_know_their_queues
-queues_known s new e reply forged c step accepted = go e reply (not-true s.trusted forged) c step.1 accepted
-  where
-    go : (e : Event) (reply : Reply) → s.trusted ≡ false → IsController e ≡ true → Permits s e reply → not (is_refusal reply) ≡ true → is_some (host_queue s (queue_of e)) ≡ true
-    go e (events.Refused why pages) t c permits accepted = absurd (true≢false (sym accepted))
-    go (events.Fetch q) (events.Fetched cid pages) t c permits accepted = (answered_anything _ s.trusted t permits).0
-    go (events.Walk q cid) (events.Walked outcome pages) t c permits accepted = (answered_anything _ s.trusted t permits).0
-    go (events.Complete q cid) (events.Completed pages) t c permits accepted = (answered_anything _ s.trusted t permits).0
-    go (events.Fetch q) reply t c permits accepted = absurd (answered_anything _ s.trusted t permits)
-    go (events.Walk q cid) reply t c permits accepted = absurd (answered_anything _ s.trusted t permits)
-    go (events.Complete q cid) reply t c permits accepted = absurd (answered_anything _ s.trusted t permits)
-    go e reply t c permits accepted = absurd (true≢false (sym c))
+queues_known s new e reply forged c step accepted = grind (arith, not-true s.trusted forged)
 
 -- A held command is an I/O command and has its status, after each step, whatever was forged.
 
@@ -278,13 +234,7 @@ not_held_now q cid f free rs h = all_map EndedIfHeld EndedIfHeld (λ r. if is_at
 -- Retiring: queue 0 is never deleted
 
 deleted_other : (s : State) (q : ℕ) (queue : HostQueue) → AdminLives s.host.queues → host_queue s q ≡ Some queue → queue.state ≡ Deleting true → (q == 0) ≡ false
-deleted_other s q queue lives there deleted = go (q == 0) refl
-  where
-    go : (b : Bool) → (q == 0) ≡ b → b ≡ false
-    go false e = refl
-    go true e =
-        let live : is_live queue.state ≡ true = sym (ap (λ (o : Option HostQueue). option_map_or (λ x. is_live x.state) o true) (subst (λ (n : ℕ). host_queue s n ≡ Some queue) (eqb-true q 0 e) there)) ∙ lives in
-        absurd (true≢false (sym live ∙ ap is_live deleted))
+deleted_other s q queue lives there deleted = grind (arith, eqb-true)
 
 ended_lost : (q : ℕ) → (q == 0) ≡ false → (rs : List Record) → AllByRecursion (λ r. OwnsFit r.q r.work (pages_of r) × EndedIfHeld r) rs → AllEnded (map (a.lost q) rs)
 ended_lost q other rs h = all_map (λ r. OwnsFit r.q r.work (pages_of r) × EndedIfHeld r) EndedIfHeld (a.lost q) rs (λ r p. each r ((r.q == q) && is_submitted r.phase) refl p) h
@@ -300,6 +250,11 @@ ended_lost q other rs h = all_map (λ r. OwnsFit r.q r.work (pages_of r) × Ende
 
 host_ended : (s : State) (e : Event) (reply : Reply) → IsSound s → Accepts s e reply → IsController e ≡ false → AllEnded s.host.records → AllEnded (a.after s e reply).host.records
 host_ended s e reply sound ok c h =
+    let began : (new : Record) → EndedIfHeld new → AllEnded (s.host.records ++ new ∷ []) = λ new ended. all_append EndedIfHeld s.host.records (new ∷ []) h (ended, tt) in
+    let less : (q cid : ℕ) → AllEnded (without_record q cid s.host.records) = λ q cid. all_filter EndedIfHeld (λ r. not (is_at q cid r)) s.host.records h in
+    let sent : (adm : AdminKind) (id : ℕ) → AllEnded (s.host.records ++ sent_record adm id ∷ []) = λ adm id. began (sent_record adm id) (λ held. absurd (true≢false (sym held))) in
+    let io_queue : (q cid : ℕ) (r : Record) (request : Request) → r.work ≡ Io request → record_at s.host q cid ≡ Some r → (q == 0) ≡ false =
+    λ q cid r request w e. grind (arith, all_at_found, eqb-true, find_sound) in
     host_moves (λ (e : Event) (reply : Reply) (t : State). AllEnded t.host.records) s e reply ok c
     (record {
       reserves = λ q request d none is. began (drafted_record d) (λ held. absurd (true≢false (sym held)));
@@ -328,20 +283,6 @@ host_ended s e reply sound ok c h =
       resets = all_reset EndedIfHeld EndedIfHeld (λ r io ended. lost_by EndedIfHeld r (λ quiet. ended) (λ sub held. record { is_io = grind arith; has_status = refl })) s.host.records h;
     })
   where
-    began : (new : Record) → EndedIfHeld new → AllEnded (s.host.records ++ new ∷ [])
-    began new ended = all_append EndedIfHeld s.host.records (new ∷ []) h (ended, tt)
-
-    less : (q cid : ℕ) → AllEnded (without_record q cid s.host.records)
-    less q cid = all_filter EndedIfHeld (λ r. not (is_at q cid r)) s.host.records h
-
-    sent : (adm : AdminKind) (id : ℕ) → AllEnded (s.host.records ++ sent_record adm id ∷ [])
-    sent adm id = began (sent_record adm id) (λ held. absurd (true≢false (sym held)))
-
-    io_queue : (q cid : ℕ) (r : Record) (request : Request) → r.work ≡ Io request → record_at s.host q cid ≡ Some r → (q == 0) ≡ false
-    io_queue q cid r request w e =
-        let fit : OwnsFit r.q (Io request) (pages_of r) = subst (λ (x : Work). OwnsFit r.q x (pages_of r)) w (all_at_found (λ r. OwnsFit r.q r.work (pages_of r)) (is_at q cid) s.host.records r e sound.works_fit) in
-        subst (λ (n : ℕ). (n == 0) ≡ false) (eqb-true r.q q (and_parts (r.q == q) (r.cid == cid) (find_sound (is_at q cid) s.host.records r e)).0) fit
-
     told : (q cid : ℕ) (st : Status) (r : Record) → (q == 0) ≡ false → (b : Bool) → is_at q cid r ≡ b → Fine r → EndedIfHeld (if b then a.held st r else r)
     told q cid st r other true at p = λ held. record {
       is_io = io_of r (ap (λ (n : ℕ). n == 0) (eqb-true r.q q (and_parts (r.q == q) (r.cid == cid) at).0) ∙ other) r.work p.0;

@@ -1,23 +1,23 @@
 -- What a run carries from step to step: gathered bytes, what is received, and in which order.
 use Rattle.sgl_descriptor.specs.declared.Part.TheVariants as part
-use Rattle.std.proofs.Common.{◌≡◌, ◌⊎◌, inl, inr, ℕ, zero, suc, ◌+◌, ◌-◌, ◌%◌, ◌<◌, ◌≤◌, nat_lt, Bool, true, false, Option, Some, List, [], ◌∷◌, ◌++◌, length, take, drop, slice_get, refl, ap, sym, ◌∙◌, arith, subst, add-zero, append_assoc, ◌*◌, map, slice_range, replicate, ◌/◌, ◌==◌, slice_set, None, min, nat_eq, is_some, cond, eq-eqb}
+use Rattle.std.proofs.Common.{◌≡◌, ◌⊎◌, inl, inr, ℕ, zero, suc, ◌+◌, ◌-◌, ◌%◌, ◌<◌, ◌≤◌, nat_lt, Bool, true, false, Option, Some, List, [], ◌∷◌, ◌++◌, length, take, drop, slice_get, refl, ap, sym, ◌∙◌, arith, subst, add-zero, append_assoc, ◌*◌, map, slice_range, replicate, ◌/◌, ◌==◌, slice_set, None, min, eq-eqb}
 use Rattle.std.proofs.lemmas.{Bool.{or_parts, eqb-false, cases_Bool, or_left, or_right, Decides.nat_tests}, Grind.common_steps, List.Concat.flat_map-cons}
 use Rattle.std.{proofs.lemmas.Option.slice_get_within, specs.{List.{AllByRecursion, list_any, range_with_len}, Option.{option_map_or, option_and_then}}}
 use Rattle.page_ledger.specs.Owners.{is_among}
 use Rattle.page_memory.{proofs.Bytes.byte_in, specs.{Memory.{Memory, page_of, bytes_at}, Pages.{Pages, page_at, byte_at, with_bytes, with_page_bytes}}}
 use Rattle.sgl_descriptor.{proofs.Counts.targets-append, specs.{Spelling.descriptor_of, Targets.{Target, Place, targets, Discarded, targets_of_part, counted}}}
-use Rattle.sgl_descriptor.specs.declared.{Descriptor.{Descriptor, TheVariants.{DataBlock, BitBucket, Segment, LastSegment}}, Direction.Direction}
+use Rattle.sgl_descriptor.specs.declared.{Descriptor.{Descriptor, TheVariants.{DataBlock, BitBucket}}, Direction.Direction}
 use Rattle.sgl_descriptor.specs.declared.{Direction.TheVariants.{Destination, Source}, Part.Part}
 use Rattle.controller_walk.{proofs.{Along.more_parts, Courses.part_most}, specs.Along.{MovesAlong, MovesByte, taken, parts_taken, descriptor_at}}
 use Rattle.controller_walk.specs.Units.{Act, Stays, Reads, Moves, Course, Closes, Does, units, after_read, read_at, from_place, behind, goes_on, unless_fault, first_fault, moving, first_part, pages_spanned, entry_cursor, next, course_of_list}
-use Rattle.controller_walk.specs.declared.{cursor.Cursor.Cursor, walk.WalkState.TheVariants.{End, Fault}}
+use Rattle.controller_walk.specs.declared.{cursor.Cursor.Cursor}
 use Rattle.machine_model.{proofs.Counting.{times-cons, held_once}, specs.{After.page_bytes, Image.undiscarded, Reached.{on_pages, CourseIn}, Step.times}}
 use Rattle.machine_model.specs.Weights.{one}
 use Rattle.io_commands.specs.{DataBytes.{PagesOut, gathered}, Requests.{parts_of, crosses_page}, Values.numbers_of, declared.request.Piece.Piece}
 use Rattle.io_commands.specs.declared.request.Piece.TheVariants.{Data, Bucket}
 use Rattle.run_laws.specs.Blocks.{partly}
 use Rattle.two_sides.proofs.{Provided.some_is, Served.{not_crossing, in_page}, Untouched.bytes_elsewhere}
-use Rattle.entry_codec.specs.declared.status.{Status.Status, TheConstants.Status.DATA_TRANSFER_ERROR}
+use Rattle.entry_codec.specs.declared.status.{Status.Status}
 
 -- What the units of a course carry from memory to a source command's bytes: at its end the bytes of its data pages.
 
@@ -34,10 +34,7 @@ carried m (act ∷ acts) bytes = carried m acts (did m act bytes)
 pub carried_more : (m : Pages) (us : List Act) (t : ℕ) (act : Act) (bytes : List ℕ) → slice_get us t ≡ Some act → carried m (take (t + 1) us) bytes ≡ did m act (carried m (take t us) bytes)
 carried_more m [] t act bytes e = absurd cc
 carried_more m (u ∷ us) zero act bytes e = let same : u ≡ act = cc in ap (λ (x : Act). did m x bytes) same
-carried_more m (u ∷ us) (suc t) act bytes e = rw (one_further t) (carried_more m us t act (did m u bytes) e)
-  where
-    one_further : (t : ℕ) → suc t + 1 ≡ suc (t + 1)
-    one_further t = omega arith
+carried_more m (u ∷ us) (suc t) act bytes e = grind (arith, carried_more m us t act (did m u bytes))
 
 -- Units that move within pages which stay carry the same
 pub carried_same : (chain own : List ℕ) (m m' : Pages) → ((p : ℕ) → is_among own p ≡ true → page_at m' p ≡ page_at m p) → (c : Course) (t : ℕ) (bytes : List ℕ)
@@ -110,14 +107,8 @@ get_take (x ∷ xs) (suc n) (suc i) lt = get_take xs n i (omega (arith, lt))
 pub get_drop : {A : Type 0} (xs : List A) (n i : ℕ) → slice_get (drop n xs) i ≡ slice_get xs (n + i)
 get_drop [] zero i = refl
 get_drop [] (suc n) i = refl
-get_drop (x ∷ xs) zero i = rw (zero_more i) refl
-  where
-    zero_more : (i : ℕ) → 0 + i ≡ i
-    zero_more i = omega arith
-get_drop (x ∷ xs) (suc n) i = rw (one_further n i) (get_drop xs n i)
-  where
-    one_further : (n i : ℕ) → suc n + i ≡ suc (n + i)
-    one_further n i = omega arith
+get_drop (x ∷ xs) zero i = grind arith
+get_drop (x ∷ xs) (suc n) i = grind (arith, get_drop xs n i)
 
 pub get_front : {A : Type 0} (xs ys : List A) (i : ℕ) → i < length xs → slice_get (xs ++ ys) i ≡ slice_get xs i
 get_front [] ys i lt = absurd (omega (arith, lt))
@@ -125,14 +116,8 @@ get_front (x ∷ xs) ys zero lt = refl
 get_front (x ∷ xs) ys (suc i) lt = get_front xs ys i (omega (arith, lt))
 
 pub get_back : {A : Type 0} (xs ys : List A) (i : ℕ) → slice_get (xs ++ ys) (length xs + i) ≡ slice_get ys i
-get_back [] ys i = rw (zero_more i) refl
-  where
-    zero_more : (i : ℕ) → 0 + i ≡ i
-    zero_more i = omega arith
-get_back (x ∷ xs) ys i = rw (one_further (length xs) i) (get_back xs ys i)
-  where
-    one_further : (n i : ℕ) → suc n + i ≡ suc (n + i)
-    one_further n i = omega arith
+get_back [] ys i = grind arith
+get_back (x ∷ xs) ys i = grind (arith, get_back xs ys i)
 
 length_cut : (xs : List ℕ) (at : ℕ) → at ≤ length xs → length (take at xs) ≡ at
 length_cut xs at h = grind (arith, common_steps, h)
@@ -149,10 +134,7 @@ get_below xs new at i fits lt =
     ap (λ (ys : List ℕ). slice_get ys i) (apart xs new at) ∙ get_front (take at xs) (new ++ drop (at + length new) xs) i (omega (arith, lt, fits, length_cut xs at (omega (arith, fits)))) ∙ get_take xs at i lt
 
 pub get_within : (xs new : List ℕ) (at i : ℕ) → at + length new ≤ length xs → i < length new → slice_get (with_bytes xs at new) (at + i) ≡ slice_get new i
-get_within xs new at i fits lt =
-    ap (λ (ys : List ℕ). slice_get ys (at + i)) (apart xs new at)
-    ∙ subst (λ (k : ℕ). slice_get (take at xs ++ (new ++ drop (at + length new) xs)) (k + i) ≡ slice_get new i) (length_cut xs at (omega (arith, fits)))
-    (get_back (take at xs) (new ++ drop (at + length new) xs) i ∙ get_front new (drop (at + length new) xs) i lt)
+get_within xs new at i fits lt = grind (arith, apart, length_cut, get_back, get_front)
 
 pub get_above : (xs new : List ℕ) (at i : ℕ) → at + length new ≤ length xs → slice_get (with_bytes xs at new) (at + (length new + i)) ≡ slice_get xs (at + (length new + i))
 get_above xs new at i fits =
@@ -163,16 +145,10 @@ get_above xs new at i fits =
 
 -- what is read from one page
 pub move_length : (m : Pages) (ts : List Target) (place n offset : ℕ) → MoveTo m ts place n offset → length (page_bytes m place n) ≡ n
-move_length m ts place n offset h = rw h.there (cut h.page (place % 4096) (omega (arith, h.whole, h.one_page)))
-  where
-    cut : (xs : List ℕ) (at : ℕ) → at + n ≤ length xs → length (take n (drop at xs)) ≡ n
-    cut xs at fits = grind (arith, common_steps, fits)
+move_length m ts place n offset h = grind (arith, common_steps)
 
 pub move_byte : (m : Pages) (ts : List Target) (place n offset i : ℕ) → MoveTo m ts place n offset → i < n → slice_get (page_bytes m place n) i ≡ byte_at m (place + i)
-move_byte m ts place n offset i h lt =
-    let low : page_of (place + i) ≡ page_of place = omega (arith, h.one_page, lt) in
-    let at : (place + i) % 4096 ≡ place % 4096 + i = omega (arith, h.one_page, lt) in
-    rw (low, at, h.there) (get_take (drop (place % 4096) h.page) n i lt ∙ get_drop h.page (place % 4096) i)
+move_byte m ts place n offset i h lt = grind (arith, get_take, get_drop)
 
 pub place_is : {p q : ℕ} → Some (Place p) ≡ Some (Place q) → p ≡ q
 place_is e = cc
@@ -246,20 +222,16 @@ Gathers m (Discarded ∷ ts) gs = Gathers m ts gs
 
 gathers_append : (m : Pages) (ts us : List Target) (gs hs : List ℕ) → Gathers m ts gs → Gathers m us hs → Gathers m (ts ++ us) (gs ++ hs)
 gathers_append m [] us [] hs a b = b
-gathers_append m [] us (g ∷ gs) hs a b = absurd a
-gathers_append m (Place p ∷ ts) us [] hs a b = absurd a
 gathers_append m (Place p ∷ ts) us (g ∷ gs) hs a b = (a.0, gathers_append m ts us gs hs a.1 b)
 gathers_append m (Discarded ∷ ts) us gs hs a b = gathers_append m ts us gs hs a b
+gathers_append m ts us gs hs a b = absurd a
 
 gathers_range : (m : Pages) (xs : List ℕ) (addr : ℕ) → ((i : ℕ) → i < length xs → byte_at m (addr + i) ≡ slice_get xs i) → Gathers m (map (λ place. Place place) (range_with_len addr (length xs))) xs
 gathers_range m [] addr h = tt
 gathers_range m (x ∷ xs) addr h = (
   subst (λ (q : ℕ). byte_at m q ≡ Some x) (add-zero addr) (h 0 (omega arith)),
-  gathers_range m xs (addr + 1) (λ i lt. subst (λ (q : ℕ). byte_at m q ≡ slice_get xs i) (one_more addr i) (h (suc i) (omega (arith, lt)))),
+  gathers_range m xs (addr + 1) (λ i lt. subst (λ (q : ℕ). byte_at m q ≡ slice_get xs i) (omega arith) (h (suc i) (omega (arith, lt)))),
 )
-  where
-    one_more : (addr i : ℕ) → addr + suc i ≡ addr + 1 + i
-    one_more addr i = omega arith
 
 gathers_bucket : (m : Pages) (len : ℕ) → Gathers m (replicate len Discarded) []
 gathers_bucket m zero = tt
@@ -272,16 +244,9 @@ Stands m page = (page_at m page.0 ≡ Some page.1) × (length page.1 ≡ 4096)
 gathers_piece : (m : Pages) (page : ℕ × List ℕ) (offset len : ℕ) → Stands m page → offset + len ≤ 4096
     → Gathers m (map (λ place. Place place) (range_with_len (4096 * page.0 + offset) len)) (slice_range page.1 offset (offset + len))
 gathers_piece m page offset len stands fits =
+    let count : (xs : List ℕ) → offset + len ≤ length xs → length (take (offset + len - offset) (drop offset xs)) ≡ len = λ xs h. grind (arith, common_steps, h) in
     subst (λ (n : ℕ). Gathers m (map (λ place. Place place) (range_with_len (4096 * page.0 + offset) n)) (slice_range page.1 offset (offset + len))) (count page.1 (omega (arith, stands.1, fits)))
-    (gathers_range m (slice_range page.1 offset (offset + len)) (4096 * page.0 + offset) (λ i lt. byte i (omega (arith, lt, count page.1 (omega (arith, stands.1, fits))))))
-  where
-    count : (xs : List ℕ) → offset + len ≤ length xs → length (take (offset + len - offset) (drop offset xs)) ≡ len
-    count xs h = grind (arith, common_steps, h)
-
-    byte : (i : ℕ) → i < len → byte_at m (4096 * page.0 + offset + i) ≡ slice_get (take (offset + len - offset) (drop offset page.1)) i
-    byte i lt =
-        ap (byte_at m) (omega arith) ∙ byte_in m page.0 (offset + i) page.1 stands.0 (omega (arith, lt, fits))
-        ∙ sym (get_take (drop offset page.1) (offset + len - offset) i (omega (arith, lt)) ∙ get_drop page.1 offset i)
+    (gathers_range m (slice_range page.1 offset (offset + len)) (4096 * page.0 + offset) (λ i lt. (grind (arith, byte_in, get_take, get_drop))))
 
 -- the data pages hold what their draft gathers
 pub gathers_pieces : (m : Pages) (dir : Direction) (pieces : List Piece) (pages : PagesOut) → list_any crosses_page pieces ≡ false → AllByRecursion (Stands m) pages
@@ -306,14 +271,13 @@ gathers_pieces m dir (Data offset len ∷ pieces) (page ∷ pages) crosses stand
 pub all_stand : (m : Pages) (ts : List Target) (gs bs : List ℕ) → Gathers m ts gs → length bs ≡ length ts
     → ((i p x : ℕ) → slice_get ts i ≡ Some (Place p) → byte_at m p ≡ Some x → slice_get bs i ≡ Some x) → undiscarded ts bs ≡ gs
 all_stand m [] [] [] g len h = refl
-all_stand m [] [] (b ∷ bs) g len h = absurd (omega (arith, len))
 all_stand m [] (x ∷ gs) bs g len h = absurd g
 all_stand m (Place p ∷ ts) [] bs g len h = absurd g
-all_stand m (t ∷ ts) gs [] g len h = absurd (omega (arith, len))
 all_stand m (Place p ∷ ts) (x ∷ gs) (b ∷ bs) g len h =
     let same : b ≡ x = some_is (h 0 p x refl g.0) in
     rw (same, all_stand m ts gs bs g.1 (omega (arith, len)) (λ i q y e f. h (suc i) q y e f)) refl
 all_stand m (Discarded ∷ ts) gs (b ∷ bs) g len h = all_stand m ts gs bs g (omega (arith, len)) (λ i q y e f. h (suc i) q y e f)
+all_stand m ts gs bs g len h = absurd (omega (arith, len))
 
 -- of a source nothing is discarded
 abbrev pub IsPlace : Target → Type 0
@@ -330,9 +294,7 @@ places_range (suc n) addr = (tt, places_range n (addr + 1))
 
 pub source_places : (parts : List Part) → AllByRecursion IsPlace (targets Source parts)
 source_places [] = tt
-source_places (part.Data addr len ∷ parts) =
-    subst (AllByRecursion IsPlace) (sym (flat_map-cons (targets_of_part Source) (part.Data addr len) parts))
-    (places_append (map (λ place. Place place) (range_with_len addr len)) (targets Source parts) (places_range len addr) (source_places parts))
+source_places (part.Data addr len ∷ parts) = grind (arith, source_places parts, flat_map-cons, places_append, places_range)
 source_places (part.Bucket len ∷ parts) = subst (AllByRecursion IsPlace) (sym (flat_map-cons (targets_of_part Source) (part.Bucket len) parts)) (source_places parts)
 
 pub none_discarded : (ts : List Target) (bs : List ℕ) → AllByRecursion IsPlace ts → length bs ≡ length ts → undiscarded ts bs ≡ bs
@@ -349,8 +311,7 @@ pub some_stand : (m own : Pages) (k : ℕ) (ts : List Target) (gs os bs : List �
 some_stand m own k [] [] [] bs g o len h l = at k
   where
     at : (k : ℕ) → [] ≡ partly k [] bs []
-    at zero = refl
-    at (suc k) = refl
+    at k = grind arith
 some_stand m own k [] (x ∷ gs) os bs g o len h l = absurd g
 some_stand m own k [] [] (x ∷ os) bs g o len h l = absurd o
 some_stand m own k (Place p ∷ ts) [] os bs g o len h l = absurd g
@@ -489,12 +450,7 @@ ordered_moving : (m : Memory) (n place len offset end : ℕ) (rest : Course) →
 unfolding moving
 ordered_moving m zero place len offset end rest le h = ordered_less end offset (omega (arith, le)) rest h
 ordered_moving m (suc n) place len offset end rest le h =
-    both (is_some (bytes_at m place (first_part place len))) _
-    (ordered_moving m n (place + first_part place len) (len - first_part place len) (offset + first_part place len) end rest (omega (arith, le, (part_most place len).0)) h)
-  where
-    both : (b : Bool) (c : Course) → Ordered (offset + first_part place len) c → Ordered offset (cond b (Does (Moves place (first_part place len) offset) c) (Does Stays (Closes (Fault DATA_TRANSFER_ERROR))))
-    both true c h = (omega arith, h)
-    both false c h = tt
+    grind (arith, ordered_moving m n (place + first_part place len) (len - first_part place len) (offset + first_part place len) end rest (omega (arith, le, (part_most place len).0)) h)
 
 abbrev Follows : ℕ → (Option Cursor → ℕ → Course) → Type 0
 Follows need later = (a : Option Cursor) (wanted : ℕ) → wanted ≤ need → Ordered (need - wanted) (later a wanted)
@@ -505,8 +461,7 @@ ordered_on m dir need c wanted later (DataBlock addr len) le h =
     ordered_moving m (pages_spanned addr (min len wanted)) addr (min len wanted) (need - wanted) (need - (wanted - len)) _ (omega (arith, le)) (h (next c) (wanted - len) (omega (arith, le)))
 ordered_on m dir need c wanted later (BitBucket len) le h =
     ordered_less (need - (wanted - counted dir (BitBucket len))) (need - wanted) (omega (arith, le)) (later (next c) (wanted - counted dir (BitBucket len))) (h (next c) (wanted - counted dir (BitBucket len)) (omega (arith, le)))
-ordered_on m dir need c wanted later (Segment addr len) le h = h _ wanted le
-ordered_on m dir need c wanted later (LastSegment addr len) le h = h _ wanted le
+ordered_on m dir need c wanted later d le h = h _ wanted le
 
 ordered_unless : (k : ℕ) (f : Option Status) (c : Course) → Ordered k c → Ordered k (unless_fault f c)
 ordered_unless k (Some status) c h = tt
@@ -525,11 +480,7 @@ ordered_at m dir need c wanted later (Some bytes) le h = ordered_read m dir need
 
 ordered_behind : (need : ℕ) (from : Cursor → ℕ → Course) → ((c : Cursor) (wanted : ℕ) → wanted ≤ need → Ordered (need - wanted) (from c wanted)) → Follows need (behind from)
 ordered_behind need from h None wanted le = tt
-ordered_behind need from h (Some c) wanted le = either (nat_eq wanted 0)
-  where
-    either : (b : Bool) → Ordered (need - wanted) (cond b (Closes End) (from c wanted))
-    either true = tt
-    either false = h c wanted le
+ordered_behind need from h (Some c) wanted le = grind arith
 
 ordered_from : (k : ℕ) (m : Memory) (dir : Direction) (need : ℕ) (c : Cursor) (wanted : ℕ) → wanted ≤ need → Ordered (need - wanted) (from_place k m dir need c wanted)
 unfolding from_place
@@ -557,10 +508,7 @@ reach k (act ∷ us) = reach (came act k) us
 pub reach_more : (us : List Act) (t k : ℕ) (act : Act) → slice_get us t ≡ Some act → reach k (take (t + 1) us) ≡ came act (reach k (take t us))
 reach_more [] t k act e = absurd cc
 reach_more (u ∷ us) zero k act e = let same : u ≡ act = cc in ap (λ (x : Act). came x k) same
-reach_more (u ∷ us) (suc t) k act e = rw (one_further t) (reach_more us t (came u k) act e)
-  where
-    one_further : (t : ℕ) → suc t + 1 ≡ suc (t + 1)
-    one_further t = omega arith
+reach_more (u ∷ us) (suc t) k act e = grind (arith, reach_more us t (came u k) act)
 
 reach_above : (k : ℕ) (c : Course) (t : ℕ) → Ordered k c → k ≤ reach k (take t (units c))
 reach_above k (Closes v) zero h = omega arith
@@ -572,16 +520,11 @@ reach_above k (Does (Moves place n offset) rest) (suc t) h = omega (arith, h.0, 
 
 -- the next move is not below what was reached
 pub next_above : (k : ℕ) (c : Course) (t place n offset : ℕ) → Ordered k c → slice_get (units c) t ≡ Some (Moves place n offset) → reach k (take t (units c)) ≤ offset
-next_above k (Closes v) t place n offset h e = absurd cc
-next_above k (Does Stays rest) zero place n offset h e = absurd cc
-next_above k (Does (Reads p) rest) zero place n offset h e = absurd cc
-next_above k (Does (Moves p n' o) rest) zero place n offset h e = let same : o ≡ offset = its_offset e in omega (arith, h.0, same)
-  where
-    its_offset : {p n o p' n' o' : ℕ} → Some (Moves p n o) ≡ Some (Moves p' n' o') → o ≡ o'
-    its_offset e = cc
+next_above k (Does (Moves p n' o) rest) zero place n offset h e = grind arith
 next_above k (Does Stays rest) (suc t) place n offset h e = next_above k rest t place n offset h e
 next_above k (Does (Reads p) rest) (suc t) place n offset h e = next_above k rest t place n offset h e
 next_above k (Does (Moves p n' o) rest) (suc t) place n offset h e = next_above (o + n') rest t place n offset h.1 e
+next_above k c t place n offset h e = absurd cc
 
 moved_above : (k i : ℕ) (c : Course) → Ordered k c → MovesByte i c → k ≤ i
 moved_above k i (Closes v) h m = absurd m
@@ -593,20 +536,12 @@ moved_above k i (Does (Moves place n offset) rest) h (inr m) = omega (arith, h.0
 -- a byte that is moved at all, and lies below the next move, was moved before
 pub below_reached : (k i : ℕ) (c : Course) (t place n offset : ℕ) → Ordered k c → MovesByte i c → slice_get (units c) t ≡ Some (Moves place n offset) → i < offset → i < reach k (take t (units c))
 below_reached k i (Closes v) t place n offset h m e lt = absurd m
-below_reached k i (Does Stays rest) zero place n offset h m e lt = absurd cc
-below_reached k i (Does (Reads p) rest) zero place n offset h m e lt = absurd cc
-below_reached k i (Does (Moves p n' o) rest) zero place n offset h m e lt = absurd (go m)
-  where
-    its_offset : {p n o p' n' o' : ℕ} → Some (Moves p n o) ≡ Some (Moves p' n' o') → o ≡ o'
-    its_offset e = cc
-
-    go : (((o ≤ i) × (i < o + n')) ⊎ MovesByte i rest) → ⊥
-    go (inl x) = omega (arith, x.0, lt, its_offset e)
-    go (inr x) = omega (arith, moved_above (o + n') i rest h.1 x, lt, its_offset e)
+below_reached k i (Does (Moves p n' o) rest) zero place n offset h m e lt = grind (arith, moved_above)
 below_reached k i (Does Stays rest) (suc t) place n offset h m e lt = below_reached k i rest t place n offset h m e lt
 below_reached k i (Does (Reads p) rest) (suc t) place n offset h m e lt = below_reached k i rest t place n offset h m e lt
 below_reached k i (Does (Moves p n' o) rest) (suc t) place n offset h (inl x) e lt = omega (arith, x.1, reach_above (o + n') rest t h.1)
 below_reached k i (Does (Moves p n' o) rest) (suc t) place n offset h (inr x) e lt = below_reached (o + n') i rest t place n offset h.1 x e lt
+below_reached k i c zero place n offset h m e lt = absurd cc
 
 -- in the end each byte that is moved was
 pub all_reached : (k i : ℕ) (c : Course) (t : ℕ) → Ordered k c → MovesByte i c → length (units c) ≤ t → i < reach k (take t (units c))
@@ -622,11 +557,7 @@ all_reached k i (Does (Moves p n o) rest) (suc t) h (inr x) le = all_reached (o 
 split_get : {A : Type 0} (xs ys : List A) (i : ℕ) (x : A) → slice_get (xs ++ ys) i ≡ Some x → (slice_get xs i ≡ Some x) ⊎ ((k : ℕ) × (i ≡ length xs + k) × (slice_get ys k ≡ Some x))
 split_get [] ys i x e = inr (i, omega arith, e)
 split_get (y ∷ xs) ys zero x e = inl e
-split_get (y ∷ xs) ys (suc i) x e = go (split_get xs ys i x e)
-  where
-    go : (slice_get xs i ≡ Some x) ⊎ ((k : ℕ) × (i ≡ length xs + k) × (slice_get ys k ≡ Some x)) → (slice_get xs i ≡ Some x) ⊎ ((k : ℕ) × (suc i ≡ length (y ∷ xs) + k) × (slice_get ys k ≡ Some x))
-    go (inl h) = inl h
-    go (inr h) = inr (h.0, omega (arith, h.1), h.2)
+split_get (y ∷ xs) ys (suc i) x e = grind (arith, split_get xs ys i x e)
 
 range_get : (len addr i p : ℕ) → slice_get (map (λ place. Place place) (range_with_len addr len)) i ≡ Some (Place p) → (i < len) × (p ≡ addr + i)
 range_get zero addr i p e = absurd cc
@@ -634,9 +565,8 @@ range_get (suc len) addr zero p e = (omega arith, omega (arith, place_is e))
 range_get (suc len) addr (suc i) p e = let h = range_get len (addr + 1) i p e in (omega (arith, h.0), omega (arith, h.1))
 
 bucket_get : (len i p : ℕ) → slice_get (replicate len Discarded) i ≡ Some (Place p) → ⊥
-bucket_get zero i p e = cc
-bucket_get (suc len) zero p e = cc
 bucket_get (suc len) (suc i) p e = bucket_get len i p e
+bucket_get len i p e = cc
 
 -- the target of a list's byte is in one of the pages
 pub target_in : (pieces : List Piece) (pages : List ℕ) (i p : ℕ) → list_any crosses_page pieces ≡ false → slice_get (targets Destination (parts_of pieces pages)) i ≡ Some (Place p) → is_among pages (page_of p) ≡ true

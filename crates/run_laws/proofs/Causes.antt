@@ -2,15 +2,14 @@
 use Rattle.machine_model.specs.After as a
 use Rattle.machine_model.specs.Events as events
 use Rattle.io_commands.specs.Jobs as jobs
-use Rattle.machine_model.specs.declared.words.Refusal.TheVariants as refusal
 use Rattle.machine_model.proofs.{Cases.none_some, Steps.{Accepts, managed_by, permitted, first_fails, rest_fails}, Tokens.find_sound}
 use Rattle.machine_model.specs.{After.{course_of, walks, final_status}, Agreeing.unfetched_count, Claims.OwnsFit, Events.{Event, Reply}, Image.Made}
-use Rattle.machine_model.specs.{Memory.is_in, Proper.IsProper}
-use Rattle.machine_model.specs.Refusals.{is_submitted, next_rung, job_at, is_job, refusal_of, job_is, waits, answers_full, post_page}
+use Rattle.machine_model.specs.{Proper.IsProper}
+use Rattle.machine_model.specs.Refusals.{is_submitted, next_rung, job_at, is_job, refusal_of}
 use Rattle.machine_model.specs.{Standing.{unfetched_at, HasEntry, StandsAs, CommandStands}, State.{State, DeviceQueue, Record, Job, is_at, pages_of}}
 use Rattle.machine_model.specs.{Status.same_status, Step.{IsController, resets, Step}, Trusted.TrustedRun, Weights.{one, total}, Work.Work}
 use Rattle.machine_model.specs.declared.words.{Refusal.Refusal, Work.TheVariants.{Io, Management}}
-use Rattle.std.proofs.Common.{◌≡◌, ℕ, zero, suc, ◌+◌, ◌-◌, ◌%◌, ◌≤◌, ◌==◌, nat_lt, Bool, true, false, ◌&&◌, ◌||◌, Option, Some, None, List, [], ◌∷◌, ◌++◌, length, if◌then◌else◌, refl, ap, sym, ◌∙◌, arith, subst, eqb-true, eq-eqb, inl, inr, not, map, filter, find, is_some, is_none, ◌/◌}
+use Rattle.std.proofs.Common.{◌≡◌, ℕ, zero, suc, ◌+◌, ◌≤◌, ◌==◌, nat_lt, Bool, true, false, ◌&&◌, ◌||◌, Option, Some, None, List, [], ◌∷◌, ◌++◌, length, if◌then◌else◌, refl, ap, sym, ◌∙◌, arith, subst, eqb-true, eq-eqb, inl, inr, not, map, filter, find, is_some, is_none, ◌/◌}
 use Rattle.std.{proofs.lemmas.{Bool.{true≢false, and_parts, cases_Bool, Decides.nat_tests}, List.length-replicate}, specs.List.{AllByRecursion, list_any}}
 use Rattle.std.specs.{Option.{option_map_or, option_map}, Prelude.unwrap_or, Str.bytes_eq}
 use Rattle.controller_walk.specs.{Laws.after_units, Units.{Course, Closes, Does, verdict, Act, Stays, Reads, Moves}, Walks.answer}
@@ -51,20 +50,7 @@ any_last f xs m h = any_more f xs m ∙ grind arith
 -- what came since a fetch is one step longer with a step that is no fetch of the command
 pub since_more : (q cid : ℕ) (xs : List Made) (m : Made) → list_any (fetches q cid) xs ≡ true → fetches q cid m ≡ false → since_fetch q cid (xs ++ m ∷ []) ≡ since_fetch q cid xs ++ m ∷ []
 since_more q cid [] m h far = absurd (true≢false (sym h))
-since_more q cid (x ∷ xs) m h far = go (list_any (fetches q cid) xs) refl (λ e. since_more q cid xs m e far) (fetches q cid x) h
-  where
-    longer : (b : Bool) → list_any (fetches q cid) xs ≡ b → list_any (fetches q cid) (xs ++ m ∷ []) ≡ b
-    longer b e = any_more (fetches q cid) xs m ∙ rw (e, far) (or_none b)
-      where
-        or_none : (b : Bool) → (b || false) ≡ b
-        or_none b = grind arith
-
-    go : (b : Bool) → list_any (fetches q cid) xs ≡ b → (list_any (fetches q cid) xs ≡ true → since_fetch q cid (xs ++ m ∷ []) ≡ since_fetch q cid xs ++ m ∷ []) → (f : Bool) → (f || list_any (fetches q cid) xs) ≡ true
-        → (if list_any (fetches q cid) (xs ++ m ∷ []) then since_fetch q cid (xs ++ m ∷ []) else if f then xs ++ m ∷ [] else since_fetch q cid (xs ++ m ∷ []))
-        ≡ (if list_any (fetches q cid) xs then since_fetch q cid xs else if f then xs else since_fetch q cid xs) ++ m ∷ []
-    go true e ih f h' = rw (longer true e, e) (ih e)
-    go false e ih true h' = rw (longer false e, e) refl
-    go false e ih false h' = absurd (true≢false (sym h' ∙ e))
+since_more q cid (x ∷ xs) m h far = grind (arith, since_more q cid xs m, any_more)
 
 -- What is known of an I/O job
 
@@ -94,8 +80,7 @@ abbrev pub AllCaused : List Made → ℕ → List Job → Type 0
 AllCaused earlier blocks js = AllByRecursion (CausedIfIo earlier blocks) js
 
 both_on : (a b b' : Bool) → (b ≡ true → b' ≡ true) → (a && b) ≡ true → (a && b') ≡ true
-both_on true b b' f h = f h
-both_on false b b' f h = h
+both_on a b b' f h = grind arith
 
 four_on : (a b b' c c' d : Bool) → (b ≡ true → b' ≡ true) → (c ≡ true → c' ≡ true) → (a || b || c || d) ≡ true → (a || b' || c' || d) ≡ true
 four_on a b b' c c' d f g h = grind arith
@@ -153,16 +138,7 @@ abbrev range_fault : ℕ → SubEntry → Option Status
 range_fault blocks e = if nat_lt blocks (first_block e + block_number e) then Some LBA_OUT_OF_RANGE else None
 
 good_fault : (blocks cid : ℕ) (r : Request) (sgl1 : List ℕ) → IsGood r → io_fault blocks (io_entry cid r sgl1) ≡ range_fault blocks (io_entry cid r sgl1)
-good_fault blocks cid r sgl1 good =
-    let g = good_is r good in
-    let few : nat_lt 2048 ((r.blocks - 1) % 65536 + 1) ≡ false = at_most ((r.blocks - 1) % 65536 + 1) (omega (arith, g.some, g.few)) in
-    go r.kind few
-  where
-    at_most : (n : ℕ) → n ≤ 2048 → nat_lt 2048 n ≡ false
-    at_most n h = grind (arith, nat_tests, h)
-
-    go : (k : Kind) → nat_lt 2048 ((r.blocks - 1) % 65536 + 1) ≡ false → io_fault blocks (io_entry cid (record r { kind = k }) sgl1) ≡ range_fault blocks (io_entry cid (record r { kind = k }) sgl1)
-    go k few = grind arith
+good_fault blocks cid r sgl1 good = grind (arith, good_is, nat_tests)
 
 -- the entry in hand is that of a good request
 pub record HandGood (e : SubEntry) : Type 0 where
@@ -193,44 +169,36 @@ hand_good s stood q e other hand =
         let same : e ≡ io_entry r.cid request (spelling list.first) =
         in_hand_is s q e hand r.cid (io_entry r.cid request (spelling list.first)) (subst (λ (n : ℕ). HasEntry s.device.queues s.device.jobs n r.cid (io_entry r.cid request (spelling list.first))) rq list.entry) (sym rc) in
         record { request = request; sgl1 = spelling list.first; good = stands'.0.good; is = same ∙ ap (λ (c : ℕ). io_entry c request (spelling list.first)) rc }
-    of r sub rq rc (Management adm) is fit stands =
-        let fit' : OwnsFit r.q (Management adm) (pages_of r) = subst (λ (x : Work). OwnsFit r.q x (pages_of r)) is fit in
-        absurd (true≢false (sym (eq-eqb q 0 (sym rq ∙ fit'.0)) ∙ other))
+    of r sub rq rc (Management adm) is fit stands = grind (arith, eq-eqb)
 
 -- a job that begins
 pub caused_begun : (earlier : List Made) (blocks : ℕ) (image : List ℕ) (q : ℕ) (e : SubEntry) (m : Made) → HandGood e → fetches q e.cid m ≡ true
     → Caused (earlier ++ m ∷ []) blocks (a.new_job q e (io_fault blocks e) 0 (bytes_after_check image e (io_fault blocks e)))
-caused_begun earlier blocks image q e m hand is = elim (cases_Bool (nat_lt blocks (first_block e + block_number e))) [
-  | inl n ↦
-      let is_fault : io_fault blocks e ≡ Some LBA_OUT_OF_RANGE = fault ∙ ap (λ (b : Bool). if b then Some LBA_OUT_OF_RANGE else None) n in
-      rw is_fault (record {
-        fetched = any_last (fetches q e.cid) earlier m is;
-        cause = λ st v. subst (λ (x : Status). cause (earlier ++ m ∷ []) blocks (a.new_job q e (Some LBA_OUT_OF_RANGE) 0 []) x ≡ true) (some_is v) (rw n refl);
-        whole = λ k w. absurd (true≢false (sym w));
-        inside = λ k w. absurd (true≢false (sym w));
-      })
-  | inr n ↦
-      let no_fault : io_fault blocks e ≡ None = fault ∙ ap (λ (b : Bool). if b then Some LBA_OUT_OF_RANGE else None) n in
-      rw no_fault (record {
-        fetched = any_last (fetches q e.cid) earlier m is;
-        cause = λ st v. absurd (none_some v);
-        whole = λ k w. (rw k (length-replicate (need_of_entry e) 0));
-        inside = λ k w. at_most blocks (first_block e + block_number e) n;
-      })
-]
-  where
-    fault : io_fault blocks e ≡ range_fault blocks e
-    fault = subst (λ (x : SubEntry). io_fault blocks x ≡ range_fault blocks x) (sym hand.is) (good_fault blocks e.cid hand.request hand.sgl1 hand.good)
-
-    at_most : (b n : ℕ) → nat_lt b n ≡ false → n ≤ b
-    at_most b n h = grind (arith, nat_tests, h)
+caused_begun earlier blocks image q e m hand is =
+    let fault = subst (λ (x : SubEntry). io_fault blocks x ≡ range_fault blocks x) (sym hand.is) (good_fault blocks e.cid hand.request hand.sgl1 hand.good) in
+    elim (cases_Bool (nat_lt blocks (first_block e + block_number e))) [
+      | inl n ↦
+          let is_fault : io_fault blocks e ≡ Some LBA_OUT_OF_RANGE = fault ∙ ap (λ (b : Bool). if b then Some LBA_OUT_OF_RANGE else None) n in
+          rw is_fault (record {
+            fetched = any_last (fetches q e.cid) earlier m is;
+            cause = λ st v. subst (λ (x : Status). cause (earlier ++ m ∷ []) blocks (a.new_job q e (Some LBA_OUT_OF_RANGE) 0 []) x ≡ true) (some_is v) (rw n refl);
+            whole = λ k w. absurd (true≢false (sym w));
+            inside = λ k w. absurd (true≢false (sym w));
+          })
+      | inr n ↦
+          let no_fault : io_fault blocks e ≡ None = fault ∙ ap (λ (b : Bool). if b then Some LBA_OUT_OF_RANGE else None) n in
+          rw no_fault (record {
+            fetched = any_last (fetches q e.cid) earlier m is;
+            cause = λ st v. absurd (none_some v);
+            whole = λ k w. (rw k (length-replicate (need_of_entry e) 0));
+            inside = λ k w. (grind (arith, nat_tests, n));
+          })
+    ]
 
 -- A walk whose list ends well answers no fault
 
 closes_well : (v : WalkState) → v ≡ End → (st : Status) → verdict_of v ≡ Some st → st ≡ SUCCESS
-closes_well v e st h =
-    let h' : verdict_of End ≡ Some st = subst (λ (w : WalkState). verdict_of w ≡ Some st) e h in
-    sym (some_is h')
+closes_well v e st h = grind (arith, some_is)
 
 pub answers_well : (t : ℕ) (c : Course) → verdict c ≡ End → (st : Status) → verdict_of (answer (after_units t c)) ≡ Some st → st ≡ SUCCESS
 answers_well zero (Closes v) e st h = closes_well v e st h
@@ -265,6 +233,7 @@ far_zero q h = grind (arith, nat_tests, h)
 managed_keeps : (earlier : List Made) (s : State) (q : ℕ) (e : SubEntry) (c : ℕ) (touched : List ℕ) → q ≡ 0 → next_rung s q ≡ Some e → AllCaused earlier (a.image_blocks s) s.device.jobs
     → Keeps (earlier ++ record { before = s; event = events.Fetch q; reply = events.Fetched c touched } ∷ []) s (a.managed e (a.taken_off 0 s))
 managed_keeps earlier s q e c touched z rung h =
+    let old = all_on earlier (a.image_blocks s) s.device.jobs m (all_of (λ j. (j.q == 0) ≡ false → fetches j.q j.entry.cid m ≡ false) s.device.jobs (λ j within other. far j other)) h in
     managed_by (Keeps (earlier ++ m ∷ []) s) e (a.taken_off 0 s)
     (record {
       refuses = λ st bad. decided st 0 (a.taken_off 0 s) refl old;
@@ -287,9 +256,6 @@ managed_keeps earlier s q e c touched z rung h =
 
     far : (j : Job) → (j.q == 0) ≡ false → fetches j.q j.entry.cid (record { before = s; event = events.Fetch q; reply = events.Fetched c touched }) ≡ false
     far j other = rw z (ap (λ (b : Bool). b && (c == j.entry.cid)) (far_zero j.q other))
-
-    old : AllCaused (earlier ++ record { before = s; event = events.Fetch q; reply = events.Fetched c touched } ∷ []) (a.image_blocks s) s.device.jobs
-    old = all_on earlier (a.image_blocks s) s.device.jobs m (all_of (λ j. (j.q == 0) ≡ false → fetches j.q j.entry.cid m ≡ false) s.device.jobs (λ j within other. far j other)) h
 
     decided : (st : Status) (dw0 : ℕ) (t : State) → t.device.image ≡ s.device.image → AllCaused (earlier ++ record { before = s; event = events.Fetch q; reply = events.Fetched c touched } ∷ []) (a.image_blocks s) t.device.jobs
         → Keeps (earlier ++ record { before = s; event = events.Fetch q; reply = events.Fetched c touched } ∷ []) s (a.decided e st dw0 t)
@@ -321,10 +287,7 @@ managed_keeps earlier s q e c touched z rung h =
 
 pub none_found : (q cid : ℕ) (js : List Job) → is_some (find (is_job q cid) js) ≡ false → AllByRecursion (λ j. is_job q cid j ≡ false) js
 none_found q cid [] h = tt
-none_found q cid (j ∷ js) h = elim (cases_Bool (is_job q cid j)) [
-  | inl e ↦ let h = rw e at h in absurd (true≢false h)
-  | inr e ↦ let h = rw e at h in let ih = none_found q cid js in (e, ih h)
-]
+none_found q cid (j ∷ js) h = grind (arith, none_found q cid js)
 
 fetch_keeps : (earlier : List Made) (s : State) (q c : ℕ) (touched : List ℕ) → option_map (λ (e : SubEntry). e.cid) (next_rung s q) ≡ Some c → Stood s → AllCaused earlier (a.image_blocks s) s.device.jobs
     → Keeps (earlier ++ record { before = s; event = events.Fetch q; reply = events.Fetched c touched } ∷ []) s (a.after_fetch q s)
@@ -350,10 +313,7 @@ fetch_keeps earlier s q c touched cid stood h =
       where
         elsewhere : (js : List Job) → AllByRecursion (λ j. is_job q e.cid j ≡ false) js → AllByRecursion (λ j. (j.q == 0) ≡ false → fetches j.q j.entry.cid (record { before = s; event = events.Fetch q; reply = events.Fetched c touched }) ≡ false) js
         elsewhere [] f = tt
-        elsewhere (j ∷ js) f = ((λ o. turned q j.q e.cid c j.entry.cid is f.0), elsewhere js f.1)
-          where
-            turned : (q k ec c jc : ℕ) → c ≡ ec → ((k == q) && (jc == ec)) ≡ false → ((q == k) && (c == jc)) ≡ false
-            turned q k ec c jc is f = grind (arith, nat_tests, is, f)
+        elsewhere (j ∷ js) f = ((λ o. (grind (arith, nat_tests, is, f.0))), elsewhere js f.1)
 
 -- Walking
 
@@ -519,11 +479,10 @@ job_status earlier m q cid j other e jq jc some c =
     by_kind None e = refl
     by_kind (Some Read) e = refl
     by_kind (Some Write) e = refl
-    by_kind (Some Compare) e = at (bytes_eq (blocks_at m.before.device.image (first_block j.entry) (block_number j.entry)) j.bytes)
-      where
-        at : (b : Bool) → has_cause earlier m q cid (if b then SUCCESS else COMPARE_FAILURE) ≡ true
-        at true = refl
-        at false = differs e
+    by_kind (Some Compare) e = elim (cases_Bool (bytes_eq (blocks_at m.before.device.image (first_block j.entry) (block_number j.entry)) j.bytes)) [
+      | inl e ↦ rw e refl
+      | inr e' ↦ rw e' (differs e)
+    ]
 
     by : (o : Option Status) → j.verdict ≡ o → has_cause earlier m q cid (jobs.status_after m.before.device.image j.entry j.bytes o) ≡ true
     by None v = absurd (true≢false (sym some ∙ ap is_some v))
@@ -531,10 +490,7 @@ job_status earlier m q cid j other e jq jc some c =
 
 -- a completion that is accepted had a verdict
 pub has_verdict : (s : State) (q cid : ℕ) (j : Job) → refusal_of s (events.Complete q cid) ≡ None → job_at s q cid ≡ Some j → is_some j.verdict ≡ true
-has_verdict s q cid j none e =
-    let last = (job_is (waits s) s q cid, refusal.Waits) ∷ (answers_full s q, refusal.Full) ∷ (not (is_in s.memory (post_page s q)), refusal.SlotOut) ∷ [] in
-    let walking' = first_fails (job_is (λ j. is_none j.verdict) s q cid) refusal.Walking last (rest_fails (is_none (job_at s q cid)) refusal.NoJob ((job_is (λ j. is_none j.verdict) s q cid, refusal.Walking) ∷ last) none) in
-    let h1 = sym (ap (λ (o : Option Job). option_map_or (λ j. is_none j.verdict) o false) e) ∙ walking' in grind arith
+has_verdict s q cid j none e = grind (arith, first_fails, rest_fails)
 
 given_status : (earlier : List Made) (s : State) (e : Event) (reply : Reply) (new : State) (q cid : ℕ) (st : Status) → Step s e reply new → s.trusted ≡ true → Traced earlier s → (q == 0) ≡ false
     → status_by s e reply q cid ≡ Some st → has_cause earlier (record { before = s; event = e; reply = reply }) q cid st ≡ true

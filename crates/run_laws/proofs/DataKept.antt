@@ -1,20 +1,20 @@
 -- Data pages keep what was put into them.
 use Rattle.machine_model.specs.After as a
 use Rattle.machine_model.specs.Events as events
-use Rattle.std.proofs.Common.{◌≡◌, ℕ, Bool, true, false, List, [], ◌∷◌, refl, ap, sym, ◌∙◌, subst, ◌==◌, nat_eq, ◌&&◌, ◌||◌, Some, eqb-true, eq-eqb, arith, Option, None, ◌++◌, inl, inr, drop}
-use Rattle.std.{proofs.lemmas.Bool.{or_parts, true≢false, and_parts, not-true}, specs.{Cmp.Lexicographic.pointwise, List.{list_any, AllByRecursion}}}
+use Rattle.std.proofs.Common.{◌≡◌, ℕ, Bool, true, false, List, [], ◌∷◌, refl, ap, sym, ◌∙◌, subst, ◌==◌, nat_eq, ◌&&◌, ◌||◌, Some, eqb-true, eq-eqb, arith, Option, None, ◌++◌, inl, inr}
+use Rattle.std.{proofs.lemmas.Bool.{or_parts, true≢false, and_parts}, specs.{Cmp.Lexicographic.pointwise, List.{list_any, AllByRecursion}}}
 use Rattle.std.specs.Option.{option_map, option_and_then, option_map_or}
 use Rattle.machine_model.proofs.{Cases.option_is, Counting.{one, total}, HostLeaves.ids_of, Sound.{named, reaped_submitted}}
 use Rattle.machine_model.{proofs.{Steps.{Accepts, same_lists, permitted, exact}, Tokens.{is_job, find_sound}}, specs.{Claims.OwnsFit, Events.{Event, Reply}}}
 use Rattle.machine_model.specs.{Image.{Made, submitted_by}, Memory.with_pages, Opening.opening, Proper.IsProper}
-use Rattle.machine_model.specs.Refusals.{is_submitted, is_drafted, is_held, is_of, asks_for, refusal_of, job_at, next_rung, device_queue}
+use Rattle.machine_model.specs.Refusals.{is_submitted, is_drafted, is_held, is_of, asks_for, refusal_of, job_at, next_rung}
 use Rattle.machine_model.specs.State.{State, Record, is_at, record_at, pages_of, Job, Answer, with_record}
 use Rattle.machine_model.specs.{Step.{Step, reaped, finished_from, asked_by, pages_with_bytes}, Trusted.Steps, Work.Work, declared.words.Phase.Phase}
 use Rattle.machine_model.specs.declared.words.{Phase.TheVariants.Held, Refusal.Refusal, Work.TheVariants.{Io, Management}}
 use Rattle.two_sides.proofs.Along.{along, trusted_step_by, Unforged, unforged_next, unforged_front, unforged_back, unforged_run, unforged_end, cut}
 use Rattle.two_sides.proofs.{Commands.{nobody, no_job}, NeverFull.{stood_on, stood_at_opening, host_jobs}, PlacesKept.{drafted_not, reaped_answer}}
 use Rattle.two_sides.proofs.{Provided.{all_at_found, is_found, some_is, In, all_append, sent}, Served.{Stood, requests_same, answers_at}, Standing.list_at}
-use Rattle.io_commands.specs.{Asked.Request, Drafts.DraftContents, Values.{numbers_of, FinishedContents}}
+use Rattle.io_commands.specs.{Drafts.DraftContents, Values.{numbers_of, FinishedContents}}
 use Rattle.run_laws.proofs.{Carrying.Stands, Known.{submit_record, unsent, submitted_stand, stand_still}}
 use Rattle.run_laws.proofs.Moves.{RecordsMove, records_event, takes, JobsMove, jobs_event, QueueMove, queues_event}
 use Rattle.run_laws.{proofs.{ReadLaws.{held_where_collected, with_numbers}, ReadsKept.{pages_stay, walks_it}, ReadsWalked.first_all}, specs.Blocks.collected_of}
@@ -80,17 +80,14 @@ AllFollow d s = AllByRecursion (Follows d) s.host.records
 
 -- the record that a submission finds is of its draft
 pub submits_of : (d : DraftContents) (r : Record) → is_of is_drafted d.request (numbers_of d.data_pages) (numbers_of d.chain_pages) r ≡ true → IsOfDraft d r × (is_drafted r.phase ≡ true)
-submits_of d r fits = (record { work = of_work r.work refl both.1; data_pages = same_lists (numbers_of d.data_pages) r.data_pages ab_c.1; chain_pages = same_lists (numbers_of d.chain_pages) r.chain_pages abc_d.1 }, both.0)
+submits_of d r fits =
+    let abc_d : ((is_drafted r.phase && asks_for d.request r.work && pointwise nat_eq (numbers_of d.data_pages) r.data_pages) ≡ true) × (pointwise nat_eq (numbers_of d.chain_pages) r.chain_pages ≡ true) =
+    and_parts (is_drafted r.phase && asks_for d.request r.work && pointwise nat_eq (numbers_of d.data_pages) r.data_pages) (pointwise nat_eq (numbers_of d.chain_pages) r.chain_pages) fits in
+    let ab_c : ((is_drafted r.phase && asks_for d.request r.work) ≡ true) × (pointwise nat_eq (numbers_of d.data_pages) r.data_pages ≡ true) =
+    and_parts (is_drafted r.phase && asks_for d.request r.work) (pointwise nat_eq (numbers_of d.data_pages) r.data_pages) abc_d.0 in
+    let both : (is_drafted r.phase ≡ true) × (asks_for d.request r.work ≡ true) = and_parts (is_drafted r.phase) (asks_for d.request r.work) ab_c.0 in
+    (record { work = of_work r.work refl both.1; data_pages = same_lists (numbers_of d.data_pages) r.data_pages ab_c.1; chain_pages = same_lists (numbers_of d.chain_pages) r.chain_pages abc_d.1 }, both.0)
   where
-    abc_d : ((is_drafted r.phase && asks_for d.request r.work && pointwise nat_eq (numbers_of d.data_pages) r.data_pages) ≡ true) × (pointwise nat_eq (numbers_of d.chain_pages) r.chain_pages ≡ true)
-    abc_d = and_parts (is_drafted r.phase && asks_for d.request r.work && pointwise nat_eq (numbers_of d.data_pages) r.data_pages) (pointwise nat_eq (numbers_of d.chain_pages) r.chain_pages) fits
-
-    ab_c : ((is_drafted r.phase && asks_for d.request r.work) ≡ true) × (pointwise nat_eq (numbers_of d.data_pages) r.data_pages ≡ true)
-    ab_c = and_parts (is_drafted r.phase && asks_for d.request r.work) (pointwise nat_eq (numbers_of d.data_pages) r.data_pages) abc_d.0
-
-    both : (is_drafted r.phase ≡ true) × (asks_for d.request r.work ≡ true)
-    both = and_parts (is_drafted r.phase) (asks_for d.request r.work) ab_c.0
-
     of_work : (w : Work) → r.work ≡ w → asks_for d.request w ≡ true → r.work ≡ Io d.request
     of_work (Io request) is asks = is ∙ ap Io (sym (requests_same d.request request asks))
     of_work (Management adm) is asks = absurd (true≢false (sym asks))
@@ -110,11 +107,7 @@ drafts_same e = cc
 -- an accepted submission of another identifier
 pub submits_far : (s : State) (d : DraftContents) (e : Event) (reply : Reply) → Going s e reply → submits d.q d.cid (record { before = s; event = e; reply = reply }) ≡ false
     → (x : DraftContents) → e ≡ events.Submit x → ((x.q == d.q) && (x.cid == d.cid)) ≡ false
-submits_far s d (events.Submit y) events.Accepted g far x is =
-    let same : y ≡ x = drafts_same is in
-    subst (λ (z : DraftContents). ((z.q == d.q) && (z.cid == d.cid)) ≡ false) same (or_parts ((y.q == d.q) && (y.cid == d.cid)) false far).0
-submits_far s d (events.Submit y) reply g far x is = absurd g.ok.1
-submits_far s d e reply g far x is = absurd (cc)
+submits_far s d e reply g far x is = grind arith
 
 -- queue 0 has no draft
 pub not_sent : (d : DraftContents) (id : ℕ) → (d.q == 0) ≡ false → ((0 == d.q) && (id == d.cid)) ≡ true → ⊥
@@ -123,16 +116,11 @@ not_sent d id other is = true≢false (sym (eq-eqb d.q 0 (sym (eqb-true 0 d.q (a
 -- a record that a submission finds is not of another identifier
 pub submit_clash : (s : State) (d : DraftContents) (e : Event) (reply : Reply) → Going s e reply → submits d.q d.cid (record { before = s; event = e; reply = reply }) ≡ false
     → (x : DraftContents) (r : Record) → e ≡ events.Submit x → record_at s.host x.q x.cid ≡ Some r → is_at d.q d.cid r ≡ true → ⊥
-submit_clash s d e reply g far x r is found at =
-    let ids = ids_of s x.q x.cid r found in
-    true≢false (sym at ∙ ap (λ (n : ℕ). (n == d.q) && (r.cid == d.cid)) ids.0 ∙ ap (λ (n : ℕ). (x.q == d.q) && (n == d.cid)) ids.1 ∙ submits_far s d e reply g far x is)
+submit_clash s d e reply g far x r is found at = grind (arith, ids_of, submits_far)
 
 -- a record that a reap holds was submitted
 pub reaped_on : (s : State) (q cid : ℕ) (r : Record) → named (reaped s q) ≡ Some cid → record_at s.host q cid ≡ Some r → is_submitted r.phase ≡ true
-reaped_on s q cid r n found =
-    let y = reaped_submitted s q cid n in
-    let same : y.0 ≡ r = cc (y.1, found) in
-    ap (λ (z : Record). is_submitted z.phase) (sym same) ∙ y.2
+reaped_on s q cid r n found = grind (arith, reaped_submitted)
 
 follow_on : (d : DraftContents) → (d.q == 0) ≡ false → (s : State) (e : Event) (reply : Reply) → Going s e reply → submits d.q d.cid (record { before = s; event = e; reply = reply }) ≡ false
     → RecordsMove (Follows d) (Follows d) s e
@@ -189,14 +177,11 @@ follow_first d s reply g x = record {
   reserves = λ y is on. absurd (true≢false (sym on));
   sends = λ adm id is on. absurd (not_sent d id x.other is);
   submits = λ y entry r is built found fits p at on. again (a.submitted r) r refl refl refl (subst (λ (z : DraftContents). IsOfDraft z r) (sym (drafts_same is)) (submits_of y r fits).0);
-  reaps = λ q cid st request r is n status found w p at on. absurd (none is);
+  reaps = λ q cid st request r is n status found w p at on. absurd (cc (is));
   loses = λ r within sub free only at on. absurd (only_drafted s d x r only at (sub_goes r.phase sub));
   collects = λ r p at on. absurd (true≢false (sym on));
 }
   where
-    none : {q : ℕ} → events.Submit d ≡ events.Reap q → ⊥
-    none is = cc
-
     again : (x r : Record) → x.work ≡ r.work → x.data_pages ≡ r.data_pages → x.chain_pages ≡ r.chain_pages → IsOfDraft d r → IsOfDraft d x
     again x r w p c h = record { work = w ∙ h.work; data_pages = h.data_pages ∙ sym p; chain_pages = h.chain_pages ∙ sym c }
 
@@ -222,8 +207,6 @@ found_record : (s : State) (q cid : ℕ) (r : Record) (f : FinishedContents) →
     (λ st. record { q = r.q; cid = r.cid; request = asked; status = st; data_pages = pages_with_bytes s.memory r.data_pages; chain_pages = pages_with_bytes s.memory r.chain_pages })
     o)
     (asked_by w) ≡ Some f → Collects s f
-found_record s q cid r f found held (Management adm) w o st e = absurd cc
-found_record s q cid r f found held (Io request) w None st e = absurd cc
 found_record s q cid r f found held (Io request) w (Some v) st e =
     let same = some_is e in
     let ids = ids_of s q cid r found in
@@ -236,15 +219,15 @@ found_record s q cid r f found held (Io request) w (Some v) st e =
       chain_pages = refl;
       held = held;
     })
+found_record s q cid r f found held x w o st e = absurd cc
 
 pub collects_held : (s : State) (e : Event) (reply : Reply) (new : State) (f : FinishedContents) → Step s e reply new → s.trusted ≡ true → collected_of e reply ≡ Some f → Collects s f
-collects_held s (events.Collect q cid) (events.Collects g) new f step t is = elim (option_is (record_at s.host q cid)) [
-  | inl e ↦ let h = rw e at (ok.1 ∙ is) in absurd cc
-  | inr (r, e) ↦ let h = rw e at (ok.1 ∙ is) in found_record s q cid r f e (held_where_collected s q cid ok.0 r e) r.work refl r.status refl h
-]
-  where
-    ok : (refusal_of s (events.Collect q cid) ≡ None) × (option_and_then (finished_from s) (record_at s.host q cid) ≡ Some g)
-    ok = permitted _ s.trusted true t step.1
+collects_held s (events.Collect q cid) (events.Collects g) new f step t is =
+    let ok : (refusal_of s (events.Collect q cid) ≡ None) × (option_and_then (finished_from s) (record_at s.host q cid) ≡ Some g) = permitted _ s.trusted true t step.1 in
+    elim (option_is (record_at s.host q cid)) [
+      | inl e ↦ let h = rw e at (ok.1 ∙ is) in absurd cc
+      | inr (r, e) ↦ let h = rw e at (ok.1 ∙ is) in found_record s q cid r f e (held_where_collected s q cid ok.0 r e) r.work refl r.status refl h
+    ]
 collects_held s e reply new f step t is = absurd cc
 
 -- The states of a collected command: before its submission, behind it, and at its collection
@@ -263,14 +246,7 @@ pub record Course (c : CollectedCommand) : Type 0 where
   pub collects : Collects third c.finished
 
 submission : (m : Made) (d : DraftContents) → submitted_by m.event m.reply ≡ d ∷ [] → (m.event ≡ events.Submit d) × (m.reply ≡ events.Accepted)
-submission m d is = go m.event m.reply is
-  where
-    inside : {x y : DraftContents} → x ∷ [] ≡ y ∷ [] → x ≡ y
-    inside e = cc
-
-    go : (e : Event) (reply : Reply) → submitted_by e reply ≡ d ∷ [] → (e ≡ events.Submit d) × (reply ≡ events.Accepted)
-    go (events.Submit x) events.Accepted is = (ap events.Submit (inside is), refl)
-    go e reply is = absurd cc
+submission m d is = grind arith
 
 pub course : (c : CollectedCommand) → Course c
 course c = record {
@@ -310,9 +286,6 @@ course c = record {
     trusted_third : at_third.0.trusted ≡ true
     trusted_third = unforged_end (c.before ++ c.submitted ∷ c.between) s0 at_third.0 at_third.1 unforged_zero
 
-    trusted_first : at_first.0.trusted ≡ true
-    trusted_first = unforged_first.trusted
-
     stood_first : Stood at_first.0
     stood_first = stood_along c.before s0 at_first.0 at_first.1 (unforged_front c.before (c.submitted ∷ c.between) s0 unforged_zero) (stood_at_opening c.run.pages c.run.queues c.run.entries c.run.segment c.image c.run.opens)
 
@@ -323,21 +296,19 @@ course c = record {
     step = subst (λ (e : Event). Step at_first.0 e events.Accepted at_first.2.1) is.0 (subst (λ (reply : Reply). Step at_first.0 c.submitted.event reply at_first.2.1) is.1 at_first.2.2)
 
     going : Going at_first.0 (events.Submit c.draft) events.Accepted
-    going = record { proper = step.0; ok = permitted _ at_first.0.trusted true trusted_first step.1; trusted = trusted_first; stood = stood_first }
+    going = record { proper = step.0; ok = permitted _ at_first.0.trusted true unforged_first.trusted step.1; trusted = unforged_first.trusted; stood = stood_first }
 
     is_second : at_first.2.1 ≡ a.after at_first.0 (events.Submit c.draft) events.Accepted
-    is_second = exact _ at_first.0.trusted trusted_first step.2
+    is_second = exact _ at_first.0.trusted unforged_first.trusted step.2
 
     stood_second : Stood at_first.2.1
-    stood_second = stood_step at_first.0 (events.Submit c.draft) events.Accepted at_first.2.1 step trusted_first unforged_second.trusted stood_first
+    stood_second = stood_step at_first.0 (events.Submit c.draft) events.Accepted at_first.2.1 step unforged_first.trusted unforged_second.trusted stood_first
 
 -- The laws of kept commands
 
 -- the test of a submission, said of the draft
 pub alone_of : (c : CollectedCommand) → list_any (submits c.draft.q c.draft.cid) c.between ≡ false
-alone_of c =
-    ap (λ (n : ℕ). list_any (submits n c.draft.cid) c.between) c.queue ∙ ap (λ (n : ℕ). list_any (submits c.finished.q n) c.between) c.identifier
-    ∙ not-true (list_any (submits c.finished.q c.finished.cid) c.between) c.alone
+alone_of c = grind arith
 
 pub at_draft : (c : CollectedCommand) (x : Course c) → is_at c.draft.q c.draft.cid x.collects.command ≡ true
 at_draft c x =
@@ -353,10 +324,7 @@ kept c =
     all_at_found (Follows c.draft) (is_at c.finished.q c.finished.cid) x.third.host.records x.collects.command x.collects.found all.1 (at_draft c x) (held_goes x.collects.command.phase x.collects.held)
 
 pub request_stays : (c : CollectedCommand) → c.finished.request ≡ c.draft.request
-request_stays c = inside (sym (course c).collects.work ∙ (kept c).work)
-  where
-    inside : {x y : Request} → Io x ≡ Io y → x ≡ y
-    inside e = cc
+request_stays c = grind (arith, sym (course c).collects.work ∙ (kept c).work)
 
 pub data_numbers_stay : (c : CollectedCommand) → numbers_of c.finished.data_pages ≡ numbers_of c.draft.data_pages
 data_numbers_stay c = ap numbers_of (course c).collects.data_pages ∙ with_numbers (course c).third.memory (course c).collects.command.data_pages ∙ sym (kept c).data_pages
@@ -386,14 +354,7 @@ pub record Unread (d : DraftContents) (s : State) : Type 0 where
 -- a fetch of another command
 other_fetch : (s : State) (d : DraftContents) (e : Event) (reply : Reply) → Going s e reply → fetches_by d.q d.cid e reply ≡ false → (q : ℕ) (entry : SubEntry) → e ≡ events.Fetch q → next_rung s q ≡ Some entry
     → q ≡ d.q → entry.cid ≡ d.cid → ⊥
-other_fetch s d (events.Fetch k) (events.Fetched c touched) g far q entry is rung same_q same_cid =
-    let its_cid : c ≡ entry.cid = some_is (sym g.ok.1.0 ∙ ap (λ (n : ℕ). option_map (λ (x : SubEntry). x.cid) (next_rung s n)) (queue is) ∙ ap (option_map (λ (x : SubEntry). x.cid)) rung) in
-    true≢false (sym (rw (eq-eqb k d.q (queue is ∙ same_q), eq-eqb c d.cid (its_cid ∙ same_cid)) refl) ∙ far)
-  where
-    queue : {x y : ℕ} → events.Fetch x ≡ events.Fetch y → x ≡ y
-    queue is = cc
-other_fetch s d (events.Fetch k) reply g far q entry is rung same_q same_cid = absurd g.ok.1
-other_fetch s d e reply g far q entry is rung same_q same_cid = absurd (cc)
+other_fetch s d e reply g far q entry is rung same_q same_cid = grind arith
 
 jobs_on : (d : DraftContents) → (d.q == 0) ≡ false → (s : State) (e : Event) (reply : Reply) → Going s e reply → fetches_by d.q d.cid e reply ≡ false
     → JobsMove (λ j. j.q ≡ d.q → j.entry.cid ≡ d.cid → ⊥) (λ j. j.q ≡ d.q → j.entry.cid ≡ d.cid → ⊥) s e
@@ -409,44 +370,27 @@ jobs_on d other s e reply g far = record {
 
 answers_on : (d : DraftContents) (s : State) (e : Event) → AllByRecursion (λ j. j.q ≡ d.q → j.entry.cid ≡ d.cid → ⊥) s.device.jobs
     → QueueMove (λ at. at.answers) (λ (an : Answer). an.cid ≡ d.cid → ⊥) d.q s e
-answers_on d s e none = record {
-  posts = λ x entry at is built z all. all;
-  sends = λ entry at z all. all;
-  rings = λ rung at all. all;
-  reaps = λ at all. dropped at.answers all;
-  fetches = λ rung at all. all;
-  stops = λ at all. all;
-  drops = λ at all. tt;
-  makes_completion = λ at all. tt;
-  makes_submission = λ at all. tt;
-  clears = λ at all. all;
-  empties = (tt, tt);
-  completes = λ cid j head at is found all. all_append (λ (an : Answer). an.cid ≡ d.cid → ⊥) at.answers (record { cid = cid; status = a.final_status s j; dw0 = j.dw0; sq_head = head } ∷ []) all ((λ same. no_job_at cid j found same), tt);
-}
-  where
-    dropped : (xs : List Answer) → AllByRecursion (λ (an : Answer). an.cid ≡ d.cid → ⊥) xs → AllByRecursion (λ (an : Answer). an.cid ≡ d.cid → ⊥) (drop 1 xs)
-    dropped [] h = tt
-    dropped (y ∷ xs) h = h.1
-
-    no_job_at : (cid : ℕ) (j : Job) → job_at s d.q cid ≡ Some j → cid ≡ d.cid → ⊥
-    no_job_at cid j found same =
-        let ids = and_parts (j.q == d.q) (j.entry.cid == cid) (find_sound (is_job d.q cid) s.device.jobs j found) in
-        all_at_found (λ j. j.q ≡ d.q → j.entry.cid ≡ d.cid → ⊥) (is_job d.q cid) s.device.jobs j found none (eqb-true j.q d.q ids.0) (eqb-true j.entry.cid cid ids.1 ∙ same)
+answers_on d s e none =
+    let no_job_at : (cid : ℕ) (j : Job) → job_at s d.q cid ≡ Some j → cid ≡ d.cid → ⊥ = λ cid j found same. grind (arith, find_sound, is_job, all_at_found, eqb-true) in
+    record {
+      posts = λ x entry at is built z all. all;
+      sends = λ entry at z all. all;
+      rings = λ rung at all. all;
+      reaps = λ at all. (grind (arith, all));
+      fetches = λ rung at all. all;
+      stops = λ at all. all;
+      drops = λ at all. tt;
+      makes_completion = λ at all. tt;
+      makes_submission = λ at all. tt;
+      clears = λ at all. all;
+      empties = (tt, tt);
+      completes = λ cid j head at is found all. all_append (λ (an : Answer). an.cid ≡ d.cid → ⊥) at.answers (record { cid = cid; status = a.final_status s j; dw0 = j.dw0; sq_head = head } ∷ []) all ((λ same. no_job_at cid j found same), tt);
+    }
 
 -- Its pages stay
 
 no_walk : (s : State) (d : DraftContents) (e : Event) (reply : Reply) → Going s e reply → Unread d s → (r : Record) → is_at d.q d.cid r ≡ true → walks_it e r ≡ false
-no_walk s d (events.Walk q cid) (events.Walked outcome touched) g h r at = go (is_at q cid r) refl
-  where
-    go : (b : Bool) → is_at q cid r ≡ b → b ≡ false
-    go false e = refl
-    go true e =
-        let here = and_parts (r.q == q) (r.cid == cid) e in
-        let draft = and_parts (r.q == d.q) (r.cid == d.cid) at in
-        let j = g.ok.1.0 in
-        let ids = and_parts (j.q == q) (j.entry.cid == cid) (find_sound (is_job q cid) s.device.jobs j g.ok.1.1) in
-        absurd (all_at_found (λ j. j.q ≡ d.q → j.entry.cid ≡ d.cid → ⊥) (is_job q cid) s.device.jobs j g.ok.1.1 h.jobs
-        (eqb-true j.q q ids.0 ∙ sym (eqb-true r.q q here.0) ∙ eqb-true r.q d.q draft.0) (eqb-true j.entry.cid cid ids.1 ∙ sym (eqb-true r.cid cid here.1) ∙ eqb-true r.cid d.cid draft.1))
+no_walk s d (events.Walk q cid) (events.Walked outcome touched) g h r at = grind (arith, find_sound, is_job, all_at_found, eqb-true)
 no_walk s d (events.Walk q cid) reply g h r at = absurd g.ok.1
 no_walk s d e reply g h r at = refl
 
@@ -457,13 +401,7 @@ untouched_on s d e reply g h r within free at on of stand =
     (λ p x. ap (λ (xs : List ℕ). is_among xs p) (sym of.data_pages) ∙ x) stand
 
 no_reap : (s : State) (d : DraftContents) → s.trusted ≡ true → Unread d s → (q cid : ℕ) (r : Record) → named (reaped s q) ≡ Some cid → record_at s.host q cid ≡ Some r → is_at d.q d.cid r ≡ true → ⊥
-no_reap s d t h q cid r n found at =
-    let an = reaped_answer s q cid t n in
-    let ids = ids_of s q cid r found in
-    let draft = and_parts (r.q == d.q) (r.cid == d.cid) at in
-    first_all (λ (an : Answer). an.cid ≡ d.cid → ⊥) (device_queue s q) an.0 an.1
-    (subst (λ (m : ℕ). AllByRecursion (λ (an : Answer). an.cid ≡ d.cid → ⊥) (list_at (λ at. at.answers) s.device.queues m)) (sym (eqb-true r.q d.q draft.0) ∙ ids.0) h.answers)
-    (an.2 ∙ sym ids.1 ∙ eqb-true r.cid d.cid draft.1)
+no_reap s d t h q cid r n found at = grind (arith, reaped_answer, ids_of, first_all, list_at, eqb-true)
 
 records_on : (d : DraftContents) → (d.q == 0) ≡ false → (s : State) (e : Event) (reply : Reply) → Going s e reply → submits d.q d.cid (record { before = s; event = e; reply = reply }) ≡ false → Unread d s
     → RecordsMove (Waits d s) (Waits d (a.after s e reply)) s e
@@ -504,14 +442,11 @@ unread_first d s g x = record {
     again (a.submitted r) r refl refl refl (subst (λ (z : DraftContents). IsOfDraft z r) (sym (drafts_same is)) (submits_of y r fits).0),
     record { stand = stand entry (ap (λ (z : DraftContents). z.entry) (drafts_same is) ∙ built); deleted = λ held. absurd (true≢false (sym held)) },
   );
-  reaps = λ q cid st request r is n status found w p at on. absurd (none is);
+  reaps = λ q cid st request r is n status found w p at on. absurd (cc (is));
   loses = λ r within sub free only at on. absurd (only_drafted s d x r only at (sub_goes r.phase sub));
   collects = λ r p at on. absurd (true≢false (sym on));
 }
   where
-    none : {q : ℕ} → events.Submit d ≡ events.Reap q → ⊥
-    none is = cc
-
     again : (x r : Record) → x.work ≡ r.work → x.data_pages ≡ r.data_pages → x.chain_pages ≡ r.chain_pages → IsOfDraft d r → IsOfDraft d x
     again x r w p c h = record { work = w ∙ h.work; data_pages = h.data_pages ∙ sym p; chain_pages = h.chain_pages ∙ sym c }
 

@@ -1,17 +1,17 @@
 -- What submitted data becomes.
 use Rattle.machine_model.specs.Events as events
-use Rattle.std.proofs.Common.{◌≡◌, ℕ, ◌+◌, ◌-◌, ◌==◌, Bool, true, false, not, ◌&&◌, ◌||◌, Option, Some, List, [], ◌∷◌, ◌++◌, take, drop, if◌then◌else◌, refl, ap, sym, ◌∙◌, subst, eq-eqb, append_assoc, append-nil, inl, inr, is_some, eqb-true, arith}
-use Rattle.std.proofs.lemmas.Bool.{true≢false, or_parts, cases_Bool, not-true as not_any, and_parts}
+use Rattle.std.proofs.Common.{◌≡◌, ℕ, ◌+◌, ◌-◌, ◌==◌, Bool, true, false, not, ◌||◌, Some, List, [], ◌∷◌, ◌++◌, take, drop, if◌then◌else◌, refl, ap, sym, ◌∙◌, subst, eq-eqb, append_assoc, append-nil, inl, inr, is_some, eqb-true, arith}
+use Rattle.std.proofs.lemmas.Bool.{true≢false, or_parts, cases_Bool, not-true as not_any}
 use Rattle.std.proofs.lemmas.List.Elements.{All-head, All-tail, All-append, All-take, All-drop, All-replicate, All-nil, All-cons}
-use Rattle.std.specs.{List.{AllByRecursion, list_any}, Option.option_map_or}
-use Rattle.page_memory.specs.Pages.{Pages, page_at, zero_page}
+use Rattle.std.specs.{List.{AllByRecursion, list_any}}
+use Rattle.page_memory.specs.Pages.{Pages, zero_page}
 use Rattle.io_commands.specs.{Asked.Request, DataBytes.{PagesOut, gathered}, Drafts.DraftContents, Jobs.is_success, Values.numbers_of}
 use Rattle.io_commands.specs.declared.request.Piece.{Piece, TheVariants.{Data, Bucket}}
 use Rattle.machine_model.{proofs.HostLeaves.ids_of, specs.{Claims.OwnsFit, Events.{Event, Reply}, Image.{Made, is_draft, draft_of, submitted_by}}}
 use Rattle.machine_model.specs.{Opening.opening, State.{is_at, State, Record, pages_of}, Step.{zeroed, pages_with_bytes, Step}}
 use Rattle.machine_model.specs.{Trusted.{TrustedRun, Steps, drafts_of}, Work.Work}
 use Rattle.run_laws.proofs.Carrying.{Stands}
-use Rattle.run_laws.proofs.DataKept.{along_steps, Going, left_step, stood_step, stood_along, IsOfDraft, found_draft, held_goes, goes_on, reaped_on, sub_goes, drafts_same, Unread, Untouched, Waits, unread_step, unread_submit, Course, course, alone_of, at_draft, request_stays, Collects, collects_held}
+use Rattle.run_laws.proofs.DataKept.{along_steps, Going, left_step, stood_step, stood_along, IsOfDraft, found_draft, held_goes, goes_on, reaped_on, sub_goes, Unread, Untouched, Waits, unread_step, unread_submit, course, alone_of, at_draft, request_stays, Collects, collects_held}
 use Rattle.run_laws.proofs.{DataOnce.once, Images.refused_drafts, Moves.{RecordsMove, records_event}, ReadLaws.{reads_give, stopped_reads}}
 use Rattle.run_laws.specs.Statuses.{fetches}
 use Rattle.run_laws.specs.Submitted.{CollectedCommand, FetchedCommand, submits, was_fetched, unfetched_commands_keep_their_data, unfetched_commands_keep_the_drafts_bytes, unfetched_commands_were_deleted, successful_commands_were_fetched, AreZeros, drafts_of_reserve_are_zero, unfetched_commands_of_zeros_gather_zeros, fetched_commands_have_their_fetch, commands_are_fetched_once, fetched_reads_give_a_prefix, successful_reads_give_their_blocks, collected_commands_were_submitted}
@@ -24,10 +24,7 @@ use Rattle.two_sides.proofs.{Provided.{all_at_found, some_is}, Served.{hosts_own
 
 neither : (f g : Made → Bool) (made : List Made) → list_any f made ≡ false → list_any g made ≡ false → list_any (λ m. f m || g m) made ≡ false
 neither f g [] h k = refl
-neither f g (m ∷ made) h k =
-    let a = or_parts (f m) (list_any f made) h in
-    let b = or_parts (g m) (list_any g made) k in
-    rw (a.0, b.0) (neither f g made a.1 b.1)
+neither f g (m ∷ made) h k = grind (arith, neither f g made)
 
 -- the test of a fetch, said of the draft
 fetched_of : (c : CollectedCommand) (made : List Made) → list_any (fetches c.draft.q c.draft.cid) made ≡ list_any (fetches c.finished.q c.finished.cid) made
@@ -45,9 +42,7 @@ waited c none =
 -- pages that stand are handed out as they are
 handed_out : (m : Pages) (pages : PagesOut) → AllByRecursion (Stands m) pages → pages_with_bytes m (numbers_of pages) ≡ pages
 handed_out m [] h = refl
-handed_out m (page ∷ pages) h =
-    let same : option_map_or (λ bytes. bytes) (page_at m page.0) [] ≡ page.1 = ap (λ (o : Option (List ℕ)). option_map_or (λ bytes. bytes) o []) h.0.0 in
-    ap (λ (bytes : List ℕ). (page.0, bytes) ∷ pages_with_bytes m (numbers_of pages)) same ∙ ap (λ (rest : PagesOut). page ∷ rest) (handed_out m pages h.1)
+handed_out m (page ∷ pages) h = grind (arith, handed_out m pages)
 
 pub data_kept : unfetched_commands_keep_their_data
 data_kept c none =
@@ -72,14 +67,13 @@ unfolding zero_page
 zeros_of_page = All-replicate (λ b. b ≡ 0) 4096 0 refl
 
 pub zeros_gathered : (pieces : List Piece) (pages : PagesOut) → zeroed pages → AreZeros (gathered pieces pages)
-zeros_gathered [] pages h = All-nil (λ b. b ≡ 0)
 zeros_gathered (Bucket len ∷ pieces) pages h = zeros_gathered pieces pages h
-zeros_gathered (Data offset len ∷ pieces) [] h = All-nil (λ b. b ≡ 0)
 zeros_gathered (Data offset len ∷ pieces) (page ∷ pages) h =
     let here : AreZeros page.1 = subst AreZeros (sym (All-head (λ (p : ℕ × List ℕ). p.1 ≡ zero_page) page pages h)) zeros_of_page in
     All-append (λ b. b ≡ 0) (take (offset + len - offset) (drop offset page.1)) (gathered pieces pages)
     (All-take (λ b. b ≡ 0) (offset + len - offset) (drop offset page.1) (All-drop (λ b. b ≡ 0) offset page.1 here))
     (zeros_gathered pieces pages (All-tail (λ (p : ℕ × List ℕ). p.1 ≡ zero_page) page pages h))
+zeros_gathered pieces pages h = All-nil (λ b. b ≡ 0)
 
 left_zeroed : (xs ys : PagesOut) → zeroed (xs ++ ys) → zeroed xs
 left_zeroed [] ys h = All-nil (λ (p : ℕ × List ℕ). p.1 ≡ zero_page)
@@ -102,13 +96,12 @@ record SplitAt (test : Made → Bool) (made : List Made) : Type 0 where
 
 split_at : (test : Made → Bool) (made : List Made) → list_any test made ≡ true → SplitAt test made
 split_at test [] h = absurd (true≢false (sym h))
-split_at test (m ∷ made) h = go (test m) refl h (split_at test made)
-  where
-    go : (b : Bool) → test m ≡ b → (b || list_any test made) ≡ true → (list_any test made ≡ true → SplitAt test made) → SplitAt test (m ∷ made)
-    go true e h rest = record { before = []; at = m; behind = made; split = refl; passes = e }
-    go false e h rest =
-        let x = rest h in
-        record { before = m ∷ x.before; at = x.at; behind = x.behind; split = ap (λ (xs : List Made). m ∷ xs) x.split; passes = x.passes }
+split_at test (m ∷ made) h = elim (cases_Bool (test m)) [
+  | inl e ↦ record { before = []; at = m; behind = made; split = refl; passes = e }
+  | inr e ↦
+      let x = (split_at test made) (rw e at h) in
+      record { before = m ∷ x.before; at = x.at; behind = x.behind; split = ap (λ (xs : List Made). m ∷ xs) x.split; passes = x.passes }
+]
 
 pub has_fetch : fetched_commands_have_their_fetch
 has_fetch c fetched =
@@ -116,11 +109,10 @@ has_fetch c fetched =
     (record { command = c; before_fetch = x.before; fetched = x.at; after_fetch = x.behind; split = x.split; is_fetch = x.passes }, refl)
 
 pub fetched_once : commands_are_fetched_once
-fetched_once f = ap not (sym (fetched_of f.command (f.before_fetch ++ f.after_fetch)) ∙ once_of)
+fetched_once f =
+    let x = course f.command in
+    ap not (sym (fetched_of f.command (f.before_fetch ++ f.after_fetch)) ∙ once_of)
   where
-    x : Course f.command
-    x = course f.command
-
     at_fetch : fetches f.command.draft.q f.command.draft.cid f.fetched ≡ true
     at_fetch = ap (λ (n : ℕ). fetches n f.command.draft.cid f.fetched) f.command.queue ∙ ap (λ (n : ℕ). fetches f.command.finished.q n f.fetched) f.command.identifier ∙ f.is_fetch
 
@@ -148,24 +140,14 @@ drafts_append (x ∷ xs) ys = ap (λ (ds : List DraftContents). ds ++ submitted_
 
 none_later : (q cid : ℕ) (ds rest : List DraftContents) → list_any (is_draft q cid) ds ≡ false → draft_of q cid (ds ++ rest) ≡ draft_of q cid rest
 none_later q cid [] rest h = refl
-none_later q cid (d ∷ ds) rest h =
-    let both = or_parts (is_draft q cid d) (list_any (is_draft q cid) ds) h in
-    ap (λ (b : Bool). if b then Some d else draft_of q cid (ds ++ rest)) both.0 ∙ none_later q cid ds rest both.1
+none_later q cid (d ∷ ds) rest h = grind (arith, none_later q cid ds rest)
 
 pub still_latest : (q cid : ℕ) (made : List Made) (rest : List DraftContents) → list_any (submits q cid) made ≡ false → draft_of q cid (drafts_of made ++ rest) ≡ draft_of q cid rest
 still_latest q cid [] rest h = refl
-still_latest q cid (m ∷ made) rest h =
-    let both = or_parts (submits q cid m) (list_any (submits q cid) made) h in
-    ap (draft_of q cid) (append_assoc (drafts_of made) (submitted_by m.event m.reply) rest)
-    ∙ still_latest q cid made (submitted_by m.event m.reply ++ rest) both.1 ∙ none_later q cid (submitted_by m.event m.reply) rest both.0
+still_latest q cid (m ∷ made) rest h = grind (arith, still_latest q cid made (submitted_by m.event m.reply ++ rest), append_assoc, none_later)
 
 latest : (c : CollectedCommand) → draft_of c.finished.q c.finished.cid (drafts_of (c.before ++ c.submitted ∷ c.between)) ≡ Some c.draft
-latest c =
-    let here : ((c.draft.q == c.finished.q) && (c.draft.cid == c.finished.cid)) ≡ true = rw (eq-eqb c.draft.q c.finished.q c.queue, eq-eqb c.draft.cid c.finished.cid c.identifier) refl in
-    ap (draft_of c.finished.q c.finished.cid) (drafts_append c.before (c.submitted ∷ c.between) ∙ append_assoc (drafts_of c.between) (submitted_by c.submitted.event c.submitted.reply) (drafts_of c.before))
-    ∙ still_latest c.finished.q c.finished.cid c.between (submitted_by c.submitted.event c.submitted.reply ++ drafts_of c.before) (not_any (list_any (submits c.finished.q c.finished.cid) c.between) c.alone)
-    ∙ ap (λ (ds : List DraftContents). draft_of c.finished.q c.finished.cid (ds ++ drafts_of c.before)) c.is_submission
-    ∙ ap (λ (b : Bool). if b then Some c.draft else draft_of c.finished.q c.finished.cid (drafts_of c.before)) here
+latest c = grind (arith, eq-eqb, drafts_append, append_assoc, still_latest, not_any)
 
 none_behind : (f : FetchedCommand) → not (list_any (fetches f.command.finished.q f.command.finished.cid) f.after_fetch) ≡ true
 none_behind f = ap not (right_any (fetches f.command.finished.q f.command.finished.cid) f.before_fetch f.after_fetch (not_any (list_any (fetches f.command.finished.q f.command.finished.cid) (f.before_fetch ++ f.after_fetch)) (fetched_once f)))
@@ -195,12 +177,7 @@ more_drafts q cid [] drafts h = h
 more_drafts q cid (d ∷ new) drafts h = grind (arith, more_drafts q cid new drafts h)
 
 submitted_is : (s : State) (e : Event) (reply : Reply) → Going s e reply → (d : DraftContents) → e ≡ events.Submit d → submitted_by e reply ≡ d ∷ []
-submitted_is s (events.Submit x) events.Accepted g d is = ap (λ (y : DraftContents). y ∷ []) (drafts_same is)
-submitted_is s (events.Submit x) reply g d is = absurd g.ok.1
-submitted_is s e reply g d is = absurd (none is)
-  where
-    none : e ≡ events.Submit d → ⊥
-    none is = cc
+submitted_is s e reply g d is = grind arith
 
 drafts_move : (drafts : List DraftContents) (s : State) (e : Event) (reply : Reply) → Going s e reply → RecordsMove (HasDraft drafts) (HasDraft (submitted_by e reply ++ drafts)) s e
 drafts_move drafts s e reply g = record {
@@ -244,30 +221,23 @@ record LastSubmission (q cid : ℕ) (made : List Made) : Type 0 where
   none : list_any (submits q cid) behind ≡ false
 
 submission_of : (q cid : ℕ) (e : Event) (reply : Reply) → list_any (is_draft q cid) (submitted_by e reply) ≡ true → (d : DraftContents) × (submitted_by e reply ≡ d ∷ []) × (d.q ≡ q) × (d.cid ≡ cid)
-submission_of q cid (events.Submit d) events.Accepted h = (d, refl, eqb-true d.q q ids.0, eqb-true d.cid cid ids.1)
-  where
-    ids : ((d.q == q) ≡ true) × ((d.cid == cid) ≡ true)
-    ids = and_parts (d.q == q) (d.cid == cid) (grind arith)
+submission_of q cid (events.Submit d) events.Accepted h = grind (arith, eqb-true)
 submission_of q cid e reply h = absurd (true≢false (sym h))
 
 last_submission : (q cid : ℕ) (made : List Made) → list_any (submits q cid) made ≡ true → LastSubmission q cid made
 last_submission q cid [] h = absurd (true≢false (sym h))
-last_submission q cid (m ∷ made) h = go (list_any (submits q cid) made) refl h (last_submission q cid made)
-  where
-    go : (c : Bool) → list_any (submits q cid) made ≡ c → (submits q cid m || list_any (submits q cid) made) ≡ true → (list_any (submits q cid) made ≡ true → LastSubmission q cid made) → LastSubmission q cid (m ∷ made)
-    go true e h rest =
-        let x = rest e in
-        record { before = m ∷ x.before; at = x.at; behind = x.behind; split = ap (λ (xs : List Made). m ∷ xs) x.split; draft = x.draft; is = x.is; its_queue = x.its_queue; its_cid = x.its_cid; none = x.none }
-    go false e h rest =
-        let x = submission_of q cid m.event m.reply (grind arith) in
-        record { before = []; at = m; behind = made; split = refl; draft = x.0; is = x.1; its_queue = x.2; its_cid = x.3; none = e }
+last_submission q cid (m ∷ made) h = elim (cases_Bool (list_any (submits q cid) made)) [
+  | inl e ↦
+      let x = (last_submission q cid made) e in
+      record { before = m ∷ x.before; at = x.at; behind = x.behind; split = ap (λ (xs : List Made). m ∷ xs) x.split; draft = x.draft; is = x.is; its_queue = x.its_queue; its_cid = x.its_cid; none = x.none }
+  | inr e ↦
+      let x = submission_of q cid m.event m.reply (grind arith) in
+      record { before = []; at = m; behind = made; split = refl; draft = x.0; is = x.1; its_queue = x.2; its_cid = x.3; none = e }
+]
 
 -- some draft of an identifier was submitted
 was_submitted : (q cid : ℕ) (made : List Made) → is_some (draft_of q cid (drafts_of made ++ [])) ≡ true → list_any (submits q cid) made ≡ true
-was_submitted q cid made h = elim (cases_Bool (list_any (submits q cid) made)) [
-  | inl e ↦ rw e refl
-  | inr e ↦ absurd (true≢false (sym h ∙ ap is_some (still_latest q cid made [] e)))
-]
+was_submitted q cid made h = grind (arith, still_latest)
 
 pub were_submitted : collected_commands_were_submitted
 were_submitted image earlier later m end f run is =
@@ -305,9 +275,6 @@ were_submitted image earlier later m end f run is =
     unforged : Unforged (opening run.pages run.queues run.entries run.segment image) earlier
     unforged = unforged_front earlier (m ∷ later) s0 (unforged_run image (earlier ++ m ∷ later) end run)
 
-    trusted : parts.0.trusted ≡ true
-    trusted = unforged_end earlier s0 parts.0 parts.1 unforged
-
     stood0 : Stood (opening run.pages run.queues run.entries run.segment image)
     stood0 = stood_at_opening run.pages run.queues run.entries run.segment image run.opens
 
@@ -315,7 +282,7 @@ were_submitted image earlier later m end f run is =
     stood = stood_along earlier s0 parts.0 parts.1 unforged stood0
 
     found : Collects parts.0 f
-    found = collects_held parts.0 m.event m.reply parts.2.1 f parts.2.2 trusted is
+    found = collects_held parts.0 m.event m.reply parts.2.1 f parts.2.2 (unforged_end earlier s0 parts.0 parts.1 unforged) is
 
     drafted : AllDrafted (drafts_of earlier ++ []) parts.0
     drafted = drafted_along earlier s0 parts.0 [] parts.1 unforged stood0 tt

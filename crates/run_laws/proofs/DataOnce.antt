@@ -138,22 +138,16 @@ fetched_clears s new q cid other f = subst (NoEntry q cid) (sym f.left) (go (nex
     few : total (λ (x : SubEntry). one (x.cid == cid)) (list_at (λ at. at.unfetched) (change q off s.device.queues) q) ≡ 0
     few = omega (arith, un, one_less, self, f.going.stood.places q (λ c. one (c == cid)), sent_few q cid s.host.records, f.going.stood.grounds.stands.0.once q cid)
 
-    rest : AllByRecursion (λ (e : SubEntry). e.cid ≡ cid → ⊥) (list_at (λ at. at.unfetched) (change q (λ at. record at { unfetched = drop 1 at.unfetched; rung = at.rung - 1 }) s.device.queues) q)
-    rest = nobody (λ (e : SubEntry). e.cid) cid (λ e. ⊥) (list_at (λ at. at.unfetched) (change q off s.device.queues) q) few
-
     inner : (e : SubEntry) → next_rung s q ≡ Some e → (b z : Bool) → conflicts s q ≡ b → (q == 0) ≡ z
         → NoEntry q cid (if b then a.answered q e.cid COMMAND_ID_CONFLICT 0 (a.taken_off q s) else if z then a.managed e (a.taken_off 0 s) else a.begun q e (a.taken_off q s))
     inner e r true z con is0 =
         absurd (true≢false (sym con ∙ ap (λ (o : Option SubEntry). option_map_or (λ e. is_some (job_at s q e.cid)) o false) r ∙ not_conflicting s f.going.stood q e (in_hand s q e r)))
     inner e r false true con is0 = absurd (true≢false (sym is0 ∙ other))
-    inner e r false false con is0 = rest
+    inner e r false false con is0 = (nobody (λ (e : SubEntry). e.cid) cid (λ e. ⊥) (list_at (λ at. at.unfetched) (change q off s.device.queues) q) few)
 
     go : (o : Option SubEntry) → next_rung s q ≡ o
         → NoEntry q cid (option_map_or (λ e. if conflicts s q then a.answered q e.cid COMMAND_ID_CONFLICT 0 (a.taken_off q s) else if q == 0 then a.managed e (a.taken_off 0 s) else a.begun q e (a.taken_off q s)) o s)
-    go None r = absurd (none (sym f.rung ∙ r))
-      where
-        none : {x : SubEntry} → Some x ≡ None → ⊥
-        none is = cc
+    go None r = grind arith
     go (Some e) r = inner e r (conflicts s q) (q == 0) refl refl
 
 -- Along the steps
@@ -164,13 +158,12 @@ no_more d other [] s end steps u stood none h = refl
 no_more d other (m ∷ made) s end (is, mid, step, rest) u stood none h =
     let both = or_parts (submits d.q d.cid m) (list_any (submits d.q d.cid) made) none in
     let next = unforged_next m made s mid step u in
-    go (fetches d.q d.cid m) refl
-    (no_more d other made mid end rest next (stood_step s m.event m.reply mid step u.trusted next.trusted stood) both.1
-    (one_step (NoEntry d.q d.cid) s m.event m.reply mid step u.trusted next.trusted stood (λ g. no_entry_step d.q d.cid other s m.event m.reply g (submits_far s d m.event m.reply g both.0)) h))
-  where
-    go : (b : Bool) → fetches d.q d.cid m ≡ b → list_any (fetches d.q d.cid) made ≡ false → (b || list_any (fetches d.q d.cid) made) ≡ false
-    go true f ih = let made = fetch_made s m.event m.reply mid d.q d.cid step u.trusted stood f in absurd (none_next d.q d.cid s made.entry h made.rung made.its_cid)
-    go false f ih = ih
+    elim (cases_Bool (fetches d.q d.cid m)) [
+      | inl f ↦ rw f (let made = fetch_made s m.event m.reply mid d.q d.cid step u.trusted stood f in absurd (none_next d.q d.cid s made.entry h made.rung made.its_cid))
+      | inr f ↦
+          rw f ((no_more d other made mid end rest next (stood_step s m.event m.reply mid step u.trusted next.trusted stood) both.1
+          (one_step (NoEntry d.q d.cid) s m.event m.reply mid step u.trusted next.trusted stood (λ g. no_entry_step d.q d.cid other s m.event m.reply g (submits_far s d m.event m.reply g both.0)) h)))
+    ]
 
 pub once : (d : DraftContents) → (d.q == 0) ≡ false → (xs ys : List Made) (m : Made) (s end : State) → Steps s (xs ++ m ∷ ys) end → Unforged s (xs ++ m ∷ ys) → Stood s → list_any (submits d.q d.cid) (xs ++ m ∷ ys) ≡ false
     → fetches d.q d.cid m ≡ true → list_any (fetches d.q d.cid) (xs ++ ys) ≡ false
@@ -192,11 +185,7 @@ once d other (x ∷ xs) ys m s end (is, mid, step, rest) u stood none f =
   where
     among : (zs : List Made) → list_any (fetches d.q d.cid) (zs ++ m ∷ ys) ≡ true
     among [] = ap (λ (b : Bool). b || list_any (fetches d.q d.cid) ys) f
-    among (z ∷ zs) = at (fetches d.q d.cid z) (among zs)
-      where
-        at : (b : Bool) → list_any (fetches d.q d.cid) (zs ++ m ∷ ys) ≡ true → (b || list_any (fetches d.q d.cid) (zs ++ m ∷ ys)) ≡ true
-        at true ih = refl
-        at false ih = ih
+    among (z ∷ zs) = grind (arith, among zs)
 
 -- The list of a submitted command is its draft's, from its submission to its completion.
 
@@ -298,19 +287,21 @@ entry_posted (x ∷ qs) (suc q) at entry P e all = entry_posted qs q at entry P 
 
 pub submitted_first : (s : State) (d : DraftContents) → Going s (events.Submit d) events.Accepted → (entry : SubEntry) → d.entry ≡ Some entry → (r : Record) (request : Request) → r.q ≡ d.q → r.cid ≡ d.cid → d.request ≡ request
     → (l : ListStands (a.after_submit d s).memory (a.after_submit d s).device.queues (a.after_submit d s).device.jobs r request) → l.first ≡ draft_first d
-submitted_first s d g entry built r request its_queue its_cid asked l = elim (option_is (host_queue s d.q)) [
-  | inl e ↦ let h = rw e at live in absurd (true≢false (sym h))
-  | inr (queue, e) ↦
-      let pair = pair_at s g.stood.grounds d.q queue e in
-      let its : entry ≡ draft_entry d = carries_entry d entry g.proper.draft built in
-      let all : AllByRecursion (λ (y : SubEntry). y.cid ≡ r.cid → y ≡ io_entry r.cid request (spelling l.first)) (unfetched_at (change d.q (λ at. record at { unfetched = at.unfetched ++ entry ∷ [] }) s.device.queues) d.q) =
-      subst (λ (qs : List DeviceQueue). AllByRecursion (λ (y : SubEntry). y.cid ≡ r.cid → y ≡ io_entry r.cid request (spelling l.first)) (unfetched_at qs d.q)) queues
-      (subst (λ (n : ℕ). AllByRecursion (λ (y : SubEntry). y.cid ≡ r.cid → y ≡ io_entry r.cid request (spelling l.first)) (unfetched_at (a.after_submit d s).device.queues n)) its_queue l.entry.unfetched) in
-      let is : entry ≡ io_entry r.cid request (spelling l.first) =
-      entry_posted s.device.queues d.q pair.0 entry (λ (y : SubEntry). y.cid ≡ r.cid → y ≡ io_entry r.cid request (spelling l.first)) pair.1 all (ap (λ (y : SubEntry). y.cid) its ∙ sym its_cid) in
-      let spelled : spelling l.first ≡ spelling (draft_first d) = sym (ap (λ (y : SubEntry). y.sgl1) is) ∙ ap (λ (y : SubEntry). y.sgl1) its in
-      some_is (sym l.read ∙ ap descriptor_of spelled ∙ read)
-]
+submitted_first s d g entry built r request its_queue its_cid asked l =
+    let s1 : State = a.on_records (with_record d.q d.cid a.submitted) (a.on_memory (with_pages (d.data_pages ++ d.chain_pages)) s) in
+    elim (option_is (host_queue s d.q)) [
+      | inl e ↦ let h = rw e at live in absurd (true≢false (sym h))
+      | inr (queue, e) ↦
+          let pair = pair_at s g.stood.grounds d.q queue e in
+          let its : entry ≡ draft_entry d = carries_entry d entry g.proper.draft built in
+          let all : AllByRecursion (λ (y : SubEntry). y.cid ≡ r.cid → y ≡ io_entry r.cid request (spelling l.first)) (unfetched_at (change d.q (λ at. record at { unfetched = at.unfetched ++ entry ∷ [] }) s.device.queues) d.q) =
+          subst (λ (qs : List DeviceQueue). AllByRecursion (λ (y : SubEntry). y.cid ≡ r.cid → y ≡ io_entry r.cid request (spelling l.first)) (unfetched_at qs d.q)) queues
+          (subst (λ (n : ℕ). AllByRecursion (λ (y : SubEntry). y.cid ≡ r.cid → y ≡ io_entry r.cid request (spelling l.first)) (unfetched_at (a.after_submit d s).device.queues n)) its_queue l.entry.unfetched) in
+          let is : entry ≡ io_entry r.cid request (spelling l.first) =
+          entry_posted s.device.queues d.q pair.0 entry (λ (y : SubEntry). y.cid ≡ r.cid → y ≡ io_entry r.cid request (spelling l.first)) pair.1 all (ap (λ (y : SubEntry). y.cid) its ∙ sym its_cid) in
+          let spelled : spelling l.first ≡ spelling (draft_first d) = sym (ap (λ (y : SubEntry). y.sgl1) is) ∙ ap (λ (y : SubEntry). y.sgl1) its in
+          some_is (sym l.read ∙ ap descriptor_of spelled ∙ read)
+    ]
   where
     x : Found s d
     x = found_draft s d events.Accepted g
@@ -332,9 +323,6 @@ submitted_first s d g entry built r request its_queue its_cid asked l = elim (op
         (rest_fails (is_none d.entry) refusals.NotBuilt ((not (in_state is_live s d.q), refusals.QueueGone) ∷ (queue_full s d.q, refusals.QueueFull) ∷ [])
         (rest_fails (not (record_is (is_of is_drafted d.request (numbers_of d.data_pages) (numbers_of d.chain_pages)) s d.q d.cid)) refusals.Stranger
         ((is_none d.entry, refusals.NotBuilt) ∷ (not (in_state is_live s d.q), refusals.QueueGone) ∷ (queue_full s d.q, refusals.QueueFull) ∷ []) g.ok.0)))
-
-    s1 : State
-    s1 = a.on_records (with_record d.q d.cid a.submitted) (a.on_memory (with_pages (d.data_pages ++ d.chain_pages)) s)
 
     queues : (a.after_submit d s).device.queues ≡ change d.q (λ at. record at { unfetched = at.unfetched ++ entry ∷ [] }) s.device.queues
     queues =
@@ -381,7 +369,7 @@ chains_move drafts s e reply g = record {
     new d events.Accepted g entry r built at fits (Io request) w stands =
         let ids = ids_of s d.q d.cid r at in
         let of = (submits_of d r fits).0 in
-        let asked : d.request ≡ request = inside (sym of.work ∙ w) in
+        let asked : d.request ≡ request = (cc (sym of.work ∙ w)) in
         let l = (subst (StandsAs (a.after_submit d s).memory (a.after_submit d s).device.queues (a.after_submit d s).device.jobs (a.submitted r)) w stands).1 refl in
         record {
           draft = d;
@@ -392,9 +380,6 @@ chains_move drafts s e reply g = record {
           list = l;
           first = submitted_first s d g entry built (a.submitted r) request ids.0 ids.1 asked l;
         }
-      where
-        inside : {x y : Request} → Io x ≡ Io y → x ≡ y
-        inside e = cc
     new d reply g entry r built at fits (Io request) w stands = absurd g.ok.1
 
 abbrev pub AllChained : List DraftContents → State → Type 0
@@ -447,7 +432,7 @@ chains_drafted image made end q cid r request run found sub work =
           ap (λ (n : ℕ). draft_of n cid (drafts_of made)) (sym ids.0) ∙ ap (λ (n : ℕ). draft_of r.q n (drafts_of made)) (sym ids.1) ∙ ap (draft_of r.q r.cid) (sym (append-nil (drafts_of made))) ∙ h.latest,
           record {
             is_built = ap is_some h.built;
-            request_is = inside (sym h.of.work ∙ work);
+            request_is = (cc (sym h.of.work ∙ work));
             data_pages = h.of.data_pages;
             chain_pages = h.of.chain_pages;
             spells = subst (λ (x : Descriptor). Spells (byte_at end.memory) x (joined_parts request.pieces r.data_pages)) h.first
@@ -456,6 +441,3 @@ chains_drafted image made end q cid r request run found sub work =
                 (all_of (λ e. e.sgl1 ≡ spelling h.list.first) (entries_of end r.q r.cid) (entries_named end r.q r.cid (io_entry r.cid request (spelling h.list.first)) h.list.entry));
           },
         )
-      where
-        inside : {x y : Request} → Io x ≡ Io y → x ≡ y
-        inside e = cc

@@ -3,13 +3,13 @@ use Rattle.machine_model.specs.Events as events
 use Rattle.machine_model.specs.Step as machine
 use Rattle.step_core.specs.declared.step.Reply.TheVariants as reply
 use Rattle.step_core.specs.declared.step.Step.TheVariants as step
-use Rattle.std.proofs.Common.{◌≡◌, ℕ, ◌==◌, Bool, true, false, ◌&&◌, List, [], ◌∷◌, ◌++◌, refl, ap, sym, ◌∙◌, subst, eqb-true, Some, replicate, eq-eqb, not, is_some, Option, None, length, append_assoc, append-nil}
+use Rattle.std.proofs.Common.{◌≡◌, ℕ, ◌==◌, Bool, true, false, ◌&&◌, List, [], ◌∷◌, ◌++◌, refl, ap, sym, ◌∙◌, subst, eqb-true, Some, replicate, eq-eqb, not, is_some, Option, None, length, append_assoc, append-nil, arith, inl, inr}
 use Rattle.std.{proofs.lemmas.{Bool.{true≢false, and_parts, not-true}, List.Elements.{All-head, All-tail}}, specs.List.{list_any, AllByRecursion}}
 use Rattle.std.specs.Option.{option_map}
 use Rattle.io_commands.specs.{Asked.Request, DataBytes.{PagesOut, filled, gathered}, Drafts.{DraftContents, built}}
 use Rattle.machine_model.{proofs.Moves.drafted_record, specs.{Events.Event, Image.{is_draft, draft_of}, Proper.IsProperDraft}}
-use Rattle.machine_model.specs.{Script.{Table, table, filled_draft}, State.{State, is_at}, Step.{IsReserved, IsNewIdentifier, HostPart, zeroed}}
-use Rattle.step_core.{proofs.Order.{bench_opens, bench_keeps}, specs.{Bench.{Does, Makes, event_at, told, kept}, Going.IsTableInOrder, Opening.opening_of}}
+use Rattle.machine_model.specs.{Script.{Table, table, filled_draft}, State.{State}, Step.{IsReserved, IsNewIdentifier, HostPart, zeroed}}
+use Rattle.step_core.{proofs.Order.{bench_opens, bench_keeps}, specs.{Bench.{event_at, told, kept}, Going.IsTableInOrder, Opening.opening_of}}
 use Rattle.step_core.specs.Values.{Reply, Step}
 use Rattle.host_core.{proofs.Outstanding.{none_there, record_reserved, reserved_ok, found_any, find_last}, specs.CommandValues.{with_first, without_first}}
 use Rattle.run_laws.proofs.Filled.{DraftMove, Rested, Stepped, Added, Filled, Built, Taken, moves, gathered_zeros, Tracked, tracked}
@@ -18,6 +18,7 @@ use Rattle.run_laws.specs.Drafts.{ReservedCommand, IsReservedDraft, benches_subm
 use Rattle.run_laws.specs.Values.{Done, Goes}
 use Rattle.page_memory.specs.Pages.{zero_page}
 use Rattle.two_sides.proofs.{Provided.all_at_found, Served.good_is}
+use Rattle.std.proofs.lemmas.Bool.{cases_Bool}
 
 -- Each draft that a bench keeps is that of a drafted command, and it keeps one of each name at most.
 
@@ -28,13 +29,10 @@ pub record DraftsStand (t : Table) : Type 0 where
 -- A reservation
 
 pub none_named : (t : Table) (new : State) (q : ℕ) (request : Request) (d : DraftContents) → machine.Step t.world (events.Reserve q request) (events.Reserved d) new → DraftsStand t → list_any (is_draft d.q d.cid) t.drafts ≡ false
-none_named t new q request d step h = go (list_any (is_draft d.q d.cid) t.drafts) refl
-  where
-    go : (b : Bool) → list_any (is_draft d.q d.cid) t.drafts ≡ b → b ≡ false
-    go false e = refl
-    go true e =
-        let s = h.drafted d.q d.cid e in
-        absurd (true≢false (sym (found_any (is_at d.q d.cid) t.world.host.records s.0 s.1) ∙ none_there t.world new q request d step))
+none_named t new q request d step h = elim (cases_Bool (list_any (is_draft d.q d.cid) t.drafts)) [
+  | inl e ↦ rw e (grind (arith, found_any, none_there))
+  | inr e ↦ rw e refl
+]
 
 reserved_drafted : (s new : State) (q : ℕ) (request : Request) (d : DraftContents) → machine.Step s (events.Reserve q request) (events.Reserved d) new → Drafts d.q d.cid new.host.records
 reserved_drafted s new q request d step = (drafted_record d, record_reserved s new q request d step, record { phase = refl; request = d.request; work = refl })
@@ -56,6 +54,10 @@ same_names t new k n f same world drafts h =
 
 added : (t new : Table) (q : ℕ) (request : Request) (d : DraftContents) → machine.Step t.world (events.Reserve q request) (events.Reserved d) new.world → new.drafts ≡ t.drafts ++ d ∷ [] → DraftsStand t → DraftsStand new
 added t new q request d step drafts h =
+    let by_name : (k n : ℕ) → (d.q ≡ k) × (d.cid ≡ n) → Drafts k n new.world.host.records =
+    λ k n is. subst (λ (x : ℕ). Drafts x n new.world.host.records) is.0 (subst (λ (x : ℕ). Drafts d.q x new.world.host.records) is.1 (reserved_drafted t.world new.world q request d step)) in
+    let alone : (k n : ℕ) → (d.q ≡ k) × (d.cid ≡ n) → list_any (is_draft k n) t.drafts ≡ false =
+    λ k n is. ap (λ (x : ℕ). list_any (is_draft x n) t.drafts) (sym is.0) ∙ ap (λ (x : ℕ). list_any (is_draft d.q x) t.drafts) (sym is.1) ∙ none_named t new.world q request d step h in
     record {
       drafted = λ k n there.
           any_of_more (is_draft k n) t.drafts d (Drafts k n new.world.host.records) (ap (list_any (is_draft k n)) (sym drafts) ∙ there)
@@ -63,13 +65,6 @@ added t new q request d step drafts h =
           (λ late. by_name k n (names k n d late));
       few = λ k n. subst (Few (is_draft k n)) (sym drafts) (few_more (is_draft k n) t.drafts d (h.few k n) (λ late. alone k n (names k n d late)));
     }
-  where
-    by_name : (k n : ℕ) → (d.q ≡ k) × (d.cid ≡ n) → Drafts k n new.world.host.records
-    by_name k n is =
-        subst (λ (x : ℕ). Drafts x n new.world.host.records) is.0 (subst (λ (x : ℕ). Drafts d.q x new.world.host.records) is.1 (reserved_drafted t.world new.world q request d step))
-
-    alone : (k n : ℕ) → (d.q ≡ k) × (d.cid ≡ n) → list_any (is_draft k n) t.drafts ≡ false
-    alone k n is = ap (λ (x : ℕ). list_any (is_draft x n) t.drafts) (sym is.0) ∙ ap (λ (x : ℕ). list_any (is_draft d.q x) t.drafts) (sym is.1) ∙ none_named t new.world q request d step h
 
 taken : (t new : Table) (k n : ℕ) (e : Event) → machine.Step t.world e events.Accepted new.world → ((q cid : ℕ) → takes_by q cid e events.Accepted ≡ ((k == q) && (n == cid)))
     → new.drafts ≡ without_first (is_draft k n) t.drafts → DraftsStand t → DraftsStand new
@@ -139,11 +134,7 @@ reserved_as c (events.Reserved d) tells is keeps = (d, record { queue = cc; iden
 reserved_as c r tells is keeps = absurd cc
 
 reserved_draft : (c : ReservedCommand) → (draft : DraftContents) × IsReservedDraft c draft
-reserved_draft c =
-    let m : Makes c.reservation.before (step.Reserve c.q c.request) (events.Reserve c.q c.request) (reply.Reserved c.q c.cid c.data_pages c.chain_pages) c.reservation.after =
-    subst (λ (answer : Reply). Does c.reservation.before (step.Reserve c.q c.request) answer c.reservation.after) c.reserved
-    (subst (λ (what : Step). Does c.reservation.before what c.reservation.answer c.reservation.after) c.reserves c.reservation.does) in
-    reserved_as c m.reply m.tells m.step m.keeps
+reserved_draft c = grind (arith, reserved_as)
 
 -- The law
 
@@ -288,14 +279,13 @@ all_more past m (Filled k n bytes d fill found fits world drafts untaken) h q ci
 all_more past m (Built k n d found world drafts idle) h q cid there =
     one_more past m q cid (idle q cid).1
     (h.all q cid (sym (any_with (is_draft q cid) (is_draft k n) built (λ x. refl) m.before.drafts) ∙ ap (list_any (is_draft q cid)) (sym drafts) ∙ there))
-all_more past m (Taken k n e step takes its drafts none) h q cid there = left (ap (list_any (is_draft q cid)) (sym drafts) ∙ there) ((k == q) && (n == cid)) refl
-  where
-    left : list_any (is_draft q cid) (without_first (is_draft k n) m.before.drafts) ≡ true → (b : Bool) → ((k == q) && (n == cid)) ≡ b → ReservedIn (past ++ m ∷ []) q cid
-    left there false is = one_more past m q cid (its q cid ∙ is) (h.all q cid (any_without (is_draft q cid) (is_draft k n) m.before.drafts there))
-    left there true is =
-        let both = and_parts (k == q) (n == cid) is in
-        absurd (true≢false (sym there ∙ ap (λ (x : ℕ). list_any (is_draft x cid) (without_first (is_draft k n) m.before.drafts)) (sym (eqb-true k q both.0))
-        ∙ ap (λ (x : ℕ). list_any (is_draft k x) (without_first (is_draft k n) m.before.drafts)) (sym (eqb-true n cid both.1)) ∙ gone (is_draft k n) m.before.drafts (h.stand.few k n)))
+all_more past m (Taken k n e step takes its drafts none) h q cid there = elim (cases_Bool ((k == q) && (n == cid))) [
+  | inl is ↦
+      let both = and_parts (k == q) (n == cid) is in
+      absurd (true≢false (sym (ap (list_any (is_draft q cid)) (sym drafts) ∙ there) ∙ ap (λ (x : ℕ). list_any (is_draft x cid) (without_first (is_draft k n) m.before.drafts)) (sym (eqb-true k q both.0))
+      ∙ ap (λ (x : ℕ). list_any (is_draft k x) (without_first (is_draft k n) m.before.drafts)) (sym (eqb-true n cid both.1)) ∙ gone (is_draft k n) m.before.drafts (h.stand.few k n)))
+  | inr is ↦ one_more past m q cid (its q cid ∙ is) (h.all q cid (any_without (is_draft q cid) (is_draft k n) m.before.drafts (ap (list_any (is_draft q cid)) (sym drafts) ∙ there)))
+]
 
 more : (past : List Done) (m : Done) → AreReserved past m.before → AreReserved (past ++ m ∷ []) m.after
 more past m h = record { stand = stand_on m.before m.what m.answer m.after (moves m) h.stand; all = all_more past m (moves m) h }

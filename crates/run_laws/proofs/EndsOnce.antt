@@ -1,8 +1,8 @@
 -- Between two completions of a command it was submitted anew: from its completion on no entry and no job of it is at the controller.
 use Rattle.machine_model.{proofs.{Cases.none_some, Counting.{one, total}, Steps.Accepts, Tokens.find_sound}, specs.{Agreeing.on_queue, Events.{Event, Reply}}}
 use Rattle.machine_model.specs.{Refusals.{is_job, job_at, next_rung}, Standing.unfetched_at, State.{State, Device, Job}, declared.words.Refusal.Refusal}
-use Rattle.std.proofs.Common.{◌≡◌, ℕ, ◌<◌, ◌≤◌, ◌==◌, Bool, true, false, not, ◌&&◌, Option, Some, None, List, [], ◌∷◌, ◌++◌, filter, if◌then◌else◌, refl, ap, sym, ◌∙◌, arith, subst, eqb-true, eq-eqb, inl, inr}
-use Rattle.std.{proofs.lemmas.Bool.{true≢false, and_parts, cases_Bool}, specs.{List.{AllByRecursion, list_any}, Option.{option_map, option_map_or}}}
+use Rattle.std.proofs.Common.{◌≡◌, ℕ, ◌<◌, ◌≤◌, ◌==◌, Bool, true, false, not, ◌&&◌, Option, Some, None, List, [], ◌∷◌, ◌++◌, filter, if◌then◌else◌, ap, sym, ◌∙◌, arith, subst, eqb-true, eq-eqb, inl, inr}
+use Rattle.std.{proofs.lemmas.Bool.{true≢false, and_parts, cases_Bool}, specs.{List.{AllByRecursion, list_any}, Option.{option_map_or}}}
 use Rattle.entry_codec.specs.declared.{status.Status.Status, submission.SubEntry.SubEntry}
 use Rattle.io_commands.specs.Drafts.{DraftContents}
 use Rattle.run_laws.proofs.{DataKept.{Going, left_step, along_steps}, DataOnce.{NoEntry, no_entry_step, none_next}, Moves.{JobsMove, jobs_event}}
@@ -24,13 +24,7 @@ record IsOver (q cid : ℕ) (s : State) : Type 0 where
 -- Steps that do not submit it
 
 far_submit : (q cid : ℕ) (s : State) (e : Event) (reply : Reply) → Accepts s e reply → submits_by q cid e reply ≡ false → (d : DraftContents) → e ≡ events.Submit d → ((d.q == q) && (d.cid == cid)) ≡ false
-far_submit q cid s e reply ok far d is = go ((d.q == q) && (d.cid == cid)) refl
-  where
-    go : (b : Bool) → ((d.q == q) && (d.cid == cid)) ≡ b → b ≡ false
-    go true same =
-        let both = and_parts (d.q == q) (d.cid == cid) same in
-        absurd (true≢false (sym (submit_at s e d reply q cid ok is (eqb-true d.q q both.0) (eqb-true d.cid cid both.1)) ∙ far))
-    go false same = refl
+far_submit q cid s e reply ok far d is = grind (arith, submit_at, eqb-true)
 
 jobs_turn : (q cid : ℕ) → (q == 0) ≡ false → (s : State) (e : Event) → NoEntry q cid s → JobsMove (IsOther q cid) (IsOther q cid) s e
 jobs_turn q cid other s e none = record {
@@ -51,10 +45,7 @@ over_step q cid other s e reply g far h = record {
 
 none_left : (q cid : ℕ) (js : List Job) → AllByRecursion (IsOther q cid) (filter (λ j. not (is_job q cid j)) js)
 none_left q cid [] = tt
-none_left q cid (j ∷ js) = elim (cases_Bool (is_job q cid j)) [
-  | inl is ↦ let ih = none_left q cid js in rw is ih
-  | inr is ↦ let ih = none_left q cid js in rw is ((λ same its. true≢false (sym (rw (eq-eqb j.q q same, eq-eqb j.entry.cid cid its) refl) ∙ is)), ih)
-]
+none_left q cid (j ∷ js) = grind (arith, none_left q cid js, none_left q cid js, eq-eqb)
 
 -- a job's command has no entry besides
 job_alone : (s : State) (q cid : ℕ) (j : Job) → Stood s → job_at s q cid ≡ Some j → NoEntry q cid s
@@ -80,25 +71,13 @@ jobs_completed s q cid j at =
 
 -- behind it nothing of the command is left
 over_completion : (s : State) (e : Event) (reply : Reply) (q cid : ℕ) (st : Status) → (q == 0) ≡ false → Going s e reply → status_by s e reply q cid ≡ Some st → IsOver q cid (a.after s e reply)
-over_completion s (events.Complete k c) (events.Completed touched) q cid st other g given = record {
-  entries = no_entry_step q cid other s (events.Complete k c) (events.Completed touched) g (λ d is. absurd (complete_submits is)) (job_alone s q cid job.0 g.stood job.1);
-  jobs = go ((k == q) && (c == cid)) refl given;
-}
-  where
-    job : (j : Job) × (job_at s q cid ≡ Some j) × (a.final_status s j ≡ st)
-    job = given_job s (events.Complete k c) (events.Completed touched) q cid st given
-
-    complete_submits : {d : DraftContents} → events.Complete k c ≡ events.Submit d → ⊥
-    complete_submits is = cc
-
-    left : AllByRecursion (IsOther q cid) (a.after_complete q cid s).device.jobs
-    left = subst (AllByRecursion (IsOther q cid)) (sym (jobs_completed s q cid job.0 job.1)) (none_left q cid s.device.jobs)
-
-    go : (b : Bool) → ((k == q) && (c == cid)) ≡ b → (if b then option_map (a.final_status s) (job_at s q cid) else None) ≡ Some st → AllByRecursion (IsOther q cid) (a.after_complete k c s).device.jobs
-    go true is h =
-        let both = and_parts (k == q) (c == cid) is in
-        subst (λ (n : ℕ). AllByRecursion (IsOther q cid) (a.after_complete n c s).device.jobs) (sym (eqb-true k q both.0)) (subst (λ (n : ℕ). AllByRecursion (IsOther q cid) (a.after_complete q n s).device.jobs) (sym (eqb-true c cid both.1)) left)
-    go false is h = absurd cc
+over_completion s (events.Complete k c) (events.Completed touched) q cid st other g given =
+    let job = given_job s (events.Complete k c) (events.Completed touched) q cid st given in
+    let left = subst (AllByRecursion (IsOther q cid)) (sym (jobs_completed s q cid job.0 job.1)) (none_left q cid s.device.jobs) in
+    record {
+      entries = no_entry_step q cid other s (events.Complete k c) (events.Completed touched) g (λ d is. absurd (cc (is))) (job_alone s q cid job.0 g.stood job.1);
+      jobs = (elim (cases_Bool ((k == q) && (c == cid))) [ inl is ↦ grind (arith, eqb-true) | inr is ↦ absurd cc ]);
+    }
 over_completion s e reply q cid st other g given = absurd cc
 
 refused_gives : (s : State) (e : Event) (why : Refusal) (touched : List ℕ) (q cid : ℕ) → status_by s e (events.Refused why touched) q cid ≡ None

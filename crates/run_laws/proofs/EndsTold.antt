@@ -1,24 +1,23 @@
 -- Each end is told.
 use Rattle.machine_model.specs.After as a
 use Rattle.machine_model.specs.Events as events
-use Rattle.machine_model.specs.declared.words.Refusal.TheVariants as refusal
-use Rattle.std.proofs.Common.{◌≡◌, ◌⊎◌, inl, inr, ℕ, ◌-◌, ◌%◌, ◌<◌, ◌==◌, Bool, true, false, ◌&&◌, ◌||◌, Option, Some, List, [], ◌∷◌, ◌++◌, length, drop, slice_get, if◌then◌else◌, refl, ap, sym, ◌∙◌, arith, subst, eqb-true, eq-eqb, zero, suc, ◌+◌, ◌≤◌, not, None, replicate, is_none, option_and_then}
-use Rattle.std.proofs.lemmas.{Bool.{true≢false, and_parts, or_parts, not-false, ne_eqb, cases_Bool, not-true}, List.append_assoc}
+use Rattle.std.proofs.Common.{◌≡◌, ◌⊎◌, inl, inr, ℕ, ◌-◌, ◌==◌, Bool, true, false, ◌&&◌, ◌||◌, Option, Some, List, [], ◌∷◌, ◌++◌, length, drop, slice_get, if◌then◌else◌, refl, ap, sym, ◌∙◌, arith, subst, eqb-true, eq-eqb, suc, ◌+◌, not, None, replicate, option_and_then}
+use Rattle.std.proofs.lemmas.{Bool.{true≢false, and_parts, ne_eqb, cases_Bool, not-true}, List.append_assoc}
 use Rattle.std.specs.{List.{AllByRecursion, list_any}, Option.option_map_or}
 use Rattle.admin_commands.specs.{Entries.{admin_entry, named_queue}, Verdicts.is_absent, declared.AdminKind.AdminKind}
 use Rattle.admin_commands.specs.declared.{AdminKind.TheVariants.{Abort, DeleteSq, DeleteCq, CreateCq, CreateSq}, SqState.TheVariants.Stopping}
 use Rattle.entry_codec.specs.declared.{admin_opcode.TheConstants.DELETE_IO_SQ, completion.ComEntry.ComEntry, status.Status.Status}
 use Rattle.entry_codec.specs.declared.{status.TheConstants.Status.{COMMAND_ID_CONFLICT, ABORTED_SQ_DELETION}, submission.SubEntry.SubEntry}
-use Rattle.io_commands.specs.{Asked.Request, Jobs.is_success, Values.numbers_of}
+use Rattle.io_commands.specs.{Asked.Request, Jobs.is_success}
 use Rattle.page_memory.specs.declared.page.Half.TheVariants.{Submission, Completion}
 use Rattle.queue_pair.specs.Rings.{HostRing, next_tail, next_head, knowing}
 use Rattle.machine_model.proofs.{Counting.{all_at, one, total}, HostLeaves.ids_of, Kept.{asked_as_heard, ring_at, deleted_serves}}
-use Rattle.machine_model.proofs.Moves.{host_moves, deleted_is, half_made_is, half_from, queue_found, drafted_record, sent_record, creates_cq, creates_sq}
+use Rattle.machine_model.proofs.Moves.{host_moves, deleted_is, half_from, queue_found, drafted_record, sent_record, creates_cq, creates_sq}
 use Rattle.machine_model.proofs.{Owned.{HoldsPart, reset_state, all_reset, lost_by}, Sound.{asked_at, was_asked, named, status_in}}
-use Rattle.machine_model.proofs.{Steps.{managed_by, unrefused, Accepts, part_controller, first_fails, found, pages_match}, Tokens.{gone_at, is_job}}
+use Rattle.machine_model.proofs.{Steps.{managed_by, unrefused, Accepts, part_controller}, Tokens.{gone_at, is_job}}
 use Rattle.machine_model.specs.{After.change, Agreeing.{JobKnown, Knows}, Claims.OwnsFit, Events.{Event, Reply}, Image.Made}
 use Rattle.machine_model.specs.{Opening.{Opens, opening, device_queue as opened}, Proper.IsProper}
-use Rattle.machine_model.specs.Refusals.{host_queue, next_rung, job_at, is_live, is_deleting, is_deleted, is_half_made, is_asked, in_service, queue_full, is_submitted, is_drafted, is_held, in_state, first_answer, entry_of, record_is, is_of, refusal_of}
+use Rattle.machine_model.specs.Refusals.{host_queue, next_rung, job_at, is_live, is_deleting, is_asked, in_service, is_submitted, is_drafted, is_held, first_answer, entry_of, record_is, refusal_of}
 use Rattle.machine_model.specs.State.{State, HostQueue, DeviceQueue, Job, Record, Answer, is_at, record_at, with_record, without_record, pages_of}
 use Rattle.machine_model.specs.{Step.{IsController, HostPart, resets, host_part, reaped, reaped_entry}, Work.Work, declared.words.HostState.HostState}
 use Rattle.machine_model.specs.declared.words.{HostState.TheVariants.{Live, Deleting}, Phase.{Phase, TheVariants.Held}, Reaped.TheVariants.{Empty, Rejected}}
@@ -42,9 +41,7 @@ any_more f (x ∷ xs) m far = ap (λ (b : Bool). f x || b) (any_more f xs m far)
 -- a step that does not renew it
 since_longer : (q : ℕ) (done : List Made) (m : Made) → renews q m ≡ false → since_renewed q (done ++ m ∷ []) ≡ since_renewed q done ++ m ∷ []
 since_longer q [] m far = ap (λ (b : Bool). if b then [] else m ∷ []) far
-since_longer q (x ∷ done) m far =
-    ap (λ (b : Bool). if b then since_renewed q (done ++ m ∷ []) else if renews q x then done ++ m ∷ [] else x ∷ (done ++ m ∷ [])) (any_more (renews q) done m far)
-    ∙ grind (arith, since_longer q done m far)
+since_longer q (x ∷ done) m far = grind (arith, since_longer q done m, any_more)
 
 -- a Delete SQ of a queue was fetched since then
 abbrev pub DeletedSince : ℕ → List Made → Type 0
@@ -64,9 +61,6 @@ DeletionFetched done j = j.q ≡ 0 → (j.entry.opcode == DELETE_IO_SQ) ≡ true
 deletion_asked : (s : State) → Stood s → (j : Job) → JobKnown s.host.records j → j.q ≡ 0 → (j.entry.opcode == DELETE_IO_SQ) ≡ true → asked_at s.host.queues (named_queue j.entry) ≡ true
 deletion_asked s stood j known z is0 = let k = known z in of k.0 k.1 k.2
   where
-    small : (n : ℕ) → n < 65536 → n % 65536 ≡ n
-    small n l = omega (arith, l)
-
     other : (adm : AdminKind) → ((admin_entry adm j.entry.cid).opcode == DELETE_IO_SQ) ≡ false → j.entry ≡ admin_entry adm j.entry.cid → ⊥
     other adm none is = true≢false (sym is0 ∙ ap (λ (e : SubEntry). e.opcode == DELETE_IO_SQ) is ∙ none)
 
@@ -74,7 +68,7 @@ deletion_asked s stood j known z is0 = let k = known z in of k.0 k.1 k.2
     of (DeleteSq k) knows is =
         let asked = was_asked s.host.records s.host.queues k 0 j.entry.cid knows.0 knows.1 knows.2 (stood.grounds.stands.0.once 0 j.entry.cid) stood.grounds.fit.asked in
         let few = below s.host.queues k (grind arith) in
-        subst (λ (n : ℕ). asked_at s.host.queues n ≡ true) (sym (ap named_queue is ∙ small k (omega (arith, few, stood.grounds.fit.few)))) asked
+        subst (λ (n : ℕ). asked_at s.host.queues n ≡ true) (sym (ap named_queue is ∙ (omega arith))) asked
     of (Abort k c) knows is = absurd (other (Abort k c) refl is)
     of (DeleteCq k) knows is = absurd (other (DeleteCq k) refl is)
     of (CreateCq k n base) knows is = absurd (other (CreateCq k n base) refl is)
@@ -82,26 +76,14 @@ deletion_asked s stood j known z is0 = let k = known z in of k.0 k.1 k.2
 
 deletion_stays : (s : State) (e : Event) (reply : Reply) → resets e ≡ false → Accepts s e reply → Stood s → (k : ℕ) (j : Job) → slice_get s.device.jobs k ≡ Some j → j.q ≡ 0 → (j.entry.opcode == DELETE_IO_SQ) ≡ true
     → renews_by (named_queue j.entry) e reply ≡ false
-deletion_stays s e reply other ok stood k j at z is0 = by e reply other ok
-  where
-    asked : asked_at s.host.queues (named_queue j.entry) ≡ true
-    asked = deletion_asked s stood j (all_at (JobKnown s.host.records) s.device.jobs k j at stood.grounds.stands.1.placed.jobs) z is0
-
-    -- a queue whose state passes such a test is not that of the job
-    quiet_queue : (test : HostState → Bool) → ((st : HostState) → test st ≡ true → is_asked st ≡ false) → (n : ℕ) → option_map_or (λ x. test x.state) (host_queue s n) false ≡ true → (n == named_queue j.entry) ≡ false
-    quiet_queue test quiet n is = ne_eqb n (named_queue j.entry) (λ e. (let g = subst (λ (m : ℕ). asked_at s.host.queues m ≡ true) (sym e) asked in grind arith))
-
-    by : (e : Event) (reply : Reply) → resets e ≡ false → Accepts s e reply → renews_by (named_queue j.entry) e reply ≡ false
-    by (events.Retire n) events.Accepted other ok = quiet_queue is_deleted (λ st is. ap is_asked (deleted_is st is)) n (not-false _ (unrefused s (events.Retire n) ok.0).0)
-    by (events.CreateSq n) (events.Sent id) other ok = quiet_queue is_half_made (λ st is. ap is_asked (half_made_is st is)) n (not-false _ (or_parts _ _ (unrefused s (events.CreateSq n) ok.0).1.0).0)
-    by events.Reset reply other ok = absurd (true≢false other)
-    by e reply other ok = refl
+deletion_stays s e reply other ok stood k j at z is0 =
+    let asked = deletion_asked s stood j (all_at (JobKnown s.host.records) s.device.jobs k j at stood.grounds.stands.1.placed.jobs) z is0 in
+    let quiet_queue : (test : HostState → Bool) → ((st : HostState) → test st ≡ true → is_asked st ≡ false) → (n : ℕ) → option_map_or (λ x. test x.state) (host_queue s n) false ≡ true → (n == named_queue j.entry) ≡ false =
+    λ test quiet n is. ne_eqb n (named_queue j.entry) (λ e. (let g = subst (λ (m : ℕ). asked_at s.host.queues m ≡ true) (sym e) asked in grind arith)) in
+    grind (arith, other)
 
 fetch_deletes : (s : State) (reply : Reply) (entry : SubEntry) → Accepts s (events.Fetch 0) reply → next_rung s 0 ≡ Some entry → (entry.opcode == DELETE_IO_SQ) ≡ true → deletes (named_queue entry) (made_of s (events.Fetch 0) reply) ≡ true
-fetch_deletes s (events.Fetched c touched) entry ok next is0 =
-    ap (λ (o : Option SubEntry). option_map_or (λ e. (e.opcode == DELETE_IO_SQ) && (named_queue e == named_queue entry)) o false) next
-    ∙ rw (is0, eq-eqb (named_queue entry) (named_queue entry) refl) refl
-fetch_deletes s reply entry ok next is0 = absurd ok.1
+fetch_deletes s reply entry ok next is0 = grind arith
 
 deletes_at : (s : State) (e : Event) (reply : Reply) (entry : SubEntry) → Accepts s e reply → e ≡ events.Fetch 0 → next_rung s 0 ≡ Some entry → (entry.opcode == DELETE_IO_SQ) ≡ true → deletes (named_queue entry) (made_of s e reply) ≡ true
 deletes_at s e reply entry ok is next is0 =
@@ -131,17 +113,15 @@ abbrev AbsentSo : (ℕ → Type 0) → List DeviceQueue → Type 0
 AbsentSo F qs = (q : ℕ) (at : DeviceQueue) → slice_get qs q ≡ Some at → is_absent at.state ≡ true → F q
 
 absent_change : (F : ℕ → Type 0) (k : ℕ) (f : DeviceQueue → DeviceQueue) (qs : List DeviceQueue) → ((at : DeviceQueue) → slice_get qs k ≡ Some at → is_absent (f at).state ≡ true → F k) → AbsentSo F qs → AbsentSo F (change k f qs)
-absent_change F k f qs own h q at e absent = go (changed_at k f qs q at e)
-  where
-    go : ((k ≡ q) × ((x : DeviceQueue) × (slice_get qs q ≡ Some x) × (at ≡ f x))) ⊎ ((k ≡ q → ⊥) × (slice_get qs q ≡ Some at)) → F q
-    go (inl (same, (x, ex, is))) = subst F same (own x (subst (λ (n : ℕ). slice_get qs n ≡ Some x) (sym same) ex) (ap (λ (y : DeviceQueue). is_absent y.state) (sym is) ∙ absent))
-    go (inr (far, ex)) = h q at ex absent
+absent_change F k f qs own h q at e absent = grind (arith, changed_at k f qs q at e)
 
 absent_same : (F : ℕ → Type 0) (k : ℕ) (f : DeviceQueue → DeviceQueue) (qs : List DeviceQueue) → ((at : DeviceQueue) → (f at).state ≡ at.state) → AbsentSo F qs → AbsentSo F (change k f qs)
 absent_same F k f qs same h = absent_change F k f qs (λ at e absent. h k at e (sym (ap is_absent (same at)) ∙ absent)) h
 
 absent_fetch : (F : ℕ → Type 0) (s : State) (q : ℕ) → AbsentSo F s.device.queues → AbsentSo F (a.after_fetch q s).device.queues
 absent_fetch F s q h =
+    let off : (k : ℕ) → AbsentSo F (change k (λ at. record at { unfetched = drop 1 at.unfetched; rung = at.rung - 1 }) s.device.queues) =
+    λ k. absent_same F k (λ at. record at { unfetched = drop 1 at.unfetched; rung = at.rung - 1 }) s.device.queues (λ at. refl) h in
     fetch_by (λ (t : State). AbsentSo F t.device.queues) s q h
     (λ e n c. absent_same F q (λ at. record at { answers = at.answers ++ answer_of q e.cid COMMAND_ID_CONFLICT 0 (a.taken_off q s) ∷ [] }) (a.taken_off q s).device.queues (λ at. refl) (off q))
     (λ e n c z. managed_by (λ (t : State). AbsentSo F t.device.queues) e (a.taken_off 0 s)
@@ -155,9 +135,6 @@ absent_fetch F s q h =
       makes_submission = λ is1 q0 gone there. absent_change F (named_queue e) a.submission_made (a.taken_off 0 s).device.queues (λ at ex no. absurd (true≢false (sym no))) (off 0);
     }))
     (λ e n c other. off q)
-  where
-    off : (k : ℕ) → AbsentSo F (change k (λ at. record at { unfetched = drop 1 at.unfetched; rung = at.rung - 1 }) s.device.queues)
-    off k = absent_same F k (λ at. record at { unfetched = drop 1 at.unfetched; rung = at.rung - 1 }) s.device.queues (λ at. refl) h
 
 absent_complete : (F : ℕ → Type 0) (s : State) (q cid : ℕ) → ((j : Job) → job_at s q cid ≡ Some j → clears s j ≡ true → F (named_queue j.entry)) → AbsentSo F s.device.queues → AbsentSo F (a.after_complete q cid s).device.queues
 absent_complete F s q cid told h =
@@ -170,6 +147,10 @@ absent_complete F s q cid told h =
 
 absent_host : (F : ℕ → Type 0) (s : State) (e : Event) (reply : Reply) → Accepts s e reply → IsController e ≡ false → resets e ≡ false → AbsentSo F s.device.queues → AbsentSo F (a.after s e reply).device.queues
 absent_host F s e reply ok c other h =
+    let posts : (q : ℕ) (entry : SubEntry) → AbsentSo F (change q (λ at. record at { unfetched = at.unfetched ++ entry ∷ [] }) s.device.queues) =
+    λ q entry. absent_same F q (λ at. record at { unfetched = at.unfetched ++ entry ∷ [] }) s.device.queues (λ at. refl) h in
+    let reaped : (q : ℕ) → AbsentSo F (change q (λ at. record at { answers = drop 1 at.answers }) s.device.queues) =
+    λ q. absent_same F q (λ at. record at { answers = drop 1 at.answers }) s.device.queues (λ at. refl) h in
     host_moves (λ (e : Event) (reply : Reply) (t : State). resets e ≡ false → AbsentSo F t.device.queues) s e reply ok c
     (record {
       reserves = λ q request d none is other. h;
@@ -197,12 +178,6 @@ absent_host F s e reply ok c other h =
       forges = λ q slot bytes queue none at other. h;
       resets = λ other. absurd (true≢false other);
     }) other
-  where
-    posts : (q : ℕ) (entry : SubEntry) → AbsentSo F (change q (λ at. record at { unfetched = at.unfetched ++ entry ∷ [] }) s.device.queues)
-    posts q entry = absent_same F q (λ at. record at { unfetched = at.unfetched ++ entry ∷ [] }) s.device.queues (λ at. refl) h
-
-    reaped : (q : ℕ) → AbsentSo F (change q (λ at. record at { answers = drop 1 at.answers }) s.device.queues)
-    reaped q = absent_same F q (λ at. record at { answers = drop 1 at.answers }) s.device.queues (λ at. refl) h
 
 absent_event : (F : ℕ → Type 0) (s : State) (e : Event) (reply : Reply) → Accepts s e reply → resets e ≡ false → ((k cid : ℕ) (j : Job) → job_at s k cid ≡ Some j → clears s j ≡ true → F (named_queue j.entry))
     → AbsentSo F s.device.queues → AbsentSo F (a.after s e reply).device.queues
@@ -223,22 +198,14 @@ abbrev Serving : State → List HostQueue → Type 0
 Serving s hs = (q : ℕ) (y : HostQueue) → slice_get hs q ≡ Some y → is_deleting y.state ≡ true → InService s q
 
 serving_change : (s : State) (k : ℕ) (f : HostQueue → HostQueue) (hs : List HostQueue) → ((x : HostQueue) → slice_get hs k ≡ Some x → is_deleting (f x).state ≡ true → InService s k) → Serving s hs → Serving s (change k f hs)
-serving_change s k f hs own h q y e deleting = go (changed_at k f hs q y e)
-  where
-    go : ((k ≡ q) × ((x : HostQueue) × (slice_get hs q ≡ Some x) × (y ≡ f x))) ⊎ ((k ≡ q → ⊥) × (slice_get hs q ≡ Some y)) → InService s q
-    go (inl (same, (x, ex, is))) = subst (InService s) same (own x (subst (λ (n : ℕ). slice_get hs n ≡ Some x) (sym same) ex) (ap (λ (z : HostQueue). is_deleting z.state) (sym is) ∙ deleting))
-    go (inr (far, ex)) = h q y ex deleting
+serving_change s k f hs own h q y e deleting = grind (arith, changed_at k f hs q y e)
 
 serving_ring : (s : State) (k : ℕ) (g : HostRing → HostRing) (hs : List HostQueue) → Serving s hs → Serving s (change k (λ x. record x { ring = g x.ring }) hs)
 serving_ring s k g hs h = serving_change s k (λ x. record x { ring = g x.ring }) hs (λ x e d. h k x e d) h
 
 -- a queue that changes so is not one of them
 not_changed : (k : ℕ) (f : HostQueue → HostQueue) (hs : List HostQueue) → ((x : HostQueue) → is_deleting (f x).state ≡ false) → (q : ℕ) (y : HostQueue) → slice_get (change k f hs) q ≡ Some y → is_deleting y.state ≡ true → (k == q) ≡ false
-not_changed k f hs past q y e deleting = go (changed_at k f hs q y e)
-  where
-    go : ((k ≡ q) × ((x : HostQueue) × (slice_get hs q ≡ Some x) × (y ≡ f x))) ⊎ ((k ≡ q → ⊥) × (slice_get hs q ≡ Some y)) → (k == q) ≡ false
-    go (inl (same, (x, ex, is))) = absurd (true≢false (sym deleting ∙ ap (λ (z : HostQueue). is_deleting z.state) is ∙ past x))
-    go (inr (far, ex)) = ne_eqb k q far
+not_changed k f hs past q y e deleting = grind (arith, changed_at, ne_eqb)
 
 -- behind a reset there is none
 reset_deletes_none : (s : State) (q : ℕ) (y : HostQueue) → host_queue (a.after_reset s) q ≡ Some y → is_deleting y.state ≡ false
@@ -255,6 +222,11 @@ serves_deleting st e = grind arith
 serving_host : (s : State) (e : Event) (reply : Reply) → Accepts s e reply → IsController e ≡ false → HoldsPart (host_part s) → (q : ℕ) (y : HostQueue) → host_queue (a.after s e reply) q ≡ Some y → is_deleting y.state ≡ true
     → InService s q × (renews_by q e reply ≡ false)
 serving_host s e reply ok c holds =
+    let own : Serving s s.host.queues = λ q y e deleting. (y, e, serves_deleting y.state deleting) in
+    let told : (q : ℕ) (e : ComEntry) → Serving s (a.heard q e s).host.queues =
+    λ q e. serving_ring s q (knowing e.sqhd) (change q (λ x. record x { ring = next_head s.entries x.ring }) s.host.queues) (serving_ring s q (next_head s.entries) s.host.queues own) in
+    let past : (q : ℕ) (e : ComEntry) (k : ℕ) (f : HostQueue → HostQueue) → ((x : HostQueue) → is_deleting (f x).state ≡ false) → Serving s (change k f (a.heard q e s).host.queues) =
+    λ q e k f none. serving_change s k f (a.heard q e s).host.queues (λ x ex d. absurd (true≢false (sym d ∙ none x))) (told q e) in
     host_moves (λ (e : Event) (reply : Reply) (t : State). (q : ℕ) (y : HostQueue) → host_queue t q ≡ Some y → is_deleting y.state ≡ true → InService s q × (renews_by q e reply ≡ false)) s e reply ok c
     (record {
       reserves = λ q request d none is n y ey deleting. (own n y ey deleting, refl);
@@ -301,22 +273,12 @@ serving_host s e reply ok c holds =
       forges = λ q slot bytes queue none at n y ey deleting. (own n y ey deleting, refl);
       resets = λ n y ey deleting. absurd (true≢false (sym deleting ∙ reset_deletes_none s n y ey));
     })
-  where
-    own : Serving s s.host.queues
-    own q y e deleting = (y, e, serves_deleting y.state deleting)
-
-    told : (q : ℕ) (e : ComEntry) → Serving s (a.heard q e s).host.queues
-    told q e = serving_ring s q (knowing e.sqhd) (change q (λ x. record x { ring = next_head s.entries x.ring }) s.host.queues) (serving_ring s q (next_head s.entries) s.host.queues own)
-
-    past : (q : ℕ) (e : ComEntry) (k : ℕ) (f : HostQueue → HostQueue) → ((x : HostQueue) → is_deleting (f x).state ≡ false) → Serving s (change k f (a.heard q e s).host.queues)
-    past q e k f none = serving_change s k f (a.heard q e s).host.queues (λ x ex d. absurd (true≢false (sym d ∙ none x))) (told q e)
 
 serving_event : (s : State) (e : Event) (reply : Reply) → Accepts s e reply → HoldsPart (host_part s) → (q : ℕ) (y : HostQueue) → host_queue (a.after s e reply) q ≡ Some y → is_deleting y.state ≡ true → InService s q × (renews_by q e reply ≡ false)
-serving_event s e reply ok holds q y ey deleting = go (IsController e) refl
-  where
-    go : (b : Bool) → IsController e ≡ b → InService s q × (renews_by q e reply ≡ false)
-    go true c = ((y, sym (ap (λ (part : HostPart). slice_get part.host.queues q) (part_controller s e reply c)) ∙ ey, serves_deleting y.state deleting), (grind arith))
-    go false c = serving_host s e reply ok c holds q y ey deleting
+serving_event s e reply ok holds q y ey deleting = elim (cases_Bool (IsController e)) [
+  | inl c ↦ ((y, sym (ap (λ (part : HostPart). slice_get part.host.queues q) (part_controller s e reply c)) ∙ ey, serves_deleting y.state deleting), (grind arith))
+  | inr c ↦ serving_host s e reply ok c holds q y ey deleting
+]
 
 -- The invariant
 
@@ -330,23 +292,14 @@ gone_on done s e reply ok stood stood' jobs h q y at ey serves eat absent =
     let left = deleting (is_live y.state) refl in
     let before = serving_event s e reply ok stood.grounds.stands.0 q y ey left in
     let so = absent_event (λ k. (x : HostQueue) → host_queue s k ≡ Some x → in_service x.state ≡ true → DeletedSince k done) s e reply ok (no_reset s e reply ok q y ey left)
-    (λ k cid j found c x ex serves. fetched k cid j found c) (λ k at' e' absent' x ex serves'. h k x at' ex serves' e' absent') q at eat absent in
+    (λ k cid j found c x ex serves. (grind (arith, all_at_found, is_job, eqb-true, found, c))) (λ k at' e' absent' x ex serves'. h k x at' ex serves' e' absent') q at eat absent in
     deleted_longer q done (made_of s e reply) before.1 (so before.0.0 before.0.1 before.0.2)
   where
-    by : (st : HostState) → in_service st ≡ true → is_live st ≡ false → is_deleting st ≡ true
-    by st h l = grind arith
-
     deleting : (b : Bool) → is_live y.state ≡ b → is_deleting y.state ≡ true
     deleting true live =
         let gone : gone_at (a.after s e reply).device.queues q ≡ true = ap (λ (o : Option DeviceQueue). option_map_or (λ d. is_absent d.state) o true) eat ∙ absent in
         absurd (true≢false (sym gone ∙ live_is_there (a.after s e reply) stood'.grounds.fit q y ey live))
-    deleting false far = by y.state serves far
-
-    fetched : (k cid : ℕ) (j : Job) → job_at s k cid ≡ Some j → clears s j ≡ true → DeletedSince (named_queue j.entry) done
-    fetched k cid j found c =
-        let two = and_parts ((j.q == 0) && (j.entry.opcode == DELETE_IO_SQ)) (is_success (a.final_status s j)) c in
-        let one' = and_parts (j.q == 0) (j.entry.opcode == DELETE_IO_SQ) two.0 in
-        all_at_found (DeletionFetched done) (is_job k cid) s.device.jobs j found jobs (eqb-true j.q 0 one'.0) one'.1
+    deleting false far = (grind (arith, serves, far))
 
 -- Where statuses come from: those of answers and of held commands, along a run.
 
@@ -364,11 +317,7 @@ EndedIn earlier q cid st = CompletedIn earlier q cid st ⊎ WasLost earlier q ci
 
 none_more : (f : Made → Bool) (xs : List Made) (m : Made) → list_any f xs ≡ false → f m ≡ false → list_any f (xs ++ m ∷ []) ≡ false
 none_more f [] m none last = rw last refl
-none_more f (x ∷ xs) m none last = go (f x) none (none_more f xs m)
-  where
-    go : (b : Bool) → (b || list_any f xs) ≡ false → (list_any f xs ≡ false → f m ≡ false → list_any f (xs ++ m ∷ []) ≡ false) → (b || list_any f (xs ++ m ∷ [])) ≡ false
-    go true none ih = absurd (true≢false none)
-    go false none ih = ih none last
+none_more f (x ∷ xs) m none last = grind (arith, none_more f xs m)
 
 completed_on : (earlier : List Made) (m : Made) (q cid : ℕ) (st : Status) → submits q cid m ≡ false → CompletedIn earlier q cid st → CompletedIn (earlier ++ m ∷ []) q cid st
 completed_on earlier m q cid st far c = record {
@@ -420,27 +369,13 @@ refused_no_renewal e why touched q = grind arith
 
 -- an accepted submit is of a drafted command
 not_submitted : (s : State) (e : Event) (reply : Reply) → Accepts s e reply → (q cid : ℕ) → ((r : Record) → record_at s.host q cid ≡ Some r → is_drafted r.phase ≡ false) → submits_by q cid e reply ≡ false
-not_submitted s (events.Submit d) events.Accepted ok q cid others = elim (cases_Bool ((d.q == q) && (d.cid == cid))) [
-  | inl is ↦
-      let ids = and_parts (d.q == q) (d.cid == cid) is in
-      let r = found (is_of is_drafted d.request (numbers_of d.data_pages) (numbers_of d.chain_pages)) s d.q d.cid
-      (not-false _ (first_fails (not (record_is (is_of is_drafted d.request (numbers_of d.data_pages) (numbers_of d.chain_pages)) s d.q d.cid)) refusal.Stranger
-      ((is_none d.entry, refusal.NotBuilt) ∷ (not (in_state is_live s d.q), refusal.QueueGone) ∷ (queue_full s d.q, refusal.QueueFull) ∷ []) ok.0)) in
-      let at : record_at s.host q cid ≡ Some r.0 = subst (λ (k : ℕ). record_at s.host k cid ≡ Some r.0) (eqb-true d.q q ids.0) (subst (λ (c : ℕ). record_at s.host d.q c ≡ Some r.0) (eqb-true d.cid cid ids.1) r.1) in
-      absurd (true≢false (sym (pages_match is_drafted d.request d.data_pages d.chain_pages r.0 r.2).1 ∙ others r.0 at))
-  | inr is ↦ is
-]
-not_submitted s (events.Submit d) reply ok q cid others = refl
-not_submitted s e reply ok q cid others = refl
+not_submitted s e reply ok q cid others = grind arith
 
 -- Answers
 
 -- an answer is that of a submitted command
 answer_sent : (s : State) → Stood s → (q : ℕ) (an : Answer) → In an (list_at (λ at. at.answers) s.device.queues q) → (r : Record) × (record_at s.host q an.cid ≡ Some r) × (is_submitted r.phase ≡ true)
-answer_sent s stood q an within =
-    let w : ℕ → ℕ = λ c. one (c == an.cid) in
-    let counts : 1 ≤ total (λ (x : Answer). w x.cid) (answers_at s.device.queues q) = omega (arith, within (λ (x : Answer). w x.cid), ap one (eq-eqb an.cid an.cid refl)) in
-    sent_found q an.cid s.host.records (omega (arith, counts, stood.places q w)) (stood.grounds.stands.0.once q an.cid)
+answer_sent s stood q an within = grind (arith, total, answers_at, eq-eqb, sent_found)
 
 sent_not_drafted : (ph : Phase) → is_submitted ph ≡ true → is_drafted ph ≡ false
 sent_not_drafted ph e = grind arith
@@ -496,15 +431,7 @@ answers_on done s e reply ok stood q h =
 
 -- the oldest is among them
 pub first_told : (Q : Answer → Type 0) (qs : List DeviceQueue) (q : ℕ) (an : Answer) → option_and_then (λ (queue : DeviceQueue). first_answer queue.answers) (slice_get qs q) ≡ Some an → AllByRecursion Q (list_at (λ at. at.answers) qs q) → Q an
-first_told Q qs q an first h = go (slice_get qs q) first h
-  where
-    front : (ans : List Answer) → first_answer ans ≡ Some an → AllByRecursion Q ans → Q an
-    front [] e h = absurd cc
-    front (x ∷ ans) e h = subst Q (some_is e) h.0
-
-    go : (o : Option DeviceQueue) → option_and_then (λ (queue : DeviceQueue). first_answer queue.answers) o ≡ Some an → AllByRecursion Q (option_map_or (λ at. at.answers) o []) → Q an
-    go None e h = absurd cc
-    go (Some at) e h = front at.answers e h
+first_told Q qs q an first h = grind (arith, some_is)
 
 -- Held commands
 
@@ -519,11 +446,7 @@ is_itself r = rw (eq-eqb r.q r.q refl, eq-eqb r.cid r.cid refl) refl
 
 -- a queue that is retired was deleted
 pub deleted_before : (done : List Made) (s : State) (q : ℕ) → Stood s → GoneTold done s.host.queues s.device.queues → refusal_of s (events.Retire q) ≡ None → DeletedSince q done
-deleted_before done s q stood gone none =
-    let x = queue_found is_deleted s q (not-false _ (unrefused s (events.Retire q) none).0) in
-    let pair = pair_at s stood.grounds q x.0 x.1 in
-    let absent : is_absent pair.0.state ≡ true = sym (ap (λ (o : Option DeviceQueue). option_map_or (λ d. is_absent d.state) o true) pair.1) ∙ deleted_is_gone s stood.grounds.fit q x.0 x.1 (ap is_over (deleted_is x.0.state x.2)) in
-    gone q x.0 pair.0 x.1 (deleted_serves x.0.state x.2) pair.1 absent
+deleted_before done s q stood gone none = grind (arith, queue_found, unrefused, pair_at, deleted_is_gone, is_over, deleted_is, deleted_serves)
 
 -- a record of the machine, submitted
 sent_there : (s : State) → Stood s → (r : Record) → In r s.host.records → is_submitted r.phase ≡ true → record_is (λ r. is_submitted r.phase) s r.q r.cid ≡ true
@@ -578,6 +501,12 @@ KnownIn s done r = In r s.host.records × Known s done r
 held_host : (done : List Made) (s : State) (e : Event) (reply : Reply) → Accepts s e reply → IsController e ≡ false → s.trusted ≡ true → Stood s → ((q : ℕ) → (q == 0) ≡ false → AnswersTold done q s.device.queues)
     → GoneTold done s.host.queues s.device.queues → AllByRecursion (KnownIn s done) s.host.records → AllByRecursion (HeldTold (done ++ made_of s e reply ∷ [])) (a.after s e reply).host.records
 held_host done s e reply ok c trusted stood answers gone h =
+    let less : (e : Event) (reply : Reply) → Accepts s e reply → (q cid : ℕ) → AllByRecursion (HeldTold (done ++ made_of s e reply ∷ [])) (without_record q cid s.host.records) =
+    λ e reply ok q cid. all_filter (HeldTold (done ++ made_of s e reply ∷ [])) (λ r. not (is_at q cid r)) s.host.records (still e reply ok) in
+    let began : (e : Event) (reply : Reply) → Accepts s e reply → (new : Record) → HeldTold (done ++ made_of s e reply ∷ []) new → AllByRecursion (HeldTold (done ++ made_of s e reply ∷ [])) (s.host.records ++ new ∷ []) =
+    λ e reply ok new own. all_append (HeldTold (done ++ made_of s e reply ∷ [])) s.host.records (new ∷ []) (still e reply ok) (own, tt) in
+    let sends : (e : Event) (id : ℕ) → Accepts s e (events.Sent id) → (adm : AdminKind) → AllByRecursion (HeldTold (done ++ made_of s e (events.Sent id) ∷ [])) (s.host.records ++ sent_record adm id ∷ []) =
+    λ e id ok adm. began e (events.Sent id) ok (sent_record adm id) (λ held. absurd (true≢false (sym held))) in
     host_moves (λ (e : Event) (reply : Reply) (t : State). Accepts s e reply → AllByRecursion (HeldTold (done ++ made_of s e reply ∷ [])) t.host.records) s e reply ok c
     (record {
       reserves = λ q request d none is ok. began (events.Reserve q request) (events.Reserved d) ok (drafted_record d) (λ held. absurd (true≢false (sym held)));
@@ -612,15 +541,6 @@ held_host done s e reply ok c trusted stood answers gone h =
   where
     still : (e : Event) (reply : Reply) → Accepts s e reply → AllByRecursion (HeldTold (done ++ made_of s e reply ∷ [])) s.host.records
     still e reply ok = all_in (KnownIn s done) (HeldTold (done ++ made_of s e reply ∷ [])) s.host.records (λ r within k. held_stays done s e reply ok r k.1) h
-
-    less : (e : Event) (reply : Reply) → Accepts s e reply → (q cid : ℕ) → AllByRecursion (HeldTold (done ++ made_of s e reply ∷ [])) (without_record q cid s.host.records)
-    less e reply ok q cid = all_filter (HeldTold (done ++ made_of s e reply ∷ [])) (λ r. not (is_at q cid r)) s.host.records (still e reply ok)
-
-    began : (e : Event) (reply : Reply) → Accepts s e reply → (new : Record) → HeldTold (done ++ made_of s e reply ∷ []) new → AllByRecursion (HeldTold (done ++ made_of s e reply ∷ [])) (s.host.records ++ new ∷ [])
-    began e reply ok new own = all_append (HeldTold (done ++ made_of s e reply ∷ [])) s.host.records (new ∷ []) (still e reply ok) (own, tt)
-
-    sends : (e : Event) (id : ℕ) → Accepts s e (events.Sent id) → (adm : AdminKind) → AllByRecursion (HeldTold (done ++ made_of s e (events.Sent id) ∷ [])) (s.host.records ++ sent_record adm id ∷ [])
-    sends e id ok adm = began e (events.Sent id) ok (sent_record adm id) (λ held. absurd (true≢false (sym held)))
 
     -- a command that is held no more
     moved : (e : Event) (reply : Reply) → Accepts s e reply → (q cid : ℕ) (f : Record → Record) → ((r : Record) → is_held (f r).phase ≡ false) → AllByRecursion (HeldTold (done ++ made_of s e reply ∷ [])) (with_record q cid f s.host.records)
@@ -685,9 +605,8 @@ pub told_carried : Carried Told
 told_carried = record { refused = told_refused; taken = told_on }
 
 nothing_answered : (k q : ℕ) → list_at (λ at. at.answers) (replicate k opened) q ≡ []
-nothing_answered zero q = refl
-nothing_answered (suc k) zero = refl
 nothing_answered (suc k) (suc q) = nothing_answered k q
+nothing_answered k q = refl
 
 pub told_at_opening : (pages queues n s : ℕ) (image : List ℕ) → Opens pages queues n s → Told [] (opening pages queues n s image)
 told_at_opening pages queues n s image opens = record {

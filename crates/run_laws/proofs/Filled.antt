@@ -5,17 +5,17 @@ use Rattle.machine_model.specs.declared.words.Refusal.TheVariants as refusal
 use Rattle.step_core.specs.declared.step.Reply.TheVariants as reply
 use Rattle.step_core.specs.declared.step.Step.TheVariants as step
 use Rattle.run_laws.proofs.Standing as standing
-use Rattle.std.proofs.Common.{◌≡◌, ◌≤◌, ◌+◌, ◌-◌, ℕ, false, nat_lt, List, [], ◌∷◌, ◌++◌, length, take, drop, replicate, sum_by, cond, refl, ap, ap₂, sym, ◌∙◌, arith, append_assoc, length-append, ◌==◌, ◌&&◌, Option, Some, None, subst, Bool, true, not, if◌then◌else◌, eqb-true}
+use Rattle.std.proofs.Common.{◌≡◌, ◌≤◌, ◌+◌, ◌-◌, ℕ, false, nat_lt, List, [], ◌∷◌, ◌++◌, length, take, drop, replicate, sum_by, cond, refl, ap, ap₂, sym, ◌∙◌, arith, append_assoc, length-append, ◌==◌, ◌&&◌, Option, Some, None, subst, Bool, true, if◌then◌else◌, eqb-true}
 use Rattle.std.proofs.{Math.Seq.{drop-append_seam, take-append_seam}, lemmas.Bool.{or_parts, and_parts, Decides.nat_tests}}
 use Rattle.std.proofs.lemmas.List.{length-take-le, length-drop, take-append-drop, take-replicate, drop-replicate, replicate-append-replicate, length-replicate}
 use Rattle.std.{proofs.lemmas.List.{Folds.drop_split, Sums.sum_by-cons}, specs.List.{AllByRecursion, list_any, slice_range}}
 use Rattle.page_memory.specs.Pages.{with_bytes, zero_page}
 use Rattle.io_commands.{proofs.Building.numbers_of-filled, specs.{Asked.Request, DataBytes.{PagesOut, data_length, filled, gathered}}}
 use Rattle.io_commands.specs.{Drafts.{DraftContents, built, laid, draft_segments}, Requests.{crosses_page, data_count, is_data}}
-use Rattle.io_commands.specs.{Values.{FinishedContents, numbers_of}, declared.{draft.FillFault.TheVariants.{NotASource, WrongLength}, request.Piece.Piece}}
+use Rattle.io_commands.specs.{Values.{FinishedContents, numbers_of}, declared.{request.Piece.Piece}}
 use Rattle.io_commands.specs.declared.request.Piece.TheVariants.{Data, Bucket}
 use Rattle.machine_model.{proofs.Steps.{first_fails, rest_fails}, specs.{Events.Event, Image.{draft_of, is_draft}, Proper.{IsPage, IsProperDraft}}}
-use Rattle.machine_model.specs.Script.{Table, finished_at, fill_fault, filled_draft, is_source}
+use Rattle.machine_model.specs.Script.{Table, finished_at, fill_fault, filled_draft}
 use Rattle.step_core.{proofs.Order.{asked_at, filled_stays_proper, built_stays_proper}, specs.Bench.{Fills, Builds, Gathers, IsOwn, asked, told, kept}}
 use Rattle.step_core.specs.Values.{Reply, Step}
 use Rattle.host_core.{proofs.{Lists.all-from, Outstanding.find_more}, specs.CommandValues.{without_first, with_first}}
@@ -31,28 +31,20 @@ use Rattle.two_sides.proofs.Served.{good_is}
 -- bytes that were written at a place are read there
 read_back : (page new : List ℕ) (at len : ℕ) → length new ≡ len → at + len ≤ length page → slice_range (with_bytes page at new) at (at + len) ≡ new
 read_back page new at len long fits =
-    ap (take (at + len - at)) dropped ∙ ap (λ (n : ℕ). take n (new ++ drop (at + length new) page)) count ∙ take-append_seam new (drop (at + length new) page)
+    ap (take (at + len - at)) dropped ∙ ap (λ (n : ℕ). take n (new ++ drop (at + length new) page)) (omega (arith, long)) ∙ take-append_seam new (drop (at + length new) page)
   where
-    front : length (take at page) ≡ at
-    front = length-take-le at page (omega (arith, fits))
-
     dropped : drop at (take at page ++ new ++ drop (at + length new) page) ≡ new ++ drop (at + length new) page
     dropped =
         ap (drop at) (append_assoc (take at page) new (drop (at + length new) page))
-        ∙ ap (λ (n : ℕ). drop n (take at page ++ (new ++ drop (at + length new) page))) (sym front)
+        ∙ ap (λ (n : ℕ). drop n (take at page ++ (new ++ drop (at + length new) page))) (sym (length-take-le at page (omega (arith, fits))))
         ∙ drop-append_seam (take at page) (new ++ drop (at + length new) page)
-
-    count : at + len - at ≡ length new
-    count = omega (arith, long)
 
 -- what stands at a place, written there again, changes nothing; and of two writes there the second counts
 put_back : (page : List ℕ) (at len : ℕ) → at + len ≤ length page → with_bytes page at (slice_range page at (at + len)) ≡ page
 put_back page at len fits =
+    let ends : at + length (slice_range page at (at + len)) ≡ at + len = omega (arith, length-take-le (at + len - at) (drop at page) (omega (arith, length-drop at page, fits))) in
     ap (λ (n : ℕ). take at page ++ slice_range page at (at + len) ++ drop n page) ends ∙ append_assoc (take at page) (slice_range page at (at + len)) (drop (at + len) page)
     ∙ ap (λ (xs : List ℕ). take at page ++ xs) (sym (drop_split page at (at + len) (omega arith))) ∙ take-append-drop at page
-  where
-    ends : at + length (slice_range page at (at + len)) ≡ at + len
-    ends = omega (arith, length-take-le (at + len - at) (drop at page) (omega (arith, length-drop at page, fits)))
 
 put_twice : (page old new : List ℕ) (at len : ℕ) → length old ≡ len → length new ≡ len → at + len ≤ length page → with_bytes (with_bytes page at old) at new ≡ with_bytes page at new
 put_twice page old new at len was is fits = ap₂ (λ (xs ys : List ℕ). xs ++ new ++ ys) front behind
@@ -76,10 +68,7 @@ put_twice page old new at len was is fits = ap₂ (λ (xs ys : List ℕ). xs ++ 
 zeros_read : (at len : ℕ) → at + len ≤ 4096 → slice_range zero_page at (at + len) ≡ replicate len 0
 unfolding zero_page
 zeros_read at len fits =
-    ap (take (at + len - at)) (drop-replicate at 4096 0) ∙ take-replicate (at + len - at) (4096 - at) 0 (omega (arith, fits)) ∙ ap (λ (n : ℕ). replicate n 0) count
-  where
-    count : at + len - at ≡ len
-    count = omega arith
+    ap (take (at + len - at)) (drop-replicate at 4096 0) ∙ take-replicate (at + len - at) (4096 - at) 0 (omega (arith, fits)) ∙ ap (λ (n : ℕ). replicate n 0) (omega arith)
 
 not_crossing : (a b : ℕ) → nat_lt 4096 (a + b) ≡ false → a + b ≤ 4096
 not_crossing a b h = grind (arith, nat_tests, h)
@@ -125,10 +114,8 @@ filled_same (Data offset len ∷ pieces) (page ∷ pages) within whole =
 
 pub filled_again : (pieces : List Piece) (pages : PagesOut) (old new : List ℕ) → list_any crosses_page pieces ≡ false → AllByRecursion (λ page. IsPage page.1) pages
     → length old ≡ sum_by data_length pieces → length new ≡ sum_by data_length pieces → filled pieces (filled pieces pages old) new ≡ filled pieces pages new
-filled_again [] pages old new within whole was is = refl
 filled_again (Bucket len ∷ pieces) pages old new within whole was is =
     filled_again pieces pages old new within whole (omega (arith, was, sum_by-cons data_length (Bucket len) pieces)) (omega (arith, is, sum_by-cons data_length (Bucket len) pieces))
-filled_again (Data offset len ∷ pieces) [] old new within whole was is = refl
 filled_again (Data offset len ∷ pieces) (page ∷ pages) old new within whole was is =
     let c = or_parts (nat_lt 4096 (offset + len)) (list_any crosses_page pieces) within in
     let some = sum_by-cons data_length (Data offset len) pieces in
@@ -137,6 +124,7 @@ filled_again (Data offset len ∷ pieces) (page ∷ pages) old new within whole 
     (put_twice page.1 (take len old) (take len new) offset len (length-take-le len old (omega (arith, was, some))) (length-take-le len new (omega (arith, is, some)))
     (omega (arith, not_crossing offset len c.0, whole.0))))
     (filled_again pieces pages (drop len old) (drop len new) c.1 whole.1 (omega (arith, length-drop len old, was, some)) (omega (arith, length-drop len new, is, some)))
+filled_again pieces pages old new within whole was is = refl
 
 pub gathered_length : (pieces : List Piece) (pages : PagesOut) → list_any crosses_page pieces ≡ false → AllByRecursion (λ page. IsPage page.1) pages → length pages ≡ data_count pieces
     → length (gathered pieces pages) ≡ sum_by data_length pieces
@@ -158,11 +146,7 @@ gathered_length (Data offset len ∷ pieces) (page ∷ pages) within whole count
 pub gathered_zeros : (pieces : List Piece) (pages : PagesOut) → list_any crosses_page pieces ≡ false → AllByRecursion (λ page. page.1 ≡ zero_page) pages → length pages ≡ data_count pieces
     → gathered pieces pages ≡ replicate (sum_by data_length pieces) 0
 gathered_zeros [] pages within zero count = refl
-gathered_zeros (Bucket len ∷ pieces) pages within zero count =
-    gathered_zeros pieces pages within zero (omega (arith, count, one_data (Bucket len) pieces)) ∙ ap (λ (n : ℕ). replicate n 0) same
-  where
-    same : sum_by data_length pieces ≡ sum_by data_length (Bucket len ∷ pieces)
-    same = omega (arith, sum_by-cons data_length (Bucket len) pieces)
+gathered_zeros (Bucket len ∷ pieces) pages within zero count = grind (arith, gathered_zeros pieces pages, one_data, sum_by-cons)
 gathered_zeros (Data offset len ∷ pieces) [] within zero count = absurd (omega (arith, count, one_data (Data offset len) pieces))
 gathered_zeros (Data offset len ∷ pieces) (page ∷ pages) within zero count =
     let c = or_parts (nat_lt 4096 (offset + len)) (list_any crosses_page pieces) within in
@@ -282,9 +266,7 @@ leaves_all d proper =
 -- A fill
 
 few_bytes : (bytes : List ℕ) (d : DraftContents) → fill_fault bytes d ≡ None → nat_lt (data_bytes d.request) (length bytes) ≡ false
-few_bytes bytes d none =
-    first_fails (nat_lt (data_bytes d.request) (length bytes)) WrongLength []
-    (rest_fails (not (is_source d.request.kind)) NotASource ((nat_lt (data_bytes d.request) (length bytes), WrongLength) ∷ []) none)
+few_bytes bytes d none = grind (arith, first_fails, rest_fails, kind)
 
 long_enough : (whole n : ℕ) → nat_lt whole n ≡ false → n + (whole - n) ≡ whole
 long_enough whole n h = grind (arith, nat_tests, h)
@@ -323,9 +305,8 @@ leaves_filled fill d fills x proper fits h =
 -- A build
 
 numbers_laid : (segments : List (List Descriptor)) (pages : PagesOut) → numbers_of (laid segments pages) ≡ numbers_of pages
-numbers_laid [] pages = refl
-numbers_laid (segment ∷ segments) [] = refl
 numbers_laid (segment ∷ segments) (page ∷ pages) = ap (λ (ns : List ℕ). page.0 ∷ ns) (numbers_laid segments pages)
+numbers_laid segments pages = refl
 
 leaves_built : (d : DraftContents) (fills : List (List ℕ)) (x : DraftContents) → Leaves (built d) fills x → Leaves d fills x
 leaves_built d fills x h =
@@ -350,9 +331,7 @@ pub record Tracked (q cid : ℕ) (d : DraftContents) (fills : List (List ℕ)) (
 
 -- drafts of another name
 other_draft : (q cid k n : ℕ) → ((k == q) && (n == cid)) ≡ false → (d : DraftContents) → is_draft k n d ≡ true → is_draft q cid d ≡ false
-other_draft q cid k n far d e =
-    let both = and_parts (d.q == k) (d.cid == n) e in
-    ap (λ (x : ℕ). (x == q) && (d.cid == cid)) (eqb-true d.q k both.0) ∙ ap (λ (x : ℕ). (k == q) && (x == cid)) (eqb-true d.cid n both.1) ∙ far
+other_draft q cid k n far d e = grind (arith, eqb-true)
 
 only_draft : {x y : DraftContents} → Some x ≡ Some y → x ≡ y
 only_draft e = cc
@@ -366,9 +345,7 @@ step_tracked q cid fills t what answer new end d (Rested drafts world none) far 
     subst (λ (now : List (List ℕ)). Tracked q cid d (now ++ fills) end) (sym (none q cid).0) (on d (ap (draft_of q cid) drafts ∙ found) proper)
 step_tracked q cid fills t what answer new end d (Stepped drafts e r step untaken none) far found proper on =
     subst (λ (now : List (List ℕ)). Tracked q cid d (now ++ fills) end) (sym (none q cid).0) (on d (ap (draft_of q cid) drafts ∙ found) proper)
-step_tracked q cid fills t what answer new end d (Added k request x step is says drafts none) far found proper on =
-    subst (λ (now : List (List ℕ)). Tracked q cid d (now ++ fills) end) (sym (none q cid).0)
-    (on d (ap (draft_of q cid) drafts ∙ find_more (is_draft q cid) t.drafts (x ∷ []) d found) proper)
+step_tracked q cid fills t what answer new end d (Added k request x step is says drafts none) far found proper on = grind (arith, fills, find_more)
 step_tracked q cid fills t what answer new end d (Filled k n bytes x fill at fits world drafts untaken) far found proper on =
     subst (λ (now : List (List ℕ)). Tracked q cid d (now ++ fills) end) (sym (fill q cid)) (go ((k == q) && (n == cid)) refl)
   where
@@ -397,9 +374,7 @@ step_tracked q cid fills t what answer new end d (Built k n x at world drafts no
         ∙ ap (λ (m : ℕ). draft_of q cid (with_first (is_draft q m) built t.drafts)) (eqb-true n cid both.1) ∙ find_with (is_draft q cid) built (λ y. refl) t.drafts d found in
         let rest = on (built d) now (built_stays_proper d proper) in
         record { draft = rest.draft; found = rest.found; leaves = leaves_built d fills rest.draft rest.leaves }
-step_tracked q cid fills t what answer new end d (Taken k n e step takes its drafts none) far found proper on =
-    subst (λ (now : List (List ℕ)). Tracked q cid d (now ++ fills) end) (sym (none q cid))
-    (on d (ap (draft_of q cid) drafts ∙ find_without_other (is_draft q cid) (is_draft k n) (other_draft q cid k n (sym (its q cid) ∙ far)) t.drafts ∙ found) proper)
+step_tracked q cid fills t what answer new end d (Taken k n e step takes its drafts none) far found proper on = grind (arith, fills, find_without_other, other_draft)
 
 -- Along the steps
 

@@ -2,27 +2,27 @@
 use Rattle.io_commands.specs.Jobs as jobs
 use Rattle.machine_model.specs.After as a
 use Rattle.machine_model.specs.Events as events
-use Rattle.std.proofs.Common.{◌≡◌, ℕ, ◌==◌, Bool, true, false, Option, Some, None, List, [], ◌∷◌, ◌++◌, is_some, if◌then◌else◌, refl, ap, sym, ◌∙◌, arith, subst, eqb-true, append-nil, append_assoc, ◌+◌, nat_lt, not, ◌&&◌, ◌||◌, ap₂, inl, inr, ◌≢◌, ◌*◌, ◌<◌, ◌≤◌, length, slice_set, option_and_then, eq-eqb, length-set}
+use Rattle.std.proofs.Common.{◌≡◌, ℕ, ◌==◌, Bool, true, false, Option, Some, None, List, [], ◌∷◌, ◌++◌, is_some, if◌then◌else◌, refl, ap, sym, ◌∙◌, arith, subst, eqb-true, append-nil, append_assoc, ◌+◌, not, ◌&&◌, ◌||◌, ap₂, inl, inr, ◌*◌, ◌<◌, ◌≤◌, length, slice_set, option_and_then, eq-eqb, length-set}
 use Rattle.std.proofs.lemmas.{Bool.{true≢false, and_parts, cases_Bool, eqb-false}, List.{Elements.{All-head, All-tail}, Folds.list_any-append}}
 use Rattle.std.{proofs.lemmas.Option.slice_get-get_or, specs.{List.list_any, Option.{option_map_or, option_map}, Prelude.unwrap_or, Str.bytes_eq}}
-use Rattle.block_image.specs.Blocks.{blocks_at, with_blocks}
+use Rattle.block_image.specs.Blocks.{blocks_at}
 use Rattle.sgl_descriptor.specs.{Spelling.spelling, declared.Direction.TheVariants.Source}
 use Rattle.entry_codec.specs.declared.{io_opcode.TheConstants.COMPARE, status.Status.Status}
 use Rattle.entry_codec.specs.declared.status.TheConstants.Status.{SUCCESS, COMPARE_FAILURE, ABORT_REQUESTED, ABORTED_SQ_DELETION, LBA_OUT_OF_RANGE}
 use Rattle.entry_codec.specs.declared.submission.SubEntry.{SubEntry}
 use Rattle.io_commands.specs.{Asked.Request, DataBytes.gathered, Drafts.{DraftContents, io_entry, FitsDraft, HoldsPages, BuiltDraftsSpell}}
 use Rattle.io_commands.specs.{Jobs.{is_success, verdict_of, direction_of_entry, direction_by, kind_of_opcode, first_block, block_number}, Requests.direction_of}
-use Rattle.io_commands.specs.{Values.{IsGood, numbers_of}, declared.request.Kind.{Kind, TheVariants.{Read, Write, Compare}}}
+use Rattle.io_commands.specs.{Values.{IsGood, numbers_of}, declared.request.Kind.{Kind, TheVariants.{Compare}}}
 use Rattle.machine_model.proofs.{Cases.option_is, Counting.times-cons, HostLeaves.ids_of, Steps.{managed_by, Accepts, same_lists, permitted}}
 use Rattle.machine_model.{proofs.Tokens.{find_sound, is_job as is_job_tokens}, specs.{After.final_status, Events.{Event, Reply}}}
-use Rattle.machine_model.specs.{Image.{Made, is_write, draft_of, submitted_by, written_by, succeeds, image_by, image_from}, Memory.with_pages, Opening.opening}
+use Rattle.machine_model.specs.{Image.{Made, draft_of, submitted_by, written_by, succeeds, image_by, image_from}, Memory.with_pages, Opening.opening}
 use Rattle.machine_model.specs.{Proper.{IsProper, IsPage, ArePages}, Refusals.{refusal_of, job_at, is_job}, State.{State, Device, Job, is_at}}
 use Rattle.machine_model.specs.{Status.same_status, Step.{Step, times}, Trusted.{TrustedRun, drafts_of, Steps, forges_by, is_forgery}, Weights.one}
 use Rattle.machine_model.specs.declared.words.Refusal.{Refusal}
 use Rattle.run_laws.proofs.Causes.{goes_well, cause, CausedIfIo, has_verdict, Traced, traced_before, statuses_have_causes, compare_opcode}
 use Rattle.run_laws.proofs.Known.{OfDraft, OfDraftIfIo, JobKnown, RecordKnown, Known, known_on, all_carried}
 use Rattle.run_laws.specs.{Blocks.{the_image_is_the_runs, blocks_of_request, compares_tell_equality}, Built.{built_drafts_spell_in_store, LieIn, AreDistinct}}
-use Rattle.run_laws.specs.Statuses.{status_by, aborts, deletes, since_fetch, has_cause, is_compare}
+use Rattle.run_laws.specs.Statuses.{status_by, has_cause, is_compare}
 use Rattle.run_laws.specs.Walked.{compares_by_their_drafts, compare_failures_are_of_compares}
 use Rattle.two_sides.proofs.Along.{Carried, AtOpenings, Before, keeps, made_of, run_along, run_before, unforged_run, trusted_end}
 use Rattle.two_sides.proofs.{DeviceMoves.{fetch_by, walk_by}, JobLaws.not_zero as positive, NeverFull.{stood_on, stood_at_opening}}
@@ -82,16 +82,7 @@ same_if b x = grind arith
 -- what the draft of a job that went well writes is what the job does
 by_kind : (drafts : List DraftContents) (s : State) (q cid : ℕ) (j : Job) (d : JobDraft drafts s q cid j) (v : Status) → j.verdict ≡ Some v → is_success v ≡ true → (k : Kind) → d.list.request.kind ≡ k
     → jobs.image_by s.device.image j.entry j.bytes (Some k) ≡ (if is_success (jobs.status_by s.device.image j.entry j.bytes (Some k)) then written_by d.of.draft s.device.image else s.device.image)
-by_kind drafts s q cid j d v is ok Read k =
-    sym (ap (λ (x : Kind). if is_write x then with_blocks s.device.image d.of.draft.request.slba (gathered d.of.draft.request.pieces d.of.draft.data_pages) else s.device.image) (ap (λ (r : Request). r.kind) d.of.asked ∙ k))
-by_kind drafts s q cid j d v is ok Compare k =
-    sym (ap (λ (x : List ℕ). if is_success (if bytes_eq (blocks_at s.device.image (first_block j.entry) (jobs.block_number j.entry)) j.bytes then SUCCESS else COMPARE_FAILURE) then x else s.device.image)
-    (ap (λ (x : Kind). if is_write x then with_blocks s.device.image d.of.draft.request.slba (gathered d.of.draft.request.pieces d.of.draft.data_pages) else s.device.image) (ap (λ (r : Request). r.kind) d.of.asked ∙ k))
-    ∙ same_if (is_success (if bytes_eq (blocks_at s.device.image (first_block j.entry) (jobs.block_number j.entry)) j.bytes then SUCCESS else COMPARE_FAILURE)) s.device.image)
-by_kind drafts s q cid j d v is ok Write k =
-    ap (λ (bytes : List ℕ). with_blocks s.device.image (first_block j.entry) bytes) (d.bytes (ap direction_of k) v is ok ∙ ap (λ (r : Request). gathered r.pieces d.of.draft.data_pages) (sym d.of.asked))
-    ∙ ap (λ (n : ℕ). with_blocks s.device.image n (gathered d.of.draft.request.pieces d.of.draft.data_pages)) (d.block ∙ ap (λ (r : Request). r.slba) (sym d.of.asked))
-    ∙ sym (ap (λ (x : Kind). if is_write x then with_blocks s.device.image d.of.draft.request.slba (gathered d.of.draft.request.pieces d.of.draft.data_pages) else s.device.image) (ap (λ (r : Request). r.kind) d.of.asked ∙ k))
+by_kind drafts s q cid j d v is ok k k' = grind arith
 
 completed : (drafts : List DraftContents) (s : State) (q cid : ℕ) (j : Job) → Stood s → Known drafts s → job_at s q cid ≡ Some j → is_some j.verdict ≡ true
     → a.image_completed j s.device.image ≡ (if is_success (final_status s j) then option_map_or (λ d. written_by d s.device.image) (draft_of q cid drafts) s.device.image else s.device.image)
@@ -103,16 +94,7 @@ completed drafts s q cid j stood known at some = go (j.q == 0) refl
     io : JobDraft drafts s q cid j → (o : Option Status) → j.verdict ≡ o → is_some o ≡ true
         → jobs.image_after s.device.image j.entry j.bytes o ≡ (if is_success (jobs.status_after s.device.image j.entry j.bytes o) then option_map_or (λ d. written_by d s.device.image) (draft_of q cid drafts) s.device.image else s.device.image)
     io d None is some = absurd (true≢false (sym some))
-    io d (Some v) is some = by (is_success v) refl
-      where
-        by : (b : Bool) → is_success v ≡ b
-            → (if b then jobs.image_by s.device.image j.entry j.bytes (kind_of_opcode j.entry.opcode) else s.device.image)
-            ≡ (if is_success (if b then jobs.status_by s.device.image j.entry j.bytes (kind_of_opcode j.entry.opcode) else v) then option_map_or (λ d. written_by d s.device.image) (draft_of q cid drafts) s.device.image else s.device.image)
-        by true ok =
-            subst (λ (k : Option Kind). jobs.image_by s.device.image j.entry j.bytes k ≡ (if is_success (jobs.status_by s.device.image j.entry j.bytes k) then option_map_or (λ d. written_by d s.device.image) (draft_of q cid drafts) s.device.image else s.device.image)) (sym d.kind)
-            (subst (λ (o : Option DraftContents). jobs.image_by s.device.image j.entry j.bytes (Some d.list.request.kind) ≡ (if is_success (jobs.status_by s.device.image j.entry j.bytes (Some d.list.request.kind)) then option_map_or (λ d. written_by d s.device.image) o s.device.image else s.device.image)) (sym d.latest)
-            (by_kind drafts s q cid j d v is ok d.list.request.kind refl))
-        by false ok = sym (ap (λ (b : Bool). if b then option_map_or (λ d. written_by d s.device.image) (draft_of q cid drafts) s.device.image else s.device.image) ok)
+    io d (Some v) is some = grind (arith, by_kind)
 
     go : (b : Bool) → (j.q == 0) ≡ b → (if b then s.device.image else jobs.image_after s.device.image j.entry j.bytes j.verdict)
         ≡ (if is_success (if b then unwrap_or j.verdict SUCCESS else jobs.status_after s.device.image j.entry j.bytes j.verdict) then option_map_or (λ d. written_by d s.device.image) (draft_of q cid drafts) s.device.image else s.device.image)
@@ -123,16 +105,13 @@ completed drafts s q cid j stood known at some = go (j.q == 0) refl
 
 complete_image : (drafts : List DraftContents) (s : State) (q cid : ℕ) → refusal_of s (events.Complete q cid) ≡ None → Stood s → Known drafts s
     → (a.after_complete q cid s).device.image ≡ (if succeeds s q cid then option_map_or (λ d. written_by d s.device.image) (draft_of q cid drafts) s.device.image else s.device.image)
-complete_image drafts s q cid none stood known = go (job_at s q cid) refl
-  where
-    go : (o : Option Job) → job_at s q cid ≡ o
-        → (option_map_or (λ j. let st = a.final_status s j in a.answered q cid st j.dw0 (a.deletion_done j st (a.on_device (λ d. record d { image = a.image_completed j d.image }) (a.without_job q cid s)))) o s).device.image
-        ≡ (if option_map_or (λ j. is_success (final_status s j)) o false then option_map_or (λ d. written_by d s.device.image) (draft_of q cid drafts) s.device.image else s.device.image)
-    go None e = refl
-    go (Some j) e =
-        let s1 = a.on_device (λ d. record d { image = a.image_completed j d.image }) (a.without_job q cid s) in
-        ap (λ (d : Device). d.image) (device-answered q cid (a.final_status s j) j.dw0 (a.deletion_done j (a.final_status s j) s1))
-        ∙ (grind arith) ∙ completed drafts s q cid j stood known e (has_verdict s q cid j none e)
+complete_image drafts s q cid none stood known = elim (option_is (job_at s q cid)) [
+  | inl e ↦ rw e refl
+  | inr (j, e) ↦
+      rw e (let s1 = a.on_device (λ d. record d { image = a.image_completed j d.image }) (a.without_job q cid s) in
+      ap (λ (d : Device). d.image) (device-answered q cid (a.final_status s j) j.dw0 (a.deletion_done j (a.final_status s j) s1))
+      ∙ (grind arith) ∙ completed drafts s q cid j stood known e (has_verdict s q cid j none e))
+]
 
 -- The others
 
@@ -255,9 +234,7 @@ one_of_three : (s a x b y c z : Bool) → s ≡ false → (s || (a && x) || (b &
 one_of_three s a x b y c z f h = grind arith
 
 cause_of_three : (done : List Made) (blocks : ℕ) (j : Job) (v : Status) → is_success v ≡ false → cause done blocks j v ≡ true → (same_status v ABORT_REQUESTED || same_status v ABORTED_SQ_DELETION || same_status v LBA_OUT_OF_RANGE) ≡ true
-cause_of_three done blocks j v failed h =
-    one_of_three (is_success v) (same_status v ABORT_REQUESTED) (list_any (aborts j.q j.entry.cid) (since_fetch j.q j.entry.cid done)) (same_status v ABORTED_SQ_DELETION) (list_any (deletes j.q) (since_fetch j.q j.entry.cid done))
-    (same_status v LBA_OUT_OF_RANGE) (nat_lt blocks (first_block j.entry + block_number j.entry)) failed h
+cause_of_three done blocks j v failed h = grind (arith, one_of_three)
 
 pub compare_kind : (opcode : ℕ) (k : Kind) → (opcode == COMPARE) ≡ true → kind_of_opcode opcode ≡ Some k → k ≡ Compare
 compare_kind opcode k is h = let h' : kind_of_opcode COMPARE ≡ Some k = subst (λ (n : ℕ). kind_of_opcode n ≡ Some k) (eqb-true opcode COMPARE is) h in sym (some_is h')
@@ -346,22 +323,14 @@ compares_tell image earlier later m end q cid st d run status compare latest fin
 
 -- the job of a step that gives a status
 completed_job : (s : State) (e : Event) (reply : Reply) (q cid : ℕ) (st : Status) → status_by s e reply q cid ≡ Some st → (j : Job) × (job_at s q cid ≡ Some j)
-completed_job s (events.Complete q' cid') (events.Completed touched) q cid st h = go ((q' == q) && (cid' == cid)) h
-  where
-    at : (o : Option Job) → job_at s q cid ≡ o → option_map (final_status s) o ≡ Some st → (j : Job) × (job_at s q cid ≡ Some j)
-    at None f h = absurd cc
-    at (Some j) f h = (j, f)
-
-    go : (b : Bool) → (if b then option_map (final_status s) (job_at s q cid) else None) ≡ Some st → (j : Job) × (job_at s q cid ≡ Some j)
-    go true h = at (job_at s q cid) refl h
-    go false h = absurd cc
+completed_job s (events.Complete q' cid') (events.Completed touched) q cid st h = grind arith
 completed_job s e reply q cid st h = absurd cc
 
 -- its opcode is what its draft asks for
 told_by_draft : (drafts : List DraftContents) (s : State) (q cid : ℕ) (j : Job) (d : DraftContents) → Stood s → Known drafts s → job_at s q cid ≡ Some j → draft_of q cid drafts ≡ Some d → d.request.kind ≡ Compare
     → (j.entry.opcode == COMPARE) ≡ true
 told_by_draft drafts s q cid j d stood known at latest kind = elim (cases_Bool (j.q == 0)) [
-  | inl z ↦ absurd (no_draft (sym (subst (λ (n : ℕ). draft_of n cid drafts ≡ None) (sym (eqb-true j.q 0 z) ∙ its_queue) (known.no_admin cid)) ∙ latest))
+  | inl z ↦ absurd (cc (sym (subst (λ (n : ℕ). draft_of n cid drafts ≡ None) (sym (eqb-true j.q 0 z) ∙ its_queue) (known.no_admin cid)) ∙ latest))
   | inr z ↦
       let k = job_draft drafts s q cid j stood known z at in
       let same : k.of.draft ≡ d = some_is (sym k.latest ∙ latest) in
@@ -370,9 +339,6 @@ told_by_draft drafts s q cid j d stood known at latest kind = elim (cases_Bool (
   where
     its_queue : j.q ≡ q
     its_queue = eqb-true j.q q (and_parts (j.q == q) (j.entry.cid == cid) (find_sound (is_job_tokens q cid) s.device.jobs j at)).0
-
-    no_draft : None ≡ Some d → ⊥
-    no_draft e = cc
 
 pub compares_told : compares_by_their_drafts
 compares_told image earlier later m end q cid st d run status latest kind fine =
@@ -443,16 +409,7 @@ histories_grow old e reply new step trusted = (
 -- a page that is not brought in stays
 page_stays : (pages : List (ℕ × List ℕ)) (m : Pages) (p : ℕ) → times p (numbers_of pages) ≡ 0 → page_at (with_pages pages m) p ≡ page_at m p
 page_stays [] m p none = refl
-page_stays (page ∷ more) m p none = elim (cases_Bool (page.0 == p)) [
-  | inl e ↦ let here : one (page.0 == p) ≡ 1 = ap one e in absurd (omega (arith, parts))
-  | inr e ↦
-      let ih = page_stays more (slice_set m page.0 (Some page.1)) p in
-      let other : p ≢ page.0 = λ same. eqb-false page.0 p e (sym same) in
-      ih (omega (arith, parts)) ∙ ap (option_and_then (λ slot. slot)) (slice_get-set_other m page.0 p (Some page.1) other)
-]
-  where
-    parts : one (page.0 == p) + times p (numbers_of more) ≡ 0
-    parts = sym (times-cons p page.0 (numbers_of more)) ∙ none
+page_stays (page ∷ more) m p none = grind (arith, page_stays more (slice_set m page.0 (Some page.1)) p, eqb-false, slice_get-set_other, times-cons)
 
 -- a page that is in stands in memory
 stands : (m : Pages) (p : ℕ) (page : List ℕ) → page_at m p ≡ Some page → length page ≡ 4096 → Holds (byte_at m) (4096 * p) page

@@ -5,7 +5,7 @@ use Rattle.step_core.specs.declared.step.Step.TheVariants as step
 use Rattle.two_sides.specs.Histories as histories
 use Rattle.machine_model.specs.Trusted as laws
 use Rattle.step_core.specs.declared.step.Reply.TheVariants as reply
-use Rattle.std.proofs.Common.{◌≡◌, Option, Some, None, List, [], ◌∷◌, ◌++◌, refl, ap, ◌∙◌, ℕ, ◌==◌, Bool, true, false, ◌&&◌, ◌||◌, sym, subst, eqb-true, append_assoc, eq-eqb, if◌then◌else◌, ap₂, not, append-nil}
+use Rattle.std.proofs.Common.{◌≡◌, Option, Some, None, List, [], ◌∷◌, ◌++◌, refl, ap, ◌∙◌, ℕ, ◌==◌, Bool, true, false, ◌&&◌, ◌||◌, sym, subst, eqb-true, append_assoc, eq-eqb, if◌then◌else◌, ap₂, not, append-nil, inl, inr, arith}
 use Rattle.std.{proofs.lemmas.Bool.{true≢false, and_parts, or_right, or_parts}, specs.{List.{AllByRecursion, list_any}, Option.option_map, Str.bytes_eq}}
 use Rattle.machine_model.specs.{After.final_status, Events.Event, Image.{Made, is_draft, submitted_by, image_after, draft_of}, Opening.opening, Refusals.job_at}
 use Rattle.machine_model.specs.{Script.{Table, is_ticket, is_finished, table, finished_at}, State.State}
@@ -20,10 +20,10 @@ use Rattle.run_laws.specs.{Blocks.{collected_of, blocks_of_request, is_read}, Dr
 use Rattle.run_laws.specs.Gathering.{collects, collects_by, IsOfSteps, KeepsCommand, GathersCommand, gathered_bytes_are_of_collected_commands, GathersRead, gathered_reads_have_their_blocks}
 use Rattle.run_laws.specs.{Statuses.{status_by, fetches}, Submitted.{submits, CollectedCommand, FetchedCommand, was_fetched, bytes_collected}}
 use Rattle.run_laws.specs.Values.{Done, made_by, is_forgery, is_reset, resets_by, since_reset, Goes, benches_have_tables, TrustedBench, benches_make_runs_of_their_values, benches_of_trusted_worlds_are_unforged}
-use Rattle.io_commands.specs.{DataBytes.gathered, Drafts.DraftContents, Values.{FinishedContents, gathered_from, gathered_by}, declared.request.Kind.Kind}
-use Rattle.io_commands.specs.declared.request.Kind.TheVariants.{Read, Write, Compare}
+use Rattle.io_commands.specs.{DataBytes.gathered, Drafts.DraftContents, Values.{FinishedContents, gathered_from}}
 use Rattle.two_sides.proofs.{Along.{unforged_front, unforged_run, cut}, PoolBytes.ends_unforged, Provided.all_at_found}
 use Rattle.entry_codec.specs.declared.status.TheConstants.Status.{SUCCESS, COMPARE_FAILURE}
+use Rattle.std.proofs.lemmas.Bool.{cases_Bool}
 
 -- The machine's steps that a bench's steps are, with the values that it keeps.
 
@@ -110,11 +110,7 @@ CollectsNone m fs = (q cid : ℕ) → list_any (is_finished q cid) fs ≡ true �
 
 all_on : (made : List Made) (m : Made) (fs : List FinishedContents) → CollectsNone m fs → AllByRecursion (WasCollected made) fs → AllByRecursion (WasCollected (made ++ m ∷ [])) fs
 all_on made m [] far all = tt
-all_on made m (f ∷ fs) far all =
-    (collected_on made m f (far f.q f.cid (own (eq-eqb f.q f.q refl) (eq-eqb f.cid f.cid refl))) all.0, all_on made m fs (λ q cid there. far q cid (or_right (is_finished q cid f) (list_any (is_finished q cid) fs) there)) all.1)
-  where
-    own : (f.q == f.q) ≡ true → (f.cid == f.cid) ≡ true → (((f.q == f.q) && (f.cid == f.cid)) || list_any (is_finished f.q f.cid) fs) ≡ true
-    own x y = rw (x, y) refl
+all_on made m (f ∷ fs) far all = grind (arith, all_on made m fs, collected_on, eq-eqb, or_right)
 
 -- a step of the machine that keeps the finished commands
 pub made_on : (made : List Made) (m : Made) (t new : Table) → ((q cid : ℕ) → list_any (is_ticket q cid) new.tickets ≡ true → list_any (submits q cid) (made ++ m ∷ []) ≡ true) → new.finished ≡ t.finished
@@ -139,6 +135,7 @@ left_at t e r world = record (kept t (asked e) r) { world = world }
 pub released_more : (made : List Made) (t : Table) (f : FinishedContents) (world : State) → machine.Step t.world (events.Release f) events.Accepted world → AreFrom made t
     → AreFrom (made ++ made_at t.world (events.Release f) events.Accepted ∷ []) (left_at t (events.Release f) events.Accepted world)
 released_more made t f world step h =
+    let m = made_at t.world (events.Release f) events.Accepted in
     record {
       tickets = same_tickets made m t t refl h;
       finished = all_without (WasCollected (made ++ m ∷ [])) (is_finished f.q f.cid) t.finished (all_on made m t.finished (λ k n there. refl) h.finished);
@@ -146,9 +143,6 @@ released_more made t f world step h =
       few = λ k n. few_without (is_finished k n) (is_finished f.q f.cid) t.finished (h.few k n);
     }
   where
-    m : Made
-    m = made_at t.world (events.Release f) events.Accepted
-
     left : (k n : ℕ) → list_any (is_finished k n) (without_first (is_finished f.q f.cid) t.finished) ≡ true → (b : Bool) → ((f.q == k) && (f.cid == n)) ≡ b → Stands k n world.host.records
     left k n there false e = step_stands k n t.world (events.Release f) events.Accepted world step e (h.stands k n (any_without (is_finished k n) (is_finished f.q f.cid) t.finished there))
     left k n there true e =
@@ -176,12 +170,8 @@ record SubmitsDraft (q cid : ℕ) (e : Event) (reply : events.Reply) : Type 0 wh
 
 submits_draft : (q cid : ℕ) (e : Event) (reply : events.Reply) → list_any (is_draft q cid) (submitted_by e reply) ≡ true → SubmitsDraft q cid e reply
 submits_draft q cid (events.Submit d) events.Accepted h =
-    let both = and_parts (d.q == q) (d.cid == cid) (either (is_draft q cid d) h) in
+    let both = and_parts (d.q == q) (d.cid == cid) (elim (cases_Bool (is_draft q cid d)) [ inl e ↦ rw e refl | inr e ↦ rw e ((rw e at h)) ]) in
     record { draft = d; is = refl; queue = eqb-true d.q q both.0; identifier = eqb-true d.cid cid both.1 }
-  where
-    either : (b : Bool) → (b || false) ≡ true → b ≡ true
-    either true h = refl
-    either false h = h
 submits_draft q cid e reply h = absurd (true≢false (sym h))
 
 was_collected : (made : List Made) (m : Made) (f : FinishedContents) → list_any (submits f.q f.cid) made ≡ true → collected_of m.event m.reply ≡ Some f → m.event ≡ events.Collect f.q f.cid → WasCollected (made ++ m ∷ []) f
@@ -248,10 +238,7 @@ collected_more made t q cid f world there step h =
     new_name k n late false e = refl
     new_name k n late true e =
         let is = is_name k n late in
-        absurd (true≢false (sym (both_same (eq-eqb q k is.0) (eq-eqb cid n is.1)) ∙ far k n e))
-      where
-        both_same : (q == k) ≡ true → (cid == n) ≡ true → ((q == k) && (cid == n)) ≡ true
-        both_same x y = rw (x, y) refl
+        absurd (true≢false (sym (rw ((eq-eqb q k is.0), (eq-eqb cid n is.1)) refl) ∙ far k n e))
 
 -- What stands behind the values that a bench keeps, behind each of its steps.
 
@@ -264,11 +251,7 @@ own_from past t what answer new is h = go (own_left t what answer new is)
     go (Changed test f proper same) = subst (AreFrom past) (sym same) (record { tickets = h.tickets; finished = h.finished; stands = h.stands; few = h.few })
 
 ticket_there : (t : Table) (q cid : ℕ) → event_at t (step.Collect q cid) ≡ Some (events.Collect q cid) → list_any (is_ticket q cid) t.tickets ≡ true
-ticket_there t q cid at = go (list_any (is_ticket q cid) t.tickets) at
-  where
-    go : (b : Bool) → (if b then Some (events.Collect q cid) else None) ≡ Some (events.Collect q cid) → b ≡ true
-    go true at = refl
-    go false at = absurd cc
+ticket_there t q cid at = grind arith
 
 -- an event that keeps the tickets and the finished commands
 others_from : (past : List Made) (t : Table) (e : Event) (r : events.Reply) (world : State) → (left_at t e r world).tickets ≡ t.tickets → (left_at t e r world).finished ≡ t.finished
@@ -299,12 +282,10 @@ makes_from past t what e answer new at m h =
 -- One step
 
 same_reset : (e : Event) → resets_by (asked e) ≡ resets e
-same_reset events.Reset = refl
-same_reset e = refl
+same_reset e = grind arith
 
 none_reset : (t : Table) (what : Step) → event_at t what ≡ None → resets_by what ≡ false
-none_reset t step.Reset at = absurd cc
-none_reset t what at = refl
+none_reset t what at = grind arith
 
 -- a test of a bench's steps that goes by the machine's steps
 record GoesBy (test : Done → Bool) (its : Made → Bool) : Type 0 where
@@ -345,9 +326,7 @@ same_since [] = refl
 same_since (d ∷ done) = parts (list_any is_reset done) (is_reset d) ∙ go (kind d) (same_since done)
   where
     parts : (b c : Bool) → made_by (if b then since_reset done else if c then done else (d ∷ done)) ≡ (if b then made_by (since_reset done) else if c then made_by done else first_made d (made_by done))
-    parts true c = refl
-    parts false true = refl
-    parts false false = refl
+    parts b c = grind arith
 
     stays : (b c : Bool) → b ≡ list_any laws.is_reset (made_by done) → (if b then histories.since_reset (made_by done) else if c then made_by done else made_by done) ≡ histories.since_reset (made_by done)
     stays true c any = refl
@@ -366,8 +345,6 @@ same_since (d ∷ done) = parts (list_any is_reset done) (is_reset d) ∙ go (ki
 
 pub have_tables : benches_have_tables
 have_tables t end [] [] is = record { done = []; steps_are = refl; answers_are = refl; goes = is }
-have_tables t end [] (answer ∷ answers) is = absurd is
-have_tables t end (what ∷ steps) [] is = absurd is
 have_tables t end (what ∷ steps) (answer ∷ answers) is =
     let rest = have_tables is.0 end steps answers is.2 in
     record {
@@ -376,14 +353,13 @@ have_tables t end (what ∷ steps) (answer ∷ answers) is =
       answers_are = ap (λ (l : List Reply). answer ∷ l) rest.answers_are;
       goes = (refl, rest.goes);
     }
+have_tables t end x y is = absurd is
 
 -- Steps
 
 steps_made : (t : Table) (done : List Done) (end : Table) → Goes t done end → Steps t.world (made_by done) end.world
 steps_made t [] end is = ap (λ (x : Table). x.world) is
-steps_made t (d ∷ done) end (at, rest) =
-    subst (λ (x : Table). Steps x.world (made_by (d ∷ done)) end.world) at
-    (steps_from (event_at d.before d.what) d.before d.what d.answer d.after end d.does (made_by done) (steps_made d.after done end rest))
+steps_made t (d ∷ done) end (at, rest) = grind (arith, steps_made d.after done end, steps_from)
 
 -- what stands behind the kept values then
 pub are_from : (past : List Made) (t : Table) (done : List Done) (end : Table) → AreFrom past t → Goes t done end → AreFrom (past ++ made_by done) end
@@ -432,8 +408,7 @@ pub writes_told : benches_write_their_blocks
 writes_told image done end b = images_are_runs image (made_by done) end.world (makes_run image done end b)
 
 completed_told : (r : events.Reply) (touched : List ℕ) → told r ≡ reply.Completed touched → r ≡ events.Completed touched
-completed_told (events.Completed x) touched e = cc
-completed_told r touched e = absurd cc
+completed_told r touched e = grind arith
 
 own_status : (s : State) (q cid : ℕ) (touched : List ℕ) → status_by s (events.Complete q cid) (events.Completed touched) q cid ≡ option_map (final_status s) (job_at s q cid)
 own_status s q cid touched = rw (eq-eqb q q refl, eq-eqb cid cid refl) refl
@@ -446,15 +421,12 @@ record IsCompletion (q cid : ℕ) (d : Done) : Type 0 where
 completion : (q cid : ℕ) (d : Done) (touched : List ℕ) → d.what ≡ step.Complete q cid → d.answer ≡ reply.Completed touched → IsCompletion q cid d
 completion q cid d touched what answer = go (kind d)
   where
-    event : event_at d.before d.what ≡ Some (events.Complete q cid)
-    event = ap (event_at d.before) what
-
     go : StepKind d → IsCompletion q cid d
     go (OfMachine e at m same) =
-        let asks : e ≡ events.Complete q cid = inside (sym at ∙ event) in
+        let asks : e ≡ events.Complete q cid = inside (sym at ∙ (ap (event_at d.before) what)) in
         let tells : m.reply ≡ events.Completed touched = completed_told m.reply touched (sym m.tells ∙ answer) in
         record { touched = touched; first = λ made. same made ∙ ap₂ (λ (x : Event) (r : events.Reply). made_at d.before.world x r ∷ made) asks tells }
-    go (OfBench at own same) = absurd (let bad : None ≡ Some (events.Complete q cid) = sym at ∙ event in cc)
+    go (OfBench at own same) = absurd (let bad : None ≡ Some (events.Complete q cid) = sym at ∙ (ap (event_at d.before) what) in cc)
 
 -- the image before a step of a run
 image_then : (image : List ℕ) (before : List Made) (m : Made) (later : List Made) (end : State) → TrustedRun image (before ++ m ∷ later) end → m.before.device.image ≡ image_after image before
@@ -487,19 +459,13 @@ compares_told_by_steps image earlier later d end status draft b c fine =
 -- A submission, and a collection
 
 pub submitted_draft : (t : Table) (d : DraftContents) → event_at t (step.Submit d.q d.cid) ≡ Some (events.Submit d) → draft_of d.q d.cid t.drafts ≡ Some d
-submitted_draft t d at = go (draft_of d.q d.cid t.drafts) at
-  where
-    go : (o : Option DraftContents) → option_map events.Submit o ≡ Some (events.Submit d) → o ≡ Some d
-    go None at = absurd cc
-    go (Some x) at = cc
+submitted_draft t d at = grind arith
 
 pub submission_is : (e : Event) (r : events.Reply) (draft : DraftContents) → submitted_by e r ≡ draft ∷ [] → e ≡ events.Submit draft
-submission_is (events.Submit x) events.Accepted draft is = cc
-submission_is e r draft is = absurd cc
+submission_is e r draft is = grind arith
 
 pub collection_is : (e : Event) (r : events.Reply) (f : FinishedContents) → collected_of e r ≡ Some f → r ≡ events.Collects f
-collection_is (events.Collect q cid) (events.Collects x) f is = cc
-collection_is e r f is = absurd cc
+collection_is e r f is = grind arith
 
 -- Split
 
@@ -582,6 +548,9 @@ command_of image end f made w run =
 steps_of : (image : List ℕ) (done : List Done) (end : Table) (q cid : ℕ) (f : FinishedContents) (made : List Made) (w : WasCollected made f) (run : TrustedRun image made end.world)
     → made_by done ≡ made → f.q ≡ q → f.cid ≡ cid → IsOfSteps done q cid (command_of image end f made w run)
 steps_of image done end q cid f made w run values queue identifier =
+    let last = split_made done (w.before ++ w.submitted ∷ w.between) w.collected w.later (values ∙ w.parts) in
+    let first = split_made last.earlier w.before w.submitted w.between last.before in
+    let submits = first.is_of.event ∙ ap Some (submission_is w.submitted.event w.submitted.reply w.draft w.is_submission) in
     record {
       earlier = first.earlier;
       submission = first.at;
@@ -599,52 +568,31 @@ steps_of image done end q cid f made w run values queue identifier =
       made_between = first.behind;
       made_later = last.behind;
     }
-  where
-    last : SplitAt done (w.before ++ w.submitted ∷ w.between) w.collected w.later
-    last = split_made done (w.before ++ w.submitted ∷ w.between) w.collected w.later (values ∙ w.parts)
-
-    first : SplitAt last.earlier w.before w.submitted w.between
-    first = split_made last.earlier w.before w.submitted w.between last.before
-
-    submits : event_at first.at.before first.at.what ≡ Some (events.Submit w.draft)
-    submits = first.is_of.event ∙ ap Some (submission_is w.submitted.event w.submitted.reply w.draft w.is_submission)
 
 keeps_command : (image : List ℕ) (done : List Done) (end : Table) (q cid : ℕ) (f : FinishedContents) → TrustedBench image done end → finished_at q cid end.finished ≡ Some f
     → (k : KeepsCommand image done end q cid) × (k.command.finished ≡ f)
-keeps_command image done end q cid f b kept = (
-  record {
-    command = command_of image end f (made_by done) w run;
-    image_is = refl;
-    end_is = refl;
-    queue = eqb-true f.q q named.0;
-    identifier = eqb-true f.cid cid named.1;
-    kept = kept;
-    last = ap not (ap (λ (k : ℕ). list_any (collects k cid) w.later) (sym (eqb-true f.q q named.0)) ∙ ap (λ (n : ℕ). list_any (collects f.q n) w.later) (sym (eqb-true f.cid cid named.1)) ∙ w.once);
-    steps = steps;
-  },
-  refl,
-)
-  where
-    w : WasCollected (made_by done) f
-    w = all_at_found (WasCollected (made_by done)) (is_finished q cid) end.finished f kept (kept_from image done end b).finished
-
-    run : TrustedRun image (made_by done) end.world
-    run = makes_run image done end b
-
-    named : ((f.q == q) ≡ true) × ((f.cid == cid) ≡ true)
-    named = and_parts (f.q == q) (f.cid == cid) (found_is (is_finished q cid) end.finished f kept)
-
-    steps : IsOfSteps done q cid (command_of image end f (made_by done) w run)
-    steps = steps_of image done end q cid f (made_by done) w run refl (eqb-true f.q q named.0) (eqb-true f.cid cid named.1)
+keeps_command image done end q cid f b kept =
+    let w = all_at_found (WasCollected (made_by done)) (is_finished q cid) end.finished f kept (kept_from image done end b).finished in
+    let named = and_parts (f.q == q) (f.cid == cid) (found_is (is_finished q cid) end.finished f kept) in
+    let steps = steps_of image done end q cid f (made_by done) w (makes_run image done end b) refl (eqb-true f.q q named.0) (eqb-true f.cid cid named.1) in (
+      record {
+        command = command_of image end f (made_by done) w (makes_run image done end b);
+        image_is = refl;
+        end_is = refl;
+        queue = eqb-true f.q q named.0;
+        identifier = eqb-true f.cid cid named.1;
+        kept = kept;
+        last = ap not (ap (λ (k : ℕ). list_any (collects k cid) w.later) (sym (eqb-true f.q q named.0)) ∙ ap (λ (n : ℕ). list_any (collects f.q n) w.later) (sym (eqb-true f.cid cid named.1)) ∙ w.once);
+        steps = steps;
+      },
+      refl,
+    )
 
 pub gathers_command : gathered_bytes_are_of_collected_commands
 gathers_command image done end new q cid bytes b does = go (finished_at q cid end.finished) refl does
   where
     go : (o : Option FinishedContents) → finished_at q cid end.finished ≡ o → Gathers end o (reply.Gathered bytes) new → GathersCommand image done end q cid bytes
-    go None e is = absurd (none is.0)
-      where
-        none : reply.Gathered bytes ≡ reply.NoValue → ⊥
-        none e = cc
+    go None e is = absurd (cc (is.0))
     go (Some f) e is =
         let k = keeps_command image done end q cid f b e in
         record { keeps = k.0; gathers = is.0 ∙ ap gathered_from (sym k.1) }
@@ -652,12 +600,7 @@ gathers_command image done end new q cid bytes b does = go (finished_at q cid en
 -- What a Read gathers
 
 gathered_read : (f : FinishedContents) → is_read f ≡ true → gathered_from f ≡ gathered f.request.pieces f.data_pages
-gathered_read f reads = go f.request.kind reads
-  where
-    go : (kind : Kind) → (elim kind [ Read ↦ true | Write ↦ false | Compare ↦ false ]) ≡ true → gathered_by kind f.request.pieces f.data_pages ≡ gathered f.request.pieces f.data_pages
-    go Read h = refl
-    go Write h = absurd (true≢false (sym h))
-    go Compare h = absurd (true≢false (sym h))
+gathered_read f reads = grind (arith, kind)
 
 -- a command's fetch
 abbrev fetch_of : (c : CollectedCommand) → was_fetched c ≡ true → FetchedCommand

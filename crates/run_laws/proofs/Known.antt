@@ -1,7 +1,7 @@
 -- Records and jobs are those of commands that were reserved and fetched.
 use Rattle.machine_model.specs.After as a
 use Rattle.machine_model.specs.Events as events
-use Rattle.std.proofs.Common.{◌≡◌, ℕ, zero, suc, ◌+◌, ◌≤◌, ◌==◌, Bool, true, false, ◌&&◌, Option, Some, None, List, [], ◌∷◌, ◌++◌, length, take, replicate, nat_eq, if◌then◌else◌, refl, ap, sym, ◌∙◌, arith, subst, eqb-true, eq-eqb, inl, inr, nat_lt, not, ◌||◌, slice_get, is_none}
+use Rattle.std.proofs.Common.{◌≡◌, ℕ, zero, suc, ◌+◌, ◌≤◌, ◌==◌, Bool, true, false, ◌&&◌, Option, Some, None, List, [], ◌∷◌, ◌++◌, length, take, replicate, nat_eq, if◌then◌else◌, refl, ap, sym, ◌∙◌, arith, subst, eqb-true, eq-eqb, inl, inr, slice_get}
 use Rattle.std.proofs.lemmas.{Bool.{true≢false, and_parts, or_left, or_right, cases_Bool}, List.{length-replicate, Elements.{All-head, All-tail}}}
 use Rattle.std.specs.{Cmp.Lexicographic.pointwise, List.AllByRecursion, Option.option_map_or}
 use Rattle.page_ledger.specs.Owners.{is_among}
@@ -9,19 +9,19 @@ use Rattle.page_memory.specs.Pages.{Pages, page_at}
 use Rattle.sgl_descriptor.{proofs.Counts.length-targets, specs.{Spelling.{spelling, descriptor_of}, Targets.{Target, Place, targets}}}
 use Rattle.sgl_descriptor.specs.declared.{Direction.{Direction, TheVariants.{Destination, Source}}, Part.Part}
 use Rattle.controller_walk.{proofs.Along.{list_moves_along, list_moves_all}, specs.{Along.{taken, MovesByte}, Laws.after_units}}
-use Rattle.controller_walk.specs.{Units.{units, Act, Course, Closes, Does, first_passing}, Walks.answer}
-use Rattle.entry_codec.specs.declared.status.{Status.Status, TheConstants.Status.{INVALID_OPCODE, INVALID_FIELD, INVALID_NAMESPACE, LBA_OUT_OF_RANGE}}
+use Rattle.controller_walk.specs.{Units.{units, Act, Course, Closes, Does}, Walks.answer}
+use Rattle.entry_codec.specs.declared.status.{Status.Status}
 use Rattle.entry_codec.specs.declared.submission.SubEntry.{SubEntry}
 use Rattle.io_commands.specs.{Asked.Request, DataBytes.{PagesOut, gathered}, Drafts.DraftContents}
-use Rattle.io_commands.specs.Jobs.{need_of_entry, direction_of_entry, is_success, verdict_of, io_fault, bytes_after_check, first_bytes, direction_by, kind_of_opcode, block_number, first_block}
-use Rattle.io_commands.specs.{Requests.{direction_of, parts_of}, Values.numbers_of, declared.request.Kind.{Kind, TheVariants.{Read, Write, Compare}}}
+use Rattle.io_commands.specs.Jobs.{need_of_entry, direction_of_entry, is_success, verdict_of, io_fault, bytes_after_check}
+use Rattle.io_commands.specs.{Requests.{direction_of, parts_of}, Values.numbers_of}
 use Rattle.machine_model.proofs.{Cases.none_some, Counting.{held_once, all_at}, HostLeaves.ids_of, Moves.{draft_found, draft_lives, posts, posted_is}}
-use Rattle.machine_model.{proofs.{Owned.in_record, Steps.{Accepts, pages_match, same_lists}}, specs.{After.course_of, Claims.OwnsFit, Events.{Event, Reply}}}
+use Rattle.machine_model.{proofs.{Owned.in_record, Steps.{Accepts, pages_match, same_lists}}, specs.{After.course_of, Events.{Event, Reply}}}
 use Rattle.machine_model.specs.{Image.{draft_of, submitted_by}, Memory.{with_pages, memory_of}, Proper.{IsProper, IsPage, ArePages}}
 use Rattle.machine_model.specs.Refusals.{is_submitted, is_drafted, refusal_of, is_of, asks_for}
-use Rattle.machine_model.specs.{State.{State, Record, Job, record_at, pages_of, with_record, is_at}, Weights.{one, total, sent}, Work.Work}
+use Rattle.machine_model.specs.{State.{State, Record, Job, record_at, pages_of, with_record}, Weights.{one, total, sent}, Work.Work}
 use Rattle.machine_model.specs.declared.words.Work.TheVariants.{Io, Management}
-use Rattle.two_sides.proofs.{Commands.{walk_writes_to, Walking, submitted_pages}, JobLaws.stay_after as lists_stay, PlacesKept.drafted_not}
+use Rattle.two_sides.proofs.{Commands.{walk_writes_to, submitted_pages}, JobLaws.stay_after as lists_stay, PlacesKept.drafted_not}
 use Rattle.two_sides.proofs.Provided.{In, sent_found, in_at, all_at_found, some_is}
 use Rattle.two_sides.proofs.Served.{requests_same, entry_direction, Stood, counts_sent, data_of, good_is, JobList, job_list, same_list, course_in, CourseWhole, course_whole}
 use Rattle.two_sides.proofs.{TiedAll.Grounds, Untouched.{owned_once, untouched}}
@@ -87,21 +87,11 @@ other_pages s g r r' within within' src far p own = elim (cases_Bool (is_among r
   where
     both : (rs : List Record) → total (λ x. if asks_source x.work then in_record p x else 0) rs + total (λ x. if asks_source x.work then 0 else in_record p x) rs ≡ total (in_record p) rs
     both [] = refl
-    both (x ∷ rs) = omega (arith, both rs, each (asks_source x.work))
-      where
-        each : (b : Bool) → (if b then in_record p x else 0) + (if b then 0 else in_record p x) ≡ in_record p x
-        each b = grind arith
+    both (x ∷ rs) = grind (arith, both rs, in_record)
 
 source_walk : (s : State) (q cid : ℕ) → refusal_of s (events.Walk q cid) ≡ None → Stood s → (r : Record) → In r s.host.records → asks_source r.work ≡ true → (p : ℕ) → is_among r.data_pages p ≡ true
     → page_at (a.after_walk q cid s).memory p ≡ page_at s.memory p
-source_walk s q cid none stood r within src p own =
-    walk_writes_to s q cid none stood p (λ j w d. other_pages s stood.grounds r w.list.command within w.list.within src (far j w d) p own)
-  where
-    -- the walk's own command is a destination's
-    far : (j : Job) (w : Walking s q cid j) → direction_of_entry j.entry ≡ Destination → asks_source w.list.command.work ≡ false
-    far j w d =
-        let kind : direction_of w.list.request.kind ≡ Destination = sym (entry_direction w.list.command.cid w.list.request (spelling w.list.list.first)) ∙ ap direction_of_entry (sym w.list.entry) ∙ d in
-        ap asks_source w.list.work ∙ ap is_source kind
+source_walk s q cid none stood r within src p own = grind (arith, walk_writes_to, other_pages, entry_direction)
 
 pub source_stays : (s : State) (e : Event) (reply : Reply) → Accepts s e reply → Stood s → (r : Record) → In r s.host.records → is_submitted r.phase ≡ true → asks_source r.work ≡ true → (p : ℕ) → is_among r.data_pages p ≡ true
     → page_at (a.after s e reply).memory p ≡ page_at s.memory p
@@ -152,10 +142,7 @@ other_draft s (events.Submit d') reply ok g r within sub d is = elim (cases_Bool
 ]
   where
     same : d' ≡ d
-    same = draft_is is
-      where
-        draft_is : {x y : DraftContents} → events.Submit x ≡ events.Submit y → x ≡ y
-        draft_is e = cc
+    same = grind arith
 other_draft s e reply ok g r within sub d is = absurd (cc)
 
 all_pages : (m : Pages) (pages : PagesOut) → ArePages pages → AllByRecursion (λ (page : ℕ × List ℕ). page_at m page.0 ≡ Some page.1) pages → AllByRecursion (Stands m) pages
@@ -205,28 +192,16 @@ records_known drafts s e reply proper ok stood = record {
         → is_of is_drafted d.request (numbers_of d.data_pages) (numbers_of d.chain_pages) r ≡ true → (w : Work) → r.work ≡ w → OfDraftIfIo (submitted_by (events.Submit d) reply ++ drafts) (a.after s (events.Submit d) reply).memory (a.submitted r) w
     new d events.Accepted proper ok entry r built at fits (Management adm) w = tt
     new d events.Accepted proper ok entry r built at fits (Io request) w =
+        let both : ((is_drafted r.phase && asks_for d.request r.work) ≡ true) × (pointwise nat_eq (numbers_of d.data_pages) r.data_pages ≡ true) = grind arith in
+        let ids = ids_of s d.q d.cid r at in
         record {
           draft = d;
           latest = rw (ids.0, ids.1) (rw (eq-eqb d.q d.q refl, eq-eqb d.cid d.cid refl) refl);
-          asked = requests_same d.request request asks;
-          pages = numbers;
+          asked = requests_same d.request request (ap (asks_for d.request) (sym w) ∙ (and_parts (is_drafted r.phase) (asks_for d.request r.work) both.0).1);
+          pages = (same_lists (numbers_of d.data_pages) r.data_pages both.1);
           stand = λ dir. subst (λ (o : Option SubEntry). AllByRecursion (Stands (option_map_or (λ entry. a.posted d.q entry (a.on_records (with_record d.q d.cid a.submitted) (a.on_memory (with_pages (d.data_pages ++ d.chain_pages)) s))) o s).memory) d.data_pages) (sym built)
               (submitted_stand s d entry ok.0 proper.data_pages stood.grounds);
         }
-      where
-        ids : (r.q ≡ d.q) × (r.cid ≡ d.cid)
-        ids = ids_of s d.q d.cid r at
-
-        both : ((is_drafted r.phase && asks_for d.request r.work) ≡ true) × (pointwise nat_eq (numbers_of d.data_pages) r.data_pages ≡ true)
-        both =
-            let abc_d = and_parts (is_drafted r.phase && asks_for d.request r.work && pointwise nat_eq (numbers_of d.data_pages) r.data_pages) (pointwise nat_eq (numbers_of d.chain_pages) r.chain_pages) fits in
-            and_parts (is_drafted r.phase && asks_for d.request r.work) (pointwise nat_eq (numbers_of d.data_pages) r.data_pages) abc_d.0
-
-        numbers : numbers_of d.data_pages ≡ r.data_pages
-        numbers = same_lists (numbers_of d.data_pages) r.data_pages both.1
-
-        asks : asks_for d.request (Io request) ≡ true
-        asks = ap (asks_for d.request) (sym w) ∙ (and_parts (is_drafted r.phase) (asks_for d.request r.work) both.0).1
     new d reply proper ok entry r built at fits w w' = absurd ok.1
 
 -- Each event keeps what is known of source commands, and a source's job that went well has its draft's bytes.
@@ -250,38 +225,18 @@ still_carried s e reply ok stood j l dir t bytes =
     (source_stays s e reply ok stood l.command l.within l.phase (source_asks l.command l.request l.work (source_request s j l dir))) (course_of s j) t bytes (course_in s j l)
 
 pub fault_fails : (blocks : ℕ) (e : SubEntry) (st : Status) → io_fault blocks e ≡ Some st → is_success st ≡ false
-fault_fails blocks e st h =
-    go (is_none (kind_of_opcode e.opcode)) (not (e.nsid == 1)) (not (e.fuse == 0) || not (e.psdt == 1)) (nat_lt 2048 (block_number e)) (nat_lt blocks (first_block e + block_number e)) h
-  where
-    is_it : {x y : Status} → Some x ≡ Some y → is_success x ≡ false → is_success y ≡ false
-    is_it e h = subst (λ (s : Status). is_success s ≡ false) (some_is e) h
-
-    go : (a b c d f : Bool) → first_passing ((a, INVALID_OPCODE) ∷ (b, INVALID_NAMESPACE) ∷ (c, INVALID_FIELD) ∷ (d, INVALID_FIELD) ∷ (f, LBA_OUT_OF_RANGE) ∷ []) ≡ Some st → is_success st ≡ false
-    go true b c d f h = is_it h refl
-    go false true c d f h = is_it h refl
-    go false false true d f h = is_it h refl
-    go false false false true f h = is_it h refl
-    go false false false false true h = is_it h refl
-    go false false false false false h = absurd cc
+fault_fails blocks e st h = grind (arith, some_is)
 
 -- a job that has its verdict from a walk has done all its units
 pub over_units : (k : ℕ) (c : Course) (st : Status) → verdict_of (answer (after_units k c)) ≡ Some st → length (units c) ≤ k
-over_units zero (Closes v) st h = omega arith
-over_units (suc k) (Closes v) st h = omega arith
 over_units zero (Does x rest) st h = absurd cc
 over_units (suc k) (Does x rest) st h = omega (arith, over_units k rest st h)
+over_units k (Closes v) st h = omega arith
 
 begun_carries : (t : State) (image : List ℕ) (blocks q : ℕ) (e : SubEntry) → direction_of_entry e ≡ Source → (o : Option Status) → io_fault blocks e ≡ o → goes_well o ≡ true
     → Carries t (a.new_job q e o 0 (bytes_after_check image e o))
 begun_carries t image blocks q e dir (Some st) f well = absurd (true≢false (sym well ∙ fault_fails blocks e st f))
-begun_carries t image blocks q e dir None f well = record { bytes = go (kind_of_opcode e.opcode) refl dir; over = λ st v. absurd (none_some v) }
-  where
-    go : (k : Option Kind) → kind_of_opcode e.opcode ≡ k → direction_by k ≡ Source → first_bytes image e k ≡ replicate (need_of_entry e) 0
-    go None is d = absurd (none_some (sym f ∙ ap (λ (k : Option Kind). first_passing ((is_none k, INVALID_OPCODE) ∷ (not (e.nsid == 1), INVALID_NAMESPACE) ∷ (not (e.fuse == 0) || not (e.psdt == 1), INVALID_FIELD)
-        ∷ (nat_lt 2048 (block_number e), INVALID_FIELD) ∷ (nat_lt blocks (first_block e + block_number e), LBA_OUT_OF_RANGE) ∷ [])) is))
-    go (Some Read) is d = absurd cc
-    go (Some Write) is d = refl
-    go (Some Compare) is d = refl
+begun_carries t image blocks q e dir None f well = record { bytes = (grind arith); over = λ st v. absurd (none_some v) }
 
 is_did : (s : State) (j : Job) (act : Act) → walked_bytes s j Source act ≡ did s.memory act j.bytes
 is_did s j act = grind arith
@@ -312,19 +267,7 @@ jobs_known s e reply ok stood = record {
 
 -- no draft is of queue 0
 drafts_elsewhere : (s : State) (e : Event) (reply : Reply) → Accepts s e reply → Stood s → (d : DraftContents) → e ≡ events.Submit d → (d.q == 0) ≡ false
-drafts_elsewhere s e reply ok stood d is =
-    let none : refusal_of s (events.Submit d) ≡ None = subst (λ (x : Event). refusal_of s x ≡ None) is ok.0 in
-    let r = submit_record s d none in
-    of r.0 (ids_of s d.q d.cid r.0 r.1).0 r.0.work refl (asked r.0 r.2) (all_at_found (λ r. OwnsFit r.q r.work (pages_of r)) (is_at d.q d.cid) s.host.records r.0 r.1 stood.grounds.stands.0.admins)
-  where
-    asked : (r : Record) → is_of is_drafted d.request (numbers_of d.data_pages) (numbers_of d.chain_pages) r ≡ true → asks_for d.request r.work ≡ true
-    asked r h = (and_parts (is_drafted r.phase) (asks_for d.request r.work) (and_parts (is_drafted r.phase && asks_for d.request r.work) _ (and_parts (is_drafted r.phase && asks_for d.request r.work && _) _ h).0).0).1
-
-    of : (r : Record) → r.q ≡ d.q → (w : Work) → r.work ≡ w → asks_for d.request r.work ≡ true → OwnsFit r.q r.work (pages_of r) → (d.q == 0) ≡ false
-    of r same (Io request) is asks fit =
-        let fit' : OwnsFit r.q (Io request) (pages_of r) = subst (λ (x : Work). OwnsFit r.q x (pages_of r)) is fit in
-        ap (λ (n : ℕ). n == 0) (sym same) ∙ fit'
-    of r same (Management adm) is asks fit = absurd (true≢false (sym asks ∙ ap (asks_for d.request) is))
+drafts_elsewhere s e reply ok stood d is = grind (arith, submit_record, ids_of, all_at_found)
 
 pub known_on : (drafts : List DraftContents) (s : State) (e : Event) (reply : Reply) → IsProper e → Accepts s e reply → Stood s → Known drafts s → Known (submitted_by e reply ++ drafts) (a.after s e reply)
 known_on drafts s e reply proper ok stood h = record {
@@ -337,11 +280,7 @@ known_on drafts s e reply proper ok stood h = record {
 
 pub page_found : (m : Pages) (pages : PagesOut) → AllByRecursion (Stands m) pages → (p : ℕ) → is_among (numbers_of pages) p ≡ true → (page : List ℕ) × (page_at m p ≡ Some page) × (length page ≡ 4096)
 page_found m [] h p e = absurd (true≢false (sym e))
-page_found m (page ∷ pages) h p e = go (page.0 == p) refl e (λ e'. page_found m pages h.1 p e')
-  where
-    go : (b : Bool) → (page.0 == p) ≡ b → (b || is_among (numbers_of pages) p) ≡ true → (is_among (numbers_of pages) p ≡ true → (x : List ℕ) × (page_at m p ≡ Some x) × (length x ≡ 4096)) → (x : List ℕ) × (page_at m p ≡ Some x) × (length x ≡ 4096)
-    go true is e ih = (page.1, ap (page_at m) (sym (eqb-true page.0 p is)) ∙ h.0.0, h.0.1)
-    go false is e ih = ih e
+page_found m (page ∷ pages) h p e = grind (arith, page_found m pages, eqb-true)
 
 take_all : {A : Type 0} (xs : List A) (k : ℕ) → length xs ≤ k → take k xs ≡ xs
 take_all [] zero h = refl
@@ -352,6 +291,11 @@ take_all (x ∷ xs) (suc k) h = ap (λ ys. x ∷ ys) (take_all xs k (omega (arit
 pub all_carried : (s : State) → Stood s → (j : Job) (l : JobList s j) → direction_of_entry j.entry ≡ Source → (pages : PagesOut) → numbers_of pages ≡ l.command.data_pages → AllByRecursion (Stands s.memory) pages
     → (st : Status) → j.verdict ≡ Some st → Carries s j → j.bytes ≡ gathered l.request.pieces pages
 all_carried s stood j l dir pages numbers stand st v c =
+    let parts : List Part = parts_of l.request.pieces l.command.data_pages in
+    let start : length {A = ℕ} (replicate (need_of_entry j.entry) 0) ≡ length (targets (direction_of_entry j.entry) (parts_of l.request.pieces l.command.data_pages)) =
+    length-replicate (need_of_entry j.entry) 0 ∙ sym whole.counts ∙ sym (length-targets (direction_of_entry j.entry) (parts_of l.request.pieces l.command.data_pages)) in
+    let long : length (carried s.memory (units (course_of s j)) (replicate (need_of_entry j.entry) 0)) ≡ length (targets (direction_of_entry j.entry) (parts_of l.request.pieces l.command.data_pages)) =
+    carried_length s.memory (targets (direction_of_entry j.entry) (parts_of l.request.pieces l.command.data_pages)) (course_of s j) (replicate (need_of_entry j.entry) 0) to start in
     c.bytes ∙ ap (λ (us : List Act). carried s.memory us (replicate (need_of_entry j.entry) 0)) (take_all (units (course_of s j)) j.units_done (c.over st v))
     ∙ sym (none_discarded (targets (direction_of_entry j.entry) parts) (carried s.memory (units (course_of s j)) (replicate (need_of_entry j.entry) 0))
     (subst (λ (d : Direction). AllByRecursion IsPlace (targets d parts)) (sym dir) (source_places parts)) long)
@@ -359,9 +303,6 @@ all_carried s stood j l dir pages numbers stand st v c =
     (subst (λ (ns : List ℕ). Gathers' ns) numbers (gathers_pieces s.memory (direction_of_entry j.entry) l.request.pieces pages (good_is l.request l.sized.good).crosses stand))
     long (λ i p x target is. carried_byte s.memory (targets (direction_of_entry j.entry) parts) i p x target is (course_of s j) (replicate (need_of_entry j.entry) 0) to start (inl (all i p target)))
   where
-    parts : List Part
-    parts = parts_of l.request.pieces l.command.data_pages
-
     Gathers' : List ℕ → Type 0
     Gathers' ns = Gathers s.memory (targets (direction_of_entry j.entry) (parts_of l.request.pieces ns)) (gathered l.request.pieces pages)
 
@@ -372,12 +313,6 @@ all_carried s stood j l dir pages numbers stand st v c =
     to = moves_to s.memory (memory_of s.memory) (direction_of_entry j.entry) (need_of_entry j.entry) l.command.chain_pages l.command.data_pages (targets (direction_of_entry j.entry) (parts_of l.request.pieces l.command.data_pages))
         (λ p own. page_found s.memory pages stand p (ap (λ (ns : List ℕ). is_among ns p) numbers ∙ own)) (course_of s j) (taken (direction_of_entry j.entry) (need_of_entry j.entry) [] (descriptor_of j.entry.sgl1))
         (list_moves_along (memory_of s.memory) j.entry.sgl1 (direction_of_entry j.entry) (need_of_entry j.entry)) whole.takes (course_in s j l)
-
-    start : length {A = ℕ} (replicate (need_of_entry j.entry) 0) ≡ length (targets (direction_of_entry j.entry) (parts_of l.request.pieces l.command.data_pages))
-    start = length-replicate (need_of_entry j.entry) 0 ∙ sym whole.counts ∙ sym (length-targets (direction_of_entry j.entry) (parts_of l.request.pieces l.command.data_pages))
-
-    long : length (carried s.memory (units (course_of s j)) (replicate (need_of_entry j.entry) 0)) ≡ length (targets (direction_of_entry j.entry) (parts_of l.request.pieces l.command.data_pages))
-    long = carried_length s.memory (targets (direction_of_entry j.entry) (parts_of l.request.pieces l.command.data_pages)) (course_of s j) (replicate (need_of_entry j.entry) 0) to start
 
     all : (i p : ℕ) → slice_get (targets (direction_of_entry j.entry) (parts_of l.request.pieces l.command.data_pages)) i ≡ Some (Place p) → MovesByte i (course_of s j)
     all i p target =

@@ -1,15 +1,13 @@
 -- How a step changes jobs, queues and records.
 use Rattle.machine_model.specs.After as a
 use Rattle.machine_model.specs.Events as events
-use Rattle.machine_model.specs.declared.words.RejectedFor.TheVariants as rejected
-use Rattle.machine_model.specs.declared.words.Reaped.TheVariants as reaped
-use Rattle.std.proofs.Common.{filter, ◌≡◌, is_some, ap, ℕ, ◌+◌, ◌==◌, Bool, true, false, not, ◌&&◌, Option, Some, None, List, [], ◌∷◌, ◌++◌, map, slice_get, is_none, if◌then◌else◌, refl, sym, ◌∙◌, subst, inl, inr, arith, zero, suc, ◌-◌, length, drop}
+use Rattle.std.proofs.Common.{◌≡◌, is_some, ap, ℕ, ◌+◌, ◌==◌, Bool, true, false, not, ◌&&◌, Option, Some, None, List, [], ◌∷◌, ◌++◌, map, slice_get, is_none, if◌then◌else◌, refl, sym, ◌∙◌, subst, inl, inr, arith, zero, suc, ◌-◌, length, drop}
 use Rattle.std.{proofs.lemmas.Bool.{true≢false, and_parts, cases_Bool}, specs.{List.AllByRecursion, Option.option_map_or}}
 use Rattle.machine_model.proofs.{Cases.option_is, Counting.all_at, Moves.{host_moves, creates_cq, creates_sq, named, status_in, drafted_record, sent_record}}
 use Rattle.machine_model.{proofs.{Owned.{all_reset, lost_by}, Steps.{Accepts, managed_by, part_controller}}, specs.Events.{Event, Reply}}
 use Rattle.machine_model.specs.Refusals.{next_rung, job_at, is_job, fetch_slot, is_submitted, is_drafted, is_of}
 use Rattle.machine_model.specs.State.{State, Job, DeviceQueue, Record, is_at, record_at, without_record}
-use Rattle.machine_model.specs.{Step.{IsController, HostPart, reaped, reaped_as, reaped_entry, submitted_at, fits_ring}, Work.Work}
+use Rattle.machine_model.specs.{Step.{IsController, HostPart, reaped, reaped_entry}}
 use Rattle.machine_model.specs.declared.words.{Phase.TheVariants.{Drafted, Held}, Work.TheVariants.Io}
 use Rattle.admin_commands.specs.{Entries.{named_queue, named_command, admin_entry}, declared.AdminKind.{AdminKind, TheVariants.{Abort, DeleteSq, DeleteCq}}}
 use Rattle.admin_commands.specs.declared.SqState.TheVariants.{Absent, Stopping}
@@ -66,6 +64,10 @@ jobs_fetch P Q s q move stood h =
 
     managed : (e : SubEntry) → q ≡ 0 → next_rung s q ≡ Some e → AllByRecursion Q (a.managed e (a.taken_off 0 s)).device.jobs
     managed e z rung =
+        let one_more : (js : List Job) (st : Status) (dw0 : ℕ) → AllByRecursion Q js → AllByRecursion Q (js ++ a.new_job 0 e (Some st) dw0 [] ∷ []) =
+        λ js st dw0 all. grind (arith, all_append, no_conflict, in_hand) in
+        let mapped : (f : Job → Job) → ((k : ℕ) (j : Job) → slice_get s.device.jobs k ≡ Some j → P j → Q (f j)) → AllByRecursion Q (map f s.device.jobs) =
+        λ f each. all_map (λ j. Q (f j)) Q f s.device.jobs (λ j p. p) (all_indexed P (λ j. Q (f j)) s.device.jobs each h) in
         managed_by (λ (t : State). AllByRecursion Q t.device.jobs) e (a.taken_off 0 s)
         (record {
           refuses = λ st bad. one_more s.device.jobs st 0 still;
@@ -79,14 +81,6 @@ jobs_fetch P Q s q move stood h =
           makes_submission = λ is1 q0 gone there. one_more s.device.jobs SUCCESS 0 still;
         })
       where
-        one_more : (js : List Job) (st : Status) (dw0 : ℕ) → AllByRecursion Q js → AllByRecursion Q (js ++ a.new_job 0 e (Some st) dw0 [] ∷ [])
-        one_more js st dw0 all =
-            all_append Q js (a.new_job 0 e (Some st) dw0 [] ∷ []) all
-            (move.manages e st dw0 (ap (λ (k : ℕ). events.Fetch k) z) (subst (λ (k : ℕ). next_rung s k ≡ Some e) z rung) (subst (λ (k : ℕ). is_some (job_at s k e.cid) ≡ false) z (no_conflict s stood q e (in_hand s q e rung))), tt)
-
-        mapped : (f : Job → Job) → ((k : ℕ) (j : Job) → slice_get s.device.jobs k ≡ Some j → P j → Q (f j)) → AllByRecursion Q (map f s.device.jobs)
-        mapped f each = all_map (λ j. Q (f j)) Q f s.device.jobs (λ j p. p) (all_indexed P (λ j. Q (f j)) s.device.jobs each h)
-
         walking_job : (o : Option Job) → job_at s (named_queue e) (named_command e) ≡ o → option_map_or (λ j. is_none j.verdict) o false ≡ true → (k : ℕ) (j : Job) → slice_get s.device.jobs k ≡ Some j → is_job (named_queue e) (named_command e) j ≡ true → j.verdict ≡ None
         walking_job None at w k j f is = absurd (true≢false (sym w))
         walking_job (Some j0) at w k j f is =
@@ -124,10 +118,7 @@ jobs_walk P Q s q cid reply move ok stood h j at act u =
 -- Completing
 
 jobs_complete : (P Q : Job → Type 0) (s : State) (q cid : ℕ) → JobsMove P Q s (events.Complete q cid) → AllByRecursion P s.device.jobs → AllByRecursion Q (a.after_complete q cid s).device.jobs
-jobs_complete P Q s q cid move h =
-    let still : AllByRecursion Q s.device.jobs = all_indexed P Q s.device.jobs (λ k j f p. move.stays k j f refl p) h in
-    let less : AllByRecursion Q (filter (λ x. not (is_job q cid x)) s.device.jobs) = all_filter Q (λ x. not (is_job q cid x)) s.device.jobs still in
-    complete_by (λ (t : State). AllByRecursion Q t.device.jobs) s q cid still (λ j at c. less) (λ j at c. less)
+jobs_complete P Q s q cid move h = grind (arith, all_indexed, all_filter, complete_by)
 
 -- Every event
 
@@ -283,81 +274,59 @@ abbrev Both : (Record → Type 0) → (Record → Type 0) → Record → Type 0
 Both P Q r = P r × Q r
 
 pub records_event : (P Q : Record → Type 0) (s : State) (e : Event) (reply : Reply) → RecordsMove P Q s e → Accepts s e reply → Grounds s → AllByRecursion P s.host.records → AllByRecursion Q (a.after s e reply).host.records
-records_event P Q s e reply move ok g h = elim (cases_Bool (IsController e)) [
-  | inl c ↦ subst (λ (part : HostPart). AllByRecursion Q part.host.records) (sym (part_controller s e reply c)) (still e move (takes_none e c))
-  | inr c ↦
-      host_moves (λ (e : Event) (reply : Reply) (t : State). RecordsMove P Q s e → AllByRecursion Q t.host.records) s e reply ok c
-      (record {
-        reserves = λ q request d none is move. began (events.Reserve q request) (drafted_record d) move (λ r. refl) (move.reserves d);
-        submits = λ d entry r none built its live move.
-            all_with (Both P Q) Q d.q d.cid a.submitted s.host.records r its.found (g.stands.0.once d.q d.cid) (λ x far p. p.1) (λ p. move.submits d entry r refl built its.found its.is p.0) (both (events.Submit d) move (λ r. refl));
-        cancels = λ d r its move. without (events.Cancel d) d.q d.cid move (λ r. refl);
-        rings = λ q none move. still (events.Ring q) move (λ r. refl);
-        rests = λ q is move. still (events.Reap q) move (λ r. refl);
-        rejects = λ q why is move. still (events.Reap q) move (λ r. refl);
-        tells = λ q cid st what e r request t heard w move.
-            all_with (Both P Q) Q q cid (a.held st) s.host.records r heard.found (g.stands.0.once q cid) (λ x far p. p.1)
-            (λ p. move.reaps q cid st request r refl (ap named (sym t.is) ∙ t.names) (ap status_in (sym t.is) ∙ t.status) heard.found w p.0) (both (events.Reap q) move (λ r. refl));
-        hears = λ q cid st what e r adm t heard w quiet unmade move. without (events.Reap q) q cid move (λ r. refl);
-        notes = λ q cid st what e r k t heard w move. without (events.Reap q) q cid move (λ r. refl);
-        frees = λ q cid st what e r k queue t heard w at retired good move. without (events.Reap q) q cid move (λ r. refl);
-        makes_cq = λ q cid st what e r k size base t heard w good move. without (events.Reap q) q cid move (λ r. refl);
-        unmakes_cq = λ q cid st what e r k size base queue t heard w at bad move. without (events.Reap q) q cid move (λ r. refl);
-        makes_sq = λ q cid st what e r k size base t heard w good move. without (events.Reap q) q cid move (λ r. refl);
-        unmakes_sq = λ q cid st what e r k size base queue t heard w at bad move. without (events.Reap q) q cid move (λ r. refl);
-        collects = λ q cid r f at held is move. all_with (Inside s P) Q q cid a.collected s.host.records r at (g.stands.0.once q cid) (λ x far p. move.stays x p.0 far p.1) (λ p. move.collects r p.1) inside;
-        releases = λ f r its move. without (events.Release f) f.q f.cid move (λ r. refl);
-        aborts = λ q cid id none new move. began (events.Abort q cid) (sent_record (Abort q cid) id) move (λ r. refl) (move.sends (Abort q cid) id);
-        asks = λ q id queue none new live move. began (events.DeleteSq q) (sent_record (DeleteSq q) id) move (λ r. refl) (move.sends (DeleteSq q) id);
-        drops = λ q id none new move. began (events.DeleteCq q) (sent_record (DeleteCq q) id) move (λ r. refl) (move.sends (DeleteCq q) id);
-        creates_cqs = λ q id first queue none new granted move. began (events.CreateCq q) (sent_record (creates_cq q first s) id) move (λ r. refl) (move.sends (creates_cq q first s) id);
-        creates_sqs = λ q id first queue none new granted move. began (events.CreateSq q) (sent_record (creates_sq q first s) id) move (λ r. refl) (move.sends (creates_sq q first s) id);
-        retires = λ q queue none at deleted move. all_map (Inside s P) Q (a.lost q) s.host.records (λ r p. one_lost q move r ((r.q == q) && is_submitted r.phase) refl p) inside;
-        forges = λ q slot bytes queue none at move. still (events.Forge q slot bytes) move (λ r. refl);
-        resets = λ move.
-            all_reset (Inside s P) Q
-            (λ r io p. lost_by Q r (λ quiet. move.stays r p.0 refl p.1) (λ sub. move.loses r p.0 sub refl p.1)) s.host.records inside;
-      }) move
-]
+records_event P Q s e reply move ok g h =
+    let both : (e : Event) → RecordsMove P Q s e → ((r : Record) → takes e r ≡ false) → AllByRecursion (Both P Q) s.host.records =
+    λ e move none. all_in P (Both P Q) s.host.records (λ r within p. (p, move.stays r within (none r) p)) h in
+    let still : (e : Event) → RecordsMove P Q s e → ((r : Record) → takes e r ≡ false) → AllByRecursion Q s.host.records =
+    λ e move none. all_in P Q s.host.records (λ r within p. move.stays r within (none r) p) h in
+    let inside = all_in P (Inside s P) s.host.records (λ r within p. (within, p)) h in
+    let without : (e : Event) (q cid : ℕ) → RecordsMove P Q s e → ((r : Record) → takes e r ≡ false) → AllByRecursion Q (without_record q cid s.host.records) =
+    λ e q cid move none. all_filter Q (λ r. not (is_at q cid r)) s.host.records (still e move none) in
+    let began : (e : Event) (new : Record) → RecordsMove P Q s e → ((r : Record) → takes e r ≡ false) → Q new → AllByRecursion Q (s.host.records ++ new ∷ []) =
+    λ e new move none own. all_append Q s.host.records (new ∷ []) (still e move none) (own, tt) in
+    let takes_none : (e : Event) → IsController e ≡ true → (r : Record) → takes e r ≡ false = λ e c r. grind arith in
+    elim (cases_Bool (IsController e)) [
+      | inl c ↦ subst (λ (part : HostPart). AllByRecursion Q part.host.records) (sym (part_controller s e reply c)) (still e move (takes_none e c))
+      | inr c ↦
+          host_moves (λ (e : Event) (reply : Reply) (t : State). RecordsMove P Q s e → AllByRecursion Q t.host.records) s e reply ok c
+          (record {
+            reserves = λ q request d none is move. began (events.Reserve q request) (drafted_record d) move (λ r. refl) (move.reserves d);
+            submits = λ d entry r none built its live move.
+                all_with (Both P Q) Q d.q d.cid a.submitted s.host.records r its.found (g.stands.0.once d.q d.cid) (λ x far p. p.1) (λ p. move.submits d entry r refl built its.found its.is p.0) (both (events.Submit d) move (λ r. refl));
+            cancels = λ d r its move. without (events.Cancel d) d.q d.cid move (λ r. refl);
+            rings = λ q none move. still (events.Ring q) move (λ r. refl);
+            rests = λ q is move. still (events.Reap q) move (λ r. refl);
+            rejects = λ q why is move. still (events.Reap q) move (λ r. refl);
+            tells = λ q cid st what e r request t heard w move.
+                all_with (Both P Q) Q q cid (a.held st) s.host.records r heard.found (g.stands.0.once q cid) (λ x far p. p.1)
+                (λ p. move.reaps q cid st request r refl (ap named (sym t.is) ∙ t.names) (ap status_in (sym t.is) ∙ t.status) heard.found w p.0) (both (events.Reap q) move (λ r. refl));
+            hears = λ q cid st what e r adm t heard w quiet unmade move. without (events.Reap q) q cid move (λ r. refl);
+            notes = λ q cid st what e r k t heard w move. without (events.Reap q) q cid move (λ r. refl);
+            frees = λ q cid st what e r k queue t heard w at retired good move. without (events.Reap q) q cid move (λ r. refl);
+            makes_cq = λ q cid st what e r k size base t heard w good move. without (events.Reap q) q cid move (λ r. refl);
+            unmakes_cq = λ q cid st what e r k size base queue t heard w at bad move. without (events.Reap q) q cid move (λ r. refl);
+            makes_sq = λ q cid st what e r k size base t heard w good move. without (events.Reap q) q cid move (λ r. refl);
+            unmakes_sq = λ q cid st what e r k size base queue t heard w at bad move. without (events.Reap q) q cid move (λ r. refl);
+            collects = λ q cid r f at held is move. all_with (Inside s P) Q q cid a.collected s.host.records r at (g.stands.0.once q cid) (λ x far p. move.stays x p.0 far p.1) (λ p. move.collects r p.1) inside;
+            releases = λ f r its move. without (events.Release f) f.q f.cid move (λ r. refl);
+            aborts = λ q cid id none new move. began (events.Abort q cid) (sent_record (Abort q cid) id) move (λ r. refl) (move.sends (Abort q cid) id);
+            asks = λ q id queue none new live move. began (events.DeleteSq q) (sent_record (DeleteSq q) id) move (λ r. refl) (move.sends (DeleteSq q) id);
+            drops = λ q id none new move. began (events.DeleteCq q) (sent_record (DeleteCq q) id) move (λ r. refl) (move.sends (DeleteCq q) id);
+            creates_cqs = λ q id first queue none new granted move. began (events.CreateCq q) (sent_record (creates_cq q first s) id) move (λ r. refl) (move.sends (creates_cq q first s) id);
+            creates_sqs = λ q id first queue none new granted move. began (events.CreateSq q) (sent_record (creates_sq q first s) id) move (λ r. refl) (move.sends (creates_sq q first s) id);
+            retires = λ q queue none at deleted move. all_map (Inside s P) Q (a.lost q) s.host.records (λ r p. one_lost q move r ((r.q == q) && is_submitted r.phase) refl p) inside;
+            forges = λ q slot bytes queue none at move. still (events.Forge q slot bytes) move (λ r. refl);
+            resets = λ move.
+                all_reset (Inside s P) Q
+                (λ r io p. lost_by Q r (λ quiet. move.stays r p.0 refl p.1) (λ sub. move.loses r p.0 sub refl p.1)) s.host.records inside;
+          }) move
+    ]
   where
-    both : (e : Event) → RecordsMove P Q s e → ((r : Record) → takes e r ≡ false) → AllByRecursion (Both P Q) s.host.records
-    both e move none = all_in P (Both P Q) s.host.records (λ r within p. (p, move.stays r within (none r) p)) h
-
-    still : (e : Event) → RecordsMove P Q s e → ((r : Record) → takes e r ≡ false) → AllByRecursion Q s.host.records
-    still e move none = all_in P Q s.host.records (λ r within p. move.stays r within (none r) p) h
-
-    inside : AllByRecursion (Inside s P) s.host.records
-    inside = all_in P (Inside s P) s.host.records (λ r within p. (within, p)) h
-
-    without : (e : Event) (q cid : ℕ) → RecordsMove P Q s e → ((r : Record) → takes e r ≡ false) → AllByRecursion Q (without_record q cid s.host.records)
-    without e q cid move none = all_filter Q (λ r. not (is_at q cid r)) s.host.records (still e move none)
-
-    began : (e : Event) (new : Record) → RecordsMove P Q s e → ((r : Record) → takes e r ≡ false) → Q new → AllByRecursion Q (s.host.records ++ new ∷ [])
-    began e new move none own = all_append Q s.host.records (new ∷ []) (still e move none) (own, tt)
-
     one_lost : (q : ℕ) → RecordsMove P Q s (events.Retire q) → (r : Record) (b : Bool) → ((r.q == q) && is_submitted r.phase) ≡ b → Inside s P r → Q (if b then record r { phase = Held; status = Some ABORTED_SQ_DELETION } else r)
     one_lost q move r true is p = let parts = and_parts (r.q == q) (is_submitted r.phase) is in move.loses r p.0 parts.1 refl p.1
     one_lost q move r false is p = move.stays r p.0 refl p.1
 
-    takes_none : (e : Event) → IsController e ≡ true → (r : Record) → takes e r ≡ false
-    takes_none e c r = grind arith
-
 -- The status that a reap tells is its entry's.
 
 pub told_entry : (s : State) (q : ℕ) (e : ComEntry) (st : Status) → status_in (reaped_entry s q e) ≡ Some st → e.status ≡ st
-told_entry s q e st h = one' (not (e.sqid == q)) h
-  where
-    told_work : (w : Work) → status_in (reaped_as q e w) ≡ Some st → e.status ≡ st
-    told_work w h = grind arith
-
-    three' : (o : Option Record) → status_in (option_map_or (λ r. reaped_as q e r.work) o (reaped.Rejected rejected.UnknownId)) ≡ Some st → e.status ≡ st
-    three' None h = absurd cc
-    three' (Some r) h = told_work r.work h
-
-    two' : (b : Bool) → status_in (if b then reaped.Rejected rejected.BadHead else option_map_or (λ r. reaped_as q e r.work) (submitted_at s q e.cid) (reaped.Rejected rejected.UnknownId)) ≡ Some st → e.status ≡ st
-    two' true h = absurd cc
-    two' false h = three' (submitted_at s q e.cid) h
-
-    one' : (b : Bool) → status_in (if b then reaped.Rejected rejected.WrongQueue else if not (fits_ring s q e) then reaped.Rejected rejected.BadHead else option_map_or (λ r. reaped_as q e r.work) (submitted_at s q e.cid) (reaped.Rejected rejected.UnknownId)) ≡ Some st → e.status ≡ st
-    one' true h = absurd cc
-    one' false h = two' (not (fits_ring s q e)) h
+told_entry s q e st h = grind (arith, status_in)

@@ -1,9 +1,8 @@
 -- A command ends once at most.
 use Rattle.machine_model.specs.After as a
 use Rattle.machine_model.specs.Events as events
-use Rattle.machine_model.specs.declared.words.Refusal.TheVariants as refusal
-use Rattle.std.proofs.Common.{◌≡◌, ◌⊎◌, inl, inr, ℕ, zero, suc, ◌-◌, ◌<◌, ◌≤◌, false, Some, List, [], ◌∷◌, ◌++◌, length, drop, slice_get, replicate, refl, ap, sym, arith, subst, ◌+◌, ◌==◌, nat_lt, nat_le, Bool, true, not, ◌&&◌, Option, None, is_some, is_none, option_and_then, if◌then◌else◌, ◌∙◌, eq-eqb, ◌||◌, eqb-true, map}
-use Rattle.std.proofs.lemmas.{Bool.{eqb-false, true≢false, and_parts, not-false, cases_Bool, Decides.nat_tests}, List.append_assoc}
+use Rattle.std.proofs.Common.{◌≡◌, inl, inr, ℕ, zero, suc, ◌-◌, ◌<◌, ◌≤◌, false, Some, List, [], ◌∷◌, ◌++◌, length, drop, slice_get, replicate, refl, ap, sym, arith, subst, ◌+◌, ◌==◌, Bool, true, not, ◌&&◌, Option, None, is_some, is_none, option_and_then, if◌then◌else◌, ◌∙◌, eq-eqb, ◌||◌, eqb-true, map}
+use Rattle.std.proofs.lemmas.{Bool.{eqb-false, true≢false, and_parts, cases_Bool, Decides.nat_tests}, List.append_assoc}
 use Rattle.std.specs.{List.{AllByRecursion, list_any}, Option.{option_map_or, option_map}}
 use Rattle.queue_pair.{proofs.Rings.{distance_below, distance_grows, distance_is}, specs.Rings.{HostRing, next_tail, next_head, knowing, fresh_host_ring}}
 use Rattle.queue_pair.specs.Slots.{next_slot, distance, is_full, moved, is_in_range}
@@ -12,10 +11,10 @@ use Rattle.machine_model.proofs.Moves.{host_moves, queue_known, sends, half_from
 use Rattle.machine_model.proofs.{Owned.{all_reset, lost_quiet}, Sound.{reaped_submitted, named}}
 use Rattle.machine_model.proofs.{Steps.{Accepts, part_controller, permitted, managed_by, unrefused, first_fails, found}, Tokens.find_sound}
 use Rattle.machine_model.{proofs.TokensKept.{no_answers_at, no_unfetched}, specs.{After.change, Claims.OwnsFit, Events.{Event, Reply}, Image.Made}}
-use Rattle.machine_model.specs.{Memory.without_pages, Opening.{device_queue as opened, Opens, opening}, Positions.IsInRing, Proper.IsProper}
+use Rattle.machine_model.specs.{Opening.{device_queue as opened, Opens, opening}, Positions.IsInRing, Proper.IsProper}
 use Rattle.machine_model.specs.Refusals.{is_submitted, host_queue, device_queue, next_rung, job_at, first_answer, entry_of, queue_full, fetch_slot, in_service, is_reaped, is_held, record_is, seen_entry}
 use Rattle.machine_model.specs.State.{HostQueue, DeviceQueue, Answer, State, Record, is_at, record_at, pages_of, with_record}
-use Rattle.machine_model.specs.Step.{HostPart, reaped, reaped_as, reaped_entry, submitted_at, fits_ring, IsController, Step, finished_from, asked_by, pages_with_bytes}
+use Rattle.machine_model.specs.Step.{HostPart, reaped, reaped_as, reaped_entry, submitted_at, fits_ring, IsController, Step, finished_from}
 use Rattle.machine_model.specs.{Trusted.{TrustedRun, Steps}, Work.Work, declared.words.{HostState.TheVariants.{Live, Deleting}, Phase.Phase}}
 use Rattle.machine_model.specs.declared.words.{Phase.TheVariants.{Drafted, Submitted, Held, Collected}, Reaped.TheVariants.{Empty, Done, AdminDone, Rejected}}
 use Rattle.machine_model.specs.declared.words.{Refusal.Refusal, RejectedFor.TheVariants.{WrongQueue, BadHead, UnknownId}, Work.TheVariants.{Io, Management}}
@@ -61,12 +60,7 @@ falls_to n tail top (an ∷ ans) u h = omega (arith, h.1, falls_to n tail (dista
 
 pub falls_posted : (n tail top : ℕ) (ans : List Answer) (u : ℕ) → tail < n → top < n - 1 → Falls n tail top ans u → Falls n (next_slot n tail) (suc top) ans (suc u)
 falls_posted n tail top [] u t room h = omega (arith, h)
-falls_posted n tail top (an ∷ ans) u t room h =
-    let grows : distance n an.sq_head (next_slot n tail) ≡ suc (distance n an.sq_head tail) = distance_grows n an.sq_head tail h.0 t (λ e. absurd (omega (arith, e, h.1, room))) in (
-      h.0,
-      omega (arith, grows, h.1),
-      subst (λ (k : ℕ). Falls n (next_slot n tail) k ans (suc u)) (sym grows) (falls_posted n tail (distance n an.sq_head tail) ans u t (omega (arith, h.1, room)) h.2),
-    )
+falls_posted n tail top (an ∷ ans) u t room h = grind (arith, falls_posted n tail (distance n an.sq_head tail) ans u, distance_grows)
 
 pub falls_answered : (n tail top : ℕ) (ans : List Answer) (u : ℕ) (an : Answer) → an.sq_head < n → distance n an.sq_head tail ≡ u → Falls n tail top ans u → Falls n tail top (ans ++ an ∷ []) u
 falls_answered n tail top [] u an below is h = (below, omega (arith, is, h), omega (arith, is))
@@ -77,41 +71,19 @@ falls_answered n tail top (x ∷ ans) u an below is h = (h.0, h.1, falls_answere
 pub fall_device : (n k : ℕ) (g : DeviceQueue → DeviceQueue) (hs : List HostQueue) (qs : List DeviceQueue)
     → ((queue : HostQueue) (at : DeviceQueue) → slice_get hs k ≡ Some queue → slice_get qs k ≡ Some at → FallsAt n queue.ring at → FallsAt n queue.ring (g at))
     → AllFall n hs qs → AllFall n hs (change k g qs)
-fall_device n k g hs qs step h q queue at eh eq = go (changed_at k g qs q at eq)
-  where
-    go : ((k ≡ q) × ((x : DeviceQueue) × (slice_get qs q ≡ Some x) × (at ≡ g x))) ⊎ ((k ≡ q → ⊥) × (slice_get qs q ≡ Some at)) → FallsAt n queue.ring at
-    go (inl (same, (x, ex, is))) =
-        subst (FallsAt n queue.ring) (sym is)
-        (step queue x (subst (λ (z : ℕ). slice_get hs z ≡ Some queue) (sym same) eh) (subst (λ (z : ℕ). slice_get qs z ≡ Some x) (sym same) ex) (h q queue x eh ex))
-    go (inr (far, e)) = h q queue at eh e
+fall_device n k g hs qs step h q queue at eh eq = grind (arith, changed_at k g qs q at eq)
 
 -- the host's ring of a queue, and the controller's lists of it
 pub fall_both : (n k : ℕ) (f : HostQueue → HostQueue) (g : DeviceQueue → DeviceQueue) (hs : List HostQueue) (qs : List DeviceQueue)
     → ((queue : HostQueue) (at : DeviceQueue) → slice_get hs k ≡ Some queue → slice_get qs k ≡ Some at → FallsAt n queue.ring at → FallsAt n (f queue).ring (g at))
     → AllFall n hs qs → AllFall n (change k f hs) (change k g qs)
-fall_both n k f g hs qs step h q queue at eh eq = go (changed_at k f hs q queue eh) (changed_at k g qs q at eq)
-  where
-    go : ((k ≡ q) × ((x : HostQueue) × (slice_get hs q ≡ Some x) × (queue ≡ f x))) ⊎ ((k ≡ q → ⊥) × (slice_get hs q ≡ Some queue))
-        → ((k ≡ q) × ((x : DeviceQueue) × (slice_get qs q ≡ Some x) × (at ≡ g x))) ⊎ ((k ≡ q → ⊥) × (slice_get qs q ≡ Some at)) → FallsAt n queue.ring at
-    go (inl (same, (x, ex, isx))) (inl (same', (y, ey, isy))) =
-        subst (λ (z : HostQueue). FallsAt n z.ring at) (sym isx)
-        (subst (FallsAt n (f x).ring) (sym isy)
-        (step x y (subst (λ (z : ℕ). slice_get hs z ≡ Some x) (sym same) ex) (subst (λ (z : ℕ). slice_get qs z ≡ Some y) (sym same) ey) (h q x y ex ey)))
-    go (inl (same, x)) (inr (far, y)) = absurd (far same)
-    go (inr (far, x)) (inl (same, y)) = absurd (far same)
-    go (inr (far, ex)) (inr (far', ey)) = h q queue at ex ey
+fall_both n k f g hs qs step h q queue at eh eq = grind (arith, changed_at k f hs q queue eh, changed_at k g qs q at eq)
 
 -- a queue of the host changes
 pub fall_host_by : (n k : ℕ) (f : HostQueue → HostQueue) (hs : List HostQueue) (qs : List DeviceQueue)
     → ((queue : HostQueue) (at : DeviceQueue) → slice_get hs k ≡ Some queue → slice_get qs k ≡ Some at → FallsAt n queue.ring at → FallsAt n (f queue).ring at)
     → AllFall n hs qs → AllFall n (change k f hs) qs
-fall_host_by n k f hs qs step h q queue at eh eq = go (changed_at k f hs q queue eh)
-  where
-    go : ((k ≡ q) × ((x : HostQueue) × (slice_get hs q ≡ Some x) × (queue ≡ f x))) ⊎ ((k ≡ q → ⊥) × (slice_get hs q ≡ Some queue)) → FallsAt n queue.ring at
-    go (inl (same, (x, ex, is))) =
-        subst (λ (z : HostQueue). FallsAt n z.ring at) (sym is)
-        (step x at (subst (λ (z : ℕ). slice_get hs z ≡ Some x) (sym same) ex) (subst (λ (z : ℕ). slice_get qs z ≡ Some at) (sym same) eq) (h q x at ex eq))
-    go (inr (far, ex)) = h q queue at ex eq
+fall_host_by n k f hs qs step h q queue at eh eq = grind (arith, changed_at k f hs q queue eh)
 
 -- and its ring stays
 pub fall_host : (n k : ℕ) (f : HostQueue → HostQueue) (hs : List HostQueue) (qs : List DeviceQueue) → ((queue : HostQueue) → (f queue).ring ≡ queue.ring) → AllFall n hs qs → AllFall n (change k f hs) qs
@@ -129,22 +101,12 @@ longer [] x = refl
 longer (y ∷ xs) x = ap suc (longer xs x)
 
 pub shorter : {A : Type 0} (xs : List A) → length (drop 1 xs) ≤ length xs
-shorter [] = omega arith
-shorter (x ∷ xs) = omega arith
+shorter xs = grind arith
 
 -- one entry more, where the ring has room
 pub at_posted : (n : ℕ) (queue : HostQueue) (at : DeviceQueue) → IsInRing n queue.ring → is_full n queue.ring.known_head queue.ring.tail ≡ false → FallsAt n queue.ring at
     → Falls n (next_slot n queue.ring.tail) (distance n queue.ring.known_head (next_slot n queue.ring.tail)) at.answers (suc (length at.unfetched))
-at_posted n queue at ring room h =
-    let below = distance_below n queue.ring.known_head queue.ring.tail ring.known_head ring.tail in
-    let less : distance n queue.ring.known_head queue.ring.tail < n - 1 = near (distance n queue.ring.known_head queue.ring.tail) (n - 1) (omega (arith, below)) (eqb-false (distance n queue.ring.known_head queue.ring.tail) (n - 1) room) in
-    let grows : distance n queue.ring.known_head (next_slot n queue.ring.tail) ≡ suc (distance n queue.ring.known_head queue.ring.tail) =
-    distance_grows n queue.ring.known_head queue.ring.tail ring.known_head ring.tail (λ e. absurd (omega (arith, e, less))) in
-    subst (λ (k : ℕ). Falls n (next_slot n queue.ring.tail) k at.answers (suc (length at.unfetched))) (sym grows)
-    (falls_posted n queue.ring.tail (distance n queue.ring.known_head queue.ring.tail) at.answers (length at.unfetched) ring.tail less h)
-  where
-    near : (d m : ℕ) → d ≤ m → (d ≡ m → ⊥) → d < m
-    near d m le far = omega (arith, le, far)
+at_posted n queue at ring room h = grind (arith, distance_below, eqb-false, distance_grows, answers, falls_posted)
 
 pub all_posted : (n q : ℕ) (hs : List HostQueue) (qs : List DeviceQueue) (more : DeviceQueue → DeviceQueue) → ((at : DeviceQueue) → (more at).answers ≡ at.answers) → ((at : DeviceQueue) → length (more at).unfetched ≡ suc (length at.unfetched))
     → ((queue : HostQueue) → slice_get hs q ≡ Some queue → IsInRing n queue.ring) → ((queue : HostQueue) → slice_get hs q ≡ Some queue → is_full n queue.ring.known_head queue.ring.tail ≡ false)
@@ -241,14 +203,13 @@ fall_fetch q s stood h =
 
 fall_complete : (q cid : ℕ) (s : State) → Grounds s → Fall s → AllFall s.entries s.host.queues (a.after_complete q cid s).device.queues
 fall_complete q cid s g h =
+    let rings : (queue : HostQueue) → host_queue s q ≡ Some queue → (queue.ring.known_head < s.entries) × (queue.ring.tail < s.entries) =
+    λ queue e. let r = ring_in s g q queue e in (r.known_head, r.tail) in
     complete_by (λ (t : State). AllFall s.entries s.host.queues t.device.queues) s q cid h
     (λ j at c. fall_answered q cid (a.final_status s j) j.dw0 (a.on_device_queue (named_queue j.entry) cleared (finished q cid j s)) rings
     (fall_device s.entries (named_queue j.entry) cleared s.host.queues s.device.queues
     (λ queue at eh eq falls. falls_less s.entries queue.ring.tail (distance s.entries queue.ring.known_head queue.ring.tail) at.answers (length at.unfetched) 0 (omega arith) falls) h))
     (λ j at c. fall_answered q cid (a.final_status s j) j.dw0 (finished q cid j s) rings h)
-  where
-    rings : (queue : HostQueue) → host_queue s q ≡ Some queue → (queue.ring.known_head < s.entries) × (queue.ring.tail < s.entries)
-    rings queue e = let r = ring_in s g q queue e in (r.known_head, r.tail)
 
 -- A reset leaves no answer and no entry
 
@@ -333,9 +294,7 @@ fall_host_event s e reply ok c t g h =
 fall_event : (s : State) (e : Event) (reply : Reply) → Accepts s e reply → s.trusted ≡ true → Stood s → Fall s → Fall (a.after s e reply)
 fall_event s (events.Fetch q) (events.Fetched c touched) ok t stood h =
     subst (λ (part : HostPart). AllFall part.entries part.host.queues (a.after s (events.Fetch q) (events.Fetched c touched)).device.queues) (sym (part_controller s (events.Fetch q) (events.Fetched c touched) refl)) (fall_fetch q s stood h)
-fall_event s (events.Walk q cid) (events.Walked o touched) ok t stood h =
-    subst (λ (part : HostPart). AllFall part.entries part.host.queues (a.after s (events.Walk q cid) (events.Walked o touched)).device.queues) (sym (part_controller s (events.Walk q cid) (events.Walked o touched) refl))
-    (subst (AllFall s.entries s.host.queues) (sym (queues_walk s q cid)) h)
+fall_event s (events.Walk q cid) (events.Walked o touched) ok t stood h = grind (arith, part_controller, queues_walk)
 fall_event s (events.Complete q cid) (events.Completed touched) ok t stood h =
     subst (λ (part : HostPart). AllFall part.entries part.host.queues (a.after s (events.Complete q cid) (events.Completed touched)).device.queues) (sym (part_controller s (events.Complete q cid) (events.Completed touched) refl))
     (fall_complete q cid s stood.grounds h)
@@ -373,22 +332,12 @@ near_tail : (n known head tail : ℕ) → known < n → head < n → tail < n �
 near_tail n known head tail k h t le = grind (arith, distance_is n head tail, distance_is n known tail, distance_is n known head)
 
 in_range : (n known head tail : ℕ) → head < n → distance n known head ≤ distance n known tail → is_in_range n known tail head ≡ true
-in_range n known head tail h le = both (nat_lt head n) (nat_le (distance n known head) (distance n known tail)) (below head n h) (grind (arith, nat_tests, le))
-  where
-    below : (a b : ℕ) → a < b → nat_lt a b ≡ true
-    below a b h = grind (arith, nat_tests, h)
-
-    both : (b c : Bool) → b ≡ true → c ≡ true → (b && c) ≡ true
-    both b c e f = grind arith
+in_range n known head tail h le = grind (arith, nat_tests)
 
 -- the front answer is that of a submitted command
 answered_record : (s : State) → Stood s → (q : ℕ) (at : DeviceQueue) (an : Answer) (rest : List Answer) → device_queue s q ≡ Some at → at.answers ≡ an ∷ rest
     → (r : Record) × (record_at s.host q an.cid ≡ Some r) × (is_submitted r.phase ≡ true)
-answered_record s stood q at an rest e is =
-    let w : ℕ → ℕ = λ c. one (c == an.cid) in
-    let list : answers_at s.device.queues q ≡ an ∷ rest = ap (λ (o : Option DeviceQueue). option_map_or (λ at. at.answers) o []) e ∙ is in
-    let counts : 1 ≤ total (λ (x : Answer). w x.cid) (answers_at s.device.queues q) = subst (λ (xs : List Answer). 1 ≤ total (λ (x : Answer). w x.cid) xs) (sym list) (omega (arith, ap one (eq-eqb an.cid an.cid refl))) in
-    sent_found q an.cid s.host.records (omega (arith, counts, stood.places q w)) (stood.grounds.stands.0.once q an.cid)
+answered_record s stood q at an rest e is = grind (arith, answers_at, answers, total, eq-eqb, sent_found)
 
 pub front_reaped : (s : State) → Fronted s → s.trusted ≡ true → (q : ℕ) → is_none (host_queue s q) ≡ false → reaped s q ≡ front q (answers_of s q)
 front_reaped s f t q there =
@@ -412,9 +361,7 @@ front_reaped s f t q there =
     as_work an r (Io request) is rq fit =
         let fit' : OwnsFit r.q (Io request) (pages_of r) = subst (λ (x : Work). OwnsFit r.q x (pages_of r)) is fit in
         sym (ap (λ (b : Bool). if b then AdminDone an.cid an.status an.dw0 else Done an.cid an.status) (ap (λ (k : ℕ). k == 0) (sym rq) ∙ fit'))
-    as_work an r (Management adm) is rq fit =
-        let fit' : OwnsFit r.q (Management adm) (pages_of r) = subst (λ (x : Work). OwnsFit r.q x (pages_of r)) is fit in
-        sym (ap (λ (b : Bool). if b then AdminDone an.cid an.status an.dw0 else Done an.cid an.status) (eq-eqb q 0 (sym rq ∙ fit'.0)))
+    as_work an r (Management adm) is rq fit = grind (arith, eq-eqb)
 
     submitted : (an : Answer) (r : Record) → record_at s.host q an.cid ≡ Some r → is_submitted r.phase ≡ true → submitted_at s q an.cid ≡ Some r
     submitted an r e sub = ap (λ (o : Option Record). option_map_or (λ r. if is_submitted r.phase then Some r else None) o None) e ∙ ap (λ (b : Bool). if b then Some r else None) sub
@@ -463,16 +410,10 @@ submit_by : (s : State) (d : DraftContents) (reply : Reply) → Accepts s (event
 submit_by s d reply ok = grind arith
 
 pub submit_at : (s : State) (e : Event) (d : DraftContents) (reply : Reply) (q cid : ℕ) → Accepts s e reply → e ≡ events.Submit d → d.q ≡ q → d.cid ≡ cid → submits_by q cid e reply ≡ true
-submit_at s e d reply q cid ok is dq dc =
-    subst (λ (x : ℕ). submits_by x cid e reply ≡ true) dq
-    (subst (λ (x : ℕ). submits_by d.q x e reply ≡ true) dc
-    (subst (λ (x : Event). submits_by d.q d.cid x reply ≡ true) (sym is) (submit_by s d reply (subst (λ (x : Event). Accepts s x reply) is ok))))
+submit_at s e d reply q cid ok is dq dc = grind (arith, submit_by)
 
 sent_in : (test : Phase → Bool) → IsLater test → (ph : Phase) → is_submitted ph ≡ true → test ph ≡ true
-sent_in test l Drafted e = absurd (true≢false (sym e))
-sent_in test l Submitted e = l.submitted
-sent_in test l Held e = absurd (true≢false (sym e))
-sent_in test l Collected e = absurd (true≢false (sym e))
+sent_in test l ph e = grind arith
 
 pub phases_turn : (test : Phase → Bool) → IsLater test → (q cid : ℕ) → (q == 0) ≡ false → (s : State) (e : Event) (reply : Reply) → Accepts s e reply → submits_by q cid e reply ≡ false
     → RecordsMove (NotIn test q cid) (NotIn test q cid) s e
@@ -493,11 +434,7 @@ phases_turn test l q cid other s e reply ok far = record {
 
 pub none_parts : (f : Made → Bool) (xs : List Made) (m : Made) → list_any f (xs ++ m ∷ []) ≡ false → (list_any f xs ≡ false) × (f m ≡ false)
 none_parts f [] m h = (refl, (grind arith))
-none_parts f (x ∷ xs) m h = go (f x) h (none_parts f xs m)
-  where
-    go : (b : Bool) → (b || list_any f (xs ++ m ∷ [])) ≡ false → (list_any f (xs ++ m ∷ []) ≡ false → (list_any f xs ≡ false) × (f m ≡ false)) → ((b || list_any f xs) ≡ false) × (f m ≡ false)
-    go true h ih = absurd (true≢false h)
-    go false h ih = ih h
+none_parts f (x ∷ xs) m h = grind (arith, none_parts f xs m)
 
 -- along a run that does not submit it
 pub record Past (test : Phase → Bool) (q cid : ℕ) (done : List Made) (s : State) : Type 0 where
@@ -577,34 +514,20 @@ submitted_anew test l q cid other first second between later end at all finds = 
 
 pub reap_leaves : (s : State) (q cid : ℕ) (st : Status) → Stood s → (q == 0) ≡ false → named (reaped s q) ≡ Some cid → AllByRecursion (NotIn is_submitted q cid) (a.after_reap q (Done cid st) s).host.records
 reap_leaves s q cid st stood other n = elim (option_is (record_at s.host q cid)) [
-  | inl at ↦ absurd (none_some (sym at ∙ (reaped_submitted s q cid n).1))
+  | inl at ↦ absurd (cc (sym at ∙ (reaped_submitted s q cid n).1))
   | inr (r, at) ↦ rw at (of_work r at r.work refl (all_at_found (λ r. OwnsFit r.q r.work (pages_of r)) (is_at q cid) s.host.records r at stood.grounds.stands.0.admins) (option_map_or (λ e. a.heard q e s) (seen_entry s q) s))
 ]
   where
     of_work : (r : Record) → record_at s.host q cid ≡ Some r → (w : Work) → r.work ≡ w → OwnsFit r.q w (pages_of r) → (t : State) → AllByRecursion (NotIn is_submitted q cid) (a.after_work w q cid st t).host.records
     of_work r at (Io request) is fit t = not_with is_submitted q cid (a.held st) (λ x. refl) t.host.records
-    of_work r at (Management adm) is fit t = absurd (true≢false (sym (zero (sym (ids_of s q cid r at).0 ∙ fit.0)) ∙ other))
-      where
-        zero : q ≡ 0 → (q == 0) ≡ true
-        zero e = eq-eqb q 0 e
-
-    none_some : {x : Record} → None ≡ Some x → ⊥
-    none_some e = cc
+    of_work r at (Management adm) is fit t = absurd (true≢false (sym (eq-eqb q 0 (sym (ids_of s q cid r at).0 ∙ fit.0)) ∙ other))
 
 not_refused : {A : Type 0} (why : Refusal) (touched : List ℕ) (reply : Reply) → events.Refused why touched ≡ reply → (refusing reply ≡ false) → A
 not_refused why touched reply e h = absurd (true≢false (ap refusing e ∙ h))
 
 reaps_leave : (first : Made) (mid : State) (q cid : ℕ) (st : Status) → Step first.before first.event first.reply mid → first.before.trusted ≡ true → mid.trusted ≡ true → Stood first.before → (q == 0) ≡ false
     → first.event ≡ events.Reap q → first.reply ≡ events.Reaps (Done cid st) → AllByRecursion (NotIn is_submitted q cid) mid.host.records
-reaps_leave first mid q cid st step t t' stood other is_event is_reply =
-    trusted_step_by (λ (e : Event) (reply : Reply) (new : State). Stood first.before → e ≡ events.Reap q → reply ≡ events.Reaps (Done cid st) → AllByRecursion (NotIn is_submitted q cid) new.host.records) first.before
-    (λ e why touched stood is is'. not_refused why touched (events.Reaps (Done cid st)) is' refl)
-    (λ e reply proper ok stood is is'.
-    let s = first.before in
-    let ok' : Accepts s (events.Reap q) (events.Reaps (Done cid st)) = subst (Accepts s (events.Reap q)) is' (subst (λ (x : Event). Accepts s x reply) is ok) in
-    subst (λ (x : Event). AllByRecursion (NotIn is_submitted q cid) (a.after s x reply).host.records) (sym is)
-    (subst (λ (x : Reply). AllByRecursion (NotIn is_submitted q cid) (a.after s (events.Reap q) x).host.records) (sym is') (reap_leaves s q cid st stood other (ap named (sym ok'.1)))))
-    first.event first.reply mid step t t' stood is_event is_reply
+reaps_leave first mid q cid st step t t' stood other is_event is_reply = grind (arith, trusted_step_by, not_refused, reap_leaves, named)
 
 pub submitted_later : IsLater is_submitted
 submitted_later = record { drafted = refl; submitted = refl; collected = refl }
@@ -638,11 +561,7 @@ reset_leaves : (q cid : ℕ) (rs : List Record) → AllByRecursion (NotIn is_sub
 reset_leaves q cid rs = all_reset (λ r. Unit {0}) (NotIn is_submitted q cid) (λ r io any at. lost_quiet r) rs (all_of (λ r. Unit {0}) rs (λ r within. tt))
 
 end_leaves : (s : State) (e : Event) (reply : Reply) (q cid : ℕ) → Accepts s e reply → Stood s → (q == 0) ≡ false → ends_by q cid s e reply ≡ true → AllByRecursion (NotIn is_submitted q cid) (a.after s e reply).host.records
-end_leaves s (events.Reap k) (events.Reaps (Done c st)) q cid ok stood other is =
-    let ids = and_parts (k == q) (c == cid) is in
-    subst (λ (n : ℕ). AllByRecursion (NotIn is_submitted n cid) (a.after_reap k (Done c st) s).host.records) (eqb-true k q ids.0)
-    (subst (λ (n : ℕ). AllByRecursion (NotIn is_submitted k n) (a.after_reap k (Done c st) s).host.records) (eqb-true c cid ids.1)
-    (reap_leaves s k c st stood (ap (λ (n : ℕ). n == 0) (eqb-true k q ids.0) ∙ other) (ap named (sym ok.1))))
+end_leaves s (events.Reap k) (events.Reaps (Done c st)) q cid ok stood other is = grind (arith, eqb-true, reap_leaves, named)
 end_leaves s (events.Retire k) events.Accepted q cid ok stood other is =
     subst (λ (n : ℕ). AllByRecursion (NotIn is_submitted n cid) (a.after_retire k s).host.records) (eqb-true k q (and_parts (k == q) (record_is (λ r. is_submitted r.phase) s q cid) is).0) (retire_leaves s k cid)
 end_leaves s events.Reset events.Accepted q cid ok stood other is = reset_leaves q cid s.host.records
@@ -650,10 +569,7 @@ end_leaves s e reply q cid ok stood other is = absurd (true≢false (sym is))
 
 -- and before it, it was submitted
 end_finds : (s : State) (e : Event) (reply : Reply) (q cid : ℕ) → Accepts s e reply → ends_by q cid s e reply ≡ true → (r : Record) × (record_at s.host q cid ≡ Some r) × (is_submitted r.phase ≡ true)
-end_finds s (events.Reap k) (events.Reaps (Done c st)) q cid ok is =
-    let ids = and_parts (k == q) (c == cid) is in
-    let x = reaped_submitted s k c (ap named (sym ok.1)) in
-    (x.0, subst (λ (n : ℕ). record_at s.host n cid ≡ Some x.0) (eqb-true k q ids.0) (subst (λ (n : ℕ). record_at s.host k n ≡ Some x.0) (eqb-true c cid ids.1) x.1), x.2)
+end_finds s (events.Reap k) (events.Reaps (Done c st)) q cid ok is = grind (arith, reaped_submitted, named, eqb-true)
 end_finds s (events.Retire k) events.Accepted q cid ok is = found (λ r. is_submitted r.phase) s q cid (and_parts (k == q) (record_is (λ r. is_submitted r.phase) s q cid) is).1
 end_finds s events.Reset events.Accepted q cid ok is = found (λ r. is_submitted r.phase) s q cid is
 end_finds s e reply q cid ok is = absurd (true≢false (sym is))
@@ -684,47 +600,22 @@ lives_later : IsLater lives
 lives_later = record { drafted = refl; submitted = refl; collected = refl }
 
 collect_leaves : (s : State) (q cid : ℕ) (f : FinishedContents) → option_and_then (finished_from s) (record_at s.host q cid) ≡ Some f → AllByRecursion (NotIn lives q cid) (a.after_collect q cid s).host.records
-collect_leaves s q cid f h = go (record_at s.host q cid) h
-  where
-    none_some : {x : FinishedContents} → None ≡ Some x → ⊥
-    none_some e = cc
-
-    go : (o : Option Record) → option_and_then (finished_from s) o ≡ Some f → AllByRecursion (NotIn lives q cid) (option_map_or (λ r. a.on_records (with_record q cid a.collected) (a.on_memory (without_pages (pages_of r)) s)) o s).host.records
-    go None h = absurd (none_some h)
-    go (Some r) h = not_with lives q cid a.collected (λ x. refl) s.host.records
+collect_leaves s q cid f h = elim (option_is (record_at s.host q cid)) [
+  | inl e ↦ rw e (absurd (cc ((rw e at h))))
+  | inr (r, e) ↦ rw e (not_with lives q cid a.collected (λ x. refl) s.host.records)
+]
 
 collects_leave : (first : Made) (mid : State) (q cid : ℕ) (f : FinishedContents) → Step first.before first.event first.reply mid → first.before.trusted ≡ true → mid.trusted ≡ true
     → first.event ≡ events.Collect q cid → first.reply ≡ events.Collects f → AllByRecursion (NotIn lives q cid) mid.host.records
-collects_leave first mid q cid f step t t' is_event is_reply =
-    trusted_step_by (λ (e : Event) (reply : Reply) (new : State). e ≡ events.Collect q cid → reply ≡ events.Collects f → AllByRecursion (NotIn lives q cid) new.host.records) first.before
-    (λ e why touched is is'. not_refused why touched (events.Collects f) is' refl)
-    (λ e reply proper ok is is'.
-    let s = first.before in
-    let ok' : Accepts s (events.Collect q cid) (events.Collects f) = subst (Accepts s (events.Collect q cid)) is' (subst (λ (x : Event). Accepts s x reply) is ok) in
-    subst (λ (x : Event). AllByRecursion (NotIn lives q cid) (a.after s x reply).host.records) (sym is)
-    (subst (λ (x : Reply). AllByRecursion (NotIn lives q cid) (a.after s (events.Collect q cid) x).host.records) (sym is') (collect_leaves s q cid f ok'.1)))
-    first.event first.reply mid step t t' is_event is_reply
+collects_leave first mid q cid f step t t' is_event is_reply = grind (arith, trusted_step_by, not_refused, collect_leaves)
 
 -- what a collect finds
 collect_finds : (s next : State) (q cid : ℕ) (f : FinishedContents) → Step s (events.Collect q cid) (events.Collects f) next → s.trusted ≡ true → (r : Record) × (record_at s.host q cid ≡ Some r) × (lives r.phase ≡ true)
-collect_finds s next q cid f step t =
-    let ok = permitted _ s.trusted true t step.1 in
-    found (λ r. is_submitted r.phase || is_held r.phase) s q cid
-    (not-false _ (first_fails (not (record_is (λ r. is_submitted r.phase || is_held r.phase) s q cid)) refusal.Stranger ((record_is (λ r. is_submitted r.phase) s q cid, refusal.NotYet) ∷ []) ok.0))
+collect_finds s next q cid f step t = grind (arith, permitted, found, first_fails)
 
 -- a command that is collected is of an I/O queue
 collect_io : (s next : State) (q cid : ℕ) (f : FinishedContents) → Stood s → Step s (events.Collect q cid) (events.Collects f) next → s.trusted ≡ true → (q == 0) ≡ false
-collect_io s next q cid f stood step t =
-    let ok = permitted _ s.trusted true t step.1 in
-    let r = collect_finds s next q cid f step t in
-    of_work r.0 r.1 r.0.work refl (all_at_found (λ r. OwnsFit r.q r.work (pages_of r)) (is_at q cid) s.host.records r.0 r.1 stood.grounds.stands.0.admins) (sym (ap (option_and_then (finished_from s)) r.1) ∙ ok.1)
-  where
-    none_some : {x : FinishedContents} → None ≡ Some x → ⊥
-    none_some e = cc
-
-    of_work : (r : Record) → record_at s.host q cid ≡ Some r → (w : Work) → r.work ≡ w → OwnsFit r.q w (pages_of r) → finished_from s r ≡ Some f → (q == 0) ≡ false
-    of_work r at (Io request) is fit e = ap (λ (x : ℕ). x == 0) (sym (ids_of s q cid r at).0) ∙ fit
-    of_work r at (Management adm) is fit e = absurd (none_some (sym (ap (λ (w : Work). option_and_then (λ asked. option_map (λ st. record { q = r.q; cid = r.cid; request = asked; status = st; data_pages = pages_with_bytes s.memory r.data_pages; chain_pages = pages_with_bytes s.memory r.chain_pages }) r.status) (asked_by w)) is) ∙ e))
+collect_io s next q cid f stood step t = grind (arith, permitted, collect_finds, all_at_found, ids_of)
 
 pub runs_collect_once : commands_are_collected_once
 runs_collect_once image earlier first between second later end q cid f f' run is_event is_reply is_event' is_reply' =

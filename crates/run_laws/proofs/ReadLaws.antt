@@ -1,20 +1,20 @@
 -- The laws of ends and of Reads.
 use Rattle.machine_model.specs.declared.words.Refusal.TheVariants as refusal
 use Rattle.machine_model.specs.Events as events
-use Rattle.std.proofs.Common.{◌≡◌, ◌⊎◌, inl, inr, ℕ, ◌==◌, nat_lt, Bool, true, false, not, ◌&&◌, ◌||◌, Option, Some, None, List, [], ◌∷◌, ◌++◌, option_and_then, refl, ap, ap₂, sym, ◌∙◌, arith, subst, eqb-true, zero, suc, length, replicate, if◌then◌else◌, eq-eqb}
-use Rattle.std.proofs.lemmas.Bool.{true≢false, and_parts, not-false, or_parts, or_left, or_right, not-true, Decides.nat_tests}
+use Rattle.std.proofs.Common.{◌≡◌, ◌⊎◌, inl, inr, ℕ, ◌==◌, nat_lt, Bool, true, false, not, ◌&&◌, ◌||◌, Option, Some, None, List, [], ◌∷◌, ◌++◌, option_and_then, refl, ap, ap₂, sym, ◌∙◌, arith, subst, eqb-true, zero, suc, length, replicate, eq-eqb}
+use Rattle.std.proofs.lemmas.Bool.{true≢false, and_parts, not-false, or_left, or_right, not-true, Decides.nat_tests}
 use Rattle.std.{proofs.lemmas.List.{append_assoc, length-replicate}, specs.{List.{list_any, AllByRecursion}, Option.{option_map_or, option_map}}}
-use Rattle.entry_codec.specs.declared.{completion.ComEntry.ComEntry, status.Status.Status}
+use Rattle.entry_codec.specs.declared.{status.Status.Status}
 use Rattle.entry_codec.specs.declared.status.TheConstants.Status.{SUCCESS, ABORT_REQUESTED, ABORTED_SQ_DELETION, LBA_OUT_OF_RANGE, COMPARE_FAILURE}
 use Rattle.io_commands.specs.{Asked.Request, DataBytes.{PagesOut, gathered}, Drafts.DraftContents, Jobs.is_success, Requests.parts_of}
 use Rattle.io_commands.specs.{Values.{FinishedContents, numbers_of}, declared.request.Kind.TheVariants.Read}
 use Rattle.machine_model.proofs.{Cases.option_is, HostLeaves.ids_of, Sound.{named, status_in}, Steps.{Accepts, permitted, first_fails, rest_fails}}
 use Rattle.machine_model.specs.{Claims.OwnsFit, Events.{Event, Reply}, Image.{Made, draft_of, image_after, undiscarded}}
-use Rattle.machine_model.specs.{Refusals.{is_submitted, is_held, record_is, entry_of, refusal_of}, State.{State, Record, is_at, record_at, pages_of}}
-use Rattle.machine_model.specs.{Status.same_status, Step.{Step, reaped_entry, finished_from, asked_by, pages_with_bytes}, Trusted.{TrustedRun, drafts_of}}
-use Rattle.machine_model.specs.{Work.Work, declared.words.{Phase.Phase, Reaped.TheVariants.{Empty, Done}, Work.TheVariants.{Io, Management}}}
+use Rattle.machine_model.specs.{Refusals.{is_submitted, is_held, record_is, refusal_of}, State.{State, Record, is_at, record_at, pages_of}}
+use Rattle.machine_model.specs.{Status.same_status, Step.{Step, asked_by, pages_with_bytes}, Trusted.{TrustedRun, drafts_of}}
+use Rattle.machine_model.specs.{Work.Work, declared.words.{Phase.Phase, Reaped.TheVariants.{Done}, Work.TheVariants.{Io, Management}}}
 use Rattle.run_laws.proofs.{Carrying.{Gathers, Stands, gathers_pieces, all_stand, some_stand}, Causes.statuses_have_causes}
-use Rattle.run_laws.proofs.EndsTold.{DeletedSince, CompletedIn, EndedIn, AnswerTold, HeldTold, Told, told_carried, told_at_opening, deleted_before, first_told}
+use Rattle.run_laws.proofs.EndsTold.{DeletedSince, CompletedIn, EndedIn, HeldTold, Told, told_carried, told_at_opening, deleted_before, first_told}
 use Rattle.run_laws.proofs.{Images.imaged_before, Moves.told_entry}
 use Rattle.run_laws.proofs.ReadsKept.{Images, fetched_in, read_targets, read_blocks, ReadSoFar, ReadIfIo, ReadRecord, Member, members, sized_of, targets_length, blocks_length}
 use Rattle.run_laws.proofs.ReadsWalked.{ReadsSo, images_of, images_append, reads_before}
@@ -51,12 +51,7 @@ above q h = grind (arith, nat_tests, h)
 -- Reaping
 
 reap_told : (done : List Made) (s next : State) (q cid : ℕ) (st : Status) → Step s (events.Reap q) (events.Reaps (Done cid st)) next → s.trusted ≡ true → (q == 0) ≡ false → Told done s → CompletedIn done q cid st
-reap_told done s next q cid st step t other h =
-    let ok = permitted _ s.trusted true t step.1 in
-    let an = reaped_answer s q cid t (ap named (sym ok.1)) in
-    let told = first_told (AnswerTold done q) s.device.queues q an.0 an.1 (h.answers q other) in
-    let status : an.0.status ≡ st = told_entry s q (entry_of q an.0) st (sym (ap (λ (o : Option ComEntry). status_in (option_map_or (reaped_entry s q) o Empty)) an.3) ∙ ap status_in (sym ok.1)) in
-    subst (λ (x : ℕ). CompletedIn done q x st) an.2 (subst (CompletedIn done q an.0.cid) status told)
+reap_told done s next q cid st step t other h = grind (arith, permitted, reaped_answer, named, first_told, told_entry, status_in)
 
 pub runs_end_by_completions : ends_come_from_completions
 runs_end_by_completions image earlier later m end q cid st run io is_event is_reply =
@@ -67,10 +62,7 @@ runs_end_by_completions image earlier later m end q cid st run io is_event is_re
 -- Retiring
 
 retire_told : (done : List Made) (s next : State) (e : Event) (reply : Reply) (q : ℕ) → Step s e reply next → s.trusted ≡ true → Told done s → retires_by q e reply ≡ true → DeletedSince q done
-retire_told done s next (events.Retire k) events.Accepted q step t h is =
-    let ok = permitted _ s.trusted true t step.1 in
-    let same : k ≡ q = eqb-true k q is in
-    subst (λ (n : ℕ). DeletedSince n done) same (deleted_before done s k h.stood h.gone ok.0)
+retire_told done s next (events.Retire k) events.Accepted q step t h is = grind (arith, permitted, eqb-true, deleted_before)
 retire_told done s next e reply q step t h is = absurd (true≢false (sym is))
 
 pub runs_retire_deleted : retired_queues_were_deleted
@@ -88,7 +80,11 @@ record CollectTold (done : List Made) (q cid : ℕ) (st : Status) : Type 0 where
   ended : EndedIn done q cid st
 
 collect_told : (done : List Made) (s next : State) (q cid : ℕ) (f : FinishedContents) → Step s (events.Collect q cid) (events.Collects f) next → s.trusted ≡ true → Told done s → CollectTold done q cid f.status
-collect_told done s next q cid f step t h = go (record_at s.host q cid) refl (not-false _ there) sent ok.1
+collect_told done s next q cid f step t h = elim (option_is (record_at s.host q cid)) [
+  | inl at ↦ absurd (true≢false (sym (rw at at (not-false _ there))))
+  | inr (r, at) ↦
+      of_work r at (only_held r.phase (rw at at (not-false _ there)) (rw at at sent)) r.work refl (all_at_found (λ r. OwnsFit r.q r.work (pages_of r)) (is_at q cid) s.host.records r at h.stood.grounds.stands.0.admins) (rw at at ok.1)
+]
   where
     ok : Accepts s (events.Collect q cid) (events.Collects f)
     ok = permitted _ s.trusted true t step.1
@@ -112,12 +108,6 @@ collect_told done s next q cid f step t h = go (record_at s.host q cid) refl (no
         }
     of_work r at held (Management adm) is fit e = absurd cc
 
-    go : (o : Option Record) → record_at s.host q cid ≡ o → option_map_or (λ r. is_submitted r.phase || is_held r.phase) o false ≡ true → option_map_or (λ r. is_submitted r.phase) o false ≡ false → option_and_then (finished_from s) o ≡ Some f
-        → CollectTold done q cid f.status
-    go None at e g k = absurd (true≢false (sym e))
-    go (Some r) at e g k =
-        of_work r at (only_held r.phase e g) r.work refl (all_at_found (λ r. OwnsFit r.q r.work (pages_of r)) (is_at q cid) s.host.records r at h.stood.grounds.stands.0.admins) k
-
 collect_at : (image : List ℕ) (earlier later : List Made) (m : Made) (end : State) (q cid : ℕ) (f : FinishedContents) → TrustedRun image (earlier ++ m ∷ later) end
     → m.event ≡ events.Collect q cid → m.reply ≡ events.Collects f → CollectTold earlier q cid f.status
 collect_at image earlier later m end q cid f run is_event is_reply =
@@ -126,14 +116,12 @@ collect_at image earlier later m end q cid f run is_event is_reply =
     collect_told earlier m.before b.next q cid f step b.trusted b.holds
 
 pub runs_tell_ends : collects_tell_how_commands_ended
-runs_tell_ends image earlier later m end q cid f run is_event is_reply = go told.ended
-  where
-    told : CollectTold earlier q cid f.status
-    told = collect_at image earlier later m end q cid f run is_event is_reply
-
-    go : EndedIn earlier q cid f.status → WasCompleted earlier q cid f.status ⊎ WasLost earlier q cid f.status ⊎ WasLostByReset earlier q cid f.status
-    go (inl c) = inl (with_cause image earlier later m end q cid f.status run (above q told.io) c)
-    go (inr c) = inr c
+runs_tell_ends image earlier later m end q cid f run is_event is_reply =
+    let told = collect_at image earlier later m end q cid f run is_event is_reply in
+    elim told.ended [
+      | inl c ↦ inl (with_cause image earlier later m end q cid f.status run (above q told.io) c)
+      | inr c ↦ inr c
+    ]
 
 -- The five statuses
 
@@ -169,17 +157,12 @@ runs_have_causes image earlier later m end q cid f run is_event is_reply = go (r
 
 images_none : (at : Images) (ys : List Made) (q cid : ℕ) → list_any (fetches q cid) ys ≡ false → images_of at ys q cid ≡ at q cid
 images_none at [] q cid h = refl
-images_none at (y ∷ ys) q cid h =
-    let both = or_parts (fetches q cid y) (list_any (fetches q cid) ys) h in
-    images_none (fetched_in y.before y.event y.reply at) ys q cid both.1 ∙ ap (λ (b : Bool). if b then y.before.device.image else at q cid) both.0
+images_none at (y ∷ ys) q cid h = grind (arith, images_none (fetched_in y.before y.event y.reply at) ys q cid, fetched_in)
 
 -- the image of the latest fetch
 image_at_fetch : (at : Images) (before : List Made) (fetched : Made) (between : List Made) (q cid : ℕ) → fetches q cid fetched ≡ true → list_any (fetches q cid) between ≡ false
     → images_of at (before ++ fetched ∷ between) q cid ≡ fetched.before.device.image
-image_at_fetch at before fetched between q cid is none =
-    ap (λ (x : Images). x q cid) (images_append at before (fetched ∷ between))
-    ∙ images_none (fetched_in fetched.before fetched.event fetched.reply (images_of at before)) between q cid none
-    ∙ ap (λ (b : Bool). if b then fetched.before.device.image else images_of at before q cid) is
+image_at_fetch at before fetched between q cid is none = grind (arith, images_append, images_none, fetched_in, images_of)
 
 -- What is collected
 
@@ -201,32 +184,17 @@ found_record : (s : State) (q cid : ℕ) (r : Record) (f : FinishedContents) →
     (λ st. record { q = r.q; cid = r.cid; request = asked; status = st; data_pages = pages_with_bytes s.memory r.data_pages; chain_pages = pages_with_bytes s.memory r.chain_pages })
     o)
     (asked_by w) ≡ Some f → Found s f
-found_record s q cid r f found held (Management adm) w o st e = absurd cc
-found_record s q cid r f found held (Io request) w None st e = absurd cc
 found_record s q cid r f found held (Io request) w (Some v) st e =
     let same = some_is e in
     subst (Found s) same (record { command = r; at_q = q; at_cid = cid; found = found; its_queue = refl; its_id = refl; work = w; status = st; pages = refl; held = held })
+found_record s q cid r f found held x w o st e = absurd cc
 
 -- where a collection is not refused, its command's record is held
 pub held_where_collected : (s : State) (q cid : ℕ) → refusal_of s (events.Collect q cid) ≡ None → (r : Record) → record_at s.host q cid ≡ Some r → is_held r.phase ≡ true
-held_where_collected s q cid none r e =
-    only_held r.phase (sym (ap (λ (o : Option Record). option_map_or (λ r. is_submitted r.phase || is_held r.phase) o false) e) ∙ known) (sym (ap (λ (o : Option Record). option_map_or (λ r. is_submitted r.phase) o false) e) ∙ ended)
-  where
-    known : record_is (λ r. is_submitted r.phase || is_held r.phase) s q cid ≡ true
-    known = not-false _ (first_fails (not (record_is (λ r. is_submitted r.phase || is_held r.phase) s q cid)) refusal.Stranger ((record_is (λ r. is_submitted r.phase) s q cid, refusal.NotYet) ∷ []) none)
-
-    ended : record_is (λ r. is_submitted r.phase) s q cid ≡ false
-    ended = first_fails (record_is (λ r. is_submitted r.phase) s q cid) refusal.NotYet []
-        (rest_fails (not (record_is (λ r. is_submitted r.phase || is_held r.phase) s q cid)) refusal.Stranger ((record_is (λ r. is_submitted r.phase) s q cid, refusal.NotYet) ∷ []) none)
+held_where_collected s q cid none r e = grind (arith, only_held, first_fails, rest_fails)
 
 found_in : (s : State) (e : Event) (reply : Reply) (new : State) (f : FinishedContents) → Step s e reply new → s.trusted ≡ true → collected_of e reply ≡ Some f → Found s f
-found_in s (events.Collect q cid) (events.Collects g) new f step t is = elim (option_is (record_at s.host q cid)) [
-  | inl e ↦ let h = rw e at (ok.1 ∙ is) in absurd cc
-  | inr (r, e) ↦ let h = rw e at (ok.1 ∙ is) in found_record s q cid r f e (held_where_collected s q cid ok.0 r e) r.work refl r.status refl h
-]
-  where
-    ok : (refusal_of s (events.Collect q cid) ≡ None) × (option_and_then (finished_from s) (record_at s.host q cid) ≡ Some g)
-    ok = permitted _ s.trusted true t step.1
+found_in s (events.Collect q cid) (events.Collects g) new f step t is = grind (arith, permitted, found_record, held_where_collected)
 found_in s e reply new f step t is = absurd cc
 
 reads_kind : (f : FinishedContents) → is_read f ≡ true → f.request.kind ≡ Read
@@ -268,7 +236,7 @@ collected_read image before fetched between collected later end f run is reads f
       found = found;
       soFar = subst (ReadIfIo (drafts_of (before ++ fetched ∷ between)) (images_of (λ q cid. image) (before ++ fetched ∷ between)) collected.before found.command) found.work
           (all_at_found (ReadRecord (drafts_of (before ++ fetched ∷ between)) (images_of (λ q cid. image) (before ++ fetched ∷ between)) collected.before) (is_at found.at_q found.at_cid) collected.before.host.records found.command found.found known.holds.reads.records
-          (stays found.command.phase found.held)) (reads_kind f reads);
+          (grind (arith, found.held))) (reads_kind f reads);
       member = all_at_found (Member collected.before) (is_at found.at_q found.at_cid) collected.before.host.records found.command found.found (members collected.before known.holds.traced.stood);
       image_is =
           image_at_fetch (λ q cid. image) before fetched between found.command.q found.command.cid
@@ -277,9 +245,6 @@ collected_read image before fetched between collected later end f run is reads f
           ∙ (imaged_before image before (between ++ collected ∷ later) fetched end (subst (λ (made : List Made). TrustedRun image made end) (append_assoc before (fetched ∷ between) (collected ∷ later)) run)).holds.image_is;
       image_long = known.holds.reads.images found.command.q found.command.cid;
     }
-  where
-    stays : (ph : Phase) → is_held ph ≡ true → (is_submitted ph || is_held ph) ≡ true
-    stays ph h = grind arith
 
 -- its pages hold, byte for byte
 gathers_found : (image : List ℕ) (before : List Made) (fetched : Made) (between : List Made) (f : FinishedContents) (x : CollectedRead image before fetched between f)

@@ -2,16 +2,16 @@
 use Rattle.machine_model.specs.After as a
 use Rattle.machine_model.specs.Events as events
 use Rattle.io_commands.specs.Jobs as jobs
-use Rattle.std.proofs.Common.{◌≡◌, ℕ, suc, ◌+◌, ◌%◌, ◌<◌, ◌≤◌, ◌==◌, Bool, true, false, not, ◌||◌, Some, List, [], ◌∷◌, length, take, slice_get, if◌then◌else◌, refl, ap, sym, ◌∙◌, arith, subst, inl, inr, ◌*◌, ◌/◌, nat_lt, ◌&&◌, Option, None, ◌++◌, drop, is_some, is_none, eqb-true, eq-eqb}
+use Rattle.std.proofs.Common.{◌≡◌, ℕ, suc, ◌+◌, ◌%◌, ◌<◌, ◌≤◌, ◌==◌, Bool, true, false, not, ◌||◌, Some, List, [], ◌∷◌, length, take, slice_get, if◌then◌else◌, refl, ap, sym, ◌∙◌, arith, subst, inl, inr, ◌*◌, ◌/◌, nat_lt, ◌&&◌, Option, None, ◌++◌, is_some, eqb-true, eq-eqb}
 use Rattle.std.{proofs.lemmas.{Bool.{true≢false, cases_Bool, and_parts, and_from, Decides.nat_tests}, Grind.common_steps}, specs.List.AllByRecursion}
-use Rattle.std.specs.{Option.{option_and_then, option_map_or, option_map}, Prelude.unwrap_or}
+use Rattle.std.specs.{Option.{option_and_then, option_map_or}, Prelude.unwrap_or}
 use Rattle.page_ledger.specs.Owners.{is_among}
 use Rattle.block_image.specs.Blocks.{blocks_at}
 use Rattle.page_memory.specs.{Memory.page_of, Pages.{Pages, page_at, byte_at}}
 use Rattle.sgl_descriptor.{proofs.Counts.length-targets, specs.{Spelling.spelling, Targets.{Target, Place, targets, counted_in}, declared.Direction.Direction}}
 use Rattle.sgl_descriptor.specs.declared.Direction.TheVariants.{Destination}
-use Rattle.controller_walk.{proofs.Along.list_moves_all, specs.{Along.MovesByte, Units.{units, Course, first_passing}}}
-use Rattle.entry_codec.specs.declared.status.{Status.Status, TheConstants.Status.{SUCCESS, INVALID_OPCODE, INVALID_FIELD, INVALID_NAMESPACE, LBA_OUT_OF_RANGE}}
+use Rattle.controller_walk.{proofs.Along.list_moves_all, specs.{Along.MovesByte, Units.{units, Course}}}
+use Rattle.entry_codec.specs.declared.status.{Status.Status, TheConstants.Status.{SUCCESS}}
 use Rattle.entry_codec.specs.declared.submission.SubEntry.{SubEntry}
 use Rattle.io_commands.{proofs.Building.carries_entry, specs.{Asked.Request, Drafts.{DraftContents, io_entry}}}
 use Rattle.io_commands.specs.Jobs.{is_success, verdict_of, io_fault, bytes_after_check, need_of_entry, direction_of_entry, direction_by, kind_of_opcode, first_block, block_number}
@@ -19,10 +19,10 @@ use Rattle.io_commands.specs.{Requests.{parts_of, direction_of}, Values.numbers_
 use Rattle.machine_model.proofs.{Cases.none_some, Counting.{held_once, all_at}, Owned.{in_record, in_queue}, Steps.{Accepts, pages_match}, Tokens.find_sound}
 use Rattle.machine_model.specs.{After.{course_of, final_status}, Agreeing.unfetched_count, Claims.OwnsFit, Events.{Event, Reply}}
 use Rattle.machine_model.specs.{Image.{draft_of, submitted_by}, Memory.memory_of, Proper.IsProper}
-use Rattle.machine_model.specs.Refusals.{is_submitted, is_held, is_drafted, next_rung, refusal_of, job_at, is_job}
+use Rattle.machine_model.specs.Refusals.{is_submitted, is_held, next_rung, refusal_of, job_at, is_job}
 use Rattle.machine_model.specs.Standing.{IsSized, StandsAs, CommandStands, unfetched_at, HasEntry}
 use Rattle.machine_model.specs.{State.{State, Record, Job, Answer, is_at, record_at, pages_of, DeviceQueue}, Weights.{total, one}, Work.Work}
-use Rattle.machine_model.specs.declared.words.{Phase.Phase, Work.TheVariants.{Io, Management}}
+use Rattle.machine_model.specs.declared.words.{Work.TheVariants.{Io, Management}}
 use Rattle.run_laws.proofs.Carrying.{Stands, reach, target_in, list_ordered, all_reached, Received, received_still}
 use Rattle.run_laws.proofs.{Causes.{goes_well, none_found, has_verdict}, Images.{entry_kind, entry_block, entry_blocks}}
 use Rattle.run_laws.proofs.Known.{same_draft, submit_record, course_stays, fault_fails}
@@ -127,10 +127,7 @@ queue_of s r request m w = subst (λ (x : Work). OwnsFit r.q x (pages_of r)) w m
 -- the sum over the records that pass a test, and over those that don't
 split : (p : ℕ) (test : Record → Bool) (rs : List Record) → total (λ x. if test x then in_record p x else 0) rs + total (λ x. if test x then 0 else in_record p x) rs ≡ total (in_record p) rs
 split p test [] = refl
-split p test (x ∷ rs) = omega (arith, split p test rs, each (test x))
-  where
-    each : (b : Bool) → (if b then in_record p x else 0) + (if b then 0 else in_record p x) ≡ in_record p x
-    each b = grind arith
+split p test (x ∷ rs) = grind (arith, split p test rs, in_record)
 
 -- a page of a record that passes a test is of none that doesn't
 apart_by : (s : State) → Grounds s → (test : Record → Bool) (r r' : Record) → In r s.host.records → In r' s.host.records → test r ≡ true → test r' ≡ false → (p : ℕ) → is_among (pages_of r) p ≡ true → in_record p r' ≡ 0
@@ -171,9 +168,7 @@ walks_it e r = false
 pub pages_stay : (s : State) (e : Event) (reply : Reply) → Accepts s e reply → Stood s → (r : Record) → In r s.host.records → (is_submitted r.phase || is_held r.phase) ≡ true → takes e r ≡ false → walks_it e r ≡ false
     → (p : ℕ) → is_among r.data_pages p ≡ true → page_at (a.after s e reply).memory p ≡ page_at s.memory p
 pages_stay s e (events.Refused why touched) ok stood r within stays far still p own = refl
-pages_stay s (events.Walk q cid) reply ok stood r within stays far still p own =
-    walk_writes s q cid ok.0 stood p
-    (λ j w. no_data w.list.command p (other_record s stood.grounds q cid r w.list.command within w.list.within still (found_at s q cid w.list.command (walking_at s q cid j w)) p (data_of r p own)))
+pages_stay s (events.Walk q cid) reply ok stood r within stays far still p own = grind (arith, walk_writes, no_data, other_record, found_at, walking_at, data_of)
 pages_stay s e reply ok stood r within stays far still p own =
     untouched_kept s e reply ok refl stood.grounds p (kept_record s stood.grounds r within stays p (data_of r p own))
     (λ q cid r0 is at. other_record s stood.grounds q cid r r0 within (in_found (is_at q cid) s.host.records r0 at) (subst (λ (x : Event). takes x r ≡ false) is far) (found_at s q cid r0 at) p (data_of r p own))
@@ -190,19 +185,7 @@ places_stay m m' r request sized same i p target =
 
 -- no draft of it is submitted
 pub no_draft : (s : State) (e : Event) (reply : Reply) → Accepts s e reply → (r : Record) → Member s r → (is_submitted r.phase || is_held r.phase) ≡ true → (d : DraftContents) → e ≡ events.Submit d → ((d.q == r.q) && (d.cid == r.cid)) ≡ false
-no_draft s e reply ok r m stays d is = go ((d.q == r.q) && (d.cid == r.cid)) refl
-  where
-    quiet : (ph : Phase) → is_drafted ph ≡ true → (is_submitted ph || is_held ph) ≡ false
-    quiet ph e = grind arith
-
-    go : (b : Bool) → ((d.q == r.q) && (d.cid == r.cid)) ≡ b → ((d.q == r.q) && (d.cid == r.cid)) ≡ false
-    go false e = e
-    go true e =
-        let ids = and_parts (d.q == r.q) (d.cid == r.cid) e in
-        let x = submit_record s d (subst (λ (x : Event). refusal_of s x ≡ None) is ok.0) in
-        let same : r ≡ x.0 = m.only d.q d.cid x.0 x.1 (and_from (r.q == d.q) (r.cid == d.cid) (eq-eqb r.q d.q (sym (eqb-true d.q r.q ids.0))) (eq-eqb r.cid d.cid (sym (eqb-true d.cid r.cid ids.1)))) in
-        let drafted = (pages_match is_drafted d.request d.data_pages d.chain_pages x.0 x.2).1 in
-        absurd (true≢false (sym stays ∙ ap (λ (y : Record). is_submitted y.phase || is_held y.phase) same ∙ quiet x.0.phase drafted))
+no_draft s e reply ok r m stays d is = grind (arith, submit_record, and_from, eq-eqb, eqb-true, pages_match)
 
 -- where an entry of it is in hand, it is submitted
 pub in_hand_sent : (s : State) → Stood s → (r : Record) → Member s r → (q : ℕ) (e : SubEntry) → InHand s q e → q ≡ r.q → e.cid ≡ r.cid → is_submitted r.phase ≡ true
@@ -219,23 +202,11 @@ in_hand_sent s stood r m q e hand sq sc =
 
 -- and nothing of it was read yet
 in_hand_unread : (s : State) (r : Record) (k q : ℕ) (e : SubEntry) → InHand s q e → q ≡ r.q → e.cid ≡ r.cid → AllByRecursion (UnreadEntry r k) (list_at (λ at. at.unfetched) s.device.queues r.q) → k ≡ 0
-in_hand_unread s r k q e hand sq sc all =
-    let here : AllByRecursion (UnreadEntry r k) hand.queue.unfetched =
-    subst (λ (o : Option DeviceQueue). AllByRecursion (UnreadEntry r k) (option_map_or (λ at. at.unfetched) o [])) hand.at (subst (λ (n : ℕ). AllByRecursion (UnreadEntry r k) (list_at (λ at. at.unfetched) s.device.queues n)) (sym sq) all) in
-    (subst (λ (xs : List SubEntry). AllByRecursion (UnreadEntry r k) xs) (first_is hand.queue.unfetched e hand.first) here).0 sc
+in_hand_unread s r k q e hand sq sc all = grind (arith, list_at, first_is)
 
 -- a fetch of its identifier is of its entry
 pub fetch_hand : (s : State) (e : Event) (reply : Reply) → Accepts s e reply → (q cid : ℕ) → fetches_by q cid e reply ≡ true → (entry : SubEntry) × InHand s q entry × (entry.cid ≡ cid) × (e ≡ events.Fetch q)
-fetch_hand s (events.Fetch q') (events.Fetched c touched) ok q cid is = go (next_rung s q') refl ok.1.0
-  where
-    ids : ((q' == q) ≡ true) × ((c == cid) ≡ true)
-    ids = and_parts (q' == q) (c == cid) is
-
-    go : (o : Option SubEntry) → next_rung s q' ≡ o → option_map (λ (x : SubEntry). x.cid) o ≡ Some c → (entry : SubEntry) × InHand s q entry × (entry.cid ≡ cid) × (events.Fetch q' ≡ events.Fetch q)
-    go None r h = absurd cc
-    go (Some entry) r h =
-        let same : entry.cid ≡ c = some_is h in
-        (entry, subst (λ (n : ℕ). InHand s n entry) (eqb-true q' q ids.0) (in_hand s q' entry r), same ∙ eqb-true c cid ids.1, ap events.Fetch (eqb-true q' q ids.0))
+fetch_hand s (events.Fetch q') (events.Fetched c touched) ok q cid is = grind (arith, some_is, eqb-true, in_hand)
 fetch_hand s e reply ok q cid is = absurd (true≢false (sym is))
 
 -- The image at its fetch
@@ -252,20 +223,14 @@ own_image s e reply at q cid is = ap (λ (b : Bool). if b then s.device.image el
 pub job_request : (s : State) (r : Record) (request : Request) → Member s r → r.work ≡ Io request → (j : Job) (l : JobList s j) → j.q ≡ r.q → j.entry.cid ≡ r.cid → (r ≡ l.command) × (l.request ≡ request)
 job_request s r request m w j l sq sc =
     let same : r ≡ l.command = m.only j.q j.entry.cid l.command l.found (and_from (r.q == j.q) (r.cid == j.entry.cid) (eq-eqb r.q j.q (sym sq)) (eq-eqb r.cid j.entry.cid (sym sc))) in
-    (same, asked (sym l.work ∙ ap (λ (x : Record). x.work) (sym same) ∙ w))
-  where
-    asked : {x y : Request} → Io x ≡ Io y → x ≡ y
-    asked e = cc
+    (same, (cc (sym l.work ∙ ap (λ (x : Record). x.work) (sym same) ∙ w)))
 
 -- the entry of a Read
 entry_reads : (cid : ℕ) (request : Request) (sgl1 : List ℕ) → request.kind ≡ Read → kind_of_opcode (io_entry cid request sgl1).opcode ≡ Some Read
 entry_reads cid request sgl1 kind = entry_kind cid request sgl1 ∙ ap (λ (k : Kind). Some k) kind
 
 pub blocks_length : (image : List ℕ) (slba n : ℕ) → slba + n ≤ length image / 512 → length (blocks_at image slba n) ≡ 512 * n
-blocks_length image slba n h = cut image (omega (arith, h))
-  where
-    cut : (xs : List ℕ) → 512 * slba + 512 * n ≤ length xs → length (take (512 * n) (drop (512 * slba) xs)) ≡ 512 * n
-    cut xs h = grind (arith, common_steps, h)
+blocks_length image slba n h = grind (arith, common_steps)
 
 -- how many targets a Read has
 pub targets_length : (s : State) (r : Record) (request : Request) → Member s r → r.work ≡ Io request → request.kind ≡ Read → length (read_targets r request) ≡ 512 * request.blocks
@@ -289,12 +254,6 @@ begun_reading s t at r request m w kind q e sgl1 is image k none same well = go 
     count : block_number e ≡ request.blocks
     count = ap block_number is ∙ entry_blocks r.cid request sgl1 (sized_of s r request m w).good
 
-    in_range : io_fault (a.image_blocks s) e ≡ None → nat_lt (a.image_blocks s) (first_block e + block_number e) ≡ false
-    in_range f = last (is_none (kind_of_opcode e.opcode)) (not (e.nsid == 1)) (not (e.fuse == 0) || not (e.psdt == 1)) (nat_lt 2048 (block_number e)) (nat_lt (a.image_blocks s) (first_block e + block_number e)) f
-      where
-        last : (a b c d f : Bool) → first_passing ((a, INVALID_OPCODE) ∷ (b, INVALID_NAMESPACE) ∷ (c, INVALID_FIELD) ∷ (d, INVALID_FIELD) ∷ (f, LBA_OUT_OF_RANGE) ∷ []) ≡ None → f ≡ false
-        last a b c d f h = grind arith
-
     at_most : (b n : ℕ) → nat_lt b n ≡ false → n ≤ b
     at_most b n h = grind (arith, nat_tests, h)
 
@@ -309,9 +268,9 @@ begun_reading s t at r request m w kind q e sgl1 is image k none same well = go 
     go None f well = record {
       bytes = bytes;
       long = ap length (ap (jobs.first_bytes s.device.image e) reads)
-          ∙ blocks_length s.device.image (first_block e) (block_number e) (at_most (a.image_blocks s) (first_block e + block_number e) (in_range f))
+          ∙ blocks_length s.device.image (first_block e) (block_number e) (at_most (a.image_blocks s) (first_block e + block_number e) (grind (arith, f)))
           ∙ ap (λ (n : ℕ). 512 * n) count ∙ sym (targets_length s r request m w kind);
-      inside = omega (arith, at_most (a.image_blocks s) (first_block e + block_number e) (in_range f), first, count, same);
+      inside = omega (arith, at_most (a.image_blocks s) (first_block e + block_number e) (grind (arith, f)), first, count, same);
       came = none;
       over = λ st v. absurd (none_some v);
     }
@@ -393,18 +352,9 @@ quiet_jobs s e reply r request x drafts at h sub = record {
 }
   where
     fetches : (s : State) (e : Event) (reply : Reply) → Accepts s e reply → (q : ℕ) (entry : SubEntry) → e ≡ events.Fetch q → next_rung s q ≡ Some entry → q ≡ r.q → entry.cid ≡ r.cid → fetches_by r.q r.cid e reply ≡ true
-    fetches s (events.Fetch q') (events.Fetched c touched) ok q entry is next sq sc =
-        let same : q' ≡ q = its_queue is in
-        let c' : Some entry.cid ≡ Some c = ap (option_map (λ (y : SubEntry). y.cid)) (sym (subst (λ (n : ℕ). next_rung s n ≡ Some entry) (sym same) next)) ∙ ok.1.0 in
-        and_from (q' == r.q) (c == r.cid) (eq-eqb q' r.q (same ∙ sq)) (eq-eqb c r.cid (sym (some_is c') ∙ sc))
-      where
-        its_queue : {x y : ℕ} → events.Fetch x ≡ events.Fetch y → x ≡ y
-        its_queue e = cc
+    fetches s (events.Fetch q') (events.Fetched c touched) ok q entry is next sq sc = grind (arith, and_from, eq-eqb, some_is)
     fetches s (events.Fetch q') reply ok q entry is next sq sc = absurd ok.1
-    fetches s e reply ok q entry is next sq sc = absurd (not_fetch is)
-      where
-        not_fetch : e ≡ events.Fetch q → ⊥
-        not_fetch is = cc
+    fetches s e reply ok q entry is next sq sc = grind arith
 
 quiet_entries : (s : State) (e : Event) (reply : Reply) (r : Record) (request : Request) (x : Quiet s e reply r request) (k : ℕ)
     → QueueMove (λ at. at.unfetched) (UnreadEntry r k) r.q s e
@@ -451,7 +401,16 @@ quiet_answers s e reply r request x drafts at h sub = record {
     answered : (cid : ℕ) (j : Job) → e ≡ events.Complete r.q cid → job_at s r.q cid ≡ Some j → cid ≡ r.cid → is_success (a.final_status s j) ≡ true → (o : Option Status) → j.verdict ≡ o → Full (read_targets r request) h.k × InImage (a.after s e reply) request
     answered cid j is found same ok None v =
         absurd (true≢false (sym (has_verdict s r.q cid j (subst (λ (y : Event). refusal_of s y ≡ None) is x.ok.0) found) ∙ ap is_some v))
-    answered cid j is found same ok (Some v) verdict = go (is_success v) refl
+    answered cid j is found same ok (Some v) verdict = elim (cases_Bool (is_success v)) [
+      | inl well ↦
+          let reading = all_at_found (ReadingIf at s r request h.k) (is_job r.q cid) s.device.jobs j found (h.jobs sub) sq sc (ap goes_well verdict ∙ well) in (
+            all_came s x.stood at r request x.member x.work x.kind h.k j
+                (job_list s x.stood j (in_found (is_job r.q cid) s.device.jobs j found) other (λ P all. all_at_found P (is_job r.q cid) s.device.jobs j found all)) sq sc v verdict reading,
+            omega (arith, reading.inside, x.image),
+          )
+      | inr failed ↦
+          absurd (true≢false (sym ok ∙ ap is_success (final ∙ ap (λ (b : Bool). if b then jobs.status_by s.device.image j.entry j.bytes (kind_of_opcode j.entry.opcode) else v) failed) ∙ failed))
+    ]
       where
         ids : ((j.q == r.q) ≡ true) × ((j.entry.cid == cid) ≡ true)
         ids = and_parts (j.q == r.q) (j.entry.cid == cid) (find_sound (is_job r.q cid) s.device.jobs j found)
@@ -467,16 +426,6 @@ quiet_answers s e reply r request x drafts at h sub = record {
 
         final : final_status s j ≡ (if is_success v then jobs.status_by s.device.image j.entry j.bytes (kind_of_opcode j.entry.opcode) else v)
         final = ap (λ (b : Bool). if b then unwrap_or j.verdict SUCCESS else jobs.status_after s.device.image j.entry j.bytes j.verdict) other ∙ ap (jobs.status_after s.device.image j.entry j.bytes) verdict
-
-        go : (b : Bool) → is_success v ≡ b → Full (read_targets r request) h.k × InImage (a.after s e reply) request
-        go true well =
-            let reading = all_at_found (ReadingIf at s r request h.k) (is_job r.q cid) s.device.jobs j found (h.jobs sub) sq sc (ap goes_well verdict ∙ well) in (
-              all_came s x.stood at r request x.member x.work x.kind h.k j
-                  (job_list s x.stood j (in_found (is_job r.q cid) s.device.jobs j found) other (λ P all. all_at_found P (is_job r.q cid) s.device.jobs j found all)) sq sc v verdict reading,
-              omega (arith, reading.inside, x.image),
-            )
-        go false failed =
-            absurd (true≢false (sym ok ∙ ap is_success (final ∙ ap (λ (b : Bool). if b then jobs.status_by s.device.image j.entry j.bytes (kind_of_opcode j.entry.opcode) else v) failed) ∙ failed))
 
 -- so it is known after the event, as far
 pub quiet_on : (s : State) (e : Event) (reply : Reply) (r : Record) (request : Request) (x : Quiet s e reply r request) → takes e r ≡ false → (drafts : List DraftContents) (at : Images) (h : ReadSoFar drafts at s r request)

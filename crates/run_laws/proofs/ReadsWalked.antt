@@ -1,24 +1,23 @@
 -- The same along walks and runs.
 use Rattle.machine_model.specs.After as a
 use Rattle.machine_model.specs.Events as events
-use Rattle.machine_model.specs.declared.words.Reaped.TheVariants as outcome
 use Rattle.std.proofs.Common.{◌≡◌, ℕ, zero, suc, ◌+◌, ◌/◌, ◌%◌, ◌<◌, ◌≤◌, ◌==◌, Bool, true, false, ◌&&◌, Some, None, List, [], ◌∷◌, length, take, drop, slice_get, if◌then◌else◌, refl, ap, sym, ◌∙◌, arith, subst, eqb-true, eq-eqb, inl, inr, nat_eq, ◌||◌, Option, ◌++◌}
 use Rattle.std.{proofs.lemmas.{Bool.{true≢false, and_parts, and_from, eqb-false, cases_Bool}, Grind.common_steps}, specs.Cmp.Lexicographic.pointwise}
 use Rattle.std.specs.{List.AllByRecursion, Option.{option_and_then, option_map_or}}
 use Rattle.machine_model.proofs.{Cases.option_is, Counting.times-append, HostLeaves.ids_of, Moves.{named, status_in}, Owned.in_record, Sound.reaped_submitted}
 use Rattle.machine_model.{proofs.{Steps.{Accepts, pages_match, same_lists}, Tokens.find_sound}, specs.After.course_of}
-use Rattle.machine_model.specs.{Agreeing.{on_queue, is_out_of_service_at as past_at, unfetched_count, job_weight, answers_at}, Events.{Event, Reply}}
+use Rattle.machine_model.specs.{Agreeing.{is_out_of_service_at as past_at, unfetched_count, job_weight, answers_at}, Events.{Event, Reply}}
 use Rattle.machine_model.specs.{Image.{Made, submitted_by}, Memory.{memory_of, with_pages}, Proper.IsProper}
-use Rattle.machine_model.specs.Refusals.{is_submitted, refusal_of, job_at, is_job, is_drafted, is_held, is_of, asks_for, entry_of, first_answer, device_queue}
+use Rattle.machine_model.specs.Refusals.{is_submitted, refusal_of, job_at, is_job, is_drafted, is_held, is_of, asks_for, first_answer}
 use Rattle.machine_model.specs.{Standing.unfetched_at, State.{State, DeviceQueue, Record, Job, is_at, Answer, record_at, with_record}}
-use Rattle.machine_model.specs.{Step.{reaped, reaped_entry}, Trusted.{TrustedRun, drafts_of}, Weights.{one, total, here, sent}, Work.Work}
-use Rattle.machine_model.specs.declared.words.{Phase.{Phase, TheVariants.Held}, Refusal.Refusal, Work.TheVariants.{Io, Management}}
+use Rattle.machine_model.specs.{Step.{reaped}, Trusted.{TrustedRun, drafts_of}, Weights.{one, total, here, sent}, Work.Work}
+use Rattle.machine_model.specs.declared.words.{Phase.{TheVariants.Held}, Refusal.Refusal, Work.TheVariants.{Io, Management}}
 use Rattle.page_ledger.specs.Owners.{is_among}
 use Rattle.page_memory.specs.Pages.{Pages, page_at, with_bytes, with_page_bytes}
 use Rattle.sgl_descriptor.specs.{Spelling.{spelling, descriptor_of}, Targets.{Target, Place, targets}, declared.Direction.{Direction, TheVariants.Destination}}
 use Rattle.controller_walk.{proofs.Along.{list_moves_along, list_moves_all}, specs.Along.{MovesByte, taken}}
-use Rattle.controller_walk.specs.{Units.{Act, Stays, Reads, Moves, Course, Closes, Does, units}, declared.walk.WalkState.WalkState}
-use Rattle.entry_codec.specs.declared.{completion.ComEntry.ComEntry, status.{Status.Status, TheConstants.Status.ABORTED_SQ_DELETION}}
+use Rattle.controller_walk.specs.{Units.{Act, Stays, Reads, Moves, Course, Does, units}, declared.walk.WalkState.WalkState}
+use Rattle.entry_codec.specs.declared.{status.{Status.Status, TheConstants.Status.ABORTED_SQ_DELETION}}
 use Rattle.entry_codec.specs.declared.submission.SubEntry.{SubEntry}
 use Rattle.io_commands.specs.{Asked.Request, Drafts.DraftContents, Jobs.{need_of_entry, direction_of_entry, is_success}, Requests.{parts_of, direction_of}}
 use Rattle.io_commands.specs.{Values.numbers_of, declared.request.Kind.TheVariants.Read}
@@ -32,7 +31,6 @@ use Rattle.run_laws.proofs.{Causes.{goes_well, Traced, traced_carried, event_kee
 use Rattle.run_laws.proofs.Known.{course_stays, over_units, page_found, unsent, submitted_stand}
 use Rattle.run_laws.proofs.Moves.{JobsMove, jobs_event, walked, walked_bytes, queues_walk, QueueMove, queues_event, RecordsMove, records_event, takes, told_entry}
 use Rattle.run_laws.proofs.ReadsKept.{Images, read_targets, read_blocks, Reading, ReadingIf, UnreadEntry, FullAnswer, ReadSoFar, Member, sized_of, queue_of, fetched_in, Full, InImage, ReadIfIo, ReadRecord, members, job_request, quiet_on}
-use Rattle.run_laws.specs.Statuses.{fetches_by}
 
 -- The walk of a Read brings it further.
 
@@ -45,22 +43,11 @@ walk_memory : (s : State) (q cid : ℕ) (j : Job) (act : Act) → job_at s q cid
 walk_memory s q cid j act found u dir = ap (λ (t : State). t.memory) (sym (walk_is s q cid j act found u)) ∙ ap (λ (d : Direction). unit_memory s j d act) dir
 
 move_at : (m : Pages) (ts : List Target) (c : Course) (t place n offset : ℕ) → MovesTo m ts c → slice_get (units c) t ≡ Some (Moves place n offset) → MoveTo m ts place n offset
-move_at m ts (Closes v) t place n offset h e = absurd cc
-move_at m ts (Does Stays rest) zero place n offset h e = absurd cc
-move_at m ts (Does (Reads p) rest) zero place n offset h e = absurd cc
-move_at m ts (Does (Moves p n' o) rest) zero place n offset h e = rw (first e, second e, third e) h.0
-  where
-    first : {p n o p' n' o' : ℕ} → Some (Moves p n o) ≡ Some (Moves p' n' o') → p' ≡ p
-    first e = cc
-
-    second : {p n o p' n' o' : ℕ} → Some (Moves p n o) ≡ Some (Moves p' n' o') → n' ≡ n
-    second e = cc
-
-    third : {p n o p' n' o' : ℕ} → Some (Moves p n o) ≡ Some (Moves p' n' o') → o' ≡ o
-    third e = cc
+move_at m ts (Does (Moves p n' o) rest) zero place n offset h e = grind arith
 move_at m ts (Does Stays rest) (suc t) place n offset h e = move_at m ts rest t place n offset h e
 move_at m ts (Does (Reads p) rest) (suc t) place n offset h e = move_at m ts rest t place n offset h e
 move_at m ts (Does (Moves p n' o) rest) (suc t) place n offset h e = move_at m ts rest t place n offset h.1 e
+move_at m ts c t place n offset h e = absurd cc
 
 set_there : (m : Pages) (p : ℕ) (page : List ℕ) (at : ℕ) (new : List ℕ) → page_at m p ≡ Some page → page_at (with_page_bytes m p at new) p ≡ Some (with_bytes page at new)
 set_there m p page at new e = set m p page (option_and_then (λ page. Some (with_bytes page at new)) (page_at m p)) e ∙ ap (option_and_then (λ page. Some (with_bytes page at new))) e
@@ -80,20 +67,10 @@ whole_written m p q at page new e whole fits = elim (cases_Bool (p == q)) [
 
 pub sent_few : (q cid : ℕ) (rs : List Record) → total (sent q (λ c. one (c == cid))) rs ≤ total (here q cid) rs
 sent_few q cid [] = omega arith
-sent_few q cid (x ∷ rs) = omega (arith, sent_few q cid rs, each (x.q == q) (is_submitted x.phase) (x.cid == cid))
-  where
-    each : (a b c : Bool) → (if a && b then one c else 0) ≤ one (a && c)
-    each a b c = grind arith
+sent_few q cid (x ∷ rs) = grind (arith, sent_few q cid rs)
 
 job_not_past : (s : State) → Grounds s → (q cid : ℕ) (j : Job) → job_at s q cid ≡ Some j → past_at s.host.queues q ≡ false
-job_not_past s g q cid j found = g.fit.service q (omega (arith, ap one (find_sound (is_job q cid) s.device.jobs j found), in_found (is_job q cid) s.device.jobs j found (λ k. one (is_job q cid k)), each s.device.jobs))
-  where
-    each : (js : List Job) → total (λ k. one (is_job q cid k)) js ≤ total (on_queue q) js
-    each [] = omega arith
-    each (k ∷ js) = omega (arith, each js, both (k.q == q) (k.entry.cid == cid))
-      where
-        both : (x y : Bool) → one (x && y) ≤ one x
-        both x y = grind arith
+job_not_past s g q cid j found = grind (arith, find_sound, in_found)
 
 no_entry : (s : State) → Stood s → (q cid : ℕ) (j : Job) → job_at s q cid ≡ Some j → (P : SubEntry → Type 0) → AllByRecursion (λ (e : SubEntry). e.cid ≡ cid → P e) (unfetched_at s.device.queues q)
 no_entry s stood q cid j found P =
@@ -315,62 +292,46 @@ kept s e reply x r request within member stays far work kind drafts at h =
 
 pub first_all : (P : Answer → Type 0) (o : Option DeviceQueue) (an : Answer) → option_and_then (λ queue. first_answer queue.answers) o ≡ Some an → AllByRecursion P (option_map_or (λ at. at.answers) o []) → P an
 first_all P None an e all = absurd cc
-first_all P (Some queue) an e all = go queue.answers e all
-  where
-    go : (xs : List Answer) → first_answer xs ≡ Some an → AllByRecursion P xs → P an
-    go [] e all = absurd cc
-    go (x ∷ xs) e all = let same : x ≡ an = cc in subst P same all.0
+first_all P (Some queue) an e all = grind arith
 
 answered_full : (s : State) (q cid : ℕ) (st : Status) (r : Record) (request : Request) (k : ℕ) → s.trusted ≡ true → named (reaped s q) ≡ Some cid → status_in (reaped s q) ≡ Some st → (r.q ≡ q) × (r.cid ≡ cid) → is_success st ≡ true
     → AllByRecursion (FullAnswer s r request k) (list_at (λ at. at.answers) s.device.queues r.q) → Full (read_targets r request) k × InImage s request
-answered_full s q cid st r request k trusted n x ids ok all =
-    let an = reaped_answer s q cid trusted n in
-    let status : an.0.status ≡ st = told_entry s q (entry_of q an.0) st (ap (λ (o : Option ComEntry). status_in (option_map_or (reaped_entry s q) o outcome.Empty)) (sym an.3) ∙ x) in
-    first_all (FullAnswer s r request k) (device_queue s q) an.0 an.1 (subst (λ (m : ℕ). AllByRecursion (FullAnswer s r request k) (list_at (λ at. at.answers) s.device.queues m)) ids.0 all) (an.2 ∙ sym ids.1) (ap is_success status ∙ ok)
+answered_full s q cid st r request k trusted n x ids ok all = grind (arith, reaped_answer, told_entry, status_in, first_all, list_at)
 
 -- a command that is submitted has read nothing
 submitted_reads : (s : State) (d : DraftContents) (reply : Reply) → Taken s (events.Submit d) reply → (drafts : List DraftContents) (at : Images) (entry : SubEntry) (r : Record) (request : Request) → d.entry ≡ Some entry → record_at s.host d.q d.cid ≡ Some r
     → is_of is_drafted d.request (numbers_of d.data_pages) (numbers_of d.chain_pages) r ≡ true → r.work ≡ Io request → ReadSoFar (submitted_by (events.Submit d) reply ++ drafts) at (a.after s (events.Submit d) reply) (a.submitted r) request
-submitted_reads s d events.Accepted x drafts at entry r request built found fits w = record {
-  draft = d;
-  latest = rw (ids.0, ids.1) (rw (eq-eqb d.q d.q refl, eq-eqb d.cid d.cid refl) refl);
-  asked = requests_same d.request request (ap (asks_for d.request) (sym w) ∙ (and_parts (is_drafted r.phase) (asks_for d.request r.work) both.0).1);
-  pages = numbers;
-  own = (a.after_submit d s).memory;
-  stand = stand;
-  k = 0;
-  whole = λ p own. page_found (a.after_submit d s).memory d.data_pages stand p (ap (λ (ns : List ℕ). is_among ns p) numbers ∙ own);
-  received = record { first = λ i p target lt. absurd (omega (arith, lt)); rest = λ i p target le. refl };
-  long = λ some. absurd (omega (arith, some));
-  unfetched = λ sub. all_of (UnreadEntry (a.submitted r) 0) (list_at (λ at. at.unfetched) (a.after_submit d s).device.queues r.q) (λ y within same. refl);
-  jobs = λ sub. subst (AllByRecursion (ReadingIf at (a.after_submit d s) (a.submitted r) request 0)) (sym (host_jobs s (events.Submit d) events.Accepted x.ok refl refl))
-      (subst (λ (q : ℕ). AllByRecursion (λ (j : Job). j.q ≡ q → j.entry.cid ≡ r.cid → goes j) s.device.jobs) (sym ids.0) (subst (λ (c : ℕ). AllByRecursion (λ (j : Job). j.q ≡ d.q → j.entry.cid ≡ c → goes j) s.device.jobs) (sym ids.1)
-      (no_job d.q d.cid goes s.device.jobs (omega (arith, x.stood.places d.q (λ n. one (n == d.cid)), none)))));
-  answers = λ sub. queues_event (λ at. at.answers) (FullAnswer (a.after_submit d s) (a.submitted r) request 0) r.q s (events.Submit d) events.Accepted answers_move x.ok x.stood
-      (subst (λ (q : ℕ). AllByRecursion (λ (an : Answer). an.cid ≡ r.cid → full an) (answers_at s.device.queues q)) (sym ids.0) (subst (λ (c : ℕ). AllByRecursion (λ (an : Answer). an.cid ≡ c → full an) (answers_at s.device.queues d.q)) (sym ids.1)
-      (nobody (λ (an : Answer). an.cid) d.cid full (answers_at s.device.queues d.q) (omega (arith, x.stood.places d.q (λ n. one (n == d.cid)), none)))));
-  full = λ held. absurd (true≢false (sym held));
-}
+submitted_reads s d events.Accepted x drafts at entry r request built found fits w =
+    let both : ((is_drafted r.phase && asks_for d.request r.work) ≡ true) × (pointwise nat_eq (numbers_of d.data_pages) r.data_pages ≡ true) = grind arith in
+    let ids = ids_of s d.q d.cid r found in
+    let numbers = same_lists (numbers_of d.data_pages) r.data_pages both.1 in
+    let none = unsent s d x.stood.grounds r found (drafted_not r.phase (pages_match is_drafted d.request d.data_pages d.chain_pages r fits).1) in
+    record {
+      draft = d;
+      latest = rw (ids.0, ids.1) (rw (eq-eqb d.q d.q refl, eq-eqb d.cid d.cid refl) refl);
+      asked = requests_same d.request request (ap (asks_for d.request) (sym w) ∙ (and_parts (is_drafted r.phase) (asks_for d.request r.work) both.0).1);
+      pages = numbers;
+      own = (a.after_submit d s).memory;
+      stand = stand;
+      k = 0;
+      whole = λ p own. page_found (a.after_submit d s).memory d.data_pages stand p (ap (λ (ns : List ℕ). is_among ns p) numbers ∙ own);
+      received = record { first = λ i p target lt. absurd (omega (arith, lt)); rest = λ i p target le. refl };
+      long = λ some. absurd (omega (arith, some));
+      unfetched = λ sub. all_of (UnreadEntry (a.submitted r) 0) (list_at (λ at. at.unfetched) (a.after_submit d s).device.queues r.q) (λ y within same. refl);
+      jobs = λ sub. subst (AllByRecursion (ReadingIf at (a.after_submit d s) (a.submitted r) request 0)) (sym (host_jobs s (events.Submit d) events.Accepted x.ok refl refl))
+          (subst (λ (q : ℕ). AllByRecursion (λ (j : Job). j.q ≡ q → j.entry.cid ≡ r.cid → goes j) s.device.jobs) (sym ids.0) (subst (λ (c : ℕ). AllByRecursion (λ (j : Job). j.q ≡ d.q → j.entry.cid ≡ c → goes j) s.device.jobs) (sym ids.1)
+          (no_job d.q d.cid goes s.device.jobs (omega (arith, x.stood.places d.q (λ n. one (n == d.cid)), none)))));
+      answers = λ sub. queues_event (λ at. at.answers) (FullAnswer (a.after_submit d s) (a.submitted r) request 0) r.q s (events.Submit d) events.Accepted answers_move x.ok x.stood
+          (subst (λ (q : ℕ). AllByRecursion (λ (an : Answer). an.cid ≡ r.cid → full an) (answers_at s.device.queues q)) (sym ids.0) (subst (λ (c : ℕ). AllByRecursion (λ (an : Answer). an.cid ≡ c → full an) (answers_at s.device.queues d.q)) (sym ids.1)
+          (nobody (λ (an : Answer). an.cid) d.cid full (answers_at s.device.queues d.q) (omega (arith, x.stood.places d.q (λ n. one (n == d.cid)), none)))));
+      full = λ held. absurd (true≢false (sym held));
+    }
   where
     goes : Job → Type 0
     goes j = goes_well j.verdict ≡ true → Reading at (a.after_submit d s) (a.submitted r) request 0 j
 
     full : Answer → Type 0
     full an = is_success an.status ≡ true → Full (read_targets (a.submitted r) request) 0 × InImage (a.after_submit d s) request
-
-    ids : (r.q ≡ d.q) × (r.cid ≡ d.cid)
-    ids = ids_of s d.q d.cid r found
-
-    both : ((is_drafted r.phase && asks_for d.request r.work) ≡ true) × (pointwise nat_eq (numbers_of d.data_pages) r.data_pages ≡ true)
-    both =
-        let abc_d = and_parts (is_drafted r.phase && asks_for d.request r.work && pointwise nat_eq (numbers_of d.data_pages) r.data_pages) (pointwise nat_eq (numbers_of d.chain_pages) r.chain_pages) fits in
-        and_parts (is_drafted r.phase && asks_for d.request r.work) (pointwise nat_eq (numbers_of d.data_pages) r.data_pages) abc_d.0
-
-    numbers : numbers_of d.data_pages ≡ r.data_pages
-    numbers = same_lists (numbers_of d.data_pages) r.data_pages both.1
-
-    none : total (sent d.q (λ n. one (n == d.cid))) s.host.records ≡ 0
-    none = unsent s d x.stood.grounds r found (drafted_not r.phase (pages_match is_drafted d.request d.data_pages d.chain_pages r fits).1)
 
     stand : AllByRecursion (Stands (a.after_submit d s).memory) d.data_pages
     stand = subst (λ (o : Option SubEntry). AllByRecursion (Stands (option_map_or (λ entry. a.posted d.q entry (a.on_records (with_record d.q d.cid a.submitted) (a.on_memory (with_pages (d.data_pages ++ d.chain_pages)) s))) o s).memory) d.data_pages) (sym built)
@@ -389,12 +350,9 @@ submitted_reads s d events.Accepted x drafts at entry r request built found fits
       makes_submission = λ at all. tt;
       clears = λ at all. all;
       empties = (tt, tt);
-      completes = λ cid j head at is found all. absurd (other is);
+      completes = λ cid j head at is found all. absurd (cc (is));
     }
       where
-        other : {q c : ℕ} → events.Submit d ≡ events.Complete q c → ⊥
-        other e = cc
-
         dropped : (xs : List Answer) → AllByRecursion (FullAnswer (a.after_submit d s) (a.submitted r) request 0) xs → AllByRecursion (FullAnswer (a.after_submit d s) (a.submitted r) request 0) (drop 1 xs)
         dropped [] h = tt
         dropped (y ∷ xs) h = h.1
@@ -413,14 +371,11 @@ reads_move drafts at s e reply x = record {
       (λ z. new d z entry r built found fits r.work refl) x;
   reaps = λ q cid st request r is n status found w p stays.
       subst (ReadIfIo (submitted_by e reply ++ drafts) (fetched_in s e reply at) (a.after s e reply) (a.held st r)) (sym w)
-      (λ kind. reap q cid st request r is n status found w p.0 kind (subst (ReadIfIo drafts at s r) w (p.1 (stays_sub r.phase (reaped_sub q cid r n found))) kind));
-  loses = λ r within sub far p stays. lose r within sub far p.0 r.work refl (p.1 (stays_sub r.phase sub));
+      (λ kind. reap q cid st request r is n status found w p.0 kind (subst (ReadIfIo drafts at s r) w (p.1 (rw (reaped_sub q cid r n found) refl)) kind));
+  loses = λ r within sub far p stays. lose r within sub far p.0 r.work refl (p.1 (rw sub refl));
   collects = λ r p stays. absurd (true≢false (sym stays));
 }
   where
-    stays_sub : (ph : Phase) → is_submitted ph ≡ true → (is_submitted ph || is_held ph) ≡ true
-    stays_sub ph e = rw e refl
-
     stay : (r : Record) → In r s.host.records → Member s r → takes e r ≡ false → (is_submitted r.phase || is_held r.phase) ≡ true → (w : Work) → r.work ≡ w
         → ReadIfIo drafts at s r w → ReadIfIo (submitted_by e reply ++ drafts) (fetched_in s e reply at) (a.after s e reply) r w
     stay r within m far stays (Management adm) w h = tt
@@ -462,7 +417,7 @@ reads_move drafts at s e reply x = record {
         → request.kind ≡ Read → ReadSoFar drafts at s r request → ReadSoFar (submitted_by e reply ++ drafts) (fetched_in s e reply at) (a.after s e reply) (a.held st r) request
     reap q cid st request r is n status found w m kind h =
         let sub = reaped_sub q cid r n found in
-        let y = kept s e reply x r request (in_found (is_at q cid) s.host.records r found) m (stays_sub r.phase sub) (subst (λ (z : Event). takes z r ≡ false) (sym is) refl) w kind drafts at h in
+        let y = kept s e reply x r request (in_found (is_at q cid) s.host.records r found) m (rw sub refl) (subst (λ (z : Event). takes z r ≡ false) (sym is) refl) w kind drafts at h in
         hold st r request y.0
         (λ ok. let f = answered_full s q cid st r request h.k x.trusted n status (ids_of s q cid r found) ok (h.answers sub) in (λ i p target. omega (arith, f.0 i p target, y.1), omega (arith, f.1, x.image)))
 
@@ -470,7 +425,7 @@ reads_move drafts at s e reply x = record {
         → ReadIfIo (submitted_by e reply ++ drafts) (fetched_in s e reply at) (a.after s e reply) (record r { phase = Held; status = Some ABORTED_SQ_DELETION }) w
     lose r within sub far m (Management adm) w h = tt
     lose r within sub far m (Io request) w h = λ kind.
-        hold ABORTED_SQ_DELETION r request (kept s e reply x r request within m (stays_sub r.phase sub) far w kind drafts at (h kind)).0 (λ ok. absurd (true≢false (sym ok)))
+        hold ABORTED_SQ_DELETION r request (kept s e reply x r request within m (rw sub refl) far w kind drafts at (h kind)).0 (λ ok. absurd (true≢false (sym ok)))
 
 -- Steps
 
@@ -482,12 +437,8 @@ reads_on : (drafts : List DraftContents) (at : Images) (s : State) (e : Event) (
 reads_on drafts at s e reply x h = record {
   records = records_event (λ r. Member s r × ReadRecord drafts at s r) (ReadRecord (submitted_by e reply ++ drafts) (fetched_in s e reply at) (a.after s e reply)) s e reply (reads_move drafts at s e reply x) x.ok x.stood.grounds
       (all_in_both (Member s) (ReadRecord drafts at s) (λ r. Member s r × ReadRecord drafts at s r) s.host.records (λ r within p m. (m, p)) h.records (members s x.stood));
-  images = λ q cid. by (fetches_by q cid e reply) q cid;
+  images = λ q cid. (grind arith);
 }
-  where
-    by : (b : Bool) (q cid : ℕ) → length (if b then s.device.image else at q cid) ≡ length (a.after s e reply).device.image
-    by true q cid = sym x.image
-    by false q cid = h.images q cid ∙ sym x.image
 
 refused_same : (s : State) (drafts : List DraftContents) (at : Images) (e : Event) (why : Refusal) (touched : List ℕ) → ReadsKnown drafts at s → ReadsKnown (submitted_by e (events.Refused why touched) ++ drafts) (fetched_in s e (events.Refused why touched) at) s
 refused_same s drafts at (events.Submit d) why touched h = h

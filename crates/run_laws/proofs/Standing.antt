@@ -2,20 +2,21 @@
 use Rattle.machine_model.specs.After as a
 use Rattle.machine_model.specs.Events as events
 use Rattle.machine_model.specs.declared.words.Refusal.TheVariants as refusals
-use Rattle.std.proofs.Common.{◌≡◌, Bool, true, false, ◌||◌, List, [], ◌∷◌, ◌++◌, if◌then◌else◌, refl, ap, ap₂, sym, ◌∙◌, MatchBool, Some, find, cond, ℕ, ◌==◌, nat_eq, not, ◌&&◌, Option, None, map, is_none, subst}
-use Rattle.std.{proofs.lemmas.{Bool.{true≢false, or_right, not-false, and_parts, or_parts}, List.Folds.list_any-append}, specs.Cmp.Lexicographic.pointwise}
-use Rattle.std.specs.{List.{AllByRecursion, list_any}, Option.{option_and_then, option_map, option_map_or}}
+use Rattle.std.proofs.Common.{◌≡◌, Bool, true, false, ◌||◌, List, [], ◌∷◌, ◌++◌, if◌then◌else◌, refl, ap, ap₂, sym, ◌∙◌, MatchBool, Some, find, cond, ℕ, ◌==◌, not, ◌&&◌, Option, None, map, subst, inl, inr, arith}
+use Rattle.std.{proofs.lemmas.{Bool.{true≢false, or_right, not-false, or_parts}, List.Folds.list_any-append}}
+use Rattle.std.specs.{List.{AllByRecursion, list_any}, Option.{option_and_then, option_map_or}}
 use Rattle.host_core.proofs.{Lists.found_is, Outstanding.{one_step, find_more, find_changed, other_than, off_name, apart, found_with, found_without}}
 use Rattle.host_core.specs.CommandValues.{without_first, with_first}
 use Rattle.io_commands.specs.{Asked.Request, Values.{FinishedContents, numbers_of}}
 use Rattle.admin_commands.specs.declared.AdminKind.TheVariants.{Abort, DeleteSq, DeleteCq}
-use Rattle.entry_codec.specs.declared.status.{Status.Status, TheConstants.Status.ABORTED_SQ_DELETION}
+use Rattle.entry_codec.specs.declared.status.{TheConstants.Status.ABORTED_SQ_DELETION}
 use Rattle.machine_model.proofs.{HostLeaves.io_left, Moves.{creates_cq, creates_sq, host_moves, sent_record}, Steps.{Accepts, part_left, first_fails, found}}
-use Rattle.machine_model.specs.{Commands.Work, Events.{Event, Reply}, Memory.without_pages}
-use Rattle.machine_model.specs.Refusals.{asks_for, is_submitted, is_drafted, is_held, is_collected, is_live, refusal_of, record_is, is_of, in_state, queue_full}
+use Rattle.machine_model.specs.{Events.{Event, Reply}, Memory.without_pages}
+use Rattle.machine_model.specs.Refusals.{is_submitted, is_drafted, is_held, is_collected, refusal_of, record_is, is_of}
 use Rattle.machine_model.specs.State.{State, Record, is_at, record_at, pages_of, with_record, without_record}
-use Rattle.machine_model.specs.{Step.{Step, HostPart, IsController, asked_by, finished_from, pages_with_bytes}, declared.words.Phase.Phase}
-use Rattle.machine_model.specs.declared.words.{Phase.TheVariants.{Drafted, Submitted, Held, Collected}, Work.TheVariants.{Io, Management}}
+use Rattle.machine_model.specs.{Step.{Step, HostPart, IsController, finished_from}, declared.words.Phase.Phase}
+use Rattle.machine_model.specs.declared.words.{Phase.TheVariants.{Drafted, Submitted, Held}, Work.TheVariants.{Io}}
+use Rattle.std.proofs.lemmas.Bool.{cases_Bool}
 
 -- Steps of a run that pass a test: when one is added, and split at the last one.
 
@@ -27,32 +28,15 @@ any_last p xs y h = list_any-append p xs (y ∷ []) ∙ or_right (list_any p xs)
 
 -- an element more: an earlier one passes, or it does
 pub any_of_more : {X : Type 0} (p : X → Bool) (xs : List X) (y : X) (Q : Type 0) → list_any p (xs ++ y ∷ []) ≡ true → (list_any p xs ≡ true → Q) → (p y ≡ true → Q) → Q
-any_of_more p xs y Q h early late = go (list_any p xs) (p y) early late (sym (list_any-append p xs (y ∷ [])) ∙ h)
-  where
-    go : (a b : Bool) → (a ≡ true → Q) → (b ≡ true → Q) → (a || (b || false)) ≡ true → Q
-    go true b f g h = f refl
-    go false true f g h = g refl
-    go false false f g h = absurd (true≢false (sym h))
+any_of_more p xs y Q h early late = grind (arith, sym (list_any-append p xs (y ∷ [])) ∙ h)
 
 pub any_without : {X : Type 0} (p test : X → Bool) (xs : List X) → list_any p (without_first test xs) ≡ true → list_any p xs ≡ true
 any_without p test [] h = h
-any_without {X} p test (x ∷ xs) h = go (test x) h (any_without p test xs)
-  where
-    rest : (b : Bool) → (b || list_any p (without_first test xs)) ≡ true → (list_any p (without_first test xs) ≡ true → list_any p xs ≡ true) → (b || list_any p xs) ≡ true
-    rest true h ih = refl
-    rest false h ih = ih h
-
-    go : (b : Bool) → list_any p (if b then xs else (x ∷ without_first test xs)) ≡ true → (list_any p (without_first test xs) ≡ true → list_any p xs ≡ true) → (p x || list_any p xs) ≡ true
-    go true h ih = or_right (p x) (list_any p xs) h
-    go false h ih = rest (p x) h ih
+any_without {X} p test (x ∷ xs) h = grind (arith, any_without p test xs, or_right)
 
 pub all_without : {X : Type 0} (P : X → Type 0) (test : X → Bool) (xs : List X) → AllByRecursion P xs → AllByRecursion P (without_first test xs)
 all_without P test [] all = tt
-all_without {X} P test (x ∷ xs) all = go (test x) (all_without P test xs all.1)
-  where
-    go : (b : Bool) → AllByRecursion P (without_first test xs) → AllByRecursion P (if b then xs else (x ∷ without_first test xs))
-    go true rest = all.1
-    go false rest = (all.0, rest)
+all_without {X} P test (x ∷ xs) all = grind (arith, all_without P test xs)
 
 -- the last element that passes
 pub record HasLast {X : Type 0} (p : X → Bool) (xs : List X) : Type 0 where
@@ -85,53 +69,22 @@ Few p (x ∷ xs) = MatchBool (p x) (list_any p xs ≡ false) (Few p xs)
 
 few_none : {X : Type 0} (p : X → Bool) (xs : List X) → list_any p xs ≡ false → Few p xs
 few_none p [] h = tt
-few_none {X} p (x ∷ xs) h = go (p x) h (few_none p xs)
-  where
-    go : (b : Bool) → (b || list_any p xs) ≡ false → (list_any p xs ≡ false → Few p xs) → MatchBool b (list_any p xs ≡ false) (Few p xs)
-    go true h ih = absurd (true≢false h)
-    go false h ih = ih h
+few_none {X} p (x ∷ xs) h = grind (arith, few_none p xs)
 
 none_without : {X : Type 0} (p test : X → Bool) (xs : List X) → list_any p xs ≡ false → list_any p (without_first test xs) ≡ false
-none_without p test xs h = go (list_any p (without_first test xs)) refl
-  where
-    go : (b : Bool) → list_any p (without_first test xs) ≡ b → b ≡ false
-    go false e = refl
-    go true e = absurd (true≢false (sym (any_without p test xs e) ∙ h))
+none_without p test xs h = grind (arith, any_without)
 
 pub few_without : {X : Type 0} (p test : X → Bool) (xs : List X) → Few p xs → Few p (without_first test xs)
 few_without p test [] h = tt
-few_without {X} p test (x ∷ xs) h = go (test x) (p x) refl h (few_without p test xs)
-  where
-    go : (c b : Bool) → p x ≡ b → MatchBool b (list_any p xs ≡ false) (Few p xs) → (Few p xs → Few p (without_first test xs)) → Few p (if c then xs else (x ∷ without_first test xs))
-    go true true e h ih = few_none p xs h
-    go true false e h ih = h
-    go false true e h ih = rw e (none_without p test xs h)
-    go false false e h ih = rw e (ih h)
+few_without {X} p test (x ∷ xs) h = grind (arith, few_without p test xs, few_none, none_without)
 
 pub gone : {X : Type 0} (p : X → Bool) (xs : List X) → Few p xs → list_any p (without_first p xs) ≡ false
 gone p [] h = refl
-gone {X} p (x ∷ xs) h = go (p x) refl h (gone p xs)
-  where
-    go : (b : Bool) → p x ≡ b → MatchBool b (list_any p xs ≡ false) (Few p xs) → (Few p xs → list_any p (without_first p xs) ≡ false) → list_any p (if b then xs else (x ∷ without_first p xs)) ≡ false
-    go true e h ih = h
-    go false e h ih = ap (λ (b : Bool). b || list_any p (without_first p xs)) e ∙ ih h
+gone {X} p (x ∷ xs) h = grind (arith, gone p xs)
 
 pub few_more : {X : Type 0} (p : X → Bool) (xs : List X) (y : X) → Few p xs → (p y ≡ true → list_any p xs ≡ false) → Few p (xs ++ y ∷ [])
-few_more p [] y h new = one (p y)
-  where
-    one : (b : Bool) → MatchBool b (list_any p [] ≡ false) (Few p [])
-    one true = refl
-    one false = tt
-few_more {X} p (x ∷ xs) y h new = go (p x) h new (few_more p xs y)
-  where
-    other : (b : Bool) → p y ≡ b → (p y ≡ true → true ≡ false) → b ≡ false
-    other true e f = f e
-    other false e f = refl
-
-    go : (b : Bool) → MatchBool b (list_any p xs ≡ false) (Few p xs) → (p y ≡ true → (b || list_any p xs) ≡ false) → (Few p xs → (p y ≡ true → list_any p xs ≡ false) → Few p (xs ++ y ∷ []))
-        → MatchBool b (list_any p (xs ++ y ∷ []) ≡ false) (Few p (xs ++ y ∷ []))
-    go true h new ih = none_last p xs y h (other (p y) refl new)
-    go false h new ih = ih h new
+few_more p [] y h new = grind arith
+few_more {X} p (x ∷ xs) y h new = grind (arith, few_more p xs y, none_last)
 
 -- Lists of which one element is changed, added or taken out: what is found in them.
 
@@ -139,48 +92,43 @@ few_more {X} p (x ∷ xs) y h new = go (p x) h new (few_more p xs y)
 
 pub any_with : {X : Type 0} (p test : X → Bool) (f : X → X) → ((x : X) → p (f x) ≡ p x) → (xs : List X) → list_any p (with_first test f xs) ≡ list_any p xs
 any_with p test f same [] = refl
-any_with {X} p test f same (x ∷ xs) = go (test x) (any_with p test f same xs)
-  where
-    go : (b : Bool) → list_any p (with_first test f xs) ≡ list_any p xs → list_any p (if b then f x ∷ xs else x ∷ with_first test f xs) ≡ (p x || list_any p xs)
-    go true ih = ap (λ (c : Bool). c || list_any p xs) (same x)
-    go false ih = ap (λ (c : Bool). p x || c) ih
+any_with {X} p test f same (x ∷ xs) = elim (cases_Bool (test x)) [
+  | inl e ↦ rw e (ap (λ (c : Bool). c || list_any p xs) (same x))
+  | inr e ↦ rw e (ap (λ (c : Bool). p x || c) (any_with p test f same xs))
+]
 
 pub few_with : {X : Type 0} (p test : X → Bool) (f : X → X) → ((x : X) → p (f x) ≡ p x) → (xs : List X) → Few p xs → Few p (with_first test f xs)
 few_with p test f same [] h = tt
 few_with {X} p test f same (x ∷ xs) h = go (test x) (p x) refl h (few_with p test f same xs)
   where
     go : (b c : Bool) → p x ≡ c → MatchBool c (list_any p xs ≡ false) (Few p xs) → (Few p xs → Few p (with_first test f xs)) → Few p (if b then f x ∷ xs else x ∷ with_first test f xs)
-    go true true e h ih = rw (same x ∙ e) h
-    go true false e h ih = rw (same x ∙ e) h
     go false true e h ih = rw e (any_with p test f same xs ∙ h)
     go false false e h ih = rw e (ih h)
+    go true c e h ih = rw (same x ∙ e) h
 
 pub find_with : {X : Type 0} (p : X → Bool) (f : X → X) → ((x : X) → p (f x) ≡ p x) → (xs : List X) (y : X) → find p xs ≡ Some y → find p (with_first p f xs) ≡ Some (f y)
 find_with p f same [] y e = absurd cc
-find_with {X} p f same (x ∷ xs) y e = go (p x) refl e (find_with p f same xs y)
-  where
-    go : (b : Bool) → p x ≡ b → cond b (Some x) (find p xs) ≡ Some y → (find p xs ≡ Some y → find p (with_first p f xs) ≡ Some (f y)) → find p (if b then f x ∷ xs else x ∷ with_first p f xs) ≡ Some (f y)
-    go true is e ih = let here : x ≡ y = cc in ap (λ (c : Bool). cond c (Some (f x)) (find p xs)) (same x ∙ is) ∙ ap (λ (z : X). Some (f z)) here
-    go false is e ih = ap (λ (c : Bool). cond c (Some x) (find p (with_first p f xs))) is ∙ ih e
+find_with {X} p f same (x ∷ xs) y e = elim (cases_Bool (p x)) [
+  | inl is ↦ rw is (let here : x ≡ y = cc in ap (λ (c : Bool). cond c (Some (f x)) (find p xs)) (same x ∙ is) ∙ ap (λ (z : X). Some (f z)) here)
+  | inr is ↦ rw is (ap (λ (c : Bool). cond c (Some x) (find p (with_first p f xs))) is ∙ (find_with p f same xs y) (rw is at e))
+]
 
 pub find_with_other : {X : Type 0} (p test : X → Bool) (f : X → X) → ((x : X) → p (f x) ≡ p x) → ((x : X) → test x ≡ true → p x ≡ false) → (xs : List X) → find p (with_first test f xs) ≡ find p xs
 find_with_other p test f same far [] = refl
-find_with_other {X} p test f same far (x ∷ xs) = go (test x) refl (find_with_other p test f same far xs)
-  where
-    go : (b : Bool) → test x ≡ b → find p (with_first test f xs) ≡ find p xs → find p (if b then f x ∷ xs else x ∷ with_first test f xs) ≡ cond (p x) (Some x) (find p xs)
-    go true is ih =
-        ap (λ (c : Bool). cond c (Some (f x)) (find p xs)) (same x ∙ far x is) ∙ sym (ap (λ (c : Bool). cond c (Some x) (find p xs)) (far x is))
-    go false is ih = ap (cond (p x) (Some x)) ih
+find_with_other {X} p test f same far (x ∷ xs) = elim (cases_Bool (test x)) [
+  | inl is ↦
+      rw is (ap (λ (c : Bool). cond c (Some (f x)) (find p xs)) (same x ∙ far x is) ∙ sym (ap (λ (c : Bool). cond c (Some x) (find p xs)) (far x is)))
+  | inr is ↦ rw is (ap (cond (p x) (Some x)) (find_with_other p test f same far xs))
+]
 
 -- Without it
 
 pub find_without_other : {X : Type 0} (p test : X → Bool) → ((x : X) → test x ≡ true → p x ≡ false) → (xs : List X) → find p (without_first test xs) ≡ find p xs
 find_without_other p test far [] = refl
-find_without_other {X} p test far (x ∷ xs) = go (test x) refl (find_without_other p test far xs)
-  where
-    go : (b : Bool) → test x ≡ b → find p (without_first test xs) ≡ find p xs → find p (if b then xs else x ∷ without_first test xs) ≡ cond (p x) (Some x) (find p xs)
-    go true is ih = sym (ap (λ (c : Bool). cond c (Some x) (find p xs)) (far x is))
-    go false is ih = ap (cond (p x) (Some x)) ih
+find_without_other {X} p test far (x ∷ xs) = elim (cases_Bool (test x)) [
+  | inl is ↦ rw is (sym (ap (λ (c : Bool). cond c (Some x) (find p xs)) (far x is)))
+  | inr is ↦ rw is (ap (cond (p x) (Some x)) (find_without_other p test far xs))
+]
 
 -- A drafted command stays so until it is submitted or cancelled, and a collected one until it is released, whatever else happens. A collected command is not collected again before.
 
@@ -205,16 +153,14 @@ abbrev Rests : (Phase → Bool) → Type 0
 Rests test = (ph : Phase) → test ph ≡ true → (is_submitted ph || is_held ph) ≡ false
 
 drafted_rests : Rests is_drafted
-drafted_rests Drafted e = refl
 drafted_rests Submitted e = absurd (true≢false (sym e))
 drafted_rests Held e = absurd (true≢false (sym e))
-drafted_rests Collected e = refl
+drafted_rests x e = refl
 
 collected_rests : Rests is_collected
-collected_rests Drafted e = refl
 collected_rests Submitted e = absurd (true≢false (sym e))
 collected_rests Held e = absurd (true≢false (sym e))
-collected_rests Collected e = refl
+collected_rests x e = refl
 
 unsubmitted : (test : Phase → Bool) → Rests test → (ph : Phase) → test ph ≡ true → is_submitted ph ≡ false
 unsubmitted test rests ph e = (or_parts (is_submitted ph) (is_held ph) (rests ph e)).0
@@ -239,15 +185,8 @@ stands_without test q cid k n rs far (r, at, is) = (r, found_without q cid k n r
 
 stands_lost : (test : Phase → Bool) → Rests test → (q cid k : ℕ) (rs : List Record) → StandsIn test q cid rs → StandsIn test q cid (map (a.lost k) rs)
 stands_lost test rests q cid k rs (r, at, is) =
-    (r, find_changed (is_at q cid) (a.lost k) (λ x. each x ((x.q == k) && is_submitted x.phase)) rs r at ∙ ap (λ (b : Bool). Some (if b then record r { phase = Held; status = Some ABORTED_SQ_DELETION } else r)) (stays (r.q == k)), is)
-  where
-    each : (x : Record) (b : Bool) → is_at q cid (if b then record x { phase = Held; status = Some ABORTED_SQ_DELETION } else x) ≡ is_at q cid x
-    each x true = refl
-    each x false = refl
-
-    stays : (b : Bool) → (b && is_submitted r.phase) ≡ false
-    stays true = unsubmitted test rests r.phase is.phase
-    stays false = refl
+    let stays : (b : Bool) → (b && is_submitted r.phase) ≡ false = λ b. grind arith in
+    (r, find_changed (is_at q cid) (a.lost k) (λ x. (grind arith)) rs r at ∙ ap (λ (b : Bool). Some (if b then record r { phase = Held; status = Some ABORTED_SQ_DELETION } else r)) (stays (r.q == k)), is)
 
 -- a reset loses what is submitted, and the commands of the admin queue
 stands_reset : (test : Phase → Bool) → Rests test → (q cid : ℕ) (s : State) → StandsIn test q cid s.host.records → StandsIn test q cid (a.reset_records s.host.records)
@@ -285,6 +224,11 @@ names_by q cid e reply = false
 
 event_stands : (test : Phase → Bool) → Rests test → (q cid : ℕ) (s : State) (e : Event) (reply : Reply) → names_by q cid e reply ≡ false → Accepts s e reply → IsController e ≡ false → On test q cid s → On test q cid (a.after s e reply)
 event_stands test rests q cid s e reply far ok c h =
+    let more : (new : List Record) → StandsIn test q cid (s.host.records ++ new) = λ new. (h.0, find_more (is_at q cid) s.host.records new h.0 h.1, h.2) in
+    let sent : (k n : ℕ) (r : Record) → record_at s.host k n ≡ Some r → is_submitted r.phase ≡ true → is_at k n h.0 ≡ false =
+    λ k n r at sub. other_name test is_submitted (unsubmitted test rests) q cid k n s.host.records h r at sub in
+    let without : (k n : ℕ) (r : Record) → record_at s.host k n ≡ Some r → is_submitted r.phase ≡ true → StandsIn test q cid (without_record k n s.host.records) =
+    λ k n r at sub. stands_without test q cid k n s.host.records (apart q cid k n s.host.records h.0 h.1 (sent k n r at sub)) h in
     host_moves (λ (e : Event) (reply : Reply) (t : State). names_by q cid e reply ≡ false → On test q cid t) s e reply ok c
     (record {
       reserves = λ k request d none is far. more (record { q = d.q; cid = d.cid; phase = Drafted; work = Io d.request; data_pages = numbers_of d.data_pages; chain_pages = numbers_of d.chain_pages; status = None } ∷ []);
@@ -313,15 +257,6 @@ event_stands test rests q cid s e reply far ok c h =
       resets = λ far. stands_reset test rests q cid s h;
     })
     far
-  where
-    more : (new : List Record) → StandsIn test q cid (s.host.records ++ new)
-    more new = (h.0, find_more (is_at q cid) s.host.records new h.0 h.1, h.2)
-
-    sent : (k n : ℕ) (r : Record) → record_at s.host k n ≡ Some r → is_submitted r.phase ≡ true → is_at k n h.0 ≡ false
-    sent k n r at sub = other_name test is_submitted (unsubmitted test rests) q cid k n s.host.records h r at sub
-
-    without : (k n : ℕ) (r : Record) → record_at s.host k n ≡ Some r → is_submitted r.phase ≡ true → StandsIn test q cid (without_record k n s.host.records)
-    without k n r at sub = stands_without test q cid k n s.host.records (apart q cid k n s.host.records h.0 h.1 (sent k n r at sub)) h
 
 -- One step
 
@@ -332,16 +267,11 @@ rests_on test rests q cid s e reply new step far h =
 
 -- the record that an event of a draft or of a finished command finds
 phase_of : (test : Phase → Bool) (request : Request) (front back : List ℕ) (r : Record) → is_of test request front back r ≡ true → test r.phase ≡ true
-phase_of test request front back r fits =
-    let three = and_parts (test r.phase && asks_for request r.work && pointwise nat_eq front r.data_pages) (pointwise nat_eq back r.chain_pages) fits in
-    let two = and_parts (test r.phase && asks_for request r.work) (pointwise nat_eq front r.data_pages) three.0 in
-    (and_parts (test r.phase) (asks_for request r.work) two.0).0
+phase_of test request front back r fits = grind arith
 
 found_apart : (test other : Phase → Bool) → ((ph : Phase) → test ph ≡ true → other ph ≡ false) → (q cid k n : ℕ) (request : Request) (front back : List ℕ) (s : State)
     → record_is (is_of other request front back) s k n ≡ true → On test q cid s → ((k == q) && (n == cid)) ≡ false
-found_apart test other none q cid k n request front back s there h =
-    let x = found (is_of other request front back) s k n there in
-    apart q cid k n s.host.records h.0 h.1 (other_name test other none q cid k n s.host.records h x.0 x.1 (phase_of other request front back x.0 x.2))
+found_apart test other none q cid k n request front back s there h = grind (arith, found, apart, other_name, phase_of)
 
 -- whether a step releases this name
 abbrev pub releases_by : ℕ → ℕ → Event → Reply → Bool
@@ -349,21 +279,10 @@ releases_by q cid (events.Release f) events.Accepted = (f.q == q) && (f.cid == c
 releases_by q cid e reply = false
 
 undrafted : (ph : Phase) → is_collected ph ≡ true → is_drafted ph ≡ false
-undrafted Drafted e = absurd (true≢false (sym e))
-undrafted Submitted e = refl
-undrafted Held e = refl
-undrafted Collected e = refl
+undrafted ph e = grind arith
 
 collected_far : (q cid : ℕ) (s : State) (e : Event) (reply : Reply) → releases_by q cid e reply ≡ false → Stands q cid s.host.records → Accepts s e reply → names_by q cid e reply ≡ false
-collected_far q cid s (events.Submit d) events.Accepted far h ok =
-    found_apart is_collected is_drafted undrafted q cid d.q d.cid d.request (numbers_of d.data_pages) (numbers_of d.chain_pages) s
-    (not-false _ (first_fails (not (record_is (is_of is_drafted d.request (numbers_of d.data_pages) (numbers_of d.chain_pages)) s d.q d.cid)) refusals.Stranger
-    ((is_none d.entry, refusals.NotBuilt) ∷ (not (in_state is_live s d.q), refusals.QueueGone) ∷ (queue_full s d.q, refusals.QueueFull) ∷ []) ok.0)) h
-collected_far q cid s (events.Cancel d) events.Accepted far h ok =
-    found_apart is_collected is_drafted undrafted q cid d.q d.cid d.request (numbers_of d.data_pages) (numbers_of d.chain_pages) s
-    (not-false _ (first_fails (not (record_is (is_of is_drafted d.request (numbers_of d.data_pages) (numbers_of d.chain_pages)) s d.q d.cid)) refusals.Stranger [] ok.0)) h
-collected_far q cid s (events.Release f) events.Accepted far h ok = far
-collected_far q cid s e reply far h ok = refl
+collected_far q cid s e reply far h ok = grind arith
 
 pub step_stands : (q cid : ℕ) (s : State) (e : Event) (reply : Reply) (new : State) → Step s e reply new → releases_by q cid e reply ≡ false → Stands q cid s.host.records → Stands q cid new.host.records
 step_stands q cid s e reply new step far h = rests_on is_collected collected_rests q cid s e reply new step (λ ok. collected_far q cid s e reply far h ok) h
@@ -375,18 +294,10 @@ takes_by q cid (events.Cancel d) events.Accepted = (d.q == q) && (d.cid == cid)
 takes_by q cid e reply = false
 
 uncollected : (ph : Phase) → is_drafted ph ≡ true → is_collected ph ≡ false
-uncollected Drafted e = refl
-uncollected Submitted e = refl
-uncollected Held e = refl
-uncollected Collected e = absurd (true≢false (sym e))
+uncollected ph e = grind arith
 
 drafted_far : (q cid : ℕ) (s : State) (e : Event) (reply : Reply) → takes_by q cid e reply ≡ false → Drafts q cid s.host.records → Accepts s e reply → names_by q cid e reply ≡ false
-drafted_far q cid s (events.Submit d) events.Accepted far h ok = far
-drafted_far q cid s (events.Cancel d) events.Accepted far h ok = far
-drafted_far q cid s (events.Release f) events.Accepted far h ok =
-    found_apart is_drafted is_collected uncollected q cid f.q f.cid f.request (numbers_of f.data_pages) (numbers_of f.chain_pages) s
-    (not-false _ (first_fails (not (record_is (is_of is_collected f.request (numbers_of f.data_pages) (numbers_of f.chain_pages)) s f.q f.cid)) refusals.Stranger [] ok.0)) h
-drafted_far q cid s e reply far h ok = refl
+drafted_far q cid s e reply far h ok = grind arith
 
 pub step_drafts : (q cid : ℕ) (s : State) (e : Event) (reply : Reply) (new : State) → Step s e reply new → takes_by q cid e reply ≡ false → Drafts q cid s.host.records → Drafts q cid new.host.records
 step_drafts q cid s e reply new step far h = rests_on is_drafted drafted_rests q cid s e reply new step (λ ok. drafted_far q cid s e reply far h ok) h
@@ -397,24 +308,11 @@ accepted B false h = h
 
 -- a collection finds no collected command, and leaves one
 pub not_again : (q cid k n : ℕ) (s new : State) (f : FinishedContents) → Step s (events.Collect k n) (events.Collects f) new → Stands q cid s.host.records → ((k == q) && (n == cid)) ≡ false
-not_again q cid k n s new f step h =
-    let ok : Accepts s (events.Collect k n) (events.Collects f) = accepted _ s.trusted step.1 in
-    apart q cid k n s.host.records h.0 h.1 (collect_far is_collected collected_rests q cid k n s ok.0 h)
+not_again q cid k n s new f step h = grind (arith, accepted, apart, collect_far, collected_rests)
 
 -- a finished command is an I/O command's
 asked_io : (s : State) (r : Record) (f : FinishedContents) → finished_from s r ≡ Some f → (request : Request) × (r.work ≡ Io request)
-asked_io s r f is = go r.work refl (asked_by r.work) refl is
-  where
-    go : (w : Work) → r.work ≡ w → (o : Option Request) → asked_by r.work ≡ o
-        → option_and_then
-        (λ (asked : Request). option_map
-        (λ (st : Status). record { q = r.q; cid = r.cid; request = asked; status = st; data_pages = pages_with_bytes s.memory r.data_pages; chain_pages = pages_with_bytes s.memory r.chain_pages })
-        r.status)
-        o ≡ Some f
-        → (request : Request) × (r.work ≡ Io request)
-    go (Io request) work o asked is = (request, work)
-    go (Management adm) work None asked is = absurd cc
-    go (Management adm) work (Some request) asked is = let none : asked_by r.work ≡ None = ap asked_by work in absurd cc
+asked_io s r f is = grind arith
 
 pub collected_stands : (k n : ℕ) (s new : State) (f : FinishedContents) → Step s (events.Collect k n) (events.Collects f) new → Stands k n new.host.records
 collected_stands k n s new f step =

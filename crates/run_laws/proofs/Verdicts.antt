@@ -1,31 +1,29 @@
 -- The first verdict on a command stays.
-use Rattle.io_commands.specs.Jobs as jobs
 use Rattle.machine_model.specs.Events as events
 use Rattle.machine_model.specs.After as a
-use Rattle.std.proofs.Common.{◌≡◌, ◌⊎◌, inl, inr, ℕ, ◌==◌, Bool, true, false, not, ◌&&◌, Option, Some, None, List, [], ◌∷◌, ◌++◌, if◌then◌else◌, refl, ap, ap₂, sym, ◌∙◌, subst, eqb-true, eq-eqb, unwrap_or, ◌+◌, ◌/◌, ◌%◌, map, filter, find, take, drop, is_some, is_none, ◌||◌}
+use Rattle.std.proofs.Common.{◌≡◌, ◌⊎◌, inl, inr, ℕ, ◌==◌, Bool, true, false, not, ◌&&◌, Option, Some, None, List, [], ◌∷◌, ◌++◌, if◌then◌else◌, refl, ap, ap₂, sym, ◌∙◌, subst, eqb-true, eq-eqb, unwrap_or, ◌+◌, map, filter, find, is_some, is_none, arith}
 use Rattle.std.{proofs.lemmas.{Bool.{true≢false, and_parts, not-true, cases_Bool}, List.append_assoc}, specs.List.{AllByRecursion, list_any}}
-use Rattle.std.specs.{Option.{option_map, option_map_or}, Str.bytes_eq}
-use Rattle.block_image.specs.Blocks.{blocks_at}
+use Rattle.std.specs.{Option.{option_map, option_map_or}}
 use Rattle.entry_codec.specs.{Completion.{completion_bytes, completion_of}, Submission.{submission_bytes, submission_of}}
-use Rattle.entry_codec.specs.declared.{admin_opcode.TheConstants.DELETE_IO_SQ, io_opcode.TheConstants.COMPARE, status.Status.Status}
-use Rattle.entry_codec.specs.declared.status.TheConstants.Status.{SUCCESS, COMPARE_FAILURE, COMMAND_ID_CONFLICT, ABORT_REQUESTED, ABORTED_SQ_DELETION}
+use Rattle.entry_codec.specs.declared.{admin_opcode.TheConstants.DELETE_IO_SQ, status.Status.Status}
+use Rattle.entry_codec.specs.declared.status.TheConstants.Status.{SUCCESS, COMMAND_ID_CONFLICT, ABORT_REQUESTED, ABORTED_SQ_DELETION}
 use Rattle.entry_codec.specs.declared.submission.SubEntry.{SubEntry}
-use Rattle.io_commands.specs.{Jobs.{is_success, kind_of_opcode, first_block, block_number, verdict_of, direction_of_entry}, declared.request.Kind.Kind}
-use Rattle.io_commands.specs.declared.request.Kind.TheVariants.{Read, Write, Compare}
+use Rattle.io_commands.specs.{Jobs.{is_success, verdict_of, direction_of_entry}}
 use Rattle.machine_model.{proofs.{Steps.{Accepts, managed_by, permitted}, Tokens.{is_job, find_sound}}, specs.{After.final_status, Events.{Event, Reply}}}
 use Rattle.machine_model.specs.{Image.Made, Opening.opening, Refusals.{job_at, next_rung, conflicts, refusal_of}, Script.{played, left_by}}
 use Rattle.machine_model.specs.{State.{State, Job, Device}, Step.{resets, Step, Refuses}, Trusted.{TrustedRun, Steps, forges_by}, WorkedReads.ordinary}
-use Rattle.machine_model.specs.declared.words.Refusal.{Refusal, TheVariants.{NoJob, Nothing, Memory}}
-use Rattle.run_laws.{proofs.{Causes.compare_opcode, Moves.{JobsMove, jobs_event}, OneEnd.none_parts}, specs.Statuses.{status_by, fetches, fetches_by}}
+use Rattle.machine_model.specs.declared.words.Refusal.{Refusal, TheVariants.{Nothing}}
+use Rattle.run_laws.{proofs.{Moves.{JobsMove, jobs_event}, OneEnd.none_parts}, specs.Statuses.{status_by, fetches, fetches_by}}
 use Rattle.run_laws.specs.Verdicts.{FoundDifference, first_verdicts_count, jobs_stay, KeepsVerdict, IsRefusedWalk, verdicts_stay, verdicts_end_walks}
 use Rattle.run_laws.specs.WorkedVerdicts.{one_aborted, deleted_under, deleted_under_said}
 use Rattle.two_sides.proofs.Along.{Unforged, unforged_front, unforged_back, unforged_run, Carried, keeps, made_of, cut, along_proper, before_step, stays_trusted, trusted_end, trusted_step_by}
 use Rattle.two_sides.proofs.{JobLaws.stood_after, NeverFull.{one_job, stood_on, stood_at_opening, some_none, host_jobs}}
-use Rattle.two_sides.proofs.{Provided.{all_at_found, all_in, only_found, some_is}, Served.Stood, Standing.device-answered}
+use Rattle.two_sides.proofs.{Provided.{all_at_found, all_in, only_found}, Served.Stood, Standing.device-answered}
 use Rattle.admin_commands.specs.{Entries.{named_queue, named_command}, declared.SqState.TheVariants.Absent}
-use Rattle.controller_walk.specs.Units.{Act, Stays, Reads, Moves, first_passing, moving, from_place}
+use Rattle.controller_walk.specs.Units.{Act, Moves, moving, from_place}
 use Rattle.sgl_descriptor.specs.{Spelling.descriptor_of, declared.Direction.{Direction, TheVariants.{Destination, Source}}}
-use Rattle.page_memory.specs.{Memory.bytes_at, Pages.{with_bytes, with_page_bytes, zero_page}}
+use Rattle.page_memory.specs.{Memory.bytes_at, Pages.{with_bytes, zero_page}}
+use Rattle.machine_model.proofs.Cases.{option_is}
 
 -- A command completes with its first verdict.
 
@@ -39,10 +37,7 @@ record Marked (q cid : ℕ) (st : Status) (done : List Made) (s : State) : Type 
   pub jobs : list_any (fetches q cid) done ≡ false → AllByRecursion (Has q cid st) s.device.jobs
 
 fetched_by : (s : State) (k : ℕ) (reply : Reply) (entry : SubEntry) → Accepts s (events.Fetch k) reply → next_rung s k ≡ Some entry → fetches_by k entry.cid (events.Fetch k) reply ≡ true
-fetched_by s k (events.Fetched c touched) entry ok next =
-    let same : entry.cid ≡ c = some_is (sym (ap (option_map (λ (e : SubEntry). e.cid)) next) ∙ ok.1.0) in
-    rw (eq-eqb k k refl, eq-eqb c entry.cid (sym same)) refl
-fetched_by s k reply entry ok next = absurd ok.1
+fetched_by s k reply entry ok next = grind arith
 
 fetched_at : (s : State) (e : Event) (k : ℕ) (reply : Reply) (entry : SubEntry) → Accepts s e reply → e ≡ events.Fetch k → next_rung s k ≡ Some entry → fetches_by k entry.cid e reply ≡ true
 fetched_at s e k reply entry ok is next = subst (λ (x : Event). fetches_by k entry.cid x reply ≡ true) (sym is) (fetched_by s k reply entry (subst (λ (x : Event). Accepts s x reply) is ok) next)
@@ -51,15 +46,10 @@ marked_turn : (q cid : ℕ) (st : Status) (s : State) (e : Event) (reply : Reply
 marked_turn q cid st s e reply ok far = record {
   stays = λ k j f walked p is. p is;
   fails = λ k j st' waiting f far lost none p is. absurd (some_none (sym (p is) ∙ none));
-  manages = λ entry st' dw0 e' next free is. absurd (not_new 0 entry e' next (and_parts (0 == q) (entry.cid == cid) is));
-  begins = λ k entry e' next other free is. absurd (not_new k entry e' next (and_parts (k == q) (entry.cid == cid) is));
+  manages = λ entry st' dw0 e' next free is. absurd (grind (arith, fetched_at, eqb-true, e', next, and_parts (0 == q) (entry.cid == cid) is));
+  begins = λ k entry e' next other free is. absurd (grind (arith, fetched_at, eqb-true, e', next, and_parts (k == q) (entry.cid == cid) is));
   walks = λ k c j act e' w u p is. absurd (some_none (sym (p is) ∙ w.verdict));
 }
-  where
-    not_new : (k : ℕ) (entry : SubEntry) → e ≡ events.Fetch k → next_rung s k ≡ Some entry → ((k == q) ≡ true) × ((entry.cid == cid) ≡ true) → ⊥
-    not_new k entry is next ids =
-        let fetched = fetched_at s e k reply entry ok is next in
-        true≢false (sym (subst (λ (x : ℕ). fetches_by x cid e reply ≡ true) (eqb-true k q ids.0) (subst (λ (c : ℕ). fetches_by k c e reply ≡ true) (eqb-true entry.cid cid ids.1) fetched)) ∙ far)
 
 marked_carried : (q cid : ℕ) (st : Status) → Carried (Marked q cid st)
 marked_carried q cid st = record {
@@ -83,40 +73,10 @@ abbrev Gives : Made → ℕ → ℕ → Status → Status → Type 0
 Gives m q cid verdict st = (st ≡ verdict) ⊎ FoundDifference m q cid verdict st
 
 job_gives : (m : Made) (q cid : ℕ) (j : Job) (verdict : Status) → job_at m.before q cid ≡ Some j → j.verdict ≡ Some verdict → Gives m q cid verdict (final_status m.before j)
-job_gives m q cid j verdict at v = admin (j.q == 0)
-  where
-    by_kind : is_success verdict ≡ true → (k : Option Kind) → kind_of_opcode j.entry.opcode ≡ k → Gives m q cid verdict (jobs.status_by m.before.device.image j.entry j.bytes k)
-    by_kind ok None e = inl (sym (success_is verdict ok))
-    by_kind ok (Some Read) e = inl (sym (success_is verdict ok))
-    by_kind ok (Some Write) e = inl (sym (success_is verdict ok))
-    by_kind ok (Some Compare) e = equal (bytes_eq (blocks_at m.before.device.image (first_block j.entry) (block_number j.entry)) j.bytes)
-      where
-        equal : (b : Bool) → Gives m q cid verdict (if b then SUCCESS else COMPARE_FAILURE)
-        equal true = inl (sym (success_is verdict ok))
-        equal false = inr (record {
-          compares = ap (λ (o : Option Job). option_map_or (λ j. j.entry.opcode == COMPARE) o false) at ∙ compare_opcode j.entry.opcode e;
-          no_fault = success_is verdict ok;
-          status = refl;
-        })
-
-    by_success : (b : Bool) → is_success verdict ≡ b → Gives m q cid verdict (if b then jobs.status_by m.before.device.image j.entry j.bytes (kind_of_opcode j.entry.opcode) else verdict)
-    by_success true ok = by_kind ok (kind_of_opcode j.entry.opcode) refl
-    by_success false ok = inl refl
-
-    admin : (b : Bool) → Gives m q cid verdict (if b then unwrap_or j.verdict SUCCESS else jobs.status_after m.before.device.image j.entry j.bytes j.verdict)
-    admin true = inl (ap (λ (o : Option Status). unwrap_or o SUCCESS) v)
-    admin false = subst (λ (o : Option Status). Gives m q cid verdict (jobs.status_after m.before.device.image j.entry j.bytes o)) (sym v) (by_success (is_success verdict) refl)
+job_gives m q cid j verdict at v = grind (arith, unwrap_or, success_is)
 
 pub given_job : (s : State) (e : Event) (reply : Reply) (q cid : ℕ) (st : Status) → status_by s e reply q cid ≡ Some st → (j : Job) × (job_at s q cid ≡ Some j) × (final_status s j ≡ st)
-given_job s (events.Complete k c) (events.Completed touched) q cid st given = go ((k == q) && (c == cid)) given
-  where
-    at : (o : Option Job) → job_at s q cid ≡ o → option_map (final_status s) o ≡ Some st → (j : Job) × (job_at s q cid ≡ Some j) × (final_status s j ≡ st)
-    at None e g = absurd cc
-    at (Some j) e g = (j, e, cc)
-
-    go : (b : Bool) → (if b then option_map (final_status s) (job_at s q cid) else None) ≡ Some st → (j : Job) × (job_at s q cid ≡ Some j) × (final_status s j ≡ st)
-    go true g = at (job_at s q cid) refl g
-    go false g = absurd cc
+given_job s (events.Complete k c) (events.Completed touched) q cid st given = grind arith
 given_job s e reply q cid st given = absurd cc
 
 pub runs_count_first_verdicts : first_verdicts_count
@@ -147,38 +107,19 @@ There q cid js = is_some (find (is_job q cid) js) ≡ true
 
 there_map : (q cid : ℕ) (f : Job → Job) → ((j : Job) → is_job q cid (f j) ≡ is_job q cid j) → (js : List Job) → There q cid js → There q cid (map f js)
 there_map q cid f same [] h = h
-there_map q cid f same (j ∷ js) h = rw (same j) (go (is_job q cid j) h (there_map q cid f same js))
-  where
-    go : (b : Bool) → is_some (if b then Some j else find (is_job q cid) js) ≡ true → (There q cid js → There q cid (map f js)) → is_some (if b then Some (f j) else find (is_job q cid) (map f js)) ≡ true
-    go true h ih = refl
-    go false h ih = ih h
+there_map q cid f same (j ∷ js) h = rw (same j) (elim (cases_Bool (is_job q cid j)) [ inl e ↦ rw e refl | inr e ↦ rw e ((there_map q cid f same js) (rw e at h)) ])
 
 there_append : (q cid : ℕ) (js : List Job) (new : Job) → There q cid js → There q cid (js ++ new ∷ [])
 there_append q cid [] new h = absurd (true≢false (sym h))
-there_append q cid (j ∷ js) new h = go (is_job q cid j) h (there_append q cid js new)
-  where
-    go : (b : Bool) → is_some (if b then Some j else find (is_job q cid) js) ≡ true → (There q cid js → There q cid (js ++ new ∷ [])) → is_some (if b then Some j else find (is_job q cid) (js ++ new ∷ [])) ≡ true
-    go true h ih = refl
-    go false h ih = ih h
+there_append q cid (j ∷ js) new h = grind (arith, there_append q cid js new, is_job)
 
 there_filter : (q cid : ℕ) (keep : Job → Bool) → ((j : Job) → is_job q cid j ≡ true → keep j ≡ true) → (js : List Job) → There q cid js → There q cid (filter keep js)
 there_filter q cid keep kept [] h = h
-there_filter q cid keep kept (j ∷ js) h = go (is_job q cid j) (keep j) refl refl h (there_filter q cid keep kept js)
-  where
-    go : (b k : Bool) → is_job q cid j ≡ b → keep j ≡ k → is_some (if b then Some j else find (is_job q cid) js) ≡ true → (There q cid js → There q cid (filter keep js))
-        → There q cid (if k then j ∷ filter keep js else filter keep js)
-    go true true is ks h ih = rw is refl
-    go true false is ks h ih = absurd (true≢false (sym (kept j is) ∙ ks))
-    go false true is ks h ih = rw is (ih h)
-    go false false is ks h ih = ih h
+there_filter q cid keep kept (j ∷ js) h = grind (arith, there_filter q cid keep kept js)
 
 -- a change of some jobs that leaves their queues and entries
 there_some : (q cid : ℕ) (test : Job → Bool) (f : Job → Job) → ((j : Job) → is_job q cid (f j) ≡ is_job q cid j) → (js : List Job) → There q cid js → There q cid (map (λ j. if test j then f j else j) js)
-there_some q cid test f same js h = there_map q cid (λ j. if test j then f j else j) (λ j. either j (test j)) js h
-  where
-    either : (j : Job) (b : Bool) → is_job q cid (if b then f j else j) ≡ is_job q cid j
-    either j true = same j
-    either j false = refl
+there_some q cid test f same js h = there_map q cid (λ j. if test j then f j else j) (λ j. (elim (cases_Bool (test j)) [ inl e ↦ rw e (same j) | inr e ↦ rw e refl ])) js h
 
 -- Fetching
 
@@ -215,42 +156,26 @@ there_fetch q cid k s h = go (next_rung s k)
 -- Walking
 
 there_walk : (q cid k c : ℕ) (s : State) → There q cid s.device.jobs → There q cid (a.after_walk k c s).device.jobs
-there_walk q cid k c s h = go (job_at s k c)
+there_walk q cid k c s h = elim (option_is (job_at s k c)) [
+  | inl e ↦ rw e (h)
+  | inr (j, e) ↦ rw e (inner j (a.next_unit s j))
+]
   where
     moved : (dir : Direction) (act : Act) → There q cid (a.moved dir act k c s).device.jobs
-    moved dir Stays = h
-    moved dir (Reads place) = h
-    moved Destination (Moves place n offset) = at (job_at s k c)
-      where
-        at : (o : Option Job) → There q cid (option_map_or (λ j. a.on_memory (λ m. with_page_bytes m (place / 4096) (place % 4096) (take n (drop offset j.bytes))) s) o s).device.jobs
-        at None = h
-        at (Some j) = h
+    moved Destination (Moves place n offset) = grind arith
     moved Source (Moves place n offset) =
         there_some q cid (λ j. is_job k c j) (λ j. record j { bytes = with_bytes j.bytes offset (a.page_bytes s.memory place n) }) (λ j. refl) s.device.jobs h
+    moved dir act = h
 
     inner : (j : Job) (o : Option Act) → There q cid (option_map_or (λ act. a.on_job k c (λ x. record x { units_done = x.units_done + 1; verdict = verdict_of (a.next_answer s j) }) (a.moved (direction_of_entry j.entry) act k c s)) o s).device.jobs
     inner j None = h
     inner j (Some act) =
         there_some q cid (λ x. is_job k c x) (λ x. record x { units_done = x.units_done + 1; verdict = verdict_of (a.next_answer s j) }) (λ x. refl) (a.moved (direction_of_entry j.entry) act k c s).device.jobs (moved (direction_of_entry j.entry) act)
 
-    go : (o : Option Job) → There q cid (option_map_or (λ j. option_map_or (λ act. a.on_job k c (λ x. record x { units_done = x.units_done + 1; verdict = verdict_of (a.next_answer s j) }) (a.moved (direction_of_entry j.entry) act k c s)) (a.next_unit s j) s) o s).device.jobs
-    go None = h
-    go (Some j) = inner j (a.next_unit s j)
-
 -- Completing another
 
 both_is : (q cid k c : ℕ) (j : Job) → ((k == q) && (c == cid)) ≡ false → is_job q cid j ≡ true → not (is_job k c j) ≡ true
-both_is q cid k c j far is = go (is_job k c j) refl
-  where
-    ids : ((j.q == q) ≡ true) × ((j.entry.cid == cid) ≡ true)
-    ids = and_parts (j.q == q) (j.entry.cid == cid) is
-
-    go : (b : Bool) → is_job k c j ≡ b → not b ≡ true
-    go true at =
-        let its = and_parts (j.q == k) (j.entry.cid == c) at in
-        let same : ((k == q) && (c == cid)) ≡ true = rw (eq-eqb k q (sym (eqb-true j.q k its.0) ∙ eqb-true j.q q ids.0), eq-eqb c cid (sym (eqb-true j.entry.cid c its.1) ∙ eqb-true j.entry.cid cid ids.1)) refl in
-        absurd (true≢false (sym same ∙ far))
-    go false at = refl
+both_is q cid k c j far is = grind (arith, is_job, eq-eqb, eqb-true)
 
 there_complete : (q cid k c : ℕ) (s : State) → ((k == q) && (c == cid)) ≡ false → There q cid s.device.jobs → There q cid (a.after_complete k c s).device.jobs
 there_complete q cid k c s far h = go (job_at s k c)
@@ -302,20 +227,17 @@ verdicts_kept s e q cid before st at v = record {
   fails = λ k j st' waiting f far lost none p is. absurd (some_none (sym v ∙ ap (λ (x : Job). x.verdict) (sym (p is)) ∙ none));
   manages = λ entry st' dw0 e' next free is.
       let ids = and_parts (0 == q) (entry.cid == cid) is in
-      absurd (new_here 0 entry.cid (eqb-true 0 q ids.0) (eqb-true entry.cid cid ids.1) free);
+      absurd (grind (arith, eqb-true 0 q ids.0, eqb-true entry.cid cid ids.1, free));
   begins = λ k entry e' next other free is.
       let ids = and_parts (k == q) (entry.cid == cid) is in
-      absurd (new_here k entry.cid (eqb-true k q ids.0) (eqb-true entry.cid cid ids.1) free);
+      absurd (grind (arith, eqb-true k q ids.0, eqb-true entry.cid cid ids.1, free));
   walks = λ k c j act e' w u p is. absurd (some_none (sym v ∙ ap (λ (x : Job). x.verdict) (sym (p is)) ∙ w.verdict));
 }
-  where
-    new_here : (k c : ℕ) → k ≡ q → c ≡ cid → is_some (job_at s k c) ≡ false → ⊥
-    new_here k c qs cs free =
-        let here : is_some (job_at s q cid) ≡ false = subst (λ (x : ℕ). is_some (job_at s x cid) ≡ false) qs (subst (λ (x : ℕ). is_some (job_at s k x) ≡ false) cs free) in
-        true≢false (ap is_some (sym at) ∙ here)
 
 pub runs_keep_verdicts : verdicts_stay
 runs_keep_verdicts image made old new e reply q cid before after st run step unforged at v here =
+    let only : (s : State) → Stood s → job_at s q cid ≡ Some before → AllByRecursion (Is q cid before) s.device.jobs =
+    λ s stood at. only_found (is_job q cid) s.device.jobs before at (one_job s stood q cid) in
     all_at_found (Keeps q cid before) (is_job q cid) new.device.jobs after here
     (trusted_step_by (λ (e : Event) (reply : Reply) (t : State). Stood old → job_at old q cid ≡ Some before → AllByRecursion (Keeps q cid before) t.device.jobs) old
     (λ e why touched stood at. all_in (Is q cid before) (Keeps q cid before) old.device.jobs (λ j within p is. subst (KeepsVerdict before) (sym (p is)) (record { verdict = refl; units_done = refl; bytes = refl })) (only old stood at))
@@ -323,20 +245,14 @@ runs_keep_verdicts image made old new e reply q cid before after st run step unf
     e reply new step (trusted_end image made old run)
     (stays_trusted old e reply new step (not-true (forges_by e reply) unforged) (trusted_end image made old run)) (stood_after image made old run) at)
     (find_sound (is_job q cid) new.device.jobs after here)
-  where
-    only : (s : State) → Stood s → job_at s q cid ≡ Some before → AllByRecursion (Is q cid before) s.device.jobs
-    only s stood at = only_found (is_job q cid) s.device.jobs before at (one_job s stood q cid)
 
 -- A walk of a job that has a verdict
 
 walk_refusal : (s : State) (q cid : ℕ) (job : Job) (st : Status) → job_at s q cid ≡ Some job → job.verdict ≡ Some st → refusal_of s (events.Walk q cid) ≡ Some Nothing
-walk_refusal s q cid job st at v =
-    ap (λ (o : Option Job). first_passing ((is_none o, NoJob) ∷ (option_map_or (λ j. is_some j.verdict || (j.q == 0)) o false, Nothing) ∷ [])) at
-    ∙ ap (λ (o : Option Status). first_passing ((false, NoJob) ∷ (is_some o || (job.q == 0), Nothing) ∷ [])) v
+walk_refusal s q cid job st at v = grind arith
 
 refused_so : (s : State) (q cid : ℕ) (why : Refusal) (touched : List ℕ) → refusal_of s (events.Walk q cid) ≡ Some Nothing → Refuses s (events.Walk q cid) why touched → events.Refused why touched ≡ events.Refused Nothing []
-refused_so s q cid Memory touched is h = absurd (true≢false (sym h.0))
-refused_so s q cid why touched is h = ap₂ (λ (w : Refusal) (pages : List ℕ). events.Refused w pages) (some_is (sym h.0 ∙ is)) h.1
+refused_so s q cid why touched is h = grind arith
 
 pub verdict_ends_walks : verdicts_end_walks
 verdict_ends_walks image made s new reply q cid job st run step at v = go reply step
@@ -344,15 +260,9 @@ verdict_ends_walks image made s new reply q cid job st run step at v = go reply 
     is : refusal_of s (events.Walk q cid) ≡ Some Nothing
     is = walk_refusal s q cid job st at v
 
-    none : refusal_of s (events.Walk q cid) ≡ None → ⊥
-    none e = nothing_none (sym is ∙ e)
-      where
-        nothing_none : Some Nothing ≡ None → ⊥
-        nothing_none e = cc
-
     go : (reply : Reply) → Step s (events.Walk q cid) reply new → IsRefusedWalk s reply new
     go (events.Refused why touched) step = record { refused = refused_so s q cid why touched is (permitted _ s.trusted false (trusted_end image made s run) step.1); same = step.2 }
-    go reply step = absurd (none (permitted _ s.trusted false (trusted_end image made s run) step.1).0)
+    go reply step = absurd (cc (sym is ∙ (permitted _ s.trusted false (trusted_end image made s run) step.1).0))
 
 -- A queue deleted under two commands with verdicts, computed: it is longer than what a search goes through.
 

@@ -2,8 +2,8 @@
 use Rattle.machine_model.specs.Events as events
 use Rattle.machine_model.specs.After as a
 use Rattle.std.proofs.Common.{◌≡◌, ℕ, ◌+◌, ◌==◌, Bool, true, false, ◌&&◌, Some, List, [], ◌∷◌, ◌++◌, length, filter, slice_get, if◌then◌else◌, refl, ap, sym, ◌∙◌, arith, eqb-true, eq-eqb, ◌/◌, ◌%◌, not, Option, None, map, find, take, drop, is_some, is_none, subst, inl, inr}
-use Rattle.std.{proofs.lemmas.Bool.{true≢false, and_parts, or_parts, cases_Bool, not-true, Decides.nat_tests}, specs.List.{AllByRecursion, list_any}}
-use Rattle.std.specs.Option.{option_map, option_map_or}
+use Rattle.std.{proofs.lemmas.Bool.{true≢false, and_parts, or_parts, cases_Bool, not-true}, specs.List.{AllByRecursion, list_any}}
+use Rattle.std.specs.Option.{option_map_or}
 use Rattle.entry_codec.specs.declared.{admin_opcode.TheConstants.DELETE_IO_SQ, status.Status.Status}
 use Rattle.entry_codec.specs.declared.{status.TheConstants.Status.{COMMAND_ID_CONFLICT, ABORT_REQUESTED, ABORTED_SQ_DELETION}, submission.SubEntry.SubEntry}
 use Rattle.machine_model.{proofs.{Steps.{managed_by, permitted, exact}, Tokens.{is_job, find_sound}}, specs.{Events.{Event, Reply}, Image.Made}}
@@ -15,12 +15,13 @@ use Rattle.run_laws.specs.Statuses.{fetches, fetches_by, since_fetch}
 use Rattle.run_laws.specs.Walked.{walks_by, walks_of, times_walked, units_done_count_the_walks, HasJobSo, walks_go_on_without_a_verdict, completes_by, ends_job, ends_walk_by, only_the_last_walk_ends}
 use Rattle.two_sides.proofs.Along.{Carried, keeps, made_of, run_along, Unforged, unforged_next, unforged_front, unforged_back, unforged_run, unforged_end, trusted_end, cut}
 use Rattle.two_sides.proofs.{Commands.walking, JobLaws.{not_zero as positive, stood_after}, NeverFull.{stood_on, stood_at_opening, host_jobs}}
-use Rattle.two_sides.proofs.{PlacesKept.in_hand, Provided.{all_at, all_at_found, all_in, some_is}, Served.Stood, Standing.device-answered}
+use Rattle.two_sides.proofs.{PlacesKept.in_hand, Provided.{all_at, all_at_found, all_in}, Served.Stood, Standing.device-answered}
 use Rattle.admin_commands.specs.{Entries.{named_queue, named_command}, declared.SqState.TheVariants.Absent}
 use Rattle.controller_walk.specs.{Units.{Act, Stays, Reads, Moves}, Walks.is_more, declared.walk.WalkState.WalkState}
 use Rattle.sgl_descriptor.specs.declared.Direction.{Direction, TheVariants.{Destination, Source}}
 use Rattle.io_commands.specs.Jobs.{is_success, verdict_of, direction_of_entry}
 use Rattle.page_memory.specs.Pages.{with_page_bytes, with_bytes}
+use Rattle.machine_model.proofs.Cases.{option_is}
 
 -- A job has done as many units as there were walk steps of it since its fetch.
 
@@ -44,9 +45,7 @@ filtered_more test (x ∷ xs) m = grind (arith, filtered_more test xs m)
 
 since_new : (q cid : ℕ) (xs : List Made) (m : Made) → fetches q cid m ≡ true → since_fetch q cid (xs ++ m ∷ []) ≡ []
 since_new q cid [] m h = ap (λ (b : Bool). if b then [] else []) h
-since_new q cid (x ∷ xs) m h =
-    ap (λ (b : Bool). if b then since_fetch q cid (xs ++ m ∷ []) else if fetches q cid x then xs ++ m ∷ [] else since_fetch q cid (xs ++ m ∷ [])) (any_last (fetches q cid) xs m h)
-    ∙ since_new q cid xs m h
+since_new q cid (x ∷ xs) m h = grind (arith, since_new q cid xs m, any_last)
 
 walked_more : (q cid : ℕ) (earlier : List Made) (m : Made) → list_any (fetches q cid) earlier ≡ true → fetches q cid m ≡ false → times_walked q cid (earlier ++ m ∷ []) ≡ times_walked q cid earlier + (if walks_of q cid m then 1 else 0)
 walked_more q cid earlier m any far = ap (λ (xs : List Made). length (filter (walks_of q cid) xs)) (since_more q cid earlier m any far) ∙ filtered_more (walks_of q cid) (since_fetch q cid earlier) m
@@ -60,71 +59,51 @@ counted_same earlier j k m kq kc ku far still h = record {
 -- A step is no fetch of a job, and no walk of a job that it doesn't walk
 
 pub not_refetched : (s : State) (e : Event) (reply : Reply) → Going s e reply → (k : ℕ) (j : Job) → slice_get s.device.jobs k ≡ Some j → fetches_by j.q j.entry.cid e reply ≡ false
-not_refetched s (events.Fetch q) (events.Fetched c touched) g k j at = go ((q == j.q) && (c == j.entry.cid)) refl
-  where
-    go : (b : Bool) → ((q == j.q) && (c == j.entry.cid)) ≡ b → b ≡ false
-    go false e = refl
-    go true e =
-        let ids = and_parts (q == j.q) (c == j.entry.cid) e in
-        let f = fetched_entry s q j.entry.cid c g.ok.1.0 (eqb-true c j.entry.cid ids.1) in
-        let none = not_conflicting s g.stood q f.0 (in_hand s q f.0 f.1) in
-        let no = all_at (λ j. is_job q f.0.cid j ≡ false) s.device.jobs k j at (none_found q f.0.cid s.device.jobs none) in
-        absurd (true≢false (sym (rw (eq-eqb j.q q (sym (eqb-true q j.q ids.0)), eq-eqb j.entry.cid f.0.cid (sym f.2)) refl) ∙ no))
+not_refetched s (events.Fetch q) (events.Fetched c touched) g k j at = elim (cases_Bool ((q == j.q) && (c == j.entry.cid))) [
+  | inl e ↦
+      rw e (let ids = and_parts (q == j.q) (c == j.entry.cid) e in
+      let f = fetched_entry s q j.entry.cid c g.ok.1.0 (eqb-true c j.entry.cid ids.1) in
+      let none = not_conflicting s g.stood q f.0 (in_hand s q f.0 f.1) in
+      let no = all_at (λ j. is_job q f.0.cid j ≡ false) s.device.jobs k j at (none_found q f.0.cid s.device.jobs none) in
+      absurd (true≢false (sym (rw (eq-eqb j.q q (sym (eqb-true q j.q ids.0)), eq-eqb j.entry.cid f.0.cid (sym f.2)) refl) ∙ no)))
+  | inr e ↦ rw e refl
+]
 not_refetched s (events.Fetch q) reply g k j at = absurd g.ok.1
 not_refetched s e reply g k j at = refl
 
 not_rewalked : (e : Event) (reply : Reply) (j : Job) → is_walked e j ≡ false → walks_by j.q j.entry.cid e reply ≡ false
-not_rewalked (events.Walk q cid) (events.Walked outcome touched) j far = turned q j.q cid j.entry.cid far
-  where
-    turned : (q k c jc : ℕ) → ((k == q) && (jc == c)) ≡ false → ((q == k) && (c == jc)) ≡ false
-    turned q k c jc f = grind (arith, nat_tests, f)
-not_rewalked e reply j far = refl
+not_rewalked e reply j far = grind arith
 
 begun_fetched : (s : State) (e : Event) (reply : Reply) → Going s e reply → (q : ℕ) (entry : SubEntry) → e ≡ events.Fetch q → next_rung s q ≡ Some entry → fetches_by q entry.cid e reply ≡ true
-begun_fetched s (events.Fetch k) (events.Fetched c touched) g q entry is rung = rw (eq-eqb k q (queue is), eq-eqb c entry.cid its_cid) refl
-  where
-    queue : {x y : ℕ} → events.Fetch x ≡ events.Fetch y → x ≡ y
-    queue is = cc
-
-    its_cid : c ≡ entry.cid
-    its_cid = some_is (sym g.ok.1.0 ∙ ap (λ (n : ℕ). option_map (λ (x : SubEntry). x.cid) (next_rung s n)) (queue is) ∙ ap (option_map (λ (x : SubEntry). x.cid)) rung)
-begun_fetched s (events.Fetch k) reply g q entry is rung = absurd g.ok.1
-begun_fetched s e reply g q entry is rung = absurd (cc)
+begun_fetched s e reply g q entry is rung = grind arith
 
 walk_counts : (s : State) (e : Event) (reply : Reply) → Going s e reply → (q cid : ℕ) → e ≡ events.Walk q cid → (walks_by q cid e reply ≡ true) × (fetches_by q cid e reply ≡ false)
-walk_counts s (events.Walk k c) (events.Walked outcome touched) g q cid is = (rw (eq-eqb k q (queue is), eq-eqb c cid (its is)) refl, refl)
-  where
-    queue : {x y z w : ℕ} → events.Walk x z ≡ events.Walk y w → x ≡ y
-    queue is = cc
-
-    its : {x y z w : ℕ} → events.Walk x z ≡ events.Walk y w → z ≡ w
-    its is = cc
+walk_counts s (events.Walk k c) (events.Walked outcome touched) g q cid is = (rw (eq-eqb k q (cc (is)), eq-eqb c cid (cc (is))) refl, refl)
 walk_counts s (events.Walk k c) reply g q cid is = absurd g.ok.1
 walk_counts s e reply g q cid is = absurd (cc)
 
 counts_move : (earlier : List Made) (s : State) (e : Event) (reply : Reply) → Going s e reply → JobsMove (CountedIfIo earlier) (CountedIfIo (earlier ++ record { before = s; event = e; reply = reply } ∷ [])) s e
-counts_move earlier s e reply g = record {
-  stays = λ k j at far p other. counted_same earlier j j m refl refl refl (not_refetched s e reply g k j at) (not_rewalked e reply j far) (p other);
-  fails = λ k j st waiting at far failed none p other. counted_same earlier j (record j { verdict = Some st; waiting_abort = waiting }) m refl refl refl (not_refetched s e reply g k j at) (not_rewalked e reply j far) (p other);
-  manages = λ entry st dw0 is rung free other. absurd (true≢false other);
-  begins = λ q entry is rung io free other.
-      let f = begun_fetched s e reply g q entry is rung in record {
-        fetched = any_last (fetches q entry.cid) earlier m f;
-        count = ap (λ (xs : List Made). length (filter (walks_of q entry.cid) xs)) (sym (since_new q entry.cid earlier m f));
-      };
-  walks = λ q cid j act is w unit p other.
-      let c = walk_counts s e reply g q cid is in
-      let h = p w.other in
-      let far : fetches j.q j.entry.cid m ≡ false = ap (λ (n : ℕ). fetches n j.entry.cid m) w.its_queue ∙ ap (λ (n : ℕ). fetches q n m) w.its_id ∙ c.1 in
-      let one : walks_of j.q j.entry.cid m ≡ true = ap (λ (n : ℕ). walks_of n j.entry.cid m) w.its_queue ∙ ap (λ (n : ℕ). walks_of q n m) w.its_id ∙ c.0 in
-      record {
-        fetched = any_longer (fetches j.q j.entry.cid) earlier m h.fetched;
-        count = ap (λ (n : ℕ). n + 1) h.count ∙ sym (walked_more j.q j.entry.cid earlier m h.fetched far ∙ (grind arith));
-      };
-}
-  where
-    m : Made
-    m = record { before = s; event = e; reply = reply }
+counts_move earlier s e reply g =
+    let m : Made = record { before = s; event = e; reply = reply } in
+    record {
+      stays = λ k j at far p other. counted_same earlier j j m refl refl refl (not_refetched s e reply g k j at) (not_rewalked e reply j far) (p other);
+      fails = λ k j st waiting at far failed none p other. counted_same earlier j (record j { verdict = Some st; waiting_abort = waiting }) m refl refl refl (not_refetched s e reply g k j at) (not_rewalked e reply j far) (p other);
+      manages = λ entry st dw0 is rung free other. absurd (true≢false other);
+      begins = λ q entry is rung io free other.
+          let f = begun_fetched s e reply g q entry is rung in record {
+            fetched = any_last (fetches q entry.cid) earlier m f;
+            count = ap (λ (xs : List Made). length (filter (walks_of q entry.cid) xs)) (sym (since_new q entry.cid earlier m f));
+          };
+      walks = λ q cid j act is w unit p other.
+          let c = walk_counts s e reply g q cid is in
+          let h = p w.other in
+          let far : fetches j.q j.entry.cid m ≡ false = ap (λ (n : ℕ). fetches n j.entry.cid m) w.its_queue ∙ ap (λ (n : ℕ). fetches q n m) w.its_id ∙ c.1 in
+          let one : walks_of j.q j.entry.cid m ≡ true = ap (λ (n : ℕ). walks_of n j.entry.cid m) w.its_queue ∙ ap (λ (n : ℕ). walks_of q n m) w.its_id ∙ c.0 in
+          record {
+            fetched = any_longer (fetches j.q j.entry.cid) earlier m h.fetched;
+            count = ap (λ (n : ℕ). n + 1) h.count ∙ sym (walked_more j.q j.entry.cid earlier m h.fetched far ∙ (grind arith));
+          };
+    }
 
 refused_no_walk : (e : Event) (why : Refusal) (touched : List ℕ) (q cid : ℕ) → walks_by q cid e (events.Refused why touched) ≡ false
 refused_no_walk e why touched q cid = grind arith
@@ -160,30 +139,18 @@ units_counted image made end q cid j run io found =
 
 found_more : (q cid : ℕ) (js more : List Job) (j : Job) → find (is_job q cid) js ≡ Some j → find (is_job q cid) (js ++ more) ≡ Some j
 found_more q cid [] more j e = absurd cc
-found_more q cid (x ∷ js) more j e = go (is_job q cid x) e (found_more q cid js more j)
-  where
-    go : (b : Bool) → (if b then Some x else find (is_job q cid) js) ≡ Some j → (find (is_job q cid) js ≡ Some j → find (is_job q cid) (js ++ more) ≡ Some j) → (if b then Some x else find (is_job q cid) (js ++ more)) ≡ Some j
-    go true e ih = e
-    go false e ih = ih e
+found_more q cid (x ∷ js) more j e = grind (arith, found_more q cid js more j, is_job)
 
 found_mapped : (q cid : ℕ) (f : Job → Job) → ((j : Job) → is_job q cid (f j) ≡ is_job q cid j) → (js : List Job) (j : Job) → find (is_job q cid) js ≡ Some j → find (is_job q cid) (map f js) ≡ Some (f j)
 found_mapped q cid f same [] j e = absurd cc
-found_mapped q cid f same (x ∷ js) j e = go (is_job q cid x) (same x) e (found_mapped q cid f same js j)
-  where
-    go : (b : Bool) → is_job q cid (f x) ≡ b → (if b then Some x else find (is_job q cid) js) ≡ Some j → (find (is_job q cid) js ≡ Some j → find (is_job q cid) (map f js) ≡ Some (f j))
-        → (if is_job q cid (f x) then Some (f x) else find (is_job q cid) (map f js)) ≡ Some (f j)
-    go true t e ih = let is : x ≡ j = cc in rw t (ap (λ (y : Job). Some (f y)) is)
-    go false t e ih = rw t (ih e)
+found_mapped q cid f same (x ∷ js) j e = grind (arith, same x, found_mapped q cid f same js j)
 
 found_kept : (q cid : ℕ) (keep : Job → Bool) → ((j : Job) → is_job q cid j ≡ true → keep j ≡ true) → (js : List Job) (j : Job) → find (is_job q cid) js ≡ Some j → find (is_job q cid) (filter keep js) ≡ Some j
 found_kept q cid keep stays [] j e = absurd cc
 found_kept q cid keep stays (x ∷ js) j e = elim (cases_Bool (is_job q cid x)) [
   | inl t ↦ let e = rw t at e in let is : x ≡ j = cc in rw (stays x t) (rw t (ap (λ (y : Job). Some y) is))
-  | inr t ↦ let e = rw t at e in let ih = found_kept q cid keep stays js j in still (keep x) t (ih e)
+  | inr t ↦ let e = rw t at e in let ih = found_kept q cid keep stays js j in (grind (arith, t, (ih e)))
 ]
-  where
-    still : (b : Bool) → is_job q cid x ≡ false → find (is_job q cid) (filter keep js) ≡ Some j → find (is_job q cid) (if b then x ∷ filter keep js else filter keep js) ≡ Some j
-    still b t h = grind arith
 
 -- A job that has its verdict
 
@@ -214,12 +181,17 @@ fetch_decided s n stood q cid h = go (next_rung s n) refl
 
     managed : (e : SubEntry) → DecidedIn q cid (a.managed e (a.taken_off 0 s)).device.jobs
     managed e =
+        let abort_over : (j : Job) (b : Bool) → is_some j.verdict ≡ true → is_some (if b then record j { verdict = Some ABORT_REQUESTED; waiting_abort = Some e.cid } else j).verdict ≡ true =
+        λ j b o. grind arith in
+        let stop_q : (j : Job) (b : Bool) → (if b then record j { verdict = Some ABORTED_SQ_DELETION } else j).q ≡ j.q = λ j b. grind arith in
+        let stop_entry : (j : Job) (b : Bool) → (if b then record j { verdict = Some ABORTED_SQ_DELETION } else j).entry ≡ j.entry = λ j b. grind arith in
+        let stop_over : (j : Job) (b : Bool) → is_some j.verdict ≡ true → is_some (if b then record j { verdict = Some ABORTED_SQ_DELETION } else j).verdict ≡ true = λ j b o. grind arith in
         managed_by (λ (t : State). DecidedIn q cid t.device.jobs) e (a.taken_off 0 s)
         (record {
           refuses = λ st bad. one_more s.device.jobs _ h;
           aborts = λ is8 w. one_more (map (λ (j : Job). if (j.q == named_queue e) && (j.entry.cid == named_command e) then record j { verdict = Some ABORT_REQUESTED; waiting_abort = Some e.cid } else j) s.device.jobs) _
               (mapped q cid (λ (j : Job). if (j.q == named_queue e) && (j.entry.cid == named_command e) then record j { verdict = Some ABORT_REQUESTED; waiting_abort = Some e.cid } else j) s.device.jobs
-              (λ j. abort_q j ((j.q == named_queue e) && (j.entry.cid == named_command e))) (λ j. abort_entry j ((j.q == named_queue e) && (j.entry.cid == named_command e))) (λ j. abort_over j ((j.q == named_queue e) && (j.entry.cid == named_command e))) h);
+              (λ j. (grind arith)) (λ j. (grind arith)) (λ j. abort_over j ((j.q == named_queue e) && (j.entry.cid == named_command e))) h);
           is_late = λ is8. one_more s.device.jobs _ h;
           stops = λ is0 q0 runs. one_more (map (a.stopped (named_queue e)) s.device.jobs) _
               (mapped q cid (a.stopped (named_queue e)) s.device.jobs (λ j. stop_q j ((j.q == named_queue e) && is_none j.verdict)) (λ j. stop_entry j ((j.q == named_queue e) && is_none j.verdict)) (λ j. stop_over j ((j.q == named_queue e) && is_none j.verdict)) h);
@@ -227,28 +199,6 @@ fetch_decided s n stood q cid h = go (next_rung s n) refl
           makes_completion = λ is5 q0 none. one_more s.device.jobs _ h;
           makes_submission = λ is1 q0 gone there. one_more s.device.jobs _ h;
         })
-      where
-        abort_q : (j : Job) (b : Bool) → (if b then record j { verdict = Some ABORT_REQUESTED; waiting_abort = Some e.cid } else j).q ≡ j.q
-        abort_q j true = refl
-        abort_q j false = refl
-
-        abort_entry : (j : Job) (b : Bool) → (if b then record j { verdict = Some ABORT_REQUESTED; waiting_abort = Some e.cid } else j).entry ≡ j.entry
-        abort_entry j b = grind arith
-
-        abort_over : (j : Job) (b : Bool) → is_some j.verdict ≡ true → is_some (if b then record j { verdict = Some ABORT_REQUESTED; waiting_abort = Some e.cid } else j).verdict ≡ true
-        abort_over j true o = refl
-        abort_over j false o = o
-
-        stop_q : (j : Job) (b : Bool) → (if b then record j { verdict = Some ABORTED_SQ_DELETION } else j).q ≡ j.q
-        stop_q j true = refl
-        stop_q j false = refl
-
-        stop_entry : (j : Job) (b : Bool) → (if b then record j { verdict = Some ABORTED_SQ_DELETION } else j).entry ≡ j.entry
-        stop_entry j b = grind arith
-
-        stop_over : (j : Job) (b : Bool) → is_some j.verdict ≡ true → is_some (if b then record j { verdict = Some ABORTED_SQ_DELETION } else j).verdict ≡ true
-        stop_over j true o = refl
-        stop_over j false o = o
 
     inner : (e : SubEntry) → next_rung s n ≡ Some e → (b z : Bool) → conflicts s n ≡ b
         → DecidedIn q cid (if b then a.answered n e.cid COMMAND_ID_CONFLICT 0 (a.taken_off n s) else if z then a.managed e (a.taken_off 0 s) else a.begun n e (a.taken_off n s)).device.jobs
@@ -265,18 +215,7 @@ fetch_decided s n stood q cid h = go (next_rung s n) refl
 -- what a walk does to a job, another job than the one that it walks
 other_job : (q cid k c : ℕ) (f : Job → Job) (js : List Job) → ((k == q) && (c == cid)) ≡ false → ((j : Job) → (f j).q ≡ j.q) → ((j : Job) → (f j).entry ≡ j.entry)
     → DecidedIn q cid js → DecidedIn q cid (map (λ (j : Job). if (j.q == k) && (j.entry.cid == c) then f j else j) js)
-other_job q cid k c f js far same_q same_entry h =
-    (h.0, found_mapped q cid (λ (j : Job). if (j.q == k) && (j.entry.cid == c) then f j else j) (λ j. either j ((j.q == k) && (j.entry.cid == c))) js h.0 h.1 ∙ ap (λ (y : Job). Some y) (still ((h.0.q == k) && (h.0.entry.cid == c)) refl), h.2)
-  where
-    either : (j : Job) (b : Bool) → is_job q cid (if b then f j else j) ≡ is_job q cid j
-    either j b = grind arith
-
-    still : (b : Bool) → ((h.0.q == k) && (h.0.entry.cid == c)) ≡ b → (if b then f h.0 else h.0) ≡ h.0
-    still true e =
-        let there = and_parts (h.0.q == k) (h.0.entry.cid == c) e in
-        let ids = and_parts (h.0.q == q) (h.0.entry.cid == cid) (find_sound (is_job q cid) js h.0 h.1) in
-        absurd (true≢false (sym (rw (eq-eqb k q (sym (eqb-true h.0.q k there.0) ∙ eqb-true h.0.q q ids.0), eq-eqb c cid (sym (eqb-true h.0.entry.cid c there.1) ∙ eqb-true h.0.entry.cid cid ids.1)) refl) ∙ far))
-    still false e = refl
+other_job q cid k c f js far same_q same_entry h = grind (arith, is_job, found_mapped, find_sound, eq-eqb, eqb-true)
 
 walk_decided : (s : State) (k c : ℕ) (q cid : ℕ) → ((k == q) && (c == cid)) ≡ false → DecidedIn q cid s.device.jobs → DecidedIn q cid (a.after_walk k c s).device.jobs
 walk_decided s k c q cid far h = go (job_at s k c)
@@ -290,12 +229,10 @@ walk_decided s k c q cid far h = go (job_at s k c)
     moved j Source (Moves place n offset) =
         last j (map (λ (x : Job). if (x.q == k) && (x.entry.cid == c) then record x { bytes = with_bytes x.bytes offset (a.page_bytes s.memory place n) } else x) s.device.jobs)
         (other_job q cid k c (λ x. record x { bytes = with_bytes x.bytes offset (a.page_bytes s.memory place n) }) s.device.jobs far (λ x. refl) (λ x. refl) h)
-    moved j Destination (Moves place n offset) = at (job_at s k c)
-      where
-        at : (o : Option Job) → DecidedIn q cid (a.on_job k c (λ x. record x { units_done = x.units_done + 1; verdict = verdict_of (a.next_answer s j) })
-            (option_map_or (λ j. a.on_memory (λ m. with_page_bytes m (place / 4096) (place % 4096) (take n (drop offset j.bytes))) s) o s)).device.jobs
-        at None = last j s.device.jobs h
-        at (Some x) = last j s.device.jobs h
+    moved j Destination (Moves place n offset) = elim (option_is (job_at s k c)) [
+      | inl e ↦ rw e (last j s.device.jobs h)
+      | inr (x, e) ↦ rw e (last j s.device.jobs h)
+    ]
 
     inner : (j : Job) (o : Option Act) → DecidedIn q cid (option_map_or (λ act. a.on_job k c (λ x. record x { units_done = x.units_done + 1; verdict = verdict_of (a.next_answer s j) }) (a.moved (direction_of_entry j.entry) act k c s)) o s).device.jobs
     inner j None = h
@@ -306,44 +243,28 @@ walk_decided s k c q cid far h = go (job_at s k c)
     go (Some j) = inner j (a.next_unit s j)
 
 complete_decided : (s : State) (k c : ℕ) (q cid : ℕ) → ((k == q) && (c == cid)) ≡ false → DecidedIn q cid s.device.jobs → DecidedIn q cid (a.after_complete k c s).device.jobs
-complete_decided s k c q cid far h = go (job_at s k c)
+complete_decided s k c q cid far h =
+    let kept : (j : Job) → is_job q cid j ≡ true → not (is_job k c j) ≡ true = λ j is. grind (arith, is_job, eq-eqb, eqb-true) in
+    elim (option_is (job_at s k c)) [
+      | inl e ↦ rw e (h)
+      | inr (j, e) ↦
+          rw e (let s1 = a.on_device (λ d. record d { image = a.image_completed j d.image }) (a.without_job k c s) in
+          subst (λ (d : Device). DecidedIn q cid d.jobs) (sym (device-answered k c (a.final_status s j) j.dw0 (a.deletion_done j (a.final_status s j) s1)))
+          (deleted s1 j ((j.q == 0) && (j.entry.opcode == DELETE_IO_SQ) && is_success (a.final_status s j)) (h.0, found_kept q cid (λ x. not (is_job k c x)) kept s.device.jobs h.0 h.1, h.2)))
+    ]
   where
-    kept : (j : Job) → is_job q cid j ≡ true → not (is_job k c j) ≡ true
-    kept j is = at (is_job k c j) refl
-      where
-        at : (b : Bool) → is_job k c j ≡ b → not b ≡ true
-        at false e = refl
-        at true e =
-            let there = and_parts (j.q == k) (j.entry.cid == c) e in
-            let ids = and_parts (j.q == q) (j.entry.cid == cid) is in
-            absurd (true≢false (sym (rw (eq-eqb k q (sym (eqb-true j.q k there.0) ∙ eqb-true j.q q ids.0), eq-eqb c cid (sym (eqb-true j.entry.cid c there.1) ∙ eqb-true j.entry.cid cid ids.1)) refl) ∙ far))
-
     deleted : (s1 : State) (j : Job) (b : Bool) → DecidedIn q cid s1.device.jobs → DecidedIn q cid (if b then a.on_device_queue (named_queue j.entry) (λ at. record at { state = Absent; unfetched = []; rung = 0 }) s1 else s1).device.jobs
     deleted s1 j true x = x
     deleted s1 j false x = x
 
-    go : (o : Option Job) → DecidedIn q cid (option_map_or (λ j. let st = a.final_status s j in a.answered k c st j.dw0 (a.deletion_done j st (a.on_device (λ d. record d { image = a.image_completed j d.image }) (a.without_job k c s)))) o s).device.jobs
-    go None = h
-    go (Some j) =
-        let s1 = a.on_device (λ d. record d { image = a.image_completed j d.image }) (a.without_job k c s) in
-        subst (λ (d : Device). DecidedIn q cid d.jobs) (sym (device-answered k c (a.final_status s j) j.dw0 (a.deletion_done j (a.final_status s j) s1)))
-        (deleted s1 j ((j.q == 0) && (j.entry.opcode == DELETE_IO_SQ) && is_success (a.final_status s j)) (h.0, found_kept q cid (λ x. not (is_job k c x)) kept s.device.jobs h.0 h.1, h.2))
-
 -- a walk step of a job that has its verdict is refused
 no_walk : (s : State) (q cid : ℕ) (outcome : WalkState) (touched : List ℕ) → Going s (events.Walk q cid) (events.Walked outcome touched) → Decided q cid s → ⊥
-no_walk s q cid outcome touched g h =
-    let w = walking s q cid h.job g.ok.0 g.stood h.found in
-    true≢false (sym h.over ∙ ap is_some w.verdict)
+no_walk s q cid outcome touched g h = grind (arith, walking)
 
 decided_step : (q cid : ℕ) (s : State) (e : Event) (reply : Reply) → Going s e reply → completes_by q cid e reply ≡ false → resets e ≡ false → Decided q cid s → Decided q cid (a.after s e reply)
 decided_step q cid s e (events.Refused why touched) g far other h = h
 decided_step q cid s (events.Fetch n) reply g far other h = of_list q cid (a.after_fetch n s) (fetch_decided s n g.stood q cid (decided_in q cid s h))
-decided_step q cid s (events.Walk k c) (events.Walked outcome touched) g far other h = elim (cases_Bool ((k == q) && (c == cid))) [
-  | inl e ↦
-      let ids = and_parts (k == q) (c == cid) e in
-      absurd (no_walk s k c outcome touched g (subst (λ (n : ℕ). Decided n c s) (sym (eqb-true k q ids.0)) (subst (λ (n : ℕ). Decided q n s) (sym (eqb-true c cid ids.1)) h)))
-  | inr e ↦ of_list q cid (a.after_walk k c s) (walk_decided s k c q cid e (decided_in q cid s h))
-]
+decided_step q cid s (events.Walk k c) (events.Walked outcome touched) g far other h = grind (arith, no_walk, eqb-true, of_list, walk_decided, decided_in)
 decided_step q cid s (events.Walk k c) reply g far other h = absurd g.ok.1
 decided_step q cid s (events.Complete k c) (events.Completed touched) g far other h = of_list q cid (a.after_complete k c s) (complete_decided s k c q cid far (decided_in q cid s h))
 decided_step q cid s (events.Complete k c) reply g far other h = absurd g.ok.1
@@ -353,12 +274,7 @@ decided_step q cid s e reply g far other h = of_list q cid (a.after s e reply) (
 
 walked_one : (q cid : ℕ) (f : Job → Job) → ((j : Job) → (f j).q ≡ j.q) → ((j : Job) → (f j).entry ≡ j.entry) → (js : List Job) (j : Job) → find (is_job q cid) js ≡ Some j
     → find (is_job q cid) (map (λ (x : Job). if (x.q == q) && (x.entry.cid == cid) then f x else x) js) ≡ Some (f j)
-walked_one q cid f same_q same_entry js j e =
-    found_mapped q cid (λ (x : Job). if (x.q == q) && (x.entry.cid == cid) then f x else x) (λ x. either x ((x.q == q) && (x.entry.cid == cid))) js j e
-    ∙ ap (λ (b : Bool). Some (if b then f j else j)) (find_sound (is_job q cid) js j e)
-  where
-    either : (x : Job) (b : Bool) → is_job q cid (if b then f x else x) ≡ is_job q cid x
-    either x b = grind arith
+walked_one q cid f same_q same_entry js j e = grind (arith, found_mapped, find_sound, is_job)
 
 -- its verdict is what the walk step answers
 pub record WalkedTo (q cid : ℕ) (s : State) (verdict : Option Status) : Type 0 where
@@ -388,12 +304,11 @@ walk_leaves s q cid j act at unit =
         (last (map (λ (k : Job). if (k.q == q) && (k.entry.cid == cid) then record k { bytes = with_bytes k.bytes offset (a.page_bytes s.memory place n) } else k) s.device.jobs)
         (record j { bytes = with_bytes j.bytes offset (a.page_bytes s.memory place n) })
         (walked_one q cid (λ k. record k { bytes = with_bytes k.bytes offset (a.page_bytes s.memory place n) }) (λ k. refl) (λ k. refl) s.device.jobs j at))
-    moved Destination (Moves place n offset) = over (job_at s q cid)
-      where
-        over : (o : Option Job) → WalkedTo q cid (a.on_job q cid (λ k. record k { units_done = k.units_done + 1; verdict = verdict_of (a.next_answer s j) })
-            (option_map_or (λ j. a.on_memory (λ mem. with_page_bytes mem (place / 4096) (place % 4096) (take n (drop offset j.bytes))) s) o s)) (verdict_of (a.next_answer s j))
-        over None = as_record (a.on_job q cid (λ k. record k { units_done = k.units_done + 1; verdict = verdict_of (a.next_answer s j) }) s) (last s.device.jobs j at)
-        over (Some x) = as_record (a.on_job q cid (λ k. record k { units_done = k.units_done + 1; verdict = verdict_of (a.next_answer s j) }) (a.on_memory (λ mem. with_page_bytes mem (place / 4096) (place % 4096) (take n (drop offset x.bytes))) s)) (last s.device.jobs j at)
+    moved Destination (Moves place n offset) = elim (option_is (job_at s q cid)) [
+      | inl e ↦ rw e (as_record (a.on_job q cid (λ k. record k { units_done = k.units_done + 1; verdict = verdict_of (a.next_answer s j) }) s) (last s.device.jobs j at))
+      | inr (x, e) ↦
+          rw e (as_record (a.on_job q cid (λ k. record k { units_done = k.units_done + 1; verdict = verdict_of (a.next_answer s j) }) (a.on_memory (λ mem. with_page_bytes mem (place / 4096) (place % 4096) (take n (drop offset x.bytes))) s)) (last s.device.jobs j at))
+    ]
 
 walk_left : (s : State) (q cid : ℕ) (outcome : WalkState) (touched : List ℕ) → Going s (events.Walk q cid) (events.Walked outcome touched) → WalkedTo q cid (a.after_walk q cid s) (verdict_of outcome)
 walk_left s q cid outcome touched g = go (a.next_unit s g.ok.1.0) refl g.ok.1.2
@@ -462,9 +377,6 @@ last_ends image before walked between again later end q cid run ends walks = go 
     unforged =
         unforged_front (before ++ walked ∷ between) (again ∷ later) s0 (unforged_run image (before ++ walked ∷ between ++ again ∷ later) end run)
 
-    trusted_again : at_again.0.trusted ≡ true
-    trusted_again = unforged_end (before ++ walked ∷ between) s0 at_again.0 at_again.1 unforged
-
     unforged_walked : Unforged at_walked.0 (walked ∷ between)
     unforged_walked = unforged_back before (walked ∷ between) s0 at_walked.0 at_walked.1 unforged
 
@@ -482,4 +394,4 @@ last_ends image before walked between again later end q cid run ends walks = go 
     go false e =
         let kept = along_steps (Decided q cid) (ends_job q cid) (λ s e reply g far h. let both = or_parts (completes_by q cid e reply) (resets e) far in decided_step q cid s e reply g both.0 both.1 h) between at_walked.2.1 at_again.0 at_walked.2.3 unforged_behind stood_behind e
         (ended at_walked.0 at_walked.2.1 walked.event walked.reply q cid at_walked.2.2 unforged_walked.trusted stood_walked ends) in
-        absurd (not_again at_again.0 at_again.2.1 again.event again.reply q cid at_again.2.2 trusted_again kept.0 walks kept.1)
+        absurd (not_again at_again.0 at_again.2.1 again.event again.reply q cid at_again.2.2 (unforged_end (before ++ walked ∷ between) s0 at_again.0 at_again.1 unforged) kept.0 walks kept.1)

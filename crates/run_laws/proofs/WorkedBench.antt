@@ -1,5 +1,5 @@
 -- A bench that fills a draft twice, step by step.
-use Rattle.std.proofs.Common.{◌≡◌, ℕ, ◌==◌, ◌<◌, ◌+◌, ◌%◌, ◌^◌, Bool, true, false, ◌&&◌, ◌||◌, None, List, [], ◌∷◌, replicate, if◌then◌else◌, refl, ap, sym, ◌∙◌, arith, eqb-true}
+use Rattle.std.proofs.Common.{◌≡◌, ℕ, ◌==◌, ◌<◌, ◌%◌, ◌^◌, Bool, true, false, ◌&&◌, ◌||◌, None, List, [], ◌∷◌, replicate, if◌then◌else◌, refl, ap, arith, eqb-true}
 use Rattle.std.{proofs.lemmas.List.{length-replicate, Elements.{All-nil, All-cons}}, specs.List.list_any}
 use Rattle.block_image.specs.Blocks.{IsImage}
 use Rattle.page_memory.specs.Pages.{zero_page}
@@ -62,11 +62,7 @@ fits : (offset slba : ℕ) → offset < 2 ^ 32 → slba < 2 ^ 64 → FitsRequest
 fits offset slba low few = record { slba = few; blocks = omega arith; pieces = All-cons FitsPiece (Data offset 512) [] (low, omega arith) (All-nil FitsPiece) }
 
 one_free : (k p : ℕ) (is_free : ℕ → Bool) → is_free k ≡ true → machine.times p (k ∷ []) ≡ (if ((k == p) || false) && is_free p then 1 else 0)
-one_free k p is_free free = go (k == p) refl
-  where
-    go : (b : Bool) → (k == p) ≡ b → (if b then 1 + 0 else 0) ≡ (if (b || false) && is_free p then 1 else 0)
-    go true e = ap (λ (c : Bool). if c then 1 else 0) (sym free ∙ ap is_free (eqb-true k p e))
-    go false e = refl
+one_free k p is_free free = grind (arith, eqb-true)
 
 zero_at : (k : ℕ) → zeroed ((k, zero_page) ∷ [])
 zero_at k = All-cons (λ (page : ℕ × List ℕ). page.1 ≡ zero_page) (k, zero_page) [] refl (All-nil (λ (page : ℕ × List ℕ). page.1 ≡ zero_page))
