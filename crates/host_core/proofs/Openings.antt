@@ -4,7 +4,7 @@ use Rattle.machine_model.specs.declared.words.Refusal.TheVariants as refusal
 use Rattle.std.proofs.Common.{◌≡◌, inl, inr, ℕ, zero, suc, ◌+◌, ◌*◌, ◌<◌, ◌≤◌, false, Some, List, length, replicate, refl, ap, ap₂, sym, ◌∙◌, arith, subst, Option, slice_get, [], Fits, w16, ◌-◌, ◌==◌, Bool, true, None, IfSome, ◌∷◌, map, filter, drop, eqb-true}
 use Rattle.std.proofs.lemmas.{Bool.{true≢false, Decides.nat_tests, cases_Bool, cases_lt}, List.{length-replicate, length-map}, Option.slice_get-map}
 use Rattle.std.{specs.{List.Contains, Option.{option_map_or, option_map}}, proofs.Math.Nat.mul-le-mul_right}
-use Rattle.page_ledger.{proofs.{Pages.finds-lowest_run, Tables.{length-with_owner, owner-changed, owner-kept}}, specs.declared.owner.Owner.Owner}
+use Rattle.page_ledger.{proofs.{Pages.finds_lowest, Tables.{length-with_owner, owner_changed, owner_kept}}, specs.declared.owner.Owner.Owner}
 use Rattle.page_ledger.specs.{Owners.{is_free, is_owned_at, owner_at, pages_from, with_owner, is_among, free_pages}, Runs.lowest_run}
 use Rattle.page_memory.{proofs.Bytes.length-zero_page, specs.{Pages.{Pages, page_at, zero_page}, declared.page.Half.TheVariants.{Submission, Completion}}}
 use Rattle.host_core.{proofs.{Identifiers.{over_pages, whole_of, alone_sound, host_of, over_of}, Lists.some_is}, specs.Alone.{HostView, HostStep, IsOver, alone}}
@@ -22,7 +22,7 @@ use Rattle.slot_table.specs.Table.{TableOf}
 -- The run that is granted
 
 pub lowest_is : (base k : ℕ) (owners : List Owner) → 0 < k → base + k ≤ length owners → IsFreeFrom base owners → lowest_run k owners ≡ Some base
-lowest_is base k owners some room from = ((finds-lowest_run k owners some).found base).1 (record {
+lowest_is base k owners some room from = ((finds_lowest k owners some).found base).1 (record {
   run = record { free = λ i l. from.free (base + i) (omega arith) (omega arith) };
   lowest = λ q run. elim (cases_lt q base) [
     | inr l ↦ l
@@ -48,13 +48,13 @@ in_run p base (suc k) (zero, l, e) = let same : base ≡ p = e in (omega (arith,
 in_run p base (suc k) (suc i, l, e) = let r = in_run p (base + 1) k (i, omega arith, e) in (omega (arith, r.0), omega (arith, r.1))
 
 run-owner : (owners : List Owner) (base k p : ℕ) (o : Owner) → base + k ≤ length owners → base ≤ p → p < base + k → owner_at (with_owner owners (pages_from base k) o) p ≡ Some o
-run-owner owners base k p o room low high = owner-changed owners (pages_from base k) o p (omega arith) (among_run p base k low high)
+run-owner owners base k p o room low high = owner_changed owners (pages_from base k) o p (omega arith) (among_run p base k low high)
 
 run-before : (owners : List Owner) (base k p : ℕ) (o : Owner) → p < base → owner_at (with_owner owners (pages_from base k) o) p ≡ owner_at owners p
-run-before owners base k p o l = owner-kept owners (pages_from base k) o p (λ h. let r = in_run p base k h in absurd (omega (arith, r.0)))
+run-before owners base k p o l = owner_kept owners (pages_from base k) o p (λ h. let r = in_run p base k h in absurd (omega (arith, r.0)))
 
 run-behind : (owners : List Owner) (base k p : ℕ) (o : Owner) → base + k ≤ p → owner_at (with_owner owners (pages_from base k) o) p ≡ owner_at owners p
-run-behind owners base k p o l = owner-kept owners (pages_from base k) o p (λ h. let r = in_run p base k h in absurd (omega (arith, r.1)))
+run-behind owners base k p o l = owner_kept owners (pages_from base k) o p (λ h. let r = in_run p base k h in absurd (omega (arith, r.1)))
 
 pub granted-from : (base k : ℕ) (owners : List Owner) (o : Owner) → is_free o ≡ false → base + k ≤ length owners → IsFreeFrom base owners → IsFreeFrom (base + k) (with_owner owners (pages_from base k) o)
 granted-from base k owners o owned room from =

@@ -9,7 +9,7 @@ use Rattle.machine_model.{proofs.Counting.{one, times-cons, not_held, total, tim
 use Rattle.machine_model.proofs.Owned.{in_record, owned, holds_from_sound, taken, taken_from_out, is_out, none_here, some_here, taken_le, in_queue, owned_is}
 use Rattle.machine_model.{proofs.{Steps.{in_store, length-in_store, found_all}, Cases.option_is}, specs.{After.joined_in_order, Claims.{IsSound, HasOneOwner}}}
 use Rattle.machine_model.specs.{Memory.{is_in, without_pages, with_pages, zeroed_pages}, Placement.without_numbers, State.{State, Record, pages_of, is_at}}
-use Rattle.page_ledger.{proofs.{Pages.filter-agree, Tables.{slice_get-set_same, slice_get-set_other, free-others, free-given_back}}, specs.Lists.ListsAll}
+use Rattle.page_ledger.{proofs.{Pages.filter-agree, Tables.{slice_get-set_same, slice_get-set_other, free-others, free_given_back}}, specs.Lists.ListsAll}
 use Rattle.page_ledger.specs.Owners.{is_among, pages_from, is_free, is_command, is_owned_at, owner_at, free_pages, with_owner, given_back, is_half, is_same_half}
 use Rattle.page_ledger.specs.declared.owner.{Owner.{Owner, TheVariants.{Free, Queue, Command}}, Role.{Role, TheVariants.{Data, Chain}}}
 use Rattle.host_core.{proofs.Lists.{some_is, none_is_not}, specs.{Commands.{CanTake, CanPut, CanZero}, Halves.{HasHalf, half_of, has_half}}}
@@ -265,7 +265,7 @@ pub given-free : (owners : List Owner) (named : Owner → Bool) (n : ℕ) (pages
     → ((p : ℕ) → p < n → is_owned_at named owners p ≡ is_among pages p)
     → free_pages (given_back named owners) ≡ joined_in_order n pages (free_pages owners)
 given-free owners named n pages size same =
-    free-given_back named owners
+    free_given_back named owners
     ∙ (ap (λ (k : ℕ). filter (is_owned_at (λ owner. is_free owner || named owner) owners) (pages_from 0 k)) (sym size)
     ∙ filter-agree (is_owned_at (λ owner. is_free owner || named owner) owners) (λ p. is_among (free_pages owners) p || is_among pages p) 0 n at)
   where
