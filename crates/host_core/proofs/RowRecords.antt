@@ -134,15 +134,7 @@ none-lost entries queues (r ∷ rs) all =
     grind (arith, stays, none-lost entries queues rs all.1)
 
 next-lost : (q : ℕ) (r : Record) → lost q (lost_in q r) ≡ lost_in (q + 1) r
-next-lost q r = elim (cases_Bool (nat_lt r.q q)) [
-  | inl e ↦
-      let below : nat_lt r.q (q + 1) ≡ true = grind (arith, nat_tests) in
-      let apart : ((lost_anywhere r).q == q) ≡ false = rw lost_keeps.q (grind (arith, nat_tests)) in rw (e, below, apart) refl
-  | inr e ↦ elim (cases_Bool (r.q == q)) [
-    | inl f ↦ let here : nat_lt r.q (q + 1) ≡ true = grind (arith, nat_tests) in rw (e, here, f) refl
-    | inr f ↦ let above : nat_lt r.q (q + 1) ≡ false = grind (arith, nat_tests) in rw (e, above, f) refl
-  ]
-]
+next-lost q r = grind (arith, nat_tests)
 
 pub one-queue_lost : (q : ℕ) (rs : List Record) → map (lost q) (map (lost_in q) rs) ≡ map (lost_in (q + 1)) rs
 one-queue_lost q [] = refl
