@@ -309,15 +309,7 @@ lost-at q k cid r = cond_both ((r.q == q) && is_submitted r.phase) _ _ (λ x. is
 
 -- one record, as the next identifier comes
 next-lost : (q n : ℕ) (r : Record) → (if is_at q n (lost_below n q r) then lost q (lost_below n q r) else lost_below n q r) ≡ lost_below (n + 1) q r
-next-lost q n r = elim (cases_Bool (nat_lt r.cid n)) [
-  | inl e ↦
-      let below : nat_lt r.cid (n + 1) ≡ true = grind (arith, nat_tests) in
-      let no : is_at q n (lost q r) ≡ false = lost-at q q n r ∙ grind (arith, nat_tests, e) in rw (e, below, no) refl
-  | inr e ↦ elim (cases_Bool (r.cid == n)) [
-    | inl f ↦ let next : nat_lt r.cid (n + 1) ≡ true = grind (arith, nat_tests) in rw (e, next) (grind (arith, f))
-    | inr f ↦ let above : nat_lt r.cid (n + 1) ≡ false = grind (arith, nat_tests) in rw (e, above) (grind (arith, f))
-  ]
-]
+next-lost q n r = grind (arith, nat_tests)
 
 pub one-lost : (q n : ℕ) (rs : List Record) → with_record q n (lost q) (map (lost_below n q) rs) ≡ map (lost_below (n + 1) q) rs
 one-lost q n [] = refl

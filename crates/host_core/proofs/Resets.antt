@@ -4,7 +4,7 @@ use Rattle.host_core.specs.Rows as declared
 use Rattle.machine_model.specs.After as a
 use Rattle.machine_model.specs.Events as events
 use Rattle.std.proofs.Common.{◌≡◌, ℕ, ◌+◌, ◌-◌, ◌<◌, ◌≤◌, true, Some, List, [], ◌∷◌, ◌++◌, length, map, get_or, slice_get, slice_set, refl, ap, ap₂, sym, ◌∙◌, arith, subst, zero, suc, ◌==◌, nat_lt, not, Bool, false, ◌&&◌, None, if◌then◌else◌, lt-ltb, ◌||◌, inl, inr, flat_map}
-use Rattle.std.proofs.lemmas.Bool.{true≢false, false_from_ne_true, cases_Bool, and_parts, and_right, ne_eqb, not-true, or_cases, or_from, or_left, or_right}
+use Rattle.std.proofs.lemmas.Bool.{true≢false, false_from_ne_true, cases_Bool, and_parts, and_right, ne_eqb, not-true, or_cases, or_left, or_right}
 use Rattle.std.{proofs.lemmas.{List.{map-append, length-map}, Option.{slice_get_within, slice_get-map}, Bool.Decides.nat_tests}, specs.List.AllByRecursion}
 use Rattle.std.specs.{Option.{option_map_or, option_map}, Prelude.Option}
 use Rattle.machine_model.proofs.{Owned.{all_reset, lost_by}, Steps.length-with_pages, TokensKept.live_is, Headline.steps_keep}

@@ -3,7 +3,7 @@ use Rattle.slot_table.specs.Rows as table
 use Rattle.page_ledger.specs.declared.owner.Owner.TheVariants as owner
 use Rattle.std.proofs.Common.{is_some, ◌≡◌, ℕ, ◌==◌, Bool, true, false, not, cond, Option, Some, None, IfSome, List, [], ◌∷◌, find, if◌then◌else◌, refl, ap, ap₂, sym, ◌∙◌, subst, eqb-true, option_map, ◌+◌, ◌-◌, ◌≤◌, nat_lt, ◌&&◌, filter, map, arith, lt-ltb, inl, inr, length, slice_get}
 use Rattle.std.{proofs.lemmas.Bool.{and_parts, cases_Bool, cond_both, Decides.nat_tests}, specs.List.AllByRecursion}
-use Rattle.machine_model.{proofs.{Cases.option_is, Owned.{lost_by, lost_keeps}, Sound.changed}, specs.After.{is_of_io, lost, lost_anywhere, change}}
+use Rattle.machine_model.{proofs.{Cases.option_is, Owned.{lost_by}, Sound.changed}, specs.After.{is_of_io, lost, lost_anywhere, change}}
 use Rattle.machine_model.specs.State.{Record, is_at, with_record, without_record}
 use Rattle.slot_table.{specs.{Rows.{Row, value_at, without, with_value, NoneAt, IsDistinct}, Table.TableOf}, proofs.{Rows.without-none, Walks.none_stands}}
 use Rattle.host_core.{proofs.Lists.{some_is, none_is_not, all-filter, all-map, any-map, each-change}, specs.Commands.claims_changed}
@@ -134,15 +134,7 @@ none-lost entries queues (r ∷ rs) all =
     grind (arith, stays, none-lost entries queues rs all.1)
 
 next-lost : (q : ℕ) (r : Record) → lost q (lost_in q r) ≡ lost_in (q + 1) r
-next-lost q r = elim (cases_Bool (nat_lt r.q q)) [
-  | inl e ↦
-      let below : nat_lt r.q (q + 1) ≡ true = grind (arith, nat_tests) in
-      let apart : ((lost_anywhere r).q == q) ≡ false = rw lost_keeps.q (grind (arith, nat_tests)) in rw (e, below, apart) refl
-  | inr e ↦ elim (cases_Bool (r.q == q)) [
-    | inl f ↦ let here : nat_lt r.q (q + 1) ≡ true = grind (arith, nat_tests) in rw (e, here, f) refl
-    | inr f ↦ let above : nat_lt r.q (q + 1) ≡ false = grind (arith, nat_tests) in rw (e, above, f) refl
-  ]
-]
+next-lost q r = grind (arith, nat_tests)
 
 pub one-queue_lost : (q : ℕ) (rs : List Record) → map (lost q) (map (lost_in q) rs) ≡ map (lost_in (q + 1)) rs
 one-queue_lost q [] = refl

@@ -125,8 +125,7 @@ classed-append test (c ∷ a) b = omega (arith, classed-append test a b)
 
 classed-claimed : (test : Owner → Bool) (o : Owner) (pages : List ℕ) (b : Bool) → test o ≡ b → classed test (claimed o pages) ≡ (if b then length pages else 0)
 classed-claimed test o [] b e = cond_both b 0 0 (λ n. 0 ≡ n) (λ _. refl) (λ _. refl)
-classed-claimed test o (p ∷ pages) true e = omega (arith, classed-claimed test o pages true e, ap one e)
-classed-claimed test o (p ∷ pages) false e = omega (arith, classed-claimed test o pages false e, ap one e)
+classed-claimed test o (p ∷ pages) b e = grind (arith, e, classed-claimed test o pages b e)
 
 sum-if : (b : Bool) (m n : ℕ) → (if b then m + n else 0) ≡ (if b then m else 0) + (if b then n else 0)
 sum-if b m n = grind arith
