@@ -1,12 +1,12 @@
 -- How links lead through places, and the rows of places. No public clause cites this module.
-use Rattle.std.specs.{List.AllByRecursion as All, Prelude.{◌≡◌, ◌≢◌, ℕ, List, [], ◌∷◌, length, Option, Some, None, IsSome}}
+use Rattle.std.specs.{List.AllByRecursion, Prelude.{◌≡◌, ◌≢◌, ℕ, List, [], ◌∷◌, length, Option, Some, None, IsSome}}
 use Rattle.slot_table.specs.Rows.{Row}
 
 -- A link leads from a place or the list's end to another: at is what stands for a place there.
 module _ {K P : Type 0} (at : K → P) where
   -- the place is not among these
   abbrev pub Lacks : P → List K → Type 0
-  Lacks p xs = All (λ x. at x ≢ p) xs
+  Lacks p xs = AllByRecursion (λ x. at x ≢ p) xs
 
   abbrev pub AreDistinct : List K → Type 0
   AreDistinct [] = Unit {0}
@@ -35,7 +35,7 @@ module _ {K R : Type 0} where
 
   -- each of these places has a record
   abbrev pub AreHeld : (K → Option R) → List K → Type 0
-  AreHeld value ks = All (λ k. IsSome (value k)) ks
+  AreHeld value ks = AllByRecursion (λ k. IsSome (value k)) ks
 
 -- the links lead through the places that have a record, each once
 pub record Threads {K P R : Type 0} (at : K → P) (after before : P → P) (value : K → Option R) (end : P) (count : ℕ) : Type 0 where
