@@ -197,7 +197,7 @@ fn push_job(jobs: &mut Vec<JobLine>, job: Option<JobLine>) -> Result<(), AllocEr
 }
 
 /// The jobs of a text.
-#[tactic(auto, using(script_cli::proofs::Reading::lines_are_cut, script_cli::proofs::Reading::after_is_shorter, crate::proofs::JobRuns::job_is_next))]
+#[tactic(auto, using(script_cli::proofs::Texts::lines_are_cut, script_cli::proofs::Texts::after_is_shorter, crate::proofs::JobRuns::job_is_next))]
 fn read_job_lines(alloc: Global, text: &[u8], submitters: u16) -> Result<JobScript, ScriptFault>
     requires { length text.now ≤ 1048576 }
     ensures { IsReadAs (jobs_in submitters text.now) result }

@@ -6,7 +6,7 @@ ghost use Rattle.script_cli.specs.Lines.{lines};
 use script_cli::split_line;
 
 /// The line of this number, from 1; nothing where a text has fewer.
-#[tactic(auto, using(script_cli::proofs::Reading::lines_are_cut))]
+#[tactic(auto, using(script_cli::proofs::Texts::lines_are_cut))]
 pub fn line_at(text: &[u8], number: u32) -> Option<&[u8]>
     ensures { option_map (λ line. line.now) result ≡ slice_get (lines text.now) (number - 1) }
 {
