@@ -1,6 +1,6 @@
 -- Consecutive pages, those of them that pass a test, and the search for the lowest run.
 use Rattle.std.proofs.Common.{◌≡◌, ◌≢◌, ℕ, zero, suc, ◌+◌, ◌-◌, ◌<◌, ◌≤◌, ◌⊎◌, inl, inr, Bool, true, false, cond, Some, None, List, [], ◌∷◌, ◌++◌, length, filter, find, take, get_or, refl, ap, sym, ◌∙◌, arith, subst, add-one, add-zero, ◌↔◌, Option}
-use Rattle.std.proofs.lemmas.{Bool.{cases_eq, cases_Bool, true≢false, cases_lt}, List.{append-nil, take_at, Elements.filter-append}, Option.slice_get_within}
+use Rattle.std.proofs.lemmas.{Bool.{cases_eq, cases_Bool, true≢false, cases_lt}, List.{append-nil, take_at, Elements.filter-append}, Option.{none-some, same_Some, slice_get_within}}
 use Rattle.std.specs.{List.{Contains, list_all, range_with_len, Sorted.IsStrictlyIncreasing}, Option.option_map_or}
 use Rattle.page_ledger.specs.{Laws.{IsFreeRun, IsLowestRun, FindsLowestRun}, Owners.{pages_from, owner_at, is_free, is_owned_at}}
 use Rattle.page_ledger.specs.{Runs.{is_free_run, lowest_run}, declared.owner.Owner.{Owner, TheVariants.{Free, Queue, Command}}}
@@ -183,12 +183,6 @@ run-within k p owners some run = omega (arith, slice_get_within owners (p + (k -
 
 -- what is found
 
-none≢some : (p : ℕ) → None ≡ Some p → ⊥
-none≢some p h = cc
-
-some_same : (p q : ℕ) → Some p ≡ Some q → p ≡ q
-some_same p q h = cc
-
 pub lowest_run-is : (k p : ℕ) (owners : List Owner) → 0 < k → is_free_run k owners p ≡ true → ((q : ℕ) → q < p → is_free_run k owners q ≡ false) → lowest_run k owners ≡ Some p
 lowest_run-is k p owners some run lower = go (find-cases (is_free_run k owners) 0 (length owners))
   where
@@ -229,19 +223,19 @@ finds_lowest k owners some = go (find-cases (is_free_run k owners) 0 (length own
 
         found : (p : ℕ) → (lowest_run k owners ≡ Some p) ↔ IsLowestRun k owners p
         found p = (
-          (λ e. subst (IsLowestRun k owners) (some_same r p (sym is ∙ e)) here),
+          (λ e. subst (IsLowestRun k owners) (same_Some r p (sym is ∙ e)) here),
           (λ low. is ∙ ap (λ (q : ℕ). Some q) (let a = low.lowest r here.run in let b = here.lowest p low.run in omega arith)),
         )
 
         none : (lowest_run k owners ≡ None) ↔ ((p : ℕ) → IsFreeRun k owners p → ⊥)
-        none = ((λ e. absurd (none≢some r (sym e ∙ is))), (λ never. absurd (never r here.run)))
+        none = ((λ e. absurd (none-some r (sym e ∙ is))), (λ never. absurd (never r here.run)))
     go (inr (all, is)) = record { found = found; none = ((λ e. never), (λ h. is)) }
       where
         never : (p : ℕ) → IsFreeRun k owners p → ⊥
         never p run = true≢false (sym (run-test k p owners run) ∙ all p (omega arith) (omega (arith, run-within k p owners some run)))
 
         found : (p : ℕ) → (lowest_run k owners ≡ Some p) ↔ IsLowestRun k owners p
-        found p = ((λ e. absurd (none≢some p (sym is ∙ e))), (λ low. absurd (never p low.run)))
+        found p = ((λ e. absurd (none-some p (sym is ∙ e))), (λ low. absurd (never p low.run)))
 
 -- what is granted lies in the pool
 pub lowest_run-within : (k p : ℕ) (owners : List Owner) → 0 < k → lowest_run k owners ≡ Some p → p + k ≤ length owners

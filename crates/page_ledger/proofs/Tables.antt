@@ -2,7 +2,7 @@
 use Rattle.std.proofs.Common.{◌≡◌, ◌≢◌, ℕ, zero, suc, ◌+◌, ◌-◌, ◌<◌, ◌≤◌, ◌⊎◌, ◌↔◌, inl, inr, Bool, true, false, cond, ◌||◌, Option, Some, None, List, [], ◌∷◌, ◌++◌, length, filter, take, drop, slice_get, slice_set, refl, ap, sym, ◌∙◌, arith, subst, append_assoc, add-one, length-set, length-append, if◌then◌else◌, All, get_or, ◌&&◌, ◌==◌, not, eqb-true, map, replicate, unwrap_or}
 use Rattle.std.proofs.lemmas.{Bool.{eqb-false, cases_eq, cases_lt, cases_Bool, true≢false}, List.{drop_at, length-map, same_lists, take_all}}
 use Rattle.std.proofs.lemmas.List.{Elements.{All-take, filter_passes}, Sums.{sum_by-cons, count_by_more_yes, count_by_more_no, sum_by-set}}
-use Rattle.std.{proofs.lemmas.Option.{slice_get-map, slice_get-get_or, slice_get_within, slice_get_past, unwrap_or-slice_get}, specs.List.{count_by, Contains}}
+use Rattle.std.{proofs.lemmas.Option.{same_Some, slice_get-map, slice_get-get_or, slice_get_within, slice_get_past, unwrap_or-slice_get}, specs.List.{count_by, Contains}}
 use Rattle.std.specs.Option.{option_map_or, option_map}
 use Rattle.page_ledger.proofs.Pages.{filter-agree, filter-within, filter-without_first, filter-contains, filter-found, filter-gap, pages_from-more}
 use Rattle.page_ledger.specs.{Counting.{is_queue_page, is_chain_page, is_data_page, counts_of, total}, Free.true_places, Lists.ListsAll}
@@ -261,12 +261,9 @@ given_below-none named p owners now owner is found fails =
     is ∙ (given_below-kept named p owners owner (sym (given_below-here named p owners) ∙ (ap (λ (l : List Owner). slice_get l p) (sym is) ∙ found)) fails
     ∙ rw (add-one) refl)
 
-some_same : (a b : Owner) → Some a ≡ Some b → a ≡ b
-some_same a b e = cc
-
 read : (named : Owner → Bool) (p : ℕ) (owners now : List Owner) (owner : Owner) → now ≡ given_below named p owners → p < length owners → owner_at now p ≡ Some owner → get_or owners p owner ≡ owner
 read named p owners now owner is within found =
-    some_same (get_or owners p owner) owner (sym (slice_get-get_or owners p owner within)
+    same_Some (get_or owners p owner) owner (sym (slice_get-get_or owners p owner within)
     ∙ (sym (given_below-here named p owners) ∙ (ap (λ (l : List Owner). slice_get l p) (sym is) ∙ found)))
 
 -- how many pages are freed, one page more

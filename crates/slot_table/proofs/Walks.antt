@@ -1,17 +1,13 @@
 -- Rows one behind the other: what a walk meets, and what a put and a take leave.
 use Rattle.std.proofs.Common.{◌≡◌, ℕ, zero, suc, ◌≤◌, ◌==◌, true, false, List, [], ◌∷◌, ◌++◌, length, Some, None, take, drop, ◌+◌, refl, sym, ap, subst, ◌∙◌}
 use Rattle.std.proofs.Common.{inl, inr, arith, append_assoc}
-use Rattle.std.proofs.lemmas.{Bool.{eq-eqb, ne_eqb, cases_Bool, Decides.eqb_tells}, List.{append-nil, take-append-drop, drop-drop}, Option.none-some}
+use Rattle.std.proofs.lemmas.{Bool.{eq-eqb, cases_Bool, Decides.{nat_tests}}, List.{append-nil, take-append-drop, drop-drop}, Option.none-some}
 use Rattle.slot_table.proofs.Rows.{value_at-behind, without-behind, with_value-behind, place_behind-behind}
 use Rattle.slot_table.specs.{Rows.{Row, is_at, first_place, place_behind, value_at, with_value, without, NoneAt, IsDistinct}, Table.{TableOf, with_row}}
 use Rattle.slot_table.specs.Walks.{places_of, walk_from}
 
-eqb-turned : (a b : ℕ) → (a == b) ≡ (b == a)
-eqb-turned a b =
-    elim (eqb_tells a b) [
-      | inl e ↦ e.0 ∙ sym (eq-eqb b a (sym e.1))
-      | inr e ↦ e.0 ∙ sym (ne_eqb b a (λ s. e.1 (sym s)))
-    ]
+pub eqb-turned : (a b : ℕ) → (a == b) ≡ (b == a)
+eqb-turned a b = grind (arith, nat_tests)
 
 module _ {R : Type 0} where
   is_at-itself : (row : Row R) → is_at row row.q row.cid ≡ true
