@@ -129,10 +129,8 @@ impl<A: Allocator> HostPair<A> {
             return Err(QueueFull);
         }
         let bytes = submission_image(entry);
-        match dma.write(submission_address(self.sq, slot), &bytes) {
-            Ok(()) => {}
-            Err(_) => unreachable!(),
-        }
+        dma.write(submission_address(self.sq, slot), &bytes)
+            .unwrap();
         self.tail = tail;
         Ok(slot)
     }
@@ -194,10 +192,8 @@ impl<A: Allocator> HostPair<A> {
         ensures pool { D.page_count dma.new ≡ D.page_count dma.old }
     {
         let mut bytes = [0; 16];
-        match dma.read(completion_address(self.cq, self.head), &mut bytes) {
-            Ok(()) => {}
-            Err(_) => unreachable!(),
-        }
+        dma.read(completion_address(self.cq, self.head), &mut bytes)
+            .unwrap();
         let entry = ComEntry::read(&bytes);
         if entry.phase == self.phase {
             Some(entry)
