@@ -1,7 +1,7 @@
 -- Where a walk stands in its list, and what a step does there.
 use Rattle.std.proofs.Common.{arith, ◌≡◌, ◌<◌, ◌≤◌, ◌+◌, ◌-◌, ℕ, zero, suc, Bool, true, false, List, Option, Some, None, refl, sym, ap, subst, ◌∙◌, cond, is_some, nat_lt, length, slice_range, inl, inr, add-zero}
 use Rattle.std.{proofs.lemmas.{Bool.{cases_lt, Decides.nat_tests}, Grind.common_steps}, specs.List.{slice_get, slice_index}}
-use Rattle.page_memory.specs.Memory.{Memory, bytes_at, written, joined}
+use Rattle.page_memory.{proofs.Bytes.{written_in as byte_written, written_before, written_after}, specs.Memory.{Memory, bytes_at, written, joined}}
 use Rattle.sgl_descriptor.specs.declared.Direction.{Direction, TheVariants.{Destination, Source}}
 use Rattle.controller_walk.proofs.Same.{list_same, walk_same}
 use Rattle.controller_walk.specs.Laws.{Agree, ReadsWithin, OverwritesNothing, after_units, StandsAfter, StandsAtFirst, answer_at, DoesUnit, StepDoesUnit}
@@ -41,16 +41,7 @@ byte_there m place (suc n) found e (suc k) lt =
     one_more place k = omega arith
 
 written_in : (m : Memory) (place q : ℕ) (bytes : List ℕ) → place ≤ q → q < place + length bytes → is_some (written m place bytes q) ≡ true
-written_in m place q bytes low high = ap is_some (there m place q bytes low high)
-  where
-    there : (m : Memory) (place q : ℕ) (bytes : List ℕ) → place ≤ q → q < place + length bytes → written m place bytes q ≡ Some (slice_index bytes (q - place))
-    there m place q bytes low high = grind (arith, nat_tests)
-
-written_before : (m : Memory) (place q : ℕ) (bytes : List ℕ) → q < place → written m place bytes q ≡ m q
-written_before m place q bytes low = grind (arith, nat_tests)
-
-written_after : (m : Memory) (place q : ℕ) (bytes : List ℕ) → place + length bytes ≤ q → written m place bytes q ≡ m q
-written_after m place q bytes high = grind (arith, nat_tests)
+written_in m place q bytes low high = ap is_some (byte_written m place q bytes low high)
 
 -- a write to places that are there, outside of those that are kept
 agree_written : (at : ℕ → Bool) (m : Memory) (place n : ℕ) (found bytes : List ℕ) → bytes_at m place n ≡ Some found → length bytes ≤ n →

@@ -220,9 +220,7 @@ impl<A: Allocator> Job<A> {
         requires blocks { block_count image.now ≡ self.now.blocks }
         ensures status { result ≡ finished_status image.now self.now }
     {
-        let Some(verdict) = self.verdict else {
-            unreachable!()
-        };
+        let verdict = self.verdict.unwrap();
         if verdict != Status::SUCCESS {
             return verdict;
         }
