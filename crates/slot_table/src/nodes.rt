@@ -36,10 +36,7 @@ impl<R, A: Allocator> Nodes<R, A> {
     {
         match place {
             None => self.first = after,
-            Some(key) => match self.map.get_mut(&key) {
-                Some(node) => node.after = after,
-                None => unreachable!(),
-            },
+            Some(key) => self.map.get_mut(&key).unwrap().after = after,
         }
     }
 
@@ -51,10 +48,7 @@ impl<R, A: Allocator> Nodes<R, A> {
     {
         match place {
             None => self.last = before,
-            Some(key) => match self.map.get_mut(&key) {
-                Some(node) => node.before = before,
-                None => unreachable!(),
-            },
+            Some(key) => self.map.get_mut(&key).unwrap().before = before,
         }
     }
 }
