@@ -221,7 +221,8 @@ impl<A: Allocator> Chain<A> {
         ensures descriptors { result.now.descriptors ≡ segment_at self.now.segments i }
         ensures behind { result.now.behind ≡ drop (i + 1) self.now.segments }
     {
-        self.segments.as_ref().unwrap().nth(i)
+        let first = self.segments.as_ref().unwrap();
+        first.nth(i)
     }
 
     /// Writes the bytes of segment `i`, counted from 0, at the start of a page. The rest of the page stays.
