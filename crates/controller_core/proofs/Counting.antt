@@ -1,18 +1,18 @@
 -- Commands that are changed where they stand, how many each queue has, and loops over them.
 use Rattle.controller_core.specs.declared.refusal.Refusal.TheVariants as refusal
-use Rattle.controller_core.proofs.{Lists.{count-cons, count_set, one, swept, length-swept, some_is}, Managing.stopped_entry}
+use Rattle.controller_core.proofs.{Lists.{count-cons, count_set, one, swept, length-swept}, Managing.stopped_entry}
 use Rattle.controller_core.proofs.Rows.{commands_put, distinct_with, place_is, place_named, named_with, cid_of, Rows, some_name, commands_of, stands_somewhere, value_found, named}
-use Rattle.controller_core.{proofs.Waiting.count-more}
+use Rattle.controller_core.{proofs.Awaited.count-more}
 use Rattle.controller_core.specs.{Contents.{FetchedCommand, change, entry_of_work, is_command, Work, Contents}, Looks.{name_at, IsStuck}}
 use Rattle.controller_core.specs.{Managing.{aborted, stopped_with_queue, stopped_work}, Tables.{AreNamed, AreCounted, Outstanding, count_of}}
 use Rattle.controller_core.specs.Walking.{WalksOne, WalksAmong, ended_refusal, refusal_among}
 use Rattle.std.proofs.Common.{◌≡◌, ℕ, zero, suc, ◌<◌, ◌==◌, not, Bool, true, false, Option, Some, None, List, [], ◌∷◌, ◌++◌, length, map, find, slice_get, slice_set, if◌then◌else◌, refl, ap, ap₂, sym, ◌∙◌, arith, subst, eqb-true, true≢false, inl, inr, ◌≤◌, IfSome, ◌+◌, ◌-◌, ◌||◌, get_or, replicate, drop, below_more}
 use Rattle.std.proofs.lemmas.{Bool.{cases_Bool, eq-eqb, Decides.nat_tests}, Grind.get_or_default_zero, List.{get_or-set_same, get_or-set_other, get_or_past}}
-use Rattle.std.{proofs.lemmas.{List.Sums.count_by-le-length, Option.none-some}, specs.{List.{count_by, list_any}, Option.{option_map_or}}}
-use Rattle.slot_table.specs.Rows.{is_at, value_at, without, with_value, with_last, IsDistinct}
+use Rattle.std.{proofs.lemmas.{List.Sums.count_by-le-length, Option.none-some}, specs.{List.{count_by, list_any}, Option.{option_map, option_map_or, IsSome}}}
+use Rattle.slot_table.{proofs.Walks.eqb-turned, specs.Rows.{is_at, value_at, without, with_value, with_last, IsDistinct}}
 use Rattle.controller_walk.specs.declared.walk.WalkState.{WalkState}
 use Rattle.entry_codec.specs.declared.{status.TheConstants.Status.{ABORTED_SQ_DELETION, ABORT_REQUESTED}, submission.SubEntry.SubEntry}
-use Rattle.page_memory.specs.Memory.{Memory, TouchesMore}
+use Rattle.page_memory.{proofs.Lists.some_is, specs.Memory.{Memory, TouchesMore}}
 
 -- A command that is changed where it stands in a table.
 
@@ -58,9 +58,10 @@ accepted_one commands q cid k found accepted = subst (λ (o : Option FetchedComm
 pub few_one : (commands : List FetchedCommand) (q cid : ℕ) (k : FetchedCommand) → find (is_command q cid) commands ≡ Some k → IfSome (find (is_command q cid) commands) (λ k. k.units_done ≤ 12545) → k.units_done ≤ 12545
 few_one commands q cid k found few = subst (λ (o : Option FetchedCommand). IfSome o (λ k. k.units_done ≤ 12545)) found few
 
-pub accepted_some : (commands : List FetchedCommand) (q cid : ℕ) → find (is_command q cid) commands ≡ None → refusal_among commands q cid ≡ None → ⊥
-accepted_some commands q cid none accepted =
+pub accepted_some : {A : Type 0} (f : A → FetchedCommand) (o : Option A) (commands : List FetchedCommand) (q cid : ℕ) → find (is_command q cid) commands ≡ option_map f o → refusal_among commands q cid ≡ None → IsSome o
+accepted_some f None commands q cid none accepted =
     let refused : Some refusal.NoJob ≡ None = subst (λ (o : Option FetchedCommand). option_map_or ended_refusal o (Some refusal.NoJob) ≡ None) none accepted in cc
+accepted_some f (Some x) commands q cid has accepted = refl
 
 -- Commands that are stopped
 
@@ -136,15 +137,12 @@ pub length_row : (rows : Rows) (q cid : ℕ) (k : FetchedCommand) → length (wi
 length_row [] q cid k = omega arith
 length_row (row ∷ rows) q cid k = omega (arith, length_row rows q cid k)
 
-swapped : (q i : ℕ) → (q == i) ≡ (i == q)
-swapped q i = grind (arith, nat_tests)
-
 one_more : (counts : List ℕ) (commands : List FetchedCommand) (k : FetchedCommand) (n : ℕ) → AreCounted counts commands → k.q < length counts → n ≡ get_or counts k.q 0 → AreCounted (slice_set counts k.q (n + 1)) (commands ++ k ∷ [])
 one_more counts commands k n are inside is i =
     let more : count_of (commands ++ k ∷ []) i ≡ count_of commands i + one (k.q == i) = count-more (λ (k : FetchedCommand). k.q == i) commands k in
     with_count counts k.q i (n + 1) inside ∙ (elim (cases_Bool (i == k.q)) [
-      | inl same ↦ rw same (omega (arith, is, are k.q, ap one (swapped k.q i ∙ same), ap (count_of commands) (eqb-true i k.q same)))
-      | inr other ↦ rw other (omega (arith, are i, ap one (swapped k.q i ∙ other)))
+      | inl same ↦ rw same (omega (arith, is, are k.q, ap one (eqb-turned k.q i ∙ same), ap (count_of commands) (eqb-true i k.q same)))
+      | inr other ↦ rw other (omega (arith, are i, ap one (eqb-turned k.q i ∙ other)))
     ]) ∙ sym more
 
 pub counted_put : (counts : List ℕ) (rows : Rows) (cid : ℕ) (k : FetchedCommand) (i n : ℕ) → AreCounted counts (commands_of rows) → k.q < length counts → i ≡ k.q → n ≡ get_or counts i n
@@ -191,7 +189,7 @@ one_less counts rows q cid n k names are has is i =
     go true same =
         let own : i ≡ q = eqb-true i q same in
         omega (arith, is, are q, less rows q cid q k names has, ap one (eq-eqb q q refl), ap (count_of (commands_of (without rows q cid))) own)
-    go false other = omega (arith, are i, less rows q cid i k names has, ap one (swapped q i ∙ other))
+    go false other = omega (arith, are i, less rows q cid i k names has, ap one (eqb-turned q i ∙ other))
 
 pub counted_without : (counts : List ℕ) (rows : Rows) (q cid i n : ℕ) (k : FetchedCommand) → AreNamed rows → AreCounted counts (commands_of rows) → value_at rows q cid ≡ Some k → i ≡ q → n ≡ get_or counts i n
     → AreCounted (slice_set counts i (n - 1)) (commands_of (without rows q cid))

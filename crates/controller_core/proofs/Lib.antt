@@ -1,6 +1,6 @@
 pub mod Lists
 pub mod Rows
-pub mod Waiting
+pub mod Awaited
 pub mod Managing
 pub mod ResetQueues
 pub mod WorkedReads

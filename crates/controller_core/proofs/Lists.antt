@@ -1,7 +1,7 @@
 -- Lists of which one member is changed or taken out; and each call goes one way.
 use Rattle.controller_core.specs.declared.refusal.Refusal.TheVariants as refusal
 use Rattle.std.proofs.Common.{◌≡◌, ℕ, zero, suc, ◌+◌, ◌<◌, ◌≤◌, Bool, true, false, cond, Some, List, [], ◌∷◌, ◌++◌, length, map, filter, find, drop, get_or, slice_get, slice_set, refl, ap, sym, ◌∙◌, arith, subst, ◌==◌, take, Option, None, if◌then◌else◌, ap₂, eqb-true, inl, inr}
-use Rattle.std.{proofs.lemmas.{Bool.cases_Bool, List.{map-append, Sums.sum_by-cons}}, specs.List.{AllByRecursion, count_by}}
+use Rattle.std.{proofs.lemmas.List.{map-set, Sums.sum_by-cons}, specs.List.{AllByRecursion, count_by}}
 use Rattle.std.specs.Option.{option_map_or}
 use Rattle.controller_core.specs.{Answering.{completion_by, memory_posted, page_posted}, Completing.{completed, status_of_end}}
 use Rattle.controller_core.specs.Contents.{change, Contents, FetchedCommand, Work, dw0_of_work, is_command}
@@ -13,14 +13,11 @@ use Rattle.controller_walk.specs.{Units.{Act, Stays, Reads, Moves, Course, Close
 use Rattle.controller_walk.specs.declared.walk.WalkState.{WalkState}
 use Rattle.entry_codec.specs.declared.{status.TheConstants.Status.COMMAND_ID_CONFLICT, submission.SubEntry.SubEntry}
 use Rattle.io_commands.specs.Jobs.{JobContents, job_course, direction_of_entry, verdict_of}
-use Rattle.page_memory.specs.Memory.{Memory}
+use Rattle.page_memory.{proofs.Lists.{some_is, found_is}, specs.Memory.{Memory}}
 use Rattle.queue_pair.specs.{Memory.{entry_at, submission_page}, Rings.DeviceSide}
 use Rattle.sgl_descriptor.specs.declared.Direction.{Direction, TheVariants.{Destination, Source}}
 
 -- Lists of which one member is changed or taken out.
-
-pub some_is : {A : Type 0} {x y : A} → Some x ≡ Some y → x ≡ y
-some_is e = cc
 
 -- it goes alone, where identifiers differ
 abbrev pub one : Bool → ℕ
@@ -55,33 +52,6 @@ length-change (suc k) f (x ∷ xs) = ap suc (length-change k f xs)
 pub few_stay : (n m : ℕ) → n ≡ m → m ≤ 65536 → n ≤ 65536
 few_stay n m e few = omega (arith, e, few)
 
-pub all-append : {A : Type 0} (P : A → Type 0) (xs : List A) (y : A) → AllByRecursion P xs → P y → AllByRecursion P (xs ++ y ∷ [])
-all-append P [] y all here = (here, tt)
-all-append P (x ∷ xs) y all here = (all.0, all-append P xs y all.1 here)
-
-pub all-filter : {A : Type 0} (P : A → Type 0) (f : A → Bool) (xs : List A) → AllByRecursion P xs → AllByRecursion P (filter f xs)
-all-filter P f [] all = tt
-all-filter P f (x ∷ xs) all =
-    let rest = all-filter P f xs all.1 in
-    elim (f x) as (λ b. AllByRecursion P (cond b (x ∷ filter f xs) (filter f xs))) [ true ↦ (all.0, rest) | false ↦ rest ]
-
-pub all-map : {A : Type 0} (P : A → Type 0) (f : A → A) → ((x : A) → P x → P (f x)) → (xs : List A) → AllByRecursion P xs → AllByRecursion P (map f xs)
-all-map P f keeps [] all = tt
-all-map P f keeps (x ∷ xs) all = (keeps x all.0, all-map P f keeps xs all.1)
-
-pub all-at : {A : Type 0} (P : A → Type 0) (xs : List A) (i : ℕ) (x : A) → slice_get xs i ≡ Some x → AllByRecursion P xs → P x
-all-at P [] i x e all = cc
-all-at P (y ∷ xs) zero x e all = subst P (some_is e) all.0
-all-at P (y ∷ xs) (suc i) x e all = all-at P xs i x e all.1
-
--- what is found, and where
-pub found_is : {A : Type 0} (test : A → Bool) (xs : List A) (x : A) → find test xs ≡ Some x → test x ≡ true
-found_is test [] x e = cc
-found_is {A = A} test (y ∷ xs) x e = elim (cases_Bool (test y)) [
-  | inl f ↦ subst (λ (z : A). test z ≡ true) (some_is (rw f at e)) f
-  | inr f ↦ found_is test xs x (rw f at e)
-]
-
 at_place : {A : Type 0} (q : ℕ) (f : A → A) (xs : List A) (x y : A) → q < length xs → x ≡ get_or xs q x → y ≡ f x → slice_set xs q y ≡ change q f xs
 at_place q f [] x y l e h = absurd (omega arith)
 at_place {A = A} zero f (z ∷ xs) x y l e h = ap (λ (w : A). w ∷ xs) (h ∙ ap f e)
@@ -98,11 +68,6 @@ past_end {A = A} (suc q) f (z ∷ xs) l = ap (λ (w : List A). z ∷ w) (past_en
 
 pub change_past : {A : Type 0} (q i : ℕ) (f : A → A) (xs : List A) → i ≡ q → length xs ≤ i → xs ≡ change q f xs
 change_past q i f xs same l = past_end i f xs l ∙ ap (λ (k : ℕ). change k f xs) same
-
-pub get-at : {A : Type 0} (q : ℕ) (xs : List A) (x : A) → q < length xs → x ≡ get_or xs q x → slice_get xs q ≡ Some x
-get-at q [] x l e = absurd (omega arith)
-get-at {A = A} zero (z ∷ xs) x l e = ap (λ (w : A). Some w) (sym e)
-get-at (suc q) (z ∷ xs) x l e = get-at q xs x (omega arith) e
 
 -- two changes that bear one another, in either order
 pub change-change : {A : Type 0} (j k : ℕ) (f g : A → A) → ((x : A) → f (g x) ≡ g (f x)) → (xs : List A) → change j f (change k g xs) ≡ change k g (change j f xs)
@@ -179,11 +144,6 @@ same_place p (z ∷ xs) (suc i) zero x y few at e at' e' =
     let first : p z ≡ true = subst (λ w. p w ≡ true) (sym (some_is at')) e' in
     absurd (omega (arith, few, count-cons p z xs, ap one first, here_counted p xs i x at e))
 same_place p (z ∷ xs) (suc i) (suc j) x y few at e at' e' = ap suc (same_place p xs i j x y (omega (arith, few, count-cons p z xs)) at e at' e')
-
-map-set : {A B : Type 0} (f : A → B) (xs : List A) (i : ℕ) (y : A) → map f (slice_set xs i y) ≡ slice_set (map f xs) i (f y)
-map-set f [] i y = refl
-map-set f (x ∷ xs) zero y = refl
-map-set f (x ∷ xs) (suc i) y = ap (λ ys. f x ∷ ys) (map-set f xs i y)
 
 one_job : (m : Memory) (s : List ℕ) (job j j' : JobContents) (o o' : WalkState) (n n' : Memory) (t t' : List ℕ) → DoesUnit m s job o j n t → DoesUnit m s job o' j' n' t' → Io (record j { walk = None }) ≡ Io (record j' { walk = None })
 one_job m s job j j' o o' n n' t t' u u' =

@@ -1,13 +1,13 @@
 -- What each verdict of an admin entry comes from, and what it keeps.
-use Rattle.controller_core.proofs.{Lists.{all-map, count-cons, one, length-change, all-at, all_set, count_set}, Rows.{all_found, both_parts, commands-without, length-end}}
-use Rattle.controller_core.proofs.Waiting.{Awaits, IsAlike, awaited_changed, awaited_more, awaits_alike, named_last, none_mapped, awaited_set, awaited_without, completes_alone, either_no, commands-with, none_found, not_some}
+use Rattle.controller_core.proofs.{Lists.{count-cons, one, length-change, all_set, count_set}, Rows.{commands-without, length-end}}
+use Rattle.controller_core.proofs.Awaited.{Awaits, IsAlike, awaited_changed, awaited_more, awaits_alike, named_last, none_mapped, awaited_set, awaited_without, completes_alone, commands-with, none_found}
 use Rattle.controller_core.specs.{Answering.{Posts, with_answer}, Completing.{complete_refusal, queues_of_end, without_command}}
 use Rattle.controller_core.specs.Contents.{FitsVerdict, Contents, IsController, IsNamedBy, AreAwaited, AreCommands, FetchedCommand, Work, FitsWork, FitsCommand, change, entry_of_work, is_command, is_deletion}
 use Rattle.controller_core.specs.Managing.{with_taken, command_of, admin_work, stopped_work, aborted, stopped_with_queue, stopping, without_completion, with_completion, with_submission, NamesPages, commands_after, queues_after, verdict_for, view_for, managed}
 use Rattle.controller_core.specs.{Walking.{WalksAmong, stepped, ended_refusal, refusal_among}, declared.command.Work.TheVariants.{Io, Admin}}
 use Rattle.controller_core.specs.declared.queue.ControllerQueue.{ControllerQueue}
 use Rattle.std.proofs.Common.{◌≡◌, ℕ, ◌+◌, ◌/◌, ◌%◌, ◌<◌, ◌≤◌, ◌==◌, ◌&&◌, ◌||◌, not, nat_lt, Bool, true, false, Option, Some, None, if◌then◌else◌, refl, arith, eqb-true, suc, zero, ◌-◌, min, nat_eq, cond, is_some, List, ◌^◌, is_none, [], ◌∷◌, ◌++◌, find, length, map, ap, ap₂, sym, ◌∙◌, subst, IfSome}
-use Rattle.std.{proofs.lemmas.Bool.{eq-eqb, true≢false, ne_eqb, Decides.nat_tests}, specs.{List.count_by, Option.{option_map_or, option_map}}}
+use Rattle.std.{proofs.lemmas.{Bool.{and_parts, and_right, eq-eqb, not-false, not-true, or_parts, true≢false, Decides.nat_tests}, List.map-append}, specs.{List.count_by, Option.{option_map_or, option_map}}}
 use Rattle.admin_commands.specs.Entries.{named_queue, named_command, named_base, named_size, named_completion_queue, is_contiguous, is_opcode}
 use Rattle.admin_commands.specs.Verdicts.{decision, is_live, is_absent, is_io_queue, half_fault, abort_verdict, delete_sq_verdict, delete_cq_verdict, create_cq_verdict, create_sq_verdict}
 use Rattle.admin_commands.specs.declared.AdminVerdict.{AdminVerdict, TheVariants.{Answer, AbortJob, StopQueue, DropCompletion, MakeCompletion, MakeSubmission}}
@@ -16,6 +16,8 @@ use Rattle.entry_codec.specs.declared.{admin_opcode.TheConstants.{ABORT, DELETE_
 use Rattle.entry_codec.specs.declared.status.TheConstants.Status.{SUCCESS, INVALID_OPCODE, INVALID_FIELD, INVALID_QUEUE_IDENTIFIER, INVALID_QUEUE_SIZE, INVALID_QUEUE_DELETION, COMPLETION_QUEUE_INVALID, DATA_TRANSFER_ERROR, DATA_SGL_LENGTH_INVALID, ABORT_REQUESTED, ABORTED_SQ_DELETION}
 use Rattle.entry_codec.specs.declared.submission.SubEntry.{SubEntry}
 use Rattle.io_commands.specs.Jobs.{is_success, course_of_walk, verdict_of, JobContents, job_course}
+use Rattle.page_memory.proofs.Lists.{all-map, all-at, all-found}
+use Rattle.slot_table.proofs.{Rows.none_is, Walks.eqb-turned}
 use Rattle.page_memory.specs.{Memory.{Memory, bytes_at}, declared.page.Half.{Half, TheVariants.{Submission, Completion}}}
 use Rattle.queue_pair.specs.Memory.{half_pages}
 use Rattle.controller_walk.specs.Units.{Course, Stays, Moves, Closes, Does, after_read, read_at, from_place, behind, goes_on, unless_fault, cause_status, first_cause, first_fault, moving, first_part, pages_spanned, entry_cursor}
@@ -34,14 +36,6 @@ use Rattle.controller_core.specs.declared.refusal.Refusal.TheVariants as refusal
 pub if_by : {X : Type 0} (P : X → Type 0) (b : Bool) (x y : X) → (b ≡ true → P x) → (b ≡ false → P y) → P (if b then x else y)
 if_by P true x y f g = f refl
 if_by P false x y f g = g refl
-
-pub was_false : (b : Bool) → not b ≡ true → b ≡ false
-was_false true e = cc
-was_false false e = refl
-
-was_true : (b : Bool) → not b ≡ false → b ≡ true
-was_true true e = refl
-was_true false e = cc
 
 -- a status that refuses a command
 pub record IsRefusal (st : Status) : Type 0 where
@@ -70,14 +64,14 @@ no_queue = record { small = omega arith; fails = refl }
 abort_by : (P : AdminVerdict → Type 0) (e : SubEntry) (view : DeviceView) → OfEach P e view → e.opcode ≡ ABORT → P (abort_verdict (named_queue e) (named_command e) view)
 abort_by P e view each op =
     if_by P (view.target_walks && not (named_queue e == 0)) (AbortJob (named_queue e) (named_command e)) (Answer SUCCESS 1)
-    (λ h. each.aborts (was_false (named_queue e == 0) (both_parts view.target_walks (not (named_queue e == 0)) h).1))
+    (λ h. each.aborts (not-true (named_queue e == 0) (and_parts view.target_walks (not (named_queue e == 0)) h).1))
     (λ h. each.too_late op)
 
 delete_sq_by : (P : AdminVerdict → Type 0) (e : SubEntry) (view : DeviceView) → OfEach P e view → P (delete_sq_verdict (named_queue e) view)
 delete_sq_by P e view each =
     if_by P ((named_queue e == 0) || not (is_live view.sq)) (Answer INVALID_QUEUE_IDENTIFIER 0) (StopQueue (named_queue e))
     (λ h. each.refused INVALID_QUEUE_IDENTIFIER no_queue)
-    (λ h. each.stops (either_no (named_queue e == 0) (not (is_live view.sq)) h).0)
+    (λ h. each.stops (or_parts (named_queue e == 0) (not (is_live view.sq)) h).0)
 
 delete_cq_by : (P : AdminVerdict → Type 0) (e : SubEntry) (view : DeviceView) → OfEach P e view → P (delete_cq_verdict (named_queue e) view)
 delete_cq_by P e view each =
@@ -85,11 +79,11 @@ delete_cq_by P e view each =
     (λ h. each.refused INVALID_QUEUE_IDENTIFIER no_queue)
     (λ h. if_by P (not (is_absent view.sq)) (Answer INVALID_QUEUE_DELETION 0) (DropCompletion (named_queue e))
     (λ h'. each.refused INVALID_QUEUE_DELETION (record { small = omega arith; fails = refl }))
-    (λ h'. each.drops (either_no (named_queue e == 0) (not view.cq_there) h).0))
+    (λ h'. each.drops (or_parts (named_queue e == 0) (not view.cq_there) h).0))
 
 -- the number of an I/O queue
 io_queue : (q : ℕ) (view : DeviceView) → not (is_io_queue q view) ≡ false → (q == 0) ≡ false
-io_queue q view h = positive q (both_parts (nat_lt 0 q) _ (was_true (is_io_queue q view) h)).0
+io_queue q view h = positive q (and_parts (nat_lt 0 q) _ (not-false (is_io_queue q view) h)).0
   where
     positive : (q : ℕ) → nat_lt 0 q ≡ true → (q == 0) ≡ false
     positive q l = grind (arith, nat_tests, l)
@@ -116,7 +110,7 @@ create_cq_by P e view each =
     if_by P (not (is_io_queue (named_queue e) view) || view.cq_there) (Answer INVALID_QUEUE_IDENTIFIER 0) _
     (λ h. each.refused INVALID_QUEUE_IDENTIFIER no_queue)
     (λ h. half_by P Completion e view (MakeCompletion (named_queue e) (named_base e)) each.refused
-    (each.makes_completion (io_queue (named_queue e) view (either_no (not (is_io_queue (named_queue e) view)) view.cq_there h).0)))
+    (each.makes_completion (io_queue (named_queue e) view (or_parts (not (is_io_queue (named_queue e) view)) view.cq_there h).0)))
 
 create_sq_by : (P : AdminVerdict → Type 0) (e : SubEntry) (view : DeviceView) → OfEach P e view → P (create_sq_verdict e view)
 create_sq_by P e view each =
@@ -127,7 +121,7 @@ create_sq_by P e view each =
     (λ h'. if_by P (not view.cq_there || not (named_completion_queue e == named_queue e)) (Answer COMPLETION_QUEUE_INVALID 0) _
     (λ h''. each.refused COMPLETION_QUEUE_INVALID (record { small = omega arith; fails = refl }))
     (λ h''. half_by P Submission e view (MakeSubmission (named_queue e) (named_base e)) each.refused
-    (each.makes_submission (io_queue (named_queue e) view (either_no (not (is_io_queue (named_queue e) view)) (not (is_absent view.sq)) h).0)))))
+    (each.makes_submission (io_queue (named_queue e) view (or_parts (not (is_io_queue (named_queue e) view)) (not (is_absent view.sq)) h).0)))))
 
 pub decided : (P : AdminVerdict → Type 0) (e : SubEntry) (view : DeviceView) → OfEach P e view → P (decision e view)
 decided P e view each =
@@ -225,15 +219,11 @@ abbrev Suits : SubEntry → AdminVerdict → Type 0
 Suits e (Answer st dw0) = (st.sct < 8) × (is_deletion e st ≡ false)
 Suits e v = (named_queue e == 0) ≡ false
 
-and_false : (b : Bool) → (b && false) ≡ false
-and_false true = refl
-and_false false = refl
-
 decision_suits : (e : SubEntry) (view : DeviceView) → Suits e (decision e view)
 decision_suits e view =
     decided (Suits e) e view
     (record {
-      refused = λ st r. (r.small, ap (λ (b : Bool). (e.opcode == DELETE_IO_SQ) && b) r.fails ∙ and_false (e.opcode == DELETE_IO_SQ));
+      refused = λ st r. (r.small, ap (λ (b : Bool). (e.opcode == DELETE_IO_SQ) && b) r.fails ∙ and_right (e.opcode == DELETE_IO_SQ) false refl);
       too_late = λ op. (omega arith, ap (λ (k : ℕ). (k == DELETE_IO_SQ) && true) op);
       aborts = λ h. h;
       stops = λ h. h;
@@ -370,8 +360,8 @@ managed_kept pages c e is there free =
           subst (λ (n : ℕ). AreCommands blocks n (managed pages e c).commands) (sym (length-after v (change 0 with_taken c.queues) ∙ length-change 0 with_taken c.queues))
           (commands-with blocks (length c.queues) (commands_after e.cid v c.commands) (command_of 0 (admin_work e v)) (stay.are is.commands) there
           (admin_fits blocks e v (decision_suits e (view_for pages c.queues c.commands e)))
-          (stay.count 0 e.cid ∙ none_found (is_command 0 e.cid) c.commands (not_some (find (is_command 0 e.cid) c.commands) free)));
-      awaited = managed_awaited c.commands e v is.awaited (decision_aims e (view_for pages c.queues c.commands e)) (not_some (find (is_command 0 e.cid) c.commands) free);
+          (stay.count 0 e.cid ∙ none_found (is_command 0 e.cid) c.commands (none_is (find (is_command 0 e.cid) c.commands) free)));
+      awaited = managed_awaited c.commands e v is.awaited (decision_aims e (view_for pages c.queues c.commands e)) (none_is (find (is_command 0 e.cid) c.commands) free);
     }
 
 -- An Abort that stops a command names one of an I/O queue.
@@ -400,23 +390,15 @@ decision_names e view few =
       makes_submission = λ h l. omega (arith, few, l);
     })
 
-zero_other : (q : ℕ) → (q == 0) ≡ false → (0 == q) ≡ false
-zero_other zero e = cc
-zero_other (suc q) e = ne_eqb 0 (suc q) (λ same. absurd (omega (arith, same)))
-
-map_more : {A B : Type 0} (f : A → B) (xs : List A) (x : A) → map f (xs ++ x ∷ []) ≡ map f xs ++ f x ∷ []
-map_more f [] x = refl
-map_more f (y ∷ ys) x = ap (λ zs. f y ∷ zs) (map_more f ys x)
-
 -- what an admin command does, it does not to itself
 own_spared : (e : SubEntry) (v : AdminVerdict) (commands : List FetchedCommand) (k : FetchedCommand) → Spares v → k ≡ command_of 0 (admin_work e v) → commands_after e.cid v (commands ++ k ∷ []) ≡ commands_after e.cid v commands ++ k ∷ []
 own_spared e (AbortJob q cid) commands k s is =
-    let other : is_command q cid k ≡ false = ap (is_command q cid) is ∙ ap (λ (b : Bool). b && (e.cid == cid)) (zero_other q s) in
-    map_more (aborted q cid e.cid) commands k
+    let other : is_command q cid k ≡ false = ap (is_command q cid) is ∙ ap (λ (b : Bool). b && (e.cid == cid)) (eqb-turned 0 q ∙ s) in
+    map-append (aborted q cid e.cid) commands (k ∷ [])
     ∙ ap (λ (x : FetchedCommand). map (aborted q cid e.cid) commands ++ x ∷ []) (ap (λ (b : Bool). if b then record k { work = stopped_work ABORT_REQUESTED k.work; waiting_abort = Some e.cid } else k) other)
 own_spared e (StopQueue q) commands k s is =
     let own : stopped_with_queue q k ≡ k = ap (stopped_with_queue q) is ∙ by (0 == q) ∙ sym is in
-    map_more (stopped_with_queue q) commands k ∙ ap (λ (x : FetchedCommand). map (stopped_with_queue q) commands ++ x ∷ []) own
+    map-append (stopped_with_queue q) commands (k ∷ []) ∙ ap (λ (x : FetchedCommand). map (stopped_with_queue q) commands ++ x ∷ []) own
   where
     by : (b : Bool) → (if b then command_of 0 (admin_work e (StopQueue q)) else command_of 0 (admin_work e (StopQueue q))) ≡ command_of 0 (admin_work e (StopQueue q))
     by true = refl
@@ -484,7 +466,7 @@ few_walked c q cid is accepted = go (find (is_command q cid) c.commands) refl
     go : (o : Option FetchedCommand) → find (is_command q cid) c.commands ≡ o → IfSome o (λ k. k.units_done ≤ 12545)
     go None found = tt
     go (Some k) found =
-        let fits = all_found (FitsCommand (block_count c.image) (length c.queues)) (is_command q cid) c.commands k is.commands.each found in
+        let fits = all-found (FitsCommand (block_count c.image) (length c.queues)) (is_command q cid) c.commands k found is.commands.each in
         let going : ended_refusal k ≡ None = sym (accepted ∙ ap (λ (o : Option FetchedCommand). option_map_or ended_refusal o (Some refusal.NoJob)) found) in
         few_done (block_count c.image) k.q k.units_done k.work k.units_done k.waiting_abort fits.1 going
 

@@ -1,15 +1,15 @@
 -- Fetched commands in a table, as a list, and which of them complete.
-use Rattle.controller_core.proofs.Lists.{some_is, change-change, length-change, change_at, all-filter, count-filter, found_is, get-at}
+use Rattle.controller_core.proofs.Lists.{change-change, length-change, change_at, count-filter}
 use Rattle.controller_core.specs.Answering.{completion_by, memory_posted, page_posted, with_answer, Posts}
-use Rattle.controller_core.specs.Completing.{CompletesTo, queues_of_end, image_of_end, status_of_end, IsOver, without_command, without_submission}
+use Rattle.controller_core.specs.Completing.{CompletesTo, queues_of_end, image_of_end, status_of_end, CanEnd, without_command, without_submission}
 use Rattle.controller_core.specs.Contents.{change, Contents, IsController, AreCommands, FitsCommand, FitsWork, is_command, is_deletion, entry_of_work, dw0_of_work, FetchedCommand, Work}
 use Rattle.controller_core.specs.{Doorbells.with_side}
 use Rattle.controller_core.specs.{Looks.{name_at}}
 use Rattle.controller_core.specs.{Tables.{AreNamed}}
 use Rattle.controller_core.specs.declared.{command.Work.TheVariants.{Io, Admin}, queue.ControllerQueue.ControllerQueue, refusal.Refusal.Refusal}
 use Rattle.std.proofs.Common.{◌≡◌, ℕ, ◌<◌, ◌==◌, ◌&&◌, ◌++◌, ◌∷◌, [], not, Bool, true, false, Option, Some, Result, Ok, Err, cond, List, length, find, slice_set, get_or, if◌then◌else◌, refl, ap, ap₂, sym, ◌∙◌, arith, subst, eqb-true, true≢false, None, zero, suc, map, slice_get, inl, inr, is_some}
-use Rattle.std.proofs.lemmas.{Bool.{cases_Bool, eq-eqb}}
-use Rattle.std.{proofs.lemmas.{Option.none-some}, specs.{List.{AllByRecursion}}}
+use Rattle.std.proofs.lemmas.{Bool.{and_parts, cases_Bool, eq-eqb}}
+use Rattle.std.{proofs.lemmas.{Option.{none-some, slice_get_read}}, specs.{List.{AllByRecursion}}}
 use Rattle.std.specs.{Option.{is_some}, Result.{OnOk}, Str.bytes_eq}
 use Rattle.admin_commands.specs.Entries.{named_queue}
 use Rattle.block_image.specs.Blocks.{block_count, blocks_at}
@@ -18,7 +18,7 @@ use Rattle.io_commands.specs.declared.request.Kind.{Kind, TheVariants.{Compare}}
 use Rattle.entry_codec.specs.{Completion.IsComEntry, declared.status.Status.Status}
 use Rattle.entry_codec.specs.declared.status.TheConstants.Status.{SUCCESS, COMPARE_FAILURE}
 use Rattle.entry_codec.specs.declared.submission.SubEntry.{SubEntry}
-use Rattle.page_memory.specs.Memory.{Memory}
+use Rattle.page_memory.{proofs.Lists.{some_is, all-filter, all-found, found_is}, specs.Memory.{Memory}}
 use Rattle.queue_pair.specs.Rings.{DeviceSide, answer_posted}
 use Rattle.slot_table.proofs.{Rows.none_is, Walks.none_stands}
 use Rattle.slot_table.specs.Rows.{Row, is_at, value_at, without, with_value, with_last, first_place, place_behind, NoneAt, IsDistinct}
@@ -37,13 +37,9 @@ length-end (Admin entry status dw0) queues =
 
 -- Its name, and its queue
 
-pub both_parts : (a b : Bool) → (a && b) ≡ true → (a ≡ true) × (b ≡ true)
-both_parts true b e = (refl, e)
-both_parts false b e = cc
-
 pub named : (q cid : ℕ) (commands : List FetchedCommand) (k : FetchedCommand) → find (is_command q cid) commands ≡ Some k → (k.q ≡ q) × ((entry_of_work k.work).cid ≡ cid)
 named q cid commands k found =
-    let both = both_parts (k.q == q) ((entry_of_work k.work).cid == cid) (found_is (is_command q cid) commands k found) in
+    let both = and_parts (k.q == q) ((entry_of_work k.work).cid == cid) (found_is (is_command q cid) commands k found) in
     (eqb-true k.q q both.0, eqb-true (entry_of_work k.work).cid cid both.1)
 
 -- it is found by its own name
@@ -58,16 +54,9 @@ pub record IsFound (c : Contents) (q cid : ℕ) (k : FetchedCommand) : Type 0 wh
   pub there : q < length c.queues
   pub fits : FitsWork (block_count c.image) q k.units_done k.work
 
-pub all_found : (P : FetchedCommand → Type 0) (test : FetchedCommand → Bool) (xs : List FetchedCommand) (k : FetchedCommand) → AllByRecursion P xs → find test xs ≡ Some k → P k
-all_found P test [] k all found = cc
-all_found P test (x ∷ xs) k all found = elim (cases_Bool (test x)) [
-  | inl here ↦ subst P (some_is (rw here at found)) all.0
-  | inr later ↦ all_found P test xs k all.1 (rw later at found)
-]
-
 pub is_found : (c : Contents) (q cid : ℕ) (k : FetchedCommand) → IsController c → find (is_command q cid) c.commands ≡ Some k → IsFound c q cid k
 is_found c q cid k is found =
-    let fits = all_found (FitsCommand (block_count c.image) (length c.queues)) (is_command q cid) c.commands k is.commands.each found in
+    let fits = all-found (FitsCommand (block_count c.image) (length c.queues)) (is_command q cid) c.commands k found is.commands.each in
     let q_is = (named q cid c.commands k found).0 in
     record {
       found = found;
@@ -94,7 +83,7 @@ pub end_fits : (image : List ℕ) (blocks q done : ℕ) (work : Work) → FitsWo
 end_fits image blocks q done (Io job) fits = status_after_fits image job.entry job.bytes job.verdict fits.2
 end_fits image blocks q done (Admin entry status dw0) fits = fits.1
 
-pub over_fits : (blocks q done : ℕ) (work : Work) → FitsWork blocks q done work → IsOver blocks work
+pub over_fits : (blocks q done : ℕ) (work : Work) → FitsWork blocks q done work → CanEnd blocks work
 over_fits blocks q done (Io job) fits = fits.1
 over_fits blocks q done (Admin entry status dw0) fits = tt
 
@@ -143,7 +132,7 @@ posts_by (Err why) queues q i cid st dw0 m m' reached reached' queue device same
 posts_by (Ok x) queues q i cid st dw0 m m' reached reached' queue device same there at a t b d =
     record {
       queue = queue;
-      here = get-at q queues queue there (subst (λ (k : ℕ). queue ≡ get_or queues k queue) same at);
+      here = slice_get_read queues _ q queue refl there (subst (λ (k : ℕ). queue ≡ get_or queues k queue) same at);
       queues_posted = change_at q i with_answer queues queue (with_side device queue) same (omega (arith, same, there)) at (ap (λ (side : DeviceSide). with_side side queue) a);
       typed = t;
       memory = b;
@@ -186,7 +175,7 @@ found_rows (row ∷ rows) q cid n =
 
 pub place_is : (row : Row FetchedCommand) (q cid : ℕ) → is_at row q cid ≡ true → (row.q ≡ q) × (row.cid ≡ cid)
 place_is row q cid at =
-    let both = both_parts (row.q == q) (row.cid == cid) at in
+    let both = and_parts (row.q == q) (row.cid == cid) at in
     (eqb-true row.q q both.0, eqb-true row.cid cid both.1)
 
 at_itself : (row : Row FetchedCommand) (q cid : ℕ) → row.q ≡ q → row.cid ≡ cid → is_at row q cid ≡ true

@@ -37,9 +37,9 @@ abbrev pub complete_refusal : Contents → Memory → ℕ → ℕ → Option Ref
 complete_refusal c m q cid = option_map_or (command_refusal c m q) (find (is_command q cid) c.commands) (Some refusal.NoJob)
 
 -- a command of an I/O queue was checked over an image of so many blocks
-abbrev pub IsOver : ℕ → Work → Type 0
-IsOver blocks (Io job) = job.blocks ≡ blocks
-IsOver blocks (Admin entry status dw0) = Unit {0}
+abbrev pub CanEnd : ℕ → Work → Type 0
+CanEnd blocks (Io job) = job.blocks ≡ blocks
+CanEnd blocks (Admin entry status dw0) = Unit {0}
 
 -- how a command ends over an image, and the image and the queues that it leaves
 abbrev pub status_of_end : List ℕ → Work → Status

@@ -103,10 +103,7 @@ impl<A: Allocator> Commands<A> {
         ensures unlisted { D.unlisted dma.new ≡ D.unlisted dma.old }
         ensures pool { D.page_count dma.new ≡ D.page_count dma.old }
     {
-        match self.table.get_mut(q, cid) {
-            Some(command) => command.walk(dma),
-            None => unreachable!(),
-        }
+        self.table.get_mut(q, cid).unwrap().walk(dma)
     }
 
     /// Stops the command that an Abort names.

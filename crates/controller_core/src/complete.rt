@@ -6,15 +6,15 @@ ghost use Rattle.std.specs.Result.{result_err};
 ghost use Rattle.block_image.specs.Blocks.{block_count};
 ghost use Rattle.page_memory.specs.Memory.{Memory};
 ghost use Rattle.controller_core.specs.Answering.{answer_refusal};
-ghost use Rattle.controller_core.specs.Completing.{complete_refusal, status_of_end, image_of_end, queues_of_end, without_submission, IsOver, CompletesTo};
+ghost use Rattle.controller_core.specs.Completing.{complete_refusal, status_of_end, image_of_end, queues_of_end, without_submission, CanEnd, CompletesTo};
 ghost use Rattle.controller_core.specs.Contents.{change, dw0_of_work, verdict_of_work, is_command, is_deletion, IsController};
 
 use crate::answer::answer;
 use crate::command::Work;
 use crate::controller::Controller;
-use crate::lookup::is_success;
 use crate::queue::ControllerQueue;
 use crate::refusal::Refusal;
+use crate::waiting::is_success;
 use admin_commands::{SqState, queue_of};
 use block_image::Image;
 use entry_codec::admin_opcode::DELETE_IO_SQ;
@@ -44,7 +44,7 @@ impl<A: Allocator> Work<Job<A>> {
     /// How a command ends over an image: the status of its completion, and its command specific double word.
     fn end<B: Allocator>(&self, image: &Image<B>) -> (Status, u32)
         requires verdict { IsSome (verdict_of_work self.now) }
-        requires over { IsOver (block_count image.now) self.now }
+        requires over { CanEnd (block_count image.now) self.now }
         ensures status { result.0 ≡ status_of_end image.now self.now }
         ensures dw0 { result.1 ≡ dw0_of_work self.now }
     {
@@ -63,7 +63,7 @@ fn settle<A: Allocator>(
     work: Work<Job<A>>,
 )
     requires verdict { IsSome (verdict_of_work work) }
-    requires over { IsOver (block_count image.old) work }
+    requires over { CanEnd (block_count image.old) work }
     ensures queues { queues.new.items ≡ queues_of_end work queues.old.items }
     ensures image { image.new ≡ image_of_end image.old work }
     ensures as_long { length image.new ≡ length image.old }
@@ -122,15 +122,10 @@ impl<A: Allocator> Controller<A> {
         ensures pool { D.page_count dma.new ≡ D.page_count dma.old }
     {
         self.check_complete(q, cid)?;
-        let (status, dw0) = match self.commands.get(q, cid) {
-            Some(command) => command.work.end(&self.image),
-            None => unreachable!(),
-        };
+        let (status, dw0) = self.commands.get(q, cid).unwrap().work.end(&self.image);
         answer(&mut self.queues, q, cid, status, dw0, dma)?;
-        match self.commands.take(q, cid) {
-            Some(command) => settle(&mut self.queues, &mut self.image, command.work),
-            None => unreachable!(),
-        }
+        let command = self.commands.take(q, cid).unwrap();
+        settle(&mut self.queues, &mut self.image, command.work);
         Ok(())
     }
 }

@@ -19,11 +19,11 @@ mod doorbell;
 mod fetch;
 pub mod laws;
 mod look;
-mod lookup;
 mod manage;
 mod queue;
 mod refusal;
 mod reset;
+mod waiting;
 mod walk;
 pub mod worked;
 

@@ -1,4 +1,4 @@
-use Rattle.controller_core.proofs.Waiting.{answers_by}
+use Rattle.controller_core.proofs.Awaited.{answers_by}
 use Rattle.controller_core.proofs.fetch.answer_in.Goals as goal
 
 pub returns-clause-answers : goal.returns-clause-answers

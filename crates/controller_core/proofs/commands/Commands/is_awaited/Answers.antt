@@ -1,4 +1,4 @@
-use Rattle.controller_core.proofs.Waiting.{awaited_of}
+use Rattle.controller_core.proofs.Awaited.{awaited_of}
 use Rattle.std.{proofs.Common.{◌∙◌, ap}, specs.Option.option_copied}
 use Rattle.controller_core.proofs.commands.Commands.is_awaited.Goals as goal
 

@@ -1,4 +1,4 @@
-use Rattle.controller_core.{proofs.{Lists.{few_stay, length-change}, Waiting.{begun_in, begins_in, begun_unknown, on_err}}, specs.Contents.FetchedCommand}
+use Rattle.controller_core.{proofs.{Lists.{few_stay, length-change}, Awaited.{begun_in, begins_in, begun_unknown, on_err}}, specs.Contents.FetchedCommand}
 use Rattle.controller_core.specs.{Managing.with_taken, Tables.Outstanding}
 use Rattle.std.proofs.Common.{◌<◌, length, arith, ap, refl, sym, ◌∙◌}
 use Rattle.controller_core.proofs.controller.Controller.begin_entry.Goals as goal

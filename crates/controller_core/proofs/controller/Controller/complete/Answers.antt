@@ -6,39 +6,39 @@ use Rattle.controller_core.proofs.controller.Controller.complete.Goals as goal
 
 pub end-requires-clause-over : goal.end-requires-clause-over
 end-requires-clause-over g c =
-    let f = is_found _ c.args.q c.args.cid _ c.self.invariant.0 (sym c.get.ensures.found ∙ ap option_copied c.in-Some.is) in
+    let f = is_found _ c.args.q c.args.cid _ c.self.invariant.0 (sym c.get.ensures.found ∙ ap option_copied c.unwrap.ensures) in
     over_fits _ _ _ _ f.fits
 
 pub answer-requires-clause-there : goal.answer-requires-clause-there
 answer-requires-clause-there g c =
-    (is_found _ c.args.q c.args.cid _ c.self.invariant.0 (sym c.get.ensures.found ∙ ap option_copied c.in-Some.is)).there
+    (is_found _ c.args.q c.args.cid _ c.self.invariant.0 (sym c.get.ensures.found ∙ ap option_copied c.unwrap.ensures)).there
 
 pub answer-requires-clause-fits : goal.answer-requires-clause-fits
 answer-requires-clause-fits g c =
-    let f = is_found _ c.args.q c.args.cid _ c.self.invariant.0 (sym c.get.ensures.found ∙ ap option_copied c.in-Some.is) in
+    let f = is_found _ c.args.q c.args.cid _ c.self.invariant.0 (sym c.get.ensures.found ∙ ap option_copied c.unwrap.ensures) in
     subst (λ (st : Status). st.sct < 8) (sym c.end.ensures.status) (end_fits c.self.inside.image _ _ _ _ f.fits)
 
 pub settle-requires-clause-over : goal.settle-requires-clause-over
 settle-requires-clause-over g c =
-    let f = is_found _ c.args.q c.args.cid _ c.self.invariant.0 (sym c.take.ensures.value ∙ c.in-Some-take.is) in
+    let f = is_found _ c.args.q c.args.cid _ c.self.invariant.0 (sym c.take.ensures.value ∙ c.unwrap-command.ensures) in
     over_fits _ _ _ _ f.fits
 
-pub invariant_of-self-in-Some-take : goal.invariant_of-self-in-Some-take
-invariant_of-self-in-Some-take g c =
+pub invariant_of-self : goal.invariant_of-self
+invariant_of-self g c =
     let m = g.D.Dma.memory c.args.dma.now in
     let ready =
     ap (λ (x : Contents). complete_refusal x m c.args.q c.args.cid) c.self.view_is ∙ c.in_ok-check_complete.ensures.ready m
     ∙ sym (ap (λ (x : Contents). answer_refusal x.queues m c.args.q) c.self.view_is) ∙ sym c.in_ok-answer.ensures.refusal in (
-      finished_kept _ _ _ c.args.q c.args.cid c.in-Some-take.command _ _ _ _ _ _ _ _ c.self.invariant.0 ready c.in_ok-answer.ensures.posts (ap (λ (o : Outstanding). o.list) c.take.ensures.rest) c.settle.ensures.queues c.settle.ensures.as_long,
-      ap (λ (o : Outstanding). o.queues) c.take.ensures.rest ∙ c.self.invariant.1 ∙ sym (length_finished _ _ _ c.in-Some-take.command.work _ _ _ _ _ _ _ _ c.in_ok-answer.ensures.posts c.settle.ensures.queues),
-      few_stay _ _ (length_finished _ _ _ c.in-Some-take.command.work _ _ _ _ _ _ _ _ c.in_ok-answer.ensures.posts c.settle.ensures.queues) c.self.invariant.2,
+      finished_kept _ _ _ c.args.q c.args.cid c.unwrap-command.result _ _ _ _ _ _ _ _ c.self.invariant.0 ready c.in_ok-answer.ensures.posts (ap (λ (o : Outstanding). o.list) c.take.ensures.rest) c.settle.ensures.queues c.settle.ensures.as_long,
+      ap (λ (o : Outstanding). o.queues) c.take.ensures.rest ∙ c.self.invariant.1 ∙ sym (length_finished _ _ _ c.unwrap-command.result.work _ _ _ _ _ _ _ _ c.in_ok-answer.ensures.posts c.settle.ensures.queues),
+      few_stay _ _ (length_finished _ _ _ c.unwrap-command.result.work _ _ _ _ _ _ _ _ c.in_ok-answer.ensures.posts c.settle.ensures.queues) c.self.invariant.2,
     )
 
 pub returns-clause-completes : goal.returns-clause-completes
 returns-clause-completes g c =
-    let f = is_found _ c.args.q c.args.cid _ c.self.invariant.0 (sym c.get.ensures.found ∙ ap option_copied c.in-Some.is) in
-    let f' = is_found _ c.args.q c.args.cid _ c.self.invariant.0 (sym c.take.ensures.value ∙ c.in-Some-take.is) in
+    let f = is_found _ c.args.q c.args.cid _ c.self.invariant.0 (sym c.get.ensures.found ∙ ap option_copied c.unwrap.ensures) in
+    let f' = is_found _ c.args.q c.args.cid _ c.self.invariant.0 (sym c.take.ensures.value ∙ c.unwrap-command.ensures) in
     finishes_in _ _ _ _ _ c.args.q c.args.cid _ _ _ _ _ _ _ _ _ _ c.self.view_is f f' c.end.ensures.status c.end.ensures.dw0 c.in_ok-answer.ensures.posts (ap (λ (o : Outstanding). o.list) c.take.ensures.rest) c.settle.ensures.queues c.settle.ensures.image c.settle.ensures.as_long refl
 
 pub returns-clause-sound : goal.returns-clause-sound
-returns-clause-sound g c = (invariant_of-self-in-Some-take g c).0
+returns-clause-sound g c = (invariant_of-self g c).0

@@ -1,4 +1,4 @@
-use Rattle.controller_core.proofs.{Lists.few_stay, Waiting.{looked_there, answers_fetch, manages_fetch, begins_fetch, count_kept, found_by}}
+use Rattle.controller_core.proofs.{Lists.few_stay, Awaited.{looked_there, answers_fetch, manages_fetch, begins_fetch, count_kept, found_by}}
 use Rattle.controller_core.specs.Managing.{managed}
 use Rattle.std.proofs.Common.{ℕ, refl, ap, sym, ◌∙◌}
 use Rattle.controller_core.proofs.controller.Controller.fetch.Goals as goal

@@ -1,7 +1,7 @@
 -- Which command an Abort waits for, and what a fetch keeps of that.
 use Rattle.controller_core.specs.declared.refusal.Refusal.TheVariants as refusal
-use Rattle.controller_core.proofs.Lists.{some_is, length-change, change_at, get-at, all-at, count-cons, one, all-append, all_set}
-use Rattle.controller_core.proofs.Rows.{both_parts, named, some_name, cid_of}
+use Rattle.controller_core.proofs.Lists.{length-change, change_at, count-cons, one, all_set}
+use Rattle.controller_core.proofs.Rows.{named, some_name, cid_of}
 use Rattle.controller_core.specs.Answering.{completion_by, memory_posted, page_posted, with_answer, answer_refusal}
 use Rattle.controller_core.specs.Completing.{without_command, command_refusal, complete_refusal, is_abort_of, waits_among}
 use Rattle.controller_core.specs.Contents.{change, Contents, IsController, AreCommands, FitsCommand, FitsWork, is_command, entry_of_work, FetchedCommand, AreAwaited, IsNamedBy, entry_of, FitsVerdict as ContentsFitsVerdict}
@@ -9,14 +9,15 @@ use Rattle.controller_core.specs.{Fetching.{IsBegun, Begins, AnswersKnown, Looks
 use Rattle.controller_core.specs.{Looks.name_at, Managing.{with_taken, command_of, managed}, declared.command.Work.TheVariants.{Io}}
 use Rattle.controller_core.specs.declared.{queue.ControllerQueue.ControllerQueue, refusal.Refusal.Refusal}
 use Rattle.std.proofs.Common.{◌≡◌, ℕ, ◌<◌, ◌==◌, ◌&&◌, ◌++◌, ◌∷◌, [], not, Bool, true, false, Option, Some, Result, Ok, Err, cond, List, length, find, slice_set, get_or, if◌then◌else◌, refl, ap, ap₂, sym, ◌∙◌, arith, subst, eqb-true, true≢false, None, zero, suc, ◌||◌, IfSome, map, slice_get, inl, inr, ◌≢◌, ◌+◌, nat_lt, is_none, is_some}
-use Rattle.std.{proofs.lemmas.{Bool.{cases_Bool, Decides.nat_tests}, Option.none-some}, specs.{Borrow.Bor, List.{AllByRecursion, list_any, count_by}}}
+use Rattle.std.{proofs.lemmas.{Bool.{and_parts, cases_Bool, or_parts, Decides.nat_tests}, Option.{none-some, slice_get_read}}, specs.{Borrow.Bor, List.{AllByRecursion, list_any, count_by}}}
 use Rattle.std.specs.{Option.{option_map, option_map_or, option_copied}, Result.{OnOk, OnErr}}
 use Rattle.admin_commands.specs.Entries.{named_queue, named_command}
 use Rattle.block_image.specs.Blocks.{block_count}
 use Rattle.io_commands.specs.{Jobs.{kind_of_opcode, first_block, block_number, JobContents, io_fault}}
 use Rattle.entry_codec.specs.declared.status.TheConstants.Status.{INVALID_OPCODE, INVALID_NAMESPACE, INVALID_FIELD, LBA_OUT_OF_RANGE, COMMAND_ID_CONFLICT}
 use Rattle.entry_codec.specs.declared.submission.SubEntry.{SubEntry}
-use Rattle.page_memory.specs.Memory.{Memory}
+use Rattle.page_memory.{proofs.Lists.{some_is, all-append, all-at}, specs.Memory.{Memory}}
+use Rattle.slot_table.proofs.Rows.none_is
 use Rattle.queue_pair.specs.Rings.{DeviceSide}
 
 -- Where an Abort waits for a command, it is there, and names that command.
@@ -175,14 +176,10 @@ lets_io (x ∷ xs) q cid io = (go x.waiting_abort, lets_io xs q cid io)
     go None = tt
     go (Some abort) = other_queue q cid abort io
 
-pub either_no : (a b : Bool) → (a || b) ≡ false → (a ≡ false) × (b ≡ false)
-either_no true b e = absurd (true≢false e)
-either_no false b e = (refl, e)
-
 lets_none : (commands : List FetchedCommand) (q cid : ℕ) → list_any (λ k. is_abort_of cid k.waiting_abort) commands ≡ false → AllByRecursion (IsLet q cid) commands
 lets_none [] q cid none = tt
 lets_none (x ∷ xs) q cid none =
-    let both = either_no (is_abort_of cid x.waiting_abort) (list_any (λ k. is_abort_of cid k.waiting_abort) xs) none in
+    let both = or_parts (is_abort_of cid x.waiting_abort) (list_any (λ k. is_abort_of cid k.waiting_abort) xs) none in
     (go x.waiting_abort both.0, lets_none xs q cid both.1)
   where
     go : (o : Option ℕ) → is_abort_of cid o ≡ false → IfSome o (λ abort. (y : FetchedCommand) → is_command 0 abort y ≡ true → is_command q cid y ≡ false)
@@ -199,7 +196,7 @@ awaited_without commands q cid none are =
 -- What completes is not awaited
 
 waits_no : (commands : List FetchedCommand) (k : FetchedCommand) → waits_among commands k ≡ false → (k.q == 0) ≡ true → list_any (λ other. is_abort_of (cid_of k) other.waiting_abort) commands ≡ false
-waits_no commands k alone zeroth = (either_no _ _ (rw zeroth at alone)).0
+waits_no commands k alone zeroth = (or_parts _ _ (rw zeroth at alone)).0
 
 pub completes_alone : (c : Contents) (m : Memory) (q cid : ℕ) → complete_refusal c m q cid ≡ None → (q == 0) ≡ true → list_any (λ k. is_abort_of cid k.waiting_abort) c.commands ≡ false
 completes_alone c m q cid ready zeroth = go (find (is_command q cid) c.commands) refl ready
@@ -237,7 +234,7 @@ some_any f (x ∷ xs) any = elim (cases_Bool (f x)) [
 none_found_awaited : (f p : FetchedCommand → Bool) (commands : List FetchedCommand) → list_any f commands ≡ false → option_map_or f (find p commands) false ≡ false
 none_found_awaited f p [] none = refl
 none_found_awaited f p (x ∷ xs) none =
-    let both = either_no (f x) (list_any f xs) none in
+    let both = or_parts (f x) (list_any f xs) none in
     let rest = none_found_awaited f p xs both.1 in
     elim (p x) as (λ b. option_map_or f (cond b (Some x) (find p xs)) false ≡ false) [ true ↦ both.0 | false ↦ rest ]
 
@@ -250,7 +247,7 @@ names_by commands e k (Some abort) there is own =
 
 name_of : (commands : List FetchedCommand) (n q cid : ℕ) (k : FetchedCommand) → slice_get commands n ≡ Some k → is_command q cid k ≡ true → name_at commands n ≡ some_name q cid
 name_of commands n q cid k at own =
-    let both = both_parts (k.q == q) (cid_of k == cid) own in
+    let both = and_parts (k.q == q) (cid_of k == cid) own in
     ap (option_map (λ k. (k.q, cid_of k))) at ∙ ap₂ some_name (eqb-true k.q q both.0) (eqb-true (cid_of k) cid both.1)
 
 pub awaited_is : (commands : List FetchedCommand) (e : SubEntry) (o : Option FetchedCommand) → entry_of commands 0 e.cid ≡ Some e → AreAwaited commands
@@ -303,7 +300,7 @@ commands-with blocks queues commands k are there fits none = record {
   where
     go : (r d : ℕ) (b : Bool) → is_command r d k ≡ b → count_by (is_command r d) (commands ++ k ∷ []) < 2
     go r d true h =
-        let both = both_parts (k.q == r) ((entry_of_work k.work).cid == d) h in
+        let both = and_parts (k.q == r) ((entry_of_work k.work).cid == d) h in
         let own : count_by (is_command r d) commands ≡ 0 =
         subst (λ (x : ℕ). count_by (is_command x d) commands ≡ 0) (eqb-true k.q r both.0)
         (subst (λ (x : ℕ). count_by (is_command k.q x) commands ≡ 0) (eqb-true (entry_of_work k.work).cid d both.1) none) in
@@ -321,10 +318,6 @@ fault_fits blocks e = by (is_none (kind_of_opcode e.opcode)) (not (e.nsid == 1))
     by false false false false true = omega arith
     by false false false false false = tt
 
-pub not_some : {A : Type 0} (o : Option A) → is_some o ≡ false → o ≡ None
-not_some None e = refl
-not_some (Some x) e = absurd (true≢false e)
-
 pub begun_kept : (c : Contents) (q : ℕ) (e : SubEntry) (job : JobContents) (queues : List ControllerQueue) (commands : List FetchedCommand) → IsController c → (q == 0) ≡ false → q < length c.queues → is_some (find (is_command q e.cid) c.commands) ≡ false
     → IsBegun c.image e job → queues ≡ change q with_taken c.queues → commands ≡ c.commands ++ command_of q (Io job) ∷ [] → IsController (record { queues = queues; commands = commands; image = c.image })
 begun_kept c q e job queues commands is io there free begun eq ec =
@@ -334,7 +327,7 @@ begun_kept c q e job queues commands is io there free begun eq ec =
           (subst (AreCommands (block_count c.image) (length c.queues)) (sym ec)
           (commands-with (block_count c.image) (length c.queues) c.commands (command_of q (Io job)) is.commands there
           (io, begun.blocks, subst ContentsFitsVerdict (sym begun.verdict) (fault_fits (block_count c.image) e), omega (arith, begun.left))
-          (subst (λ (x : SubEntry). count_by (is_command q x.cid) c.commands ≡ 0) (sym begun.entry) (none_found (is_command q e.cid) c.commands (not_some (find (is_command q e.cid) c.commands) free)))));
+          (subst (λ (x : SubEntry). count_by (is_command q x.cid) c.commands ≡ 0) (sym begun.entry) (none_found (is_command q e.cid) c.commands (none_is (find (is_command q e.cid) c.commands) free)))));
       awaited = subst AreAwaited (sym ec) (awaited_more c.commands (command_of q (Io job)) is.awaited refl);
     }
 
@@ -366,7 +359,7 @@ answers_by (Err why) queues q i cid m m' reached reached' queue queue' same ther
 answers_by (Ok x) queues q i cid m m' reached reached' queue queue' same there at a b d =
     record {
       queue = queue;
-      here = get-at q queues queue there (subst (λ (j : ℕ). queue ≡ get_or queues j queue) same at);
+      here = slice_get_read queues _ q queue refl there (subst (λ (j : ℕ). queue ≡ get_or queues j queue) same at);
       leaves = change_at q i (λ queue. with_answer (with_taken queue)) queues queue queue' same (omega (arith, same, there)) at a;
       memory = b;
       touches = d;
