@@ -17,7 +17,7 @@ use Rattle.io_commands.specs.{Jobs.{kind_of_opcode, first_block, block_number, J
 use Rattle.entry_codec.specs.declared.status.TheConstants.Status.{INVALID_OPCODE, INVALID_NAMESPACE, INVALID_FIELD, LBA_OUT_OF_RANGE, COMMAND_ID_CONFLICT}
 use Rattle.entry_codec.specs.declared.submission.SubEntry.{SubEntry}
 use Rattle.page_memory.{proofs.Lists.{some_is, all-append, all-at}, specs.Memory.{Memory}}
-use Rattle.slot_table.proofs.Rows.none_is
+use Rattle.slot_table.proofs.Rows.{none_is}
 use Rattle.queue_pair.specs.Rings.{DeviceSide}
 
 -- Where an Abort waits for a command, it is there, and names that command.

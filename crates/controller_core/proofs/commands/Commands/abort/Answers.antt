@@ -1,5 +1,5 @@
 use Rattle.controller_core.proofs.{Counting.{IsKept, changed_kept, outstanding, aborted_alike, spared, stopped_one}}
-use Rattle.page_memory.proofs.Lists.found_is
+use Rattle.page_memory.proofs.Lists.{found_is}
 use Rattle.controller_core.{proofs.{Rows.{commands_of, none_mapped, value_found, one_mapped}}, specs.{Contents.{Work, is_command}, Managing.aborted}}
 use Rattle.std.{proofs.Common.{Some, length, ap, sym, subst, ◌∙◌}, specs.Option.option_copied_mut}
 use Rattle.slot_table.specs.Rows.{with_value}
