@@ -1,21 +1,54 @@
 //! The bytes of data pieces in their pages.
 
-ghost use Rattle.std.specs.Prelude.{◌≡◌, ◌<◌, ◌≤◌, ◌+◌, ◌++◌, length, take, drop, sum_by, vec_len, OnOk, OnErr, false};
+ghost use Rattle.std.specs.Prelude.{◌≡◌, ◌<◌, ◌≤◌, ◌+◌, ◌-◌, ◌++◌, length, take, drop, replicate, sum_by, vec_len, OnOk, OnErr, false};
 ghost use Rattle.std.specs.Vec.{vec_capacity};
 ghost use Rattle.std.specs.List.{list_any};
+ghost use Rattle.page_memory.specs.Pages.{with_bytes};
 ghost use Rattle.io_commands.specs.Requests.{crosses_page, data_count};
 ghost use Rattle.io_commands.specs.DataBytes.{data_length, filled, gathered};
 
 use crate::request::Piece;
-use page_memory::{Page, PageNo};
+use page_memory::{PAGE_BYTES, Page, PageNo};
 use std::alloc::{AllocError, Allocator};
 
-/// Puts bytes into the data pieces, one piece after the other.
+/// So many zeros, of which a page takes no more.
+fn zeros(count: usize) -> &'static [u8]
+    requires { count ≤ 4096 }
+    ensures { result.now ≡ replicate count 0 }
+{
+    static ZEROS: [u8; PAGE_BYTES] = [0; PAGE_BYTES];
+    &ZEROS[..count]
+}
+
+/// The first of the bytes, as many as there are up to a length, and the others.
+fn split_within(bytes: &[u8], len: usize) -> (&[u8], &[u8])
+    ensures first { result.0.now ≡ take len bytes.now }
+    ensures others { result.1.now ≡ drop len bytes.now }
+    ensures count { length result.1.now ≡ length bytes.now - len }
+{
+    match bytes.split_at_checked(len) {
+        Some(parts) => parts,
+        None => (bytes, &[]),
+    }
+}
+
+/// Puts bytes into a page from an offset on, and zeros behind them up to a length.
+#[tactic(auto, using(crate::proofs::Padding::written_behind))]
+fn put_padded<A: Allocator>(page: &mut Page<A>, offset: usize, len: usize, bytes: &[u8])
+    requires inside { offset + len ≤ 4096 }
+    requires room { length bytes.now ≤ len }
+    ensures { page.new ≡ with_bytes page.old offset (bytes.now ++ replicate (len - length bytes.now) 0) }
+{
+    page.set(offset, bytes);
+    page.set(offset + bytes.len(), zeros(len - bytes.len()));
+}
+
+/// Puts bytes into the data pieces, one piece after the other, and zeros behind them.
 pub(crate) fn fill<A: Allocator>(pieces: &[Piece], pages: &mut [(PageNo, Page<A>)], bytes: &[u8])
     requires inside { list_any crosses_page pieces.now ≡ false }
     requires enough { data_count pieces.now ≤ length pages.old }
-    requires length { sum_by data_length pieces.now ≤ length bytes.now }
-    ensures { pages.new ≡ filled pieces.now pages.old bytes.now }
+    requires length { length bytes.now ≤ sum_by data_length pieces.now }
+    ensures { pages.new ≡ filled pieces.now pages.old (bytes.now ++ replicate (sum_by data_length pieces.now - length bytes.now) 0) }
 {
     let Some((piece, others)) = pieces.split_first() else {
         return;
@@ -24,15 +57,15 @@ pub(crate) fn fill<A: Allocator>(pieces: &[Piece], pages: &mut [(PageNo, Page<A>
         Piece::Bucket { .. } => fill(others, pages, bytes),
         Piece::Data { offset, len } => {
             if let Some((page, behind)) = pages.split_first_mut() {
-                let (here, rest) = bytes.split_at(len as usize);
-                page.1.set(offset as usize, here);
+                let (here, rest) = split_within(bytes, len as usize);
+                put_padded(&mut page.1, offset as usize, len as usize, here);
                 fill(others, behind, rest);
             }
         }
     }
 }
 
-/// Puts bytes into the data pieces of the first pages.
+/// Puts bytes into the data pieces of the first pages, and zeros behind them.
 pub(crate) fn fill_first<A: Allocator>(
     pieces: &[Piece],
     pages: &mut Vec<(PageNo, Page<A>), A>,
@@ -42,8 +75,8 @@ pub(crate) fn fill_first<A: Allocator>(
     requires inside { list_any crosses_page pieces.now ≡ false }
     requires enough { data_count pieces.now ≤ count }
     requires there { count ≤ length pages.old.items }
-    requires length { sum_by data_length pieces.now ≤ length bytes.now }
-    ensures { pages.new.items ≡ filled pieces.now (take count pages.old.items) bytes.now ++ drop count pages.old.items }
+    requires length { length bytes.now ≤ sum_by data_length pieces.now }
+    ensures { pages.new.items ≡ filled pieces.now (take count pages.old.items) (bytes.now ++ replicate (sum_by data_length pieces.now - length bytes.now) 0) ++ drop count pages.old.items }
 {
     let (front, _) = pages.as_mut_slice().split_at_mut(count);
     fill(pieces, front, bytes);

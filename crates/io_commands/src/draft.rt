@@ -1,6 +1,6 @@
 //! A command that is being prepared, outside the store.
 
-ghost use Rattle.std.specs.Prelude.{◌≡◌, ◌≢◌, ◌<◌, ◌≤◌, ◌+◌, ◌++◌, ◌↔◌, length, sum_by, Err, IfOk, OnOk, OnErr, None, Some};
+ghost use Rattle.std.specs.Prelude.{◌≡◌, ◌≢◌, ◌<◌, ◌≤◌, ◌+◌, ◌-◌, ◌++◌, ◌↔◌, length, replicate, sum_by, Err, IfOk, OnOk, OnErr, None, Some};
 ghost use Rattle.io_commands.specs.declared.request.Kind.TheVariants.{Read};
 ghost use Rattle.io_commands.specs.Requests.{joined_parts, FitsRequest};
 ghost use Rattle.io_commands.specs.DataBytes.{data_length, filled};
@@ -159,10 +159,34 @@ impl<A: Allocator> Draft<A> {
             ↔ ((self.old.request.kind ≢ Read) × (length bytes.now ≢ sum_by data_length self.old.request.pieces)) }
         ensures refused { OnErr result (self.new ≡ self.old) }
     {
+        let few = (bytes.len() as u64) < self.request.data_bytes();
+        if few && !matches!(self.request.kind, Kind::Read) {
+            return Err(FillFault::WrongLength);
+        }
+        self.fill_padded(bytes)
+    }
+
+    /// Puts the bytes into the data pieces, one piece after the other, and zeros behind them. Nothing else changes: a built
+    /// draft stays built.
+    ///
+    /// # Errors
+    ///
+    /// The draft is then as it was. 1. `NotASource` exactly for a Read. 2. `WrongLength` exactly where it is no Read and the bytes
+    /// are more than the data pieces take.
+    pub fn fill_padded(&mut self, bytes: &[u8]) -> Result<(), FillFault>
+        ensures filled { OnOk result (self.new ≡ record self.old {
+          data_pages = filled self.old.request.pieces self.old.data_pages (bytes.now ++ replicate (sum_by data_length self.old.request.pieces - length bytes.now) 0);
+        }) }
+        ensures length { OnOk result (length bytes.now ≤ sum_by data_length self.old.request.pieces) }
+        ensures not_a_source { (result ≡ Err FillFault.NotASource) ↔ (self.old.request.kind ≡ Read) }
+        ensures wrong_length { (result ≡ Err FillFault.WrongLength)
+            ↔ ((self.old.request.kind ≢ Read) × (sum_by data_length self.old.request.pieces < length bytes.now)) }
+        ensures refused { OnErr result (self.new ≡ self.old) }
+    {
         if matches!(self.request.kind, Kind::Read) {
             return Err(FillFault::NotASource);
         }
-        if bytes.len() as u64 != self.request.data_bytes() {
+        if bytes.len() as u64 > self.request.data_bytes() {
             return Err(FillFault::WrongLength);
         }
         let data = self.request.data_pages();

@@ -1,0 +1,47 @@
+-- Bytes with zeros behind them, piece by piece.
+use Rattle.std.proofs.Common.{◌≡◌, ℕ, zero, suc, List, [], ◌∷◌, ◌++◌, ◌+◌, ◌-◌, ◌≤◌, ◌∙◌, refl, ap, sym, append_assoc, length-append, length, replicate, take, drop, sum_by, arith}
+use Rattle.std.proofs.lemmas.List.{length-take-le, take_at, drop_at, drop-drop, take-replicate, drop-replicate}
+use Rattle.std.proofs.lemmas.List.Sums.{sum_by-cons}
+use Rattle.page_memory.specs.Pages.{with_bytes}
+use Rattle.io_commands.specs.DataBytes.{PagesOut, data_length, filled}
+use Rattle.io_commands.specs.declared.request.Piece.{Piece, TheVariants.{Data}}
+
+-- bytes are written behind other bytes
+pub written_behind : (page here zeros : List ℕ) (at : ℕ) → at + length here ≤ length page → with_bytes (with_bytes page at here) (at + length here) zeros ≡ with_bytes page at (here ++ zeros)
+written_behind page here zeros at fits =
+    let front : List ℕ = take at page ++ here in
+    let rest : List ℕ = drop (at + length here) page in
+    let long : length front ≡ at + length here = length-append (take at page) here ∙ ap (λ (n : ℕ). n + length here) (length-take-le at page (omega arith)) in
+    let first : take (at + length here) (front ++ rest) ≡ front = take_at front rest (at + length here) long in
+    let behind : drop (at + length here + length zeros) (front ++ rest) ≡ drop (at + length here + length zeros) page =
+    sym (drop-drop (length zeros) (at + length here) (front ++ rest)) ∙ ap (drop (length zeros)) (drop_at front rest (at + length here) long) ∙ drop-drop (length zeros) (at + length here) page in
+    rw (first, behind, append_assoc (take at page) here zeros, length-append here zeros) (ap (λ (n : ℕ). (take at page ++ (here ++ zeros)) ++ drop n page) (omega arith))
+
+-- the first of the padded bytes are what there is of the bytes, and zeros ..
+take_padded : (len more : ℕ) (bytes : List ℕ) → take len (bytes ++ replicate (len + more - length bytes) 0) ≡ take len bytes ++ replicate (len - length (take len bytes)) 0
+take_padded zero more bytes = refl
+take_padded (suc len) more [] =
+    let whole : suc len + more - 0 ≡ suc len + more = omega arith in
+    let first : suc len - 0 ≡ suc len = omega arith in
+    rw (whole, first) (take-replicate (suc len) (suc len + more) 0 (omega arith))
+take_padded (suc len) more (b ∷ bytes) =
+    let whole : suc len + more - suc (length bytes) ≡ len + more - length bytes = omega arith in
+    let first : suc len - suc (length (take len bytes)) ≡ len - length (take len bytes) = omega arith in
+    rw (whole, first) (ap (λ (xs : List ℕ). b ∷ xs) (take_padded len more bytes))
+
+-- .. and so are the others
+drop_padded : (len more : ℕ) (bytes : List ℕ) → drop len (bytes ++ replicate (len + more - length bytes) 0) ≡ drop len bytes ++ replicate (more - length (drop len bytes)) 0
+drop_padded zero more bytes = ap (λ (n : ℕ). bytes ++ replicate n 0) (omega arith)
+drop_padded (suc len) more [] = drop-replicate (suc len) (suc len + more - 0) 0 ∙ ap (λ (n : ℕ). replicate n 0) (omega arith)
+drop_padded (suc len) more (b ∷ bytes) =
+    let whole : suc len + more - suc (length bytes) ≡ len + more - length bytes = omega arith in
+    rw whole (drop_padded len more bytes)
+
+-- a piece has what there is of the bytes, and zeros; the pieces behind it have the others
+pub piece_filled : (pieces others : List Piece) (piece : Piece) (offset len : ℕ) (pages behind left : PagesOut) (page : ℕ × List ℕ) (new bytes here rest : List ℕ)
+    → pieces ≡ piece ∷ others → piece ≡ Data offset len → pages ≡ page ∷ behind → here ≡ take len bytes → rest ≡ drop len bytes
+    → new ≡ with_bytes page.1 offset (here ++ replicate (len - length here) 0) → left ≡ filled others behind (rest ++ replicate (sum_by data_length others - length rest) 0)
+    → ◌≡◌ {A = PagesOut} ((page.0, new) ∷ left) (filled pieces pages (bytes ++ replicate (sum_by data_length pieces - length bytes) 0))
+piece_filled pieces others piece offset len pages behind left page new bytes here rest are is there first last wrote filled_behind =
+    let more : ℕ = sum_by data_length others in
+    rw (are, is, there, sum_by-cons data_length (Data offset len) others, take_padded len more bytes, drop_padded len more bytes, wrote, filled_behind, first, last) refl
