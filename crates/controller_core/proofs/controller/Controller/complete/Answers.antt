@@ -4,8 +4,8 @@ use Rattle.std.{proofs.Common.{◌<◌, refl, sym, ◌∙◌, ap, subst}, specs.
 use Rattle.entry_codec.specs.declared.status.Status.{Status}
 use Rattle.controller_core.proofs.controller.Controller.complete.Goals as goal
 
-pub end-requires-clause-over : goal.end-requires-clause-over
-end-requires-clause-over g c =
+pub end-dw0-requires-clause-over : goal.end-dw0-requires-clause-over
+end-dw0-requires-clause-over g c =
     let f = is_found _ c.args.q c.args.cid _ c.self.invariant.0 (sym c.get.ensures.found ∙ ap option_copied c.unwrap.ensures) in
     over_fits _ _ _ _ f.fits
 
@@ -16,15 +16,15 @@ answer-requires-clause-there g c =
 pub answer-requires-clause-fits : goal.answer-requires-clause-fits
 answer-requires-clause-fits g c =
     let f = is_found _ c.args.q c.args.cid _ c.self.invariant.0 (sym c.get.ensures.found ∙ ap option_copied c.unwrap.ensures) in
-    subst (λ (st : Status). st.sct < 8) (sym c.end.ensures.status) (end_fits c.self.inside.image _ _ _ _ f.fits)
+    subst (λ (st : Status). st.sct < 8) (sym c.end-dw0.ensures.status) (end_fits c.self.inside.image _ _ _ _ f.fits)
 
 pub settle-requires-clause-over : goal.settle-requires-clause-over
 settle-requires-clause-over g c =
     let f = is_found _ c.args.q c.args.cid _ c.self.invariant.0 (sym c.take.ensures.value ∙ c.unwrap-command.ensures) in
     over_fits _ _ _ _ f.fits
 
-pub invariant_of-self : goal.invariant_of-self
-invariant_of-self g c =
+pub invariant_of-self-2 : goal.invariant_of-self-2
+invariant_of-self-2 g c =
     let m = g.D.Dma.memory c.args.dma.now in
     let ready =
     ap (λ (x : Contents). complete_refusal x m c.args.q c.args.cid) c.self.view_is ∙ c.in_ok-check_complete.ensures.ready m
@@ -38,7 +38,7 @@ pub returns-clause-completes : goal.returns-clause-completes
 returns-clause-completes g c =
     let f = is_found _ c.args.q c.args.cid _ c.self.invariant.0 (sym c.get.ensures.found ∙ ap option_copied c.unwrap.ensures) in
     let f' = is_found _ c.args.q c.args.cid _ c.self.invariant.0 (sym c.take.ensures.value ∙ c.unwrap-command.ensures) in
-    finishes_in _ _ _ _ _ c.args.q c.args.cid _ _ _ _ _ _ _ _ _ _ c.self.view_is f f' c.end.ensures.status c.end.ensures.dw0 c.in_ok-answer.ensures.posts (ap (λ (o : Outstanding). o.list) c.take.ensures.rest) c.settle.ensures.queues c.settle.ensures.image c.settle.ensures.as_long refl
+    finishes_in _ _ _ _ _ c.args.q c.args.cid _ _ _ _ _ _ _ _ _ _ c.self.view_is f f' c.end-dw0.ensures.status c.end-dw0.ensures.dw0 c.in_ok-answer.ensures.posts (ap (λ (o : Outstanding). o.list) c.take.ensures.rest) c.settle.ensures.queues c.settle.ensures.image c.settle.ensures.as_long refl
 
 pub returns-clause-sound : goal.returns-clause-sound
-returns-clause-sound g c = (invariant_of-self g c).0
+returns-clause-sound g c = (invariant_of-self-2 g c).0
