@@ -1,6 +1,6 @@
 //! What a submitter does for one job.
 
-ghost use Rattle.std.specs.Prelude.{◌≡◌, ◌≤◌, true, false, length, IfOk, IfErr, OnErr};
+ghost use Rattle.std.specs.Prelude.{◌≡◌, true, false, IfOk, IfErr};
 ghost use Rattle.std.specs.List.{list_any};
 ghost use Rattle.std.specs.Sync.Mutex.{mutex_guard_value};
 ghost use Rattle.driver_book.specs.Calls.{is_open_for};
@@ -13,8 +13,8 @@ use crate::shared::Shared;
 use crate::waits::Halt;
 use driver_book::{LogBrand, Receipt, Seat};
 use entry_codec::Status;
-use io_commands::{Draft, Finished, Kind, Ticket};
-use std::alloc::{AllocError, Allocator};
+use io_commands::{Draft, FillFault, Finished, Ticket};
+use std::alloc::Allocator;
 use std::sync::Wait;
 use step_core::{Bytes, Refusal};
 
@@ -49,41 +49,12 @@ impl<'a, G: Gate> Watch<'a, G> {
     }
 }
 
-/// The bytes, with zeros behind them up to a length.
-fn padded<A: Allocator>(bytes: Bytes<A>, whole: usize) -> Result<Vec<u8, A>, AllocError>
-    requires { length bytes ≤ whole }
-{
-    let mut padded = bytes.into_vec();
-    padded.resize(whole, 0)?;
-    Ok(padded)
-}
-
-/// Fills a source with its bytes, and with zeros behind them. No lock is held.
-fn fill<A: Allocator>(draft: &mut Draft<A>, bytes: Bytes<A>) -> Result<(), Halt> {
-    let request = draft.request();
-    if matches!(request.kind, Kind::Read) {
-        return Ok(());
+/// Fills a draft with the bytes, and with zeros behind them, where it is a source, and builds it. No lock is held.
+fn prepare<A: Allocator + Copy>(alloc: A, draft: &mut Draft<A>, bytes: &[u8]) -> Result<(), Halt> {
+    match draft.fill_padded(bytes) {
+        Ok(()) | Err(FillFault::NotASource) => {}
+        Err(FillFault::WrongLength) => return Err(Halt::Refused(JobRefusal::WrongLength)),
     }
-    let whole = request.data_bytes() as usize;
-    if whole < bytes.as_slice().len() {
-        return Err(Halt::Refused(JobRefusal::WrongLength));
-    }
-    let Ok(padded) = padded(bytes, whole) else {
-        return Err(Halt::Memory);
-    };
-    match draft.fill(&padded) {
-        Ok(()) => Ok(()),
-        Err(_) => Err(Halt::Refused(JobRefusal::WrongLength)),
-    }
-}
-
-/// Fills a draft and builds it. No lock is held.
-fn prepare<A: Allocator + Copy>(
-    alloc: A,
-    draft: &mut Draft<A>,
-    bytes: Bytes<A>,
-) -> Result<(), Halt> {
-    fill(draft, bytes)?;
     match draft.build(alloc) {
         Ok(()) => Ok(()),
         Err(_) => Err(Halt::Memory),
@@ -112,7 +83,7 @@ fn give_up<L: LogBrand, A: Allocator + Copy, R: Wait>(
     }
 }
 
-/// Fills a draft and builds it. No lock is held.
+/// Fills a draft and builds it, or gives it up. No lock is held.
 pub(crate) fn prepared<L: LogBrand, A: Allocator + Copy, R: Wait>(
     rt: &R,
     alloc: A,
@@ -121,7 +92,7 @@ pub(crate) fn prepared<L: LogBrand, A: Allocator + Copy, R: Wait>(
     bytes: Bytes<A>,
 ) -> Result<Draft<A>, Halt> {
     let mut draft = draft;
-    match prepare(alloc, &mut draft, bytes) {
+    match prepare(alloc, &mut draft, bytes.as_slice()) {
         Ok(()) => Ok(draft),
         Err(halt) => Err(give_up(rt, shared, draft, halt)),
     }

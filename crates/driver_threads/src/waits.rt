@@ -24,15 +24,13 @@ pub(crate) enum Halt {
     Memory,
 }
 
-/// What a request on a queue is answered now.
+/// What a request on a queue is answered now, where it is not refused.
 #[derive(Clone, Copy)]
 enum Turn {
     /// It would be reserved.
     Free,
     /// It has to wait, for an identifier or for pages.
     Later,
-    /// It is refused.
-    Never(Halt),
 }
 
 /// What became of a request on a queue.
@@ -45,22 +43,26 @@ pub(crate) enum Reservation<A: Allocator> {
 
 /// What a request on a queue is answered now. It waits for pages only where those that no queue owns are at least as many as the
 /// fewest that the request could take.
+///
+/// # Errors
+///
+/// Where the request is refused, or the workers are told to stop.
 fn turn_of<L: LogBrand, A: Allocator + Copy>(
     book: &Book<L, A>,
     q: u16,
     request: &Request<A>,
-) -> Turn {
+) -> Result<Turn, Halt> {
     if book.stopping() {
-        return Turn::Never(Halt::Stopped);
+        return Err(Halt::Stopped);
     }
     let refusal = match book.reserve_refusal(q, request) {
-        None => return Turn::Free,
-        Some(Refusal::NoIdentifier) => return Turn::Later,
+        None => return Ok(Turn::Free),
+        Some(Refusal::NoIdentifier) => return Ok(Turn::Later),
         Some(Refusal::NoPages { .. }) => match book.least_pages(request) {
             Ok(need) => {
                 let pool = book.pages() - book.counts().queue_pages;
                 if need <= pool {
-                    return Turn::Later;
+                    return Ok(Turn::Later);
                 }
                 JobRefusal::NoPages { need, pool }
             }
@@ -70,7 +72,7 @@ fn turn_of<L: LogBrand, A: Allocator + Copy>(
         Some(Refusal::Bad(fault)) => JobRefusal::Bad(fault),
         Some(_) => JobRefusal::QueueGone,
     };
-    Turn::Never(Halt::Refused(refusal))
+    Err(Halt::Refused(refusal))
 }
 
 /// Reserves what would be reserved.
@@ -247,10 +249,9 @@ impl<L: LogBrand, A: Allocator + Copy> Shared<L, A> {
         request: Request<A>,
     ) -> Result<Reservation<A>, Halt> {
         let mut locked = self.lock(rt);
-        match turn_of(&locked.book, q, &request) {
+        match turn_of(&locked.book, q, &request)? {
             Turn::Free => Ok(Reservation::Now(reserved(&mut locked.book, q, request)?)),
             Turn::Later => Ok(Reservation::Later(request)),
-            Turn::Never(halt) => Err(halt),
         }
     }
 
@@ -267,13 +268,12 @@ impl<L: LogBrand, A: Allocator + Copy> Shared<L, A> {
     ) -> Result<Draft<A>, Halt> {
         let mut locked = self.lock(rt);
         for _ in rt.forever() {
-            match turn_of(&locked.book, q, &request) {
-                Turn::Free => return reserved(&mut locked.book, q, request),
+            match turn_of(&locked.book, q, &request)? {
+                Turn::Free => break,
                 Turn::Later => locked = self.wait(rt, locked, Change::Room),
-                Turn::Never(halt) => return Err(halt),
             }
         }
-        unreachable!()
+        reserved(&mut locked.book, q, request)
     }
 
     /// Waits until a command has ended, and collects it.
@@ -301,10 +301,10 @@ impl<L: LogBrand, A: Allocator + Copy> Shared<L, A> {
                 Some(Refusal::NotYet) => {
                     locked = self.wait(rt, locked, Change::end_of(q, cid));
                 }
-                _ => return collected(&mut locked.book, ticket),
+                _ => break,
             }
         }
-        unreachable!()
+        collected(&mut locked.book, ticket)
     }
 
     /// Waits until queues have completions, and reaps them. False once the workers are told to stop.
@@ -316,7 +316,7 @@ impl<L: LogBrand, A: Allocator + Copy> Shared<L, A> {
         let mut locked = self.lock(rt);
         for _ in rt.forever() {
             if locked.book.stopping() {
-                return Ok(false);
+                break;
             }
             let steps = reap_some(&mut locked.book);
             if steps.any {
@@ -330,7 +330,7 @@ impl<L: LogBrand, A: Allocator + Copy> Shared<L, A> {
             }
             locked = self.wait(rt, locked, Change::Posted);
         }
-        unreachable!()
+        Ok(false)
     }
 
     /// Waits until the controller can do something, and does it. False once the workers are told to stop.
@@ -342,7 +342,7 @@ impl<L: LogBrand, A: Allocator + Copy> Shared<L, A> {
         let mut locked = self.lock(rt);
         for _ in rt.forever() {
             if locked.book.stopping() {
-                return Ok(false);
+                break;
             }
             let steps = serve_some(&mut locked.book);
             if steps.any {
@@ -356,6 +356,6 @@ impl<L: LogBrand, A: Allocator + Copy> Shared<L, A> {
             }
             locked = self.wait(rt, locked, Change::Rung);
         }
-        unreachable!()
+        Ok(false)
     }
 }

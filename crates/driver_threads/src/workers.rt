@@ -98,14 +98,14 @@ pub fn poller<L: LogBrand, A: Allocator + Copy, R: Wait>(
     for _ in rt.forever() {
         match shared.reap_next(rt) {
             Ok(true) => {}
-            Ok(false) => return Ok(()),
+            Ok(false) => break,
             Err(refused) => {
                 shared.stop(rt);
                 return Err(refused);
             }
         }
     }
-    unreachable!()
+    Ok(())
 }
 
 /// Serves as the controller, a step at a time, until the workers are told to stop.
@@ -120,12 +120,12 @@ pub fn controller<L: LogBrand, A: Allocator + Copy, R: Wait>(
     for _ in rt.forever() {
         match shared.serve_next(rt) {
             Ok(true) => {}
-            Ok(false) => return Ok(()),
+            Ok(false) => break,
             Err(refused) => {
                 shared.stop(rt);
                 return Err(refused);
             }
         }
     }
-    unreachable!()
+    Ok(())
 }

@@ -103,11 +103,11 @@ impl<A: Allocator + Copy> SharedWorld<A> {
         let mut locked = self.lock(rt, NONE);
         for _ in rt.forever() {
             if locked.stopping || !waits_for_room(&locked.world, q, &request) {
-                return locked.world.reserve(q, request);
+                break;
             }
             locked = self.sleep(rt, locked, Change::Room);
         }
-        unreachable!()
+        locked.world.reserve(q, request)
     }
 
     /// [`World::collect`], once the command has ended, or the workers are told to stop.
@@ -127,11 +127,11 @@ impl<A: Allocator + Copy> SharedWorld<A> {
         let mut locked = self.lock(rt, NONE);
         for _ in rt.forever() {
             if locked.stopping || !waits_for_end(&locked.world, q, cid) {
-                return locked.world.collect(ticket);
+                break;
             }
             locked = self.sleep(rt, locked, Change::Ended);
         }
-        unreachable!()
+        locked.world.collect(ticket)
     }
 
     /// Waits until a queue has a completion, and reaps the first such queue ([`World::reap`]). It answers which one that was; `None` once the
@@ -142,14 +142,14 @@ impl<A: Allocator + Copy> SharedWorld<A> {
         let mut locked = self.lock(rt, NONE);
         for _ in rt.forever() {
             if locked.stopping {
-                return None;
+                break;
             }
             if let Some(q) = locked.world.next_completion() {
                 return Some((q, self.reap_locked(&mut locked.world, q)));
             }
             locked = self.sleep(rt, locked, Change::Posted);
         }
-        unreachable!()
+        None
     }
 
     /// Does a step of the controller in the world that is locked, and wakes those who wait for what it may change.
@@ -184,13 +184,13 @@ impl<A: Allocator + Copy> SharedWorld<A> {
         let mut locked = self.lock(rt, NONE);
         for _ in rt.forever() {
             if locked.stopping {
-                return None;
+                break;
             }
             if let Some(step) = locked.world.next_step() {
                 return Some(self.serve_locked(&mut locked.world, step));
             }
             locked = self.sleep(rt, locked, Change::Rung);
         }
-        unreachable!()
+        None
     }
 }

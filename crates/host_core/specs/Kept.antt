@@ -27,7 +27,6 @@ pub record IsKept {A : Type 0} (kept : Kept A) : Type 0 where
 abbrev pub FillsDraft : DraftContents → List ℕ → Reply → DraftContents → Type 0
 FillsDraft d bytes reply.Accepted new = (fill_fault bytes d ≡ None) × (new ≡ filled_draft bytes d)
 FillsDraft d bytes (reply.NotFilled why) new = (fill_fault bytes d ≡ Some why) × (new ≡ d)
-FillsDraft d bytes (reply.Refused refusal.Memory) new = (fill_fault bytes d ≡ None) × (new ≡ d)
 FillsDraft d bytes answer new = ⊥
 
 -- what building a draft answers, and what it leaves of it

@@ -107,7 +107,6 @@ module _ {A : Type 0} where
         go : (answer : Reply) → FillsDraft d bytes answer d' → Fills (table_with s old) q cid bytes (Some d) answer (table_with s new)
         go reply.Accepted is = (is.0, left_changed (filled_draft bytes) d' new is.1 left)
         go (reply.NotFilled why) is = (is.0, left_same d' new is.1 left)
-        go (reply.Refused refusal.Memory []) is = (is.0, left_same d' new is.1 left)
         go answer is = absurd is
 
     pub builds : (answer : Reply) (d' : DraftContents) (new : Values A) → BuildsDraft d answer d' → new ≡ record mid { rows = with_value mid.rows q cid (Some (value.Draft d')) }
@@ -126,7 +125,6 @@ module _ {A : Type 0} where
     pub fills_kept : (bytes : List ℕ) (answer : Reply) (d' : DraftContents) (new : Values A) → FillsDraft d bytes answer d' → new ≡ record mid { rows = with_value mid.rows q cid (Some (value.Draft d')) } → IsBench s new
     fills_kept bytes reply.Accepted d' new is left = kept_name d' new (ap (λ (x : DraftContents). x.q) is.1) (ap (λ (x : DraftContents). x.cid) is.1) left
     fills_kept bytes (reply.NotFilled why) d' new is left = kept_name d' new (ap (λ (x : DraftContents). x.q) is.1) (ap (λ (x : DraftContents). x.cid) is.1) left
-    fills_kept bytes (reply.Refused refusal.Memory []) d' new is left = kept_name d' new (ap (λ (x : DraftContents). x.q) is.1) (ap (λ (x : DraftContents). x.cid) is.1) left
     fills_kept bytes answer d' new is left = absurd is
 
     pub builds_kept : (answer : Reply) (d' : DraftContents) (new : Values A) → BuildsDraft d answer d' → new ≡ record mid { rows = with_value mid.rows q cid (Some (value.Draft d')) } → IsBench s new

@@ -18,7 +18,7 @@ use step_core::{Leftover, Reply, Step, StepIn};
 pub struct Desk<'r, L: FullLogBrand, R: Wait, A: Allocator = Global> {
     /// What may wait for a lock.
     pub rt: &'r R,
-    /// Where the list of the commands stands, the padded copy of a fill's bytes, and the replies that are handed out.
+    /// Where the list of the commands stands, and the replies that are handed out.
     pub alloc: Global,
     /// Where all else stands.
     pub heap: A,
@@ -106,15 +106,13 @@ impl<'r, L: FullLogBrand, R: Wait, A: Allocator + Copy> Desk<'r, L, R, A> {
     ///
     /// # Errors
     ///
-    /// Where memory is refused for the list of the commands, or for bytes that a draft is filled with.
+    /// Where memory is refused for the list of the commands.
     pub fn make(&mut self, step: StepIn<A>) -> Answer<A> {
         match step {
             Step::Reserve { q, request } => {
                 reserved(&mut self.values, self.access.reserve(self.rt, q, request))
             }
-            Step::Fill { q, cid, bytes } => {
-                fill(self.alloc, &mut self.values, q, cid, bytes.as_slice())
-            }
+            Step::Fill { q, cid, bytes } => fill(&mut self.values, q, cid, bytes.as_slice()),
             Step::Build { q, cid } => build(self.heap, &mut self.values, q, cid),
             Step::Submit { q, cid } => self.submit(q, cid),
             Step::Cancel { q, cid } => self.cancel(q, cid),
