@@ -1,6 +1,6 @@
 //! Queue entries and their bytes: the 64 bytes of a submission queue entry and the 16 bytes of a completion queue entry,
 //! both ways, and the status codes and opcodes that stand in them (NVM Express Base Specification 2.0, NVM Command Set
-//! Specification 1.0).
+//! Specification 1.0). [`status_names`] has the names of status codes, for people.
 //!
 //! Reading takes every string of bytes. What is reserved or ignored is written as zero and not looked at on reading, so
 //! two strings read alike exactly where they agree outside of it.
@@ -10,6 +10,7 @@ pub mod admin_opcode;
 pub mod completion;
 pub mod io_opcode;
 pub mod status;
+pub mod status_names;
 pub mod submission;
 
 pub use completion::ComEntry;

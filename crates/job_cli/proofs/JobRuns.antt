@@ -12,7 +12,7 @@ use Rattle.std.{proofs.lemmas.{List.Elements.{All-nil, All-push}, Option.{slice_
 use Rattle.std.specs.{List.list_any, Prelude.{All, IfOk, IfSome, IfErr, IsErrAnd, OnErr, OnOk}, Str.bytes_eq}
 use Rattle.job_cli.specs.{Faults.fault_of_threads, GoneOn.{Round, GoOn, HasGoneOn, logs_of, receipts_of}}
 use Rattle.job_cli.specs.Headings.{heading_at, heading, headings_from, end_at, headed_text, headed_lines}
-use Rattle.job_cli.specs.JobRuns.{is_of, jobs_for, AreListsOf, end_of, ended_text, job_lines, all_ended, closing_text, IsLeftFrom, IsJobsText, HasJobs, HasJobFault, IsNoJobs, IsNoRun, WritesJobs, EndsJobsWith, IsWanting}
+use Rattle.job_cli.specs.JobRuns.{is_of, jobs_for, AreListsOf, end_of, ended_text, job_lines, all_ended, closing_text, ClosesFrom, IsLeftFrom, IsJobsText, HasJobs, HasJobFault, IsNoJobs, IsNoRun, WritesJobs, EndsJobsWith, IsWanting}
 use Rattle.job_cli.specs.Jobs.{numbered_job, with_job, jobs_from, jobs_in, jobs_of, IsReadAs, head_words, data_words, job_words, some_job, job_of_words, job_of_line, at_line, then_jobs}
 use Rattle.job_cli.specs.declared.{job_runs.Heading.Heading, jobs.JobLine.JobLine}
 use Rattle.script_cli.{proofs.{Runs.{number_fits, then_fits, whatever_fits}, Texts.{appends_more, keeps_then, same_if_short}}, specs.Faults.fault_of_script}
@@ -241,10 +241,6 @@ ended_behind items n all lists ends are same below before (line ∷ rest) split 
     let others : all_ended ends (before ++ line ∷ []) rest ≡ true = ended_behind items n all lists ends are same below (before ++ line ∷ []) rest (append_assoc before (line ∷ []) rest ∙ split) in
     rw first others
 
-pub each_has_ended : {X : Type 0} (items : X → List Job) (n : ℕ) (lines : List JobLine) (lists : List X) (ends : List (List JobEnd)) → AreListsOf n lines (map items lists)
-    → map length ends ≡ map (λ list. length (items list)) lists → All (λ line. line.submitter < n) lines → all_ended ends [] lines ≡ true
-each_has_ended items n lines lists ends are same below = ended_behind items n lines lists ends are same below [] lines refl
-
 -- What is printed by headings
 
 same_text : (before : List JobLine) (line : JobLine) (what : Option JobEnd) → headed_text (heading before line) what ≡ ended_text line what
@@ -332,15 +328,17 @@ no_run_failed (Ok done) told n config image k lines why same has why_not = tt
 no_run_failed (Err x) told n config image k lines why same has why_not = rw same (no_run_ends told n config image k lines why has why_not)
 
 -- what is written is the text of a run
-pub jobs_text_is : (config : Config) (image : List ℕ) (lines : List JobLine) (headings : List Heading) (ends : List (List JobEnd)) (owners : List Owner) (counts : Counts) → headings ≡ headings_from [] lines
-    → IsLeftFrom (opening_of config image) image ends owners counts → all_ended ends [] lines ≡ true → IsJobsText config image lines (headed_lines ends headings ++ closing_text owners counts)
-jobs_text_is config image lines headings ends owners counts is left all = record {
+pub jobs_text_is : {X : Type 0} (items : X → List Job) (n : ℕ) (config : Config) (image : List ℕ) (lines given : List JobLine) (headings : List Heading) (lists : List X) (ends : List (List JobEnd)) (closing text : List ℕ)
+    → given ≡ lines → headings ≡ headings_from [] given → AreListsOf n given (map items lists) → map length ends ≡ map (λ list. length (items list)) lists → All (λ line. line.submitter < n) lines
+    → ClosesFrom (opening_of config image) image ends closing → text ≡ closing → IsJobsText config image lines (headed_lines ends headings ++ text)
+jobs_text_is items n config image lines given headings lists ends closing text e is are ended below (owners, counts, left, told) same = record {
   ends = ends;
   owners = owners;
   counts = counts;
   left = left;
-  ended = all;
-  said = ap (λ (text : List ℕ). text ++ closing_text owners counts) (ap (headed_lines ends) is ∙ headed_is ends [] lines);
+  ended = ended_behind items n lines lists ends (subst (λ (ls : List JobLine). AreListsOf n ls (map items lists)) e are) ended below [] lines refl;
+  said =
+      ap (λ (t : List ℕ). t ++ text) (ap (headed_lines ends) (is ∙ ap (headings_from []) e) ∙ headed_is ends [] lines) ∙ ap (λ (t : List ℕ). job_lines ends [] lines ++ t) (same ∙ told);
 }
 
 pub run_writes : {T E : Type 0} (r : Result T E) (told : Option (List ℕ)) (n : ℕ) (config : Config) (image : List ℕ) (a b : Option (List ℕ)) (lines : List JobLine) (whole : List ℕ)

@@ -65,6 +65,10 @@ pub record IsLeftFrom (opening : State) (image : List ℕ) (ends : List (List Jo
   pub owned : AreOwners world owners
   pub counted : counts ≡ counts_of world.host
 
+-- so with owners and counts that this text tells
+abbrev pub ClosesFrom : State → List ℕ → List (List JobEnd) → List ℕ → Type 0
+ClosesFrom opening image ends text = (owners : List Owner) × (counts : Counts) × IsLeftFrom opening image ends owners counts × (text ≡ closing_text owners counts)
+
 -- The text of a run of jobs over a world that opens so over an image: the line of each job, in the order of the script's lines, by its end; then the owners of the world that
 -- some rounds of threads left, and then its counts.
 pub record IsJobsText (config : Config) (image : List ℕ) (lines : List JobLine) (text : List ℕ) : Type 0 where

@@ -1,21 +1,23 @@
 //! A script of jobs, done by threads over a book that they share.
 
-ghost use Rattle.std.specs.Prelude.{◌≡◌, ◌≤◌, ◌<◌, ◌⊎◌, ◌++◌, [], ◌∷◌, All, IfOk, IfErr, OnOk, OnErr, None, Some, MatchOption, length, map, slice_index_or, slice_set, string_bytes, true, vec_len};
+ghost use Rattle.std.specs.Prelude.{◌≡◌, ◌≤◌, ◌<◌, ◌⊎◌, ◌++◌, List, [], ◌∷◌, All, IfOk, IfErr, OnOk, OnErr, None, Some, MatchOption, length, map, slice_index_or, slice_set, string_bytes, true, vec_len};
 ghost use Rattle.std.specs.Io.KnownBytes.{Appends};
 ghost use Rattle.job_cli.specs.Headings.{headings_of, end_at, headed_text, headed_lines};
 ghost use Rattle.script_cli.specs.Inputs.{Gains, IsFront};
-ghost use Rattle.job_cli.specs.JobRuns.{AreListsOf, closing_text, IsLeftFrom, IsJobsText, HasJobs, IsNoJobs, IsNoRun, WritesJobs, EndsJobsWith};
+ghost use Rattle.job_cli.specs.JobRuns.{AreListsOf, closing_text, ClosesFrom, IsJobsText, HasJobs, IsNoJobs, IsNoRun, WritesJobs, EndsJobsWith};
+ghost use Rattle.machine_model.specs.Claims.{counts_of};
+ghost use Rattle.page_ledger.specs.declared.owner.Owner.{Owner};
 ghost use Rattle.script_cli.specs.Runs.{AreOwners};
 ghost use Rattle.script_cli.specs.declared.fault.RunFault.TheVariants as run;
 ghost use Rattle.step_core.specs.Opening.{opening_of};
 
 use crate::job_lines::append_job_line;
 use crate::jobs::{JobLine, JobScript, read_jobs};
-use crate::rounds::{Done, Pace, do_jobs};
+use crate::rounds::{Pace, do_jobs};
 use block_image::Image;
 use driver_threads::{Job, JobEnd, JobEnds};
 use io_commands::Kind;
-use page_ledger::{Counts, Owner};
+use page_ledger::Owner;
 use page_memory::PageNo;
 use script_cli::{
     MAX_SCRIPT, ReadFault, RunFault, append_counts, append_owners, flush, not_opened, put,
@@ -45,15 +47,6 @@ struct Orders {
     headings: Vec<Heading>,
     /// One list for each submitter, in the order of the lines.
     lists: Vec<VecDeque<Job>>,
-}
-
-/// What a run of threads left.
-#[derive(Drop)]
-struct Left {
-    ends: JobEnds,
-    /// Whose each page is.
-    owners: Vec<Owner>,
-    counts: Counts,
 }
 
 /// Reads a script of jobs.
@@ -140,7 +133,18 @@ fn owners_of(alloc: Global, world: &World) -> Result<Vec<Owner>, AllocError>
     Ok(owners)
 }
 
-/// Does jobs over a world that is opened for them.
+/// What is written behind the lines of the jobs: the owners of all pages of a world, and its counts.
+fn closing_lines(alloc: Global, world: &World) -> Result<String, AllocError>
+    ensures { IfOk result (λ text. (owners : List Owner) × AreOwners world.now.state owners × (string_bytes text ≡ closing_text owners (counts_of world.now.state.host))) }
+{
+    let owners = owners_of(alloc, world)?;
+    let mut text = String::new(alloc);
+    append_owners(&mut text, &owners)?;
+    append_counts(&mut text, world.counts())?;
+    Ok(text)
+}
+
+/// Does jobs over a world that is opened for them: how they ended, and what is written behind their lines.
 fn run_world<R: Threads + Wait + Sync>(
     rt: &R,
     alloc: Global,
@@ -148,14 +152,13 @@ fn run_world<R: Threads + Wait + Sync>(
     image: Image,
     jobs: Vec<VecDeque<Job>>,
     pace: Pace,
-) -> Result<Left, RunFault>
+) -> Result<(JobEnds, String), RunFault>
     requires some { 1 ≤ vec_len jobs }
     requires few { vec_len jobs ≤ 16 }
     requires at_least_one { 1 ≤ pace.depth }
     requires at_most { pace.depth ≤ 256 }
-    ensures ran { IfOk result (λ left. IsLeftFrom (opening_of config image) image left.ends left.owners.items left.counts) }
-    ensures ended { IfOk result (λ left. map length left.ends ≡ map (λ queue. length queue.items) jobs.items) }
-    ensures owners { IfOk result (λ left. length left.owners.items ≤ 65536) }
+    ensures ran { IfOk result (λ left. ClosesFrom (opening_of config image) image left.0 (string_bytes left.1)) }
+    ensures ended { IfOk result (λ left. map length left.0 ≡ map (λ queue. length queue.items) jobs.items) }
     ensures fault { IfErr result (IsNoRun config) }
 {
     prove!({
@@ -170,14 +173,8 @@ fn run_world<R: Threads + Wait + Sync>(
         Ok(done) => done,
         Err(why) => return Err(why),
     };
-    let owners = owners_of(alloc, &done.world)?;
-    let counts = done.world.counts();
-    let Done { ends, world: _ } = done;
-    Ok(Left {
-        ends,
-        owners,
-        counts,
-    })
+    let closing = closing_lines(alloc, &done.world)?;
+    Ok((done.ends, closing))
 }
 
 /// How the job of a heading ended.
@@ -205,35 +202,23 @@ fn line_of(alloc: Global, heading: Heading, ends: &JobEnds) -> Result<String, Al
     Ok(text)
 }
 
-/// What is written behind the lines of the jobs.
-fn closing_lines(alloc: Global, owners: &[Owner], counts: Counts) -> Result<String, AllocError>
-    requires { length owners.now ≤ 65536 }
-    ensures { IfOk result (λ text. string_bytes text ≡ closing_text owners.now counts) }
-{
-    let mut text = String::new(alloc);
-    append_owners(&mut text, owners)?;
-    append_counts(&mut text, counts)?;
-    Ok(text)
-}
-
-/// Writes what a run left.
+/// Writes the lines of jobs by how they ended, and what stands behind them.
 fn write_run<W: Write>(
     alloc: Global,
     headings: Vec<Heading>,
-    left: &Left,
+    ends: &JobEnds,
+    closing: &str,
     writer: &mut W,
 ) -> Result<(), RunFault>
-    requires { length left.now.owners.items ≤ 65536 }
-    ensures ran { OnOk result (Appends (W.contents writer.old) (W.contents writer.new) (headed_lines left.now.ends headings.items ++ closing_text left.now.owners.items left.now.counts)) }
-    ensures cut { OnErr result (Gains (W.contents writer.old) (W.contents writer.new) (λ front. IsFront front (headed_lines left.now.ends headings.items ++ closing_text left.now.owners.items left.now.counts))) }
+    ensures ran { OnOk result (Appends (W.contents writer.old) (W.contents writer.new) (headed_lines ends.now headings.items ++ closing.now)) }
+    ensures cut { OnErr result (Gains (W.contents writer.old) (W.contents writer.new) (λ front. IsFront front (headed_lines ends.now headings.items ++ closing.now))) }
     ensures fault { IfErr result (λ fault. (fault ≡ run.Memory) ⊎ (fault ≡ run.OutputFailed)) }
 {
     for heading in headings {
-        let text = line_of(alloc, heading, &left.ends)?;
+        let text = line_of(alloc, heading, ends)?;
         put(writer, text.as_bytes())?;
     }
-    let text = closing_lines(alloc, &left.owners, left.counts)?;
-    put(writer, text.as_bytes())?;
+    put(writer, closing.as_bytes())?;
     flush(writer)
 }
 
@@ -266,6 +251,6 @@ pub fn run_jobs<R: Threads + Wait + Sync, I: Read, W: Write>(
 {
     let script = load_jobs(alloc, submitters, reader)?;
     let orders = hand_out(alloc, submitters, script.into_jobs())?;
-    let left = run_world(rt, alloc, config, image, orders.lists, pace)?;
-    write_run(alloc, orders.headings, &left, writer)
+    let (ends, closing) = run_world(rt, alloc, config, image, orders.lists, pace)?;
+    write_run(alloc, orders.headings, &ends, &closing, writer)
 }

@@ -1,13 +1,14 @@
 //! Scripts of jobs, as the jobs that submitters are told to do.
 
 ghost use Rattle.std.specs.Prelude.{◌≡◌, ◌≤◌, ◌<◌, All, IfOk, MatchResult, Ok, Err, OnOk, length};
-ghost use Rattle.job_cli.specs.Jobs.{head_words, data_words, job_words, job_of_words, numbered_job as spec_numbered_job, with_job, jobs_in, jobs_of, IsReadAs};
+ghost use Rattle.script_cli.specs.Grammar.{IsErrorOf, IsReadFrom};
+ghost use Rattle.job_cli.specs.Jobs.{head_words, data_words, job_words, job_of_line, job_of_words, numbered_job as spec_numbered_job, with_job, jobs_in, jobs_of, IsReadAs};
 
 use driver_threads::Job;
 use io_commands::{Kind, Request};
 use script_cli::{
-    LineFault, MAX_LINES, MAX_SCRIPT, ScriptFault, Words, begins_comment, pieces, split_line,
-    words_of,
+    LineError, LineFault, MAX_LINES, MAX_SCRIPT, ScriptFault, Words, begins_comment, pieces,
+    split_line, words_of,
 };
 use std::alloc::{AllocError, Global};
 use std::marker::Model;
@@ -84,50 +85,37 @@ fn job_head(submitters: u16, words: &mut Words<'_>) -> Result<JobHead, LineFault
     })
 }
 
-/// Takes the bytes of a job. The outer error is that memory was refused.
+/// Takes the bytes of a job.
 #[tactic(auto, unfolding(crate::specs::Jobs::data_words))]
-fn job_bytes(
-    alloc: Global,
-    kind: Kind,
-    words: &mut Words<'_>,
-) -> Result<Result<Bytes, LineFault>, AllocError>
-    ensures { IfOk result (λ r. MatchResult r (λ b. data_words kind words.old ≡ Ok (b, words.new)) (λ fault. data_words kind words.old ≡ Err fault)) }
+fn job_bytes(alloc: Global, kind: Kind, words: &mut Words<'_>) -> Result<Bytes, LineError>
+    ensures { MatchResult result (λ b. data_words kind words.old ≡ Ok (b, words.new)) (IsErrorOf (data_words kind words.old)) }
 {
     match kind {
-        Kind::Read => Ok(Ok(Bytes::from_vec(Vec::new(alloc)))),
+        Kind::Read => Ok(Bytes::from_vec(Vec::new(alloc))),
         Kind::Write | Kind::Compare => words.bytes(alloc),
     }
 }
 
-/// What follows `job`. The outer error is that memory was refused.
+/// What follows `job`.
 #[tactic(auto, unfolding(crate::specs::Jobs::job_words))]
 fn job_line(
     alloc: Global,
     submitters: u16,
     number: u32,
     words: &mut Words<'_>,
-) -> Result<Result<JobLine, LineFault>, AllocError>
-    ensures { IfOk result (λ r. r ≡ job_words submitters number words.old) }
+) -> Result<JobLine, LineError>
+    ensures { IsReadFrom (job_words submitters number words.old) result }
 {
-    let head = match job_head(submitters, words) {
-        Ok(head) => head,
-        Err(fault) => return Ok(Err(fault)),
-    };
-    let bytes = match job_bytes(alloc, head.kind, words)? {
-        Ok(bytes) => bytes,
-        Err(fault) => return Ok(Err(fault)),
-    };
-    let pieces = match pieces(alloc, words)? {
-        Ok(pieces) => pieces,
-        Err(fault) => return Ok(Err(fault)),
-    };
+    let head = job_head(submitters, words)?;
+    let bytes = job_bytes(alloc, head.kind, words)?;
+    let pieces = pieces(alloc, words)?;
     let request = Request {
         kind: head.kind,
         slba: head.slba,
         blocks: head.blocks,
         pieces,
     };
-    Ok(Ok(JobLine {
+    Ok(JobLine {
         number,
         submitter: head.submitter,
         job: Job {
@@ -135,31 +123,41 @@ fn job_line(
             request,
             bytes,
         },
-    }))
+    })
 }
 
-/// The job of a line, by its words. The outer error is that memory was refused.
+/// The job of a line, by its words.
 fn job_of_its_words(
     alloc: Global,
     submitters: u16,
     number: u32,
     words: &mut Words<'_>,
-) -> Result<Result<Option<JobLine>, LineFault>, AllocError>
-    ensures { IfOk result (λ r. r ≡ job_of_words submitters number words.old) }
+) -> Result<Option<JobLine>, LineError>
+    ensures { IsReadFrom (job_of_words submitters number words.old) result }
 {
     let Some(first) = words.take_first() else {
-        return Ok(Ok(None));
+        return Ok(None);
     };
     if begins_comment(first) {
-        return Ok(Ok(None));
+        return Ok(None);
     }
     if first != "job".as_bytes() {
-        return Ok(Err(LineFault::UnknownVerb));
+        return Err(LineError::Fault(LineFault::UnknownVerb));
     }
-    match job_line(alloc, submitters, number, words)? {
-        Ok(job) => Ok(Ok(Some(job))),
-        Err(fault) => Ok(Err(fault)),
-    }
+    Ok(Some(job_line(alloc, submitters, number, words)?))
+}
+
+/// The job of a line.
+fn read_job_line(
+    alloc: Global,
+    submitters: u16,
+    number: u32,
+    bytes: &[u8],
+) -> Result<Option<JobLine>, LineError>
+    ensures { IsReadFrom (job_of_line submitters number bytes.now) result }
+{
+    let mut words = words_of(bytes)?;
+    job_of_its_words(alloc, submitters, number, &mut words)
 }
 
 /// The job of the line of this number.
@@ -175,14 +173,10 @@ fn numbered_job(
         let fault = LineFault::TooManyLines;
         return Err(ScriptFault::Line { number, fault });
     }
-    let mut words = match words_of(bytes) {
-        Ok(words) => words,
-        Err(fault) => return Err(ScriptFault::Line { number, fault }),
-    };
-    match job_of_its_words(alloc, submitters, number, &mut words) {
-        Ok(Ok(job)) => Ok(job),
-        Ok(Err(fault)) => Err(ScriptFault::Line { number, fault }),
-        Err(_) => Err(ScriptFault::Memory),
+    match read_job_line(alloc, submitters, number, bytes) {
+        Ok(job) => Ok(job),
+        Err(LineError::Fault(fault)) => Err(ScriptFault::Line { number, fault }),
+        Err(LineError::Memory) => Err(ScriptFault::Memory),
     }
 }
 

@@ -106,18 +106,11 @@ fn next_round(
     Ok(round)
 }
 
-/// Whether a submitter has jobs left.
-fn has_jobs(queue: &VecDeque<Job>) -> bool
-    ensures { result ≡ not (length queue.now.items == 0) }
-{
-    !queue.is_empty()
-}
-
 /// Whether some submitter has jobs left.
 fn some_has_jobs(left: &[VecDeque<Job>]) -> bool
     ensures { result ≡ list_any (λ queue. not (length queue.items == 0)) left.now }
 {
-    left.iter().any(|queue| has_jobs(queue))
+    left.iter().any(|queue| !queue.is_empty())
 }
 
 /// What rounds of jobs left.
@@ -168,5 +161,6 @@ pub(crate) fn do_jobs<R: Threads + Wait + Sync>(
             return Ok(Done { ends, world });
         }
     }
+    // A loop over `forever` ends by a return alone.
     unreachable!()
 }

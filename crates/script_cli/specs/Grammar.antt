@@ -1,13 +1,14 @@
 -- What a line of a script is, or its first fault. A word that is wanted is taken from the words that are left; what a definition of such
 -- a word gives is the word's value, and the words after it.
 use Rattle.std.specs.List.{list_any}
-use Rattle.std.specs.Prelude.{ℕ, ◌^◌, ◌==◌, nat_lt, nat_le, Bool, false, Option, Some, None, Result, Ok, Err, List, [], ◌∷◌, ◌++◌, length, if◌then◌else◌}
+use Rattle.std.specs.Prelude.{ℕ, ◌≡◌, ◌^◌, ◌==◌, nat_lt, nat_le, Bool, false, Option, Some, None, Result, Ok, Err, List, [], ◌∷◌, ◌++◌, length, if◌then◌else◌}
 use Rattle.io_commands.specs.{Asked.Request, declared.request.{Kind.Kind, Piece.Piece}}
 use Rattle.script_cli.specs.{Lines.words, Numbers.{number, hex, sixteen_bytes, kind}, Pieces.piece, Verbs.{verb_named, queue_step, command_step}}
-use Rattle.script_cli.specs.declared.fault.LineFault.{LineFault}
+use Rattle.script_cli.specs.declared.fault.{LineError.LineError, LineFault.LineFault}
 use Rattle.script_cli.specs.declared.fault.LineFault.TheVariants.{LongLine, NotAscii, UnknownVerb, MissingWord, BadKind, BadNumber, BadHex, BadPiece, ExtraWord}
 use Rattle.script_cli.specs.declared.{script.Line.Line, verb.{CommandVerb.CommandVerb, QueueVerb.QueueVerb, Verb.Verb}}
 use Rattle.script_cli.specs.declared.verb.Verb.TheVariants.{Reserve, Fill, Forge, Reset, Owners, OnQueue, OnCommand}
+use Rattle.script_cli.specs.declared.fault.LineError.TheVariants as error
 use Rattle.script_cli.specs.declared.script.Line.TheVariants as line
 use Rattle.step_core.specs.declared.step.Step.TheVariants as step
 
@@ -127,3 +128,13 @@ words_of bytes =
 
 abbrev pub line_of : List ℕ → Result Line LineFault
 line_of bytes = words_of bytes >>= line_of_words
+
+-- why there is no such value: the fault that is found, or that memory was refused
+abbrev pub IsErrorOf : {A : Type 0} → Result A LineFault → LineError → Type 0
+IsErrorOf meant (error.Fault fault) = meant ≡ Err fault
+IsErrorOf meant error.Memory = Unit {0}
+
+-- what is read: just what is meant, or that memory was refused
+abbrev pub IsReadFrom : {A : Type 0} → Result A LineFault → Result A LineError → Type 0
+IsReadFrom meant (Ok value) = meant ≡ Ok value
+IsReadFrom meant (Err error) = IsErrorOf meant error

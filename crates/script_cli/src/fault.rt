@@ -42,6 +42,39 @@ pub enum LineFault {
     ExtraWord,
 }
 
+/// Why a line of a script was not read.
+#[derive(Clone, Copy, Debug, PartialEq, Eq, Error)]
+pub enum LineError {
+    /// It is at fault.
+    #[error("{0}")]
+    Fault(LineFault),
+    /// Memory was refused.
+    #[error("memory")]
+    Memory,
+}
+
+impl From<LineFault> for LineError {
+    ghost use Rattle.script_cli.specs.declared.fault.LineError.{LineError};
+    ghost use Rattle.std.specs.Prelude.{◌≡◌};
+
+    ghost from_gives = { λ fault error. error ≡ LineError.Fault fault };
+
+    fn from(fault: LineFault) -> Self {
+        LineError::Fault(fault)
+    }
+}
+
+impl From<AllocError> for LineError {
+    ghost use Rattle.script_cli.specs.declared.fault.LineError.{LineError};
+    ghost use Rattle.std.specs.Prelude.{◌≡◌};
+
+    ghost from_gives = { λ _ error. error ≡ LineError.Memory };
+
+    fn from(_refused: AllocError) -> Self {
+        LineError::Memory
+    }
+}
+
 /// Why a script was not read.
 #[derive(Clone, Copy, Debug, PartialEq, Eq, Error)]
 pub enum ScriptFault {

@@ -27,7 +27,9 @@ mod words;
 pub mod worked;
 pub mod worked_replies;
 
-pub use fault::{LineFault, NotClosed, RunFault, ScriptFault, not_opened, script_at_fault};
+pub use fault::{
+    LineError, LineFault, NotClosed, RunFault, ScriptFault, not_opened, script_at_fault,
+};
 pub use grammar::{begins_comment, pieces, words_of};
 pub use input::{ImageFault, ReadFault, read_first, read_image};
 pub use lines::split_line;

@@ -3,7 +3,7 @@
 ghost use Rattle.std.specs.Prelude.{◌≡◌, ◌≤◌, OnOk, length};
 ghost use Rattle.script_cli.specs.Scripts.{with_line, IsNumberedLine, AreLines, IsReading};
 
-use crate::fault::{LineFault, ScriptFault};
+use crate::fault::{LineError, LineFault, ScriptFault};
 use crate::grammar::read_line;
 use crate::lines::split_line;
 use std::alloc::{AllocError, Global};
@@ -76,9 +76,9 @@ fn numbered_line(alloc: Global, number: u32, bytes: &[u8]) -> Result<Line, Scrip
         return Err(ScriptFault::Line { number, fault });
     }
     match read_line(alloc, bytes) {
-        Ok(Ok(line)) => Ok(line),
-        Ok(Err(fault)) => Err(ScriptFault::Line { number, fault }),
-        Err(_) => Err(ScriptFault::Memory),
+        Ok(line) => Ok(line),
+        Err(LineError::Fault(fault)) => Err(ScriptFault::Line { number, fault }),
+        Err(LineError::Memory) => Err(ScriptFault::Memory),
     }
 }
 

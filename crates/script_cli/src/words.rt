@@ -1,16 +1,16 @@
 //! The words of a line.
 
-ghost use Rattle.std.specs.Prelude.{◌≡◌, ◌≤◌, ◌^◌, ◌∷◌, [], length, Ok, Err, IfOk, MatchOption, MatchResult};
+ghost use Rattle.std.specs.Prelude.{◌≡◌, ◌≤◌, ◌^◌, ◌∷◌, [], length, Ok, Err, MatchOption, MatchResult};
 ghost use Rattle.std.specs.List.{position_or_len};
-ghost use Rattle.script_cli.specs.Grammar.{number_word, kind_word, hex_word, sixteen_bytes_word, nothing_more};
+ghost use Rattle.script_cli.specs.Grammar.{number_word, kind_word, hex_word, sixteen_bytes_word, nothing_more, IsErrorOf};
 ghost use Rattle.script_cli.specs.Lines.{is_blank as spec_is_blank, is_solid, words};
 ghost use Rattle.script_cli.specs.declared.fault.LineFault.TheVariants.{MissingWord};
 ghost use Rattle.script_cli.specs.declared.script.Line.{Line};
 
-use crate::fault::LineFault;
+use crate::fault::{LineError, LineFault};
 use crate::values::{bytes, kind, number_below, number16, number32, number64, sixteen_bytes};
 use io_commands::Kind;
-use std::alloc::{AllocError, Global};
+use std::alloc::Global;
 use std::marker::Model;
 use step_core::Bytes;
 
@@ -144,29 +144,22 @@ impl<'a> Words<'a> {
         kind(word).ok_or(LineFault::BadKind)
     }
 
-    /// Takes bytes in hexadecimal digits. The outer error is that memory was refused.
+    /// Takes bytes in hexadecimal digits.
     #[tactic(auto, unfolding(crate::specs::Grammar::hex_word))]
-    pub fn bytes(&mut self, alloc: Global) -> Result<Result<Bytes, LineFault>, AllocError>
-        ensures { IfOk result (λ r. MatchResult r (λ b. hex_word self.old ≡ Ok (b, self.new)) (λ fault. hex_word self.old ≡ Err fault)) }
+    pub fn bytes(&mut self, alloc: Global) -> Result<Bytes, LineError>
+        ensures { MatchResult result (λ b. hex_word self.old ≡ Ok (b, self.new)) (IsErrorOf (hex_word self.old)) }
     {
-        match self.wanted() {
-            Ok(word) => Ok(bytes(alloc, word)?.ok_or(LineFault::BadHex)),
-            Err(fault) => Ok(Err(fault)),
-        }
+        let word = self.wanted()?;
+        Ok(bytes(alloc, word)?.ok_or(LineFault::BadHex)?)
     }
 
-    /// Takes the 16 bytes of a completion slot. The outer error is that memory was refused.
+    /// Takes the 16 bytes of a completion slot.
     #[tactic(auto, unfolding(crate::specs::Grammar::sixteen_bytes_word))]
-    pub(crate) fn sixteen_bytes(
-        &mut self,
-        alloc: Global,
-    ) -> Result<Result<[u8; 16], LineFault>, AllocError>
-        ensures { IfOk result (λ r. MatchResult r (λ b. sixteen_bytes_word self.old ≡ Ok (b, self.new)) (λ fault. sixteen_bytes_word self.old ≡ Err fault)) }
+    pub fn sixteen_bytes(&mut self, alloc: Global) -> Result<[u8; 16], LineError>
+        ensures { MatchResult result (λ b. sixteen_bytes_word self.old ≡ Ok (b, self.new)) (IsErrorOf (sixteen_bytes_word self.old)) }
     {
-        match self.wanted() {
-            Ok(word) => Ok(sixteen_bytes(alloc, word)?.ok_or(LineFault::BadHex)),
-            Err(fault) => Ok(Err(fault)),
-        }
+        let word = self.wanted()?;
+        Ok(sixteen_bytes(alloc, word)?.ok_or(LineFault::BadHex)?)
     }
 
     /// Sees that no word is left.

@@ -2,7 +2,7 @@
 //!
 //! A word is runs with commas between them. A run is hexadecimal digits, two for each byte, and, behind a star, how often these bytes stand there.
 
-use script_cli::words_of;
+use script_cli::{LineError, LineFault, words_of};
 use std::alloc::{AllocError, Global};
 
 /// Why a word is no bytes.
@@ -12,25 +12,42 @@ pub enum RunsFault {
     NoRuns,
     /// It has more bytes than there may be.
     TooMany,
+    /// Memory was refused.
+    Memory,
+}
+
+impl From<AllocError> for RunsFault {
+    fn from(_refused: AllocError) -> Self {
+        RunsFault::Memory
+    }
+}
+
+impl From<LineError> for RunsFault {
+    fn from(why: LineError) -> Self {
+        match why {
+            LineError::Fault(_) => RunsFault::NoRuns,
+            LineError::Memory => RunsFault::Memory,
+        }
+    }
+}
+
+impl From<LineFault> for RunsFault {
+    fn from(_fault: LineFault) -> Self {
+        RunsFault::NoRuns
+    }
 }
 
 /// The bytes of hexadecimal digits.
-fn hex(alloc: Global, digits: &[u8]) -> Result<Result<Vec<u8>, RunsFault>, AllocError> {
-    let Ok(mut words) = words_of(digits) else {
-        return Ok(Err(RunsFault::NoRuns));
-    };
-    match words.bytes(alloc)? {
-        Ok(bytes) => Ok(Ok(Vec::from_slice(alloc, bytes.as_slice())?)),
-        Err(_) => Ok(Err(RunsFault::NoRuns)),
-    }
+fn hex(alloc: Global, digits: &[u8]) -> Result<Vec<u8>, RunsFault> {
+    let mut words = words_of(digits)?;
+    let bytes = words.bytes(alloc)?;
+    Ok(Vec::from_slice(alloc, bytes.as_slice())?)
 }
 
 /// How often the bytes of a run stand there.
 fn count(digits: &[u8]) -> Result<u32, RunsFault> {
-    match words_of(digits) {
-        Ok(mut words) => words.number32().map_err(|_| RunsFault::NoRuns),
-        Err(_) => Err(RunsFault::NoRuns),
-    }
+    let mut words = words_of(digits)?;
+    Ok(words.number32()?)
 }
 
 /// Puts the bytes of hexadecimal digits so many times behind others.
@@ -40,57 +57,40 @@ fn put_times(
     digits: &[u8],
     times: u32,
     most: usize,
-) -> Result<Result<(), RunsFault>, AllocError> {
-    let bytes = match hex(alloc, digits)? {
-        Ok(bytes) => bytes,
-        Err(fault) => return Ok(Err(fault)),
-    };
+) -> Result<(), RunsFault> {
+    let bytes = hex(alloc, digits)?;
     let room = most.saturating_sub(out.len());
     match bytes.len().checked_mul(times as usize) {
         Some(len) if len <= room => {}
-        _ => return Ok(Err(RunsFault::TooMany)),
+        _ => return Err(RunsFault::TooMany),
     }
     for _ in 0..times {
         out.extend_from_slice(bytes.as_slice())?;
     }
-    Ok(Ok(()))
+    Ok(())
 }
 
 /// Puts the bytes of a run behind others.
-fn put_run(
-    alloc: Global,
-    out: &mut Vec<u8>,
-    run: &[u8],
-    most: usize,
-) -> Result<Result<(), RunsFault>, AllocError> {
+fn put_run(alloc: Global, out: &mut Vec<u8>, run: &[u8], most: usize) -> Result<(), RunsFault> {
     let Some(star) = run.iter().position(|byte| *byte == b'*') else {
         return put_times(alloc, out, run, 1, most);
     };
     let (digits, behind) = run.split_at(star);
     let Some((_, number)) = behind.split_first() else {
-        return Ok(Err(RunsFault::NoRuns));
+        return Err(RunsFault::NoRuns);
     };
-    match count(number) {
-        Ok(times) => put_times(alloc, out, digits, times, most),
-        Err(fault) => Ok(Err(fault)),
-    }
+    put_times(alloc, out, digits, count(number)?, most)
 }
 
 /// The bytes that a word is, of so many at most.
 ///
 /// # Errors
 ///
-/// The outer one where memory is refused, the inner one where the word is no bytes, or too many.
-pub fn bytes_of(
-    alloc: Global,
-    word: &[u8],
-    most: usize,
-) -> Result<Result<Vec<u8>, RunsFault>, AllocError> {
+/// Where the word is no bytes, or too many, or memory is refused.
+pub fn bytes_of(alloc: Global, word: &[u8], most: usize) -> Result<Vec<u8>, RunsFault> {
     let mut out = Vec::new(alloc);
     for run in word.split(|byte| *byte == b',') {
-        if let Err(fault) = put_run(alloc, &mut out, run, most)? {
-            return Ok(Err(fault));
-        }
+        put_run(alloc, &mut out, run, most)?;
     }
-    Ok(Ok(out))
+    Ok(out)
 }

@@ -1,9 +1,8 @@
-//! Texts for people: names of statuses, what a step moved, what is wrong with a line, and bytes as people type them.
+//! Texts for people: what a step moved, what is wrong with a line, and bytes as people type them.
 #![tactic(auto)]
 
 pub mod byte_runs;
 pub mod draw;
 pub mod explain;
 pub mod faults;
-pub mod statuses;
 pub mod traces;

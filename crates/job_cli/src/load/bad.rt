@@ -2,9 +2,9 @@
 
 use driver_threads::JobRefusal;
 use entry_codec::Status;
+use entry_codec::status_names::Named;
 use io_commands::Kind;
 use std::fmt;
-use texts::statuses::Named;
 
 /// What is wrong with a command.
 #[derive(Clone, Copy)]

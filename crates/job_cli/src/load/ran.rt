@@ -3,7 +3,6 @@
 use crate::load::bad::Bad;
 use crate::load::histogram::Histogram;
 use crate::load::measured::Measured;
-use crate::load::stats::stats_text;
 use crate::load::tally::Tally;
 use std::alloc::{AllocError, Global};
 
@@ -80,14 +79,5 @@ impl Ran {
         put_latencies(&mut text, "read ", reads)?;
         put_latencies(&mut text, "write", writes)?;
         Ok(text)
-    }
-
-    /// What was measured, as JSON with the words of fio: of `read` and `write` each `total_ios`, `io_bytes`, `iops`, `bw_bytes` and `lat_ns`.
-    ///
-    /// # Errors
-    ///
-    /// Where memory is refused.
-    pub fn stats(&self, alloc: Global) -> Result<String, AllocError> {
-        stats_text(alloc, self)
     }
 }

@@ -2,6 +2,7 @@
 
 use crate::load::histogram::Histogram;
 use crate::load::ran::{Ran, each_second};
+use crate::load::tally::Tally;
 use serde::Serialize;
 use std::alloc::{AllocError, Global};
 
@@ -37,21 +38,11 @@ struct Direction {
     lat_ns: Latencies,
 }
 
-/// How many commands ended how.
-#[derive(Drop, Serialize)]
-struct Commands {
-    done: u64,
-    refused: u64,
-    failed: u64,
-    verified: u64,
-    differ: u64,
-}
-
 /// What a load came to.
 #[derive(Drop, Serialize)]
 struct Stats {
     runtime_ns: u64,
-    commands: Commands,
+    commands: Tally,
     read: Direction,
     write: Direction,
 }
@@ -79,25 +70,24 @@ fn direction_of(ran: &Ran, took: &Histogram) -> Direction {
     }
 }
 
-/// What a load came to, as JSON and a line feed.
-pub(crate) fn stats_text(alloc: Global, ran: &Ran) -> Result<String, AllocError> {
-    let tally = ran.tally;
-    let stats = Stats {
-        runtime_ns: ran.nanos,
-        commands: Commands {
-            done: tally.done,
-            refused: tally.refused,
-            failed: tally.failed,
-            verified: tally.verified,
-            differ: tally.differ,
-        },
-        read: direction_of(ran, &ran.measured.reads),
-        write: direction_of(ran, &ran.measured.writes),
-    };
-    let mut text = match serde_json::to_string_pretty(alloc, &stats) {
-        Ok(text) => text,
-        Err(_) => return Err(AllocError),
-    };
-    text.push('\n')?;
-    Ok(text)
+impl Ran {
+    /// What was measured, as JSON with the words of fio: of `read` and `write` each `total_ios`, `io_bytes`, `iops`, `bw_bytes` and `lat_ns`.
+    ///
+    /// # Errors
+    ///
+    /// Where memory is refused.
+    pub fn stats(&self, alloc: Global) -> Result<String, AllocError> {
+        let stats = Stats {
+            runtime_ns: self.nanos,
+            commands: self.tally,
+            read: direction_of(self, &self.measured.reads),
+            write: direction_of(self, &self.measured.writes),
+        };
+        let mut text = match serde_json::to_string_pretty(alloc, &stats) {
+            Ok(text) => text,
+            Err(_) => return Err(AllocError),
+        };
+        text.push('\n')?;
+        Ok(text)
+    }
 }

@@ -3,8 +3,10 @@
 ghost use Rattle.std.specs.Prelude.{◌≡◌};
 ghost use Rattle.job_cli.specs.Tallies.{both, counted as spec_counted, is_good as spec_is_good};
 
+use serde::Serialize;
+
 /// How many commands ended how.
-#[derive(Clone, Copy, Debug)]
+#[derive(Clone, Copy, Debug, Serialize)]
 pub struct Tally {
     /// Commands that ended with status 0:00.
     pub done: u64,

@@ -4,9 +4,9 @@ use crate::shell::dot_word::DotWord;
 use crate::shell::fault::Fault;
 use script_cli::transcripts::Given;
 use script_cli::{Line, LineFault, ScriptFault, Words, read_script, split_line, words_of};
-use std::alloc::{AllocError, Global};
+use std::alloc::Global;
 use step_core::{Bytes, PageNo, Step};
-use texts::byte_runs::bytes_of;
+use texts::byte_runs::{RunsFault, bytes_of};
 
 /// The most bytes that a command moves.
 const MOST: usize = 1_048_576;
@@ -57,8 +57,23 @@ pub(crate) enum Asked<'a> {
     Quit,
 }
 
-/// What a line asks for, or what is wrong with it. The outer error is that memory was refused.
-type Reading<'a> = Result<Result<Asked<'a>, Fault<'a>>, AllocError>;
+/// Why it is not known what a line asks for.
+#[derive(Clone, Copy, Debug, PartialEq, Eq)]
+pub(crate) enum NotAsked<'a> {
+    /// Something is wrong with it.
+    Fault(Fault<'a>),
+    /// Memory was refused.
+    Memory,
+}
+
+impl<'a> From<Fault<'a>> for NotAsked<'a> {
+    fn from(fault: Fault<'a>) -> Self {
+        NotAsked::Fault(fault)
+    }
+}
+
+/// What a line asks for.
+type Reading<'a> = Result<Asked<'a>, NotAsked<'a>>;
 
 /// A word as text; a line's words are ASCII.
 fn text_of(word: &[u8]) -> &str {
@@ -153,16 +168,6 @@ fn of_queues<'a>(mut arguments: Arguments<'a>) -> Result<Option<u16>, Fault<'a>>
     }
 }
 
-/// What follows `.rings`.
-fn rings(arguments: Arguments<'_>) -> Result<Asked<'_>, Fault<'_>> {
-    Ok(Asked::Rings(of_queues(arguments)?))
-}
-
-/// What follows `.serve`.
-fn serve(arguments: Arguments<'_>) -> Result<Asked<'_>, Fault<'_>> {
-    Ok(Asked::Serve(of_queues(arguments)?))
-}
-
 /// What follows `.page`.
 fn page(mut arguments: Arguments<'_>) -> Result<Asked<'_>, Fault<'_>> {
     let word = arguments.wanted()?;
@@ -198,20 +203,15 @@ fn read(mut arguments: Arguments<'_>) -> Result<Asked<'_>, Fault<'_>> {
 
 /// What follows `.write`.
 fn write(alloc: Global, mut arguments: Arguments<'_>) -> Reading<'_> {
-    let extent = match arguments.extent() {
-        Ok(extent) => extent,
-        Err(fault) => return Ok(Err(fault)),
-    };
-    let word = match arguments.wanted() {
-        Ok(word) => word,
-        Err(fault) => return Ok(Err(fault)),
-    };
-    if let Err(fault) = arguments.end() {
-        return Ok(Err(fault));
-    }
-    match bytes_of(alloc, word.as_bytes(), MOST)? {
-        Ok(bytes) => Ok(Ok(Asked::Write(extent, Bytes::from_vec(bytes)))),
-        Err(_) => Ok(Err(Fault::Bad(word, arguments.dot))),
+    let extent = arguments.extent()?;
+    let word = arguments.wanted()?;
+    arguments.end()?;
+    match bytes_of(alloc, word.as_bytes(), MOST) {
+        Ok(bytes) => Ok(Asked::Write(extent, Bytes::from_vec(bytes))),
+        Err(RunsFault::NoRuns | RunsFault::TooMany) => {
+            Err(NotAsked::Fault(Fault::Bad(word, arguments.dot)))
+        }
+        Err(RunsFault::Memory) => Err(NotAsked::Memory),
     }
 }
 
@@ -226,37 +226,39 @@ fn open(behind: &str) -> Result<Asked<'_>, Fault<'_>> {
 /// What a word with a dot asks for, with the words behind it, and with the text behind it.
 fn asked_of_dot<'a>(alloc: Global, dot: DotWord, words: Words<'a>, behind: &'a str) -> Reading<'a> {
     let arguments = Arguments { words, dot };
-    Ok(match dot {
-        DotWord::Help => help(arguments),
-        DotWord::Owners => alone(Asked::Owners, arguments),
-        DotWord::Counts => alone(Asked::Counts, arguments),
-        DotWord::Rings => rings(arguments),
-        DotWord::Page => page(arguments),
-        DotWord::Trace => trace(arguments),
-        DotWord::Serve => serve(arguments),
-        DotWord::Read => read(arguments),
-        DotWord::Write => return write(alloc, arguments),
-        DotWord::Save => save(arguments),
-        DotWord::Open => open(behind),
+    match dot {
+        DotWord::Help => Ok(help(arguments)?),
+        DotWord::Owners => Ok(alone(Asked::Owners, arguments)?),
+        DotWord::Counts => Ok(alone(Asked::Counts, arguments)?),
+        DotWord::Rings => Ok(Asked::Rings(of_queues(arguments)?)),
+        DotWord::Page => Ok(page(arguments)?),
+        DotWord::Trace => Ok(trace(arguments)?),
+        DotWord::Serve => Ok(Asked::Serve(of_queues(arguments)?)),
+        DotWord::Read => Ok(read(arguments)?),
+        DotWord::Write => write(alloc, arguments),
+        DotWord::Save => Ok(save(arguments)?),
+        DotWord::Open => Ok(open(behind)?),
         DotWord::Print => Ok(Asked::Print(behind.strip_prefix(' ').unwrap_or(behind))),
-        DotWord::Quit => alone(Asked::Quit, arguments),
-    })
+        DotWord::Quit => Ok(alone(Asked::Quit, arguments)?),
+    }
 }
 
 /// What a line of a script asks for.
 fn asked_of_step(alloc: Global, line: &[u8]) -> Reading<'_> {
     let script = match read_script(alloc, line) {
         Ok(script) => script,
-        Err(ScriptFault::Line { number: _, fault }) => return Ok(Err(Fault::Line(fault))),
-        Err(ScriptFault::TooLong) => return Ok(Err(Fault::Line(LineFault::LongLine))),
-        Err(ScriptFault::Memory) => return Err(AllocError),
+        Err(ScriptFault::Line { number: _, fault }) => {
+            return Err(NotAsked::Fault(Fault::Line(fault)));
+        }
+        Err(ScriptFault::TooLong) => return Err(NotAsked::Fault(Fault::Line(LineFault::LongLine))),
+        Err(ScriptFault::Memory) => return Err(NotAsked::Memory),
     };
     let line = script.into_lines().pop().map(|numbered| numbered.line);
-    Ok(Ok(match line {
+    Ok(match line {
         Some(Line::Step(step)) => Asked::Step(step),
         Some(Line::Owners) => Asked::Owners,
         Some(Line::Nothing) | None => Asked::Nothing,
-    }))
+    })
 }
 
 /// What a line asks for, which ends as it was read: with a line feed or without.
@@ -264,14 +266,14 @@ pub(crate) fn asked_of(alloc: Global, line: &[u8]) -> Reading<'_> {
     let (bytes, _) = split_line(line);
     let mut words = match words_of(bytes) {
         Ok(words) => words,
-        Err(fault) => return Ok(Err(Fault::Line(fault))),
+        Err(fault) => return Err(NotAsked::Fault(Fault::Line(fault))),
     };
     let first = words.take_first().map_or("", text_of);
     if !first.starts_with('.') {
         return asked_of_step(alloc, line);
     }
     let Some(dot) = DotWord::named(first) else {
-        return Ok(Err(Fault::UnknownWord(first)));
+        return Err(NotAsked::Fault(Fault::UnknownWord(first)));
     };
     let behind = match text_of(bytes).split_once(dot.name()) {
         Some((_, behind)) => behind,

@@ -2,10 +2,10 @@
 
 use crate::shell::asked::Extent;
 use crate::shell::hand::Hand;
+use entry_codec::status_names::Named;
 use script_cli::{CommandVerb, QueueVerb, Verb, put_gathered};
 use std::alloc::{AllocError, Global};
 use step_core::{Bytes, Kind, Piece, Pieces, Reaped, Refusal, Reply, Request, Status, Step};
-use texts::statuses::Named;
 
 /// The bytes of a page.
 const PAGE: u32 = 4_096;

@@ -2,7 +2,7 @@
 
 ghost use Rattle.std.specs.Prelude.{◌≡◌, [], string_bytes};
 
-use crate::shell::asked::{Asked, asked_of};
+use crate::shell::asked::{Asked, NotAsked, asked_of};
 use crate::shell::hand::{Hand, MOST_STEPS};
 use crate::shell::help::say_help;
 use crate::shell::lines::read_line;
@@ -197,9 +197,10 @@ impl Session {
     ) -> Result<Going, AllocError>
         requires empty { string_bytes out.old ≡ [] }
     {
-        match asked_of(self.alloc, line)? {
+        match asked_of(self.alloc, line) {
             Ok(asked) => self.perform(rt, number, asked, out),
-            Err(fault) => {
+            Err(NotAsked::Memory) => Err(AllocError),
+            Err(NotAsked::Fault(fault)) => {
                 let (line, _) = split_line(line);
                 fault.put(self.alloc, out, number, line)?;
                 Ok(Going::On)

@@ -111,14 +111,14 @@ pub(crate) fn checked(
     ensures fault { IfOk result (λ r. result_err r ≡ io_fault (block_count image.now) entry.now) }
     ensures kind { IfOk result (λ r. IfOk r (λ kind. kind_of_opcode entry.now.opcode ≡ Some kind)) }
 {
-    let job = begin_job(alloc, entry, image)?;
-    if let Some(status) = job.verdict() {
-        return Ok(Err(status));
-    }
     let Some(kind) = kind_of(entry.opcode) else {
-        unreachable!()
+        return Ok(Err(Status::INVALID_OPCODE));
     };
-    Ok(Ok(kind))
+    let job = begin_job(alloc, entry, image)?;
+    match job.verdict() {
+        Some(status) => Ok(Err(status)),
+        None => Ok(Ok(kind)),
+    }
 }
 
 /// The walk over the list of a command that passed its field checks.

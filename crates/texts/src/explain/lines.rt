@@ -84,12 +84,11 @@ impl<'a> Line<'a> {
                 break;
             };
             let room = most.saturating_sub(filled);
-            let more = match word_bytes(rt, self.word(place), room)? {
+            let more = match word_bytes(rt, self.word(place), room) {
                 Ok(more) => more,
-                Err(Wrong::TooManyBytes(_)) => {
-                    return Err(Stop::At(place, Wrong::TooManyBytes(most)));
-                }
-                Err(wrong) => return Err(Stop::At(place, wrong)),
+                Err(NoBytes::TooMany) => return Err(Stop::At(place, Wrong::TooManyBytes(most))),
+                Err(NoBytes::Wrong(wrong)) => return Err(Stop::At(place, wrong)),
+                Err(NoBytes::Memory) => return Err(Stop::Memory),
             };
             for (slot, byte) in into.iter_mut().skip(filled).zip(more.as_slice()) {
                 *slot = *byte;
@@ -111,25 +110,36 @@ impl<'a> Line<'a> {
 /// What names a file in place of bytes.
 const FILE: u8 = b'@';
 
+/// Why a word gives no bytes.
+#[derive(Clone, Copy, Debug, PartialEq, Eq)]
+enum NoBytes {
+    /// It has more than there may be.
+    TooMany,
+    /// Something else is wrong with it.
+    Wrong(Wrong),
+    /// Memory was refused.
+    Memory,
+}
+
 /// The bytes of a file, so many at most, and no more than a page has.
 fn file_bytes<R: AllocGlobal + Files>(
     rt: &R,
     path: &[u8],
     most: usize,
-) -> Result<Result<Vec<u8>, Wrong>, AllocError> {
+) -> Result<Vec<u8>, NoBytes> {
     let Ok(path) = str::from_utf8(path) else {
-        return Ok(Err(Wrong::NoFile(None)));
+        return Err(NoBytes::Wrong(Wrong::NoFile(None)));
     };
     let mut file = match File::open(rt, path) {
         Ok(file) => file,
-        Err(why) => return Ok(Err(Wrong::NoFile(Some(why.kind())))),
+        Err(why) => return Err(NoBytes::Wrong(Wrong::NoFile(Some(why.kind())))),
     };
     let most = most.min(PAGE_BYTES);
     match read_first(rt.alloc(), &mut file, most) {
-        Ok(bytes) if bytes.len() <= most => Ok(Ok(bytes)),
-        Ok(_) => Ok(Err(Wrong::TooManyBytes(most))),
-        Err(ReadFault::Unreadable) => Ok(Err(Wrong::NoFile(None))),
-        Err(ReadFault::Memory) => Err(AllocError),
+        Ok(bytes) if bytes.len() <= most => Ok(bytes),
+        Ok(_) => Err(NoBytes::TooMany),
+        Err(ReadFault::Unreadable) => Err(NoBytes::Wrong(Wrong::NoFile(None))),
+        Err(ReadFault::Memory) => Err(NoBytes::Memory),
     }
 }
 
@@ -138,14 +148,15 @@ fn word_bytes<R: AllocGlobal + Files>(
     rt: &R,
     word: &[u8],
     most: usize,
-) -> Result<Result<Vec<u8>, Wrong>, AllocError> {
+) -> Result<Vec<u8>, NoBytes> {
     if let Some((&FILE, path)) = word.split_first() {
         return file_bytes(rt, path, most);
     }
-    match bytes_of(rt.alloc(), word, most)? {
-        Ok(bytes) => Ok(Ok(bytes)),
-        Err(RunsFault::NoRuns) => Ok(Err(Wrong::NoHex)),
-        Err(RunsFault::TooMany) => Ok(Err(Wrong::TooManyBytes(most))),
+    match bytes_of(rt.alloc(), word, most) {
+        Ok(bytes) => Ok(bytes),
+        Err(RunsFault::NoRuns) => Err(NoBytes::Wrong(Wrong::NoHex)),
+        Err(RunsFault::TooMany) => Err(NoBytes::TooMany),
+        Err(RunsFault::Memory) => Err(NoBytes::Memory),
     }
 }
 

@@ -6,7 +6,7 @@ ghost use Rattle.texts.specs.Found.{IsIn, IsNextIn};
 use crate::faults::forms::{Grammar, Slot, has_pieces, slots_of, slots_of_job};
 use crate::faults::words::{Place, word_from};
 use io_commands::Kind;
-use script_cli::{LineFault, Verb, Words, begins_comment, pieces, words_of};
+use script_cli::{LineError, LineFault, Verb, Words, begins_comment, pieces, words_of};
 use std::alloc::{AllocError, Global};
 
 /// The word with which the line of a job begins.
@@ -45,6 +45,15 @@ pub struct Found {
     pub wanted: Wanted,
 }
 
+/// Whether something was read; an error where memory was refused.
+fn was_read<T: Drop>(read: Result<T, LineError>) -> Result<bool, AllocError> {
+    match read {
+        Ok(_) => Ok(true),
+        Err(LineError::Fault(_)) => Ok(false),
+        Err(LineError::Memory) => Err(AllocError),
+    }
+}
+
 /// Whether memory was refused, or else whether a word is what is wanted, as the parser reads it.
 fn is_good(alloc: Global, slot: Slot, words: &mut Words<'_>) -> Result<bool, AllocError> {
     Ok(match slot {
@@ -52,11 +61,8 @@ fn is_good(alloc: Global, slot: Slot, words: &mut Words<'_>) -> Result<bool, All
         Slot::Kind => words.kind().is_ok(),
         Slot::FirstBlock => words.number64().is_ok(),
         Slot::Blocks => words.number32().is_ok(),
-        Slot::Bytes => words.bytes(alloc)?.is_ok(),
-        Slot::EntryBytes => match words.bytes(alloc)? {
-            Ok(bytes) => bytes.as_slice().len() == 16,
-            Err(_) => false,
-        },
+        Slot::Bytes => was_read(words.bytes(alloc))?,
+        Slot::EntryBytes => was_read(words.sixteen_bytes(alloc))?,
         Slot::Submitter(submitters) => words.number_below(submitters).is_ok(),
     })
 }
@@ -131,7 +137,7 @@ fn words_after(alloc: Global, line: &[u8], at: usize, slots: &[Slot]) -> Result<
 /// Whether a word is a piece, as the parser reads it.
 pub(crate) fn is_piece(alloc: Global, word: &[u8]) -> Result<bool, AllocError> {
     match words_of(word) {
-        Ok(mut words) => Ok(pieces(alloc, &mut words)?.is_ok()),
+        Ok(mut words) => was_read(pieces(alloc, &mut words)),
         Err(_) => Ok(false),
     }
 }

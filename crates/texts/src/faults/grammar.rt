@@ -1,7 +1,7 @@
 //! All that a script may say.
 
 use crate::faults::forms::form_text;
-use crate::statuses::{NAMES, Named};
+use entry_codec::status_names::{NAMES, Named};
 use script_cli::{CommandVerb, QueueVerb, VERBS, Verb};
 use std::alloc::{AllocError, Global};
 

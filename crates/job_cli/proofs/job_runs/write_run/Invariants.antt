@@ -6,5 +6,5 @@ use Rattle.job_cli.proofs.job_runs.write_run.Given as goal
 abbrev pub invariant-loop-heading : goal.invariant-loop-heading
 invariant-loop-heading g l = record {
   lines : l.yielded ++ l.heading-iterator.rest.items ≡ l.fn.headings.items;
-  written : Appends (g.W.Write.contents l.fn.writer) (g.W.Write.contents l.writer) (headed_lines l.left.ends l.yielded);
+  written : Appends (g.W.Write.contents l.fn.writer) (g.W.Write.contents l.writer) (headed_lines l.ends l.yielded);
 }

@@ -3,7 +3,7 @@
 //! [`NAMES`] has those that this project's controller answers, each with its name from the NVM Express Base Specification 2.0, section 3.3.3.2.1 (for LBA Out of
 //! Range and Compare Failure, of the NVM Command Set Specification 1.0), without the words "Status" and "Error" of its group.
 
-use entry_codec::Status;
+use crate::status::Status;
 use std::fmt;
 
 /// Each status and its name, in the order of types and codes.
