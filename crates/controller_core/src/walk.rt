@@ -30,6 +30,7 @@ impl<A: Allocator> FetchedCommand<Job<A>> {
                 self.units_done += 1;
                 state
             }
+            // An admin command has its verdict from its fetch on, so it has no walk.
             Work::Admin { .. } => unreachable!(),
         }
     }

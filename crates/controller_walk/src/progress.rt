@@ -93,6 +93,7 @@ impl Progress {
             State::First(sgl1) => self.take(ENTRY, None, &sgl1),
             State::Next(cursor) => self.take_next(cursor, dma),
             State::Data(block, after) => self.move_part(block, after, dma, staging),
+            // A walk that is over is stepped by nobody: the caller owes it.
             State::Over(_) => unreachable!(),
         }
     }

@@ -11,7 +11,7 @@ use crate::request::Piece;
 use page_memory::{PAGE_BYTES, Page, PageNo};
 use std::alloc::{AllocError, Allocator};
 
-/// So many zeros, of which a page takes no more.
+/// `count` zeros, at most as many as a page has.
 fn zeros(count: usize) -> &'static [u8]
     requires { count ≤ 4096 }
     ensures { result.now ≡ replicate count 0 }

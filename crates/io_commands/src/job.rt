@@ -188,6 +188,7 @@ impl<A: Allocator> Job<A> {
         ensures job { IsJob self.new }
     {
         let Some(walk) = &mut self.walk else {
+            // A job without a verdict has a walk. `Option` has no `as_mut` here.
             unreachable!()
         };
         let answer = walk.step(dma, &mut self.bytes);

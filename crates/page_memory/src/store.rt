@@ -174,6 +174,7 @@ impl<A: Allocator> Store<A> {
         ensures unlisted { self.new.unlisted ≡ self.old.unlisted }
     {
         let Some(page) = &mut self.pages[number as usize] else {
+            // The page is in: the caller owes it. `Option` has no `as_mut` here.
             unreachable!();
         };
         page.set(at, bytes);

@@ -154,6 +154,7 @@ impl<R, A: Allocator + Clone> LinkedTable<R, A> {
         match self.nodes.map.insert((q, cid), node) {
             Ok(old) => match old {
                 None => {}
+                // The place is empty; a record could not be dropped.
                 Some(_) => unreachable!(),
             },
             Err(refused) => return Err(refused.value.1.value),

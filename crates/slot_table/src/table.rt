@@ -143,6 +143,7 @@ impl<R, A: Allocator> SlotTable<R, A> {
     {
         match self.index(q, cid) {
             Some(place) => content_mut(&mut self.records[place]),
+            // There is such a place: a record stands there.
             None => unreachable!(),
         }
     }
@@ -192,6 +193,7 @@ impl<R, A: Allocator> SlotTable<R, A> {
         self.len += 1;
         match mem::replace(&mut self.records[place as usize], Some(value)) {
             None => {}
+            // The place is empty; a record could not be dropped.
             Some(_) => unreachable!(),
         }
     }
@@ -242,6 +244,7 @@ fn content_mut<R>(place: &mut Option<R>) -> &mut R
 {
     match place {
         Some(record) => record,
+        // The place is occupied: the caller owes it. `Option` has no `as_mut` here.
         None => unreachable!(),
     }
 }
