@@ -42,16 +42,14 @@ fn room_for<A: Allocator + Copy>(alloc: A, entry: &Record<A>) -> Result<Room<A>,
 {
     let many = entry.data_pages.len() + entry.chain_pages.len();
     let pages = Vec::with_capacity(alloc, many)?;
-    let Some(status) = entry.status else {
-        unreachable!();
-    };
-    match &entry.work {
-        Work::Io(request) => Ok(Room {
+    match (&entry.work, entry.status) {
+        (Work::Io(request), Some(status)) => Ok(Room {
             request: request.copied(alloc)?,
             status,
             pages,
         }),
-        Work::Management(_) => unreachable!(),
+        // What is held is a command of an I/O queue, and has its status.
+        (Work::Io(_), None) | (Work::Management(_), _) => unreachable!(),
     }
 }
 
@@ -111,11 +109,14 @@ impl<A: Allocator> Parts<A> {
             status,
             mut pages,
         } = room;
-        match self.records.get(q, cid) {
-            Some(entry) => take_pages(store, entry, &mut pages),
+        match self.records.get_mut(q, cid) {
+            Some(entry) => {
+                take_pages(store, entry, &mut pages);
+                entry.collect();
+            }
+            // What is held has its record.
             None => unreachable!(),
         }
-        self.mark_collected(q, cid);
         Finished::make(q, cid, request, status, pages)
     }
 }

@@ -1,6 +1,6 @@
 //! Whether a moved value is the one that a record was made for.
 
-ghost use Rattle.std.specs.Prelude.{◌≡◌, ℕ, length, nat_eq};
+ghost use Rattle.std.specs.Prelude.{◌≡◌, ℕ, length, nat_eq, true};
 ghost use Rattle.std.specs.Cmp.Lexicographic.{pointwise};
 ghost use Rattle.io_commands.specs.Values.{numbers_of};
 ghost use Rattle.machine_model.specs.Proper.{ArePages, IsProperDraft};
@@ -115,20 +115,25 @@ impl<A: Allocator> Record<A> {
     }
 }
 
-/// A page has 4,096 bytes.
-fn read_page<A: Allocator>(page: &(PageNo, Page<A>))
-    ensures { length page.now.1 ≡ 4096 }
+/// Whether a page has 4,096 bytes. Each has, by its type.
+fn is_whole<A: Allocator>(page: &(PageNo, Page<A>)) -> bool
+    ensures always { result ≡ true }
+    ensures whole { length page.now.1 ≡ 4096 }
 {
-    prove!(page.1.bytes().len() == PAGE_BYTES);
+    page.1.bytes().len() == PAGE_BYTES
 }
 
-/// Reads each page.
-pub(crate) fn read_pages<A: Allocator>(pages: &[(PageNo, Page<A>)])
-    ensures { ArePages pages.now }
+/// Whether each page has 4,096 bytes. This is for a `prove!` to say: each has, by its type.
+pub(crate) fn are_whole<A: Allocator>(pages: &[(PageNo, Page<A>)]) -> bool
+    ensures always { result ≡ true }
+    ensures whole { ArePages pages.now }
 {
     for page in pages {
-        read_page(page);
+        if !is_whole(page) {
+            return false;
+        }
     }
+    true
 }
 
 impl<A: Allocator> Parts<A> {
@@ -154,7 +159,7 @@ impl<A: Allocator> Parts<A> {
         ensures told { result ≡ has_drafted (records_of self.now.records.rows) draft.now }
         ensures proper { IsProperDraft draft.now }
     {
-        read_pages(draft.pages());
+        prove!(are_whole(draft.pages()));
         let request = draft.request();
         let (front, back) = draft.pages().split_at(request.pieces.data_pages());
         let command = (draft.q(), draft.cid());

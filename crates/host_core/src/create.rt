@@ -177,10 +177,9 @@ impl<A: Allocator + Copy> Parts<A> {
         ensures touches { TouchesBy (pages_of_half self.old.entries half) store.old store.new }
     {
         let need = half_pages(self.entries, half);
-        match self.ledger.grant_run(Owner::Queue { q, half }, need) {
-            Some(_) => {}
-            None => unreachable!(),
-        }
+        self.ledger
+            .grant_run(Owner::Queue { q, half }, need)
+            .unwrap();
         zero_run(store, first, need);
         make(&mut self.queues[usize::from(q)], half, first);
     }

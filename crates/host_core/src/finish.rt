@@ -10,7 +10,7 @@ ghost use Rattle.host_core.specs.Replies.{accept_reply};
 ghost use Rattle.host_core.specs.Whole.{IsWhole};
 ghost use Rattle.host_core.specs.Touching.{HostTouches, TouchesBy};
 
-use crate::compare::read_pages;
+use crate::compare::are_whole;
 use crate::host::Host;
 use crate::moving::move_in;
 use crate::parts::Parts;
@@ -53,9 +53,7 @@ impl<A: Allocator> Parts<A> {
         ensures ended { tables_of self.new store.new.pages ≡ spec_ended q cid pages.items (tables_of self.old store.old.pages) }
         ensures touches { TouchesBy 0 store.old store.new }
     {
-        let Some(entry) = self.records.take(q, cid) else {
-            unreachable!();
-        };
+        let entry = self.records.take(q, cid).unwrap();
         self.ledger
             .give_back_pages(q, cid, &entry.data_pages, &entry.chain_pages);
         unclaim(&mut self.queues, q, cid);
@@ -106,7 +104,7 @@ impl<A: Allocator> Host<A> {
         ensures over { IsOver self.new store.new.pages }
         ensures back { IfErr result (λ r. r.value ≡ finished) }
     {
-        read_pages(finished.pages());
+        prove!(are_whole(finished.pages()));
         let request = finished.request();
         let (front, back) = finished.pages().split_at(finished.data_pages());
         let command = (finished.q(), finished.cid());

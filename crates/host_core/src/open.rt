@@ -224,8 +224,5 @@ fn grant_half<A: Allocator>(ledger: &mut Ledger<A>, owner: Owner, pages: u32) ->
     ensures first { lowest_run pages ledger.old ≡ Some result }
     ensures granted { ledger.new ≡ with_owner ledger.old (pages_from result pages) owner }
 {
-    match ledger.grant_run(owner, pages) {
-        Some(first) => first,
-        None => unreachable!(),
-    }
+    ledger.grant_run(owner, pages).unwrap()
 }

@@ -45,10 +45,7 @@ impl<A: Allocator> Parts<A> {
         ensures touches { TouchesBy 1 store.old store.new }
     {
         store.clear();
-        match self.queues[usize::from(q)].host.post(store, entry) {
-            Ok(_) => {}
-            Err(_) => unreachable!(),
-        }
+        self.queues[usize::from(q)].host.post(store, entry).unwrap();
         prove!(store.pages() <= 65_536);
     }
 }

@@ -51,10 +51,7 @@ fn hear_answer<A: Allocator>(queue: &mut Queue<HostPair<A>>, sqhd: u16)
     ensures { queue.new ≡ with_answer_heard sqhd queue.old }
 {
     queue.host.advance();
-    match queue.host.accept_head(sqhd) {
-        Ok(()) => {}
-        Err(_) => unreachable!(),
-    }
+    queue.host.accept_head(sqhd).unwrap();
 }
 
 /// Whether a status is Successful Completion.

@@ -1,8 +1,9 @@
 use Rattle.std.proofs.{Common.{◌≡◌, ◌+◌, ◌++◌, length, arith, ap, sym, ◌∙◌, subst}, lemmas.List.length-append}
 use Rattle.io_commands.specs.Values.{FinishedContents}
-use Rattle.machine_model.specs.{Memory.without_pages, State.Record}
+use Rattle.machine_model.specs.{After.collected, Memory.without_pages, State.{Record, with_record}}
+use Rattle.slot_table.specs.Rows.{with_value}
 use Rattle.host_core.proofs.{Ending.{held_can_take, held_work, collect_enough, collect_made, collected_tables, length-taken}, Lists.{none_is_not, some_is}}
-use Rattle.host_core.{proofs.{RowRecords.{found-row, no-row}, Told.both_parts}, specs.{Collecting.taken_pages, Commands.CanTake, Parts.{record_of, tables_of}}}
+use Rattle.host_core.{proofs.{RowRecords.{changed-rows, found-row, no-row, with-row}, Told.both_parts}, specs.{Collecting.taken_pages, Commands.CanTake, Parts.{record_of, tables_of}}}
 use Rattle.host_core.specs.Tables.{Tables}
 use Rattle.host_core.proofs.parts.Parts.commit_collect.Goals as goal
 
@@ -20,15 +21,13 @@ take_pages-requires-clause-back g c =
 
 pub make-requires-clause-good : goal.make-requires-clause-good
 make-requires-clause-good g c =
-    let told = c.requires.tells c.requires.stands.entry c.requires.stands.was in
-    (held_work (tables_of c.args.self.now c.args.store.now.pages) c.args.q c.args.cid c.args.room.request c.requires.whole c.requires.stands told.0).0
+    (held_work (tables_of c.args.self.now c.args.store.now.pages) c.args.q c.args.cid c.args.room.request c.requires.whole c.requires.stands (c.requires.tells c.requires.stands.entry c.requires.stands.was).0).0
 
 pub make-requires-clause-enough : goal.make-requires-clause-enough
 make-requires-clause-enough g c =
     let t : Tables = tables_of c.args.self.now c.args.store.now.pages in
-    let told = c.requires.tells c.requires.stands.entry c.requires.stands.was in
     let same : record_of c.args.q c.args.cid c.in-Some.entry.now ≡ c.requires.stands.entry = some_is (sym (found-row c.args.self.now.records.rows c.args.q c.args.cid c.in-Some.entry.now (sym c.in-Some.ensures.value)) ∙ c.requires.stands.was) in
-    collect_enough t c.args.q c.args.cid c.args.room.request c.take_pages.new.into.items c.requires.whole c.requires.stands told.0
+    collect_enough t c.args.q c.args.cid c.args.room.request c.take_pages.new.into.items c.requires.whole c.requires.stands (c.requires.tells c.requires.stands.entry c.requires.stands.was).0
     (c.take_pages.ensures.items ∙ ap (λ (x : Record). taken_pages x.data_pages t.pages ++ taken_pages x.chain_pages (without_pages x.data_pages t.pages)) same)
 
 pub take_pages-requires-clause-room : goal.take_pages-requires-clause-room
@@ -37,8 +36,7 @@ take_pages-requires-clause-room g c =
     (c.requires.empty.0, c.requires.empty.1, room)
 
 pub unreachable-requires : goal.unreachable-requires
-unreachable-requires g c =
-    none_is_not (sym (no-row c.args.self.now.records.rows c.args.q c.args.cid (sym c.in-None.ensures.value)) ∙ c.requires.stands.was)
+unreachable-requires g c = none_is_not (sym (no-row c.args.self.now.records.rows c.args.q c.args.cid (sym c.in-None.ensures.value)) ∙ c.requires.stands.was)
 
 pub returns : goal.returns
 returns g c =
@@ -47,8 +45,11 @@ returns g c =
     let same : record_of c.args.q c.args.cid c.in-Some.entry.now ≡ c.requires.stands.entry = some_is (sym (found-row c.args.self.now.records.rows c.args.q c.args.cid c.in-Some.entry.now (sym c.in-Some.ensures.value)) ∙ c.requires.stands.was) in
     let items = c.take_pages.ensures.items ∙ ap (λ (x : Record). taken_pages x.data_pages t.pages ++ taken_pages x.chain_pages (without_pages x.data_pages t.pages)) same in
     let pages = c.take_pages.ensures.pages ∙ ap (λ (x : Record). without_pages x.chain_pages (without_pages x.data_pages t.pages)) same in
-    let new : Tables = tables_of c.mark_collected.new.self c.take_pages.new.store.pages in
-    let left = c.mark_collected.ensures c.take_pages.new.store.pages ∙ collected_tables t c.args.q c.args.cid c.take_pages.new.store.pages c.requires.stands pages in
+    let rows = c.args.self.now.records.rows in
+    let marked = with_value rows c.args.q c.args.cid c.collect.new.self in
+    let new : Tables = tables_of (record c.args.self.now { records = record c.args.self.now.records { rows = marked } }) c.take_pages.new.store.pages in
+    let kept = with-row rows c.args.q c.args.cid collected c.in-Some.entry.now c.collect.new.self c.in-Some.ensures.distinct (sym c.in-Some.ensures.value) (c.collect.ensures c.args.q c.args.cid) in
+    let left = changed-rows c.args.self.now marked (with_record c.args.q c.args.cid collected) kept c.take_pages.new.store.pages ∙ collected_tables t c.args.q c.args.cid c.take_pages.new.store.pages c.requires.stands pages in
     let made = collect_made t new c.args.q c.args.cid c.args.room.request c.args.room.status c.take_pages.new.into.items c.make.result c.requires.whole c.requires.stands told.0 told.1 items c.make.ensures left in
     let front = c.in-Some.entry.now.data_pages in
     let back = c.in-Some.entry.now.chain_pages in

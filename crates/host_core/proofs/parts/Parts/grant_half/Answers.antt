@@ -1,15 +1,14 @@
-use Rattle.std.proofs.Common.{◌≡◌, ◌∙◌, ◌<◌, ℕ, length, ap, subst, sym}
+use Rattle.std.proofs.Common.{◌≡◌, ◌∙◌, ◌<◌, ℕ, Some, length, ap, is_some, subst, sym}
 use Rattle.machine_model.specs.After.{change}
-use Rattle.page_ledger.specs.Owners.{pages_from, with_owner}
-use Rattle.host_core.proofs.{Lists.{change-at-lists as change-at, none_is_not, some_is}, Making.{half-can-zero, made-granted, run-lowest, run-within}}
+use Rattle.page_ledger.specs.Owners.{pages_from}
+use Rattle.host_core.proofs.{Lists.{change-at-lists as change-at}, Making.{half-can-zero, made-granted, run-lowest, run-within}}
 use Rattle.host_core.specs.{Commands.CanZero, Parts.tables_of, Sending.making, Tables.Tables}
-use Rattle.page_ledger.specs.declared.owner.Owner.TheVariants as owner
 use Rattle.host_core.proofs.parts.Parts.grant_half.Goals as goal
 
-pub unreachable-requires : goal.unreachable-requires
-unreachable-requires g c =
+pub unwrap-requires : goal.unwrap-requires
+unwrap-requires g c =
     let t : Tables = tables_of c.args.self.now c.args.store.now.pages in
-    none_is_not (sym c.in-None.is ∙ (c.grant_run.ensures.lowest ∙ run-lowest t c.args.half c.args.first c.half_pages-need.result c.requires.whole c.half_pages-need.ensures c.requires.run))
+    ap is_some (c.grant_run.ensures.lowest ∙ run-lowest t c.args.half c.args.first c.half_pages-need.result c.requires.whole c.half_pages-need.ensures c.requires.run)
 
 pub zero_run-requires-clause-few : goal.zero_run-requires-clause-few
 zero_run-requires-clause-few g c =
@@ -23,10 +22,10 @@ zero_run-requires-clause-can g c =
 pub returns-clause-granted : goal.returns-clause-granted
 returns-clause-granted g c =
     let t : Tables = tables_of c.args.self.now c.args.store.now.pages in
-    let first : c.in-Some.field-0 ≡ c.args.first =
-    some_is (sym c.in-Some.is ∙ (c.grant_run.ensures.lowest ∙ run-lowest t c.args.half c.args.first c.half_pages-need.result c.requires.whole c.half_pages-need.ensures c.requires.run)) in
+    let first : c.grant_run.result ≡ Some c.args.first =
+    c.grant_run.ensures.lowest ∙ run-lowest t c.args.half c.args.first c.half_pages-need.result c.requires.whole c.half_pages-need.ensures c.requires.run in
     made-granted t c.args.half c.args.q c.args.first c.half_pages-need.result c.zero_run.new.store.pages c.grant_run.new.self _ c.half_pages-need.ensures c.zero_run.ensures.pages
-    (c.in-Some.ensures.owners ∙ ap (λ (p : ℕ). with_owner t.owners (pages_from p c.half_pages-need.result) (owner.Queue c.args.q c.args.half)) first)
+    (rw first at c.grant_run.ensures.owners)
     (change-at c.from.result (making c.args.half c.args.first) t.queues c.index_mut.result.now c.make.new.queue (subst (λ (k : ℕ). k < length t.queues) (sym c.from.ensures) c.requires.there) c.index_mut.ensures.value c.make.ensures
     ∙ ap (λ (k : ℕ). change k (making c.args.half c.args.first) t.queues) c.from.ensures)
 

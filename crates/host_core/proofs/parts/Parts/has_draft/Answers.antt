@@ -15,4 +15,4 @@ returns-clause-told g c =
 
 pub returns-clause-proper : goal.returns-clause-proper
 returns-clause-proper g c =
-    proper_draft c.args.draft.now c.request-request.ensures.fits (subst (λ (ps : PagesOut). ArePages ps) c.pages.ensures c.read_pages.ensures) c.request-request.ensures.draft
+    proper_draft c.args.draft.now c.request-request.ensures.fits (subst (λ (ps : PagesOut). ArePages ps) c.pages.ensures c.are_whole.ensures.whole) c.request-request.ensures.draft
