@@ -8,7 +8,7 @@ ghost use Rattle.machine_model.specs.Refusals.{is_of, asks_for as spec_asks_for,
 ghost use Rattle.host_core.specs.Commands.{phase_of_end, has_drafted, has_record as spec_has_record};
 ghost use Rattle.host_core.specs.Parts.{record_of, records_of};
 
-use crate::parts::Parts;
+use crate::tables::HostTables;
 use crate::record::Record;
 use io_commands::{Draft, Kind, Piece, Request};
 use machine_model::words::Work;
@@ -103,15 +103,15 @@ impl<A: Allocator> Record<A> {
         &self,
         ended: bool,
         request: &Request<A>,
-        front: &[(PageNo, Page<A>)],
-        back: &[(PageNo, Page<A>)],
+        data_pages: &[(PageNo, Page<A>)],
+        chain_pages: &[(PageNo, Page<A>)],
     ) -> bool
-        ensures { (q cid : ℕ) → result ≡ is_of (phase_of_end ended) request.now (numbers_of front.now) (numbers_of back.now) (record_of q cid self.now) }
+        ensures { (q cid : ℕ) → result ≡ is_of (phase_of_end ended) request.now (numbers_of data_pages.now) (numbers_of chain_pages.now) (record_of q cid self.now) }
     {
         self.is_handed_out(ended)
             && asks_for(request, &self.work)
-            && same_numbers(front, &self.data_pages)
-            && same_numbers(back, &self.chain_pages)
+            && same_numbers(data_pages, &self.data_pages)
+            && same_numbers(chain_pages, &self.chain_pages)
     }
 }
 
@@ -136,20 +136,20 @@ pub(crate) fn are_whole<A: Allocator>(pages: &[(PageNo, Page<A>)]) -> bool
     true
 }
 
-impl<A: Allocator> Parts<A> {
+impl<A: Allocator> HostTables<A> {
     /// Whether a command has a record, and that is the one of a moved value with these pages for its data and for its chain.
     pub(crate) fn has_record(
         &self,
         ended: bool,
         command: (u16, u16),
         request: &Request<A>,
-        front: &[(PageNo, Page<A>)],
-        back: &[(PageNo, Page<A>)],
+        data_pages: &[(PageNo, Page<A>)],
+        chain_pages: &[(PageNo, Page<A>)],
     ) -> bool
-        ensures { result ≡ spec_has_record (records_of self.now.records.rows) ended command.0 command.1 request.now (numbers_of front.now) (numbers_of back.now) }
+        ensures { result ≡ spec_has_record (records_of self.now.records.rows) ended command.0 command.1 request.now (numbers_of data_pages.now) (numbers_of chain_pages.now) }
     {
         match self.records.get(command.0, command.1) {
-            Some(entry) => entry.belongs(ended, request, front, back),
+            Some(entry) => entry.belongs(ended, request, data_pages, chain_pages),
             None => false,
         }
     }
@@ -161,8 +161,8 @@ impl<A: Allocator> Parts<A> {
     {
         prove!(are_whole(draft.pages()));
         let request = draft.request();
-        let (front, back) = draft.pages().split_at(request.pieces.data_pages());
+        let (data_pages, chain_pages) = draft.pages().split_at(request.pieces.data_pages());
         let command = (draft.q(), draft.cid());
-        self.has_record(false, command, request, front, back)
+        self.has_record(false, command, request, data_pages, chain_pages)
     }
 }

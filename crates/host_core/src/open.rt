@@ -13,7 +13,7 @@ ghost use Rattle.host_core.specs.Touching.{IsUntouched};
 
 use crate::config::Config;
 use crate::host::Host;
-use crate::parts::Parts;
+use crate::tables::HostTables;
 use crate::queue::Queue;
 use crate::record::Record;
 use machine_model::words::{HostState, OpenRefusal};
@@ -54,7 +54,7 @@ impl<A: Allocator + Copy> Host<A> {
         match open_tables(alloc, config) {
             Ok((store, ledger, records, queues)) => Ok(Opened {
                 host: Host {
-                    parts: Parts {
+                    parts: HostTables {
                         alloc,
                         entries: config.entries as u16,
                         segment: config.segment as u16,

@@ -9,12 +9,12 @@ ghost use Rattle.slot_table.specs.Table.{IsPlace};
 ghost use Rattle.slot_table.specs.Rows.{value_at};
 ghost use Rattle.host_core.specs.Parts.{record_of, records_of, Becomes};
 
-use crate::parts::Parts;
+use crate::tables::HostTables;
 use crate::record::Record;
 use entry_codec::Status;
 use std::alloc::Allocator;
 
-impl<A: Allocator> Parts<A> {
+impl<A: Allocator> HostTables<A> {
     /// Whether a command waits for its completion.
     pub(crate) fn has_submitted(&self, q: u16, cid: u16) -> bool
         ensures { result ≡ option_map_or (λ r. is_submitted r.phase) (find (is_at q cid) (records_of self.now.records.rows)) false }
