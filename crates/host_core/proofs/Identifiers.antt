@@ -10,7 +10,7 @@ use Rattle.machine_model.specs.{Work.Work, declared.words.{Work.TheVariants.{Io,
 use Rattle.host_core.proofs.{Lists.{each-change, all-at, found_at, none_is_not, some_is, all-slots, map-agree}, RowRecords.{claims-same, empty-row}}
 use Rattle.host_core.specs.{Alone.{alone, IsOver, IsSoundHost}, Commands.{with_claim, without_claim}, Parts.tables_of, Resetting.{HasPlaces, IsPlaced}}
 use Rattle.host_core.specs.{Rows.Queue, Tables.{Tables, view_of, host_queue_of, state_of}}
-use Rattle.host_core.specs.{Whole.{IsHost, IsQueue, IsWhole, ClaimsIdentifiers, ClaimIdentifiers, is_outstanding, IsRecord}, declared.parts.Parts.Parts}
+use Rattle.host_core.specs.{Whole.{IsHost, IsQueue, IsWhole, ClaimsIdentifiers, ClaimIdentifiers, is_outstanding, IsRecord}, declared.tables.HostTables.HostTables}
 use Rattle.page_ledger.{proofs.Tables.{slice_get-set_same, slice_get-set_other}, specs.{Counting.total, Owners.is_among}}
 use Rattle.page_memory.specs.Pages.{Pages}
 use Rattle.slot_table.specs.{Rows.value_at, Table.IsPlace}
@@ -209,16 +209,16 @@ none-found : {A : Type 0} (test : A → Bool) (xs : List A) → list_any test xs
 none-found test [] h = refl
 none-found test (x ∷ xs) h = grind (arith, h, none-found test xs)
 
-pub new-empty : {A : Type 0} (parts : Parts A) (pages : Pages) (q cid : ℕ) → IsNewIdentifier (state_of (tables_of parts pages)) q cid → value_at parts.records.rows q cid ≡ None
+pub new-empty : {A : Type 0} (parts : HostTables A) (pages : Pages) (q cid : ℕ) → IsNewIdentifier (state_of (tables_of parts pages)) q cid → value_at parts.records.rows q cid ≡ None
 new-empty parts pages q cid new =
     let t = tables_of parts pages in
     empty-row parts.records.rows q cid (none-found (is_at q cid) t.records (outstanding-among (view_of t).host q cid ∙ not-true _ new.unused))
 
-pub place-of : {A : Type 0} (parts : Parts A) (pages : Pages) (q cid : ℕ) → parts.records.queues ≡ length parts.queues.items → parts.records.places + 1 ≡ parts.entries → q < length parts.queues.items
+pub place-of : {A : Type 0} (parts : HostTables A) (pages : Pages) (q cid : ℕ) → parts.records.queues ≡ length parts.queues.items → parts.records.places + 1 ≡ parts.entries → q < length parts.queues.items
     → IsNewIdentifier (state_of (tables_of parts pages)) q cid → IsPlace parts.records q cid
 place-of parts pages q cid many places there new = record { queue = omega (arith, many, there); identifier = omega (arith, places, new.in_range) }
 
-pub new-place : {A : Type 0} (parts : Parts A) (pages : Pages) (q cid : ℕ) → IsWhole (tables_of parts pages) → q < length parts.queues.items → IsNewIdentifier (state_of (tables_of parts pages)) q cid → IsPlace parts.records q cid
+pub new-place : {A : Type 0} (parts : HostTables A) (pages : Pages) (q cid : ℕ) → IsWhole (tables_of parts pages) → q < length parts.queues.items → IsNewIdentifier (state_of (tables_of parts pages)) q cid → IsPlace parts.records q cid
 new-place parts pages q cid w there new = place-of parts pages q cid w.record_queues w.record_places there new
 
 -- An outstanding command stands in one of the places of its queue

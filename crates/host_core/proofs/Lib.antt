@@ -18,3 +18,4 @@ pub mod Resets
 pub mod Outstanding
 pub mod KeptRows
 pub mod Benches
+pub mod Unwrapped

@@ -4,7 +4,7 @@ use Rattle.std.{proofs.lemmas.{Bool.{and_right, cases_Bool, cond_both}, Option.n
 use Rattle.machine_model.specs.{After.change, Refusals.{same_piece, same_pieces}, State.Record}
 use Rattle.io_commands.specs.declared.request.Piece.{Piece}
 use Rattle.slot_table.specs.Rows.{Row, first_place}
-use Rattle.host_core.specs.{Parts.{records_of}, Rows.{Kept, rows_on}}
+use Rattle.host_core.specs.{Parts.{records_of}, Rows.{RecordRow, rows_on}}
 
 -- A member of a list that is changed, by its place.
 
@@ -161,12 +161,12 @@ all-back P (x ∷ xs) ys all = all-back P xs ys all.1
 -- The records of a queue, counted from row to row.
 
 -- the rows of a queue are its outstanding commands
-pub rows_on-outstanding : (q : ℕ) (rows : List (Row Kept)) → rows_on q rows ≡ length (map (λ (r : Record). r.cid) (filter (λ (r : Record). r.q == q) (records_of rows)))
+pub rows_on-outstanding : (q : ℕ) (rows : List (Row RecordRow)) → rows_on q rows ≡ length (map (λ (r : Record). r.cid) (filter (λ (r : Record). r.q == q) (records_of rows)))
 rows_on-outstanding q [] = refl
 rows_on-outstanding q (row ∷ rows) = grind (arith, rows_on-outstanding q rows)
 
 -- the row at which a walk stands, and those behind it
-one_more : (q n p cid : ℕ) (rows : List (Row Kept)) → first_place (drop n rows) ≡ Some (p, cid)
+one_more : (q n p cid : ℕ) (rows : List (Row RecordRow)) → first_place (drop n rows) ≡ Some (p, cid)
     → rows_on q (drop n rows) ≡ (if p == q then rows_on q (drop (suc n) rows) + 1 else rows_on q (drop (suc n) rows))
 one_more q zero p cid [] at = absurd (none-some _ at)
 one_more q (suc n) p cid [] at = absurd (none-some _ at)
@@ -174,18 +174,18 @@ one_more q zero p cid (row ∷ rows) at =
     let own : row.q ≡ p = ap (λ (o : Option (ℕ × ℕ)). option_map_or (λ (place : ℕ × ℕ). place.0) o p) at in ap (λ (k : ℕ). if k == q then rows_on q rows + 1 else rows_on q rows) own
 one_more q (suc n) p cid (row ∷ rows) at = one_more q n p cid rows at
 
-pub row_counted : (q n p cid : ℕ) (rows : List (Row Kept)) → first_place (drop n rows) ≡ Some (p, cid)
+pub row_counted : (q n p cid : ℕ) (rows : List (Row RecordRow)) → first_place (drop n rows) ≡ Some (p, cid)
     → rows_on q (drop n rows) ≡ (if p == q then rows_on q (drop (n + 1) rows) + 1 else rows_on q (drop (n + 1) rows))
 row_counted q n p cid rows at =
     let more : suc n ≡ n + 1 = omega arith in
     one_more q n p cid rows at ∙ ap (λ (k : ℕ). if p == q then rows_on q (drop k rows) + 1 else rows_on q (drop k rows)) more
 
 -- no row is left
-pub none_counted : (q : ℕ) (rows : List (Row Kept)) → first_place rows ≡ None → rows_on q rows ≡ 0
+pub none_counted : (q : ℕ) (rows : List (Row RecordRow)) → first_place rows ≡ None → rows_on q rows ≡ 0
 none_counted q [] none = refl
 none_counted q (row ∷ rows) none = absurd (none-some _ (sym none))
 
-pub all_counted : (q n : ℕ) (rows : List (Row Kept)) → length rows ≤ n → rows_on q (drop n rows) ≡ 0
+pub all_counted : (q n : ℕ) (rows : List (Row RecordRow)) → length rows ≤ n → rows_on q (drop n rows) ≡ 0
 all_counted q zero [] past = refl
 all_counted q (suc n) [] past = refl
 all_counted q zero (row ∷ rows) past = absurd (omega arith)

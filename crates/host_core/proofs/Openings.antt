@@ -9,7 +9,7 @@ use Rattle.page_ledger.specs.{Owners.{is_free, is_owned_at, owner_at, pages_from
 use Rattle.page_memory.{proofs.Bytes.length-zero_page, specs.{Pages.{Pages, page_at, zero_page}, declared.page.Half.TheVariants.{Submission, Completion}}}
 use Rattle.host_core.{proofs.{Identifiers.{over_pages, whole_of, alone_sound, host_of, over_of}, Lists.some_is}, specs.Alone.{HostView, HostStep, IsOver, alone}}
 use Rattle.host_core.specs.Opening.{sq_from, cq_from, IsFreeFrom, AreGranted, opened_view, opened_pages, refusal_of_config, fresh_at, fresh_queue, fresh_queues, HalvesGranted, opened}
-use Rattle.host_core.specs.{Parts.records_of, Ringing.head_of, Rows.{Queue, Kept}, Tables.{Tables, host_queue_of, state_of, view_of}, Looks.cause_of}
+use Rattle.host_core.specs.{Parts.records_of, Ringing.head_of, Rows.{Queue, RecordRow}, Tables.{Tables, host_queue_of, state_of, view_of}, Looks.cause_of}
 use Rattle.host_core.{specs.{Whole.{IsHost, IsWhole, IsQueue, ClaimsIdentifiers, TellsQueue}, declared.config.Config.Config}, proofs.Making.claims-none}
 use Rattle.machine_model.{proofs.Headline.{runs_are_sound, fits_pool, in_limits, length-range}, specs.{Claims.IsSound, Events.{Event, Reply}}}
 use Rattle.machine_model.specs.{Opening.{opening, queues_from}, Refusals.refusal_of, State.{State, HostQueue}, Step.{Step, Refuses}}
@@ -318,7 +318,7 @@ opened_whole c owners opens size granted =
       records = tt;
     }
 
-abbrev pub made : Config → List Owner → TableOf Kept → List Queue → Tables
+abbrev pub made : Config → List Owner → TableOf RecordRow → List Queue → Tables
 made c owners table queues =
     record {
       entries = c.entries;
@@ -332,7 +332,7 @@ made c owners table queues =
     }
 
 -- the places of a host that opens
-abbrev pub no_records : Config → TableOf Kept
+abbrev pub no_records : Config → TableOf RecordRow
 no_records c = record { queues = c.queues + 1; places = c.entries - 1; rows = [] }
 
 -- What is made is the host's own, is as the machine opens, and is over its pages.
@@ -341,7 +341,7 @@ pub record Opens (c : Config) (t : Tables) : Type 0 where
   pub view : view_of t ≡ opened_view c
   pub over : IsOver (view_of t) (opened_pages c)
 
-pub opens_made : (c : Config) (owners : List Owner) (table : TableOf Kept) (queues : List Queue)
+pub opens_made : (c : Config) (owners : List Owner) (table : TableOf RecordRow) (queues : List Queue)
     → refusal_of_config c ≡ None → length owners ≡ c.pages → HalvesGranted c.entries (c.queues + 1) owners
     → table ≡ no_records c → queues ≡ fresh_queues c.entries (c.queues + 1) → Opens c (made c owners table queues)
 opens_made c owners table queues opens size granted er eq =

@@ -13,7 +13,7 @@ use Rattle.page_ledger.{proofs.{Pages.filter-agree, Tables.{slice_get-set_same, 
 use Rattle.page_ledger.specs.Owners.{is_among, pages_from, is_free, is_command, is_owned_at, owner_at, free_pages, with_owner, given_back, is_half, is_same_half}
 use Rattle.page_ledger.specs.declared.owner.{Owner.{Owner, TheVariants.{Free, Queue, Command}}, Role.{Role, TheVariants.{Data, Chain}}}
 use Rattle.host_core.{proofs.Lists.{some_is, none_is_not}, specs.{Commands.{CanTake, CanPut, CanZero}, Halves.{HasHalf, half_of, has_half}}}
-use Rattle.host_core.specs.{Tables.{Tables, state_of, host_queue_of, sq_pages_of, cq_pages_of, view_of}, Whole.{Tells, TellsCommand, TellsQueue, IsHost}}
+use Rattle.host_core.specs.{Tables.{Tables, state_of, host_queue_of, sq_pages_of, cq_pages_of, view_of}, Whole.{OwnersTell, TellsCommand, TellsQueue, IsHost}}
 use Rattle.page_memory.specs.{Pages.{Pages, page_at, AreWhole, IsPool, zero_page}, declared.page.Half.{Half, TheVariants.{Submission, Completion}}}
 use Rattle.queue_pair.specs.{Memory.half_pages, Rings.first_page_of}
 
@@ -320,7 +320,7 @@ half-at owners (x ∷ queues) k p told h = elim (cases_lt 0 (times p (sq_pages_o
 ]
 
 -- by the tables
-half-of : (t : Tables) → Tells t.owners t.queues t.records → (p : ℕ) → 0 < total (in_queue p) (state_of t).host.queues → Stands t.owners t.queues 0 p
+half-of : (t : Tables) → OwnersTell t.owners t.queues t.records → (p : ℕ) → 0 < total (in_queue p) (state_of t).host.queues → Stands t.owners t.queues 0 p
 half-of t tells p some = half-at t.owners t.queues 0 p (λ k queue e. let same : k ≡ 0 + k = omega arith in subst (λ (j : ℕ). TellsQueue t.owners j queue) same
     (tells.queues_told k queue e)) some
 
@@ -354,7 +354,7 @@ record-named-at owners (x ∷ rs) r tells p q cid role h at found few = elim (ca
 ]
 
 -- the pages of a command's owner are those of its record
-pub command-pages : (t : Tables) → IsSound (state_of t) → Tells t.owners t.queues t.records → (q cid : ℕ) (r : Record) → find (is_at q cid) t.records ≡ Some r → r.q ≡ q → r.cid ≡ cid
+pub command-pages : (t : Tables) → IsSound (state_of t) → OwnersTell t.owners t.queues t.records → (q cid : ℕ) (r : Record) → find (is_at q cid) t.records ≡ Some r → r.q ≡ q → r.cid ≡ cid
     → total (here q cid) t.records < 2 → (p : ℕ) → p < length t.pages → is_owned_at (is_command q cid) t.owners p ≡ is_among (pages_of r) p
 command-pages t sound tells q cid r found rq rc few p l = elim (cases_Bool (is_among (pages_of r) p)) [
   | inl e ↦
@@ -411,7 +411,7 @@ half-told owners q Submission x tells = tells.submission
 half-told owners q Completion x tells = tells.completion
 
 -- a page that the table gives to a half stands among the pages of that half
-pub half-standing : (t : Tables) (n : ℕ) → HasOneOwner n (view_of t).host → Tells t.owners t.queues t.records → (q : ℕ) (half : Half) (p : ℕ) → p < n → owner_at t.owners p ≡ Some (Queue q half)
+pub half-standing : (t : Tables) (n : ℕ) → HasOneOwner n (view_of t).host → OwnersTell t.owners t.queues t.records → (q : ℕ) (half : Half) (p : ℕ) → p < n → owner_at t.owners p ≡ Some (Queue q half)
     → (x : declared.Queue) × (slice_get t.queues q ≡ Some x) × (is_among (half_of half x) p ≡ true)
 half-standing t n owned-by tells q half p l o = elim (cases_lt 0 (times p (state_of t).host.free)) [
   | inl f ↦ let e : Queue q half ≡ Free = some_is (sym o ∙ free-owner t.owners p f) in absurd cc
@@ -429,7 +429,7 @@ half-standing t n owned-by tells q half p l o = elim (cases_lt 0 (times p (state
   ]
 ]
 
-pub half-owned : (t : Tables) (n : ℕ) → HasOneOwner n (view_of t).host → Tells t.owners t.queues t.records → (q : ℕ) (half : Half) (x : declared.Queue) → slice_get t.queues q ≡ Some x
+pub half-owned : (t : Tables) (n : ℕ) → HasOneOwner n (view_of t).host → OwnersTell t.owners t.queues t.records → (q : ℕ) (half : Half) (x : declared.Queue) → slice_get t.queues q ≡ Some x
     → OwnsHalf t.owners n q half x
 half-owned t n owned-by tells q half x at p l = elim (cases_Bool (is_among (half_of half x) p)) [
   | inl e ↦ rw (e, half-told t.owners q half x (tells.queues_told q x at) p e, eq-eqb q q refl, self-half half) refl

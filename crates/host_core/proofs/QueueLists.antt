@@ -16,7 +16,7 @@ use Rattle.host_core.proofs.{Lists.{change-at-lists as change-at, each-change, g
 use Rattle.host_core.specs.{Alone.alone, Exact.Exactly, Looks.completion_base, Posting.{with_tail_moved, tail_place, posted, CanPost}}
 use Rattle.host_core.specs.{Reaping.{IsCompletionSlot, lacks_completion, with_state}, Rows.Queue}
 use Rattle.host_core.specs.Tables.{Tables, state_of, host_queue_of, sq_pages_of, view_of, cq_pages_of}
-use Rattle.host_core.specs.Whole.{IsWhole, HasLimits, TellsCommand, HaveOwner, IsQueue, AreQueues, IsRecord, ClaimIdentifiers, ClaimsIdentifiers, Tells, TellsQueue}
+use Rattle.host_core.specs.Whole.{IsWhole, HasLimits, TellsCommand, HaveOwner, IsQueue, AreQueues, IsRecord, ClaimIdentifiers, ClaimsIdentifiers, OwnersTell, TellsQueue}
 use Rattle.page_ledger.specs.{Owners.{is_among, owner_at, pages_from}, declared.owner.Owner.Owner}
 use Rattle.page_memory.{proofs.Bytes.{bytes_within, told, told as same_pool, byte_at-with_page_bytes}, specs.Memory.{written, bytes_at, Memory}}
 use Rattle.page_memory.specs.{Pages.{byte_at, page_at, Pages, with_bytes, with_page_bytes, AreWhole, IsPool}, declared.page.Half.Half}
@@ -392,7 +392,7 @@ pub record Settled (t : Tables) : Type 0 where
   pub limits : HasLimits t
   pub queues : AreQueues t.entries t.queues
   pub identifiers : ClaimIdentifiers t.records t.queues
-  pub owners : Tells t.owners t.queues t.records
+  pub owners : OwnersTell t.owners t.queues t.records
   pub records : AllByRecursion (IsRecord (length t.queues)) t.records
 
 pub settled-of : (t : Tables) → IsWhole t → Settled t
@@ -455,7 +455,7 @@ pub record Settles (t : Tables) (pages : Pages) (os : List Owner) (qs : List Que
   pub many : length qs ≡ length t.queues
   pub queues : AreQueues t.entries qs
   pub identifiers : ClaimIdentifiers rs qs
-  pub owners : Tells os qs rs
+  pub owners : OwnersTell os qs rs
   pub records : AllByRecursion (IsRecord (length t.queues)) rs
 
 pub settled-with : (t : Tables) (pages : Pages) (owners : List Owner) (queues : List Queue) (records : List Record) → Settled t → Settles t pages owners queues records

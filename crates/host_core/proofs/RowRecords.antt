@@ -7,40 +7,40 @@ use Rattle.machine_model.{proofs.{Cases.option_is, Owned.{lost_by}, Sound.change
 use Rattle.machine_model.specs.State.{Record, is_at, with_record, without_record}
 use Rattle.slot_table.{specs.{Rows.{Row, value_at, without, with_value, NoneAt, IsDistinct}, Table.TableOf}, proofs.{Rows.without-none, Walks.none_stands}}
 use Rattle.host_core.{proofs.Lists.{some_is, none_is_not, all-filter, all-map, any-map, each-change}, specs.Commands.claims_changed}
-use Rattle.host_core.specs.{Parts.{record_of, records_of, tables_of, Becomes}, Resetting.{HasPlaces, IsPlaced}, Rows.{Kept, Queue}, Tables.Tables}
-use Rattle.host_core.specs.{Whole.{ClaimIdentifiers, ClaimsIdentifiers, IsRecord, TellsCommand, is_outstanding, IsQueue, TellsQueue}, declared.parts.Parts.Parts}
+use Rattle.host_core.specs.{Parts.{record_of, records_of, tables_of, Becomes}, Resetting.{HasPlaces, IsPlaced}, Rows.{RecordRow, Queue}, Tables.Tables}
+use Rattle.host_core.specs.{Whole.{ClaimIdentifiers, ClaimsIdentifiers, IsRecord, TellsCommand, is_outstanding, IsQueue, TellsQueue}, declared.tables.HostTables.HostTables}
 use Rattle.page_ledger.specs.{Owners.owner_at, declared.owner.Owner.Owner}
 use Rattle.page_memory.specs.{Pages.{Pages, page_at}, declared.page.Half.Half}
 
 -- The rows of the table of records, as records.
 
-pub find-rows : (rows : List (Row Kept)) (q cid : ℕ) → find (is_at q cid) (records_of rows) ≡ option_map (record_of q cid) (value_at rows q cid)
+pub find-rows : (rows : List (Row RecordRow)) (q cid : ℕ) → find (is_at q cid) (records_of rows) ≡ option_map (record_of q cid) (value_at rows q cid)
 find-rows [] q cid = refl
 find-rows (row ∷ rows) q cid = grind (arith, nat_tests, find-rows rows q cid)
 
-pub found-row : (rows : List (Row Kept)) (q cid : ℕ) (value : Kept) → value_at rows q cid ≡ Some value → find (is_at q cid) (records_of rows) ≡ Some (record_of q cid value)
+pub found-row : (rows : List (Row RecordRow)) (q cid : ℕ) (value : RecordRow) → value_at rows q cid ≡ Some value → find (is_at q cid) (records_of rows) ≡ Some (record_of q cid value)
 found-row rows q cid value h = find-rows rows q cid ∙ ap (option_map (record_of q cid)) h
 
-pub row-there : (rows : List (Row Kept)) (q cid : ℕ) {value : Kept} → value_at rows q cid ≡ Some value → true ≡ is_some (find (is_at q cid) (records_of rows))
+pub row-there : (rows : List (Row RecordRow)) (q cid : ℕ) {value : RecordRow} → value_at rows q cid ≡ Some value → true ≡ is_some (find (is_at q cid) (records_of rows))
 row-there rows q cid {value} h = sym (ap is_some (found-row rows q cid value h))
 
-pub no-row : (rows : List (Row Kept)) (q cid : ℕ) → value_at rows q cid ≡ None → find (is_at q cid) (records_of rows) ≡ None
+pub no-row : (rows : List (Row RecordRow)) (q cid : ℕ) → value_at rows q cid ≡ None → find (is_at q cid) (records_of rows) ≡ None
 no-row rows q cid h = find-rows rows q cid ∙ ap (option_map (record_of q cid)) h
 
-pub empty-row : (rows : List (Row Kept)) (q cid : ℕ) → find (is_at q cid) (records_of rows) ≡ None → value_at rows q cid ≡ None
+pub empty-row : (rows : List (Row RecordRow)) (q cid : ℕ) → find (is_at q cid) (records_of rows) ≡ None → value_at rows q cid ≡ None
 empty-row rows q cid h = let e = sym (find-rows rows q cid) ∙ h in elim (option_is (value_at rows q cid)) [ inl none ↦ none | inr (x, at) ↦ absurd (none_is_not (sym (rw at at e))) ]
 
 -- no row stands in a place
 
-none-with : (rows : List (Row Kept)) (q cid : ℕ) (f : Record → Record) → NoneAt rows q cid → with_record q cid f (records_of rows) ≡ records_of rows
+none-with : (rows : List (Row RecordRow)) (q cid : ℕ) (f : Record → Record) → NoneAt rows q cid → with_record q cid f (records_of rows) ≡ records_of rows
 none-with [] q cid f h = refl
 none-with (row ∷ rows) q cid f h = rw (h.0, none-with rows q cid f h.1) refl
 
-none-without : (rows : List (Row Kept)) (q cid : ℕ) → NoneAt rows q cid → without_record q cid (records_of rows) ≡ records_of rows
+none-without : (rows : List (Row RecordRow)) (q cid : ℕ) → NoneAt rows q cid → without_record q cid (records_of rows) ≡ records_of rows
 none-without [] q cid h = refl
 none-without (row ∷ rows) q cid h = rw (h.0, none-without rows q cid h.1) refl
 
-pub with-no_row : (rows : List (Row Kept)) (q cid : ℕ) (f : Record → Record) → value_at rows q cid ≡ None → records_of rows ≡ with_record q cid f (records_of rows)
+pub with-no_row : (rows : List (Row RecordRow)) (q cid : ℕ) (f : Record → Record) → value_at rows q cid ≡ None → records_of rows ≡ with_record q cid f (records_of rows)
 with-no_row rows q cid f h = sym (none-with rows q cid f (none_stands rows q cid h))
 
 pub here-none : {V : Type 0} (row : Row V) (rows : List (Row V)) (q cid : ℕ) → table.is_at row q cid ≡ true → NoneAt rows row.q row.cid → NoneAt rows q cid
@@ -50,7 +50,7 @@ here-none row rows q cid h none =
 
 -- the table's changes are the records'
 
-pub with-row : (rows : List (Row Kept)) (q cid : ℕ) (f : Record → Record) (old new : Kept) → IsDistinct rows → value_at rows q cid ≡ Some old → record_of q cid new ≡ f (record_of q cid old)
+pub with-row : (rows : List (Row RecordRow)) (q cid : ℕ) (f : Record → Record) (old new : RecordRow) → IsDistinct rows → value_at rows q cid ≡ Some old → record_of q cid new ≡ f (record_of q cid old)
     → records_of (with_value rows q cid new) ≡ with_record q cid f (records_of rows)
 with-row [] q cid f old new distinct at is = absurd (none_is_not at)
 with-row (row ∷ rows) q cid f old new distinct at is = elim (cases_Bool (table.is_at row q cid)) [
@@ -63,7 +63,7 @@ with-row (row ∷ rows) q cid f old new distinct at is = elim (cases_Bool (table
   | inr far ↦ rw far (ap (λ (rs : List Record). record_of row.q row.cid row.value ∷ rs) (with-row rows q cid f old new distinct.1 (rw far at at) is))
 ]
 
-without-row : (rows : List (Row Kept)) (q cid : ℕ) → IsDistinct rows → records_of (without rows q cid) ≡ without_record q cid (records_of rows)
+without-row : (rows : List (Row RecordRow)) (q cid : ℕ) → IsDistinct rows → records_of (without rows q cid) ≡ without_record q cid (records_of rows)
 without-row [] q cid distinct = refl
 without-row (row ∷ rows) q cid distinct = elim (cases_Bool (table.is_at row q cid)) [
   | inl here ↦ rw here (sym (none-without rows q cid (here-none row rows q cid here distinct.0)))
@@ -71,7 +71,7 @@ without-row (row ∷ rows) q cid distinct = elim (cases_Bool (table.is_at row q 
 ]
 
 -- a row taken out, if one stands there
-taken-row : (rows : List (Row Kept)) (q cid : ℕ) (o : Option Kept) → o ≡ value_at rows q cid → IfSome o (λ _. IsDistinct rows) → records_of (without rows q cid) ≡ without_record q cid (records_of rows)
+taken-row : (rows : List (Row RecordRow)) (q cid : ℕ) (o : Option RecordRow) → o ≡ value_at rows q cid → IfSome o (λ _. IsDistinct rows) → records_of (without rows q cid) ≡ without_record q cid (records_of rows)
 taken-row rows q cid None at distinct =
     let none = none_stands rows q cid (sym at) in
     ap records_of (without-none rows q cid none) ∙ sym (none-without rows q cid none)
@@ -79,15 +79,15 @@ taken-row rows q cid (Some value) at distinct = without-row rows q cid distinct
 
 -- so are those of the host's parts
 
-pub changed-rows : {A : Type 0} (parts : Parts A) (rows : List (Row Kept)) (f : List Record → List Record) → records_of rows ≡ f (records_of parts.records.rows)
+pub changed-rows : {A : Type 0} (parts : HostTables A) (rows : List (Row RecordRow)) (f : List Record → List Record) → records_of rows ≡ f (records_of parts.records.rows)
     → Becomes parts (λ t. record t { records = f t.records }) (record parts { records = record parts.records { rows = rows } })
 changed-rows parts rows f same = λ pages. ap (λ (rs : List Record). record (tables_of parts pages) { records = rs }) same
 
 -- a row taken out of them
-pub taken-becomes : {A : Type 0} (parts : Parts A) (q cid : ℕ) (o : Option Kept) (left : TableOf Kept) → o ≡ value_at parts.records.rows q cid → IfSome o (λ _. IsDistinct parts.records.rows)
+pub taken-becomes : {A : Type 0} (parts : HostTables A) (q cid : ℕ) (o : Option RecordRow) (left : TableOf RecordRow) → o ≡ value_at parts.records.rows q cid → IfSome o (λ _. IsDistinct parts.records.rows)
     → left ≡ record parts.records { rows = without parts.records.rows q cid } → Becomes parts (λ t. record t { records = without_record q cid t.records }) (record parts { records = left })
 taken-becomes parts q cid o left at distinct is = λ pages.
-    ap (λ (table : TableOf Kept). tables_of (record parts { records = table }) pages) is
+    ap (λ (table : TableOf RecordRow). tables_of (record parts { records = table }) pages) is
     ∙ changed-rows parts (without parts.records.rows q cid) (without_record q cid) (taken-row parts.records.rows q cid o at distinct) pages
 
 -- The records at a reset: the admin commands are forgotten, and the I/O commands lost queue by queue.

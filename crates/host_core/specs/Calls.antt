@@ -11,7 +11,7 @@ use Rattle.machine_model.specs.Step as machine
 use Rattle.host_core.specs.declared.call.Call.TheVariants as call
 use Rattle.host_core.specs.declared.call.Reply.TheVariants as reply
 
--- Kept values
+-- RecordRow values
 
 -- Calls
 

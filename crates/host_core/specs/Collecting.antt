@@ -18,8 +18,8 @@ pub record StandsAt (t : Tables) (q cid : ℕ) : Type 0 where
   pub held : entry.phase ≡ Held
 
 -- What a held command was asked for, and how it ended.
-abbrev pub Tells : Tables → ℕ → ℕ → Request → Status → Type 0
-Tells t q cid request status =
+abbrev pub CollectTells : Tables → ℕ → ℕ → Request → Status → Type 0
+CollectTells t q cid request status =
     (entry : Record) → find (is_at q cid) t.records ≡ Some entry → (entry.work ≡ Io request) × (entry.status ≡ Some status)
 
 -- So many pages are no fewer than a command's.

@@ -3,10 +3,10 @@ use Rattle.std.specs.Prelude.{◌≡◌, ℕ, List, map}
 use Rattle.machine_model.specs.State.{Record}
 use Rattle.page_memory.specs.Pages.{Pages}
 use Rattle.slot_table.specs.Rows.{Row}
-use Rattle.host_core.specs.{Rows.Kept, Tables.Tables, Whole.IsWhole, declared.parts.Parts.Parts}
+use Rattle.host_core.specs.{Rows.RecordRow, Tables.Tables, Whole.IsWhole, declared.tables.HostTables.HostTables}
 
 -- a command's record, by the place where it stands
-abbrev pub record_of : ℕ → ℕ → Kept → Record
+abbrev pub record_of : ℕ → ℕ → RecordRow → Record
 record_of q cid kept =
     record {
       q = q;
@@ -19,10 +19,10 @@ record_of q cid kept =
     }
 
 -- the records, in the order in which their commands were made
-abbrev pub records_of : List (Row Kept) → List Record
+abbrev pub records_of : List (Row RecordRow) → List Record
 records_of rows = map (λ row. record_of row.q row.cid row.value) rows
 
-abbrev pub tables_of : {A : Type 0} → Parts A → Pages → Tables
+abbrev pub tables_of : {A : Type 0} → HostTables A → Pages → Tables
 tables_of parts pages =
     record {
       entries = parts.entries;
@@ -36,9 +36,9 @@ tables_of parts pages =
     }
 
 -- What holds of the tables over any pages with which they are whole.
-abbrev pub Over : {A : Type 0} → Parts A → (Tables → Type 0) → Type 0
+abbrev pub Over : {A : Type 0} → HostTables A → (Tables → Type 0) → Type 0
 Over parts P = (pages : Pages) → IsWhole (tables_of parts pages) → P (tables_of parts pages)
 
 -- What a change makes of the tables, over any pages.
-abbrev pub Becomes : {A : Type 0} → Parts A → (Tables → Tables) → Parts A → Type 0
+abbrev pub Becomes : {A : Type 0} → HostTables A → (Tables → Tables) → HostTables A → Type 0
 Becomes old f new = (pages : Pages) → tables_of new pages ≡ f (tables_of old pages)

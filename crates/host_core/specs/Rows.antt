@@ -11,7 +11,7 @@ abbrev pub Queue : Type 0
 Queue = queue.Queue HostSide
 
 -- what the host keeps of an outstanding command in its place: all but the queue and the identifier
-pub record Kept : Type 0 where
+pub record RecordRow : Type 0 where
   pub phase : Phase
   pub work : Work
   pub data_pages : List ℕ
@@ -19,6 +19,6 @@ pub record Kept : Type 0 where
   pub status : Option Status
 
 -- how many of the rows stand in places of a queue
-abbrev pub rows_on : ℕ → List (Row Kept) → ℕ
+abbrev pub rows_on : ℕ → List (Row RecordRow) → ℕ
 rows_on q [] = 0
 rows_on q (row ∷ rows) = if row.q == q then rows_on q rows + 1 else rows_on q rows

@@ -45,7 +45,7 @@ pub record TellsQueue (owners : List Owner) (q : ℕ) (queue : Queue) : Type 0 w
   pub completion : HaveOwner owners (owner.Queue q Completion) (cq_pages_of queue)
 
 -- The table of owners tells each claim: of the queues' halves, and of the commands' pages.
-pub record Tells (owners : List Owner) (queues : List Queue) (records : List Record) : Type 0 where
+pub record OwnersTell (owners : List Owner) (queues : List Queue) (records : List Record) : Type 0 where
   pub queues_told : (q : ℕ) (queue : Queue) → slice_get queues q ≡ Some queue → TellsQueue owners q queue
   pub commands_told : AllByRecursion (TellsCommand owners) records
 
@@ -84,7 +84,7 @@ pub record IsWhole (t : Tables) : Type 0 where
   pub record_places : t.record_places + 1 ≡ t.entries
   pub queues : AreQueues t.entries t.queues
   pub identifiers : ClaimIdentifiers t.records t.queues
-  pub owners : Tells t.owners t.queues t.records
+  pub owners : OwnersTell t.owners t.queues t.records
   pub records : AllByRecursion (IsRecord (length t.queues)) t.records
 
 -- What of this is the host's own, whatever pages it is lent, in four groups.
@@ -102,7 +102,7 @@ pub record HasLimits (t : Tables) : Type 0 where
 
 -- the ledger tells each claim, the claimed identifiers are those outstanding, and each record fits its work
 pub record IsTable (t : Tables) : Type 0 where
-  pub owners : Tells t.owners t.queues t.records
+  pub owners : OwnersTell t.owners t.queues t.records
   pub identifiers : ClaimIdentifiers t.records t.queues
   pub records : AllByRecursion (IsRecord (length t.queues)) t.records
 

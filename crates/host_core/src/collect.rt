@@ -6,7 +6,7 @@ ghost use Rattle.machine_model.specs.Memory.{without_pages};
 ghost use Rattle.machine_model.specs.State.{is_at};
 ghost use Rattle.machine_model.specs.Step.{Step, Refuses};
 ghost use Rattle.host_core.specs.Alone.{HostStep, IsOver};
-ghost use Rattle.host_core.specs.Collecting.{taken_pages, HasRoom, StandsAt, Tells};
+ghost use Rattle.host_core.specs.Collecting.{taken_pages, HasRoom, StandsAt, CollectTells};
 ghost use Rattle.host_core.specs.Commands.{CanTake};
 ghost use Rattle.host_core.specs.Parts.{record_of, records_of, tables_of, Over};
 ghost use Rattle.host_core.specs.Replies.{collect_reply};
@@ -16,7 +16,7 @@ ghost use Rattle.host_core.specs.Touching.{HostTouches, TouchesBy};
 
 use crate::host::Host;
 use crate::moving::move_out;
-use crate::parts::Parts;
+use crate::tables::HostTables;
 use crate::record::Record;
 use crate::refused::Refused;
 use entry_codec::Status;
@@ -42,16 +42,14 @@ fn room_for<A: Allocator + Copy>(alloc: A, entry: &Record<A>) -> Result<Room<A>,
 {
     let many = entry.data_pages.len() + entry.chain_pages.len();
     let pages = Vec::with_capacity(alloc, many)?;
-    let Some(status) = entry.status else {
-        unreachable!();
-    };
-    match &entry.work {
-        Work::Io(request) => Ok(Room {
+    match (&entry.work, entry.status) {
+        (Work::Io(request), Some(status)) => Ok(Room {
             request: request.copied(alloc)?,
             status,
             pages,
         }),
-        Work::Management(_) => unreachable!(),
+        // What is held is a command of an I/O queue, and has its status.
+        (Work::Io(_), None) | (Work::Management(_), _) => unreachable!(),
     }
 }
 
@@ -72,7 +70,7 @@ fn take_pages<A: Allocator>(
     move_out(store, &entry.chain_pages, into);
 }
 
-impl<A: Allocator> Parts<A> {
+impl<A: Allocator> HostTables<A> {
     /// The record of a command that is held.
     pub(crate) fn check_collect(&self, q: u16, cid: u16) -> Result<&Record<A>, Refusal>
         ensures stands { IfOk result (λ _. Over self.now (λ t. StandsAt t q cid)) }
@@ -99,7 +97,7 @@ impl<A: Allocator> Parts<A> {
     ) -> Finished<A>
         requires whole { IsWhole (tables_of self.old store.old.pages) }
         requires stands { StandsAt (tables_of self.old store.old.pages) q cid }
-        requires tells { Tells (tables_of self.old store.old.pages) q cid room.request room.status }
+        requires tells { CollectTells (tables_of self.old store.old.pages) q cid room.request room.status }
         requires empty { (room.pages.items ≡ []) × (vec_len room.pages ≡ 0) }
         requires space { HasRoom (tables_of self.old store.old.pages) q cid (vec_capacity room.pages) }
         ensures step { Step (state_of (tables_of self.old store.old.pages)) (events.Collect q cid) (events.Collects result) (state_of (tables_of self.new store.new.pages)) }
@@ -111,11 +109,14 @@ impl<A: Allocator> Parts<A> {
             status,
             mut pages,
         } = room;
-        match self.records.get(q, cid) {
-            Some(entry) => take_pages(store, entry, &mut pages),
+        match self.records.get_mut(q, cid) {
+            Some(entry) => {
+                take_pages(store, entry, &mut pages);
+                entry.collect();
+            }
+            // What is held has its record.
             None => unreachable!(),
         }
-        self.mark_collected(q, cid);
         Finished::make(q, cid, request, status, pages)
     }
 }

@@ -1,6 +1,6 @@
 //! Whether a moved value is the one that a record was made for.
 
-ghost use Rattle.std.specs.Prelude.{◌≡◌, ℕ, length, nat_eq};
+ghost use Rattle.std.specs.Prelude.{◌≡◌, ℕ, length, nat_eq, true};
 ghost use Rattle.std.specs.Cmp.Lexicographic.{pointwise};
 ghost use Rattle.io_commands.specs.Values.{numbers_of};
 ghost use Rattle.machine_model.specs.Proper.{ArePages, IsProperDraft};
@@ -8,7 +8,7 @@ ghost use Rattle.machine_model.specs.Refusals.{is_of, asks_for as spec_asks_for,
 ghost use Rattle.host_core.specs.Commands.{phase_of_end, has_drafted, has_record as spec_has_record};
 ghost use Rattle.host_core.specs.Parts.{record_of, records_of};
 
-use crate::parts::Parts;
+use crate::tables::HostTables;
 use crate::record::Record;
 use io_commands::{Draft, Kind, Piece, Request};
 use machine_model::words::Work;
@@ -103,48 +103,53 @@ impl<A: Allocator> Record<A> {
         &self,
         ended: bool,
         request: &Request<A>,
-        front: &[(PageNo, Page<A>)],
-        back: &[(PageNo, Page<A>)],
+        data_pages: &[(PageNo, Page<A>)],
+        chain_pages: &[(PageNo, Page<A>)],
     ) -> bool
-        ensures { (q cid : ℕ) → result ≡ is_of (phase_of_end ended) request.now (numbers_of front.now) (numbers_of back.now) (record_of q cid self.now) }
+        ensures { (q cid : ℕ) → result ≡ is_of (phase_of_end ended) request.now (numbers_of data_pages.now) (numbers_of chain_pages.now) (record_of q cid self.now) }
     {
         self.is_handed_out(ended)
             && asks_for(request, &self.work)
-            && same_numbers(front, &self.data_pages)
-            && same_numbers(back, &self.chain_pages)
+            && same_numbers(data_pages, &self.data_pages)
+            && same_numbers(chain_pages, &self.chain_pages)
     }
 }
 
-/// A page has 4,096 bytes.
-fn read_page<A: Allocator>(page: &(PageNo, Page<A>))
-    ensures { length page.now.1 ≡ 4096 }
+/// Whether a page has 4,096 bytes. Each has, by its type.
+fn is_whole<A: Allocator>(page: &(PageNo, Page<A>)) -> bool
+    ensures always { result ≡ true }
+    ensures whole { length page.now.1 ≡ 4096 }
 {
-    prove!(page.1.bytes().len() == PAGE_BYTES);
+    page.1.bytes().len() == PAGE_BYTES
 }
 
-/// Reads each page.
-pub(crate) fn read_pages<A: Allocator>(pages: &[(PageNo, Page<A>)])
-    ensures { ArePages pages.now }
+/// Whether each page has 4,096 bytes. This is for a `prove!` to say: each has, by its type.
+pub(crate) fn are_whole<A: Allocator>(pages: &[(PageNo, Page<A>)]) -> bool
+    ensures always { result ≡ true }
+    ensures whole { ArePages pages.now }
 {
     for page in pages {
-        read_page(page);
+        if !is_whole(page) {
+            return false;
+        }
     }
+    true
 }
 
-impl<A: Allocator> Parts<A> {
+impl<A: Allocator> HostTables<A> {
     /// Whether a command has a record, and that is the one of a moved value with these pages for its data and for its chain.
     pub(crate) fn has_record(
         &self,
         ended: bool,
         command: (u16, u16),
         request: &Request<A>,
-        front: &[(PageNo, Page<A>)],
-        back: &[(PageNo, Page<A>)],
+        data_pages: &[(PageNo, Page<A>)],
+        chain_pages: &[(PageNo, Page<A>)],
     ) -> bool
-        ensures { result ≡ spec_has_record (records_of self.now.records.rows) ended command.0 command.1 request.now (numbers_of front.now) (numbers_of back.now) }
+        ensures { result ≡ spec_has_record (records_of self.now.records.rows) ended command.0 command.1 request.now (numbers_of data_pages.now) (numbers_of chain_pages.now) }
     {
         match self.records.get(command.0, command.1) {
-            Some(entry) => entry.belongs(ended, request, front, back),
+            Some(entry) => entry.belongs(ended, request, data_pages, chain_pages),
             None => false,
         }
     }
@@ -154,10 +159,10 @@ impl<A: Allocator> Parts<A> {
         ensures told { result ≡ has_drafted (records_of self.now.records.rows) draft.now }
         ensures proper { IsProperDraft draft.now }
     {
-        read_pages(draft.pages());
+        prove!(are_whole(draft.pages()));
         let request = draft.request();
-        let (front, back) = draft.pages().split_at(request.pieces.data_pages());
+        let (data_pages, chain_pages) = draft.pages().split_at(request.pieces.data_pages());
         let command = (draft.q(), draft.cid());
-        self.has_record(false, command, request, front, back)
+        self.has_record(false, command, request, data_pages, chain_pages)
     }
 }

@@ -20,7 +20,7 @@ ghost use Rattle.host_core.specs.Touching.{HostTouches, TouchesBy};
 
 use crate::host::Host;
 use crate::moving::zero_run;
-use crate::parts::Parts;
+use crate::tables::HostTables;
 use crate::queue::Queue;
 use crate::queues::{host_state, next_identifier};
 use admin_commands::{AdminKind, entry};
@@ -37,7 +37,7 @@ struct Creation {
     first: PageNo,
 }
 
-impl<A: Allocator> Parts<A> {
+impl<A: Allocator> HostTables<A> {
     /// Whether a command of a queue is outstanding under an identifier.
     fn has_command(&self, q: u16, cid: u16) -> bool
         ensures { result ≡ is_some (find (is_at q cid) (records_of self.now.records.rows)) }
@@ -167,7 +167,7 @@ fn command(half: Half, q: u16, entries: u16, first: PageNo) -> AdminKind
     }
 }
 
-impl<A: Allocator + Copy> Parts<A> {
+impl<A: Allocator + Copy> HostTables<A> {
     /// Grants a queue a half, whose pages are made zero.
     fn grant_half(&mut self, store: &mut Store<A>, q: u16, half: Half, first: PageNo)
         requires whole { IsWhole (tables_of self.old store.old.pages) }
@@ -177,10 +177,9 @@ impl<A: Allocator + Copy> Parts<A> {
         ensures touches { TouchesBy (pages_of_half self.old.entries half) store.old store.new }
     {
         let need = half_pages(self.entries, half);
-        match self.ledger.grant_run(Owner::Queue { q, half }, need) {
-            Some(_) => {}
-            None => unreachable!(),
-        }
+        self.ledger
+            .grant_run(Owner::Queue { q, half }, need)
+            .unwrap();
         zero_run(store, first, need);
         make(&mut self.queues[usize::from(q)], half, first);
     }

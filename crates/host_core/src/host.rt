@@ -1,13 +1,13 @@
 //! The host: each event but a reset is one step of the machine with no controller.
 
-use crate::parts::Parts;
+use crate::tables::HostTables;
 use std::alloc::{Allocator, Global};
 use std::marker::Model;
 
 /// A host. Contracts see it as the machine's host, with the entries of its rings and the descriptors of a full segment.
 #[derive(Drop)]
 pub struct Host<A: Allocator = Global> {
-    pub(crate) parts: Parts<A>,
+    pub(crate) parts: HostTables<A>,
 }
 
 impl<A: Allocator> Model for Host<A> {

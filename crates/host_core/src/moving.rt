@@ -19,9 +19,7 @@ fn take_zeroed<A: Allocator>(store: &mut Store<A>, number: PageNo) -> Page<A>
     ensures out { store.new.pages ≡ slice_set store.old.pages number None }
     ensures touches { TouchesBy 1 store.old store.new }
 {
-    let Some(mut page) = store.take(number) else {
-        unreachable!();
-    };
+    let mut page = store.take(number).unwrap();
     page.clear();
     page
 }
@@ -77,10 +75,7 @@ fn take_page<A: Allocator>(store: &mut Store<A>, number: PageNo) -> Page<A>
     ensures out { store.new.pages ≡ slice_set store.old.pages number None }
     ensures touches { TouchesBy 1 store.old store.new }
 {
-    let Some(page) = store.take(number) else {
-        unreachable!();
-    };
-    page
+    store.take(number).unwrap()
 }
 
 /// Moves pages out with their bytes, to the end of a list that has room for them.

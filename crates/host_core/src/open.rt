@@ -13,7 +13,7 @@ ghost use Rattle.host_core.specs.Touching.{IsUntouched};
 
 use crate::config::Config;
 use crate::host::Host;
-use crate::parts::Parts;
+use crate::tables::HostTables;
 use crate::queue::Queue;
 use crate::record::Record;
 use machine_model::words::{HostState, OpenRefusal};
@@ -54,7 +54,7 @@ impl<A: Allocator + Copy> Host<A> {
         match open_tables(alloc, config) {
             Ok((store, ledger, records, queues)) => Ok(Opened {
                 host: Host {
-                    parts: Parts {
+                    parts: HostTables {
                         alloc,
                         entries: config.entries as u16,
                         segment: config.segment as u16,
@@ -224,8 +224,5 @@ fn grant_half<A: Allocator>(ledger: &mut Ledger<A>, owner: Owner, pages: u32) ->
     ensures first { lowest_run pages ledger.old ≡ Some result }
     ensures granted { ledger.new ≡ with_owner ledger.old (pages_from result pages) owner }
 {
-    match ledger.grant_run(owner, pages) {
-        Some(first) => first,
-        None => unreachable!(),
-    }
+    ledger.grant_run(owner, pages).unwrap()
 }

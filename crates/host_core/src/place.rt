@@ -108,10 +108,7 @@ fn place<A: Allocator>(ledger: &mut Ledger<A>, owner: Owner, count: u32, into: &
                 into.push_reserved(PageNo(first.0 + i));
             }
         }
-        None => match ledger.grant(owner, count, into) {
-            Ok(()) => {}
-            Err(_) => unreachable!(),
-        },
+        None => ledger.grant(owner, count, into).unwrap(),
     }
 }
 

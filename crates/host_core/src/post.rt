@@ -10,7 +10,7 @@ ghost use Rattle.host_core.specs.Whole.{AreQueues};
 ghost use Rattle.page_memory.specs.Pages.{Pages};
 ghost use Rattle.host_core.specs.Touching.{TouchesBy};
 
-use crate::parts::Parts;
+use crate::tables::HostTables;
 use entry_codec::SubEntry;
 use page_memory::{Store, TouchRecord};
 use queue_pair::HostPair;
@@ -27,7 +27,7 @@ fn is_full<A: Allocator>(pair: &HostPair<A>, entries: u16) -> bool
     pair.head_fits(next)
 }
 
-impl<A: Allocator> Parts<A> {
+impl<A: Allocator> HostTables<A> {
     /// Whether the submission ring of a queue is full.
     pub(crate) fn is_queue_full(&self, q: u16) -> bool
         requires queues { AreQueues self.now.entries self.now.queues.items }
@@ -45,10 +45,7 @@ impl<A: Allocator> Parts<A> {
         ensures touches { TouchesBy 1 store.old store.new }
     {
         store.clear();
-        match self.queues[usize::from(q)].host.post(store, entry) {
-            Ok(_) => {}
-            Err(_) => unreachable!(),
-        }
+        self.queues[usize::from(q)].host.post(store, entry).unwrap();
         prove!(store.pages() <= 65_536);
     }
 }

@@ -129,10 +129,7 @@ fn claim_next<A: Allocator>(queue: &mut Queue<HostPair<A>>, cid: u16)
     requires { position not queue.old.host.claimed ≡ Some cid }
     ensures { queue.new ≡ with_claim cid queue.old }
 {
-    match queue.host.claim() {
-        Some(_) => {}
-        None => unreachable!(),
-    }
+    queue.host.claim().unwrap();
 }
 
 /// Claims the next identifier of a queue.

@@ -17,9 +17,9 @@ ghost use Rattle.host_core.specs.Tables.{state_of};
 ghost use Rattle.host_core.specs.Whole.{IsHost, IsWhole};
 ghost use Rattle.host_core.specs.Touching.{HostTouches};
 
-use crate::finish::unclaim;
+use crate::release::unclaim;
 use crate::host::Host;
-use crate::parts::Parts;
+use crate::tables::HostTables;
 use crate::queue::Queue;
 use crate::queues::{has_cq_alone, has_no_completion, host_state, note};
 use admin_commands::AdminKind;
@@ -51,10 +51,7 @@ fn hear_answer<A: Allocator>(queue: &mut Queue<HostPair<A>>, sqhd: u16)
     ensures { queue.new ≡ with_answer_heard sqhd queue.old }
 {
     queue.host.advance();
-    match queue.host.accept_head(sqhd) {
-        Ok(()) => {}
-        Err(_) => unreachable!(),
-    }
+    queue.host.accept_head(sqhd).unwrap();
 }
 
 /// Whether a status is Successful Completion.
@@ -75,7 +72,7 @@ fn deleted(status: Status) -> HostState
     }
 }
 
-impl<A: Allocator> Parts<A> {
+impl<A: Allocator> HostTables<A> {
     /// The command of queue 0 that a completion is for, if it is one; an error tells why it is for no command at all.
     fn find_answered(&self, q: u16, entry: ComEntry) -> Result<Option<AdminKind>, RejectedFor>
         requires there { lacks_completion (slice_get self.now.queues.items q) ≡ false }

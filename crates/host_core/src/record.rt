@@ -31,9 +31,9 @@ pub struct Record<A: Allocator = Global> {
 }
 
 impl<A: Allocator> Model for Record<A> {
-    ghost use Rattle.host_core.specs.Rows.{Kept};
+    ghost use Rattle.host_core.specs.Rows.{RecordRow};
 
-    ghost Value = { Kept };
+    ghost Value = { RecordRow };
 
     ghost view = { λ r. record { phase = r.phase; work = r.work; data_pages = r.data_pages.items; chain_pages = r.chain_pages.items; status = r.status } };
 }

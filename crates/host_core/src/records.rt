@@ -2,19 +2,19 @@
 
 ghost use Rattle.std.specs.Prelude.{◌≡◌, ◌++◌, ◌∷◌, [], None, false, find};
 ghost use Rattle.std.specs.Option.{option_map_or};
-ghost use Rattle.machine_model.specs.After.{collected, held, lost, submitted};
+ghost use Rattle.machine_model.specs.After.{held, lost, submitted};
 ghost use Rattle.machine_model.specs.Refusals.{is_submitted};
 ghost use Rattle.machine_model.specs.State.{is_at, with_record, without_record};
 ghost use Rattle.slot_table.specs.Table.{IsPlace};
 ghost use Rattle.slot_table.specs.Rows.{value_at};
 ghost use Rattle.host_core.specs.Parts.{record_of, records_of, Becomes};
 
-use crate::parts::Parts;
+use crate::tables::HostTables;
 use crate::record::Record;
 use entry_codec::Status;
 use std::alloc::Allocator;
 
-impl<A: Allocator> Parts<A> {
+impl<A: Allocator> HostTables<A> {
     /// Whether a command waits for its completion.
     pub(crate) fn has_submitted(&self, q: u16, cid: u16) -> bool
         ensures { result ≡ option_map_or (λ r. is_submitted r.phase) (find (is_at q cid) (records_of self.now.records.rows)) false }
@@ -47,16 +47,6 @@ impl<A: Allocator> Parts<A> {
     {
         match self.records.get_mut(q, cid) {
             Some(entry) => entry.submit(),
-            None => {}
-        }
-    }
-
-    /// Marks a command collected.
-    pub(crate) fn mark_collected(&mut self, q: u16, cid: u16)
-        ensures { Becomes self.old (λ t. record t { records = with_record q cid collected t.records }) self.new }
-    {
-        match self.records.get_mut(q, cid) {
-            Some(entry) => entry.collect(),
             None => {}
         }
     }

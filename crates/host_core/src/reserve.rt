@@ -13,7 +13,7 @@ ghost use Rattle.host_core.specs.Touching.{HostTouches, TouchesBy};
 
 use crate::host::Host;
 use crate::moving::move_out_zeroed;
-use crate::parts::Parts;
+use crate::tables::HostTables;
 use crate::place::{Grant, pages_wanted, place_command};
 use crate::queues::{claim, host_state, is_deleting, next_identifier, takes_no_io};
 use crate::record::Record;
@@ -56,7 +56,7 @@ fn make_room<A: Allocator + Copy>(
     })
 }
 
-impl<A: Allocator + Copy> Parts<A> {
+impl<A: Allocator + Copy> HostTables<A> {
     /// What a request gets, or the first cause against it.
     pub(crate) fn check_reserve(&self, q: u16, request: &Request<A>) -> Result<Grant, Refusal>
         requires { IsHost (tables_of self.now []) }

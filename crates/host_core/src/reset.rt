@@ -16,7 +16,7 @@ ghost use Rattle.host_core.specs.Touching.{HostTouches, TouchesBy};
 
 use crate::host::Host;
 use crate::moving::zero_run;
-use crate::parts::Parts;
+use crate::tables::HostTables;
 use crate::queue::Queue;
 use machine_model::words::HostState;
 use page_memory::{Half, Store};
@@ -56,7 +56,7 @@ fn lose<A: Allocator>(queue: &mut Queue<HostPair<A>>)
     queue.state = HostState::Gone;
 }
 
-impl<A: Allocator> Parts<A> {
+impl<A: Allocator> HostTables<A> {
     /// Makes the pages of queue 0 zero, and leaves the queue as it opened.
     fn renew_admin(&mut self, store: &mut Store<A>)
         requires { IsWhole (tables_of self.old store.old.pages) }

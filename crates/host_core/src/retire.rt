@@ -13,7 +13,7 @@ ghost use Rattle.host_core.specs.Whole.{IsHost, IsWhole};
 ghost use Rattle.host_core.specs.Touching.{HostTouches, TouchesBy};
 
 use crate::host::Host;
-use crate::parts::Parts;
+use crate::tables::HostTables;
 use crate::queues::{host_state, is_deleted, note};
 use entry_codec::ComEntry;
 use machine_model::words::{HostState, Refusal};
@@ -21,7 +21,7 @@ use page_memory::{Half, Store, TouchRecord};
 use queue_pair::half_pages;
 use std::alloc::Allocator;
 
-impl<A: Allocator> Parts<A> {
+impl<A: Allocator> HostTables<A> {
     /// The completion at the head of a queue, where it is new. No page changes.
     pub(crate) fn see(&self, store: &mut Store<A>, q: u16) -> Option<ComEntry>
         requires whole { IsWhole (tables_of self.now store.old.pages) }

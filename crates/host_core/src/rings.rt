@@ -7,11 +7,11 @@ ghost use Rattle.queue_pair.specs.Positions.{host_positions};
 ghost use Rattle.host_core.specs.Rows.{rows_on};
 
 use crate::host::Host;
-use crate::parts::Parts;
+use crate::tables::HostTables;
 use queue_pair::HostPositions;
 use std::alloc::Allocator;
 
-impl<A: Allocator> Parts<A> {
+impl<A: Allocator> HostTables<A> {
     /// How many records stand in the places of a queue.
     fn count_records(&self, q: u16) -> usize
         ensures { result ≡ rows_on q self.now.records.rows }

@@ -22,7 +22,7 @@ ghost use Rattle.host_core.specs.Whole.{IsHost, IsWhole};
 ghost use Rattle.host_core.specs.Touching.{HostTouches, TouchesBy};
 
 use crate::host::Host;
-use crate::parts::Parts;
+use crate::tables::HostTables;
 use crate::queues::{
     claim, has_cq_alone, host_state, is_changing, is_deleting, next_identifier, note, takes_no_io,
 };
@@ -45,7 +45,7 @@ fn lacks_queue(q: u16, state: Option<HostState>) -> bool
     }
 }
 
-impl<A: Allocator> Parts<A> {
+impl<A: Allocator> HostTables<A> {
     /// Whether a command of queue 0 deletes the completion side of a queue.
     fn is_deletion(&self, cid: u16, q: u16) -> bool
         ensures { result ≡ option_map_or (λ r. deletes_cq_of q r.work) (find (is_at 0 cid) (records_of self.now.records.rows)) false }
@@ -70,7 +70,7 @@ impl<A: Allocator> Parts<A> {
     }
 }
 
-impl<A: Allocator + Copy> Parts<A> {
+impl<A: Allocator + Copy> HostTables<A> {
     /// Whether something of the named queue or command is against an Abort.
     fn check_abort(&self, q: u16, cid: u16) -> Result<(), Refusal>
         ensures free { OnOk result ((pages : Pages) → first_passing (named_causes (state_of (tables_of self.now pages)) (kinds.Abort q cid)) ≡ None) }
@@ -139,7 +139,7 @@ impl<A: Allocator + Copy> Parts<A> {
     }
 }
 
-impl<A: Allocator + Copy> Parts<A> {
+impl<A: Allocator + Copy> HostTables<A> {
     /// The identifier of queue 0 that a command gets for which no half is granted, or the first cause against it.
     fn check_send(&self, kind: AdminKind) -> Result<u16, Refusal>
         requires host { IsHost (tables_of self.now []) }

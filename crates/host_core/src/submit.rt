@@ -14,7 +14,7 @@ ghost use Rattle.host_core.specs.Touching.{HostTouches, TouchesBy};
 
 use crate::host::Host;
 use crate::moving::move_in;
-use crate::parts::Parts;
+use crate::tables::HostTables;
 use crate::queues::is_live;
 use crate::refused::Refused;
 use entry_codec::SubEntry;
@@ -23,7 +23,7 @@ use machine_model::words::Refusal;
 use page_memory::Store;
 use std::alloc::Allocator;
 
-impl<A: Allocator> Parts<A> {
+impl<A: Allocator> HostTables<A> {
     /// A draft's entry, where nothing is against its submission.
     fn check_submit(&self, draft: &Draft<A>) -> Result<SubEntry, Refusal>
         requires { IsHost (tables_of self.now []) }

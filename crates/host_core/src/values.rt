@@ -115,10 +115,7 @@ pub fn put_back<A: Allocator>(
     requires { value_at values.old.rows q cid ≡ Some None }
     ensures { values.new ≡ record values.old { rows = with_value values.old.rows q cid (Some value) } }
 {
-    match values.get_mut(q, cid) {
-        Some(row) => *row = Some(value),
-        None => unreachable!(),
-    }
+    *values.get_mut(q, cid).unwrap() = Some(value);
 }
 
 /// Drops a row.

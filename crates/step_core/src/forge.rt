@@ -31,10 +31,9 @@ impl<A: Allocator + Copy> World<A> {
             return Err(Refusal::NoSlot);
         }
         self.store.clear();
-        match self.store.write(base + 16 * u64::from(slot), &bytes) {
-            Ok(()) => {}
-            Err(_) => unreachable!(),
-        }
+        self.store
+            .write(base + 16 * u64::from(slot), &bytes)
+            .unwrap();
         prove!(self.store.pages() <= 65_536);
         self.trusted = false;
         Ok(())

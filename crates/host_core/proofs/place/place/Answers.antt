@@ -1,6 +1,6 @@
 use Rattle.std.proofs.Common.{◌≡◌, ◌+◌, ◌<◌, ◌≤◌, ◌∙◌, ◌++◌, ◌∷◌, [], ℕ, List, arith, ap, sym, refl, length, take}
 use Rattle.page_ledger.{proofs.Pages.{lowest_run-within, pages_from-more}, specs.Owners.{free_pages, pages_from}}
-use Rattle.host_core.proofs.Making.{placed-run, placed-lowest}
+use Rattle.host_core.proofs.{Making.{placed-run, placed-lowest}, Unwrapped.ok-from}
 use Rattle.host_core.proofs.place.place.Goals as goal
 
 pub loop-i-init : goal.loop-i-init
@@ -32,11 +32,15 @@ returns-in-Some-clause-pages g c =
     ∙ ap (λ (p : ℕ). pages_from p c.args.count) c.first.view_is
     ∙ sym (placed-run c.args.ledger.now c.args.count c.in-Some.first some c.in-Some.ensures.lowest)
 
-pub returns-in-Ok-clause-pages : goal.returns-in-Ok-clause-pages
-returns-in-Ok-clause-pages g c =
+pub unwrap-requires : goal.unwrap-requires
+unwrap-requires g c =
+    ok-from c.grant.result c.grant.ensures.too_few (λ few. omega (arith, few, ap length (ap free_pages c.in-None.ensures.unchanged), c.requires.enough))
+
+pub returns-in-None-clause-pages : goal.returns-in-None-clause-pages
+returns-in-None-clause-pages g c =
     let some : 0 < c.args.count = omega (arith, c.if-count-eq0.false) in
     let same : free_pages c.grant_run.new.self ≡ free_pages c.args.ledger.now = ap free_pages c.in-None.ensures.unchanged in
-    c.in-Ok.ensures.granted
+    (rw c.unwrap.ensures at c.grant.ensures.granted)
     ∙ ap (λ (ps : List ℕ). ps ++ take c.args.count (free_pages c.grant_run.new.self)) c.requires.room.0
     ∙ ap (take c.args.count) same
     ∙ sym (placed-lowest c.args.ledger.now c.args.count some c.in-None.ensures.lowest)

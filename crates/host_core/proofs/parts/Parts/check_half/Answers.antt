@@ -1,7 +1,0 @@
-use Rattle.host_core.proofs.parts.Parts.check_half.Goals as goal
-
-pub returns-in-Completion : goal.returns-in-Completion
-returns-in-Completion g c = rw c.in-Completion.is (record { free = c.check_create_cq.ensures.free; refused = c.check_create_cq.ensures.refused })
-
-pub returns-in-Submission : goal.returns-in-Submission
-returns-in-Submission g c = rw c.in-Submission.is (record { free = c.check_create_sq.ensures.free; refused = c.check_create_sq.ensures.refused })

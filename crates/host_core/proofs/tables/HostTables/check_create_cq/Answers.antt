@@ -1,0 +1,15 @@
+use Rattle.std.proofs.{Common.{List, Some, ap, sym, ◌∙◌}, lemmas.Bool.ne_eqb}
+use Rattle.host_core.{proofs.Making.{create_cq-busy, create_cq-free}, specs.{Commands.state_at, Parts.tables_of, Rows.Queue}}
+use Rattle.host_core.proofs.tables.HostTables.check_create_cq.Goals as goal
+
+pub returns-then-has_commands-clause-refused : goal.returns-then-has_commands-clause-refused
+returns-then-has_commands-clause-refused g c = λ pages.
+    create_cq-busy (tables_of c.args.self.now pages) c.args.q (ne_eqb c.args.q 0 c.if-q-eq0.false)
+    (sym (c.host_state.ensures ∙ ap (λ (qs : List Queue). state_at qs c.args.q) c.deref.ensures.value) ∙ (c.in-Some-Gone.is ∙ ap Some c.in-Some-Gone.field-0-is))
+    (sym c.has_commands.ensures ∙ c.if-has_commands.true)
+
+pub returns-clause-free : goal.returns-clause-free
+returns-clause-free g c = λ pages.
+    create_cq-free (tables_of c.args.self.now pages) c.args.q (ne_eqb c.args.q 0 c.if-q-eq0.false)
+    (sym (c.host_state.ensures ∙ ap (λ (qs : List Queue). state_at qs c.args.q) c.deref.ensures.value) ∙ (c.in-Some-Gone.is ∙ ap Some c.in-Some-Gone.field-0-is))
+    (sym c.has_commands.ensures ∙ c.if-has_commands.false)

@@ -1,0 +1,63 @@
+use Rattle.std.proofs.{Common.{◌≡◌, ◌+◌, ◌++◌, length, arith, ap, sym, ◌∙◌, subst}, lemmas.List.length-append}
+use Rattle.io_commands.specs.Values.{FinishedContents}
+use Rattle.machine_model.specs.{After.collected, Memory.without_pages, State.{Record, with_record}}
+use Rattle.slot_table.specs.Rows.{with_value}
+use Rattle.host_core.proofs.{Ending.{held_can_take, held_work, collect_enough, collect_made, collected_tables, length-taken}, Lists.{none_is_not, some_is}}
+use Rattle.host_core.{proofs.{RowRecords.{changed-rows, found-row, no-row, with-row}, Told.both_parts}, specs.{Collecting.taken_pages, Commands.CanTake, Parts.{record_of, tables_of}}}
+use Rattle.host_core.specs.Tables.{Tables}
+use Rattle.host_core.proofs.tables.HostTables.commit_collect.Goals as goal
+
+pub take_pages-requires-clause-front : goal.take_pages-requires-clause-front
+take_pages-requires-clause-front g c =
+    let t : Tables = tables_of c.args.self.now c.args.store.now.pages in
+    let same : record_of c.args.q c.args.cid c.in-Some.entry.now ≡ c.requires.stands.entry = some_is (sym (found-row c.args.self.now.records.rows c.args.q c.args.cid c.in-Some.entry.now (sym c.in-Some.ensures.value)) ∙ c.requires.stands.was) in
+    subst (λ (x : Record). CanTake x.data_pages t.pages) (sym same) (held_can_take t c.args.q c.args.cid c.requires.whole c.requires.stands).0
+
+pub take_pages-requires-clause-back : goal.take_pages-requires-clause-back
+take_pages-requires-clause-back g c =
+    let t : Tables = tables_of c.args.self.now c.args.store.now.pages in
+    let same : record_of c.args.q c.args.cid c.in-Some.entry.now ≡ c.requires.stands.entry = some_is (sym (found-row c.args.self.now.records.rows c.args.q c.args.cid c.in-Some.entry.now (sym c.in-Some.ensures.value)) ∙ c.requires.stands.was) in
+    subst (λ (x : Record). CanTake x.chain_pages (without_pages x.data_pages t.pages)) (sym same) (held_can_take t c.args.q c.args.cid c.requires.whole c.requires.stands).1
+
+pub make-requires-clause-good : goal.make-requires-clause-good
+make-requires-clause-good g c =
+    (held_work (tables_of c.args.self.now c.args.store.now.pages) c.args.q c.args.cid c.args.room.request c.requires.whole c.requires.stands (c.requires.tells c.requires.stands.entry c.requires.stands.was).0).0
+
+pub make-requires-clause-enough : goal.make-requires-clause-enough
+make-requires-clause-enough g c =
+    let t : Tables = tables_of c.args.self.now c.args.store.now.pages in
+    let same : record_of c.args.q c.args.cid c.in-Some.entry.now ≡ c.requires.stands.entry = some_is (sym (found-row c.args.self.now.records.rows c.args.q c.args.cid c.in-Some.entry.now (sym c.in-Some.ensures.value)) ∙ c.requires.stands.was) in
+    collect_enough t c.args.q c.args.cid c.args.room.request c.take_pages.new.into.items c.requires.whole c.requires.stands (c.requires.tells c.requires.stands.entry c.requires.stands.was).0
+    (c.take_pages.ensures.items ∙ ap (λ (x : Record). taken_pages x.data_pages t.pages ++ taken_pages x.chain_pages (without_pages x.data_pages t.pages)) same)
+
+pub take_pages-requires-clause-room : goal.take_pages-requires-clause-room
+take_pages-requires-clause-room g c =
+    let room = c.requires.space (record_of c.args.q c.args.cid c.in-Some.entry.now) (found-row c.args.self.now.records.rows c.args.q c.args.cid c.in-Some.entry.now (sym c.in-Some.ensures.value)) in
+    (c.requires.empty.0, c.requires.empty.1, room)
+
+pub unreachable-requires : goal.unreachable-requires
+unreachable-requires g c = none_is_not (sym (no-row c.args.self.now.records.rows c.args.q c.args.cid (sym c.in-None.ensures.value)) ∙ c.requires.stands.was)
+
+pub returns : goal.returns
+returns g c =
+    let t : Tables = tables_of c.args.self.now c.args.store.now.pages in
+    let told = c.requires.tells c.requires.stands.entry c.requires.stands.was in
+    let same : record_of c.args.q c.args.cid c.in-Some.entry.now ≡ c.requires.stands.entry = some_is (sym (found-row c.args.self.now.records.rows c.args.q c.args.cid c.in-Some.entry.now (sym c.in-Some.ensures.value)) ∙ c.requires.stands.was) in
+    let items = c.take_pages.ensures.items ∙ ap (λ (x : Record). taken_pages x.data_pages t.pages ++ taken_pages x.chain_pages (without_pages x.data_pages t.pages)) same in
+    let pages = c.take_pages.ensures.pages ∙ ap (λ (x : Record). without_pages x.chain_pages (without_pages x.data_pages t.pages)) same in
+    let rows = c.args.self.now.records.rows in
+    let marked = with_value rows c.args.q c.args.cid c.collect.new.self in
+    let new : Tables = tables_of (record c.args.self.now { records = record c.args.self.now.records { rows = marked } }) c.take_pages.new.store.pages in
+    let kept = with-row rows c.args.q c.args.cid collected c.in-Some.entry.now c.collect.new.self c.in-Some.ensures.distinct (sym c.in-Some.ensures.value) (c.collect.ensures c.args.q c.args.cid) in
+    let left = changed-rows c.args.self.now marked (with_record c.args.q c.args.cid collected) kept c.take_pages.new.store.pages ∙ collected_tables t c.args.q c.args.cid c.take_pages.new.store.pages c.requires.stands pages in
+    let made = collect_made t new c.args.q c.args.cid c.args.room.request c.args.room.status c.take_pages.new.into.items c.make.result c.requires.whole c.requires.stands told.0 told.1 items c.make.ensures left in
+    let front = c.in-Some.entry.now.data_pages in
+    let back = c.in-Some.entry.now.chain_pages in
+    let behind = without_pages front t.pages in
+    let many = ap length c.take_pages.ensures.items ∙ length-append (taken_pages front t.pages) (taken_pages back behind) in
+    let parts = ap (λ (f : FinishedContents). length f.data_pages + length f.chain_pages) c.make.ensures ∙ both_parts c.args.room.request c.take_pages.new.into.items in
+    record {
+      step = made.step;
+      whole = made.whole;
+      touches = omega (arith, c.take_pages.ensures.touches, many, length-taken front t.pages, length-taken back behind, parts);
+    }
