@@ -8,7 +8,7 @@ use Rattle.machine_model.specs.declared.words.Refusal.TheVariants as refusal
 use Rattle.std.proofs.Common.{◌≡◌, ℕ, Bool, true, false, true≢false, not, IsTrue, None, List, [], ◌∷◌, ◌++◌, map, if◌then◌else◌, refl, sym, ap, ◌∙◌, subst, ◌+◌, ◌≤◌, ◌<◌, length, drop, get_or, Option, Some, arith, length-append, ◌⊎◌, inl, inr, ◌-◌, ◌||◌, cond, Result, Ok, Err, is_ok, is_err, OnOk, OnErr, IfOk, IfErr}
 use Rattle.std.proofs.lemmas.{List.{take-append-le, map-append, take_all, drop_at, append-nil, Sums.sum_by_push}, Option.{slice_get-map, slice_get_read}}
 use Rattle.std.{proofs.lemmas.Slice.between_is, specs.{Bool.OnTrue, List.list_any, Option.option_map, Prelude.{slice_get, is_some, MatchBool}}}
-use Rattle.machine_model.{proofs.{Counting.all_at, Headline.steps_keep}, specs.{Claims.IsSound, Events.Event, Image.Made, Refusals.refusal_of, State.State}}
+use Rattle.machine_model.{proofs.Headline.steps_keep, specs.{Claims.IsSound, Events.Event, Image.Made, Refusals.refusal_of, State.State}}
 use Rattle.machine_model.specs.{Trusted.{Steps, TrustedRun}, declared.words.Refusal.Refusal}
 use Rattle.two_sides.proofs.{Agreed.{opens_in_order, order_kept, agreed_stays}, Along.trusted_end, PoolBytes.ends_unforged as trusted_unforged}
 use Rattle.two_sides.specs.InOrder.{IsInOrder}
@@ -25,6 +25,8 @@ use Rattle.block_image.specs.Blocks.{IsImage}
 use Rattle.io_commands.{proofs.Building.joined_parts_few, specs.{Asked.Request, Drafts.DraftContents, Requests.{data_count, joined_parts}}}
 use Rattle.io_commands.specs.{Values.{TicketContents, numbers_of}, declared.request.Piece.Piece}
 use Rattle.sgl_chain.proofs.Spelled.{needed_few}
+use Rattle.page_memory.proofs.Lists.{all-at}
+use Rattle.two_sides.proofs.PoolBytes.{ends_unforged}
 
 -- Logs, and the runs that they tell of.
 
@@ -155,10 +157,6 @@ forged_since old new (e ∷ log) (next, tells, rest) =
     go true c here all since = since
     go false true here all since = all
     go false false here all since = rw (here, all) refl
-
-pub trusted_logs : trusted_ends_are_unforged
-trusted_logs old log world leads trusted =
-    rw (forged_since old world log leads) (trusted_unforged (made_by old world log leads) old world (steps_by old world log leads) trusted)
 
 -- What is kept stands for the same where the lists get longer, and so a log grows by an entry.
 

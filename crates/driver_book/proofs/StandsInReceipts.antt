@@ -16,6 +16,7 @@ use Rattle.driver_book.specs.{Seats.{AreSettled, is_without_status}, State.{Seat
 use Rattle.driver_book.specs.declared.report.Receipt.{Receipt}
 use Rattle.two_sides.proofs.Provided.{all_at}
 use Rattle.step_core.specs.Values.{Reply, Step}
+use Rattle.host_core.proofs.Granting.{all-used}
 
 -- A seat, as a submission is accepted and as its command is released.
 
@@ -386,13 +387,6 @@ times_without n k xs less = go (k == n) refl
     go true e = let same : k ≡ n = eqb-true k n e in absurd (omega arith)
     go false e = let w : times k (filter (λ x. not (x == n)) xs) ≡ times k xs = rw e at (times-filter k (λ x. not (x == n)) xs) in w
 
--- numbers among which is each number below a bound are at least as many
-pub as_many : (n : ℕ) (xs : List ℕ) → ((k : ℕ) → k < n → 0 < times k xs) → n ≤ length xs
-as_many zero xs each = omega arith
-as_many (suc n) xs each =
-    let fewer : n ≤ length (filter (λ x. not (x == n)) xs) = as_many n (filter (λ x. not (x == n)) xs) (λ k less. omega (arith, times_without n k xs less, each k (omega arith))) in
-    omega (arith, length_without n xs, each n (omega arith))
-
 -- Each number below a count is the count before some place that counts
 
 abbrev pub PlaceOf : {X : Type 0} → (X → Bool) → List X → ℕ → Type 0
@@ -478,7 +472,7 @@ each_number log seats stand k less =
 
 -- so there are at least as many receipts
 pub enough_receipts : (log : List Entry) (seats : List SeatContents) → AllStand log seats → accepted log ≤ receipts_of seats
-enough_receipts log seats stand = omega (arith, as_many (accepted log) (all_numbers seats) (each_number log seats stand), length_all_numbers seats)
+enough_receipts log seats stand = omega (arith, all-used (accepted log) (all_numbers seats) (each_number log seats stand), length_all_numbers seats)
 
 -- A book that is closed.
 

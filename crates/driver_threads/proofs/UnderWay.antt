@@ -11,10 +11,11 @@ use Rattle.entry_codec.specs.declared.status.Status.{Status}
 use Rattle.io_commands.specs.{Asked.Request, Values.{FinishedContents, TicketContents}}
 use Rattle.machine_model.specs.{State.{State, Record, is_at}, Step.{finished_from, asked_by, pages_with_bytes}}
 use Rattle.step_core.specs.{Opening.opening_of, Replies.collect_reply}
-use Rattle.host_core.{proofs.Lists.found_is, specs.{Opening.refusal_of_config, declared.{config.Config.Config, refused.Refused.Refused}}}
+use Rattle.host_core.specs.{Opening.refusal_of_config, declared.{config.Config.Config, refused.Refused.Refused}}
 use Rattle.driver_threads.specs.{Behind.{added, behind}, Ends.{ends_of, statuses_of, status_of, Agree, AwaitEach, Awaits, EndsWith, IsUnderWay}, Runs.RanFrom}
 use Rattle.driver_threads.specs.{Values.JobEnd, declared.jobs.{JobEnd.TheVariants.{Done, Refused as JobEndRefused}, JobRefusal.JobRefusal}}
 use Rattle.block_image.specs.Blocks.{IsImage}
+use Rattle.page_memory.proofs.Lists.{found_is}
 
 -- A finished command is that of the ticket with which it was collected.
 

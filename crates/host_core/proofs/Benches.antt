@@ -15,12 +15,14 @@ use Rattle.host_core.specs.CommandValues.{with_first, IsBench, table_with, as_dr
 use Rattle.host_core.specs.{Kept.{FillsDraft, BuildsDraft, opened_alone}, Opening.{opened_pages, opened_view}, Pool.Keeps, Resetting.{host_reset, pages_reset}, Values.Reply}
 use Rattle.host_core.specs.declared.{config.Config.Config, values.CommandValue.CommandValue}
 use Rattle.machine_model.specs.{After.after_reset, Image.{draft_of, is_draft}, Memory.is_in, Script.{Table, finished_at, is_ticket, filled_draft, is_finished}}
-use Rattle.machine_model.{specs.{State.State, Step.Step, declared.words.Refusal.Refusal}, proofs.Cases.option_is}
+use Rattle.machine_model.specs.{State.State, Step.Step, declared.words.Refusal.Refusal}
 use Rattle.page_memory.proofs.Bytes.{byte_in, missing_at, none_of, page_of_place, written_in, written_before, written_after, told}
 use Rattle.page_memory.specs.{Memory.{Memory, bytes_at, written}, Pages.{Pages, AreWhole, byte_at, page_at}}
 use Rattle.slot_table.specs.{Rows.{Row, value_at, with_value, without}, Table.{TableOf, IsPlace, with_row}}
 use Rattle.entry_codec.specs.declared.status.Status.{Status}
 use Rattle.io_commands.specs.{Asked.Request, Drafts.{DraftContents, built}, Values.{FinishedContents, TicketContents, gathered_from}}
+use Rattle.slot_table.proofs.Rows.{option_is}
+use Rattle.page_memory.proofs.Lists.{any_found}
 
 -- What a reset leaves of a host alone, and what is of the host and not of its pages.
 
@@ -49,14 +51,6 @@ module _ {A : Type 0} where
   opens_kept c v pages values host memory is = subst (λ (s : State). IsBench s values) (sym (ap₂ alone host memory)) (opens_tied (opened_alone c) c values (length-queues_from 0 c.entries (c.queues + 1)) refl is)
 
 -- What the small calls on kept values do is what a step of a bench does, and the bench stays tied to its world.
-
--- whether one passes is whether one is found
-any_found : {X : Type 0} (p : X → Bool) (xs : List X) (o : Option X) → find p xs ≡ o → list_any p xs ≡ elim o [ None ↦ false | Some x ↦ true ]
-any_found p [] o e = rw (← e) refl
-any_found p (x ∷ xs) o e = elim (cases_Bool (p x)) [
-  | inl f ↦ let is : Some x ≡ o = rw f at e in rw (f, ← is) refl
-  | inr f ↦ rw f (any_found p xs o (rw f at e))
-]
 
 abbrev table_of_parts : State → List DraftContents → List (ℕ × ℕ) → List FinishedContents → Table
 table_of_parts world drafts tickets finished = record { world = world; drafts = drafts; tickets = tickets; finished = finished }

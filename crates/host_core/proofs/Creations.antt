@@ -4,23 +4,27 @@ use Rattle.std.{proofs.lemmas.{Bool.{true≢false, or_parts}, Option.slice_get-m
 use Rattle.admin_commands.specs.{Entries.admin_entry, declared.AdminKind.{AdminKind, TheVariants.{CreateCq, CreateSq}}}
 use Rattle.controller_walk.specs.Units.{first_passing}
 use Rattle.entry_codec.specs.declared.submission.SubEntry.{SubEntry}
-use Rattle.machine_model.{specs.{After.change, Memory.zeroed_pages, Proper.IsProper, State.{HostQueue, Record, State, is_at}}, proofs.Cases.option_is}
+use Rattle.machine_model.specs.{After.change, Memory.zeroed_pages, Proper.IsProper, State.{HostQueue, Record, State, is_at}}
 use Rattle.machine_model.specs.Refusals.{in_state, is_gone, is_half_made, is_making, no_identifier, queue_full, refusal_of, run_for}
 use Rattle.machine_model.specs.{Step.{Answers, IsController, IsNewIdentifier, Refuses, Step, touched_by_refusal}, declared.words.HostState.HostState}
 use Rattle.machine_model.specs.declared.words.{HostState.TheVariants.{Gone, HalfMade}, Refusal.Refusal}
 use Rattle.page_ledger.specs.{Owners.pages_from, Runs.lowest_run}
 use Rattle.page_memory.specs.declared.page.Half.{Half, TheVariants.{Submission, Completion}}
 use Rattle.queue_pair.specs.Memory.{half_pages}
-use Rattle.host_core.proofs.{Granting.{in_state-is, next-fresh, next-left, none-left}, Lists.some_is, QueueLists.{Settled, host_step, Steps, steps}}
+use Rattle.host_core.proofs.{Granting.{in_state-is, next-fresh, next-left, none-left}, QueueLists.{Settled, host_step, Steps, steps}}
 use Rattle.host_core.proofs.Making.{any-count, IsBare, granted-state, half_in, run-within, settled-granted, some-pages, with-some, same-run}
 use Rattle.host_core.proofs.Sending.{Next, can-post-to, first-there, past, send-typed, HasHalfIn, half-in, sent-exact, sent_in, settled-sent}
-use Rattle.host_core.{proofs.{Submitted.full_is, Lists.change-here}, specs.{Commands.{ClaimsNext, with_claim}, Posting.{CanPostTo, Posts, posted}, Rows.Queue}}
+use Rattle.host_core.{proofs.Submitted.full_is, specs.{Commands.{ClaimsNext, with_claim}, Posting.{CanPostTo, Posts, posted}, Rows.Queue}}
 use Rattle.host_core.specs.Sending.{CanCreate, Creates, HasSlot, creating, creation, granted, half_from, making, named_causes, noted, sent}
 use Rattle.host_core.specs.{Tables.{Tables, host_queue_of, state_of}, Whole.IsWhole}
 use Rattle.machine_model.specs.After as a
 use Rattle.machine_model.specs.Events as events
 use Rattle.machine_model.specs.declared.words.Refusal.TheVariants as refusal
 use Rattle.std.proofs.lemmas.Option.{slice_get_within}
+use Rattle.slot_table.proofs.Rows.{option_is}
+use Rattle.machine_model.proofs.Moves.{half_made_is}
+use Rattle.machine_model.proofs.Counting.{get_changed}
+use Rattle.page_memory.proofs.Lists.{some_is}
 
 -- What is against it
 
@@ -95,10 +99,6 @@ gone-is : (state : HostState) → is_gone state ≡ true → state ≡ Gone
 gone-is Gone e = refl
 gone-is state e = absurd (true≢false (sym e))
 
-half-made-is : (state : HostState) → is_half_made state ≡ true → state ≡ HalfMade
-half-made-is HalfMade e = refl
-half-made-is state e = absurd (true≢false (sym e))
-
 pub bare-of : (t : Tables) (half : Half) (q : ℕ) → IsWhole t → refusal_of (state_of t) (creating half q) ≡ None → IsBare t half q
 bare-of t Completion q w none =
     let is = in-it is_gone t q (grind (arith, none)) in
@@ -111,7 +111,7 @@ bare-of t Completion q w none =
     }
 bare-of t Submission q w none =
     let is = in-it is_half_made t q (grind (arith, none)) in
-    let state = half-made-is is.0.state is.2 in
+    let state = half_made_is is.0.state is.2 in
     let making : option_map_or (λ (queue : HostQueue). is_making queue.state) (slice_get (state_of t).host.queues q) false ≡ true =
     ap (λ (o : Option HostQueue). option_map_or (λ (queue : HostQueue). is_making queue.state) o false) (slice_get-map host_queue_of t.queues q ∙ ap (option_map host_queue_of) is.1) ∙ ap is_making state in
     record {
@@ -221,7 +221,7 @@ pub granted-noted-there : (t u v : Tables) (half : Half) (q cid first : ℕ) (ki
 granted-noted-there t u v half q cid first kind w can same is =
     let slot = granted-slot t half q cid first (bare-of t half q w can.none).other can.slot in
     subst (λ (y : Tables). 0 < length y.queues) (sym (is ∙ ap (noted kind cid) same))
-    (slice_get_within (noted kind cid (granted half q first t)).queues 0 (with_claim cid slot.queue) (change-here 0 (with_claim cid) (granted half q first t).queues slot.queue slot.at))
+    (slice_get_within (noted kind cid (granted half q first t)).queues 0 (with_claim cid slot.queue) (get_changed 0 (with_claim cid) (granted half q first t).queues slot.queue slot.at))
 
 pub granted-can-post : (t u v : Tables) (half : Half) (q cid first : ℕ) (kind : AdminKind) (entry : SubEntry) → IsWhole t → CanCreate t half q cid first → u ≡ granted half q first t → v ≡ noted kind cid u
     → entry ≡ admin_entry kind cid → CanPostTo v 0 entry
@@ -235,5 +235,5 @@ pub creates-apart : (t u v new : Tables) (half : Half) (q cid first : ℕ) (kind
 creates-apart t u v new half q cid first kind entry other is same noted-is posts-is posts = λ x at.
     let g : Tables = granted half q first t in
     let stands : slice_get g.queues 0 ≡ Some x = kept-at q (making half first) t.queues other ∙ at in
-    let there = subst (λ (y : Tables). Posts y 0 entry new) (noted-is ∙ ap (noted kind cid) same) posts (with_claim cid x) (change-here 0 (with_claim cid) g.queues x stands) in
+    let there = subst (λ (y : Tables). Posts y 0 entry new) (noted-is ∙ ap (noted kind cid) same) posts (with_claim cid x) (get_changed 0 (with_claim cid) g.queues x stands) in
     there ∙ (ap (λ (e : SubEntry). posted 0 (with_claim cid x) e (noted kind cid g)) posts-is ∙ ap (λ (k : AdminKind). sent k cid x g) is)

@@ -5,7 +5,7 @@ use Rattle.machine_model.specs.declared.words.Refusal.TheVariants as refusal
 use Rattle.std.proofs.Common.{◌≡◌, ℕ, ◌≤◌, Bool, List, Some, length, slice_get, refl, ap, sym, ◌∙◌, subst, true, false, None, find, option_and_then, if◌then◌else◌, zero, suc, ◌==◌, Option, [], ◌∷◌, ◌++◌, slice_set, is_some, ap₂, arith, length-append, eqb-true, ◌<◌, not, ◌||◌, take, drop, get_or, length-set, inl, inr}
 use Rattle.std.proofs.lemmas.{Bool.{true≢false, and_parts, not-true, not-false}, List.{length-map, map-append, take_at, drop_at}}
 use Rattle.std.{specs.{List.AllByRecursion, Option.{option_map_or}}}
-use Rattle.machine_model.proofs.{Cases.option_is, Counting.{total, here}, Owned.{is_out, holds_from_sound}}
+use Rattle.machine_model.proofs.{Counting.{total, here}, Owned.{is_out, holds_from_sound}}
 use Rattle.machine_model.proofs.Steps.{length-without_pages, found_all, length-with_pages, first_fails, found, pages_match}
 use Rattle.machine_model.specs.{After.{change, after_collect, collected, after_end}, Claims.is_away, Events.{Event, Reply}}
 use Rattle.machine_model.specs.{Memory.{is_in, without_pages, with_pages}, Proper.{IsProper, IsProperDraft, ArePages}}
@@ -16,7 +16,7 @@ use Rattle.machine_model.specs.declared.words.{Phase.TheVariants.{Held, Drafted,
 use Rattle.page_ledger.specs.{Lists.ListsAll, Owners.{free_pages, is_among, is_command, is_owned_at, given_back}, declared.owner.Owner.Owner}
 use Rattle.page_ledger.specs.declared.owner.{Owner.TheVariants.{Free, Command}, Role.TheVariants.{Data, Chain}}
 use Rattle.page_memory.specs.Pages.{Pages, IsPool, page_at}
-use Rattle.host_core.proofs.Lists.{length-change, map-change, change-same, found_at, found_is, all-filter, all-filter_by, all-from, all-to, all-front, all-back, found_any}
+use Rattle.host_core.proofs.Lists.{length-change, map-change, change-same, all-filter_by, all-from}
 use Rattle.host_core.proofs.PageOwners.{can-take, pool-without, record-in, set-other, without-append, can-put, pool-with, record-out, record-inside, owner-stays, times-at, command-pages, given-free}
 use Rattle.host_core.proofs.{Outstanding.ids, QueueLists.{host_step, settled-of, settled-with, Steps, steps}, RowRecords.{Marks, marked-claims, marked-records, marked-tells, claims_keep_queue, claims_keep_tells, each_claimed}}
 use Rattle.host_core.{specs.{Collecting.{taken_pages, StandsAt}, Exact.Exactly}, proofs.Identifiers.claim-less}
@@ -26,6 +26,8 @@ use Rattle.host_core.specs.Whole.{IsWhole, IsQueue, ClaimIdentifiers, TellsQueue
 use Rattle.io_commands.specs.{Asked.Request, DataBytes.PagesOut, Drafts.{DraftContents, IsDraft}, Requests.{data_count, FitsRequest}}
 use Rattle.io_commands.specs.Values.{FinishedContents, IsGood, data_part, chain_part, numbers_of}
 use Rattle.entry_codec.specs.declared.status.Status.{Status}
+use Rattle.slot_table.proofs.Rows.{option_is}
+use Rattle.page_memory.proofs.Lists.{all-filter, found_is, found_at, found_any, all-to, all-front, all-back}
 
 -- A call about one command: it moves pages, changes their owners and the records, and claims or frees an identifier.
 

@@ -7,7 +7,7 @@ use Rattle.std.proofs.lemmas.List.{length-map, take_at, drop_at, Elements.{All-m
 use Rattle.std.{proofs.lemmas.Option.{slice_get-map, slice_get_within}, specs.{List.AllByRecursion, Option.{option_map}}}
 use Rattle.io_commands.specs.{Asked.Request, DataBytes.PagesOut, Drafts.DraftContents, Least.pages_with}
 use Rattle.io_commands.specs.{Requests.{fault_of, data_count, FitsRequest, joined_parts}, Values.{numbers_of, data_part, chain_part}}
-use Rattle.machine_model.proofs.{Counting.{times-append, held_once, times-filter, times-pages, not_held}, Cases.option_is}
+use Rattle.machine_model.proofs.Counting.{times-append, held_once, times-filter, times-pages, not_held, zeroed_numbers}
 use Rattle.machine_model.proofs.{Headline.{length_placed, placed_times, two_placed, length_left}, Moves.queue_known}
 use Rattle.machine_model.{proofs.Steps.{length-without_pages}, specs.After.{after_reserve, change}}
 use Rattle.machine_model.specs.{Memory.{without_pages, zeroed_pages}, Placement.{placed, without_numbers, data_placed}}
@@ -15,12 +15,16 @@ use Rattle.machine_model.specs.{Refusals.{refusal_of, no_io_queue, in_state, in_
 use Rattle.machine_model.specs.{Step.{IsReserved, times}, declared.words.{Phase.TheVariants.Drafted, Work.TheVariants.Io}}
 use Rattle.page_ledger.specs.{Owners.{is_among, owner_at, with_owner, free_pages, is_free, is_owned_at, pages_from}, declared.owner.Owner.Owner}
 use Rattle.page_ledger.{specs.declared.owner.{Owner.TheVariants.{Free, Command}, Role.TheVariants.{Data, Chain}}, proofs.Tables.{length-with_owner, owner-with}}
-use Rattle.host_core.proofs.{Ending.{Fits, due, moved_is, moved_whole}, Identifiers.claim-more, Lists.{all-append, all-all, some_is}}
-use Rattle.host_core.proofs.{PageOwners.{free-owner, granted-free, among-append, pool-without, can-take, free-in, one-le, without-append}, QueueLists.Steps}
+use Rattle.host_core.proofs.{Ending.{Fits, due, moved_is, moved_whole}, Identifiers.claim-more}
+use Rattle.host_core.proofs.{PageOwners.{free-owner, granted-free, among-append, pool-without, can-take, free-in, without-append}, QueueLists.Steps}
 use Rattle.host_core.specs.{Alone.HasPlacedPages, Commands.{reserved, record_of_draft, first_placed, then_placed, with_claim, CanTake, Grants, new_draft}}
 use Rattle.host_core.specs.{Rows.Queue, Tables.{Tables, state_of, host_queue_of, view_of}, Whole.{IsWhole, TellsCommand, IsRecord}}
 use Rattle.page_memory.specs.Pages.{Pages, zero_page}
 use Rattle.sgl_chain.specs.Chains.{pages_needed}
+use Rattle.slot_table.proofs.Rows.{option_is}
+use Rattle.page_memory.proofs.Bytes.{none_of}
+use Rattle.page_memory.proofs.Lists.{some_is, all-append, all-all}
+use Rattle.machine_model.proofs.Sound.{small}
 
 -- A reservation on the tables is the machine's, and leaves them whole.
 
@@ -30,12 +34,8 @@ record Passes (s : State) (q : ℕ) (r : Request) : Type 0 where
   queue : no_io_queue s q ≡ false
   good : fault_of r.kind r.blocks r.pieces ≡ None
 
-none_if : {A : Type 0} (o : Option A) → is_some o ≡ false → o ≡ None
-none_if None h = refl
-none_if (Some x) h = cc
-
 passes : (s : State) (q : ℕ) (r : Request) → refusal_of s (events.Reserve q r) ≡ None → Passes s q r
-passes s q r none = record { queue = grind (arith, none); good = none_if (fault_of r.kind r.blocks r.pieces) (grind (arith, none)) }
+passes s q r none = record { queue = grind (arith, none); good = none_of (fault_of r.kind r.blocks r.pieces) (grind (arith, none)) }
 
 pub queue_there : (t : Tables) (q : ℕ) → no_io_queue (state_of t) q ≡ false → (queue : declared.Queue) × (slice_get t.queues q ≡ Some queue)
 queue_there t q known = elim (option_is (slice_get t.queues q)) [
@@ -161,7 +161,7 @@ reserved_step t q r d whole proper none is =
 pub free-once : (owners : List Owner) (p : ℕ) → times p (free_pages owners) ≤ 1
 free-once owners p =
     let count = times-filter p (is_owned_at is_free owners) (pages_from 0 (length owners)) in
-    let few : times p (pages_from 0 (length owners)) ≤ 1 = omega (arith, times-pages p (length owners), one-le (nat_lt p (length owners))) in
+    let few : times p (pages_from 0 (length owners)) ≤ 1 = omega (arith, times-pages p (length owners), small (nat_lt p (length owners))) in
     omega (arith, count, cond_both (is_owned_at is_free owners p) (times p (pages_from 0 (length owners))) 0 (λ (n : ℕ). n ≤ 1) (λ _. few) (λ _. omega arith))
 
 -- the two parts together are free pages, none of them twice
@@ -194,10 +194,6 @@ granted_can_take t whole m n =
 
 -- The draft
 
-pub numbers-zeroed : (ps : List ℕ) → numbers_of (zeroed_pages ps) ≡ ps
-numbers-zeroed [] = refl
-numbers-zeroed (p ∷ ps) = ap (λ l. p ∷ l) (numbers-zeroed ps)
-
 pub length-zeroed : (ps : List ℕ) → length (zeroed_pages ps) ≡ length ps
 length-zeroed ps = length-map ps (λ p. (p, zero_page))
 
@@ -214,7 +210,7 @@ back-size t q r cid m n grants =
 
 -- the numbers of its data pages are where its data is placed
 data-numbers : (t : Tables) (q : ℕ) (r : Request) (cid m n : ℕ) → Grants t q r cid m n → numbers_of (zeroed_pages (first_placed t.owners m)) ≡ data_placed (free_pages t.owners) r.pieces
-data-numbers t q r cid m n grants = numbers-zeroed (first_placed t.owners m) ∙ ap (placed (free_pages t.owners)) grants.for_data
+data-numbers t q r cid m n grants = zeroed_numbers (first_placed t.owners m) ∙ ap (placed (free_pages t.owners)) grants.for_data
 
 pub new_draft_fits : (t : Tables) (q : ℕ) (r : Request) (cid m n : ℕ) → Grants t q r cid m n
     → IsReserved (state_of t) q r (new_draft q cid r (first_placed t.owners m) (then_placed t.owners m n) t.segment)
@@ -229,7 +225,7 @@ new_draft_fits t q r cid m n grants =
       data_pages = length-zeroed a ∙ (front-size t q r cid m n grants ∙ grants.for_data);
       chain_pages = length-zeroed b ∙ (back-size t q r cid m n grants ∙ (grants.for_chain ∙ ap (λ (ps : List ℕ). pages_needed (length (joined_parts r.pieces ps)) t.segment) (sym (data-numbers t q r cid m n grants))));
       free = λ p. subst (λ (ps : List ℕ). times p ps ≡ (if is_among ps p && is_among (free_pages t.owners) p then 1 else 0))
-          (sym (ap₂ (λ (x y : List ℕ). x ++ y) (numbers-zeroed a) (numbers-zeroed b))) (are-free t.owners m n p);
+          (sym (ap₂ (λ (x y : List ℕ). x ++ y) (zeroed_numbers a) (zeroed_numbers b))) (are-free t.owners m n p);
       zero = All-append (λ (page : ℕ × List ℕ). page.1 ≡ zero_page) (zeroed_pages a) (zeroed_pages b) (all-zeroed a) (all-zeroed b);
       not_built = refl;
     }
@@ -275,7 +271,7 @@ pub reserved_tables : (t : Tables) (q cid : ℕ) (r : Request) (a b : List ℕ) 
     → queues ≡ change q (with_claim cid) t.queues
     → record t { pages = pages; owners = owners; records = records; queues = queues } ≡ reserved (new_draft q cid r a b t.segment) t
 reserved_tables t q cid r a b pages owners records queues ep eo er eq =
-    rw (ep, eo, er, eq, numbers-zeroed a, numbers-zeroed b, without-append a b t.pages) refl
+    rw (ep, eo, er, eq, zeroed_numbers a, zeroed_numbers b, without-append a b t.pages) refl
 
 -- The whole of a reservation
 
@@ -294,6 +290,6 @@ placed_pages t q cid r m n d grants is =
     (record {
       data_pages = data-numbers t q r cid m n grants;
       chain_pages =
-          numbers-zeroed (then_placed t.owners m n)
+          zeroed_numbers (then_placed t.owners m n)
           ∙ ap₂ (λ (k l : ℕ). placed (without_numbers (placed free k) free) l) grants.for_data grants.for_chain;
     })

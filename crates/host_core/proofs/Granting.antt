@@ -2,16 +2,19 @@
 use Rattle.std.proofs.Common.{◌≡◌, ℕ, zero, suc, ◌+◌, ◌-◌, ◌<◌, ◌≤◌, ◌==◌, inl, inr, nat_lt, Bool, true, false, not, ◌||◌, Some, None, List, [], ◌∷◌, length, position, slice_get, refl, ap, sym, ◌∙◌, arith, if◌then◌else◌, lt-ltb, le-ltb, eq-eqb}
 use Rattle.std.proofs.lemmas.{Bool.{true_from_ne_false, cases_lt, not-true, Decides.nat_tests}, Option.{slice_get-map, slice_get_within}}
 use Rattle.io_commands.specs.{Asked.Request, Least.least_pages, Requests.{fault_of, data_count}, declared.request.{Piece.Piece}}
-use Rattle.machine_model.{proofs.{Counting.{one, times-cons, held_once, not_held}, Cases.option_is}, specs.Placement.{wanted_of, chain_wanted}}
+use Rattle.machine_model.{proofs.Counting.{one, times-cons, held_once, not_held}, specs.Placement.{wanted_of, chain_wanted}}
 use Rattle.machine_model.specs.Refusals.{refusal_of, no_io_queue, in_state, is_deleting, no_identifier, pages_wanted, in_service}
 use Rattle.machine_model.specs.{State.{State, outstanding_on}, Step.{IsNewIdentifier, Refuses, times}, declared.words.HostState.HostState}
 use Rattle.page_ledger.specs.Owners.{is_among, free_pages}
 use Rattle.queue_pair.proofs.Halves.{found_within, found_free, all_claimed, lower_claimed}
-use Rattle.host_core.{proofs.{Identifiers.{outstanding-among, queue-here}, Lists.some_is, PageOwners.one-le}, specs.Alone.IsLowest}
+use Rattle.host_core.{proofs.Identifiers.{outstanding-among, queue-here}, specs.Alone.IsLowest}
 use Rattle.host_core.specs.{Commands.{state_at, passes, takes_no_io, Grants}, Rows.Queue, Tables.{Tables, state_of, view_of, host_queue_of}}
 use Rattle.host_core.specs.Whole.{IsWhole, is_outstanding}
 use Rattle.machine_model.specs.Events as events
 use Rattle.machine_model.specs.declared.words.Refusal.TheVariants as refusal
+use Rattle.slot_table.proofs.Rows.{option_is}
+use Rattle.page_memory.proofs.Lists.{some_is}
+use Rattle.machine_model.proofs.Sound.{small}
 
 -- The host's state of a queue
 
@@ -46,7 +49,7 @@ below-cons (suc n) x xs = omega (arith, below-cons n x xs, times-cons n x xs, lt
 
 below-le : (n : ℕ) (xs : List ℕ) → below n xs ≤ length xs
 below-le n [] = omega (arith, below-nil n)
-below-le n (x ∷ xs) = omega (arith, below-cons n x xs, below-le n xs, one-le (nat_lt x n))
+below-le n (x ∷ xs) = omega (arith, below-cons n x xs, below-le n xs, small (nat_lt x n))
 
 -- where each is below the bound, they are counted all
 below-all : (n : ℕ) (xs : List ℕ) → ((k : ℕ) → 0 < times k xs → k < n) → length xs ≡ below n xs

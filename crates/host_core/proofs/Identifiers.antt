@@ -3,17 +3,21 @@ use Rattle.std.proofs.Common.{◌≡◌, ℕ, suc, ◌+◌, ◌<◌, Some, List,
 use Rattle.std.proofs.lemmas.Bool.{true≢false, or_parts, or_right, cases_eq, cases_Bool, cond_both, false_from_ne_true, true_from_ne_false, ne_eqb, not-true, Decides.nat_tests}
 use Rattle.std.{specs.{List.{AllByRecursion, list_any}, Option.option_map_or}, proofs.lemmas.List.Folds.list_any-append}
 use Rattle.machine_model.proofs.Counting.{total as sum_of, here, times-outstanding, one, held_once, not_held, total as total_counting}
-use Rattle.machine_model.{proofs.{Cases.option_is, Headline.counts_are_all}, specs.After.{change, is_of_io, lost}}
+use Rattle.machine_model.{proofs.Headline.counts_are_all, specs.After.{change, is_of_io, lost}}
 use Rattle.machine_model.specs.{Claims.{IsSound, HasNoOtherPages, HasOneOwner, counts_of, OwnsFit}, Positions.IsInRing, Refusals.{deletes_cq_of, is_submitted}}
 use Rattle.machine_model.specs.{State.{State, Host, Record, is_at, outstanding_on, without_record, pages_of, with_record}, Step.{IsNewIdentifier}}
 use Rattle.machine_model.specs.{Work.Work, declared.words.{Work.TheVariants.{Io, Management}}}
-use Rattle.host_core.proofs.{Lists.{each-change, all-at, found_at, none_is_not, some_is, all-slots, map-agree}, RowRecords.{claims-same, empty-row}}
+use Rattle.host_core.proofs.{Lists.{each-change, map-agree}, RowRecords.{claims-same, empty-row}}
 use Rattle.host_core.specs.{Alone.{alone, IsOver, IsSoundHost}, Commands.{with_claim, without_claim}, Parts.tables_of, Resetting.{HasPlaces, IsPlaced}}
 use Rattle.host_core.specs.{Rows.Queue, Tables.{Tables, view_of, host_queue_of, state_of}}
 use Rattle.host_core.specs.{Whole.{IsHost, IsQueue, IsWhole, ClaimsIdentifiers, ClaimIdentifiers, is_outstanding, IsRecord}, declared.tables.HostTables.HostTables}
 use Rattle.page_ledger.{proofs.Tables.{slice_get-set_same, slice_get-set_other}, specs.{Counting.total, Owners.is_among}}
 use Rattle.page_memory.specs.Pages.{Pages}
 use Rattle.slot_table.specs.{Rows.value_at, Table.IsPlace}
+use Rattle.slot_table.proofs.Rows.{option_is}
+use Rattle.std.proofs.lemmas.Map.Keys.{any_passes_from_place}
+use Rattle.page_memory.proofs.Lists.{some_is, all-at, all-slots, found_at}
+use Rattle.machine_model.proofs.Cases.{none_some}
 
 -- What the host keeps by itself, and what it keeps with the pages that it is lent.
 
@@ -223,11 +227,6 @@ new-place parts pages q cid w there new = place-of parts pages q cid w.record_qu
 
 -- An outstanding command stands in one of the places of its queue
 
-any-at : {A : Type 0} (test : A → Bool) (xs : List A) (i : ℕ) (x : A) → slice_get xs i ≡ Some x → test x ≡ true → list_any test xs ≡ true
-any-at test [] i x at h = absurd (none_is_not at)
-any-at test (y ∷ xs) zero x at h = grind (arith, h)
-any-at test (y ∷ xs) (suc i) x at h = or_right (test y) _ (any-at test xs i x at h)
-
 any-found : {A : Type 0} (test : A → Bool) (xs : List A) → list_any test xs ≡ true → (i : ℕ) × (x : A) × (slice_get xs i ≡ Some x) × (test x ≡ true)
 any-found test [] h = absurd (true≢false (sym h))
 any-found test (y ∷ xs) h = elim (cases_Bool (test y)) [
@@ -244,16 +243,16 @@ pub record-inside : (t : Tables) → IsHost t → (i : ℕ) (r : Record) → sli
 record-inside t h i r at =
     let queue = queue-here t.queues r.q (all-at (IsRecord (length t.queues)) t.records i r at h.table.records).queue in
     let claims = h.table.identifiers.each r.q queue.0 queue.1 in
-    let below = claims.inside r.cid (any-at (is_at r.q r.cid) t.records i r at (at-own r)) in
+    let below = claims.inside r.cid (any_passes_from_place (is_at r.q r.cid) t.records i r at (at-own r)) in
     let is = h.rings.each r.q queue.0 queue.1 in
     omega (arith, below, is.host_side.identifiers, is.entries)
 
 -- the only one there is the one that is found
 only-found : (q cid : ℕ) (rs : List Record) (i : ℕ) (r : Record) → slice_get rs i ≡ Some r → is_at q cid r ≡ true → total_counting (here q cid) rs < 2 → find (is_at q cid) rs ≡ Some r
-only-found q cid [] i r at e few = absurd (none_is_not at)
+only-found q cid [] i r at e few = absurd (none_some at)
 only-found q cid (x ∷ rs) zero r at e few = rw (ap (is_at q cid) (some_is at) ∙ e) at
 only-found q cid (x ∷ rs) (suc i) r at e few = elim (cases_Bool (is_at q cid x)) [
-  | inl f ↦ absurd (omega (arith, few, ap one f, outstanding-some q cid rs (any-at (is_at q cid) rs i r at e)))
+  | inl f ↦ absurd (omega (arith, few, ap one f, outstanding-some q cid rs (any_passes_from_place (is_at q cid) rs i r at e)))
   | inr f ↦ rw f (only-found q cid rs i r at e (omega (arith, few, ap one f)))
 ]
 
@@ -265,7 +264,7 @@ deletes q r = deletes_cq_of q r.work
 pub deletion-found : (rs : List Record) (q cid : ℕ) → option_map_or (deletes q) (find (is_at 0 cid) rs) false ≡ true → list_any (deletes q) rs ≡ true
 deletion-found rs q cid h = elim (option_is (find (is_at 0 cid) rs)) [
   | inl e ↦ absurd (true≢false (sym (rw e at h)))
-  | inr (r, e) ↦ let i = found_at (is_at 0 cid) rs r e in any-at (deletes q) rs i.0 r i.1 (rw e at h)
+  | inr (r, e) ↦ let i = found_at (is_at 0 cid) rs r e in any_passes_from_place (deletes q) rs i.0 r i.1 (rw e at h)
 ]
 
 of-zero : (q k : ℕ) (w : Work) (pages : List ℕ) → OwnsFit k w pages → deletes_cq_of q w ≡ true → k ≡ 0

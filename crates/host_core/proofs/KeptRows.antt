@@ -6,14 +6,16 @@ use Rattle.std.proofs.lemmas.{Bool.{true≢false, and_parts, cond_both, cases_Bo
 use Rattle.std.specs.{List.{AllByRecursion, cons_option}, Option.option_and_then}
 use Rattle.slot_table.proofs.{Rows.{value_at-none, without-none}, Walks.none_stands}
 use Rattle.slot_table.specs.{Rows.{Row, is_at, value_at, with_value, without, NoneAt, IsDistinct}, Table.{AreInside, TableOf, IsPlace, with_row}}
-use Rattle.host_core.proofs.{Outstanding.{ends_by, limits_stay, none_there, record_reserved, reserved_ok, stays_outstanding, found_any}, RowRecords.here-none}
+use Rattle.host_core.proofs.{Outstanding.{ends_by, limits_stay, none_there, record_reserved, reserved_ok, stays_outstanding}, RowRecords.here-none}
 use Rattle.host_core.specs.CommandValues.{without_first, with_first, picked, as_draft, as_ticket, as_finished, queue_of, identifier_of, IsOutstanding, IsHeld, IsBench, IsOut}
-use Rattle.host_core.{specs.declared.{config.Config.Config, values.CommandValue.CommandValue}, proofs.Lists.{all-all, all-append, some_is}}
+use Rattle.host_core.specs.declared.{config.Config.Config, values.CommandValue.CommandValue}
 use Rattle.io_commands.specs.{Asked.Request, Drafts.DraftContents, Values.FinishedContents}
-use Rattle.machine_model.{proofs.{Cases.option_is, Moves.{drafted_record, live_queue}, Steps.unrefused}, specs.{Events.Event, Image.is_draft, Opening.queues_from}}
+use Rattle.machine_model.{proofs.{Moves.{drafted_record, live_queue}, Steps.unrefused}, specs.{Events.Event, Image.is_draft, Opening.queues_from}}
 use Rattle.machine_model.specs.{Script.{is_finished, is_ticket}, State.{State, Record}, Step.{Step, IsReserved}}
 use Rattle.page_memory.specs.declared.page.Half.TheVariants.{Submission, Completion}
 use Rattle.queue_pair.specs.Memory.{half_pages}
+use Rattle.slot_table.proofs.Rows.{option_is}
+use Rattle.page_memory.proofs.Lists.{some_is, all-append, all-all, found_any}
 
 -- Rows of a table, and the values of a kind that stand in them.
 

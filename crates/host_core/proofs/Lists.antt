@@ -5,6 +5,9 @@ use Rattle.machine_model.specs.{After.change, Refusals.{same_piece, same_pieces}
 use Rattle.io_commands.specs.declared.request.Piece.{Piece}
 use Rattle.slot_table.specs.Rows.{Row, first_place}
 use Rattle.host_core.specs.{Parts.{records_of}, Rows.{RecordRow, rows_on}}
+use Rattle.machine_model.proofs.Counting.{get_changed}
+use Rattle.page_memory.proofs.Lists.{some_is, all-append, all-map, all-all, all-at, all-slots, all-filter, found_is, found_at, found_any, all-to, all-front, all-back}
+use Rattle.machine_model.proofs.Cases.{none_some}
 
 -- A member of a list that is changed, by its place.
 
@@ -44,12 +47,6 @@ change-agree k f g [] x at e = refl
 change-agree zero f g (y ∷ xs) x at e = let same : y ≡ x = cc in ap (λ z. z ∷ xs) (ap f same ∙ e ∙ ap g (sym same))
 change-agree (suc k) f g (y ∷ xs) x at e = ap (λ ys. y ∷ ys) (change-agree k f g xs x at e)
 
--- the member itself
-pub change-here : {A : Type 0} (k : ℕ) (f : A → A) (xs : List A) (x : A) → slice_get xs k ≡ Some x → slice_get (change k f xs) k ≡ Some (f x)
-change-here k f [] x e = cc
-change-here zero f (y ∷ xs) x e = let same : y ≡ x = cc in ap (λ z. Some (f z)) same
-change-here (suc k) f (y ∷ xs) x e = change-here k f xs x e
-
 -- Lists that are compared.
 
 pub pieces-differ : (a b : List Piece) → length a ≢ length b → same_pieces a b ≡ false
@@ -59,12 +56,6 @@ pieces-differ (x ∷ a) [] h = refl
 pieces-differ (x ∷ a) (y ∷ b) h = and_right (same_piece x y) _ (pieces-differ a b (λ e. h (ap suc e)))
 
 -- Lists of which one member is changed, and lists that agree member by member.
-
-pub some_is : {A : Type 0} {x y : A} → Some x ≡ Some y → x ≡ y
-some_is e = cc
-
-pub none_is_not : {A : Type 0} {x : A} → None ≡ Some x → ⊥
-none_is_not e = cc
 
 pub length-change : {A : Type 0} (k : ℕ) (f : A → A) (xs : List A) → length (change k f xs) ≡ length xs
 length-change k f [] = refl
@@ -80,7 +71,7 @@ map-change g f same (suc k) (x ∷ xs) = ap (λ ys. g x ∷ ys) (map-change g f 
 pub each-change : {A : Type 0} (P : ℕ → A → Type 0) (q : ℕ) (f : A → A) (xs : List A)
     → ((k : ℕ) (x : A) → k ≢ q → slice_get xs k ≡ Some x → P k x) → ((x : A) → slice_get xs q ≡ Some x → P q (f x))
     → (k : ℕ) (y : A) → slice_get (change q f xs) k ≡ Some y → P k y
-each-change P q f [] all one k y e = absurd (none_is_not e)
+each-change P q f [] all one k y e = absurd (none_some e)
 each-change P zero f (x ∷ xs) all one zero y e = subst (P 0) (some_is e) (one x refl)
 each-change P zero f (x ∷ xs) all one (suc k) y e = all (suc k) y (λ h. cc) e
 each-change P (suc q) f (x ∷ xs) all one zero y e = all 0 y (λ h. cc) e
@@ -90,51 +81,14 @@ pub map-agree : {A B : Type 0} (f g : A → B) (xs : List A) → ((i : ℕ) (x :
 map-agree f g [] same = refl
 map-agree f g (x ∷ xs) same = ap₂ (λ y ys. y ∷ ys) (same 0 x refl) (map-agree f g xs (λ i y e. same (suc i) y e))
 
-pub all-append : {A : Type 0} (P : A → Type 0) (xs : List A) (y : A) → AllByRecursion P xs → P y → AllByRecursion P (xs ++ y ∷ [])
-all-append P [] y all here = (here, tt)
-all-append P (x ∷ xs) y all here = (all.0, all-append P xs y all.1 here)
-
-pub all-map : {A : Type 0} (P : A → Type 0) (f : A → A) → ((x : A) → P x → P (f x)) → (xs : List A) → AllByRecursion P xs → AllByRecursion P (map f xs)
-all-map P f keeps [] all = tt
-all-map P f keeps (x ∷ xs) all = (keeps x all.0, all-map P f keeps xs all.1)
-
-pub all-all : {A : Type 0} (P Q : A → Type 0) → ((x : A) → P x → Q x) → (xs : List A) → AllByRecursion P xs → AllByRecursion Q xs
-all-all P Q more [] all = tt
-all-all P Q more (x ∷ xs) all = (more x all.0, all-all P Q more xs all.1)
-
-pub all-at : {A : Type 0} (P : A → Type 0) (xs : List A) (i : ℕ) (x : A) → slice_get xs i ≡ Some x → AllByRecursion P xs → P x
-all-at P [] i x e all = absurd (none_is_not e)
-all-at P (y ∷ xs) zero x e all = subst P (some_is e) all.0
-all-at P (y ∷ xs) (suc i) x e all = all-at P xs i x e all.1
-
-pub all-slots : {A : Type 0} (P : A → Type 0) (xs : List A) → ((i : ℕ) (x : A) → slice_get xs i ≡ Some x → P x) → AllByRecursion P xs
-all-slots P [] each = tt
-all-slots P (x ∷ xs) each = (each 0 x refl, all-slots P xs (λ i y at. each (suc i) y at))
-
 pub all-filter_by : {A : Type 0} (P Q : A → Type 0) (f : A → Bool) → ((x : A) → f x ≡ true → P x → Q x) → (xs : List A) → AllByRecursion P xs → AllByRecursion Q (filter f xs)
 all-filter_by P Q f more [] all = tt
 all-filter_by P Q f more (x ∷ xs) all = cond_both (f x) _ _ (AllByRecursion Q) (λ e. (more x e all.0, all-filter_by P Q f more xs all.1)) (λ _. all-filter_by P Q f more xs all.1)
-
-pub all-filter : {A : Type 0} (P : A → Type 0) (f : A → Bool) (xs : List A) → AllByRecursion P xs → AllByRecursion P (filter f xs)
-all-filter P f = all-filter_by P P f (λ x _ h. h)
 
 -- by its members, and by recursion
 pub all-from : {A : Type 0} (P : A → Type 0) (xs : List A) → All P xs → AllByRecursion P xs
 all-from P [] all = tt
 all-from P (x ∷ xs) all = (all 0 x (omega arith), all-from P xs (λ k d l. all (suc k) d (omega arith)))
-
--- what is found, and where
-pub found_is : {A : Type 0} (test : A → Bool) (xs : List A) (x : A) → find test xs ≡ Some x → test x ≡ true
-found_is test [] x e = absurd (none_is_not e)
-found_is test (y ∷ xs) x e = grind (arith, found_is test xs x)
-
-pub found_at : {A : Type 0} (test : A → Bool) (xs : List A) (x : A) → find test xs ≡ Some x → (i : ℕ) × (slice_get xs i ≡ Some x)
-found_at test [] x e = absurd (none_is_not e)
-found_at test (y ∷ xs) x e = elim (cases_Bool (test y)) [ inl f ↦ (0, rw f at e) | inr f ↦ let h = found_at test xs x (rw f at e) in (suc h.0, h.1) ]
-
-pub found_any : {A : Type 0} (test : A → Bool) (xs : List A) (x : A) → find test xs ≡ Some x → list_any test xs ≡ true
-found_any test [] x e = absurd (none_is_not e)
-found_any test (y ∷ xs) x e = grind (arith, found_any test xs x)
 
 pub any-map : {A : Type 0} (test : A → Bool) (f : A → A) → ((x : A) → test (f x) ≡ test x) → (xs : List A) → list_any test (map f xs) ≡ list_any test xs
 any-map test f same [] = refl
@@ -144,19 +98,6 @@ pub change-same : {A : Type 0} (f : A → A) → ((x : A) → f x ≡ x) → (k 
 change-same f same k [] = refl
 change-same f same zero (x ∷ xs) = ap (λ y. y ∷ xs) (same x)
 change-same f same (suc k) (x ∷ xs) = ap (λ ys. x ∷ ys) (change-same f same k xs)
-
-pub all-to : {A : Type 0} (P : A → Type 0) (xs : List A) → AllByRecursion P xs → All P xs
-all-to P [] all k d l = absurd (omega arith)
-all-to P (x ∷ xs) all zero d l = all.0
-all-to P (x ∷ xs) all (suc k) d l = all-to P xs all.1 k d (omega arith)
-
-pub all-front : {A : Type 0} (P : A → Type 0) (xs ys : List A) → AllByRecursion P (xs ++ ys) → AllByRecursion P xs
-all-front P [] ys all = tt
-all-front P (x ∷ xs) ys all = (all.0, all-front P xs ys all.1)
-
-pub all-back : {A : Type 0} (P : A → Type 0) (xs ys : List A) → AllByRecursion P (xs ++ ys) → AllByRecursion P ys
-all-back P [] ys all = all
-all-back P (x ∷ xs) ys all = all-back P xs ys all.1
 
 -- The records of a queue, counted from row to row.
 

@@ -8,14 +8,14 @@ use Rattle.std.proofs.lemmas.Bool.{true≢false, true_from_ne_false, false_from_
 use Rattle.std.proofs.lemmas.{List.length-replicate, Option.{slice_get_within, slice_get-map}}
 use Rattle.std.specs.{List.{list_all, range_with_len, list_any, AllByRecursion}, Option.{option_map_or}}
 use Rattle.io_commands.{proofs.Fewest.same_anywhere, specs.{Asked.Request, Least.{least_pages, pages_with}, Requests.{data_count, joined_parts}, Values.IsGood}}
-use Rattle.machine_model.proofs.{Cases.option_is, Counting.{one, times-filter, times-pages, held_once, not_held, find_sound, all_among}, Steps.length-with_pages}
+use Rattle.machine_model.proofs.{Counting.{one, times-filter, times-pages, held_once, not_held, all_among}, Steps.length-with_pages}
 use Rattle.machine_model.specs.{After.change, Memory.{is_in, with_pages, zeroed_pages}, Placement.{is_run, first_of_run, placed, chain_wanted}}
 use Rattle.machine_model.specs.{Refusals.{has_sq, run_for}, State.{Record, HostQueue, State}, Step.{times, Refuses}}
 use Rattle.machine_model.specs.declared.words.HostState.{HostState, TheVariants.{Gone, HalfMade, MakingCq, MakingSq}}
 use Rattle.page_ledger.proofs.{Pages.lowest_run-within, Tables.{free-others, length-with_owner, owner-with}}
 use Rattle.page_ledger.specs.{Owners.{is_among, is_free, is_owned_at, owner_at, free_pages, pages_from, with_owner}, Runs.{is_free_run, lowest_run}}
 use Rattle.page_ledger.specs.declared.owner.{Owner.{Owner, TheVariants.Free}, Role.TheVariants.{Data, Chain}}
-use Rattle.host_core.proofs.{Lists.{some_is, all-all}, PageOwners.{free-owner, free-in, pool-with, set-other, set-there}}
+use Rattle.host_core.proofs.PageOwners.{free-owner, free-in, pool-with, set-other, set-there}
 use Rattle.host_core.{proofs.QueueLists.{map-change, Settled, settled-of, settled-turned}, specs.{Commands.{state_at, CanZero}, Rows.Queue}}
 use Rattle.host_core.specs.{Sending.{named_causes, granted, half_from, making, renewed}, Tables.{Tables, state_of, host_queue_of, cq_pages_of, sq_pages_of}}
 use Rattle.host_core.specs.Whole.{ClaimsIdentifiers, HaveOwner, IsQueue, IsWhole, TellsCommand, TellsQueue, is_outstanding}
@@ -25,6 +25,8 @@ use Rattle.page_memory.{proofs.Bytes.length-zero_page, specs.{Pages.{Pages, page
 use Rattle.page_memory.specs.declared.page.Half.TheVariants.{Submission, Completion}
 use Rattle.queue_pair.specs.{Memory.half_pages, Rings.{IsHostSide, fresh_host_ring, none_claimed}}
 use Rattle.std.proofs.lemmas.Bool.Decides.{nat_tests}
+use Rattle.slot_table.proofs.Rows.{option_is}
+use Rattle.page_memory.proofs.Lists.{found_is, some_is, all-all}
 
 -- Placed pages by their owners: the lowest run of free pages is the one that a ledger finds.
 
@@ -119,7 +121,7 @@ pub record IsBare (t : Tables) (half : Half) (q : ℕ) : Type 0 where
 
 pub run-free : (t : Tables) (half : Half) (first p : ℕ) → run_for (state_of t) half ≡ Some first → is_among (half_from t half first) p ≡ true → is_among (free_pages t.owners) p ≡ true
 run-free t half first p run among =
-    all_among (half_from t half first) (free_pages t.owners) p (find_sound (is_run (free_pages t.owners) (half_pages t.entries half)) (free_pages t.owners) first run) among
+    all_among (half_from t half first) (free_pages t.owners) p (found_is (is_run (free_pages t.owners) (half_pages t.entries half)) (free_pages t.owners) first run) among
 
 run-owner : (t : Tables) (half : Half) (first p : ℕ) → run_for (state_of t) half ≡ Some first → is_among (half_from t half first) p ≡ true → owner_at t.owners p ≡ Some owner.Free
 run-owner t half first p run among = free-owner t.owners p (held_once p (free_pages t.owners) (run-free t half first p run among))

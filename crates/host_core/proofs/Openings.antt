@@ -7,15 +7,17 @@ use Rattle.std.{specs.{List.Contains, Option.{option_map_or, option_map}}, proof
 use Rattle.page_ledger.{proofs.{Pages.finds_lowest, Tables.{length-with_owner, owner_changed, owner_kept}}, specs.declared.owner.Owner.Owner}
 use Rattle.page_ledger.specs.{Owners.{is_free, is_owned_at, owner_at, pages_from, with_owner, is_among, free_pages}, Runs.lowest_run}
 use Rattle.page_memory.{proofs.Bytes.length-zero_page, specs.{Pages.{Pages, page_at, zero_page}, declared.page.Half.TheVariants.{Submission, Completion}}}
-use Rattle.host_core.{proofs.{Identifiers.{over_pages, whole_of, alone_sound, host_of, over_of}, Lists.some_is}, specs.Alone.{HostView, HostStep, IsOver, alone}}
+use Rattle.host_core.{proofs.Identifiers.{over_pages, whole_of, alone_sound, host_of, over_of}, specs.Alone.{HostView, HostStep, IsOver, alone}}
 use Rattle.host_core.specs.Opening.{sq_from, cq_from, IsFreeFrom, AreGranted, opened_view, opened_pages, refusal_of_config, fresh_at, fresh_queue, fresh_queues, HalvesGranted, opened}
 use Rattle.host_core.specs.{Parts.records_of, Ringing.head_of, Rows.{Queue, RecordRow}, Tables.{Tables, host_queue_of, state_of, view_of}, Looks.cause_of}
 use Rattle.host_core.{specs.{Whole.{IsHost, IsWhole, IsQueue, ClaimsIdentifiers, TellsQueue}, declared.config.Config.Config}, proofs.Making.claims-none}
-use Rattle.machine_model.{proofs.Headline.{runs_are_sound, fits_pool, in_limits, length-range}, specs.{Claims.IsSound, Events.{Event, Reply}}}
+use Rattle.machine_model.{proofs.Headline.{runs_are_sound, fits_pool, in_limits}, specs.{Claims.IsSound, Events.{Event, Reply}}}
 use Rattle.machine_model.specs.{Opening.{opening, queues_from}, Refusals.refusal_of, State.{State, HostQueue}, Step.{Step, Refuses}}
 use Rattle.machine_model.specs.declared.words.Refusal.{Refusal}
 use Rattle.queue_pair.specs.Memory.{half_pages}
 use Rattle.slot_table.specs.Table.{TableOf}
+use Rattle.page_ledger.proofs.Pages.{length-pages_from}
+use Rattle.page_memory.proofs.Lists.{some_is}
 
 -- The halves of one queue more: which pages are granted, and whose the pages are then.
 
@@ -299,7 +301,7 @@ opened_whole c owners opens size granted =
     let l = limits c opens in
     let view = opened_view_is c owners size granted in
     let sound = runs_are_sound c.pages c.queues c.entries c.segment [] [] [] (opening c.pages c.queues c.entries c.segment []) opens refl in
-    let many : length (fresh_queues c.entries (c.queues + 1)) ≡ c.queues + 1 = length-map (pages_from 0 (c.queues + 1)) (fresh_queue c.entries) ∙ length-range 0 (c.queues + 1) in
+    let many : length (fresh_queues c.entries (c.queues + 1)) ≡ c.queues + 1 = length-map (pages_from 0 (c.queues + 1)) (fresh_queue c.entries) ∙ length-pages_from 0 (c.queues + 1) in
     record {
       sound = subst (λ (v : HostView). IsSound (alone v (opened_pages c))) (sym view) (alone_sound (opening c.pages c.queues c.entries c.segment []) sound);
       pool = record { few = omega (arith, length-replicate c.pages (Some zero_page), l.most_pages); whole = blank_pool c.pages };

@@ -4,15 +4,18 @@ use Rattle.machine_model.specs.Events as events
 use Rattle.std.proofs.Common.{◌≡◌, ℕ, ◌==◌, Bool, true, false, not, ◌&&◌, ◌||◌, Some, None, List, [], ◌∷◌, ◌++◌, map, filter, find, if◌then◌else◌, refl, ap, sym, ◌∙◌, eqb-true, eq-eqb, Option, length, subst, MatchBool, inl, inr, arith}
 use Rattle.std.proofs.lemmas.Bool.{and_parts, cond_both, false_from_ne_true, not-true, Decides.nat_tests}
 use Rattle.std.specs.{List.list_any, Option.{option_and_then, option_map}}
-use Rattle.machine_model.proofs.{Cases.option_is, HostLeaves.{io_left, host_leaves, ids_of}, Moves.{host_moves, drafted_record, sent_record, creates_cq, creates_sq}}
+use Rattle.machine_model.proofs.{HostLeaves.{io_left, host_leaves, ids_of}, Moves.{host_moves, drafted_record, sent_record, creates_cq, creates_sq}}
 use Rattle.machine_model.{proofs.{Owned.reset_length, Steps.{Accepts, part_controller, part_left}}, specs.Events.{Event, Reply}}
 use Rattle.machine_model.specs.{Refusals.{is_submitted, refusal_of}, State.{Record, is_at, with_record, without_record, State, HostQueue, record_at}}
 use Rattle.machine_model.specs.Step.{Step, HostPart, IsController, IsReserved, IsNewIdentifier, Permits, asked_by, finished_from, host_part, pages_with_bytes}
 use Rattle.machine_model.specs.declared.words.{Work.TheVariants.{Io, Management}}
-use Rattle.host_core.{proofs.{Identifiers.outstanding-among, Lists.{found_is, some_is, length-change}}, specs.CommandValues.IsOutstanding}
+use Rattle.host_core.{proofs.{Identifiers.outstanding-among, Lists.length-change}, specs.CommandValues.IsOutstanding}
 use Rattle.admin_commands.specs.declared.AdminKind.{AdminKind, TheVariants.{Abort, DeleteSq, DeleteCq, CreateCq, CreateSq}}
 use Rattle.entry_codec.specs.declared.status.{Status.Status}
 use Rattle.io_commands.specs.{Asked.Request, Drafts.DraftContents, Values.FinishedContents}
+use Rattle.slot_table.proofs.Rows.{option_is}
+use Rattle.page_memory.proofs.Lists.{some_is, found_is, found_any}
+use Rattle.machine_model.proofs.Steps.{surely}
 
 -- Records that are found by their names: others are added, changed and taken out.
 
@@ -25,10 +28,6 @@ find_more p (x ∷ xs) ys r e = grind (arith, find_more p xs ys r)
 pub find_last : {X : Type 0} (p : X → Bool) (xs : List X) (y : X) → list_any p xs ≡ false → p y ≡ true → find p (xs ++ y ∷ []) ≡ Some y
 find_last p [] y none is = rw is refl
 find_last p (x ∷ xs) y none is = grind (arith, find_last p xs y, is)
-
-pub found_any : {X : Type 0} (p : X → Bool) (xs : List X) (y : X) → find p xs ≡ Some y → list_any p xs ≡ true
-found_any p [] y e = absurd cc
-found_any p (x ∷ xs) y e = grind (arith, found_any p xs y)
 
 pub find_changed : {X : Type 0} (p : X → Bool) (g : X → X) → ((x : X) → p (g x) ≡ p x) → (xs : List X) (r : X) → find p xs ≡ Some r → find p (map g xs) ≡ Some (g r)
 find_changed p g same [] r e = absurd cc
@@ -67,10 +66,6 @@ module _ (q cid k n : ℕ) (rs : List Record) (r : Record) (at : find (is_at q c
 -- An I/O command stays outstanding until it is cancelled or released, whatever else happens; and no event changes how many queues there are.
 
 -- What one step keeps of the host's part, if it does where it is accepted
-
-surely : {A : Type 0} (B : Type 0) (t c : Bool) → c ≡ false → MatchBool (t || not c) A B → A
-surely B true c e h = h
-surely B false c e h = rw e at h
 
 anyway : (P : HostPart → Type 0) (s : State) (e : Event) (reply : Reply) (b : Bool) → IsController e ≡ b → Permits s e reply
     → (Accepts s e reply → IsController e ≡ false → P (host_part s) → P (host_part (a.after s e reply))) → P (host_part s) → P (host_part (a.after s e reply))

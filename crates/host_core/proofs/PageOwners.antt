@@ -7,22 +7,23 @@ use Rattle.std.{specs.Option.{option_and_then, option_map_or, option_map}, proof
 use Rattle.io_commands.specs.Values.{numbers_of}
 use Rattle.machine_model.{proofs.Counting.{one, times-cons, not_held, total, times-append, times-filter, times-pages, held_once, here}, specs.Step.times}
 use Rattle.machine_model.proofs.Owned.{in_record, owned, holds_from_sound, taken, taken_from_out, is_out, none_here, some_here, taken_le, in_queue, owned_is}
-use Rattle.machine_model.{proofs.{Steps.{in_store, length-in_store, found_all}, Cases.option_is}, specs.{After.joined_in_order, Claims.{IsSound, HasOneOwner}}}
+use Rattle.machine_model.{proofs.Steps.{in_store, length-in_store, found_all}, specs.{After.joined_in_order, Claims.{IsSound, HasOneOwner}}}
 use Rattle.machine_model.specs.{Memory.{is_in, without_pages, with_pages, zeroed_pages}, Placement.without_numbers, State.{State, Record, pages_of, is_at}}
 use Rattle.page_ledger.{proofs.{Pages.filter-agree, Tables.{slice_get-set_same, slice_get-set_other, free-others, free_given_back}}, specs.Lists.ListsAll}
 use Rattle.page_ledger.specs.Owners.{is_among, pages_from, is_free, is_command, is_owned_at, owner_at, free_pages, with_owner, given_back, is_half, is_same_half}
 use Rattle.page_ledger.specs.declared.owner.{Owner.{Owner, TheVariants.{Free, Queue, Command}}, Role.{Role, TheVariants.{Data, Chain}}}
-use Rattle.host_core.{proofs.Lists.{some_is, none_is_not}, specs.{Commands.{CanTake, CanPut, CanZero}, Halves.{HasHalf, half_of, has_half}}}
+use Rattle.host_core.specs.{Commands.{CanTake, CanPut, CanZero}, Halves.{HasHalf, half_of, has_half}}
 use Rattle.host_core.specs.{Tables.{Tables, state_of, host_queue_of, sq_pages_of, cq_pages_of, view_of}, Whole.{OwnersTell, TellsCommand, TellsQueue, IsHost}}
 use Rattle.page_memory.specs.{Pages.{Pages, page_at, AreWhole, IsPool, zero_page}, declared.page.Half.{Half, TheVariants.{Submission, Completion}}}
 use Rattle.queue_pair.specs.{Memory.half_pages, Rings.first_page_of}
+use Rattle.slot_table.proofs.Rows.{option_is}
+use Rattle.page_memory.proofs.Lists.{some_is}
+use Rattle.machine_model.proofs.Cases.{none_some}
+use Rattle.machine_model.proofs.Sound.{small}
 
 -- Pages taken out and put in, their owners, and the free ones.
 
 -- Numbers in lists
-
-pub one-le : (b : Bool) → one b ≤ 1
-one-le b = grind arith
 
 one-true : (b : Bool) → 0 < one b → b ≡ true
 one-true b h = grind arith
@@ -97,7 +98,7 @@ can-take (p ∷ ps) m h = (one-true (is_in m p) (omega (arith, h p, times-cons p
   where
     rest : (k : ℕ) → times k ps ≤ one (is_in (slice_set m p None) k)
     rest k = elim (cases_Bool (p == k)) [
-      | inl e ↦ omega (arith, h k, times-cons k p ps, ap one e, one-le (is_in m k))
+      | inl e ↦ omega (arith, h k, times-cons k p ps, ap one e, small (is_in m k))
       | inr e ↦ omega (arith, h k, times-cons k p ps, ap one e, ap (λ o. one (is_some o)) (set-other m p k None (λ f. eqb-false p k e f)))
     ]
 
@@ -119,20 +120,20 @@ can-put (x ∷ ps) m once inside = (
 
     rest : (k : ℕ) → times k (numbers_of ps) + one (is_in (slice_set m x.0 (Some x.1)) k) ≤ 1
     rest k = elim (cases_Bool (x.0 == k)) [
-      | inl e ↦ omega (arith, once k, times-cons k x.0 (numbers_of ps), ap one e, one-le (is_in (slice_set m x.0 (Some x.1)) k))
+      | inl e ↦ omega (arith, once k, times-cons k x.0 (numbers_of ps), ap one e, small (is_in (slice_set m x.0 (Some x.1)) k))
       | inr e ↦ omega (arith, once k, times-cons k x.0 (numbers_of ps), ap one e, ap (λ o. one (is_some o)) (set-other m x.0 k (Some x.1) (λ f. eqb-false x.0 k e f)))
     ]
 
 -- Which pages are in
 
 in_store-at : (m : Pages) (p : ℕ) (b : Bool) → slice_get (in_store m) p ≡ Some b → is_in m p ≡ b
-in_store-at [] p b h = absurd (none_is_not h)
+in_store-at [] p b h = absurd (none_some h)
 in_store-at (None ∷ m) zero b h = some_is h
 in_store-at (Some x ∷ m) zero b h = some_is h
 in_store-at (x ∷ m) (suc p) b h = in_store-at m p b h
 
 total-at : (w : Record → ℕ) (rs : List Record) (i : ℕ) (r : Record) → slice_get rs i ≡ Some r → w r ≤ total w rs
-total-at w [] i r h = absurd (none_is_not h)
+total-at w [] i r h = absurd (none_some h)
 total-at w (x ∷ rs) zero r h = omega (arith, ap w (some_is h))
 total-at w (x ∷ rs) (suc i) r h = omega (arith, total-at w rs i r h)
 
@@ -141,7 +142,7 @@ taken-le-one p r = cond_both (is_out r.phase) _ _ (λ n. n ≤ in_record p r) (�
 
 -- beside a record whose pages are in, the taken ones
 taken-beside : (p : ℕ) (rs : List Record) (i : ℕ) (r : Record) → slice_get rs i ≡ Some r → is_out r.phase ≡ false → total (taken p) rs + in_record p r ≤ total (in_record p) rs
-taken-beside p [] i r h stays = absurd (none_is_not h)
+taken-beside p [] i r h stays = absurd (none_some h)
 taken-beside p (x ∷ rs) zero r h stays =
     let same = some_is h in
     let t : taken p x ≡ 0 = ap (λ (y : Record). taken p y) same ∙ ap (λ b. if b then in_record p r else 0) stays in
@@ -195,7 +196,7 @@ record-in s sound i r at stays p = elim (cases_lt 0 (times p (pages_of r))) [
 -- and those that are taken are out
 pub record-out : (s : State) → IsSound s → (i : ℕ) (r : Record) → slice_get s.host.records i ≡ Some r → is_out r.phase ≡ true → (p : ℕ) → times p (pages_of r) + one (is_in s.memory p) ≤ 1
 record-out s sound i r at away p = elim (cases_lt 0 (times p (pages_of r))) [
-  | inr z ↦ omega (arith, one-le (is_in s.memory p))
+  | inr z ↦ omega (arith, small (is_in s.memory p))
   | inl z ↦
       let l = record-inside s sound i r at p z in
       let o = owned-once s sound p in
@@ -343,7 +344,7 @@ some-named owners (x ∷ rs) tells p q cid role h at = elim (cases_lt 0 (in_reco
 
 pub record-named-at : (owners : List Owner) (rs : List Record) (r : Record) → AllByRecursion (TellsCommand owners) rs → (p q cid : ℕ) (role : Role) → 0 < total (in_record p) rs
     → owner_at owners p ≡ Some (Command q cid role) → find (is_at q cid) rs ≡ Some r → total (here q cid) rs < 2 → 0 < times p (pages_of r)
-record-named-at owners [] r tells p q cid role h at found few = absurd (none_is_not found)
+record-named-at owners [] r tells p q cid role h at found few = absurd (none_some found)
 record-named-at owners (x ∷ rs) r tells p q cid role h at found few = elim (cases_lt 0 (in_record p x)) [
   | inl l ↦ let here = record-named owners x tells.0 p q cid role l at in let same : x ≡ r = some_is (rw here at found) in omega (arith, l, ap (in_record p) same)
   | inr l ↦

@@ -6,7 +6,7 @@ use Rattle.std.proofs.Common.{◌≡◌, ℕ, zero, suc, Bool, true, false, not,
 use Rattle.std.proofs.lemmas.Bool.{and_right, false_from_ne_true, not-false, not-true, or_from}
 use Rattle.std.proofs.lemmas.{List.{length-take-le, length-drop, Folds.list_any-append}, Option.{slice_get_within, slice_get-map}}
 use Rattle.std.specs.{List.{AllByRecursion, list_any}, Option.{option_and_then, option_map, option_map_or}, Prelude.{slice_index, slice_range}}
-use Rattle.machine_model.{proofs.{Cases.option_is, Headline.steps_keep, Kept.{reaped_has_cq, sq_with_cq}}, specs.{After.{after, change}, Claims.{IsSound, is_away}}}
+use Rattle.machine_model.{proofs.{Headline.steps_keep, Kept.{reaped_has_cq, sq_with_cq}}, specs.{After.{after, change}, Claims.{IsSound, is_away}}}
 use Rattle.machine_model.specs.{Events.{Event, Reply}, Memory.is_in, Proper.IsProper}
 use Rattle.machine_model.specs.Refusals.{has_cq, has_sq, slot_page, slot_offset, host_queue, in_state, seen_entry, slot_bytes, slot_entry, is_reaped}
 use Rattle.machine_model.specs.State.{State, Record, pages_of, Device, HostQueue, DeviceQueue}
@@ -26,6 +26,8 @@ use Rattle.queue_pair.specs.Memory.{half_pages, completion_place, submission_pla
 use Rattle.queue_pair.specs.{Rings.{HostSide, next_tail}, Slots.is_full}
 use Rattle.entry_codec.specs.{Completion.completion_of, Submission.{command_words, submission_bytes}, declared.completion.ComEntry.ComEntry}
 use Rattle.entry_codec.specs.declared.submission.SubEntry.{SubEntry}
+use Rattle.slot_table.proofs.Rows.{option_is}
+use Rattle.page_memory.proofs.Lists.{then-map}
 
 -- What a call of the host answers and leaves exactly is a step of the host.
 
@@ -296,10 +298,6 @@ slot-read pages p at there fits pool = elim (option_is (page_at pages p)) [
       let n : at + 16 - at ≡ 16 = omega arith in
       rw f (ap (λ (n : ℕ). Some (take n (drop at page))) n) ∙ sym (bytes_within pages p 16 at page f (rw f at (pool.whole p)) fits)
 ]
-
-then-map : {X Y Z : Type 0} (f : Y → Option Z) (g : X → Y) (o : Option X) → option_and_then (λ x. f (g x)) o ≡ option_and_then f (option_map g o)
-then-map f g None = refl
-then-map f g (Some x) = refl
 
 slot-seen : (t : Tables) → IsWhole t → (q : ℕ) (x : Queue) → slice_get t.queues q ≡ Some x → is_reaped x.state ≡ true
     → slot_bytes t.pages (cq_pages_of x) 16 x.host.ring.head ≡ completion_slot (byte_at t.pages) x.host.cq x.host.ring.head

@@ -9,14 +9,14 @@ use Rattle.std.proofs.lemmas.{Bool.{true≢false, and_parts, and_right, cases_Bo
 use Rattle.std.specs.{Option.{option_map_or, option_map}, List.AllByRecursion}
 use Rattle.entry_codec.specs.declared.{completion.ComEntry.ComEntry, status.{Status.Status, TheConstants.Status.ABORTED_SQ_DELETION}}
 use Rattle.io_commands.specs.{Asked.Request, Jobs.is_success}
-use Rattle.machine_model.proofs.{Cases.option_is, Kept.{alone_has_cq, alone_has_no_sq, asked_has_sq}, Steps.found_all}
+use Rattle.machine_model.proofs.{Kept.{alone_has_cq, alone_has_no_sq, asked_has_sq}, Steps.found_all}
 use Rattle.machine_model.specs.{After.{after_reap, change, held, after_admin, half_freed, half_made, gone, unmade_sq}, Claims.OwnsFit}
 use Rattle.machine_model.specs.Refusals.{refusal_of, seen_entry, is_reaped, creates_cq_of, creates_sq_of, deletes_sq_of, host_queue, is_asked, is_making_cq, is_making_sq, has_cq_alone, has_cq, has_sq}
 use Rattle.machine_model.specs.{State.{State, HostQueue, Record, record_at, with_record, is_at, pages_of, without_record}, Step.{reaped, reaped_entry}}
 use Rattle.machine_model.specs.{Work.Work, declared.words.HostState.{HostState, TheVariants.{Live, Gone, MakingCq, HalfMade, MakingSq}}}
 use Rattle.machine_model.specs.declared.words.{Phase.TheVariants.Held, RejectedFor.RejectedFor, Work.TheVariants.{Io, Management}}
 use Rattle.queue_pair.{proofs.Rings.next_below, specs.{Memory.half_pages, Rings.{knowing, next_head}}}
-use Rattle.host_core.proofs.{Identifiers.claim-less, Granting.in_state-is, Lists.{each-change, length-change, found_is, all-filter, found_any, none_is_not, some_is}}
+use Rattle.host_core.proofs.{Identifiers.claim-less, Granting.in_state-is, Lists.{each-change, length-change}}
 use Rattle.host_core.proofs.PageOwners.{OwnsHalf, commands-told, half-listed, half-owned, others-told, owner-stays, given-free}
 use Rattle.host_core.proofs.QueueLists.{map-change, Settled, settled-of, settled-turned, settled-with, cq-kept, none-told, settled-as, settled-half_made, settled-state, sq-kept}
 use Rattle.host_core.proofs.RowRecords.{Marks, marked-claims, marked-tells, claims_keep_queue, claims_keep_tells, each_claimed}
@@ -27,6 +27,10 @@ use Rattle.host_core.specs.Whole.{IsWhole, IsQueue, IsRecord, ClaimsIdentifiers,
 use Rattle.admin_commands.specs.declared.AdminKind.{AdminKind, TheVariants.{Abort, DeleteSq, DeleteCq, CreateCq, CreateSq}}
 use Rattle.page_ledger.specs.{Lists.ListsAll, Owners.{free_pages, given_back, is_among, is_half, is_owned_at, pages_from}}
 use Rattle.page_memory.specs.declared.page.Half.{Half, TheVariants.{Submission, Completion}}
+use Rattle.slot_table.proofs.Rows.{option_is}
+use Rattle.page_memory.proofs.Lists.{some_is, all-filter, found_is, found_any}
+use Rattle.machine_model.proofs.Cases.{none_some}
+use Rattle.machine_model.proofs.Moves.{making_cq_is, making_sq_is}
 
 -- What a reap finds, and what it leaves, on the tables.
 
@@ -391,7 +395,7 @@ each-over P q k cid queues hears frees all =
     each-change P q (without_claim cid) (change q (with_answer_heard k) queues) (λ j y _ at. heard-all j y at) (λ y at. frees q y (heard-all q y at))
 
 found-counts : {A : Type 0} (test p : A → Bool) (xs : List A) (x : A) → find test xs ≡ Some x → p x ≡ true → 0 < length (filter p xs)
-found-counts test p [] x h is = absurd (none_is_not h)
+found-counts test p [] x h is = absurd (none_some h)
 found-counts test p (y ∷ xs) x h is = grind (arith, is, found-counts test p xs x)
 
 asked-at : (t : Tables) → IsWhole t → (q cid k : ℕ) (r : Record) → find (is_at q cid) t.records ≡ Some r → r.work ≡ Management (DeleteSq k) → (x : Queue) → slice_get t.queues k ≡ Some x → is_asked x.state ≡ true
@@ -415,14 +419,6 @@ made-at t p test q cid k r count was is = elim (option_is (slice_get t.queues k)
 
     told : (o : Option Queue) → slice_get t.queues k ≡ o → length (filter (λ (s : Record). p k s.work) t.records) ≡ (if option_map_or (λ (queue : HostQueue). test queue.state) (option_map host_queue_of o) false then 1 else 0)
     told o at = count ∙ ap (λ (h : Option HostQueue). if option_map_or (λ (queue : HostQueue). test queue.state) h false then 1 else 0) (slice_get-map host_queue_of t.queues k ∙ ap (option_map host_queue_of) at)
-
-is-making_cq : (st : HostState) → is_making_cq st ≡ true → st ≡ MakingCq
-is-making_cq MakingCq h = refl
-is-making_cq st h = cc
-
-is-making_sq : (st : HostState) → is_making_sq st ≡ true → st ≡ MakingSq
-is-making_sq MakingSq h = refl
-is-making_sq st h = cc
 
 -- a queue stands there still, in its state, once a completion was heard and a claim given up
 kept-change : (f : Queue → Queue) → ((y : Queue) → (f y).state ≡ y.state) → (q k : ℕ) (queues : List Queue) (x : Queue) → slice_get queues k ≡ Some x
@@ -461,10 +457,10 @@ over-means t w q e (DeleteSq k) ends =
 over-means t w q e (DeleteCq k) ends = λ x at. over-owns t w q e k Completion x at
 over-means t w q e (CreateCq k n base) ends =
     let is = made-at t creates_cq_of is_making_cq q e.cid k ends.entry (w.sound.creations k).0 ends.was (ap (creates_cq_of k) ends.work ∙ eq-eqb k k refl) in
-    over-makes t w q e k Completion MakingCq is.0 is.1 (is-making_cq is.0.state is.2)
+    over-makes t w q e k Completion MakingCq is.0 is.1 (making_cq_is is.0.state is.2)
 over-means t w q e (CreateSq k n base) ends =
     let is = made-at t creates_sq_of is_making_sq q e.cid k ends.entry (w.sound.creations k).1 ends.was (ap (creates_sq_of k) ends.work ∙ eq-eqb k k refl) in
-    over-makes t w q e k Submission MakingSq is.0 is.1 (is-making_sq is.0.state is.2)
+    over-makes t w q e k Submission MakingSq is.0 is.1 (making_sq_is is.0.state is.2)
 
 pub over-has : (t : Tables) → IsHost t → (q : ℕ) (e : ComEntry) (kind : AdminKind) → (entry : Record) → find (is_at q e.cid) t.records ≡ Some entry → entry.work ≡ Management kind → HasMeant kind (over q e.sqhd e.cid t)
 over-has t h q e (Abort k cid) entry was work = tt
@@ -479,13 +475,13 @@ over-has t h q e (CreateCq k n base) entry was work =
     let there = over-there t q e k is.0 is.1 in
     let lists = each-over (λ (j : ℕ) (y : Queue). y.state ≡ MakingCq → ListsAll (is_half j Completion) t.owners (pages_from y.host.cq (half_pages t.entries Completion))) q e.sqhd e.cid t.queues
     (λ j y f. f) (λ j y f. f) (λ j y at r. half-listed t h j Completion y at (ap has_cq r)) in
-    record { queue = there.0; at = there.1; lists = lists k there.0 there.1 (there.2 ∙ is-making_cq is.0.state is.2) }
+    record { queue = there.0; at = there.1; lists = lists k there.0 there.1 (there.2 ∙ making_cq_is is.0.state is.2) }
 over-has t h q e (CreateSq k n base) entry was work =
     let is = made-at t creates_sq_of is_making_sq q e.cid k entry (h.sound.creations k).1 was (ap (creates_sq_of k) work ∙ eq-eqb k k refl) in
     let there = over-there t q e k is.0 is.1 in
     let lists = each-over (λ (j : ℕ) (y : Queue). y.state ≡ MakingSq → ListsAll (is_half j Submission) t.owners (pages_from y.host.sq (half_pages t.entries Submission))) q e.sqhd e.cid t.queues
     (λ j y f. f) (λ j y f. f) (λ j y at r. half-listed t h j Submission y at (ap has_sq r)) in
-    record { queue = there.0; at = there.1; lists = lists k there.0 there.1 (there.2 ∙ is-making_sq is.0.state is.2) }
+    record { queue = there.0; at = there.1; lists = lists k there.0 there.1 (there.2 ∙ making_sq_is is.0.state is.2) }
 
 -- The machine's state once it is over
 

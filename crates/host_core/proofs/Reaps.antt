@@ -11,14 +11,14 @@ use Rattle.std.specs.Option.{option_map_or}
 use Rattle.admin_commands.specs.declared.AdminKind.{AdminKind, TheVariants.{Abort, DeleteSq, DeleteCq, CreateCq, CreateSq}}
 use Rattle.entry_codec.specs.declared.{completion.ComEntry.ComEntry, status.{Status.Status, TheConstants.Status.ABORTED_SQ_DELETION}}
 use Rattle.io_commands.specs.{Asked.Request, Jobs.is_success}
-use Rattle.machine_model.{proofs.{Cases.option_is, Kept.{sq_with_cq, deleted_has_sq}}, specs.{After.{change, held, after_retire, lost}, Claims.OwnsFit}}
+use Rattle.machine_model.{proofs.Kept.{sq_with_cq, deleted_has_sq}, specs.{After.{change, held, after_retire, lost}, Claims.OwnsFit}}
 use Rattle.machine_model.specs.Refusals.{refusal_of, has_cq_alone, is_submitted, is_reaped, host_queue, is_deleted, is_live, has_cq}
 use Rattle.machine_model.specs.State.{HostQueue, Record, is_at, with_record, without_record, State, pages_of}
 use Rattle.machine_model.specs.{Step.{fits_ring, reaped_as, reaped_entry, submitted_at, Step}, Work.Work, declared.words.HostState.HostState}
 use Rattle.machine_model.specs.declared.words.{HostState.TheVariants.{Live, Gone, HalfMade, Retired}, Phase.Phase, Work.TheVariants.{Io, Management}}
 use Rattle.machine_model.specs.declared.words.{Phase.TheVariants.{Submitted, Held}, Refusal.Refusal, RejectedFor.RejectedFor}
 use Rattle.queue_pair.{proofs.Rings.in_range_below, specs.Slots.is_in_range}
-use Rattle.host_core.proofs.{Granting.in_state-is, Lists.{each-change, length-change, found_any, all-map, any-map, some_is}, RowRecords.claims-same}
+use Rattle.host_core.proofs.{Granting.in_state-is, Lists.{each-change, length-change, any-map}, RowRecords.claims-same}
 use Rattle.host_core.proofs.PageOwners.{commands-told, half-owned, half-there, others-told, owner-stays, given-free}
 use Rattle.host_core.proofs.QueueLists.{map-change, host-at, host_step, Settled, settled-of, settled-turned, Steps, steps}
 use Rattle.host_core.proofs.Reaping.{EndsAdmin, admin-exact, admin-settled, ended_admin, done-settled, EndsIo, Sees, done-exact, held-lost, reap-none, reaped-empty, reject-exact, settled-consumed, work-cases}
@@ -28,6 +28,8 @@ use Rattle.host_core.specs.{Retiring.{retired, with_lost}, Rows.Queue, Tables.{T
 use Rattle.host_core.specs.Whole.{ClaimIdentifiers, HaveOwner, IsWhole, is_outstanding, IsHost, IsRecord, ClaimsIdentifiers, TellsCommand, TellsQueue}
 use Rattle.page_ledger.specs.{Owners.{free_pages, given_back, is_half}, declared.owner.Owner.Owner}
 use Rattle.page_memory.specs.declared.page.Half.TheVariants.{Submission, Completion}
+use Rattle.slot_table.proofs.Rows.{option_is}
+use Rattle.page_memory.proofs.Lists.{some_is, all-map, found_any}
 
 -- A reap as it is made: what it decides, and what is written.
 

@@ -16,7 +16,7 @@ use Rattle.page_ledger.specs.declared.owner.Owner.{Owner, TheVariants.{Free, Que
 use Rattle.page_memory.specs.{Pages.{Pages, zero_page}, declared.page.Half.{Half, TheVariants.{Submission, Completion}}}
 use Rattle.queue_pair.specs.{Memory.half_pages, Rings.first_page_of}
 use Rattle.host_core.proofs.Identifiers.{queue-here, alone_sound, host_of, over_pages, places-of}
-use Rattle.host_core.proofs.Lists.{change-at-lists as change-at, get-at, length-change, map-agree, none_is_not, some_is}
+use Rattle.host_core.proofs.Lists.{change-at-lists as change-at, get-at, length-change, map-agree}
 use Rattle.host_core.proofs.Making.{can-zero, some-pages, with-some, claims-none, made-queue, whole-zeros}
 use Rattle.host_core.proofs.PageOwners.{half-from, half-told, among-from, with-append, half-lists, half-standing, owner-stays, among-append, pool-with, given-free}
 use Rattle.host_core.proofs.QueueLists.{queue_page-in, host-at, Settled, none-told, settled-of, settled-with, whole-of}
@@ -25,6 +25,8 @@ use Rattle.host_core.specs.{Alone.{HostView, alone}, Commands.CanZero, Halves.{h
 use Rattle.host_core.specs.Resetting.{admin_reset, with_admin_renewed, gone, gone_behind_first, is_of_io_queue, with_queue_gone, ListHalves, ListsHalf, tables_reset, with_records_reset, HasPlaces, IsPlaced}
 use Rattle.host_core.specs.{Rows.{Queue, Queue as RowsQueue}, Tables.{Tables, host_queue_of, sq_pages_of, cq_pages_of, state_of, view_of}}
 use Rattle.host_core.specs.Whole.{IsWhole, IsHost, ClaimsIdentifiers, IsQueue, IsRecord, TellsCommand, TellsQueue, is_outstanding}
+use Rattle.page_memory.proofs.Lists.{some_is}
+use Rattle.machine_model.proofs.Cases.{none_some}
 
 -- Queue 0 at a reset: its pages are made zero, and its rings are as they open.
 
@@ -284,12 +286,12 @@ queues_left queues = gone_behind_first (change 0 admin_reset queues)
 
 each-left : (P : ℕ → RowsQueue → Type 0) (queues : List RowsQueue) → ((x : RowsQueue) → slice_get queues 0 ≡ Some x → P 0 (admin_reset x)) → ((k : ℕ) (x : RowsQueue) → slice_get queues (suc k) ≡ Some x → P (suc k) (gone x))
     → (k : ℕ) (y : RowsQueue) → slice_get (queues_left queues) k ≡ Some y → P k y
-each-left P [] admin io k y at = absurd (none_is_not at)
+each-left P [] admin io k y at = absurd (none_some at)
 each-left P (x ∷ queues) admin io zero y at = subst (P 0) (some_is at) (admin x refl)
 each-left P (x ∷ queues) admin io (suc k) y at = rest (λ (n : ℕ) (z : RowsQueue). P (suc n) z) queues io k y at
   where
     rest : (Q : ℕ → RowsQueue → Type 0) (queues : List RowsQueue) → ((k : ℕ) (x : RowsQueue) → slice_get queues k ≡ Some x → Q k (gone x)) → (k : ℕ) (y : RowsQueue) → slice_get (map gone queues) k ≡ Some y → Q k y
-    rest Q [] io k y at = absurd (none_is_not at)
+    rest Q [] io k y at = absurd (none_some at)
     rest Q (x ∷ queues) io zero y at = subst (Q 0) (some_is at) (io 0 x refl)
     rest Q (x ∷ queues) io (suc k) y at = rest (λ (n : ℕ) (z : RowsQueue). Q (suc n) z) queues (λ n z e. io (suc n) z e) k y at
 
@@ -331,7 +333,7 @@ in-half Submission x p h = among-append (sq_pages_of x) (cq_pages_of x) p ∙ or
 in-half Completion x p h = among-append (sq_pages_of x) (cq_pages_of x) p ∙ or_right (is_among (sq_pages_of x) p) (is_among (cq_pages_of x) p) h
 
 in-all : (queues : List RowsQueue) (place : ℕ) (half : Half) (x : RowsQueue) (p : ℕ) → slice_get queues place ≡ Some x → is_among (half_of half x) p ≡ true → is_among (flat_map a.halves_of (map host_queue_of queues)) p ≡ true
-in-all [] place half x p at h = absurd (none_is_not at)
+in-all [] place half x p at h = absurd (none_some at)
 in-all (y ∷ queues) zero half x p at h =
     among-append (sq_pages_of y ++ cq_pages_of y) (flat_map a.halves_of (map host_queue_of queues)) p
     ∙ or_left (is_among (sq_pages_of y ++ cq_pages_of y) p) _ (in-half half y p (subst (λ (z : RowsQueue). is_among (half_of half z) p ≡ true) (sym (some_is at)) h))
@@ -345,7 +347,7 @@ io-stands [] p h = absurd (true≢false (sym h))
 io-stands (x ∷ queues) p h = let s = stands-in queues p h in (s.place, s.half, s.queue, s.at, s.among)
 
 in-io : (queues : List RowsQueue) (q : ℕ) (half : Half) (x : RowsQueue) (p : ℕ) → (q == 0) ≡ false → slice_get queues q ≡ Some x → is_among (half_of half x) p ≡ true → is_among (a.io_pages (map host_queue_of queues)) p ≡ true
-in-io [] q half x p io at h = absurd (none_is_not at)
+in-io [] q half x p io at h = absurd (none_some at)
 in-io (y ∷ queues) zero half x p io at h = absurd (true≢false io)
 in-io (y ∷ queues) (suc q) half x p io at h = in-all queues q half x p at h
 
@@ -471,7 +473,7 @@ half-renewed t records pages q half h =
 
     go : (queues : List RowsQueue) (k : ℕ) → slice_get queues k ≡ Some h.queue → (x : RowsQueue) × (slice_get (change 0 admin_reset queues) k ≡ Some x) ×
         (half_of half h.queue ≡ half_of half x) × (x.host.entries ≡ t.entries)
-    go [] k at = absurd (none_is_not at)
+    go [] k at = absurd (none_some at)
     go (y ∷ queues) zero at = (admin_reset h.queue, ap (λ (z : RowsQueue). Some (admin_reset z)) (some_is at), same-half half h.queue, h.entries)
     go (y ∷ queues) (suc k) at = (h.queue, at, refl, h.entries)
 

@@ -3,14 +3,17 @@ use Rattle.slot_table.specs.Rows as table
 use Rattle.page_ledger.specs.declared.owner.Owner.TheVariants as owner
 use Rattle.std.proofs.Common.{is_some, ◌≡◌, ℕ, ◌==◌, Bool, true, false, not, cond, Option, Some, None, IfSome, List, [], ◌∷◌, find, if◌then◌else◌, refl, ap, ap₂, sym, ◌∙◌, subst, eqb-true, option_map, ◌+◌, ◌-◌, ◌≤◌, nat_lt, ◌&&◌, filter, map, arith, lt-ltb, inl, inr, length, slice_get}
 use Rattle.std.{proofs.lemmas.Bool.{and_parts, cases_Bool, cond_both, Decides.nat_tests}, specs.List.AllByRecursion}
-use Rattle.machine_model.{proofs.{Cases.option_is, Owned.{lost_by}, Sound.changed}, specs.After.{is_of_io, lost, lost_anywhere, change}}
+use Rattle.machine_model.{proofs.{Owned.lost_by, Sound.changed}, specs.After.{is_of_io, lost, lost_anywhere, change}}
 use Rattle.machine_model.specs.State.{Record, is_at, with_record, without_record}
 use Rattle.slot_table.{specs.{Rows.{Row, value_at, without, with_value, NoneAt, IsDistinct}, Table.TableOf}, proofs.{Rows.without-none, Walks.none_stands}}
-use Rattle.host_core.{proofs.Lists.{some_is, none_is_not, all-filter, all-map, any-map, each-change}, specs.Commands.claims_changed}
+use Rattle.host_core.{proofs.Lists.{any-map, each-change}, specs.Commands.claims_changed}
 use Rattle.host_core.specs.{Parts.{record_of, records_of, tables_of, Becomes}, Resetting.{HasPlaces, IsPlaced}, Rows.{RecordRow, Queue}, Tables.Tables}
 use Rattle.host_core.specs.{Whole.{ClaimIdentifiers, ClaimsIdentifiers, IsRecord, TellsCommand, is_outstanding, IsQueue, TellsQueue}, declared.tables.HostTables.HostTables}
 use Rattle.page_ledger.specs.{Owners.owner_at, declared.owner.Owner.Owner}
 use Rattle.page_memory.specs.{Pages.{Pages, page_at}, declared.page.Half.Half}
+use Rattle.slot_table.proofs.Rows.{option_is}
+use Rattle.page_memory.proofs.Lists.{some_is, all-map, all-filter}
+use Rattle.machine_model.proofs.Cases.{none_some}
 
 -- The rows of the table of records, as records.
 
@@ -28,7 +31,7 @@ pub no-row : (rows : List (Row RecordRow)) (q cid : ℕ) → value_at rows q cid
 no-row rows q cid h = find-rows rows q cid ∙ ap (option_map (record_of q cid)) h
 
 pub empty-row : (rows : List (Row RecordRow)) (q cid : ℕ) → find (is_at q cid) (records_of rows) ≡ None → value_at rows q cid ≡ None
-empty-row rows q cid h = let e = sym (find-rows rows q cid) ∙ h in elim (option_is (value_at rows q cid)) [ inl none ↦ none | inr (x, at) ↦ absurd (none_is_not (sym (rw at at e))) ]
+empty-row rows q cid h = let e = sym (find-rows rows q cid) ∙ h in elim (option_is (value_at rows q cid)) [ inl none ↦ none | inr (x, at) ↦ absurd (none_some (sym (rw at at e))) ]
 
 -- no row stands in a place
 
@@ -52,7 +55,7 @@ here-none row rows q cid h none =
 
 pub with-row : (rows : List (Row RecordRow)) (q cid : ℕ) (f : Record → Record) (old new : RecordRow) → IsDistinct rows → value_at rows q cid ≡ Some old → record_of q cid new ≡ f (record_of q cid old)
     → records_of (with_value rows q cid new) ≡ with_record q cid f (records_of rows)
-with-row [] q cid f old new distinct at is = absurd (none_is_not at)
+with-row [] q cid f old new distinct at is = absurd (none_some at)
 with-row (row ∷ rows) q cid f old new distinct at is = elim (cases_Bool (table.is_at row q cid)) [
   | inl here ↦
       let both = and_parts (row.q == q) (row.cid == cid) here in

@@ -11,8 +11,8 @@ use Rattle.machine_model.specs.{State.{HostQueue, State}, Step.{Answers, IsContr
 use Rattle.machine_model.specs.declared.words.{HostState.TheVariants.Deleting, Refusal.Refusal}
 use Rattle.page_memory.specs.{Pages.page_at, declared.page.Half.TheVariants.Submission}
 use Rattle.queue_pair.{proofs.Halves.found_within, specs.Memory.half_pages}
-use Rattle.host_core.proofs.{Granting.{in_state-is, next-fresh, next-left, none-left}, Identifiers.claim-more, Lists.change-here}
-use Rattle.host_core.proofs.Lists.{all-append, each-change, length-change, map-change, some_is}
+use Rattle.host_core.proofs.{Granting.{in_state-is, next-fresh, next-left, none-left}, Identifiers.claim-more}
+use Rattle.host_core.proofs.Lists.{each-change, length-change, map-change}
 use Rattle.host_core.proofs.QueueLists.{posted-exact, posted-queue, submission_length, tail-fits, tail-in, pool-with_bytes, submission_page-in, Settled, settled-of, settled-state, settled-turned, settled-with, host_step, Steps, steps}
 use Rattle.host_core.proofs.{Reaping.state-set, RowRecords.{claims_keep_queue, claims_keep_tells, each_claimed}, Submitted.{admin_live, full_is}}
 use Rattle.host_core.specs.{Commands.with_claim, Exact.Exactly, Posting.{CanPost, posted, tail_place, with_tail_moved, CanPostTo, Posts}, Rows.Queue}
@@ -20,6 +20,8 @@ use Rattle.host_core.specs.Sending.{CanSend, HasSlot, Sends, asked, grants_none,
 use Rattle.host_core.specs.{Tables.{Tables, state_of, host_queue_of}, Whole.{IsQueue, IsRecord, IsWhole, TellsCommand, TellsQueue}}
 use Rattle.controller_walk.specs.Units.{first_passing}
 use Rattle.std.proofs.lemmas.Option.{slice_get_within}
+use Rattle.machine_model.proofs.Counting.{get_changed}
+use Rattle.page_memory.proofs.Lists.{some_is, all-append}
 
 -- An admin command that is sent on the tables is the machine's, and leaves them whole.
 
@@ -77,7 +79,7 @@ pub can-send : (t : Tables) (kind : AdminKind) (cid : ℕ) → Settled t → (sl
     → CanPost (noted kind cid t) 0 (with_claim cid slot.queue) (admin_entry kind cid)
 can-send t kind cid s slot half is =
     record {
-      at = change-here 0 (with_claim cid) t.queues slot.queue slot.at;
+      at = get_changed 0 (with_claim cid) t.queues slot.queue slot.at;
       kept = half.kept;
       room = slot.room;
       sgl1 = is.sgl1;
@@ -255,7 +257,7 @@ send-ready t kind queues cid w plain free same next room =
 
 pub noted-there : (t u : Tables) (kind : AdminKind) (cid : ℕ) → CanSend t kind cid → u ≡ noted kind cid t → 0 < length u.queues
 noted-there t u kind cid can same =
-    subst (λ (v : Tables). 0 < length v.queues) (sym same) (slice_get_within (noted kind cid t).queues 0 (with_claim cid can.slot.queue) (change-here 0 (with_claim cid) t.queues can.slot.queue can.slot.at))
+    subst (λ (v : Tables). 0 < length v.queues) (sym same) (slice_get_within (noted kind cid t).queues 0 (with_claim cid can.slot.queue) (get_changed 0 (with_claim cid) t.queues can.slot.queue can.slot.at))
 
 pub send-typed : (kind : AdminKind) (cid : ℕ) → IsTyped (admin_entry kind cid)
 send-typed kind cid = record { sgl1 = refl; fits = record { fuse = omega arith; psdt = omega arith } }
@@ -264,7 +266,7 @@ pub can-post-to : (t u : Tables) (kind : AdminKind) (cid : ℕ) (entry : SubEntr
 can-post-to t u kind cid entry s slot half same is =
     subst (λ (v : Tables). CanPostTo v 0 entry) (sym same)
     (subst (λ (e : SubEntry). CanPostTo (noted kind cid t) 0 e) (sym is)
-    (λ y at. subst (λ (z : Queue). CanPost (noted kind cid t) 0 z (admin_entry kind cid)) (some_is (sym (change-here 0 (with_claim cid) t.queues slot.queue slot.at) ∙ at))
+    (λ y at. subst (λ (z : Queue). CanPost (noted kind cid t) 0 z (admin_entry kind cid)) (some_is (sym (get_changed 0 (with_claim cid) t.queues slot.queue slot.at) ∙ at))
     (can-send t kind cid s slot half (send-typed kind cid))))
 
 pub send_can_post : (t u : Tables) (kind : AdminKind) (cid : ℕ) (entry : SubEntry) → IsWhole t → CanSend t kind cid → u ≡ noted kind cid t → entry ≡ admin_entry kind cid → CanPostTo u 0 entry
@@ -272,5 +274,5 @@ send_can_post t u kind cid entry w can same is = can-post-to t u kind cid entry 
 
 pub sends_apart : (t u v new : Tables) (kind : AdminKind) (cid : ℕ) (entry : SubEntry) → u ≡ noted kind cid t → entry ≡ admin_entry kind cid → Posts u 0 entry v → new ≡ asked kind v → Sends t kind cid new
 sends_apart t u v new kind cid entry same is posts left = λ x at.
-    let there = subst (λ (y : Tables). Posts y 0 entry v) same posts (with_claim cid x) (change-here 0 (with_claim cid) t.queues x at) in
+    let there = subst (λ (y : Tables). Posts y 0 entry v) same posts (with_claim cid x) (get_changed 0 (with_claim cid) t.queues x at) in
     left ∙ ap (asked kind) (there ∙ ap (λ (e : SubEntry). posted 0 (with_claim cid x) e (noted kind cid t)) is)

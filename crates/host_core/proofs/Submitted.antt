@@ -8,7 +8,7 @@ use Rattle.std.specs.{List.AllByRecursion, Option.{option_map_or, option_map}}
 use Rattle.entry_codec.specs.{Submission.{submission_bytes, FitsSubmission}, declared.submission.SubEntry.SubEntry}
 use Rattle.io_commands.{proofs.Building.carries_entry, specs.{DataBytes.PagesOut, Drafts.{DraftContents, draft_first}, Values.numbers_of}}
 use Rattle.sgl_chain.proofs.Spelled.{length-spelling}
-use Rattle.machine_model.proofs.{Cases.option_is, Counting.held_once, Kept.live_has_sq, Steps.{length-with_pages, first_fails, found_all}}
+use Rattle.machine_model.proofs.{Counting.held_once, Kept.live_has_sq, Steps.{length-with_pages, first_fails, found_all}}
 use Rattle.machine_model.specs.{Memory.with_pages, Proper.IsProperDraft, After.{change, after_submit}, declared.words.Work.TheVariants.{Io, Management}}
 use Rattle.machine_model.specs.Refusals.{refusal_of, is_drafted, is_of, is_live, in_state, queue_full, record_is, host_queue}
 use Rattle.machine_model.specs.{State.{State, Record, is_at, pages_of, with_record, HostQueue}, Step.{Refuses}, Work.Work}
@@ -16,13 +16,15 @@ use Rattle.page_ledger.specs.{Owners.{is_among, owner_at}, declared.owner.Owner.
 use Rattle.page_memory.specs.{Pages.Pages, declared.page.Half.{TheVariants.Submission}}
 use Rattle.queue_pair.specs.{Memory.half_pages, Slots.is_full}
 use Rattle.host_core.proofs.{Ending.{cancel_brings, joined-pages, belongs-passes, belongs_brings, ended_can_put}, Granting.in_state-is}
-use Rattle.host_core.proofs.{Lists.{all-from, some_is}, PageOwners.{command-owner, pool-with, with-other}}
+use Rattle.host_core.proofs.{Lists.all-from, PageOwners.{command-owner, pool-with, with-other}}
 use Rattle.host_core.proofs.QueueLists.{posted-exact, posted-queue, tail-in, tail-fits, submission_length, pool-with_bytes, submission-owner, submission_page-in, Settled, settled-of, settled-turned, Steps, steps}
 use Rattle.host_core.proofs.RowRecords.{Marks, marked-claims, marked-records, marked-tells, Spares}
 use Rattle.host_core.specs.{Commands.{Brings, BelongsToDraft, CanPut, passes, state_at}, Exact.Exactly}
 use Rattle.host_core.specs.{Posting.{with_tail_moved, tail_place, CanPost, CanPostTo, Posts}, Rows.Queue}
 use Rattle.host_core.specs.{Submitting.{brought_in, submitted, CanSubmit, IsReady, Submits}, Tables.{Tables, state_of, host_queue_of}}
 use Rattle.host_core.specs.Whole.{IsWhole, IsRecord, TellsCommand, FitsWork, AreQueues}
+use Rattle.slot_table.proofs.Rows.{option_is}
+use Rattle.page_memory.proofs.Lists.{some_is}
 
 -- A submitted draft on the tables is the machine's, and leaves them whole.
 

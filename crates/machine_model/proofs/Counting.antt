@@ -5,19 +5,10 @@ use Rattle.machine_model.specs.{After.{change, joined_in_order}, Memory.zeroed_p
 use Rattle.machine_model.specs.{State.{Record, is_at, without_record, with_record}, Step.times}
 use Rattle.page_ledger.{proofs.Pages.pages_from-suc, specs.Owners.{is_among, pages_from}}
 use Rattle.io_commands.specs.Values.{numbers_of}
+use Rattle.page_memory.proofs.Lists.{found_is, all-at, some_is}
 pub use Rattle.machine_model.specs.Weights.{one, total, here}
 
 -- What holds of all in a list, of one that is found, and as one is changed.
-
--- what is found passes the test
-pub find_sound : {A : Type 0} (test : A → Bool) (xs : List A) (x : A) → find test xs ≡ Some x → test x ≡ true
-find_sound test [] x e = absurd cc
-find_sound test (y ∷ xs) x e = grind (arith, find_sound test xs x, true)
-
-pub all_at : {A : Type 0} (P : A → Type 0) (xs : List A) (k : ℕ) (x : A) → slice_get xs k ≡ Some x → AllByRecursion P xs → P x
-all_at P [] k x e h = absurd cc
-all_at P (y ∷ xs) zero x e h = let same : y ≡ x = cc in subst P same h.0
-all_at P (y ∷ xs) (suc k) x e h = all_at P xs k x e h.1
 
 pub all_changed : {A : Type 0} (P : A → Type 0) (k : ℕ) (f : A → A) (xs : List A) → ((x : A) → slice_get xs k ≡ Some x → P x → P (f x)) → AllByRecursion P xs → AllByRecursion P (change k f xs)
 all_changed P k f [] each h = tt
@@ -127,9 +118,6 @@ none_with : (q cid : ℕ) (f : Record → Record) (records : List Record) → to
 none_with q cid f [] none = refl
 none_with q cid f (r ∷ records) none = grind (arith, none_with q cid f records)
 
-some_is : {A : Type 0} {x y : A} → Some x ≡ Some y → x ≡ y
-some_is e = cc
-
 -- the sum without one record, and with one changed, where its identifier is outstanding once
 pub total_without : (w : Record → ℕ) (q cid : ℕ) (records : List Record) (r : Record) → find (is_at q cid) records ≡ Some r → total (here q cid) records < 2
     → total w (without_record q cid records) + w r ≡ total w records
@@ -175,7 +163,7 @@ all_among (x ∷ pages) free p all h = grind (arith, all_among pages free p, eqb
 -- the lowest run of free pages takes free pages, each once
 pub run_times : (free : List ℕ) (count first : ℕ) → first_of_run free count ≡ Some first → (p : ℕ)
     → times p (pages_from first count) ≡ (if is_among (pages_from first count) p && is_among free p then 1 else 0)
-run_times free count first is p = grind (arith, all_among, find_sound, held_once, once_in_run, not_held)
+run_times free count first is p = grind (arith, all_among, found_is, held_once, once_in_run, not_held)
 
 -- pages of zeros have the numbers that they were made with
 pub zeroed_numbers : (pages : List ℕ) → numbers_of (zeroed_pages pages) ≡ pages

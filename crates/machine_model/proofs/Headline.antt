@@ -1,7 +1,7 @@
 -- The headline of a state.
 use Rattle.std.proofs.Common.{◌≡◌, ℕ, zero, suc, ◌+◌, ◌≤◌, ◌==◌, true, not, Some, List, [], ◌∷◌, ◌++◌, length, take, filter, refl, ap, ◌∙◌, arith, eqb-true, eq-eqb, ◌-◌, ◌*◌, ◌<◌, nat_lt, ltb-false, nat_le, leb-true, ◌&&◌, drop, replicate, slice_get, ap₂, sym, zero-mul, zero-add, map, flat_map, sum_by, length-append, subst}
 use Rattle.std.{proofs.lemmas.{Bool.{and_parts}, List.{length-replicate, Sums.sum_by-cons}}}
-use Rattle.machine_model.proofs.Counting.{one, times-cons, times-append, times-filter, held_once, not_held, times-pages, length_of_all, find_sound, once_in_run, all_among, total}
+use Rattle.machine_model.proofs.Counting.{one, times-cons, times-append, times-filter, held_once, not_held, times-pages, length_of_all, once_in_run, all_among, total}
 use Rattle.machine_model.proofs.Kept.{bare_at_opening, halves_at_opening, zero_opened}
 use Rattle.machine_model.proofs.Owned.{in_queue, HoldsPart, holds_from_sound, owners_from_holds, identifiers_from_holds, Taken, out_from_taken, taken_from_out}
 use Rattle.machine_model.proofs.Sound.{deletions_at_opening, creations_at_opening, Both, both_events}
@@ -16,6 +16,8 @@ use Rattle.io_commands.specs.{Requests.data_count, declared.request.Piece.Piece}
 use Rattle.page_memory.specs.{Pages.zero_page, declared.page.Half.TheVariants.{Submission, Completion}}
 use Rattle.queue_pair.specs.Memory.{half_pages}
 use Rattle.std.proofs.lemmas.Grind.{common_steps}
+use Rattle.page_memory.proofs.Lists.{found_is}
+use Rattle.page_ledger.proofs.Pages.{length-pages_from}
 
 -- What is placed are free pages, each once, and as many as are wanted where there are so many.
 
@@ -34,7 +36,7 @@ pub length_placed : (free : List ℕ) (count : ℕ) → count ≤ length free �
 length_placed free count enough = grind (arith, length_taken, length_run)
 
 pub placed_times : (p : ℕ) (free : List ℕ) (count : ℕ) → times p (placed free count) ≤ times p free
-placed_times p free count = grind (arith, take_times, find_sound, once_in_run, held_once, all_among, not_held)
+placed_times p free count = grind (arith, take_times, found_is, once_in_run, held_once, all_among, not_held)
 
 -- of free pages, some and then some of those that are left
 pub two_placed : (p : ℕ) (pages free more : List ℕ) → times p pages ≤ times p free → times p more ≤ times p (without_numbers pages free) → times p (pages ++ more) ≤ times p free
@@ -81,10 +83,6 @@ range_split a zero d n e = ap₂ pages_from (omega arith) (omega arith)
 range_split a (suc c) d zero e = absurd (omega arith)
 range_split a (suc c) d (suc n) e = grind (arith, range_split (a + 1) c d n)
 
-pub length-range : (a n : ℕ) → length (pages_from a n) ≡ n
-length-range a zero = refl
-length-range a (suc n) = ap suc (length-range (a + 1) n)
-
 drop_front : (xs ys : List ℕ) → drop (length xs) (xs ++ ys) ≡ ys
 drop_front [] ys = refl
 drop_front (x ∷ xs) ys = drop_front xs ys
@@ -92,7 +90,7 @@ drop_front (x ∷ xs) ys = drop_front xs ys
 free_pages : (k n : ℕ) → k ≤ n → drop k (pages_from 0 n) ≡ pages_from k (n - k)
 free_pages k n le =
     let split : pages_from 0 n ≡ pages_from 0 k ++ pages_from (0 + k) (n - k) = range_split 0 k (n - k) n (omega arith) in
-    let at : length (pages_from 0 k) ≡ k = length-range 0 k in
+    let at : length (pages_from 0 k) ≡ k = length-pages_from 0 k in
     ap (drop k) split ∙ ap (λ i. drop i (pages_from 0 k ++ pages_from (0 + k) (n - k))) (sym at) ∙ drop_front (pages_from 0 k) (pages_from (0 + k) (n - k)) ∙ ap (λ a. pages_from a (n - k)) (zero-add k)
 
 three : (p page a b count rest : ℕ) → rest ≡ times p (pages_from (page + a + b) (count * (a + b)))

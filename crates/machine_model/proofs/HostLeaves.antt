@@ -9,9 +9,10 @@ use Rattle.entry_codec.specs.declared.submission.SubEntry.{SubEntry}
 use Rattle.page_memory.specs.declared.page.Half.TheVariants.{Submission, Completion}
 use Rattle.machine_model.proofs.Moves.{host_moves, posted_bytes, posted_bits, sent_record, sends, half_from, creates_cq, creates_sq, grants_cq, grants_sq}
 use Rattle.machine_model.proofs.{Owned.{io_records, lost_keeps}, Steps.{length-in_store, length-with_pages, length-without_pages, Accepts}}
-use Rattle.machine_model.{proofs.Tokens.{find_map, find_sound}, specs.{Events.{Event, Reply}, Memory.{with_pages, zeroed_pages}, Refusals.slot_page}}
+use Rattle.machine_model.{proofs.Tokens.find_map, specs.{Events.{Event, Reply}, Memory.{with_pages, zeroed_pages}, Refusals.slot_page}}
 use Rattle.machine_model.specs.{State.{State, Record, is_at, pages_of, record_at, with_record}, Step.{IsController, resets}}
 use Rattle.machine_model.specs.declared.words.Work.TheVariants.{Io}
+use Rattle.page_memory.proofs.Lists.{found_is}
 
 pub record HostLeaves (s : State) (e : Event) (t : State) : Type 0 where
   pub entries : t.entries ≡ s.entries
@@ -73,7 +74,7 @@ host_leaves s e reply ok c =
 
 -- the record that a look-up finds has the queue and the identifier of that look-up
 pub ids_of : (s : State) (q cid : ℕ) (r : Record) → record_at s.host q cid ≡ Some r → (r.q ≡ q) × (r.cid ≡ cid)
-ids_of s q cid r e = let p = and_parts (r.q == q) (r.cid == cid) (find_sound (is_at q cid) s.host.records r e) in (eqb-true r.q q p.0, eqb-true r.cid cid p.1)
+ids_of s q cid r e = let p = and_parts (r.q == q) (r.cid == cid) (found_is (is_at q cid) s.host.records r e) in (eqb-true r.q q p.0, eqb-true r.cid cid p.1)
 
 -- the first record that passes a test is the first of those that pass another, if it does
 found_still : (test keep : Record → Bool) (rs : List Record) (r : Record) → keep r ≡ true → find test rs ≡ Some r → find test (filter keep rs) ≡ Some r

@@ -3,7 +3,7 @@
 use Rattle.std.proofs.Common.{◌≡◌, ℕ, ◌==◌, Bool, true, false, not, ◌&&◌, ◌||◌, Option, Some, None, List, [], ◌∷◌, ◌++◌, map, is_none, is_some, slice_get, eqb-true, if◌then◌else◌, refl, ap, ap₂, sym, ◌∙◌, subst, nat_eq, inl, inr, arith}
 use Rattle.std.{proofs.lemmas.{Bool.{true≢false, not-false, and_parts, or_parts}, List.map-append}, specs.Cmp.Lexicographic.pointwise}
 use Rattle.std.specs.Option.{option_map, option_map_or, option_and_then}
-use Rattle.machine_model.proofs.{Cases.option_is, Steps.{Accepts, unrefused, first_fails, found, same_lists, in_store, in_store-with_bytes}}
+use Rattle.machine_model.proofs.Steps.{Accepts, unrefused, first_fails, found, same_lists, in_store, in_store-with_bytes}
 use Rattle.machine_model.specs.{Claims.is_away, Commands.{Work, Io, Management}, Events.{Event, Reply, Reaped}, Memory.{with_pages, without_pages}}
 use Rattle.machine_model.specs.Refusals.{device_queue, first_answer, entry_of, refusal_of, host_queue, seen_entry, is_of, asks_for, is_drafted, is_submitted, is_held, is_collected, is_live, is_deleting, is_deleted, is_gone, is_half_made, is_asked, is_making_cq, is_making_sq, has_cq_alone, in_service, is_reaped, run_for, in_state, record_is, no_io_queue, is_io_queue, deletes_sq_of, creates_cq_of, creates_sq_of, slot_page, slot_offset}
 use Rattle.machine_model.specs.State.{State, Answer, HostQueue, HostState, Live, Deleting, Gone, MakingCq, HalfMade, MakingSq, Record, Phase, Drafted, Submitted, Collected, record_at, with_record, without_record, pages_of}
@@ -17,6 +17,7 @@ use Rattle.page_ledger.specs.Owners.{pages_from}
 use Rattle.machine_model.specs.After as a
 use Rattle.machine_model.specs.Events as events
 use Rattle.std.proofs.lemmas.Bool.{cases_Bool}
+use Rattle.slot_table.proofs.Rows.{option_is}
 
 -- What a posted entry leaves: the memory alone hangs on whether the queue is there
 

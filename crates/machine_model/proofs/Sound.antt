@@ -8,7 +8,7 @@ use Rattle.entry_codec.specs.declared.submission.SubEntry.{SubEntry}
 use Rattle.admin_commands.specs.{Entries.admin_entry, declared.AdminKind.{AdminKind, TheVariants.{DeleteSq, Abort, DeleteCq, CreateCq, CreateSq}}}
 use Rattle.page_memory.specs.{Pages.{Pages, with_page_bytes}, declared.page.Half.TheVariants.{Submission, Completion}}
 use Rattle.queue_pair.specs.{Memory.half_pages, Rings.{HostRing, next_tail, next_head, knowing}}
-use Rattle.machine_model.proofs.Counting.{one, times_granted, times_joined, not_held, held_once, total, here, total-change_same, total-change, total_without, times-outstanding, total-append, total-map, total_with, all_at, run_times, zeroed_numbers}
+use Rattle.machine_model.proofs.Counting.{one, times_granted, times_joined, not_held, held_once, total, here, total-change_same, total-change, total_without, times-outstanding, total-append, total-map, total_with, run_times, zeroed_numbers}
 use Rattle.machine_model.proofs.Kept.{Waits, awaited_event, asked_as_heard, ring_at, deletions_awaited, completions_awaited, submissions_awaited, deletions_fit, creations_fit, bare_event, halves_event, zero_host}
 use Rattle.machine_model.proofs.Moves.{IsLiveQueue, IsHeard, host_moves, posts, posted_bytes, posted_bits, sent_record, sends, heard_without, half_from, creates_cq, creates_sq, grants_cq, grants_sq, drafted_record, heard_of, Tells}
 use Rattle.machine_model.proofs.Owned.{HoldsPart, in_queue, in_record, Owns, OwnsPart, owns_of, owns_queues, KeepsRecord, owns_map, owns_more, owns_less, awaited_at, was_awaited as was_awaited_for, lost_keeps, all_reset, reset_fewer, reset_pages, reset_halves, reset_taken, admin_has, submitted_in, Taken, taken, is_out, none, none_here, some_here, taken_le, out_same, out_other, in_same, in_other}
@@ -23,6 +23,8 @@ use Rattle.page_ledger.specs.Owners.{is_among}
 use Rattle.io_commands.specs.{Asked.Request, Drafts.DraftContents, Jobs.is_success, Values.numbers_of}
 pub use Rattle.machine_model.proofs.Moves.{named, status_in}
 use Rattle.std.proofs.lemmas.Grind.{common_steps}
+use Rattle.page_memory.proofs.Lists.{all-at}
+use Rattle.std.proofs.lemmas.Bool.{or_left, or_right}
 
 -- One deletion of a queue's submission side is outstanding where the host waits for it, and one creation of a half where it waits for that: each event of the host keeps it so.
 
@@ -64,12 +66,6 @@ still_live s q k g queue y live e = grind (arith, ring_at)
 
 -- What waits for what
 
-first_of : (x y : Bool) → x ≡ true → (x || y) ≡ true
-first_of x y h = grind arith
-
-second_of : (x y : Bool) → y ≡ true → (x || y) ≡ true
-second_of x y h = grind arith
-
 deletions_wait : Waits deletes_sq_of is_asked
 deletions_wait = record {
   io = λ z request. refl;
@@ -78,7 +74,7 @@ deletions_wait = record {
   deletes = λ z k far. far;
   creates_cq = λ z k n base far. refl;
   creates_sq = λ z k n base far. refl;
-  kinds = λ z w is. first_of (deletes_sq_of z w) _ is;
+  kinds = λ z w is. or_left (deletes_sq_of z w) _ is;
   asked = λ k. eq-eqb k k refl;
   making_cq = λ k n base. refl;
   making_sq = λ k n base. refl;
@@ -97,7 +93,7 @@ completions_wait = record {
   deletes = λ z k far. refl;
   creates_cq = λ z k n base far. far;
   creates_sq = λ z k n base far. refl;
-  kinds = λ z w is. second_of (deletes_sq_of z w) _ (first_of (creates_cq_of z w) _ is);
+  kinds = λ z w is. or_right (deletes_sq_of z w) _ (or_left (creates_cq_of z w) _ is);
   asked = λ k. refl;
   making_cq = λ k n base. eq-eqb k k refl;
   making_sq = λ k n base. refl;
@@ -116,7 +112,7 @@ submissions_wait = record {
   deletes = λ z k far. refl;
   creates_cq = λ z k n base far. refl;
   creates_sq = λ z k n base far. far;
-  kinds = λ z w is. second_of (deletes_sq_of z w) _ (second_of (creates_cq_of z w) _ is);
+  kinds = λ z w is. or_right (deletes_sq_of z w) _ (or_right (creates_cq_of z w) _ is);
   asked = λ k. refl;
   making_cq = λ k n base. refl;
   making_sq = λ k n base. eq-eqb k k refl;
@@ -312,7 +308,7 @@ io_queue s q r none = grind (arith, first_fails, is_some, nat_lt, length, none)
 
 owns_event : (s : State) (e : Event) (reply : Reply) → Accepts s e reply → IsController e ≡ false → HoldsPart (host_part s) → OwnsPart (host_part (a.after s e reply))
 owns_event s e reply ok c holds =
-    let others : (q : ℕ) (queue : HostQueue) → host_queue s q ≡ Some queue → HasNoOtherPages queue = λ q queue there. all_at HasNoOtherPages s.host.queues q queue there holds.halves in
+    let others : (q : ℕ) (queue : HostQueue) → host_queue s q ≡ Some queue → HasNoOtherPages queue = λ q queue there. all-at HasNoOtherPages s.host.queues q queue there holds.halves in
     host_moves (λ (e : Event) (reply : Reply) (t : State). Ok t) s e reply ok c
     (record {
       reserves = λ q request d none is. ok-reserve s d (ap (λ (k : ℕ). k == 0) is.queue ∙ io_queue s q request none) (subst (λ (k : ℕ). IsNewIdentifier s k d.cid) (sym is.queue) is.identifier) is.free h;

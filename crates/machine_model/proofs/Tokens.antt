@@ -7,27 +7,20 @@ use Rattle.entry_codec.specs.declared.submission.SubEntry.{SubEntry}
 use Rattle.io_commands.specs.Jobs.{is_success}
 use Rattle.machine_model.proofs.{Counting.{one, total, total-append, total_without, total-filter, here}}
 use Rattle.machine_model.specs.{Commands.{Management}, State.{Record, Job, Answer, is_at, without_record}}
+use Rattle.page_memory.proofs.Lists.{all-all, all-append, found_is, all-found, all-filter}
 pub use Rattle.machine_model.specs.Refusals.{is_job}
 pub use Rattle.machine_model.specs.Agreeing.{is_absent_at as gone_at, has_completions_at as there_at, Knows, DeletesIo, EntryKnown, JobKnown, AnswerKnown, entry_is, job_is, answer_is, AdminCommandsStand as Placed, kind_of, kind_at, is_kind, succeeds, unmade, answered_well, done_well, deletes_sq, deletes_cq, creates_cq, creates_sq}
 
 -- Where nothing was forged: each admin command's entry is in one place, and says what its record says.
-
-all-map : {A : Type 0} (P Q : A → Type 0) → ((x : A) → P x → Q x) → (xs : List A) → AllByRecursion P xs → AllByRecursion Q xs
-all-map P Q f [] all = tt
-all-map P Q f (x ∷ xs) all = (f x all.0, all-map P Q f xs all.1)
-
-all-more : {A : Type 0} (P : A → Type 0) (xs : List A) (x : A) → AllByRecursion P xs → P x → AllByRecursion P (xs ++ x ∷ [])
-all-more P [] x all h = (h, tt)
-all-more P (y ∷ xs) x all h = (all.0, all-more P xs x all.1 h)
 
 pub placed_records : (rs rs' : List Record) (un : List SubEntry) (js : List Job) (ans : List Answer)
     → ((c : ℕ) → total (here 0 c) rs ≤ total (here 0 c) rs') → ((c : ℕ) (adm : AdminKind) → Knows rs c adm → Knows rs' c adm)
     → Placed rs un js ans → Placed rs' un js ans
 placed_records rs rs' un js ans more tells h = record {
   places = λ c. omega (arith, h.places c, more c);
-  entries = all-map (EntryKnown rs) (EntryKnown rs') (λ e k. (k.0, tells e.cid k.0 k.1, k.2)) un h.entries;
-  jobs = all-map (JobKnown rs) (JobKnown rs') (λ j k z. let w = k z in (w.0, tells j.entry.cid w.0 w.1, w.2, w.3)) js h.jobs;
-  answers = all-map (AnswerKnown rs) (AnswerKnown rs') (λ an k. (k.0, tells an.cid k.0 k.1)) ans h.answers;
+  entries = all-all (EntryKnown rs) (EntryKnown rs') (λ e k. (k.0, tells e.cid k.0 k.1, k.2)) un h.entries;
+  jobs = all-all (JobKnown rs) (JobKnown rs') (λ j k z. let w = k z in (w.0, tells j.entry.cid w.0 w.1, w.2, w.3)) js h.jobs;
+  answers = all-all (AnswerKnown rs) (AnswerKnown rs') (λ an k. (k.0, tells an.cid k.0 k.1)) ans h.answers;
 }
 
 -- jobs change without coming nearer to a success
@@ -89,7 +82,7 @@ placed_sent rs un js ans adm id new none at work h =
     (λ c a k. (k.0, find_more (is_at 0 c) rs new k.0 k.1, k.2)) h in
     record {
       places = λ c. more c (id == c) refl (total-append (here 0 c) rs (new ∷ [])) (total-append (entry_is c) un (admin_entry adm id ∷ []));
-      entries = all-more (EntryKnown (rs ++ new ∷ [])) un (admin_entry adm id) wide.entries (adm, (new, find_new (is_at 0 id) rs new none at, work), refl);
+      entries = all-append (EntryKnown (rs ++ new ∷ [])) un (admin_entry adm id) wide.entries (adm, (new, find_new (is_at 0 id) rs new none at, work), refl);
       jobs = wide.jobs;
       answers = wide.answers;
     }
@@ -113,7 +106,7 @@ placed_decided rs e un js ans j st jq je jv promise h =
           let one_job : job_is c j ≡ entry_is c e = rw (jq, je) refl in
           omega (arith, h.places c, total-append (job_is c) js (j ∷ []), one_job);
       entries = h.entries.1;
-      jobs = all-more (JobKnown rs) js j h.jobs
+      jobs = all-append (JobKnown rs) js j h.jobs
           (λ z. (k.0, rw je k.1, rw je k.2, λ st' v ok. let same : st ≡ st' = cc (jv, v) in promise k.0 k.2 (rw same ok)));
       answers = h.answers;
     }
@@ -127,7 +120,7 @@ placed_conflict rs e un js ans an same h = record {
       omega (arith, h.places c, total-append (answer_is c) ans (an ∷ []), one');
   entries = h.entries.1;
   jobs = h.jobs;
-  answers = all-more (AnswerKnown rs) ans an h.answers (h.entries.0.0, rw same h.entries.0.1);
+  answers = all-append (AnswerKnown rs) ans an h.answers (h.entries.0.0, rw same h.entries.0.1);
 }
 
 -- Reaping one
@@ -141,18 +134,6 @@ all-both : {A : Type 0} (P Q R : A → Type 0) → ((x : A) → P x → Q x → 
 all-both P Q R f [] p q = tt
 all-both P Q R f (x ∷ xs) p q = (f x p.0 q.0, all-both P Q R f xs p.1 q.1)
 
-pub find_sound : {A : Type 0} (test : A → Bool) (xs : List A) (x : A) → find test xs ≡ Some x → test x ≡ true
-find_sound test [] x e = absurd cc
-find_sound test (y ∷ xs) x e = grind (arith, find_sound test xs x)
-
-pub find_all : {A : Type 0} (P : A → Type 0) (test : A → Bool) (xs : List A) (x : A) → find test xs ≡ Some x → AllByRecursion P xs → P x
-find_all P test [] x e all = absurd cc
-find_all P test (y ∷ xs) x e all = grind (arith, find_all P test xs x)
-
-all-filter : {A : Type 0} (P : A → Type 0) (keep : A → Bool) (xs : List A) → AllByRecursion P xs → AllByRecursion P (filter keep xs)
-all-filter P keep [] all = tt
-all-filter P keep (x ∷ xs) all = grind (arith, all-filter P keep xs all.1)
-
 jobs_others : (c : ℕ) (js : List Job) → total (job_is c) js ≡ 0 → AllByRecursion (λ j. j.q ≡ 0 → j.entry.cid ≡ c → ⊥) js
 jobs_others c [] none = tt
 jobs_others c (j ∷ js) none =
@@ -165,7 +146,7 @@ placed_reaped rs un js an ans once h =
     λ c adm far k. (k.0, find_filter (is_at 0 c) (λ r. not (is_at 0 an.cid r)) (λ r t. (grind arith)) rs k.0 k.1, k.2) in
     let knows = h.answers.0.1 in
     let r = knows.0 in
-    let at = and_parts (r.q == 0) (r.cid == an.cid) (find_sound (is_at 0 an.cid) rs r knows.1) in
+    let at = and_parts (r.q == 0) (r.cid == an.cid) (found_is (is_at 0 an.cid) rs r knows.1) in
     let rq : r.q ≡ 0 = eqb-true r.q 0 at.0 in
     let rc : r.cid ≡ an.cid = eqb-true r.cid an.cid at.1 in
     let mine : (c : ℕ) → here 0 c r ≡ answer_is c an = λ c. rw (rq, rc) refl in
@@ -191,10 +172,10 @@ total_gone w test (y ∷ xs) x e = grind (arith, total_gone w test xs x, find, t
 pub placed_completed : (rs : List Record) (un : List SubEntry) (js : List Job) (ans : List Answer) (cid : ℕ) (j : Job) (an : Answer)
     → find (is_job 0 cid) js ≡ Some j → an.cid ≡ cid → Placed rs un js ans → Placed rs un (filter (λ k. not (is_job 0 cid k)) js) (ans ++ an ∷ [])
 placed_completed rs un js ans cid j an found same h =
-    let at = and_parts (j.q == 0) (j.entry.cid == cid) (find_sound (is_job 0 cid) js j found) in
+    let at = and_parts (j.q == 0) (j.entry.cid == cid) (found_is (is_job 0 cid) js j found) in
     let jq : j.q ≡ 0 = eqb-true j.q 0 at.0 in
     let jc : j.entry.cid ≡ cid = eqb-true j.entry.cid cid at.1 in
-    let k = find_all (JobKnown rs) (is_job 0 cid) js j found h.jobs jq in
+    let k = all-found (JobKnown rs) (is_job 0 cid) js j found h.jobs jq in
     let ac : an.cid ≡ j.entry.cid = same ∙ sym jc in
     record {
       places = λ c.
@@ -202,7 +183,7 @@ placed_completed rs un js ans cid j an found same h =
           omega (arith, h.places c, total_gone (job_is c) (is_job 0 cid) js j found, mine, total-append (answer_is c) ans (an ∷ []));
       entries = h.entries;
       jobs = all-filter (JobKnown rs) (λ k'. not (is_job 0 cid k')) js h.jobs;
-      answers = all-more (AnswerKnown rs) ans an h.answers (k.0, rw ac k.1);
+      answers = all-append (AnswerKnown rs) ans an h.answers (k.0, rw ac k.1);
     }
 
 -- Jobs of other queues
@@ -212,7 +193,7 @@ pub placed_job_more : (rs : List Record) (un : List SubEntry) (js : List Job) (a
 placed_job_more rs un js ans j other h = record {
   places = λ c. let none : job_is c j ≡ 0 = rw other refl in omega (arith, h.places c, total-append (job_is c) js (j ∷ []), none);
   entries = h.entries;
-  jobs = all-more (JobKnown rs) js j h.jobs (λ z. absurd (true≢false (sym (eq-eqb j.q 0 z) ∙ other)));
+  jobs = all-append (JobKnown rs) js j h.jobs (λ z. absurd (true≢false (sym (eq-eqb j.q 0 z) ∙ other)));
   answers = h.answers;
 }
 
@@ -244,10 +225,6 @@ total_none w none (x ∷ xs) = omega (arith, none x, total_none w none xs)
 pub total_map_all : {A : Type 0} (w : A → ℕ) (f : A → A) (xs : List A) → AllByRecursion (λ x. w (f x) ≡ w x) xs → total w (map f xs) ≡ total w xs
 total_map_all w f [] all = refl
 total_map_all w f (x ∷ xs) all = omega (arith, all.0, total_map_all w f xs all.1)
-
-pub all_into : {A : Type 0} (P Q : A → Type 0) → ((x : A) → P x → Q x) → (xs : List A) → AllByRecursion P xs → AllByRecursion Q xs
-all_into P Q f [] all = tt
-all_into P Q f (x ∷ xs) all = (f x all.0, all_into P Q f xs all.1)
 
 -- Kinds
 
@@ -302,13 +279,13 @@ pub fewer_kept : (rs rs' : List Record) (un : List SubEntry) (js : List Job) (an
     → ((c : ℕ) (adm : AdminKind) → Knows rs c adm → Knows rs' c adm) → Fewer rs un js ans rs' un js ans × Fewer rs' un js ans rs un js ans
 fewer_kept rs rs' un js ans placed still =
     let fails : (test : AdminKind → Bool) → total (failing test rs') js ≡ total (failing test rs) js =
-    λ test. total_all _ _ js (all_into (JobKnown rs) _ (λ j k. job_same test (λ j. not (succeeds j)) j k) js placed.jobs) in
+    λ test. total_all _ _ js (all-all (JobKnown rs) _ (λ j k. job_same test (λ j. not (succeeds j)) j k) js placed.jobs) in
     let wins : (test : AdminKind → Bool) → total (succeeding test rs') js ≡ total (succeeding test rs) js =
-    λ test. total_all _ _ js (all_into (JobKnown rs) _ (λ j k. job_same test succeeds j k) js placed.jobs) in
+    λ test. total_all _ _ js (all-all (JobKnown rs) _ (λ j k. job_same test succeeds j k) js placed.jobs) in
     let answers_fail : (test : AdminKind → Bool) → total (failed test rs') ans ≡ total (failed test rs) ans =
-    λ test. total_all _ _ ans (all_into (AnswerKnown rs) _ (λ an k. ap (λ (b : Bool). one (b && not (is_success an.status))) (same test an.cid k.0 k.1)) ans placed.answers) in
+    λ test. total_all _ _ ans (all-all (AnswerKnown rs) _ (λ an k. ap (λ (b : Bool). one (b && not (is_success an.status))) (same test an.cid k.0 k.1)) ans placed.answers) in
     let answers_well : (test : AdminKind → Bool) → total (succeeded test rs') ans ≡ total (succeeded test rs) ans =
-    λ test. total_all _ _ ans (all_into (AnswerKnown rs) _ (λ an k. ap (λ (b : Bool). one (b && is_success an.status)) (same test an.cid k.0 k.1)) ans placed.answers) in (
+    λ test. total_all _ _ ans (all-all (AnswerKnown rs) _ (λ an k. ap (λ (b : Bool). one (b && is_success an.status)) (same test an.cid k.0 k.1)) ans placed.answers) in (
       record { unmade = λ test. omega (arith, entries test, fails test, answers_fail test); answered = λ test. omega (arith, answers_well test); done = λ test. omega (arith, wins test, answers_well test) },
       record { unmade = λ test. omega (arith, entries test, fails test, answers_fail test); answered = λ test. omega (arith, answers_well test); done = λ test. omega (arith, wins test, answers_well test) },
     )
@@ -317,7 +294,7 @@ fewer_kept rs rs' un js ans placed still =
     same test c adm k = kind_known test rs' c adm (still c adm k) ∙ sym (kind_known test rs c adm k)
 
     entries : (test : AdminKind → Bool) → total (λ (e : SubEntry). one (is_kind test rs' e.cid)) un ≡ total (λ (e : SubEntry). one (is_kind test rs e.cid)) un
-    entries test = total_all _ _ un (all_into (EntryKnown rs) _ (λ e k. ap one (same test e.cid k.0 k.1)) un placed.entries)
+    entries test = total_all _ _ un (all-all (EntryKnown rs) _ (λ e k. ap one (same test e.cid k.0 k.1)) un placed.entries)
 
     job_same : (test : AdminKind → Bool) (g : Job → Bool) (j : Job) → JobKnown rs j → one ((j.q == 0) && is_kind test rs' j.entry.cid && g j) ≡ one ((j.q == 0) && is_kind test rs j.entry.cid && g j)
     job_same test g j k = elim (cases_Bool (j.q == 0)) [
@@ -335,4 +312,4 @@ found_back q cid c [] r far e = absurd cc
 found_back q cid c (x ∷ rs) r far e = grind (arith, found_back q cid c rs r far)
 
 pub knows_back : (q cid : ℕ) (rs : List Record) (c : ℕ) (adm : AdminKind) → Knows (without_record q cid rs) c adm → Knows rs c adm
-knows_back q cid rs c adm k = grind (arith, found_back, find_sound, eqb-true, eq-eqb, without_other)
+knows_back q cid rs c adm k = grind (arith, found_back, found_is, eqb-true, eq-eqb, without_other)

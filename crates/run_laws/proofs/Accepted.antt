@@ -6,10 +6,10 @@ use Rattle.std.proofs.lemmas.{Bool.{true≢false, not-true, and_parts, Decides.n
 use Rattle.std.specs.{List.AllByRecursion, Option.{option_map, option_and_then}}
 use Rattle.page_ledger.specs.Owners.{is_among}
 use Rattle.page_memory.specs.Pages.{zero_page}
-use Rattle.machine_model.proofs.{Cases.option_is, Counting.{held_once, not_held, zeroed_numbers as numbers_zeroed}}
+use Rattle.machine_model.proofs.Counting.{held_once, not_held, zeroed_numbers as numbers_zeroed}
 use Rattle.machine_model.proofs.Headline.{length_placed, length_chain, placement_times, room_for}
 use Rattle.machine_model.proofs.{Moves.{host_moves, drafted_record, sent_record, creates_cq, creates_sq}, Owned.{holds_from_sound, all_reset, lost_by}}
-use Rattle.machine_model.proofs.{Steps.{part_controller, surely, first_fails, rest_fails, unrefused, Accepts, part_left}, Tokens.find_sound}
+use Rattle.machine_model.proofs.Steps.{part_controller, surely, first_fails, rest_fails, unrefused, Accepts, part_left}
 use Rattle.machine_model.specs.{After.next_answer, Claims.{IsSound, OwnsFit, AdminLives}, Events.{Event, Reply}, Memory.{zeroed_pages}}
 use Rattle.machine_model.specs.{Placement.{data_placed, chain_placed, chain_wanted}, Proper.IsProper}
 use Rattle.machine_model.specs.Refusals.{refusal_of, host_queue, next_rung, post_page, is_submitted, is_held, no_identifier, pages_wanted}
@@ -21,9 +21,12 @@ use Rattle.controller_walk.specs.{Units.touched, declared.walk.WalkState.TheVari
 use Rattle.entry_codec.specs.declared.{status.{Status.Status, TheConstants.Status.ABORTED_SQ_DELETION}, submission.SubEntry.SubEntry}
 use Rattle.io_commands.specs.{Asked.Request, Drafts.DraftContents, Requests.{data_count, joined_parts}, Values.FinishedContents}
 use Rattle.two_sides.proofs.Agreed.{IsJudged, host_judged, judged, unjudged, done, new_identifier, walk_allowed, has_unit, opens_in_order, order_kept}
-use Rattle.two_sides.{proofs.{Provided.{all_at_found, all_map, all_filter, all_append, all_in_both}, Untouched.owned_once}, specs.InOrder.IsInOrder}
+use Rattle.two_sides.{proofs.{Provided.{all_map, all_append, all_in_both}, Untouched.owned_once}, specs.InOrder.IsInOrder}
 use Rattle.run_laws.specs.Accepted.{HasEnded, EndedIfHeld, IsReady, IsAccepted, is_refusal, every_event_is_accepted_or_has_a_cause, every_reset_is_accepted, resets_have_one_answer, forged_worlds_accept_the_controller, forged_worlds_know_their_queues, openings_are_ready, steps_keep_ready}
 use Rattle.admin_commands.specs.declared.AdminKind.{AdminKind, TheVariants.{Abort, DeleteSq, DeleteCq}}
+use Rattle.slot_table.proofs.Rows.{option_is}
+use Rattle.page_memory.proofs.Lists.{found_is, all-found, all-filter}
+use Rattle.host_core.proofs.Granted.{length-zeroed}
 
 -- Where pages do not run out, there are free ones.
 
@@ -37,10 +40,6 @@ all_zeroed (x ∷ xs) = All-cons (λ (page : ℕ × List ℕ). page.1 ≡ zero_p
 
 pub both_zeroed : (xs ys : List ℕ) → zeroed (zeroed_pages xs ++ zeroed_pages ys)
 both_zeroed xs ys = All-append (λ (page : ℕ × List ℕ). page.1 ≡ zero_page) (zeroed_pages xs) (zeroed_pages ys) (all_zeroed xs) (all_zeroed ys)
-
-pub length_zeroed : (xs : List ℕ) → length (zeroed_pages xs) ≡ length xs
-length_zeroed [] = refl
-length_zeroed (x ∷ xs) = ap suc (length_zeroed xs)
 
 -- An event that no cause refuses is accepted.
 
@@ -90,9 +89,9 @@ by_reserve s q r sound proper none =
       request = refl;
       segment = refl;
       identifier = id.1;
-      data_pages = length_zeroed front ∙ length_placed s.host.free (data_count r.pieces) (omega (arith, enough));
+      data_pages = length-zeroed front ∙ length_placed s.host.free (data_count r.pieces) (omega (arith, enough));
       chain_pages =
-          length_zeroed back
+          length-zeroed back
           ∙ length_chain s.host.free s.segment r.pieces (free_once s sound) enough
           ∙ ap (λ (ns : List ℕ). pages_needed (length (joined_parts r.pieces ns)) s.segment) (sym (numbers_zeroed front));
       free = λ p. subst (λ (ns : List ℕ). times p ns ≡ (if is_among ns p && is_among s.host.free p then 1 else 0))
@@ -127,7 +126,7 @@ finished_of s r h = go (asked_by r.work) h.is_io r.status h.has_status
 by_collect : (s : State) (q cid : ℕ) → IsReady s → refusal_of s (events.Collect q cid) ≡ None → IsAccepted s (events.Collect q cid)
 by_collect s q cid ready none =
     let x = held_found s q cid none in
-    let f = finished_of s x.0 (all_at_found EndedIfHeld (is_at q cid) s.host.records x.0 x.1 ready.held x.2) in
+    let f = finished_of s x.0 (all-found EndedIfHeld (is_at q cid) s.host.records x.0 x.1 ready.held x.2) in
     by_host s (events.Collect q cid) (events.Collects f.0) tt refl none (ap (option_and_then (finished_from s)) x.1 ∙ f.1)
 
 -- The controller's events, where nothing was forged
@@ -251,10 +250,10 @@ ended_lost q other rs h = all_map (λ r. OwnsFit r.q r.work (pages_of r) × Ende
 host_ended : (s : State) (e : Event) (reply : Reply) → IsSound s → Accepts s e reply → IsController e ≡ false → AllEnded s.host.records → AllEnded (a.after s e reply).host.records
 host_ended s e reply sound ok c h =
     let began : (new : Record) → EndedIfHeld new → AllEnded (s.host.records ++ new ∷ []) = λ new ended. all_append EndedIfHeld s.host.records (new ∷ []) h (ended, tt) in
-    let less : (q cid : ℕ) → AllEnded (without_record q cid s.host.records) = λ q cid. all_filter EndedIfHeld (λ r. not (is_at q cid r)) s.host.records h in
+    let less : (q cid : ℕ) → AllEnded (without_record q cid s.host.records) = λ q cid. all-filter EndedIfHeld (λ r. not (is_at q cid r)) s.host.records h in
     let sent : (adm : AdminKind) (id : ℕ) → AllEnded (s.host.records ++ sent_record adm id ∷ []) = λ adm id. began (sent_record adm id) (λ held. absurd (true≢false (sym held))) in
     let io_queue : (q cid : ℕ) (r : Record) (request : Request) → r.work ≡ Io request → record_at s.host q cid ≡ Some r → (q == 0) ≡ false =
-    λ q cid r request w e. grind (arith, all_at_found, eqb-true, find_sound) in
+    λ q cid r request w e. grind (arith, all-found, eqb-true, found_is) in
     host_moves (λ (e : Event) (reply : Reply) (t : State). AllEnded t.host.records) s e reply ok c
     (record {
       reserves = λ q request d none is. began (drafted_record d) (λ held. absurd (true≢false (sym held)));

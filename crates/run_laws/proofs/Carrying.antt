@@ -16,8 +16,9 @@ use Rattle.machine_model.specs.Weights.{one}
 use Rattle.io_commands.specs.{DataBytes.{PagesOut, gathered}, Requests.{parts_of, crosses_page}, Values.numbers_of, declared.request.Piece.Piece}
 use Rattle.io_commands.specs.declared.request.Piece.TheVariants.{Data, Bucket}
 use Rattle.run_laws.specs.Blocks.{partly}
-use Rattle.two_sides.proofs.{Provided.some_is, Served.{not_crossing, in_page}, Untouched.bytes_elsewhere}
+use Rattle.two_sides.proofs.{Served.{not_crossing, in_page}, Untouched.bytes_elsewhere}
 use Rattle.entry_codec.specs.declared.status.{Status.Status}
+use Rattle.page_memory.proofs.Lists.{some_is}
 
 -- What the units of a course carry from memory to a source command's bytes: at its end the bytes of its data pages.
 

@@ -2,7 +2,7 @@
 use Rattle.machine_model.specs.After as a
 use Rattle.machine_model.specs.Events as events
 use Rattle.io_commands.specs.Jobs as jobs
-use Rattle.machine_model.proofs.{Cases.none_some, Steps.{Accepts, managed_by, permitted, first_fails, rest_fails}, Tokens.find_sound}
+use Rattle.machine_model.proofs.{Cases.none_some, Steps.{Accepts, managed_by, permitted, first_fails, rest_fails}}
 use Rattle.machine_model.specs.{After.{course_of, walks, final_status}, Agreeing.unfetched_count, Claims.OwnsFit, Events.{Event, Reply}, Image.Made}
 use Rattle.machine_model.specs.{Proper.IsProper}
 use Rattle.machine_model.specs.Refusals.{is_submitted, next_rung, job_at, is_job, refusal_of}
@@ -26,11 +26,12 @@ use Rattle.two_sides.proofs.{Along.{Carried, Before, keeps, made_of, run_before}
 use Rattle.two_sides.proofs.{DeviceMoves.{unit_bytes, unit_done, finished, fetch_of, walk_by, complete_by}, JobLaws.{moved_length, blocks_put, not_zero}}
 use Rattle.two_sides.proofs.{NeverFull.{one_job, stood_on, stood_at_opening}, PlacesKept.{InHand, first_is, running_not_past, in_hand}}
 use Rattle.two_sides.proofs.PoolBytes.{host_jobs, host_image}
-use Rattle.two_sides.proofs.Provided.{all_at_found, sent_found, some_is, all_map, all_append, all_filter, all_of, all_in_both, only_found}
+use Rattle.two_sides.proofs.Provided.{sent_found, all_map, all_append, all_of, all_in_both, only_found}
 use Rattle.two_sides.proofs.Served.{Stood, good_is, course_ends}
 use Rattle.admin_commands.specs.{Entries.{named_queue, named_command}, declared.SqState.TheVariants.Stopping}
 use Rattle.page_memory.specs.Pages.{with_bytes}
 use Rattle.block_image.specs.Blocks.{blocks_at}
+use Rattle.page_memory.proofs.Lists.{found_is, all-found, all-filter, some_is}
 pub use Rattle.two_sides.proofs.Heads.{no_conflict as not_conflicting}
 
 -- Each verdict of an I/O job has its cause in the run: what steps do to that.
@@ -156,10 +157,10 @@ hand_good s stood q e other hand =
     subst (λ (xs : List SubEntry). 1 ≤ total (λ (x : SubEntry). w x.cid) xs) (sym (ap (λ (o : Option DeviceQueue). option_map_or (λ at. at.unfetched) o []) hand.at ∙ first_is hand.queue.unfetched e hand.first))
     (omega (arith, ap one (eq-eqb e.cid e.cid refl))) in
     let r = sent_found q e.cid s.host.records (omega (arith, un, mine, stood.places q w)) (stood.grounds.stands.0.once q e.cid) in
-    let ids = and_parts (r.0.q == q) (r.0.cid == e.cid) (find_sound (is_at q e.cid) s.host.records r.0 r.1) in
+    let ids = and_parts (r.0.q == q) (r.0.cid == e.cid) (found_is (is_at q e.cid) s.host.records r.0 r.1) in
     of r.0 r.2 (eqb-true r.0.q q ids.0) (eqb-true r.0.cid e.cid ids.1) r.0.work refl
-    (all_at_found (λ r. OwnsFit r.q r.work (pages_of r)) (is_at q e.cid) s.host.records r.0 r.1 stood.grounds.stands.0.admins)
-    (all_at_found (CommandStands s.memory s.device.queues s.device.jobs) (is_at q e.cid) s.host.records r.0 r.1 stood.commands)
+    (all-found (λ r. OwnsFit r.q r.work (pages_of r)) (is_at q e.cid) s.host.records r.0 r.1 stood.grounds.stands.0.admins)
+    (all-found (CommandStands s.memory s.device.queues s.device.jobs) (is_at q e.cid) s.host.records r.0 r.1 stood.commands)
   where
     of : (r : Record) → is_submitted r.phase ≡ true → r.q ≡ q → r.cid ≡ e.cid → (work : Work) → r.work ≡ work
         → OwnsFit r.q r.work (pages_of r) → CommandStands s.memory s.device.queues s.device.jobs r → HandGood e
@@ -364,7 +365,7 @@ complete_keeps earlier s q cid m far stood h =
     (λ j at c. record { image = left j at; jobs = fewer }) (λ j at c. record { image = left j at; jobs = fewer })
   where
     fewer : AllCaused (earlier ++ m ∷ []) (a.image_blocks s) (filter (λ j. not ((j.q == q) && (j.entry.cid == cid))) s.device.jobs)
-    fewer = all_filter (CausedIfIo (earlier ++ m ∷ []) (a.image_blocks s)) (λ j. not ((j.q == q) && (j.entry.cid == cid))) s.device.jobs (not_fetched earlier m s far h)
+    fewer = all-filter (CausedIfIo (earlier ++ m ∷ []) (a.image_blocks s)) (λ j. not ((j.q == q) && (j.entry.cid == cid))) s.device.jobs (not_fetched earlier m s far h)
 
     -- the image is as long behind a Write
     by_kind : (j : Job) (v : Status) → Caused earlier (a.image_blocks s) j → j.verdict ≡ Some v → is_success v ≡ true → (k : Option Kind) → kind_of_opcode j.entry.opcode ≡ k
@@ -385,7 +386,7 @@ complete_keeps earlier s q cid m far stood h =
     image j c false e = by_verdict j (c e) j.verdict refl
 
     left : (j : Job) → job_at s q cid ≡ Some j → length (finished q cid j s).device.image ≡ length s.device.image
-    left j at = image j (all_at_found (CausedIfIo earlier (a.image_blocks s)) (is_job q cid) s.device.jobs j at h) (j.q == 0) refl
+    left j at = image j (all-found (CausedIfIo earlier (a.image_blocks s)) (is_job q cid) s.device.jobs j at h) (j.q == 0) refl
 
 -- Every step
 
@@ -503,9 +504,9 @@ given_status earlier s (events.Complete q' cid') (events.Completed touched) new 
     at None e none g = absurd cc
     at (Some j) e none g =
         let same : final_status s j ≡ st = cc in
-        let ids = and_parts (j.q == q) (j.entry.cid == cid) (find_sound (is_job q cid) s.device.jobs j e) in
+        let ids = and_parts (j.q == q) (j.entry.cid == cid) (found_is (is_job q cid) s.device.jobs j e) in
         let jq = eqb-true j.q q ids.0 in
-        let c = all_at_found (CausedIfIo earlier (a.image_blocks s)) (is_job q cid) s.device.jobs j e h.caused (ap (λ (k : ℕ). k == 0) jq ∙ other) in
+        let c = all-found (CausedIfIo earlier (a.image_blocks s)) (is_job q cid) s.device.jobs j e h.caused (ap (λ (k : ℕ). k == 0) jq ∙ other) in
         subst (λ (x : Status). has_cause earlier m q cid x ≡ true) same (job_status earlier m q cid j other e jq (eqb-true j.entry.cid cid ids.1) (has_verdict s q cid j none e) c)
 
     go : (b : Bool) → ((q' == q) && (cid' == cid)) ≡ b → (if b then option_map (final_status s) (job_at s q cid) else None) ≡ Some st → has_cause earlier m q cid st ≡ true

@@ -4,8 +4,8 @@ use Rattle.machine_model.specs.Events as events
 use Rattle.std.proofs.Common.{◌≡◌, ℕ, Bool, true, false, List, [], ◌∷◌, refl, ap, sym, ◌∙◌, subst, ◌==◌, nat_eq, ◌&&◌, ◌||◌, Some, eqb-true, eq-eqb, arith, Option, None, ◌++◌, inl, inr}
 use Rattle.std.{proofs.lemmas.Bool.{or_parts, true≢false, and_parts}, specs.{Cmp.Lexicographic.pointwise, List.{list_any, AllByRecursion}}}
 use Rattle.std.specs.Option.{option_map, option_and_then, option_map_or}
-use Rattle.machine_model.proofs.{Cases.option_is, Counting.{one, total}, HostLeaves.ids_of, Sound.{named, reaped_submitted}}
-use Rattle.machine_model.{proofs.{Steps.{Accepts, same_lists, permitted, exact}, Tokens.{is_job, find_sound}}, specs.{Claims.OwnsFit, Events.{Event, Reply}}}
+use Rattle.machine_model.proofs.{Counting.{one, total}, HostLeaves.ids_of, Sound.{named, reaped_submitted}}
+use Rattle.machine_model.{proofs.{Steps.{Accepts, same_lists, permitted, exact}, Tokens.is_job}, specs.{Claims.OwnsFit, Events.{Event, Reply}}}
 use Rattle.machine_model.specs.{Image.{Made, submitted_by}, Memory.with_pages, Opening.opening, Proper.IsProper}
 use Rattle.machine_model.specs.Refusals.{is_submitted, is_drafted, is_held, is_of, asks_for, refusal_of, job_at, next_rung}
 use Rattle.machine_model.specs.State.{State, Record, is_at, record_at, pages_of, Job, Answer, with_record}
@@ -13,7 +13,7 @@ use Rattle.machine_model.specs.{Step.{Step, reaped, finished_from, asked_by, pag
 use Rattle.machine_model.specs.declared.words.{Phase.TheVariants.Held, Refusal.Refusal, Work.TheVariants.{Io, Management}}
 use Rattle.two_sides.proofs.Along.{along, trusted_step_by, Unforged, unforged_next, unforged_front, unforged_back, unforged_run, unforged_end, cut}
 use Rattle.two_sides.proofs.{Commands.{nobody, no_job}, NeverFull.{stood_on, stood_at_opening, host_jobs}, PlacesKept.{drafted_not, reaped_answer}}
-use Rattle.two_sides.proofs.{Provided.{all_at_found, is_found, some_is, In, all_append, sent}, Served.{Stood, requests_same, answers_at}, Standing.list_at}
+use Rattle.two_sides.proofs.{Provided.{is_found, In, all_append, sent}, Served.{Stood, requests_same, answers_at}, Standing.list_at}
 use Rattle.io_commands.specs.{Drafts.DraftContents, Values.{numbers_of, FinishedContents}}
 use Rattle.run_laws.proofs.{Carrying.Stands, Known.{submit_record, unsent, submitted_stand, stand_still}}
 use Rattle.run_laws.proofs.Moves.{RecordsMove, records_event, takes, JobsMove, jobs_event, QueueMove, queues_event}
@@ -21,6 +21,8 @@ use Rattle.run_laws.{proofs.{ReadLaws.{held_where_collected, with_numbers}, Read
 use Rattle.run_laws.specs.{Statuses.{fetches, fetches_by}, Submitted.{submits, CollectedCommand}}
 use Rattle.entry_codec.specs.declared.{status.{Status.Status, TheConstants.Status.ABORTED_SQ_DELETION}, submission.SubEntry.SubEntry}
 use Rattle.page_ledger.specs.Owners.{is_among}
+use Rattle.slot_table.proofs.Rows.{option_is}
+use Rattle.page_memory.proofs.Lists.{found_is, all-found, some_is}
 
 -- What steps of a trusted run keep, where each passes a test of the step.
 
@@ -163,7 +165,7 @@ found_draft s d reply g =
       drafted = of.1;
       other = subst (λ (n : ℕ). (n == 0) ≡ false) (ids_of s d.q d.cid x.0 x.1).0
           (subst (λ (w : Work). OwnsFit x.0.q w (pages_of x.0)) of.0.work
-          (all_at_found (λ (r : Record). OwnsFit r.q r.work (pages_of r)) (is_at d.q d.cid) s.host.records x.0 x.1 g.stood.grounds.stands.0.admins));
+          (all-found (λ (r : Record). OwnsFit r.q r.work (pages_of r)) (is_at d.q d.cid) s.host.records x.0 x.1 g.stood.grounds.stands.0.admins));
       only = is_found d.q d.cid s.host.records x.0 x.1 (g.stood.grounds.stands.0.once d.q d.cid);
     }
 
@@ -321,7 +323,7 @@ kept c =
     let other = (found_draft x.first c.draft events.Accepted x.going).other in
     let all = along_steps (AllFollow c.draft) (submits c.draft.q c.draft.cid) (λ s e reply g far h. follow_step c.draft other s e reply g far h) c.between x.second x.third x.along x.unforged x.stood_second (alone_of c)
     (subst (AllFollow c.draft) (sym x.is_second) (follow_submit c.draft x.first events.Accepted x.going)) in
-    all_at_found (Follows c.draft) (is_at c.finished.q c.finished.cid) x.third.host.records x.collects.command x.collects.found all.1 (at_draft c x) (held_goes x.collects.command.phase x.collects.held)
+    all-found (Follows c.draft) (is_at c.finished.q c.finished.cid) x.third.host.records x.collects.command x.collects.found all.1 (at_draft c x) (held_goes x.collects.command.phase x.collects.held)
 
 pub request_stays : (c : CollectedCommand) → c.finished.request ≡ c.draft.request
 request_stays c = grind (arith, sym (course c).collects.work ∙ (kept c).work)
@@ -371,7 +373,7 @@ jobs_on d other s e reply g far = record {
 answers_on : (d : DraftContents) (s : State) (e : Event) → AllByRecursion (λ j. j.q ≡ d.q → j.entry.cid ≡ d.cid → ⊥) s.device.jobs
     → QueueMove (λ at. at.answers) (λ (an : Answer). an.cid ≡ d.cid → ⊥) d.q s e
 answers_on d s e none =
-    let no_job_at : (cid : ℕ) (j : Job) → job_at s d.q cid ≡ Some j → cid ≡ d.cid → ⊥ = λ cid j found same. grind (arith, find_sound, is_job, all_at_found, eqb-true) in
+    let no_job_at : (cid : ℕ) (j : Job) → job_at s d.q cid ≡ Some j → cid ≡ d.cid → ⊥ = λ cid j found same. grind (arith, found_is, is_job, all-found, eqb-true) in
     record {
       posts = λ x entry at is built z all. all;
       sends = λ entry at z all. all;
@@ -390,7 +392,7 @@ answers_on d s e none =
 -- Its pages stay
 
 no_walk : (s : State) (d : DraftContents) (e : Event) (reply : Reply) → Going s e reply → Unread d s → (r : Record) → is_at d.q d.cid r ≡ true → walks_it e r ≡ false
-no_walk s d (events.Walk q cid) (events.Walked outcome touched) g h r at = grind (arith, find_sound, is_job, all_at_found, eqb-true)
+no_walk s d (events.Walk q cid) (events.Walked outcome touched) g h r at = grind (arith, found_is, is_job, all-found, eqb-true)
 no_walk s d (events.Walk q cid) reply g h r at = absurd g.ok.1
 no_walk s d e reply g h r at = refl
 

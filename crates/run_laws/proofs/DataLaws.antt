@@ -16,7 +16,8 @@ use Rattle.run_laws.proofs.{DataOnce.once, Images.refused_drafts, Moves.{Records
 use Rattle.run_laws.specs.Statuses.{fetches}
 use Rattle.run_laws.specs.Submitted.{CollectedCommand, FetchedCommand, submits, was_fetched, unfetched_commands_keep_their_data, unfetched_commands_keep_the_drafts_bytes, unfetched_commands_were_deleted, successful_commands_were_fetched, AreZeros, drafts_of_reserve_are_zero, unfetched_commands_of_zeros_gather_zeros, fetched_commands_have_their_fetch, commands_are_fetched_once, fetched_reads_give_a_prefix, successful_reads_give_their_blocks, collected_commands_were_submitted}
 use Rattle.two_sides.proofs.{Along.{Unforged, unforged_next, unforged_front, unforged_run, unforged_end, cut}, NeverFull.stood_at_opening}
-use Rattle.two_sides.proofs.{Provided.{all_at_found, some_is}, Served.{hosts_own, Stood}}
+use Rattle.two_sides.proofs.Served.{hosts_own, Stood}
+use Rattle.page_memory.proofs.Lists.{all-found, some_is}
 
 -- What collected commands give back.
 
@@ -37,7 +38,7 @@ waited c none =
     let all = along_steps (Unread c.draft) (λ m. submits c.draft.q c.draft.cid m || fetches c.draft.q c.draft.cid m) (λ s e reply g far h. unread_step c.draft other s e reply g far h) c.between x.second x.third x.along x.unforged x.stood_second
     (neither (submits c.draft.q c.draft.cid) (fetches c.draft.q c.draft.cid) c.between (alone_of c) (fetched_of c c.between ∙ none))
     (subst (Unread c.draft) (sym x.is_second) (unread_submit c.draft x.first x.going)) in
-    all_at_found (Waits c.draft x.third) (is_at c.finished.q c.finished.cid) x.third.host.records x.collects.command x.collects.found all.1.records (at_draft c x) (held_goes x.collects.command.phase x.collects.held)
+    all-found (Waits c.draft x.third) (is_at c.finished.q c.finished.cid) x.third.host.records x.collects.command x.collects.found all.1.records (at_draft c x) (held_goes x.collects.command.phase x.collects.held)
 
 -- pages that stand are handed out as they are
 handed_out : (m : Pages) (pages : PagesOut) → AllByRecursion (Stands m) pages → pages_with_bytes m (numbers_of pages) ≡ pages
@@ -292,10 +293,10 @@ were_submitted image earlier later m end f run is =
 
     other : (found.command.q == 0) ≡ false
     other = subst (λ (w : Work). OwnsFit found.command.q w (pages_of found.command)) found.work
-        (all_at_found (λ (r : Record). OwnsFit r.q r.work (pages_of r)) (is_at f.q f.cid) parts.0.host.records found.command found.found stood.grounds.stands.0.admins)
+        (all-found (λ (r : Record). OwnsFit r.q r.work (pages_of r)) (is_at f.q f.cid) parts.0.host.records found.command found.found stood.grounds.stands.0.admins)
 
     its : is_some (draft_of found.command.q found.command.cid (drafts_of earlier ++ [])) ≡ true
-    its = all_at_found (HasDraft (drafts_of earlier ++ [])) (is_at f.q f.cid) parts.0.host.records found.command found.found drafted (held_goes found.command.phase found.held) other
+    its = all-found (HasDraft (drafts_of earlier ++ [])) (is_at f.q f.cid) parts.0.host.records found.command found.found drafted (held_goes found.command.phase found.held) other
 
     last : LastSubmission f.q f.cid earlier
     last = last_submission f.q f.cid earlier

@@ -5,7 +5,7 @@ use Rattle.machine_model.specs.declared.words.Refusal.TheVariants as refusals
 use Rattle.std.proofs.Common.{◌≡◌, ℕ, ◌+◌, ◌-◌, ◌≤◌, ◌==◌, Bool, true, false, ◌&&◌, ◌||◌, Option, Some, None, List, [], ◌∷◌, ◌++◌, drop, slice_get, is_some, if◌then◌else◌, refl, ap, sym, ◌∙◌, arith, subst, eqb-true, eq-eqb, inl, inr, zero, suc, ◌<◌, not, All, is_none, append-nil, append_assoc}
 use Rattle.std.{proofs.lemmas.Bool.{true≢false, and_parts, or_parts, cases_Bool, not-false}, specs.List.{AllByRecursion, list_any}}
 use Rattle.std.specs.Option.{option_map_or, option_map}
-use Rattle.machine_model.proofs.{Cases.option_is, Counting.{one, total}, HostLeaves.ids_of, Steps.{permitted, exact, Accepts, first_fails, rest_fails}}
+use Rattle.machine_model.proofs.{Counting.{one, total}, HostLeaves.ids_of, Steps.{permitted, exact, Accepts, first_fails, rest_fails}}
 use Rattle.machine_model.specs.{After.change, Claims.OwnsFit, Events.{Event, Reply}, Image.{Made, draft_of, submitted_by}, Memory.with_pages, Opening.opening}
 use Rattle.machine_model.specs.{Proper.IsProper, Reached.{only, on_pages}}
 use Rattle.machine_model.specs.Refusals.{next_rung, job_at, conflicts, host_queue, is_submitted, is_drafted, is_live, in_state, is_of, queue_full, record_is}
@@ -19,15 +19,17 @@ use Rattle.run_laws.proofs.{Causes.not_conflicting, DataKept.{Going, one_step, s
 use Rattle.run_laws.proofs.{Known.{unsent, same_draft}, Moves.{QueueMove, queues_event, RecordsMove, records_event}, ReadsWalked.sent_few}
 use Rattle.run_laws.specs.{Statuses.{fetches, fetches_by}, Submitted.{submits, HasListOf, chains_are_the_drafts}}
 use Rattle.two_sides.proofs.{Along.{Unforged, unforged_next, unforged_run}, Commands.{nobody, keeps_fetch, keeps_walk, keeps_complete, only_same}}
-use Rattle.two_sides.proofs.{JobLaws.{stay_after, entries_named}, NeverFull.{host_jobs, stood_on, stood_at_opening, all_of}}
+use Rattle.two_sides.proofs.{JobLaws.{stay_after, entries_named}, NeverFull.{host_jobs, stood_on, stood_at_opening}}
 use Rattle.two_sides.proofs.PlacesKept.{InHand, in_hand, first_is, running_not_past, drafted_not}
-use Rattle.two_sides.proofs.Provided.{all_append, all_drop_one, some_is, In, in_found, all_at_found, all_in_both, sent}
+use Rattle.two_sides.proofs.Provided.{all_append, all_drop_one, In, in_found, all_in_both, sent}
 use Rattle.two_sides.proofs.Served.{Stood, unfetched_count, page_below, data_of, chain_of, more_than_only, first_read}
 use Rattle.two_sides.{proofs.{Standing.{list_at, less_at, device-posted}, TiedAll.pair_at}, specs.MachineLaws.entries_of}
 use Rattle.page_ledger.specs.Owners.{is_among}
 use Rattle.page_memory.specs.Pages.{Pages, page_at, byte_at}
 use Rattle.sgl_descriptor.specs.{Spelling.{spelling, descriptor_of}, declared.Descriptor.Descriptor}
 use Rattle.sgl_chain.{proofs.Back.spells_there, specs.Spells.Spells}
+use Rattle.slot_table.proofs.Rows.{option_is}
+use Rattle.page_memory.proofs.Lists.{all-to, all-found, some_is}
 
 -- A command is fetched once: behind its fetch no entry of it is left to fetch.
 
@@ -422,7 +424,7 @@ chains_drafted image made end q cid r request run found sub work =
     let all : AllChained (drafts_of made ++ []) end =
     chained_along made s0 end [] run.steps (unforged_run image made end run) (stood_at_opening run.pages run.queues run.entries run.segment image run.opens) tt in
     let known : Chained (drafts_of made ++ []) end r request =
-    subst (ChainedIfIo (drafts_of made ++ []) end r) work (all_at_found (ChainKnown (drafts_of made ++ []) end) (is_at q cid) end.host.records r found all sub) in
+    subst (ChainedIfIo (drafts_of made ++ []) end r) work (all-found (ChainKnown (drafts_of made ++ []) end) (is_at q cid) end.host.records r found all sub) in
     of known
   where
     of : Chained (drafts_of made ++ []) end r request → (d : DraftContents) × (draft_of q cid (drafts_of made) ≡ Some d) × HasListOf d end r request
@@ -438,6 +440,6 @@ chains_drafted image made end q cid r request run found sub work =
             spells = subst (λ (x : Descriptor). Spells (byte_at end.memory) x (joined_parts request.pieces r.data_pages)) h.first
                 (spells_there (only (on_pages r.chain_pages) (byte_at end.memory)) (byte_at end.memory) (more_than_only (on_pages r.chain_pages) (byte_at end.memory)) h.list.first (joined_parts request.pieces r.data_pages) h.list.spells);
             named = subst (λ (x : Descriptor). All (λ (e : SubEntry). e.sgl1 ≡ spelling x) (entries_of end r.q r.cid)) h.first
-                (all_of (λ e. e.sgl1 ≡ spelling h.list.first) (entries_of end r.q r.cid) (entries_named end r.q r.cid (io_entry r.cid request (spelling h.list.first)) h.list.entry));
+                (all-to (λ e. e.sgl1 ≡ spelling h.list.first) (entries_of end r.q r.cid) (entries_named end r.q r.cid (io_entry r.cid request (spelling h.list.first)) h.list.entry));
           },
         )

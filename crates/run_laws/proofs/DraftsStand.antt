@@ -11,14 +11,15 @@ use Rattle.machine_model.{proofs.Moves.drafted_record, specs.{Events.Event, Imag
 use Rattle.machine_model.specs.{Script.{Table, table, filled_draft}, State.{State}, Step.{IsReserved, IsNewIdentifier, HostPart, zeroed}}
 use Rattle.step_core.{proofs.Order.{bench_opens, bench_keeps}, specs.{Bench.{event_at, told, kept}, Going.IsTableInOrder, Opening.opening_of}}
 use Rattle.step_core.specs.Values.{Reply, Step}
-use Rattle.host_core.{proofs.Outstanding.{none_there, record_reserved, reserved_ok, found_any, find_last}, specs.CommandValues.{with_first, without_first}}
+use Rattle.host_core.{proofs.Outstanding.{none_there, record_reserved, reserved_ok, find_last}, specs.CommandValues.{with_first, without_first}}
 use Rattle.run_laws.proofs.Filled.{DraftMove, Rested, Stepped, Added, Filled, Built, Taken, moves, gathered_zeros, Tracked, tracked}
 use Rattle.run_laws.proofs.Standing.{any_with, few_with, Few, few_more, few_without, gone, any_without, any_of_more, Drafts, step_drafts, takes_by, none_last}
 use Rattle.run_laws.specs.Drafts.{ReservedCommand, IsReservedDraft, benches_submit_what_they_reserved_and_filled, takes_draft, fills_of, data_bytes, written_over, submitted_drafts_were_reserved}
 use Rattle.run_laws.specs.Values.{Done, Goes}
 use Rattle.page_memory.specs.Pages.{zero_page}
-use Rattle.two_sides.proofs.{Provided.all_at_found, Served.good_is}
+use Rattle.two_sides.proofs.Served.good_is
 use Rattle.std.proofs.lemmas.Bool.{cases_Bool}
+use Rattle.page_memory.proofs.Lists.{found_any, all-found}
 
 -- Each draft that a bench keeps is that of a drafted command, and it keeps one of each name at most.
 
@@ -200,7 +201,7 @@ submits_filled c =
         ∙ find_last (is_draft c.q c.cid) c.reservation.before.drafts made.0 none (own (eq-eqb made.0.q c.q made.1.queue) (eq-eqb made.0.cid c.cid made.1.identifier))
 
     proper : IsProperDraft made.0
-    proper = all_at_found IsProperDraft (is_draft c.q c.cid) c.reservation.after.drafts made.0 found order_after.drafts
+    proper = all-found IsProperDraft (is_draft c.q c.cid) c.reservation.after.drafts made.0 found order_after.drafts
 
     end : Tracked c.q c.cid made.0 (fills_of c.q c.cid c.between) at_submission.0
     end = tracked c.q c.cid c.between c.reservation.after at_submission.0 made.0 at_reservation.2.1 (not-true (list_any (takes_draft c.q c.cid) c.between) c.stays) found proper

@@ -1,5 +1,5 @@
 -- Between two completions of a command it was submitted anew: from its completion on no entry and no job of it is at the controller.
-use Rattle.machine_model.{proofs.{Cases.none_some, Counting.{one, total}, Steps.Accepts, Tokens.find_sound}, specs.{Agreeing.on_queue, Events.{Event, Reply}}}
+use Rattle.machine_model.{proofs.{Cases.none_some, Counting.{one, total}, Steps.Accepts}, specs.{Agreeing.on_queue, Events.{Event, Reply}}}
 use Rattle.machine_model.specs.{Refusals.{is_job, job_at, next_rung}, Standing.unfetched_at, State.{State, Device, Job}, declared.words.Refusal.Refusal}
 use Rattle.std.proofs.Common.{◌≡◌, ℕ, ◌<◌, ◌≤◌, ◌==◌, Bool, true, false, not, ◌&&◌, Option, Some, None, List, [], ◌∷◌, ◌++◌, filter, if◌then◌else◌, ap, sym, ◌∙◌, arith, subst, eqb-true, eq-eqb, inl, inr}
 use Rattle.std.{proofs.lemmas.Bool.{true≢false, and_parts, cases_Bool}, specs.{List.{AllByRecursion, list_any}, Option.{option_map_or}}}
@@ -9,9 +9,10 @@ use Rattle.run_laws.proofs.{DataKept.{Going, left_step, along_steps}, DataOnce.{
 use Rattle.run_laws.proofs.{OneEnd.{submit_at, At, at_step}, ReadsWalked.sent_few as sent_less, Verdicts.given_job}
 use Rattle.run_laws.specs.{Ends.{submits_by, submits, commands_complete_once}, Statuses.status_by}
 use Rattle.two_sides.proofs.{Along.{cut, unforged_front}, Commands.nobody, DeviceMoves.finished, JobLaws.not_zero as positive}
-use Rattle.two_sides.proofs.{Provided.{in_found, all_at_found}, Served.{Stood, job_weight, unfetched_count}, Standing.device-answered}
+use Rattle.two_sides.proofs.{Provided.in_found, Served.{Stood, job_weight, unfetched_count}, Standing.device-answered}
 use Rattle.machine_model.specs.After as a
 use Rattle.machine_model.specs.Events as events
+use Rattle.page_memory.proofs.Lists.{found_is, all-found}
 
 -- no job of a command is left
 abbrev IsOther : ℕ → ℕ → Job → Type 0
@@ -50,7 +51,7 @@ none_left q cid (j ∷ js) = grind (arith, none_left q cid js, none_left q cid j
 -- a job's command has no entry besides
 job_alone : (s : State) (q cid : ℕ) (j : Job) → Stood s → job_at s q cid ≡ Some j → NoEntry q cid s
 job_alone s q cid j stood at =
-    let ids : ((j.q == q) ≡ true) × ((j.entry.cid == cid) ≡ true) = and_parts (j.q == q) (j.entry.cid == cid) (find_sound (is_job q cid) s.device.jobs j at) in
+    let ids : ((j.q == q) ≡ true) × ((j.entry.cid == cid) ≡ true) = and_parts (j.q == q) (j.entry.cid == cid) (found_is (is_job q cid) s.device.jobs j at) in
     let counts : 1 ≤ total (job_weight q (λ c. one (c == cid))) s.device.jobs =
     let mine : job_weight q (λ c. one (c == cid)) j ≡ 1 = rw ids.0 (ap one ids.1) in
     omega (arith, mine, in_found (is_job q cid) s.device.jobs j at (job_weight q (λ c. one (c == cid)))) in
@@ -98,7 +99,7 @@ runs_complete_once image earlier first between second later end q cid st st' run
           let front = unforged_front between (second ∷ later) at.mid at.unforged in
           let still = along_steps (IsOver q cid) (submits q cid) (λ s e reply g far. over_step q cid other s e reply g far) between at.mid two.0 two.1 front at.fronted_mid.stood e over in
           let j = given_job second.before second.event second.reply q cid st' given' in
-          let ids = and_parts (j.0.q == q) (j.0.entry.cid == cid) (find_sound (is_job q cid) second.before.device.jobs j.0 j.1) in
+          let ids = and_parts (j.0.q == q) (j.0.entry.cid == cid) (found_is (is_job q cid) second.before.device.jobs j.0 j.1) in
           let over' = subst (IsOver q cid) (sym two.2.0) still.1 in
-          absurd (all_at_found (IsOther q cid) (is_job q cid) second.before.device.jobs j.0 j.1 over'.jobs (eqb-true j.0.q q ids.0) (eqb-true j.0.entry.cid cid ids.1))
+          absurd (all-found (IsOther q cid) (is_job q cid) second.before.device.jobs j.0 j.1 over'.jobs (eqb-true j.0.q q ids.0) (eqb-true j.0.entry.cid cid ids.1))
     ]

@@ -11,7 +11,7 @@ use Rattle.entry_codec.specs.declared.{status.TheConstants.Status.{COMMAND_ID_CO
 use Rattle.io_commands.specs.{Asked.Request, Jobs.is_success}
 use Rattle.page_memory.specs.declared.page.Half.TheVariants.{Submission, Completion}
 use Rattle.queue_pair.specs.Rings.{HostRing, next_tail, next_head, knowing}
-use Rattle.machine_model.proofs.{Counting.{all_at, one, total}, HostLeaves.ids_of, Kept.{asked_as_heard, ring_at, deleted_serves}}
+use Rattle.machine_model.proofs.{Counting.{one, total}, HostLeaves.ids_of, Kept.{asked_as_heard, ring_at, deleted_serves}}
 use Rattle.machine_model.proofs.Moves.{host_moves, deleted_is, half_from, queue_found, drafted_record, sent_record, creates_cq, creates_sq}
 use Rattle.machine_model.proofs.{Owned.{HoldsPart, reset_state, all_reset, lost_by}, Sound.{asked_at, was_asked, named, status_in}}
 use Rattle.machine_model.proofs.{Steps.{managed_by, unrefused, Accepts, part_controller}, Tokens.{gone_at, is_job}}
@@ -27,8 +27,9 @@ use Rattle.run_laws.{proofs.ReadsKept.{Member, members}, specs.Ends.{renews_by, 
 use Rattle.run_laws.specs.Statuses.{deletes, status_by, status_given}
 use Rattle.two_sides.proofs.{Along.{made_of, Carried}, DeviceMoves.{answer_of, finished, cleared, clears, fetch_by, complete_by, is_over}, Heads.changed_at}
 use Rattle.two_sides.proofs.{NeverFull.{stood_on, stood_at_opening}, PlacesKept.reaped_answer}
-use Rattle.two_sides.proofs.Provided.{all_at_found, In, all_in, all_in_both, all_map, all_filter, all_with, all_append, all_drop_one, sent, sent_found, some_is}
+use Rattle.two_sides.proofs.Provided.{In, all_in, all_in_both, all_map, all_with, all_append, all_drop_one, sent, sent_found}
 use Rattle.two_sides.proofs.{Served.{Stood, answers_at}, Standing.list_at, Tied.{below, deleted_is_gone}, TiedAll.{live_is_there, pair_at}}
+use Rattle.page_memory.proofs.Lists.{all-at, all-found, all-filter, some_is}
 
 -- A submission queue that is in service at the host and absent at the controller was deleted: a Delete SQ of it was fetched since it was last retired or asked for anew, and since the controller was last reset.
 
@@ -77,7 +78,7 @@ deletion_asked s stood j known z is0 = let k = known z in of k.0 k.1 k.2
 deletion_stays : (s : State) (e : Event) (reply : Reply) → resets e ≡ false → Accepts s e reply → Stood s → (k : ℕ) (j : Job) → slice_get s.device.jobs k ≡ Some j → j.q ≡ 0 → (j.entry.opcode == DELETE_IO_SQ) ≡ true
     → renews_by (named_queue j.entry) e reply ≡ false
 deletion_stays s e reply other ok stood k j at z is0 =
-    let asked = deletion_asked s stood j (all_at (JobKnown s.host.records) s.device.jobs k j at stood.grounds.stands.1.placed.jobs) z is0 in
+    let asked = deletion_asked s stood j (all-at (JobKnown s.host.records) s.device.jobs k j at stood.grounds.stands.1.placed.jobs) z is0 in
     let quiet_queue : (test : HostState → Bool) → ((st : HostState) → test st ≡ true → is_asked st ≡ false) → (n : ℕ) → option_map_or (λ x. test x.state) (host_queue s n) false ≡ true → (n == named_queue j.entry) ≡ false =
     λ test quiet n is. ne_eqb n (named_queue j.entry) (λ e. (let g = subst (λ (m : ℕ). asked_at s.host.queues m ≡ true) (sym e) asked in grind arith)) in
     grind (arith, other)
@@ -292,7 +293,7 @@ gone_on done s e reply ok stood stood' jobs h q y at ey serves eat absent =
     let left = deleting (is_live y.state) refl in
     let before = serving_event s e reply ok stood.grounds.stands.0 q y ey left in
     let so = absent_event (λ k. (x : HostQueue) → host_queue s k ≡ Some x → in_service x.state ≡ true → DeletedSince k done) s e reply ok (no_reset s e reply ok q y ey left)
-    (λ k cid j found c x ex serves. (grind (arith, all_at_found, is_job, eqb-true, found, c))) (λ k at' e' absent' x ex serves'. h k x at' ex serves' e' absent') q at eat absent in
+    (λ k cid j found c x ex serves. (grind (arith, all-found, is_job, eqb-true, found, c))) (λ k at' e' absent' x ex serves'. h k x at' ex serves' e' absent') q at eat absent in
     deleted_longer q done (made_of s e reply) before.1 (so before.0.0 before.0.1 before.0.2)
   where
     deleting : (b : Bool) → is_live y.state ≡ b → is_deleting y.state ≡ true
@@ -502,7 +503,7 @@ held_host : (done : List Made) (s : State) (e : Event) (reply : Reply) → Accep
     → GoneTold done s.host.queues s.device.queues → AllByRecursion (KnownIn s done) s.host.records → AllByRecursion (HeldTold (done ++ made_of s e reply ∷ [])) (a.after s e reply).host.records
 held_host done s e reply ok c trusted stood answers gone h =
     let less : (e : Event) (reply : Reply) → Accepts s e reply → (q cid : ℕ) → AllByRecursion (HeldTold (done ++ made_of s e reply ∷ [])) (without_record q cid s.host.records) =
-    λ e reply ok q cid. all_filter (HeldTold (done ++ made_of s e reply ∷ [])) (λ r. not (is_at q cid r)) s.host.records (still e reply ok) in
+    λ e reply ok q cid. all-filter (HeldTold (done ++ made_of s e reply ∷ [])) (λ r. not (is_at q cid r)) s.host.records (still e reply ok) in
     let began : (e : Event) (reply : Reply) → Accepts s e reply → (new : Record) → HeldTold (done ++ made_of s e reply ∷ []) new → AllByRecursion (HeldTold (done ++ made_of s e reply ∷ [])) (s.host.records ++ new ∷ []) =
     λ e reply ok new own. all_append (HeldTold (done ++ made_of s e reply ∷ [])) s.host.records (new ∷ []) (still e reply ok) (own, tt) in
     let sends : (e : Event) (id : ℕ) → Accepts s e (events.Sent id) → (adm : AdminKind) → AllByRecursion (HeldTold (done ++ made_of s e (events.Sent id) ∷ [])) (s.host.records ++ sent_record adm id ∷ []) =

@@ -22,7 +22,7 @@ use Rattle.host_core.{proofs.{Lists.all-from, Outstanding.find_more}, specs.Comm
 use Rattle.run_laws.proofs.{KeptValues.{StepKind, OfMachine, OfBench, kind}, Standing.{find_with, find_with_other, find_without_other}}
 use Rattle.run_laws.specs.{Drafts.{fill_by, takes_by, takes_draft, fills_of, data_bytes, written_over}, Values.{Done, Goes}}
 use Rattle.sgl_descriptor.specs.declared.Descriptor.{Descriptor}
-use Rattle.two_sides.proofs.Served.{good_is}
+use Rattle.two_sides.proofs.Served.{good_is, not_crossing}
 
 -- What data pages gather once they are filled, and as they are reserved.
 
@@ -69,9 +69,6 @@ zeros_read : (at len : ℕ) → at + len ≤ 4096 → slice_range zero_page at (
 unfolding zero_page
 zeros_read at len fits =
     ap (take (at + len - at)) (drop-replicate at 4096 0) ∙ take-replicate (at + len - at) (4096 - at) 0 (omega (arith, fits)) ∙ ap (λ (n : ℕ). replicate n 0) (omega arith)
-
-not_crossing : (a b : ℕ) → nat_lt 4096 (a + b) ≡ false → a + b ≤ 4096
-not_crossing a b h = grind (arith, nat_tests, h)
 
 -- All pieces
 

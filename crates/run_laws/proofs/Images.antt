@@ -13,8 +13,8 @@ use Rattle.entry_codec.specs.declared.submission.SubEntry.{SubEntry}
 use Rattle.io_commands.specs.{Asked.Request, DataBytes.gathered, Drafts.{DraftContents, io_entry, FitsDraft, HoldsPages, BuiltDraftsSpell}}
 use Rattle.io_commands.specs.{Jobs.{is_success, verdict_of, direction_of_entry, direction_by, kind_of_opcode, first_block, block_number}, Requests.direction_of}
 use Rattle.io_commands.specs.{Values.{IsGood, numbers_of}, declared.request.Kind.{Kind, TheVariants.{Compare}}}
-use Rattle.machine_model.proofs.{Cases.option_is, Counting.times-cons, HostLeaves.ids_of, Steps.{managed_by, Accepts, same_lists, permitted}}
-use Rattle.machine_model.{proofs.Tokens.{find_sound, is_job as is_job_tokens}, specs.{After.final_status, Events.{Event, Reply}}}
+use Rattle.machine_model.proofs.{Counting.times-cons, HostLeaves.ids_of, Steps.{managed_by, Accepts, same_lists, permitted}}
+use Rattle.machine_model.{proofs.Tokens.{is_job as is_job_tokens}, specs.{After.final_status, Events.{Event, Reply}}}
 use Rattle.machine_model.specs.{Image.{Made, draft_of, submitted_by, written_by, succeeds, image_by, image_from}, Memory.with_pages, Opening.opening}
 use Rattle.machine_model.specs.{Proper.{IsProper, IsPage, ArePages}, Refusals.{refusal_of, job_at, is_job}, State.{State, Device, Job, is_at}}
 use Rattle.machine_model.specs.{Status.same_status, Step.{Step, times}, Trusted.{TrustedRun, drafts_of, Steps, forges_by, is_forgery}, Weights.one}
@@ -26,11 +26,13 @@ use Rattle.run_laws.specs.Statuses.{status_by, has_cause, is_compare}
 use Rattle.run_laws.specs.Walked.{compares_by_their_drafts, compare_failures_are_of_compares}
 use Rattle.two_sides.proofs.Along.{Carried, AtOpenings, Before, keeps, made_of, run_along, run_before, unforged_run, trusted_end}
 use Rattle.two_sides.proofs.{DeviceMoves.{fetch_by, walk_by}, JobLaws.not_zero as positive, NeverFull.{stood_on, stood_at_opening}}
-use Rattle.two_sides.proofs.{PoolBytes.{host_image, trusted_or_reset, unforged_step}, Provided.{in_found, all_at_found, some_is}}
+use Rattle.two_sides.proofs.{PoolBytes.{host_image, trusted_or_reset, unforged_step}, Provided.in_found}
 use Rattle.two_sides.proofs.{Served.{Stood, JobList, job_list, good_is}, Standing.device-answered}
 use Rattle.two_sides.specs.Histories.{openings_have_histories, steps_make_histories}
 use Rattle.sgl_chain.specs.Spells.{Holds}
 use Rattle.page_memory.{proofs.Bytes.{byte_in, slice_get-set_other, slice_get-set_same}, specs.Pages.{Pages, page_at, byte_at}}
+use Rattle.slot_table.proofs.Rows.{option_is}
+use Rattle.page_memory.proofs.Lists.{found_is, all-found, some_is}
 
 -- Images, and what Compares find in them.
 
@@ -57,11 +59,11 @@ pub record JobDraft (drafts : List DraftContents) (s : State) (q cid : ℕ) (j :
 
 pub job_draft : (drafts : List DraftContents) (s : State) (q cid : ℕ) (j : Job) → Stood s → Known drafts s → (j.q == 0) ≡ false → job_at s q cid ≡ Some j → JobDraft drafts s q cid j
 job_draft drafts s q cid j stood known other at =
-    let l = job_list s stood j (in_found (is_job q cid) s.device.jobs j at) other (λ P all. all_at_found P (is_job q cid) s.device.jobs j at all) in
-    let ids = and_parts (j.q == q) (j.entry.cid == cid) (find_sound (is_job q cid) s.device.jobs j at) in
+    let l = job_list s stood j (in_found (is_job q cid) s.device.jobs j at) other (λ P all. all-found P (is_job q cid) s.device.jobs j at all) in
+    let ids = and_parts (j.q == q) (j.entry.cid == cid) (found_is (is_job q cid) s.device.jobs j at) in
     let rec = ids_of s j.q j.entry.cid l.command l.found in
     let of : OfDraft drafts s.memory l.command l.request =
-    subst (OfDraftIfIo drafts s.memory l.command) l.work (all_at_found (RecordKnown drafts s.memory) (is_at j.q j.entry.cid) s.host.records l.command l.found known.records l.phase) in
+    subst (OfDraftIfIo drafts s.memory l.command) l.work (all-found (RecordKnown drafts s.memory) (is_at j.q j.entry.cid) s.host.records l.command l.found known.records l.phase) in
     record {
       list = l;
       of = of;
@@ -71,7 +73,7 @@ job_draft drafts s q cid j stood known other at =
       bytes = λ source v is ok.
           let dir : direction_of_entry j.entry ≡ Source = ap (λ (e : SubEntry). direction_by (kind_of_opcode e.opcode)) l.entry ∙ ap direction_by (entry_kind l.command.cid l.request (spelling l.list.first)) ∙ source in
           all_carried s stood j l dir of.draft.data_pages of.pages (of.stand source) v is
-          (all_at_found (JobKnown s) (is_job q cid) s.device.jobs j at known.jobs other dir (ap goes_well is ∙ ok));
+          (all-found (JobKnown s) (is_job q cid) s.device.jobs j at known.jobs other dir (ap goes_well is ∙ ok));
     }
 
 -- Completing
@@ -89,7 +91,7 @@ completed : (drafts : List DraftContents) (s : State) (q cid : ℕ) (j : Job) �
 completed drafts s q cid j stood known at some = go (j.q == 0) refl
   where
     its_queue : j.q ≡ q
-    its_queue = eqb-true j.q q (and_parts (j.q == q) (j.entry.cid == cid) (find_sound (is_job q cid) s.device.jobs j at)).0
+    its_queue = eqb-true j.q q (and_parts (j.q == q) (j.entry.cid == cid) (found_is (is_job q cid) s.device.jobs j at)).0
 
     io : JobDraft drafts s q cid j → (o : Option Status) → j.verdict ≡ o → is_some o ≡ true
         → jobs.image_after s.device.image j.entry j.bytes o ≡ (if is_success (jobs.status_after s.device.image j.entry j.bytes o) then option_map_or (λ d. written_by d s.device.image) (draft_of q cid drafts) s.device.image else s.device.image)
@@ -249,7 +251,7 @@ told done drafts s q cid j d traced known at none compare latest fine = elim (ca
 ]
   where
     its_queue : j.q ≡ q
-    its_queue = eqb-true j.q q (and_parts (j.q == q) (j.entry.cid == cid) (find_sound (is_job q cid) s.device.jobs j at)).0
+    its_queue = eqb-true j.q q (and_parts (j.q == q) (j.entry.cid == cid) (found_is (is_job q cid) s.device.jobs j at)).0
 
     io : (other : (j.q == 0) ≡ false) → (v : Status) → j.verdict ≡ Some v
         → final_status s j ≡ (if bytes_eq (gathered d.request.pieces d.data_pages) (blocks_of_request d.request s.device.image) then SUCCESS else COMPARE_FAILURE)
@@ -285,7 +287,7 @@ told done drafts s q cid j d traced known at none compare latest fine = elim (ca
             ∙ ap (λ (b : Bool). if b then SUCCESS else COMPARE_FAILURE) (bytes_swap (blocks_at s.device.image d.request.slba d.request.blocks) (gathered d.request.pieces d.data_pages))
         by false failed =
             let st : final_status s j ≡ v = final ∙ ap (λ (b : Bool). if b then jobs.status_by s.device.image j.entry j.bytes (kind_of_opcode j.entry.opcode) else v) failed in
-            let c = all_at_found (CausedIfIo done (a.image_blocks s)) (is_job q cid) s.device.jobs j at traced.caused other in
+            let c = all-found (CausedIfIo done (a.image_blocks s)) (is_job q cid) s.device.jobs j at traced.caused other in
             let three : (same_status v ABORT_REQUESTED || same_status v ABORTED_SQ_DELETION || same_status v LBA_OUT_OF_RANGE) ≡ true = cause_of_three done (a.image_blocks s) j v failed (c.cause v is) in
             absurd (true≢false (sym fine ∙ ap (λ (x : Status). not (same_status x ABORT_REQUESTED || same_status x ABORTED_SQ_DELETION || same_status x LBA_OUT_OF_RANGE)) st ∙ ap not three))
 
@@ -338,7 +340,7 @@ told_by_draft drafts s q cid j d stood known at latest kind = elim (cases_Bool (
 ]
   where
     its_queue : j.q ≡ q
-    its_queue = eqb-true j.q q (and_parts (j.q == q) (j.entry.cid == cid) (find_sound (is_job_tokens q cid) s.device.jobs j at)).0
+    its_queue = eqb-true j.q q (and_parts (j.q == q) (j.entry.cid == cid) (found_is (is_job_tokens q cid) s.device.jobs j at)).0
 
 pub compares_told : compares_by_their_drafts
 compares_told image earlier later m end q cid st d run status latest kind fine =
@@ -356,7 +358,7 @@ pub failures_of_compares : compare_failures_are_of_compares
 failures_of_compares image earlier later m end q cid run io status =
     let b = (imaged_before image earlier later m end run).holds in
     let x = completed_job m.before m.event m.reply q cid COMPARE_FAILURE status in
-    let ids = and_parts (x.0.q == q) (x.0.entry.cid == cid) (find_sound (is_job_tokens q cid) m.before.device.jobs x.0 x.1) in
+    let ids = and_parts (x.0.q == q) (x.0.entry.cid == cid) (found_is (is_job_tokens q cid) m.before.device.jobs x.0 x.1) in
     let other : (x.0.q == 0) ≡ false = ap (λ (n : ℕ). n == 0) (eqb-true x.0.q q ids.0) ∙ positive q io in
     let k = job_draft (drafts_of earlier) m.before q cid x.0 b.stood b.known other x.1 in
     let opcode : (x.0.entry.opcode == COMPARE) ≡ true =

@@ -13,7 +13,7 @@ use Rattle.machine_model.specs.{Step.{finished_from, asked_by, pages_with_bytes,
 use Rattle.step_core.proofs.Order.{asked_at, inside, OwnLeft, Same, Changed, own_left, same_forgery, none_forged, steps_from}
 use Rattle.step_core.specs.{Bench.{DoesBy, IsOwn, Makes, event_at, asked, kept, told, Gathers}, Going.forges_by, Laws.made_from, Opening.opening_of}
 use Rattle.step_core.specs.Values.{Reply, Step}
-use Rattle.host_core.{proofs.{Lists.{all-append, found_is}, Outstanding.collected_named}, specs.CommandValues.without_first}
+use Rattle.host_core.{proofs.Outstanding.collected_named, specs.CommandValues.without_first}
 use Rattle.run_laws.proofs.{DataLaws.{bytes_kept, successes_fetched, prefix_given, blocks_given}, Images.{images_are_runs, compares_told}}
 use Rattle.run_laws.proofs.Standing.{Stands, releases_by, step_stands, not_again, collected_stands, Few, none_last, few_more, few_without, gone, any_without, all_without, any_on, any_last, any_of_more, HasLast, split_last}
 use Rattle.run_laws.specs.{Blocks.{collected_of, blocks_of_request, is_read}, DraftBlocks.{benches_write_their_blocks, benches_compare_their_blocks}}
@@ -21,9 +21,10 @@ use Rattle.run_laws.specs.Gathering.{collects, collects_by, IsOfSteps, KeepsComm
 use Rattle.run_laws.specs.{Statuses.{status_by, fetches}, Submitted.{submits, CollectedCommand, FetchedCommand, was_fetched, bytes_collected}}
 use Rattle.run_laws.specs.Values.{Done, made_by, is_forgery, is_reset, resets_by, since_reset, Goes, benches_have_tables, TrustedBench, benches_make_runs_of_their_values, benches_of_trusted_worlds_are_unforged}
 use Rattle.io_commands.specs.{DataBytes.gathered, Drafts.DraftContents, Values.{FinishedContents, gathered_from}}
-use Rattle.two_sides.proofs.{Along.{unforged_front, unforged_run, cut}, PoolBytes.ends_unforged, Provided.all_at_found}
+use Rattle.two_sides.proofs.{Along.{unforged_front, unforged_run, cut}, PoolBytes.ends_unforged}
 use Rattle.entry_codec.specs.declared.status.TheConstants.Status.{SUCCESS, COMPARE_FAILURE}
 use Rattle.std.proofs.lemmas.Bool.{cases_Bool}
+use Rattle.page_memory.proofs.Lists.{all-append, found_is, all-found}
 
 -- The machine's steps that a bench's steps are, with the values that it keeps.
 
@@ -572,7 +573,7 @@ steps_of image done end q cid f made w run values queue identifier =
 keeps_command : (image : List ℕ) (done : List Done) (end : Table) (q cid : ℕ) (f : FinishedContents) → TrustedBench image done end → finished_at q cid end.finished ≡ Some f
     → (k : KeepsCommand image done end q cid) × (k.command.finished ≡ f)
 keeps_command image done end q cid f b kept =
-    let w = all_at_found (WasCollected (made_by done)) (is_finished q cid) end.finished f kept (kept_from image done end b).finished in
+    let w = all-found (WasCollected (made_by done)) (is_finished q cid) end.finished f kept (kept_from image done end b).finished in
     let named = and_parts (f.q == q) (f.cid == cid) (found_is (is_finished q cid) end.finished f kept) in
     let steps = steps_of image done end q cid f (made_by done) w (makes_run image done end b) refl (eqb-true f.q q named.0) (eqb-true f.cid cid named.1) in (
       record {

@@ -15,18 +15,19 @@ use Rattle.entry_codec.specs.declared.submission.SubEntry.{SubEntry}
 use Rattle.io_commands.specs.{Asked.Request, DataBytes.{PagesOut, gathered}, Drafts.DraftContents}
 use Rattle.io_commands.specs.Jobs.{need_of_entry, direction_of_entry, is_success, verdict_of, io_fault, bytes_after_check}
 use Rattle.io_commands.specs.{Requests.{direction_of, parts_of}, Values.numbers_of}
-use Rattle.machine_model.proofs.{Cases.none_some, Counting.{held_once, all_at}, HostLeaves.ids_of, Moves.{draft_found, draft_lives, posts, posted_is}}
+use Rattle.machine_model.proofs.{Cases.none_some, Counting.held_once, HostLeaves.ids_of, Moves.{draft_found, draft_lives, posts, posted_is}}
 use Rattle.machine_model.{proofs.{Owned.in_record, Steps.{Accepts, pages_match, same_lists}}, specs.{After.course_of, Events.{Event, Reply}}}
 use Rattle.machine_model.specs.{Image.{draft_of, submitted_by}, Memory.{with_pages, memory_of}, Proper.{IsProper, IsPage, ArePages}}
 use Rattle.machine_model.specs.Refusals.{is_submitted, is_drafted, refusal_of, is_of, asks_for}
 use Rattle.machine_model.specs.{State.{State, Record, Job, record_at, pages_of, with_record}, Weights.{one, total, sent}, Work.Work}
 use Rattle.machine_model.specs.declared.words.Work.TheVariants.{Io, Management}
 use Rattle.two_sides.proofs.{Commands.{walk_writes_to, submitted_pages}, JobLaws.stay_after as lists_stay, PlacesKept.drafted_not}
-use Rattle.two_sides.proofs.Provided.{In, sent_found, in_at, all_at_found, some_is}
+use Rattle.two_sides.proofs.Provided.{In, sent_found, in_at}
 use Rattle.two_sides.proofs.Served.{requests_same, entry_direction, Stood, counts_sent, data_of, good_is, JobList, job_list, same_list, course_in, CourseWhole, course_whole}
 use Rattle.two_sides.proofs.{TiedAll.Grounds, Untouched.{owned_once, untouched}}
 use Rattle.run_laws.proofs.Carrying.{carried, did, carried_more, carried_same, MovesTo, moves_to, carried_length, carried_byte, Stands, Gathers, IsPlace, gathers_pieces, all_stand, none_discarded, source_places}
 use Rattle.run_laws.proofs.{Causes.goes_well, Moves.{RecordsMove, records_event, JobsMove, jobs_event, walked_bytes}}
+use Rattle.page_memory.proofs.Lists.{all-at, all-found, some_is, all-front}
 
 -- What is known of source commands: their data pages hold what their drafts gathered, and their jobs carry it.
 
@@ -149,10 +150,6 @@ all_pages : (m : Pages) (pages : PagesOut) → ArePages pages → AllByRecursion
 all_pages m [] whole h = tt
 all_pages m (page ∷ pages) whole h = ((h.0, All-head (λ (page : ℕ × List ℕ). IsPage page.1) page pages whole), all_pages m pages (All-tail (λ (page : ℕ × List ℕ). IsPage page.1) page pages whole) h.1)
 
-left_part : {B : Type 0} (P : B → Type 0) (xs ys : List B) → AllByRecursion P (xs ++ ys) → AllByRecursion P xs
-left_part P [] ys h = tt
-left_part P (x ∷ xs) ys h = (h.0, left_part P xs ys h.1)
-
 -- the data pages of a draft that is submitted stand in the store
 pub submitted_stand : (s : State) (d : DraftContents) (entry : SubEntry) → refusal_of s (events.Submit d) ≡ None → ArePages d.data_pages → Grounds s
     → AllByRecursion (Stands (a.posted d.q entry (a.on_records (with_record d.q d.cid a.submitted) (a.on_memory (with_pages (d.data_pages ++ d.chain_pages)) s))).memory) d.data_pages
@@ -160,7 +157,7 @@ submitted_stand s d entry none whole g =
     let x = draft_found s d none in
     all_pages (a.posted d.q entry (a.on_records (with_record d.q d.cid a.submitted) (a.on_memory (with_pages (d.data_pages ++ d.chain_pages)) s))).memory d.data_pages whole
     (subst (λ (t : State). AllByRecursion (λ (page : ℕ × List ℕ). page_at t.memory page.0 ≡ Some page.1) d.data_pages) (posted_is d.q entry (a.on_records (with_record d.q d.cid a.submitted) (a.on_memory (with_pages (d.data_pages ++ d.chain_pages)) s)))
-    (left_part (λ (page : ℕ × List ℕ). page_at (posts d.q entry (a.on_records (with_record d.q d.cid a.submitted) (a.on_memory (with_pages (d.data_pages ++ d.chain_pages)) s))).memory page.0 ≡ Some page.1) d.data_pages d.chain_pages
+    (all-front (λ (page : ℕ × List ℕ). page_at (posts d.q entry (a.on_records (with_record d.q d.cid a.submitted) (a.on_memory (with_pages (d.data_pages ++ d.chain_pages)) s))).memory page.0 ≡ Some page.1) d.data_pages d.chain_pages
     (submitted_pages s d entry x.0 x.1 (draft_lives s d none) g)))
 
 pub records_known : (drafts : List DraftContents) (s : State) (e : Event) (reply : Reply) → IsProper e → Accepts s e reply → Stood s
@@ -245,7 +242,7 @@ pub jobs_known : (s : State) (e : Event) (reply : Reply) → Accepts s e reply �
 jobs_known s e reply ok stood = record {
   stays = λ k j at far known other dir well.
       let c = known other dir well in
-      let l = job_list s stood j (in_at s.device.jobs k j at) other (λ P all. all_at P s.device.jobs k j at all) in
+      let l = job_list s stood j (in_at s.device.jobs k j at) other (λ P all. all-at P s.device.jobs k j at all) in
       record {
         bytes = c.bytes ∙ sym (still_carried s e reply ok stood j l dir j.units_done (replicate (need_of_entry j.entry) 0));
         over = λ st v. subst (λ (x : Course). length (units x) ≤ j.units_done) (sym (course_stays s e reply ok stood j l)) (c.over st v);
@@ -267,7 +264,7 @@ jobs_known s e reply ok stood = record {
 
 -- no draft is of queue 0
 drafts_elsewhere : (s : State) (e : Event) (reply : Reply) → Accepts s e reply → Stood s → (d : DraftContents) → e ≡ events.Submit d → (d.q == 0) ≡ false
-drafts_elsewhere s e reply ok stood d is = grind (arith, submit_record, ids_of, all_at_found)
+drafts_elsewhere s e reply ok stood d is = grind (arith, submit_record, ids_of, all-found)
 
 pub known_on : (drafts : List DraftContents) (s : State) (e : Event) (reply : Reply) → IsProper e → Accepts s e reply → Stood s → Known drafts s → Known (submitted_by e reply ++ drafts) (a.after s e reply)
 known_on drafts s e reply proper ok stood h = record {

@@ -3,7 +3,7 @@ use Rattle.machine_model.specs.After as a
 use Rattle.machine_model.specs.Events as events
 use Rattle.std.proofs.Common.{◌≡◌, is_some, ap, ℕ, ◌+◌, ◌==◌, Bool, true, false, not, ◌&&◌, Option, Some, None, List, [], ◌∷◌, ◌++◌, map, slice_get, is_none, if◌then◌else◌, refl, sym, ◌∙◌, subst, inl, inr, arith, zero, suc, ◌-◌, length, drop}
 use Rattle.std.{proofs.lemmas.Bool.{true≢false, and_parts, cases_Bool}, specs.{List.AllByRecursion, Option.option_map_or}}
-use Rattle.machine_model.proofs.{Cases.option_is, Counting.all_at, Moves.{host_moves, creates_cq, creates_sq, named, status_in, drafted_record, sent_record}}
+use Rattle.machine_model.proofs.Moves.{host_moves, creates_cq, creates_sq, named, status_in, drafted_record, sent_record}
 use Rattle.machine_model.{proofs.{Owned.{all_reset, lost_by}, Steps.{Accepts, managed_by, part_controller}}, specs.Events.{Event, Reply}}
 use Rattle.machine_model.specs.Refusals.{next_rung, job_at, is_job, fetch_slot, is_submitted, is_drafted, is_of}
 use Rattle.machine_model.specs.State.{State, Job, DeviceQueue, Record, is_at, record_at, without_record}
@@ -20,9 +20,11 @@ use Rattle.io_commands.specs.Values.{numbers_of}
 use Rattle.two_sides.proofs.Commands.{Walking, walking}
 use Rattle.two_sides.proofs.DeviceMoves.{unit_bytes, unit_done, walk_is, fetch_by, complete_by, answers, answer_of, finished, cleared, walk_by}
 use Rattle.two_sides.proofs.{Heads.{no_conflict, no_conflict as not_conflicting}, NeverFull.one_job, PlacesKept.in_hand, PoolBytes.host_jobs}
-use Rattle.two_sides.proofs.{Provided.{all_indexed, all_map, all_filter, all_append, only_found, In, all_in, all_with}, Served.Stood}
+use Rattle.two_sides.proofs.{Provided.{all_indexed, all_map, all_append, only_found, In, all_in, all_with}, Served.Stood}
 use Rattle.two_sides.proofs.{Standing.{list_at, all_list}, TiedAll.Grounds}
 use Rattle.queue_pair.specs.Members.{change}
+use Rattle.slot_table.proofs.Rows.{option_is}
+use Rattle.page_memory.proofs.Lists.{all-at, all-filter}
 
 -- What each event does to the controller's jobs, one by one: an Abort and a deletion mark only jobs that have no verdict, and the job of an admin command is of the entry that was next.
 
@@ -84,7 +86,7 @@ jobs_fetch P Q s q move stood h =
         walking_job : (o : Option Job) → job_at s (named_queue e) (named_command e) ≡ o → option_map_or (λ j. is_none j.verdict) o false ≡ true → (k : ℕ) (j : Job) → slice_get s.device.jobs k ≡ Some j → is_job (named_queue e) (named_command e) j ≡ true → j.verdict ≡ None
         walking_job None at w k j f is = absurd (true≢false (sym w))
         walking_job (Some j0) at w k j f is =
-            let same : j ≡ j0 = all_at (λ x. is_job (named_queue e) (named_command e) x ≡ true → x ≡ j0) s.device.jobs k j f (only_found (is_job (named_queue e) (named_command e)) s.device.jobs j0 at (one_job s stood (named_queue e) (named_command e))) is in
+            let same : j ≡ j0 = all-at (λ x. is_job (named_queue e) (named_command e) x ≡ true → x ≡ j0) s.device.jobs k j f (only_found (is_job (named_queue e) (named_command e)) s.device.jobs j0 at (one_job s stood (named_queue e) (named_command e))) is in
             ap (λ (x : Job). x.verdict) same ∙ nothing j0.verdict w
 
         aborted : a.walks s (named_queue e) (named_command e) ≡ true → (k : ℕ) (j : Job) → slice_get s.device.jobs k ≡ Some j → P j → (b : Bool) → is_job (named_queue e) (named_command e) j ≡ b
@@ -108,7 +110,7 @@ jobs_walk P Q s q cid reply move ok stood h j at act u =
     Mid k = (is_job q cid k ≡ true → Q (unit_done s j act k)) × (is_job q cid k ≡ false → Q k)
 
     same : (k : ℕ) (x : Job) → slice_get s.device.jobs k ≡ Some x → is_job q cid x ≡ true → x ≡ j
-    same k x e = all_at (λ k. is_job q cid k ≡ true → k ≡ j) s.device.jobs k x e (only_found (is_job q cid) s.device.jobs j at (one_job s stood q cid))
+    same k x e = all-at (λ k. is_job q cid k ≡ true → k ≡ j) s.device.jobs k x e (only_found (is_job q cid) s.device.jobs j at (one_job s stood q cid))
 
     before : AllByRecursion Mid s.device.jobs
     before =
@@ -118,7 +120,7 @@ jobs_walk P Q s q cid reply move ok stood h j at act u =
 -- Completing
 
 jobs_complete : (P Q : Job → Type 0) (s : State) (q cid : ℕ) → JobsMove P Q s (events.Complete q cid) → AllByRecursion P s.device.jobs → AllByRecursion Q (a.after_complete q cid s).device.jobs
-jobs_complete P Q s q cid move h = grind (arith, all_indexed, all_filter, complete_by)
+jobs_complete P Q s q cid move h = grind (arith, all_indexed, all-filter, complete_by)
 
 -- Every event
 
@@ -281,7 +283,7 @@ records_event P Q s e reply move ok g h =
     λ e move none. all_in P Q s.host.records (λ r within p. move.stays r within (none r) p) h in
     let inside = all_in P (Inside s P) s.host.records (λ r within p. (within, p)) h in
     let without : (e : Event) (q cid : ℕ) → RecordsMove P Q s e → ((r : Record) → takes e r ≡ false) → AllByRecursion Q (without_record q cid s.host.records) =
-    λ e q cid move none. all_filter Q (λ r. not (is_at q cid r)) s.host.records (still e move none) in
+    λ e q cid move none. all-filter Q (λ r. not (is_at q cid r)) s.host.records (still e move none) in
     let began : (e : Event) (new : Record) → RecordsMove P Q s e → ((r : Record) → takes e r ≡ false) → Q new → AllByRecursion Q (s.host.records ++ new ∷ []) =
     λ e new move none own. all_append Q s.host.records (new ∷ []) (still e move none) (own, tt) in
     let takes_none : (e : Event) → IsController e ≡ true → (r : Record) → takes e r ≡ false = λ e c r. grind arith in

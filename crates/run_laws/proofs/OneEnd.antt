@@ -6,10 +6,10 @@ use Rattle.std.proofs.lemmas.{Bool.{eqb-false, true≢false, and_parts, cases_Bo
 use Rattle.std.specs.{List.{AllByRecursion, list_any}, Option.{option_map_or, option_map}}
 use Rattle.queue_pair.{proofs.Rings.{distance_below, distance_grows, distance_is}, specs.Rings.{HostRing, next_tail, next_head, knowing, fresh_host_ring}}
 use Rattle.queue_pair.specs.Slots.{next_slot, distance, is_full, moved, is_in_range}
-use Rattle.machine_model.proofs.{Cases.option_is, Counting.{one, total, get_other}, HostLeaves.ids_of}
+use Rattle.machine_model.proofs.{Counting.{one, total, get_other}, HostLeaves.ids_of}
 use Rattle.machine_model.proofs.Moves.{host_moves, queue_known, sends, half_from, creates_cq, creates_sq, IsHeard, answer_heard}
 use Rattle.machine_model.proofs.{Owned.{all_reset, lost_quiet}, Sound.{reaped_submitted, named}}
-use Rattle.machine_model.proofs.{Steps.{Accepts, part_controller, permitted, managed_by, unrefused, first_fails, found}, Tokens.find_sound}
+use Rattle.machine_model.proofs.Steps.{Accepts, part_controller, permitted, managed_by, unrefused, first_fails, found}
 use Rattle.machine_model.{proofs.TokensKept.{no_answers_at, no_unfetched}, specs.{After.change, Claims.OwnsFit, Events.{Event, Reply}, Image.Made}}
 use Rattle.machine_model.specs.{Opening.{device_queue as opened, Opens, opening}, Positions.IsInRing, Proper.IsProper}
 use Rattle.machine_model.specs.Refusals.{is_submitted, host_queue, device_queue, next_rung, job_at, first_answer, entry_of, queue_full, fetch_slot, in_service, is_reaped, is_held, record_is, seen_entry}
@@ -21,7 +21,7 @@ use Rattle.machine_model.specs.declared.words.{Refusal.Refusal, RejectedFor.TheV
 use Rattle.two_sides.proofs.Along.{along_proper, trusted_end, made_of, Carried, Unforged, unforged_next, unforged_front, unforged_back, unforged_run, Before, keeps, cut, each_proper_step, trusted_step_by, before_step}
 use Rattle.two_sides.proofs.{DeviceMoves.{answers, answer_of, finished, cleared, fetch_by, complete_by}, Heads.{changed_at, head_at, no_conflict}}
 use Rattle.two_sides.proofs.{JobLaws.not_zero as positive, NeverFull.{stood_on, stood_at_opening}, PlacesKept.in_hand}
-use Rattle.two_sides.proofs.{Provided.{sent_found, all_at_found, some_is, all_of}, Served.{Stood, answers_at}, Standing.seen_trusted}
+use Rattle.two_sides.proofs.{Provided.{sent_found, all_of}, Served.{Stood, answers_at}, Standing.seen_trusted}
 use Rattle.two_sides.proofs.TiedAll.{Grounds, ring_in, pair_at}
 use Rattle.admin_commands.specs.{Entries.{admin_entry, named_queue}, declared.{AdminKind.TheVariants.{Abort, DeleteSq, DeleteCq}, SqState.TheVariants.Stopping}}
 use Rattle.entry_codec.specs.declared.{completion.ComEntry.ComEntry, status.{Status.Status, TheConstants.Status.ABORTED_SQ_DELETION}}
@@ -30,6 +30,8 @@ use Rattle.io_commands.specs.{Drafts.DraftContents, Jobs.is_success, Values.Fini
 use Rattle.page_memory.specs.declared.page.Half.TheVariants.{Submission, Completion}
 use Rattle.run_laws.proofs.Moves.{queues_walk, RecordsMove, records_event}
 use Rattle.run_laws.specs.Ends.{answers_of, front, reaps_answer_the_front, nothing_conflicts, submits_by, submits, ends_by, ends_are_told_once, commands_are_collected_once, submitted_commands_end_once}
+use Rattle.slot_table.proofs.Rows.{option_is}
+use Rattle.page_memory.proofs.Lists.{found_is, all-found, some_is}
 
 -- The heads that the answers of a queue tell never come back: each is as near to the tail as the one before it, the first as the head that the host knows, and what is not fetched is nearer than all.
 
@@ -370,7 +372,7 @@ front_reaped s f t q there =
         → reaped_entry s q (entry_of q an) ≡ (if q == 0 then AdminDone an.cid an.status an.dw0 else Done an.cid an.status)
     entry at an rest eq is =
         let r = answered_record s f.stood q at an rest eq is in
-        let fit = all_at_found (λ r. OwnsFit r.q r.work (pages_of r)) (is_at q an.cid) s.host.records r.0 r.1 f.stood.grounds.stands.0.admins in
+        let fit = all-found (λ r. OwnsFit r.q r.work (pages_of r)) (is_at q an.cid) s.host.records r.0 r.1 f.stood.grounds.stands.0.admins in
         ap (λ (b : Bool). if not b then Rejected WrongQueue else if not (fits_ring s q (entry_of q an)) then Rejected BadHead else option_map_or (λ r. reaped_as q (entry_of q an) r.work) (submitted_at s q an.cid) (Rejected UnknownId)) (eq-eqb q q refl)
         ∙ ap (λ (b : Bool). if not b then Rejected BadHead else option_map_or (λ r. reaped_as q (entry_of q an) r.work) (submitted_at s q an.cid) (Rejected UnknownId)) (fits_there (host_queue s q) refl there at an rest eq is)
         ∙ ap (λ (o : Option Record). option_map_or (λ r. reaped_as q (entry_of q an) r.work) o (Rejected UnknownId)) (submitted an r.0 r.1 r.2)
@@ -506,7 +508,7 @@ submitted_anew test l q cid other first second between later end at all finds = 
   | inr e ↦
       let b = past_before test l q cid other between later second at.mid end at.steps at.unforged at.fronted_mid.stood all in
       let r = finds b.next b.step b.trusted b.trusted_next in
-      let none = all_at_found (NotIn test q cid) (is_at q cid) second.before.host.records r.0 r.1 (b.holds.records e) (find_sound (is_at q cid) second.before.host.records r.0 r.1) in
+      let none = all-found (NotIn test q cid) (is_at q cid) second.before.host.records r.0 r.1 (b.holds.records e) (found_is (is_at q cid) second.before.host.records r.0 r.1) in
       absurd (true≢false (sym r.2 ∙ none))
 ]
 
@@ -515,7 +517,7 @@ submitted_anew test l q cid other first second between later end at all finds = 
 pub reap_leaves : (s : State) (q cid : ℕ) (st : Status) → Stood s → (q == 0) ≡ false → named (reaped s q) ≡ Some cid → AllByRecursion (NotIn is_submitted q cid) (a.after_reap q (Done cid st) s).host.records
 reap_leaves s q cid st stood other n = elim (option_is (record_at s.host q cid)) [
   | inl at ↦ absurd (cc (sym at ∙ (reaped_submitted s q cid n).1))
-  | inr (r, at) ↦ rw at (of_work r at r.work refl (all_at_found (λ r. OwnsFit r.q r.work (pages_of r)) (is_at q cid) s.host.records r at stood.grounds.stands.0.admins) (option_map_or (λ e. a.heard q e s) (seen_entry s q) s))
+  | inr (r, at) ↦ rw at (of_work r at r.work refl (all-found (λ r. OwnsFit r.q r.work (pages_of r)) (is_at q cid) s.host.records r at stood.grounds.stands.0.admins) (option_map_or (λ e. a.heard q e s) (seen_entry s q) s))
 ]
   where
     of_work : (r : Record) → record_at s.host q cid ≡ Some r → (w : Work) → r.work ≡ w → OwnsFit r.q w (pages_of r) → (t : State) → AllByRecursion (NotIn is_submitted q cid) (a.after_work w q cid st t).host.records
@@ -615,7 +617,7 @@ collect_finds s next q cid f step t = grind (arith, permitted, found, first_fail
 
 -- a command that is collected is of an I/O queue
 collect_io : (s next : State) (q cid : ℕ) (f : FinishedContents) → Stood s → Step s (events.Collect q cid) (events.Collects f) next → s.trusted ≡ true → (q == 0) ≡ false
-collect_io s next q cid f stood step t = grind (arith, permitted, collect_finds, all_at_found, ids_of)
+collect_io s next q cid f stood step t = grind (arith, permitted, collect_finds, all-found, ids_of)
 
 pub runs_collect_once : commands_are_collected_once
 runs_collect_once image earlier first between second later end q cid f f' run is_event is_reply is_event' is_reply' =

@@ -8,7 +8,7 @@ use Rattle.entry_codec.specs.declared.{status.Status.Status}
 use Rattle.entry_codec.specs.declared.status.TheConstants.Status.{SUCCESS, ABORT_REQUESTED, ABORTED_SQ_DELETION, LBA_OUT_OF_RANGE, COMPARE_FAILURE}
 use Rattle.io_commands.specs.{Asked.Request, DataBytes.{PagesOut, gathered}, Drafts.DraftContents, Jobs.is_success, Requests.parts_of}
 use Rattle.io_commands.specs.{Values.{FinishedContents, numbers_of}, declared.request.Kind.TheVariants.Read}
-use Rattle.machine_model.proofs.{Cases.option_is, HostLeaves.ids_of, Sound.{named, status_in}, Steps.{Accepts, permitted, first_fails, rest_fails}}
+use Rattle.machine_model.proofs.{HostLeaves.ids_of, Sound.{named, status_in}, Steps.{Accepts, permitted, first_fails, rest_fails}}
 use Rattle.machine_model.specs.{Claims.OwnsFit, Events.{Event, Reply}, Image.{Made, draft_of, image_after, undiscarded}}
 use Rattle.machine_model.specs.{Refusals.{is_submitted, is_held, record_is, refusal_of}, State.{State, Record, is_at, record_at, pages_of}}
 use Rattle.machine_model.specs.{Status.same_status, Step.{Step, asked_by, pages_with_bytes}, Trusted.{TrustedRun, drafts_of}}
@@ -21,12 +21,14 @@ use Rattle.run_laws.proofs.ReadsWalked.{ReadsSo, images_of, images_append, reads
 use Rattle.run_laws.specs.Blocks.{collected_of, is_read, blocks_of_request, partly, reads_give_their_blocks, stopped_reads_give_a_prefix}
 use Rattle.run_laws.specs.Ends.{retires_by, WasCompleted, WasLost, WasLostByReset, CauseOfEnd, Succeeded, Aborted, Stopped, Lost, LostByReset, PastImage, Differed, ends_come_from_completions, retired_queues_were_deleted, collects_tell_how_commands_ended, every_collect_has_its_cause}
 use Rattle.run_laws.specs.Statuses.{aborts, deletes, since_fetch, passes_image, is_compare, fetches}
-use Rattle.two_sides.proofs.{Along.{Before, keeps, run_before}, JobLaws.not_zero as positive, PlacesKept.reaped_answer, Provided.{all_at_found, some_is}}
+use Rattle.two_sides.proofs.{Along.{Before, keeps, run_before}, JobLaws.not_zero as positive, PlacesKept.reaped_answer}
 use Rattle.two_sides.proofs.Served.{good_is, Stood}
 use Rattle.page_ledger.specs.Owners.{is_among}
 use Rattle.block_image.specs.Blocks.{blocks_at}
 use Rattle.page_memory.specs.Pages.{Pages, page_at}
 use Rattle.sgl_descriptor.specs.{Targets.targets, declared.Direction.TheVariants.Destination}
+use Rattle.slot_table.proofs.Rows.{option_is}
+use Rattle.page_memory.proofs.Lists.{all-found, some_is}
 
 -- How commands end, in each trusted run.
 
@@ -83,7 +85,7 @@ collect_told : (done : List Made) (s next : State) (q cid : ℕ) (f : FinishedCo
 collect_told done s next q cid f step t h = elim (option_is (record_at s.host q cid)) [
   | inl at ↦ absurd (true≢false (sym (rw at at (not-false _ there))))
   | inr (r, at) ↦
-      of_work r at (only_held r.phase (rw at at (not-false _ there)) (rw at at sent)) r.work refl (all_at_found (λ r. OwnsFit r.q r.work (pages_of r)) (is_at q cid) s.host.records r at h.stood.grounds.stands.0.admins) (rw at at ok.1)
+      of_work r at (only_held r.phase (rw at at (not-false _ there)) (rw at at sent)) r.work refl (all-found (λ r. OwnsFit r.q r.work (pages_of r)) (is_at q cid) s.host.records r at h.stood.grounds.stands.0.admins) (rw at at ok.1)
 ]
   where
     ok : Accepts s (events.Collect q cid) (events.Collects f)
@@ -101,7 +103,7 @@ collect_told done s next q cid f step t h = elim (option_is (record_at s.host q 
         → CollectTold done q cid f.status
     of_work r at held (Io request) is fit e =
         let ids = ids_of s q cid r at in
-        let told = all_at_found (HeldTold done) (is_at q cid) s.host.records r at h.held held f.status (grind arith) in
+        let told = all-found (HeldTold done) (is_at q cid) s.host.records r at h.held held f.status (grind arith) in
         record {
           io = ap (λ (x : ℕ). x == 0) (sym ids.0) ∙ fit;
           ended = subst (λ (x : ℕ). EndedIn done x cid f.status) ids.0 (subst (λ (x : ℕ). EndedIn done r.q x f.status) ids.1 told);
@@ -235,9 +237,9 @@ collected_read image before fetched between collected later end f run is reads f
       stood = known.holds.traced.stood;
       found = found;
       soFar = subst (ReadIfIo (drafts_of (before ++ fetched ∷ between)) (images_of (λ q cid. image) (before ++ fetched ∷ between)) collected.before found.command) found.work
-          (all_at_found (ReadRecord (drafts_of (before ++ fetched ∷ between)) (images_of (λ q cid. image) (before ++ fetched ∷ between)) collected.before) (is_at found.at_q found.at_cid) collected.before.host.records found.command found.found known.holds.reads.records
+          (all-found (ReadRecord (drafts_of (before ++ fetched ∷ between)) (images_of (λ q cid. image) (before ++ fetched ∷ between)) collected.before) (is_at found.at_q found.at_cid) collected.before.host.records found.command found.found known.holds.reads.records
           (grind (arith, found.held))) (reads_kind f reads);
-      member = all_at_found (Member collected.before) (is_at found.at_q found.at_cid) collected.before.host.records found.command found.found (members collected.before known.holds.traced.stood);
+      member = all-found (Member collected.before) (is_at found.at_q found.at_cid) collected.before.host.records found.command found.found (members collected.before known.holds.traced.stood);
       image_is =
           image_at_fetch (λ q cid. image) before fetched between found.command.q found.command.cid
           (ap (λ (n : ℕ). fetches n found.command.cid fetched) (sym found.its_queue) ∙ ap (λ (n : ℕ). fetches f.q n fetched) (sym found.its_id) ∙ fetch)

@@ -16,7 +16,7 @@ use Rattle.entry_codec.specs.declared.submission.SubEntry.{SubEntry}
 use Rattle.io_commands.{proofs.Building.carries_entry, specs.{Asked.Request, Drafts.{DraftContents, io_entry}}}
 use Rattle.io_commands.specs.Jobs.{is_success, verdict_of, io_fault, bytes_after_check, need_of_entry, direction_of_entry, direction_by, kind_of_opcode, first_block, block_number}
 use Rattle.io_commands.specs.{Requests.{parts_of, direction_of}, Values.numbers_of, declared.request.Kind.{Kind, TheVariants.Read}}
-use Rattle.machine_model.proofs.{Cases.none_some, Counting.{held_once, all_at}, Owned.{in_record, in_queue}, Steps.{Accepts, pages_match}, Tokens.find_sound}
+use Rattle.machine_model.proofs.{Cases.none_some, Counting.held_once, Owned.{in_record, in_queue}, Steps.{Accepts, pages_match}}
 use Rattle.machine_model.specs.{After.{course_of, final_status}, Agreeing.unfetched_count, Claims.OwnsFit, Events.{Event, Reply}}
 use Rattle.machine_model.specs.{Image.{draft_of, submitted_by}, Memory.memory_of, Proper.IsProper}
 use Rattle.machine_model.specs.Refusals.{is_submitted, is_held, next_rung, refusal_of, job_at, is_job}
@@ -29,9 +29,10 @@ use Rattle.run_laws.proofs.Known.{same_draft, submit_record, course_stays, fault
 use Rattle.run_laws.{proofs.Moves.{takes, JobsMove, jobs_event, begun_job, QueueMove, queues_event}, specs.Statuses.fetches_by}
 use Rattle.two_sides.proofs.{Commands.{Walking, walk_writes, in_hand_is}, Heads.no_conflict as not_conflicting}
 use Rattle.two_sides.proofs.PlacesKept.{running_not_past, InHand, in_hand, first_is}
-use Rattle.two_sides.proofs.Provided.{In, in_at, in_found, is_found, all_at_found, all_in, all_drop_one, all_append, sent_found, some_is}
+use Rattle.two_sides.proofs.Provided.{In, in_at, in_found, is_found, all_in, all_drop_one, all_append, sent_found}
 use Rattle.two_sides.proofs.{Served.{good_is, Stood, data_of, entry_direction, parts_count, JobList, job_list, course_whole}, Standing.list_at, TiedAll.Grounds}
 use Rattle.two_sides.proofs.Untouched.{owned_once, among_counts, Kept, untouched_kept}
+use Rattle.page_memory.proofs.Lists.{all-at, found_is, all-found, some_is, all-slots}
 
 -- What is known of Reads: so many of their blocks' bytes stand in their data pages, and the draft's own behind them.
 
@@ -103,17 +104,13 @@ pub record Member (s : State) (r : Record) : Type 0 where
   pub stands : CommandStands s.memory s.device.queues s.device.jobs r
   pub fits : OwnsFit r.q r.work (pages_of r)
 
-by_index : {A : Type 0} (Q : A → Type 0) (xs : List A) → ((k : ℕ) (x : A) → slice_get xs k ≡ Some x → Q x) → AllByRecursion Q xs
-by_index Q [] f = tt
-by_index Q (x ∷ xs) f = (f 0 x refl, by_index Q xs (λ k y e. f (suc k) y e))
-
 pub members : (s : State) → Stood s → AllByRecursion (Member s) s.host.records
 members s stood =
-    by_index (Member s) s.host.records
+    all-slots (Member s) s.host.records
     (λ k x e. record {
-      only = λ q cid r0 found is. all_at (λ r. is_at q cid r ≡ true → r ≡ r0) s.host.records k x e (is_found q cid s.host.records r0 found (stood.grounds.stands.0.once q cid)) is;
-      stands = all_at (CommandStands s.memory s.device.queues s.device.jobs) s.host.records k x e stood.commands;
-      fits = all_at (λ r. OwnsFit r.q r.work (pages_of r)) s.host.records k x e stood.grounds.stands.0.admins;
+      only = λ q cid r0 found is. all-at (λ r. is_at q cid r ≡ true → r ≡ r0) s.host.records k x e (is_found q cid s.host.records r0 found (stood.grounds.stands.0.once q cid)) is;
+      stands = all-at (CommandStands s.memory s.device.queues s.device.jobs) s.host.records k x e stood.commands;
+      fits = all-at (λ r. OwnsFit r.q r.work (pages_of r)) s.host.records k x e stood.grounds.stands.0.admins;
     })
 
 pub sized_of : (s : State) (r : Record) (request : Request) → Member s r → r.work ≡ Io request → IsSized r request
@@ -154,7 +151,7 @@ no_data : (r : Record) (p : ℕ) → is_among (pages_of r) p ≡ false → is_am
 no_data r p h = elim (cases_Bool (is_among r.data_pages p)) [ inl e ↦ absurd (true≢false (sym (data_of r p e) ∙ h)) | inr e ↦ e ]
 
 found_at : (s : State) (q cid : ℕ) (r : Record) → record_at s.host q cid ≡ Some r → is_at q cid r ≡ true
-found_at s q cid r e = find_sound (is_at q cid) s.host.records r e
+found_at s q cid r e = found_is (is_at q cid) s.host.records r e
 
 -- the command of a walk is at its identifier
 pub walking_at : (s : State) (q cid : ℕ) (j : Job) (w : Walking s q cid j) → record_at s.host q cid ≡ Some w.list.command
@@ -314,7 +311,7 @@ no_fetch : (s : State) (e : Event) (reply : Reply) (r : Record) (request : Reque
 no_fetch s e reply r request x k j at sq sc = elim (cases_Bool (fetches_by r.q r.cid e reply)) [
   | inl is ↦
       let f = fetch_hand s e reply x.ok r.q r.cid is in
-      let far : is_job r.q f.0.cid j ≡ false = all_at (λ y. is_job r.q f.0.cid y ≡ false) s.device.jobs k j at (none_found r.q f.0.cid s.device.jobs (not_conflicting s x.stood r.q f.0 f.1)) in
+      let far : is_job r.q f.0.cid j ≡ false = all-at (λ y. is_job r.q f.0.cid y ≡ false) s.device.jobs k j at (none_found r.q f.0.cid s.device.jobs (not_conflicting s x.stood r.q f.0 f.1)) in
       absurd (true≢false (sym (and_from (j.q == r.q) (j.entry.cid == f.0.cid) (eq-eqb j.q r.q sq) (eq-eqb j.entry.cid f.0.cid (sc ∙ sym f.2))) ∙ far))
   | inr is ↦ is
 ]
@@ -330,7 +327,7 @@ quiet_jobs : (s : State) (e : Event) (reply : Reply) (r : Record) (request : Req
 quiet_jobs s e reply r request x drafts at h sub = record {
   stays = λ n j found far known sq sc well.
       let c = known sq sc well in
-      let l = job_list s x.stood j (in_at s.device.jobs n j found) (ap (λ (k : ℕ). k == 0) sq ∙ queue_of s r request x.member x.work) (λ P all. all_at P s.device.jobs n j found all) in
+      let l = job_list s x.stood j (in_at s.device.jobs n j found) (ap (λ (k : ℕ). k == 0) sq ∙ queue_of s r request x.member x.work) (λ P all. all-at P s.device.jobs n j found all) in
       let course = course_stays s e reply x.ok x.stood j l in
       let image = same_image s e reply at r.q r.cid (no_fetch s e reply r request x n j found sq sc) in
       record {
@@ -403,9 +400,9 @@ quiet_answers s e reply r request x drafts at h sub = record {
         absurd (true≢false (sym (has_verdict s r.q cid j (subst (λ (y : Event). refusal_of s y ≡ None) is x.ok.0) found) ∙ ap is_some v))
     answered cid j is found same ok (Some v) verdict = elim (cases_Bool (is_success v)) [
       | inl well ↦
-          let reading = all_at_found (ReadingIf at s r request h.k) (is_job r.q cid) s.device.jobs j found (h.jobs sub) sq sc (ap goes_well verdict ∙ well) in (
+          let reading = all-found (ReadingIf at s r request h.k) (is_job r.q cid) s.device.jobs j found (h.jobs sub) sq sc (ap goes_well verdict ∙ well) in (
             all_came s x.stood at r request x.member x.work x.kind h.k j
-                (job_list s x.stood j (in_found (is_job r.q cid) s.device.jobs j found) other (λ P all. all_at_found P (is_job r.q cid) s.device.jobs j found all)) sq sc v verdict reading,
+                (job_list s x.stood j (in_found (is_job r.q cid) s.device.jobs j found) other (λ P all. all-found P (is_job r.q cid) s.device.jobs j found all)) sq sc v verdict reading,
             omega (arith, reading.inside, x.image),
           )
       | inr failed ↦
@@ -413,7 +410,7 @@ quiet_answers s e reply r request x drafts at h sub = record {
     ]
       where
         ids : ((j.q == r.q) ≡ true) × ((j.entry.cid == cid) ≡ true)
-        ids = and_parts (j.q == r.q) (j.entry.cid == cid) (find_sound (is_job r.q cid) s.device.jobs j found)
+        ids = and_parts (j.q == r.q) (j.entry.cid == cid) (found_is (is_job r.q cid) s.device.jobs j found)
 
         sq : j.q ≡ r.q
         sq = eqb-true j.q r.q ids.0

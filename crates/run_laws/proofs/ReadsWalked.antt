@@ -4,8 +4,8 @@ use Rattle.machine_model.specs.Events as events
 use Rattle.std.proofs.Common.{◌≡◌, ℕ, zero, suc, ◌+◌, ◌/◌, ◌%◌, ◌<◌, ◌≤◌, ◌==◌, Bool, true, false, ◌&&◌, Some, None, List, [], ◌∷◌, length, take, drop, slice_get, if◌then◌else◌, refl, ap, sym, ◌∙◌, arith, subst, eqb-true, eq-eqb, inl, inr, nat_eq, ◌||◌, Option, ◌++◌}
 use Rattle.std.{proofs.lemmas.{Bool.{true≢false, and_parts, and_from, eqb-false, cases_Bool}, Grind.common_steps}, specs.Cmp.Lexicographic.pointwise}
 use Rattle.std.specs.{List.AllByRecursion, Option.{option_and_then, option_map_or}}
-use Rattle.machine_model.proofs.{Cases.option_is, Counting.times-append, HostLeaves.ids_of, Moves.{named, status_in}, Owned.in_record, Sound.reaped_submitted}
-use Rattle.machine_model.{proofs.{Steps.{Accepts, pages_match, same_lists}, Tokens.find_sound}, specs.After.course_of}
+use Rattle.machine_model.proofs.{Counting.times-append, HostLeaves.ids_of, Moves.{named, status_in}, Owned.in_record, Sound.reaped_submitted}
+use Rattle.machine_model.{proofs.Steps.{Accepts, pages_match, same_lists}, specs.After.course_of}
 use Rattle.machine_model.specs.{Agreeing.{is_out_of_service_at as past_at, unfetched_count, job_weight, answers_at}, Events.{Event, Reply}}
 use Rattle.machine_model.specs.{Image.{Made, submitted_by}, Memory.{memory_of, with_pages}, Proper.IsProper}
 use Rattle.machine_model.specs.Refusals.{is_submitted, refusal_of, job_at, is_job, is_drafted, is_held, is_of, asks_for, first_answer}
@@ -23,7 +23,7 @@ use Rattle.io_commands.specs.{Asked.Request, Drafts.DraftContents, Jobs.{need_of
 use Rattle.io_commands.specs.{Values.numbers_of, declared.request.Kind.TheVariants.Read}
 use Rattle.two_sides.proofs.{Along.{Carried, Before, keeps, made_of, run_before}, Commands.{nobody, Walking, walking, no_job}}
 use Rattle.two_sides.proofs.{DeviceMoves.{unit_memory, walk_is}, NeverFull.stood_at_opening, PlacesKept.{drafted_not, reaped_answer}, PoolBytes.host_jobs}
-use Rattle.two_sides.proofs.Provided.{In, in_found, all_in, all_at_found, some_is, all_of, all_in_both}
+use Rattle.two_sides.proofs.Provided.{In, in_found, all_in, all_of, all_in_both}
 use Rattle.two_sides.proofs.{Served.{entry_direction, good_is, Stood, course_in, course_whole, requests_same}, Standing.list_at, TiedAll.Grounds}
 use Rattle.two_sides.proofs.Untouched.{owned_once, bytes_elsewhere}
 use Rattle.run_laws.proofs.Carrying.{MoveTo, MovesTo, moves_to, length_with, reach, reach_more, came, list_ordered, next_above, below_reached, targets_differ, Received, received_more, set_there as set, Stands}
@@ -31,6 +31,8 @@ use Rattle.run_laws.proofs.{Causes.{goes_well, Traced, traced_carried, event_kee
 use Rattle.run_laws.proofs.Known.{course_stays, over_units, page_found, unsent, submitted_stand}
 use Rattle.run_laws.proofs.Moves.{JobsMove, jobs_event, walked, walked_bytes, queues_walk, QueueMove, queues_event, RecordsMove, records_event, takes, told_entry}
 use Rattle.run_laws.proofs.ReadsKept.{Images, read_targets, read_blocks, Reading, ReadingIf, UnreadEntry, FullAnswer, ReadSoFar, Member, sized_of, queue_of, fetched_in, Full, InImage, ReadIfIo, ReadRecord, members, job_request, quiet_on}
+use Rattle.slot_table.proofs.Rows.{option_is}
+use Rattle.page_memory.proofs.Lists.{found_is, all-found, some_is}
 
 -- The walk of a Read brings it further.
 
@@ -70,14 +72,14 @@ sent_few q cid [] = omega arith
 sent_few q cid (x ∷ rs) = grind (arith, sent_few q cid rs)
 
 job_not_past : (s : State) → Grounds s → (q cid : ℕ) (j : Job) → job_at s q cid ≡ Some j → past_at s.host.queues q ≡ false
-job_not_past s g q cid j found = grind (arith, find_sound, in_found)
+job_not_past s g q cid j found = grind (arith, found_is, in_found)
 
 no_entry : (s : State) → Stood s → (q cid : ℕ) (j : Job) → job_at s q cid ≡ Some j → (P : SubEntry → Type 0) → AllByRecursion (λ (e : SubEntry). e.cid ≡ cid → P e) (unfetched_at s.device.queues q)
 no_entry s stood q cid j found P =
     let w : ℕ → ℕ = λ c. one (c == cid) in
     let un : unfetched_count q w s.host.queues s.device.queues ≡ total (λ (x : SubEntry). w x.cid) (unfetched_at s.device.queues q) =
     ap (λ (b : Bool). if b then 0 else total (λ (x : SubEntry). w x.cid) (unfetched_at s.device.queues q)) (job_not_past s stood.grounds q cid j found) in
-    let ids = and_parts (j.q == q) (j.entry.cid == cid) (find_sound (is_job q cid) s.device.jobs j found) in
+    let ids = and_parts (j.q == q) (j.entry.cid == cid) (found_is (is_job q cid) s.device.jobs j found) in
     let mine : job_weight q w j ≡ 1 = rw ids.0 (ap one ids.1) in
     nobody (λ (e : SubEntry). e.cid) cid P (unfetched_at s.device.queues q)
     (omega (arith, un, mine, in_found (is_job q cid) s.device.jobs j found (job_weight q w), stood.places q w, sent_few q cid s.host.records, stood.grounds.stands.0.once q cid))
@@ -146,7 +148,7 @@ further s q cid r request j act x o touched ok drafts at h = (
     dir = ap direction_of_entry x.walking.list.entry ∙ entry_direction x.walking.list.command.cid x.walking.list.request (spelling x.walking.list.list.first) ∙ ap (λ (y : Request). direction_of y.kind) same.1 ∙ ap direction_of x.kind
 
     reading : Reading at s r request h.k j
-    reading = all_at_found (ReadingIf at s r request h.k) (is_job q cid) s.device.jobs j x.found (h.jobs submitted) sq sc (ap goes_well x.walking.verdict)
+    reading = all-found (ReadingIf at s r request h.k) (is_job q cid) s.device.jobs j x.found (h.jobs submitted) sq sc (ap goes_well x.walking.verdict)
 
     memory : (a.after_walk q cid s).memory ≡ written_by_act s j act
     memory = walk_memory s q cid j act x.found x.unit dir

@@ -5,7 +5,7 @@ use Rattle.machine_model.specs.declared.words.Refusal.TheVariants as refusals
 use Rattle.std.proofs.Common.{◌≡◌, Bool, true, false, ◌||◌, List, [], ◌∷◌, ◌++◌, if◌then◌else◌, refl, ap, ap₂, sym, ◌∙◌, MatchBool, Some, find, cond, ℕ, ◌==◌, not, ◌&&◌, Option, None, map, subst, inl, inr, arith}
 use Rattle.std.{proofs.lemmas.{Bool.{true≢false, or_right, not-false, or_parts}, List.Folds.list_any-append}}
 use Rattle.std.specs.{List.{AllByRecursion, list_any}, Option.{option_and_then, option_map_or}}
-use Rattle.host_core.proofs.{Lists.found_is, Outstanding.{one_step, find_more, find_changed, other_than, off_name, apart, found_with, found_without}}
+use Rattle.host_core.proofs.Outstanding.{one_step, find_more, find_changed, other_than, off_name, apart, found_with, found_without}
 use Rattle.host_core.specs.CommandValues.{without_first, with_first}
 use Rattle.io_commands.specs.{Asked.Request, Values.{FinishedContents, numbers_of}}
 use Rattle.admin_commands.specs.declared.AdminKind.TheVariants.{Abort, DeleteSq, DeleteCq}
@@ -17,6 +17,7 @@ use Rattle.machine_model.specs.State.{State, Record, is_at, record_at, pages_of,
 use Rattle.machine_model.specs.{Step.{Step, HostPart, IsController, finished_from}, declared.words.Phase.Phase}
 use Rattle.machine_model.specs.declared.words.{Phase.TheVariants.{Drafted, Submitted, Held}, Work.TheVariants.{Io}}
 use Rattle.std.proofs.lemmas.Bool.{cases_Bool}
+use Rattle.page_memory.proofs.Lists.{found_is}
 
 -- Steps of a run that pass a test: when one is added, and split at the last one.
 

@@ -9,7 +9,7 @@ use Rattle.entry_codec.specs.declared.{admin_opcode.TheConstants.DELETE_IO_SQ, s
 use Rattle.entry_codec.specs.declared.status.TheConstants.Status.{SUCCESS, COMMAND_ID_CONFLICT, ABORT_REQUESTED, ABORTED_SQ_DELETION}
 use Rattle.entry_codec.specs.declared.submission.SubEntry.{SubEntry}
 use Rattle.io_commands.specs.{Jobs.{is_success, verdict_of, direction_of_entry}}
-use Rattle.machine_model.{proofs.{Steps.{Accepts, managed_by, permitted}, Tokens.{is_job, find_sound}}, specs.{After.final_status, Events.{Event, Reply}}}
+use Rattle.machine_model.{proofs.{Steps.{Accepts, managed_by, permitted}, Tokens.is_job}, specs.{After.final_status, Events.{Event, Reply}}}
 use Rattle.machine_model.specs.{Image.Made, Opening.opening, Refusals.{job_at, next_rung, conflicts, refusal_of}, Script.{played, left_by}}
 use Rattle.machine_model.specs.{State.{State, Job, Device}, Step.{resets, Step, Refuses}, Trusted.{TrustedRun, Steps, forges_by}, WorkedReads.ordinary}
 use Rattle.machine_model.specs.declared.words.Refusal.{Refusal, TheVariants.{Nothing}}
@@ -18,12 +18,13 @@ use Rattle.run_laws.specs.Verdicts.{FoundDifference, first_verdicts_count, jobs_
 use Rattle.run_laws.specs.WorkedVerdicts.{one_aborted, deleted_under, deleted_under_said}
 use Rattle.two_sides.proofs.Along.{Unforged, unforged_front, unforged_back, unforged_run, Carried, keeps, made_of, cut, along_proper, before_step, stays_trusted, trusted_end, trusted_step_by}
 use Rattle.two_sides.proofs.{JobLaws.stood_after, NeverFull.{one_job, stood_on, stood_at_opening, some_none, host_jobs}}
-use Rattle.two_sides.proofs.{Provided.{all_at_found, all_in, only_found}, Served.Stood, Standing.device-answered}
+use Rattle.two_sides.proofs.{Provided.{all_in, only_found}, Served.Stood, Standing.device-answered}
 use Rattle.admin_commands.specs.{Entries.{named_queue, named_command}, declared.SqState.TheVariants.Absent}
 use Rattle.controller_walk.specs.Units.{Act, Moves, moving, from_place}
 use Rattle.sgl_descriptor.specs.{Spelling.descriptor_of, declared.Direction.{Direction, TheVariants.{Destination, Source}}}
 use Rattle.page_memory.specs.{Memory.bytes_at, Pages.{with_bytes, zero_page}}
-use Rattle.machine_model.proofs.Cases.{option_is}
+use Rattle.slot_table.proofs.Rows.{option_is}
+use Rattle.page_memory.proofs.Lists.{found_is, all-found}
 
 -- A command completes with its first verdict.
 
@@ -97,7 +98,7 @@ runs_count_first_verdicts image earlier m between completion later end q cid job
     let b = before_step (Marked q cid verdict) (keeps (Marked q cid verdict) (marked_carried q cid verdict)) [] (m ∷ between) later completion two.0 end two.2 rest marked in
     let j = given_job completion.before completion.event completion.reply q cid st given in
     let its : j.0.verdict ≡ Some verdict =
-    all_at_found (Has q cid verdict) (is_job q cid) completion.before.device.jobs j.0 j.1 (b.holds.jobs (not-true (list_any (fetches q cid) (m ∷ between)) far)) (find_sound (is_job q cid) completion.before.device.jobs j.0 j.1) in
+    all-found (Has q cid verdict) (is_job q cid) completion.before.device.jobs j.0 j.1 (b.holds.jobs (not-true (list_any (fetches q cid) (m ∷ between)) far)) (found_is (is_job q cid) completion.before.device.jobs j.0 j.1) in
     subst (Gives completion q cid verdict) j.2 (job_gives completion q cid j.0 verdict j.1 its)
 
 -- A job stays until it completes, or the controller is reset.
@@ -238,13 +239,13 @@ pub runs_keep_verdicts : verdicts_stay
 runs_keep_verdicts image made old new e reply q cid before after st run step unforged at v here =
     let only : (s : State) → Stood s → job_at s q cid ≡ Some before → AllByRecursion (Is q cid before) s.device.jobs =
     λ s stood at. only_found (is_job q cid) s.device.jobs before at (one_job s stood q cid) in
-    all_at_found (Keeps q cid before) (is_job q cid) new.device.jobs after here
+    all-found (Keeps q cid before) (is_job q cid) new.device.jobs after here
     (trusted_step_by (λ (e : Event) (reply : Reply) (t : State). Stood old → job_at old q cid ≡ Some before → AllByRecursion (Keeps q cid before) t.device.jobs) old
     (λ e why touched stood at. all_in (Is q cid before) (Keeps q cid before) old.device.jobs (λ j within p is. subst (KeepsVerdict before) (sym (p is)) (record { verdict = refl; units_done = refl; bytes = refl })) (only old stood at))
     (λ e reply proper ok stood at. jobs_event (Is q cid before) (Keeps q cid before) old e reply (verdicts_kept old e q cid before st at v) ok stood (only old stood at))
     e reply new step (trusted_end image made old run)
     (stays_trusted old e reply new step (not-true (forges_by e reply) unforged) (trusted_end image made old run)) (stood_after image made old run) at)
-    (find_sound (is_job q cid) new.device.jobs after here)
+    (found_is (is_job q cid) new.device.jobs after here)
 
 -- A walk of a job that has a verdict
 

@@ -6,7 +6,7 @@ use Rattle.std.{proofs.lemmas.Bool.{true≢false, and_parts, or_parts, cases_Boo
 use Rattle.std.specs.Option.{option_map_or}
 use Rattle.entry_codec.specs.declared.{admin_opcode.TheConstants.DELETE_IO_SQ, status.Status.Status}
 use Rattle.entry_codec.specs.declared.{status.TheConstants.Status.{COMMAND_ID_CONFLICT, ABORT_REQUESTED, ABORTED_SQ_DELETION}, submission.SubEntry.SubEntry}
-use Rattle.machine_model.{proofs.{Steps.{managed_by, permitted, exact}, Tokens.{is_job, find_sound}}, specs.{Events.{Event, Reply}, Image.Made}}
+use Rattle.machine_model.{proofs.{Steps.{managed_by, permitted, exact}, Tokens.is_job}, specs.{Events.{Event, Reply}, Image.Made}}
 use Rattle.machine_model.specs.{Opening.opening, Refusals.{next_rung, job_at, conflicts}, State.{State, Job, Device}, Step.{Step, resets, unit_answered}}
 use Rattle.machine_model.specs.{Trusted.Steps, declared.words.Refusal.Refusal}
 use Rattle.run_laws.proofs.Causes.{since_more, any_longer, any_last, not_conflicting, none_found, refused_no_fetch}
@@ -15,13 +15,14 @@ use Rattle.run_laws.specs.Statuses.{fetches, fetches_by, since_fetch}
 use Rattle.run_laws.specs.Walked.{walks_by, walks_of, times_walked, units_done_count_the_walks, HasJobSo, walks_go_on_without_a_verdict, completes_by, ends_job, ends_walk_by, only_the_last_walk_ends}
 use Rattle.two_sides.proofs.Along.{Carried, keeps, made_of, run_along, Unforged, unforged_next, unforged_front, unforged_back, unforged_run, unforged_end, trusted_end, cut}
 use Rattle.two_sides.proofs.{Commands.walking, JobLaws.{not_zero as positive, stood_after}, NeverFull.{stood_on, stood_at_opening, host_jobs}}
-use Rattle.two_sides.proofs.{PlacesKept.in_hand, Provided.{all_at, all_at_found, all_in}, Served.Stood, Standing.device-answered}
+use Rattle.two_sides.proofs.{PlacesKept.in_hand, Provided.{all_at, all_in}, Served.Stood, Standing.device-answered}
 use Rattle.admin_commands.specs.{Entries.{named_queue, named_command}, declared.SqState.TheVariants.Absent}
 use Rattle.controller_walk.specs.{Units.{Act, Stays, Reads, Moves}, Walks.is_more, declared.walk.WalkState.WalkState}
 use Rattle.sgl_descriptor.specs.declared.Direction.{Direction, TheVariants.{Destination, Source}}
 use Rattle.io_commands.specs.Jobs.{is_success, verdict_of, direction_of_entry}
 use Rattle.page_memory.specs.Pages.{with_page_bytes, with_bytes}
-use Rattle.machine_model.proofs.Cases.{option_is}
+use Rattle.slot_table.proofs.Rows.{option_is}
+use Rattle.page_memory.proofs.Lists.{found_is, all-found}
 
 -- A job has done as many units as there were walk steps of it since its fetch.
 
@@ -128,9 +129,9 @@ counts_carried = record {
 pub units_counted : units_done_count_the_walks
 units_counted image made end q cid j run io found =
     let all = (run_along CountedSo (keeps CountedSo counts_carried) image (λ pages queues n s opens. record { stood = stood_at_opening pages queues n s image opens; counted = tt }) made end run).counted in
-    let ids = and_parts (j.q == q) (j.entry.cid == cid) (find_sound (is_job q cid) end.device.jobs j found) in
+    let ids = and_parts (j.q == q) (j.entry.cid == cid) (found_is (is_job q cid) end.device.jobs j found) in
     let jq = eqb-true j.q q ids.0 in
-    let c = all_at_found (CountedIfIo made) (is_job q cid) end.device.jobs j found all (ap (λ (n : ℕ). n == 0) jq ∙ positive q io) in
+    let c = all-found (CountedIfIo made) (is_job q cid) end.device.jobs j found all (ap (λ (n : ℕ). n == 0) jq ∙ positive q io) in
     c.count ∙ ap (λ (n : ℕ). times_walked n j.entry.cid made) jq ∙ ap (λ (n : ℕ). times_walked q n made) (eqb-true j.entry.cid cid ids.1)
 
 -- A walk that ended goes on no more: its job has a verdict until it is completed.
@@ -215,7 +216,7 @@ fetch_decided s n stood q cid h = go (next_rung s n) refl
 -- what a walk does to a job, another job than the one that it walks
 other_job : (q cid k c : ℕ) (f : Job → Job) (js : List Job) → ((k == q) && (c == cid)) ≡ false → ((j : Job) → (f j).q ≡ j.q) → ((j : Job) → (f j).entry ≡ j.entry)
     → DecidedIn q cid js → DecidedIn q cid (map (λ (j : Job). if (j.q == k) && (j.entry.cid == c) then f j else j) js)
-other_job q cid k c f js far same_q same_entry h = grind (arith, is_job, found_mapped, find_sound, eq-eqb, eqb-true)
+other_job q cid k c f js far same_q same_entry h = grind (arith, is_job, found_mapped, found_is, eq-eqb, eqb-true)
 
 walk_decided : (s : State) (k c : ℕ) (q cid : ℕ) → ((k == q) && (c == cid)) ≡ false → DecidedIn q cid s.device.jobs → DecidedIn q cid (a.after_walk k c s).device.jobs
 walk_decided s k c q cid far h = go (job_at s k c)
@@ -274,7 +275,7 @@ decided_step q cid s e reply g far other h = of_list q cid (a.after s e reply) (
 
 walked_one : (q cid : ℕ) (f : Job → Job) → ((j : Job) → (f j).q ≡ j.q) → ((j : Job) → (f j).entry ≡ j.entry) → (js : List Job) (j : Job) → find (is_job q cid) js ≡ Some j
     → find (is_job q cid) (map (λ (x : Job). if (x.q == q) && (x.entry.cid == cid) then f x else x) js) ≡ Some (f j)
-walked_one q cid f same_q same_entry js j e = grind (arith, found_mapped, find_sound, is_job)
+walked_one q cid f same_q same_entry js j e = grind (arith, found_mapped, found_is, is_job)
 
 -- its verdict is what the walk step answers
 pub record WalkedTo (q cid : ℕ) (s : State) (verdict : Option Status) : Type 0 where

@@ -10,6 +10,7 @@ use Rattle.script_cli.specs.Lines.{is_feed, is_dropped, lines, first_line, after
 use Rattle.script_cli.specs.{Numbers.{is_digit, digits_from, if_below, hex_byte, bytes_from}, Pieces.{is_plus, number32, data_of, data_piece}}
 use Rattle.script_cli.specs.{Replies.runs_text, Scripts.{numbered_line, with_line, script_from, IsNumberedLine, AreLines, IsReading}}
 use Rattle.script_cli.specs.declared.{fault.ScriptFault.ScriptFault, input.ImageFault.TheVariants.BadLength, script.{Line.Line, Numbered.Numbered}}
+use Rattle.std.proofs.lemmas.Bool.{and_right}
 
 -- What was read and written, where it is known.
 
@@ -276,16 +277,12 @@ bytes_all byte small = each_of 8 byte small
 
 -- Names of another length.
 
-and_false : (b c : Bool) → c ≡ false → (b && c) ≡ false
-and_false true c e = e
-and_false false c e = refl
-
 -- words of two lengths are not the same
 pub other_length : (a b : List ℕ) → nat_eq (length a) (length b) ≡ false → bytes_eq a b ≡ false
 other_length [] [] other = grind (arith, other)
 other_length [] (y ∷ b) other = refl
 other_length (x ∷ a) [] other = refl
-other_length (x ∷ a) (y ∷ b) other = and_false (nat_eq x y) (bytes_eq a b) (other_length a b (grind (arith, other)))
+other_length (x ∷ a) (y ∷ b) other = and_right (nat_eq x y) (bytes_eq a b) (other_length a b (grind (arith, other)))
 
 -- A script is read line by line.
 

@@ -18,17 +18,9 @@ use Rattle.host_core.proofs.KeptRows.{drafts_named, tickets_named, finished_name
 use Rattle.host_core.proofs.Outstanding.{collected_named}
 use Rattle.host_core.specs.CommandValues.{without_first, with_first, as_draft, as_ticket, as_finished, picked, table_with, IsBench, IsOut}
 use Rattle.host_core.specs.declared.values.CommandValue.{CommandValue}
+use Rattle.page_memory.proofs.Lists.{any_found}
 
 -- What the small calls on kept values do is what a step of a bench does, and the bench stays tied to its world.
-
--- whether one passes is whether one is found
-any_found : {X : Type 0} (p : X → Bool) (xs : List X) (o : Option X) → find p xs ≡ o → list_any p xs ≡ elim o [ None ↦ false | Some x ↦ true ]
-any_found p [] o e = subst (λ (o : Option _). false ≡ elim o [ None ↦ false | Some x ↦ true ]) e refl
-any_found {X} p (x ∷ xs) o e = go (p x) e (any_found p xs o)
-  where
-    go : (b : Bool) → cond b (Some x) (find p xs) ≡ o → (find p xs ≡ o → list_any p xs ≡ elim o [ None ↦ false | Some x ↦ true ]) → (b || list_any p xs) ≡ elim o [ None ↦ false | Some x ↦ true ]
-    go true e ih = subst (λ (o : Option X). true ≡ elim o [ None ↦ false | Some x ↦ true ]) e refl
-    go false e ih = ih e
 
 abbrev table_of_parts : State → List DraftContents → List (ℕ × ℕ) → List FinishedContents → Table
 table_of_parts world drafts tickets finished = record { world = world; drafts = drafts; tickets = tickets; finished = finished }

@@ -15,17 +15,18 @@ use Rattle.io_commands.specs.{Values.{FinishedContents, numbers_of}, declared.{d
 use Rattle.machine_model.specs.{Events.Event, Image.{draft_of, is_draft, Made}, Proper.{IsProper, IsProperDraft, IsPage}}
 use Rattle.machine_model.specs.{Script.{Table, finished_at, is_ticket, is_finished, fill_fault, filled_draft, table}, State.State}
 use Rattle.machine_model.specs.{Touch.{allowed, own_pages, touched_by}, Trusted.Steps}
-use Rattle.host_core.{proofs.Lists.{found_is, all-from, all-to, all-append}, specs.CommandValues.{with_first, without_first}}
+use Rattle.host_core.{proofs.Lists.all-from, specs.CommandValues.{with_first, without_first}}
 use Rattle.step_core.specs.Bench.{event_at, asked, DoesBy, IsOwn, Fills, Builds, Gathers, told, kept, DoesAll}
 use Rattle.step_core.specs.Going.{IsTableInOrder, IsFitStep, benches_go_on, benches_open_in_order, benches_keep_order, forges_by, has_forgery, benches_touch_what_they_may, benches_make_trusted_runs}
 use Rattle.step_core.specs.{Laws.{made_from, benches_run_the_machine, made_by}, Opening.opening_of, Values.{Step, Reply}}
-use Rattle.two_sides.proofs.{Agreed.{answers_every_event, order_kept, agreed_stays}, JobLaws.length_put, Provided.all_at_found}
-use Rattle.two_sides.proofs.Served.{good_is, reserved_is_proper, collected_is_proper}
+use Rattle.two_sides.proofs.{Agreed.{answers_every_event, order_kept, agreed_stays}, JobLaws.length_put}
+use Rattle.two_sides.proofs.Served.{good_is, reserved_is_proper, collected_is_proper, not_crossing}
 use Rattle.two_sides.specs.InOrder.{openings_are_in_order, steps_keep_order, reserved_drafts_are_proper, collected_commands_are_proper}
 use Rattle.sgl_descriptor.specs.{Targets.descriptor_of_part, declared.{Descriptor.Descriptor, Part.Part}}
 use Rattle.sgl_chain.{proofs.{Back.length-built, Spelled.length-segment_bytes}, specs.Chains.{segments_on, segment_bytes, link_to}}
 use Rattle.page_memory.specs.Pages.{with_bytes}
 use Rattle.page_ledger.specs.Owners.{is_among}
+use Rattle.page_memory.proofs.Lists.{all-append, found_is, all-to, all-found}
 
 -- The event that a step of a bench is.
 
@@ -74,10 +75,10 @@ asked_at t what e at = ap asked (inside at)
 proper : (t : Table) (what : Step) → IsTableInOrder t → IsFitStep what → (e : Event) → event_at t what ≡ Some e → IsProper e
 proper t (step.Reserve q request) h fit e at = subst IsProper (inside at) fit
 proper t (step.Forge q slot bytes) h fit e at = subst IsProper (inside at) fit
-proper t (step.Submit q cid) h fit e at = found_event IsProper events.Submit (draft_of q cid t.drafts) e (λ d is. all_at_found IsProperDraft (is_draft q cid) t.drafts d is h.drafts) at
-proper t (step.Cancel q cid) h fit e at = found_event IsProper events.Cancel (draft_of q cid t.drafts) e (λ d is. all_at_found IsProperDraft (is_draft q cid) t.drafts d is h.drafts) at
+proper t (step.Submit q cid) h fit e at = found_event IsProper events.Submit (draft_of q cid t.drafts) e (λ d is. all-found IsProperDraft (is_draft q cid) t.drafts d is h.drafts) at
+proper t (step.Cancel q cid) h fit e at = found_event IsProper events.Cancel (draft_of q cid t.drafts) e (λ d is. all-found IsProperDraft (is_draft q cid) t.drafts d is h.drafts) at
 proper t (step.Release q cid) h fit e at =
-    found_event IsProper events.Release (finished_at q cid t.finished) e (λ f is. all_at_found (λ x. IsProper (events.Release x)) (is_finished q cid) t.finished f is h.finished) at
+    found_event IsProper events.Release (finished_at q cid t.finished) e (λ f is. all-found (λ x. IsProper (events.Release x)) (is_finished q cid) t.finished f is h.finished) at
 proper t (step.Collect q cid) h fit e at = subst IsProper (collect_at t q cid e at) tt
 proper t (step.Fill q cid bytes) h fit e at = absurd cc
 proper t (step.Build q cid) h fit e at = absurd cc
@@ -136,9 +137,6 @@ put_in_page page new at whole fits = length_put page new at (omega (arith, whole
 
 few_taken : (n : ℕ) (xs : List ℕ) → length (take n xs) ≤ n
 few_taken n xs = grind (arith, common_steps)
-
-not_crossing : (a b : ℕ) → nat_lt 4096 (a + b) ≡ false → a + b ≤ 4096
-not_crossing a b h = grind (arith, nat_tests)
 
 filled_pages : (pieces : List Piece) (pages : PagesOut) (bytes : List ℕ) → list_any crosses_page pieces ≡ false → AllByRecursion IsPageOut pages → AllByRecursion IsPageOut (filled pieces pages bytes)
 filled_pages [] pages bytes within whole = whole

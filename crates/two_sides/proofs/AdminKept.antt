@@ -18,9 +18,10 @@ use Rattle.controller_core.specs.Managing.{queues_after, stopping, with_completi
 use Rattle.controller_core.specs.declared.{command.Work.TheVariants.{Io, Admin}, queue.ControllerQueue.ControllerQueue}
 use Rattle.host_core.specs.{Alone.{HostView, HostStep, alone}, Ringing.{tail_of, head_rung}}
 use Rattle.machine_model.proofs.{Kept.{making_cq_as_heard, making_sq_as_heard}, Moves.{half_from, host_moves}, Owned.{HoldsPart, holds_from_sound}}
-use Rattle.machine_model.{proofs.{Steps.{Accepts, kept_anyway, part_left}, Cases.option_is}, specs.{After.change, Claims.{AdminLives, IsSound}}}
+use Rattle.machine_model.{proofs.Steps.{Accepts, kept_anyway, part_left}, specs.{After.change, Claims.{AdminLives, IsSound}}}
 use Rattle.machine_model.specs.{Events.{Event, Reply}, Refusals.is_live as is_live_refusals, State.{State, HostQueue}, Step.{HostPart, IsController, host_part}}
 use Rattle.page_ledger.specs.Owners.{pages_from}
+use Rattle.slot_table.proofs.Rows.{option_is}
 
 -- What the rule of an admin entry saw where it decided so.
 

@@ -5,8 +5,7 @@ use Rattle.machine_model.specs.declared.words.Refusal.TheVariants as refusal
 use Rattle.std.proofs.Common.{◌≡◌, ℕ, ◌-◌, ◌<◌, ◌≤◌, Bool, true, false, ◌||◌, Option, Some, None, List, [], ◌∷◌, length, slice_get, if◌then◌else◌, MatchBool, arith, refl, ap, sym, ◌∙◌, subst, not, suc, zero, ◌==◌, filter, eqb-true, inl, inr, ◌⊎◌, is_some, is_none, get_or, ◌&&◌, ◌++◌}
 use Rattle.std.proofs.lemmas.{Bool.{true≢false, or_parts, cases_Bool, and_parts, Decides.nat_tests}, Option.slice_get-get_or}
 use Rattle.std.specs.{List.{AllByRecursion, list_all}, Option.option_map_or}
-use Rattle.machine_model.proofs.{Cases.option_is, Counting.{all_at, find_sound}}
-use Rattle.machine_model.proofs.{Headline.{sound_from_both, steps_keep, length-range, runs_are_sound, in_limits, limits_of}, HostLeaves.host_leaves}
+use Rattle.machine_model.proofs.{Headline.{sound_from_both, steps_keep, runs_are_sound, in_limits, limits_of}, HostLeaves.host_leaves}
 use Rattle.machine_model.proofs.Moves.{host_moves, drafted_record, sent_record, creates_cq, creates_sq}
 use Rattle.machine_model.proofs.Owned.{holds_from_sound, taken_from_out, all_reset, all_reset_queues, lost_keeps, reset_length, no_waiting, no_answering, reset_admin_commands, reset_device_length}
 use Rattle.machine_model.proofs.Sound.{asked_from_fit}
@@ -22,7 +21,7 @@ use Rattle.machine_model.specs.{Work.Work, declared.words.{HostState.TheVariants
 use Rattle.two_sides.proofs.{Along.{along_proper, each_proper_step, stays_trusted}, Heads.heads_at_opening}
 use Rattle.two_sides.proofs.JobLaws.{stood_has_chains, stood_has_jobs, stood_keeps_chains, stood_keeps_lists, stood_linked, stood_stays, stood_keeps_pages_whole}
 use Rattle.two_sides.proofs.{NeverFull.{Roomy, roomy_on, reply_not_full, stood_at_opening}, PoolBytes.{trusted_before, trusted_or_reset, reset_leaves}}
-use Rattle.two_sides.proofs.{Provided.{all_in, all_in_both, all_append, all_filter, all_map, steps_provide, runs_provide}, Served.Stood, Standing.stands_once}
+use Rattle.two_sides.proofs.{Provided.{all_in, all_in_both, all_append, all_map, steps_provide, runs_provide}, Served.Stood, Standing.stands_once}
 use Rattle.two_sides.proofs.TiedAll.{live_is_there, limits_stay}
 use Rattle.two_sides.specs.AgreeingLaws.{openings_agree, steps_keep_agreement, trusted_runs_agree, agreeing_sides_are_linked, agreed_live_queues_are_there, agreeing_sides_have_room, agreed_admin_commands_stand_once, agreed_jobs_stand, agreed_jobs_keep_their_lists, agreed_chains_stand, agreed_chains_stay, agreeing_steps_stay_allowed}
 use Rattle.two_sides.specs.InOrder.{IsInOrder, IsAnswered, every_event_is_answered, openings_are_in_order, steps_keep_order}
@@ -34,6 +33,9 @@ use Rattle.page_ledger.specs.Owners.{is_among}
 use Rattle.controller_walk.specs.Units.{Act, first_passing, touched, units}
 use Rattle.admin_commands.specs.declared.AdminKind.TheVariants.{Abort, DeleteSq, DeleteCq}
 use Rattle.entry_codec.specs.declared.status.TheConstants.Status.{ABORTED_SQ_DELETION}
+use Rattle.slot_table.proofs.Rows.{option_is}
+use Rattle.page_memory.proofs.Lists.{found_is, all-at, all-filter}
+use Rattle.page_ledger.proofs.Pages.{length-pages_from}
 
 -- Both sides agree in an opening, and each step keeps that as long as nothing is forged.
 
@@ -128,7 +130,7 @@ pub reset_recovers : resets_recover
 reset_recovers s can =
     let lives : (x : HostQueue) → slice_get s.host.queues 0 ≡ Some x → x.state ≡ Live = λ x e.
     live_is x.state (sym (ap (λ (o : Option HostQueue). option_map_or (λ queue. is_live queue.state) o true) e) ∙ can.sound.admin) in
-    let at : (x : HostQueue) → slice_get s.host.queues 0 ≡ Some x → HasHalves s.entries x = λ x e. all_at (HasHalves s.entries) s.host.queues 0 x e can.provided.queues in
+    let at : (x : HostQueue) → slice_get s.host.queues 0 ≡ Some x → HasHalves s.entries x = λ x e. all-at (HasHalves s.entries) s.host.queues 0 x e can.provided.queues in
     let sized : (r : Record) (request : Request) → FitsRequest request × IsGood request → length r.data_pages ≡ data_count request.pieces → IsSized r request = λ r request checked pages.
     record { fits = checked.0; good = checked.1; pages = pages } in
     recovered s can.sound can.some_entries can.few_queues can.few_pages can.paired
@@ -138,7 +140,7 @@ reset_recovers s can =
   where
     half : (of : Half) (has : Bool) (pages : List ℕ) → has ≡ true → LieTogether (if has then half_pages s.entries of else 0) pages → length pages ≡ half_pages s.entries of
     half of has pages is lies =
-        ap length lies.1 ∙ length-range lies.0 (if has then half_pages s.entries of else 0) ∙ ap (λ (b : Bool). if b then half_pages s.entries of else 0) is
+        ap length lies.1 ∙ length-pages_from lies.0 (if has then half_pages s.entries of else 0) ∙ ap (λ (b : Bool). if b then half_pages s.entries of else 0) is
 
     has_pages : (r : Record) (request : Request) → r.work ≡ Io request → HasPagesFor s.segment r.work r.data_pages r.chain_pages → length r.data_pages ≡ data_count request.pieces
     has_pages r request w pages = (subst (λ (x : Work). HasPagesFor s.segment x r.data_pages r.chain_pages) w pages).0
@@ -316,7 +318,7 @@ walk_allowed s q cid none =
 
 pub has_unit : (s : State) (q cid : ℕ) (j : Job) → s.trusted ≡ true → IsInOrder s → job_at s q cid ≡ Some j → j.verdict ≡ None → (j.q == 0) ≡ false → (act : Act) × (next_unit s j ≡ Some act)
 has_unit s q cid j t order found unfinished io =
-    let some : (q == 0) ≡ false = ap (λ (k : ℕ). k == 0) (sym (eqb-true j.q q (and_parts (j.q == q) (j.entry.cid == cid) (find_sound (is_job q cid) s.device.jobs j found)).0)) ∙ io in
+    let some : (q == 0) ≡ false = ap (λ (k : ℕ). k == 0) (sym (eqb-true j.q q (and_parts (j.q == q) (j.entry.cid == cid) (found_is (is_job q cid) s.device.jobs j found)).0)) ∙ io in
     there (units (course_of s j)) j.units_done ((stood_has_jobs s (stood_of s (order.agree t)) q cid j (grind (arith, nat_tests, some)) found).unit_left unfinished)
   where
     there : (acts : List Act) (k : ℕ) → k < length acts → (act : Act) × (slice_get acts k ≡ Some act)
@@ -397,7 +399,7 @@ CheckedPart part = AllChecked part.host.records
 checked_event : (s : State) (e : Event) (reply : Reply) → IsProper e → Accepts s e reply → IsController e ≡ false → IsKept CheckedPart s e reply
 checked_event s e reply proper ok c h =
     let more : (new : Record) → IsChecked new.work → AllChecked (s.host.records ++ new ∷ []) = λ new own. all_append (λ r. IsChecked r.work) s.host.records (new ∷ []) h (own, tt) in
-    let without : (q cid : ℕ) → AllChecked (without_record q cid s.host.records) = λ q cid. all_filter (λ r. IsChecked r.work) (λ r. not (is_at q cid r)) s.host.records h in
+    let without : (q cid : ℕ) → AllChecked (without_record q cid s.host.records) = λ q cid. all-filter (λ r. IsChecked r.work) (λ r. not (is_at q cid r)) s.host.records h in
     host_moves (λ (e : Event) (reply : Reply) (t : State). IsProper e → AllChecked t.host.records) s e reply ok c
     (record {
       reserves = λ q request d none is pr. more (drafted_record d) (subst (λ (x : Request). FitsRequest x × IsGood x) (sym is.request) (pr, good q request none));

@@ -3,7 +3,7 @@ use Rattle.controller_core.specs.declared.refusal.Refusal.TheVariants as refusal
 use Rattle.machine_model.specs.Events as events
 use Rattle.std.proofs.Common.{◌≡◌, ◌≢◌, ℕ, ◌+◌, ◌*◌, ◌/◌, ◌%◌, ◌<◌, Bool, true, false, Option, Some, None, IsSome, List, [], ◌∷◌, ◌++◌, length, map, is_none, slice_get, if◌then◌else◌, refl, ap, ap₂, sym, ◌∙◌, arith, subst, inl, inr, zero, suc, drop, is_some}
 use Rattle.std.{proofs.lemmas.Bool.{true≢false, not-false, Decides.nat_tests}, specs.{List.AllByRecursion, Option.{option_map, option_map_or}}}
-use Rattle.machine_model.proofs.{Cases.option_is, Counting.held_once, Kept.reaped_has_cq, Steps.{in_store-with_bytes, unrefused}}
+use Rattle.machine_model.proofs.{Counting.held_once, Kept.reaped_has_cq, Steps.{in_store-with_bytes, unrefused}}
 use Rattle.machine_model.specs.{After.{answered, change, after, on_memory}, Always.HasHalves, Memory.is_in}
 use Rattle.machine_model.specs.Refusals.{fetch_slot, host_queue, in_service, post_slot, slot_offset, slot_page, entry_of, is_reaped, seen_entry, refusal_of}
 use Rattle.machine_model.specs.{State.{State, HostQueue, Answer, DeviceQueue}, Step.{Step, host_part}}
@@ -29,6 +29,7 @@ use Rattle.queue_pair.proofs.Rings.{answers_append, next_below, phases_kept, tie
 use Rattle.queue_pair.specs.{Lists.{HasPhases, answers_between, expected_phase}, Members.change as change_members}
 use Rattle.queue_pair.specs.Memory.{half_pages, completion_page, completion_place, completion_slot}
 use Rattle.queue_pair.specs.{Rings.{DeviceSide, hearing_head, knowing, next_head, next_phase}, Slots.{is_full, is_in_range, next_slot}}
+use Rattle.slot_table.proofs.Rows.{option_is}
 
 -- A completion that the controller posts is the machine's answer, and leaves rings that stand.
 

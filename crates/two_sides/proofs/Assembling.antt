@@ -18,7 +18,7 @@ use Rattle.two_sides.proofs.DeviceMoves.{steps_stay_in_rings}
 use Rattle.two_sides.proofs.Frames.{tied_of, known, Spares, all_stand_still, free_apart_from_queues, one_queue, one_stands, queues_stay, unchanged, walks_after, commands_apart}
 use Rattle.two_sides.proofs.{Places.{seen_alike, told, tails_heard, in_ring, length-unfetched}, Provided.{steps_provide, in_found}, Serving.step_keeps_serving}
 use Rattle.two_sides.proofs.Shared.{refused_leaves, length-device, forged_step, commands-heard, image-heard, length-heard, share_queues, unreset}
-use Rattle.two_sides.{proofs.Untouched.{with_elsewhere, without_elsewhere}, specs.Hearing.heard}
+use Rattle.two_sides.{proofs.Untouched.without_elsewhere, specs.Hearing.heard}
 use Rattle.two_sides.specs.Laws.{looks_at_completions, hosts_answer, hosts_refuse, behind}
 use Rattle.two_sides.specs.{Sides.{Sides, state_of, device_of, device_queue_of, device_queues_of}, Stepping.{StepsTo, LeavesPages, served}}
 use Rattle.two_sides.specs.Ties.{AreSides, IsWorld, AllQueuesStand, ShareQueues, SharesAdmin, WalksStand, QueueStands}
@@ -31,6 +31,7 @@ use Rattle.admin_commands.specs.Verdicts.{is_absent}
 use Rattle.io_commands.specs.{Asked.Request, Drafts.DraftContents, Values.{FinishedContents, numbers_of}}
 use Rattle.page_ledger.specs.Owners.{is_among}
 use Rattle.queue_pair.specs.{Members.change, Slots.is_in_range}
+use Rattle.host_core.proofs.PageOwners.{with-other}
 
 -- What the host answers to a call that looks at no completion ring is what the machine may answer.
 
@@ -378,14 +379,14 @@ pub cancel_ties : (s : Sides) (d : DraftContents) (host : HostView) (pages : Pag
 cancel_ties s d host pages world t step =
     let its = is_of_found (alone s.host s.pages) is_drafted d.request d.q d.cid d.data_pages d.chain_pages drafted_away (unrefused (alone s.host s.pages) (events.Cancel d) step.1.0).0 in
     quiet_ties s (events.Cancel d) events.Accepted host pages world t step refl refl refl refl refl refl step.1 step.1
-    (spares_from s _ (numbers_of (d.data_pages ++ d.chain_pages)) (command_apart s world d.q d.cid its.0 _ its.1.found its.1.pages) (with_elsewhere (d.data_pages ++ d.chain_pages) s.pages))
+    (spares_from s _ (numbers_of (d.data_pages ++ d.chain_pages)) (command_apart s world d.q d.cid its.0 _ its.1.found its.1.pages) (with-other (d.data_pages ++ d.chain_pages) s.pages))
 
 pub release_ties : (s : Sides) (f : FinishedContents) (host : HostView) (pages : Pages) → IsWorld s → s.trusted ≡ true
     → HostStep s.host s.pages (events.Release f) events.Accepted host pages → Ties s (events.Release f) events.Accepted host pages
 release_ties s f host pages world t step =
     let its = is_of_found (alone s.host s.pages) is_collected f.request f.q f.cid f.data_pages f.chain_pages collected_away (unrefused (alone s.host s.pages) (events.Release f) step.1.0).0 in
     quiet_ties s (events.Release f) events.Accepted host pages world t step refl refl refl refl refl refl step.1 step.1
-    (spares_from s _ (numbers_of (f.data_pages ++ f.chain_pages)) (command_apart s world f.q f.cid its.0 _ its.1.found its.1.pages) (with_elsewhere (f.data_pages ++ f.chain_pages) s.pages))
+    (spares_from s _ (numbers_of (f.data_pages ++ f.chain_pages)) (command_apart s world f.q f.cid its.0 _ its.1.found its.1.pages) (with-other (f.data_pages ++ f.chain_pages) s.pages))
 
 pub collect_ties : (s : Sides) (q cid : ℕ) (f : FinishedContents) (host : HostView) (pages : Pages) → IsWorld s → s.trusted ≡ true
     → HostStep s.host s.pages (events.Collect q cid) (events.Collects f) host pages → Ties s (events.Collect q cid) (events.Collects f) host pages

@@ -16,7 +16,7 @@ use Rattle.io_commands.specs.{Jobs.{io_fault, bytes_after_check, direction_of_en
 use Rattle.io_commands.specs.Values.{numbers_of}
 use Rattle.machine_model.proofs.{Counting.{held_once, times-append}, HostLeaves.ids_of, Kept.live_has_sq}
 use Rattle.machine_model.proofs.Moves.{IsOf, posts, host_moves, sends, sent_record, creates_cq, creates_sq, grants_cq, grants_sq}
-use Rattle.machine_model.proofs.{Owned.{in_record, in_queue, all_reset}, Steps.{managed_by, Accepts, unrefused, part_controller}, Tokens.find_sound}
+use Rattle.machine_model.proofs.{Owned.{in_record, in_queue, all_reset}, Steps.{managed_by, Accepts, unrefused, part_controller}}
 use Rattle.machine_model.proofs.TokensKept.{reset_command, sized_of}
 use Rattle.machine_model.specs.{Agreeing.{CommandsStand as Commands, is_out_of_service_at as past_at, unfetched_count, job_weight}, Claims.OwnsFit}
 use Rattle.machine_model.specs.{Events.{Event, Reply}, Memory.{with_pages, without_pages, zeroed_pages}, Proper.IsProper}
@@ -29,11 +29,12 @@ use Rattle.machine_model.specs.declared.words.Work.TheVariants.{Io, Management}
 use Rattle.queue_pair.specs.Members.{change}
 use Rattle.two_sides.proofs.DeviceMoves.{unit_done, finished, cleared, fetch_by, walk_by, complete_by, unit_memory}
 use Rattle.two_sides.proofs.PlacesKept.{InHand, in_hand, first_is, on_job_q, on_job_entry, stopped_entry, PlacesIn}
-use Rattle.two_sides.proofs.Provided.{In, all_in_both, all_map, all_filter, all_append, all_drop_one, in_found, in_at, all_in, all_with, is_found, sent_found, all_at_found}
+use Rattle.two_sides.proofs.Provided.{In, all_in_both, all_map, all_append, all_drop_one, in_found, in_at, all_in, all_with, is_found, sent_found}
 use Rattle.two_sides.proofs.Served.{counts_sent, chain_of, data_of, page_below, Stood, JobList, job_list, course_in, requests_same, first_read, brought, draft_spells}
 use Rattle.two_sides.proofs.{Standing.all_list, Tied.stopped_q, TiedAll.{Grounds, pair_at, ring_in}}
 use Rattle.two_sides.proofs.Untouched.{sent_page, owned_once, bytes_elsewhere, posts_elsewhere, untouched, PostsElsewhere, live_queue, is_walk}
 use Rattle.controller_walk.specs.Units.{Act, Stays, Reads, Moves, Course, Closes, Does, units}
+use Rattle.page_memory.proofs.Lists.{found_is, all-back, all-found, all-filter}
 
 -- What of the controller's part and of memory each command's list hangs on, and how records change.
 
@@ -60,7 +61,7 @@ keeps_jobs qs js f sq se q cid entry h = record {
 }
 
 keeps_filter : (qs : List DeviceQueue) (js : List Job) (keep : Job → Bool) → Keeps qs js qs (filter keep js)
-keeps_filter qs js keep q cid entry h = record { unfetched = h.unfetched; fetched = all_filter (λ j. j.q ≡ q → j.entry.cid ≡ cid → j.entry ≡ entry) keep js h.fetched }
+keeps_filter qs js keep q cid entry h = record { unfetched = h.unfetched; fetched = all-filter (λ j. j.q ≡ q → j.entry.cid ≡ cid → j.entry ≡ entry) keep js h.fetched }
 
 pub keeps_both : (qs qs' qs'' : List DeviceQueue) (js js' js'' : List Job) → Keeps qs js qs' js' → Keeps qs' js' qs'' js'' → Keeps qs js qs'' js''
 keeps_both qs qs' qs'' js js' js'' f g q cid entry h = g q cid entry (f q cid entry h)
@@ -230,10 +231,6 @@ no_job q c P (j ∷ js) none =
     omega (arith, n, mine) in
     ((λ eq ec. absurd (some eq ec none)), no_job q c P js (omega (arith, none)))
 
-right_part : {B : Type 0} (P : B → Type 0) (xs ys : List B) → AllByRecursion P (xs ++ ys) → AllByRecursion P ys
-right_part P [] ys h = h
-right_part P (x ∷ xs) ys h = right_part P xs ys h.1
-
 -- the pages of a draft that is submitted stand in the store
 pub submitted_pages : (s : State) (d : DraftContents) (entry : SubEntry) (r : Record) → IsOf s is_drafted d.request d.q d.cid d.data_pages d.chain_pages r → in_state is_live s d.q ≡ true → Grounds s
     → AllByRecursion (λ (page : ℕ × List ℕ). page_at (posts d.q entry (a.on_records (with_record d.q d.cid a.submitted) (a.on_memory (with_pages (d.data_pages ++ d.chain_pages)) s))).memory page.0 ≡ Some page.1) (d.data_pages ++ d.chain_pages)
@@ -316,7 +313,7 @@ commands_submit d entry r s proper e its live g few places same h =
 
     -- the chain pages stand in the store
     stand_there : (entry : SubEntry) → AllByRecursion (λ (page : ℕ × List ℕ). page_at (after_entry entry).memory page.0 ≡ Some page.1) d.chain_pages
-    stand_there entry = right_part (λ (page : ℕ × List ℕ). page_at (after_entry entry).memory page.0 ≡ Some page.1) d.data_pages d.chain_pages (submitted_pages s d entry r its live g)
+    stand_there entry = all-back (λ (page : ℕ × List ℕ). page_at (after_entry entry).memory page.0 ≡ Some page.1) d.data_pages d.chain_pages (submitted_pages s d entry r its live g)
 
     new_list : (entry : SubEntry) → d.entry ≡ Some entry → (request : Request) → request ≡ d.request
         → ListStands (after_entry entry).memory (change d.q (λ at. record at { unfetched = at.unfetched ++ entry ∷ [] }) s.device.queues) s.device.jobs (a.submitted r) request
@@ -373,7 +370,7 @@ with_still m qs js q cid f s r e g work pages far h =
 
 commands_ended : (q cid : ℕ) (pages : List (ℕ × List ℕ)) (s : State) → Grounds s → SamePages s (with_pages pages s.memory) → CommandsIn s → CommandsIn (a.after_end q cid pages s)
 commands_ended q cid pages s g same h =
-    all_filter (CommandStands (with_pages pages s.memory) s.device.queues s.device.jobs) (λ r. not (is_at q cid r)) s.host.records
+    all-filter (CommandStands (with_pages pages s.memory) s.device.queues s.device.jobs) (λ r. not (is_at q cid r)) s.host.records
     (still s (with_pages pages s.memory) s.device.queues s.device.jobs g same (keeps_nothing s.device.queues s.device.jobs) h)
 
 -- Sending
@@ -406,7 +403,7 @@ commands_consumed q s g h = still s s.memory (change q (λ at. record at { answe
 commands_host : (s : State) (e : Event) (reply : Reply) → IsProper e → Accepts s e reply → IsController e ≡ false → is_walk e ≡ false → Stood s → CommandsIn (a.after s e reply)
 commands_host s e reply pr ok c w h =
     let without : (q cid : ℕ) → Commands s.memory (a.consumed q s).device.queues s.device.jobs (without_record q cid s.host.records) = λ q cid.
-    all_filter (CommandStands s.memory (a.consumed q s).device.queues s.device.jobs) (λ r. not (is_at q cid r)) s.host.records (commands_consumed q s h.grounds h.commands) in
+    all-filter (CommandStands s.memory (a.consumed q s).device.queues s.device.jobs) (λ r. not (is_at q cid r)) s.host.records (commands_consumed q s h.grounds h.commands) in
     host_moves (λ (e : Event) (reply : Reply) (t : State). IsProper e → SamePages s t.memory → CommandsIn t) s e reply ok c
     (record {
       reserves = λ q request d none is pr same. commands_reserve s q request d pr (none, is) h.grounds h.commands;
@@ -480,7 +477,7 @@ pub record Walking (s : State) (q cid : ℕ) (j : Job) : Type 0 where
 pub walking : (s : State) (q cid : ℕ) (j : Job) → refusal_of s (events.Walk q cid) ≡ None → Stood s → job_at s q cid ≡ Some j → Walking s q cid j
 walking s q cid j none stood e =
     let idle : job_is (λ j. is_some j.verdict || (j.q == 0)) s q cid ≡ false = (unrefused s (events.Walk q cid) none).1.0 in
-    let ids = and_parts (j.q == q) (j.entry.cid == cid) (find_sound (is_job q cid) s.device.jobs j e) in
+    let ids = and_parts (j.q == q) (j.entry.cid == cid) (found_is (is_job q cid) s.device.jobs j e) in
     let parts = or_parts (is_some j.verdict) (j.q == 0) (sym (ap (λ (o : Option Job). option_map_or (λ j. is_some j.verdict || (j.q == 0)) o false) e) ∙ idle) in
     record {
       found = e;
@@ -488,7 +485,7 @@ walking s q cid j none stood e =
       its_id = eqb-true j.entry.cid cid ids.1;
       other = parts.1;
       verdict = (let e = parts.0 in grind arith);
-      list = job_list s stood j (in_found (is_job q cid) s.device.jobs j e) parts.1 (λ P all. all_at_found P (is_job q cid) s.device.jobs j e all);
+      list = job_list s stood j (in_found (is_job q cid) s.device.jobs j e) parts.1 (λ P all. all-found P (is_job q cid) s.device.jobs j e all);
     }
 
 -- what a unit writes lies on its data pages

@@ -19,7 +19,7 @@ use Rattle.two_sides.proofs.Answering.{CanAnswer, answer_is, answer_seen, answer
 use Rattle.two_sides.proofs.{Assembling.{ServesOver, serve_refused, served_stepped}, DeviceMoves.cleared}
 use Rattle.two_sides.proofs.{Frames.{queue_stays, stands_still, walks_stay, IsKnown, device_at, known, there_ring, tied_of}, JobLaws.length-completion_bytes}
 use Rattle.two_sides.proofs.Places.{devices_changed, stands_changed, filter-map, IsFound, any-map, is_found, job-at, job-found, Shows, answers_full_is, post_page_is, shows}
-use Rattle.two_sides.{proofs.{Provided.{all_filter, in_found}, Serving.{with_served, either_by, same_pages}, Shared.belled}, specs.Serving.why_of}
+use Rattle.two_sides.{proofs.{Provided.in_found, Serving.{with_served, either_by, same_pages}, Shared.belled}, specs.Serving.why_of}
 use Rattle.two_sides.specs.Sides.{Sides, state_of, device_of, device_queues_of, job_of, answer_of, device_queue_of}
 use Rattle.two_sides.specs.Stepping.{LeavesPages, StepsTo, served, completes_step, completes_refuse_alike}
 use Rattle.two_sides.specs.Ties.{AllQueuesStand, QueueStands, ShareQueue, ShareQueues, IsWorld, SharesAdmin, WalkStands, WalksStand, has_ring}
@@ -30,6 +30,7 @@ use Rattle.controller_core.specs.declared.refusal.Refusal as controller
 use Rattle.controller_core.specs.declared.refusal.Refusal.TheVariants as because
 use Rattle.machine_model.specs.Events as events
 use Rattle.machine_model.specs.declared.words.Refusal.TheVariants as refusal
+use Rattle.page_memory.proofs.Lists.{all-filter}
 
 -- How a command ends: on both sides, and at the machine.
 
@@ -341,7 +342,7 @@ module _ (s : Sides) (q cid : ℕ) (c : Contents) (pages : Pages) (touched : Lis
     walks_completed =
         subst (λ (pages : Pages). WalksStand (memory_of pages) c.commands) (sym pages_are)
         (subst (λ (c : Contents). WalksStand (memory_of posted) c.commands) (sym w.leaves)
-        (all_filter (λ (k : FetchedCommand). WalkStands (memory_of posted) k.units_done k.work) (λ (k : FetchedCommand). not (is_command q cid k)) s.controller.commands
+        (all-filter (λ (k : FetchedCommand). WalkStands (memory_of posted) k.units_done k.work) (λ (k : FetchedCommand). not (is_command q cid k)) s.controller.commands
         (walks_stay s posted world t (answer_spares_commands s q found.host x e world queue_known used found.host_here))))
 
   permits : Permits (state_of s) (events.Complete q cid) (events.Completed touched)

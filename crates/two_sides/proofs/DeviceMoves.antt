@@ -2,7 +2,7 @@
 use Rattle.machine_model.specs.After as a
 use Rattle.std.proofs.Common.{◌≡◌, ℕ, ◌+◌, ◌/◌, ◌%◌, ◌==◌, Bool, true, false, ◌&&◌, Option, Some, None, List, [], ◌∷◌, ◌++◌, map, take, drop, if◌then◌else◌, refl, ap, ap₂, sym, ◌∙◌, subst, eqb-true, inl, inr, zero, suc, ◌<◌, arith, length, find, slice_get, is_some, ◌≤◌, not}
 use Rattle.std.{proofs.lemmas.Bool.{true≢false, cases_Bool}, specs.{List.AllByRecursion, Option.option_map_or}}
-use Rattle.machine_model.proofs.{Cases.option_is, Counting.{all_changed, all_at}, Headline.{in_limits, limits_say}, Kept.{sq_stays, cq_stays}}
+use Rattle.machine_model.proofs.{Counting.all_changed, Headline.{in_limits, limits_say}, Kept.{sq_stays, cq_stays}}
 use Rattle.machine_model.proofs.{Moves.{host_moves, half_from}, Owned.all_reset_queues, Sound.{asked_at, asks}}
 use Rattle.machine_model.proofs.Steps.{Accepts, IsKept, each_step, each_run, part_controller}
 use Rattle.machine_model.specs.After.{cq_there, dropped, completion_made, submission_made}
@@ -20,7 +20,9 @@ use Rattle.io_commands.specs.Jobs.{is_success, verdict_of, direction_of_entry}
 use Rattle.page_memory.specs.{Pages.{Pages, with_bytes, with_page_bytes}, declared.page.Half.TheVariants.{Submission, Completion}}
 use Rattle.queue_pair.{proofs.Rings.next_below, specs.{Members.change, Memory.half_pages, Rings.{HostRing, fresh_host_ring, next_tail, next_head, knowing}}}
 use Rattle.two_sides.specs.Provided.{each_step_stays_in_rings, every_run_stays_in_rings}
-pub use Rattle.machine_model.proofs.Counting.{all_at}
+use Rattle.slot_table.proofs.Rows.{option_is}
+use Rattle.page_memory.proofs.Lists.{all-at}
+use Rattle.controller_core.proofs.Lists.{length-change}
 pub use Rattle.machine_model.specs.Agreeing.{is_known_deleted as is_over, QueueFits as PairOk, QueuesFit as Paired, on_queue, is_out_of_service_at as out_at}
 
 -- What an event of the controller leaves, case by case: a statement that holds of what each case leaves holds after the event.
@@ -269,7 +271,7 @@ completion_queue s q h = elim (option_is (slice_get s.device.queues q)) [
 pub linked_from_tied : (s : State) → InRings (host_part s) → Tied s → IsLinked s
 linked_from_tied s rings tied = record {
   entries = tied.some_entries;
-  inside = λ q queue e. all_at (λ queue. IsInRing s.entries queue.ring) s.host.queues q queue e rings;
+  inside = λ q queue e. all-at (λ queue. IsInRing s.entries queue.ring) s.host.queues q queue e rings;
   submission_whole = λ q queue e there.
       let d = there_queue s q there in
       let p = paired_at s.entries q s.host.queues s.device.queues d.0 d.1 tied.pairs in
@@ -297,11 +299,6 @@ linked_from_tied s rings tied = record {
         go (Some j) e h = tied.jobs q (found_counts q cid s.device.jobs j e)
 
 -- Where nothing was forged: what a change of one queue, or of the jobs, does to the tie of the controller's queues to the host's.
-
-pub length-change : {A : Type 0} (k : ℕ) (f : A → A) (xs : List A) → length (change k f xs) ≡ length xs
-length-change k f [] = refl
-length-change zero f (x ∷ xs) = refl
-length-change (suc k) f (x ∷ xs) = ap suc (length-change k f xs)
 
 -- queues fit, and a job's queue is there and in service
 pub record Tie (n : ℕ) (hs : List HostQueue) (ds : List DeviceQueue) (js : List Job) : Type 0 where

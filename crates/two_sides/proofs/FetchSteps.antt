@@ -6,7 +6,7 @@ use Rattle.controller_core.specs.declared.refusal.Refusal as controller
 use Rattle.machine_model.specs.After as after
 use Rattle.std.proofs.Common.{◌≡◌, ◌≢◌, ◌⊎◌, inl, inr, ℕ, zero, suc, ◌+◌, ◌*◌, ◌/◌, ◌==◌, ◌&&◌, nat_lt, not, Bool, true, false, Option, Some, None, is_none, is_some, List, [], ◌∷◌, slice_get, if◌then◌else◌, refl, ap, sym, ◌∙◌, arith, subst, eqb-true, ◌-◌, ◌<◌, Ok, Err, ◌++◌, length, map, drop}
 use Rattle.std.{proofs.lemmas.Bool.{true≢false, eqb-false, OnTrue_at, cases_Bool}, specs.Option.{option_map, option_map_or}}
-use Rattle.machine_model.{proofs.{Cases.option_is, Steps.in_store-with_bytes}, specs.{After.after_fetch, Memory.{is_in, memory_of}}}
+use Rattle.machine_model.{proofs.Steps.in_store-with_bytes, specs.{After.after_fetch, Memory.{is_in, memory_of}}}
 use Rattle.machine_model.specs.Refusals.{answers_full, conflicts, fetch_page, job_at, next_rung, post_page, refusal_of}
 use Rattle.machine_model.specs.{State.{State, HostQueue, DeviceQueue, Job}, Step.{MayRefuse, Permits, Refuses, touched_by_fetch}}
 use Rattle.admin_commands.specs.{Verdicts.{is_absent, is_live, decision}, declared.DeviceView.DeviceView}
@@ -32,6 +32,7 @@ use Rattle.queue_pair.{proofs.Rings.{distance_none, distance_same}, specs.{Memor
 use Rattle.queue_pair.specs.Slots.{distance, is_full}
 use Rattle.controller_walk.specs.Units.{course_of_list}
 use Rattle.io_commands.specs.Jobs.{JobContents, direction_of_entry, need_of_entry}
+use Rattle.slot_table.proofs.Rows.{option_is}
 
 -- What the controller finds at the head of a queue is what the machine has there, where nothing was forged; so both refuse a fetch alike.
 

@@ -8,8 +8,8 @@ use Rattle.machine_model.{proofs.Steps.{length-in_store, Accepts}, specs.{After.
 use Rattle.machine_model.specs.{Events.{Event, Reply}, Memory.{is_in, memory_of}, Positions.IsInRing}
 use Rattle.machine_model.specs.Refusals.{has_cq, in_service, is_making_cq, is_reaped, device_queue, is_submitted}
 use Rattle.machine_model.specs.{State.{HostQueue, Record, pages_of, DeviceQueue, State, Job, Answer}, Step.times, declared.words.HostState.HostState}
-use Rattle.two_sides.proofs.{Agreed.stood_of, JobLaws.stay_after, NeverFull.ListsStay, Provided.{In, in_at, some_is, all_at, all_indexed}}
-use Rattle.two_sides.proofs.{Served.{Stood, job_list, serves_in, course_in, course_ends, counts_sent, page_there}, TiedAll.small as at_most_one}
+use Rattle.two_sides.proofs.{Agreed.stood_of, JobLaws.stay_after, NeverFull.ListsStay, Provided.{In, in_at, all_at, all_indexed}}
+use Rattle.two_sides.proofs.Served.{Stood, job_list, serves_in, course_in, course_ends, counts_sent, page_there}
 use Rattle.two_sides.proofs.Untouched.{among_counts, holds_left as among_left, holds_right as among_right, sent_page}
 use Rattle.two_sides.specs.Sides.{Sides, state_of, device_queue_of, device_queues_of, job_of, present, answer_of, unfetched_between, completions_between}
 use Rattle.two_sides.specs.Ties.{AreSides, AreTied, IsWorld, ShareQueue, ShareQueues, RingsStand, QueueStands, AllQueuesStand, first_completion_page, has_ring, WalkStands, WalksStand, HeadsFollow, ShareHalves}
@@ -25,6 +25,8 @@ use Rattle.controller_walk.{proofs.Same.{list_served, walk_served}, specs.{Laws.
 use Rattle.controller_walk.specs.{Units.{Stays, Reads, Moves, Course, Does, course_of_list}, declared.walk.Walk.Walk}
 use Rattle.io_commands.specs.Jobs.{JobContents, job_course, course_of_walk, direction_of_entry, need_of_entry}
 use Rattle.entry_codec.specs.declared.{completion.ComEntry.ComEntry, submission.SubEntry.SubEntry}
+use Rattle.page_memory.proofs.Lists.{some_is}
+use Rattle.machine_model.proofs.Sound.{small}
 
 -- Each page of the pool is free, or of one queue's half, or of one command.
 
@@ -33,7 +35,7 @@ owned_as : (s : Sides) → AreSides s → (p : ℕ) → owned p s.host.host ≡ 
 owned_as s sides p = sym (owned_is p s.host.host) ∙ sides.kept.owners p
 
 pub owned_once : (s : Sides) → AreSides s → (p : ℕ) → owned p s.host.host ≤ 1
-owned_once s sides p = omega (arith, owned_as s sides p, at_most_one (nat_lt p (length s.pages)))
+owned_once s sides p = omega (arith, owned_as s sides p, small (nat_lt p (length s.pages)))
 
 -- two members of a list count no more than all of it
 pub both_count : {A : Type 0} (w : A → ℕ) (xs : List A) (i j : ℕ) (x y : A) → slice_get xs i ≡ Some x → slice_get xs j ≡ Some y → i ≢ j → w x + w y ≤ total w xs

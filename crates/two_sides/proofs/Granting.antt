@@ -2,10 +2,10 @@
 use Rattle.machine_model.specs.After as a
 use Rattle.std.proofs.Common.{◌≡◌, ℕ, zero, suc, ◌+◌, ◌<◌, ◌==◌, ◌||◌, ◌&&◌, Bool, true, false, Some, List, [], ◌∷◌, length, length-set, slice_set, if◌then◌else◌, refl, ap, sym, ◌∙◌, subst, arith, eqb-true, inl, inr, nat_lt, lt-ltb, ◌++◌, map, slice_get}
 use Rattle.std.{proofs.lemmas.Bool.{eqb-false, true≢false, cases_Bool}, specs.List.AllByRecursion}
-use Rattle.host_core.proofs.PageOwners.{among-from, pool-with, set-other, among-append}
+use Rattle.host_core.proofs.PageOwners.{among-from, pool-with, set-other, among-append, with-other}
 use Rattle.machine_model.{proofs.Counting.{held_once, run_times, zeroed_numbers}, specs.{Memory.{with_pages, zeroed_pages}, Placement.first_of_run}}
 use Rattle.machine_model.specs.{State.{HostQueue, DeviceQueue}, Step.times}
-use Rattle.two_sides.proofs.{Frames.{Spares, SparesSubmitted, free_apart_from_commands, free_apart_from_queues, free_below}, Untouched.with_elsewhere}
+use Rattle.two_sides.proofs.Frames.{Spares, SparesSubmitted, free_apart_from_commands, free_apart_from_queues, free_below}
 use Rattle.two_sides.specs.Sides.{Sides, device_queues_of}
 use Rattle.two_sides.specs.Ties.{IsWorld, AllQueuesStand, QueueStands, RingsStand, ShareAdmin, ShareQueue, ShareQueues, SharesAdmin}
 use Rattle.page_ledger.specs.Owners.{is_among, pages_from}
@@ -14,6 +14,7 @@ use Rattle.page_memory.specs.declared.page.Half.TheVariants.{Completion}
 use Rattle.queue_pair.{proofs.Halves.{zeros_stand, pages_zero}, specs.{Halves.IsZero, Lists.PhasesStand, Memory.half_pages}}
 use Rattle.queue_pair.specs.Rings.{IsDeviceSide, fresh_device_ring}
 use Rattle.controller_core.specs.{Resetting.{queue_reset, queues_reset}, declared.queue.ControllerQueue.ControllerQueue}
+use Rattle.host_core.proofs.Making.{whole-zeros}
 
 -- A half that the host grants a queue: free pages, which come in as zeros.
 
@@ -33,10 +34,6 @@ zeroed_there (x ∷ ps) m p l before =
     go true e none = subst (λ (k : ℕ). page_at (slice_set m k (Some zero_page)) p ≡ Some zero_page) (sym (eqb-true x p e)) (set_in m p zero_page l)
     go false e none = set-other m x p (Some zero_page) (eqb-false x p e) ∙ before (ap (λ (b : Bool). b || is_among ps p) e ∙ none)
 
-zeros_whole : (ps : List ℕ) → AllByRecursion (λ (page : ℕ × List ℕ). length page.1 ≡ 4096) (zeroed_pages ps)
-zeros_whole [] = tt
-zeros_whole (p ∷ ps) = (length-zero_page, zeros_whole ps)
-
 -- The pages of a run are free
 
 run_is_free : (free : List ℕ) (count first : ℕ) → first_of_run free count ≡ Some first → (p : ℕ) → is_among (pages_from first count) p ≡ true → is_among free p ≡ true
@@ -55,7 +52,7 @@ module _ (s : Sides) (world : IsWorld s) (count first : ℕ) (run : first_of_run
   free = run_is_free s.host.host.free count first run
 
   elsewhere : (p : ℕ) → is_among (pages_from first count) p ≡ false → page_at granted_pool p ≡ page_at s.pages p
-  elsewhere p none = with_elsewhere (zeroed_pages (pages_from first count)) s.pages p (ap (λ (ps : List ℕ). is_among ps p) (zeroed_numbers (pages_from first count)) ∙ none)
+  elsewhere p none = with-other (zeroed_pages (pages_from first count)) s.pages p (ap (λ (ps : List ℕ). is_among ps p) (zeroed_numbers (pages_from first count)) ∙ none)
 
   -- a page of another owner is none of them
   not_granted : (own : List ℕ) (p : ℕ) → is_among own p ≡ true → (is_among s.host.host.free p ≡ true → is_among own p ≡ false) → is_among (pages_from first count) p ≡ false
@@ -72,7 +69,7 @@ module _ (s : Sides) (world : IsWorld s) (count first : ℕ) (run : first_of_run
   granted_submitted i r at submitted p among = elsewhere p (not_granted _ p among (λ is. free_apart_from_commands s world i r p at is))
 
   pub granted_whole : AreWhole granted_pool
-  granted_whole = (pool-with (zeroed_pages (pages_from first count)) s.pages (zeros_whole (pages_from first count)) world.sides.over.pool).whole
+  granted_whole = (pool-with (zeroed_pages (pages_from first count)) s.pages (whole-zeros (pages_from first count)) world.sides.over.pool).whole
 
   -- they are zeros, and no queue's
   pub granted_zero : (k : ℕ) → k < count → page_at granted_pool (first + k) ≡ Some zero_page

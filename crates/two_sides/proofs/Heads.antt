@@ -9,7 +9,7 @@ use Rattle.machine_model.proofs.{Counting.{total-append, total_with, total_witho
 use Rattle.machine_model.proofs.Kept.{making_sq_as_heard, ring_at, asked_serves}
 use Rattle.machine_model.proofs.Moves.{posts, sends, sent_record, host_moves, drafted_record, heard_without, half_from, creates_cq, creates_sq, grants_cq, grants_sq, IsHeard, answer_heard}
 use Rattle.machine_model.proofs.{Owned.{all_reset, lost_keeps}, Sound.{still_live, asked_note}, Steps.{Accepts, part_controller, managed_by, unrefused}}
-use Rattle.machine_model.proofs.{Tokens.find_sound, TokensKept.reset_heads}
+use Rattle.machine_model.proofs.TokensKept.reset_heads
 use Rattle.machine_model.specs.Agreeing.{sent_count, AreAnswersBehind as AnswersBehind, answers_at, AreHeadsBehind as Heads, IsHeadBehind as HeadBehind, is_out_of_service_at as past_at, unfetched_count, job_weight}
 use Rattle.machine_model.specs.{Events.{Event, Reply}, Memory.with_pages, Opening.{Opens, opening, queues_from, device_queue as opened}, Positions.IsInRing}
 use Rattle.machine_model.specs.Proper.{IsProper}
@@ -24,10 +24,11 @@ use Rattle.entry_codec.specs.declared.{completion.ComEntry.ComEntry, status.{Sta
 use Rattle.entry_codec.specs.declared.submission.SubEntry.{SubEntry}
 use Rattle.two_sides.proofs.DeviceMoves.{fetch_by, walk_by, answers, finished, cleared, complete_by}
 use Rattle.two_sides.proofs.PlacesKept.{sent_is, held_not, PlacesIn, places_event, running_not_past, sent_not, InHand, in_hand, first_is}
-use Rattle.two_sides.proofs.{Provided.{In, all_map, all_filter, all_append, in_found}, Served.Stood, Standing.{list_at, list_same, admin_zero}}
+use Rattle.two_sides.proofs.{Provided.{In, all_map, all_append, in_found}, Served.Stood, Standing.{list_at, list_same, admin_zero}}
 use Rattle.two_sides.proofs.TiedAll.{Grounds, pair_at, ring_in, zero_lives}
 use Rattle.io_commands.specs.Jobs.{is_success}
 use Rattle.page_memory.specs.declared.page.Half.TheVariants.{Submission, Completion}
+use Rattle.page_memory.proofs.Lists.{found_is, all-filter}
 
 -- How far the host's known head and the heads told by answers are behind the tail: never more than commands are submitted.
 
@@ -253,7 +254,7 @@ drafted_room s q r same within quiet g h =
 -- Records that go, or change without being sent
 
 pub heads_less : (keep : Record → Bool) (s : State) → ((q : ℕ) → sent_count q s.host.records ≤ sent_count q (filter keep s.host.records)) → HeadsS s → Heads s.entries s.host.queues (filter keep s.host.records) s.device.queues
-heads_less keep s same h = heads_records s.entries s.host.queues s.host.records (filter keep s.host.records) s.device.queues (all_filter (λ r. r.cid < s.entries - 1) keep s.host.records h.ids) same h
+heads_less keep s same h = heads_records s.entries s.host.queues s.host.records (filter keep s.host.records) s.device.queues (all-filter (λ r. r.cid < s.entries - 1) keep s.host.records h.ids) same h
 
 pub ids_with : (n q cid : ℕ) (f : Record → Record) (rs : List Record) → ((r : Record) → (f r).cid ≡ r.cid) → AllByRecursion (λ r. r.cid < n) rs → AllByRecursion (λ r. r.cid < n) (with_record q cid f rs)
 ids_with n q cid f rs same h = all_map (λ r. r.cid < n) (λ r. r.cid < n) (λ r. if is_at q cid r then f r else r) rs (λ x low. grind arith) h
@@ -414,7 +415,7 @@ no_conflict s stood q e hand = go (job_at s q e.cid) refl
     go : (o : Option Job) → job_at s q e.cid ≡ o → is_some o ≡ false
     go None n = refl
     go (Some j) n =
-        let ids = and_parts (j.q == q) (j.entry.cid == e.cid) (find_sound (is_job q e.cid) s.device.jobs j n) in
+        let ids = and_parts (j.q == q) (j.entry.cid == e.cid) (found_is (is_job q e.cid) s.device.jobs j n) in
         let mine : job_weight q (λ c. one (c == e.cid)) j ≡ 1 = subst (λ (b : Bool). (if b then one (j.entry.cid == e.cid) else 0) ≡ 1) (sym ids.0) (ap one ids.1) in
         let counted : unfetched_count q (λ c. one (c == e.cid)) s.host.queues s.device.queues ≡ total (λ (x : SubEntry). one (x.cid == e.cid)) (unfetched_at s.device.queues q) =
         ap (λ (b : Bool). if b then 0 else total (λ (x : SubEntry). one (x.cid == e.cid)) (unfetched_at s.device.queues q)) (running_not_past s stood.grounds q e hand) in
@@ -551,7 +552,7 @@ controller_heads s e reply c fewer h =
 heads_host : (s : State) (e : Event) (reply : Reply) → Accepts s e reply → IsController e ≡ false → s.trusted ≡ true → Grounds s → HeadsS s → HeadsS (a.after s e reply)
 heads_host s e reply ok c t g h =
     let without : (q cid : ℕ) (st : Status) (e : ComEntry) (r : Record) → IsHeard s q cid st e r → HeadsS (heard_without q cid e s) = λ q cid st e r heard.
-    good q cid st e r heard (without_record q cid s.host.records) (all_filter (λ r. r.cid < s.entries - 1) (λ r. not (is_at q cid r)) s.host.records h.ids)
+    good q cid st e r heard (without_record q cid s.host.records) (all-filter (λ r. r.cid < s.entries - 1) (λ r. not (is_at q cid r)) s.host.records h.ids)
     (λ k. omega (arith, total_without (sent k (λ c. 1)) q cid s.host.records r heard.found (g.stands.0.once q cid))) in
     host_moves (λ (e : Event) (reply : Reply) (t : State). HeadsS t) s e reply ok c
     (record {

@@ -6,7 +6,6 @@ use Rattle.machine_model.specs.declared.words.Reaped.TheVariants as found
 use Rattle.machine_model.specs.declared.words.Refusal.TheVariants as refusal
 use Rattle.std.proofs.Common.{◌≡◌, ℕ, zero, suc, ◌<◌, Bool, true, false, Option, Some, None, List, [], ◌∷◌, slice_get, if◌then◌else◌, refl, ap, sym, ◌∙◌, subst, arith, inl, inr, not, is_some, map}
 use Rattle.std.{proofs.lemmas.{Bool.{OnTrue_at, not-false, cases_eq, true≢false}, Option.slice_get_within}, specs.Option.{option_map_or, option_map}}
-use Rattle.machine_model.proofs.Cases.{option_is}
 use Rattle.machine_model.proofs.Kept.{asked_as_heard, making_cq_as_heard, making_sq_as_heard, ring_at, service_is_reaped as served_reaped, deleted_serves}
 use Rattle.machine_model.proofs.{Moves.{HostMoves, IsHeard, heard_without, host_moves, named, queue_found}, Owned.HoldsPart}
 use Rattle.machine_model.{proofs.Steps.{first_fails, Accepts, unrefused}, specs.After.{after, after_reap, after_retire}}
@@ -30,6 +29,7 @@ use Rattle.two_sides.specs.Ties.{AllQueuesStand, AreTied, IsWorld, QueueStands, 
 use Rattle.page_memory.specs.{Pages.{Pages, byte_at}, Memory.Memory}
 use Rattle.queue_pair.specs.{Members.change, Rings.{hearing_head, knowing, next_head}, Slots.{is_in_range, next_slot}}
 use Rattle.controller_walk.specs.Units.{first_passing}
+use Rattle.slot_table.proofs.Rows.{option_is}
 
 abbrev pub view : State → HostView
 view n = record { entries = n.entries; segment = n.segment; host = n.host }

@@ -14,7 +14,7 @@ use Rattle.io_commands.{proofs.Building.carries_entry, specs.{Drafts.{io_entry, 
 use Rattle.io_commands.specs.{Requests.joined_parts, Values.numbers_of}
 use Rattle.block_image.specs.Blocks.{with_blocks}
 use Rattle.machine_model.proofs.Moves.{host_moves, posted_bytes, sends, sent_record, half_from, creates_cq, creates_sq, grants_cq, grants_sq}
-use Rattle.machine_model.{proofs.{Steps.{Accepts, part_left, permitted, exact, managed_by, surely}, Tokens.find_sound}, specs.After.course_of}
+use Rattle.machine_model.{proofs.Steps.{Accepts, part_left, permitted, exact, managed_by, surely}, specs.After.course_of}
 use Rattle.machine_model.specs.{Events.{Event, Reply}, Image.Made, Linked.IsLinked, Memory.{memory_of, with_pages, without_pages, zeroed_pages}}
 use Rattle.machine_model.specs.{Proper.{IsProper, IsPage, ArePages, IsProperDraft}, Reached.{only, on_pages, ActIn}}
 use Rattle.machine_model.specs.Refusals.{is_submitted, job_at, is_job, host_queue, slot_page, slot_offset, post_slot, fetch_slot}
@@ -29,12 +29,13 @@ use Rattle.entry_codec.specs.{Completion.completion_bytes, Submission.{submissio
 use Rattle.entry_codec.specs.declared.{status.{Status.Status, TheConstants.Status.COMMAND_ID_CONFLICT}, submission.SubEntry.SubEntry}
 use Rattle.two_sides.proofs.{Along.along_proper, Commands.{keeps_fetch, keeps_walk, keeps_complete, Walking, walking, unit_in}}
 use Rattle.two_sides.proofs.DeviceMoves.{linked_from_tied, answered_bytes, unit_memory, finished, cleared, fetch_by, walk_by, complete_by}
-use Rattle.two_sides.proofs.{Ending.{lists_keep, act_touches}, NeverFull.{stood_on, stood_at_opening, ListsStay, stay_untouched, stay_walk, all_of}}
-use Rattle.two_sides.proofs.{PoolBytes.host_jobs, Provided.{in_found, all_at_found, all_append}}
+use Rattle.two_sides.proofs.{Ending.{lists_keep, act_touches}, NeverFull.{stood_on, stood_at_opening, ListsStay, stay_untouched, stay_walk}}
+use Rattle.two_sides.proofs.{PoolBytes.host_jobs, Provided.{in_found, all_append}}
 use Rattle.two_sides.proofs.Served.{Stood, JobList, job_list, list_of_job, course_in, course_ends, same_list, apart_in, chain_of, data_of, more_than_only}
 use Rattle.two_sides.proofs.{Standing.forged_untrusted, Tied.tied_from_fit, Untouched.{holds_left as among_left, holds_right as among_right, stays}}
 use Rattle.two_sides.specs.MachineLaws.{HasChainIfIo, entries_of}
 use Rattle.admin_commands.specs.{Entries.{admin_entry, named_queue}, declared.AdminKind.{AdminKind, TheVariants.{Abort, DeleteSq, DeleteCq}}}
+use Rattle.page_memory.proofs.Lists.{found_is, all-to, all-found}
 
 -- How long a Write's bytes and the image stay: what a walk moves lies within the bytes that its entry asks for.
 
@@ -136,12 +137,12 @@ entries_named s q cid entry has =
     running : (o : Option Job) → job_at s q cid ≡ o → AllByRecursion (λ e. e.sgl1 ≡ entry.sgl1) (option_map_or (λ j. j.entry ∷ []) o [])
     running None e = tt
     running (Some j) e =
-        let ids = and_parts (j.q == q) (j.entry.cid == cid) (find_sound (is_job q cid) s.device.jobs j e) in
-        (ap (λ (y : SubEntry). y.sgl1) (all_at_found (λ j. j.q ≡ q → j.entry.cid ≡ cid → j.entry ≡ entry) (is_job q cid) s.device.jobs j e has.fetched (eqb-true j.q q ids.0) (eqb-true j.entry.cid cid ids.1)), tt)
+        let ids = and_parts (j.q == q) (j.entry.cid == cid) (found_is (is_job q cid) s.device.jobs j e) in
+        (ap (λ (y : SubEntry). y.sgl1) (all-found (λ j. j.q ≡ q → j.entry.cid ≡ cid → j.entry ≡ entry) (is_job q cid) s.device.jobs j e has.fetched (eqb-true j.q q ids.0) (eqb-true j.entry.cid cid ids.1)), tt)
 
 pub stood_has_chains : (end : State) → Stood end → (q cid : ℕ) (r : Record) → record_at end.host q cid ≡ Some r → is_submitted r.phase ≡ true → HasChainIfIo end r r.work
 stood_has_chains end stood q cid r found sub =
-    of r.work (all_at_found (CommandStands end.memory end.device.queues end.device.jobs) (is_at q cid) end.host.records r found stood.commands)
+    of r.work (all-found (CommandStands end.memory end.device.queues end.device.jobs) (is_at q cid) end.host.records r found stood.commands)
   where
     of : (w : Work) → StandsAs end.memory end.device.queues end.device.jobs r w → HasChainIfIo end r w
     of (Io request) c =
@@ -149,7 +150,7 @@ stood_has_chains end stood q cid r found sub =
         record {
           first = l.first;
           spells = spells_there (only (on_pages r.chain_pages) (byte_at end.memory)) (byte_at end.memory) (more_than_only (on_pages r.chain_pages) (byte_at end.memory)) l.first (joined_parts request.pieces r.data_pages) l.spells;
-          named = all_of (λ e. e.sgl1 ≡ spelling l.first) (entries_of end r.q r.cid) (entries_named end r.q r.cid (io_entry r.cid request (spelling l.first)) l.entry);
+          named = all-to (λ e. e.sgl1 ≡ spelling l.first) (entries_of end r.q r.cid) (entries_named end r.q r.cid (io_entry r.cid request (spelling l.first)) l.entry);
         }
     of (Management adm) c = tt
 
@@ -175,13 +176,13 @@ not_zero q h = grind (arith, nat_tests)
 
 pub list_at : (s : State) → Stood s → (q cid : ℕ) (j : Job) → nat_lt 0 q ≡ true → job_at s q cid ≡ Some j → JobList s j
 list_at s stood q cid j some e =
-    let ids = and_parts (j.q == q) (j.entry.cid == cid) (find_sound (is_job q cid) s.device.jobs j e) in
-    job_list s stood j (in_found (is_job q cid) s.device.jobs j e) (ap (λ (k : ℕ). k == 0) (eqb-true j.q q ids.0) ∙ not_zero q some) (λ P all. all_at_found P (is_job q cid) s.device.jobs j e all)
+    let ids = and_parts (j.q == q) (j.entry.cid == cid) (found_is (is_job q cid) s.device.jobs j e) in
+    job_list s stood j (in_found (is_job q cid) s.device.jobs j e) (ap (λ (k : ℕ). k == 0) (eqb-true j.q q ids.0) ∙ not_zero q some) (λ P all. all-found P (is_job q cid) s.device.jobs j e all)
 
 pub stood_has_jobs : (end : State) → Stood end → (q cid : ℕ) (j : Job) → nat_lt 0 q ≡ true → job_at end q cid ≡ Some j → JobStands end j
 stood_has_jobs end stood q cid j some e =
     let l = list_at end stood q cid j some e in
-    let ids = and_parts (j.q == q) (j.entry.cid == cid) (find_sound (is_job q cid) end.device.jobs j e) in
+    let ids = and_parts (j.q == q) (j.entry.cid == cid) (found_is (is_job q cid) end.device.jobs j e) in
     record {
       command = l.command;
       request = l.request;
@@ -194,7 +195,7 @@ stood_has_jobs end stood q cid j some e =
       keeps = lists_keep l.command.chain_pages l.command.data_pages (memory_of end.memory) j.entry.sgl1 (joined_parts l.request.pieces l.command.data_pages) (direction_of_entry j.entry) (need_of_entry j.entry)
           (apart_in end stood.grounds l.command l.within) (list_of_job end j l);
       ends = course_ends end stood j l;
-      unit_left = all_at_found (HasUnitLeft end) (is_job q cid) end.device.jobs j e stood.walks (ap (λ (k : ℕ). k == 0) (eqb-true j.q q ids.0) ∙ not_zero q some);
+      unit_left = all-found (HasUnitLeft end) (is_job q cid) end.device.jobs j e stood.walks (ap (λ (k : ℕ). k == 0) (eqb-true j.q q ids.0) ∙ not_zero q some);
     }
 
 -- a job of an identifier has one entry before and after a step
@@ -218,16 +219,16 @@ stood_keeps_lists old new e reply q cid before after stood was step trusted some
     go (inr (proper, ok, m, all)) =
         let is : new ≡ a.after old e reply = all trusted in
         let l = list_at old stood q cid before some found in
-        let ids = and_parts (before.q == q) (before.entry.cid == cid) (find_sound (is_job q cid) old.device.jobs before found) in
-        let rec_ids = and_parts (l.command.q == before.q) (l.command.cid == before.entry.cid) (find_sound (is_at before.q before.entry.cid) old.host.records l.command l.found) in
+        let ids = and_parts (before.q == q) (before.entry.cid == cid) (found_is (is_job q cid) old.device.jobs before found) in
+        let rec_ids = and_parts (l.command.q == before.q) (l.command.cid == before.entry.cid) (found_is (is_at before.q before.entry.cid) old.host.records l.command l.found) in
         let has : HasEntry old.device.queues old.device.jobs q cid before.entry =
         subst (λ (entry : SubEntry). HasEntry old.device.queues old.device.jobs q cid entry) (sym l.entry)
         (subst (λ (k : ℕ). HasEntry old.device.queues old.device.jobs k cid (io_entry l.command.cid l.request (spelling l.list.first))) (eqb-true l.command.q before.q rec_ids.0 ∙ eqb-true before.q q ids.0)
         (subst (λ (c : ℕ). HasEntry old.device.queues old.device.jobs l.command.q c (io_entry l.command.cid l.request (spelling l.list.first))) (eqb-true l.command.cid before.entry.cid rec_ids.1 ∙ eqb-true before.entry.cid cid ids.1) l.list.entry)) in
         let found'' : job_at (a.after old e reply) q cid ≡ Some after = sym (ap (λ (s : State). job_at s q cid) is) ∙ found' in
-        let ids' = and_parts (after.q == q) (after.entry.cid == cid) (find_sound (is_job q cid) (a.after old e reply).device.jobs after found'') in
+        let ids' = and_parts (after.q == q) (after.entry.cid == cid) (found_is (is_job q cid) (a.after old e reply).device.jobs after found'') in
         let entry : after.entry ≡ before.entry =
-        all_at_found (λ j. j.q ≡ q → j.entry.cid ≡ cid → j.entry ≡ before.entry) (is_job q cid) (a.after old e reply).device.jobs after found''
+        all-found (λ j. j.q ≡ q → j.entry.cid ≡ cid → j.entry ≡ before.entry) (is_job q cid) (a.after old e reply).device.jobs after found''
         (same_entry old e reply ok q cid before.entry has.fetched has) (eqb-true after.q q ids'.0) (eqb-true after.entry.cid cid ids'.1) in
         let stay = stay_after old e reply ok stood in (
           entry,

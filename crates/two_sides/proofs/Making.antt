@@ -14,9 +14,10 @@ use Rattle.machine_model.specs.{State.{HostQueue, Record, is_at}, Step.times, Wo
 use Rattle.page_ledger.specs.Owners.{pages_from, is_among}
 use Rattle.page_memory.specs.{Memory.Memory, Pages.Pages, declared.page.Half.TheVariants.{Submission, Completion}}
 use Rattle.queue_pair.specs.{Lists.{PhasesStand, expected_phase}, Memory.half_pages, Rings.{HostRing, fresh_host_ring, fresh_device_ring, DeviceRing}}
-use Rattle.two_sides.proofs.{Frames.{first_of_half, there_ring, IsKnown, queue_page_in}, Posted.not_absent, Provided.{all_at_found, in_found}}
+use Rattle.two_sides.proofs.{Frames.{first_of_half, there_ring, IsKnown, queue_page_in}, Posted.not_absent, Provided.in_found}
 use Rattle.two_sides.specs.{Sides.{device_queue_of, Sides}, Ties.{QueueStands, RingsStand, ShareQueue, first_completion_page, IsWorld}}
 use Rattle.host_core.proofs.PageOwners.{among-from}
+use Rattle.page_memory.proofs.Lists.{all-found}
 
 -- What the fetch of an admin entry makes of a queue on both sides: a queue stops, its completion queue is deleted, or one of its two rings is made.
 
@@ -204,7 +205,7 @@ completion_granted s world e entry few h c at known code none =
     let q = named_queue e in
     let (r, found, work) = made.knows in
     let names : NamesItsHalf n s.host.host.queues (Management (CreateCq made.queue made.size made.base)) =
-    subst (NamesItsHalf n s.host.host.queues) work (all_at_found (λ r. NamesItsHalf n s.host.host.queues r.work) (is_at 0 e.cid) s.host.host.records r found world.sides.provided.creations) in
+    subst (NamesItsHalf n s.host.host.queues) work (all-found (λ r. NamesItsHalf n s.host.host.queues r.work) (is_at 0 e.cid) s.host.host.records r found world.sides.provided.creations) in
     let (size, queue, there, lies) = names in
     let its : made.queue ≡ q = sym (ap named_queue made.is ∙ low made.queue (made.size - 1) (omega (arith, queue_below s.host.host.queues made.queue queue there, few))) in
     let same : queue ≡ h = some_is (sym there ∙ subst (λ (k : ℕ). slice_get s.host.host.queues k ≡ Some h) (sym its) at) in
@@ -230,7 +231,7 @@ submission_granted s world e entry few h c at known code has =
     let q = named_queue e in
     let (r, found, work) = made.knows in
     let names : NamesItsHalf n s.host.host.queues (Management (CreateSq made.queue made.size made.base)) =
-    subst (NamesItsHalf n s.host.host.queues) work (all_at_found (λ r. NamesItsHalf n s.host.host.queues r.work) (is_at 0 e.cid) s.host.host.records r found world.sides.provided.creations) in
+    subst (NamesItsHalf n s.host.host.queues) work (all-found (λ r. NamesItsHalf n s.host.host.queues r.work) (is_at 0 e.cid) s.host.host.records r found world.sides.provided.creations) in
     let (size, queue, there, lies) = names in
     let its : made.queue ≡ q = sym (ap named_queue made.is ∙ low made.queue (made.size - 1) (omega (arith, queue_below s.host.host.queues made.queue queue there, few))) in
     let same : queue ≡ h = some_is (sym there ∙ subst (λ (k : ℕ). slice_get s.host.host.queues k ≡ Some h) (sym its) at) in

@@ -2,18 +2,18 @@
 use Rattle.machine_model.specs.After as after
 use Rattle.std.proofs.Common.{◌≡◌, ℕ, zero, suc, ◌+◌, ◌-◌, ◌<◌, ◌==◌, ◌&&◌, nat_lt, nat_le, Bool, true, false, Option, Some, is_none, List, [], ◌∷◌, ◌++◌, length, find, map, slice_get, if◌then◌else◌, refl, ap, ap₂, sym, ◌∙◌, arith, subst, ltb-true, leb-true, inl, inr, ◌≤◌}
 use Rattle.std.{proofs.lemmas.Bool.{true≢false, and_parts, cond_both}, specs.{List.{AllByRecursion, count_by}, Option.option_map_or}}
-use Rattle.machine_model.{proofs.Cases.option_is, specs.{After.change, Agreeing.EntryKnown, Refusals.{is_making_cq, next_rung}}}
+use Rattle.machine_model.specs.{After.change, Agreeing.EntryKnown, Refusals.{is_making_cq, next_rung}}
 use Rattle.machine_model.specs.{State.{State, HostQueue, DeviceQueue, Job}, Weights.total}
 use Rattle.admin_commands.specs.{Entries.{named_queue, named_command, named_base}, Verdicts.{decision, is_live, is_absent}, declared.AdminVerdict.AdminVerdict}
 use Rattle.admin_commands.specs.declared.AdminVerdict.TheVariants.{Answer, AbortJob, StopQueue, DropCompletion, MakeCompletion, MakeSubmission}
 use Rattle.admin_commands.specs.declared.{DeviceView.DeviceView, SqState.TheVariants.{Absent, Stopping}}
-use Rattle.controller_core.proofs.Lists.{all-map, count-cons, one}
+use Rattle.controller_core.proofs.Lists.{all-map, count-cons, one, length-change}
 use Rattle.controller_core.specs.Contents.{FetchedCommand, Work, is_command, verdict_of_work, change as change_contents}
 use Rattle.controller_core.specs.Managing.{aborted, admin_work, command_of, commands_after, queues_after, stopped_with_queue, stopped_work, stopping, view_for, with_completion, with_submission, with_taken, without_completion}
 use Rattle.controller_core.specs.declared.{command.Work.TheVariants.{Io, Admin}, queue.ControllerQueue.ControllerQueue}
 use Rattle.entry_codec.specs.declared.{admin_opcode.TheConstants.{CREATE_IO_CQ, CREATE_IO_SQ}, status.Status.Status}
 use Rattle.entry_codec.specs.declared.{status.TheConstants.Status.{SUCCESS, ABORT_REQUESTED, ABORTED_SQ_DELETION}, submission.SubEntry.SubEntry}
-use Rattle.two_sides.proofs.{AdminKept.{same_decision, Decides, decides}, DeviceMoves.length-change}
+use Rattle.two_sides.proofs.AdminKept.{same_decision, Decides, decides}
 use Rattle.two_sides.proofs.Frames.{from_zero, share_of, IsKnown, controller_at, known, tied_of}
 use Rattle.two_sides.proofs.Making.{IsGranted, IsGrantedBeside, completion_seen, completion_shares, completion_stands, dropped_stands, stopping_seen, stopping_stands, submission_seen, submission_shares, submission_stands, completion_granted, making_cq, submission_granted}
 use Rattle.two_sides.proofs.{Places.{devices_changed, stands_changed, job-at, map-append}, Provided.{all_in, all_of, only_found}}
@@ -21,6 +21,7 @@ use Rattle.two_sides.{proofs.{Shared.{length-device, belled}, Standing.taken_ent
 use Rattle.two_sides.specs.Ties.{AllQueuesStand, QueueStands, ShareQueue, ShareQueues, WalkStands, WalksStand, IsWorld}
 use Rattle.page_memory.specs.{Memory.Memory, Pages.byte_at}
 use Rattle.queue_pair.specs.Rings.{fresh_host_ring}
+use Rattle.slot_table.proofs.Rows.{option_is}
 
 -- What an admin entry does at its fetch is the machine's.
 

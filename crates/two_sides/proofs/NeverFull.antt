@@ -14,10 +14,10 @@ use Rattle.entry_codec.specs.declared.submission.SubEntry.{SubEntry}
 use Rattle.io_commands.specs.{Jobs.{verdict_of, direction_of_entry, need_of_entry, io_fault, bytes_after_check}, Requests.fault_of, Values.numbers_of}
 use Rattle.io_commands.specs.declared.request.RequestFault.{RequestFault}
 use Rattle.page_memory.specs.Pages.{Pages, page_at, zero_page}
-use Rattle.machine_model.proofs.{Cases.option_is, Counting.{all_at, times-append, held_once}, Headline.{in_limits, limits_of}, HostLeaves.{ids_of, host_leaves}}
+use Rattle.machine_model.proofs.{Counting.{times-append, held_once}, Headline.{in_limits, limits_of}, HostLeaves.{ids_of, host_leaves}}
 use Rattle.machine_model.proofs.{Kept.live_serves, Moves.queue_known, Owned.{in_is, in_queue, taken, taken_le, none_here}}
 use Rattle.machine_model.proofs.Steps.{part-walk, in_store, length-in_store, Accepts, part_controller, managed_by, permitted, found, pages_match}
-use Rattle.machine_model.{proofs.Tokens.find_sound, specs.{After.course_of, Agreeing.{job_weight, is_out_of_service_at as past_at, answers_at, sent_count}}}
+use Rattle.machine_model.specs.{After.course_of, Agreeing.{job_weight, is_out_of_service_at as past_at, answers_at, sent_count}}
 use Rattle.machine_model.specs.{Events.{Event, Reply}, Image.Made, Linked.{absent, IsLinked}, Memory.{memory_of, is_in}}
 use Rattle.machine_model.specs.{Opening.{Opens, opening, device_queue as opened}, Proper.IsProper}
 use Rattle.machine_model.specs.Refusals.{is_submitted, refusal_of, is_job, causes, is_live, is_drafted, is_of, has_cq, is_io_queue, record_is, in_state, queue_full, no_identifier, host_queue, device_queue, next_rung, job_at, conflicts, answers_full, fetch_page, post_page}
@@ -28,12 +28,14 @@ use Rattle.two_sides.proofs.{Along.{Keeps, each_proper_step, run_along}, Command
 use Rattle.two_sides.proofs.DeviceMoves.{unit_done, fetch_by, walk_by, complete_by, linked_from_tied}
 use Rattle.two_sides.proofs.Heads.{sent_outstanding, few_outstanding, length_outstanding, total_ones, HeadsS, drafted_room, heads_event, heads_at_opening, no_conflict}
 use Rattle.two_sides.proofs.PlacesKept.{places_event, drafted_not, in_hand}
-use Rattle.two_sides.proofs.Provided.{In, in_at, all_indexed, all_in_both, all_map, all_filter, all_append, only_found, some_is, in_found}
+use Rattle.two_sides.proofs.Provided.{In, in_at, all_indexed, all_in_both, all_map, all_append, only_found, in_found}
 use Rattle.two_sides.proofs.{Served.{Stood, job_list, same_list, course_ends, counts_sent, chain_of, data_of, page_there, page_below}, Tied.tied_from_fit}
 use Rattle.two_sides.proofs.TiedAll.{grounds_on, grounds_at_opening, Grounds}
 use Rattle.two_sides.proofs.Untouched.{is_walk, fetch_stays_in, post_stays_in, rung_there, untouched, live_queue, owned_once}
 use Rattle.two_sides.specs.MachineLaws.{is_full, rings_are_never_full}
 use Rattle.queue_pair.specs.Slots.{is_full as ring_is_full, distance}
+use Rattle.slot_table.proofs.Rows.{option_is}
+use Rattle.page_memory.proofs.Lists.{all-at, found_is, all-to, all-filter, some_is}
 pub use Rattle.two_sides.proofs.PoolBytes.{host_jobs}
 
 -- Every event keeps walks within their lists, and all that stands while nothing is forged.
@@ -51,7 +53,7 @@ pub record ListsStay (s : State) (m : Pages) : Type 0 where
 -- a job's course in a state that comes after
 pub course_stays : (s t : State) → Stood s → ListsStay s t.memory → (k : ℕ) (j : Job) → slice_get s.device.jobs k ≡ Some j → (j.q == 0) ≡ false → course_of t j ≡ course_of s j
 course_stays s t stood stay k j e other =
-    let l = job_list s stood j (in_at s.device.jobs k j e) other (λ P all. all_at P s.device.jobs k j e all) in
+    let l = job_list s stood j (in_at s.device.jobs k j e) other (λ P all. all-at P s.device.jobs k j e all) in
     same_list s t stood j l (stay.chains l.command l.within l.phase) (stay.own l.command l.within l.phase)
 
 walks_still : (s t : State) → Stood s → ListsStay s t.memory → AllByRecursion (UnitLeft t.memory) s.device.jobs
@@ -120,7 +122,7 @@ units_fetch m q s h =
 
 units_complete : (m : Pages) (q cid : ℕ) (s : State) → Units m s → Units m (a.after_complete q cid s)
 units_complete m q cid s h =
-    complete_by (λ (t : State). Units m t) s q cid h (λ j at c. all_filter (UnitLeft m) (λ x. not (is_job q cid x)) s.device.jobs h) (λ j at c. all_filter (UnitLeft m) (λ x. not (is_job q cid x)) s.device.jobs h)
+    complete_by (λ (t : State). Units m t) s q cid h (λ j at c. all-filter (UnitLeft m) (λ x. not (is_job q cid x)) s.device.jobs h) (λ j at c. all-filter (UnitLeft m) (λ x. not (is_job q cid x)) s.device.jobs h)
 
 -- Walking
 
@@ -300,7 +302,7 @@ room_for_answer s r q cid job = go (device_queue s q) refl
     some_job : (o : Option Job) → job_at s q cid ≡ o → is_none o ≡ false → 1 ≤ total (job_weight q (λ c. 1)) s.device.jobs
     some_job None e h = absurd (true≢false h)
     some_job (Some j) e h =
-        omega (arith, ap one (and_parts (j.q == q) (j.entry.cid == cid) (find_sound (is_job q cid) s.device.jobs j e)).0, in_found (is_job q cid) s.device.jobs j e (job_weight q (λ c. 1)))
+        omega (arith, ap one (and_parts (j.q == q) (j.entry.cid == cid) (found_is (is_job q cid) s.device.jobs j e)).0, in_found (is_job q cid) s.device.jobs j e (job_weight q (λ c. 1)))
 
     there : absent s q ≡ false
     there = (linked s r).jobs_have_queues q cid (not_none (job_at s q cid) job)
@@ -442,13 +444,9 @@ keeps_room done m new step t u h = record {
   roomy = each_proper_step Roomy roomy_on m.before m.event m.reply new step t u h.roomy;
 }
 
-pub all_of : {A : Type 0} (P : A → Type 0) (xs : List A) → AllByRecursion P xs → All P xs
-all_of P [] h = All-nil P
-all_of P (x ∷ xs) h = All-cons P x xs h.0 (all_of P xs h.1)
-
 pub runs_have_room : rings_are_never_full
 runs_have_room image made end run =
-    all_of (λ m. IsTrue (not (is_full m.reply))) made
+    all-to (λ m. IsTrue (not (is_full m.reply))) made
     (run_along SoRoomy keeps_room image (λ pages queues n s opens. record {
       replies = tt;
       roomy = record { stood = stood_at_opening pages queues n s image opens; heads = heads_at_opening pages queues n s image opens };

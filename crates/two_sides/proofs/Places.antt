@@ -7,8 +7,8 @@ use Rattle.admin_commands.specs.{Verdicts.is_absent, declared.AdminKind.{AdminKi
 use Rattle.controller_core.{proofs.Lists.{count-cons, here_counted, one}, specs.Contents.{FetchedCommand, FitsCommand, Work, entry_of_work, is_command}}
 use Rattle.controller_core.specs.declared.{command.Work.TheVariants.Io, queue.ControllerQueue.ControllerQueue}
 use Rattle.host_core.{proofs.{Lists.change-same, QueueLists.index-from}, specs.Alone.alone}
-use Rattle.machine_model.proofs.{Cases.option_is, Counting.one as one_counting, Kept.service_is_reaped as served_reaped}
-use Rattle.machine_model.proofs.{Moves.{seen_trusted, IsHeard, answer_heard}, Tokens.{find_sound, is_job, kind_known}}
+use Rattle.machine_model.proofs.{Counting.one as one_counting, Kept.service_is_reaped as served_reaped}
+use Rattle.machine_model.proofs.{Moves.{seen_trusted, IsHeard, answer_heard}, Tokens.{is_job, kind_known}}
 use Rattle.machine_model.specs.Agreeing.{SidesAgree, answered_well, answering, has_completions_at, is_absent_at, is_kind, is_known_deleted, unmade, waiting}
 use Rattle.machine_model.specs.Positions.{IsInRing}
 use Rattle.machine_model.specs.Refusals.{answers_full, device_queue, fetch_page, fetch_slot, host_queue, post_page, post_slot, slot_page, entry_of, first_answer, in_service, is_reaped, seen_entry, slot_bytes, slot_entry, job_at, is_gone, is_live, is_making_cq}
@@ -22,25 +22,28 @@ use Rattle.queue_pair.specs.Memory.{half_pages, entry_at, completion_at, submiss
 use Rattle.queue_pair.specs.Slots.{distance, is_full, moved, slots_from, next_slot, is_in_range}
 use Rattle.two_sides.proofs.{Agreed.{agreed_there, stood_of}, DeviceMoves.all_at}
 use Rattle.two_sides.proofs.Frames.{IsKnown, device_at, there_ring, IsPlaced, controller_at, known, reaped_ring, host_at, share_of, stands_of, tied_of, one_queue, one_stands, state_stands}
-use Rattle.two_sides.proofs.{PoolBytes.answers_stand, Provided.all_at_found, Standing.{admin_zero, answering_rest}, Tied.{deleted_is_gone, freed_is_gone}}
+use Rattle.two_sides.proofs.{PoolBytes.answers_stand, Standing.{admin_zero, answering_rest}, Tied.{deleted_is_gone, freed_is_gone}}
 use Rattle.two_sides.specs.Laws.{tails_are_heard, heads_are_heard}
 use Rattle.two_sides.specs.Sides.{Sides, state_of, answer_of, completions_between, device_queue_of, present, unfetched_between, job_of, device_queues_of}
 use Rattle.two_sides.specs.{Stepping.completions_are_seen, Ties.{has_ring, IsWorld, RingsStand, AllQueuesStand, QueueStands}}
 use Rattle.entry_codec.specs.{Completion.completion_of, declared.{completion.ComEntry.ComEntry, status.Status.Status}}
 use Rattle.block_image.specs.Blocks.{block_count}
 use Rattle.io_commands.specs.Jobs.{JobContents, is_success}
+use Rattle.slot_table.proofs.Rows.{option_is}
+use Rattle.page_memory.proofs.Lists.{found_is, then-map, found_at, all-found}
+use Rattle.host_core.proofs.Identifiers.{queue-here}
 
 -- Where the controller stands in its rings: the machine tells it from its lists, where nothing was forged.
 
--- Lists of slots that are there
+-- Lists of slots that are queue-here
 
 one_more : {X : Type 0} (o : Option X) → IsSome o → (rest : List (Option X)) (many : ℕ) → length (present rest) ≡ many → length (present (o ∷ rest)) ≡ suc many
 one_more o e rest many count = grind arith
 
 all_present : {X : Type 0} (f : ℕ → Option X) (n many slot : ℕ) → slot < n → ((k : ℕ) → k < n → IsSome (f k)) → length (present (map f (slots_from n slot many))) ≡ many
-all_present f n zero slot h there = refl
-all_present f n (suc many) slot h there =
-    one_more (f slot) (there slot h) (map f (slots_from n (next_slot n slot) many)) many (all_present f n many (next_slot n slot) (next_below n slot h) there)
+all_present f n zero slot h queue-here = refl
+all_present f n (suc many) slot h queue-here =
+    one_more (f slot) (queue-here slot h) (map f (slots_from n (next_slot n slot) many)) many (all_present f n many (next_slot n slot) (next_below n slot h) queue-here)
 
 some_mapped : {A B : Type 0} (f : A → B) (o : Option A) → IsSome o → IsSome (option_map f o)
 some_mapped f None e = cc
@@ -68,9 +71,9 @@ in_ring s q h c known =
 
 pub length-unfetched : (s : Sides) (q : ℕ) (h : HostQueue) (c : ControllerQueue) → IsKnown s q h c → is_absent c.state ≡ false
     → length (unfetched_between (byte_at s.pages) h.ring c.device) ≡ distance c.device.entries c.device.ring.head h.ring.tail
-length-unfetched s q h c known there =
+length-unfetched s q h c known queue-here =
     all_present (entry_at (byte_at s.pages) c.device.sq) c.device.entries (distance c.device.entries c.device.ring.head h.ring.tail) c.device.ring.head known.placed.share.side.head
-    (λ k lt. some_mapped _ _ (submission_there (byte_at s.pages) c.device.sq s.host.entries k (known.submission_in there) (omega (arith, lt, known.placed.share.entries))))
+    (λ k lt. some_mapped _ _ (submission_there (byte_at s.pages) c.device.sq s.host.entries k (known.submission_in queue-here) (omega (arith, lt, known.placed.share.entries))))
 
 pub length-completions : (s : Sides) (q : ℕ) (h : HostQueue) (c : ControllerQueue) → IsKnown s q h c → has_ring h c ≡ true
     → length (map answer_of (completions_between (byte_at s.pages) h.ring c.device)) ≡ distance c.device.entries h.ring.head c.device.ring.tail
@@ -79,12 +82,12 @@ length-completions s q h c known has =
     ∙ all_present (completion_at (byte_at s.pages) c.device.cq) c.device.entries (distance c.device.entries h.ring.head c.device.ring.tail) h.ring.head (in_ring s q h c known).head
     (λ k lt. some_mapped _ _ (completion_there (byte_at s.pages) c.device.cq s.host.entries k (known.completion_in has) (omega (arith, lt, known.placed.share.entries))))
 
--- so many answers has the machine of a completion queue that is there
+-- so many answers has the machine of a completion queue that is queue-here
 pub length-answers : (s : Sides) (q : ℕ) (h : HostQueue) (c : ControllerQueue) → IsKnown s q h c → c.cq_there ≡ true
     → length (device_queue_of (byte_at s.pages) h.ring c).answers ≡ distance c.device.entries h.ring.head c.device.ring.tail
-length-answers s q h c known there =
-    ap (λ (b : Bool). length (if b then map answer_of (completions_between (byte_at s.pages) h.ring c.device) else [])) there
-    ∙ length-completions s q h c known (there_ring h c there)
+length-answers s q h c known queue-here =
+    ap (λ (b : Bool). length (if b then map answer_of (completions_between (byte_at s.pages) h.ring c.device) else [])) queue-here
+    ∙ length-completions s q h c known (there_ring h c queue-here)
 
 -- A state of the machine that shows a queue as both sides have it: that of both sides, and those that an event makes of it elsewhere.
 pub record Shows (u : State) (s : Sides) (q : ℕ) (h : HostQueue) (c : ControllerQueue) : Type 0 where
@@ -98,25 +101,25 @@ shows s q h c e f = record { entries = refl; host = e; device = device_at s q h 
 -- The positions
 
 pub fetch_slot_is : (u : State) (s : Sides) (q : ℕ) (h : HostQueue) (c : ControllerQueue) → Shows u s q h c → IsKnown s q h c → is_absent c.state ≡ false → fetch_slot u q ≡ c.device.ring.head
-fetch_slot_is u s q h c shown known there =
+fetch_slot_is u s q h c shown known queue-here =
     rw (shown.host, shown.device, (shown.entries ∙ sym known.placed.share.entries)) refl
-    ∙ ap (λ (b : Bool). moved c.device.entries h.ring.tail (c.device.entries - length (if b then [] else unfetched_between (byte_at s.pages) h.ring c.device))) there
-    ∙ ap (λ (k : ℕ). moved c.device.entries h.ring.tail (c.device.entries - k)) (length-unfetched s q h c known there)
+    ∙ ap (λ (b : Bool). moved c.device.entries h.ring.tail (c.device.entries - length (if b then [] else unfetched_between (byte_at s.pages) h.ring c.device))) queue-here
+    ∙ ap (λ (k : ℕ). moved c.device.entries h.ring.tail (c.device.entries - k)) (length-unfetched s q h c known queue-here)
     ∙ sym (head_moved c.device.entries c.device.ring.head h.ring.tail known.placed.share.side.head (in_ring s q h c known).tail)
 
 pub post_slot_is : (u : State) (s : Sides) (q : ℕ) (h : HostQueue) (c : ControllerQueue) → Shows u s q h c → IsKnown s q h c → c.cq_there ≡ true → post_slot u q ≡ c.device.ring.tail
-post_slot_is u s q h c shown known there =
+post_slot_is u s q h c shown known queue-here =
     rw (shown.host, shown.device, (shown.entries ∙ sym known.placed.share.entries)) refl
-    ∙ ap (λ (k : ℕ). moved c.device.entries h.ring.head k) (length-answers s q h c known there)
+    ∙ ap (λ (k : ℕ). moved c.device.entries h.ring.head k) (length-answers s q h c known queue-here)
     ∙ sym (tail_moved c.device.entries h.ring.head c.device.ring.tail (in_ring s q h c known).head known.placed.share.side.tail)
 
 pub answers_full_is : (u : State) (s : Sides) (q : ℕ) (h : HostQueue) (c : ControllerQueue) → Shows u s q h c → IsKnown s q h c → c.cq_there ≡ true
     → answers_full u q ≡ is_full c.device.entries c.device.ring.known_head c.device.ring.tail
-answers_full_is u s q h c shown known there =
+answers_full_is u s q h c shown known queue-here =
     -- whether the completion ring has room
     rw (shown.device, (shown.entries ∙ sym known.placed.share.entries)) refl
-    ∙ ap (λ (k : ℕ). k == c.device.entries - 1) (length-answers s q h c known there)
-    ∙ ap (λ (k : ℕ). is_full c.device.entries k c.device.ring.tail) (sym (known.rings (there_ring h c there)).heard)
+    ∙ ap (λ (k : ℕ). k == c.device.entries - 1) (length-answers s q h c known queue-here)
+    ∙ ap (λ (k : ℕ). is_full c.device.entries k c.device.ring.tail) (sym (known.rings (there_ring h c queue-here)).heard)
 
 -- The pages of the slots
 
@@ -139,14 +142,14 @@ own_page s q h c known has =
     ∙ completion_slot_page c.device.cq s.host.entries c.device.ring.tail (omega (arith, known.placed.share.entries, known.placed.share.side.tail))
 
 pub fetch_page_is : (u : State) (s : Sides) (q : ℕ) (h : HostQueue) (c : ControllerQueue) → Shows u s q h c → IsKnown s q h c → is_absent c.state ≡ false → fetch_page u q ≡ submission_page c.device.sq c.device.ring.head
-fetch_page_is u s q h c shown known there =
-    rw ((fetch_slot_is u s q h c shown known there), shown.host) refl
-    ∙ ap (λ (ps : List ℕ). slot_page ps 64 c.device.ring.head) (known.submission there)
+fetch_page_is u s q h c shown known queue-here =
+    rw ((fetch_slot_is u s q h c shown known queue-here), shown.host) refl
+    ∙ ap (λ (ps : List ℕ). slot_page ps 64 c.device.ring.head) (known.submission queue-here)
     ∙ submission_slot_page c.device.sq s.host.entries c.device.ring.head (omega (arith, known.placed.share.entries, known.placed.share.side.head))
 
 pub post_page_is : (u : State) (s : Sides) (q : ℕ) (h : HostQueue) (c : ControllerQueue) → Shows u s q h c → IsKnown s q h c → c.cq_there ≡ true → post_page u q ≡ completion_page c.device.cq c.device.ring.tail
-post_page_is u s q h c shown known there =
-    post_page-by u q h c.device.ring.tail shown.host (post_slot_is u s q h c shown known there) ∙ own_page s q h c known (there_ring h c there)
+post_page_is u s q h c shown known queue-here =
+    post_page-by u q h c.device.ring.tail shown.host (post_slot_is u s q h c shown known queue-here) ∙ own_page s q h c known (there_ring h c queue-here)
 
 -- What the host sees at the head of a completion ring is the machine's first answer.
 
@@ -156,9 +159,6 @@ told o = option_map (phased true) o
 
 -- What the slot at the head holds
 
-then_map : {X Y Z : Type 0} (f : Y → Option Z) (g : X → Y) (o : Option X) → option_and_then (λ x. f (g x)) o ≡ option_and_then f (option_map g o)
-then_map f g o = grind arith
-
 seen_alone : (s : Sides) → IsWorld s → (q : ℕ) (h : HostQueue) (c : ControllerQueue) → slice_get s.host.host.queues q ≡ Some h → IsKnown s q h c → has_ring h c ≡ true
     → seen_entry (alone s.host s.pages) q ≡ new_completion_at (byte_at s.pages) c.device.cq h.ring.head h.ring.phase
 seen_alone s world q h c e k has =
@@ -166,7 +166,7 @@ seen_alone s world q h c e k has =
     ap (option_and_then (slot_entry s.pages)) e
     ∙ ap (λ (pages : List ℕ). at_head (slot_bytes s.pages pages 16 h.ring.head)) (k.completion has)
     ∙ ap at_head (answers_stand s.pages c.device.cq (half_pages s.host.entries Completion) h.ring.head world.sides.over.pool.whole (omega arith))
-    ∙ then_map (with_phase h.ring.phase) completion_of (completion_slot (byte_at s.pages) c.device.cq h.ring.head)
+    ∙ then-map (with_phase h.ring.phase) completion_of (completion_slot (byte_at s.pages) c.device.cq h.ring.head)
 
 -- Where nothing was forged, the answers in the ring
 
@@ -203,22 +203,22 @@ answer_there s q h c k has apart = elim (cases_Bool (in_service h.state)) [ inl 
 -- the machine sees the first of its answers
 seen_of : (s : Sides) (q : ℕ) (h : HostQueue) (c : ControllerQueue) (b : Bool) → s.trusted ≡ true → slice_get s.host.host.queues q ≡ Some h → slice_get s.controller.queues q ≡ Some c → c.cq_there ≡ b
     → seen_entry (state_of s) q ≡ option_map (entry_of q) (first_answer (if b then map answer_of (completions_between (byte_at s.pages) h.ring c.device) else []))
-seen_of s q h c b t e f there =
+seen_of s q h c b t e f queue-here =
     seen_trusted (state_of s) q t
     ∙ ap (λ (o : Option DeviceQueue). option_map (entry_of q) (option_and_then (λ queue. first_answer queue.answers) o)) (device_at s q h c e f)
-    ∙ ap (λ (b : Bool). option_map (entry_of q) (first_answer (if b then map answer_of (completions_between (byte_at s.pages) h.ring c.device) else []))) there
+    ∙ ap (λ (b : Bool). option_map (entry_of q) (first_answer (if b then map answer_of (completions_between (byte_at s.pages) h.ring c.device) else []))) queue-here
 
 pub seen_none : (s : Sides) (q : ℕ) (h : HostQueue) (c : ControllerQueue) → s.trusted ≡ true → slice_get s.host.host.queues q ≡ Some h → slice_get s.controller.queues q ≡ Some c
     → h.ring.head ≡ c.device.ring.tail → seen_entry (state_of s) q ≡ None
 seen_none s q h c t e f same = elim (cases_Bool c.cq_there) [
-  | inl there ↦ seen_of s q h c true t e f there ∙ ap (λ (xs : List ComEntry). option_map (entry_of q) (first_answer (map answer_of xs))) (no_answer (byte_at s.pages) h c same)
-  | inr there ↦ seen_of s q h c false t e f there
+  | inl queue-here ↦ seen_of s q h c true t e f queue-here ∙ ap (λ (xs : List ComEntry). option_map (entry_of q) (first_answer (map answer_of xs))) (no_answer (byte_at s.pages) h c same)
+  | inr queue-here ↦ seen_of s q h c false t e f queue-here
 ]
 
 pub seen_first : (s : Sides) (q : ℕ) (h : HostQueue) (c : ControllerQueue) → s.trusted ≡ true → slice_get s.host.host.queues q ≡ Some h → slice_get s.controller.queues q ≡ Some c
     → c.cq_there ≡ true → (a : HasAnswer (byte_at s.pages) h c) → seen_entry (state_of s) q ≡ Some (entry_of q (answer_of a.entry))
-seen_first s q h c t e f there a =
-    seen_of s q h c true t e f there ∙ ap (λ (xs : List ComEntry). option_map (entry_of q) (first_answer (map answer_of xs))) a.list
+seen_first s q h c t e f queue-here a =
+    seen_of s q h c true t e f queue-here ∙ ap (λ (xs : List ComEntry). option_map (entry_of q) (first_answer (map answer_of xs))) a.list
 
 owned_first : (q : ℕ) (e : ComEntry) → e.sqid ≡ q → told (Some e) ≡ told (Some (entry_of q (answer_of e)))
 owned_first q e own = ap (λ (i : ℕ). Some (record { dw0 = e.dw0; sqhd = e.sqhd; sqid = i; cid = e.cid; phase = true; status = e.status })) own
@@ -235,7 +235,7 @@ trusted_alike s world t q h c e f reaped =
       | inl same ↦ ap (λ (head : ℕ). told (front (answers_between m c.device.cq c.device.entries head c.device.ring.tail))) same
           ∙ ap (λ (xs : List (Option ComEntry)). told (front xs)) (answers_none m c.device.cq c.device.entries c.device.ring.tail)
           ∙ sym (ap told (seen_none s q h c t e f same))
-      | inr apart ↦ there (answer_there s q h c k has apart) (has_answer s q h c k has apart)
+      | inr apart ↦ queue-here (answer_there s q h c k has apart) (has_answer s q h c k has apart)
     ]
   where
     m : Memory
@@ -250,8 +250,8 @@ trusted_alike s world t q h c e f reaped =
     rings : RingsStand m q h c
     rings = k.rings has
 
-    there : c.cq_there ≡ true → HasAnswer m h c → told (front (answers_between m c.device.cq c.device.entries h.ring.head c.device.ring.tail)) ≡ told (seen_entry (state_of s) q)
-    there cq a =
+    queue-here : c.cq_there ≡ true → HasAnswer m h c → told (front (answers_between m c.device.cq c.device.entries h.ring.head c.device.ring.tail)) ≡ told (seen_entry (state_of s) q)
+    queue-here cq a =
         ap told a.front ∙ owned_first q a.entry (subst (λ (xs : List ComEntry). AllByRecursion (λ e. e.sqid ≡ q) xs) a.list rings.owned).0 ∙ sym (ap told (seen_first s q h c t e f cq a))
 
 pub seen_alike : (s : Sides) → IsWorld s → (q : ℕ) (h : HostQueue) → slice_get s.host.host.queues q ≡ Some h → is_reaped h.state ≡ true
@@ -283,15 +283,6 @@ filter-map f p (x ∷ xs) = grind (arith, filter-map f p xs)
 pub any-map : {A B : Type 0} (f : A → B) (p : B → Bool) (xs : List A) → list_any p (map f xs) ≡ list_any (λ x. p (f x)) xs
 any-map f p [] = refl
 any-map f p (x ∷ xs) = ap (λ b. p (f x) || b) (any-map f p xs)
-
--- where what is found stands
-pub find_place : {A : Type 0} (test : A → Bool) (xs : List A) (x : A) → find test xs ≡ Some x → (i : ℕ) × (slice_get xs i ≡ Some x)
-find_place test [] x e = cc
-find_place {A = A} test (y ∷ xs) x e = go (test y) e (find_place test xs x)
-  where
-    go : (b : Bool) → cond b (Some y) (find test xs) ≡ Some x → (find test xs ≡ Some x → (i : ℕ) × (slice_get xs i ≡ Some x)) → (i : ℕ) × (slice_get (y ∷ xs) i ≡ Some x)
-    go true e later = (zero, e)
-    go false e later = let (i, at) = later e in (suc i, at)
 
 none_named : {A B : Type 0} (named : A → Bool) (h : B → B) (g : A → B) (xs : List A) → count_by named xs ≡ 0 → ((a : A) → named a ≡ false → h (g a) ≡ g a) → map h (map g xs) ≡ map g xs
 none_named named h g [] none others = refl
@@ -333,7 +324,7 @@ seen k job = job_of (with_work k (Io job))
 pub seen_is : (k : FetchedCommand) (job : JobContents) → k.work ≡ Io job → job_of k ≡ seen k job
 seen_is k job e = ap (λ (work : Work). job_of (with_work k work)) e
 
--- what is known of a command that is found: it fits, and its queue is there
+-- what is known of a command that is found: it fits, and its queue is queue-here
 pub record IsFound (s : Sides) (q cid : ℕ) (k : FetchedCommand) : Type 0 where
   pub named : is_command q cid k ≡ true
   pub its_queue : k.q ≡ q
@@ -343,17 +334,12 @@ pub record IsFound (s : Sides) (q cid : ℕ) (k : FetchedCommand) : Type 0 where
   pub host : HostQueue
   pub host_here : slice_get s.host.host.queues q ≡ Some host
 
-there : {A : Type 0} (xs : List A) (i : ℕ) → i < length xs → (x : A) × (slice_get xs i ≡ Some x)
-there [] i l = absurd (omega (arith, l))
-there (x ∷ xs) zero l = (x, refl)
-there (x ∷ xs) (suc i) l = there xs i (omega (arith, l))
-
 pub is_found : (s : Sides) → IsWorld s → (q cid : ℕ) (k : FetchedCommand) → find (is_command q cid) s.controller.commands ≡ Some k → IsFound s q cid k
 is_found s world q cid k e =
-    let named = find_sound (is_command q cid) s.controller.commands k e in
+    let named = found_is (is_command q cid) s.controller.commands k e in
     let same : k.q ≡ q = eqb-true k.q q (and_parts (k.q == q) ((entry_of_work k.work).cid == cid) named).0 in
-    let fits = all_at_found (FitsCommand (block_count s.controller.image) (length s.controller.queues)) (is_command q cid) s.controller.commands k e world.sides.controller.commands.each in
-    let (c, here) = there s.controller.queues q (subst (λ (n : ℕ). n < length s.controller.queues) same fits.0) in
+    let fits = all-found (FitsCommand (block_count s.controller.image) (length s.controller.queues)) (is_command q cid) s.controller.commands k e world.sides.controller.commands.each in
+    let (c, here) = queue-here s.controller.queues q (subst (λ (n : ℕ). n < length s.controller.queues) same fits.0) in
     let (h, at) = host_at s world q c here in
     record { named = named; its_queue = same; fits = fits; queue = c; queue_here = here; host = h; host_here = at }
 
@@ -382,23 +368,23 @@ heads_heard s q h c sides tied e f has apart =
 -- of the machine's queue at a number
 pub absent_is : (s : Sides) (q : ℕ) (h : HostQueue) (c : ControllerQueue) (b : Bool) → slice_get s.host.host.queues q ≡ Some h → slice_get s.controller.queues q ≡ Some c
     → is_absent_at (state_of s).device.queues q ≡ b → is_absent c.state ≡ b
-absent_is s q h c b at there is = sym (ap (λ (o : Option DeviceQueue). option_map_or (λ x. is_absent x.state) o true) (device_at s q h c at there)) ∙ is
+absent_is s q h c b at queue-here is = sym (ap (λ (o : Option DeviceQueue). option_map_or (λ x. is_absent x.state) o true) (device_at s q h c at queue-here)) ∙ is
 
 pub completions_is : (s : Sides) (q : ℕ) (h : HostQueue) (c : ControllerQueue) (b : Bool) → slice_get s.host.host.queues q ≡ Some h → slice_get s.controller.queues q ≡ Some c
     → has_completions_at (state_of s).device.queues q ≡ b → c.cq_there ≡ b
-completions_is s q h c b at there is = sym (ap (λ (o : Option DeviceQueue). option_map_or (λ x. x.cq_there) o false) (device_at s q h c at there)) ∙ is
+completions_is s q h c b at queue-here is = sym (ap (λ (o : Option DeviceQueue). option_map_or (λ x. x.cq_there) o false) (device_at s q h c at queue-here)) ∙ is
 
 pub known_absent : (s : Sides) → IsWorld s → s.trusted ≡ true → (q : ℕ) (h : HostQueue) (c : ControllerQueue) → slice_get s.host.host.queues q ≡ Some h → slice_get s.controller.queues q ≡ Some c
     → is_known_deleted h.state ≡ true → is_absent c.state ≡ true
-known_absent s world t q h c at there is = absent_is s q h c true at there (deleted_is_gone (state_of s) (stood_of (state_of s) (tied_of s world t).agree).grounds.fit q h at is)
+known_absent s world t q h c at queue-here is = absent_is s q h c true at queue-here (deleted_is_gone (state_of s) (stood_of (state_of s) (tied_of s world t).agree).grounds.fit q h at is)
 
 pub known_gone : (s : Sides) → IsWorld s → s.trusted ≡ true → (q : ℕ) (h : HostQueue) (c : ControllerQueue) → slice_get s.host.host.queues q ≡ Some h → slice_get s.controller.queues q ≡ Some c
     → is_gone h.state ≡ true → c.cq_there ≡ false
-known_gone s world t q h c at there is = completions_is s q h c false at there (freed_is_gone (state_of s) (stood_of (state_of s) (tied_of s world t).agree).grounds.fit q h at is)
+known_gone s world t q h c at queue-here is = completions_is s q h c false at queue-here (freed_is_gone (state_of s) (stood_of (state_of s) (tied_of s world t).agree).grounds.fit q h at is)
 
 pub known_live : (s : Sides) → IsWorld s → s.trusted ≡ true → (q : ℕ) (h : HostQueue) (c : ControllerQueue) → slice_get s.host.host.queues q ≡ Some h → slice_get s.controller.queues q ≡ Some c
     → is_live h.state ≡ true → is_absent c.state ≡ false
-known_live s world t q h c at there is = absent_is s q h c false at there (agreed_there (state_of s) q h (tied_of s world t).agree at is)
+known_live s world t q h c at queue-here is = absent_is s q h c false at queue-here (agreed_there (state_of s) q h (tied_of s world t).agree at is)
 
 -- What an answer tells that is heard: it counts among the answers
 
@@ -425,7 +411,7 @@ carried s q cid st e r adm t agree heard w =
 named_so : (k : ℕ) (b : Bool) → k < 65536 → b ≡ true → ((k % 65536 == k) && b) ≡ true
 named_so k b l is = ap (λ (x : Bool). x && b) (eq-eqb (k % 65536) k (omega (arith, l))) ∙ is
 
--- a completion queue that was deleted, or not made, is not there
+-- a completion queue that was deleted, or not made, is not queue-here
 pub freed_not_there : (s : State) (k : ℕ) (ok : Bool) → SidesAgree s → k < 65536 → ok ≡ true → Carries s (DeleteCq k) ok → has_completions_at s.device.queues k ≡ false
 freed_not_there s k ok agree l good says = grind arith
 
@@ -445,16 +431,16 @@ pub devices_changed : (m m' : Memory) (q : ℕ) (g : ControllerQueue → Control
     → ((h : HostQueue) (c : ControllerQueue) → slice_get hs q ≡ Some h → slice_get cs q ≡ Some c → device_queue_of m' h.ring (g c) ≡ k (device_queue_of m h.ring c))
     → ((i : ℕ) (h : HostQueue) (c : ControllerQueue) → i ≢ q → slice_get hs i ≡ Some h → slice_get cs i ≡ Some c → device_queue_of m' h.ring c ≡ device_queue_of m h.ring c)
     → device_queues_of m' hs (change q g cs) ≡ change q k (device_queues_of m hs cs)
-devices_changed m m' q g k hs cs here there =
+devices_changed m m' q g k hs cs here queue-here =
     subst (λ (xs : List HostQueue). device_queues_of m' xs (change q g cs) ≡ change q k (device_queues_of m hs cs)) (change-same (λ h. h) (λ h. refl) q hs)
-    (one_queue m m' q (λ h. h) g k hs cs here there)
+    (one_queue m m' q (λ h. h) g k hs cs here queue-here)
 
 pub stands_changed : (n : ℕ) (m m' : Memory) (q : ℕ) (g : ControllerQueue → ControllerQueue) (hs : List HostQueue) (cs : List ControllerQueue)
     → ((h : HostQueue) (c : ControllerQueue) → slice_get hs q ≡ Some h → slice_get cs q ≡ Some c → QueueStands n m q h c → QueueStands n m' q h (g c))
     → ((i : ℕ) (h : HostQueue) (c : ControllerQueue) → i ≢ q → slice_get hs i ≡ Some h → slice_get cs i ≡ Some c → QueueStands n m i h c → QueueStands n m' i h c)
     → AllQueuesStand n m zero hs cs → AllQueuesStand n m' zero hs (change q g cs)
-stands_changed n m m' q g hs cs here there all =
-    subst (λ (xs : List HostQueue). AllQueuesStand n m' zero xs (change q g cs)) (change-same (λ h. h) (λ h. refl) q hs) (one_stands n m m' q (λ h. h) g hs cs here there all)
+stands_changed n m m' q g hs cs here queue-here all =
+    subst (λ (xs : List HostQueue). AllQueuesStand n m' zero xs (change q g cs)) (change-same (λ h. h) (λ h. refl) q hs) (one_stands n m m' q (λ h. h) g hs cs here queue-here all)
 
 -- A queue of the host gets another state: it stands, by what the controller has of it.
 
@@ -480,7 +466,7 @@ retires_half n m q h c served absent drained stands =
       granted = λ making absent. absurd (true≢false (sym making));
     }
 
--- its completion half is given back: there is no completion queue
+-- its completion half is given back: queue-here is no completion queue
 pub frees_half : (n : ℕ) (m : Memory) (q : ℕ) (h : HostQueue) (c : ControllerQueue) → c.cq_there ≡ false → QueueStands n m q h c → QueueStands n m q (a.gone h) c
 frees_half n m q h c none stands =
     record {
@@ -509,8 +495,8 @@ unmakes_half n m q h c out absent stands =
 
 -- a queue with both halves comes into service
 pub comes_live : (n : ℕ) (m : Memory) (q : ℕ) (h : HostQueue) (c : ControllerQueue) → c.cq_there ≡ true → QueueStands n m q h c → QueueStands n m q (a.live h) c
-comes_live n m q h c there stands =
-    let has = there_ring h c there in
+comes_live n m q h c queue-here stands =
+    let has = there_ring h c queue-here in
     record {
       halves = record { submission = stands.halves.submission; completion = λ x. stands.halves.completion has };
       rings = λ x. state_stands m q h c Live h.sq_pages h.cq_pages (stands.rings has) (λ e. absurd (true≢false e));

@@ -4,7 +4,7 @@ use Rattle.machine_model.specs.Events as events
 use Rattle.machine_model.specs.declared.words.Reaped.TheVariants as outcome
 use Rattle.std.proofs.Common.{◌≡◌, ℕ, zero, ◌+◌, ◌-◌, ◌≤◌, ◌==◌, nat_lt, Bool, true, false, not, ◌&&◌, Option, Some, None, List, [], ◌∷◌, ◌++◌, map, filter, find, drop, slice_get, is_none, option_and_then, if◌then◌else◌, refl, ap, sym, ◌∙◌, arith, subst, eqb-true, inl, inr, suc, length, is_some, option_map, eq-eqb}
 use Rattle.std.{proofs.lemmas.Bool.{true≢false, and_parts, eqb-false, cases_Bool}, specs.Option.option_map_or}
-use Rattle.machine_model.proofs.{Cases.option_is, Counting.{total-append, total-map, total-filter, total_with, total_without}, HostLeaves.ids_of}
+use Rattle.machine_model.proofs.{Counting.{total-append, total-map, total-filter, total_with, total_without}, HostLeaves.ids_of}
 use Rattle.machine_model.proofs.Kept.{asked_serves, submissions_awaited}
 use Rattle.machine_model.proofs.Moves.{seen_trusted, named, Tells, heard_of, answer_heard, host_moves, posts, sends, sent_record, drafted_record, heard_without, IsHeard, making_sq_is, half_from, grants_cq, grants_sq, creates_cq, creates_sq}
 use Rattle.machine_model.proofs.{Owned.{awaited_at, was_awaited, awaited_is}, Sound.{still_live, asked_note}}
@@ -26,6 +26,7 @@ use Rattle.two_sides.proofs.DeviceMoves.{answers, answer_of, unit_done, finished
 use Rattle.two_sides.proofs.{Standing.{list_same, more_at, less_at, past_same, past_other, past_here}, Tied.{stopped_q, deleted_is_gone}}
 use Rattle.two_sides.proofs.TiedAll.{Grounds, pair_at}
 use Rattle.page_memory.specs.declared.page.Half.TheVariants.{Submission, Completion}
+use Rattle.slot_table.proofs.Rows.{option_is}
 
 -- Each event keeps the entries of a queue's commands in as many places as it has submitted commands.
 

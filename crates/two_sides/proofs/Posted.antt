@@ -7,7 +7,7 @@ use Rattle.entry_codec.{proofs.SubmissionLemmas.round_trip, specs.Bytes.IsBytes}
 use Rattle.entry_codec.specs.{Submission.{FitsSubmission, IsSubEntry, command_words, submission_bytes, submission_of}, declared.completion.ComEntry.ComEntry}
 use Rattle.entry_codec.specs.declared.submission.SubEntry.{SubEntry}
 use Rattle.io_commands.{proofs.Building.carries_entry, specs.Drafts.{DraftContents, draft_first}}
-use Rattle.machine_model.{proofs.Cases.option_is, specs.{Memory.memory_of, Proper.IsProperDraft, Refusals.{slot_page, slot_offset}}}
+use Rattle.machine_model.specs.{Memory.memory_of, Proper.IsProperDraft, Refusals.{slot_page, slot_offset}}
 use Rattle.machine_model.specs.State.{HostQueue, DeviceQueue}
 use Rattle.sgl_descriptor.specs.{Spelling.{spelling, descriptor_bytes}, declared.Descriptor.Descriptor}
 use Rattle.sgl_descriptor.specs.declared.Descriptor.TheVariants.{DataBlock, BitBucket, Segment, LastSegment}
@@ -25,6 +25,7 @@ use Rattle.queue_pair.proofs.Rings.{entries_posted, room, entries_pop, distance_
 use Rattle.queue_pair.specs.{Halves.Agree, Lists.entries_between, Members.change}
 use Rattle.queue_pair.specs.{Memory.{half_pages, submission_page, submission_place, entry_at, submission_slot}, Rings.next_tail}
 use Rattle.queue_pair.specs.Slots.{distance, is_full, is_in_range, next_slot}
+use Rattle.slot_table.proofs.Rows.{option_is}
 
 -- The numbers of an entry that the host posts are those of its type: a built draft's entry, and an admin command's.
 

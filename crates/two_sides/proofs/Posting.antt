@@ -5,9 +5,9 @@ use Rattle.machine_model.specs.declared.words.HostState.TheVariants as states
 use Rattle.std.proofs.Common.{◌≡◌, ℕ, zero, suc, ◌+◌, ◌*◌, ◌-◌, ◌^◌, ◌<◌, ◌≤◌, ◌==◌, ◌++◌, ◌∷◌, [], Bool, true, false, not, Option, Some, None, is_none, List, length, map, slice_get, refl, ap, ap₂, sym, ◌∙◌, subst, arith, eqb-true, inl, inr}
 use Rattle.std.proofs.lemmas.{Bool.{true≢false, not-false, and_parts, or_parts, OnTrue_at}, List.Folds.find_at, Option.slice_get_within}
 use Rattle.std.specs.{List.position_or_len, Option.option_map_or}
-use Rattle.machine_model.proofs.{Cases.option_is, Kept.service_is_reaped as served_reaped}
+use Rattle.machine_model.proofs.{Kept.service_is_reaped as served_reaped}
 use Rattle.machine_model.proofs.{Moves.{IsOf, draft_found, draft_lives, queue_found, sent_record, io_queue, run_found}, Steps.{found, unrefused}}
-use Rattle.machine_model.{proofs.Tokens.find_sound, specs.{After.after, Agreeing.is_known_deleted, Always.IsProvided, Events.{Event, Reply}}}
+use Rattle.machine_model.specs.{After.after, Agreeing.is_known_deleted, Always.IsProvided, Events.{Event, Reply}}
 use Rattle.machine_model.specs.{Memory.{memory_of, with_pages}, Placement.first_of_run, Proper.IsProperDraft}
 use Rattle.machine_model.specs.Refusals.{has_cq, host_queue, in_service, in_state, is_drafted, is_live, is_submitted, queue_full, refusal_of, is_gone, is_half_made, is_making}
 use Rattle.machine_model.specs.{State.{Device, HostQueue, Record, State, is_at, pages_of, record_at, with_record}, Step.{HostPart, LeavesByHost, Permits}}
@@ -23,12 +23,15 @@ use Rattle.two_sides.proofs.Frames.{Spares, SparesSubmitted, apart_from_commands
 use Rattle.two_sides.proofs.Granting.{granted_pool, granted_spares, granted_submitted, granted_whole, free, granted_zero, zeros_granted}
 use Rattle.two_sides.proofs.Places.{known_live, known_absent, known_gone}
 use Rattle.two_sides.proofs.Posted.{CanPost, post_queues, post_stands, post_walks, slot_written, tail_moved, with_entry, elsewhere, IsTyped, admin_typed, draft_typed}
-use Rattle.two_sides.{proofs.{Provided.all_at_found, Untouched.with_elsewhere}, specs.Hearing.heard}
+use Rattle.two_sides.specs.Hearing.heard
 use Rattle.two_sides.specs.Sides.{Sides, state_of, device_of, device_queue_of, device_queues_of, job_of}
 use Rattle.two_sides.specs.Ties.{AllQueuesStand, IsWorld, QueueStands, WalksStand, RingsStand, first_completion_page}
 use Rattle.page_ledger.specs.Owners.{is_among, pages_from}
 use Rattle.page_memory.specs.{Memory.Memory, Pages.{IsWhole, Pages, byte_at, page_at}, declared.page.Half.TheVariants.{Submission, Completion}}
 use Rattle.queue_pair.specs.{Lists.PhasesStand, Members.change, Memory.half_pages, Rings.{next_tail, HostRing, fresh_host_ring}, Slots.is_full}
+use Rattle.slot_table.proofs.Rows.{option_is}
+use Rattle.page_memory.proofs.Lists.{found_is, all-found}
+use Rattle.host_core.proofs.PageOwners.{with-other}
 
 -- The host's calls that post an entry, where nothing was forged: the machine's lists follow, and the rings and the walks stand.
 
@@ -106,8 +109,8 @@ few_entries s world q h at = grind arith
 
 small_identifier : (s : Sides) → IsWorld s → (q cid : ℕ) (r : Record) → record_at s.host.host q cid ≡ Some r → cid < s.host.entries - 1
 small_identifier s world q cid r found =
-    let given = all_at_found (IsProvided s.host.entries s.host.segment) (is_at q cid) s.host.host.records r found world.sides.provided.commands in
-    omega (arith, given.identifier, eqb-true r.cid cid (and_parts (r.q == q) (r.cid == cid) (find_sound (is_at q cid) s.host.host.records r found)).1)
+    let given = all-found (IsProvided s.host.entries s.host.segment) (is_at q cid) s.host.host.records r found world.sides.provided.commands in
+    omega (arith, given.identifier, eqb-true r.cid cid (and_parts (r.q == q) (r.cid == cid) (found_is (is_at q cid) s.host.host.records r found)).1)
 
 -- A draft is submitted
 
@@ -130,7 +133,7 @@ module _ (s : Sides) (d : DraftContents) (r : Record) (world : IsWorld s) (is : 
 
   -- other pages stay, so those of the halves and of submitted commands do
   other : (p : ℕ) → (is_among (pages_of r) p ≡ true → ⊥) → page_at (brought s d) p ≡ page_at s.pages p
-  other p not_mine = with_elsewhere (d.data_pages ++ d.chain_pages) s.pages p (ap (λ (ps : List ℕ). is_among ps p) is.pages ∙ (grind arith))
+  other p not_mine = with-other (d.data_pages ++ d.chain_pages) s.pages p (ap (λ (ps : List ℕ). is_among ps p) is.pages ∙ (grind arith))
 
   spares_halves : Spares s (brought s d)
   spares_halves q h at =

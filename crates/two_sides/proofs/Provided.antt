@@ -23,8 +23,8 @@ use Rattle.page_memory.specs.declared.page.Half.{Half, TheVariants.{Submission, 
 use Rattle.queue_pair.specs.{Members.change, Memory.half_pages, Rings.{HostRing, next_tail, next_head, knowing}}
 use Rattle.two_sides.specs.Provided.{each_step_provides, every_run_provides}
 use Rattle.sgl_chain.specs.Chains.{pages_needed}
+use Rattle.page_memory.proofs.Lists.{all-at, all-found, all-filter, some_is}
 pub use Rattle.machine_model.specs.Weights.{sent}
-pub use Rattle.machine_model.proofs.Counting.{all_at}
 
 -- Members of lists, told by sums: what is in a list counts at most as much as all of it, whatever is counted.
 
@@ -59,14 +59,6 @@ in_found test (y ∷ xs) x e = go (test y) e (in_found test xs x)
     go true e ih = let same : y ≡ x = cc in subst (λ z. In z (y ∷ xs)) same (in_first y xs)
     go false e ih = in_rest x y xs (ih e)
 
-pub all_at_found : {A : Type 0} (P : A → Type 0) (test : A → Bool) (xs : List A) (x : A) → find test xs ≡ Some x → AllByRecursion P xs → P x
-all_at_found P test [] x e all = absurd cc
-all_at_found P test (y ∷ xs) x e all = go (test y) e (λ e. all_at_found P test xs x e all.1)
-  where
-    go : (b : Bool) → (if b then Some y else find test xs) ≡ Some x → (find test xs ≡ Some x → P x) → P x
-    go true e ih = let same : y ≡ x = cc in subst P same all.0
-    go false e ih = ih e
-
 -- each member by its index
 pub all_indexed : {A : Type 0} (P Q : A → Type 0) (xs : List A) → ((k : ℕ) (x : A) → slice_get xs k ≡ Some x → P x → Q x) → AllByRecursion P xs → AllByRecursion Q xs
 all_indexed P Q [] f all = tt
@@ -78,14 +70,6 @@ all_in_both P X Q [] f also all = tt
 all_in_both P X Q (x ∷ xs) f also all = (f x (in_first x xs) also.0 all.0, all_in_both P X Q xs (λ y h x' p. f y (in_rest y x xs h) x' p) also.1 all.1)
 
 -- What holds of all, as a list changes
-
-pub all_filter : {A : Type 0} (P : A → Type 0) (keep : A → Bool) (xs : List A) → AllByRecursion P xs → AllByRecursion P (filter keep xs)
-all_filter P keep [] all = tt
-all_filter P keep (x ∷ xs) all = go (keep x) (all_filter P keep xs all.1)
-  where
-    go : (b : Bool) → AllByRecursion P (filter keep xs) → AllByRecursion P (if b then x ∷ filter keep xs else filter keep xs)
-    go true rest = (all.0, rest)
-    go false rest = rest
 
 pub all_append : {A : Type 0} (P : A → Type 0) (xs ys : List A) → AllByRecursion P xs → AllByRecursion P ys → AllByRecursion P (xs ++ ys)
 all_append P [] ys a b = b
@@ -100,9 +84,6 @@ all_map P Q f [] step all = tt
 all_map P Q f (x ∷ xs) step all = (step x all.0, all_map P Q f xs step all.1)
 
 -- The record of a command
-
-pub some_is : {A : Type 0} {x y : A} → Some x ≡ Some y → x ≡ y
-some_is e = cc
 
 -- where one passes a test, it is the only one
 pub only_found : {A : Type 0} (test : A → Bool) (xs : List A) (x0 : A) → find test xs ≡ Some x0 → total (λ x. one (test x)) xs < 2 → AllByRecursion (λ x. test x ≡ true → x ≡ x0) xs
@@ -229,7 +210,7 @@ NamesS s = NamesAll s.entries s.host.queues s.host.records
 pub names_event : (s : State) (e : Event) (reply : Reply) → Accepts s e reply → IsController e ≡ false → HoldsPart (host_part s) → NamesS s → NamesS (a.after s e reply)
 names_event s e reply ok c holds h =
     let without : (q cid : ℕ) → NamesAll s.entries s.host.queues (without_record q cid s.host.records) = λ q cid.
-    all_filter (Names s.entries s.host.queues) (λ r. not (is_at q cid r)) s.host.records h in
+    all-filter (Names s.entries s.host.queues) (λ r. not (is_at q cid r)) s.host.records h in
     let began : (new : Record) (hs : List HostQueue) → Names s.entries hs new → NamesAll s.entries hs s.host.records → NamesAll s.entries hs (s.host.records ++ new ∷ []) = λ new hs own all.
     all_append (Names s.entries hs) s.host.records (new ∷ []) all (own, tt) in
     let told : (q : ℕ) (e : ComEntry) (rs : List Record) → NamesAll s.entries s.host.queues rs → NamesAll s.entries (a.heard q e s).host.queues rs = λ q e rs all.
@@ -474,7 +455,7 @@ provided_host s e reply ok c holds h =
     ok.0
   where
     without : (q cid : ℕ) → AllByRecursion (IsProvided s.entries s.segment) (without_record q cid s.host.records)
-    without q cid = all_filter (IsProvided s.entries s.segment) (λ r. not (is_at q cid r)) s.host.records h.commands
+    without q cid = all-filter (IsProvided s.entries s.segment) (λ r. not (is_at q cid r)) s.host.records h.commands
 
     told : (q : ℕ) (e : ComEntry) → refusal_of s (events.Reap q) ≡ None → AllByRecursion (HasHalves s.entries) (a.heard q e s).host.queues
     told q e none =

@@ -18,7 +18,7 @@ use Rattle.io_commands.specs.declared.request.{Piece.TheVariants.{Data, Bucket},
 use Rattle.io_commands.specs.declared.request.RequestFault.TheVariants.{TooManyPieces, EmptyPiece, CrossesPage, BadCount, LengthMismatch}
 use Rattle.machine_model.proofs.Counting.{times-append, held_once, times-cons}
 use Rattle.machine_model.proofs.Owned.{in_record, is_out, taken, none_here, in_is, holds_from_sound, taken_le, taken_from_out}
-use Rattle.machine_model.{proofs.{Steps.{first_fails, rest_fails, in_store, length-in_store, found}, Tokens.{find_sound, find_all}}, specs.After.course_of}
+use Rattle.machine_model.{proofs.Steps.{first_fails, rest_fails, in_store, length-in_store, found}, specs.After.course_of}
 use Rattle.machine_model.specs.{Claims.{OwnsFit, IsSound}, Memory.{memory_of, with_pages, is_in}, Proper.{IsPage, ArePages, IsProperDraft}}
 use Rattle.machine_model.specs.Reached.{on_pages, LiesIn, IsThere, only, CourseIn, AreApart, IsListIn}
 use Rattle.machine_model.specs.Refusals.{is_submitted, same_piece, same_pieces, same_kind, same_request, refusal_of, no_io_queue, in_state, is_deleting, no_identifier, pages_wanted, record_is, is_held}
@@ -30,10 +30,12 @@ use Rattle.sgl_chain.specs.{Chains.{first_of, pages_needed}, Joining.{joins, bot
 use Rattle.controller_walk.{proofs.Same.list_served, specs.{Along.parts_of_list, Serving.Serves, Units.{Stays, Reads, Moves, Course, Closes, Does, verdict}}}
 use Rattle.controller_walk.specs.declared.walk.WalkState.TheVariants.{End}
 use Rattle.entry_codec.specs.declared.{status.Status.Status, submission.SubEntry.SubEntry}
-use Rattle.two_sides.proofs.{Ending.{list_in, lists_end, bytes_there}, Provided.{In, in_found, sent_found, some_is}, TiedAll.Grounds}
-use Rattle.two_sides.proofs.Untouched.{sent_page, owned_once, with_elsewhere, among_counts, holds_right, holds_left, holds_right as among_right}
+use Rattle.two_sides.proofs.{Ending.{list_in, lists_end, bytes_there}, Provided.{In, in_found, sent_found}, TiedAll.Grounds}
+use Rattle.two_sides.proofs.Untouched.{sent_page, owned_once, among_counts, holds_right, holds_left, holds_right as among_right}
 use Rattle.two_sides.specs.InOrder.{IsInOrder, reserved_drafts_are_proper, collected_commands_are_proper}
 use Rattle.queue_pair.proofs.Rings.{bytes_agree}
+use Rattle.page_memory.proofs.Lists.{found_is, all-found, some_is}
+use Rattle.host_core.proofs.PageOwners.{with-other}
 pub use Rattle.machine_model.specs.Agreeing.{is_out_of_service_at as past_at, answers_at, unfetched_count, job_weight, CommandsStandOnce as Places, CommandsStand as Commands}
 
 -- What the entry and the parts of a good request are.
@@ -210,10 +212,10 @@ job_list s stood j within other at =
     let mine : job_weight j.q w j ≡ 1 = subst (λ (b : Bool). (if b then one (j.entry.cid == j.entry.cid) else 0) ≡ 1) (sym (eq-eqb j.q j.q refl)) (one_self j.entry.cid) in
     omega (arith, mine, within (job_weight j.q w)) in
     let r = sent_found j.q j.entry.cid s.host.records (omega (arith, counts, stood.places j.q w)) (stood.grounds.stands.0.once j.q j.entry.cid) in
-    let ids = and_parts (r.0.q == j.q) (r.0.cid == j.entry.cid) (find_sound (is_at j.q j.entry.cid) s.host.records r.0 r.1) in
+    let ids = and_parts (r.0.q == j.q) (r.0.cid == j.entry.cid) (found_is (is_at j.q j.entry.cid) s.host.records r.0 r.1) in
     of_work r.0 r.1 r.2 (eqb-true r.0.q j.q ids.0) (eqb-true r.0.cid j.entry.cid ids.1) r.0.work refl
-    (find_all (λ r. OwnsFit r.q r.work (pages_of r)) (is_at j.q j.entry.cid) s.host.records r.0 r.1 stood.grounds.stands.0.admins)
-    (find_all (CommandStands s.memory s.device.queues s.device.jobs) (is_at j.q j.entry.cid) s.host.records r.0 r.1 stood.commands)
+    (all-found (λ r. OwnsFit r.q r.work (pages_of r)) (is_at j.q j.entry.cid) s.host.records r.0 r.1 stood.grounds.stands.0.admins)
+    (all-found (CommandStands s.memory s.device.queues s.device.jobs) (is_at j.q j.entry.cid) s.host.records r.0 r.1 stood.commands)
   where
     of_work : (r : Record) → record_at s.host j.q j.entry.cid ≡ Some r → is_submitted r.phase ≡ true → r.q ≡ j.q → r.cid ≡ j.entry.cid → (work : Work) → r.work ≡ work
         → OwnsFit r.q r.work (pages_of r) → CommandStands s.memory s.device.queues s.device.jobs r → JobList s j
@@ -445,7 +447,7 @@ pub brought : (pages : List (ℕ × List ℕ)) (m : Pages) → ((p : ℕ) → ti
     → AllByRecursion (λ page. page_at (with_pages pages m) page.0 ≡ Some page.1) pages
 brought [] m once low = tt
 brought (page ∷ pages) m once low = (
-  with_elsewhere pages (slice_set m page.0 (Some page.1)) page.0
+  with-other pages (slice_set m page.0 (Some page.1)) page.0
       (among_counts page.0 (numbers_of pages) (omega (arith, once page.0, times-cons page.0 page.0 (numbers_of pages), ap one (eq-eqb page.0 page.0 refl))))
       ∙ set_same m page.0 (Some page.1) (low page.0 (or_left (page.0 == page.0) (is_among (numbers_of pages) page.0) (eq-eqb page.0 page.0 refl))),
   brought pages (slice_set m page.0 (Some page.1))

@@ -4,7 +4,7 @@ use Rattle.machine_model.specs.After as a
 use Rattle.machine_model.specs.Events as events
 use Rattle.std.proofs.Common.{◌≡◌, ℕ, zero, suc, ◌-◌, ◌==◌, ◌||◌, Bool, true, false, Option, Some, None, List, [], ◌∷◌, ◌++◌, drop, slice_get, refl, ap, sym, ◌∙◌, subst, inl, inr, arith, ◌+◌, ◌<◌, ◌&&◌, eqb-true, ◌%◌, not, length, MatchBool}
 use Rattle.std.{proofs.lemmas.Bool.{true≢false, eqb-false, not-false, or_parts}, specs.{List.{list_any, AllByRecursion}, Option.option_map_or}}
-use Rattle.machine_model.proofs.{Cases.option_is, Counting.{one, total}, Kept.asked_as_heard, Moves.{creates_cq, creates_sq, half_from, host_moves}}
+use Rattle.machine_model.proofs.{Counting.{one, total}, Kept.asked_as_heard, Moves.{creates_cq, creates_sq, half_from, host_moves}}
 use Rattle.machine_model.proofs.{Owned.{awaited_at, at_other, HoldsPart, holds_from_sound, reset_state}, Steps.{absent_state, managed_by, Accepts, unrefused}}
 use Rattle.machine_model.{proofs.TokensKept.device_same, specs.After.{change, after}}
 use Rattle.machine_model.specs.{Agreeing.{SidesAgree, QueuesFit, EntryKnown, deletes_sq, is_absent_at, is_kind}, Events.{Event, Reply}}
@@ -19,6 +19,7 @@ use Rattle.queue_pair.specs.Rings.{HostRing, next_head, next_tail, knowing}
 use Rattle.admin_commands.specs.{Entries.{named_queue, admin_entry}, Verdicts.is_absent, declared.AdminKind.AdminKind}
 use Rattle.admin_commands.specs.declared.{AdminKind.TheVariants.{Abort, DeleteSq, DeleteCq}, SqState.TheVariants.Stopping}
 use Rattle.page_memory.{proofs.Bytes.told, specs.{Memory.Memory, Pages.{Pages, byte_at}, declared.page.Half.TheVariants.{Submission, Completion}}}
+use Rattle.slot_table.proofs.Rows.{option_is}
 
 -- Queues that are deleted and keep their completion queues: what a change of one queue, or of the entries of queue 0, leaves of that.
 

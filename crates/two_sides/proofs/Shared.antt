@@ -10,11 +10,12 @@ use Rattle.host_core.specs.Alone.{HostView, alone, HostStep}
 use Rattle.machine_model.{proofs.{HostLeaves.host_leaves, Steps.{Accepts, IsKept, each_step}}, specs.{After.{change, after}, Events.{Event, Reply}}}
 use Rattle.machine_model.specs.State.{State, HostQueue}
 use Rattle.machine_model.specs.Step.{HostPart, IsController, resets, KeepsDevice, Leaves, LeavesByController, LeavesByHost, Permits, forges, host_part}
-use Rattle.two_sides.{proofs.{Blind.blind, DeviceMoves.length-change, PoolBytes.reset_leaves, TiedAll.queues_stay, AdminKept.heard_by}, specs.Hearing.heard}
+use Rattle.two_sides.{proofs.{Blind.blind, PoolBytes.reset_leaves, TiedAll.queues_stay, AdminKept.heard_by}, specs.Hearing.heard}
 use Rattle.two_sides.specs.{Laws.{hosts_share_queues, behind, forged_hosts_step}, Sides.{Sides, state_of, device_of, device_queues_of}}
 use Rattle.two_sides.specs.Ties.{ShareQueue, ShareQueues}
 use Rattle.queue_pair.{proofs.Rings.in_range_below, specs.{Rings.{hearing_tail, hearing_head}, Slots.is_in_range}}
 use Rattle.page_memory.specs.{Memory.Memory, Pages.{Pages, byte_at}}
+use Rattle.controller_core.proofs.Lists.{length-change}
 
 -- Every step of the host leaves the queues where both sides have them.
 

@@ -5,11 +5,11 @@ use Rattle.machine_model.specs.Events as events
 use Rattle.machine_model.specs.declared.words.Refusal.TheVariants as refusal
 use Rattle.std.proofs.Common.{◌≡◌, ℕ, zero, suc, ◌+◌, ◌≤◌, ◌==◌, Bool, true, false, Some, List, [], ◌∷◌, slice_get, if◌then◌else◌, refl, ap, sym, arith, subst, not, ◌-◌, nat_lt, ◌&&◌, Option, None, ◌++◌, length, map, filter, find, drop, is_some, is_none, option_and_then, ◌∙◌, eqb-true, eq-eqb, ◌<◌, ◌||◌, inl, inr, replicate}
 use Rattle.std.{proofs.lemmas.Bool.{true≢false, and_parts, or_parts, cases_Bool, Decides.nat_tests}, specs.{List.AllByRecursion, Option.option_map_or}}
-use Rattle.machine_model.proofs.{Cases.option_is, Counting.{total-append, total-map, times-append, times-cons, times-outstanding}}
+use Rattle.machine_model.proofs.Counting.{total-append, total-map, times-append, times-cons, times-outstanding}
 use Rattle.machine_model.proofs.Moves.{host_moves, posts, sends, sent_record, drafted_record, heard_without, creates_cq, creates_sq, grants_cq, grants_sq, IsHeard, answer_heard}
 use Rattle.machine_model.proofs.{Owned.{HoldsPart, no_waiting, no_answering, reset_admin_commands}, Sound.{unused, host_event}}
 use Rattle.machine_model.proofs.Steps.{managed_by, first_fails, rest_fails, found_all, Accepts, part_controller}
-use Rattle.machine_model.proofs.Tokens.{find_all, find_sound, MildJob, placed_jobs, placed_decided, placed_conflict, placed_completed, placed_job_more, placed_job_less, find_more, find_map, find_filter, placed_records, placed_sent, placed_reaped}
+use Rattle.machine_model.proofs.Tokens.{MildJob, placed_jobs, placed_decided, placed_conflict, placed_completed, placed_job_more, placed_job_less, find_more, find_map, find_filter, placed_records, placed_sent, placed_reaped}
 use Rattle.machine_model.specs.Agreeing.{is_out_of_service_at as past_at, DeletesIo, JobKnown, AdminCommandsStand as Placed, is_absent_at as gone_at, Knows, waiting, answering, job_is}
 use Rattle.machine_model.specs.{Claims.OwnsFit, Events.{Event, Reply}, Memory.{is_in, with_pages}, Opening.{opening, device_queue as opened}}
 use Rattle.machine_model.specs.Refusals.{in_service, device_queue, next_rung, job_at, fetch_slot, refusal_of, answers_full, post_page, is_job, first_answer, is_submitted, is_reaped}
@@ -24,6 +24,8 @@ use Rattle.admin_commands.specs.{Entries.{admin_entry, named_queue, named_comman
 use Rattle.admin_commands.specs.declared.{AdminKind.TheVariants.{Abort, DeleteSq, DeleteCq, CreateCq, CreateSq}, SqState.TheVariants.Stopping}
 use Rattle.io_commands.specs.{Asked.Request, Jobs.{is_success, io_fault, bytes_after_check}}
 use Rattle.two_sides.{proofs.DeviceMoves.{answer_of, unit_done, finished, cleared, clears, fetch_by, walk_by, complete_by}, specs.MachineLaws.admin_places}
+use Rattle.slot_table.proofs.Rows.{option_is}
+use Rattle.page_memory.proofs.Lists.{found_is, all-found}
 pub use Rattle.machine_model.specs.Agreeing.{waiting, answering}
 pub use Rattle.machine_model.proofs.Moves.{named, seen_trusted}
 
@@ -319,8 +321,8 @@ placed_complete rs zero cid s none h =
     complete_by (λ (t : State). PlacedIn rs t.device) s 0 cid h
     (λ j e c.
     let v = verdict_there j (rw e at judged) in
-    let jq : j.q ≡ 0 = eqb-true j.q 0 (and_parts (j.q == 0) (j.entry.cid == cid) (find_sound (is_job 0 cid) s.device.jobs j e)).0 in
-    let n0 = clears_io rs s j v.0 (find_all (JobKnown rs) (is_job 0 cid) s.device.jobs j e h.placed.jobs) jq v.1 c in
+    let jq : j.q ≡ 0 = eqb-true j.q 0 (and_parts (j.q == 0) (j.entry.cid == cid) (found_is (is_job 0 cid) s.device.jobs j e)).0 in
+    let n0 = clears_io rs s j v.0 (all-found (JobKnown rs) (is_job 0 cid) s.device.jobs j e h.placed.jobs) jq v.1 c in
     record {
       placed = placed_answer rs cid s.device (change (named_queue j.entry) cleared s.device.queues) j
           (answer_of 0 cid (a.final_status s j) j.dw0 (a.on_device_queue (named_queue j.entry) cleared (finished 0 cid j s))) e refl
@@ -330,7 +332,7 @@ placed_complete rs zero cid s none h =
     (λ j e c. record { placed = placed_answer rs cid s.device s.device.queues j (answer_of 0 cid (a.final_status s j) j.dw0 (finished 0 cid j s)) e refl refl refl there h })
 placed_complete rs (suc k) cid s none h =
     let its_queue : (j : Job) → job_at s (suc k) cid ≡ Some j → (j.q == 0) ≡ false = λ j e.
-    ap (λ (n : ℕ). n == 0) (eqb-true j.q (suc k) (and_parts (j.q == suc k) (j.entry.cid == cid) (find_sound (is_job (suc k) cid) s.device.jobs j e)).0) ∙ far_suc k in
+    ap (λ (n : ℕ). n == 0) (eqb-true j.q (suc k) (and_parts (j.q == suc k) (j.entry.cid == cid) (found_is (is_job (suc k) cid) s.device.jobs j e)).0) ∙ far_suc k in
     complete_by (λ (t : State). PlacedIn rs t.device) s (suc k) cid h (λ j e c. absurd (true≢false (sym (and_parts (j.q == 0) (j.entry.opcode == DELETE_IO_SQ) (and_parts ((j.q == 0) && (j.entry.opcode == DELETE_IO_SQ)) (is_success (a.final_status s j)) c).0).0 ∙ its_queue j e)))
     (λ j e c. placed_answered_other rs (suc k) (answer_of (suc k) cid (a.final_status s j) j.dw0 (finished (suc k) cid j s)) (finished (suc k) cid j s).device (far_suc k)
     (record { placed = placed_job_less rs (waiting s.device.queues) s.device.jobs (answering s.device.queues) (λ j'. not (is_job (suc k) cid j')) h.placed }))
@@ -443,7 +445,7 @@ StandsSound s = HoldsPart (host_part s) × Stands s
 -- an admin command is of queue 0, and an I/O command is not
 owns_fit : (s : State) (q cid : ℕ) (r : Record) (w : Work) → HoldsPart (host_part s) → record_at s.host q cid ≡ Some r → r.work ≡ w → (r.q ≡ q) × OwnsFit r.q w (pages_of r)
 owns_fit s q cid r w holds e is = (
-  eqb-true r.q q (and_parts (r.q == q) (r.cid == cid) (find_sound (is_at q cid) s.host.records r e)).0,
+  eqb-true r.q q (and_parts (r.q == q) (r.cid == cid) (found_is (is_at q cid) s.host.records r e)).0,
   subst (λ (x : Work). OwnsFit r.q x (pages_of r)) is (found_all (λ r'. OwnsFit r'.q r'.work (pages_of r')) (is_at q cid) s.host.records r e holds.admins),
 )
 
@@ -506,7 +508,7 @@ stands_walk q cid s none h =
       | inr (j, e) ↦
           let judged : (is_some j.verdict || (j.q == 0)) ≡ false = rw e at nothing in
           let jq : (j.q == 0) ≡ false = (or_parts (is_some j.verdict) (j.q == 0) judged).1 in
-          let at = and_parts (j.q == q) (j.entry.cid == cid) (find_sound (is_job q cid) s.device.jobs j e) in
+          let at = and_parts (j.q == q) (j.entry.cid == cid) (found_is (is_job q cid) s.device.jobs j e) in
           placed_walk s.host.records q cid s (ap (λ (k : ℕ). k == 0) (sym (eqb-true j.q q at.0)) ∙ jq) h
     ]
 

@@ -4,7 +4,7 @@ use Rattle.machine_model.specs.Refusals as refusals
 use Rattle.machine_model.specs.Events as events
 use Rattle.std.proofs.Common.{◌≡◌, ℕ, zero, suc, ◌+◌, ◌-◌, ◌<◌, ◌==◌, nat_lt, Bool, true, false, not, ◌&&◌, Option, Some, None, List, [], ◌∷◌, ◌++◌, map, filter, length, drop, slice_get, is_none, is_some, option_and_then, if◌then◌else◌, refl, ap, sym, ◌∙◌, arith, subst, eqb-true, inl, inr, ◌≤◌}
 use Rattle.std.{proofs.lemmas.Bool.{true≢false, and_parts, or_parts, cases_Bool, eqb-false}, specs.{List.list_any, Option.option_map_or}}
-use Rattle.machine_model.proofs.{Counting.{total-append, total-map, total-filter, get_other}, Headline.length-range}
+use Rattle.machine_model.proofs.Counting.{total-append, total-map, total-filter, get_other}
 use Rattle.machine_model.proofs.Kept.{live_serves, live_in_use, ring_at, asked_as_heard, making_cq_as_heard, making_sq_as_heard}
 use Rattle.machine_model.proofs.Moves.{host_moves, posts, sends, queue_found, half_from, grants_cq, grants_sq, creates_cq, creates_sq, sent_record}
 use Rattle.machine_model.proofs.{Owned.{HoldsPart, awaited_at, at_same, at_other, at_found, at_changed}, Sound.still_live}
@@ -22,9 +22,11 @@ use Rattle.entry_codec.specs.declared.{admin_opcode.TheConstants.DELETE_IO_SQ, c
 use Rattle.entry_codec.specs.declared.{status.TheConstants.Status.{SUCCESS, ABORT_REQUESTED, ABORTED_SQ_DELETION}, submission.SubEntry.SubEntry}
 use Rattle.io_commands.specs.Jobs.{is_success, io_fault, bytes_after_check}
 use Rattle.queue_pair.specs.{Members.change, Memory.half_pages, Rings.{next_tail, next_head, knowing, HostRing}}
-use Rattle.two_sides.proofs.DeviceMoves.{paired_at, found_counts, Tied, Tie, Fit, tie_jobs, tie_less, tie_answered, tie_stop, tie_drop, tie_completion, tie_submission, tie_kill, stays_false, tie_host, tie_ring, tie_posted, pair_moves, length-change, unit_done, cleared, fetch_by, walk_by, complete_by}
+use Rattle.two_sides.proofs.DeviceMoves.{paired_at, found_counts, Tied, Tie, Fit, tie_jobs, tie_less, tie_answered, tie_stop, tie_drop, tie_completion, tie_submission, tie_kill, stays_false, tie_host, tie_ring, tie_posted, pair_moves, unit_done, cleared, fetch_by, walk_by, complete_by}
 use Rattle.two_sides.proofs.Standing.{runs_there, verdict_there, final_admin}
 use Rattle.page_memory.specs.declared.page.Half.TheVariants.{Submission, Completion}
+use Rattle.page_ledger.proofs.Pages.{length-pages_from}
+use Rattle.controller_core.proofs.Lists.{length-change}
 
 -- Every event keeps the controller's queues tied to the host's.
 
@@ -289,14 +291,14 @@ tie_host_event s e reply ok c g h =
           let is : (x : HostQueue) → slice_get s.host.queues q ≡ Some x → x.state ≡ Gone = λ x ex. let same : queue ≡ x = cc (granted.there, ex) in ap (λ (z : HostQueue). z.state) (sym same) ∙ granted.state in
           elsewhere (creates_cq q first s) id q f (grants_cq q first s) refl refl refl refl granted.other
           (tie_host s.entries s.host.queues s.device.queues s.device.jobs q f
-          (λ x d ex ed p. pair_moves s.entries x (f x) d (λ o. absurd (true≢false (sym o))) (λ o. length-range first (half_pages s.entries Completion)) (λ o. ap in_service (is x ex)) (λ o. refl) p)
+          (λ x d ex ed p. pair_moves s.entries x (f x) d (λ o. absurd (true≢false (sym o))) (λ o. length-pages_from first (half_pages s.entries Completion)) (λ o. ap in_service (is x ex)) (λ o. refl) p)
           (λ x ex some o. absurd (true≢false (sym o ∙ ap in_service (is x ex)))) h);
       creates_sqs = λ q id first queue none new granted none'.
           let f = a.making_sq (half_from Submission first s) in
           let is : (x : HostQueue) → slice_get s.host.queues q ≡ Some x → x.state ≡ HalfMade = λ x ex. let same : queue ≡ x = cc (granted.there, ex) in ap (λ (z : HostQueue). z.state) (sym same) ∙ granted.state in
           elsewhere (creates_sq q first s) id q f (grants_sq q first s) refl refl refl refl granted.other
           (tie_host s.entries s.host.queues s.device.queues s.device.jobs q f
-          (λ x d ex ed p. pair_moves s.entries x (f x) d (λ o. length-range first (half_pages s.entries Submission)) (λ o. p.comp (ap has_cq (is x ex))) (λ o. ap in_service (is x ex)) (λ o. refl) p)
+          (λ x d ex ed p. pair_moves s.entries x (f x) d (λ o. length-pages_from first (half_pages s.entries Submission)) (λ o. p.comp (ap has_cq (is x ex))) (λ o. ap in_service (is x ex)) (λ o. refl) p)
           (λ x ex some o. absurd (true≢false (sym o ∙ ap in_service (is x ex)))) h);
       retires = λ q queue none at deleted none'.
           let gone : gone_at s.device.queues q ≡ true = g.over q queue at (ap is_over deleted) in

@@ -7,19 +7,23 @@ use Rattle.page_memory.specs.declared.page.Half.TheVariants.{Submission, Complet
 use Rattle.entry_codec.specs.declared.completion.ComEntry.{ComEntry}
 use Rattle.io_commands.specs.Jobs.{is_success}
 use Rattle.queue_pair.specs.{Members.change, Memory.half_pages, Rings.{next_tail, next_head, knowing}}
-use Rattle.machine_model.proofs.{Counting.all_at, Headline.{in_limits, limits_say, length-range, holds_at_opening, fits_pool, taken_at_opening}}
+use Rattle.machine_model.proofs.Headline.{in_limits, limits_say, holds_at_opening, fits_pool, taken_at_opening}
 use Rattle.machine_model.proofs.{HostLeaves.host_leaves, Kept.{submissions_awaited, zero_host, zero_opened}}
 use Rattle.machine_model.proofs.{Moves.{host_moves, half_from, grants_cq, grants_sq}, Owned.{HoldsPart, reset_length}}
-use Rattle.machine_model.proofs.Sound.{asks, asked_event, asked_at, opened_quiet, opened_waits_not, TakenPart, Both, both_events}
-use Rattle.machine_model.proofs.{Steps.{Accepts, part_controller, unrefused}, Tokens.find_sound, TokensKept.{tokens_of, tokens_to, same_length}}
+use Rattle.machine_model.proofs.Sound.{asks, asked_event, asked_at, opened_quiet, opened_waits_not, TakenPart, Both, both_events, small}
+use Rattle.machine_model.proofs.{Steps.{Accepts, part_controller, unrefused}, TokensKept.{tokens_of, tokens_to, same_length}}
 use Rattle.machine_model.specs.Agreeing.{is_known_deleted, waiting, answering, is_absent_at as gone_at, has_completions_at as there_at, QueuesFit as Paired, QueueFits as PairOk}
 use Rattle.machine_model.specs.{Claims.AdminLives, Events.{Event, Reply}, Opening.{Opens, opening, queues_from, device_queue as opened}, Positions.IsInRing}
 use Rattle.machine_model.specs.{Refusals.{is_live, is_gone, job_at, refusal_of, is_job, host_queue}, State.{State, HostQueue, Job, DeviceQueue}}
 use Rattle.machine_model.specs.{Step.{HostPart, host_part, IsController}, Weights.{one, total}, declared.words.HostState.TheVariants.{Live, Deleting}}
-use Rattle.two_sides.proofs.DeviceMoves.{tie_of, length-change, InRings, rings_on, rings_at_opening}
+use Rattle.two_sides.proofs.DeviceMoves.{tie_of, InRings, rings_on, rings_at_opening}
 use Rattle.two_sides.proofs.Standing.{StandsSound, stands_event, both_on, opening_stands}
 use Rattle.two_sides.proofs.Tied.{FitP, FitS, TieP, below, deleted_is_gone, tie_fetch, tie_walk, tie_complete, TieS, Ground, tie_host_event}
 use Rattle.two_sides.proofs.Tokens.{KnowingP, TokensP, tokens_fetch, tokens_walk, tokens_complete, TokensS, tokens_host_event}
+use Rattle.page_memory.proofs.Lists.{all-at, found_is}
+use Rattle.page_ledger.proofs.Pages.{length-pages_from}
+use Rattle.controller_core.proofs.Lists.{length-change}
+use Rattle.host_core.proofs.KeptRows.{length-queues_from}
 
 -- Every event keeps the tie of both sides and the tokens, so it fetches and completes in what is allowed only.
 
@@ -123,7 +127,7 @@ walked s q cid none h = tokens_walk s.host.records s.host.queues q cid s (go (jo
     go : (o : Option Job) → job_at s q cid ≡ o → is_none o ≡ false → option_map_or (λ j. is_some j.verdict || (j.q == 0)) o false ≡ false → (q == 0) ≡ false
     go None e there nothing = absurd (true≢false there)
     go (Some j) e there nothing =
-        let at = and_parts (j.q == q) (j.entry.cid == cid) (find_sound (is_job q cid) s.device.jobs j e) in
+        let at = and_parts (j.q == q) (j.entry.cid == cid) (found_is (is_job q cid) s.device.jobs j e) in
         ap (λ (k : ℕ). k == 0) (sym (eqb-true j.q q at.0)) ∙ (or_parts (is_some j.verdict) (j.q == 0) nothing).1
 
 fit_event : (s : State) (e : Event) (reply : Reply) → Accepts s e reply → s.trusted ≡ true → AdminLives s.host.queues → StandsSound s → FitS s → FitS (a.after s e reply)
@@ -150,8 +154,8 @@ opened_pairs : (page n count : ℕ) → Paired n (queues_from page n count) (rep
 opened_pairs page n zero = tt
 opened_pairs page n (suc count) = (
   record {
-    sub = λ o. length-range page (half_pages n Submission);
-    comp = λ o. length-range (page + half_pages n Submission) (half_pages n Completion);
+    sub = λ o. length-pages_from page (half_pages n Submission);
+    comp = λ o. length-pages_from (page + half_pages n Submission) (half_pages n Completion);
     half = λ o. refl;
     emptied = λ o. refl;
     unfetched = λ o. refl;
@@ -160,13 +164,6 @@ opened_pairs page n (suc count) = (
   },
   opened_pairs (page + half_pages n Submission + half_pages n Completion) n count,
 )
-
-opened_length : (page n count : ℕ) → length (queues_from page n count) ≡ count
-opened_length page n zero = refl
-opened_length page n (suc count) = ap suc (opened_length (page + half_pages n Submission + half_pages n Completion) n count)
-
-pub small : (b : Bool) → one b ≤ 1
-small b = grind arith
 
 opened_there : (count q : ℕ) → q < count → gone_at (replicate count opened) q ≡ false
 opened_there zero q l = absurd (omega (arith, l))
@@ -180,7 +177,7 @@ opened_waiting (suc count) = (refl, refl)
 fit-opening : (pages queues n s : ℕ) (image : List ℕ) → 0 < n → queues < 65536 → FitS (opening pages queues n s image)
 fit-opening pages queues n s image pos few = record {
   some_entries = pos;
-  few = omega (arith, opened_length 0 n (queues + 1));
+  few = omega (arith, length-queues_from 0 n (queues + 1));
   asked = λ q. sym (ap one (opened_quiet 0 n (queues + 1) q));
   pairs = opened_pairs 0 n (queues + 1);
   jobs = λ q some. absurd (omega arith);
@@ -191,7 +188,7 @@ fit-opening pages queues n s image pos few = record {
       (record {
         submission = λ q. omega (arith, ap one (opened_waits_not is_known_deleted refl 0 n (queues + 1) q), small (not (gone_at (replicate (queues + 1) opened) q)));
         completion = λ q. omega (arith, ap one (opened_waits_not is_gone refl 0 n (queues + 1) q), small (there_at (replicate (queues + 1) opened) q));
-        there = λ q inside some. opened_there (queues + 1) q (omega (arith, inside, opened_length 0 n (queues + 1)));
+        there = λ q inside some. opened_there (queues + 1) q (omega (arith, inside, length-queues_from 0 n (queues + 1)));
       }));
 }
 
@@ -248,7 +245,7 @@ pub pair_at : (s : State) → Grounds s → (q : ℕ) (queue : HostQueue) → ho
 pair_at s g q queue e = paired_host_at s.entries q s.host.queues s.device.queues queue e g.fit.pairs
 
 pub ring_in : (s : State) → Grounds s → (q : ℕ) (queue : HostQueue) → host_queue s q ≡ Some queue → IsInRing s.entries queue.ring
-ring_in s g q queue e = all_at (λ queue. IsInRing s.entries queue.ring) s.host.queues q queue e g.rings
+ring_in s g q queue e = all-at (λ queue. IsInRing s.entries queue.ring) s.host.queues q queue e g.rings
 
 -- queue 0 is live
 pub zero_lives : (s : State) → Grounds s → (queue : HostQueue) → host_queue s 0 ≡ Some queue → is_live queue.state ≡ true

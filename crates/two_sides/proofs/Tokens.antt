@@ -9,11 +9,11 @@ use Rattle.entry_codec.specs.declared.{admin_opcode.TheConstants.{ABORT, DELETE_
 use Rattle.entry_codec.specs.declared.status.{Status.Status, TheConstants.Status.{SUCCESS, COMMAND_ID_CONFLICT, ABORT_REQUESTED, ABORTED_SQ_DELETION}}
 use Rattle.entry_codec.specs.declared.submission.SubEntry.{SubEntry}
 use Rattle.io_commands.specs.Jobs.{is_success, io_fault, bytes_after_check}
-use Rattle.machine_model.proofs.{Cases.option_is, Counting.{total-append, total-filter, total_without}, Kept.{making_cq_as_heard, ring_after}}
+use Rattle.machine_model.proofs.{Counting.{total-append, total-filter, total_without}, Kept.{making_cq_as_heard, ring_after}}
 use Rattle.machine_model.proofs.Moves.{asked_is, host_moves, sends, sent_record, drafted_record, half_from, creates_cq as creates_cq_moves, creates_sq as creates_sq_moves, IsHeard, answer_heard}
 use Rattle.machine_model.proofs.{Owned.{Awaited, awaited_at, awaits, was_awaited, HoldsPart, at_same, no_waiting, no_answering}, Sound.unused}
 use Rattle.machine_model.proofs.Steps.{managed_by, absent_state, unrefused, Accepts}
-use Rattle.machine_model.proofs.Tokens.{find_sound, find_all, find_filter, total_gone, all_into, Named, Fewer, named, total_below, total_none, total_map_all, kind_found, failing, succeeding, failed, succeeded, find_more, find_new, find_map, fewer_kept, knows_back}
+use Rattle.machine_model.proofs.Tokens.{find_filter, total_gone, Named, Fewer, named, total_below, total_none, total_map_all, kind_found, failing, succeeding, failed, succeeded, find_more, find_new, find_map, fewer_kept, knows_back}
 use Rattle.machine_model.proofs.TokensKept.{TokensHeld, Fetched, fetched, tokens_fewer, tokens_device, tokens_plain, tokens_drop, tokens_completion, tokens_submission, device_same, device_other, reset_tokens}
 use Rattle.machine_model.specs.Agreeing.{is_known_deleted, knows_deleted_at, is_live_at, waiting, answering, AdminCommandsStand as Placed, Knows, JobKnown, is_absent_at as gone_at, entry_is, job_is, answer_is, is_kind, succeeds, unmade, answered_well, done_well, deletes_sq, deletes_cq, creates_cq, creates_sq, creates_cq as makes_cq, creates_sq as makes_sq}
 use Rattle.machine_model.specs.Events.{Event, Reply}
@@ -22,10 +22,13 @@ use Rattle.machine_model.specs.State.{State, HostQueue, DeviceQueue, Device, Rec
 use Rattle.machine_model.specs.{Step.{host_part, IsController}, Weights.{one, total, here}, Work.Work, declared.words.HostState.HostState}
 use Rattle.machine_model.specs.declared.words.{HostState.TheVariants.{Live, Deleting}, Phase.TheVariants.Held, Work.TheVariants.Management}
 use Rattle.queue_pair.specs.{Members.change, Rings.{next_tail, next_head, knowing}}
-use Rattle.two_sides.proofs.{DeviceMoves.{answer_of, unit_done, finished, cleared, clears, fetch_by, walk_by, complete_by, length-change}, Provided.only_found}
+use Rattle.two_sides.proofs.{DeviceMoves.{answer_of, unit_done, finished, cleared, clears, fetch_by, walk_by, complete_by}, Provided.only_found}
 use Rattle.two_sides.proofs.Standing.{clears_io, answering_more, some_zero, some_still, queue_there, waiting_same, answering_same, waiting_other, answering_other, runs_there, taken_entry, verdict_there, final_admin, PlacedIn, far_suc as ne_zero, Stands, admin_zero, io_other, answering_rest}
 use Rattle.two_sides.proofs.Tied.{below, Alike, alike_ring, alike_then, tokens_alike, sends_more, Turns, tokens_sends, turns, turns_not, Hears, hears_first, MovesOn, tokens_hears, moves_on, moves_not}
 use Rattle.page_memory.specs.declared.page.Half.TheVariants.{Submission, Completion}
+use Rattle.slot_table.proofs.Rows.{option_is}
+use Rattle.page_memory.proofs.Lists.{found_is, all-found, all-all}
+use Rattle.controller_core.proofs.Lists.{length-change}
 
 -- Every event of the controller keeps the tokens of what is deleted and made.
 
@@ -38,9 +41,9 @@ all_each P f (x ∷ xs) = (f x, all_each P f xs)
 fewer_jobs : (rs : List Record) (un : List SubEntry) (js : List Job) (ans : List Answer) (f : Job → Job)
     → AllByRecursion (λ j. ((f j).q ≡ j.q) × ((f j).entry ≡ j.entry) × ((j.q ≡ 0) → succeeds (f j) ≡ succeeds j)) js → Fewer rs un js ans rs un (map f js) ans
 fewer_jobs rs un js ans f same = record {
-  unmade = λ test. omega (arith, total_map_all (failing test rs) f js (all_into _ _ (one_job test not) js same));
+  unmade = λ test. omega (arith, total_map_all (failing test rs) f js (all-all _ _ (one_job test not) js same));
   answered = λ test. omega arith;
-  done = λ test. omega (arith, total_map_all (succeeding test rs) f js (all_into _ _ (one_job test (λ b. b)) js same));
+  done = λ test. omega (arith, total_map_all (succeeding test rs) f js (all-all _ _ (one_job test (λ b. b)) js same));
 }
   where
     one_job : (test : AdminKind → Bool) (g : Bool → Bool) (j : Job) → ((f j).q ≡ j.q) × ((f j).entry ≡ j.entry) × ((j.q ≡ 0) → succeeds (f j) ≡ succeeds j)
@@ -88,7 +91,7 @@ marks_same s q cid f fq fe fs walks few =
     elim (cases_Bool (q == 0)) [
       | inl z ↦
           let (j, e, none) = walking in
-          all_into (λ x. is_job 0 cid x ≡ true → x ≡ j) _ (λ x only. mark x (λ is at. ap succeeds (only (rw (eqb-true q 0 z) at is)) ∙ none)) s.device.jobs
+          all-all (λ x. is_job 0 cid x ≡ true → x ≡ j) _ (λ x only. mark x (λ is at. ap succeeds (only (rw (eqb-true q 0 z) at is)) ∙ none)) s.device.jobs
           (only_found (is_job 0 cid) s.device.jobs j (subst (λ (n : ℕ). find (is_job n cid) s.device.jobs ≡ Some j) (eqb-true q 0 z) e) few)
       | inr z ↦ all_each _ (λ x. mark x (λ is at. absurd (true≢false (sym (eq-eqb q 0 (sym (eqb-true x.q q (and_parts (x.q == q) (x.entry.cid == cid) is).0) ∙ at)) ∙ z)))) s.device.jobs
     ]
@@ -239,7 +242,7 @@ completed : (rs : List Record) (un : List SubEntry) (js : List Job) (ans : List 
     → Completed rs un js (filter (λ k. not (is_job 0 cid k)) js) ans (ans ++ an ∷ []) cid (is_success st)
 completed rs un js ans cid j an st found jv ac as' =
     let job : (test : AdminKind → Bool) (g : Bool → Bool) → one ((j.q == 0) && is_kind test rs j.entry.cid && g (succeeds j)) ≡ one (is_kind test rs cid && g (is_success st)) = λ test g.
-    let p = and_parts (j.q == 0) (j.entry.cid == cid) (find_sound (is_job 0 cid) js j found) in rw (p.0, eqb-true j.entry.cid cid p.1, jv) in
+    let p = and_parts (j.q == 0) (j.entry.cid == cid) (found_is (is_job 0 cid) js j found) in rw (p.0, eqb-true j.entry.cid cid p.1, jv) in
     let answer : (test : AdminKind → Bool) (g : Bool → Bool) → one (is_kind test rs an.cid && g (is_success an.status)) ≡ one (is_kind test rs cid && g (is_success st)) = λ test g.
     rw (ac, as') in
     record {
@@ -347,7 +350,7 @@ tokens_cleared rs hs ds un js ans cid j an st found jv ac as' ok op names g h = 
     f = completed rs un js ans cid j an st found jv ac as'
 
     ids : (j.q ≡ 0) × (j.entry.cid ≡ cid)
-    ids = let p = and_parts (j.q == 0) (j.entry.cid == cid) (find_sound (is_job 0 cid) js j found) in (eqb-true j.q 0 p.0, eqb-true j.entry.cid cid p.1)
+    ids = let p = and_parts (j.q == 0) (j.entry.cid == cid) (found_is (is_job 0 cid) js j found) in (eqb-true j.q 0 p.0, eqb-true j.entry.cid cid p.1)
 
     kind : (q : ℕ) (b : Bool) → (named_queue j.entry == q) ≡ b → is_kind (deletes_sq q) rs cid ≡ b
     kind q b at = ap (λ (c : ℕ). is_kind (deletes_sq q) rs c) (sym ids.1) ∙ names.deletes_sq q ∙ rw (op, at) refl
@@ -432,12 +435,12 @@ tokens_cleared rs hs ds un js ans cid j an st found jv ac as' ok op names g h = 
 pub tokens_complete : (rs : List Record) (hs : List HostQueue) (q cid : ℕ) (s : State) → refusal_of s (events.Complete q cid) ≡ None → KnowingP rs hs s.device → TokensP rs hs s.device → TokensP rs hs (a.after_complete q cid s).device
 tokens_complete rs hs zero cid s none g h =
     let there : is_some (slice_get s.device.queues 0) ≡ true = queue_there s (unrefused s (events.Complete 0 cid) none).1.1.1.0 in
-    let its_queue : (j : Job) → job_at s 0 cid ≡ Some j → j.q ≡ 0 = λ j e. eqb-true j.q 0 (and_parts (j.q == 0) (j.entry.cid == cid) (find_sound (is_job 0 cid) s.device.jobs j e)).0 in
+    let its_queue : (j : Job) → job_at s 0 cid ≡ Some j → j.q ≡ 0 = λ j e. eqb-true j.q 0 (and_parts (j.q == 0) (j.entry.cid == cid) (found_is (is_job 0 cid) s.device.jobs j e)).0 in
     let verdict : (j : Job) → job_at s 0 cid ≡ Some j → (st : Status) × (j.verdict ≡ Some st) = λ j e. verdict_there j (rw e at (unrefused s (events.Complete 0 cid) none).1.0) in
     complete_by (λ (t : State). TokensP rs hs t.device) s 0 cid h
     (λ j e c.
     let v = verdict j e in
-    let n0 = clears_io rs s j v.0 (find_all (JobKnown rs) (is_job 0 cid) s.device.jobs j e g.placed.jobs) (its_queue j e) v.1 c in
+    let n0 = clears_io rs s j v.0 (all-found (JobKnown rs) (is_job 0 cid) s.device.jobs j e g.placed.jobs) (its_queue j e) v.1 c in
     let parts = and_parts ((j.q == 0) && (j.entry.opcode == DELETE_IO_SQ)) (is_success (a.final_status s j)) c in
     let an = answer_of 0 cid (a.final_status s j) j.dw0 (a.on_device_queue (named_queue j.entry) cleared (finished 0 cid j s)) in
     let ds = s.device.queues in
@@ -456,18 +459,18 @@ tokens_complete rs hs zero cid s none g h =
   where
     names : (j : Job) → job_at s 0 cid ≡ Some j → Named rs j.entry
     names j e =
-        let k = find_all (JobKnown rs) (is_job 0 cid) s.device.jobs j e g.placed.jobs (eqb-true j.q 0 (and_parts (j.q == 0) (j.entry.cid == cid) (find_sound (is_job 0 cid) s.device.jobs j e)).0) in
+        let k = all-found (JobKnown rs) (is_job 0 cid) s.device.jobs j e g.placed.jobs (eqb-true j.q 0 (and_parts (j.q == 0) (j.entry.cid == cid) (found_is (is_job 0 cid) s.device.jobs j e)).0) in
         named rs j.entry k.0 k.1 k.2
 
     quiet : (j : Job) (e : job_at s 0 cid ≡ Some j) (st : Status) → j.verdict ≡ Some st → clears s j ≡ false → (q : ℕ) → (is_kind (deletes_sq q) rs cid && is_success st) ≡ false
     quiet j e st v c q =
-        let p = and_parts (j.q == 0) (j.entry.cid == cid) (find_sound (is_job 0 cid) s.device.jobs j e) in
+        let p = and_parts (j.q == 0) (j.entry.cid == cid) (found_is (is_job 0 cid) s.device.jobs j e) in
         let k : is_kind (deletes_sq q) rs cid ≡ ((j.entry.opcode == DELETE_IO_SQ) && (named_queue j.entry == q)) = rw (eqb-true j.entry.cid cid p.1) at (names j e).deletes_sq q in
         let c' : ((j.entry.opcode == DELETE_IO_SQ) && is_success st) ≡ false = rw (final_admin s j st (eqb-true j.q 0 p.0) v, p.0) at c in
         rw k (grind (arith, c'))
 tokens_complete rs hs (suc k) cid s none g h =
     let other : (j : Job) → job_at s (suc k) cid ≡ Some j → (j.q == 0) ≡ false = λ j e.
-    ap (λ (n : ℕ). n == 0) (eqb-true j.q (suc k) (and_parts (j.q == suc k) (j.entry.cid == cid) (find_sound (is_job (suc k) cid) s.device.jobs j e)).0) ∙ ne_zero k in
+    ap (λ (n : ℕ). n == 0) (eqb-true j.q (suc k) (and_parts (j.q == suc k) (j.entry.cid == cid) (found_is (is_job (suc k) cid) s.device.jobs j e)).0) ∙ ne_zero k in
     complete_by (λ (t : State). TokensP rs hs t.device) s (suc k) cid h
     (λ j e c. absurd (true≢false (sym (and_parts (j.q == 0) (j.entry.opcode == DELETE_IO_SQ) (and_parts ((j.q == 0) && (j.entry.opcode == DELETE_IO_SQ)) (is_success (a.final_status s j)) c).0).0 ∙ other j e)))
     (λ j e c. answered_elsewhere rs hs (suc k) (answer_of (suc k) cid (a.final_status s j) j.dw0 (finished (suc k) cid j s)) (finished (suc k) cid j s).device (ne_zero k)

@@ -1,7 +1,7 @@
 -- What the first unit of a walk does to a pool and to the command's bytes, as the machine writes it.
 use Rattle.std.proofs.Common.{◌≡◌, ℕ, zero, suc, ◌+◌, ◌-◌, ◌*◌, ◌/◌, ◌%◌, ◌<◌, ◌≤◌, ◌++◌, Bool, true, false, cond, Option, Some, None, IfSome, IsSome, is_some, List, [], ◌∷◌, length, take, drop, slice_get, slice_range, nat_le, nat_eq, leb-true, append_assoc, refl, ap, ap₂, sym, ◌∙◌, arith, subst, inl, inr}
 use Rattle.std.{proofs.lemmas.{Bool.cases_Bool, List.{length-take-le, length-drop}}, specs.Option.option_map_or}
-use Rattle.machine_model.{proofs.{Cases.option_is, Steps.{in_store, in_store-with_bytes}}, specs.{After.page_bytes, State.{State, Job}}}
+use Rattle.machine_model.{proofs.Steps.{in_store, in_store-with_bytes}, specs.{After.page_bytes, State.{State, Job}}}
 use Rattle.controller_walk.specs.Laws.{after_units}
 use Rattle.controller_walk.specs.Units.{Act, Stays, Reads, Moves, Course, Closes, Does, units, touched, read_at, from_place, behind, moving, first_part, pages_spanned}
 use Rattle.controller_walk.specs.{Walks.{Effect, DoesFirst, LeavesRest, IfMore, answer, course_in}, declared.{cursor.Cursor.Cursor, progress.Progress.Progress}}
@@ -15,6 +15,8 @@ use Rattle.page_memory.{proofs.Bytes.{bytes_within, bytes_missing, told}, specs.
 use Rattle.page_memory.specs.Pages.{Pages, page_at, byte_at, AreWhole, IsPool}
 use Rattle.sgl_descriptor.specs.declared.Direction.{Direction, TheVariants.{Destination, Source}}
 use Rattle.controller_walk.specs.declared.progress.State as progress
+use Rattle.slot_table.proofs.Rows.{option_is}
+use Rattle.host_core.proofs.Benches.{same_pages}
 
 -- The first unit
 
@@ -117,9 +119,6 @@ short_take x xs = omega arith
 range_is : (bytes : List ℕ) (offset n : ℕ) → slice_range bytes offset (offset + n) ≡ take n (drop offset bytes)
 range_is bytes offset n = let k : offset + n - offset ≡ n = omega arith in ap (λ (x : ℕ). take x (drop offset bytes)) k
 
-same_pool : (old new : Pages) → AreWhole old → AreWhole new → length new ≡ length old → byte_at new ≡ byte_at old → new ≡ old
-same_pool old new whole whole' size e = told new old whole' whole size (λ place. ap (λ (m : Memory). m place) e)
-
 pub effect_told : (s : State) (j : Job) (new : Pages) (dir : Direction) (act : Act) (bytes' : List ℕ) → IsPool s.memory → AreWhole new → length new ≡ length s.memory → InPage act
     → Effect dir act (byte_at s.memory) (byte_at new) j.bytes bytes' → (new ≡ unit_memory s j dir act) × (bytes' ≡ unit_bytes s dir act j.bytes)
 effect_told s j new Destination (Moves place n offset) bytes' pool whole size fits e =
@@ -141,12 +140,12 @@ effect_told s j new Source (Moves place n offset) bytes' pool whole size fits e 
     let same : found ≡ take n (drop (place % 4096) page) = cc (there, read) in
     let is : page_bytes s.memory place n ≡ take n (drop (place % 4096) page) = ap (λ o. option_map_or (λ bytes. take n (drop (place % 4096) bytes)) o []) at in
     let many : length (page_bytes s.memory place n) ≡ n = ap length is ∙ (length-take-le n (drop (place % 4096) page) (omega (arith, length-drop (place % 4096) page, long, fits.1))) in (
-      same_pool s.memory new pool.whole whole size e.1,
+      same_pages s.memory new pool.whole whole size e.1,
       got
           ∙ (ap₂ (λ (xs : List ℕ) (k : ℕ). take offset j.bytes ++ (xs ++ drop (offset + k) j.bytes)) (same ∙ sym is) (sym many)
           ∙ sym (append_assoc (take offset j.bytes) (page_bytes s.memory place n) (drop (offset + length (page_bytes s.memory place n)) j.bytes))),
     )
-effect_told s j new dir x bytes' pool whole size fits e = (same_pool s.memory new pool.whole whole size e.0, e.1)
+effect_told s j new dir x bytes' pool whole size fits e = (same_pages s.memory new pool.whole whole size e.0, e.1)
 
 -- which pages are in stays
 pub unit_stays : (s : State) (j : Job) (dir : Direction) (act : Act) → in_store (unit_memory s j dir act) ≡ in_store s.memory

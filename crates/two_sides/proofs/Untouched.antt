@@ -3,9 +3,9 @@ use Rattle.machine_model.specs.Events as events
 use Rattle.machine_model.specs.declared.words.Refusal.TheVariants as refusal
 use Rattle.machine_model.specs.After as a
 use Rattle.std.proofs.Common.{◌≡◌, ℕ, zero, suc, ◌-◌, ◌*◌, ◌/◌, ◌<◌, ◌==◌, Bool, true, false, not, ◌&&◌, ◌||◌, Option, Some, None, List, [], ◌∷◌, ◌++◌, length, flat_map, slice_get, slice_index, is_some, is_none, if◌then◌else◌, refl, ap, sym, ◌∙◌, arith, subst, nat_lt, option_and_then, inl, inr, ◌+◌, ◌≤◌, slice_set, nat_le}
-use Rattle.std.proofs.lemmas.Bool.{true≢false, not-false, eq-eqb, or_right, eqb-false, or_parts, cases_Bool, and_parts, Decides.nat_tests}
+use Rattle.std.proofs.lemmas.Bool.{true≢false, not-false, eq-eqb, or_right, eqb-false, or_parts, cases_Bool, and_parts, Decides.nat_tests, or_left}
 use Rattle.std.specs.{List.list_all, Option.option_map_or}
-use Rattle.machine_model.proofs.{Cases.option_is, Counting.{held_once, times-append, get_other, find_sound, run_times, zeroed_numbers}}
+use Rattle.machine_model.proofs.Counting.{held_once, times-append, get_other, run_times, zeroed_numbers}
 use Rattle.machine_model.proofs.Kept.{live_has_sq, reaped_has_cq, service_is_reaped}
 use Rattle.machine_model.proofs.Moves.{host_moves, posts, posted_is, sends, sent_record, half_from, creates_cq, creates_sq, grants_cq, grants_sq}
 use Rattle.machine_model.{proofs.{Owned.{Holds, in_queue, in_record}, Steps.{first_fails, permitted, managed_by, Accepts, unrefused}}, specs.Agreeing.on_queue}
@@ -23,9 +23,13 @@ use Rattle.queue_pair.{proofs.Rings.moved_below, specs.{Members.change, Memory.h
 use Rattle.page_memory.specs.{Pages.{Pages, page_at, with_page_bytes, with_bytes}, declared.page.Half.TheVariants.{Submission, Completion}}
 use Rattle.io_commands.specs.Values.{numbers_of}
 use Rattle.two_sides.proofs.{DeviceMoves.{answers, answers_is, finished, cleared, fetch_by, complete_by}, Provided.{In, in_at, in_found}}
-use Rattle.two_sides.proofs.TiedAll.{small, Grounds, pair_at, ring_in, zero_lives}
+use Rattle.two_sides.proofs.TiedAll.{Grounds, pair_at, ring_in, zero_lives}
 use Rattle.entry_codec.specs.{Completion.completion_bytes, Submission.submission_bytes, declared.status.Status.Status}
 use Rattle.entry_codec.specs.declared.{status.TheConstants.Status.COMMAND_ID_CONFLICT, submission.SubEntry.SubEntry}
+use Rattle.slot_table.proofs.Rows.{option_is}
+use Rattle.page_memory.proofs.Lists.{found_is}
+use Rattle.machine_model.proofs.Sound.{small}
+use Rattle.host_core.proofs.PageOwners.{with-other}
 
 -- What a fetch and a completion touch.
 
@@ -34,9 +38,6 @@ is_walk (events.Walk q cid) = true
 is_walk e = false
 
 -- Numbers of lists
-
-pub or_left : (x y : Bool) → x ≡ true → (x || y) ≡ true
-or_left x y e = grind arith
 
 pub holds_left : (p : ℕ) (xs ys : List ℕ) → is_among xs p ≡ true → is_among (xs ++ ys) p ≡ true
 holds_left p [] ys h = absurd (true≢false (sym h))
@@ -245,12 +246,6 @@ without_elsewhere (k ∷ ps) m p h =
     let both = or_parts (k == p) (is_among ps p) h in
     without_elsewhere ps (slice_set m k None) p both.1 ∙ set_elsewhere m k p None (eqb-false k p both.0)
 
-pub with_elsewhere : (pages : List (ℕ × List ℕ)) (m : Pages) (p : ℕ) → is_among (numbers_of pages) p ≡ false → page_at (with_pages pages m) p ≡ page_at m p
-with_elsewhere [] m p h = refl
-with_elsewhere (page ∷ pages) m p h =
-    let both = or_parts (page.0 == p) (is_among (numbers_of pages) p) h in
-    with_elsewhere pages (slice_set m page.0 (Some page.1)) p both.1 ∙ set_elsewhere m page.0 p (Some page.1) (eqb-false page.0 p both.0)
-
 -- Whose a page is
 
 -- how often a submitted command has a page
@@ -361,7 +356,7 @@ served_there st h = reaped_has_cq st (service_is_reaped st h)
 -- so is the queue of a job
 completed_there : (s : State) → Grounds s → (q cid : ℕ) (j : Job) → job_at s q cid ≡ Some j → (queue : HostQueue) → host_queue s q ≡ Some queue → has_cq queue.state ≡ true
 completed_there s g q cid j at queue there =
-    let its = and_parts (j.q == q) (j.entry.cid == cid) (find_sound (is_job q cid) s.device.jobs j at) in
+    let its = and_parts (j.q == q) (j.entry.cid == cid) (found_is (is_job q cid) s.device.jobs j at) in
     let served = g.fit.service q (omega (arith, in_found (is_job q cid) s.device.jobs j at (on_queue q), ap one its.0)) in
     served_there queue.state (not-false (in_service queue.state) (sym (ap (λ (o : Option HostQueue). option_map_or (λ h. not (in_service h.state)) o false) there) ∙ served))
 
@@ -416,7 +411,7 @@ untouched_kept s (events.Complete q cid) reply ok w g p some away = absurd ok.1
 untouched_kept s e reply ok w g p some away =
     let below : (n slot : ℕ) → nat_le n slot ≡ false → slot < n = λ n slot h. grind (arith, nat_tests) in
     let ended : (q cid : ℕ) (r : Record) (pages : List (ℕ × List ℕ)) → record_at s.host q cid ≡ Some r → (is_drafted r.phase || is_collected r.phase) ≡ true → numbers_of pages ≡ pages_of r → Same (with_pages pages s.memory) s p = λ q cid r pages at away same.
-    with_elsewhere pages s.memory p (ap (λ (xs : List ℕ). is_among xs p) same ∙ others_elsewhere s q cid p r at away some) in
+    with-other pages s.memory p (ap (λ (xs : List ℕ). is_among xs p) same ∙ others_elsewhere s q cid p r at away some) in
     let sent : (adm : AdminKind) (id : ℕ) (s : State) → PostsElsewhere s 0 p → Same (sends adm id s).memory s p = λ adm id s known.
     posts_elsewhere 0 (admin_entry adm id) (a.on_records (λ records. records ++ sent_record adm id ∷ []) s) p known in
     -- a half that another queue gets leaves queue 0 as it is, and is made of free pages
@@ -460,7 +455,7 @@ untouched_kept s e reply ok w g p some away =
           bytes_elsewhere s.memory (slot_page queue.cq_pages 16 slot) p (slot_offset 16 slot) bytes
           (index_counts queue.cq_pages (slot * 16 / 4096) p (subst (λ (n : ℕ). slot * 16 / 4096 < n) (sym k.1) (answer_inside s.entries slot (below s.entries slot fails.1.0))) k.0);
       resets = λ away.
-          with_elsewhere (zeroed_pages (a.admin_pages s.host.queues)) s.memory p
+          with-other (zeroed_pages (a.admin_pages s.host.queues)) s.memory p
           (ap (λ (ps : List ℕ). is_among ps p) (zeroed_numbers (a.admin_pages s.host.queues)) ∙ admin_elsewhere s.host.queues (λ queue e. some.queues 0 queue e));
     }) away
   where
@@ -469,7 +464,7 @@ untouched_kept s e reply ok w g p some away =
     admin_elsewhere (x ∷ hs) none = among_counts p (a.halves_of x) (omega (arith, none x refl, times-append p x.sq_pages x.cq_pages))
 
     granted_elsewhere : (pages : List ℕ) → ((p : ℕ) → times p pages ≡ (if is_among pages p && is_among s.host.free p then 1 else 0)) → Same (with_pages (zeroed_pages pages) s.memory) s p
-    granted_elsewhere pages are = with_elsewhere (zeroed_pages pages) s.memory p (ap (λ (ps : List ℕ). is_among ps p) (zeroed_numbers pages) ∙ free_elsewhere s pages p are some)
+    granted_elsewhere pages are = with-other (zeroed_pages pages) s.memory p (ap (λ (ps : List ℕ). is_among ps p) (zeroed_numbers pages) ∙ free_elsewhere s pages p are some)
 
 pub untouched : (s : State) (e : Event) (reply : Reply) → Accepts s e reply → is_walk e ≡ false → Grounds s → (p : ℕ) → 0 < total (sent_page p) s.host.records
     → page_at (a.after s e reply).memory p ≡ page_at s.memory p

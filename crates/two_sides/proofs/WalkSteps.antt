@@ -1,7 +1,7 @@
 -- The step of a walk is a step of the machine, and leaves both sides tied.
 use Rattle.std.proofs.Common.{◌≡◌, ℕ, ◌+◌, ◌<◌, ◌==◌, ◌||◌, Bool, true, false, Option, Some, None, Ok, Err, IfSome, is_some, List, [], length, find, map, slice_get, if◌then◌else◌, refl, ap, ap₂, sym, ◌∙◌, subst, inl, inr, arith}
 use Rattle.std.{proofs.lemmas.{Bool.true≢false, Option.slice_get-map}, specs.Option.{option_map, option_map_or}}
-use Rattle.machine_model.{proofs.{Cases.option_is, Steps.in_store, Tokens.is_job}, specs.After.{after_walk, course_of, next_answer, next_unit}}
+use Rattle.machine_model.{proofs.{Steps.in_store, Tokens.is_job}, specs.After.{after_walk, course_of, next_answer, next_unit}}
 use Rattle.machine_model.specs.{Memory.memory_of, Refusals.{job_at, refusal_of}, State.{State, DeviceQueue, Job, Record, is_at, pages_of}}
 use Rattle.machine_model.specs.Step.{Permits, unit_answered}
 use Rattle.block_image.specs.Blocks.{block_count}
@@ -14,7 +14,7 @@ use Rattle.io_commands.specs.Jobs.{job_course, direction_of_entry, verdict_of}
 use Rattle.two_sides.proofs.{Assembling.{serve_refused, served_stepped}, Commands.{Walking, walk_writes}}
 use Rattle.two_sides.proofs.DeviceMoves.{unit_bytes, unit_done, unit_memory, walk_is}
 use Rattle.two_sides.proofs.Frames.{Spares, all_stand_still, apart_from_queues, queues_stay, tied_of, job_served, stands_again, still_stands, stood}
-use Rattle.two_sides.proofs.{NeverFull.{ListsStay, stay_walk}, Places.{find_place, is_found, job-at, job-found, map_one, seen, seen_is}}
+use Rattle.two_sides.proofs.{NeverFull.{ListsStay, stay_walk}, Places.{is_found, job-at, job-found, map_one, seen, seen_is}}
 use Rattle.two_sides.proofs.{PoolBytes.reads_the_pool, Served.data_of, Serving.{either_by, same_pages, with_served}}
 use Rattle.two_sides.{proofs.Units.{FirstUnit, HeadInPage, effect_told, few_touched, first_unit, head_in_page, next_done, unit_stays}, specs.Serving.why_of}
 use Rattle.two_sides.specs.{Sides.{Sides, state_of, device_queues_of, job_of}, Stepping.{LeavesPages, StepsTo, served, walks_step, walks_refuse_alike}}
@@ -27,6 +27,8 @@ use Rattle.controller_core.specs.declared.refusal.Refusal.TheVariants as because
 use Rattle.controller_walk.specs.Serving as serving
 use Rattle.machine_model.specs.Events as events
 use Rattle.machine_model.specs.declared.words.Refusal.TheVariants as refusal
+use Rattle.slot_table.proofs.Rows.{option_is}
+use Rattle.page_memory.proofs.Lists.{found_at}
 
 -- The refusals
 
@@ -150,7 +152,7 @@ module _ (s : Sides) (q cid : ℕ) (outcome : WalkState) (c : Contents) (pages :
       where
         far : (j : Job) (x : Walking (state_of s) q cid j) (b : Bool) → is_among x.list.command.data_pages p ≡ b → b ≡ false
         far j x false e = refl
-        far j x true e = let (n, at) = find_place (is_at j.q j.entry.cid) s.host.host.records x.list.command x.list.found in absurd (none n x.list.command at (data_of x.list.command p e))
+        far j x true e = let (n, at) = found_at (is_at j.q j.entry.cid) s.host.host.records x.list.command x.list.found in absurd (none n x.list.command at (data_of x.list.command p e))
 
     spared : Spares s pages
     spared i h at = record {

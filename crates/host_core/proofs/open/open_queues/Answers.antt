@@ -1,14 +1,14 @@
 use Rattle.std.proofs.{Common.{subst, ◌≡◌, ℕ, ◌+◌, ◌≤◌, List, [], ◌∷◌, ◌++◌, length, map, ap, ap₂, sym, ◌∙◌, arith}, Math.Nat.mul-le-mul_right}
 use Rattle.std.proofs.lemmas.List.{length-map, map-append}
-use Rattle.machine_model.proofs.Headline.{length-range}
 use Rattle.page_ledger.{proofs.Pages.pages_from-more, specs.Owners.pages_from}
 use Rattle.page_memory.specs.declared.page.Half.TheVariants.{Submission, Completion}
 use Rattle.queue_pair.specs.Memory.{half_pages}
 use Rattle.host_core.specs.{Opening.{HalvesGranted, sq_from, cq_from, fresh_at, fresh_queue, fresh_queues}, Rows.Queue}
 use Rattle.host_core.proofs.open.open_queues.Goals as goal
+use Rattle.page_ledger.proofs.Pages.{length-pages_from}
 
 many : (n q : ℕ) → length (fresh_queues n q) ≡ q
-many n q = length-map (pages_from 0 q) (fresh_queue n) ∙ length-range 0 q
+many n q = length-map (pages_from 0 q) (fresh_queue n) ∙ length-pages_from 0 q
 
 more : (n q : ℕ) (sq cq : ℕ) (queues : List Queue) (queue : Queue) → queues ≡ fresh_queues n q
     → sq ≡ sq_from (half_pages n Submission) (half_pages n Completion) q → cq ≡ cq_from (half_pages n Submission) (half_pages n Completion) q → queue ≡ fresh_at n sq cq q

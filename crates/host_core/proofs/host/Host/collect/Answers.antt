@@ -1,11 +1,12 @@
 use Rattle.std.proofs.Common.{◌≡◌, ◌+◌, ◌≤◌, [], ℕ, Some, length, refl, sym, ◌∙◌, subst, vec_capacity}
 use Rattle.machine_model.specs.{State.Record, Step.{Refuses, Step}, declared.words.{Phase.TheVariants.Held, Work.TheVariants.Io}}
-use Rattle.host_core.proofs.{Ending.{collect-nothing, found-at, held_fits}, Identifiers.{host_of, over_of}, Lists.some_is}
+use Rattle.host_core.proofs.{Ending.{collect-nothing, found-at, held_fits}, Identifiers.{host_of, over_of}}
 use Rattle.host_core.{proofs.{Openings.{whole_at, step_at, stays_at}, QueueLists.host_step}, specs.{Collecting.StandsAt, Parts.{record_of, tables_of}}}
 use Rattle.host_core.specs.{Tables.{Tables, state_of}, Whole.{FitsPhase, IsWhole}}
 use Rattle.machine_model.specs.Events as events
 use Rattle.machine_model.specs.declared.words.Refusal.TheVariants as refusal
 use Rattle.host_core.proofs.host.Host.collect.Goals as goal
+use Rattle.page_memory.proofs.Lists.{some_is}
 
 pub returns-in-Err-clause-step : goal.returns-in-Err-clause-step
 returns-in-Err-clause-step g c =

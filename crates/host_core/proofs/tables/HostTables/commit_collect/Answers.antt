@@ -2,10 +2,12 @@ use Rattle.std.proofs.{Common.{◌≡◌, ◌+◌, ◌++◌, length, arith, ap, 
 use Rattle.io_commands.specs.Values.{FinishedContents}
 use Rattle.machine_model.specs.{After.collected, Memory.without_pages, State.{Record, with_record}}
 use Rattle.slot_table.specs.Rows.{with_value}
-use Rattle.host_core.proofs.{Ending.{held_can_take, held_work, collect_enough, collect_made, collected_tables, length-taken}, Lists.{none_is_not, some_is}}
+use Rattle.host_core.proofs.Ending.{held_can_take, held_work, collect_enough, collect_made, collected_tables, length-taken}
 use Rattle.host_core.{proofs.{RowRecords.{changed-rows, found-row, no-row, with-row}, Told.both_parts}, specs.{Collecting.taken_pages, Commands.CanTake, Parts.{record_of, tables_of}}}
 use Rattle.host_core.specs.Tables.{Tables}
 use Rattle.host_core.proofs.tables.HostTables.commit_collect.Goals as goal
+use Rattle.page_memory.proofs.Lists.{some_is}
+use Rattle.machine_model.proofs.Cases.{none_some}
 
 pub take_pages-requires-clause-front : goal.take_pages-requires-clause-front
 take_pages-requires-clause-front g c =
@@ -36,7 +38,7 @@ take_pages-requires-clause-room g c =
     (c.requires.empty.0, c.requires.empty.1, room)
 
 pub unreachable-requires : goal.unreachable-requires
-unreachable-requires g c = none_is_not (sym (no-row c.args.self.now.records.rows c.args.q c.args.cid (sym c.in-None.ensures.value)) ∙ c.requires.stands.was)
+unreachable-requires g c = none_some (sym (no-row c.args.self.now.records.rows c.args.q c.args.cid (sym c.in-None.ensures.value)) ∙ c.requires.stands.was)
 
 pub returns : goal.returns
 returns g c =

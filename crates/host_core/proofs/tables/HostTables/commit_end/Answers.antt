@@ -1,12 +1,13 @@
 use Rattle.std.proofs.Common.{◌++◌, ap, inl, inr, is_some, sym, ◌∙◌, subst}
 use Rattle.page_ledger.specs.{Lists.ListsAll, Owners.is_command}
-use Rattle.machine_model.proofs.Cases.{option_is}
-use Rattle.host_core.proofs.{Ending.{command-listed, ended_there, ended_claimed, ended_can_put, ended_tables}, Lists.none_is_not}
+use Rattle.host_core.proofs.Ending.{command-listed, ended_there, ended_claimed, ended_can_put, ended_tables}
 use Rattle.host_core.{proofs.RowRecords.{found-row, no-row, taken-becomes}, specs.{Parts.{record_of, tables_of}, Rows.RecordRow, Tables.Tables}}
 use Rattle.host_core.proofs.tables.HostTables.commit_end.Goals as goal
+use Rattle.slot_table.proofs.Rows.{option_is}
+use Rattle.machine_model.proofs.Cases.{none_some}
 
 pub unwrap-entry-requires : goal.unwrap-entry-requires
-unwrap-entry-requires g c = elim (option_is c.take.result) [ inl none ↦ absurd (none_is_not (sym (no-row c.args.self.now.records.rows c.args.q c.args.cid (sym c.take.ensures.value ∙ none)) ∙ c.requires.brings.was)) | inr (x, at) ↦ ap is_some at ]
+unwrap-entry-requires g c = elim (option_is c.take.result) [ inl none ↦ absurd (none_some (sym (no-row c.args.self.now.records.rows c.args.q c.args.cid (sym c.take.ensures.value ∙ none)) ∙ c.requires.brings.was)) | inr (x, at) ↦ ap is_some at ]
 
 pub give_back_pages-requires : goal.give_back_pages-requires
 give_back_pages-requires g c =

@@ -1,7 +1,8 @@
 use Rattle.std.proofs.{Common.{◌≡◌, ◌∙◌, [], List, ap, sym}, lemmas.Option.slice_get_within}
 use Rattle.page_ledger.specs.declared.owner.Owner.{Owner}
-use Rattle.host_core.{proofs.{Lists.some_is, QueueLists.queue-at, Resets.half-absent}, specs.{Halves.has_half, Parts.tables_of, Rows.Queue, Tables.Tables}}
+use Rattle.host_core.{proofs.{QueueLists.queue-at, Resets.half-absent}, specs.{Halves.has_half, Parts.tables_of, Rows.Queue, Tables.Tables}}
 use Rattle.host_core.proofs.tables.HostTables.give_back.Goals as goal
+use Rattle.page_memory.proofs.Lists.{some_is}
 
 pub returns-else-has_half : goal.returns-else-has_half
 returns-else-has_half g c = λ pages.

@@ -1,7 +1,8 @@
 use Rattle.std.proofs.Common.{◌≡◌, ◌∙◌, slice_set, sym, subst}
-use Rattle.host_core.{proofs.{Lists.some_is, QueueLists.{post-room, post-there, post-told, queue-at}, Unwrapped.not-err}, specs.{Parts.tables_of, Posting.posted, Rows.Queue}}
+use Rattle.host_core.{proofs.{QueueLists.{post-room, post-there, post-told, queue-at}, Unwrapped.not-err}, specs.{Parts.tables_of, Posting.posted, Rows.Queue}}
 use Rattle.host_core.specs.Tables.{Tables}
 use Rattle.host_core.proofs.tables.HostTables.post.Goals as goal
+use Rattle.page_memory.proofs.Lists.{some_is}
 
 pub post-requires-clause-fits : goal.post-requires-clause-fits
 post-requires-clause-fits g c =
