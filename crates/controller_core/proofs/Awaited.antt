@@ -18,7 +18,7 @@ use Rattle.entry_codec.specs.declared.status.TheConstants.Status.{INVALID_OPCODE
 use Rattle.entry_codec.specs.declared.submission.SubEntry.{SubEntry}
 use Rattle.page_memory.{proofs.Lists.{some_is, all-append, all-at}, specs.Memory.{Memory}}
 use Rattle.slot_table.proofs.Rows.{none_is}
-use Rattle.queue_pair.specs.Rings.{DeviceSide}
+use Rattle.queue_pair.specs.Rings.{ControllerSide}
 
 -- Where an Abort waits for a command, it is there, and names that command.
 
@@ -353,7 +353,7 @@ count_kept c queues is e = record { commands = subst (λ (n : ℕ). AreCommands 
 
 pub answers_by : (result : Result (Unit {0}) Refusal) (queues : List ControllerQueue) (q i cid : ℕ) (m m' : Memory) (reached reached' : List ℕ) (queue queue' : ControllerQueue)
     → i ≡ q → q < length queues → queue ≡ get_or queues i queue → OnOk result (queue' ≡ with_answer (with_taken queue))
-    → OnOk result (m' ≡ memory_posted m queue.device (completion_by q cid COMMAND_ID_CONFLICT 0 (with_taken queue).device)) → OnOk result (reached' ≡ reached ++ page_posted queue.device ∷ [])
+    → OnOk result (m' ≡ memory_posted m queue.controller (completion_by q cid COMMAND_ID_CONFLICT 0 (with_taken queue).controller)) → OnOk result (reached' ≡ reached ++ page_posted queue.controller ∷ [])
     → OnOk result (AnswersKnown queues q cid m reached (slice_set queues i queue') m' reached')
 answers_by (Err why) queues q i cid m m' reached reached' queue queue' same there at a b d = tt
 answers_by (Ok x) queues q i cid m m' reached reached' queue queue' same there at a b d =
@@ -384,13 +384,13 @@ no_zero q ne = go (q == 0) refl
     go true h = absurd (ne (eqb-true q 0 h))
     go false h = refl
 
-queue_there : (q : ℕ) (queues : List ControllerQueue) (device : DeviceSide) → live_side (slice_get queues q) ≡ Some device → q < length queues
-queue_there q [] device e = cc
-queue_there zero (x ∷ xs) device e = omega arith
-queue_there (suc q) (x ∷ xs) device e = omega (arith, queue_there q xs device e)
+queue_there : (q : ℕ) (queues : List ControllerQueue) (controller : ControllerSide) → live_side (slice_get queues q) ≡ Some controller → q < length queues
+queue_there q [] controller e = cc
+queue_there zero (x ∷ xs) controller e = omega arith
+queue_there (suc q) (x ∷ xs) controller e = omega (arith, queue_there q xs controller e)
 
 pub looked_there : (c : Contents) (m : Memory) (reached : List ℕ) (q : ℕ) (e : SubEntry) (reached' : List ℕ) → LooksAt c m reached q e reached' → q < length c.queues
-looked_there c m reached q e reached' looks = queue_there q c.queues looks.device looks.here
+looked_there c m reached q e reached' looks = queue_there q c.queues looks.controller looks.here
 
 -- whether a look found a command
 pub found_by : {X : Type 0} (seen : Option (Bor X)) (o : Option X) → option_copied seen ≡ o → is_some seen ≡ is_some o

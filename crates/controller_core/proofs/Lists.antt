@@ -14,7 +14,7 @@ use Rattle.controller_walk.specs.declared.walk.WalkState.{WalkState}
 use Rattle.entry_codec.specs.declared.{status.TheConstants.Status.COMMAND_ID_CONFLICT, submission.SubEntry.SubEntry}
 use Rattle.io_commands.specs.Jobs.{JobContents, job_course, direction_of_entry, verdict_of}
 use Rattle.page_memory.{proofs.Lists.{some_is, found_is}, specs.Memory.{Memory}}
-use Rattle.queue_pair.specs.{Memory.{entry_at, submission_page}, Rings.DeviceSide}
+use Rattle.queue_pair.specs.{Memory.{entry_at, submission_page}, Rings.ControllerSide}
 use Rattle.sgl_descriptor.specs.declared.Direction.{Direction, TheVariants.{Destination, Source}}
 
 -- Lists of which one member is changed or taken out.
@@ -186,17 +186,17 @@ one_completion c q cid m r x x' n n' t t' w w' =
     let k : w.command ≡ w'.command = same_found w.found w'.found in
     let queue : w.queue ≡ w'.queue = same_found w.here w'.here in (
       w.leaves ∙ ap (λ (y : FetchedCommand). completed q cid y.work c) k ∙ sym w'.leaves,
-      w.memory ∙ ap₂ (λ (y : FetchedCommand) (z : ControllerQueue). memory_posted m z.device (completion_by q cid (status_of_end c.image y.work) (dw0_of_work y.work) z.device)) k queue ∙ sym w'.memory,
-      w.touches ∙ ap (λ (z : ControllerQueue). r ++ page_posted z.device ∷ []) queue ∙ sym w'.touches,
+      w.memory ∙ ap₂ (λ (y : FetchedCommand) (z : ControllerQueue). memory_posted m z.controller (completion_by q cid (status_of_end c.image y.work) (dw0_of_work y.work) z.controller)) k queue ∙ sym w'.memory,
+      w.touches ∙ ap (λ (z : ControllerQueue). r ++ page_posted z.controller ∷ []) queue ∙ sym w'.touches,
     )
 
 -- Fetches
 
 one_look : (c : Contents) (m : Memory) (r : List ℕ) (q : ℕ) (e e' : SubEntry) (t t' : List ℕ) → LooksAt c m r q e t → LooksAt c m r q e' t' → (e ≡ e') × (t ≡ t')
 one_look c m r q e e' t t' l l' =
-    let device : l.device ≡ l'.device = same_found l.here l'.here in (
-      same_found l.at (ap (λ (d : DeviceSide). entry_at m d.sq d.ring.head) device ∙ l'.at),
-      l.touches ∙ ap (λ (d : DeviceSide). r ++ submission_page d.sq d.ring.head ∷ []) device ∙ sym l'.touches,
+    let controller : l.controller ≡ l'.controller = same_found l.here l'.here in (
+      same_found l.at (ap (λ (d : ControllerSide). entry_at m d.sq d.ring.head) controller ∙ l'.at),
+      l.touches ∙ ap (λ (d : ControllerSide). r ++ submission_page d.sq d.ring.head ∷ []) controller ∙ sym l'.touches,
     )
 
 begun_alike : (image : List ℕ) (e : SubEntry) (q : ℕ) (j j' : JobContents) → IsBegun image e j → IsBegun image e j' → unplaced_command (command_of q (Io j)) ≡ unplaced_command (command_of q (Io j'))
@@ -227,8 +227,8 @@ one_take : (b : Bool) (c : Contents) (pages q : ℕ) (e : SubEntry) (m : Memory)
 one_take true c pages q e m look x x' n n' t t' h g =
     let queue : h.0.queue ≡ g.0.queue = same_found h.0.here g.0.here in (
       record { queues = h.0.leaves ∙ sym g.0.leaves; commands = ap (map unplaced_command) (h.1 ∙ sym g.1); image = h.2 ∙ sym g.2 },
-      h.0.memory ∙ ap (λ (z : ControllerQueue). memory_posted m z.device (completion_by q e.cid COMMAND_ID_CONFLICT 0 (with_taken z).device)) queue ∙ sym g.0.memory,
-      h.0.touches ∙ ap (λ (z : ControllerQueue). look ++ page_posted z.device ∷ []) queue ∙ sym g.0.touches,
+      h.0.memory ∙ ap (λ (z : ControllerQueue). memory_posted m z.controller (completion_by q e.cid COMMAND_ID_CONFLICT 0 (with_taken z).controller)) queue ∙ sym g.0.memory,
+      h.0.touches ∙ ap (λ (z : ControllerQueue). look ++ page_posted z.controller ∷ []) queue ∙ sym g.0.touches,
     )
 one_take false c pages q e m look x x' n n' t t' h g = (one_taken (q == 0) c pages q e x x' h.0 g.0, h.1 ∙ sym g.1, h.2 ∙ sym g.2)
 
@@ -256,12 +256,12 @@ one_refusal c m r q why why' t t' = go (look_refusal c m q)
 
 no_refusal : (c : Contents) (m : Memory) (r : List ℕ) (q : ℕ) (e : SubEntry) (t : List ℕ) → LooksAt c m r q e t → look_refusal c m q ≡ None
 no_refusal c m r q e t l =
-    ap (λ (o : Option DeviceSide). option_map_or (side_refusal m) o (Some refusal.Idle)) l.here
-    ∙ ap (λ (b : Bool). if b then Some refusal.Idle else option_map_or (λ e. None) (entry_at m l.device.sq l.device.ring.head) (Some refusal.SlotOut)) (apart (l.device.ring.head == l.device.ring.bell) refl)
+    ap (λ (o : Option ControllerSide). option_map_or (side_refusal m) o (Some refusal.Idle)) l.here
+    ∙ ap (λ (b : Bool). if b then Some refusal.Idle else option_map_or (λ e. None) (entry_at m l.controller.sq l.controller.ring.head) (Some refusal.SlotOut)) (apart (l.controller.ring.head == l.controller.ring.bell) refl)
     ∙ ap (λ (o : Option SubEntry). option_map_or (λ e. None) o (Some refusal.SlotOut)) l.at
   where
-    apart : (b : Bool) → (l.device.ring.head == l.device.ring.bell) ≡ b → (l.device.ring.head == l.device.ring.bell) ≡ false
-    apart true h = absurd (l.rung (eqb-true l.device.ring.head l.device.ring.bell h))
+    apart : (b : Bool) → (l.controller.ring.head == l.controller.ring.bell) ≡ b → (l.controller.ring.head == l.controller.ring.bell) ≡ false
+    apart true h = absurd (l.rung (eqb-true l.controller.ring.head l.controller.ring.bell h))
     apart false h = h
 
 pub served_unless_memory : ServedUnlessMemory

@@ -116,13 +116,13 @@ all_idle q (queue ∷ queues) = (reset_idle q queue, all_idle (suc q) queues)
 
 -- a head that is heard rings nothing
 heard_idle : (v : ℕ) (queue : ControllerQueue) → IsIdle queue → IsIdle (with_head v queue)
-heard_idle v queue is = go (is_in_range queue.device.entries queue.device.ring.known_head queue.device.ring.tail v)
+heard_idle v queue is = go (is_in_range queue.controller.entries queue.controller.ring.known_head queue.controller.ring.tail v)
   where
     heard : ControllerQueue
-    heard = with_side (record queue.device { ring = hearing_head v queue.device.ring }) queue
+    heard = with_side (record queue.controller { ring = hearing_head v queue.controller.ring }) queue
 
-    side : (b : Bool) (m : Memory) → option_map_or (side_refusal m) (if b then Some queue.device else None) (Some refusal.Idle) ≡ Some refusal.Idle
-        → option_map_or (side_refusal m) (if b then Some heard.device else None) (Some refusal.Idle) ≡ Some refusal.Idle
+    side : (b : Bool) (m : Memory) → option_map_or (side_refusal m) (if b then Some queue.controller else None) (Some refusal.Idle) ≡ Some refusal.Idle
+        → option_map_or (side_refusal m) (if b then Some heard.controller else None) (Some refusal.Idle) ≡ Some refusal.Idle
     side true m h = h
     side false m h = refl
 
@@ -161,7 +161,7 @@ all_off q (queue ∷ queues) = (refl, all_off (suc q) queues)
 
 rung_off : (v : ℕ) (queue : ControllerQueue) → IsOff queue → IsOff (with_tail v queue)
 rung_off v queue off =
-    elim (nat_lt v queue.device.entries) as (λ b. IsOff (if b then with_side (record queue.device { ring = hearing_tail v queue.device.ring }) queue else queue)) [ true ↦ off | false ↦ off ]
+    elim (nat_lt v queue.controller.entries) as (λ b. IsOff (if b then with_side (record queue.controller { ring = hearing_tail v queue.controller.ring }) queue else queue)) [ true ↦ off | false ↦ off ]
 
 -- what is rung at a queue that is not the first
 off_behind : (queues : List ControllerQueue) (m : Memory) (q r v : ℕ)

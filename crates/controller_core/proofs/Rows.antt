@@ -19,7 +19,7 @@ use Rattle.entry_codec.specs.{Completion.IsComEntry, declared.status.Status.Stat
 use Rattle.entry_codec.specs.declared.status.TheConstants.Status.{SUCCESS, COMPARE_FAILURE}
 use Rattle.entry_codec.specs.declared.submission.SubEntry.{SubEntry}
 use Rattle.page_memory.{proofs.Lists.{some_is, all-filter, all-found, found_is}, specs.Memory.{Memory}}
-use Rattle.queue_pair.specs.Rings.{DeviceSide, answer_posted}
+use Rattle.queue_pair.specs.Rings.{ControllerSide, completion_posted}
 use Rattle.slot_table.proofs.{Rows.none_is, Walks.none_stands}
 use Rattle.slot_table.specs.Rows.{Row, is_at, value_at, without, with_value, with_last, first_place, place_behind, NoneAt, IsDistinct}
 
@@ -112,8 +112,8 @@ finishes c m m' q cid k k' queues queues' commands image st dw0 reached reached'
       here = posts.here;
       leaves = rw (left, ec, ei) refl;
       as_long = el;
-      typed = subst IsComEntry (ap₂ (λ (st : Status) (dw0 : ℕ). completion_by q cid st dw0 posts.queue.device) by_status by_dw0) posts.typed;
-      memory = posts.memory ∙ ap₂ (λ (st : Status) (dw0 : ℕ). memory_posted m posts.queue.device (completion_by q cid st dw0 posts.queue.device)) by_status by_dw0;
+      typed = subst IsComEntry (ap₂ (λ (st : Status) (dw0 : ℕ). completion_by q cid st dw0 posts.queue.controller) by_status by_dw0) posts.typed;
+      memory = posts.memory ∙ ap₂ (λ (st : Status) (dw0 : ℕ). memory_posted m posts.queue.controller (completion_by q cid st dw0 posts.queue.controller)) by_status by_dw0;
       touches = posts.touches;
     }
 
@@ -124,16 +124,16 @@ commands-without blocks queues q cid commands are = record {
 }
 
 -- A completion is posted in a queue that is there.
-pub posts_by : (result : Result (Unit {0}) Refusal) (queues : List ControllerQueue) (q i cid : ℕ) (st : Status) (dw0 : ℕ) (m m' : Memory) (reached reached' : List ℕ) (queue : ControllerQueue) (device : DeviceSide)
-    → i ≡ q → q < length queues → queue ≡ get_or queues i queue → OnOk result (device ≡ record queue.device { ring = answer_posted queue.device.entries queue.device.ring })
-    → OnOk result (IsComEntry (completion_by q cid st dw0 queue.device)) → OnOk result (m' ≡ memory_posted m queue.device (completion_by q cid st dw0 queue.device)) → OnOk result (reached' ≡ reached ++ page_posted queue.device ∷ [])
-    → OnOk result (Posts queues q cid st dw0 m reached (slice_set queues i (with_side device queue)) m' reached')
-posts_by (Err why) queues q i cid st dw0 m m' reached reached' queue device same there at a t b d = tt
-posts_by (Ok x) queues q i cid st dw0 m m' reached reached' queue device same there at a t b d =
+pub posts_by : (result : Result (Unit {0}) Refusal) (queues : List ControllerQueue) (q i cid : ℕ) (st : Status) (dw0 : ℕ) (m m' : Memory) (reached reached' : List ℕ) (queue : ControllerQueue) (controller : ControllerSide)
+    → i ≡ q → q < length queues → queue ≡ get_or queues i queue → OnOk result (controller ≡ record queue.controller { ring = completion_posted queue.controller.entries queue.controller.ring })
+    → OnOk result (IsComEntry (completion_by q cid st dw0 queue.controller)) → OnOk result (m' ≡ memory_posted m queue.controller (completion_by q cid st dw0 queue.controller)) → OnOk result (reached' ≡ reached ++ page_posted queue.controller ∷ [])
+    → OnOk result (Posts queues q cid st dw0 m reached (slice_set queues i (with_side controller queue)) m' reached')
+posts_by (Err why) queues q i cid st dw0 m m' reached reached' queue controller same there at a t b d = tt
+posts_by (Ok x) queues q i cid st dw0 m m' reached reached' queue controller same there at a t b d =
     record {
       queue = queue;
       here = slice_get_read queues _ q queue refl there (subst (λ (k : ℕ). queue ≡ get_or queues k queue) same at);
-      queues_posted = change_at q i with_answer queues queue (with_side device queue) same (omega (arith, same, there)) at (ap (λ (side : DeviceSide). with_side side queue) a);
+      queues_posted = change_at q i with_answer queues queue (with_side controller queue) same (omega (arith, same, there)) at (ap (λ (side : ControllerSide). with_side side queue) a);
       typed = t;
       memory = b;
       touches = d;

@@ -14,7 +14,7 @@ unfolding bytes_at submission_of
 first_fetch = record {
   entry = first_read;
   looked = 2 ∷ [];
-  looks = record { device = _; here = refl; rung = λ e. absurd (omega arith); at = refl; touches = refl };
+  looks = record { controller = _; here = refl; rung = λ e. absurd (omega arith); at = refl; touches = refl };
   named = refl;
   room = refl;
   takes = (
@@ -76,7 +76,7 @@ unfolding bytes_at submission_of
 completion_fetched = record {
   entry = create_cq;
   looked = 0 ∷ [];
-  looks = record { device = _; here = refl; rung = λ e. absurd (omega arith); at = refl; touches = refl };
+  looks = record { controller = _; here = refl; rung = λ e. absurd (omega arith); at = refl; touches = refl };
   named = refl;
   room = refl;
   takes = (refl, refl, refl);
@@ -87,7 +87,7 @@ unfolding bytes_at submission_of
 submission_fetched = record {
   entry = create_sq;
   looked = 0 ∷ 0 ∷ [];
-  looks = record { device = _; here = refl; rung = λ e. absurd (omega arith); at = refl; touches = refl };
+  looks = record { controller = _; here = refl; rung = λ e. absurd (omega arith); at = refl; touches = refl };
   named = refl;
   room = refl;
   takes = (refl, refl, refl);

@@ -2,34 +2,34 @@
 use Rattle.std.specs.{Option.option_map_or, Prelude.{◌≡◌, ℕ, ◌++◌, ◌∷◌, [], Option, Some, None, List, slice_get, is_none, if◌then◌else◌}}
 use Rattle.entry_codec.specs.{Completion.{completion_bytes, IsComEntry}, declared.{completion.ComEntry.ComEntry, status.Status.Status}}
 use Rattle.page_memory.specs.Memory.{Memory, written}
-use Rattle.queue_pair.specs.{Memory.{completion_page, completion_place, completion_slot}, Rings.{DeviceSide, answer_posted}, Slots.is_full}
+use Rattle.queue_pair.specs.{Memory.{completion_page, completion_place, completion_slot}, Rings.{ControllerSide, completion_posted}, Slots.is_full}
 use Rattle.controller_core.specs.{Contents.change, Doorbells.with_side, declared.{queue.ControllerQueue.ControllerQueue, refusal.Refusal.Refusal}}
 use Rattle.controller_core.specs.declared.refusal.Refusal.TheVariants as refusal
 
 -- what a completion is refused for: the ring is full, or a byte of the slot at the tail is missing
-abbrev pub post_refusal : Memory → DeviceSide → Option Refusal
-post_refusal m device =
-    if is_full device.entries device.ring.known_head device.ring.tail then Some refusal.Full
-    else if is_none (completion_slot m device.cq device.ring.tail) then Some refusal.SlotOut
+abbrev pub post_refusal : Memory → ControllerSide → Option Refusal
+post_refusal m controller =
+    if is_full controller.entries controller.ring.known_head controller.ring.tail then Some refusal.Full
+    else if is_none (completion_slot m controller.cq controller.ring.tail) then Some refusal.SlotOut
     else None
 
 -- the same of a queue by its number
 abbrev pub answer_refusal : List ControllerQueue → Memory → ℕ → Option Refusal
-answer_refusal queues m q = option_map_or (λ queue. post_refusal m queue.device) (slice_get queues q) None
+answer_refusal queues m q = option_map_or (λ queue. post_refusal m queue.controller) (slice_get queues q) None
 
 -- the completion of a command, with the submission head and the phase of this moment
-abbrev pub completion_by : ℕ → ℕ → Status → ℕ → DeviceSide → ComEntry
-completion_by q cid st dw0 device = record { dw0 = dw0; sqhd = device.ring.head; sqid = q; cid = cid; phase = device.ring.phase; status = st }
+abbrev pub completion_by : ℕ → ℕ → Status → ℕ → ControllerSide → ComEntry
+completion_by q cid st dw0 controller = record { dw0 = dw0; sqhd = controller.ring.head; sqid = q; cid = cid; phase = controller.ring.phase; status = st }
 
 -- the memory with a completion in the slot at the tail, the page of that slot, and the queue behind it
-abbrev pub memory_posted : Memory → DeviceSide → ComEntry → Memory
-memory_posted m device e = written m (completion_place device.cq device.ring.tail) (completion_bytes e)
+abbrev pub memory_posted : Memory → ControllerSide → ComEntry → Memory
+memory_posted m controller e = written m (completion_place controller.cq controller.ring.tail) (completion_bytes e)
 
-abbrev pub page_posted : DeviceSide → ℕ
-page_posted device = completion_page device.cq device.ring.tail
+abbrev pub page_posted : ControllerSide → ℕ
+page_posted controller = completion_page controller.cq controller.ring.tail
 
 abbrev pub with_answer : ControllerQueue → ControllerQueue
-with_answer queue = with_side (record queue.device { ring = answer_posted queue.device.entries queue.device.ring }) queue
+with_answer queue = with_side (record queue.controller { ring = completion_posted queue.controller.entries queue.controller.ring }) queue
 
 -- A completion is posted for a command of a queue: what is left of the queues and of the memory, with the one page that is touched. The
 -- completion's numbers are those of a value of its type, so its bytes tell it.
@@ -38,6 +38,6 @@ pub record Posts (queues : List ControllerQueue) (q cid : ℕ) (st : Status) (dw
   pub queue : ControllerQueue
   pub here : slice_get queues q ≡ Some queue
   pub queues_posted : queues' ≡ change q with_answer queues
-  pub typed : IsComEntry (completion_by q cid st dw0 queue.device)
-  pub memory : m' ≡ memory_posted m queue.device (completion_by q cid st dw0 queue.device)
-  pub touches : reached' ≡ reached ++ page_posted queue.device ∷ []
+  pub typed : IsComEntry (completion_by q cid st dw0 queue.controller)
+  pub memory : m' ≡ memory_posted m queue.controller (completion_by q cid st dw0 queue.controller)
+  pub touches : reached' ≡ reached ++ page_posted queue.controller ∷ []

@@ -80,6 +80,6 @@ pub record CompletesTo (c : Contents) (q cid : ℕ) (m : Memory) (reached : List
   pub here : slice_get c.queues q ≡ Some queue
   pub leaves : c' ≡ completed q cid command.work c
   pub as_long : length c'.image ≡ length c.image
-  pub typed : IsComEntry (completion_by q cid (status_of_end c.image command.work) (dw0_of_work command.work) queue.device)
-  pub memory : m' ≡ memory_posted m queue.device (completion_by q cid (status_of_end c.image command.work) (dw0_of_work command.work) queue.device)
-  pub touches : reached' ≡ reached ++ page_posted queue.device ∷ []
+  pub typed : IsComEntry (completion_by q cid (status_of_end c.image command.work) (dw0_of_work command.work) queue.controller)
+  pub memory : m' ≡ memory_posted m queue.controller (completion_by q cid (status_of_end c.image command.work) (dw0_of_work command.work) queue.controller)
+  pub touches : reached' ≡ reached ++ page_posted queue.controller ∷ []

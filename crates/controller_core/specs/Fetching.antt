@@ -6,21 +6,21 @@ use Rattle.block_image.specs.Blocks.{block_count}
 use Rattle.entry_codec.specs.declared.{status.TheConstants.Status.COMMAND_ID_CONFLICT, submission.SubEntry.SubEntry}
 use Rattle.io_commands.specs.Jobs.{JobContents, io_fault, bytes_after_check, BeginsWalk, left_of_walk}
 use Rattle.page_memory.specs.Memory.{Memory}
-use Rattle.queue_pair.specs.{Memory.{submission_page, entry_at}, Rings.DeviceSide}
+use Rattle.queue_pair.specs.{Memory.{submission_page, entry_at}, Rings.ControllerSide}
 use Rattle.controller_core.specs.{Answering.{answer_refusal, completion_by, memory_posted, page_posted, with_answer}, Contents.{Contents, change, is_command}}
 use Rattle.controller_core.specs.{Managing.{with_taken, command_of, managed}, declared.{command.Work.TheVariants.Io, queue.ControllerQueue.ControllerQueue}}
 use Rattle.controller_core.specs.declared.refusal.Refusal.{Refusal}
 use Rattle.controller_core.specs.declared.refusal.Refusal.TheVariants as refusal
 
 -- the rings of a queue from which entries are fetched
-abbrev pub live_side : Option ControllerQueue → Option DeviceSide
-live_side queue = option_and_then (λ queue. if is_live queue.state then Some queue.device else None) queue
+abbrev pub live_side : Option ControllerQueue → Option ControllerSide
+live_side queue = option_and_then (λ queue. if is_live queue.state then Some queue.controller else None) queue
 
 -- what a look at the entry at the head is refused for: none was rung, or a byte of its slot is missing
-abbrev pub side_refusal : Memory → DeviceSide → Option Refusal
-side_refusal m device =
-    if device.ring.head == device.ring.bell then Some refusal.Idle
-    else option_map_or (λ e. None) (entry_at m device.sq device.ring.head) (Some refusal.SlotOut)
+abbrev pub side_refusal : Memory → ControllerSide → Option Refusal
+side_refusal m controller =
+    if controller.ring.head == controller.ring.bell then Some refusal.Idle
+    else option_map_or (λ e. None) (entry_at m controller.sq controller.ring.head) (Some refusal.SlotOut)
 
 abbrev pub look_refusal : Contents → Memory → ℕ → Option Refusal
 look_refusal c m q = option_map_or (side_refusal m) (live_side (slice_get c.queues q)) (Some refusal.Idle)
@@ -34,7 +34,7 @@ entry_refusal c m q e = if is_known c q e then answer_refusal c.queues m q else 
 
 -- the entry at the head of a live queue, rung or not, where no byte of its slot is missing
 abbrev pub rung_entry : Contents → Memory → ℕ → Option SubEntry
-rung_entry c m q = option_and_then (λ device. entry_at m device.sq device.ring.head) (live_side (slice_get c.queues q))
+rung_entry c m q = option_and_then (λ controller. entry_at m controller.sq controller.ring.head) (live_side (slice_get c.queues q))
 
 -- what a fetch is refused for where memory is not wanted: the first that holds
 abbrev pub fetch_refusal : Contents → Memory → ℕ → Option Refusal
@@ -43,11 +43,11 @@ fetch_refusal c m q =
 
 -- An entry that was looked at: its page is touched, behind those that were touched before.
 pub record LooksAt (c : Contents) (m : Memory) (reached : List ℕ) (q : ℕ) (e : SubEntry) (reached' : List ℕ) : Type 0 where
-  pub device : DeviceSide
-  pub here : live_side (slice_get c.queues q) ≡ Some device
-  pub rung : device.ring.head ≢ device.ring.bell
-  pub at : entry_at m device.sq device.ring.head ≡ Some e
-  pub touches : reached' ≡ reached ++ submission_page device.sq device.ring.head ∷ []
+  pub controller : ControllerSide
+  pub here : live_side (slice_get c.queues q) ≡ Some controller
+  pub rung : controller.ring.head ≢ controller.ring.bell
+  pub at : entry_at m controller.sq controller.ring.head ≡ Some e
+  pub touches : reached' ≡ reached ++ submission_page controller.sq controller.ring.head ∷ []
 
 -- the job that a fetched entry of an I/O queue begins
 pub record IsBegun (image : List ℕ) (e : SubEntry) (job : JobContents) : Type 0 where
@@ -72,8 +72,8 @@ pub record AnswersKnown (queues : List ControllerQueue) (q cid : ℕ) (m : Memor
   pub queue : ControllerQueue
   pub here : slice_get queues q ≡ Some queue
   pub leaves : queues' ≡ change q (λ queue. with_answer (with_taken queue)) queues
-  pub memory : m' ≡ memory_posted m queue.device (completion_by q cid COMMAND_ID_CONFLICT 0 (with_taken queue).device)
-  pub touches : reached' ≡ reached ++ page_posted queue.device ∷ []
+  pub memory : m' ≡ memory_posted m queue.controller (completion_by q cid COMMAND_ID_CONFLICT 0 (with_taken queue).controller)
+  pub touches : reached' ≡ reached ++ page_posted queue.controller ∷ []
 
 -- An entry of queue 0 is decided at once, and one of an I/O queue begins a job.
 abbrev pub TakesIn : Bool → Contents → ℕ → ℕ → SubEntry → Contents → Type 0

@@ -3,7 +3,7 @@ use Rattle.std.specs.Option.{option_map, option_map_or}
 use Rattle.std.specs.Prelude.{◌≡◌, ℕ, zero, suc, ◌+◌, ◌<◌, false, List, length, Option, Some, None, is_none, is_some, slice_get, min, if◌then◌else◌}
 use Rattle.entry_codec.specs.declared.submission.SubEntry.{SubEntry}
 use Rattle.page_memory.specs.Memory.{Memory}
-use Rattle.queue_pair.specs.Rings.{DeviceSide}
+use Rattle.queue_pair.specs.Rings.{ControllerSide}
 use Rattle.controller_core.specs.{Answering.post_refusal, Completing.complete_refusal, Contents.{Contents, FetchedCommand, entry_of_work}}
 use Rattle.controller_core.specs.{Fetching.{fetch_refusal, look_refusal, rung_entry, is_known}, Walking.walk_refusal}
 use Rattle.controller_core.specs.declared.{look.ControllerStep.{ControllerStep, TheVariants.{Fetch, Walk, Complete}}, queue.ControllerQueue.ControllerQueue}
@@ -31,11 +31,11 @@ pub record IsAtRest (c : Contents) (m : Memory) : Type 0 where
 -- How many pages a look touches
 
 -- the page of the next completion, where one could be posted
-abbrev pub post_touches : Memory → DeviceSide → ℕ
-post_touches m device = if is_none (post_refusal m device) then 1 else 0
+abbrev pub post_touches : Memory → ControllerSide → ℕ
+post_touches m controller = if is_none (post_refusal m controller) then 1 else 0
 
 abbrev pub answer_touches : List ControllerQueue → Memory → ℕ → ℕ
-answer_touches queues m q = option_map_or (λ queue. post_touches m queue.device) (slice_get queues q) 0
+answer_touches queues m q = option_map_or (λ queue. post_touches m queue.controller) (slice_get queues q) 0
 
 -- the page of the entry at the head of a queue, and, where its identifier is known, that of the answer which it would get at once
 abbrev pub entry_touches : Contents → Memory → ℕ → SubEntry → ℕ

@@ -6,13 +6,13 @@ use Rattle.admin_commands.specs.declared.AdminVerdict.TheVariants.{Answer, Abort
 use Rattle.admin_commands.specs.declared.{DeviceView.DeviceView, SqState.TheVariants.{Absent, Live, Stopping}}
 use Rattle.entry_codec.specs.declared.status.{Status.Status, TheConstants.Status.{SUCCESS, ABORT_REQUESTED, ABORTED_SQ_DELETION}}
 use Rattle.entry_codec.specs.declared.submission.SubEntry.{SubEntry}
-use Rattle.queue_pair.specs.Rings.{entry_taken, fresh_device_ring}
+use Rattle.queue_pair.specs.Rings.{entry_taken, fresh_controller_ring}
 use Rattle.controller_core.specs.{Contents.{Contents, FetchedCommand, Work, change, is_command, verdict_of_work}, Doorbells.with_side}
 use Rattle.controller_core.specs.declared.{command.Work.TheVariants.{Io, Admin}, queue.ControllerQueue.ControllerQueue}
 
 -- a queue of which the entry at the head is taken
 abbrev pub with_taken : ControllerQueue → ControllerQueue
-with_taken queue = with_side (record queue.device { ring = entry_taken queue.device.entries queue.device.ring }) queue
+with_taken queue = with_side (record queue.controller { ring = entry_taken queue.controller.entries queue.controller.ring }) queue
 
 -- a command as it is fetched
 abbrev pub command_of : ℕ → Work → FetchedCommand
@@ -26,7 +26,7 @@ view_for pages queues commands e =
       cq_there = option_map_or (λ queue. queue.cq_there) (slice_get queues (named_queue e)) false;
       target_walks = option_map_or (λ k. is_none (verdict_of_work k.work)) (find (is_command (named_queue e) (named_command e)) commands) false;
       queues = length queues - 1;
-      entries = option_map_or (λ queue. queue.device.entries) (slice_get queues (named_queue e)) 0;
+      entries = option_map_or (λ queue. queue.controller.entries) (slice_get queues (named_queue e)) 0;
       pages = pages;
     }
 
@@ -51,10 +51,10 @@ without_completion queue = record queue { cq_there = false }
 
 -- a queue whose completion ring begins at an address, and is empty; and one whose submission ring does
 abbrev pub with_completion : ℕ → ControllerQueue → ControllerQueue
-with_completion base queue = record queue { cq_there = true; device = record queue.device { cq = base / 4096; ring = fresh_device_ring } }
+with_completion base queue = record queue { cq_there = true; controller = record queue.controller { cq = base / 4096; ring = fresh_controller_ring } }
 
 abbrev pub with_submission : ℕ → ControllerQueue → ControllerQueue
-with_submission base queue = record queue { state = Live; device = record queue.device { sq = base / 4096; ring = fresh_device_ring } }
+with_submission base queue = record queue { state = Live; controller = record queue.controller { sq = base / 4096; ring = fresh_controller_ring } }
 
 -- A creation's ring begins in a page that has a number.
 abbrev pub NamesPages : AdminVerdict → Type 0

@@ -1,7 +1,7 @@
 -- A controller as it opens.
 use Rattle.std.specs.Prelude.{ℕ, suc, true, List, [], ◌∷◌}
 use Rattle.admin_commands.specs.declared.SqState.TheVariants.{Live}
-use Rattle.queue_pair.specs.Rings.{fresh_device_ring}
+use Rattle.queue_pair.specs.Rings.{fresh_controller_ring}
 use Rattle.controller_core.specs.{Contents.Contents, declared.queue.{ControllerQueue.ControllerQueue, QueuePages.QueuePages}}
 
 -- queue q with n entries in each ring, whose halves begin at these pages
@@ -10,7 +10,7 @@ fresh_queue n q pages =
     record {
       state = Live;
       cq_there = true;
-      device = record { q = q; entries = n; sq = pages.sq; cq = pages.cq; ring = fresh_device_ring };
+      controller = record { q = q; entries = n; sq = pages.sq; cq = pages.cq; ring = fresh_controller_ring };
     }
 
 -- the queues that have these pages, numbered from q on

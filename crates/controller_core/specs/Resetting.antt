@@ -2,15 +2,15 @@
 use Rattle.std.specs.Prelude.{◌≡◌, ℕ, zero, suc, ◌==◌, true, false, Some, List, [], ◌∷◌}
 use Rattle.admin_commands.specs.declared.SqState.TheVariants.{Absent, Live}
 use Rattle.page_memory.specs.Memory.{Memory}
-use Rattle.queue_pair.specs.Rings.{fresh_device_ring}
+use Rattle.queue_pair.specs.Rings.{fresh_controller_ring}
 use Rattle.controller_core.specs.{Completing.complete_refusal, Contents.Contents, Doorbells.{head_rung, tail_rung}, Fetching.fetch_refusal}
 use Rattle.controller_core.specs.{Walking.walk_refusal, declared.queue.ControllerQueue.ControllerQueue}
 use Rattle.controller_core.specs.declared.refusal.Refusal.TheVariants as refusal
 
 -- the queue of a number: queue 0 is live, and no other queue is there; both rings are as they are opened, over the halves that they have
 abbrev pub queue_reset : ℕ → ControllerQueue → ControllerQueue
-queue_reset zero queue = record { state = Live; cq_there = true; device = record queue.device { ring = fresh_device_ring } }
-queue_reset (suc q) queue = record { state = Absent; cq_there = false; device = record queue.device { ring = fresh_device_ring } }
+queue_reset zero queue = record { state = Live; cq_there = true; controller = record queue.controller { ring = fresh_controller_ring } }
+queue_reset (suc q) queue = record { state = Absent; cq_there = false; controller = record queue.controller { ring = fresh_controller_ring } }
 
 -- queues that are numbered from q on
 abbrev pub queues_reset : ℕ → List ControllerQueue → List ControllerQueue

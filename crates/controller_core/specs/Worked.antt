@@ -7,7 +7,7 @@ use Rattle.entry_codec.specs.{Completion.completion_bytes, Worked.{first_sgl1, f
 use Rattle.entry_codec.specs.declared.{status.TheConstants.Status.SUCCESS, submission.SubEntry.SubEntry}
 use Rattle.io_commands.specs.Jobs.{JobContents}
 use Rattle.page_memory.specs.Memory.{Memory, written}
-use Rattle.queue_pair.specs.Rings.{fresh_device_ring}
+use Rattle.queue_pair.specs.Rings.{fresh_controller_ring}
 use Rattle.sgl_descriptor.specs.declared.Direction.TheVariants.{Destination}
 use Rattle.controller_core.specs.{Answering.completion_by, Completing.{completed, without_submission}, Contents.{Contents, change}, Doorbells.tail_rung}
 use Rattle.controller_core.specs.{Fetching.begun, Managing.{command_of, managed, without_completion}, Opening.opened, Resetting.reset}
@@ -75,7 +75,7 @@ wrong_opcode = record first_read { opcode = 0x77 }
 
 -- the halfword of status and phase in the first completion of a queue, for a command that ends so
 abbrev pub status_bytes : Status → List ℕ
-status_bytes st = slice_range (completion_bytes (completion_by 1 0 st 0 (record { q = 1; entries = 4; sq = 2; cq = 3; ring = fresh_device_ring }))) 14 16
+status_bytes st = slice_range (completion_bytes (completion_by 1 0 st 0 (record { q = 1; entries = 4; sq = 2; cq = 3; ring = fresh_controller_ring }))) 14 16
 
 -- the entries that make the I/O queue again, once it is deleted: its completion queue at 6000h, and its submission queue at 5000h
 abbrev pub create_cq : SubEntry
@@ -118,7 +118,7 @@ abbrev pub with_queue_made : Contents
 with_queue_made = managed 8 create_sq with_completion_made
 
 abbrev pub made_queue : ControllerQueue
-made_queue = record { state = Live; cq_there = true; device = record { q = 1; entries = 4; sq = 5; cq = 6; ring = fresh_device_ring } }
+made_queue = record { state = Live; cq_there = true; controller = record { q = 1; entries = 4; sq = 5; cq = 6; ring = fresh_controller_ring } }
 
 -- The Read in the midst of its walk, and an Abort that stopped it. A reset ends both. Then the tail of queue 0 is rung behind the two
 -- creations.

@@ -3,7 +3,7 @@
 ghost use Rattle.std.specs.Prelude.{◌≡◌, ◌<◌, ◌≤◌, ◌++◌, ◌∷◌, [], OnOk, OnErr, length};
 ghost use Rattle.std.specs.Result.{result_err};
 ghost use Rattle.entry_codec.specs.Completion.{IsComEntry};
-ghost use Rattle.queue_pair.specs.Rings.{answer_posted};
+ghost use Rattle.queue_pair.specs.Rings.{completion_posted};
 ghost use Rattle.controller_core.specs.Answering.{answer_refusal, post_refusal, completion_by, memory_posted, page_posted, Posts};
 
 use crate::queue::ControllerQueue;
@@ -29,7 +29,7 @@ pub(crate) fn post_completion<D: Dma>(
     requires fits { status.sct < 8 }
     requires room { length (D.reached dma.old) ≤ 2 }
     ensures refusal { result_err result ≡ post_refusal (D.memory dma.old) pair.old }
-    ensures pair { OnOk result (pair.new ≡ record pair.old { ring = answer_posted pair.old.entries pair.old.ring }) }
+    ensures pair { OnOk result (pair.new ≡ record pair.old { ring = completion_posted pair.old.entries pair.old.ring }) }
     ensures typed { OnOk result (IsComEntry (completion_by q cid status dw0 pair.old)) }
     ensures written { OnOk result (D.memory dma.new ≡ memory_posted (D.memory dma.old) pair.old (completion_by q cid status dw0 pair.old)) }
     ensures touched { OnOk result (D.reached dma.new ≡ D.reached dma.old ++ page_posted pair.old ∷ []) }
@@ -70,5 +70,5 @@ pub(crate) fn answer<A: Allocator, D: Dma>(
     ensures unlisted { D.unlisted dma.new ≡ D.unlisted dma.old }
     ensures pool { D.page_count dma.new ≡ D.page_count dma.old }
 {
-    post_completion(&mut queues[usize::from(q)].device, q, cid, status, dw0, dma)
+    post_completion(&mut queues[usize::from(q)].controller, q, cid, status, dw0, dma)
 }

@@ -54,7 +54,7 @@ fn open_queue(q: u16, entries: u16, pages: QueuePages) -> ControllerQueue
     ControllerQueue {
         state: SqState::Live,
         cq_there: true,
-        device: DevicePair::open(q, entries, pages.sq, pages.cq),
+        controller: DevicePair::open(q, entries, pages.sq, pages.cq),
     }
 }
 

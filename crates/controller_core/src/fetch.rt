@@ -29,7 +29,7 @@ fn live_pair(queues: &[ControllerQueue], q: u16) -> Option<DevicePair>
 {
     let queue = queues.get(usize::from(q))?;
     match queue.state {
-        SqState::Live => Some(queue.device),
+        SqState::Live => Some(queue.controller),
         SqState::Absent | SqState::Stopping => None,
     }
 }
@@ -60,20 +60,20 @@ fn head_entry<D: Dma>(pair: &DevicePair, dma: &mut D) -> Result<SubEntry, Refusa
 impl ControllerQueue {
     /// Takes the entry at the head, and answers its identifier at once. Where that is refused nothing changed.
     fn answer_taken<D: Dma>(&mut self, q: u16, cid: u16, dma: &mut D) -> Result<(), Refusal>
-        requires rung { self.old.device.ring.head ≢ self.old.device.ring.bell }
+        requires rung { self.old.controller.ring.head ≢ self.old.controller.ring.bell }
         requires room { length (D.reached dma.old) ≤ 2 }
-        ensures refusal { result_err result ≡ post_refusal (D.memory dma.old) self.old.device }
+        ensures refusal { result_err result ≡ post_refusal (D.memory dma.old) self.old.controller }
         ensures queue { OnOk result (self.new ≡ with_answer (with_taken self.old)) }
-        ensures written { OnOk result (D.memory dma.new ≡ memory_posted (D.memory dma.old) self.old.device (completion_by q cid COMMAND_ID_CONFLICT 0 (with_taken self.old).device)) }
-        ensures touched { OnOk result (D.reached dma.new ≡ D.reached dma.old ++ page_posted self.old.device ∷ []) }
+        ensures written { OnOk result (D.memory dma.new ≡ memory_posted (D.memory dma.old) self.old.controller (completion_by q cid COMMAND_ID_CONFLICT 0 (with_taken self.old).controller)) }
+        ensures touched { OnOk result (D.reached dma.new ≡ D.reached dma.old ++ page_posted self.old.controller ∷ []) }
         ensures refused { OnErr result ((self.new ≡ self.old) × (D.memory dma.new ≡ D.memory dma.old) × (D.reached dma.new ≡ D.reached dma.old)) }
         ensures unlisted { D.unlisted dma.new ≡ D.unlisted dma.old }
         ensures pool { D.page_count dma.new ≡ D.page_count dma.old }
     {
-        let mut pair = self.device;
+        let mut pair = self.controller;
         pair.take();
         post_completion(&mut pair, q, cid, Status::COMMAND_ID_CONFLICT, 0, dma)?;
-        self.device = pair;
+        self.controller = pair;
         Ok(())
     }
 }
@@ -81,10 +81,10 @@ impl ControllerQueue {
 /// Takes the entry at the head of a queue.
 fn take_entry<A: Allocator>(queues: &mut Vec<ControllerQueue, A>, q: u16)
     requires there { q < length queues.old.items }
-    requires rung { IfSome (slice_get queues.old.items q) (λ queue. queue.device.ring.head ≢ queue.device.ring.bell) }
+    requires rung { IfSome (slice_get queues.old.items q) (λ queue. queue.controller.ring.head ≢ queue.controller.ring.bell) }
     ensures { queues.new.items ≡ change q with_taken queues.old.items }
 {
-    queues[usize::from(q)].device.take();
+    queues[usize::from(q)].controller.take();
 }
 
 /// Takes the entry at the head of a queue, and answers its identifier at once. Where that is refused nothing changed.
@@ -95,7 +95,7 @@ fn answer_in<A: Allocator, D: Dma>(
     dma: &mut D,
 ) -> Result<(), Refusal>
     requires there { q < length queues.old.items }
-    requires rung { IfSome (slice_get queues.old.items q) (λ queue. queue.device.ring.head ≢ queue.device.ring.bell) }
+    requires rung { IfSome (slice_get queues.old.items q) (λ queue. queue.controller.ring.head ≢ queue.controller.ring.bell) }
     requires room { length (D.reached dma.old) ≤ 2 }
     ensures refusal { result_err result ≡ answer_refusal queues.old.items (D.memory dma.old) q }
     ensures answers { OnOk result (AnswersKnown queues.old.items q cid (D.memory dma.old) (D.reached dma.old) queues.new.items (D.memory dma.new) (D.reached dma.new)) }
@@ -140,7 +140,7 @@ impl<A: Allocator + Copy> Controller<A> {
     fn begin_entry(&mut self, q: u16, entry: &SubEntry) -> Result<(), AllocError>
         requires io { (q == 0) ≡ false }
         requires there { q < length self.old.queues }
-        requires rung { IfSome (slice_get self.old.queues q) (λ queue. queue.device.ring.head ≢ queue.device.ring.bell) }
+        requires rung { IfSome (slice_get self.old.queues q) (λ queue. queue.controller.ring.head ≢ queue.controller.ring.bell) }
         requires unknown { is_some (find (is_command q entry.now.cid) self.old.commands) ≡ false }
         ensures begins { OnOk result (Begins self.old q entry.now self.new) }
         ensures sound { IsController self.new }
@@ -155,7 +155,7 @@ impl<A: Allocator + Copy> Controller<A> {
     /// Takes the entry at the head of queue 0, decides it and does what was decided, and keeps it as a command behind the others.
     fn manage_entry(&mut self, pages: u32, entry: SubEntry) -> Result<(), AllocError>
         requires there { 0 < length self.old.queues }
-        requires rung { IfSome (slice_get self.old.queues 0) (λ queue. queue.device.ring.head ≢ queue.device.ring.bell) }
+        requires rung { IfSome (slice_get self.old.queues 0) (λ queue. queue.controller.ring.head ≢ queue.controller.ring.bell) }
         requires unknown { is_some (find (is_command 0 entry.cid) self.old.commands) ≡ false }
         ensures managed { OnOk result (self.new ≡ managed pages entry self.old) }
         ensures sound { IsController self.new }

@@ -1,4 +1,4 @@
-//! The controller alone: the device's side of its queues, the commands that it fetched, and the image of its namespace.
+//! The controller alone: the controller's side of its queues, the commands that it fetched, and the image of its namespace.
 //!
 //! A [`Controller`] is a library for an emulator: a call that reaches memory is lent it, as [`page_memory::Dma`], which is the guest's.
 //! Nothing of a host is known here. What crosses is memory, the values that are written to the two doorbells of a queue, and a reset

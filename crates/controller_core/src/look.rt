@@ -66,7 +66,7 @@ fn answer_cause<D: Dma>(queues: &[ControllerQueue], q: u16, dma: &mut D) -> Opti
     ensures pool { D.page_count dma.new ≡ D.page_count dma.old }
 {
     match queues.get(usize::from(q)) {
-        Some(queue) => post_cause(&queue.device, dma),
+        Some(queue) => post_cause(&queue.controller, dma),
         None => None,
     }
 }

@@ -37,7 +37,7 @@ pub(crate) fn view_of<A: Allocator>(
     let q = queue_of(entry);
     let target_walks = is_walking(commands, q, command_of(entry));
     let (sq, cq_there, entries) = match queues.get(usize::from(q)) {
-        Some(queue) => (queue.state, queue.cq_there, queue.device.entries()),
+        Some(queue) => (queue.state, queue.cq_there, queue.controller.entries()),
         None => (SqState::Absent, false, 0),
     };
     DeviceView {

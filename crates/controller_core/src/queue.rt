@@ -25,7 +25,7 @@ pub struct ControllerQueue {
     /// Whether the completion queue is there.
     pub cq_there: bool,
     /// The controller's side of the two rings.
-    pub device: DevicePair,
+    pub controller: DevicePair,
 }
 
 /// The page of an address that a creation names.
@@ -41,7 +41,7 @@ impl ControllerQueue {
     pub(crate) fn hear_tail(&mut self, value: u16)
         ensures { self.new ≡ with_tail value self.old }
     {
-        match self.device.tail_bell(value) {
+        match self.controller.tail_bell(value) {
             Ok(()) => {}
             Err(_) => {}
         }
@@ -51,7 +51,7 @@ impl ControllerQueue {
     pub(crate) fn hear_head(&mut self, value: u16)
         ensures { self.new ≡ with_head value self.old }
     {
-        match self.device.head_bell(value) {
+        match self.controller.head_bell(value) {
             Ok(()) => {}
             Err(_) => {}
         }
@@ -62,8 +62,8 @@ impl ControllerQueue {
         requires { base < 4096 * 2 ^ 32 }
         ensures { self.new ≡ with_completion base self.old }
     {
-        let sq = self.device.first_page(Half::Submission);
-        self.device.renew(sq, page_at(base));
+        let sq = self.controller.first_page(Half::Submission);
+        self.controller.renew(sq, page_at(base));
         self.cq_there = true;
     }
 
@@ -72,8 +72,8 @@ impl ControllerQueue {
         requires { base < 4096 * 2 ^ 32 }
         ensures { self.new ≡ with_submission base self.old }
     {
-        let cq = self.device.first_page(Half::Completion);
-        self.device.renew(page_at(base), cq);
+        let cq = self.controller.first_page(Half::Completion);
+        self.controller.renew(page_at(base), cq);
         self.state = SqState::Live;
     }
 }

@@ -14,9 +14,9 @@ impl ControllerQueue {
     fn reset(&mut self, q: usize)
         ensures { self.new ≡ queue_reset q self.old }
     {
-        let sq = self.device.first_page(Half::Submission);
-        let cq = self.device.first_page(Half::Completion);
-        self.device.renew(sq, cq);
+        let sq = self.controller.first_page(Half::Submission);
+        let cq = self.controller.first_page(Half::Completion);
+        self.controller.renew(sq, cq);
         self.state = if q == 0 {
             SqState::Live
         } else {

@@ -25,7 +25,7 @@ mod admin;
 mod book;
 mod carry;
 mod close;
-mod device;
+mod controller;
 mod entry;
 mod full;
 mod host;

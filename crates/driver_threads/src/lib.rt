@@ -23,7 +23,7 @@
 mod admin;
 mod carry;
 mod changes;
-mod device;
+mod controller_calls;
 mod flight;
 mod gate;
 mod host;

@@ -9,8 +9,8 @@ use Rattle.std.specs.{List.{AllByRecursion, list_any}, Option.{option_and_then, 
 use Rattle.machine_model.{proofs.{Headline.steps_keep, Kept.{reaped_has_cq, sq_with_cq}}, specs.{After.{after, change}, Claims.{IsSound, is_away}}}
 use Rattle.machine_model.specs.{Events.{Event, Reply}, Memory.is_in, Proper.IsProper}
 use Rattle.machine_model.specs.Refusals.{has_cq, has_sq, slot_page, slot_offset, host_queue, in_state, seen_entry, slot_bytes, slot_entry, is_reaped}
-use Rattle.machine_model.specs.State.{State, Record, pages_of, Device, HostQueue, DeviceQueue}
-use Rattle.machine_model.specs.Step.{Step, IsController, KeepsDevice, forges, resets, LeavesByController, LeavesByHost, host_part}
+use Rattle.machine_model.specs.State.{State, Record, pages_of, Controller, HostQueue, ServedQueue}
+use Rattle.machine_model.specs.Step.{Step, IsController, KeepsController, forges, resets, LeavesByController, LeavesByHost, host_part}
 use Rattle.machine_model.specs.declared.words.HostState.{HostState, TheVariants.{HalfMade}}
 use Rattle.host_core.proofs.{Lists.{change-at-lists as change-at, each-change, get-at, length-change}, PageOwners.among-from}
 use Rattle.host_core.specs.{Alone.alone, Exact.Exactly, Looks.completion_base, Posting.{with_tail_moved, tail_place, posted, CanPost}}
@@ -34,13 +34,13 @@ use Rattle.page_memory.proofs.Lists.{then-map}
 surely : (A B : Type 0) (c : Bool) → c ≡ false → A → MatchBool (not c) A B
 surely A B c e h = rw e h
 
-leaves : (r f c : Bool) (s next new : State) → c ≡ false → new ≡ next → KeepsDevice s new
+leaves : (r f c : Bool) (s next new : State) → c ≡ false → new ≡ next → KeepsController s new
     → MatchBool (r || (not f && false)) (new ≡ next) (MatchBool c (LeavesByController s next new) (LeavesByHost s next new))
 leaves true f c s next new e h k = h
-leaves false true c s next new e h k = rw e (record { part = ap host_part h; memory = ap (λ (y : State). y.memory) h; device = k })
-leaves false false c s next new e h k = rw e (record { part = ap host_part h; memory = ap (λ (y : State). y.memory) h; device = k })
+leaves false true c s next new e h k = rw e (record { part = ap host_part h; memory = ap (λ (y : State). y.memory) h; controller = k })
+leaves false false c s next new e h k = rw e (record { part = ap host_part h; memory = ap (λ (y : State). y.memory) h; controller = k })
 
-keeps : (t new : Tables) → KeepsDevice (state_of t) (state_of new)
+keeps : (t new : Tables) → KeepsController (state_of t) (state_of new)
 keeps t new = record { image = refl; queues = refl }
 
 pub host_step : (t new : Tables) (e : Event) (reply : Reply) → IsController e ≡ false → IsProper e → Exactly (state_of t) e reply (state_of new) → Step (state_of t) e reply (state_of new)
@@ -207,8 +207,8 @@ submission_length entry count = omega (arith, length-append entry.sgl1 (command_
 abbrev on_pages : State → Pages → State
 on_pages s pages = record s { memory = pages }
 
-abbrev shown : State → Pages → List HostQueue → Device → State
-shown s pages queues device = record s { memory = pages; host = record s.host { queues = queues }; device = device }
+abbrev shown : State → Pages → List HostQueue → Controller → State
+shown s pages queues controller = record s { memory = pages; host = record s.host { queues = queues }; controller = controller }
 
 -- the machine writes the same bytes
 pub host-at : (t : Tables) (q : ℕ) (x : Queue) → slice_get t.queues q ≡ Some x → host_queue (state_of t) q ≡ Some (host_queue_of x)
@@ -230,7 +230,7 @@ bytes-posted t q x entry c =
 abbrev moved_on : ℕ → HostQueue → HostQueue
 moved_on n queue = record queue { ring = next_tail n queue.ring }
 
-abbrev with_entry : SubEntry → DeviceQueue → DeviceQueue
+abbrev with_entry : SubEntry → ServedQueue → ServedQueue
 with_entry entry at = record at { unfetched = at.unfetched ++ entry ∷ [] }
 
 queues-posted : (t : Tables) (q : ℕ) (x : Queue) (entry : SubEntry) → CanPost t q x entry
@@ -241,8 +241,8 @@ queues-posted t q x entry c =
 
 pub posted-exact : (t : Tables) (q : ℕ) (x : Queue) (entry : SubEntry) → CanPost t q x entry → state_of (posted q x entry t) ≡ a.posted q entry (state_of t)
 posted-exact t q x entry c =
-    ap (λ (hs : List HostQueue). shown (state_of t) (posted q x entry t).pages hs (state_of (posted q x entry t)).device) (queues-posted t q x entry c)
-    ∙ ap (λ (z : State). a.on_ring q (next_tail t.entries) (a.on_device_queue q (with_entry entry) z)) (sym (bytes-posted t q x entry c))
+    ap (λ (hs : List HostQueue). shown (state_of t) (posted q x entry t).pages hs (state_of (posted q x entry t)).controller) (queues-posted t q x entry c)
+    ∙ ap (λ (z : State). a.on_ring q (next_tail t.entries) (a.on_served_queue q (with_entry entry) z)) (sym (bytes-posted t q x entry c))
 
 pub posted-queue : (n q : ℕ) (x : Queue) → IsQueue n q x → IsQueue n q (with_tail_moved x)
 posted-queue n q x is =

@@ -21,7 +21,7 @@ use Rattle.host_core.proofs.PageOwners.{OwnsHalf, commands-told, half-listed, ha
 use Rattle.host_core.proofs.QueueLists.{map-change, Settled, settled-of, settled-turned, settled-with, cq-kept, none-told, settled-as, settled-half_made, settled-state, sq-kept}
 use Rattle.host_core.proofs.RowRecords.{Marks, marked-claims, marked-tells, claims_keep_queue, claims_keep_tells, each_claimed}
 use Rattle.host_core.specs.{Commands.{passes, state_at, without_claim}, Exact.Exactly, Halves.HasMeant}
-use Rattle.host_core.specs.Reaping.{consumed, ended_with, seen_at, with_answer_heard, with_answer_taken, heard, gives_back, meant, over, state_deleted, with_state, without_completion, without_submission}
+use Rattle.host_core.specs.Reaping.{consumed, ended_with, seen_at, with_completion_heard, with_completion_taken, heard, gives_back, meant, over, state_deleted, with_state, without_completion, without_submission}
 use Rattle.host_core.specs.{Rows.Queue, Tables.{Tables, state_of, host_queue_of, sq_pages_of, cq_pages_of}}
 use Rattle.host_core.specs.Whole.{IsWhole, IsQueue, IsRecord, ClaimsIdentifiers, TellsQueue, FitsWork, IsHost, TellsCommand}
 use Rattle.admin_commands.specs.declared.AdminKind.{AdminKind, TheVariants.{Abort, DeleteSq, DeleteCq, CreateCq, CreateSq}}
@@ -53,7 +53,7 @@ reap-none t q x at live = rw (slice_get-map host_queue_of t.queues q, at, live) 
 
 -- What holds of the queue
 
-pub taken-queue : (n q k : ℕ) (x : Queue) → k < x.host.entries → IsQueue n q x → IsQueue n q (with_answer_heard k x)
+pub taken-queue : (n q k : ℕ) (x : Queue) → k < x.host.entries → IsQueue n q x → IsQueue n q (with_completion_heard k x)
 taken-queue n q k x l is =
     let side = is.host_side in
     record {
@@ -70,9 +70,9 @@ on_head n queue = record queue { ring = next_head n queue.ring }
 abbrev pub with_lists : State → List HostQueue → State
 with_lists s hs = record s { host = record s.host { queues = hs } }
 
-consumed-host : (t : Tables) → IsWhole t → (q : ℕ) → map host_queue_of (change q with_answer_taken t.queues) ≡ change q (on_head t.entries) (map host_queue_of t.queues)
+consumed-host : (t : Tables) → IsWhole t → (q : ℕ) → map host_queue_of (change q with_completion_taken t.queues) ≡ change q (on_head t.entries) (map host_queue_of t.queues)
 consumed-host t w q =
-    map-change host_queue_of with_answer_taken (on_head t.entries) q t.queues (λ y at. ap (λ (n : ℕ). on_head n (host_queue_of y)) (w.queues.each q y at).entries)
+    map-change host_queue_of with_completion_taken (on_head t.entries) q t.queues (λ y at. ap (λ (n : ℕ). on_head n (host_queue_of y)) (w.queues.each q y at).entries)
 
 pub reject-exact : (t : Tables) → IsWhole t → (q : ℕ) (x : Queue) (e : ComEntry) (why : RejectedFor) → Sees t q x e → reaped_entry (state_of t) q e ≡ found.Rejected why
     → Exactly (state_of t) (events.Reap q) (events.Reaps (found.Rejected why)) (state_of (consumed q t))
@@ -102,7 +102,7 @@ settled-taken t s q f tells claims is =
 
 pub settled-consumed : (t : Tables) → IsWhole t → (q : ℕ) → Settled (consumed q t)
 settled-consumed t w q =
-    settled-taken t (settled-of t w) q with_answer_taken (λ y told. record { submission = told.submission; completion = told.completion }) (λ y. refl)
+    settled-taken t (settled-of t w) q with_completion_taken (λ y told. record { submission = told.submission; completion = told.completion }) (λ y. refl)
     (λ y at. let is = w.queues.each q y at in taken-queue t.entries q y.host.ring.known_head y is.host_side.known_head is)
 
 -- How an I/O command ended is held
@@ -115,9 +115,9 @@ change-twice f g q [] = refl
 change-twice f g zero (x ∷ xs) = refl
 change-twice {A = A} f g (suc q) (x ∷ xs) = ap (λ (l : List A). x ∷ l) (change-twice f g q xs)
 
-pub heard-host : (t : Tables) → IsWhole t → (q k : ℕ) → map host_queue_of (change q (with_answer_heard k) t.queues) ≡ change q (knowing_head k) (change q (on_head t.entries) (map host_queue_of t.queues))
+pub heard-host : (t : Tables) → IsWhole t → (q k : ℕ) → map host_queue_of (change q (with_completion_heard k) t.queues) ≡ change q (knowing_head k) (change q (on_head t.entries) (map host_queue_of t.queues))
 heard-host t w q k =
-    map-change host_queue_of (with_answer_heard k) (λ (h : HostQueue). knowing_head k (on_head t.entries h)) q t.queues
+    map-change host_queue_of (with_completion_heard k) (λ (h : HostQueue). knowing_head k (on_head t.entries h)) q t.queues
     (λ y at. ap (λ (n : ℕ). knowing_head k (on_head n (host_queue_of y))) (w.queues.each q y at).entries)
     ∙ sym (change-twice (knowing_head k) (on_head t.entries) q (map host_queue_of t.queues))
 
@@ -153,7 +153,7 @@ done-exact t w q cid status x e sees io = (
 
 pub settled-heard : (t : Tables) → IsWhole t → (q : ℕ) (x : Queue) (e : ComEntry) → Sees t q x e → e.sqhd < x.host.entries → Settled (heard q e.sqhd t)
 settled-heard t w q x e sees below =
-    settled-taken t (settled-of t w) q (with_answer_heard e.sqhd) (λ y told. record { submission = told.submission; completion = told.completion }) (λ y. refl)
+    settled-taken t (settled-of t w) q (with_completion_heard e.sqhd) (λ y told. record { submission = told.submission; completion = told.completion }) (λ y. refl)
     (λ y at. let same : x ≡ y = some_is (sym sees.at ∙ at) in taken-queue t.entries q e.sqhd y (subst (λ (z : Queue). e.sqhd < z.host.entries) same below) (w.queues.each q y at))
 
 -- The record is held
@@ -388,11 +388,11 @@ settled-over t w q x e kind sees ends below =
 -- what the end of an admin command leans on is there
 
 -- what each queue has that hangs on its state and on its places alone
-each-over : (P : ℕ → Queue → Type 0) (q k cid : ℕ) (queues : List Queue) → ((j : ℕ) (y : Queue) → P j y → P j (with_answer_heard k y)) → ((j : ℕ) (y : Queue) → P j y → P j (without_claim cid y))
-    → ((j : ℕ) (y : Queue) → slice_get queues j ≡ Some y → P j y) → (j : ℕ) (y : Queue) → slice_get (change q (without_claim cid) (change q (with_answer_heard k) queues)) j ≡ Some y → P j y
+each-over : (P : ℕ → Queue → Type 0) (q k cid : ℕ) (queues : List Queue) → ((j : ℕ) (y : Queue) → P j y → P j (with_completion_heard k y)) → ((j : ℕ) (y : Queue) → P j y → P j (without_claim cid y))
+    → ((j : ℕ) (y : Queue) → slice_get queues j ≡ Some y → P j y) → (j : ℕ) (y : Queue) → slice_get (change q (without_claim cid) (change q (with_completion_heard k) queues)) j ≡ Some y → P j y
 each-over P q k cid queues hears frees all =
-    let heard-all = each-change P q (with_answer_heard k) queues (λ j y _ at. all j y at) (λ y at. hears q y (all q y at)) in
-    each-change P q (without_claim cid) (change q (with_answer_heard k) queues) (λ j y _ at. heard-all j y at) (λ y at. frees q y (heard-all q y at))
+    let heard-all = each-change P q (with_completion_heard k) queues (λ j y _ at. all j y at) (λ y at. hears q y (all q y at)) in
+    each-change P q (without_claim cid) (change q (with_completion_heard k) queues) (λ j y _ at. heard-all j y at) (λ y at. frees q y (heard-all q y at))
 
 found-counts : {A : Type 0} (test p : A → Bool) (xs : List A) (x : A) → find test xs ≡ Some x → p x ≡ true → 0 < length (filter p xs)
 found-counts test p [] x h is = absurd (none_some h)
@@ -431,8 +431,8 @@ kept-change f same (suc q) (suc k) (z ∷ queues) x at = kept-change f same q k 
 
 over-there : (t : Tables) (q : ℕ) (e : ComEntry) (k : ℕ) (x : Queue) → slice_get t.queues k ≡ Some x → (y : Queue) × (slice_get (over q e.sqhd e.cid t).queues k ≡ Some y) × (y.state ≡ x.state)
 over-there t q e k x at =
-    let a = kept-change (with_answer_heard e.sqhd) (λ y. refl) q k t.queues x at in
-    let b = kept-change (without_claim e.cid) (λ y. refl) q k (change q (with_answer_heard e.sqhd) t.queues) a.0 a.1 in
+    let a = kept-change (with_completion_heard e.sqhd) (λ y. refl) q k t.queues x at in
+    let b = kept-change (without_claim e.cid) (λ y. refl) q k (change q (with_completion_heard e.sqhd) t.queues) a.0 a.1 in
     (b.0, b.1, b.2 ∙ a.2)
 
 -- and the pages of its halves
@@ -488,8 +488,8 @@ over-has t h q e (CreateSq k n base) entry was work =
 abbrev ended_state : ℕ → ComEntry → State → State
 ended_state q e s = a.on_records (without_record q e.cid) (a.on_ring q (knowing e.sqhd) (a.consumed q s))
 
-over-host : (t : Tables) → IsWhole t → (q k cid : ℕ) → map host_queue_of (change q (without_claim cid) (change q (with_answer_heard k) t.queues)) ≡ change q (knowing_head k) (change q (on_head t.entries) (map host_queue_of t.queues))
-over-host t w q k cid = lists.map-change host_queue_of (without_claim cid) (λ y. refl) q (change q (with_answer_heard k) t.queues) ∙ heard-host t w q k
+over-host : (t : Tables) → IsWhole t → (q k cid : ℕ) → map host_queue_of (change q (without_claim cid) (change q (with_completion_heard k) t.queues)) ≡ change q (knowing_head k) (change q (on_head t.entries) (map host_queue_of t.queues))
+over-host t w q k cid = lists.map-change host_queue_of (without_claim cid) (λ y. refl) q (change q (with_completion_heard k) t.queues) ∙ heard-host t w q k
 
 over-exact : (t : Tables) → IsWhole t → (q : ℕ) (e : ComEntry) → state_of (over q e.sqhd e.cid t) ≡ ended_state q e (state_of t)
 over-exact t w q e = ap (λ (hs : List HostQueue). with_all (state_of t) hs (without_record q e.cid t.records)) (over-host t w q e.sqhd e.cid)

@@ -23,7 +23,7 @@ use Rattle.host_core.proofs.PageOwners.{commands-told, half-owned, half-there, o
 use Rattle.host_core.proofs.QueueLists.{map-change, host-at, host_step, Settled, settled-of, settled-turned, Steps, steps}
 use Rattle.host_core.proofs.Reaping.{EndsAdmin, admin-exact, admin-settled, ended_admin, done-settled, EndsIo, Sees, done-exact, held-lost, reap-none, reaped-empty, reject-exact, settled-consumed, work-cases}
 use Rattle.host_core.specs.{Commands.{Claims, passes, state_at, without_claim}, Exact.Exactly, Halves.HasHalf, Looks.completion_waits}
-use Rattle.host_core.specs.Reaping.{lacks_completion, Answered, ReapsTo, consumed, ended_with, gives_back, heard, kind_of, meant, over, seen_at, state_deleted, with_answer_heard, with_state, without_completion, without_submission}
+use Rattle.host_core.specs.Reaping.{lacks_completion, Answered, ReapsTo, consumed, ended_with, gives_back, heard, kind_of, meant, over, seen_at, state_deleted, with_completion_heard, with_state, without_completion, without_submission}
 use Rattle.host_core.specs.{Retiring.{retired, with_lost}, Rows.Queue, Tables.{Tables, state_of, host_queue_of, sq_pages_of, cq_pages_of}}
 use Rattle.host_core.specs.Whole.{ClaimIdentifiers, HaveOwner, IsWhole, is_outstanding, IsHost, IsRecord, ClaimsIdentifiers, TellsCommand, TellsQueue}
 use Rattle.page_ledger.specs.{Owners.{free_pages, given_back, is_half}, declared.owner.Owner.Owner}
@@ -144,9 +144,9 @@ pub over-tables : (t u v : Tables) (q : ℕ) (e : ComEntry) (queues : List Queue
 over-tables t u v q e queues eu ev eq = rw (eq, ev, eu) refl
 
 -- the claimed identifiers, once the completion was heard
-pub over-claims : (q : ℕ) (e : ComEntry) (queues new : List Queue) → Claims queues q e.cid → new ≡ change q (with_answer_heard e.sqhd) queues → Claims new q e.cid
+pub over-claims : (q : ℕ) (e : ComEntry) (queues new : List Queue) → Claims queues q e.cid → new ≡ change q (with_completion_heard e.sqhd) queues → Claims new q e.cid
 over-claims q e queues new claims is = rw is (λ y at.
-    each-change (λ (j : ℕ) (z : Queue). j ≡ q → slice_get z.host.claimed e.cid ≡ Some true) q (with_answer_heard e.sqhd) queues (λ k z far at' same. absurd (far same))
+    each-change (λ (j : ℕ) (z : Queue). j ≡ q → slice_get z.host.claimed e.cid ≡ Some true) q (with_completion_heard e.sqhd) queues (λ k z far at' same. absurd (far same))
     (λ z at' same. claims z at') q y at refl)
 
 -- the identifier of an outstanding command is claimed
@@ -185,7 +185,7 @@ meant-many t (CreateSq k n base) status =
     (λ _. length-change k (with_state HalfMade) t.queues)
 
 pub heard-many : (t : Tables) (q k : ℕ) → length (heard q k t).queues ≡ length t.queues
-heard-many t q k = length-change q (with_answer_heard k) t.queues
+heard-many t q k = length-change q (with_completion_heard k) t.queues
 
 pub over-many : (t : Tables) (q k cid : ℕ) → length (over q k cid t).queues ≡ length t.queues
 over-many t q k cid = length-change q (without_claim cid) (heard q k t).queues ∙ heard-many t q k

@@ -4,7 +4,7 @@ use Rattle.std.specs.{List.AllByRecursion, Prelude.{◌≡◌, ◌<◌, true, �
 use Rattle.page_ledger.specs.{Counting.total, Owners.is_among}
 use Rattle.page_memory.specs.Pages.{Pages, IsPool}
 use Rattle.machine_model.specs.{Claims.{HasOneOwner, IdentifiersDiffer, IsOutWithItsCommand, counts_of}, Events.{Event, Reply}}
-use Rattle.machine_model.specs.{Placement.{data_placed, chain_placed}, Positions.IsInRing, State.{State, Host, Device, outstanding_on}, Step.Step}
+use Rattle.machine_model.specs.{Placement.{data_placed, chain_placed}, Positions.IsInRing, State.{State, Host, Controller, outstanding_on}, Step.Step}
 use Rattle.io_commands.specs.{Drafts.DraftContents, Values.numbers_of}
 
 -- what contracts see of a host: the entries of each ring, the descriptors of a full segment, and the machine's host
@@ -14,12 +14,12 @@ pub record HostView : Type 0 where
   pub host : Host
 
 -- no controller
-abbrev pub nothing : Device
+abbrev pub nothing : Controller
 nothing = record { queues = []; jobs = []; image = [] }
 
 -- the machine that is this host over these pages
 abbrev pub alone : HostView → Pages → State
-alone v pages = record { entries = v.entries; segment = v.segment; memory = pages; host = v.host; device = nothing; trusted = false }
+alone v pages = record { entries = v.entries; segment = v.segment; memory = pages; host = v.host; controller = nothing; trusted = false }
 
 -- a step of the host: its refusal, its answer, and the host and the memory that it leaves
 abbrev pub HostStep : HostView → Pages → Event → Reply → HostView → Pages → Type 0

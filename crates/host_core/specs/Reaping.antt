@@ -25,23 +25,23 @@ pub record IsCompletionSlot (t : Tables) (q slot place : ℕ) : Type 0 where
   pub there : place ≡ completion_place queue.host.cq slot
 
 -- a queue of which the completion at the head was taken
-abbrev pub with_answer_taken : Queue → Queue
-with_answer_taken queue = record queue { host = record queue.host { ring = next_head queue.host.entries queue.host.ring } }
+abbrev pub with_completion_taken : Queue → Queue
+with_completion_taken queue = record queue { host = record queue.host { ring = next_head queue.host.entries queue.host.ring } }
 
 abbrev pub with_head_known : ℕ → Queue → Queue
 with_head_known sqhd queue = record queue { host = record queue.host { ring = knowing sqhd queue.host.ring } }
 
 -- the tables once a completion was consumed
 abbrev pub consumed : ℕ → Tables → Tables
-consumed q t = record t { queues = change q with_answer_taken t.queues }
+consumed q t = record t { queues = change q with_completion_taken t.queues }
 
 -- a queue of which a completion was taken that tells the controller's submission head
-abbrev pub with_answer_heard : ℕ → Queue → Queue
-with_answer_heard sqhd queue = with_head_known sqhd (with_answer_taken queue)
+abbrev pub with_completion_heard : ℕ → Queue → Queue
+with_completion_heard sqhd queue = with_head_known sqhd (with_completion_taken queue)
 
 -- the tables once a completion was taken that tells the controller's submission head
 abbrev pub heard : ℕ → ℕ → Tables → Tables
-heard q sqhd t = record t { queues = change q (with_answer_heard sqhd) t.queues }
+heard q sqhd t = record t { queues = change q (with_completion_heard sqhd) t.queues }
 
 -- and once how an I/O command ended is held
 abbrev pub ended_with : ℕ → ℕ → ℕ → Status → Tables → Tables

@@ -10,7 +10,7 @@ ghost use Rattle.host_core.specs.Alone.{HostStep, HostView, IsOver};
 ghost use Rattle.host_core.specs.Commands.{Claims};
 ghost use Rattle.host_core.specs.Halves.{HasHalf, HasMeant};
 ghost use Rattle.host_core.specs.Parts.{tables_of, Becomes, Over};
-ghost use Rattle.host_core.specs.Reaping.{consumed, ended_with, heard, lacks_completion, meant, over, seen_at, state_deleted, with_answer_heard, with_answer_taken, without_completion, Answered, FitsHead, ReapsTo};
+ghost use Rattle.host_core.specs.Reaping.{consumed, ended_with, heard, lacks_completion, meant, over, seen_at, state_deleted, with_completion_heard, with_completion_taken, without_completion, Answered, FitsHead, ReapsTo};
 ghost use Rattle.host_core.specs.Replies.{reap_reply};
 ghost use Rattle.host_core.specs.Ringing.{head_of, head_rung};
 ghost use Rattle.host_core.specs.Tables.{state_of};
@@ -39,16 +39,16 @@ pub struct Reap {
 }
 
 /// Takes the completion at a queue's head.
-fn take_answer<A: Allocator>(queue: &mut Queue<HostPair<A>>)
-    ensures { queue.new ≡ with_answer_taken queue.old }
+fn take_completion<A: Allocator>(queue: &mut Queue<HostPair<A>>)
+    ensures { queue.new ≡ with_completion_taken queue.old }
 {
     queue.host.advance();
 }
 
 /// Takes the completion at a queue's head, and learns the controller's submission head from it.
-fn hear_answer<A: Allocator>(queue: &mut Queue<HostPair<A>>, sqhd: u16)
+fn hear_completion<A: Allocator>(queue: &mut Queue<HostPair<A>>, sqhd: u16)
     requires { is_in_range queue.old.host.entries queue.old.host.ring.known_head queue.old.host.ring.tail sqhd ≡ true }
-    ensures { queue.new ≡ with_answer_heard sqhd queue.old }
+    ensures { queue.new ≡ with_completion_heard sqhd queue.old }
 {
     queue.host.advance();
     queue.host.accept_head(sqhd).unwrap();
@@ -74,7 +74,7 @@ fn deleted(status: Status) -> HostState
 
 impl<A: Allocator> HostTables<A> {
     /// The command of queue 0 that a completion is for, if it is one; an error tells why it is for no command at all.
-    fn find_answered(&self, q: u16, entry: ComEntry) -> Result<Option<AdminKind>, RejectedFor>
+    fn find_completed(&self, q: u16, entry: ComEntry) -> Result<Option<AdminKind>, RejectedFor>
         requires there { lacks_completion (slice_get self.now.queues.items q) ≡ false }
         ensures answered { IfOk result (λ kind. (pages : Pages) → Answered (tables_of self.now pages) q entry kind) }
         ensures rejected { IfErr result (λ why. Over self.now (λ t. reaped_entry (state_of t) q entry ≡ Reaped.Rejected why)) }
@@ -100,7 +100,7 @@ impl<A: Allocator> HostTables<A> {
         requires { q < length self.old.queues.items }
         ensures { Becomes self.old (consumed q) self.new }
     {
-        take_answer(&mut self.queues[usize::from(q)]);
+        take_completion(&mut self.queues[usize::from(q)]);
     }
 
     /// Takes the completion of a command at a queue's head.
@@ -109,7 +109,7 @@ impl<A: Allocator> HostTables<A> {
         requires head { FitsHead self.old.queues.items q entry.sqhd }
         ensures { Becomes self.old (heard q entry.sqhd) self.new }
     {
-        hear_answer(&mut self.queues[usize::from(q)], entry.sqhd);
+        hear_completion(&mut self.queues[usize::from(q)], entry.sqhd);
     }
 
     /// Takes the completion of a command, and notes how the command ended.
@@ -213,7 +213,7 @@ impl<A: Allocator> HostTables<A> {
         ensures taken { (view : HostView) → head_rung view q result ≡ head_of view q }
         ensures many { length self.new.queues.items ≡ length self.old.queues.items }
     {
-        match self.find_answered(q, entry) {
+        match self.find_completed(q, entry) {
             Ok(kind) => self.end(q, entry, kind),
             Err(why) => {
                 self.consume(q);

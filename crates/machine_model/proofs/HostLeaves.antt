@@ -17,14 +17,14 @@ use Rattle.page_memory.proofs.Lists.{found_is}
 pub record HostLeaves (s : State) (e : Event) (t : State) : Type 0 where
   pub entries : t.entries ≡ s.entries
   pub segment : t.segment ≡ s.segment
-  pub image : t.device.image ≡ s.device.image
+  pub image : t.controller.image ≡ s.controller.image
   -- a reset aside
-  pub jobs : resets e ≡ false → t.device.jobs ≡ s.device.jobs
+  pub jobs : resets e ≡ false → t.controller.jobs ≡ s.controller.jobs
   pub size : length t.memory ≡ length s.memory
   pub distrusts : resets e ≡ false → s.trusted ≡ false → t.trusted ≡ false
 
 -- where the memory alone changes of these
-left : {e : Event} (s t : State) → t.entries ≡ s.entries → t.segment ≡ s.segment → t.device.image ≡ s.device.image → t.device.jobs ≡ s.device.jobs → (s.trusted ≡ false → t.trusted ≡ false) → length t.memory ≡ length s.memory → HostLeaves s e t
+left : {e : Event} (s t : State) → t.entries ≡ s.entries → t.segment ≡ s.segment → t.controller.image ≡ s.controller.image → t.controller.jobs ≡ s.controller.jobs → (s.trusted ≡ false → t.trusted ≡ false) → length t.memory ≡ length s.memory → HostLeaves s e t
 left s t n g i j d m = record { entries = n; segment = g; image = i; jobs = λ other. j; size = m; distrusts = λ other. d }
 
 posted_size : (q : ℕ) (entry : SubEntry) (s : State) → length (posted_bytes q entry s) ≡ length s.memory

@@ -5,8 +5,8 @@ use Rattle.std.{proofs.lemmas.{Bool.{true≢false, not-false, and_parts, or_part
 use Rattle.std.specs.Option.{option_map, option_map_or, option_and_then}
 use Rattle.machine_model.proofs.Steps.{Accepts, unrefused, first_fails, found, same_lists, in_store, in_store-with_bytes}
 use Rattle.machine_model.specs.{Claims.is_away, Commands.{Work, Io, Management}, Events.{Event, Reply, Reaped}, Memory.{with_pages, without_pages}}
-use Rattle.machine_model.specs.Refusals.{device_queue, first_answer, entry_of, refusal_of, host_queue, seen_entry, is_of, asks_for, is_drafted, is_submitted, is_held, is_collected, is_live, is_deleting, is_deleted, is_gone, is_half_made, is_asked, is_making_cq, is_making_sq, has_cq_alone, in_service, is_reaped, run_for, in_state, record_is, no_io_queue, is_io_queue, deletes_sq_of, creates_cq_of, creates_sq_of, slot_page, slot_offset}
-use Rattle.machine_model.specs.State.{State, Answer, HostQueue, HostState, Live, Deleting, Gone, MakingCq, HalfMade, MakingSq, Record, Phase, Drafted, Submitted, Collected, record_at, with_record, without_record, pages_of}
+use Rattle.machine_model.specs.Refusals.{served_queue, front_completion, entry_of, refusal_of, host_queue, seen_entry, is_of, asks_for, is_drafted, is_submitted, is_held, is_collected, is_live, is_deleting, is_deleted, is_gone, is_half_made, is_asked, is_making_cq, is_making_sq, has_cq_alone, in_service, is_reaped, run_for, in_state, record_is, no_io_queue, is_io_queue, deletes_sq_of, creates_cq_of, creates_sq_of, slot_page, slot_offset}
+use Rattle.machine_model.specs.State.{State, PostedCompletion, HostQueue, HostState, Live, Deleting, Gone, MakingCq, HalfMade, MakingSq, Record, Phase, Drafted, Submitted, Collected, record_at, with_record, without_record, pages_of}
 use Rattle.machine_model.specs.Step.{IsController, IsReserved, IsNewIdentifier, finished_from, reaped, fits_ring}
 use Rattle.admin_commands.specs.{Entries.admin_entry, declared.AdminKind.{AdminKind, TheVariants.{Abort, DeleteSq, DeleteCq, CreateCq, CreateSq}}}
 use Rattle.entry_codec.specs.{Submission.submission_bytes, declared.{completion.ComEntry.ComEntry, status.Status.Status, submission.SubEntry.SubEntry}}
@@ -26,7 +26,7 @@ posted_bytes q entry s =
     option_map_or (λ queue. with_page_bytes s.memory (slot_page queue.sq_pages 64 queue.ring.tail) (slot_offset 64 queue.ring.tail) (submission_bytes entry)) (host_queue s q) s.memory
 
 abbrev pub posts : ℕ → SubEntry → State → State
-posts q entry s = a.on_ring q (next_tail s.entries) (a.on_device_queue q (λ at. record at { unfetched = at.unfetched ++ entry ∷ [] }) (record s { memory = posted_bytes q entry s }))
+posts q entry s = a.on_ring q (next_tail s.entries) (a.on_served_queue q (λ at. record at { unfetched = at.unfetched ++ entry ∷ [] }) (record s { memory = posted_bytes q entry s }))
 
 pub posted_is : (q : ℕ) (entry : SubEntry) (s : State) → posts q entry s ≡ a.posted q entry s
 posted_is q entry s = grind arith
@@ -249,17 +249,17 @@ heard_of s q cid st what t = grind arith
 -- Where nothing was forged, an entry that is heard is the oldest answer
 
 pub record HeardAnswer (s : State) (q cid : ℕ) (st : Status) (e : ComEntry) : Type 0 where
-  pub answer : Answer
-  pub first : option_and_then (λ queue. first_answer queue.answers) (device_queue s q) ≡ Some answer
+  pub answer : PostedCompletion
+  pub first : option_and_then (λ queue. front_completion queue.completions) (served_queue s q) ≡ Some answer
   pub its_id : answer.cid ≡ cid
   pub its_status : answer.status ≡ st
   pub is : e ≡ entry_of q answer
 
-pub seen_trusted : (s : State) (q : ℕ) → s.trusted ≡ true → seen_entry s q ≡ option_map (entry_of q) (option_and_then (λ queue. first_answer queue.answers) (device_queue s q))
+pub seen_trusted : (s : State) (q : ℕ) → s.trusted ≡ true → seen_entry s q ≡ option_map (entry_of q) (option_and_then (λ queue. front_completion queue.completions) (served_queue s q))
 seen_trusted s q t = rw t refl
 
-pub answer_heard : (s : State) (q cid : ℕ) (st : Status) (e : ComEntry) (r : Record) → s.trusted ≡ true → IsHeard s q cid st e r → HeardAnswer s q cid st e
-answer_heard s q cid st e r t heard = grind (arith, sym (seen_trusted s q t) ∙ heard.seen)
+pub completion_heard : (s : State) (q cid : ℕ) (st : Status) (e : ComEntry) (r : Record) → s.trusted ≡ true → IsHeard s q cid st e r → HeardAnswer s q cid st e
+completion_heard s q cid st e r t heard = grind (arith, sym (seen_trusted s q t) ∙ heard.seen)
 
 -- Each event of the host is one of the cases
 

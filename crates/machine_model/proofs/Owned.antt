@@ -6,10 +6,10 @@ use Rattle.std.specs.Option.{option_map_or}
 use Rattle.page_ledger.specs.{Owners.is_among, declared.owner.{Owner.{Owner}}}
 use Rattle.page_memory.specs.{Pages.Pages}
 use Rattle.machine_model.proofs.Counting.{one, times-append, times-cons, held_once, not_held, total, total-append, total-map, total_without, total-filter, here, times-outstanding}
-use Rattle.machine_model.{proofs.Steps.{length-in_store, in_store}, specs.{After.change, Agreeing.{waiting, answering, AdminCommandsStand}}}
+use Rattle.machine_model.{proofs.Steps.{length-in_store, in_store}, specs.{After.change, Agreeing.{waiting, admin_completions, AdminCommandsStand}}}
 use Rattle.machine_model.specs.Claims.{claims_of, claimed, claims_of_queues, claims_of_record, IsSound, HasOneOwner, IdentifiersDiffer, OwnsFit, DeletionsFit, CreationsFit, NewQueuesAreBare, HasNoOtherPages, AdminLives, is_away, IsOutWithItsCommand}
 use Rattle.machine_model.specs.{Commands.{Work}, Memory.{is_in, with_pages, without_pages}, Refusals.is_submitted}
-use Rattle.machine_model.specs.State.{State, Host, HostQueue, Record, is_at, record_at, pages_of, without_record, Phase, Submitted, Held, HostState, with_record, Live, Gone, DeviceQueue}
+use Rattle.machine_model.specs.State.{State, Host, HostQueue, Record, is_at, record_at, pages_of, without_record, Phase, Submitted, Held, HostState, with_record, Live, Gone, ServedQueue}
 use Rattle.machine_model.specs.Step.{times, HostPart, host_part}
 use Rattle.io_commands.specs.Values.{numbers_of}
 use Rattle.entry_codec.specs.declared.status.TheConstants.Status.{ABORTED_SQ_DELETION}
@@ -420,9 +420,9 @@ pub reset_length : (hs : List HostQueue) → length (a.reset_queues hs) ≡ leng
 reset_length [] = refl
 reset_length (x ∷ hs) = grind (arith, common_steps)
 
-pub reset_device_length : (ds : List DeviceQueue) → length (a.reset_device_queues ds) ≡ length ds
-reset_device_length [] = refl
-reset_device_length (x ∷ ds) = grind (arith, common_steps)
+pub reset_controller_length : (ds : List ServedQueue) → length (a.reset_served_queues ds) ≡ length ds
+reset_controller_length [] = refl
+reset_controller_length (x ∷ ds) = grind (arith, common_steps)
 
 -- the pages of the I/O queues leave them
 pub reset_halves : (p : ℕ) (hs : List HostQueue) → total (in_queue p) (a.reset_queues hs) + times p (a.io_pages hs) ≡ total (in_queue p) hs
@@ -440,11 +440,11 @@ admin_has p (x ∷ hs) = omega (arith, times-append p x.sq_pages x.cq_pages)
 
 -- Nothing waits at the controller, so no admin command stands there
 
-pub no_waiting : (ds : List DeviceQueue) → waiting (a.reset_device_queues ds) ≡ []
+pub no_waiting : (ds : List ServedQueue) → waiting (a.reset_served_queues ds) ≡ []
 no_waiting ds = grind arith
 
-pub no_answering : (ds : List DeviceQueue) → answering (a.reset_device_queues ds) ≡ []
-no_answering ds = grind arith
+pub no_admin_completions : (ds : List ServedQueue) → admin_completions (a.reset_served_queues ds) ≡ []
+no_admin_completions ds = grind arith
 
 pub reset_admin_commands : (rs : List Record) → AdminCommandsStand rs [] [] []
-reset_admin_commands rs = record { places = λ c. omega arith; entries = tt; jobs = tt; answers = tt }
+reset_admin_commands rs = record { places = λ c. omega arith; entries = tt; jobs = tt; completions = tt }

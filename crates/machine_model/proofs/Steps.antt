@@ -14,7 +14,7 @@ use Rattle.admin_commands.specs.declared.SqState.TheVariants.{Stopping}
 use Rattle.io_commands.specs.{Asked.Request, Jobs.{is_success}, Values.numbers_of}
 use Rattle.page_memory.specs.{Pages.{Pages, page_at, with_page_bytes, with_bytes}, declared.page.Half.{Half, TheVariants.{Submission, Completion}}}
 use Rattle.queue_pair.specs.{Memory.half_pages}
-use Rattle.machine_model.specs.After.{acted, managed, decided, on_job, on_device, on_device_queue, stopped, dropped, completion_made, submission_made, sq_state, cq_there, walks, view_of, on_memory, after_fetch, after_walk, after_complete, answered, post_phase, taken_off, moved, deletion_done, after}
+use Rattle.machine_model.specs.After.{acted, managed, decided, on_job, on_controller, on_served_queue, stopped, dropped, completion_made, submission_made, sq_state, cq_there, walks, view_of, on_memory, after_fetch, after_walk, after_complete, answered, post_phase, taken_off, moved, deletion_done, after}
 use Rattle.machine_model.specs.{Events.{Event, Reply}, Linked.absent, Memory.{with_pages, without_pages}}
 use Rattle.machine_model.specs.Refusals.{host_queue, next_rung, conflicts, slot_page, slot_offset, post_slot, fetch_slot, causes, refusal_of, record_is, is_of, asks_for}
 use Rattle.machine_model.specs.{Run.Run, State.{State, Job, HostQueue, Record, Phase, record_at, pages_of}}
@@ -39,13 +39,13 @@ pub record Manages (P : State → Type 0) (e : SubEntry) (s : State) : Type 0 wh
       → P (decided e SUCCESS 0 (on_job (named_queue e) (named_command e) (λ j. record j { verdict = Some ABORT_REQUESTED; waiting_abort = Some e.cid }) s))
   pub is_late : (e.opcode == ABORT) ≡ true → P (decided e SUCCESS 1 s)
   pub stops : (e.opcode == DELETE_IO_SQ) ≡ true → (named_queue e == 0) ≡ false → is_running (sq_state s (named_queue e)) ≡ true
-      → P (decided e SUCCESS 0 (on_device (λ d. record d { jobs = map (stopped (named_queue e)) d.jobs }) (on_device_queue (named_queue e) (λ at. record at { state = Stopping }) s)))
+      → P (decided e SUCCESS 0 (on_controller (λ d. record d { jobs = map (stopped (named_queue e)) d.jobs }) (on_served_queue (named_queue e) (λ at. record at { state = Stopping }) s)))
   pub drops : (e.opcode == DELETE_IO_CQ) ≡ true → (named_queue e == 0) ≡ false → cq_there s (named_queue e) ≡ true → is_absent (sq_state s (named_queue e)) ≡ true
-      → P (decided e SUCCESS 0 (on_device_queue (named_queue e) dropped s))
+      → P (decided e SUCCESS 0 (on_served_queue (named_queue e) dropped s))
   pub makes_completion : (e.opcode == CREATE_IO_CQ) ≡ true → (named_queue e == 0) ≡ false → cq_there s (named_queue e) ≡ false
-      → P (decided e SUCCESS 0 (on_device_queue (named_queue e) completion_made s))
+      → P (decided e SUCCESS 0 (on_served_queue (named_queue e) completion_made s))
   pub makes_submission : (e.opcode == CREATE_IO_SQ) ≡ true → (named_queue e == 0) ≡ false → is_absent (sq_state s (named_queue e)) ≡ true → cq_there s (named_queue e) ≡ true
-      → P (decided e SUCCESS 0 (on_device_queue (named_queue e) submission_made s))
+      → P (decided e SUCCESS 0 (on_served_queue (named_queue e) submission_made s))
 
 -- where each case holds, the statement holds of what the fetch leaves
 pub managed_by : (P : State → Type 0) (e : SubEntry) (s : State) → Manages P e s → P (managed e s)

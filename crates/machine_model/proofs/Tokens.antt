@@ -6,21 +6,21 @@ use Rattle.entry_codec.specs.declared.{admin_opcode.TheConstants.{DELETE_IO_SQ, 
 use Rattle.entry_codec.specs.declared.submission.SubEntry.{SubEntry}
 use Rattle.io_commands.specs.Jobs.{is_success}
 use Rattle.machine_model.proofs.{Counting.{one, total, total-append, total_without, total-filter, here}}
-use Rattle.machine_model.specs.{Commands.{Management}, State.{Record, Job, Answer, is_at, without_record}}
+use Rattle.machine_model.specs.{Commands.{Management}, State.{Record, Job, PostedCompletion, is_at, without_record}}
 use Rattle.page_memory.proofs.Lists.{all-all, all-append, found_is, all-found, all-filter}
 pub use Rattle.machine_model.specs.Refusals.{is_job}
-pub use Rattle.machine_model.specs.Agreeing.{is_absent_at as gone_at, has_completions_at as there_at, Knows, DeletesIo, EntryKnown, JobKnown, AnswerKnown, entry_is, job_is, answer_is, AdminCommandsStand as Placed, kind_of, kind_at, is_kind, succeeds, unmade, answered_well, done_well, deletes_sq, deletes_cq, creates_cq, creates_sq}
+pub use Rattle.machine_model.specs.Agreeing.{is_absent_at as gone_at, has_completions_at as there_at, Knows, DeletesIo, EntryKnown, JobKnown, CompletionKnown, entry_is, job_is, answer_is, AdminCommandsStand as Placed, kind_of, kind_at, is_kind, succeeds, unmade, completed_well, done_well, deletes_sq, deletes_cq, creates_cq, creates_sq}
 
 -- Where nothing was forged: each admin command's entry is in one place, and says what its record says.
 
-pub placed_records : (rs rs' : List Record) (un : List SubEntry) (js : List Job) (ans : List Answer)
+pub placed_records : (rs rs' : List Record) (un : List SubEntry) (js : List Job) (ans : List PostedCompletion)
     → ((c : ℕ) → total (here 0 c) rs ≤ total (here 0 c) rs') → ((c : ℕ) (adm : AdminKind) → Knows rs c adm → Knows rs' c adm)
     → Placed rs un js ans → Placed rs' un js ans
 placed_records rs rs' un js ans more tells h = record {
   places = λ c. omega (arith, h.places c, more c);
   entries = all-all (EntryKnown rs) (EntryKnown rs') (λ e k. (k.0, tells e.cid k.0 k.1, k.2)) un h.entries;
   jobs = all-all (JobKnown rs) (JobKnown rs') (λ j k z. let w = k z in (w.0, tells j.entry.cid w.0 w.1, w.2, w.3)) js h.jobs;
-  answers = all-all (AnswerKnown rs) (AnswerKnown rs') (λ an k. (k.0, tells an.cid k.0 k.1)) ans h.answers;
+  completions = all-all (CompletionKnown rs) (CompletionKnown rs') (λ an k. (k.0, tells an.cid k.0 k.1)) ans h.completions;
 }
 
 -- jobs change without coming nearer to a success
@@ -43,13 +43,13 @@ total_jobs-map c f mild (j ∷ js) =
     let first : job_is c (f j) ≡ job_is c j = rw (mild.q j, mild.entry j) refl in
     omega (arith, first, total_jobs-map c f mild js)
 
-pub placed_jobs : (rs : List Record) (un : List SubEntry) (js : List Job) (ans : List Answer) (f : Job → Job)
+pub placed_jobs : (rs : List Record) (un : List SubEntry) (js : List Job) (ans : List PostedCompletion) (f : Job → Job)
     → MildJob f → Placed rs un js ans → Placed rs un (map f js) ans
 placed_jobs rs un js ans f mild h = record {
   places = λ c. omega (arith, h.places c, total_jobs-map c f mild js);
   entries = h.entries;
   jobs = jobs-map rs f mild js h.jobs;
-  answers = h.answers;
+  completions = h.completions;
 }
 
 -- What is known as records change
@@ -73,7 +73,7 @@ find_filter test keep all (x ∷ rs) r e = grind (arith, find_filter test keep a
 
 -- Sending an admin command
 
-pub placed_sent : (rs : List Record) (un : List SubEntry) (js : List Job) (ans : List Answer) (adm : AdminKind) (id : ℕ) (new : Record)
+pub placed_sent : (rs : List Record) (un : List SubEntry) (js : List Job) (ans : List PostedCompletion) (adm : AdminKind) (id : ℕ) (new : Record)
     → total (here 0 id) rs ≡ 0 → is_at 0 id new ≡ true → new.work ≡ Management adm
     → Placed rs un js ans → Placed (rs ++ new ∷ []) (un ++ admin_entry adm id ∷ []) js ans
 placed_sent rs un js ans adm id new none at work h =
@@ -84,7 +84,7 @@ placed_sent rs un js ans adm id new none at work h =
       places = λ c. more c (id == c) refl (total-append (here 0 c) rs (new ∷ [])) (total-append (entry_is c) un (admin_entry adm id ∷ []));
       entries = all-append (EntryKnown (rs ++ new ∷ [])) un (admin_entry adm id) wide.entries (adm, (new, find_new (is_at 0 id) rs new none at, work), refl);
       jobs = wide.jobs;
-      answers = wide.answers;
+      completions = wide.completions;
     }
   where
     more : (c : ℕ) (b : Bool) → (id == c) ≡ b
@@ -95,7 +95,7 @@ placed_sent rs un js ans adm id new none at work h =
 
 -- Fetching one
 
-pub placed_decided : (rs : List Record) (e : SubEntry) (un : List SubEntry) (js : List Job) (ans : List Answer) (j : Job) (st : Status)
+pub placed_decided : (rs : List Record) (e : SubEntry) (un : List SubEntry) (js : List Job) (ans : List PostedCompletion) (j : Job) (st : Status)
     → j.q ≡ 0 → j.entry ≡ e → j.verdict ≡ Some st
     → ((adm : AdminKind) → e ≡ admin_entry adm e.cid → is_success st ≡ true → DeletesIo adm)
     → Placed rs (e ∷ un) js ans → Placed rs un (js ++ j ∷ []) ans
@@ -108,11 +108,11 @@ placed_decided rs e un js ans j st jq je jv promise h =
       entries = h.entries.1;
       jobs = all-append (JobKnown rs) js j h.jobs
           (λ z. (k.0, rw je k.1, rw je k.2, λ st' v ok. let same : st ≡ st' = cc (jv, v) in promise k.0 k.2 (rw same ok)));
-      answers = h.answers;
+      completions = h.completions;
     }
 
 -- an entry that is answered at once, without success
-pub placed_conflict : (rs : List Record) (e : SubEntry) (un : List SubEntry) (js : List Job) (ans : List Answer) (an : Answer)
+pub placed_conflict : (rs : List Record) (e : SubEntry) (un : List SubEntry) (js : List Job) (ans : List PostedCompletion) (an : PostedCompletion)
     → an.cid ≡ e.cid → Placed rs (e ∷ un) js ans → Placed rs un js (ans ++ an ∷ [])
 placed_conflict rs e un js ans an same h = record {
   places = λ c.
@@ -120,7 +120,7 @@ placed_conflict rs e un js ans an same h = record {
       omega (arith, h.places c, total-append (answer_is c) ans (an ∷ []), one');
   entries = h.entries.1;
   jobs = h.jobs;
-  answers = all-append (AnswerKnown rs) ans an h.answers (h.entries.0.0, rw same h.entries.0.1);
+  completions = all-append (CompletionKnown rs) ans an h.completions (h.entries.0.0, rw same h.entries.0.1);
 }
 
 -- Reaping one
@@ -139,12 +139,12 @@ jobs_others c [] none = tt
 jobs_others c (j ∷ js) none =
     (λ z e. let w : job_is c j ≡ 1 = rw (eq-eqb j.q 0 z, eq-eqb j.entry.cid c e) refl in absurd (omega arith), jobs_others c js (omega arith))
 
-pub placed_reaped : (rs : List Record) (un : List SubEntry) (js : List Job) (an : Answer) (ans : List Answer)
+pub placed_reaped : (rs : List Record) (un : List SubEntry) (js : List Job) (an : PostedCompletion) (ans : List PostedCompletion)
     → total (here 0 an.cid) rs < 2 → Placed rs un js (an ∷ ans) → Placed (without_record 0 an.cid rs) un js ans
 placed_reaped rs un js an ans once h =
     let still : (c : ℕ) (adm : AdminKind) → (c ≡ an.cid → ⊥) → Knows rs c adm → Knows (without_record 0 an.cid rs) c adm =
     λ c adm far k. (k.0, find_filter (is_at 0 c) (λ r. not (is_at 0 an.cid r)) (λ r t. (grind arith)) rs k.0 k.1, k.2) in
-    let knows = h.answers.0.1 in
+    let knows = h.completions.0.1 in
     let r = knows.0 in
     let at = and_parts (r.q == 0) (r.cid == an.cid) (found_is (is_at 0 an.cid) rs r knows.1) in
     let rq : r.q ≡ 0 = eqb-true r.q 0 at.0 in
@@ -154,13 +154,13 @@ placed_reaped rs un js an ans once h =
     let few = h.places an.cid in
     let no_entry = others (entry_is an.cid) (λ (e : SubEntry). e.cid) an.cid (λ e. refl) un (omega arith) in
     let no_job = jobs_others an.cid js (omega arith) in
-    let no_answer = others (answer_is an.cid) (λ (a : Answer). a.cid) an.cid (λ a. refl) ans (omega arith) in
+    let no_answer = others (answer_is an.cid) (λ (a : PostedCompletion). a.cid) an.cid (λ a. refl) ans (omega arith) in
     record {
       places = λ c. omega (arith, h.places c, total_without (here 0 c) 0 an.cid rs r knows.1 once, mine c);
       entries = all-both (EntryKnown rs) (λ e. e.cid ≡ an.cid → ⊥) (EntryKnown (without_record 0 an.cid rs)) (λ e k far. (k.0, still e.cid k.0 far k.1, k.2)) un h.entries no_entry;
       jobs = all-both (JobKnown rs) (λ j. j.q ≡ 0 → j.entry.cid ≡ an.cid → ⊥) (JobKnown (without_record 0 an.cid rs))
           (λ j k far z. let w = k z in (w.0, still j.entry.cid w.0 (far z) w.1, w.2, w.3)) js h.jobs no_job;
-      answers = all-both (AnswerKnown rs) (λ a. a.cid ≡ an.cid → ⊥) (AnswerKnown (without_record 0 an.cid rs)) (λ a k far. (k.0, still a.cid k.0 far k.1)) ans h.answers.1 no_answer;
+      completions = all-both (CompletionKnown rs) (λ a. a.cid ≡ an.cid → ⊥) (CompletionKnown (without_record 0 an.cid rs)) (λ a k far. (k.0, still a.cid k.0 far k.1)) ans h.completions.1 no_answer;
     }
 
 -- Completing one
@@ -169,7 +169,7 @@ pub total_gone : {A : Type 0} (w : A → ℕ) (test : A → Bool) (xs : List A) 
 total_gone w test [] x e = absurd cc
 total_gone w test (y ∷ xs) x e = grind (arith, total_gone w test xs x, find, total, filter, true, total-filter, false)
 
-pub placed_completed : (rs : List Record) (un : List SubEntry) (js : List Job) (ans : List Answer) (cid : ℕ) (j : Job) (an : Answer)
+pub placed_completed : (rs : List Record) (un : List SubEntry) (js : List Job) (ans : List PostedCompletion) (cid : ℕ) (j : Job) (an : PostedCompletion)
     → find (is_job 0 cid) js ≡ Some j → an.cid ≡ cid → Placed rs un js ans → Placed rs un (filter (λ k. not (is_job 0 cid k)) js) (ans ++ an ∷ [])
 placed_completed rs un js ans cid j an found same h =
     let at = and_parts (j.q == 0) (j.entry.cid == cid) (found_is (is_job 0 cid) js j found) in
@@ -183,27 +183,27 @@ placed_completed rs un js ans cid j an found same h =
           omega (arith, h.places c, total_gone (job_is c) (is_job 0 cid) js j found, mine, total-append (answer_is c) ans (an ∷ []));
       entries = h.entries;
       jobs = all-filter (JobKnown rs) (λ k'. not (is_job 0 cid k')) js h.jobs;
-      answers = all-append (AnswerKnown rs) ans an h.answers (k.0, rw ac k.1);
+      completions = all-append (CompletionKnown rs) ans an h.completions (k.0, rw ac k.1);
     }
 
 -- Jobs of other queues
 
-pub placed_job_more : (rs : List Record) (un : List SubEntry) (js : List Job) (ans : List Answer) (j : Job) → (j.q == 0) ≡ false
+pub placed_job_more : (rs : List Record) (un : List SubEntry) (js : List Job) (ans : List PostedCompletion) (j : Job) → (j.q == 0) ≡ false
     → Placed rs un js ans → Placed rs un (js ++ j ∷ []) ans
 placed_job_more rs un js ans j other h = record {
   places = λ c. let none : job_is c j ≡ 0 = rw other refl in omega (arith, h.places c, total-append (job_is c) js (j ∷ []), none);
   entries = h.entries;
   jobs = all-append (JobKnown rs) js j h.jobs (λ z. absurd (true≢false (sym (eq-eqb j.q 0 z) ∙ other)));
-  answers = h.answers;
+  completions = h.completions;
 }
 
-pub placed_job_less : (rs : List Record) (un : List SubEntry) (js : List Job) (ans : List Answer) (keep : Job → Bool)
+pub placed_job_less : (rs : List Record) (un : List SubEntry) (js : List Job) (ans : List PostedCompletion) (keep : Job → Bool)
     → Placed rs un js ans → Placed rs un (filter keep js) ans
 placed_job_less rs un js ans keep h = record {
   places = λ c. omega (arith, h.places c, total-filter (job_is c) keep js);
   entries = h.entries;
   jobs = all-filter (JobKnown rs) keep js h.jobs;
-  answers = h.answers;
+  completions = h.completions;
 }
 
 -- How many admin commands of a kind stand at the controller, and how their answers go: what each change does to those counts.
@@ -262,20 +262,20 @@ failing test rs j = one ((j.q == 0) && is_kind test rs j.entry.cid && not (succe
 abbrev pub succeeding : (AdminKind → Bool) → List Record → Job → ℕ
 succeeding test rs j = one ((j.q == 0) && is_kind test rs j.entry.cid && succeeds j)
 
-abbrev pub failed : (AdminKind → Bool) → List Record → Answer → ℕ
+abbrev pub failed : (AdminKind → Bool) → List Record → PostedCompletion → ℕ
 failed test rs an = one (is_kind test rs an.cid && not (is_success an.status))
 
-abbrev pub succeeded : (AdminKind → Bool) → List Record → Answer → ℕ
+abbrev pub succeeded : (AdminKind → Bool) → List Record → PostedCompletion → ℕ
 succeeded test rs an = one (is_kind test rs an.cid && is_success an.status)
 
-pub record Fewer (rs : List Record) (un : List SubEntry) (js : List Job) (ans : List Answer) (rs' : List Record) (un' : List SubEntry) (js' : List Job) (ans' : List Answer) : Type 0 where
+pub record Fewer (rs : List Record) (un : List SubEntry) (js : List Job) (ans : List PostedCompletion) (rs' : List Record) (un' : List SubEntry) (js' : List Job) (ans' : List PostedCompletion) : Type 0 where
   pub unmade : (test : AdminKind → Bool) → unmade test rs' un' js' ans' ≤ unmade test rs un js ans
-  pub answered : (test : AdminKind → Bool) → answered_well test rs' ans' ≤ answered_well test rs ans
+  pub answered : (test : AdminKind → Bool) → completed_well test rs' ans' ≤ completed_well test rs ans
   pub done : (test : AdminKind → Bool) → done_well test rs' js' ans' ≤ done_well test rs js ans
 
 -- Records change, and each command that stands is known as before
 
-pub fewer_kept : (rs rs' : List Record) (un : List SubEntry) (js : List Job) (ans : List Answer) → Placed rs un js ans
+pub fewer_kept : (rs rs' : List Record) (un : List SubEntry) (js : List Job) (ans : List PostedCompletion) → Placed rs un js ans
     → ((c : ℕ) (adm : AdminKind) → Knows rs c adm → Knows rs' c adm) → Fewer rs un js ans rs' un js ans × Fewer rs' un js ans rs un js ans
 fewer_kept rs rs' un js ans placed still =
     let fails : (test : AdminKind → Bool) → total (failing test rs') js ≡ total (failing test rs) js =
@@ -283,9 +283,9 @@ fewer_kept rs rs' un js ans placed still =
     let wins : (test : AdminKind → Bool) → total (succeeding test rs') js ≡ total (succeeding test rs) js =
     λ test. total_all _ _ js (all-all (JobKnown rs) _ (λ j k. job_same test succeeds j k) js placed.jobs) in
     let answers_fail : (test : AdminKind → Bool) → total (failed test rs') ans ≡ total (failed test rs) ans =
-    λ test. total_all _ _ ans (all-all (AnswerKnown rs) _ (λ an k. ap (λ (b : Bool). one (b && not (is_success an.status))) (same test an.cid k.0 k.1)) ans placed.answers) in
+    λ test. total_all _ _ ans (all-all (CompletionKnown rs) _ (λ an k. ap (λ (b : Bool). one (b && not (is_success an.status))) (same test an.cid k.0 k.1)) ans placed.completions) in
     let answers_well : (test : AdminKind → Bool) → total (succeeded test rs') ans ≡ total (succeeded test rs) ans =
-    λ test. total_all _ _ ans (all-all (AnswerKnown rs) _ (λ an k. ap (λ (b : Bool). one (b && is_success an.status)) (same test an.cid k.0 k.1)) ans placed.answers) in (
+    λ test. total_all _ _ ans (all-all (CompletionKnown rs) _ (λ an k. ap (λ (b : Bool). one (b && is_success an.status)) (same test an.cid k.0 k.1)) ans placed.completions) in (
       record { unmade = λ test. omega (arith, entries test, fails test, answers_fail test); answered = λ test. omega (arith, answers_well test); done = λ test. omega (arith, wins test, answers_well test) },
       record { unmade = λ test. omega (arith, entries test, fails test, answers_fail test); answered = λ test. omega (arith, answers_well test); done = λ test. omega (arith, wins test, answers_well test) },
     )

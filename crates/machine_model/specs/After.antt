@@ -19,8 +19,8 @@ use Rattle.io_commands.specs.Values.{numbers_of}
 use Rattle.page_memory.specs.{Pages.{Pages, page_at, with_page_bytes, with_bytes}, declared.page.Half.{Half, TheVariants.{Submission, Completion}}}
 use Rattle.machine_model.specs.{Commands.{Work, Io, Management}, Events.{Event, Reply, Reaped}, Memory.{without_pages, with_pages, zeroed_pages, memory_of}}
 use Rattle.machine_model.specs.Placement.{without_numbers}
-use Rattle.machine_model.specs.Refusals.{host_queue, device_queue, slot_page, slot_offset, seen_entry, is_job, job_at, next_rung, post_slot, fetch_slot, conflicts, is_submitted, has_cq_alone, run_for}
-use Rattle.machine_model.specs.State.{State, Host, Device, HostQueue, Live, Deleting, Retired, Gone, MakingCq, HalfMade, MakingSq, DeviceQueue, Record, Drafted, Submitted, Held, Collected, Job, Answer, record_at, without_record, with_record, pages_of}
+use Rattle.machine_model.specs.Refusals.{host_queue, served_queue, slot_page, slot_offset, seen_entry, is_job, job_at, next_rung, post_slot, fetch_slot, conflicts, is_submitted, has_cq_alone, run_for}
+use Rattle.machine_model.specs.State.{State, Host, Controller, HostQueue, Live, Deleting, Retired, Gone, MakingCq, HalfMade, MakingSq, ServedQueue, Record, Drafted, Submitted, Held, Collected, Job, PostedCompletion, record_at, without_record, with_record, pages_of}
 use Rattle.queue_pair.specs.{Lists.expected_phase, Memory.half_pages, Rings.{HostRing, fresh_host_ring, next_tail, next_head, knowing}}
 use Rattle.machine_model.specs.Events as events
 pub use Rattle.queue_pair.specs.Members.{change}
@@ -31,8 +31,8 @@ use Rattle.io_commands.specs.Jobs as jobs
 abbrev pub on_host : (Host → Host) → State → State
 on_host f s = record s { host = f s.host }
 
-abbrev pub on_device : (Device → Device) → State → State
-on_device f s = record s { device = f s.device }
+abbrev pub on_controller : (Controller → Controller) → State → State
+on_controller f s = record s { controller = f s.controller }
 
 abbrev pub on_memory : (Pages → Pages) → State → State
 on_memory f s = record s { memory = f s.memory }
@@ -40,8 +40,8 @@ on_memory f s = record s { memory = f s.memory }
 abbrev pub on_host_queue : ℕ → (HostQueue → HostQueue) → State → State
 on_host_queue q f s = on_host (λ h. record h { queues = change q f h.queues }) s
 
-abbrev pub on_device_queue : ℕ → (DeviceQueue → DeviceQueue) → State → State
-on_device_queue q f s = on_device (λ d. record d { queues = change q f d.queues }) s
+abbrev pub on_served_queue : ℕ → (ServedQueue → ServedQueue) → State → State
+on_served_queue q f s = on_controller (λ d. record d { queues = change q f d.queues }) s
 
 abbrev pub on_ring : ℕ → (HostRing → HostRing) → State → State
 on_ring q f s = on_host_queue q (λ queue. record queue { ring = f queue.ring }) s
@@ -50,10 +50,10 @@ abbrev pub on_records : (List Record → List Record) → State → State
 on_records f s = on_host (λ h. record h { records = f h.records }) s
 
 abbrev pub on_job : ℕ → ℕ → (Job → Job) → State → State
-on_job q cid f s = on_device (λ d. record d { jobs = map (λ j. if is_job q cid j then f j else j) d.jobs }) s
+on_job q cid f s = on_controller (λ d. record d { jobs = map (λ j. if is_job q cid j then f j else j) d.jobs }) s
 
 abbrev pub without_job : ℕ → ℕ → State → State
-without_job q cid s = on_device (λ d. record d { jobs = filter (λ j. not (is_job q cid j)) d.jobs }) s
+without_job q cid s = on_controller (λ d. record d { jobs = filter (λ j. not (is_job q cid j)) d.jobs }) s
 
 -- What changes of a record, a ring, a queue of the host
 
@@ -110,7 +110,7 @@ given_back pages s = on_host (λ h. record h { free = joined_in_order (length s.
 abbrev pub posted : ℕ → SubEntry → State → State
 posted q entry s =
     on_ring q (next_tail s.entries)
-    (on_device_queue q (λ at. record at { unfetched = at.unfetched ++ entry ∷ [] })
+    (on_served_queue q (λ at. record at { unfetched = at.unfetched ++ entry ∷ [] })
     (option_map_or
     (λ queue. on_memory (λ m. with_page_bytes m (slot_page queue.sq_pages 64 queue.ring.tail) (slot_offset 64 queue.ring.tail) (submission_bytes entry)) s)
     (host_queue s q) s))
@@ -136,10 +136,10 @@ after_end q cid pages s =
     on_records (without_record q cid) (given_back (numbers_of pages) (on_memory (with_pages pages) s))
 
 abbrev pub after_ring : ℕ → State → State
-after_ring q s = on_device_queue q (λ at. record at { rung = length at.unfetched }) s
+after_ring q s = on_served_queue q (λ at. record at { rung = length at.unfetched }) s
 
 abbrev pub consumed : ℕ → State → State
-consumed q s = on_device_queue q (λ at. record at { answers = drop 1 at.answers }) (on_ring q (next_head s.entries) s)
+consumed q s = on_served_queue q (λ at. record at { completions = drop 1 at.completions }) (on_ring q (next_head s.entries) s)
 
 abbrev pub heard : ℕ → ComEntry → State → State
 heard q e s = on_ring q (knowing e.sqhd) (consumed q s)
@@ -228,20 +228,20 @@ after_forge q slot bytes s =
 -- The controller
 
 abbrev pub image_blocks : State → ℕ
-image_blocks s = block_count s.device.image
+image_blocks s = block_count s.controller.image
 
 abbrev pub new_job : ℕ → SubEntry → Option Status → ℕ → List ℕ → Job
 new_job q e verdict dw0 bytes =
     record { q = q; entry = e; bytes = bytes; units_done = 0; verdict = verdict; dw0 = dw0; waiting_abort = None }
 
 abbrev pub with_job : Job → State → State
-with_job j s = on_device (λ d. record d { jobs = d.jobs ++ j ∷ [] }) s
+with_job j s = on_controller (λ d. record d { jobs = d.jobs ++ j ∷ [] }) s
 
 -- an entry of an I/O queue: a failed field check is its verdict, and else it begins with its bytes
 abbrev pub begun : ℕ → SubEntry → State → State
 begun q e s =
     let fault = io_fault (image_blocks s) e in
-    with_job (new_job q e fault 0 (bytes_after_check s.device.image e fault)) s
+    with_job (new_job q e fault 0 (bytes_after_check s.controller.image e fault)) s
 
 -- an admin command, decided at its fetch
 abbrev pub decided : SubEntry → Status → ℕ → State → State
@@ -249,10 +249,10 @@ decided e st dw0 s = with_job (new_job 0 e (Some st) dw0 []) s
 
 -- the controller's state of a submission queue; one that is not there is absent
 abbrev pub sq_state : State → ℕ → SqState
-sq_state s q = option_map_or (λ at. at.state) (device_queue s q) Absent
+sq_state s q = option_map_or (λ at. at.state) (served_queue s q) Absent
 
 abbrev pub cq_there : State → ℕ → Bool
-cq_there s q = option_map_or (λ at. at.cq_there) (device_queue s q) false
+cq_there s q = option_map_or (λ at. at.cq_there) (served_queue s q) false
 
 abbrev pub walks : State → ℕ → ℕ → Bool
 walks s q cid = option_map_or (λ j. is_none j.verdict) (job_at s q cid) false
@@ -267,20 +267,20 @@ view_of s e =
       sq = sq_state s (named_queue e);
       cq_there = cq_there s (named_queue e);
       target_walks = walks s (named_queue e) (named_command e);
-      queues = length s.device.queues - 1;
+      queues = length s.controller.queues - 1;
       entries = s.entries;
       pages = length s.memory;
     }
 
 -- a completion queue is gone with what was not reaped of it, and one is there that is empty; so is a submission queue
-abbrev pub dropped : DeviceQueue → DeviceQueue
-dropped at = record at { cq_there = false; answers = [] }
+abbrev pub dropped : ServedQueue → ServedQueue
+dropped at = record at { cq_there = false; completions = [] }
 
-abbrev pub completion_made : DeviceQueue → DeviceQueue
-completion_made at = record at { cq_there = true; answers = [] }
+abbrev pub completion_made : ServedQueue → ServedQueue
+completion_made at = record at { cq_there = true; completions = [] }
 
-abbrev pub submission_made : DeviceQueue → DeviceQueue
-submission_made at = record at { state = Running; unfetched = []; rung = 0; answers = [] }
+abbrev pub submission_made : ServedQueue → ServedQueue
+submission_made at = record at { state = Running; unfetched = []; rung = 0; completions = [] }
 
 -- what its verdict does: an Abort marks its job, a Delete SQ stops its queue and that queue's jobs
 abbrev pub acted : SubEntry → AdminVerdict → State → State
@@ -288,11 +288,11 @@ acted e (Answered st dw0) s = decided e st dw0 s
 acted e (AbortJob q cid) s = decided e SUCCESS 0 (on_job q cid (λ j. record j { verdict = Some ABORT_REQUESTED; waiting_abort = Some e.cid }) s)
 acted e (StopQueue q) s =
     decided e SUCCESS 0
-    (on_device (λ d. record d { jobs = map (stopped q) d.jobs })
-    (on_device_queue q (λ at. record at { state = Stopping }) s))
-acted e (DropCompletion q) s = decided e SUCCESS 0 (on_device_queue q dropped s)
-acted e (MakeCompletion q base) s = decided e SUCCESS 0 (on_device_queue q completion_made s)
-acted e (MakeSubmission q base) s = decided e SUCCESS 0 (on_device_queue q submission_made s)
+    (on_controller (λ d. record d { jobs = map (stopped q) d.jobs })
+    (on_served_queue q (λ at. record at { state = Stopping }) s))
+acted e (DropCompletion q) s = decided e SUCCESS 0 (on_served_queue q dropped s)
+acted e (MakeCompletion q base) s = decided e SUCCESS 0 (on_served_queue q completion_made s)
+acted e (MakeSubmission q base) s = decided e SUCCESS 0 (on_served_queue q submission_made s)
 
 abbrev pub managed : SubEntry → State → State
 managed e s = acted e (decision e (view_of s e)) s
@@ -304,15 +304,15 @@ post_phase s q queue = expected_phase queue.ring.head (post_slot s q) queue.ring
 -- an answer behind the tail of a queue's completion ring, in its slot's bytes too
 abbrev pub answered : ℕ → ℕ → Status → ℕ → State → State
 answered q cid st dw0 s =
-    let answer : Answer = record { cid = cid; status = st; dw0 = dw0; sq_head = fetch_slot s q } in
-    on_device_queue q (λ at. record at { answers = at.answers ++ answer ∷ [] })
+    let answer : PostedCompletion = record { cid = cid; status = st; dw0 = dw0; sq_head = fetch_slot s q } in
+    on_served_queue q (λ at. record at { completions = at.completions ++ answer ∷ [] })
     (option_map_or
     (λ queue. on_memory (λ m. with_page_bytes m (slot_page queue.cq_pages 16 (post_slot s q)) (slot_offset 16 (post_slot s q))
     (completion_bytes (record { dw0 = dw0; sqhd = fetch_slot s q; sqid = q; cid = cid; phase = post_phase s q queue; status = st }))) s)
     (host_queue s q) s)
 
 abbrev pub taken_off : ℕ → State → State
-taken_off q s = on_device_queue q (λ at. record at { unfetched = drop 1 at.unfetched; rung = at.rung - 1 }) s
+taken_off q s = on_served_queue q (λ at. record at { unfetched = drop 1 at.unfetched; rung = at.rung - 1 }) s
 
 abbrev pub after_fetch : ℕ → State → State
 after_fetch q s =
@@ -358,7 +358,7 @@ after_walk q cid s =
 -- how a job completes: an admin command with its verdict, an I/O command as its data tells
 abbrev pub final_status : State → Job → Status
 final_status s j =
-    if j.q == 0 then unwrap_or j.verdict SUCCESS else jobs.status_after s.device.image j.entry j.bytes j.verdict
+    if j.q == 0 then unwrap_or j.verdict SUCCESS else jobs.status_after s.controller.image j.entry j.bytes j.verdict
 
 -- the image behind it
 abbrev pub image_completed : Job → List ℕ → List ℕ
@@ -368,7 +368,7 @@ image_completed j image = if j.q == 0 then image else jobs.image_after image j.e
 abbrev pub deletion_done : Job → Status → State → State
 deletion_done j st s =
     if (j.q == 0) && (j.entry.opcode == DELETE_IO_SQ) && is_success st
-    then on_device_queue (named_queue j.entry) (λ at. record at { state = Absent; unfetched = []; rung = 0 }) s
+    then on_served_queue (named_queue j.entry) (λ at. record at { state = Absent; unfetched = []; rung = 0 }) s
     else s
 
 abbrev pub after_complete : ℕ → ℕ → State → State
@@ -377,7 +377,7 @@ after_complete q cid s =
     (λ j. let st = final_status s j in
     answered q cid st j.dw0
     (deletion_done j st
-    (on_device (λ d. record d { image = image_completed j d.image }) (without_job q cid s))))
+    (on_controller (λ d. record d { image = image_completed j d.image }) (without_job q cid s))))
     (job_at s q cid) s
 
 -- The reset: the controller comes up with its admin queue alone, and the host has the pages of its I/O queues back
@@ -420,18 +420,18 @@ abbrev pub reset_host : ℕ → Host → Host
 reset_host count h = record { free = joined_in_order count (io_pages h.queues) h.free; queues = reset_queues h.queues; records = reset_records h.records }
 
 -- the controller: no job, no entry, no answer; of its queues the first alone is there
-abbrev pub reset_device_admin : DeviceQueue
-reset_device_admin = record { state = Running; cq_there = true; unfetched = []; rung = 0; answers = [] }
+abbrev pub reset_controller_admin : ServedQueue
+reset_controller_admin = record { state = Running; cq_there = true; unfetched = []; rung = 0; completions = [] }
 
-abbrev pub no_device_queue : DeviceQueue
-no_device_queue = record { state = Absent; cq_there = false; unfetched = []; rung = 0; answers = [] }
+abbrev pub no_served_queue : ServedQueue
+no_served_queue = record { state = Absent; cq_there = false; unfetched = []; rung = 0; completions = [] }
 
-abbrev pub reset_device_queues : List DeviceQueue → List DeviceQueue
-reset_device_queues [] = []
-reset_device_queues (at ∷ ats) = reset_device_admin ∷ map (λ other. no_device_queue) ats
+abbrev pub reset_served_queues : List ServedQueue → List ServedQueue
+reset_served_queues [] = []
+reset_served_queues (at ∷ ats) = reset_controller_admin ∷ map (λ other. no_served_queue) ats
 
-abbrev pub reset_device : Device → Device
-reset_device d = record { queues = reset_device_queues d.queues; jobs = []; image = d.image }
+abbrev pub reset_controller : Controller → Controller
+reset_controller d = record { queues = reset_served_queues d.queues; jobs = []; image = d.image }
 
 -- whatever was forged is gone with it, so the controller is trusted from now on
 abbrev pub after_reset : State → State
@@ -441,7 +441,7 @@ after_reset s =
       segment = s.segment;
       memory = with_pages (zeroed_pages (admin_pages s.host.queues)) s.memory;
       host = reset_host (length s.memory) s.host;
-      device = reset_device s.device;
+      controller = reset_controller s.controller;
       trusted = true;
     }
 

@@ -8,7 +8,7 @@ use Rattle.page_memory.specs.{Pages.Pages, declared.page.Half.TheVariants.{Submi
 use Rattle.queue_pair.specs.{Memory.half_pages, Rings.fresh_host_ring, Slots.distance}
 use Rattle.machine_model.specs.{Claims.IsSound, Commands.{Work, Io, Management}, Positions.StandsInRings}
 use Rattle.machine_model.specs.{Refusals.{has_sq, has_cq, in_service, is_gone, is_making, is_live}, Standing.{CommandStands, HasUnitLeft, unfetched_at}}
-use Rattle.machine_model.specs.State.{State, HostQueue, HostState, Live, Deleting, MakingSq, DeviceQueue, Record, Job, Answer, is_at}
+use Rattle.machine_model.specs.State.{State, HostQueue, HostState, Live, Deleting, MakingSq, ServedQueue, Record, Job, PostedCompletion, is_at}
 use Rattle.machine_model.specs.Weights.{one, total, here, sent}
 
 -- A queue on both sides
@@ -21,7 +21,7 @@ is_known_deleted MakingSq = false
 is_known_deleted state = true
 
 -- what the host knows of a queue fits what the controller has of it
-pub record QueueFits (n : ℕ) (h : HostQueue) (d : DeviceQueue) : Type 0 where
+pub record QueueFits (n : ℕ) (h : HostQueue) (d : ServedQueue) : Type 0 where
   -- the halves are whole until they are freed
   pub sub : has_sq h.state ≡ true → length h.sq_pages ≡ half_pages n Submission
   pub comp : has_cq h.state ≡ true → length h.cq_pages ≡ half_pages n Completion
@@ -30,23 +30,23 @@ pub record QueueFits (n : ℕ) (h : HostQueue) (d : DeviceQueue) : Type 0 where
   pub emptied : is_absent d.state ≡ true → d.unfetched ≡ []
   -- nothing stands in the rings of a queue that is out of service
   pub unfetched : in_service h.state ≡ false → d.unfetched ≡ []
-  pub answers : in_service h.state ≡ false → d.answers ≡ []
+  pub completions : in_service h.state ≡ false → d.completions ≡ []
   -- and rings that are being made are as they open
   pub fresh : is_making h.state ≡ true → h.ring ≡ fresh_host_ring
 
 -- both sides have as many queues, and each fits
-abbrev pub QueuesFit : ℕ → List HostQueue → List DeviceQueue → Type 0
+abbrev pub QueuesFit : ℕ → List HostQueue → List ServedQueue → Type 0
 QueuesFit n [] [] = Unit {0}
 QueuesFit n [] (d ∷ ds) = ⊥
 QueuesFit n (h ∷ hs) [] = ⊥
 QueuesFit n (h ∷ hs) (d ∷ ds) = QueueFits n h d × QueuesFit n hs ds
 
 -- whether the controller has no submission queue of a number
-abbrev pub is_absent_at : List DeviceQueue → ℕ → Bool
+abbrev pub is_absent_at : List ServedQueue → ℕ → Bool
 is_absent_at ds q = option_map_or (λ at. is_absent at.state) (slice_get ds q) true
 
 -- whether the controller has a completion queue of a number
-abbrev pub has_completions_at : List DeviceQueue → ℕ → Bool
+abbrev pub has_completions_at : List ServedQueue → ℕ → Bool
 has_completions_at ds q = option_map_or (λ at. at.cq_there) (slice_get ds q) false
 
 -- 1 for a job of a queue
@@ -73,8 +73,8 @@ abbrev pub JobKnown : List Record → Job → Type 0
 JobKnown rs j = (j.q ≡ 0) → (adm : AdminKind) × Knows rs j.entry.cid adm × (j.entry ≡ admin_entry adm j.entry.cid) × ((st : Status) → j.verdict ≡ Some st → is_success st ≡ true → DeletesIo adm)
 
 -- an answer is that of an outstanding command
-abbrev pub AnswerKnown : List Record → Answer → Type 0
-AnswerKnown rs an = (adm : AdminKind) × Knows rs an.cid adm
+abbrev pub CompletionKnown : List Record → PostedCompletion → Type 0
+CompletionKnown rs an = (adm : AdminKind) × Knows rs an.cid adm
 
 -- 1 for an entry, a job of queue 0 and an answer of this identifier
 abbrev pub entry_is : ℕ → SubEntry → ℕ
@@ -83,22 +83,22 @@ entry_is c e = one (e.cid == c)
 abbrev pub job_is : ℕ → Job → ℕ
 job_is c j = one ((j.q == 0) && (j.entry.cid == c))
 
-abbrev pub answer_is : ℕ → Answer → ℕ
+abbrev pub answer_is : ℕ → PostedCompletion → ℕ
 answer_is c an = one (an.cid == c)
 
 -- the entries of queue 0 that were not fetched, and its answers
-abbrev pub waiting : List DeviceQueue → List SubEntry
+abbrev pub waiting : List ServedQueue → List SubEntry
 waiting ds = option_map_or (λ at. at.unfetched) (slice_get ds 0) []
 
-abbrev pub answering : List DeviceQueue → List Answer
-answering ds = option_map_or (λ at. at.answers) (slice_get ds 0) []
+abbrev pub admin_completions : List ServedQueue → List PostedCompletion
+admin_completions ds = option_map_or (λ at. at.completions) (slice_get ds 0) []
 
 -- each of them is known, and no identifier stands in more places than it is outstanding
-pub record AdminCommandsStand (rs : List Record) (un : List SubEntry) (js : List Job) (ans : List Answer) : Type 0 where
+pub record AdminCommandsStand (rs : List Record) (un : List SubEntry) (js : List Job) (ans : List PostedCompletion) : Type 0 where
   pub places : (c : ℕ) → total (entry_is c) un + (total (job_is c) js + total (answer_is c) ans) ≤ total (here 0 c) rs
   pub entries : AllByRecursion (EntryKnown rs) un
   pub jobs : AllByRecursion (JobKnown rs) js
-  pub answers : AllByRecursion (AnswerKnown rs) ans
+  pub completions : AllByRecursion (CompletionKnown rs) ans
 
 -- What is deleted and made: for each queue a token goes round, and it is nowhere twice. A submission queue stands at the controller, or was deleted and the host hears of
 -- it, or the host knows it, or one is to be made and is not there yet. A completion queue in the same way. A completion that the host rejects takes its token with it.
@@ -137,20 +137,20 @@ abbrev pub succeeds : Job → Bool
 succeeds j = option_map_or is_success j.verdict false
 
 -- how many such commands were not fetched or have failed, and are not heard of
-abbrev pub unmade : (AdminKind → Bool) → List Record → List SubEntry → List Job → List Answer → ℕ
+abbrev pub unmade : (AdminKind → Bool) → List Record → List SubEntry → List Job → List PostedCompletion → ℕ
 unmade test rs un js ans =
     total (λ e. one (is_kind test rs e.cid)) un
     + (total (λ j. one ((j.q == 0) && is_kind test rs j.entry.cid && not (succeeds j))) js
     + total (λ an. one (is_kind test rs an.cid && not (is_success an.status))) ans)
 
 -- how many such commands are answered with success, and are not heard of
-abbrev pub answered_well : (AdminKind → Bool) → List Record → List Answer → ℕ
-answered_well test rs ans = total (λ an. one (is_kind test rs an.cid && is_success an.status)) ans
+abbrev pub completed_well : (AdminKind → Bool) → List Record → List PostedCompletion → ℕ
+completed_well test rs ans = total (λ an. one (is_kind test rs an.cid && is_success an.status)) ans
 
 -- and how many have succeeded, answered or not
-abbrev pub done_well : (AdminKind → Bool) → List Record → List Job → List Answer → ℕ
+abbrev pub done_well : (AdminKind → Bool) → List Record → List Job → List PostedCompletion → ℕ
 done_well test rs js ans =
-    total (λ j. one ((j.q == 0) && is_kind test rs j.entry.cid && succeeds j)) js + answered_well test rs ans
+    total (λ j. one ((j.q == 0) && is_kind test rs j.entry.cid && succeeds j)) js + completed_well test rs ans
 
 -- what the host knows of a queue
 abbrev pub knows_deleted_at : List HostQueue → ℕ → Bool
@@ -160,23 +160,23 @@ abbrev pub is_gone_at : List HostQueue → ℕ → Bool
 is_gone_at hs q = option_map_or (λ h. is_gone h.state) (slice_get hs q) false
 
 -- the tokens of a queue's submission side, and of its completion side
-abbrev pub submission_tokens : List Record → List HostQueue → List DeviceQueue → List Job → ℕ → ℕ
+abbrev pub submission_tokens : List Record → List HostQueue → List ServedQueue → List Job → ℕ → ℕ
 submission_tokens rs hs ds js q =
-    one (not (is_absent_at ds q)) + (answered_well (deletes_sq q) rs (answering ds) + (one (knows_deleted_at hs q) + unmade (creates_sq q) rs (waiting ds) js (answering ds)))
+    one (not (is_absent_at ds q)) + (completed_well (deletes_sq q) rs (admin_completions ds) + (one (knows_deleted_at hs q) + unmade (creates_sq q) rs (waiting ds) js (admin_completions ds)))
 
-abbrev pub completion_tokens : List Record → List HostQueue → List DeviceQueue → List Job → ℕ → ℕ
+abbrev pub completion_tokens : List Record → List HostQueue → List ServedQueue → List Job → ℕ → ℕ
 completion_tokens rs hs ds js q =
-    one (has_completions_at ds q) + (done_well (deletes_cq q) rs js (answering ds) + (one (is_gone_at hs q) + unmade (creates_cq q) rs (waiting ds) js (answering ds)))
+    one (has_completions_at ds q) + (done_well (deletes_cq q) rs js (admin_completions ds) + (one (is_gone_at hs q) + unmade (creates_cq q) rs (waiting ds) js (admin_completions ds)))
 
 -- what tells that a submission queue is there: the host has it live, or its deletion has not succeeded, or its creation has
 abbrev pub is_live_at : List HostQueue → ℕ → Bool
 is_live_at hs q = option_map_or (λ h. is_live h.state) (slice_get hs q) false
 
-abbrev pub submission_signs : List Record → List HostQueue → List DeviceQueue → List Job → ℕ → ℕ
-submission_signs rs hs ds js q = one (is_live_at hs q) + (unmade (deletes_sq q) rs (waiting ds) js (answering ds) + done_well (creates_sq q) rs js (answering ds))
+abbrev pub submission_signs : List Record → List HostQueue → List ServedQueue → List Job → ℕ → ℕ
+submission_signs rs hs ds js q = one (is_live_at hs q) + (unmade (deletes_sq q) rs (waiting ds) js (admin_completions ds) + done_well (creates_sq q) rs js (admin_completions ds))
 
 -- Each queue has no two tokens of its submission side, nor of its completion side, and a submission queue of which something tells that it is there is.
-pub record TokensGoRound (rs : List Record) (hs : List HostQueue) (ds : List DeviceQueue) (js : List Job) : Type 0 where
+pub record TokensGoRound (rs : List Record) (hs : List HostQueue) (ds : List ServedQueue) (js : List Job) : Type 0 where
   pub submission : (q : ℕ) → submission_tokens rs hs ds js q ≤ 1
   pub completion : (q : ℕ) → completion_tokens rs hs ds js q ≤ 1
   pub there : (q : ℕ) → q < length hs → 0 < submission_signs rs hs ds js q → is_absent_at ds q ≡ false
@@ -188,11 +188,11 @@ abbrev pub is_out_of_service_at : List HostQueue → ℕ → Bool
 is_out_of_service_at hs q = option_map_or (λ h. not (in_service h.state)) (slice_get hs q) false
 
 -- the answers of a queue that were not reaped
-abbrev pub answers_at : List DeviceQueue → ℕ → List Answer
-answers_at qs q = option_map_or (λ at. at.answers) (slice_get qs q) []
+abbrev pub completions_at : List ServedQueue → ℕ → List PostedCompletion
+completions_at qs q = option_map_or (λ at. at.completions) (slice_get qs q) []
 
 -- how much the entries count that a queue has not fetched, by their identifiers; of a queue out of service none does
-abbrev pub unfetched_count : ℕ → (ℕ → ℕ) → List HostQueue → List DeviceQueue → ℕ
+abbrev pub unfetched_count : ℕ → (ℕ → ℕ) → List HostQueue → List ServedQueue → ℕ
 unfetched_count q w hs qs = if is_out_of_service_at hs q then 0 else total (λ e. w e.cid) (unfetched_at qs q)
 
 -- how much a job of a queue counts, by its identifier
@@ -200,12 +200,12 @@ abbrev pub job_weight : ℕ → (ℕ → ℕ) → Job → ℕ
 job_weight q w j = if j.q == q then w j.entry.cid else 0
 
 -- the entries, jobs and answers of a queue count no more than its submitted commands
-abbrev pub CommandsStandOnce : List HostQueue → List Record → List DeviceQueue → List Job → Type 0
+abbrev pub CommandsStandOnce : List HostQueue → List Record → List ServedQueue → List Job → Type 0
 CommandsStandOnce hs rs qs js =
-    (q : ℕ) (w : ℕ → ℕ) → unfetched_count q w hs qs + (total (job_weight q w) js + total (λ an. w an.cid) (answers_at qs q)) ≤ total (sent q w) rs
+    (q : ℕ) (w : ℕ → ℕ) → unfetched_count q w hs qs + (total (job_weight q w) js + total (λ an. w an.cid) (completions_at qs q)) ≤ total (sent q w) rs
 
 -- each command stands as it was submitted
-abbrev pub CommandsStand : Pages → List DeviceQueue → List Job → List Record → Type 0
+abbrev pub CommandsStand : Pages → List ServedQueue → List Job → List Record → Type 0
 CommandsStand m qs js rs = AllByRecursion (CommandStands m qs js) rs
 
 -- Heads
@@ -215,19 +215,19 @@ abbrev pub sent_count : ℕ → List Record → ℕ
 sent_count q rs = total (sent q (λ c. 1)) rs
 
 -- Each answer's head is a slot, and no more slots behind the tail than commands are submitted that this answer and those before it don't end.
-abbrev pub AreAnswersBehind : (n tail k : ℕ) → List Answer → Type 0
-AreAnswersBehind n tail k [] = Unit {0}
-AreAnswersBehind n tail k (an ∷ ans) = (an.sq_head < n) × (distance n an.sq_head tail < k) × AreAnswersBehind n tail (k - 1) ans
+abbrev pub AreCompletionsBehind : (n tail k : ℕ) → List PostedCompletion → Type 0
+AreCompletionsBehind n tail k [] = Unit {0}
+AreCompletionsBehind n tail k (an ∷ ans) = (an.sq_head < n) × (distance n an.sq_head tail < k) × AreCompletionsBehind n tail (k - 1) ans
 
 -- the head that the host knows of a queue is no further behind its tail than `k` commands, and so are those that its answers tell
-pub record IsHeadBehind (n k : ℕ) (queue : HostQueue) (ans : List Answer) : Type 0 where
+pub record IsHeadBehind (n k : ℕ) (queue : HostQueue) (ans : List PostedCompletion) : Type 0 where
   pub known : distance n queue.ring.known_head queue.ring.tail ≤ k
-  pub answers : AreAnswersBehind n queue.ring.tail k ans
+  pub completions : AreCompletionsBehind n queue.ring.tail k ans
 
 -- identifiers are in range, and the heads of a queue are behind its tail by no more than its submitted commands
-pub record AreHeadsBehind (n : ℕ) (hs : List HostQueue) (rs : List Record) (qs : List DeviceQueue) : Type 0 where
+pub record AreHeadsBehind (n : ℕ) (hs : List HostQueue) (rs : List Record) (qs : List ServedQueue) : Type 0 where
   pub ids : AllByRecursion (λ r. r.cid < n - 1) rs
-  pub behind : (q : ℕ) (queue : HostQueue) → slice_get hs q ≡ Some queue → in_service queue.state ≡ true → IsHeadBehind n (sent_count q rs) queue (answers_at qs q)
+  pub behind : (q : ℕ) (queue : HostQueue) → slice_get hs q ≡ Some queue → in_service queue.state ≡ true → IsHeadBehind n (sent_count q rs) queue (completions_at qs q)
 
 -- All of it: what each step keeps as long as nothing is forged. It speaks of the state alone, and of no step that led to it.
 pub record SidesAgree (s : State) : Type 0 where
@@ -239,15 +239,15 @@ pub record SidesAgree (s : State) : Type 0 where
   pub few_queues : length s.host.queues ≤ 65536
   pub few_pages : length s.memory ≤ 65536
   -- queue by queue, the host's part fits the controller's, and a job's queue is there, and in service at the host
-  pub pairs : QueuesFit s.entries s.host.queues s.device.queues
-  pub job_queues : (q : ℕ) → 0 < total (on_queue q) s.device.jobs → is_absent_at s.device.queues q ≡ false
-  pub job_service : (q : ℕ) → 0 < total (on_queue q) s.device.jobs → is_out_of_service_at s.host.queues q ≡ false
+  pub pairs : QueuesFit s.entries s.host.queues s.controller.queues
+  pub job_queues : (q : ℕ) → 0 < total (on_queue q) s.controller.jobs → is_absent_at s.controller.queues q ≡ false
+  pub job_service : (q : ℕ) → 0 < total (on_queue q) s.controller.jobs → is_out_of_service_at s.host.queues q ≡ false
   -- admin commands stand once, and what they delete and make the host hears
-  pub admin_commands : AdminCommandsStand s.host.records (waiting s.device.queues) s.device.jobs (answering s.device.queues)
-  pub tokens : TokensGoRound s.host.records s.host.queues s.device.queues s.device.jobs
+  pub admin_commands : AdminCommandsStand s.host.records (waiting s.controller.queues) s.controller.jobs (admin_completions s.controller.queues)
+  pub tokens : TokensGoRound s.host.records s.host.queues s.controller.queues s.controller.jobs
   -- commands stand as they were submitted, in no more places than they are, and a job's walk has a unit left
-  pub commands : CommandsStand s.memory s.device.queues s.device.jobs s.host.records
-  pub places : CommandsStandOnce s.host.queues s.host.records s.device.queues s.device.jobs
-  pub units_left : AllByRecursion (HasUnitLeft s) s.device.jobs
+  pub commands : CommandsStand s.memory s.controller.queues s.controller.jobs s.host.records
+  pub places : CommandsStandOnce s.host.queues s.host.records s.controller.queues s.controller.jobs
+  pub units_left : AllByRecursion (HasUnitLeft s) s.controller.jobs
   -- heads and identifiers
-  pub heads : AreHeadsBehind s.entries s.host.queues s.host.records s.device.queues
+  pub heads : AreHeadsBehind s.entries s.host.queues s.host.records s.controller.queues

@@ -1,13 +1,13 @@
 -- What ties the controller's queues and jobs to the host's where nothing was forged.
 use Rattle.std.specs.{Option.option_map_or, Prelude.{◌≡◌, ℕ, ◌<◌, Bool, true, false, Some, length, is_some}}
 use Rattle.admin_commands.specs.Verdicts.{is_absent}
-use Rattle.machine_model.specs.{After.cq_there, Positions.IsInRing, Refusals.{device_queue, host_queue, job_at}, State.{State, HostQueue}}
+use Rattle.machine_model.specs.{After.cq_there, Positions.IsInRing, Refusals.{served_queue, host_queue, job_at}, State.{State, HostQueue}}
 use Rattle.page_memory.specs.declared.page.Half.TheVariants.{Submission, Completion}
 use Rattle.queue_pair.specs.Memory.{half_pages}
 
 -- whether the controller has no submission queue of a number
 abbrev pub absent : State → ℕ → Bool
-absent s q = option_map_or (λ at. is_absent at.state) (device_queue s q) true
+absent s q = option_map_or (λ at. is_absent at.state) (served_queue s q) true
 
 pub record IsLinked (s : State) : Type 0 where
   -- some entries, and the halves that the controller has are whole at the host

@@ -4,7 +4,7 @@ use Rattle.page_ledger.specs.Owners.{pages_from}
 use Rattle.admin_commands.specs.declared.SqState.TheVariants.{Live as Running}
 use Rattle.controller_walk.specs.Units.{first_passing}
 use Rattle.page_memory.specs.{Pages.zero_page, declared.page.Half.TheVariants.{Submission, Completion}}
-use Rattle.machine_model.specs.State.{State, HostQueue, DeviceQueue, Live}
+use Rattle.machine_model.specs.State.{State, HostQueue, ServedQueue, Live}
 use Rattle.queue_pair.specs.{Memory.half_pages, Rings.fresh_host_ring}
 pub use Rattle.machine_model.specs.declared.words.OpenRefusal.{OpenRefusal}
 pub use Rattle.machine_model.specs.declared.words.OpenRefusal.TheVariants.{BadConfig, NoPages, Memory}
@@ -19,8 +19,8 @@ queues_from page n (suc count) =
       cq_pages = pages_from (page + half_pages n Submission) (half_pages n Completion);
     } ∷ queues_from (page + half_pages n Submission + half_pages n Completion) n count
 
-abbrev pub device_queue : DeviceQueue
-device_queue = record { state = Running; cq_there = true; unfetched = []; rung = 0; answers = [] }
+abbrev pub served_queue : ServedQueue
+served_queue = record { state = Running; cq_there = true; unfetched = []; rung = 0; completions = [] }
 
 -- pages, I/O queues, entries and descriptors within their limits
 abbrev pub is_config : ℕ → ℕ → ℕ → ℕ → Bool
@@ -54,6 +54,6 @@ opening pages queues n s image =
         queues = queues_from 0 n (queues + 1);
         records = [];
       };
-      device = record { queues = replicate (queues + 1) device_queue; jobs = []; image = image };
+      controller = record { queues = replicate (queues + 1) served_queue; jobs = []; image = image };
       trusted = true;
     }

@@ -2,7 +2,7 @@
 use Rattle.std.specs.{Cmp.Lexicographic.pointwise, List.list_any, Option.{option_map, option_map_or}}
 use Rattle.std.specs.Prelude.{ℕ, ◌+◌, ◌*◌, ◌-◌, ◌/◌, ◌%◌, ◌==◌, nat_lt, nat_le, Bool, true, false, ◌&&◌, ◌||◌, not, Option, Some, None, List, [], ◌∷◌, length, find, is_some, is_none, slice_get, slice_index, slice_range, option_and_then, if◌then◌else◌, nat_eq}
 use Rattle.machine_model.specs.{Commands.{Work, Io, Management}, Events.{Event, Refusal}, Memory.is_in, Placement.{wanted_of, first_of_run}}
-use Rattle.machine_model.specs.State.{State, HostQueue, HostState, Live, Deleting, Retired, Gone, MakingCq, HalfMade, MakingSq, DeviceQueue, Record, Phase, Drafted, Submitted, Held, Collected, Job, Answer, record_at, outstanding_on}
+use Rattle.machine_model.specs.State.{State, HostQueue, HostState, Live, Deleting, Retired, Gone, MakingCq, HalfMade, MakingSq, ServedQueue, Record, Phase, Drafted, Submitted, Held, Collected, Job, PostedCompletion, record_at, outstanding_on}
 use Rattle.page_memory.specs.{Pages.{Pages, page_at}, declared.page.Half.{Half, TheVariants.{Submission, Completion}}}
 use Rattle.entry_codec.specs.{Completion.completion_of, declared.{admin_opcode.TheConstants.DELETE_IO_SQ, completion.ComEntry.ComEntry}}
 use Rattle.entry_codec.specs.declared.submission.SubEntry.{SubEntry}
@@ -18,8 +18,8 @@ use Rattle.machine_model.specs.Events as events
 abbrev pub host_queue : State → ℕ → Option HostQueue
 host_queue s q = slice_get s.host.queues q
 
-abbrev pub device_queue : State → ℕ → Option DeviceQueue
-device_queue s q = slice_get s.device.queues q
+abbrev pub served_queue : State → ℕ → Option ServedQueue
+served_queue s q = slice_get s.controller.queues q
 
 abbrev pub is_live : HostState → Bool
 is_live Live = true
@@ -209,12 +209,12 @@ abbrev pub slot_bytes : Pages → List ℕ → ℕ → ℕ → Option (List ℕ)
 slot_bytes m pages size k = option_map (λ bytes. slice_range bytes (slot_offset size k) (slot_offset size k + size)) (page_at m (slot_page pages size k))
 
 -- the completion entry that the host sees at its head: the oldest answer, and after a forged entry whatever the slot holds with the expected phase
-abbrev pub entry_of : ℕ → Answer → ComEntry
+abbrev pub entry_of : ℕ → PostedCompletion → ComEntry
 entry_of q a = record { dw0 = a.dw0; sqhd = a.sq_head; sqid = q; cid = a.cid; phase = true; status = a.status }
 
-abbrev pub first_answer : List Answer → Option Answer
-first_answer [] = None
-first_answer (a ∷ as') = Some a
+abbrev pub front_completion : List PostedCompletion → Option PostedCompletion
+front_completion [] = None
+front_completion (a ∷ as') = Some a
 
 abbrev pub slot_entry : Pages → HostQueue → Option ComEntry
 slot_entry m queue =
@@ -223,7 +223,7 @@ slot_entry m queue =
 abbrev pub seen_entry : State → ℕ → Option ComEntry
 seen_entry s q =
     if s.trusted
-    then option_map (entry_of q) (option_and_then (λ queue. first_answer queue.answers) (device_queue s q))
+    then option_map (entry_of q) (option_and_then (λ queue. front_completion queue.completions) (served_queue s q))
     else option_and_then (slot_entry s.memory) (host_queue s q)
 
 -- At the controller
@@ -232,22 +232,22 @@ abbrev pub is_job : ℕ → ℕ → Job → Bool
 is_job q cid j = (j.q == q) && (j.entry.cid == cid)
 
 abbrev pub job_at : State → ℕ → ℕ → Option Job
-job_at s q cid = find (is_job q cid) s.device.jobs
+job_at s q cid = find (is_job q cid) s.controller.jobs
 
 abbrev pub next_rung : State → ℕ → Option SubEntry
 next_rung s q =
-    option_and_then (λ queue. if is_running queue.state && nat_lt 0 queue.rung then slice_get queue.unfetched 0 else None) (device_queue s q)
+    option_and_then (λ queue. if is_running queue.state && nat_lt 0 queue.rung then slice_get queue.unfetched 0 else None) (served_queue s q)
 
 -- The controller's head of a submission ring: from there it is one move for each entry to the host's tail, and from the tail
 -- the rest of the ring to there.
 abbrev pub fetch_slot : State → ℕ → ℕ
 fetch_slot s q =
-    option_map_or (λ queue. option_map_or (λ at. moved s.entries queue.ring.tail (s.entries - length at.unfetched)) (device_queue s q) 0) (host_queue s q) 0
+    option_map_or (λ queue. option_map_or (λ at. moved s.entries queue.ring.tail (s.entries - length at.unfetched)) (served_queue s q) 0) (host_queue s q) 0
 
 -- its tail of a completion ring: from the host's head it is one move for each answer
 abbrev pub post_slot : State → ℕ → ℕ
 post_slot s q =
-    option_map_or (λ queue. option_map_or (λ at. moved s.entries queue.ring.head (length at.answers)) (device_queue s q) 0) (host_queue s q) 0
+    option_map_or (λ queue. option_map_or (λ at. moved s.entries queue.ring.head (length at.completions)) (served_queue s q) 0) (host_queue s q) 0
 
 abbrev pub fetch_page : State → ℕ → ℕ
 fetch_page s q = option_map_or (λ queue. slot_page queue.sq_pages 64 (fetch_slot s q)) (host_queue s q) 0
@@ -255,8 +255,8 @@ fetch_page s q = option_map_or (λ queue. slot_page queue.sq_pages 64 (fetch_slo
 abbrev pub post_page : State → ℕ → ℕ
 post_page s q = option_map_or (λ queue. slot_page queue.cq_pages 16 (post_slot s q)) (host_queue s q) 0
 
-abbrev pub answers_full : State → ℕ → Bool
-answers_full s q = option_map_or (λ at. length at.answers == s.entries - 1) (device_queue s q) true
+abbrev pub completions_full : State → ℕ → Bool
+completions_full s q = option_map_or (λ at. length at.completions == s.entries - 1) (served_queue s q) true
 
 abbrev pub conflicts : State → ℕ → Bool
 conflicts s q = option_map_or (λ e. is_some (job_at s q e.cid)) (next_rung s q) false
@@ -269,9 +269,9 @@ is_abort_of cid (Some abort) = abort == cid
 abbrev pub waits : State → Job → Bool
 waits s j =
     (j.q == 0)
-    && (list_any (λ k. is_abort_of j.entry.cid k.waiting_abort) s.device.jobs
+    && (list_any (λ k. is_abort_of j.entry.cid k.waiting_abort) s.controller.jobs
     || ((j.entry.opcode == DELETE_IO_SQ) && option_map_or is_success j.verdict false
-    && list_any (λ k. k.q == named_queue j.entry) s.device.jobs))
+    && list_any (λ k. k.q == named_queue j.entry) s.controller.jobs))
 
 abbrev pub job_is : (Job → Bool) → State → ℕ → ℕ → Bool
 job_is test s q cid = option_map_or test (job_at s q cid) false
@@ -354,7 +354,7 @@ causes s events.Reset = []
 causes s (events.Fetch q) =
     (is_none (next_rung s q), events.Idle)
     ∷ (not (is_in s.memory (fetch_page s q)), events.SlotOut)
-    ∷ (conflicts s q && answers_full s q, events.Full)
+    ∷ (conflicts s q && completions_full s q, events.Full)
     ∷ (conflicts s q && not (is_in s.memory (post_page s q)), events.SlotOut)
     ∷ []
 causes s (events.Walk q cid) =
@@ -365,7 +365,7 @@ causes s (events.Complete q cid) =
     (is_none (job_at s q cid), events.NoJob)
     ∷ (job_is (λ j. is_none j.verdict) s q cid, events.Walking)
     ∷ (job_is (waits s) s q cid, events.Waits)
-    ∷ (answers_full s q, events.Full)
+    ∷ (completions_full s q, events.Full)
     ∷ (not (is_in s.memory (post_page s q)), events.SlotOut)
     ∷ []
 

@@ -8,7 +8,7 @@ use Rattle.entry_codec.specs.declared.submission.SubEntry.{SubEntry}
 use Rattle.io_commands.specs.{Asked.Request, Drafts.io_entry, Requests.{data_count, joined_parts, FitsRequest}, Values.IsGood}
 use Rattle.page_memory.specs.Pages.{Pages, byte_at}
 use Rattle.machine_model.specs.{After.course_of, Commands.{Work, Io, Management}, Reached.{only, on_pages, KeepsToPages}, Refusals.is_submitted}
-use Rattle.machine_model.specs.State.{State, DeviceQueue, Record, Job, record_at}
+use Rattle.machine_model.specs.State.{State, ServedQueue, Record, Job, record_at}
 
 -- a command's request fits its types and passes its check, and the command has a page for each data piece
 pub record IsSized (r : Record) (request : Request) : Type 0 where
@@ -17,26 +17,26 @@ pub record IsSized (r : Record) (request : Request) : Type 0 where
   pub pages : length r.data_pages ≡ data_count request.pieces
 
 -- the entries of a queue that are not fetched
-abbrev pub unfetched_at : List DeviceQueue → ℕ → List SubEntry
+abbrev pub unfetched_at : List ServedQueue → ℕ → List SubEntry
 unfetched_at queues q = option_map_or (λ at. at.unfetched) (slice_get queues q) []
 
 -- wherever the controller has an entry of a command, it is this one
-pub record HasEntry (queues : List DeviceQueue) (jobs : List Job) (q cid : ℕ) (entry : SubEntry) : Type 0 where
+pub record HasEntry (queues : List ServedQueue) (jobs : List Job) (q cid : ℕ) (entry : SubEntry) : Type 0 where
   pub unfetched : AllByRecursion (λ e. e.cid ≡ cid → e ≡ entry) (unfetched_at queues q)
   pub fetched : AllByRecursion (λ j. j.q ≡ q → j.entry.cid ≡ cid → j.entry ≡ entry) jobs
 
 -- The command's chain pages spell its joined parts, whatever stands in other pages, from the descriptor of its entry.
-pub record ListStands (m : Pages) (queues : List DeviceQueue) (jobs : List Job) (r : Record) (request : Request) : Type 0 where
+pub record ListStands (m : Pages) (queues : List ServedQueue) (jobs : List Job) (r : Record) (request : Request) : Type 0 where
   pub first : Descriptor
   pub read : descriptor_of (spelling first) ≡ Some first
   pub spells : Spells (only (on_pages r.chain_pages) (byte_at m)) first (joined_parts request.pieces r.data_pages)
   pub entry : HasEntry queues jobs r.q r.cid (io_entry r.cid request (spelling first))
 
-abbrev pub StandsAs : Pages → List DeviceQueue → List Job → Record → Work → Type 0
+abbrev pub StandsAs : Pages → List ServedQueue → List Job → Record → Work → Type 0
 StandsAs m queues jobs r (Io request) = IsSized r request × (is_submitted r.phase ≡ true → ListStands m queues jobs r request)
 StandsAs m queues jobs r (Management a) = Unit {0}
 
-abbrev pub CommandStands : Pages → List DeviceQueue → List Job → Record → Type 0
+abbrev pub CommandStands : Pages → List ServedQueue → List Job → Record → Type 0
 CommandStands m queues jobs r = StandsAs m queues jobs r r.work
 
 -- a job of an I/O queue that has no verdict has a unit left to do
@@ -52,7 +52,7 @@ pub record JobStands (s : State) (j : Job) : Type 0 where
   pub work : command.work ≡ Io request
   pub phase : is_submitted command.phase ≡ true
   pub sized : IsSized command request
-  pub list : ListStands s.memory s.device.queues s.device.jobs command request
+  pub list : ListStands s.memory s.controller.queues s.controller.jobs command request
   pub entry : j.entry ≡ io_entry command.cid request (spelling list.first)
   pub keeps : KeepsToPages command.chain_pages command.data_pages (course_of s j)
   pub ends : verdict (course_of s j) ≡ End

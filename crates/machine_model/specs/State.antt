@@ -21,7 +21,7 @@ pub record Record : Type 0 where
   pub status : Option Status
 
 -- a completion that was posted and not reaped
-pub record Answer : Type 0 where
+pub record PostedCompletion : Type 0 where
   pub cid : ℕ
   pub status : Status
   pub dw0 : ℕ
@@ -45,12 +45,12 @@ pub record HostQueue : Type 0 where
   pub cq_pages : List ℕ
 
 -- what stands at the controller for a queue
-pub record DeviceQueue : Type 0 where
+pub record ServedQueue : Type 0 where
   pub state : SqState
   pub cq_there : Bool
   pub unfetched : List SubEntry
   pub rung : ℕ
-  pub answers : List Answer
+  pub completions : List PostedCompletion
 
 -- the host's part of the machine: what holds whatever was forged
 pub record Host : Type 0 where
@@ -59,8 +59,8 @@ pub record Host : Type 0 where
   pub records : List Record
 
 -- the controller's part
-pub record Device : Type 0 where
-  pub queues : List DeviceQueue
+pub record Controller : Type 0 where
+  pub queues : List ServedQueue
   pub jobs : List Job
   pub image : List ℕ
 
@@ -69,7 +69,7 @@ pub record State : Type 0 where
   pub segment : ℕ
   pub memory : Pages
   pub host : Host
-  pub device : Device
+  pub controller : Controller
   pub trusted : Bool
 
 abbrev pub is_at : ℕ → ℕ → Record → Bool

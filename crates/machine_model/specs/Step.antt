@@ -177,21 +177,21 @@ abbrev pub host_part : State → HostPart
 host_part s = record { entries = s.entries; segment = s.segment; in_store = map is_some s.memory; host = s.host; trusted = s.trusted }
 
 -- whatever was forged, the image keeps its length, and each queue its place at the controller
-pub record KeepsDevice (old new : State) : Type 0 where
-  pub image : length new.device.image ≡ length old.device.image
-  pub queues : length new.device.queues ≡ length old.device.queues
+pub record KeepsController (old new : State) : Type 0 where
+  pub image : length new.controller.image ≡ length old.controller.image
+  pub queues : length new.controller.queues ≡ length old.controller.queues
 
 -- what an event of the controller leaves after a forged entry: other bytes in pages that are in, at most; such a page holds 4,096
 pub record LeavesByController (old next new : State) : Type 0 where
   pub part : host_part new ≡ host_part next
   pub pages : AreWhole new.memory
-  pub device : KeepsDevice old new
+  pub controller : KeepsController old new
 
 -- and what any other event leaves then: the memory that is due, so that a host sees what was forged and what the controller wrote
 pub record LeavesByHost (old next new : State) : Type 0 where
   pub part : host_part new ≡ host_part next
   pub memory : new.memory ≡ next.memory
-  pub device : KeepsDevice old new
+  pub controller : KeepsController old new
 
 abbrev pub forges : Event → Bool
 forges (events.Forge q slot bytes) = true

@@ -2,23 +2,23 @@
 use Rattle.std.specs.{List.{flat_map, list_all}, Option.option_map_or, Prelude.{ℕ, Bool, is_some, List, [], ◌∷◌, ◌++◌, if◌then◌else◌}}
 use Rattle.page_ledger.specs.Owners.{is_among}
 use Rattle.admin_commands.specs.Verdicts.{is_absent}
-use Rattle.machine_model.specs.{Events.{Event, Reply}, Refusals.{job_at, host_queue}, State.{State, HostQueue, DeviceQueue, pages_of, record_at}}
+use Rattle.machine_model.specs.{Events.{Event, Reply}, Refusals.{job_at, host_queue}, State.{State, HostQueue, ServedQueue, pages_of, record_at}}
 use Rattle.machine_model.specs.Events as events
 
 -- The pages that the controller may touch: of queues that it has, and of commands that are jobs
 
-abbrev pub pages_at_queue : HostQueue → DeviceQueue → List ℕ
+abbrev pub pages_at_queue : HostQueue → ServedQueue → List ℕ
 pages_at_queue queue at =
     (if is_absent at.state then [] else queue.sq_pages) ++ (if at.cq_there then queue.cq_pages else [])
 
-abbrev pub pages_at_queues : List HostQueue → List DeviceQueue → List ℕ
+abbrev pub pages_at_queues : List HostQueue → List ServedQueue → List ℕ
 pages_at_queues [] ats = []
 pages_at_queues (queue ∷ queues) [] = []
 pages_at_queues (queue ∷ queues) (at ∷ ats) = pages_at_queue queue at ++ pages_at_queues queues ats
 
 abbrev pub allowed : State → List ℕ
 allowed s =
-    pages_at_queues s.host.queues s.device.queues
+    pages_at_queues s.host.queues s.controller.queues
     ++ flat_map (λ r. if is_some (job_at s r.q r.cid) then pages_of r else []) s.host.records
 
 abbrev pub touched_by : Reply → List ℕ

@@ -5,7 +5,7 @@ use Rattle.admin_commands.specs.declared.SqState.TheVariants.{Absent}
 use Rattle.io_commands.specs.declared.request.{Kind.TheVariants.Read, Piece.TheVariants.Data}
 use Rattle.entry_codec.specs.declared.status.TheConstants.Status.{SUCCESS, DATA_TRANSFER_ERROR}
 use Rattle.machine_model.specs.Script.{line, Line, Said, Table, defaults, walks, reserve, build, submit, cancel, ring, fetch, walk, complete, reap, collect, release, delete_sq, retire, forge, ok, reserved, fetched, walked, completed, reaps, held, sent, refused}
-use Rattle.machine_model.specs.State.{Device, DeviceQueue, Answer}
+use Rattle.machine_model.specs.State.{Controller, ServedQueue, PostedCompletion}
 use Rattle.machine_model.specs.Events as events
 
 abbrev pub block : ℕ → Line
@@ -70,25 +70,25 @@ forged_deletion_said =
     reserved 1 0 (6 ∷ []) [] ∷ ok ∷ ok ∷ ok ∷ sent 0 ∷ ok ∷ reaps (events.AdminDone 0 SUCCESS 0) ∷ ok ∷ reserved 2 0 (2 ∷ []) [] ∷ ok ∷ []
 
 -- Once something was forged, the controller's part is open: here it is another one after each line, and the host's answers stay
-abbrev pub played_over : (Device → Device) → Table → List Line → List Said
+abbrev pub played_over : (Controller → Controller) → Table → List Line → List Said
 played_over f t [] = []
 played_over f t (l ∷ ls) =
     let step = line t l in
     let s = step.0.world in
-    step.1 ∷ played_over f (record step.0 { world = if s.trusted then s else record s { device = f s.device } }) ls
+    step.1 ∷ played_over f (record step.0 { world = if s.trusted then s else record s { controller = f s.controller } }) ls
 
-abbrev pub emptied : DeviceQueue → DeviceQueue
-emptied at = record at { state = Absent; cq_there = false; unfetched = []; rung = 0; answers = [] }
+abbrev pub emptied : ServedQueue → ServedQueue
+emptied at = record at { state = Absent; cq_there = false; unfetched = []; rung = 0; completions = [] }
 
-abbrev pub blank : Device → Device
+abbrev pub blank : Controller → Controller
 blank d = record d { queues = map emptied d.queues; jobs = [] }
 
 -- with an answer to each command that there could be, on each queue
-abbrev pub an_answer : ℕ → Answer
-an_answer cid = record { cid = cid; status = SUCCESS; dw0 = 0; sq_head = 0 }
+abbrev pub a_completion : ℕ → PostedCompletion
+a_completion cid = record { cid = cid; status = SUCCESS; dw0 = 0; sq_head = 0 }
 
-abbrev pub answering : DeviceQueue → DeviceQueue
-answering at = record at { answers = an_answer 0 ∷ an_answer 1 ∷ an_answer 2 ∷ [] }
+abbrev pub admin_completions : ServedQueue → ServedQueue
+admin_completions at = record at { completions = a_completion 0 ∷ a_completion 1 ∷ a_completion 2 ∷ [] }
 
-abbrev pub crowded : Device → Device
-crowded d = record d { queues = map answering d.queues }
+abbrev pub crowded : Controller → Controller
+crowded d = record d { queues = map admin_completions d.queues }

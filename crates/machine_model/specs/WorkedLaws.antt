@@ -20,7 +20,7 @@ abbrev pub image_of_first_write : List ℕ
 image_of_first_write = take 4 (drop 2559 (image_after (replicate 4096 0) (made_by eight_blocks (take 13 first_write))))
 
 abbrev pub image_left : List ℕ
-image_left = take 4 (drop 2559 (left_by eight_blocks (take 13 first_write)).world.device.image)
+image_left = take 4 (drop 2559 (left_by eight_blocks (take 13 first_write)).world.controller.image)
 
 abbrev pub three_parts : List Part
 three_parts = parts.Data 16384 512 ∷ parts.Data 20480 512 ∷ parts.Data 24576 512 ∷ []

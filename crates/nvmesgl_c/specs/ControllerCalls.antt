@@ -13,12 +13,12 @@ use Rattle.queue_pair.specs.Slots.{is_in_range}
 
 -- whether the queue is there, and the tail one of its slots
 abbrev pub tail_code : List ControllerQueue → ℕ → ℕ → ℕ
-tail_code queues q v = option_map_or (λ queue. if nat_lt v queue.device.entries then 0 else 50) (slice_get queues q) 10
+tail_code queues q v = option_map_or (λ queue. if nat_lt v queue.controller.entries then 0 else 50) (slice_get queues q) 10
 
 -- whether the queue is there, and the head lies from the one that was heard last to the tail
 abbrev pub head_code : List ControllerQueue → ℕ → ℕ → ℕ
 head_code queues q v =
-    option_map_or (λ queue. if is_in_range queue.device.entries queue.device.ring.known_head queue.device.ring.tail v then 0 else 50) (slice_get queues q) 10
+    option_map_or (λ queue. if is_in_range queue.controller.entries queue.controller.ring.known_head queue.controller.ring.tail v then 0 else 50) (slice_get queues q) 10
 
 -- a value that has code 0 is heard, and another one changes nothing
 abbrev pub RingsTail : Option Contents → ℕ → ℕ → ℕ → Option Contents → Type 0

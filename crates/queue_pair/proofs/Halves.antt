@@ -8,7 +8,7 @@ use Rattle.page_memory.specs.{Memory.{Memory, written}, Pages.{Pages, page_at, b
 use Rattle.page_memory.specs.declared.page.Half.TheVariants.{Submission, Completion}
 use Rattle.entry_codec.specs.{Completion.completion_of, Submission.submission_of, declared.completion.ComEntry.ComEntry}
 use Rattle.queue_pair.{proofs.Rings.{see_alike, bytes_agree, phase_from, not_not}, specs.Halves.{IsIn, IsZero, Agree, IsOutside, AreApart}}
-use Rattle.queue_pair.specs.Lists.{entries_between, answers_between, PhasesStand}
+use Rattle.queue_pair.specs.Lists.{entries_between, completions_from, PhasesStand}
 use Rattle.queue_pair.specs.Memory.{submission_place, completion_place, submission_page, completion_page, submission_slot, completion_slot, half_pages, entry_at, completion_at}
 use Rattle.slot_table.{proofs.Places.first-inside, specs.{Places.is_true_at, Searches.{IsFirstFrom, IsNoneFrom}}}
 
@@ -59,8 +59,8 @@ completion_agree m m' cq n slot h s =
 pub entries_agree : (m m' : Memory) (sq n from to : ℕ) → Agree m m' sq (half_pages n Submission) → from < n → entries_between m sq n from to ≡ entries_between m' sq n from to
 entries_agree m m' sq n from to h f = see_alike (entry_at m sq) (entry_at m' sq) n from to f (λ slot s. entry_agree m m' sq n slot h s)
 
-pub answers_agree : (m m' : Memory) (cq n from to : ℕ) → Agree m m' cq (half_pages n Completion) → from < n → answers_between m cq n from to ≡ answers_between m' cq n from to
-answers_agree m m' cq n from to h f = see_alike (completion_at m cq) (completion_at m' cq) n from to f (λ slot s. completion_agree m m' cq n slot h s)
+pub posted_agree : (m m' : Memory) (cq n from to : ℕ) → Agree m m' cq (half_pages n Completion) → from < n → completions_from m cq n from to ≡ completions_from m' cq n from to
+posted_agree m m' cq n from to h f = see_alike (completion_at m cq) (completion_at m' cq) n from to f (λ slot s. completion_agree m m' cq n slot h s)
 
 pub phases_agree : (m m' : Memory) (cq n tail : ℕ) (phase : Bool) → Agree m m' cq (half_pages n Completion) → PhasesStand m cq n tail phase → PhasesStand m' cq n tail phase
 phases_agree m m' cq n tail phase h stand =
@@ -86,12 +86,12 @@ pub completion_outside : (cq n slot page pages : ℕ) → slot < n → AreApart 
 completion_outside cq n slot page pages s apart = elim apart [ inl before ↦ inl (omega (arith, completion_within n slot s)) | inr after ↦ inr (omega arith) ]
 
 -- so it leaves the list of that half
-pub answers_left : (m : Memory) (sq cq n slot from to : ℕ) (bytes : List ℕ) → length bytes ≡ 64 → slot < n → from < n → AreApart sq (half_pages n Submission) cq (half_pages n Completion) →
-    answers_between (written m (submission_place sq slot) bytes) cq n from to ≡ answers_between m cq n from to
-answers_left m sq cq n slot from to bytes count s f apart =
+pub completions_left : (m : Memory) (sq cq n slot from to : ℕ) (bytes : List ℕ) → length bytes ≡ 64 → slot < n → from < n → AreApart sq (half_pages n Submission) cq (half_pages n Completion) →
+    completions_from (written m (submission_place sq slot) bytes) cq n from to ≡ completions_from m cq n from to
+completions_left m sq cq n slot from to bytes count s f apart =
     let outside : IsOutside (submission_place sq slot) (length bytes) cq (half_pages n Completion) =
     subst (λ (many : ℕ). IsOutside (submission_place sq slot) many cq (half_pages n Completion)) (sym count) (entry_outside sq n slot cq (half_pages n Completion) s apart) in
-    sym (answers_agree m (written m (submission_place sq slot) bytes) cq n from to (outside_agrees m (submission_place sq slot) cq (half_pages n Completion) bytes outside) f)
+    sym (posted_agree m (written m (submission_place sq slot) bytes) cq n from to (outside_agrees m (submission_place sq slot) cq (half_pages n Completion) bytes outside) f)
 
 pub entries_left : (m : Memory) (sq cq n slot from to : ℕ) (bytes : List ℕ) → length bytes ≡ 16 → slot < n → from < n → AreApart cq (half_pages n Completion) sq (half_pages n Submission) →
     entries_between (written m (completion_place cq slot) bytes) sq n from to ≡ entries_between m sq n from to

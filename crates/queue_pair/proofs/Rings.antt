@@ -5,9 +5,9 @@ use Rattle.std.{proofs.lemmas.Bool.{cases_lt, cases_eq, eqb-false, eqb-true, eq-
 use Rattle.std.specs.Option.{option_map, option_and_then}
 use Rattle.page_memory.{proofs.Bytes.{bytes_held, written_in, written_before, written_after}, specs.Memory.{Memory, bytes_at, written}}
 use Rattle.entry_codec.specs.{Completion.completion_of, Submission.submission_of, declared.{completion.ComEntry.ComEntry, submission.SubEntry.SubEntry}}
-use Rattle.queue_pair.specs.Lists.{entries_between, answers_between, front, phase_of_slot, PhasesStand, HasPhases, expected_phase}
+use Rattle.queue_pair.specs.Lists.{entries_between, completions_from, front, phase_of_slot, PhasesStand, HasPhases, expected_phase}
 use Rattle.queue_pair.specs.Memory.{submission_place, completion_place, entry_at, completion_at, with_phase, new_completion_at}
-use Rattle.queue_pair.specs.{Rings.{HostSide, DeviceSide, next_phase}, Slots.{next_slot, distance, is_full, is_in_range, slots_from, slots_between, moved}}
+use Rattle.queue_pair.specs.{Rings.{HostSide, ControllerSide, next_phase}, Slots.{next_slot, distance, is_full, is_in_range, slots_from, slots_between, moved}}
 
 -- The bytes of slots, before and after a write.
 
@@ -262,46 +262,46 @@ entries_append m sq n head tail bytes entry count spelled h t free =
     ∙ ap (λ (xs : List (Option SubEntry)). xs ++ entry_at m' sq tail ∷ []) (see_between (entry_at m' sq) (entry_at m sq) n head tail h t (λ slot _ other. entry_other m sq tail slot bytes count other))
     ∙ ap (λ (x : Option SubEntry). entries_between m sq n head tail ++ x ∷ []) (entry_back m sq tail bytes count ∙ ap (λ (e : SubEntry). Some e) spelled)
 
-pub answers_append : (m : Memory) (cq n head tail : ℕ) (bytes : List ℕ) (entry : ComEntry) → length bytes ≡ 16 → completion_of bytes ≡ entry → head < n → tail < n → is_full n head tail ≡ false →
-    answers_between (written m (completion_place cq tail) bytes) cq n head (next_slot n tail) ≡ answers_between m cq n head tail ++ Some entry ∷ []
-answers_append m cq n head tail bytes entry count spelled h t free =
+pub completions_append : (m : Memory) (cq n head tail : ℕ) (bytes : List ℕ) (entry : ComEntry) → length bytes ≡ 16 → completion_of bytes ≡ entry → head < n → tail < n → is_full n head tail ≡ false →
+    completions_from (written m (completion_place cq tail) bytes) cq n head (next_slot n tail) ≡ completions_from m cq n head tail ++ Some entry ∷ []
+completions_append m cq n head tail bytes entry count spelled h t free =
     let m' : Memory = written m (completion_place cq tail) bytes in
     ap (map (completion_at m' cq)) (between_push n head tail h t (room n head tail free))
     ∙ map_push (completion_at m' cq) (slots_between n head tail) tail
     ∙ ap (λ (xs : List (Option ComEntry)). xs ++ completion_at m' cq tail ∷ []) (see_between (completion_at m' cq) (completion_at m cq) n head tail h t (λ slot _ other. completion_other m cq tail slot bytes count other))
-    ∙ ap (λ (x : Option ComEntry). answers_between m cq n head tail ++ x ∷ []) (completion_back m cq tail bytes count ∙ ap (λ (e : ComEntry). Some e) spelled)
+    ∙ ap (λ (x : Option ComEntry). completions_from m cq n head tail ++ x ∷ []) (completion_back m cq tail bytes count ∙ ap (λ (e : ComEntry). Some e) spelled)
 
 -- the front goes
 pub entries_pop : (m : Memory) (sq n head tail : ℕ) → head < n → tail < n → head ≢ tail → entries_between m sq n head tail ≡ entry_at m sq head ∷ entries_between m sq n (next_slot n head) tail
 entries_pop m sq n head tail h t some = ap (map (entry_at m sq)) (between_pop n head tail h t some)
 
-pub answers_pop : (m : Memory) (cq n head tail : ℕ) → head < n → tail < n → head ≢ tail → answers_between m cq n head tail ≡ completion_at m cq head ∷ answers_between m cq n (next_slot n head) tail
-answers_pop m cq n head tail h t some = ap (map (completion_at m cq)) (between_pop n head tail h t some)
+pub completions_pop : (m : Memory) (cq n head tail : ℕ) → head < n → tail < n → head ≢ tail → completions_from m cq n head tail ≡ completion_at m cq head ∷ completions_from m cq n (next_slot n head) tail
+completions_pop m cq n head tail h t some = ap (map (completion_at m cq)) (between_pop n head tail h t some)
 
 -- what the host's post makes of the list, by what each call in it ensures
-pub entries_posted : (m m' : Memory) (sq n tail tail' place : ℕ) (bytes : List ℕ) (entry : SubEntry) (device : DeviceSide) → m' ≡ written m place bytes → place ≡ submission_place sq tail → tail' ≡ next_slot n tail →
-    length bytes ≡ 64 → submission_of bytes ≡ entry → sq ≡ device.sq → n ≡ device.entries → tail < n → device.ring.head < device.entries → is_full device.entries device.ring.head tail ≡ false →
-    entries_between m' device.sq device.entries device.ring.head tail' ≡ entries_between m device.sq device.entries device.ring.head tail ++ Some entry ∷ []
-entries_posted m m' sq n tail tail' place bytes entry device wrote at next count spelled same_sq same_n t h free =
-    let memory : m' ≡ written m (submission_place device.sq tail) bytes =
+pub entries_posted : (m m' : Memory) (sq n tail tail' place : ℕ) (bytes : List ℕ) (entry : SubEntry) (controller : ControllerSide) → m' ≡ written m place bytes → place ≡ submission_place sq tail → tail' ≡ next_slot n tail →
+    length bytes ≡ 64 → submission_of bytes ≡ entry → sq ≡ controller.sq → n ≡ controller.entries → tail < n → controller.ring.head < controller.entries → is_full controller.entries controller.ring.head tail ≡ false →
+    entries_between m' controller.sq controller.entries controller.ring.head tail' ≡ entries_between m controller.sq controller.entries controller.ring.head tail ++ Some entry ∷ []
+entries_posted m m' sq n tail tail' place bytes entry controller wrote at next count spelled same_sq same_n t h free =
+    let memory : m' ≡ written m (submission_place controller.sq tail) bytes =
     wrote ∙ ap (λ (p : ℕ). written m p bytes) at ∙ ap (λ (s : ℕ). written m (submission_place s tail) bytes) same_sq in
-    let position : tail' ≡ next_slot device.entries tail = next ∙ ap (λ (k : ℕ). next_slot k tail) same_n in
-    let below : tail < device.entries = omega arith in
-    ap (λ (x : Memory). entries_between x device.sq device.entries device.ring.head tail') memory
-    ∙ ap (λ (x : ℕ). entries_between (written m (submission_place device.sq tail) bytes) device.sq device.entries device.ring.head x) position
-    ∙ entries_append m device.sq device.entries device.ring.head tail bytes entry count spelled h below free
+    let position : tail' ≡ next_slot controller.entries tail = next ∙ ap (λ (k : ℕ). next_slot k tail) same_n in
+    let below : tail < controller.entries = omega arith in
+    ap (λ (x : Memory). entries_between x controller.sq controller.entries controller.ring.head tail') memory
+    ∙ ap (λ (x : ℕ). entries_between (written m (submission_place controller.sq tail) bytes) controller.sq controller.entries controller.ring.head x) position
+    ∙ entries_append m controller.sq controller.entries controller.ring.head tail bytes entry count spelled h below free
 
 -- and the controller's
-pub answers_posted : (m m' : Memory) (cq n tail tail' place : ℕ) (bytes : List ℕ) (entry : ComEntry) (host : HostSide) → m' ≡ written m place bytes → place ≡ completion_place cq tail → tail' ≡ next_slot n tail →
+pub completions_posted : (m m' : Memory) (cq n tail tail' place : ℕ) (bytes : List ℕ) (entry : ComEntry) (host : HostSide) → m' ≡ written m place bytes → place ≡ completion_place cq tail → tail' ≡ next_slot n tail →
     length bytes ≡ 16 → completion_of bytes ≡ entry → host.entries ≡ n → tail < n → host.ring.head < host.entries → is_full host.entries host.ring.head tail ≡ false →
-    answers_between m' cq n host.ring.head tail' ≡ answers_between m cq n host.ring.head tail ++ Some entry ∷ []
-answers_posted m m' cq n tail tail' place bytes entry host wrote at next count spelled same_n t h free =
+    completions_from m' cq n host.ring.head tail' ≡ completions_from m cq n host.ring.head tail ++ Some entry ∷ []
+completions_posted m m' cq n tail tail' place bytes entry host wrote at next count spelled same_n t h free =
     let memory : m' ≡ written m (completion_place cq tail) bytes = wrote ∙ ap (λ (p : ℕ). written m p bytes) at in
     let below : host.ring.head < n = omega arith in
     let room : is_full n host.ring.head tail ≡ false = ap (λ (k : ℕ). is_full k host.ring.head tail) (sym same_n) ∙ free in
-    ap (λ (x : Memory). answers_between x cq n host.ring.head tail') memory
-    ∙ ap (λ (x : ℕ). answers_between (written m (completion_place cq tail) bytes) cq n host.ring.head x) next
-    ∙ answers_append m cq n host.ring.head tail bytes entry count spelled below t room
+    ap (λ (x : Memory). completions_from x cq n host.ring.head tail') memory
+    ∙ ap (λ (x : ℕ). completions_from (written m (completion_place cq tail) bytes) cq n host.ring.head x) next
+    ∙ completions_append m cq n host.ring.head tail bytes entry count spelled below t room
 
 -- what is read of a slot is the entry that stands there
 pub read_is_entry : (m : Memory) (sq slot place : ℕ) (bytes : List ℕ) (entry : SubEntry) → bytes_at m place 64 ≡ Some bytes → place ≡ submission_place sq slot → entry ≡ submission_of bytes → entry_at m sq slot ≡ Some entry
@@ -322,8 +322,8 @@ length_seen f (s ∷ slots) = ap suc (length_seen f slots)
 pub entries_count : (m : Memory) (sq n from to : ℕ) → length (entries_between m sq n from to) ≡ distance n from to
 entries_count m sq n from to = length_seen (entry_at m sq) (slots_between n from to) ∙ length_slots n (distance n from to) from
 
-pub answers_count : (m : Memory) (cq n from to : ℕ) → length (answers_between m cq n from to) ≡ distance n from to
-answers_count m cq n from to = length_seen (completion_at m cq) (slots_between n from to) ∙ length_slots n (distance n from to) from
+pub completions_count : (m : Memory) (cq n from to : ℕ) → length (completions_from m cq n from to) ≡ distance n from to
+completions_count m cq n from to = length_seen (completion_at m cq) (slots_between n from to) ∙ length_slots n (distance n from to) from
 
 seen_parts : {X : Type 0} (f : ℕ → X) (a b : List ℕ) → map f (a ++ b) ≡ map f a ++ map f b
 seen_parts f [] b = refl
@@ -333,15 +333,15 @@ pub entries_parts : (m : Memory) (sq n from mid to : ℕ) → from < n → to < 
 entries_parts m sq n from mid to f t h =
     ap (map (entry_at m sq)) (between_parts n from mid to f (in_range_below n from to mid h) t (in_range_near n from to mid h)) ∙ seen_parts (entry_at m sq) (slots_between n from mid) (slots_between n mid to)
 
-pub answers_parts : (m : Memory) (cq n from mid to : ℕ) → from < n → to < n → is_in_range n from to mid ≡ true → answers_between m cq n from to ≡ answers_between m cq n from mid ++ answers_between m cq n mid to
-answers_parts m cq n from mid to f t h =
+pub completions_parts : (m : Memory) (cq n from mid to : ℕ) → from < n → to < n → is_in_range n from to mid ≡ true → completions_from m cq n from to ≡ completions_from m cq n from mid ++ completions_from m cq n mid to
+completions_parts m cq n from mid to f t h =
     ap (map (completion_at m cq)) (between_parts n from mid to f (in_range_below n from to mid h) t (in_range_near n from to mid h)) ∙ seen_parts (completion_at m cq) (slots_between n from mid) (slots_between n mid to)
 
 pub entries_none : (m : Memory) (sq n slot : ℕ) → entries_between m sq n slot slot ≡ []
 entries_none m sq n slot = ap (map (entry_at m sq)) (between_none n slot)
 
-pub answers_none : (m : Memory) (cq n slot : ℕ) → answers_between m cq n slot slot ≡ []
-answers_none m cq n slot = ap (map (completion_at m cq)) (between_none n slot)
+pub completions_none : (m : Memory) (cq n slot : ℕ) → completions_from m cq n slot slot ≡ []
+completions_none m cq n slot = ap (map (completion_at m cq)) (between_none n slot)
 
 -- The phases of the completion ring.
 
@@ -416,7 +416,7 @@ unexpected_there (Some entry) phase h = let e : entry.phase ≡ not phase = cc i
 
 -- a completion is new exactly where an answer is left, and then it is the first of them
 pub new_is_front : (m : Memory) (cq n head tail : ℕ) (phase : Bool) → head < n → tail < n → PhasesStand m cq n tail phase →
-    new_completion_at m cq head (expected_phase head tail phase) ≡ front (answers_between m cq n head tail)
+    new_completion_at m cq head (expected_phase head tail phase) ≡ front (completions_from m cq n head tail)
 new_is_front m cq n head tail phase h t stand =
     elim (cases_eq head tail) [
       | inl e ↦ rw (e, expected_ahead tail tail phase (omega arith)) (
@@ -424,7 +424,7 @@ new_is_front m cq n head tail phase h t stand =
           ∙ ap (λ (slots : List ℕ). front (map (completion_at m cq) slots)) (sym (between_none n tail)))
       | inr some ↦
           expected_there (completion_at m cq head) (expected_phase head tail phase) (stand.stands head h ∙ ap (λ (b : Bool). Some b) (here some))
-          ∙ ap front (sym (answers_pop m cq n head tail h t some))
+          ∙ ap front (sym (completions_pop m cq n head tail h t some))
     ]
   where
     here : head ≢ tail → phase_of_slot tail phase head ≡ expected_phase head tail phase
@@ -441,19 +441,19 @@ phases_posted m m' cq n tail tail' phase phase' place bytes wrote at next turned
     (subst (λ (x : Bool). PhasesStand (written m (completion_place cq tail) bytes) cq n (next_slot n tail) x) (sym turned) moved))
 
 -- what the host reads at its head, by what each call in it ensures
-pub peeked : (m : Memory) (cq n head place : ℕ) (expected : Bool) (bytes : List ℕ) (entry : ComEntry) (device : DeviceSide) → bytes_at m place 16 ≡ Some bytes → place ≡ completion_place cq head → entry ≡ completion_of bytes →
-    beq entry.phase expected ≡ true → cq ≡ device.cq → n ≡ device.entries → head < n → device.ring.tail < device.entries → HasPhases m device → expected ≡ expected_phase head device.ring.tail device.ring.phase →
-    Some entry ≡ front (answers_between m device.cq device.entries head device.ring.tail)
-peeked m cq n head place expected bytes entry device read at is new same_cq same_n h t stand tied =
-    let slot : completion_at m device.cq head ≡ Some entry =
+pub peeked : (m : Memory) (cq n head place : ℕ) (expected : Bool) (bytes : List ℕ) (entry : ComEntry) (controller : ControllerSide) → bytes_at m place 16 ≡ Some bytes → place ≡ completion_place cq head → entry ≡ completion_of bytes →
+    beq entry.phase expected ≡ true → cq ≡ controller.cq → n ≡ controller.entries → head < n → controller.ring.tail < controller.entries → HasPhases m controller → expected ≡ expected_phase head controller.ring.tail controller.ring.phase →
+    Some entry ≡ front (completions_from m controller.cq controller.entries head controller.ring.tail)
+peeked m cq n head place expected bytes entry controller read at is new same_cq same_n h t stand tied =
+    let slot : completion_at m controller.cq head ≡ Some entry =
     ap (λ (c : ℕ). completion_at m c head) (sym same_cq)
     ∙ ap (λ (x : Option (List ℕ)). option_map completion_of x) (ap (λ (p : ℕ). bytes_at m p 16) (sym at) ∙ read)
     ∙ ap (λ (e : ComEntry). Some e) (sym is) in
-    let seen : new_completion_at m device.cq head expected ≡ Some entry =
+    let seen : new_completion_at m controller.cq head expected ≡ Some entry =
     ap (λ (x : Option ComEntry). option_and_then (with_phase expected) x) slot ∙ ap (λ (b : Bool). cond b (Some entry) None) new in
     sym seen
-    ∙ ap (λ (b : Bool). new_completion_at m device.cq head b) tied
-    ∙ new_is_front m device.cq device.entries head device.ring.tail device.ring.phase (omega arith) t stand
+    ∙ ap (λ (b : Bool). new_completion_at m controller.cq head b) tied
+    ∙ new_is_front m controller.cq controller.entries head controller.ring.tail controller.ring.phase (omega arith) t stand
 
 -- the controller's phase, by the host's and the answers that are left
 turned_past : (n reach : ℕ) (phase : Bool) → n ≤ reach → cond (leb n reach) (not phase) phase ≡ not phase

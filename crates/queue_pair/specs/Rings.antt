@@ -13,7 +13,7 @@ pub record HostRing : Type 0 where
 
 -- the controller: where it reads the submission ring, and the tail that was rung; where it writes the completion ring, in
 -- which phase, and the completion head that was rung
-pub record DeviceRing : Type 0 where
+pub record ControllerRing : Type 0 where
   pub head : ℕ
   pub bell : ℕ
   pub tail : ℕ
@@ -35,15 +35,15 @@ abbrev pub first_page_of : Half → HostSide → ℕ
 first_page_of Submission side = side.sq
 first_page_of Completion side = side.cq
 
-pub record DeviceSide : Type 0 where
+pub record ControllerSide : Type 0 where
   pub q : ℕ
   pub entries : ℕ
   pub sq : ℕ
   pub cq : ℕ
-  pub ring : DeviceRing
+  pub ring : ControllerRing
 
 -- and the same of the controller
-abbrev pub first_page_at : Half → DeviceSide → ℕ
+abbrev pub first_page_at : Half → ControllerSide → ℕ
 first_page_at Submission side = side.sq
 first_page_at Completion side = side.cq
 
@@ -55,7 +55,7 @@ pub record IsHostSide (side : HostSide) : Type 0 where
   pub tail : side.ring.tail < side.entries
   pub identifiers : length side.claimed + 1 ≡ side.entries
 
-pub record IsDeviceSide (side : DeviceSide) : Type 0 where
+pub record IsControllerSide (side : ControllerSide) : Type 0 where
   pub least : 2 ≤ side.entries
   pub most : side.entries ≤ 1024
   pub head : side.ring.head < side.entries
@@ -67,8 +67,8 @@ pub record IsDeviceSide (side : DeviceSide) : Type 0 where
 abbrev pub fresh_host_ring : HostRing
 fresh_host_ring = record { head = 0; phase = true; known_head = 0; tail = 0 }
 
-abbrev pub fresh_device_ring : DeviceRing
-fresh_device_ring = record { head = 0; bell = 0; tail = 0; phase = true; known_head = 0 }
+abbrev pub fresh_controller_ring : ControllerRing
+fresh_controller_ring = record { head = 0; bell = 0; tail = 0; phase = true; known_head = 0 }
 
 -- the phase after the move from a slot: it turns at the wrap
 abbrev pub next_phase : ℕ → ℕ → Bool → Bool
@@ -87,20 +87,20 @@ abbrev pub knowing : ℕ → HostRing → HostRing
 knowing head ring = record ring { known_head = head }
 
 -- the controller heard the host's submission tail
-abbrev pub hearing_tail : ℕ → DeviceRing → DeviceRing
+abbrev pub hearing_tail : ℕ → ControllerRing → ControllerRing
 hearing_tail tail ring = record ring { bell = tail }
 
 -- the controller heard the host's completion head
-abbrev pub hearing_head : ℕ → DeviceRing → DeviceRing
+abbrev pub hearing_head : ℕ → ControllerRing → ControllerRing
 hearing_head head ring = record ring { known_head = head }
 
 -- the controller took an entry
-abbrev pub entry_taken : ℕ → DeviceRing → DeviceRing
+abbrev pub entry_taken : ℕ → ControllerRing → ControllerRing
 entry_taken n ring = record ring { head = next_slot n ring.head }
 
 -- the controller posted a completion
-abbrev pub answer_posted : ℕ → DeviceRing → DeviceRing
-answer_posted n ring = record ring { tail = next_slot n ring.tail; phase = next_phase n ring.tail ring.phase }
+abbrev pub completion_posted : ℕ → ControllerRing → ControllerRing
+completion_posted n ring = record ring { tail = next_slot n ring.tail; phase = next_phase n ring.tail ring.phase }
 
 -- no identifier is claimed
 abbrev pub none_claimed : ℕ → List Bool

@@ -1,8 +1,8 @@
 -- What contracts see of each side.
 use Rattle.std.specs.Prelude.{map, not}
-use Rattle.queue_pair.specs.Rings.{HostSide, DeviceSide}
+use Rattle.queue_pair.specs.Rings.{HostSide, ControllerSide}
 use Rattle.queue_pair.specs.declared.host.HostPair.TheInside as host
-use Rattle.queue_pair.specs.declared.device.DevicePair.TheInside as device
+use Rattle.queue_pair.specs.declared.device.DevicePair.TheInside as controller
 
 abbrev pub host_side : {A : Type 0} → host.Inside A → HostSide
 host_side pair = record {
@@ -14,8 +14,8 @@ host_side pair = record {
   claimed = map not pair.free;
 }
 
-abbrev pub device_side : device.Inside → DeviceSide
-device_side pair = record {
+abbrev pub controller_side : controller.Inside → ControllerSide
+controller_side pair = record {
   q = pair.q;
   entries = pair.entries;
   sq = pair.sq;
@@ -23,8 +23,8 @@ device_side pair = record {
   ring = record { head = pair.head; bell = pair.bell; tail = pair.tail; phase = pair.phase; known_head = pair.known_head };
 }
 
-abbrev pub device_inside : DeviceSide → device.Inside
-device_inside side = record {
+abbrev pub controller_inside : ControllerSide → controller.Inside
+controller_inside side = record {
   q = side.q;
   entries = side.entries;
   sq = side.sq;

@@ -3,15 +3,15 @@
 ghost use Rattle.std.specs.Prelude.{◌≡◌, ◌≢◌, ◌<◌, ◌≤◌, ◌↔◌, ◌++◌, ◌∷◌, [], Err, IfOk, IfSome, IsErr, IsOk, IsSome, IsNone, IsTrue, IsFalse, OnOk, OnErr, Some, None, length};
 ghost use Rattle.page_memory.specs.Memory.{Memory, written};
 ghost use Rattle.entry_codec.specs.Completion.{completion_bytes, FitsCompletion};
-ghost use Rattle.queue_pair.specs.Positions.{device_positions};
+ghost use Rattle.queue_pair.specs.Positions.{controller_positions};
 ghost use Rattle.queue_pair.specs.Slots.{is_full, is_in_range};
-ghost use Rattle.queue_pair.specs.Rings.{HostSide, IsHostSide, IsDeviceSide, first_page_at, fresh_device_ring, hearing_tail, hearing_head, entry_taken, answer_posted};
+ghost use Rattle.queue_pair.specs.Rings.{HostSide, IsHostSide, IsControllerSide, first_page_at, fresh_controller_ring, hearing_tail, hearing_head, entry_taken, completion_posted};
 ghost use Rattle.queue_pair.specs.Memory.{completion_place, submission_page, completion_page, submission_slot, completion_slot, entry_at, phased};
-ghost use Rattle.queue_pair.specs.Lists.{unfetched, rung, answers, front, IsPair, HasPhases, AreTied};
+ghost use Rattle.queue_pair.specs.Lists.{unfetched, rung, posted_completions, front, IsPair, HasPhases, AreTied};
 
 use crate::fault::{BadBell, PostFault, SlotOut};
 use crate::image::completion_image;
-use crate::positions::DevicePositions;
+use crate::positions::ControllerPositions;
 use crate::slots::{completion_address, lies_between, phase_after, slot_after, submission_address};
 use entry_codec::{ComEntry, SubEntry};
 use page_memory::{Dma, Half, PageNo};
@@ -32,18 +32,18 @@ pub struct DevicePair {
 }
 
 impl Model for DevicePair {
-    ghost use Rattle.queue_pair.specs.Rings.{DeviceSide};
+    ghost use Rattle.queue_pair.specs.Rings.{ControllerSide};
 
-    ghost Value = { DeviceSide };
+    ghost Value = { ControllerSide };
 
-    ghost use Rattle.queue_pair.specs.Rings.{IsDeviceSide};
-    ghost use Rattle.queue_pair.specs.Views.{device_side, device_inside};
+    ghost use Rattle.queue_pair.specs.Rings.{IsControllerSide};
+    ghost use Rattle.queue_pair.specs.Views.{controller_side, controller_inside};
 
-    ghost view = { device_side };
+    ghost view = { controller_side };
 
-    ghost invariant = { λ pair. IsDeviceSide (device_side pair) };
+    ghost invariant = { λ pair. IsControllerSide (controller_side pair) };
 
-    ghost inverse = { device_inside };
+    ghost inverse = { controller_inside };
 }
 
 impl DevicePair {
@@ -52,7 +52,7 @@ impl DevicePair {
     pub fn open(q: u16, entries: u16, sq: PageNo, cq: PageNo) -> DevicePair
         requires least { 2 ≤ entries }
         requires most { entries ≤ 1024 }
-        ensures { result ≡ record { q = q; entries = entries; sq = sq; cq = cq; ring = fresh_device_ring } }
+        ensures { result ≡ record { q = q; entries = entries; sq = sq; cq = cq; ring = fresh_controller_ring } }
     {
         DevicePair {
             q,
@@ -70,8 +70,8 @@ impl DevicePair {
     /// Makes the side as [`DevicePair::open`] makes one, over halves that begin at the pages `sq` and `cq`: nothing is rung, and the
     /// first completion is posted with phase 1. The number of the queue and of its entries stay.
     pub fn renew(&mut self, sq: PageNo, cq: PageNo)
-        ensures renewed { self.new ≡ record self.old { sq = sq; cq = cq; ring = fresh_device_ring } }
-        ensures proper { IsDeviceSide self.new }
+        ensures renewed { self.new ≡ record self.old { sq = sq; cq = cq; ring = fresh_controller_ring } }
+        ensures proper { IsControllerSide self.new }
     {
         *self = DevicePair::open(self.q, self.entries, sq, cq);
     }
@@ -94,10 +94,10 @@ impl DevicePair {
     }
 
     /// Where the controller stands in both rings, and what it heard by doorbells.
-    pub fn positions(&self) -> DevicePositions
-        ensures { result ≡ device_positions self.now.ring }
+    pub fn positions(&self) -> ControllerPositions
+        ensures { result ≡ controller_positions self.now.ring }
     {
-        DevicePositions {
+        ControllerPositions {
             submission_head: self.head,
             tail_doorbell: self.bell,
             completion_tail: self.tail,
@@ -144,7 +144,7 @@ impl DevicePair {
     /// The submission head: the number of entries taken, modulo n.
     pub fn head(&self) -> u16
         ensures head { result ≡ self.now.ring.head }
-        ensures proper { IsDeviceSide self.now }
+        ensures proper { IsControllerSide self.now }
     {
         self.head
     }
@@ -214,11 +214,11 @@ impl DevicePair {
         requires room { length (D.reached dma.old) ≤ 2 }
         ensures full { (result ≡ Err PostFault.Full) ↔ IsTrue (is_full self.old.entries self.old.ring.known_head self.old.ring.tail) }
         ensures out { (result ≡ Err PostFault.SlotOut) ↔ (IsFalse (is_full self.old.entries self.old.ring.known_head self.old.ring.tail) × (completion_slot (D.memory dma.old) self.old.cq self.old.ring.tail ≡ None)) }
-        ensures tail { OnOk result (self.new ≡ record self.old { ring = answer_posted self.old.entries self.old.ring }) }
+        ensures tail { OnOk result (self.new ≡ record self.old { ring = completion_posted self.old.entries self.old.ring }) }
         ensures written { OnOk result (D.memory dma.new ≡ written (D.memory dma.old) (completion_place self.old.cq self.old.ring.tail) (completion_bytes (phased self.old.ring.phase completion))) }
         ensures touched { OnOk result (D.reached dma.new ≡ D.reached dma.old ++ completion_page self.old.cq self.old.ring.tail ∷ []) }
         ensures appended { OnOk result ((host : HostSide) → IsPair host self.old → IsHostSide host → IsFalse (is_full host.entries host.ring.head self.old.ring.tail)
-            → answers (D.memory dma.new) host self.new ≡ answers (D.memory dma.old) host self.old ++ Some (phased self.old.ring.phase completion) ∷ []) }
+            → posted_completions (D.memory dma.new) host self.new ≡ posted_completions (D.memory dma.old) host self.old ++ Some (phased self.old.ring.phase completion) ∷ []) }
         ensures phases { OnOk result (HasPhases (D.memory dma.old) self.old → HasPhases (D.memory dma.new) self.new) }
         ensures tied { OnOk result ((host : HostSide) → IsPair host self.old → IsHostSide host → IsFalse (is_full host.entries host.ring.head self.old.ring.tail) → AreTied host self.old → AreTied host self.new) }
         ensures refused { OnErr result ((self.new ≡ self.old) × (D.memory dma.new ≡ D.memory dma.old) × (D.reached dma.new ≡ D.reached dma.old)) }

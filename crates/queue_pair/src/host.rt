@@ -5,9 +5,9 @@ ghost use Rattle.page_memory.specs.Memory.{Memory, written};
 ghost use Rattle.entry_codec.specs.Submission.{submission_bytes, FitsSubmission};
 ghost use Rattle.queue_pair.specs.Positions.{host_positions};
 ghost use Rattle.queue_pair.specs.Slots.{is_full, is_in_range};
-ghost use Rattle.queue_pair.specs.Rings.{DeviceSide, IsHostSide, IsDeviceSide, first_page_of, fresh_host_ring, next_tail, next_head, knowing, none_claimed};
+ghost use Rattle.queue_pair.specs.Rings.{ControllerSide, IsHostSide, IsControllerSide, first_page_of, fresh_host_ring, next_tail, next_head, knowing, none_claimed};
 ghost use Rattle.queue_pair.specs.Memory.{submission_place, completion_place, submission_page, completion_page, submission_slot, completion_slot, completion_at, new_completion_at};
-ghost use Rattle.queue_pair.specs.Lists.{unfetched, answers, front, IsPair, HasPhases, AreTied};
+ghost use Rattle.queue_pair.specs.Lists.{unfetched, posted_completions, front, IsPair, HasPhases, AreTied};
 
 use crate::fault::{BadHead, QueueFull};
 use crate::image::submission_image;
@@ -117,8 +117,8 @@ impl<A: Allocator> HostPair<A> {
         ensures tail { OnOk result (self.new ≡ record self.old { ring = next_tail self.old.entries self.old.ring }) }
         ensures written { OnOk result (D.memory dma.new ≡ written (D.memory dma.old) (submission_place self.old.sq self.old.ring.tail) (submission_bytes entry)) }
         ensures touched { OnOk result (D.reached dma.new ≡ D.reached dma.old ++ submission_page self.old.sq self.old.ring.tail ∷ []) }
-        ensures appended { OnOk result ((device : DeviceSide) → IsPair self.old device → IsDeviceSide device → IsFalse (is_full device.entries device.ring.head self.old.ring.tail)
-            → unfetched (D.memory dma.new) self.new device ≡ unfetched (D.memory dma.old) self.old device ++ Some entry ∷ []) }
+        ensures appended { OnOk result ((controller : ControllerSide) → IsPair self.old controller → IsControllerSide controller → IsFalse (is_full controller.entries controller.ring.head self.old.ring.tail)
+            → unfetched (D.memory dma.new) self.new controller ≡ unfetched (D.memory dma.old) self.old controller ++ Some entry ∷ []) }
         ensures refused { OnErr result ((self.new ≡ self.old) × (D.memory dma.new ≡ D.memory dma.old) × (D.reached dma.new ≡ D.reached dma.old)) }
         ensures unlisted { D.unlisted dma.new ≡ D.unlisted dma.old }
         ensures pool { D.page_count dma.new ≡ D.page_count dma.old }
@@ -185,7 +185,7 @@ impl<A: Allocator> HostPair<A> {
         requires there { IsSome (completion_slot (D.memory dma.old) self.now.cq self.now.ring.head) }
         requires room { length (D.reached dma.old) ≤ 2 }
         ensures exact { result ≡ new_completion_at (D.memory dma.old) self.now.cq self.now.ring.head self.now.ring.phase }
-        ensures front { (device : DeviceSide) → IsPair self.now device → IsDeviceSide device → HasPhases (D.memory dma.old) device → AreTied self.now device → result ≡ front (answers (D.memory dma.old) self.now device) }
+        ensures front { (controller : ControllerSide) → IsPair self.now controller → IsControllerSide controller → HasPhases (D.memory dma.old) controller → AreTied self.now controller → result ≡ front (posted_completions (D.memory dma.old) self.now controller) }
         ensures touched { D.reached dma.new ≡ D.reached dma.old ++ completion_page self.now.cq self.now.ring.head ∷ [] }
         ensures memory { D.memory dma.new ≡ D.memory dma.old }
         ensures unlisted { D.unlisted dma.new ≡ D.unlisted dma.old }
@@ -206,9 +206,9 @@ impl<A: Allocator> HostPair<A> {
     /// owes that [`HostPair::peek`] answers a completion there.
     pub fn advance(&mut self)
         ensures advanced { self.new ≡ record self.old { ring = next_head self.old.entries self.old.ring } }
-        ensures dropped { (m : Memory) (device : DeviceSide) → IsPair self.old device → IsDeviceSide device → self.old.ring.head ≢ device.ring.tail
-            → answers m self.old device ≡ completion_at m device.cq self.old.ring.head ∷ answers m self.new device }
-        ensures tied { (device : DeviceSide) → IsPair self.old device → IsDeviceSide device → self.old.ring.head ≢ device.ring.tail → AreTied self.old device → AreTied self.new device }
+        ensures dropped { (m : Memory) (controller : ControllerSide) → IsPair self.old controller → IsControllerSide controller → self.old.ring.head ≢ controller.ring.tail
+            → posted_completions m self.old controller ≡ completion_at m controller.cq self.old.ring.head ∷ posted_completions m self.new controller }
+        ensures tied { (controller : ControllerSide) → IsPair self.old controller → IsControllerSide controller → self.old.ring.head ≢ controller.ring.tail → AreTied self.old controller → AreTied self.new controller }
     {
         self.phase = phase_after(self.entries, self.head, self.phase);
         self.head = slot_after(self.entries, self.head);

@@ -6,9 +6,9 @@ ghost use Rattle.page_memory.specs.Memory.{Memory, written, pages_reached};
 ghost use Rattle.page_memory.specs.Pages.{Pages, page_at, byte_at, zero_page, AreWhole};
 ghost use Rattle.page_memory.specs.declared.page.Half.TheVariants.{Submission, Completion};
 ghost use Rattle.queue_pair.specs.Slots.{next_slot, distance, is_full, is_in_range, moved};
-ghost use Rattle.queue_pair.specs.Rings.{HostSide, DeviceSide, IsHostSide, IsDeviceSide, fresh_host_ring, fresh_device_ring, next_tail, next_head, knowing, hearing_tail, hearing_head, entry_taken, answer_posted, none_claimed};
+ghost use Rattle.queue_pair.specs.Rings.{HostSide, ControllerSide, IsHostSide, IsControllerSide, fresh_host_ring, fresh_controller_ring, next_tail, next_head, knowing, hearing_tail, hearing_head, entry_taken, completion_posted, none_claimed};
 ghost use Rattle.queue_pair.specs.Memory.{submission_place, completion_place, submission_page, completion_page, submission_slot, completion_slot, half_pages, doorbell_offset};
-ghost use Rattle.queue_pair.specs.Lists.{entries_between, answers_between, PhasesStand, expected_phase};
+ghost use Rattle.queue_pair.specs.Lists.{entries_between, completions_from, PhasesStand, expected_phase};
 ghost use Rattle.queue_pair.specs.Halves.{IsIn, IsZero, Agree, IsOutside, AreApart};
 
 /// The order of a ring of n slots is that of the remainders by n: so after so many takes a head is its start and their number,
@@ -41,16 +41,16 @@ pub fn room_is_known()
 
 /// The lists of a ring: as many as there are slots on the way, none where the positions are the same, and cut at each position on
 /// the way. So the entries that are not fetched are those that were rung, and then those that were not.
-#[tactic(auto, using(crate::proofs::Rings::entries_count, crate::proofs::Rings::answers_count, crate::proofs::Rings::entries_none, crate::proofs::Rings::answers_none, crate::proofs::Rings::entries_parts, crate::proofs::Rings::answers_parts))]
+#[tactic(auto, using(crate::proofs::Rings::entries_count, crate::proofs::Rings::completions_count, crate::proofs::Rings::entries_none, crate::proofs::Rings::completions_none, crate::proofs::Rings::entries_parts, crate::proofs::Rings::completions_parts))]
 pub fn lists_follow_slots()
     ensures entries { (m : Memory) (sq n from to : ℕ) → length (entries_between m sq n from to) ≡ distance n from to }
-    ensures answers { (m : Memory) (cq n from to : ℕ) → length (answers_between m cq n from to) ≡ distance n from to }
+    ensures answers { (m : Memory) (cq n from to : ℕ) → length (completions_from m cq n from to) ≡ distance n from to }
     ensures no_entries { (m : Memory) (sq n slot : ℕ) → entries_between m sq n slot slot ≡ [] }
-    ensures no_answers { (m : Memory) (cq n slot : ℕ) → answers_between m cq n slot slot ≡ [] }
+    ensures no_answers { (m : Memory) (cq n slot : ℕ) → completions_from m cq n slot slot ≡ [] }
     ensures entries_cut { (m : Memory) (sq n from mid to : ℕ) → from < n → to < n → is_in_range n from to mid ≡ true
         → entries_between m sq n from to ≡ entries_between m sq n from mid ++ entries_between m sq n mid to }
-    ensures answers_cut { (m : Memory) (cq n from mid to : ℕ) → from < n → to < n → is_in_range n from to mid ≡ true
-        → answers_between m cq n from to ≡ answers_between m cq n from mid ++ answers_between m cq n mid to }
+    ensures completions_cut { (m : Memory) (cq n from mid to : ℕ) → from < n → to < n → is_in_range n from to mid ≡ true
+        → completions_from m cq n from to ≡ completions_from m cq n from mid ++ completions_from m cq n mid to }
 {}
 
 /// Each slot lies in one page, which is a page of its half; it is there where the half's pages are in.
@@ -65,24 +65,24 @@ pub fn slots_lie_in_halves()
 {}
 
 /// Memories that show the same in a half have the same list there, and the same phases.
-#[tactic(auto, using(crate::proofs::Halves::entries_agree, crate::proofs::Halves::answers_agree, crate::proofs::Halves::phases_agree))]
+#[tactic(auto, using(crate::proofs::Halves::entries_agree, crate::proofs::Halves::posted_agree, crate::proofs::Halves::phases_agree))]
 pub fn halves_tell_lists()
     ensures entries { (m m' : Memory) (sq n from to : ℕ) → Agree m m' sq (half_pages n Submission) → from < n
         → entries_between m sq n from to ≡ entries_between m' sq n from to }
     ensures answers { (m m' : Memory) (cq n from to : ℕ) → Agree m m' cq (half_pages n Completion) → from < n
-        → answers_between m cq n from to ≡ answers_between m' cq n from to }
+        → completions_from m cq n from to ≡ completions_from m' cq n from to }
     ensures phases { (m m' : Memory) (cq n tail : ℕ) (phase : Bool) → Agree m m' cq (half_pages n Completion)
         → PhasesStand m cq n tail phase → PhasesStand m' cq n tail phase }
 {}
 
 /// A write outside a half leaves what it shows, and so does a post to the other half of a queue, or to a half of another queue.
-#[tactic(auto, using(crate::proofs::Halves::outside_agrees, crate::proofs::Halves::entry_outside, crate::proofs::Halves::completion_outside, crate::proofs::Halves::answers_left, crate::proofs::Halves::entries_left))]
+#[tactic(auto, using(crate::proofs::Halves::outside_agrees, crate::proofs::Halves::entry_outside, crate::proofs::Halves::completion_outside, crate::proofs::Halves::completions_left, crate::proofs::Halves::entries_left))]
 pub fn writes_elsewhere_leave_halves()
     ensures outside { (m : Memory) (place page pages : ℕ) (bytes : List ℕ) → IsOutside place (length bytes) page pages → Agree m (written m place bytes) page pages }
     ensures entry { (sq n slot page pages : ℕ) → slot < n → AreApart sq (half_pages n Submission) page pages → IsOutside (submission_place sq slot) 64 page pages }
     ensures completion { (cq n slot page pages : ℕ) → slot < n → AreApart cq (half_pages n Completion) page pages → IsOutside (completion_place cq slot) 16 page pages }
     ensures answers { (m : Memory) (sq cq n slot from to : ℕ) (bytes : List ℕ) → length bytes ≡ 64 → slot < n → from < n → AreApart sq (half_pages n Submission) cq (half_pages n Completion)
-        → answers_between (written m (submission_place sq slot) bytes) cq n from to ≡ answers_between m cq n from to }
+        → completions_from (written m (submission_place sq slot) bytes) cq n from to ≡ completions_from m cq n from to }
     ensures entries { (m : Memory) (sq cq n slot from to : ℕ) (bytes : List ℕ) → length bytes ≡ 16 → slot < n → from < n → AreApart cq (half_pages n Completion) sq (half_pages n Submission)
         → entries_between (written m (completion_place cq slot) bytes) sq n from to ≡ entries_between m sq n from to }
 {}
@@ -99,8 +99,8 @@ pub fn pools_show_halves()
 /// Over pages of zeros the phases stand as the first completion is awaited, and the two sides are tied as they are opened.
 #[tactic(auto, using(crate::proofs::Halves::zeros_stand))]
 pub fn fresh_rings_stand()
-    ensures phases { (m : Memory) (cq n : ℕ) → IsZero m cq (half_pages n Completion) → PhasesStand m cq n fresh_device_ring.tail fresh_device_ring.phase }
-    ensures tied { fresh_host_ring.phase ≡ expected_phase fresh_host_ring.head fresh_device_ring.tail fresh_device_ring.phase }
+    ensures phases { (m : Memory) (cq n : ℕ) → IsZero m cq (half_pages n Completion) → PhasesStand m cq n fresh_controller_ring.tail fresh_controller_ring.phase }
+    ensures tied { fresh_host_ring.phase ≡ expected_phase fresh_host_ring.head fresh_controller_ring.tail fresh_controller_ring.phase }
 {}
 
 /// Each move of a side leaves its positions inside the ring, and so does making it anew over other halves.
@@ -109,13 +109,13 @@ pub fn moves_stay_inside()
     ensures next_head { (side : HostSide) → IsHostSide side → IsHostSide (record side { ring = next_head side.entries side.ring }) }
     ensures knowing { (side : HostSide) (head : ℕ) → IsHostSide side → is_in_range side.entries side.ring.known_head side.ring.tail head ≡ true
         → IsHostSide (record side { ring = knowing head side.ring }) }
-    ensures hearing_tail { (side : DeviceSide) (tail : ℕ) → IsDeviceSide side → tail < side.entries → IsDeviceSide (record side { ring = hearing_tail tail side.ring }) }
-    ensures hearing_head { (side : DeviceSide) (head : ℕ) → IsDeviceSide side → is_in_range side.entries side.ring.known_head side.ring.tail head ≡ true
-        → IsDeviceSide (record side { ring = hearing_head head side.ring }) }
-    ensures entry_taken { (side : DeviceSide) → IsDeviceSide side → IsDeviceSide (record side { ring = entry_taken side.entries side.ring }) }
-    ensures answer_posted { (side : DeviceSide) → IsDeviceSide side → IsDeviceSide (record side { ring = answer_posted side.entries side.ring }) }
+    ensures hearing_tail { (side : ControllerSide) (tail : ℕ) → IsControllerSide side → tail < side.entries → IsControllerSide (record side { ring = hearing_tail tail side.ring }) }
+    ensures hearing_head { (side : ControllerSide) (head : ℕ) → IsControllerSide side → is_in_range side.entries side.ring.known_head side.ring.tail head ≡ true
+        → IsControllerSide (record side { ring = hearing_head head side.ring }) }
+    ensures entry_taken { (side : ControllerSide) → IsControllerSide side → IsControllerSide (record side { ring = entry_taken side.entries side.ring }) }
+    ensures completion_posted { (side : ControllerSide) → IsControllerSide side → IsControllerSide (record side { ring = completion_posted side.entries side.ring }) }
     ensures host_renewed { (side : HostSide) (sq cq : ℕ) → IsHostSide side → IsHostSide (record side { sq = sq; cq = cq; ring = fresh_host_ring; claimed = none_claimed (side.entries - 1) }) }
-    ensures device_renewed { (side : DeviceSide) (sq cq : ℕ) → IsDeviceSide side → IsDeviceSide (record side { sq = sq; cq = cq; ring = fresh_device_ring }) }
+    ensures controller_renewed { (side : ControllerSide) (sq cq : ℕ) → IsControllerSide side → IsControllerSide (record side { sq = sq; cq = cq; ring = fresh_controller_ring }) }
 {}
 
 /// Where two positions lie so many slots apart, each tells the other; and the phase that the host expects tells the controller's,

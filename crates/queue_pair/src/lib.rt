@@ -25,4 +25,4 @@ pub use device::DevicePair;
 pub use fault::{BadBell, BadHead, PostFault, QueueFull, SlotOut};
 pub use half::{doorbell, half_pages};
 pub use host::HostPair;
-pub use positions::{DevicePositions, HostPositions};
+pub use positions::{ControllerPositions, HostPositions};

@@ -15,7 +15,7 @@ pub struct HostPositions {
 
 /// Where the controller stands in the two rings of a queue, and what it heard by doorbells.
 #[derive(Clone, Copy, Debug, PartialEq, Eq)]
-pub struct DevicePositions {
+pub struct ControllerPositions {
     /// The submission head: the slot of the next entry to fetch.
     pub submission_head: u16,
     /// The submission tail that was rung last.

@@ -192,7 +192,7 @@ by_forged s e reply order f c exact proper accepted answer = record {
     proper,
     unjudged _ _ (let wild : (s.trusted || not (IsController e)) ≡ false = rw (f, c) refl in wild) answer,
     unjudged _ _ (let loose : is_exact e s.trusted ≡ false = rw f exact in loose)
-        (judged _ _ c (record { part = sym (part_controller s e reply c); pages = order.whole; device = record { image = refl; queues = refl } })),
+        (judged _ _ c (record { part = sym (part_controller s e reply c); pages = order.whole; controller = record { image = refl; queues = refl } })),
   );
 }
 

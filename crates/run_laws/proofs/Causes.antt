@@ -6,7 +6,7 @@ use Rattle.machine_model.proofs.{Cases.none_some, Steps.{Accepts, managed_by, pe
 use Rattle.machine_model.specs.{After.{course_of, walks, final_status}, Agreeing.unfetched_count, Claims.OwnsFit, Events.{Event, Reply}, Image.Made}
 use Rattle.machine_model.specs.{Proper.IsProper}
 use Rattle.machine_model.specs.Refusals.{is_submitted, next_rung, job_at, is_job, refusal_of}
-use Rattle.machine_model.specs.{Standing.{unfetched_at, HasEntry, StandsAs, CommandStands}, State.{State, DeviceQueue, Record, Job, is_at, pages_of}}
+use Rattle.machine_model.specs.{Standing.{unfetched_at, HasEntry, StandsAs, CommandStands}, State.{State, ServedQueue, Record, Job, is_at, pages_of}}
 use Rattle.machine_model.specs.{Status.same_status, Step.{IsController, resets, Step}, Trusted.TrustedRun, Weights.{one, total}, Work.Work}
 use Rattle.machine_model.specs.declared.words.{Refusal.Refusal, Work.TheVariants.{Io, Management}}
 use Rattle.std.proofs.Common.{◌≡◌, ℕ, zero, suc, ◌+◌, ◌≤◌, ◌==◌, nat_lt, Bool, true, false, ◌&&◌, ◌||◌, Option, Some, None, List, [], ◌∷◌, ◌++◌, length, if◌then◌else◌, refl, ap, sym, ◌∙◌, arith, subst, eqb-true, eq-eqb, inl, inr, not, map, filter, find, is_some, is_none, ◌/◌}
@@ -23,7 +23,7 @@ use Rattle.io_commands.specs.Jobs.{is_success, verdict_of, io_fault, bytes_after
 use Rattle.io_commands.specs.{Values.IsGood, declared.request.Kind.{Kind, TheVariants.{Write, Read, Compare}}}
 use Rattle.run_laws.specs.Statuses.{fetches, aborts, deletes, since_fetch, fetches_by, managed_entry, status_by, has_cause, passes_image, is_compare, every_status_has_its_cause}
 use Rattle.two_sides.proofs.{Along.{Carried, Before, keeps, made_of, run_before}, Commands.{in_hand_is, Walking, walking}}
-use Rattle.two_sides.proofs.{DeviceMoves.{unit_bytes, unit_done, finished, fetch_of, walk_by, complete_by}, JobLaws.{moved_length, blocks_put, not_zero}}
+use Rattle.two_sides.proofs.{ControllerMoves.{unit_bytes, unit_done, finished, fetch_of, walk_by, complete_by}, JobLaws.{moved_length, blocks_put, not_zero}}
 use Rattle.two_sides.proofs.{NeverFull.{one_job, stood_on, stood_at_opening}, PlacesKept.{InHand, first_is, running_not_past, in_hand}}
 use Rattle.two_sides.proofs.PoolBytes.{host_jobs, host_image}
 use Rattle.two_sides.proofs.Provided.{sent_found, all_map, all_append, all_of, all_in_both, only_found}
@@ -151,24 +151,24 @@ pub record HandGood (e : SubEntry) : Type 0 where
 pub hand_good : (s : State) → Stood s → (q : ℕ) (e : SubEntry) → (q == 0) ≡ false → InHand s q e → HandGood e
 hand_good s stood q e other hand =
     let w : ℕ → ℕ = λ c. one (c == e.cid) in
-    let un : unfetched_count q w s.host.queues s.device.queues ≡ total (λ (x : SubEntry). w x.cid) (unfetched_at s.device.queues q) =
-    ap (λ (b : Bool). if b then 0 else total (λ (x : SubEntry). w x.cid) (unfetched_at s.device.queues q)) (running_not_past s stood.grounds q e hand) in
-    let mine : 1 ≤ total (λ (x : SubEntry). w x.cid) (unfetched_at s.device.queues q) =
-    subst (λ (xs : List SubEntry). 1 ≤ total (λ (x : SubEntry). w x.cid) xs) (sym (ap (λ (o : Option DeviceQueue). option_map_or (λ at. at.unfetched) o []) hand.at ∙ first_is hand.queue.unfetched e hand.first))
+    let un : unfetched_count q w s.host.queues s.controller.queues ≡ total (λ (x : SubEntry). w x.cid) (unfetched_at s.controller.queues q) =
+    ap (λ (b : Bool). if b then 0 else total (λ (x : SubEntry). w x.cid) (unfetched_at s.controller.queues q)) (running_not_past s stood.grounds q e hand) in
+    let mine : 1 ≤ total (λ (x : SubEntry). w x.cid) (unfetched_at s.controller.queues q) =
+    subst (λ (xs : List SubEntry). 1 ≤ total (λ (x : SubEntry). w x.cid) xs) (sym (ap (λ (o : Option ServedQueue). option_map_or (λ at. at.unfetched) o []) hand.at ∙ first_is hand.queue.unfetched e hand.first))
     (omega (arith, ap one (eq-eqb e.cid e.cid refl))) in
     let r = sent_found q e.cid s.host.records (omega (arith, un, mine, stood.places q w)) (stood.grounds.stands.0.once q e.cid) in
     let ids = and_parts (r.0.q == q) (r.0.cid == e.cid) (found_is (is_at q e.cid) s.host.records r.0 r.1) in
     of r.0 r.2 (eqb-true r.0.q q ids.0) (eqb-true r.0.cid e.cid ids.1) r.0.work refl
     (all-found (λ r. OwnsFit r.q r.work (pages_of r)) (is_at q e.cid) s.host.records r.0 r.1 stood.grounds.stands.0.admins)
-    (all-found (CommandStands s.memory s.device.queues s.device.jobs) (is_at q e.cid) s.host.records r.0 r.1 stood.commands)
+    (all-found (CommandStands s.memory s.controller.queues s.controller.jobs) (is_at q e.cid) s.host.records r.0 r.1 stood.commands)
   where
     of : (r : Record) → is_submitted r.phase ≡ true → r.q ≡ q → r.cid ≡ e.cid → (work : Work) → r.work ≡ work
-        → OwnsFit r.q r.work (pages_of r) → CommandStands s.memory s.device.queues s.device.jobs r → HandGood e
+        → OwnsFit r.q r.work (pages_of r) → CommandStands s.memory s.controller.queues s.controller.jobs r → HandGood e
     of r sub rq rc (Io request) is fit stands =
-        let stands' : StandsAs s.memory s.device.queues s.device.jobs r (Io request) = subst (StandsAs s.memory s.device.queues s.device.jobs r) is stands in
+        let stands' : StandsAs s.memory s.controller.queues s.controller.jobs r (Io request) = subst (StandsAs s.memory s.controller.queues s.controller.jobs r) is stands in
         let list = stands'.1 sub in
         let same : e ≡ io_entry r.cid request (spelling list.first) =
-        in_hand_is s q e hand r.cid (io_entry r.cid request (spelling list.first)) (subst (λ (n : ℕ). HasEntry s.device.queues s.device.jobs n r.cid (io_entry r.cid request (spelling list.first))) rq list.entry) (sym rc) in
+        in_hand_is s q e hand r.cid (io_entry r.cid request (spelling list.first)) (subst (λ (n : ℕ). HasEntry s.controller.queues s.controller.jobs n r.cid (io_entry r.cid request (spelling list.first))) rq list.entry) (sym rc) in
         record { request = request; sgl1 = spelling list.first; good = stands'.0.good; is = same ∙ ap (λ (c : ℕ). io_entry c request (spelling list.first)) rc }
     of r sub rq rc (Management adm) is fit stands = grind (arith, eq-eqb)
 
@@ -211,8 +211,8 @@ answers_well (suc t) (Does x rest) e st h = answers_well t rest e st h
 
 -- What a step leaves: an image as long, and each verdict with its cause
 pub record Keeps (earlier : List Made) (s t : State) : Type 0 where
-  pub image : length t.device.image ≡ length s.device.image
-  pub jobs : AllCaused earlier (a.image_blocks s) t.device.jobs
+  pub image : length t.controller.image ≡ length s.controller.image
+  pub jobs : AllCaused earlier (a.image_blocks s) t.controller.jobs
 
 -- Steps that are no fetch
 
@@ -222,8 +222,8 @@ host_no_fetch e reply q cid c = grind arith
 pub refused_no_fetch : (e : Event) (why : Refusal) (touched : List ℕ) (q cid : ℕ) → fetches_by q cid e (events.Refused why touched) ≡ false
 refused_no_fetch e why touched q cid = grind arith
 
-pub not_fetched : (earlier : List Made) (m : Made) (s : State) → ((q cid : ℕ) → fetches q cid m ≡ false) → AllCaused earlier (a.image_blocks s) s.device.jobs → AllCaused (earlier ++ m ∷ []) (a.image_blocks s) s.device.jobs
-not_fetched earlier m s far h = all_on earlier (a.image_blocks s) s.device.jobs m (all_of (λ j. (j.q == 0) ≡ false → fetches j.q j.entry.cid m ≡ false) s.device.jobs (λ j within other. far j.q j.entry.cid)) h
+pub not_fetched : (earlier : List Made) (m : Made) (s : State) → ((q cid : ℕ) → fetches q cid m ≡ false) → AllCaused earlier (a.image_blocks s) s.controller.jobs → AllCaused (earlier ++ m ∷ []) (a.image_blocks s) s.controller.jobs
+not_fetched earlier m s far h = all_on earlier (a.image_blocks s) s.controller.jobs m (all_of (λ j. (j.q == 0) ≡ false → fetches j.q j.entry.cid m ≡ false) s.controller.jobs (λ j within other. far j.q j.entry.cid)) h
 
 -- Fetching
 
@@ -231,22 +231,22 @@ far_zero : (q : ℕ) → (q == 0) ≡ false → (0 == q) ≡ false
 far_zero q h = grind (arith, nat_tests, h)
 
 -- an admin entry
-managed_keeps : (earlier : List Made) (s : State) (q : ℕ) (e : SubEntry) (c : ℕ) (touched : List ℕ) → q ≡ 0 → next_rung s q ≡ Some e → AllCaused earlier (a.image_blocks s) s.device.jobs
+managed_keeps : (earlier : List Made) (s : State) (q : ℕ) (e : SubEntry) (c : ℕ) (touched : List ℕ) → q ≡ 0 → next_rung s q ≡ Some e → AllCaused earlier (a.image_blocks s) s.controller.jobs
     → Keeps (earlier ++ record { before = s; event = events.Fetch q; reply = events.Fetched c touched } ∷ []) s (a.managed e (a.taken_off 0 s))
 managed_keeps earlier s q e c touched z rung h =
-    let old = all_on earlier (a.image_blocks s) s.device.jobs m (all_of (λ j. (j.q == 0) ≡ false → fetches j.q j.entry.cid m ≡ false) s.device.jobs (λ j within other. far j other)) h in
+    let old = all_on earlier (a.image_blocks s) s.controller.jobs m (all_of (λ j. (j.q == 0) ≡ false → fetches j.q j.entry.cid m ≡ false) s.controller.jobs (λ j within other. far j other)) h in
     managed_by (Keeps (earlier ++ m ∷ []) s) e (a.taken_off 0 s)
     (record {
       refuses = λ st bad. decided st 0 (a.taken_off 0 s) refl old;
       aborts = λ is8 w. decided SUCCESS 0 (a.on_job (named_queue e) (named_command e) (λ j. record j { verdict = Some ABORT_REQUESTED; waiting_abort = Some e.cid }) (a.taken_off 0 s)) refl
           (all_map (CausedIfIo earlier (a.image_blocks s)) (CausedIfIo (earlier ++ m ∷ []) (a.image_blocks s)) (λ j. if (j.q == named_queue e) && (j.entry.cid == named_command e) then record j { verdict = Some ABORT_REQUESTED; waiting_abort = Some e.cid } else j)
-          s.device.jobs (λ j k. marked is8 w j ((j.q == named_queue e) && (j.entry.cid == named_command e)) refl k) h);
+          s.controller.jobs (λ j k. marked is8 w j ((j.q == named_queue e) && (j.entry.cid == named_command e)) refl k) h);
       is_late = λ is8. decided SUCCESS 1 (a.taken_off 0 s) refl old;
-      stops = λ is0 q0 runs. decided SUCCESS 0 (a.on_device (λ d. record d { jobs = map (a.stopped (named_queue e)) d.jobs }) (a.on_device_queue (named_queue e) (λ at. record at { state = Stopping }) (a.taken_off 0 s))) refl
-          (all_map (CausedIfIo earlier (a.image_blocks s)) (CausedIfIo (earlier ++ m ∷ []) (a.image_blocks s)) (a.stopped (named_queue e)) s.device.jobs (λ j k. halted is0 j ((j.q == named_queue e) && is_none j.verdict) refl k) h);
-      drops = λ is4 q0 there gone. decided SUCCESS 0 (a.on_device_queue (named_queue e) a.dropped (a.taken_off 0 s)) refl old;
-      makes_completion = λ is5 q0 none. decided SUCCESS 0 (a.on_device_queue (named_queue e) a.completion_made (a.taken_off 0 s)) refl old;
-      makes_submission = λ is1 q0 gone there. decided SUCCESS 0 (a.on_device_queue (named_queue e) a.submission_made (a.taken_off 0 s)) refl old;
+      stops = λ is0 q0 runs. decided SUCCESS 0 (a.on_controller (λ d. record d { jobs = map (a.stopped (named_queue e)) d.jobs }) (a.on_served_queue (named_queue e) (λ at. record at { state = Stopping }) (a.taken_off 0 s))) refl
+          (all_map (CausedIfIo earlier (a.image_blocks s)) (CausedIfIo (earlier ++ m ∷ []) (a.image_blocks s)) (a.stopped (named_queue e)) s.controller.jobs (λ j k. halted is0 j ((j.q == named_queue e) && is_none j.verdict) refl k) h);
+      drops = λ is4 q0 there gone. decided SUCCESS 0 (a.on_served_queue (named_queue e) a.dropped (a.taken_off 0 s)) refl old;
+      makes_completion = λ is5 q0 none. decided SUCCESS 0 (a.on_served_queue (named_queue e) a.completion_made (a.taken_off 0 s)) refl old;
+      makes_submission = λ is1 q0 gone there. decided SUCCESS 0 (a.on_served_queue (named_queue e) a.submission_made (a.taken_off 0 s)) refl old;
     })
   where
     m : Made
@@ -258,11 +258,11 @@ managed_keeps earlier s q e c touched z rung h =
     far : (j : Job) → (j.q == 0) ≡ false → fetches j.q j.entry.cid (record { before = s; event = events.Fetch q; reply = events.Fetched c touched }) ≡ false
     far j other = rw z (ap (λ (b : Bool). b && (c == j.entry.cid)) (far_zero j.q other))
 
-    decided : (st : Status) (dw0 : ℕ) (t : State) → t.device.image ≡ s.device.image → AllCaused (earlier ++ record { before = s; event = events.Fetch q; reply = events.Fetched c touched } ∷ []) (a.image_blocks s) t.device.jobs
+    decided : (st : Status) (dw0 : ℕ) (t : State) → t.controller.image ≡ s.controller.image → AllCaused (earlier ++ record { before = s; event = events.Fetch q; reply = events.Fetched c touched } ∷ []) (a.image_blocks s) t.controller.jobs
         → Keeps (earlier ++ record { before = s; event = events.Fetch q; reply = events.Fetched c touched } ∷ []) s (a.decided e st dw0 t)
     decided st dw0 t same all = record {
       image = ap length same;
-      jobs = all_append (CausedIfIo (earlier ++ m ∷ []) (a.image_blocks s)) t.device.jobs (a.new_job 0 e (Some st) dw0 [] ∷ []) all ((λ other. absurd (true≢false other)), tt);
+      jobs = all_append (CausedIfIo (earlier ++ m ∷ []) (a.image_blocks s)) t.controller.jobs (a.new_job 0 e (Some st) dw0 [] ∷ []) all ((λ other. absurd (true≢false other)), tt);
     }
 
     marked : (e.opcode == ABORT) ≡ true → walks s (named_queue e) (named_command e) ≡ true → (j : Job) (b : Bool) → ((j.q == named_queue e) && (j.entry.cid == named_command e)) ≡ b
@@ -290,7 +290,7 @@ pub none_found : (q cid : ℕ) (js : List Job) → is_some (find (is_job q cid) 
 none_found q cid [] h = tt
 none_found q cid (j ∷ js) h = grind (arith, none_found q cid js)
 
-fetch_keeps : (earlier : List Made) (s : State) (q c : ℕ) (touched : List ℕ) → option_map (λ (e : SubEntry). e.cid) (next_rung s q) ≡ Some c → Stood s → AllCaused earlier (a.image_blocks s) s.device.jobs
+fetch_keeps : (earlier : List Made) (s : State) (q c : ℕ) (touched : List ℕ) → option_map (λ (e : SubEntry). e.cid) (next_rung s q) ≡ Some c → Stood s → AllCaused earlier (a.image_blocks s) s.controller.jobs
     → Keeps (earlier ++ record { before = s; event = events.Fetch q; reply = events.Fetched c touched } ∷ []) s (a.after_fetch q s)
 fetch_keeps earlier s q c touched cid stood h =
     let x = entry (next_rung s q) refl cid in
@@ -307,9 +307,9 @@ fetch_keeps earlier s q c touched cid stood h =
     begun : (e : SubEntry) → InHand s q e → c ≡ e.cid → (q == 0) ≡ false → Keeps (earlier ++ record { before = s; event = events.Fetch q; reply = events.Fetched c touched } ∷ []) s (a.begun q e (a.taken_off q s))
     begun e hand is other = record {
       image = refl;
-      jobs = all_append (CausedIfIo (earlier ++ m ∷ []) (a.image_blocks s)) s.device.jobs (a.new_job q e (io_fault (a.image_blocks s) e) 0 (bytes_after_check s.device.image e (io_fault (a.image_blocks s) e)) ∷ [])
-          (all_on earlier (a.image_blocks s) s.device.jobs m (elsewhere s.device.jobs (none_found q e.cid s.device.jobs (not_conflicting s stood q e hand))) h)
-          ((λ o. caused_begun earlier (a.image_blocks s) s.device.image q e m (hand_good s stood q e other hand) (rw (eq-eqb q q refl) (eq-eqb c e.cid is))), tt);
+      jobs = all_append (CausedIfIo (earlier ++ m ∷ []) (a.image_blocks s)) s.controller.jobs (a.new_job q e (io_fault (a.image_blocks s) e) 0 (bytes_after_check s.controller.image e (io_fault (a.image_blocks s) e)) ∷ [])
+          (all_on earlier (a.image_blocks s) s.controller.jobs m (elsewhere s.controller.jobs (none_found q e.cid s.controller.jobs (not_conflicting s stood q e hand))) h)
+          ((λ o. caused_begun earlier (a.image_blocks s) s.controller.image q e m (hand_good s stood q e other hand) (rw (eq-eqb q q refl) (eq-eqb c e.cid is))), tt);
     }
       where
         elsewhere : (js : List Job) → AllByRecursion (λ j. is_job q e.cid j ≡ false) js → AllByRecursion (λ j. (j.q == 0) ≡ false → fetches j.q j.entry.cid (record { before = s; event = events.Fetch q; reply = events.Fetched c touched }) ≡ false) js
@@ -318,7 +318,7 @@ fetch_keeps earlier s q c touched cid stood h =
 
 -- Walking
 
-walk_keeps : (earlier : List Made) (s : State) (q cid : ℕ) (m : Made) → ((q cid : ℕ) → fetches q cid m ≡ false) → refusal_of s (events.Walk q cid) ≡ None → Stood s → AllCaused earlier (a.image_blocks s) s.device.jobs
+walk_keeps : (earlier : List Made) (s : State) (q cid : ℕ) (m : Made) → ((q cid : ℕ) → fetches q cid m ≡ false) → refusal_of s (events.Walk q cid) ≡ None → Stood s → AllCaused earlier (a.image_blocks s) s.controller.jobs
     → Keeps (earlier ++ m ∷ []) s (a.after_walk q cid s)
 walk_keeps earlier s q cid m far none stood h =
     walk_by (λ (t : State). Keeps (earlier ++ m ∷ []) s t) s q cid (record { image = refl; jobs = not_fetched earlier m s far h })
@@ -338,12 +338,12 @@ walk_keeps earlier s q cid m far none stood h =
         }
 
     each : (j : Job) → Walking s q cid j → (f : Job → Job) → (Caused (earlier ++ m ∷ []) (a.image_blocks s) j → Caused (earlier ++ m ∷ []) (a.image_blocks s) (f j)) → ((k : Job) → (f k).q ≡ k.q)
-        → AllCaused (earlier ++ m ∷ []) (a.image_blocks s) (map (λ k. if (k.q == q) && (k.entry.cid == cid) then f k else k) s.device.jobs)
+        → AllCaused (earlier ++ m ∷ []) (a.image_blocks s) (map (λ k. if (k.q == q) && (k.entry.cid == cid) then f k else k) s.controller.jobs)
     each j w f step same =
-        all_map (λ k. (is_job q cid k ≡ true → k ≡ j) × CausedIfIo (earlier ++ m ∷ []) (a.image_blocks s) k) (CausedIfIo (earlier ++ m ∷ []) (a.image_blocks s)) (λ k. if (k.q == q) && (k.entry.cid == cid) then f k else k) s.device.jobs
+        all_map (λ k. (is_job q cid k ≡ true → k ≡ j) × CausedIfIo (earlier ++ m ∷ []) (a.image_blocks s) k) (CausedIfIo (earlier ++ m ∷ []) (a.image_blocks s)) (λ k. if (k.q == q) && (k.entry.cid == cid) then f k else k) s.controller.jobs
         (λ k p. one_of k (is_job q cid k) refl p.0 p.1)
-        (all_in_both (λ k. CausedIfIo (earlier ++ m ∷ []) (a.image_blocks s) k) (λ k. is_job q cid k ≡ true → k ≡ j) (λ k. (is_job q cid k ≡ true → k ≡ j) × CausedIfIo (earlier ++ m ∷ []) (a.image_blocks s) k) s.device.jobs
-        (λ k within x p. (x, p)) (only_found (is_job q cid) s.device.jobs j w.found (one_job s stood q cid)) (not_fetched earlier m s far h))
+        (all_in_both (λ k. CausedIfIo (earlier ++ m ∷ []) (a.image_blocks s) k) (λ k. is_job q cid k ≡ true → k ≡ j) (λ k. (is_job q cid k ≡ true → k ≡ j) × CausedIfIo (earlier ++ m ∷ []) (a.image_blocks s) k) s.controller.jobs
+        (λ k within x p. (x, p)) (only_found (is_job q cid) s.controller.jobs j w.found (one_job s stood q cid)) (not_fetched earlier m s far h))
       where
         one_of : (k : Job) (b : Bool) → is_job q cid k ≡ b → (is_job q cid k ≡ true → k ≡ j) → CausedIfIo (earlier ++ m ∷ []) (a.image_blocks s) k → CausedIfIo (earlier ++ m ∷ []) (a.image_blocks s) (if b then f k else k)
         one_of k true t only p = subst (λ (x : Job). CausedIfIo (earlier ++ m ∷ []) (a.image_blocks s) (f x)) (sym (only t)) (λ other. step (subst (CausedIfIo (earlier ++ m ∷ []) (a.image_blocks s)) (only t) p w.other))
@@ -358,39 +358,39 @@ walk_keeps earlier s q cid m far none stood h =
 
 -- Completing
 
-complete_keeps : (earlier : List Made) (s : State) (q cid : ℕ) (m : Made) → ((q cid : ℕ) → fetches q cid m ≡ false) → Stood s → AllCaused earlier (a.image_blocks s) s.device.jobs
+complete_keeps : (earlier : List Made) (s : State) (q cid : ℕ) (m : Made) → ((q cid : ℕ) → fetches q cid m ≡ false) → Stood s → AllCaused earlier (a.image_blocks s) s.controller.jobs
     → Keeps (earlier ++ m ∷ []) s (a.after_complete q cid s)
 complete_keeps earlier s q cid m far stood h =
     complete_by (λ (t : State). Keeps (earlier ++ m ∷ []) s t) s q cid (record { image = refl; jobs = not_fetched earlier m s far h })
     (λ j at c. record { image = left j at; jobs = fewer }) (λ j at c. record { image = left j at; jobs = fewer })
   where
-    fewer : AllCaused (earlier ++ m ∷ []) (a.image_blocks s) (filter (λ j. not ((j.q == q) && (j.entry.cid == cid))) s.device.jobs)
-    fewer = all-filter (CausedIfIo (earlier ++ m ∷ []) (a.image_blocks s)) (λ j. not ((j.q == q) && (j.entry.cid == cid))) s.device.jobs (not_fetched earlier m s far h)
+    fewer : AllCaused (earlier ++ m ∷ []) (a.image_blocks s) (filter (λ j. not ((j.q == q) && (j.entry.cid == cid))) s.controller.jobs)
+    fewer = all-filter (CausedIfIo (earlier ++ m ∷ []) (a.image_blocks s)) (λ j. not ((j.q == q) && (j.entry.cid == cid))) s.controller.jobs (not_fetched earlier m s far h)
 
     -- the image is as long behind a Write
     by_kind : (j : Job) (v : Status) → Caused earlier (a.image_blocks s) j → j.verdict ≡ Some v → is_success v ≡ true → (k : Option Kind) → kind_of_opcode j.entry.opcode ≡ k
-        → length (jobs.image_by s.device.image j.entry j.bytes k) ≡ length s.device.image
+        → length (jobs.image_by s.controller.image j.entry j.bytes k) ≡ length s.controller.image
     by_kind j v c jv ok None e = refl
     by_kind j v c jv ok (Some Read) e = refl
     by_kind j v c jv ok (Some Write) e =
         let well : goes_well j.verdict ≡ true = ap goes_well jv ∙ ok in
-        blocks_put s.device.image j.bytes (first_block j.entry) (block_number j.entry) (c.whole e well) (c.inside e well)
+        blocks_put s.controller.image j.bytes (first_block j.entry) (block_number j.entry) (c.whole e well) (c.inside e well)
     by_kind j v c jv ok (Some Compare) e = refl
 
-    by_verdict : (j : Job) → Caused earlier (a.image_blocks s) j → (o : Option Status) → j.verdict ≡ o → length (jobs.image_after s.device.image j.entry j.bytes o) ≡ length s.device.image
+    by_verdict : (j : Job) → Caused earlier (a.image_blocks s) j → (o : Option Status) → j.verdict ≡ o → length (jobs.image_after s.controller.image j.entry j.bytes o) ≡ length s.controller.image
     by_verdict j c None jv = refl
     by_verdict j c (Some v) jv = elim (cases_Bool (is_success v)) [ inl ok ↦ rw ok (by_kind j v c jv ok (kind_of_opcode j.entry.opcode) refl) | inr ok ↦ rw ok refl ]
 
-    image : (j : Job) → CausedIfIo earlier (a.image_blocks s) j → (b : Bool) → (j.q == 0) ≡ b → length (if b then s.device.image else jobs.image_after s.device.image j.entry j.bytes j.verdict) ≡ length s.device.image
+    image : (j : Job) → CausedIfIo earlier (a.image_blocks s) j → (b : Bool) → (j.q == 0) ≡ b → length (if b then s.controller.image else jobs.image_after s.controller.image j.entry j.bytes j.verdict) ≡ length s.controller.image
     image j c true e = refl
     image j c false e = by_verdict j (c e) j.verdict refl
 
-    left : (j : Job) → job_at s q cid ≡ Some j → length (finished q cid j s).device.image ≡ length s.device.image
-    left j at = image j (all-found (CausedIfIo earlier (a.image_blocks s)) (is_job q cid) s.device.jobs j at h) (j.q == 0) refl
+    left : (j : Job) → job_at s q cid ≡ Some j → length (finished q cid j s).controller.image ≡ length s.controller.image
+    left j at = image j (all-found (CausedIfIo earlier (a.image_blocks s)) (is_job q cid) s.controller.jobs j at h) (j.q == 0) refl
 
 -- Every step
 
-host_keeps : (earlier : List Made) (s : State) (e : Event) (reply : Reply) → IsController e ≡ false → resets e ≡ false → Accepts s e reply → AllCaused earlier (a.image_blocks s) s.device.jobs
+host_keeps : (earlier : List Made) (s : State) (e : Event) (reply : Reply) → IsController e ≡ false → resets e ≡ false → Accepts s e reply → AllCaused earlier (a.image_blocks s) s.controller.jobs
     → Keeps (earlier ++ record { before = s; event = e; reply = reply } ∷ []) s (a.after s e reply)
 host_keeps earlier s e reply c other ok h = record {
   image = ap length (host_image s e reply ok c);
@@ -398,7 +398,7 @@ host_keeps earlier s e reply c other ok h = record {
       (not_fetched earlier (record { before = s; event = e; reply = reply }) s (λ k n. host_no_fetch e reply k n c) h);
 }
 
-pub event_keeps : (earlier : List Made) (s : State) (e : Event) (reply : Reply) → Accepts s e reply → Stood s → AllCaused earlier (a.image_blocks s) s.device.jobs
+pub event_keeps : (earlier : List Made) (s : State) (e : Event) (reply : Reply) → Accepts s e reply → Stood s → AllCaused earlier (a.image_blocks s) s.controller.jobs
     → Keeps (earlier ++ record { before = s; event = e; reply = reply } ∷ []) s (a.after s e reply)
 event_keeps earlier s (events.Fetch q) (events.Fetched c touched) ok stood h = fetch_keeps earlier s q c touched ok.1.0 stood h
 event_keeps earlier s (events.Walk q cid) (events.Walked o touched) ok stood h = walk_keeps earlier s q cid (record { before = s; event = events.Walk q cid; reply = events.Walked o touched }) (λ k c. refl) ok.0 stood h
@@ -414,9 +414,9 @@ event_keeps earlier s e reply ok stood h = host_keeps earlier s e reply refl ref
 
 pub record Traced (earlier : List Made) (s : State) : Type 0 where
   pub stood : Stood s
-  pub caused : AllCaused earlier (a.image_blocks s) s.device.jobs
+  pub caused : AllCaused earlier (a.image_blocks s) s.controller.jobs
 
-same_blocks : (s t : State) → length t.device.image ≡ length s.device.image → a.image_blocks t ≡ a.image_blocks s
+same_blocks : (s t : State) → length t.controller.image ≡ length s.controller.image → a.image_blocks t ≡ a.image_blocks s
 same_blocks s t e = ap (λ (n : ℕ). n / 512) e
 
 traced_on : (earlier : List Made) (s : State) (e : Event) (reply : Reply) → IsProper e → Accepts s e reply → s.trusted ≡ true → Traced earlier s
@@ -425,7 +425,7 @@ traced_on earlier s e reply proper ok t h =
     let k = event_keeps earlier s e reply ok h.stood h.caused in
     record {
       stood = stood_on s e reply proper ok t h.stood;
-      caused = subst (λ (n : ℕ). AllCaused (earlier ++ record { before = s; event = e; reply = reply } ∷ []) n (a.after s e reply).device.jobs) (sym (same_blocks s (a.after s e reply) k.image)) k.jobs;
+      caused = subst (λ (n : ℕ). AllCaused (earlier ++ record { before = s; event = e; reply = reply } ∷ []) n (a.after s e reply).controller.jobs) (sym (same_blocks s (a.after s e reply) k.image)) k.jobs;
     }
 
 pub traced_carried : Carried Traced
@@ -452,8 +452,8 @@ job_status : (earlier : List Made) (m : Made) (q cid : ℕ) (j : Job) → (q == 
     → Caused earlier (a.image_blocks m.before) j → has_cause earlier m q cid (final_status m.before j) ≡ true
 job_status earlier m q cid j other e jq jc some c =
     let blocks : ℕ = a.image_blocks m.before in
-    let io : final_status m.before j ≡ jobs.status_after m.before.device.image j.entry j.bytes j.verdict =
-    ap (λ (b : Bool). if b then unwrap_or j.verdict SUCCESS else jobs.status_after m.before.device.image j.entry j.bytes j.verdict) (ap (λ (k : ℕ). k == 0) jq ∙ other) in
+    let io : final_status m.before j ≡ jobs.status_after m.before.controller.image j.entry j.bytes j.verdict =
+    ap (λ (b : Bool). if b then unwrap_or j.verdict SUCCESS else jobs.status_after m.before.controller.image j.entry j.bytes j.verdict) (ap (λ (k : ℕ). k == 0) jq ∙ other) in
     subst (λ (st : Status). has_cause earlier m q cid st ≡ true) (sym io) (by j.verdict refl)
   where
     range : passes_image m q cid ≡ nat_lt (a.image_blocks m.before) (first_block j.entry + block_number j.entry)
@@ -476,16 +476,16 @@ job_status earlier m q cid j other e jq jc some c =
     differs k = rw (compares ∙ compare_opcode j.entry.opcode k) (last_of (is_success COMPARE_FAILURE) (same_status COMPARE_FAILURE ABORT_REQUESTED && list_any (aborts q cid) (since_fetch q cid earlier))
         (same_status COMPARE_FAILURE ABORTED_SQ_DELETION && list_any (deletes q) (since_fetch q cid earlier)) (same_status COMPARE_FAILURE LBA_OUT_OF_RANGE && passes_image m q cid))
 
-    by_kind : (k : Option Kind) → kind_of_opcode j.entry.opcode ≡ k → has_cause earlier m q cid (jobs.status_by m.before.device.image j.entry j.bytes k) ≡ true
+    by_kind : (k : Option Kind) → kind_of_opcode j.entry.opcode ≡ k → has_cause earlier m q cid (jobs.status_by m.before.controller.image j.entry j.bytes k) ≡ true
     by_kind None e = refl
     by_kind (Some Read) e = refl
     by_kind (Some Write) e = refl
-    by_kind (Some Compare) e = elim (cases_Bool (bytes_eq (blocks_at m.before.device.image (first_block j.entry) (block_number j.entry)) j.bytes)) [
+    by_kind (Some Compare) e = elim (cases_Bool (bytes_eq (blocks_at m.before.controller.image (first_block j.entry) (block_number j.entry)) j.bytes)) [
       | inl e ↦ rw e refl
       | inr e' ↦ rw e' (differs e)
     ]
 
-    by : (o : Option Status) → j.verdict ≡ o → has_cause earlier m q cid (jobs.status_after m.before.device.image j.entry j.bytes o) ≡ true
+    by : (o : Option Status) → j.verdict ≡ o → has_cause earlier m q cid (jobs.status_after m.before.controller.image j.entry j.bytes o) ≡ true
     by None v = absurd (true≢false (sym some ∙ ap is_some v))
     by (Some v) e = elim (cases_Bool (is_success v)) [ inl ok ↦ rw ok (by_kind (kind_of_opcode j.entry.opcode) refl) | inr ok ↦ rw ok (failed v (c.cause v e)) ]
 
@@ -504,9 +504,9 @@ given_status earlier s (events.Complete q' cid') (events.Completed touched) new 
     at None e none g = absurd cc
     at (Some j) e none g =
         let same : final_status s j ≡ st = cc in
-        let ids = and_parts (j.q == q) (j.entry.cid == cid) (found_is (is_job q cid) s.device.jobs j e) in
+        let ids = and_parts (j.q == q) (j.entry.cid == cid) (found_is (is_job q cid) s.controller.jobs j e) in
         let jq = eqb-true j.q q ids.0 in
-        let c = all-found (CausedIfIo earlier (a.image_blocks s)) (is_job q cid) s.device.jobs j e h.caused (ap (λ (k : ℕ). k == 0) jq ∙ other) in
+        let c = all-found (CausedIfIo earlier (a.image_blocks s)) (is_job q cid) s.controller.jobs j e h.caused (ap (λ (k : ℕ). k == 0) jq ∙ other) in
         subst (λ (x : Status). has_cause earlier m q cid x ≡ true) same (job_status earlier m q cid j other e jq (eqb-true j.entry.cid cid ids.1) (has_verdict s q cid j none e) c)
 
     go : (b : Bool) → ((q' == q) && (cid' == cid)) ≡ b → (if b then option_map (final_status s) (job_at s q cid) else None) ≡ Some st → has_cause earlier m q cid st ≡ true

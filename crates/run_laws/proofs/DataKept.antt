@@ -8,12 +8,12 @@ use Rattle.machine_model.proofs.{Counting.{one, total}, HostLeaves.ids_of, Sound
 use Rattle.machine_model.{proofs.{Steps.{Accepts, same_lists, permitted, exact}, Tokens.is_job}, specs.{Claims.OwnsFit, Events.{Event, Reply}}}
 use Rattle.machine_model.specs.{Image.{Made, submitted_by}, Memory.with_pages, Opening.opening, Proper.IsProper}
 use Rattle.machine_model.specs.Refusals.{is_submitted, is_drafted, is_held, is_of, asks_for, refusal_of, job_at, next_rung}
-use Rattle.machine_model.specs.State.{State, Record, is_at, record_at, pages_of, Job, Answer, with_record}
+use Rattle.machine_model.specs.State.{State, Record, is_at, record_at, pages_of, Job, PostedCompletion, with_record}
 use Rattle.machine_model.specs.{Step.{Step, reaped, finished_from, asked_by, pages_with_bytes}, Trusted.Steps, Work.Work, declared.words.Phase.Phase}
 use Rattle.machine_model.specs.declared.words.{Phase.TheVariants.Held, Refusal.Refusal, Work.TheVariants.{Io, Management}}
 use Rattle.two_sides.proofs.Along.{along, trusted_step_by, Unforged, unforged_next, unforged_front, unforged_back, unforged_run, unforged_end, cut}
 use Rattle.two_sides.proofs.{Commands.{nobody, no_job}, NeverFull.{stood_on, stood_at_opening, host_jobs}, PlacesKept.{drafted_not, reaped_answer}}
-use Rattle.two_sides.proofs.{Provided.{is_found, In, all_append, sent}, Served.{Stood, requests_same, answers_at}, Standing.list_at}
+use Rattle.two_sides.proofs.{Provided.{is_found, In, all_append, sent}, Served.{Stood, requests_same, completions_at}, Standing.list_at}
 use Rattle.io_commands.specs.{Drafts.DraftContents, Values.{numbers_of, FinishedContents}}
 use Rattle.run_laws.proofs.{Carrying.Stands, Known.{submit_record, unsent, submitted_stand, stand_still}}
 use Rattle.run_laws.proofs.Moves.{RecordsMove, records_event, takes, JobsMove, jobs_event, QueueMove, queues_event}
@@ -347,8 +347,8 @@ abbrev pub Waits : DraftContents → State → Record → Type 0
 Waits d s r = is_at d.q d.cid r ≡ true → goes_on r.phase ≡ true → IsOfDraft d r × Untouched d s r
 
 pub record Unread (d : DraftContents) (s : State) : Type 0 where
-  pub jobs : AllByRecursion (λ j. j.q ≡ d.q → j.entry.cid ≡ d.cid → ⊥) s.device.jobs
-  pub answers : AllByRecursion (λ an. an.cid ≡ d.cid → ⊥) (list_at (λ at. at.answers) s.device.queues d.q)
+  pub jobs : AllByRecursion (λ j. j.q ≡ d.q → j.entry.cid ≡ d.cid → ⊥) s.controller.jobs
+  pub completions : AllByRecursion (λ an. an.cid ≡ d.cid → ⊥) (list_at (λ at. at.completions) s.controller.queues d.q)
   pub records : AllByRecursion (Waits d s) s.host.records
 
 -- No job comes
@@ -370,8 +370,8 @@ jobs_on d other s e reply g far = record {
 
 -- No answer comes
 
-answers_on : (d : DraftContents) (s : State) (e : Event) → AllByRecursion (λ j. j.q ≡ d.q → j.entry.cid ≡ d.cid → ⊥) s.device.jobs
-    → QueueMove (λ at. at.answers) (λ (an : Answer). an.cid ≡ d.cid → ⊥) d.q s e
+answers_on : (d : DraftContents) (s : State) (e : Event) → AllByRecursion (λ j. j.q ≡ d.q → j.entry.cid ≡ d.cid → ⊥) s.controller.jobs
+    → QueueMove (λ at. at.completions) (λ (an : PostedCompletion). an.cid ≡ d.cid → ⊥) d.q s e
 answers_on d s e none =
     let no_job_at : (cid : ℕ) (j : Job) → job_at s d.q cid ≡ Some j → cid ≡ d.cid → ⊥ = λ cid j found same. grind (arith, found_is, is_job, all-found, eqb-true) in
     record {
@@ -386,7 +386,7 @@ answers_on d s e none =
       makes_submission = λ at all. tt;
       clears = λ at all. all;
       empties = (tt, tt);
-      completes = λ cid j head at is found all. all_append (λ (an : Answer). an.cid ≡ d.cid → ⊥) at.answers (record { cid = cid; status = a.final_status s j; dw0 = j.dw0; sq_head = head } ∷ []) all ((λ same. no_job_at cid j found same), tt);
+      completes = λ cid j head at is found all. all_append (λ (an : PostedCompletion). an.cid ≡ d.cid → ⊥) at.completions (record { cid = cid; status = a.final_status s j; dw0 = j.dw0; sq_head = head } ∷ []) all ((λ same. no_job_at cid j found same), tt);
     }
 
 -- Its pages stay
@@ -428,7 +428,7 @@ unread_step d other s e reply g far h =
     let both = or_parts (submits d.q d.cid (record { before = s; event = e; reply = reply })) (fetches_by d.q d.cid e reply) far in
     record {
       jobs = jobs_event (λ j. j.q ≡ d.q → j.entry.cid ≡ d.cid → ⊥) (λ j. j.q ≡ d.q → j.entry.cid ≡ d.cid → ⊥) s e reply (jobs_on d other s e reply g both.1) g.ok g.stood h.jobs;
-      answers = queues_event (λ at. at.answers) (λ (an : Answer). an.cid ≡ d.cid → ⊥) d.q s e reply (answers_on d s e h.jobs) g.ok g.stood h.answers;
+      completions = queues_event (λ at. at.completions) (λ (an : PostedCompletion). an.cid ≡ d.cid → ⊥) d.q s e reply (answers_on d s e h.jobs) g.ok g.stood h.completions;
       records = records_event (Waits d s) (Waits d (a.after s e reply)) s e reply (records_on d other s e reply g both.0 h) g.ok g.stood.grounds h.records;
     }
 
@@ -460,10 +460,10 @@ pub unread_submit : (d : DraftContents) (s : State) → Going s (events.Submit d
 unread_submit d s g =
     let x = found_draft s d events.Accepted g in
     let none : total (sent d.q (λ n. one (n == d.cid))) s.host.records ≡ 0 = unsent s d g.stood.grounds x.command x.at (drafted_not x.command.phase x.drafted) in
-    let no_jobs : AllByRecursion (λ (j : Job). j.q ≡ d.q → j.entry.cid ≡ d.cid → ⊥) s.device.jobs = no_job d.q d.cid (λ j. ⊥) s.device.jobs (omega (arith, g.stood.places d.q (λ n. one (n == d.cid)), none)) in
+    let no_jobs : AllByRecursion (λ (j : Job). j.q ≡ d.q → j.entry.cid ≡ d.cid → ⊥) s.controller.jobs = no_job d.q d.cid (λ j. ⊥) s.controller.jobs (omega (arith, g.stood.places d.q (λ n. one (n == d.cid)), none)) in
     record {
       jobs = subst (AllByRecursion (λ (j : Job). j.q ≡ d.q → j.entry.cid ≡ d.cid → ⊥)) (sym (host_jobs s (events.Submit d) events.Accepted g.ok refl refl)) no_jobs;
-      answers = queues_event (λ at. at.answers) (λ (an : Answer). an.cid ≡ d.cid → ⊥) d.q s (events.Submit d) events.Accepted (answers_on d s (events.Submit d) no_jobs) g.ok g.stood
-          (nobody (λ (an : Answer). an.cid) d.cid (λ an. ⊥) (answers_at s.device.queues d.q) (omega (arith, g.stood.places d.q (λ n. one (n == d.cid)), none)));
+      completions = queues_event (λ at. at.completions) (λ (an : PostedCompletion). an.cid ≡ d.cid → ⊥) d.q s (events.Submit d) events.Accepted (answers_on d s (events.Submit d) no_jobs) g.ok g.stood
+          (nobody (λ (an : PostedCompletion). an.cid) d.cid (λ an. ⊥) (completions_at s.controller.queues d.q) (omega (arith, g.stood.places d.q (λ n. one (n == d.cid)), none)));
       records = records_event (λ r. is_at d.q d.cid r ≡ true → r ≡ x.command) (Waits d (a.after s (events.Submit d) events.Accepted)) s (events.Submit d) events.Accepted (unread_first d s g x) g.ok g.stood.grounds x.only;
     }

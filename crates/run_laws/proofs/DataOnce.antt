@@ -10,7 +10,7 @@ use Rattle.machine_model.specs.{After.change, Claims.OwnsFit, Events.{Event, Rep
 use Rattle.machine_model.specs.{Proper.IsProper, Reached.{only, on_pages}}
 use Rattle.machine_model.specs.Refusals.{next_rung, job_at, conflicts, host_queue, is_submitted, is_drafted, is_live, in_state, is_of, queue_full, record_is}
 use Rattle.machine_model.specs.Standing.{unfetched_at, HasEntry, ListStands, StandsAs, CommandStands}
-use Rattle.machine_model.specs.{State.{State, DeviceQueue, Device, Record, Job, is_at, record_at, with_record, pages_of}, Step.Step, Trusted.{Steps, drafts_of}}
+use Rattle.machine_model.specs.{State.{State, ServedQueue, Controller, Record, Job, is_at, record_at, with_record, pages_of}, Step.Step, Trusted.{Steps, drafts_of}}
 use Rattle.machine_model.specs.{Work.Work, declared.words.{Refusal.Refusal, Work.TheVariants.{Io, Management}}}
 use Rattle.entry_codec.specs.declared.{status.TheConstants.Status.COMMAND_ID_CONFLICT, submission.SubEntry.SubEntry}
 use Rattle.io_commands.{proofs.Building.carries_entry, specs.{Asked.Request, Drafts.{DraftContents, draft_first, draft_entry, io_entry}, Requests.joined_parts}}
@@ -23,7 +23,7 @@ use Rattle.two_sides.proofs.{JobLaws.{stay_after, entries_named}, NeverFull.{hos
 use Rattle.two_sides.proofs.PlacesKept.{InHand, in_hand, first_is, running_not_past, drafted_not}
 use Rattle.two_sides.proofs.Provided.{all_append, all_drop_one, In, in_found, all_in_both, sent}
 use Rattle.two_sides.proofs.Served.{Stood, unfetched_count, page_below, data_of, chain_of, more_than_only, first_read}
-use Rattle.two_sides.{proofs.{Standing.{list_at, less_at, device-posted}, TiedAll.pair_at}, specs.MachineLaws.entries_of}
+use Rattle.two_sides.{proofs.{Standing.{list_at, less_at, controller-posted}, TiedAll.pair_at}, specs.MachineLaws.entries_of}
 use Rattle.page_ledger.specs.Owners.{is_among}
 use Rattle.page_memory.specs.Pages.{Pages, page_at, byte_at}
 use Rattle.sgl_descriptor.specs.{Spelling.{spelling, descriptor_of}, declared.Descriptor.Descriptor}
@@ -35,7 +35,7 @@ use Rattle.page_memory.proofs.Lists.{all-to, all-found, some_is}
 
 -- no entry of an identifier is left to fetch
 abbrev pub NoEntry : ℕ → ℕ → State → Type 0
-NoEntry q cid s = AllByRecursion (λ (e : SubEntry). e.cid ≡ cid → ⊥) (list_at (λ at. at.unfetched) s.device.queues q)
+NoEntry q cid s = AllByRecursion (λ (e : SubEntry). e.cid ≡ cid → ⊥) (list_at (λ at. at.unfetched) s.controller.queues q)
 
 no_entry_on : (q cid : ℕ) → (q == 0) ≡ false → (s : State) (e : Event) (reply : Reply) → Going s e reply → ((d : DraftContents) → e ≡ events.Submit d → ((d.q == q) && (d.cid == cid)) ≡ false)
     → QueueMove (λ at. at.unfetched) (λ (x : SubEntry). x.cid ≡ cid → ⊥) q s e
@@ -65,8 +65,8 @@ pub no_entry_step : (q cid : ℕ) → (q == 0) ≡ false → (s : State) (e : Ev
 no_entry_step q cid other s e reply g far h = queues_event (λ at. at.unfetched) (λ (x : SubEntry). x.cid ≡ cid → ⊥) q s e reply (no_entry_on q cid other s e reply g far) g.ok g.stood h
 
 -- where none is left, none is fetched
-first_of : (P : SubEntry → Type 0) (qs : List DeviceQueue) (q : ℕ) (queue : DeviceQueue) (e : SubEntry) → slice_get qs q ≡ Some queue → slice_get queue.unfetched 0 ≡ Some e → AllByRecursion P (list_at (λ at. at.unfetched) qs q) → P e
-first_of P qs q queue e at first all = go queue.unfetched first (subst (AllByRecursion P) (ap (λ (o : Option DeviceQueue). option_map_or (λ at. at.unfetched) o []) at) all)
+first_of : (P : SubEntry → Type 0) (qs : List ServedQueue) (q : ℕ) (queue : ServedQueue) (e : SubEntry) → slice_get qs q ≡ Some queue → slice_get queue.unfetched 0 ≡ Some e → AllByRecursion P (list_at (λ at. at.unfetched) qs q) → P e
+first_of P qs q queue e at first all = go queue.unfetched first (subst (AllByRecursion P) (ap (λ (o : Option ServedQueue). option_map_or (λ at. at.unfetched) o []) at) all)
   where
     go : (xs : List SubEntry) → slice_get xs 0 ≡ Some e → AllByRecursion P xs → P e
     go [] f all = absurd cc
@@ -109,7 +109,7 @@ fetch_made s e reply new q cid step t stood is =
 pub none_next : (q cid : ℕ) (s : State) (entry : SubEntry) → NoEntry q cid s → next_rung s q ≡ Some entry → entry.cid ≡ cid → ⊥
 none_next q cid s entry h next its =
     let hand = in_hand s q entry next in
-    first_of (λ (x : SubEntry). x.cid ≡ cid → ⊥) s.device.queues q hand.queue entry hand.at hand.first h its
+    first_of (λ (x : SubEntry). x.cid ≡ cid → ⊥) s.controller.queues q hand.queue entry hand.at hand.first h its
 
 -- Behind a fetch
 
@@ -122,22 +122,22 @@ fetched_clears s new q cid other f = subst (NoEntry q cid) (sym f.left) (go (nex
     w : ℕ → ℕ
     w c = one (c == cid)
 
-    off : DeviceQueue → DeviceQueue
+    off : ServedQueue → ServedQueue
     off at = record at { unfetched = drop 1 at.unfetched; rung = at.rung - 1 }
 
-    un : unfetched_count q (λ c. one (c == cid)) s.host.queues s.device.queues ≡ total (λ (x : SubEntry). one (x.cid == cid)) (unfetched_at s.device.queues q)
-    un = ap (λ (b : Bool). if b then 0 else total (λ (x : SubEntry). one (x.cid == cid)) (unfetched_at s.device.queues q)) (running_not_past s f.going.stood.grounds q f.entry hand)
+    un : unfetched_count q (λ c. one (c == cid)) s.host.queues s.controller.queues ≡ total (λ (x : SubEntry). one (x.cid == cid)) (unfetched_at s.controller.queues q)
+    un = ap (λ (b : Bool). if b then 0 else total (λ (x : SubEntry). one (x.cid == cid)) (unfetched_at s.controller.queues q)) (running_not_past s f.going.stood.grounds q f.entry hand)
 
     head : total (λ (x : SubEntry). one (x.cid == cid)) hand.queue.unfetched ≡ one (f.entry.cid == cid) + total (λ (x : SubEntry). one (x.cid == cid)) (drop 1 hand.queue.unfetched)
     head = ap (total (λ (x : SubEntry). one (x.cid == cid))) (first_is hand.queue.unfetched f.entry hand.first)
 
-    one_less : total (λ (x : SubEntry). one (x.cid == cid)) (list_at (λ at. at.unfetched) (change q off s.device.queues) q) + (if q == q then 1 else 0) ≤ total (λ (x : SubEntry). one (x.cid == cid)) (list_at (λ at. at.unfetched) s.device.queues q)
-    one_less = less_at (λ at. at.unfetched) (λ (x : SubEntry). one (x.cid == cid)) q off 1 s.device.queues q hand.queue hand.at (omega (arith, head, ap one (eq-eqb f.entry.cid cid f.its_cid)))
+    one_less : total (λ (x : SubEntry). one (x.cid == cid)) (list_at (λ at. at.unfetched) (change q off s.controller.queues) q) + (if q == q then 1 else 0) ≤ total (λ (x : SubEntry). one (x.cid == cid)) (list_at (λ at. at.unfetched) s.controller.queues q)
+    one_less = less_at (λ at. at.unfetched) (λ (x : SubEntry). one (x.cid == cid)) q off 1 s.controller.queues q hand.queue hand.at (omega (arith, head, ap one (eq-eqb f.entry.cid cid f.its_cid)))
 
     self : ◌≡◌ {A = ℕ} (if q == q then 1 else 0) 1
     self = rw (eq-eqb q q refl) refl
 
-    few : total (λ (x : SubEntry). one (x.cid == cid)) (list_at (λ at. at.unfetched) (change q off s.device.queues) q) ≡ 0
+    few : total (λ (x : SubEntry). one (x.cid == cid)) (list_at (λ at. at.unfetched) (change q off s.controller.queues) q) ≡ 0
     few = omega (arith, un, one_less, self, f.going.stood.places q (λ c. one (c == cid)), sent_few q cid s.host.records, f.going.stood.grounds.stands.0.once q cid)
 
     inner : (e : SubEntry) → next_rung s q ≡ Some e → (b z : Bool) → conflicts s q ≡ b → (q == 0) ≡ z
@@ -145,7 +145,7 @@ fetched_clears s new q cid other f = subst (NoEntry q cid) (sym f.left) (go (nex
     inner e r true z con is0 =
         absurd (true≢false (sym con ∙ ap (λ (o : Option SubEntry). option_map_or (λ e. is_some (job_at s q e.cid)) o false) r ∙ not_conflicting s f.going.stood q e (in_hand s q e r)))
     inner e r false true con is0 = absurd (true≢false (sym is0 ∙ other))
-    inner e r false false con is0 = (nobody (λ (e : SubEntry). e.cid) cid (λ e. ⊥) (list_at (λ at. at.unfetched) (change q off s.device.queues) q) few)
+    inner e r false false con is0 = (nobody (λ (e : SubEntry). e.cid) cid (λ e. ⊥) (list_at (λ at. at.unfetched) (change q off s.controller.queues) q) few)
 
     go : (o : Option SubEntry) → next_rung s q ≡ o
         → NoEntry q cid (option_map_or (λ e. if conflicts s q then a.answered q e.cid COMMAND_ID_CONFLICT 0 (a.taken_off q s) else if q == 0 then a.managed e (a.taken_off 0 s) else a.begun q e (a.taken_off q s)) o s)
@@ -199,7 +199,7 @@ pub record Chained (drafts : List DraftContents) (s : State) (r : Record) (reque
   pub entry : SubEntry
   pub built : draft.entry ≡ Some entry
   pub of : IsOfDraft draft r
-  pub list : ListStands s.memory s.device.queues s.device.jobs r request
+  pub list : ListStands s.memory s.controller.queues s.controller.jobs r request
   pub first : list.first ≡ draft_first draft
 
 abbrev pub ChainedIfIo : List DraftContents → State → Record → Work → Type 0
@@ -246,8 +246,8 @@ entry_on s e reply g q cid wanted other far = record {
         let its : entry.cid ≡ x.cid = ap (λ (y : SubEntry). y.cid) (carries_entry x entry g'.proper.draft built) in
         true≢false (sym (rw (eq-eqb x.q q z, eq-eqb x.cid cid (sym its ∙ c)) refl) ∙ far x is)
 
-jobs_keep : (s : State) (e : Event) (reply : Reply) → Accepts s e reply → (q cid : ℕ) (entry : SubEntry) → HasEntry s.device.queues s.device.jobs q cid entry
-    → AllByRecursion (λ j. j.q ≡ q → j.entry.cid ≡ cid → j.entry ≡ entry) (a.after s e reply).device.jobs
+jobs_keep : (s : State) (e : Event) (reply : Reply) → Accepts s e reply → (q cid : ℕ) (entry : SubEntry) → HasEntry s.controller.queues s.controller.jobs q cid entry
+    → AllByRecursion (λ j. j.q ≡ q → j.entry.cid ≡ cid → j.entry ≡ entry) (a.after s e reply).controller.jobs
 jobs_keep s e (events.Refused why touched) ok q cid entry has = has.fetched
 jobs_keep s (events.Fetch k) reply ok q cid entry has = (keeps_fetch s k q cid entry has).fetched
 jobs_keep s (events.Walk k c) reply ok q cid entry has = (keeps_walk s k c q cid entry has).fetched
@@ -256,13 +256,13 @@ jobs_keep s events.Reset reply ok q cid entry has = tt
 jobs_keep s e reply ok q cid entry has = subst (AllByRecursion (λ j. j.q ≡ q → j.entry.cid ≡ cid → j.entry ≡ entry)) (sym (host_jobs s e reply ok refl refl)) has.fetched
 
 entry_kept : (s : State) (e : Event) (reply : Reply) → Going s e reply → (q cid : ℕ) → (q == 0) ≡ false → ((d : DraftContents) → e ≡ events.Submit d → ((d.q == q) && (d.cid == cid)) ≡ false)
-    → (wanted : SubEntry) → HasEntry s.device.queues s.device.jobs q cid wanted → HasEntry (a.after s e reply).device.queues (a.after s e reply).device.jobs q cid wanted
+    → (wanted : SubEntry) → HasEntry s.controller.queues s.controller.jobs q cid wanted → HasEntry (a.after s e reply).controller.queues (a.after s e reply).controller.jobs q cid wanted
 entry_kept s e reply g q cid other far wanted has = record {
   unfetched = queues_event (λ at. at.unfetched) (λ (x : SubEntry). x.cid ≡ cid → x ≡ wanted) q s e reply (entry_on s e reply g q cid wanted other far) g.ok g.stood has.unfetched;
   fetched = jobs_keep s e reply g.ok q cid wanted has;
 }
 
-list_kept : (m m' : Pages) (qs qs' : List DeviceQueue) (js js' : List Job) (r : Record) (request : Request) → ((p : ℕ) → is_among r.chain_pages p ≡ true → page_at m' p ≡ page_at m p)
+list_kept : (m m' : Pages) (qs qs' : List ServedQueue) (js js' : List Job) (r : Record) (request : Request) → ((p : ℕ) → is_among r.chain_pages p ≡ true → page_at m' p ≡ page_at m p)
     → ((entry : SubEntry) → HasEntry qs js r.q r.cid entry → HasEntry qs' js' r.q r.cid entry) → (l : ListStands m qs js r request) → (l' : ListStands m' qs' js' r request) × (l'.first ≡ l.first)
 list_kept m m' qs qs' js js' r request same keeps l = (
   record {
@@ -277,7 +277,7 @@ list_kept m m' qs qs' js js' r request same keeps l = (
 -- Its submission
 
 -- behind it the entry is among those of its queue
-entry_posted : (qs : List DeviceQueue) (q : ℕ) (at : DeviceQueue) (entry : SubEntry) (P : SubEntry → Type 0) → slice_get qs q ≡ Some at
+entry_posted : (qs : List ServedQueue) (q : ℕ) (at : ServedQueue) (entry : SubEntry) (P : SubEntry → Type 0) → slice_get qs q ≡ Some at
     → AllByRecursion P (unfetched_at (change q (λ at. record at { unfetched = at.unfetched ++ entry ∷ [] }) qs) q) → P entry
 entry_posted [] q at entry P e all = absurd cc
 entry_posted (x ∷ qs) zero at entry P e all = last x.unfetched all
@@ -288,7 +288,7 @@ entry_posted (x ∷ qs) zero at entry P e all = last x.unfetched all
 entry_posted (x ∷ qs) (suc q) at entry P e all = entry_posted qs q at entry P e all
 
 pub submitted_first : (s : State) (d : DraftContents) → Going s (events.Submit d) events.Accepted → (entry : SubEntry) → d.entry ≡ Some entry → (r : Record) (request : Request) → r.q ≡ d.q → r.cid ≡ d.cid → d.request ≡ request
-    → (l : ListStands (a.after_submit d s).memory (a.after_submit d s).device.queues (a.after_submit d s).device.jobs r request) → l.first ≡ draft_first d
+    → (l : ListStands (a.after_submit d s).memory (a.after_submit d s).controller.queues (a.after_submit d s).controller.jobs r request) → l.first ≡ draft_first d
 submitted_first s d g entry built r request its_queue its_cid asked l =
     let s1 : State = a.on_records (with_record d.q d.cid a.submitted) (a.on_memory (with_pages (d.data_pages ++ d.chain_pages)) s) in
     elim (option_is (host_queue s d.q)) [
@@ -296,11 +296,11 @@ submitted_first s d g entry built r request its_queue its_cid asked l =
       | inr (queue, e) ↦
           let pair = pair_at s g.stood.grounds d.q queue e in
           let its : entry ≡ draft_entry d = carries_entry d entry g.proper.draft built in
-          let all : AllByRecursion (λ (y : SubEntry). y.cid ≡ r.cid → y ≡ io_entry r.cid request (spelling l.first)) (unfetched_at (change d.q (λ at. record at { unfetched = at.unfetched ++ entry ∷ [] }) s.device.queues) d.q) =
-          subst (λ (qs : List DeviceQueue). AllByRecursion (λ (y : SubEntry). y.cid ≡ r.cid → y ≡ io_entry r.cid request (spelling l.first)) (unfetched_at qs d.q)) queues
-          (subst (λ (n : ℕ). AllByRecursion (λ (y : SubEntry). y.cid ≡ r.cid → y ≡ io_entry r.cid request (spelling l.first)) (unfetched_at (a.after_submit d s).device.queues n)) its_queue l.entry.unfetched) in
+          let all : AllByRecursion (λ (y : SubEntry). y.cid ≡ r.cid → y ≡ io_entry r.cid request (spelling l.first)) (unfetched_at (change d.q (λ at. record at { unfetched = at.unfetched ++ entry ∷ [] }) s.controller.queues) d.q) =
+          subst (λ (qs : List ServedQueue). AllByRecursion (λ (y : SubEntry). y.cid ≡ r.cid → y ≡ io_entry r.cid request (spelling l.first)) (unfetched_at qs d.q)) queues
+          (subst (λ (n : ℕ). AllByRecursion (λ (y : SubEntry). y.cid ≡ r.cid → y ≡ io_entry r.cid request (spelling l.first)) (unfetched_at (a.after_submit d s).controller.queues n)) its_queue l.entry.unfetched) in
           let is : entry ≡ io_entry r.cid request (spelling l.first) =
-          entry_posted s.device.queues d.q pair.0 entry (λ (y : SubEntry). y.cid ≡ r.cid → y ≡ io_entry r.cid request (spelling l.first)) pair.1 all (ap (λ (y : SubEntry). y.cid) its ∙ sym its_cid) in
+          entry_posted s.controller.queues d.q pair.0 entry (λ (y : SubEntry). y.cid ≡ r.cid → y ≡ io_entry r.cid request (spelling l.first)) pair.1 all (ap (λ (y : SubEntry). y.cid) its ∙ sym its_cid) in
           let spelled : spelling l.first ≡ spelling (draft_first d) = sym (ap (λ (y : SubEntry). y.sgl1) is) ∙ ap (λ (y : SubEntry). y.sgl1) its in
           some_is (sym l.read ∙ ap descriptor_of spelled ∙ read)
     ]
@@ -326,21 +326,21 @@ submitted_first s d g entry built r request its_queue its_cid asked l =
         (rest_fails (not (record_is (is_of is_drafted d.request (numbers_of d.data_pages) (numbers_of d.chain_pages)) s d.q d.cid)) refusals.Stranger
         ((is_none d.entry, refusals.NotBuilt) ∷ (not (in_state is_live s d.q), refusals.QueueGone) ∷ (queue_full s d.q, refusals.QueueFull) ∷ []) g.ok.0)))
 
-    queues : (a.after_submit d s).device.queues ≡ change d.q (λ at. record at { unfetched = at.unfetched ++ entry ∷ [] }) s.device.queues
+    queues : (a.after_submit d s).controller.queues ≡ change d.q (λ at. record at { unfetched = at.unfetched ++ entry ∷ [] }) s.controller.queues
     queues =
-        ap (λ (o : Option SubEntry). (option_map_or (λ entry. a.posted d.q entry (a.on_records (with_record d.q d.cid a.submitted) (a.on_memory (with_pages (d.data_pages ++ d.chain_pages)) s))) o s).device.queues) built
-        ∙ ap (λ (dev : Device). dev.queues) (device-posted d.q entry (a.on_records (with_record d.q d.cid a.submitted) (a.on_memory (with_pages (d.data_pages ++ d.chain_pages)) s)))
+        ap (λ (o : Option SubEntry). (option_map_or (λ entry. a.posted d.q entry (a.on_records (with_record d.q d.cid a.submitted) (a.on_memory (with_pages (d.data_pages ++ d.chain_pages)) s))) o s).controller.queues) built
+        ∙ ap (λ (dev : Controller). dev.queues) (controller-posted d.q entry (a.on_records (with_record d.q d.cid a.submitted) (a.on_memory (with_pages (d.data_pages ++ d.chain_pages)) s)))
 
 -- Every event
 
 chains_move : (drafts : List DraftContents) (s : State) (e : Event) (reply : Reply) → Going s e reply
-    → RecordsMove (λ r. OwnsFit r.q r.work (pages_of r) × ChainKnown drafts s r) (λ r. CommandStands (a.after s e reply).memory (a.after s e reply).device.queues (a.after s e reply).device.jobs r → ChainKnown (submitted_by e reply ++ drafts) (a.after s e reply) r) s e
+    → RecordsMove (λ r. OwnsFit r.q r.work (pages_of r) × ChainKnown drafts s r) (λ r. CommandStands (a.after s e reply).memory (a.after s e reply).controller.queues (a.after s e reply).controller.jobs r → ChainKnown (submitted_by e reply ++ drafts) (a.after s e reply) r) s e
 chains_move drafts s e reply g = record {
   stays = λ r within free p stands sub. kept r within sub r.work p.0 (p.1 sub);
   reserves = λ d stands sub. absurd (true≢false (sym sub));
   sends = λ adm id stands sub. tt;
   submits = λ d entry r is built at fits p stands sub.
-      subst (λ (x : Event). Going s x reply → CommandStands (a.after s x reply).memory (a.after s x reply).device.queues (a.after s x reply).device.jobs (a.submitted r) → ChainedIfIo (submitted_by x reply ++ drafts) (a.after s x reply) (a.submitted r) r.work) (sym is)
+      subst (λ (x : Event). Going s x reply → CommandStands (a.after s x reply).memory (a.after s x reply).controller.queues (a.after s x reply).controller.jobs (a.submitted r) → ChainedIfIo (submitted_by x reply ++ drafts) (a.after s x reply) (a.submitted r) r.work) (sym is)
       (λ g' stands'. new d reply g' entry r built at fits r.work refl stands') g stands;
   reaps = λ q cid st request r is n x at w p stands sub. absurd (true≢false (sym sub));
   loses = λ r within sent free p stands sub. absurd (true≢false (sym sub));
@@ -359,20 +359,20 @@ chains_move drafts s e reply g = record {
       first = still.1 ∙ h.first;
     }
       where
-        still : (l' : ListStands (a.after s e reply).memory (a.after s e reply).device.queues (a.after s e reply).device.jobs r request) × (l'.first ≡ h.list.first)
-        still = list_kept s.memory (a.after s e reply).memory s.device.queues (a.after s e reply).device.queues s.device.jobs (a.after s e reply).device.jobs r request
+        still : (l' : ListStands (a.after s e reply).memory (a.after s e reply).controller.queues (a.after s e reply).controller.jobs r request) × (l'.first ≡ h.list.first)
+        still = list_kept s.memory (a.after s e reply).memory s.controller.queues (a.after s e reply).controller.queues s.controller.jobs (a.after s e reply).controller.jobs r request
             ((stay_after s e reply g.ok g.stood).chains r within sub) (λ wanted has. entry_kept s e reply g r.q r.cid fit (other_draft s e reply g r within sub) wanted has) h.list
 
     new : (d : DraftContents) (reply : Reply) → Going s (events.Submit d) reply → (entry : SubEntry) (r : Record) → d.entry ≡ Some entry → record_at s.host d.q d.cid ≡ Some r
         → is_of is_drafted d.request (numbers_of d.data_pages) (numbers_of d.chain_pages) r ≡ true → (w : Work) → r.work ≡ w
-        → StandsAs (a.after s (events.Submit d) reply).memory (a.after s (events.Submit d) reply).device.queues (a.after s (events.Submit d) reply).device.jobs (a.submitted r) r.work
+        → StandsAs (a.after s (events.Submit d) reply).memory (a.after s (events.Submit d) reply).controller.queues (a.after s (events.Submit d) reply).controller.jobs (a.submitted r) r.work
         → ChainedIfIo (submitted_by (events.Submit d) reply ++ drafts) (a.after s (events.Submit d) reply) (a.submitted r) w
     new d reply g entry r built at fits (Management adm) w stands = tt
     new d events.Accepted g entry r built at fits (Io request) w stands =
         let ids = ids_of s d.q d.cid r at in
         let of = (submits_of d r fits).0 in
         let asked : d.request ≡ request = (cc (sym of.work ∙ w)) in
-        let l = (subst (StandsAs (a.after_submit d s).memory (a.after_submit d s).device.queues (a.after_submit d s).device.jobs (a.submitted r)) w stands).1 refl in
+        let l = (subst (StandsAs (a.after_submit d s).memory (a.after_submit d s).controller.queues (a.after_submit d s).controller.jobs (a.submitted r)) w stands).1 refl in
         record {
           draft = d;
           latest = rw (ids.0, ids.1) (rw (eq-eqb d.q d.q refl, eq-eqb d.cid d.cid refl) refl);
@@ -392,9 +392,9 @@ chained_on : (drafts : List DraftContents) (s : State) (e : Event) (reply : Repl
 chained_on drafts s e reply g h =
     let t = a.after s e reply in
     let stood = stood_on s e reply g.proper g.ok g.trusted g.stood in
-    all_in_both (CommandStands t.memory t.device.queues t.device.jobs) (λ r. CommandStands t.memory t.device.queues t.device.jobs r → ChainKnown (submitted_by e reply ++ drafts) t r) (ChainKnown (submitted_by e reply ++ drafts) t) t.host.records
+    all_in_both (CommandStands t.memory t.controller.queues t.controller.jobs) (λ r. CommandStands t.memory t.controller.queues t.controller.jobs r → ChainKnown (submitted_by e reply ++ drafts) t r) (ChainKnown (submitted_by e reply ++ drafts) t) t.host.records
     (λ r within f c. f c)
-    (records_event (λ r. OwnsFit r.q r.work (pages_of r) × ChainKnown drafts s r) (λ r. CommandStands t.memory t.device.queues t.device.jobs r → ChainKnown (submitted_by e reply ++ drafts) t r) s e reply (chains_move drafts s e reply g) g.ok g.stood.grounds
+    (records_event (λ r. OwnsFit r.q r.work (pages_of r) × ChainKnown drafts s r) (λ r. CommandStands t.memory t.controller.queues t.controller.jobs r → ChainKnown (submitted_by e reply ++ drafts) t r) s e reply (chains_move drafts s e reply g) g.ok g.stood.grounds
     (all_in_both (ChainKnown drafts s) (λ r. OwnsFit r.q r.work (pages_of r)) (λ r. OwnsFit r.q r.work (pages_of r) × ChainKnown drafts s r) s.host.records (λ r within f p. (f, p)) g.stood.grounds.stands.0.admins h))
     stood.commands
 

@@ -1,6 +1,6 @@
 -- Between two completions of a command it was submitted anew: from its completion on no entry and no job of it is at the controller.
 use Rattle.machine_model.{proofs.{Cases.none_some, Counting.{one, total}, Steps.Accepts}, specs.{Agreeing.on_queue, Events.{Event, Reply}}}
-use Rattle.machine_model.specs.{Refusals.{is_job, job_at, next_rung}, Standing.unfetched_at, State.{State, Device, Job}, declared.words.Refusal.Refusal}
+use Rattle.machine_model.specs.{Refusals.{is_job, job_at, next_rung}, Standing.unfetched_at, State.{State, Controller, Job}, declared.words.Refusal.Refusal}
 use Rattle.std.proofs.Common.{◌≡◌, ℕ, ◌<◌, ◌≤◌, ◌==◌, Bool, true, false, not, ◌&&◌, Option, Some, None, List, [], ◌∷◌, ◌++◌, filter, if◌then◌else◌, ap, sym, ◌∙◌, arith, subst, eqb-true, eq-eqb, inl, inr}
 use Rattle.std.{proofs.lemmas.Bool.{true≢false, and_parts, cases_Bool}, specs.{List.{AllByRecursion, list_any}, Option.{option_map_or}}}
 use Rattle.entry_codec.specs.declared.{status.Status.Status, submission.SubEntry.SubEntry}
@@ -8,8 +8,8 @@ use Rattle.io_commands.specs.Drafts.{DraftContents}
 use Rattle.run_laws.proofs.{DataKept.{Going, left_step, along_steps}, DataOnce.{NoEntry, no_entry_step, none_next}, Moves.{JobsMove, jobs_event}}
 use Rattle.run_laws.proofs.{OneEnd.{submit_at, At, at_step}, ReadsWalked.sent_few as sent_less, Verdicts.given_job}
 use Rattle.run_laws.specs.{Ends.{submits_by, submits, commands_complete_once}, Statuses.status_by}
-use Rattle.two_sides.proofs.{Along.{cut, unforged_front}, Commands.nobody, DeviceMoves.finished, JobLaws.not_zero as positive}
-use Rattle.two_sides.proofs.{Provided.in_found, Served.{Stood, job_weight, unfetched_count}, Standing.device-answered}
+use Rattle.two_sides.proofs.{Along.{cut, unforged_front}, Commands.nobody, ControllerMoves.finished, JobLaws.not_zero as positive}
+use Rattle.two_sides.proofs.{Provided.in_found, Served.{Stood, job_weight, unfetched_count}, Standing.controller-answered}
 use Rattle.machine_model.specs.After as a
 use Rattle.machine_model.specs.Events as events
 use Rattle.page_memory.proofs.Lists.{found_is, all-found}
@@ -20,7 +20,7 @@ IsOther q cid j = j.q ≡ q → j.entry.cid ≡ cid → ⊥
 
 record IsOver (q cid : ℕ) (s : State) : Type 0 where
   entries : NoEntry q cid s
-  jobs : AllByRecursion (IsOther q cid) s.device.jobs
+  jobs : AllByRecursion (IsOther q cid) s.controller.jobs
 
 -- Steps that do not submit it
 
@@ -51,30 +51,30 @@ none_left q cid (j ∷ js) = grind (arith, none_left q cid js, none_left q cid j
 -- a job's command has no entry besides
 job_alone : (s : State) (q cid : ℕ) (j : Job) → Stood s → job_at s q cid ≡ Some j → NoEntry q cid s
 job_alone s q cid j stood at =
-    let ids : ((j.q == q) ≡ true) × ((j.entry.cid == cid) ≡ true) = and_parts (j.q == q) (j.entry.cid == cid) (found_is (is_job q cid) s.device.jobs j at) in
-    let counts : 1 ≤ total (job_weight q (λ c. one (c == cid))) s.device.jobs =
+    let ids : ((j.q == q) ≡ true) × ((j.entry.cid == cid) ≡ true) = and_parts (j.q == q) (j.entry.cid == cid) (found_is (is_job q cid) s.controller.jobs j at) in
+    let counts : 1 ≤ total (job_weight q (λ c. one (c == cid))) s.controller.jobs =
     let mine : job_weight q (λ c. one (c == cid)) j ≡ 1 = rw ids.0 (ap one ids.1) in
-    omega (arith, mine, in_found (is_job q cid) s.device.jobs j at (job_weight q (λ c. one (c == cid)))) in
-    let there : 0 < total (on_queue q) s.device.jobs = omega (arith, ap one ids.0, in_found (is_job q cid) s.device.jobs j at (on_queue q)) in
-    let un : unfetched_count q (λ c. one (c == cid)) s.host.queues s.device.queues ≡ total (λ (x : SubEntry). one (x.cid == cid)) (unfetched_at s.device.queues q) =
-    ap (λ (b : Bool). if b then 0 else total (λ (x : SubEntry). one (x.cid == cid)) (unfetched_at s.device.queues q)) (stood.grounds.fit.service q there) in
-    let few : total (λ (x : SubEntry). one (x.cid == cid)) (unfetched_at s.device.queues q) ≡ 0 =
+    omega (arith, mine, in_found (is_job q cid) s.controller.jobs j at (job_weight q (λ c. one (c == cid)))) in
+    let there : 0 < total (on_queue q) s.controller.jobs = omega (arith, ap one ids.0, in_found (is_job q cid) s.controller.jobs j at (on_queue q)) in
+    let un : unfetched_count q (λ c. one (c == cid)) s.host.queues s.controller.queues ≡ total (λ (x : SubEntry). one (x.cid == cid)) (unfetched_at s.controller.queues q) =
+    ap (λ (b : Bool). if b then 0 else total (λ (x : SubEntry). one (x.cid == cid)) (unfetched_at s.controller.queues q)) (stood.grounds.fit.service q there) in
+    let few : total (λ (x : SubEntry). one (x.cid == cid)) (unfetched_at s.controller.queues q) ≡ 0 =
     omega (arith, counts, un, stood.places q (λ c. one (c == cid)), sent_less q cid s.host.records, stood.grounds.stands.0.once q cid) in
-    nobody (λ (x : SubEntry). x.cid) cid (λ x. ⊥) (unfetched_at s.device.queues q) few
+    nobody (λ (x : SubEntry). x.cid) cid (λ x. ⊥) (unfetched_at s.controller.queues q) few
 
 -- a completion takes the job away
-jobs_completed : (s : State) (q cid : ℕ) (j : Job) → job_at s q cid ≡ Some j → (a.after_complete q cid s).device.jobs ≡ filter (λ k. not (is_job q cid k)) s.device.jobs
+jobs_completed : (s : State) (q cid : ℕ) (j : Job) → job_at s q cid ≡ Some j → (a.after_complete q cid s).controller.jobs ≡ filter (λ k. not (is_job q cid k)) s.controller.jobs
 jobs_completed s q cid j at =
     let st = a.final_status s j in
-    ap (λ (o : Option Job). (option_map_or (λ j. let st = a.final_status s j in a.answered q cid st j.dw0 (a.deletion_done j st (a.on_device (λ d. record d { image = a.image_completed j d.image }) (a.without_job q cid s)))) o s).device.jobs) at
-    ∙ ap (λ (d : Device). d.jobs) (device-answered q cid st j.dw0 (a.deletion_done j st (finished q cid j s)))
+    ap (λ (o : Option Job). (option_map_or (λ j. let st = a.final_status s j in a.answered q cid st j.dw0 (a.deletion_done j st (a.on_controller (λ d. record d { image = a.image_completed j d.image }) (a.without_job q cid s)))) o s).controller.jobs) at
+    ∙ ap (λ (d : Controller). d.jobs) (controller-answered q cid st j.dw0 (a.deletion_done j st (finished q cid j s)))
     ∙ grind arith
 
 -- behind it nothing of the command is left
 over_completion : (s : State) (e : Event) (reply : Reply) (q cid : ℕ) (st : Status) → (q == 0) ≡ false → Going s e reply → status_by s e reply q cid ≡ Some st → IsOver q cid (a.after s e reply)
 over_completion s (events.Complete k c) (events.Completed touched) q cid st other g given =
     let job = given_job s (events.Complete k c) (events.Completed touched) q cid st given in
-    let left = subst (AllByRecursion (IsOther q cid)) (sym (jobs_completed s q cid job.0 job.1)) (none_left q cid s.device.jobs) in
+    let left = subst (AllByRecursion (IsOther q cid)) (sym (jobs_completed s q cid job.0 job.1)) (none_left q cid s.controller.jobs) in
     record {
       entries = no_entry_step q cid other s (events.Complete k c) (events.Completed touched) g (λ d is. absurd (cc (is))) (job_alone s q cid job.0 g.stood job.1);
       jobs = (elim (cases_Bool ((k == q) && (c == cid))) [ inl is ↦ grind (arith, eqb-true) | inr is ↦ absurd cc ]);
@@ -99,7 +99,7 @@ runs_complete_once image earlier first between second later end q cid st st' run
           let front = unforged_front between (second ∷ later) at.mid at.unforged in
           let still = along_steps (IsOver q cid) (submits q cid) (λ s e reply g far. over_step q cid other s e reply g far) between at.mid two.0 two.1 front at.fronted_mid.stood e over in
           let j = given_job second.before second.event second.reply q cid st' given' in
-          let ids = and_parts (j.0.q == q) (j.0.entry.cid == cid) (found_is (is_job q cid) second.before.device.jobs j.0 j.1) in
+          let ids = and_parts (j.0.q == q) (j.0.entry.cid == cid) (found_is (is_job q cid) second.before.controller.jobs j.0 j.1) in
           let over' = subst (IsOver q cid) (sym two.2.0) still.1 in
-          absurd (all-found (IsOther q cid) (is_job q cid) second.before.device.jobs j.0 j.1 over'.jobs (eqb-true j.0.q q ids.0) (eqb-true j.0.entry.cid cid ids.1))
+          absurd (all-found (IsOther q cid) (is_job q cid) second.before.controller.jobs j.0 j.1 over'.jobs (eqb-true j.0.q q ids.0) (eqb-true j.0.entry.cid cid ids.1))
     ]

@@ -16,19 +16,19 @@ use Rattle.machine_model.proofs.Moves.{host_moves, deleted_is, half_from, queue_
 use Rattle.machine_model.proofs.{Owned.{HoldsPart, reset_state, all_reset, lost_by}, Sound.{asked_at, was_asked, named, status_in}}
 use Rattle.machine_model.proofs.{Steps.{managed_by, unrefused, Accepts, part_controller}, Tokens.{gone_at, is_job}}
 use Rattle.machine_model.specs.{After.change, Agreeing.{JobKnown, Knows}, Claims.OwnsFit, Events.{Event, Reply}, Image.Made}
-use Rattle.machine_model.specs.{Opening.{Opens, opening, device_queue as opened}, Proper.IsProper}
-use Rattle.machine_model.specs.Refusals.{host_queue, next_rung, job_at, is_live, is_deleting, is_asked, in_service, is_submitted, is_drafted, is_held, first_answer, entry_of, record_is, refusal_of}
-use Rattle.machine_model.specs.State.{State, HostQueue, DeviceQueue, Job, Record, Answer, is_at, record_at, with_record, without_record, pages_of}
+use Rattle.machine_model.specs.{Opening.{Opens, opening, served_queue as opened}, Proper.IsProper}
+use Rattle.machine_model.specs.Refusals.{host_queue, next_rung, job_at, is_live, is_deleting, is_asked, in_service, is_submitted, is_drafted, is_held, front_completion, entry_of, record_is, refusal_of}
+use Rattle.machine_model.specs.State.{State, HostQueue, ServedQueue, Job, Record, PostedCompletion, is_at, record_at, with_record, without_record, pages_of}
 use Rattle.machine_model.specs.{Step.{IsController, HostPart, resets, host_part, reaped, reaped_entry}, Work.Work, declared.words.HostState.HostState}
 use Rattle.machine_model.specs.declared.words.{HostState.TheVariants.{Live, Deleting}, Phase.{Phase, TheVariants.Held}, Reaped.TheVariants.{Empty, Rejected}}
 use Rattle.machine_model.specs.declared.words.{Refusal.Refusal, Work.TheVariants.Io}
 use Rattle.run_laws.proofs.{Causes.{any_longer, any_last}, Moves.{JobsMove, jobs_event, queues_walk, QueueMove, queues_event, told_entry}, OneEnd.opened_lists}
 use Rattle.run_laws.{proofs.ReadsKept.{Member, members}, specs.Ends.{renews_by, renews, since_renewed, submits_by, submits, WasLost, WasLostByReset}}
 use Rattle.run_laws.specs.Statuses.{deletes, status_by, status_given}
-use Rattle.two_sides.proofs.{Along.{made_of, Carried}, DeviceMoves.{answer_of, finished, cleared, clears, fetch_by, complete_by, is_over}, Heads.changed_at}
+use Rattle.two_sides.proofs.{Along.{made_of, Carried}, ControllerMoves.{posted_completion, finished, cleared, clears, fetch_by, complete_by, is_over}, Heads.changed_at}
 use Rattle.two_sides.proofs.{NeverFull.{stood_on, stood_at_opening}, PlacesKept.reaped_answer}
 use Rattle.two_sides.proofs.Provided.{In, all_in, all_in_both, all_map, all_with, all_append, all_drop_one, sent, sent_found}
-use Rattle.two_sides.proofs.{Served.{Stood, answers_at}, Standing.list_at, Tied.{below, deleted_is_gone}, TiedAll.{live_is_there, pair_at}}
+use Rattle.two_sides.proofs.{Served.{Stood, completions_at}, Standing.list_at, Tied.{below, deleted_is_gone}, TiedAll.{live_is_there, pair_at}}
 use Rattle.page_memory.proofs.Lists.{all-at, all-found, all-filter, some_is}
 
 -- A submission queue that is in service at the host and absent at the controller was deleted: a Delete SQ of it was fetched since it was last retired or asked for anew, and since the controller was last reset.
@@ -75,10 +75,10 @@ deletion_asked s stood j known z is0 = let k = known z in of k.0 k.1 k.2
     of (CreateCq k n base) knows is = absurd (other (CreateCq k n base) refl is)
     of (CreateSq k n base) knows is = absurd (other (CreateSq k n base) refl is)
 
-deletion_stays : (s : State) (e : Event) (reply : Reply) → resets e ≡ false → Accepts s e reply → Stood s → (k : ℕ) (j : Job) → slice_get s.device.jobs k ≡ Some j → j.q ≡ 0 → (j.entry.opcode == DELETE_IO_SQ) ≡ true
+deletion_stays : (s : State) (e : Event) (reply : Reply) → resets e ≡ false → Accepts s e reply → Stood s → (k : ℕ) (j : Job) → slice_get s.controller.jobs k ≡ Some j → j.q ≡ 0 → (j.entry.opcode == DELETE_IO_SQ) ≡ true
     → renews_by (named_queue j.entry) e reply ≡ false
 deletion_stays s e reply other ok stood k j at z is0 =
-    let asked = deletion_asked s stood j (all-at (JobKnown s.host.records) s.device.jobs k j at stood.grounds.stands.1.placed.jobs) z is0 in
+    let asked = deletion_asked s stood j (all-at (JobKnown s.host.records) s.controller.jobs k j at stood.grounds.stands.1.placed.jobs) z is0 in
     let quiet_queue : (test : HostState → Bool) → ((st : HostState) → test st ≡ true → is_asked st ≡ false) → (n : ℕ) → option_map_or (λ x. test x.state) (host_queue s n) false ≡ true → (n == named_queue j.entry) ≡ false =
     λ test quiet n is. ne_eqb n (named_queue j.entry) (λ e. (let g = subst (λ (m : ℕ). asked_at s.host.queues m ≡ true) (sym e) asked in grind arith)) in
     grind (arith, other)
@@ -101,8 +101,8 @@ deletions_turn done s e reply other ok stood = record {
 }
 
 -- behind a reset there is no job
-pub deletions_on : (done : List Made) (s : State) (e : Event) (reply : Reply) → Accepts s e reply → Stood s → AllByRecursion (DeletionFetched done) s.device.jobs
-    → AllByRecursion (DeletionFetched (done ++ made_of s e reply ∷ [])) (a.after s e reply).device.jobs
+pub deletions_on : (done : List Made) (s : State) (e : Event) (reply : Reply) → Accepts s e reply → Stood s → AllByRecursion (DeletionFetched done) s.controller.jobs
+    → AllByRecursion (DeletionFetched (done ++ made_of s e reply ∷ [])) (a.after s e reply).controller.jobs
 deletions_on done s events.Reset events.Accepted ok stood h = tt
 deletions_on done s events.Reset reply ok stood h = absurd ok.1
 deletions_on done s e reply ok stood h =
@@ -110,54 +110,54 @@ deletions_on done s e reply ok stood h =
 
 -- What is so of each absent queue of the controller, as one changes
 
-abbrev AbsentSo : (ℕ → Type 0) → List DeviceQueue → Type 0
-AbsentSo F qs = (q : ℕ) (at : DeviceQueue) → slice_get qs q ≡ Some at → is_absent at.state ≡ true → F q
+abbrev AbsentSo : (ℕ → Type 0) → List ServedQueue → Type 0
+AbsentSo F qs = (q : ℕ) (at : ServedQueue) → slice_get qs q ≡ Some at → is_absent at.state ≡ true → F q
 
-absent_change : (F : ℕ → Type 0) (k : ℕ) (f : DeviceQueue → DeviceQueue) (qs : List DeviceQueue) → ((at : DeviceQueue) → slice_get qs k ≡ Some at → is_absent (f at).state ≡ true → F k) → AbsentSo F qs → AbsentSo F (change k f qs)
+absent_change : (F : ℕ → Type 0) (k : ℕ) (f : ServedQueue → ServedQueue) (qs : List ServedQueue) → ((at : ServedQueue) → slice_get qs k ≡ Some at → is_absent (f at).state ≡ true → F k) → AbsentSo F qs → AbsentSo F (change k f qs)
 absent_change F k f qs own h q at e absent = grind (arith, changed_at k f qs q at e)
 
-absent_same : (F : ℕ → Type 0) (k : ℕ) (f : DeviceQueue → DeviceQueue) (qs : List DeviceQueue) → ((at : DeviceQueue) → (f at).state ≡ at.state) → AbsentSo F qs → AbsentSo F (change k f qs)
+absent_same : (F : ℕ → Type 0) (k : ℕ) (f : ServedQueue → ServedQueue) (qs : List ServedQueue) → ((at : ServedQueue) → (f at).state ≡ at.state) → AbsentSo F qs → AbsentSo F (change k f qs)
 absent_same F k f qs same h = absent_change F k f qs (λ at e absent. h k at e (sym (ap is_absent (same at)) ∙ absent)) h
 
-absent_fetch : (F : ℕ → Type 0) (s : State) (q : ℕ) → AbsentSo F s.device.queues → AbsentSo F (a.after_fetch q s).device.queues
+absent_fetch : (F : ℕ → Type 0) (s : State) (q : ℕ) → AbsentSo F s.controller.queues → AbsentSo F (a.after_fetch q s).controller.queues
 absent_fetch F s q h =
-    let off : (k : ℕ) → AbsentSo F (change k (λ at. record at { unfetched = drop 1 at.unfetched; rung = at.rung - 1 }) s.device.queues) =
-    λ k. absent_same F k (λ at. record at { unfetched = drop 1 at.unfetched; rung = at.rung - 1 }) s.device.queues (λ at. refl) h in
-    fetch_by (λ (t : State). AbsentSo F t.device.queues) s q h
-    (λ e n c. absent_same F q (λ at. record at { answers = at.answers ++ answer_of q e.cid COMMAND_ID_CONFLICT 0 (a.taken_off q s) ∷ [] }) (a.taken_off q s).device.queues (λ at. refl) (off q))
-    (λ e n c z. managed_by (λ (t : State). AbsentSo F t.device.queues) e (a.taken_off 0 s)
+    let off : (k : ℕ) → AbsentSo F (change k (λ at. record at { unfetched = drop 1 at.unfetched; rung = at.rung - 1 }) s.controller.queues) =
+    λ k. absent_same F k (λ at. record at { unfetched = drop 1 at.unfetched; rung = at.rung - 1 }) s.controller.queues (λ at. refl) h in
+    fetch_by (λ (t : State). AbsentSo F t.controller.queues) s q h
+    (λ e n c. absent_same F q (λ at. record at { completions = at.completions ++ posted_completion q e.cid COMMAND_ID_CONFLICT 0 (a.taken_off q s) ∷ [] }) (a.taken_off q s).controller.queues (λ at. refl) (off q))
+    (λ e n c z. managed_by (λ (t : State). AbsentSo F t.controller.queues) e (a.taken_off 0 s)
     (record {
       refuses = λ st bad. off 0;
       aborts = λ is8 w. off 0;
       is_late = λ is8. off 0;
-      stops = λ is0 q0 runs. absent_change F (named_queue e) (λ at. record at { state = Stopping }) (a.taken_off 0 s).device.queues (λ at ex no. absurd (true≢false (sym no))) (off 0);
-      drops = λ is4 q0 there gone. absent_same F (named_queue e) a.dropped (a.taken_off 0 s).device.queues (λ at. refl) (off 0);
-      makes_completion = λ is5 q0 none. absent_same F (named_queue e) a.completion_made (a.taken_off 0 s).device.queues (λ at. refl) (off 0);
-      makes_submission = λ is1 q0 gone there. absent_change F (named_queue e) a.submission_made (a.taken_off 0 s).device.queues (λ at ex no. absurd (true≢false (sym no))) (off 0);
+      stops = λ is0 q0 runs. absent_change F (named_queue e) (λ at. record at { state = Stopping }) (a.taken_off 0 s).controller.queues (λ at ex no. absurd (true≢false (sym no))) (off 0);
+      drops = λ is4 q0 there gone. absent_same F (named_queue e) a.dropped (a.taken_off 0 s).controller.queues (λ at. refl) (off 0);
+      makes_completion = λ is5 q0 none. absent_same F (named_queue e) a.completion_made (a.taken_off 0 s).controller.queues (λ at. refl) (off 0);
+      makes_submission = λ is1 q0 gone there. absent_change F (named_queue e) a.submission_made (a.taken_off 0 s).controller.queues (λ at ex no. absurd (true≢false (sym no))) (off 0);
     }))
     (λ e n c other. off q)
 
-absent_complete : (F : ℕ → Type 0) (s : State) (q cid : ℕ) → ((j : Job) → job_at s q cid ≡ Some j → clears s j ≡ true → F (named_queue j.entry)) → AbsentSo F s.device.queues → AbsentSo F (a.after_complete q cid s).device.queues
+absent_complete : (F : ℕ → Type 0) (s : State) (q cid : ℕ) → ((j : Job) → job_at s q cid ≡ Some j → clears s j ≡ true → F (named_queue j.entry)) → AbsentSo F s.controller.queues → AbsentSo F (a.after_complete q cid s).controller.queues
 absent_complete F s q cid told h =
-    complete_by (λ (t : State). AbsentSo F t.device.queues) s q cid h
+    complete_by (λ (t : State). AbsentSo F t.controller.queues) s q cid h
     (λ j at c.
-    let t = a.on_device_queue (named_queue j.entry) cleared (finished q cid j s) in
-    absent_same F q (λ at. record at { answers = at.answers ++ answer_of q cid (a.final_status s j) j.dw0 t ∷ [] }) t.device.queues (λ at. refl)
-    (absent_change F (named_queue j.entry) cleared s.device.queues (λ x ex no. told j at c) h))
-    (λ j at c. absent_same F q (λ at. record at { answers = at.answers ++ answer_of q cid (a.final_status s j) j.dw0 (finished q cid j s) ∷ [] }) s.device.queues (λ at. refl) h)
+    let t = a.on_served_queue (named_queue j.entry) cleared (finished q cid j s) in
+    absent_same F q (λ at. record at { completions = at.completions ++ posted_completion q cid (a.final_status s j) j.dw0 t ∷ [] }) t.controller.queues (λ at. refl)
+    (absent_change F (named_queue j.entry) cleared s.controller.queues (λ x ex no. told j at c) h))
+    (λ j at c. absent_same F q (λ at. record at { completions = at.completions ++ posted_completion q cid (a.final_status s j) j.dw0 (finished q cid j s) ∷ [] }) s.controller.queues (λ at. refl) h)
 
-absent_host : (F : ℕ → Type 0) (s : State) (e : Event) (reply : Reply) → Accepts s e reply → IsController e ≡ false → resets e ≡ false → AbsentSo F s.device.queues → AbsentSo F (a.after s e reply).device.queues
+absent_host : (F : ℕ → Type 0) (s : State) (e : Event) (reply : Reply) → Accepts s e reply → IsController e ≡ false → resets e ≡ false → AbsentSo F s.controller.queues → AbsentSo F (a.after s e reply).controller.queues
 absent_host F s e reply ok c other h =
-    let posts : (q : ℕ) (entry : SubEntry) → AbsentSo F (change q (λ at. record at { unfetched = at.unfetched ++ entry ∷ [] }) s.device.queues) =
-    λ q entry. absent_same F q (λ at. record at { unfetched = at.unfetched ++ entry ∷ [] }) s.device.queues (λ at. refl) h in
-    let reaped : (q : ℕ) → AbsentSo F (change q (λ at. record at { answers = drop 1 at.answers }) s.device.queues) =
-    λ q. absent_same F q (λ at. record at { answers = drop 1 at.answers }) s.device.queues (λ at. refl) h in
-    host_moves (λ (e : Event) (reply : Reply) (t : State). resets e ≡ false → AbsentSo F t.device.queues) s e reply ok c
+    let posts : (q : ℕ) (entry : SubEntry) → AbsentSo F (change q (λ at. record at { unfetched = at.unfetched ++ entry ∷ [] }) s.controller.queues) =
+    λ q entry. absent_same F q (λ at. record at { unfetched = at.unfetched ++ entry ∷ [] }) s.controller.queues (λ at. refl) h in
+    let reaped : (q : ℕ) → AbsentSo F (change q (λ at. record at { completions = drop 1 at.completions }) s.controller.queues) =
+    λ q. absent_same F q (λ at. record at { completions = drop 1 at.completions }) s.controller.queues (λ at. refl) h in
+    host_moves (λ (e : Event) (reply : Reply) (t : State). resets e ≡ false → AbsentSo F t.controller.queues) s e reply ok c
     (record {
       reserves = λ q request d none is other. h;
       submits = λ d entry r none built its live other. posts d.q entry;
       cancels = λ d r its other. h;
-      rings = λ q none other. absent_same F q (λ at. record at { rung = length at.unfetched }) s.device.queues (λ at. refl) h;
+      rings = λ q none other. absent_same F q (λ at. record at { rung = length at.unfetched }) s.controller.queues (λ at. refl) h;
       rests = λ q is other. h;
       rejects = λ q why is other. reaped q;
       tells = λ q cid st what e r request t heard w other. reaped q;
@@ -181,7 +181,7 @@ absent_host F s e reply ok c other h =
     }) other
 
 absent_event : (F : ℕ → Type 0) (s : State) (e : Event) (reply : Reply) → Accepts s e reply → resets e ≡ false → ((k cid : ℕ) (j : Job) → job_at s k cid ≡ Some j → clears s j ≡ true → F (named_queue j.entry))
-    → AbsentSo F s.device.queues → AbsentSo F (a.after s e reply).device.queues
+    → AbsentSo F s.controller.queues → AbsentSo F (a.after s e reply).controller.queues
 absent_event F s (events.Fetch q) (events.Fetched c touched) ok other told h = absent_fetch F s q h
 absent_event F s (events.Walk q cid) (events.Walked o touched) ok other told h = subst (AbsentSo F) (sym (queues_walk s q cid)) h
 absent_event F s (events.Complete q cid) (events.Completed touched) ok other told h = absent_complete F s q cid (told q cid) h
@@ -283,12 +283,12 @@ serving_event s e reply ok holds q y ey deleting = elim (cases_Bool (IsControlle
 
 -- The invariant
 
-abbrev pub GoneTold : List Made → List HostQueue → List DeviceQueue → Type 0
-GoneTold done hs qs = (q : ℕ) (x : HostQueue) (at : DeviceQueue) → slice_get hs q ≡ Some x → in_service x.state ≡ true → slice_get qs q ≡ Some at → is_absent at.state ≡ true → DeletedSince q done
+abbrev pub GoneTold : List Made → List HostQueue → List ServedQueue → Type 0
+GoneTold done hs qs = (q : ℕ) (x : HostQueue) (at : ServedQueue) → slice_get hs q ≡ Some x → in_service x.state ≡ true → slice_get qs q ≡ Some at → is_absent at.state ≡ true → DeletedSince q done
 
 -- with the step itself made: a queue that is live is there, so the host asked for the deletion of an absent one that is in service
-pub gone_on : (done : List Made) (s : State) (e : Event) (reply : Reply) → Accepts s e reply → Stood s → Stood (a.after s e reply) → AllByRecursion (DeletionFetched done) s.device.jobs → GoneTold done s.host.queues s.device.queues
-    → GoneTold (done ++ made_of s e reply ∷ []) (a.after s e reply).host.queues (a.after s e reply).device.queues
+pub gone_on : (done : List Made) (s : State) (e : Event) (reply : Reply) → Accepts s e reply → Stood s → Stood (a.after s e reply) → AllByRecursion (DeletionFetched done) s.controller.jobs → GoneTold done s.host.queues s.controller.queues
+    → GoneTold (done ++ made_of s e reply ∷ []) (a.after s e reply).host.queues (a.after s e reply).controller.queues
 gone_on done s e reply ok stood stood' jobs h q y at ey serves eat absent =
     let left = deleting (is_live y.state) refl in
     let before = serving_event s e reply ok stood.grounds.stands.0 q y ey left in
@@ -298,7 +298,7 @@ gone_on done s e reply ok stood stood' jobs h q y at ey serves eat absent =
   where
     deleting : (b : Bool) → is_live y.state ≡ b → is_deleting y.state ≡ true
     deleting true live =
-        let gone : gone_at (a.after s e reply).device.queues q ≡ true = ap (λ (o : Option DeviceQueue). option_map_or (λ d. is_absent d.state) o true) eat ∙ absent in
+        let gone : gone_at (a.after s e reply).controller.queues q ≡ true = ap (λ (o : Option ServedQueue). option_map_or (λ d. is_absent d.state) o true) eat ∙ absent in
         absurd (true≢false (sym gone ∙ live_is_there (a.after s e reply) stood'.grounds.fit q y ey live))
     deleting false far = (grind (arith, serves, far))
 
@@ -375,8 +375,8 @@ not_submitted s e reply ok q cid others = grind arith
 -- Answers
 
 -- an answer is that of a submitted command
-answer_sent : (s : State) → Stood s → (q : ℕ) (an : Answer) → In an (list_at (λ at. at.answers) s.device.queues q) → (r : Record) × (record_at s.host q an.cid ≡ Some r) × (is_submitted r.phase ≡ true)
-answer_sent s stood q an within = grind (arith, total, answers_at, eq-eqb, sent_found)
+answer_sent : (s : State) → Stood s → (q : ℕ) (an : PostedCompletion) → In an (list_at (λ at. at.completions) s.controller.queues q) → (r : Record) × (record_at s.host q an.cid ≡ Some r) × (is_submitted r.phase ≡ true)
+answer_sent s stood q an within = grind (arith, total, completions_at, eq-eqb, sent_found)
 
 sent_not_drafted : (ph : Phase) → is_submitted ph ≡ true → is_drafted ph ≡ false
 sent_not_drafted ph e = grind arith
@@ -384,18 +384,18 @@ sent_not_drafted ph e = grind arith
 held_not_drafted : (ph : Phase) → is_held ph ≡ true → is_drafted ph ≡ false
 held_not_drafted ph e = grind arith
 
-abbrev pub AnswerTold : List Made → ℕ → Answer → Type 0
+abbrev pub AnswerTold : List Made → ℕ → PostedCompletion → Type 0
 AnswerTold done q an = CompletedIn done q an.cid an.status
 
-abbrev pub AnswersTold : List Made → ℕ → List DeviceQueue → Type 0
-AnswersTold done q qs = AllByRecursion (AnswerTold done q) (list_at (λ at. at.answers) qs q)
+abbrev pub AnswersTold : List Made → ℕ → List ServedQueue → Type 0
+AnswersTold done q qs = AllByRecursion (AnswerTold done q) (list_at (λ at. at.completions) qs q)
 
 -- where a step submits none of their commands
-answers_longer : (done : List Made) (s : State) (m : Made) (q : ℕ) → ((an : Answer) → In an (list_at (λ at. at.answers) s.device.queues q) → submits q an.cid m ≡ false) → AnswersTold done q s.device.queues → AnswersTold (done ++ m ∷ []) q s.device.queues
+answers_longer : (done : List Made) (s : State) (m : Made) (q : ℕ) → ((an : PostedCompletion) → In an (list_at (λ at. at.completions) s.controller.queues q) → submits q an.cid m ≡ false) → AnswersTold done q s.controller.queues → AnswersTold (done ++ m ∷ []) q s.controller.queues
 answers_longer done s m q far h =
-    all_in (AnswerTold done q) (AnswerTold (done ++ m ∷ []) q) (list_at (λ at. at.answers) s.device.queues q) (λ an within c. completed_on done m q an.cid an.status (far an within) c) h
+    all_in (AnswerTold done q) (AnswerTold (done ++ m ∷ []) q) (list_at (λ at. at.completions) s.controller.queues q) (λ an within c. completed_on done m q an.cid an.status (far an within) c) h
 
-answer_not_submitted : (s : State) (e : Event) (reply : Reply) → Accepts s e reply → Stood s → (q : ℕ) (an : Answer) → In an (list_at (λ at. at.answers) s.device.queues q) → submits_by q an.cid e reply ≡ false
+answer_not_submitted : (s : State) (e : Event) (reply : Reply) → Accepts s e reply → Stood s → (q : ℕ) (an : PostedCompletion) → In an (list_at (λ at. at.completions) s.controller.queues q) → submits_by q an.cid e reply ≡ false
 answer_not_submitted s e reply ok stood q an within =
     let r = answer_sent s stood q an within in
     not_submitted s e reply ok q an.cid (λ r0 at. sent_not_drafted r0.phase (subst (λ (x : Record). is_submitted x.phase ≡ true) (some_is (sym r.1 ∙ at)) r.2))
@@ -407,12 +407,12 @@ completes_at : (s : State) (e : Event) (reply : Reply) (q cid : ℕ) (j : Job) �
 completes_at s e reply q cid j ok is at =
     subst (λ (x : Event). status_by s x reply q cid ≡ Some (a.final_status s j)) (sym is) (completes_by s reply q cid j (subst (λ (x : Event). Accepts s x reply) is ok) at)
 
-answers_turn : (done : List Made) (s : State) (e : Event) (reply : Reply) → Accepts s e reply → (q : ℕ) → QueueMove (λ at. at.answers) (AnswerTold (done ++ made_of s e reply ∷ []) q) q s e
+answers_turn : (done : List Made) (s : State) (e : Event) (reply : Reply) → Accepts s e reply → (q : ℕ) → QueueMove (λ at. at.completions) (AnswerTold (done ++ made_of s e reply ∷ []) q) q s e
 answers_turn done s e reply ok q = record {
   posts = λ d entry at e' built here h. h;
   sends = λ entry at z h. h;
   rings = λ rung at h. h;
-  reaps = λ at h. all_drop_one (AnswerTold (done ++ made_of s e reply ∷ []) q) at.answers h;
+  reaps = λ at h. all_drop_one (AnswerTold (done ++ made_of s e reply ∷ []) q) at.completions h;
   fetches = λ rung at h. h;
   stops = λ at h. h;
   drops = λ at h. tt;
@@ -421,17 +421,17 @@ answers_turn done s e reply ok q = record {
   clears = λ at h. h;
   empties = (tt, tt);
   completes = λ cid j head at e' job h.
-      all_append (AnswerTold (done ++ made_of s e reply ∷ []) q) at.answers (record { cid = cid; status = a.final_status s j; dw0 = j.dw0; sq_head = head } ∷ []) h
+      all_append (AnswerTold (done ++ made_of s e reply ∷ []) q) at.completions (record { cid = cid; status = a.final_status s j; dw0 = j.dw0; sq_head = head } ∷ []) h
       (record { before = done; completion = made_of s e reply; between = []; parts = refl; given = completes_at s e reply q cid j ok e' job; since = refl }, tt);
 }
 
-answers_on : (done : List Made) (s : State) (e : Event) (reply : Reply) → Accepts s e reply → Stood s → (q : ℕ) → AnswersTold done q s.device.queues → AnswersTold (done ++ made_of s e reply ∷ []) q (a.after s e reply).device.queues
+answers_on : (done : List Made) (s : State) (e : Event) (reply : Reply) → Accepts s e reply → Stood s → (q : ℕ) → AnswersTold done q s.controller.queues → AnswersTold (done ++ made_of s e reply ∷ []) q (a.after s e reply).controller.queues
 answers_on done s e reply ok stood q h =
-    queues_event (λ at. at.answers) (AnswerTold (done ++ made_of s e reply ∷ []) q) q s e reply (answers_turn done s e reply ok q) ok stood
+    queues_event (λ at. at.completions) (AnswerTold (done ++ made_of s e reply ∷ []) q) q s e reply (answers_turn done s e reply ok q) ok stood
     (answers_longer done s (made_of s e reply) q (λ an within. answer_not_submitted s e reply ok stood q an within) h)
 
 -- the oldest is among them
-pub first_told : (Q : Answer → Type 0) (qs : List DeviceQueue) (q : ℕ) (an : Answer) → option_and_then (λ (queue : DeviceQueue). first_answer queue.answers) (slice_get qs q) ≡ Some an → AllByRecursion Q (list_at (λ at. at.answers) qs q) → Q an
+pub first_told : (Q : PostedCompletion → Type 0) (qs : List ServedQueue) (q : ℕ) (an : PostedCompletion) → option_and_then (λ (queue : ServedQueue). front_completion queue.completions) (slice_get qs q) ≡ Some an → AllByRecursion Q (list_at (λ at. at.completions) qs q) → Q an
 first_told Q qs q an first h = grind (arith, some_is)
 
 -- Held commands
@@ -446,7 +446,7 @@ is_itself : (r : Record) → is_at r.q r.cid r ≡ true
 is_itself r = rw (eq-eqb r.q r.q refl, eq-eqb r.cid r.cid refl) refl
 
 -- a queue that is retired was deleted
-pub deleted_before : (done : List Made) (s : State) (q : ℕ) → Stood s → GoneTold done s.host.queues s.device.queues → refusal_of s (events.Retire q) ≡ None → DeletedSince q done
+pub deleted_before : (done : List Made) (s : State) (q : ℕ) → Stood s → GoneTold done s.host.queues s.controller.queues → refusal_of s (events.Retire q) ≡ None → DeletedSince q done
 deleted_before done s q stood gone none = grind (arith, queue_found, unrefused, pair_at, deleted_is_gone, is_over, deleted_is, deleted_serves)
 
 -- a record of the machine, submitted
@@ -464,14 +464,14 @@ held_stays done s e reply ok r k held st is =
     (not_submitted s e reply ok r.q r.cid (λ r0 at. subst (λ (x : Record). is_drafted x.phase ≡ false) (k.0.only r.q r.cid r0 at (is_itself r)) (held_not_drafted r.phase held))) (k.1 held st is)
 
 -- a reap holds one with the status that its completion gave
-reaped_told : (done : List Made) (s : State) (e : Event) (reply : Reply) → Accepts s e reply → s.trusted ≡ true → Stood s → ((q : ℕ) → (q == 0) ≡ false → AnswersTold done q s.device.queues)
+reaped_told : (done : List Made) (s : State) (e : Event) (reply : Reply) → Accepts s e reply → s.trusted ≡ true → Stood s → ((q : ℕ) → (q == 0) ≡ false → AnswersTold done q s.controller.queues)
     → (q cid : ℕ) (st : Status) (request : Request) (r : Record) → named (reaped s q) ≡ Some cid → status_in (reaped s q) ≡ Some st → record_at s.host q cid ≡ Some r → r.work ≡ Io request → Known s done r
     → CompletedIn (done ++ made_of s e reply ∷ []) r.q r.cid st
 reaped_told done s e reply ok t stood answers q cid st request r n is at w k =
     let an = reaped_answer s q cid t n in
     let ids = ids_of s q cid r at in
     let other : (q == 0) ≡ false = ap (λ (x : ℕ). x == 0) (sym ids.0) ∙ subst (λ (x : Work). OwnsFit r.q x (pages_of r)) w k.0.fits in
-    let told = first_told (AnswerTold (done ++ made_of s e reply ∷ []) q) s.device.queues q an.0 an.1
+    let told = first_told (AnswerTold (done ++ made_of s e reply ∷ []) q) s.controller.queues q an.0 an.1
     (answers_longer done s (made_of s e reply) q (λ x within. answer_not_submitted s e reply ok stood q x within) (answers q other)) in
     let status : an.0.status ≡ st = told_entry s q (entry_of q an.0) st (sym (ap (λ (o : Option ComEntry). status_in (option_map_or (reaped_entry s q) o Empty)) an.3) ∙ is) in
     subst (λ (x : ℕ). CompletedIn (done ++ made_of s e reply ∷ []) x r.cid st) (sym ids.0)
@@ -479,7 +479,7 @@ reaped_told done s e reply ok t stood answers q cid st request r n is at w k =
     (subst (CompletedIn (done ++ made_of s e reply ∷ []) q an.0.cid) status told))
 
 -- a retirement loses those of its queue, and a reset all of them
-lost_told : (done : List Made) (s : State) → Stood s → GoneTold done s.host.queues s.device.queues → (q : ℕ) (r : Record) → refusal_of s (events.Retire q) ≡ None → In r s.host.records → r.q ≡ q → is_submitted r.phase ≡ true
+lost_told : (done : List Made) (s : State) → Stood s → GoneTold done s.host.queues s.controller.queues → (q : ℕ) (r : Record) → refusal_of s (events.Retire q) ≡ None → In r s.host.records → r.q ≡ q → is_submitted r.phase ≡ true
     → WasLost (done ++ made_of s (events.Retire q) events.Accepted ∷ []) r.q r.cid ABORTED_SQ_DELETION
 lost_told done s stood gone q r none within rq sub = record {
   before = done;
@@ -499,8 +499,8 @@ reset_told done s stood r within sub = record { before = done; reset = made_of s
 abbrev KnownIn : State → List Made → Record → Type 0
 KnownIn s done r = In r s.host.records × Known s done r
 
-held_host : (done : List Made) (s : State) (e : Event) (reply : Reply) → Accepts s e reply → IsController e ≡ false → s.trusted ≡ true → Stood s → ((q : ℕ) → (q == 0) ≡ false → AnswersTold done q s.device.queues)
-    → GoneTold done s.host.queues s.device.queues → AllByRecursion (KnownIn s done) s.host.records → AllByRecursion (HeldTold (done ++ made_of s e reply ∷ [])) (a.after s e reply).host.records
+held_host : (done : List Made) (s : State) (e : Event) (reply : Reply) → Accepts s e reply → IsController e ≡ false → s.trusted ≡ true → Stood s → ((q : ℕ) → (q == 0) ≡ false → AnswersTold done q s.controller.queues)
+    → GoneTold done s.host.queues s.controller.queues → AllByRecursion (KnownIn s done) s.host.records → AllByRecursion (HeldTold (done ++ made_of s e reply ∷ [])) (a.after s e reply).host.records
 held_host done s e reply ok c trusted stood answers gone h =
     let less : (e : Event) (reply : Reply) → Accepts s e reply → (q cid : ℕ) → AllByRecursion (HeldTold (done ++ made_of s e reply ∷ [])) (without_record q cid s.host.records) =
     λ e reply ok q cid. all-filter (HeldTold (done ++ made_of s e reply ∷ [])) (λ r. not (is_at q cid r)) s.host.records (still e reply ok) in
@@ -564,8 +564,8 @@ held_host done s e reply ok c trusted stood answers gone h =
         lost_by (HeldTold (done ++ made_of s events.Reset events.Accepted ∷ [])) r (λ quiet. held_stays done s events.Reset events.Accepted ok r k.1)
         (λ sub held st same. inr (inr (subst (WasLostByReset (done ++ made_of s events.Reset events.Accepted ∷ []) r.q r.cid) (some_is same) (reset_told done s stood r k.0 sub))))
 
-held_event : (done : List Made) (s : State) (e : Event) (reply : Reply) → Accepts s e reply → s.trusted ≡ true → Stood s → ((q : ℕ) → (q == 0) ≡ false → AnswersTold done q s.device.queues)
-    → GoneTold done s.host.queues s.device.queues → AllByRecursion (KnownIn s done) s.host.records → AllByRecursion (HeldTold (done ++ made_of s e reply ∷ [])) (a.after s e reply).host.records
+held_event : (done : List Made) (s : State) (e : Event) (reply : Reply) → Accepts s e reply → s.trusted ≡ true → Stood s → ((q : ℕ) → (q == 0) ≡ false → AnswersTold done q s.controller.queues)
+    → GoneTold done s.host.queues s.controller.queues → AllByRecursion (KnownIn s done) s.host.records → AllByRecursion (HeldTold (done ++ made_of s e reply ∷ [])) (a.after s e reply).host.records
 held_event done s e reply ok trusted stood answers gone h = go (IsController e) refl
   where
     go : (b : Bool) → IsController e ≡ b → AllByRecursion (HeldTold (done ++ made_of s e reply ∷ [])) (a.after s e reply).host.records
@@ -577,16 +577,16 @@ held_event done s e reply ok trusted stood answers gone h = go (IsController e) 
 
 pub record Told (done : List Made) (s : State) : Type 0 where
   pub stood : Stood s
-  pub answers : (q : ℕ) → (q == 0) ≡ false → AnswersTold done q s.device.queues
+  pub completions : (q : ℕ) → (q == 0) ≡ false → AnswersTold done q s.controller.queues
   pub held : AllByRecursion (HeldTold done) s.host.records
-  pub deletions : AllByRecursion (DeletionFetched done) s.device.jobs
-  pub gone : GoneTold done s.host.queues s.device.queues
+  pub deletions : AllByRecursion (DeletionFetched done) s.controller.jobs
+  pub gone : GoneTold done s.host.queues s.controller.queues
 
 told_on : (done : List Made) (s : State) (e : Event) (reply : Reply) → IsProper e → Accepts s e reply → s.trusted ≡ true → Told done s → Told (done ++ made_of s e reply ∷ []) (a.after s e reply)
 told_on done s e reply proper ok t h = record {
   stood = stood_on s e reply proper ok t h.stood;
-  answers = λ q other. answers_on done s e reply ok h.stood q (h.answers q other);
-  held = held_event done s e reply ok t h.stood h.answers h.gone (all_in_both (HeldTold done) (Member s) (KnownIn s done) s.host.records (λ r within m k. (within, (m, k))) (members s h.stood) h.held);
+  completions = λ q other. answers_on done s e reply ok h.stood q (h.completions q other);
+  held = held_event done s e reply ok t h.stood h.completions h.gone (all_in_both (HeldTold done) (Member s) (KnownIn s done) s.host.records (λ r within m k. (within, (m, k))) (members s h.stood) h.held);
   deletions = deletions_on done s e reply ok h.stood h.deletions;
   gone = gone_on done s e reply ok h.stood (stood_on s e reply proper ok t h.stood) h.deletions h.gone;
 }
@@ -594,10 +594,10 @@ told_on done s e reply proper ok t h = record {
 told_refused : (done : List Made) (s : State) (e : Event) (why : Refusal) (touched : List ℕ) → Told done s → Told (done ++ made_of s e (events.Refused why touched) ∷ []) s
 told_refused done s e why touched h = record {
   stood = h.stood;
-  answers = λ q other. answers_longer done s (made_of s e (events.Refused why touched)) q (λ an within. refused_no_submit e why touched q an.cid) (h.answers q other);
+  completions = λ q other. answers_longer done s (made_of s e (events.Refused why touched)) q (λ an within. refused_no_submit e why touched q an.cid) (h.completions q other);
   held = all_in (HeldTold done) (HeldTold (done ++ made_of s e (events.Refused why touched) ∷ [])) s.host.records
       (λ r within k held st is. ended_on done (made_of s e (events.Refused why touched)) r.q r.cid st (refused_no_submit e why touched r.q r.cid) (k held st is)) h.held;
-  deletions = all_in (DeletionFetched done) (DeletionFetched (done ++ made_of s e (events.Refused why touched) ∷ [])) s.device.jobs
+  deletions = all_in (DeletionFetched done) (DeletionFetched (done ++ made_of s e (events.Refused why touched) ∷ [])) s.controller.jobs
       (λ j within k z is0. deleted_longer (named_queue j.entry) done (made_of s e (events.Refused why touched)) (refused_no_renewal e why touched (named_queue j.entry)) (k z is0)) h.deletions;
   gone = λ q x at ex serves e' absent. deleted_longer q done (made_of s e (events.Refused why touched)) (refused_no_renewal e why touched q) (h.gone q x at ex serves e' absent);
 }
@@ -605,15 +605,15 @@ told_refused done s e why touched h = record {
 pub told_carried : Carried Told
 told_carried = record { refused = told_refused; taken = told_on }
 
-nothing_answered : (k q : ℕ) → list_at (λ at. at.answers) (replicate k opened) q ≡ []
+nothing_answered : (k q : ℕ) → list_at (λ at. at.completions) (replicate k opened) q ≡ []
 nothing_answered (suc k) (suc q) = nothing_answered k q
 nothing_answered k q = refl
 
 pub told_at_opening : (pages queues n s : ℕ) (image : List ℕ) → Opens pages queues n s → Told [] (opening pages queues n s image)
 told_at_opening pages queues n s image opens = record {
   stood = stood_at_opening pages queues n s image opens;
-  answers = λ q other. subst (AllByRecursion (AnswerTold [] q)) (sym (nothing_answered (queues + 1) q)) tt;
+  completions = λ q other. subst (AllByRecursion (AnswerTold [] q)) (sym (nothing_answered (queues + 1) q)) tt;
   held = tt;
   deletions = tt;
-  gone = λ q x at ex serves e absent. absurd (true≢false (sym absent ∙ ap (λ (x : DeviceQueue). is_absent x.state) (opened_lists (queues + 1) q at e)));
+  gone = λ q x at ex serves e absent. absurd (true≢false (sym absent ∙ ap (λ (x : ServedQueue). is_absent x.state) (opened_lists (queues + 1) q at e)));
 }

@@ -16,7 +16,7 @@ use Rattle.io_commands.specs.{Values.{IsGood, numbers_of}, declared.request.Kind
 use Rattle.machine_model.proofs.{Counting.times-cons, HostLeaves.ids_of, Steps.{managed_by, Accepts, same_lists, permitted}}
 use Rattle.machine_model.{proofs.Tokens.{is_job as is_job_tokens}, specs.{After.final_status, Events.{Event, Reply}}}
 use Rattle.machine_model.specs.{Image.{Made, draft_of, submitted_by, written_by, succeeds, image_by, image_from}, Memory.with_pages, Opening.opening}
-use Rattle.machine_model.specs.{Proper.{IsProper, IsPage, ArePages}, Refusals.{refusal_of, job_at, is_job}, State.{State, Device, Job, is_at}}
+use Rattle.machine_model.specs.{Proper.{IsProper, IsPage, ArePages}, Refusals.{refusal_of, job_at, is_job}, State.{State, Controller, Job, is_at}}
 use Rattle.machine_model.specs.{Status.same_status, Step.{Step, times}, Trusted.{TrustedRun, drafts_of, Steps, forges_by, is_forgery}, Weights.one}
 use Rattle.machine_model.specs.declared.words.Refusal.{Refusal}
 use Rattle.run_laws.proofs.Causes.{goes_well, cause, CausedIfIo, has_verdict, Traced, traced_before, statuses_have_causes, compare_opcode}
@@ -25,9 +25,9 @@ use Rattle.run_laws.specs.{Blocks.{the_image_is_the_runs, blocks_of_request, com
 use Rattle.run_laws.specs.Statuses.{status_by, has_cause, is_compare}
 use Rattle.run_laws.specs.Walked.{compares_by_their_drafts, compare_failures_are_of_compares}
 use Rattle.two_sides.proofs.Along.{Carried, AtOpenings, Before, keeps, made_of, run_along, run_before, unforged_run, trusted_end}
-use Rattle.two_sides.proofs.{DeviceMoves.{fetch_by, walk_by}, JobLaws.not_zero as positive, NeverFull.{stood_on, stood_at_opening}}
+use Rattle.two_sides.proofs.{ControllerMoves.{fetch_by, walk_by}, JobLaws.not_zero as positive, NeverFull.{stood_on, stood_at_opening}}
 use Rattle.two_sides.proofs.{PoolBytes.{host_image, trusted_or_reset, unforged_step}, Provided.in_found}
-use Rattle.two_sides.proofs.{Served.{Stood, JobList, job_list, good_is}, Standing.device-answered}
+use Rattle.two_sides.proofs.{Served.{Stood, JobList, job_list, good_is}, Standing.controller-answered}
 use Rattle.two_sides.specs.Histories.{openings_have_histories, steps_make_histories}
 use Rattle.sgl_chain.specs.Spells.{Holds}
 use Rattle.page_memory.{proofs.Bytes.{byte_in, slice_get-set_other, slice_get-set_same}, specs.Pages.{Pages, page_at, byte_at}}
@@ -59,8 +59,8 @@ pub record JobDraft (drafts : List DraftContents) (s : State) (q cid : ℕ) (j :
 
 pub job_draft : (drafts : List DraftContents) (s : State) (q cid : ℕ) (j : Job) → Stood s → Known drafts s → (j.q == 0) ≡ false → job_at s q cid ≡ Some j → JobDraft drafts s q cid j
 job_draft drafts s q cid j stood known other at =
-    let l = job_list s stood j (in_found (is_job q cid) s.device.jobs j at) other (λ P all. all-found P (is_job q cid) s.device.jobs j at all) in
-    let ids = and_parts (j.q == q) (j.entry.cid == cid) (found_is (is_job q cid) s.device.jobs j at) in
+    let l = job_list s stood j (in_found (is_job q cid) s.controller.jobs j at) other (λ P all. all-found P (is_job q cid) s.controller.jobs j at all) in
+    let ids = and_parts (j.q == q) (j.entry.cid == cid) (found_is (is_job q cid) s.controller.jobs j at) in
     let rec = ids_of s j.q j.entry.cid l.command l.found in
     let of : OfDraft drafts s.memory l.command l.request =
     subst (OfDraftIfIo drafts s.memory l.command) l.work (all-found (RecordKnown drafts s.memory) (is_at j.q j.entry.cid) s.host.records l.command l.found known.records l.phase) in
@@ -73,7 +73,7 @@ job_draft drafts s q cid j stood known other at =
       bytes = λ source v is ok.
           let dir : direction_of_entry j.entry ≡ Source = ap (λ (e : SubEntry). direction_by (kind_of_opcode e.opcode)) l.entry ∙ ap direction_by (entry_kind l.command.cid l.request (spelling l.list.first)) ∙ source in
           all_carried s stood j l dir of.draft.data_pages of.pages (of.stand source) v is
-          (all-found (JobKnown s) (is_job q cid) s.device.jobs j at known.jobs other dir (ap goes_well is ∙ ok));
+          (all-found (JobKnown s) (is_job q cid) s.controller.jobs j at known.jobs other dir (ap goes_well is ∙ ok));
     }
 
 -- Completing
@@ -83,44 +83,44 @@ same_if b x = grind arith
 
 -- what the draft of a job that went well writes is what the job does
 by_kind : (drafts : List DraftContents) (s : State) (q cid : ℕ) (j : Job) (d : JobDraft drafts s q cid j) (v : Status) → j.verdict ≡ Some v → is_success v ≡ true → (k : Kind) → d.list.request.kind ≡ k
-    → jobs.image_by s.device.image j.entry j.bytes (Some k) ≡ (if is_success (jobs.status_by s.device.image j.entry j.bytes (Some k)) then written_by d.of.draft s.device.image else s.device.image)
+    → jobs.image_by s.controller.image j.entry j.bytes (Some k) ≡ (if is_success (jobs.status_by s.controller.image j.entry j.bytes (Some k)) then written_by d.of.draft s.controller.image else s.controller.image)
 by_kind drafts s q cid j d v is ok k k' = grind arith
 
 completed : (drafts : List DraftContents) (s : State) (q cid : ℕ) (j : Job) → Stood s → Known drafts s → job_at s q cid ≡ Some j → is_some j.verdict ≡ true
-    → a.image_completed j s.device.image ≡ (if is_success (final_status s j) then option_map_or (λ d. written_by d s.device.image) (draft_of q cid drafts) s.device.image else s.device.image)
+    → a.image_completed j s.controller.image ≡ (if is_success (final_status s j) then option_map_or (λ d. written_by d s.controller.image) (draft_of q cid drafts) s.controller.image else s.controller.image)
 completed drafts s q cid j stood known at some = go (j.q == 0) refl
   where
     its_queue : j.q ≡ q
-    its_queue = eqb-true j.q q (and_parts (j.q == q) (j.entry.cid == cid) (found_is (is_job q cid) s.device.jobs j at)).0
+    its_queue = eqb-true j.q q (and_parts (j.q == q) (j.entry.cid == cid) (found_is (is_job q cid) s.controller.jobs j at)).0
 
     io : JobDraft drafts s q cid j → (o : Option Status) → j.verdict ≡ o → is_some o ≡ true
-        → jobs.image_after s.device.image j.entry j.bytes o ≡ (if is_success (jobs.status_after s.device.image j.entry j.bytes o) then option_map_or (λ d. written_by d s.device.image) (draft_of q cid drafts) s.device.image else s.device.image)
+        → jobs.image_after s.controller.image j.entry j.bytes o ≡ (if is_success (jobs.status_after s.controller.image j.entry j.bytes o) then option_map_or (λ d. written_by d s.controller.image) (draft_of q cid drafts) s.controller.image else s.controller.image)
     io d None is some = absurd (true≢false (sym some))
     io d (Some v) is some = grind (arith, by_kind)
 
-    go : (b : Bool) → (j.q == 0) ≡ b → (if b then s.device.image else jobs.image_after s.device.image j.entry j.bytes j.verdict)
-        ≡ (if is_success (if b then unwrap_or j.verdict SUCCESS else jobs.status_after s.device.image j.entry j.bytes j.verdict) then option_map_or (λ d. written_by d s.device.image) (draft_of q cid drafts) s.device.image else s.device.image)
+    go : (b : Bool) → (j.q == 0) ≡ b → (if b then s.controller.image else jobs.image_after s.controller.image j.entry j.bytes j.verdict)
+        ≡ (if is_success (if b then unwrap_or j.verdict SUCCESS else jobs.status_after s.controller.image j.entry j.bytes j.verdict) then option_map_or (λ d. written_by d s.controller.image) (draft_of q cid drafts) s.controller.image else s.controller.image)
     go true z =
         let none : draft_of q cid drafts ≡ None = subst (λ (n : ℕ). draft_of n cid drafts ≡ None) (sym (eqb-true j.q 0 z) ∙ its_queue) (known.no_admin cid) in
-        sym (ap (λ (o : Option DraftContents). if is_success (unwrap_or j.verdict SUCCESS) then option_map_or (λ d. written_by d s.device.image) o s.device.image else s.device.image) none ∙ same_if (is_success (unwrap_or j.verdict SUCCESS)) s.device.image)
+        sym (ap (λ (o : Option DraftContents). if is_success (unwrap_or j.verdict SUCCESS) then option_map_or (λ d. written_by d s.controller.image) o s.controller.image else s.controller.image) none ∙ same_if (is_success (unwrap_or j.verdict SUCCESS)) s.controller.image)
     go false z = io (job_draft drafts s q cid j stood known z at) j.verdict refl some
 
 complete_image : (drafts : List DraftContents) (s : State) (q cid : ℕ) → refusal_of s (events.Complete q cid) ≡ None → Stood s → Known drafts s
-    → (a.after_complete q cid s).device.image ≡ (if succeeds s q cid then option_map_or (λ d. written_by d s.device.image) (draft_of q cid drafts) s.device.image else s.device.image)
+    → (a.after_complete q cid s).controller.image ≡ (if succeeds s q cid then option_map_or (λ d. written_by d s.controller.image) (draft_of q cid drafts) s.controller.image else s.controller.image)
 complete_image drafts s q cid none stood known = elim (option_is (job_at s q cid)) [
   | inl e ↦ rw e refl
   | inr (j, e) ↦
-      rw e (let s1 = a.on_device (λ d. record d { image = a.image_completed j d.image }) (a.without_job q cid s) in
-      ap (λ (d : Device). d.image) (device-answered q cid (a.final_status s j) j.dw0 (a.deletion_done j (a.final_status s j) s1))
+      rw e (let s1 = a.on_controller (λ d. record d { image = a.image_completed j d.image }) (a.without_job q cid s) in
+      ap (λ (d : Controller). d.image) (controller-answered q cid (a.final_status s j) j.dw0 (a.deletion_done j (a.final_status s j) s1))
       ∙ (grind arith) ∙ completed drafts s q cid j stood known e (has_verdict s q cid j none e))
 ]
 
 -- The others
 
-fetch_image : (s : State) (q : ℕ) → (a.after_fetch q s).device.image ≡ s.device.image
+fetch_image : (s : State) (q : ℕ) → (a.after_fetch q s).controller.image ≡ s.controller.image
 fetch_image s q =
-    fetch_by (λ (t : State). t.device.image ≡ s.device.image) s q refl (λ e n c. refl)
-    (λ e n c z. managed_by (λ (t : State). t.device.image ≡ s.device.image) e (a.taken_off 0 s)
+    fetch_by (λ (t : State). t.controller.image ≡ s.controller.image) s q refl (λ e n c. refl)
+    (λ e n c z. managed_by (λ (t : State). t.controller.image ≡ s.controller.image) e (a.taken_off 0 s)
     (record {
       refuses = λ st bad. refl;
       aborts = λ is8 walks. refl;
@@ -131,10 +131,10 @@ fetch_image s q =
       makes_submission = λ is1 q0 gone there. refl;
     })) (λ e n c other. refl)
 
-pub walk_image : (s : State) (q cid : ℕ) → (a.after_walk q cid s).device.image ≡ s.device.image
-walk_image s q cid = walk_by (λ (t : State). t.device.image ≡ s.device.image) s q cid refl (λ j act at u. refl)
+pub walk_image : (s : State) (q cid : ℕ) → (a.after_walk q cid s).controller.image ≡ s.controller.image
+walk_image s q cid = walk_by (λ (t : State). t.controller.image ≡ s.controller.image) s q cid refl (λ j act at u. refl)
 
-pub image_on : (drafts : List DraftContents) (s : State) (e : Event) (reply : Reply) → Accepts s e reply → Stood s → Known drafts s → (a.after s e reply).device.image ≡ image_by s drafts s.device.image e reply
+pub image_on : (drafts : List DraftContents) (s : State) (e : Event) (reply : Reply) → Accepts s e reply → Stood s → Known drafts s → (a.after s e reply).controller.image ≡ image_by s drafts s.controller.image e reply
 image_on drafts s (events.Fetch q) (events.Fetched c touched) ok stood known = fetch_image s q
 image_on drafts s (events.Walk q cid) (events.Walked o touched) ok stood known = walk_image s q cid
 image_on drafts s (events.Complete q cid) (events.Completed touched) ok stood known = complete_image drafts s q cid ok.0 stood known
@@ -148,7 +148,7 @@ image_on drafts s e reply ok stood known = host_image s e reply ok refl
 pub record StepKnown (drafts : List DraftContents) (s : State) (e : Event) (reply : Reply) (t : State) : Type 0 where
   pub stood : Stood t
   pub known : Known (submitted_by e reply ++ drafts) t
-  pub image : t.device.image ≡ image_by s drafts s.device.image e reply
+  pub image : t.controller.image ≡ image_by s drafts s.controller.image e reply
 
 accepted_known : (drafts : List DraftContents) (s : State) (e : Event) (reply : Reply) → IsProper e → Accepts s e reply → s.trusted ≡ true → Stood s → Known drafts s → StepKnown drafts s e reply (a.after s e reply)
 accepted_known drafts s e reply proper ok t stood known = record {
@@ -180,7 +180,7 @@ image_more drafts image (x ∷ done) m =
 pub record Imaged (image : List ℕ) (done : List Made) (s : State) : Type 0 where
   pub stood : Stood s
   pub known : Known (drafts_of done) s
-  pub image_is : s.device.image ≡ image_from [] image done
+  pub image_is : s.controller.image ≡ image_from [] image done
 
 imaged_more : (image : List ℕ) (done : List Made) (m : Made) (t : State) → Imaged image done m.before → StepKnown (drafts_of done) m.before m.event m.reply t → Imaged image (done ++ m ∷ []) t
 imaged_more image done m t h k = record {
@@ -196,7 +196,7 @@ images_carried image = record {
       (record {
         stood = h.stood;
         known = subst (λ (ds : List DraftContents). Known (ds ++ drafts_of done) s) (sym (refused_drafts e why touched)) h.known;
-        image = sym (refused_image s (drafts_of done) s.device.image e why touched);
+        image = sym (refused_image s (drafts_of done) s.controller.image e why touched);
       });
   taken = λ done s e reply proper ok t h. imaged_more image done (made_of s e reply) (a.after s e reply) h (accepted_known (drafts_of done) s e reply proper ok t h.stood h.known);
 }
@@ -244,17 +244,17 @@ compare_kind opcode k is h = let h' : kind_of_opcode COMPARE ≡ Some k = subst 
 told : (done : List Made) (drafts : List DraftContents) (s : State) (q cid : ℕ) (j : Job) (d : DraftContents) → Traced done s → Known drafts s → job_at s q cid ≡ Some j → refusal_of s (events.Complete q cid) ≡ None
     → (j.entry.opcode == COMPARE) ≡ true → draft_of q cid drafts ≡ Some d
     → not (same_status (final_status s j) ABORT_REQUESTED || same_status (final_status s j) ABORTED_SQ_DELETION || same_status (final_status s j) LBA_OUT_OF_RANGE) ≡ true
-    → final_status s j ≡ (if bytes_eq (gathered d.request.pieces d.data_pages) (blocks_of_request d.request s.device.image) then SUCCESS else COMPARE_FAILURE)
+    → final_status s j ≡ (if bytes_eq (gathered d.request.pieces d.data_pages) (blocks_of_request d.request s.controller.image) then SUCCESS else COMPARE_FAILURE)
 told done drafts s q cid j d traced known at none compare latest fine = elim (cases_Bool (j.q == 0)) [
   | inl z ↦ absurd (no_draft (sym (subst (λ (n : ℕ). draft_of n cid drafts ≡ None) (sym (eqb-true j.q 0 z) ∙ its_queue) (known.no_admin cid)) ∙ latest))
   | inr z ↦ (elim (option_is j.verdict) [ inl is ↦ let some = rw is at (has_verdict s q cid j none at) in absurd (true≢false (sym some)) | inr (v, is) ↦ io z v is ])
 ]
   where
     its_queue : j.q ≡ q
-    its_queue = eqb-true j.q q (and_parts (j.q == q) (j.entry.cid == cid) (found_is (is_job q cid) s.device.jobs j at)).0
+    its_queue = eqb-true j.q q (and_parts (j.q == q) (j.entry.cid == cid) (found_is (is_job q cid) s.controller.jobs j at)).0
 
     io : (other : (j.q == 0) ≡ false) → (v : Status) → j.verdict ≡ Some v
-        → final_status s j ≡ (if bytes_eq (gathered d.request.pieces d.data_pages) (blocks_of_request d.request s.device.image) then SUCCESS else COMPARE_FAILURE)
+        → final_status s j ≡ (if bytes_eq (gathered d.request.pieces d.data_pages) (blocks_of_request d.request s.controller.image) then SUCCESS else COMPARE_FAILURE)
     io other v is = by (is_success v) refl
       where
         k : JobDraft drafts s q cid j
@@ -266,28 +266,28 @@ told done drafts s q cid j d traced known at none compare latest fine = elim (ca
         kind : k.list.request.kind ≡ Compare
         kind = compare_kind j.entry.opcode k.list.request.kind compare k.kind
 
-        final : final_status s j ≡ jobs.status_after s.device.image j.entry j.bytes (Some v)
-        final = ap (λ (b : Bool). if b then unwrap_or j.verdict SUCCESS else jobs.status_after s.device.image j.entry j.bytes j.verdict) other ∙ ap (jobs.status_after s.device.image j.entry j.bytes) is
+        final : final_status s j ≡ jobs.status_after s.controller.image j.entry j.bytes (Some v)
+        final = ap (λ (b : Bool). if b then unwrap_or j.verdict SUCCESS else jobs.status_after s.controller.image j.entry j.bytes j.verdict) other ∙ ap (jobs.status_after s.controller.image j.entry j.bytes) is
 
         request : k.list.request ≡ d.request
         request = sym k.of.asked ∙ ap (λ (x : DraftContents). x.request) same
 
-        by : (b : Bool) → is_success v ≡ b → final_status s j ≡ (if bytes_eq (gathered d.request.pieces d.data_pages) (blocks_of_request d.request s.device.image) then SUCCESS else COMPARE_FAILURE)
+        by : (b : Bool) → is_success v ≡ b → final_status s j ≡ (if bytes_eq (gathered d.request.pieces d.data_pages) (blocks_of_request d.request s.controller.image) then SUCCESS else COMPARE_FAILURE)
         by true ok =
             let bytes : j.bytes ≡ gathered d.request.pieces d.data_pages =
             k.bytes (ap direction_of kind) v is ok ∙ ap (λ (r : Request). gathered r.pieces k.of.draft.data_pages) request ∙ ap (λ (x : DraftContents). gathered d.request.pieces x.data_pages) same in
             let first : first_block j.entry ≡ d.request.slba = k.block ∙ ap (λ (r : Request). r.slba) request in
             let count : block_number j.entry ≡ d.request.blocks =
             ap block_number k.list.entry ∙ entry_blocks k.list.command.cid k.list.request (spelling k.list.list.first) k.list.sized.good ∙ ap (λ (r : Request). r.blocks) request in
-            final ∙ ap (λ (b : Bool). if b then jobs.status_by s.device.image j.entry j.bytes (kind_of_opcode j.entry.opcode) else v) ok
-            ∙ ap (jobs.status_by s.device.image j.entry j.bytes) (k.kind ∙ ap (λ (x : Kind). Some x) kind)
-            ∙ ap (λ (n : ℕ). if bytes_eq (blocks_at s.device.image n (block_number j.entry)) j.bytes then SUCCESS else COMPARE_FAILURE) first
-            ∙ ap (λ (n : ℕ). if bytes_eq (blocks_at s.device.image d.request.slba n) j.bytes then SUCCESS else COMPARE_FAILURE) count
-            ∙ ap (λ (bs : List ℕ). if bytes_eq (blocks_at s.device.image d.request.slba d.request.blocks) bs then SUCCESS else COMPARE_FAILURE) bytes
-            ∙ ap (λ (b : Bool). if b then SUCCESS else COMPARE_FAILURE) (bytes_swap (blocks_at s.device.image d.request.slba d.request.blocks) (gathered d.request.pieces d.data_pages))
+            final ∙ ap (λ (b : Bool). if b then jobs.status_by s.controller.image j.entry j.bytes (kind_of_opcode j.entry.opcode) else v) ok
+            ∙ ap (jobs.status_by s.controller.image j.entry j.bytes) (k.kind ∙ ap (λ (x : Kind). Some x) kind)
+            ∙ ap (λ (n : ℕ). if bytes_eq (blocks_at s.controller.image n (block_number j.entry)) j.bytes then SUCCESS else COMPARE_FAILURE) first
+            ∙ ap (λ (n : ℕ). if bytes_eq (blocks_at s.controller.image d.request.slba n) j.bytes then SUCCESS else COMPARE_FAILURE) count
+            ∙ ap (λ (bs : List ℕ). if bytes_eq (blocks_at s.controller.image d.request.slba d.request.blocks) bs then SUCCESS else COMPARE_FAILURE) bytes
+            ∙ ap (λ (b : Bool). if b then SUCCESS else COMPARE_FAILURE) (bytes_swap (blocks_at s.controller.image d.request.slba d.request.blocks) (gathered d.request.pieces d.data_pages))
         by false failed =
-            let st : final_status s j ≡ v = final ∙ ap (λ (b : Bool). if b then jobs.status_by s.device.image j.entry j.bytes (kind_of_opcode j.entry.opcode) else v) failed in
-            let c = all-found (CausedIfIo done (a.image_blocks s)) (is_job q cid) s.device.jobs j at traced.caused other in
+            let st : final_status s j ≡ v = final ∙ ap (λ (b : Bool). if b then jobs.status_by s.controller.image j.entry j.bytes (kind_of_opcode j.entry.opcode) else v) failed in
+            let c = all-found (CausedIfIo done (a.image_blocks s)) (is_job q cid) s.controller.jobs j at traced.caused other in
             let three : (same_status v ABORT_REQUESTED || same_status v ABORTED_SQ_DELETION || same_status v LBA_OUT_OF_RANGE) ≡ true = cause_of_three done (a.image_blocks s) j v failed (c.cause v is) in
             absurd (true≢false (sym fine ∙ ap (λ (x : Status). not (same_status x ABORT_REQUESTED || same_status x ABORTED_SQ_DELETION || same_status x LBA_OUT_OF_RANGE)) st ∙ ap not three))
 
@@ -297,7 +297,7 @@ told done drafts s q cid j d traced known at none compare latest fine = elim (ca
 given : (done : List Made) (drafts : List DraftContents) (s : State) (e : Event) (reply : Reply) (new : State) (q cid : ℕ) (st : Status) (d : DraftContents) → Step s e reply new → s.trusted ≡ true → Traced done s → Known drafts s
     → status_by s e reply q cid ≡ Some st → option_map_or (λ (j : Job). j.entry.opcode == COMPARE) (job_at s q cid) false ≡ true → draft_of q cid drafts ≡ Some d
     → not (same_status st ABORT_REQUESTED || same_status st ABORTED_SQ_DELETION || same_status st LBA_OUT_OF_RANGE) ≡ true
-    → st ≡ (if bytes_eq (gathered d.request.pieces d.data_pages) (blocks_of_request d.request s.device.image) then SUCCESS else COMPARE_FAILURE)
+    → st ≡ (if bytes_eq (gathered d.request.pieces d.data_pages) (blocks_of_request d.request s.controller.image) then SUCCESS else COMPARE_FAILURE)
 given done drafts s (events.Complete q' cid') (events.Completed touched) new q cid st d step t traced known status compare latest fine = elim (cases_Bool ((q' == q) && (cid' == cid))) [
   | inl is ↦
       let g = rw is at status in
@@ -309,7 +309,7 @@ given done drafts s (events.Complete q' cid') (events.Completed touched) new q c
 ]
   where
     at : (o : Option Job) → job_at s q cid ≡ o → refusal_of s (events.Complete q cid) ≡ None → option_map (final_status s) o ≡ Some st → option_map_or (λ (j : Job). j.entry.opcode == COMPARE) o false ≡ true
-        → st ≡ (if bytes_eq (gathered d.request.pieces d.data_pages) (blocks_of_request d.request s.device.image) then SUCCESS else COMPARE_FAILURE)
+        → st ≡ (if bytes_eq (gathered d.request.pieces d.data_pages) (blocks_of_request d.request s.controller.image) then SUCCESS else COMPARE_FAILURE)
     at None e none g c = absurd cc
     at (Some j) e none g c =
         let same : final_status s j ≡ st = some_is g in
@@ -340,7 +340,7 @@ told_by_draft drafts s q cid j d stood known at latest kind = elim (cases_Bool (
 ]
   where
     its_queue : j.q ≡ q
-    its_queue = eqb-true j.q q (and_parts (j.q == q) (j.entry.cid == cid) (found_is (is_job_tokens q cid) s.device.jobs j at)).0
+    its_queue = eqb-true j.q q (and_parts (j.q == q) (j.entry.cid == cid) (found_is (is_job_tokens q cid) s.controller.jobs j at)).0
 
 pub compares_told : compares_by_their_drafts
 compares_told image earlier later m end q cid st d run status latest kind fine =
@@ -358,7 +358,7 @@ pub failures_of_compares : compare_failures_are_of_compares
 failures_of_compares image earlier later m end q cid run io status =
     let b = (imaged_before image earlier later m end run).holds in
     let x = completed_job m.before m.event m.reply q cid COMPARE_FAILURE status in
-    let ids = and_parts (x.0.q == q) (x.0.entry.cid == cid) (found_is (is_job_tokens q cid) m.before.device.jobs x.0 x.1) in
+    let ids = and_parts (x.0.q == q) (x.0.entry.cid == cid) (found_is (is_job_tokens q cid) m.before.controller.jobs x.0 x.1) in
     let other : (x.0.q == 0) ≡ false = ap (λ (n : ℕ). n == 0) (eqb-true x.0.q q ids.0) ∙ positive q io in
     let k = job_draft (drafts_of earlier) m.before q cid x.0 b.stood b.known other x.1 in
     let opcode : (x.0.entry.opcode == COMPARE) ≡ true =

@@ -430,10 +430,10 @@ completion q cid d touched what answer = go (kind d)
     go (OfBench at own same) = absurd (let bad : None ≡ Some (events.Complete q cid) = sym at ∙ (ap (event_at d.before) what) in cc)
 
 -- the image before a step of a run
-image_then : (image : List ℕ) (before : List Made) (m : Made) (later : List Made) (end : State) → TrustedRun image (before ++ m ∷ later) end → m.before.device.image ≡ image_after image before
+image_then : (image : List ℕ) (before : List Made) (m : Made) (later : List Made) (end : State) → TrustedRun image (before ++ m ∷ later) end → m.before.controller.image ≡ image_after image before
 image_then image before m later end run =
     let parts = cut before (m ∷ later) (opening run.pages run.queues run.entries run.segment image) end run.steps in
-    ap (λ (s : State). s.device.image) parts.2.0
+    ap (λ (s : State). s.controller.image) parts.2.0
     ∙ images_are_runs image before parts.0
     (record {
       pages = run.pages;

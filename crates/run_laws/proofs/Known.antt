@@ -58,7 +58,7 @@ JobKnown s j = (j.q == 0) ≡ false → direction_of_entry j.entry ≡ Source �
 
 pub record Known (drafts : List DraftContents) (s : State) : Type 0 where
   pub records : AllByRecursion (RecordKnown drafts s.memory) s.host.records
-  pub jobs : AllByRecursion (JobKnown s) s.device.jobs
+  pub jobs : AllByRecursion (JobKnown s) s.controller.jobs
   pub no_admin : (cid : ℕ) → draft_of 0 cid drafts ≡ None
 
 -- Data pages of a submitted source command stay
@@ -242,14 +242,14 @@ pub jobs_known : (s : State) (e : Event) (reply : Reply) → Accepts s e reply �
 jobs_known s e reply ok stood = record {
   stays = λ k j at far known other dir well.
       let c = known other dir well in
-      let l = job_list s stood j (in_at s.device.jobs k j at) other (λ P all. all-at P s.device.jobs k j at all) in
+      let l = job_list s stood j (in_at s.controller.jobs k j at) other (λ P all. all-at P s.controller.jobs k j at all) in
       record {
         bytes = c.bytes ∙ sym (still_carried s e reply ok stood j l dir j.units_done (replicate (need_of_entry j.entry) 0));
         over = λ st v. subst (λ (x : Course). length (units x) ≤ j.units_done) (sym (course_stays s e reply ok stood j l)) (c.over st v);
       };
   fails = λ k j st waiting at far lost none known other dir well. absurd (true≢false (sym well ∙ lost));
   manages = λ entry st dw0 is next free other. absurd (true≢false other);
-  begins = λ q entry is next not0 free other dir well. begun_carries (a.after s e reply) s.device.image (a.image_blocks s) q entry dir (io_fault (a.image_blocks s) entry) refl well;
+  begins = λ q entry is next not0 free other dir well. begun_carries (a.after s e reply) s.controller.image (a.image_blocks s) q entry dir (io_fault (a.image_blocks s) entry) refl well;
   walks = λ q cid j act is w u known other dir well.
       let c = known other dir (ap goes_well w.verdict) in
       record {

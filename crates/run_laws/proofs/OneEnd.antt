@@ -7,21 +7,21 @@ use Rattle.std.specs.{List.{AllByRecursion, list_any}, Option.{option_map_or, op
 use Rattle.queue_pair.{proofs.Rings.{distance_below, distance_grows, distance_is}, specs.Rings.{HostRing, next_tail, next_head, knowing, fresh_host_ring}}
 use Rattle.queue_pair.specs.Slots.{next_slot, distance, is_full, moved, is_in_range}
 use Rattle.machine_model.proofs.{Counting.{one, total, get_other}, HostLeaves.ids_of}
-use Rattle.machine_model.proofs.Moves.{host_moves, queue_known, sends, half_from, creates_cq, creates_sq, IsHeard, answer_heard}
+use Rattle.machine_model.proofs.Moves.{host_moves, queue_known, sends, half_from, creates_cq, creates_sq, IsHeard, completion_heard}
 use Rattle.machine_model.proofs.{Owned.{all_reset, lost_quiet}, Sound.{reaped_submitted, named}}
 use Rattle.machine_model.proofs.Steps.{Accepts, part_controller, permitted, managed_by, unrefused, first_fails, found}
-use Rattle.machine_model.{proofs.TokensKept.{no_answers_at, no_unfetched}, specs.{After.change, Claims.OwnsFit, Events.{Event, Reply}, Image.Made}}
-use Rattle.machine_model.specs.{Opening.{device_queue as opened, Opens, opening}, Positions.IsInRing, Proper.IsProper}
-use Rattle.machine_model.specs.Refusals.{is_submitted, host_queue, device_queue, next_rung, job_at, first_answer, entry_of, queue_full, fetch_slot, in_service, is_reaped, is_held, record_is, seen_entry}
-use Rattle.machine_model.specs.State.{HostQueue, DeviceQueue, Answer, State, Record, is_at, record_at, pages_of, with_record}
+use Rattle.machine_model.{proofs.TokensKept.{no_completions_at, no_unfetched}, specs.{After.change, Claims.OwnsFit, Events.{Event, Reply}, Image.Made}}
+use Rattle.machine_model.specs.{Opening.{served_queue as opened, Opens, opening}, Positions.IsInRing, Proper.IsProper}
+use Rattle.machine_model.specs.Refusals.{is_submitted, host_queue, served_queue, next_rung, job_at, front_completion, entry_of, queue_full, fetch_slot, in_service, is_reaped, is_held, record_is, seen_entry}
+use Rattle.machine_model.specs.State.{HostQueue, ServedQueue, PostedCompletion, State, Record, is_at, record_at, pages_of, with_record}
 use Rattle.machine_model.specs.Step.{HostPart, reaped, reaped_as, reaped_entry, submitted_at, fits_ring, IsController, Step, finished_from}
 use Rattle.machine_model.specs.{Trusted.{TrustedRun, Steps}, Work.Work, declared.words.{HostState.TheVariants.{Live, Deleting}, Phase.Phase}}
 use Rattle.machine_model.specs.declared.words.{Phase.TheVariants.{Drafted, Submitted, Held, Collected}, Reaped.TheVariants.{Empty, Done, AdminDone, Rejected}}
 use Rattle.machine_model.specs.declared.words.{Refusal.Refusal, RejectedFor.TheVariants.{WrongQueue, BadHead, UnknownId}, Work.TheVariants.{Io, Management}}
 use Rattle.two_sides.proofs.Along.{along_proper, trusted_end, made_of, Carried, Unforged, unforged_next, unforged_front, unforged_back, unforged_run, Before, keeps, cut, each_proper_step, trusted_step_by, before_step}
-use Rattle.two_sides.proofs.{DeviceMoves.{answers, answer_of, finished, cleared, fetch_by, complete_by}, Heads.{changed_at, head_at, no_conflict}}
+use Rattle.two_sides.proofs.{ControllerMoves.{posts_completion, posted_completion, finished, cleared, fetch_by, complete_by}, Heads.{changed_at, head_at, no_conflict}}
 use Rattle.two_sides.proofs.{JobLaws.not_zero as positive, NeverFull.{stood_on, stood_at_opening}, PlacesKept.in_hand}
-use Rattle.two_sides.proofs.{Provided.{sent_found, all_of}, Served.{Stood, answers_at}, Standing.seen_trusted}
+use Rattle.two_sides.proofs.{Provided.{sent_found, all_of}, Served.{Stood, completions_at}, Standing.seen_trusted}
 use Rattle.two_sides.proofs.TiedAll.{Grounds, ring_in, pair_at}
 use Rattle.admin_commands.specs.{Entries.{admin_entry, named_queue}, declared.{AdminKind.TheVariants.{Abort, DeleteSq, DeleteCq}, SqState.TheVariants.Stopping}}
 use Rattle.entry_codec.specs.declared.{completion.ComEntry.ComEntry, status.{Status.Status, TheConstants.Status.ABORTED_SQ_DELETION}}
@@ -33,62 +33,62 @@ use Rattle.run_laws.specs.Ends.{answers_of, front, reaps_answer_the_front, nothi
 use Rattle.slot_table.proofs.Rows.{option_is}
 use Rattle.page_memory.proofs.Lists.{found_is, all-found, some_is}
 
--- The heads that the answers of a queue tell never come back: each is as near to the tail as the one before it, the first as the head that the host knows, and what is not fetched is nearer than all.
+-- The heads that the posts_completion of a queue tell never come back: each is as near to the tail as the one before it, the first as the head that the host knows, and what is not fetched is nearer than all.
 
-abbrev pub Falls : (n tail top : ℕ) → List Answer → (unfetched : ℕ) → Type 0
+abbrev pub Falls : (n tail top : ℕ) → List PostedCompletion → (unfetched : ℕ) → Type 0
 Falls n tail top [] u = u ≤ top
 Falls n tail top (an ∷ ans) u = (an.sq_head < n) × (distance n an.sq_head tail ≤ top) × Falls n tail (distance n an.sq_head tail) ans u
 
-abbrev pub FallsAt : ℕ → HostRing → DeviceQueue → Type 0
-FallsAt n ring at = Falls n ring.tail (distance n ring.known_head ring.tail) at.answers (length at.unfetched)
+abbrev pub FallsAt : ℕ → HostRing → ServedQueue → Type 0
+FallsAt n ring at = Falls n ring.tail (distance n ring.known_head ring.tail) at.completions (length at.unfetched)
 
-abbrev pub AllFall : ℕ → List HostQueue → List DeviceQueue → Type 0
-AllFall n hs qs = (q : ℕ) (queue : HostQueue) (at : DeviceQueue) → slice_get hs q ≡ Some queue → slice_get qs q ≡ Some at → FallsAt n queue.ring at
+abbrev pub AllFall : ℕ → List HostQueue → List ServedQueue → Type 0
+AllFall n hs qs = (q : ℕ) (queue : HostQueue) (at : ServedQueue) → slice_get hs q ≡ Some queue → slice_get qs q ≡ Some at → FallsAt n queue.ring at
 
 -- Answers, as something changes
 
-pub falls_more : (n tail top top' : ℕ) (ans : List Answer) (u : ℕ) → top ≤ top' → Falls n tail top ans u → Falls n tail top' ans u
+pub falls_more : (n tail top top' : ℕ) (ans : List PostedCompletion) (u : ℕ) → top ≤ top' → Falls n tail top ans u → Falls n tail top' ans u
 falls_more n tail top top' [] u le h = omega (arith, le, h)
 falls_more n tail top top' (an ∷ ans) u le h = (h.0, omega (arith, le, h.1), h.2)
 
-pub falls_less : (n tail top : ℕ) (ans : List Answer) (u u' : ℕ) → u' ≤ u → Falls n tail top ans u → Falls n tail top ans u'
+pub falls_less : (n tail top : ℕ) (ans : List PostedCompletion) (u u' : ℕ) → u' ≤ u → Falls n tail top ans u → Falls n tail top ans u'
 falls_less n tail top [] u u' le h = omega (arith, le, h)
 falls_less n tail top (an ∷ ans) u u' le h = (h.0, h.1, falls_less n tail (distance n an.sq_head tail) ans u u' le h.2)
 
 -- what is not fetched is nearest
-pub falls_to : (n tail top : ℕ) (ans : List Answer) (u : ℕ) → Falls n tail top ans u → u ≤ top
+pub falls_to : (n tail top : ℕ) (ans : List PostedCompletion) (u : ℕ) → Falls n tail top ans u → u ≤ top
 falls_to n tail top [] u h = h
 falls_to n tail top (an ∷ ans) u h = omega (arith, h.1, falls_to n tail (distance n an.sq_head tail) ans u h.2)
 
-pub falls_posted : (n tail top : ℕ) (ans : List Answer) (u : ℕ) → tail < n → top < n - 1 → Falls n tail top ans u → Falls n (next_slot n tail) (suc top) ans (suc u)
+pub falls_posted : (n tail top : ℕ) (ans : List PostedCompletion) (u : ℕ) → tail < n → top < n - 1 → Falls n tail top ans u → Falls n (next_slot n tail) (suc top) ans (suc u)
 falls_posted n tail top [] u t room h = omega (arith, h)
 falls_posted n tail top (an ∷ ans) u t room h = grind (arith, falls_posted n tail (distance n an.sq_head tail) ans u, distance_grows)
 
-pub falls_answered : (n tail top : ℕ) (ans : List Answer) (u : ℕ) (an : Answer) → an.sq_head < n → distance n an.sq_head tail ≡ u → Falls n tail top ans u → Falls n tail top (ans ++ an ∷ []) u
+pub falls_answered : (n tail top : ℕ) (ans : List PostedCompletion) (u : ℕ) (an : PostedCompletion) → an.sq_head < n → distance n an.sq_head tail ≡ u → Falls n tail top ans u → Falls n tail top (ans ++ an ∷ []) u
 falls_answered n tail top [] u an below is h = (below, omega (arith, is, h), omega (arith, is))
 falls_answered n tail top (x ∷ ans) u an below is h = (h.0, h.1, falls_answered n tail (distance n x.sq_head tail) ans u an below is h.2)
 
 -- Queues, as one changes
 
-pub fall_device : (n k : ℕ) (g : DeviceQueue → DeviceQueue) (hs : List HostQueue) (qs : List DeviceQueue)
-    → ((queue : HostQueue) (at : DeviceQueue) → slice_get hs k ≡ Some queue → slice_get qs k ≡ Some at → FallsAt n queue.ring at → FallsAt n queue.ring (g at))
+pub fall_controller : (n k : ℕ) (g : ServedQueue → ServedQueue) (hs : List HostQueue) (qs : List ServedQueue)
+    → ((queue : HostQueue) (at : ServedQueue) → slice_get hs k ≡ Some queue → slice_get qs k ≡ Some at → FallsAt n queue.ring at → FallsAt n queue.ring (g at))
     → AllFall n hs qs → AllFall n hs (change k g qs)
-fall_device n k g hs qs step h q queue at eh eq = grind (arith, changed_at k g qs q at eq)
+fall_controller n k g hs qs step h q queue at eh eq = grind (arith, changed_at k g qs q at eq)
 
 -- the host's ring of a queue, and the controller's lists of it
-pub fall_both : (n k : ℕ) (f : HostQueue → HostQueue) (g : DeviceQueue → DeviceQueue) (hs : List HostQueue) (qs : List DeviceQueue)
-    → ((queue : HostQueue) (at : DeviceQueue) → slice_get hs k ≡ Some queue → slice_get qs k ≡ Some at → FallsAt n queue.ring at → FallsAt n (f queue).ring (g at))
+pub fall_both : (n k : ℕ) (f : HostQueue → HostQueue) (g : ServedQueue → ServedQueue) (hs : List HostQueue) (qs : List ServedQueue)
+    → ((queue : HostQueue) (at : ServedQueue) → slice_get hs k ≡ Some queue → slice_get qs k ≡ Some at → FallsAt n queue.ring at → FallsAt n (f queue).ring (g at))
     → AllFall n hs qs → AllFall n (change k f hs) (change k g qs)
 fall_both n k f g hs qs step h q queue at eh eq = grind (arith, changed_at k f hs q queue eh, changed_at k g qs q at eq)
 
 -- a queue of the host changes
-pub fall_host_by : (n k : ℕ) (f : HostQueue → HostQueue) (hs : List HostQueue) (qs : List DeviceQueue)
-    → ((queue : HostQueue) (at : DeviceQueue) → slice_get hs k ≡ Some queue → slice_get qs k ≡ Some at → FallsAt n queue.ring at → FallsAt n (f queue).ring at)
+pub fall_host_by : (n k : ℕ) (f : HostQueue → HostQueue) (hs : List HostQueue) (qs : List ServedQueue)
+    → ((queue : HostQueue) (at : ServedQueue) → slice_get hs k ≡ Some queue → slice_get qs k ≡ Some at → FallsAt n queue.ring at → FallsAt n (f queue).ring at)
     → AllFall n hs qs → AllFall n (change k f hs) qs
 fall_host_by n k f hs qs step h q queue at eh eq = grind (arith, changed_at k f hs q queue eh)
 
 -- and its ring stays
-pub fall_host : (n k : ℕ) (f : HostQueue → HostQueue) (hs : List HostQueue) (qs : List DeviceQueue) → ((queue : HostQueue) → (f queue).ring ≡ queue.ring) → AllFall n hs qs → AllFall n (change k f hs) qs
+pub fall_host : (n k : ℕ) (f : HostQueue → HostQueue) (hs : List HostQueue) (qs : List ServedQueue) → ((queue : HostQueue) → (f queue).ring ≡ queue.ring) → AllFall n hs qs → AllFall n (change k f hs) qs
 fall_host n k f hs qs ring h = fall_host_by n k f hs qs (λ queue at eh eq falls. subst (λ (r : HostRing). FallsAt n r at) (sym (ring queue)) falls) h
 
 -- What a queue's change keeps
@@ -106,81 +106,81 @@ pub shorter : {A : Type 0} (xs : List A) → length (drop 1 xs) ≤ length xs
 shorter xs = grind arith
 
 -- one entry more, where the ring has room
-pub at_posted : (n : ℕ) (queue : HostQueue) (at : DeviceQueue) → IsInRing n queue.ring → is_full n queue.ring.known_head queue.ring.tail ≡ false → FallsAt n queue.ring at
-    → Falls n (next_slot n queue.ring.tail) (distance n queue.ring.known_head (next_slot n queue.ring.tail)) at.answers (suc (length at.unfetched))
-at_posted n queue at ring room h = grind (arith, distance_below, eqb-false, distance_grows, answers, falls_posted)
+pub at_posted : (n : ℕ) (queue : HostQueue) (at : ServedQueue) → IsInRing n queue.ring → is_full n queue.ring.known_head queue.ring.tail ≡ false → FallsAt n queue.ring at
+    → Falls n (next_slot n queue.ring.tail) (distance n queue.ring.known_head (next_slot n queue.ring.tail)) at.completions (suc (length at.unfetched))
+at_posted n queue at ring room h = grind (arith, distance_below, eqb-false, distance_grows, posts_completion, falls_posted)
 
-pub all_posted : (n q : ℕ) (hs : List HostQueue) (qs : List DeviceQueue) (more : DeviceQueue → DeviceQueue) → ((at : DeviceQueue) → (more at).answers ≡ at.answers) → ((at : DeviceQueue) → length (more at).unfetched ≡ suc (length at.unfetched))
+pub all_posted : (n q : ℕ) (hs : List HostQueue) (qs : List ServedQueue) (more : ServedQueue → ServedQueue) → ((at : ServedQueue) → (more at).completions ≡ at.completions) → ((at : ServedQueue) → length (more at).unfetched ≡ suc (length at.unfetched))
     → ((queue : HostQueue) → slice_get hs q ≡ Some queue → IsInRing n queue.ring) → ((queue : HostQueue) → slice_get hs q ≡ Some queue → is_full n queue.ring.known_head queue.ring.tail ≡ false)
     → AllFall n hs qs → AllFall n (change q (λ x. record x { ring = next_tail n x.ring }) hs) (change q more qs)
 all_posted n q hs qs more same one rings room h =
     fall_both n q (λ x. record x { ring = next_tail n x.ring }) more hs qs
     (λ queue at eh eq falls.
-    subst (λ (ans : List Answer). Falls n (next_slot n queue.ring.tail) (distance n queue.ring.known_head (next_slot n queue.ring.tail)) ans (length (more at).unfetched)) (sym (same at))
-    (subst (Falls n (next_slot n queue.ring.tail) (distance n queue.ring.known_head (next_slot n queue.ring.tail)) at.answers) (sym (one at)) (at_posted n queue at (rings queue eh) (room queue eh) falls))) h
+    subst (λ (ans : List PostedCompletion). Falls n (next_slot n queue.ring.tail) (distance n queue.ring.known_head (next_slot n queue.ring.tail)) ans (length (more at).unfetched)) (sym (same at))
+    (subst (Falls n (next_slot n queue.ring.tail) (distance n queue.ring.known_head (next_slot n queue.ring.tail)) at.completions) (sym (one at)) (at_posted n queue at (rings queue eh) (room queue eh) falls))) h
 
 -- the queues of an opening
-pub opened_lists : (k q : ℕ) (at : DeviceQueue) → slice_get (replicate k opened) q ≡ Some at → at ≡ opened
+pub opened_lists : (k q : ℕ) (at : ServedQueue) → slice_get (replicate k opened) q ≡ Some at → at ≡ opened
 opened_lists zero q at e = absurd cc
 opened_lists (suc k) zero at e = cc
 opened_lists (suc k) (suc q) at e = opened_lists k q at e
 
--- Every event keeps the heads that answers tell in order, so a reap answers the oldest answer.
+-- Every event keeps the heads that posts_completion tell in order, so a reap posts_completion the oldest answer.
 
 abbrev pub Fall : State → Type 0
-Fall s = AllFall s.entries s.host.queues s.device.queues
+Fall s = AllFall s.entries s.host.queues s.controller.queues
 
 -- Reaping
 
-fall_consumed : (n q : ℕ) (hs : List HostQueue) (qs : List DeviceQueue) → AllFall n hs qs → AllFall n (change q (λ x. record x { ring = next_head n x.ring }) hs) (change q (λ at. record at { answers = drop 1 at.answers }) qs)
+fall_consumed : (n q : ℕ) (hs : List HostQueue) (qs : List ServedQueue) → AllFall n hs qs → AllFall n (change q (λ x. record x { ring = next_head n x.ring }) hs) (change q (λ at. record at { completions = drop 1 at.completions }) qs)
 fall_consumed n q hs qs h =
-    fall_both n q (λ x. record x { ring = next_head n x.ring }) (λ at. record at { answers = drop 1 at.answers }) hs qs
-    (λ queue at eh eq falls. fewer queue.ring.tail (distance n queue.ring.known_head queue.ring.tail) at.answers (length at.unfetched) falls) h
+    fall_both n q (λ x. record x { ring = next_head n x.ring }) (λ at. record at { completions = drop 1 at.completions }) hs qs
+    (λ queue at eh eq falls. fewer queue.ring.tail (distance n queue.ring.known_head queue.ring.tail) at.completions (length at.unfetched) falls) h
   where
-    fewer : (tail top : ℕ) (ans : List Answer) (u : ℕ) → Falls n tail top ans u → Falls n tail top (drop 1 ans) u
+    fewer : (tail top : ℕ) (ans : List PostedCompletion) (u : ℕ) → Falls n tail top ans u → Falls n tail top (drop 1 ans) u
     fewer tail top [] u h = h
     fewer tail top (x ∷ ans) u h = falls_more n tail (distance n x.sq_head tail) top ans u h.1 h.2
 
 -- the first answer is taken, and the host knows its head
-fall_heard : (n q : ℕ) (an : Answer) (hs : List HostQueue) (qs : List DeviceQueue) → option_and_then (λ queue. first_answer queue.answers) (slice_get qs q) ≡ Some an → AllFall n hs qs
-    → AllFall n (change q (λ x. record x { ring = knowing an.sq_head x.ring }) (change q (λ x. record x { ring = next_head n x.ring }) hs)) (change q (λ at. record at { answers = drop 1 at.answers }) qs)
+fall_heard : (n q : ℕ) (an : PostedCompletion) (hs : List HostQueue) (qs : List ServedQueue) → option_and_then (λ queue. front_completion queue.completions) (slice_get qs q) ≡ Some an → AllFall n hs qs
+    → AllFall n (change q (λ x. record x { ring = knowing an.sq_head x.ring }) (change q (λ x. record x { ring = next_head n x.ring }) hs)) (change q (λ at. record at { completions = drop 1 at.completions }) qs)
 fall_heard n q an hs qs first h =
-    subst (λ (xs : List HostQueue). AllFall n xs (change q (λ at. record at { answers = drop 1 at.answers }) qs)) (sym (change_twice q (λ x. record x { ring = knowing an.sq_head x.ring }) (λ x. record x { ring = next_head n x.ring }) hs))
-    (fall_both n q (λ x. record x { ring = knowing an.sq_head (next_head n x.ring) }) (λ at. record at { answers = drop 1 at.answers }) hs qs
-    (λ queue at eh eq falls. behind queue.ring.tail (distance n queue.ring.known_head queue.ring.tail) at.answers (length at.unfetched)
-    (sym (ap (option_and_then (λ (queue : DeviceQueue). first_answer queue.answers)) eq) ∙ first) falls) h)
+    subst (λ (xs : List HostQueue). AllFall n xs (change q (λ at. record at { completions = drop 1 at.completions }) qs)) (sym (change_twice q (λ x. record x { ring = knowing an.sq_head x.ring }) (λ x. record x { ring = next_head n x.ring }) hs))
+    (fall_both n q (λ x. record x { ring = knowing an.sq_head (next_head n x.ring) }) (λ at. record at { completions = drop 1 at.completions }) hs qs
+    (λ queue at eh eq falls. behind queue.ring.tail (distance n queue.ring.known_head queue.ring.tail) at.completions (length at.unfetched)
+    (sym (ap (option_and_then (λ (queue : ServedQueue). front_completion queue.completions)) eq) ∙ first) falls) h)
   where
-    behind : (tail top : ℕ) (ans : List Answer) (u : ℕ) → first_answer ans ≡ Some an → Falls n tail top ans u → Falls n tail (distance n an.sq_head tail) (drop 1 ans) u
+    behind : (tail top : ℕ) (ans : List PostedCompletion) (u : ℕ) → front_completion ans ≡ Some an → Falls n tail top ans u → Falls n tail (distance n an.sq_head tail) (drop 1 ans) u
     behind tail top [] u e h = absurd cc
-    behind tail top (x ∷ ans) u e h = let same : x ≡ an = cc in subst (λ (y : Answer). Falls n tail (distance n y.sq_head tail) ans u) same h.2
+    behind tail top (x ∷ ans) u e h = let same : x ≡ an = cc in subst (λ (y : PostedCompletion). Falls n tail (distance n y.sq_head tail) ans u) same h.2
 
 -- The controller
 
-fall_off : (n k : ℕ) (hs : List HostQueue) (qs : List DeviceQueue) → AllFall n hs qs → AllFall n hs (change k (λ at. record at { unfetched = drop 1 at.unfetched; rung = at.rung - 1 }) qs)
+fall_off : (n k : ℕ) (hs : List HostQueue) (qs : List ServedQueue) → AllFall n hs qs → AllFall n hs (change k (λ at. record at { unfetched = drop 1 at.unfetched; rung = at.rung - 1 }) qs)
 fall_off n k hs qs h =
-    fall_device n k (λ at. record at { unfetched = drop 1 at.unfetched; rung = at.rung - 1 }) hs qs
-    (λ queue at eh eq falls. falls_less n queue.ring.tail (distance n queue.ring.known_head queue.ring.tail) at.answers (length at.unfetched) (length (drop 1 at.unfetched)) (shorter at.unfetched) falls) h
+    fall_controller n k (λ at. record at { unfetched = drop 1 at.unfetched; rung = at.rung - 1 }) hs qs
+    (λ queue at eh eq falls. falls_less n queue.ring.tail (distance n queue.ring.known_head queue.ring.tail) at.completions (length at.unfetched) (length (drop 1 at.unfetched)) (shorter at.unfetched) falls) h
 
 fall_answered : (q cid : ℕ) (st : Status) (dw0 : ℕ) (s : State) → ((queue : HostQueue) → host_queue s q ≡ Some queue → (queue.ring.known_head < s.entries) × (queue.ring.tail < s.entries)) → Fall s
-    → AllFall s.entries s.host.queues (answers q cid st dw0 s).device.queues
+    → AllFall s.entries s.host.queues (posts_completion q cid st dw0 s).controller.queues
 fall_answered q cid st dw0 s rings h =
-    fall_device s.entries q (λ at. record at { answers = at.answers ++ answer_of q cid st dw0 s ∷ [] }) s.host.queues s.device.queues
+    fall_controller s.entries q (λ at. record at { completions = at.completions ++ posted_completion q cid st dw0 s ∷ [] }) s.host.queues s.controller.queues
     (λ queue at eh eq falls.
     let r = rings queue eh in
-    let few = falls_to s.entries queue.ring.tail (distance s.entries queue.ring.known_head queue.ring.tail) at.answers (length at.unfetched) falls in
+    let few = falls_to s.entries queue.ring.tail (distance s.entries queue.ring.known_head queue.ring.tail) at.completions (length at.unfetched) falls in
     let near = distance_below s.entries queue.ring.known_head queue.ring.tail r.0 r.1 in
     let slot : fetch_slot s q ≡ moved s.entries queue.ring.tail (s.entries - length at.unfetched) =
-    ap (λ (o : Option HostQueue). option_map_or (λ queue. option_map_or (λ at. moved s.entries queue.ring.tail (s.entries - length at.unfetched)) (device_queue s q) 0) o 0) eh
-    ∙ ap (λ (o : Option DeviceQueue). option_map_or (λ at. moved s.entries queue.ring.tail (s.entries - length at.unfetched)) o 0) eq in
+    ap (λ (o : Option HostQueue). option_map_or (λ queue. option_map_or (λ at. moved s.entries queue.ring.tail (s.entries - length at.unfetched)) (served_queue s q) 0) o 0) eh
+    ∙ ap (λ (o : Option ServedQueue). option_map_or (λ at. moved s.entries queue.ring.tail (s.entries - length at.unfetched)) o 0) eq in
     let head = head_at s.entries queue.ring.tail (length at.unfetched) r.1 (omega (arith, few, near)) in
-    falls_answered s.entries queue.ring.tail (distance s.entries queue.ring.known_head queue.ring.tail) at.answers (length at.unfetched) (answer_of q cid st dw0 s)
+    falls_answered s.entries queue.ring.tail (distance s.entries queue.ring.known_head queue.ring.tail) at.completions (length at.unfetched) (posted_completion q cid st dw0 s)
     (subst (λ (k : ℕ). k < s.entries) (sym slot) head.0) (ap (λ (k : ℕ). distance s.entries k queue.ring.tail) slot ∙ head.1) falls) h
 
-fall_fetch : (q : ℕ) (s : State) → Stood s → Fall s → AllFall s.entries s.host.queues (a.after_fetch q s).device.queues
+fall_fetch : (q : ℕ) (s : State) → Stood s → Fall s → AllFall s.entries s.host.queues (a.after_fetch q s).controller.queues
 fall_fetch q s stood h =
-    fetch_by (λ (t : State). AllFall s.entries s.host.queues t.device.queues) s q h
+    fetch_by (λ (t : State). AllFall s.entries s.host.queues t.controller.queues) s q h
     (λ x r con. absurd (true≢false (sym con ∙ ap (λ (o : Option SubEntry). option_map_or (λ e. is_some (job_at s q e.cid)) o false) r ∙ no_conflict s stood q x (in_hand s q x r))))
-    (λ x r con z. managed_by (λ (t : State). AllFall s.entries s.host.queues t.device.queues) x (a.taken_off 0 s)
+    (λ x r con z. managed_by (λ (t : State). AllFall s.entries s.host.queues t.controller.queues) x (a.taken_off 0 s)
     (record {
       refuses = λ st bad. off 0;
       aborts = λ is8 walks. off 0;
@@ -192,34 +192,34 @@ fall_fetch q s stood h =
     }))
     (λ x r con other. off q)
   where
-    off : (k : ℕ) → AllFall s.entries s.host.queues (change k (λ at. record at { unfetched = drop 1 at.unfetched; rung = at.rung - 1 }) s.device.queues)
-    off k = fall_off s.entries k s.host.queues s.device.queues h
+    off : (k : ℕ) → AllFall s.entries s.host.queues (change k (λ at. record at { unfetched = drop 1 at.unfetched; rung = at.rung - 1 }) s.controller.queues)
+    off k = fall_off s.entries k s.host.queues s.controller.queues h
 
-    acts : (x : SubEntry) (f : DeviceQueue → DeviceQueue) → ((queue : HostQueue) (at : DeviceQueue) → FallsAt s.entries queue.ring at → FallsAt s.entries queue.ring (f at))
-        → AllFall s.entries s.host.queues (change (named_queue x) f (change 0 (λ at. record at { unfetched = drop 1 at.unfetched; rung = at.rung - 1 }) s.device.queues))
-    acts x f each = fall_device s.entries (named_queue x) f s.host.queues (change 0 (λ at. record at { unfetched = drop 1 at.unfetched; rung = at.rung - 1 }) s.device.queues) (λ queue at eh eq falls. each queue at falls) (off 0)
+    acts : (x : SubEntry) (f : ServedQueue → ServedQueue) → ((queue : HostQueue) (at : ServedQueue) → FallsAt s.entries queue.ring at → FallsAt s.entries queue.ring (f at))
+        → AllFall s.entries s.host.queues (change (named_queue x) f (change 0 (λ at. record at { unfetched = drop 1 at.unfetched; rung = at.rung - 1 }) s.controller.queues))
+    acts x f each = fall_controller s.entries (named_queue x) f s.host.queues (change 0 (λ at. record at { unfetched = drop 1 at.unfetched; rung = at.rung - 1 }) s.controller.queues) (λ queue at eh eq falls. each queue at falls) (off 0)
 
-    -- without its answers
-    emptied : (queue : HostQueue) (at : DeviceQueue) → FallsAt s.entries queue.ring at → length at.unfetched ≤ distance s.entries queue.ring.known_head queue.ring.tail
-    emptied queue at falls = falls_to s.entries queue.ring.tail (distance s.entries queue.ring.known_head queue.ring.tail) at.answers (length at.unfetched) falls
+    -- without its posts_completion
+    emptied : (queue : HostQueue) (at : ServedQueue) → FallsAt s.entries queue.ring at → length at.unfetched ≤ distance s.entries queue.ring.known_head queue.ring.tail
+    emptied queue at falls = falls_to s.entries queue.ring.tail (distance s.entries queue.ring.known_head queue.ring.tail) at.completions (length at.unfetched) falls
 
-fall_complete : (q cid : ℕ) (s : State) → Grounds s → Fall s → AllFall s.entries s.host.queues (a.after_complete q cid s).device.queues
+fall_complete : (q cid : ℕ) (s : State) → Grounds s → Fall s → AllFall s.entries s.host.queues (a.after_complete q cid s).controller.queues
 fall_complete q cid s g h =
     let rings : (queue : HostQueue) → host_queue s q ≡ Some queue → (queue.ring.known_head < s.entries) × (queue.ring.tail < s.entries) =
     λ queue e. let r = ring_in s g q queue e in (r.known_head, r.tail) in
-    complete_by (λ (t : State). AllFall s.entries s.host.queues t.device.queues) s q cid h
-    (λ j at c. fall_answered q cid (a.final_status s j) j.dw0 (a.on_device_queue (named_queue j.entry) cleared (finished q cid j s)) rings
-    (fall_device s.entries (named_queue j.entry) cleared s.host.queues s.device.queues
-    (λ queue at eh eq falls. falls_less s.entries queue.ring.tail (distance s.entries queue.ring.known_head queue.ring.tail) at.answers (length at.unfetched) 0 (omega arith) falls) h))
+    complete_by (λ (t : State). AllFall s.entries s.host.queues t.controller.queues) s q cid h
+    (λ j at c. fall_answered q cid (a.final_status s j) j.dw0 (a.on_served_queue (named_queue j.entry) cleared (finished q cid j s)) rings
+    (fall_controller s.entries (named_queue j.entry) cleared s.host.queues s.controller.queues
+    (λ queue at eh eq falls. falls_less s.entries queue.ring.tail (distance s.entries queue.ring.known_head queue.ring.tail) at.completions (length at.unfetched) 0 (omega arith) falls) h))
     (λ j at c. fall_answered q cid (a.final_status s j) j.dw0 (finished q cid j s) rings h)
 
 -- A reset leaves no answer and no entry
 
-reset_falls : (qs : List DeviceQueue) (q : ℕ) (at : DeviceQueue) (n : ℕ) (ring : HostRing) → slice_get (a.reset_device_queues qs) q ≡ Some at → FallsAt n ring at
-reset_falls qs q at n ring e = rw (answers, (sym (ap (λ (o : Option DeviceQueue). option_map_or (λ at. at.unfetched) o []) e) ∙ no_unfetched qs q)) (omega arith)
+reset_falls : (qs : List ServedQueue) (q : ℕ) (at : ServedQueue) (n : ℕ) (ring : HostRing) → slice_get (a.reset_served_queues qs) q ≡ Some at → FallsAt n ring at
+reset_falls qs q at n ring e = rw (posts_completion, (sym (ap (λ (o : Option ServedQueue). option_map_or (λ at. at.unfetched) o []) e) ∙ no_unfetched qs q)) (omega arith)
   where
-    answers : at.answers ≡ []
-    answers = sym (ap (λ (o : Option DeviceQueue). option_map_or (λ at. at.answers) o []) e) ∙ no_answers_at qs q
+    posts_completion : at.completions ≡ []
+    completions = sym (ap (λ (o : Option ServedQueue). option_map_or (λ at. at.completions) o []) e) ∙ no_completions_at qs q
 
 -- Every event
 
@@ -230,9 +230,9 @@ fall_host_event s e reply ok c t g h =
       reserves = λ q request d none is. h;
       submits = λ d entry r none built its live. posts d.q entry s.host.queues (λ queue e. e) (unrefused s (events.Submit d) none).1.1.1.0 h;
       cancels = λ d r its. h;
-      rings = λ q none. fall_device s.entries q (λ at. record at { rung = length at.unfetched }) s.host.queues s.device.queues (λ queue at eh eq falls. falls) h;
+      rings = λ q none. fall_controller s.entries q (λ at. record at { rung = length at.unfetched }) s.host.queues s.controller.queues (λ queue at eh eq falls. falls) h;
       rests = λ q is. h;
-      rejects = λ q why is. fall_consumed s.entries q s.host.queues s.device.queues h;
+      rejects = λ q why is. fall_consumed s.entries q s.host.queues s.controller.queues h;
       tells = λ q cid st what e r request told heard w. hears q cid st e r heard;
       hears = λ q cid st what e r adm told heard w quiet unmade. hears q cid st e r heard;
       notes = λ q cid st what e r k told heard w. ended q cid st e r k (λ queue. record queue { state = if is_success st then Deleting true else Live }) heard (λ x. refl);
@@ -245,38 +245,38 @@ fall_host_event s e reply ok c t g h =
       releases = λ f r its. h;
       aborts = λ q cid id none new. posts 0 (admin_entry (Abort q cid) id) s.host.queues (λ queue e. e) (unrefused s (events.Abort q cid) none).1.1.1.1.0 h;
       asks = λ q id queue none new live.
-          fall_host s.entries q a.deleting (sends (DeleteSq q) id s).host.queues (sends (DeleteSq q) id s).device.queues (λ x. refl)
+          fall_host s.entries q a.deleting (sends (DeleteSq q) id s).host.queues (sends (DeleteSq q) id s).controller.queues (λ x. refl)
           (posts 0 (admin_entry (DeleteSq q) id) s.host.queues (λ queue e. e) (unrefused s (events.DeleteSq q) none).1.1.1.0 h);
       drops = λ q id none new. posts 0 (admin_entry (DeleteCq q) id) s.host.queues (λ queue e. e) (unrefused s (events.DeleteCq q) none).1.1.1.0 h;
       creates_cqs = λ q id first queue none new granted.
           let with_half = a.making_cq (half_from Completion first s) in
           posts 0 (admin_entry (creates_cq q first s) id) (change q with_half s.host.queues) (unchanged q with_half granted.other) (unrefused s (events.CreateCq q) none).1.1.1.1.1.0
-          (fall_host_by s.entries q with_half s.host.queues s.device.queues (λ x at ex ea falls. fresh x at (served q queue x granted.there ex (ap in_service granted.state)) q ex ea) h);
+          (fall_host_by s.entries q with_half s.host.queues s.controller.queues (λ x at ex ea falls. fresh x at (served q queue x granted.there ex (ap in_service granted.state)) q ex ea) h);
       creates_sqs = λ q id first queue none new granted.
           let with_half = a.making_sq (half_from Submission first s) in
           posts 0 (admin_entry (creates_sq q first s) id) (change q with_half s.host.queues) (unchanged q with_half granted.other) (unrefused s (events.CreateSq q) none).1.1.1.1.0
-          (fall_host_by s.entries q with_half s.host.queues s.device.queues (λ x at ex ea falls. fresh x at (served q queue x granted.there ex (ap in_service granted.state)) q ex ea) h);
-      retires = λ q queue none at deleted. fall_host s.entries q a.retired s.host.queues s.device.queues (λ x. refl) h;
+          (fall_host_by s.entries q with_half s.host.queues s.controller.queues (λ x at ex ea falls. fresh x at (served q queue x granted.there ex (ap in_service granted.state)) q ex ea) h);
+      retires = λ q queue none at deleted. fall_host s.entries q a.retired s.host.queues s.controller.queues (λ x. refl) h;
       forges = λ q slot bytes queue none at. h;
-      resets = λ q queue at eh eq. reset_falls s.device.queues q at s.entries queue.ring eq;
+      resets = λ q queue at eh eq. reset_falls s.controller.queues q at s.entries queue.ring eq;
     })
   where
     -- an entry more, where the ring has room
-    posts : (q : ℕ) (entry : SubEntry) (hs : List HostQueue) → ((queue : HostQueue) → slice_get hs q ≡ Some queue → host_queue s q ≡ Some queue) → queue_full s q ≡ false → AllFall s.entries hs s.device.queues
-        → AllFall s.entries (change q (λ x. record x { ring = next_tail s.entries x.ring }) hs) (change q (λ at. record at { unfetched = at.unfetched ++ entry ∷ [] }) s.device.queues)
+    posts : (q : ℕ) (entry : SubEntry) (hs : List HostQueue) → ((queue : HostQueue) → slice_get hs q ≡ Some queue → host_queue s q ≡ Some queue) → queue_full s q ≡ false → AllFall s.entries hs s.controller.queues
+        → AllFall s.entries (change q (λ x. record x { ring = next_tail s.entries x.ring }) hs) (change q (λ at. record at { unfetched = at.unfetched ++ entry ∷ [] }) s.controller.queues)
     posts q entry hs same room all =
-        all_posted s.entries q hs s.device.queues (λ at. record at { unfetched = at.unfetched ++ entry ∷ [] }) (λ at. refl) (λ at. longer at.unfetched entry)
+        all_posted s.entries q hs s.controller.queues (λ at. record at { unfetched = at.unfetched ++ entry ∷ [] }) (λ at. refl) (λ at. longer at.unfetched entry)
         (λ queue e. ring_in s g q queue (same queue e))
         (λ queue e. sym (ap (λ (o : Option HostQueue). option_map_or (λ queue. is_full s.entries queue.ring.known_head queue.ring.tail) o true) (same queue e)) ∙ room) all
 
-    hears : (q cid : ℕ) (st : Status) (e : ComEntry) (r : Record) → IsHeard s q cid st e r → AllFall s.entries (a.heard q e s).host.queues (a.heard q e s).device.queues
+    hears : (q cid : ℕ) (st : Status) (e : ComEntry) (r : Record) → IsHeard s q cid st e r → AllFall s.entries (a.heard q e s).host.queues (a.heard q e s).controller.queues
     hears q cid st e r heard =
-        let x = answer_heard s q cid st e r t heard in
-        subst (λ (y : ComEntry). AllFall s.entries (a.heard q y s).host.queues (a.heard q y s).device.queues) (sym x.is) (fall_heard s.entries q x.answer s.host.queues s.device.queues x.first h)
+        let x = completion_heard s q cid st e r t heard in
+        subst (λ (y : ComEntry). AllFall s.entries (a.heard q y s).host.queues (a.heard q y s).controller.queues) (sym x.is) (fall_heard s.entries q x.answer s.host.queues s.controller.queues x.first h)
 
     ended : (q cid : ℕ) (st : Status) (e : ComEntry) (r : Record) (k : ℕ) (f : HostQueue → HostQueue) → IsHeard s q cid st e r → ((x : HostQueue) → (f x).ring ≡ x.ring)
-        → AllFall s.entries (change k f (a.heard q e s).host.queues) (a.heard q e s).device.queues
-    ended q cid st e r k f heard same = fall_host s.entries k f (a.heard q e s).host.queues (a.heard q e s).device.queues same (hears q cid st e r heard)
+        → AllFall s.entries (change k f (a.heard q e s).host.queues) (a.heard q e s).controller.queues
+    ended q cid st e r k f heard same = fall_host s.entries k f (a.heard q e s).host.queues (a.heard q e s).controller.queues same (hears q cid st e r heard)
 
     -- queue 0 is none that gets a half
     unchanged : (q : ℕ) (f : HostQueue → HostQueue) → (q == 0) ≡ false → (queue : HostQueue) → slice_get (change q f s.host.queues) 0 ≡ Some queue → host_queue s 0 ≡ Some queue
@@ -286,19 +286,19 @@ fall_host_event s e reply ok c t g h =
     served q queue x there ex out = let same : queue ≡ x = cc (there, ex) in subst (λ (y : HostQueue). in_service y.state ≡ false) same out
 
     -- nothing stands in the rings of a queue out of service
-    fresh : (x : HostQueue) (at : DeviceQueue) → in_service x.state ≡ false → (q : ℕ) → host_queue s q ≡ Some x → slice_get s.device.queues q ≡ Some at → FallsAt s.entries fresh_host_ring at
+    fresh : (x : HostQueue) (at : ServedQueue) → in_service x.state ≡ false → (q : ℕ) → host_queue s q ≡ Some x → slice_get s.controller.queues q ≡ Some at → FallsAt s.entries fresh_host_ring at
     fresh x at out q ex ea =
         let pair = pair_at s g q x ex in
         let same : pair.0 ≡ at = cc (pair.1, ea) in
         subst (FallsAt s.entries fresh_host_ring) same
-        (rw (pair.2.answers out, pair.2.unfetched out) (omega arith))
+        (rw (pair.2.completions out, pair.2.unfetched out) (omega arith))
 
 fall_event : (s : State) (e : Event) (reply : Reply) → Accepts s e reply → s.trusted ≡ true → Stood s → Fall s → Fall (a.after s e reply)
 fall_event s (events.Fetch q) (events.Fetched c touched) ok t stood h =
-    subst (λ (part : HostPart). AllFall part.entries part.host.queues (a.after s (events.Fetch q) (events.Fetched c touched)).device.queues) (sym (part_controller s (events.Fetch q) (events.Fetched c touched) refl)) (fall_fetch q s stood h)
+    subst (λ (part : HostPart). AllFall part.entries part.host.queues (a.after s (events.Fetch q) (events.Fetched c touched)).controller.queues) (sym (part_controller s (events.Fetch q) (events.Fetched c touched) refl)) (fall_fetch q s stood h)
 fall_event s (events.Walk q cid) (events.Walked o touched) ok t stood h = grind (arith, part_controller, queues_walk)
 fall_event s (events.Complete q cid) (events.Completed touched) ok t stood h =
-    subst (λ (part : HostPart). AllFall part.entries part.host.queues (a.after s (events.Complete q cid) (events.Completed touched)).device.queues) (sym (part_controller s (events.Complete q cid) (events.Completed touched) refl))
+    subst (λ (part : HostPart). AllFall part.entries part.host.queues (a.after s (events.Complete q cid) (events.Completed touched)).controller.queues) (sym (part_controller s (events.Complete q cid) (events.Completed touched) refl))
     (fall_complete q cid s stood.grounds h)
 fall_event s (events.Fetch q) reply ok t stood h = absurd ok.1
 fall_event s (events.Walk q cid) reply ok t stood h = absurd ok.1
@@ -337,38 +337,38 @@ in_range : (n known head tail : ℕ) → head < n → distance n known head ≤ 
 in_range n known head tail h le = grind (arith, nat_tests)
 
 -- the front answer is that of a submitted command
-answered_record : (s : State) → Stood s → (q : ℕ) (at : DeviceQueue) (an : Answer) (rest : List Answer) → device_queue s q ≡ Some at → at.answers ≡ an ∷ rest
+answered_record : (s : State) → Stood s → (q : ℕ) (at : ServedQueue) (an : PostedCompletion) (rest : List PostedCompletion) → served_queue s q ≡ Some at → at.completions ≡ an ∷ rest
     → (r : Record) × (record_at s.host q an.cid ≡ Some r) × (is_submitted r.phase ≡ true)
-answered_record s stood q at an rest e is = grind (arith, answers_at, answers, total, eq-eqb, sent_found)
+answered_record s stood q at an rest e is = grind (arith, completions_at, posts_completion, total, eq-eqb, sent_found)
 
 pub front_reaped : (s : State) → Fronted s → s.trusted ≡ true → (q : ℕ) → is_none (host_queue s q) ≡ false → reaped s q ≡ front q (answers_of s q)
 front_reaped s f t q there =
-    ap (λ (o : Option ComEntry). option_map_or (reaped_entry s q) o Empty) (seen_trusted s q t) ∙ elim (option_is (device_queue s q)) [
+    ap (λ (o : Option ComEntry). option_map_or (reaped_entry s q) o Empty) (seen_trusted s q t) ∙ elim (option_is (served_queue s q)) [
       | inl eq ↦ rw eq refl
-      | inr (at, eq) ↦ rw eq (first at eq at.answers refl)
+      | inr (at, eq) ↦ rw eq (first at eq at.completions refl)
     ]
   where
-    fits : (queue : HostQueue) (at : DeviceQueue) (an : Answer) (rest : List Answer) → host_queue s q ≡ Some queue → device_queue s q ≡ Some at → at.answers ≡ an ∷ rest → fits_ring s q (entry_of q an) ≡ true
+    fits : (queue : HostQueue) (at : ServedQueue) (an : PostedCompletion) (rest : List PostedCompletion) → host_queue s q ≡ Some queue → served_queue s q ≡ Some at → at.completions ≡ an ∷ rest → fits_ring s q (entry_of q an) ≡ true
     fits queue at an rest eh eq is =
-        let falls = subst (λ (xs : List Answer). Falls s.entries queue.ring.tail (distance s.entries queue.ring.known_head queue.ring.tail) xs (length at.unfetched)) is (f.fall q queue at eh eq) in
+        let falls = subst (λ (xs : List PostedCompletion). Falls s.entries queue.ring.tail (distance s.entries queue.ring.known_head queue.ring.tail) xs (length at.unfetched)) is (f.fall q queue at eh eq) in
         let r = ring_in s f.stood.grounds q queue eh in
         ap (λ (o : Option HostQueue). option_map_or (λ queue. is_in_range s.entries queue.ring.known_head queue.ring.tail an.sq_head) o false) eh
         ∙ in_range s.entries queue.ring.known_head an.sq_head queue.ring.tail falls.0 (near_tail s.entries queue.ring.known_head an.sq_head queue.ring.tail r.known_head falls.0 r.tail falls.1)
 
-    fits_there : (o : Option HostQueue) → host_queue s q ≡ o → is_none o ≡ false → (at : DeviceQueue) (an : Answer) (rest : List Answer) → device_queue s q ≡ Some at → at.answers ≡ an ∷ rest → fits_ring s q (entry_of q an) ≡ true
+    fits_there : (o : Option HostQueue) → host_queue s q ≡ o → is_none o ≡ false → (at : ServedQueue) (an : PostedCompletion) (rest : List PostedCompletion) → served_queue s q ≡ Some at → at.completions ≡ an ∷ rest → fits_ring s q (entry_of q an) ≡ true
     fits_there None eh some at an rest eq is = absurd (true≢false some)
     fits_there (Some queue) eh some at an rest eq is = fits queue at an rest eh eq is
 
-    as_work : (an : Answer) (r : Record) (w : Work) → r.work ≡ w → r.q ≡ q → OwnsFit r.q r.work (pages_of r) → reaped_as q (entry_of q an) w ≡ (if q == 0 then AdminDone an.cid an.status an.dw0 else Done an.cid an.status)
+    as_work : (an : PostedCompletion) (r : Record) (w : Work) → r.work ≡ w → r.q ≡ q → OwnsFit r.q r.work (pages_of r) → reaped_as q (entry_of q an) w ≡ (if q == 0 then AdminDone an.cid an.status an.dw0 else Done an.cid an.status)
     as_work an r (Io request) is rq fit =
         let fit' : OwnsFit r.q (Io request) (pages_of r) = subst (λ (x : Work). OwnsFit r.q x (pages_of r)) is fit in
         sym (ap (λ (b : Bool). if b then AdminDone an.cid an.status an.dw0 else Done an.cid an.status) (ap (λ (k : ℕ). k == 0) (sym rq) ∙ fit'))
     as_work an r (Management adm) is rq fit = grind (arith, eq-eqb)
 
-    submitted : (an : Answer) (r : Record) → record_at s.host q an.cid ≡ Some r → is_submitted r.phase ≡ true → submitted_at s q an.cid ≡ Some r
+    submitted : (an : PostedCompletion) (r : Record) → record_at s.host q an.cid ≡ Some r → is_submitted r.phase ≡ true → submitted_at s q an.cid ≡ Some r
     submitted an r e sub = ap (λ (o : Option Record). option_map_or (λ r. if is_submitted r.phase then Some r else None) o None) e ∙ ap (λ (b : Bool). if b then Some r else None) sub
 
-    entry : (at : DeviceQueue) (an : Answer) (rest : List Answer) → device_queue s q ≡ Some at → at.answers ≡ an ∷ rest
+    entry : (at : ServedQueue) (an : PostedCompletion) (rest : List PostedCompletion) → served_queue s q ≡ Some at → at.completions ≡ an ∷ rest
         → reaped_entry s q (entry_of q an) ≡ (if q == 0 then AdminDone an.cid an.status an.dw0 else Done an.cid an.status)
     entry at an rest eq is =
         let r = answered_record s f.stood q at an rest eq is in
@@ -378,7 +378,7 @@ front_reaped s f t q there =
         ∙ ap (λ (o : Option Record). option_map_or (λ r. reaped_as q (entry_of q an) r.work) o (Rejected UnknownId)) (submitted an r.0 r.1 r.2)
         ∙ as_work an r.0 r.0.work refl (ids_of s q an.cid r.0 r.1).0 fit
 
-    first : (at : DeviceQueue) → device_queue s q ≡ Some at → (ans : List Answer) → at.answers ≡ ans → option_map_or (reaped_entry s q) (option_map (entry_of q) (first_answer ans)) Empty ≡ front q ans
+    first : (at : ServedQueue) → served_queue s q ≡ Some at → (ans : List PostedCompletion) → at.completions ≡ ans → option_map_or (reaped_entry s q) (option_map (entry_of q) (front_completion ans)) Empty ≡ front q ans
     first at eq [] is = refl
     first at eq (an ∷ rest) is = entry at an rest eq is
 

@@ -163,7 +163,7 @@ images_none at (y ∷ ys) q cid h = grind (arith, images_none (fetched_in y.befo
 
 -- the image of the latest fetch
 image_at_fetch : (at : Images) (before : List Made) (fetched : Made) (between : List Made) (q cid : ℕ) → fetches q cid fetched ≡ true → list_any (fetches q cid) between ≡ false
-    → images_of at (before ++ fetched ∷ between) q cid ≡ fetched.before.device.image
+    → images_of at (before ++ fetched ∷ between) q cid ≡ fetched.before.controller.image
 image_at_fetch at before fetched between q cid is none = grind (arith, images_append, images_none, fetched_in, images_of)
 
 -- What is collected
@@ -224,7 +224,7 @@ record CollectedRead (image : List ℕ) (before : List Made) (fetched : Made) (b
   soFar : ReadSoFar (drafts_of (before ++ fetched ∷ between)) (images_of (λ q cid. image) (before ++ fetched ∷ between)) s found.command f.request
   member : Member s found.command
   image_is : images_of (λ q cid. image) (before ++ fetched ∷ between) found.command.q found.command.cid ≡ image_after image before
-  image_long : length (images_of (λ q cid. image) (before ++ fetched ∷ between) found.command.q found.command.cid) ≡ length s.device.image
+  image_long : length (images_of (λ q cid. image) (before ++ fetched ∷ between) found.command.q found.command.cid) ≡ length s.controller.image
 
 collected_read : (image : List ℕ) (before : List Made) (fetched : Made) (between : List Made) (collected : Made) (later : List Made) (end : State) (f : FinishedContents)
     → TrustedRun image (before ++ fetched ∷ between ++ collected ∷ later) end → collected_of collected.event collected.reply ≡ Some f → is_read f ≡ true

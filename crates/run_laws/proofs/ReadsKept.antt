@@ -21,7 +21,7 @@ use Rattle.machine_model.specs.{After.{course_of, final_status}, Agreeing.unfetc
 use Rattle.machine_model.specs.{Image.{draft_of, submitted_by}, Memory.memory_of, Proper.IsProper}
 use Rattle.machine_model.specs.Refusals.{is_submitted, is_held, next_rung, refusal_of, job_at, is_job}
 use Rattle.machine_model.specs.Standing.{IsSized, StandsAs, CommandStands, unfetched_at, HasEntry}
-use Rattle.machine_model.specs.{State.{State, Record, Job, Answer, is_at, record_at, pages_of, DeviceQueue}, Weights.{total, one}, Work.Work}
+use Rattle.machine_model.specs.{State.{State, Record, Job, PostedCompletion, is_at, record_at, pages_of, ServedQueue}, Weights.{total, one}, Work.Work}
 use Rattle.machine_model.specs.declared.words.{Work.TheVariants.{Io, Management}}
 use Rattle.run_laws.proofs.Carrying.{Stands, reach, target_in, list_ordered, all_reached, Received, received_still}
 use Rattle.run_laws.proofs.{Causes.{goes_well, none_found, has_verdict}, Images.{entry_kind, entry_block, entry_blocks}}
@@ -41,7 +41,7 @@ abbrev pub Images : Type 0
 Images = ℕ → ℕ → List ℕ
 
 abbrev pub fetched_in : State → Event → Reply → Images → Images
-fetched_in s e reply at q cid = if fetches_by q cid e reply then s.device.image else at q cid
+fetched_in s e reply at q cid = if fetches_by q cid e reply then s.controller.image else at q cid
 
 abbrev pub read_targets : Record → Request → List Target
 read_targets r request = targets Destination (parts_of request.pieces r.data_pages)
@@ -71,7 +71,7 @@ ReadingIf at s r request k j = j.q ≡ r.q → j.entry.cid ≡ r.cid → goes_we
 abbrev pub UnreadEntry : Record → ℕ → SubEntry → Type 0
 UnreadEntry r k e = e.cid ≡ r.cid → k ≡ 0
 
-abbrev pub FullAnswer : State → Record → Request → ℕ → Answer → Type 0
+abbrev pub FullAnswer : State → Record → Request → ℕ → PostedCompletion → Type 0
 FullAnswer s r request k an = an.cid ≡ r.cid → is_success an.status ≡ true → Full (read_targets r request) k × InImage s request
 
 pub record ReadSoFar (drafts : List DraftContents) (at : Images) (s : State) (r : Record) (request : Request) : Type 0 where
@@ -85,9 +85,9 @@ pub record ReadSoFar (drafts : List DraftContents) (at : Images) (s : State) (r 
   pub whole : (p : ℕ) → is_among r.data_pages p ≡ true → (page : List ℕ) × (page_at s.memory p ≡ Some page) × (length page ≡ 4096)
   pub received : Received s.memory own (read_targets r request) (read_blocks at r request) k
   pub long : 0 < k → length (read_blocks at r request) ≡ length (read_targets r request)
-  pub unfetched : is_submitted r.phase ≡ true → AllByRecursion (UnreadEntry r k) (list_at (λ at. at.unfetched) s.device.queues r.q)
-  pub jobs : is_submitted r.phase ≡ true → AllByRecursion (ReadingIf at s r request k) s.device.jobs
-  pub answers : is_submitted r.phase ≡ true → AllByRecursion (FullAnswer s r request k) (list_at (λ at. at.answers) s.device.queues r.q)
+  pub unfetched : is_submitted r.phase ≡ true → AllByRecursion (UnreadEntry r k) (list_at (λ at. at.unfetched) s.controller.queues r.q)
+  pub jobs : is_submitted r.phase ≡ true → AllByRecursion (ReadingIf at s r request k) s.controller.jobs
+  pub completions : is_submitted r.phase ≡ true → AllByRecursion (FullAnswer s r request k) (list_at (λ at. at.completions) s.controller.queues r.q)
   pub full : is_held r.phase ≡ true → (st : Status) → r.status ≡ Some st → is_success st ≡ true → Full (read_targets r request) k × InImage s request
 
 abbrev pub ReadIfIo : List DraftContents → Images → State → Record → Work → Type 0
@@ -101,7 +101,7 @@ ReadRecord drafts at s r = (is_submitted r.phase || is_held r.phase) ≡ true �
 
 pub record Member (s : State) (r : Record) : Type 0 where
   pub only : (q cid : ℕ) (r0 : Record) → record_at s.host q cid ≡ Some r0 → is_at q cid r ≡ true → r ≡ r0
-  pub stands : CommandStands s.memory s.device.queues s.device.jobs r
+  pub stands : CommandStands s.memory s.controller.queues s.controller.jobs r
   pub fits : OwnsFit r.q r.work (pages_of r)
 
 pub members : (s : State) → Stood s → AllByRecursion (Member s) s.host.records
@@ -109,12 +109,12 @@ members s stood =
     all-slots (Member s) s.host.records
     (λ k x e. record {
       only = λ q cid r0 found is. all-at (λ r. is_at q cid r ≡ true → r ≡ r0) s.host.records k x e (is_found q cid s.host.records r0 found (stood.grounds.stands.0.once q cid)) is;
-      stands = all-at (CommandStands s.memory s.device.queues s.device.jobs) s.host.records k x e stood.commands;
+      stands = all-at (CommandStands s.memory s.controller.queues s.controller.jobs) s.host.records k x e stood.commands;
       fits = all-at (λ r. OwnsFit r.q r.work (pages_of r)) s.host.records k x e stood.grounds.stands.0.admins;
     })
 
 pub sized_of : (s : State) (r : Record) (request : Request) → Member s r → r.work ≡ Io request → IsSized r request
-sized_of s r request m w = (subst (StandsAs s.memory s.device.queues s.device.jobs r) w m.stands).0
+sized_of s r request m w = (subst (StandsAs s.memory s.controller.queues s.controller.jobs r) w m.stands).0
 
 pub queue_of : (s : State) (r : Record) (request : Request) → Member s r → r.work ≡ Io request → (r.q == 0) ≡ false
 queue_of s r request m w = subst (λ (x : Work). OwnsFit r.q x (pages_of r)) w m.fits
@@ -188,17 +188,17 @@ no_draft s e reply ok r m stays d is = grind (arith, submit_record, and_from, eq
 pub in_hand_sent : (s : State) → Stood s → (r : Record) → Member s r → (q : ℕ) (e : SubEntry) → InHand s q e → q ≡ r.q → e.cid ≡ r.cid → is_submitted r.phase ≡ true
 in_hand_sent s stood r m q e hand sq sc =
     let w : ℕ → ℕ = λ c. one (c == e.cid) in
-    let un : unfetched_count q w s.host.queues s.device.queues ≡ total (λ (x : SubEntry). w x.cid) (unfetched_at s.device.queues q) =
-    ap (λ (b : Bool). if b then 0 else total (λ (x : SubEntry). w x.cid) (unfetched_at s.device.queues q)) (running_not_past s stood.grounds q e hand) in
-    let mine : 1 ≤ total (λ (x : SubEntry). w x.cid) (unfetched_at s.device.queues q) =
-    subst (λ (xs : List SubEntry). 1 ≤ total (λ (x : SubEntry). w x.cid) xs) (sym (ap (λ (o : Option DeviceQueue). option_map_or (λ at. at.unfetched) o []) hand.at ∙ first_is hand.queue.unfetched e hand.first))
+    let un : unfetched_count q w s.host.queues s.controller.queues ≡ total (λ (x : SubEntry). w x.cid) (unfetched_at s.controller.queues q) =
+    ap (λ (b : Bool). if b then 0 else total (λ (x : SubEntry). w x.cid) (unfetched_at s.controller.queues q)) (running_not_past s stood.grounds q e hand) in
+    let mine : 1 ≤ total (λ (x : SubEntry). w x.cid) (unfetched_at s.controller.queues q) =
+    subst (λ (xs : List SubEntry). 1 ≤ total (λ (x : SubEntry). w x.cid) xs) (sym (ap (λ (o : Option ServedQueue). option_map_or (λ at. at.unfetched) o []) hand.at ∙ first_is hand.queue.unfetched e hand.first))
     (omega (arith, ap one (eq-eqb e.cid e.cid refl))) in
     let x = sent_found q e.cid s.host.records (omega (arith, un, mine, stood.places q w)) (stood.grounds.stands.0.once q e.cid) in
     let same : r ≡ x.0 = m.only q e.cid x.0 x.1 (and_from (r.q == q) (r.cid == e.cid) (eq-eqb r.q q (sym sq)) (eq-eqb r.cid e.cid (sym sc))) in
     ap (λ (y : Record). is_submitted y.phase) same ∙ x.2
 
 -- and nothing of it was read yet
-in_hand_unread : (s : State) (r : Record) (k q : ℕ) (e : SubEntry) → InHand s q e → q ≡ r.q → e.cid ≡ r.cid → AllByRecursion (UnreadEntry r k) (list_at (λ at. at.unfetched) s.device.queues r.q) → k ≡ 0
+in_hand_unread : (s : State) (r : Record) (k q : ℕ) (e : SubEntry) → InHand s q e → q ≡ r.q → e.cid ≡ r.cid → AllByRecursion (UnreadEntry r k) (list_at (λ at. at.unfetched) s.controller.queues r.q) → k ≡ 0
 in_hand_unread s r k q e hand sq sc all = grind (arith, list_at, first_is)
 
 -- a fetch of its identifier is of its entry
@@ -209,10 +209,10 @@ fetch_hand s e reply ok q cid is = absurd (true≢false (sym is))
 -- The image at its fetch
 
 same_image : (s : State) (e : Event) (reply : Reply) (at : Images) (q cid : ℕ) → fetches_by q cid e reply ≡ false → fetched_in s e reply at q cid ≡ at q cid
-same_image s e reply at q cid far = ap (λ (b : Bool). if b then s.device.image else at q cid) far
+same_image s e reply at q cid far = ap (λ (b : Bool). if b then s.controller.image else at q cid) far
 
-own_image : (s : State) (e : Event) (reply : Reply) (at : Images) (q cid : ℕ) → fetches_by q cid e reply ≡ true → fetched_in s e reply at q cid ≡ s.device.image
-own_image s e reply at q cid is = ap (λ (b : Bool). if b then s.device.image else at q cid) is
+own_image : (s : State) (e : Event) (reply : Reply) (at : Images) (q cid : ℕ) → fetches_by q cid e reply ≡ true → fetched_in s e reply at q cid ≡ s.controller.image
+own_image s e reply at q cid is = ap (λ (b : Bool). if b then s.controller.image else at q cid) is
 
 -- Jobs of a Read
 
@@ -239,7 +239,7 @@ targets_length s r request m w kind =
 
 -- a job that begins
 begun_reading : (s : State) (t : State) (at : Images) (r : Record) (request : Request) → Member s r → r.work ≡ Io request → request.kind ≡ Read → (q : ℕ) (e : SubEntry) (sgl1 : List ℕ) → e ≡ io_entry r.cid request sgl1
-    → at r.q r.cid ≡ s.device.image → (k : ℕ) → k ≡ 0 → length t.device.image ≡ length s.device.image → goes_well (io_fault (a.image_blocks s) e) ≡ true → Reading at t r request k (begun_job s q e)
+    → at r.q r.cid ≡ s.controller.image → (k : ℕ) → k ≡ 0 → length t.controller.image ≡ length s.controller.image → goes_well (io_fault (a.image_blocks s) e) ≡ true → Reading at t r request k (begun_job s q e)
 begun_reading s t at r request m w kind q e sgl1 is image k none same well = go (io_fault (a.image_blocks s) e) refl well
   where
     reads : kind_of_opcode e.opcode ≡ Some Read
@@ -254,18 +254,18 @@ begun_reading s t at r request m w kind q e sgl1 is image k none same well = go 
     at_most : (b n : ℕ) → nat_lt b n ≡ false → n ≤ b
     at_most b n h = grind (arith, nat_tests, h)
 
-    bytes : jobs.first_bytes s.device.image e (kind_of_opcode e.opcode) ≡ read_blocks at r request
+    bytes : jobs.first_bytes s.controller.image e (kind_of_opcode e.opcode) ≡ read_blocks at r request
     bytes =
-        ap (jobs.first_bytes s.device.image e) reads
-        ∙ ap (λ (n : ℕ). blocks_at s.device.image n (block_number e)) first ∙ ap (λ (n : ℕ). blocks_at s.device.image request.slba n) count
+        ap (jobs.first_bytes s.controller.image e) reads
+        ∙ ap (λ (n : ℕ). blocks_at s.controller.image n (block_number e)) first ∙ ap (λ (n : ℕ). blocks_at s.controller.image request.slba n) count
         ∙ ap (λ (x : List ℕ). blocks_at x request.slba request.blocks) (sym image)
 
-    go : (o : Option Status) → io_fault (a.image_blocks s) e ≡ o → goes_well o ≡ true → Reading at t r request k (a.new_job q e o 0 (bytes_after_check s.device.image e o))
+    go : (o : Option Status) → io_fault (a.image_blocks s) e ≡ o → goes_well o ≡ true → Reading at t r request k (a.new_job q e o 0 (bytes_after_check s.controller.image e o))
     go (Some st) f well = absurd (true≢false (sym well ∙ fault_fails (a.image_blocks s) e st f))
     go None f well = record {
       bytes = bytes;
-      long = ap length (ap (jobs.first_bytes s.device.image e) reads)
-          ∙ blocks_length s.device.image (first_block e) (block_number e) (at_most (a.image_blocks s) (first_block e + block_number e) (grind (arith, f)))
+      long = ap length (ap (jobs.first_bytes s.controller.image e) reads)
+          ∙ blocks_length s.controller.image (first_block e) (block_number e) (at_most (a.image_blocks s) (first_block e + block_number e) (grind (arith, f)))
           ∙ ap (λ (n : ℕ). 512 * n) count ∙ sym (targets_length s r request m w kind);
       inside = omega (arith, at_most (a.image_blocks s) (first_block e + block_number e) (grind (arith, f)), first, count, same);
       came = none;
@@ -298,7 +298,7 @@ pub record Quiet (s : State) (e : Event) (reply : Reply) (r : Record) (request :
   pub still : walks_it e r ≡ false
   pub work : r.work ≡ Io request
   pub kind : request.kind ≡ Read
-  pub image : length (a.after s e reply).device.image ≡ length s.device.image
+  pub image : length (a.after s e reply).controller.image ≡ length s.controller.image
 
 -- where the record's identifier is fetched, k is 0, and its entry is in hand
 own_fetch : (s : State) (e : Event) (reply : Reply) (r : Record) (request : Request) (x : Quiet s e reply r request) (drafts : List DraftContents) (at : Images) (h : ReadSoFar drafts at s r request) → fetches_by r.q r.cid e reply ≡ true → h.k ≡ 0
@@ -307,11 +307,11 @@ own_fetch s e reply r request x drafts at h is =
     in_hand_unread s r h.k r.q f.0 f.1 refl f.2 (h.unfetched (in_hand_sent s x.stood r x.member r.q f.0 f.1 refl f.2))
 
 -- where a job of the identifier is there, it isn't fetched
-no_fetch : (s : State) (e : Event) (reply : Reply) (r : Record) (request : Request) (x : Quiet s e reply r request) (k : ℕ) (j : Job) → slice_get s.device.jobs k ≡ Some j → j.q ≡ r.q → j.entry.cid ≡ r.cid → fetches_by r.q r.cid e reply ≡ false
+no_fetch : (s : State) (e : Event) (reply : Reply) (r : Record) (request : Request) (x : Quiet s e reply r request) (k : ℕ) (j : Job) → slice_get s.controller.jobs k ≡ Some j → j.q ≡ r.q → j.entry.cid ≡ r.cid → fetches_by r.q r.cid e reply ≡ false
 no_fetch s e reply r request x k j at sq sc = elim (cases_Bool (fetches_by r.q r.cid e reply)) [
   | inl is ↦
       let f = fetch_hand s e reply x.ok r.q r.cid is in
-      let far : is_job r.q f.0.cid j ≡ false = all-at (λ y. is_job r.q f.0.cid y ≡ false) s.device.jobs k j at (none_found r.q f.0.cid s.device.jobs (not_conflicting s x.stood r.q f.0 f.1)) in
+      let far : is_job r.q f.0.cid j ≡ false = all-at (λ y. is_job r.q f.0.cid y ≡ false) s.controller.jobs k j at (none_found r.q f.0.cid s.controller.jobs (not_conflicting s x.stood r.q f.0 f.1)) in
       absurd (true≢false (sym (and_from (j.q == r.q) (j.entry.cid == f.0.cid) (eq-eqb j.q r.q sq) (eq-eqb j.entry.cid f.0.cid (sc ∙ sym f.2))) ∙ far))
   | inr is ↦ is
 ]
@@ -319,15 +319,15 @@ no_fetch s e reply r request x k j at sq sc = elim (cases_Bool (fetches_by r.q r
 -- the entry in hand of a record's identifier is the record's
 own_entry : (s : State) (r : Record) (request : Request) → Member s r → r.work ≡ Io request → is_submitted r.phase ≡ true → (q : ℕ) (e : SubEntry) → InHand s q e → q ≡ r.q → e.cid ≡ r.cid → (sgl1 : List ℕ) × (e ≡ io_entry r.cid request sgl1)
 own_entry s r request m w sub q e hand sq sc =
-    let list = (subst (StandsAs s.memory s.device.queues s.device.jobs r) w m.stands).1 sub in
-    (spelling list.first, in_hand_is s q e hand r.cid (io_entry r.cid request (spelling list.first)) (subst (λ (n : ℕ). HasEntry s.device.queues s.device.jobs n r.cid (io_entry r.cid request (spelling list.first))) (sym sq) list.entry) sc)
+    let list = (subst (StandsAs s.memory s.controller.queues s.controller.jobs r) w m.stands).1 sub in
+    (spelling list.first, in_hand_is s q e hand r.cid (io_entry r.cid request (spelling list.first)) (subst (λ (n : ℕ). HasEntry s.controller.queues s.controller.jobs n r.cid (io_entry r.cid request (spelling list.first))) (sym sq) list.entry) sc)
 
 quiet_jobs : (s : State) (e : Event) (reply : Reply) (r : Record) (request : Request) (x : Quiet s e reply r request) (drafts : List DraftContents) (at : Images) (h : ReadSoFar drafts at s r request) → is_submitted r.phase ≡ true
     → JobsMove (ReadingIf at s r request h.k) (ReadingIf (fetched_in s e reply at) (a.after s e reply) r request h.k) s e
 quiet_jobs s e reply r request x drafts at h sub = record {
   stays = λ n j found far known sq sc well.
       let c = known sq sc well in
-      let l = job_list s x.stood j (in_at s.device.jobs n j found) (ap (λ (k : ℕ). k == 0) sq ∙ queue_of s r request x.member x.work) (λ P all. all-at P s.device.jobs n j found all) in
+      let l = job_list s x.stood j (in_at s.controller.jobs n j found) (ap (λ (k : ℕ). k == 0) sq ∙ queue_of s r request x.member x.work) (λ P all. all-at P s.controller.jobs n j found all) in
       let course = course_stays s e reply x.ok x.stood j l in
       let image = same_image s e reply at r.q r.cid (no_fetch s e reply r request x n j found sq sc) in
       record {
@@ -377,12 +377,12 @@ quiet_entries s e reply r request x k = record {
         true≢false (sym (and_from (d.q == r.q) (d.cid == r.cid) (eq-eqb d.q r.q z) (eq-eqb d.cid r.cid (sym cid ∙ same))) ∙ no_draft s e reply x.ok r x.member x.stays d is)
 
 quiet_answers : (s : State) (e : Event) (reply : Reply) (r : Record) (request : Request) (x : Quiet s e reply r request) (drafts : List DraftContents) (at : Images) (h : ReadSoFar drafts at s r request) → is_submitted r.phase ≡ true
-    → QueueMove (λ at. at.answers) (FullAnswer (a.after s e reply) r request h.k) r.q s e
+    → QueueMove (λ at. at.completions) (FullAnswer (a.after s e reply) r request h.k) r.q s e
 quiet_answers s e reply r request x drafts at h sub = record {
   posts = λ d entry at is built z all. all;
   sends = λ entry at z all. all;
   rings = λ rung at all. all;
-  reaps = λ at all. all_drop_one (FullAnswer (a.after s e reply) r request h.k) at.answers all;
+  reaps = λ at all. all_drop_one (FullAnswer (a.after s e reply) r request h.k) at.completions all;
   fetches = λ rung at all. all;
   stops = λ at all. all;
   drops = λ at all. tt;
@@ -391,7 +391,7 @@ quiet_answers s e reply r request x drafts at h sub = record {
   clears = λ at all. all;
   empties = (tt, tt);
   completes = λ cid j head at' is found all.
-      all_append (FullAnswer (a.after s e reply) r request h.k) at'.answers (record { cid = cid; status = a.final_status s j; dw0 = j.dw0; sq_head = head } ∷ []) all
+      all_append (FullAnswer (a.after s e reply) r request h.k) at'.completions (record { cid = cid; status = a.final_status s j; dw0 = j.dw0; sq_head = head } ∷ []) all
       ((λ same ok. answered cid j is found same ok j.verdict refl), tt);
 }
   where
@@ -400,17 +400,17 @@ quiet_answers s e reply r request x drafts at h sub = record {
         absurd (true≢false (sym (has_verdict s r.q cid j (subst (λ (y : Event). refusal_of s y ≡ None) is x.ok.0) found) ∙ ap is_some v))
     answered cid j is found same ok (Some v) verdict = elim (cases_Bool (is_success v)) [
       | inl well ↦
-          let reading = all-found (ReadingIf at s r request h.k) (is_job r.q cid) s.device.jobs j found (h.jobs sub) sq sc (ap goes_well verdict ∙ well) in (
+          let reading = all-found (ReadingIf at s r request h.k) (is_job r.q cid) s.controller.jobs j found (h.jobs sub) sq sc (ap goes_well verdict ∙ well) in (
             all_came s x.stood at r request x.member x.work x.kind h.k j
-                (job_list s x.stood j (in_found (is_job r.q cid) s.device.jobs j found) other (λ P all. all-found P (is_job r.q cid) s.device.jobs j found all)) sq sc v verdict reading,
+                (job_list s x.stood j (in_found (is_job r.q cid) s.controller.jobs j found) other (λ P all. all-found P (is_job r.q cid) s.controller.jobs j found all)) sq sc v verdict reading,
             omega (arith, reading.inside, x.image),
           )
       | inr failed ↦
-          absurd (true≢false (sym ok ∙ ap is_success (final ∙ ap (λ (b : Bool). if b then jobs.status_by s.device.image j.entry j.bytes (kind_of_opcode j.entry.opcode) else v) failed) ∙ failed))
+          absurd (true≢false (sym ok ∙ ap is_success (final ∙ ap (λ (b : Bool). if b then jobs.status_by s.controller.image j.entry j.bytes (kind_of_opcode j.entry.opcode) else v) failed) ∙ failed))
     ]
       where
         ids : ((j.q == r.q) ≡ true) × ((j.entry.cid == cid) ≡ true)
-        ids = and_parts (j.q == r.q) (j.entry.cid == cid) (found_is (is_job r.q cid) s.device.jobs j found)
+        ids = and_parts (j.q == r.q) (j.entry.cid == cid) (found_is (is_job r.q cid) s.controller.jobs j found)
 
         sq : j.q ≡ r.q
         sq = eqb-true j.q r.q ids.0
@@ -421,8 +421,8 @@ quiet_answers s e reply r request x drafts at h sub = record {
         other : (j.q == 0) ≡ false
         other = ap (λ (k : ℕ). k == 0) sq ∙ queue_of s r request x.member x.work
 
-        final : final_status s j ≡ (if is_success v then jobs.status_by s.device.image j.entry j.bytes (kind_of_opcode j.entry.opcode) else v)
-        final = ap (λ (b : Bool). if b then unwrap_or j.verdict SUCCESS else jobs.status_after s.device.image j.entry j.bytes j.verdict) other ∙ ap (jobs.status_after s.device.image j.entry j.bytes) verdict
+        final : final_status s j ≡ (if is_success v then jobs.status_by s.controller.image j.entry j.bytes (kind_of_opcode j.entry.opcode) else v)
+        final = ap (λ (b : Bool). if b then unwrap_or j.verdict SUCCESS else jobs.status_after s.controller.image j.entry j.bytes j.verdict) other ∙ ap (jobs.status_after s.controller.image j.entry j.bytes) verdict
 
 -- so it is known after the event, as far
 pub quiet_on : (s : State) (e : Event) (reply : Reply) (r : Record) (request : Request) (x : Quiet s e reply r request) → takes e r ≡ false → (drafts : List DraftContents) (at : Images) (h : ReadSoFar drafts at s r request)
@@ -441,8 +441,8 @@ quiet_on s e reply r request x far drafts at h = (
     long = λ some. long some (fetches_by r.q r.cid e reply) refl;
     unfetched = λ sub. queues_event (λ at. at.unfetched) (UnreadEntry r h.k) r.q s e reply (quiet_entries s e reply r request x h.k) x.ok x.stood (h.unfetched sub);
     jobs = λ sub. jobs_event (ReadingIf at s r request h.k) (ReadingIf (fetched_in s e reply at) (a.after s e reply) r request h.k) s e reply (quiet_jobs s e reply r request x drafts at h sub) x.ok x.stood (h.jobs sub);
-    answers = λ sub. queues_event (λ at. at.answers) (FullAnswer (a.after s e reply) r request h.k) r.q s e reply (quiet_answers s e reply r request x drafts at h sub) x.ok x.stood
-        (all_in (FullAnswer s r request h.k) (FullAnswer (a.after s e reply) r request h.k) (list_at (λ at. at.answers) s.device.queues r.q) (λ an within full same ok. let f = full same ok in (f.0, omega (arith, f.1, x.image))) (h.answers sub));
+    completions = λ sub. queues_event (λ at. at.completions) (FullAnswer (a.after s e reply) r request h.k) r.q s e reply (quiet_answers s e reply r request x drafts at h sub) x.ok x.stood
+        (all_in (FullAnswer s r request h.k) (FullAnswer (a.after s e reply) r request h.k) (list_at (λ at. at.completions) s.controller.queues r.q) (λ an within full same ok. let f = full same ok in (f.0, omega (arith, f.1, x.image))) (h.completions sub));
     full = λ held st status ok. let f = h.full held st status ok in (f.0, omega (arith, f.1, x.image));
   },
   omega arith,

@@ -6,10 +6,10 @@ use Rattle.std.{proofs.lemmas.{Bool.{true≢false, and_parts, and_from, eqb-fals
 use Rattle.std.specs.{List.AllByRecursion, Option.{option_and_then, option_map_or}}
 use Rattle.machine_model.proofs.{Counting.times-append, HostLeaves.ids_of, Moves.{named, status_in}, Owned.in_record, Sound.reaped_submitted}
 use Rattle.machine_model.{proofs.Steps.{Accepts, pages_match, same_lists}, specs.After.course_of}
-use Rattle.machine_model.specs.{Agreeing.{is_out_of_service_at as past_at, unfetched_count, job_weight, answers_at}, Events.{Event, Reply}}
+use Rattle.machine_model.specs.{Agreeing.{is_out_of_service_at as past_at, unfetched_count, job_weight, completions_at}, Events.{Event, Reply}}
 use Rattle.machine_model.specs.{Image.{Made, submitted_by}, Memory.{memory_of, with_pages}, Proper.IsProper}
-use Rattle.machine_model.specs.Refusals.{is_submitted, refusal_of, job_at, is_job, is_drafted, is_held, is_of, asks_for, first_answer}
-use Rattle.machine_model.specs.{Standing.unfetched_at, State.{State, DeviceQueue, Record, Job, is_at, Answer, record_at, with_record}}
+use Rattle.machine_model.specs.Refusals.{is_submitted, refusal_of, job_at, is_job, is_drafted, is_held, is_of, asks_for, front_completion}
+use Rattle.machine_model.specs.{Standing.unfetched_at, State.{State, ServedQueue, Record, Job, is_at, PostedCompletion, record_at, with_record}}
 use Rattle.machine_model.specs.{Step.{reaped}, Trusted.{TrustedRun, drafts_of}, Weights.{one, total, here, sent}, Work.Work}
 use Rattle.machine_model.specs.declared.words.{Phase.{TheVariants.Held}, Refusal.Refusal, Work.TheVariants.{Io, Management}}
 use Rattle.page_ledger.specs.Owners.{is_among}
@@ -22,7 +22,7 @@ use Rattle.entry_codec.specs.declared.submission.SubEntry.{SubEntry}
 use Rattle.io_commands.specs.{Asked.Request, Drafts.DraftContents, Jobs.{need_of_entry, direction_of_entry, is_success}, Requests.{parts_of, direction_of}}
 use Rattle.io_commands.specs.{Values.numbers_of, declared.request.Kind.TheVariants.Read}
 use Rattle.two_sides.proofs.{Along.{Carried, Before, keeps, made_of, run_before}, Commands.{nobody, Walking, walking, no_job}}
-use Rattle.two_sides.proofs.{DeviceMoves.{unit_memory, walk_is}, NeverFull.stood_at_opening, PlacesKept.{drafted_not, reaped_answer}, PoolBytes.host_jobs}
+use Rattle.two_sides.proofs.{ControllerMoves.{unit_memory, walk_is}, NeverFull.stood_at_opening, PlacesKept.{drafted_not, reaped_answer}, PoolBytes.host_jobs}
 use Rattle.two_sides.proofs.Provided.{In, in_found, all_in, all_of, all_in_both}
 use Rattle.two_sides.proofs.{Served.{entry_direction, good_is, Stood, course_in, course_whole, requests_same}, Standing.list_at, TiedAll.Grounds}
 use Rattle.two_sides.proofs.Untouched.{owned_once, bytes_elsewhere}
@@ -74,15 +74,15 @@ sent_few q cid (x ∷ rs) = grind (arith, sent_few q cid rs)
 job_not_past : (s : State) → Grounds s → (q cid : ℕ) (j : Job) → job_at s q cid ≡ Some j → past_at s.host.queues q ≡ false
 job_not_past s g q cid j found = grind (arith, found_is, in_found)
 
-no_entry : (s : State) → Stood s → (q cid : ℕ) (j : Job) → job_at s q cid ≡ Some j → (P : SubEntry → Type 0) → AllByRecursion (λ (e : SubEntry). e.cid ≡ cid → P e) (unfetched_at s.device.queues q)
+no_entry : (s : State) → Stood s → (q cid : ℕ) (j : Job) → job_at s q cid ≡ Some j → (P : SubEntry → Type 0) → AllByRecursion (λ (e : SubEntry). e.cid ≡ cid → P e) (unfetched_at s.controller.queues q)
 no_entry s stood q cid j found P =
     let w : ℕ → ℕ = λ c. one (c == cid) in
-    let un : unfetched_count q w s.host.queues s.device.queues ≡ total (λ (x : SubEntry). w x.cid) (unfetched_at s.device.queues q) =
-    ap (λ (b : Bool). if b then 0 else total (λ (x : SubEntry). w x.cid) (unfetched_at s.device.queues q)) (job_not_past s stood.grounds q cid j found) in
-    let ids = and_parts (j.q == q) (j.entry.cid == cid) (found_is (is_job q cid) s.device.jobs j found) in
+    let un : unfetched_count q w s.host.queues s.controller.queues ≡ total (λ (x : SubEntry). w x.cid) (unfetched_at s.controller.queues q) =
+    ap (λ (b : Bool). if b then 0 else total (λ (x : SubEntry). w x.cid) (unfetched_at s.controller.queues q)) (job_not_past s stood.grounds q cid j found) in
+    let ids = and_parts (j.q == q) (j.entry.cid == cid) (found_is (is_job q cid) s.controller.jobs j found) in
     let mine : job_weight q w j ≡ 1 = rw ids.0 (ap one ids.1) in
-    nobody (λ (e : SubEntry). e.cid) cid P (unfetched_at s.device.queues q)
-    (omega (arith, un, mine, in_found (is_job q cid) s.device.jobs j found (job_weight q w), stood.places q w, sent_few q cid s.host.records, stood.grounds.stands.0.once q cid))
+    nobody (λ (e : SubEntry). e.cid) cid P (unfetched_at s.controller.queues q)
+    (omega (arith, un, mine, in_found (is_job q cid) s.controller.jobs j found (job_weight q w), stood.places q w, sent_few q cid s.host.records, stood.grounds.stands.0.once q cid))
 
 -- The walk
 
@@ -114,19 +114,19 @@ further s q cid r request j act x o touched ok drafts at h = (
     whole = λ p own. subst (λ (m : Pages). (page : List ℕ) × (page_at m p ≡ Some page) × (length page ≡ 4096)) (sym memory) (whole act refl p own);
     received = subst (λ (m : Pages). Received m h.own (read_targets r request) (read_blocks at r request) (came act h.k)) (sym memory) (received act refl);
     long = λ some. ap length (sym reading.bytes) ∙ reading.long;
-    unfetched = λ sub. subst (λ (qs : List DeviceQueue). AllByRecursion (UnreadEntry r (came act h.k)) (list_at (λ at. at.unfetched) qs r.q)) (sym (queues_walk s q cid))
-        (subst (λ (c : ℕ). AllByRecursion (λ (e : SubEntry). e.cid ≡ c → came act h.k ≡ 0) (unfetched_at s.device.queues r.q)) (sym ids.1)
-        (subst (λ (n : ℕ). AllByRecursion (λ (e : SubEntry). e.cid ≡ cid → came act h.k ≡ 0) (unfetched_at s.device.queues n)) (sym ids.0) (no_entry s x.stood q cid j x.found (λ e. came act h.k ≡ 0))));
+    unfetched = λ sub. subst (λ (qs : List ServedQueue). AllByRecursion (UnreadEntry r (came act h.k)) (list_at (λ at. at.unfetched) qs r.q)) (sym (queues_walk s q cid))
+        (subst (λ (c : ℕ). AllByRecursion (λ (e : SubEntry). e.cid ≡ c → came act h.k ≡ 0) (unfetched_at s.controller.queues r.q)) (sym ids.1)
+        (subst (λ (n : ℕ). AllByRecursion (λ (e : SubEntry). e.cid ≡ cid → came act h.k ≡ 0) (unfetched_at s.controller.queues n)) (sym ids.0) (no_entry s x.stood q cid j x.found (λ e. came act h.k ≡ 0))));
     jobs = λ sub. jobs_event (ReadingIf at s r request h.k) (ReadingIf at (a.after_walk q cid s) r request (came act h.k)) s (events.Walk q cid) (events.Walked o touched) job_moves ok x.stood (h.jobs sub);
-    answers = λ sub. subst (λ (qs : List DeviceQueue). AllByRecursion (FullAnswer (a.after_walk q cid s) r request (came act h.k)) (list_at (λ at. at.answers) qs r.q)) (sym (queues_walk s q cid))
-        (all_in (FullAnswer s r request h.k) (FullAnswer (a.after_walk q cid s) r request (came act h.k)) (list_at (λ at. at.answers) s.device.queues r.q)
-        (λ an within full same ok. let f = full same ok in (λ i p target. omega (arith, f.0 i p target, more), omega (arith, f.1, image))) (h.answers sub));
+    completions = λ sub. subst (λ (qs : List ServedQueue). AllByRecursion (FullAnswer (a.after_walk q cid s) r request (came act h.k)) (list_at (λ at. at.completions) qs r.q)) (sym (queues_walk s q cid))
+        (all_in (FullAnswer s r request h.k) (FullAnswer (a.after_walk q cid s) r request (came act h.k)) (list_at (λ at. at.completions) s.controller.queues r.q)
+        (λ an within full same ok. let f = full same ok in (λ i p target. omega (arith, f.0 i p target, more), omega (arith, f.1, image))) (h.completions sub));
     full = λ held. absurd (true≢false (sym held ∙ (grind arith)));
   },
   more,
 )
   where
-    image : length (a.after_walk q cid s).device.image ≡ length s.device.image
+    image : length (a.after_walk q cid s).controller.image ≡ length s.controller.image
     image = ap length (walk_image s q cid)
 
     ids : (r.q ≡ q) × (r.cid ≡ cid)
@@ -148,7 +148,7 @@ further s q cid r request j act x o touched ok drafts at h = (
     dir = ap direction_of_entry x.walking.list.entry ∙ entry_direction x.walking.list.command.cid x.walking.list.request (spelling x.walking.list.list.first) ∙ ap (λ (y : Request). direction_of y.kind) same.1 ∙ ap direction_of x.kind
 
     reading : Reading at s r request h.k j
-    reading = all-found (ReadingIf at s r request h.k) (is_job q cid) s.device.jobs j x.found (h.jobs submitted) sq sc (ap goes_well x.walking.verdict)
+    reading = all-found (ReadingIf at s r request h.k) (is_job q cid) s.controller.jobs j x.found (h.jobs submitted) sq sc (ap goes_well x.walking.verdict)
 
     memory : (a.after_walk q cid s).memory ≡ written_by_act s j act
     memory = walk_memory s q cid j act x.found x.unit dir
@@ -277,7 +277,7 @@ record Taken (s : State) (e : Event) (reply : Reply) : Type 0 where
   ok : Accepts s e reply
   trusted : s.trusted ≡ true
   stood : Stood s
-  image : length (a.after s e reply).device.image ≡ length s.device.image
+  image : length (a.after s e reply).controller.image ≡ length s.controller.image
 
 -- a record that stays
 kept : (s : State) (e : Event) (reply : Reply) (x : Taken s e reply) (r : Record) (request : Request) → In r s.host.records → Member s r → (is_submitted r.phase || is_held r.phase) ≡ true → takes e r ≡ false → r.work ≡ Io request → request.kind ≡ Read
@@ -292,12 +292,12 @@ kept s e reply x r request within member stays far work kind drafts at h =
     quiet_on s e reply r request
     (record { ok = x.ok; proper = x.proper; stood = x.stood; within = within; member = member; stays = stays; still = refl; work = work; kind = kind; image = x.image }) far drafts at h
 
-pub first_all : (P : Answer → Type 0) (o : Option DeviceQueue) (an : Answer) → option_and_then (λ queue. first_answer queue.answers) o ≡ Some an → AllByRecursion P (option_map_or (λ at. at.answers) o []) → P an
+pub first_all : (P : PostedCompletion → Type 0) (o : Option ServedQueue) (an : PostedCompletion) → option_and_then (λ queue. front_completion queue.completions) o ≡ Some an → AllByRecursion P (option_map_or (λ at. at.completions) o []) → P an
 first_all P None an e all = absurd cc
 first_all P (Some queue) an e all = grind arith
 
 answered_full : (s : State) (q cid : ℕ) (st : Status) (r : Record) (request : Request) (k : ℕ) → s.trusted ≡ true → named (reaped s q) ≡ Some cid → status_in (reaped s q) ≡ Some st → (r.q ≡ q) × (r.cid ≡ cid) → is_success st ≡ true
-    → AllByRecursion (FullAnswer s r request k) (list_at (λ at. at.answers) s.device.queues r.q) → Full (read_targets r request) k × InImage s request
+    → AllByRecursion (FullAnswer s r request k) (list_at (λ at. at.completions) s.controller.queues r.q) → Full (read_targets r request) k × InImage s request
 answered_full s q cid st r request k trusted n x ids ok all = grind (arith, reaped_answer, told_entry, status_in, first_all, list_at)
 
 -- a command that is submitted has read nothing
@@ -319,32 +319,32 @@ submitted_reads s d events.Accepted x drafts at entry r request built found fits
       whole = λ p own. page_found (a.after_submit d s).memory d.data_pages stand p (ap (λ (ns : List ℕ). is_among ns p) numbers ∙ own);
       received = record { first = λ i p target lt. absurd (omega (arith, lt)); rest = λ i p target le. refl };
       long = λ some. absurd (omega (arith, some));
-      unfetched = λ sub. all_of (UnreadEntry (a.submitted r) 0) (list_at (λ at. at.unfetched) (a.after_submit d s).device.queues r.q) (λ y within same. refl);
+      unfetched = λ sub. all_of (UnreadEntry (a.submitted r) 0) (list_at (λ at. at.unfetched) (a.after_submit d s).controller.queues r.q) (λ y within same. refl);
       jobs = λ sub. subst (AllByRecursion (ReadingIf at (a.after_submit d s) (a.submitted r) request 0)) (sym (host_jobs s (events.Submit d) events.Accepted x.ok refl refl))
-          (subst (λ (q : ℕ). AllByRecursion (λ (j : Job). j.q ≡ q → j.entry.cid ≡ r.cid → goes j) s.device.jobs) (sym ids.0) (subst (λ (c : ℕ). AllByRecursion (λ (j : Job). j.q ≡ d.q → j.entry.cid ≡ c → goes j) s.device.jobs) (sym ids.1)
-          (no_job d.q d.cid goes s.device.jobs (omega (arith, x.stood.places d.q (λ n. one (n == d.cid)), none)))));
-      answers = λ sub. queues_event (λ at. at.answers) (FullAnswer (a.after_submit d s) (a.submitted r) request 0) r.q s (events.Submit d) events.Accepted answers_move x.ok x.stood
-          (subst (λ (q : ℕ). AllByRecursion (λ (an : Answer). an.cid ≡ r.cid → full an) (answers_at s.device.queues q)) (sym ids.0) (subst (λ (c : ℕ). AllByRecursion (λ (an : Answer). an.cid ≡ c → full an) (answers_at s.device.queues d.q)) (sym ids.1)
-          (nobody (λ (an : Answer). an.cid) d.cid full (answers_at s.device.queues d.q) (omega (arith, x.stood.places d.q (λ n. one (n == d.cid)), none)))));
+          (subst (λ (q : ℕ). AllByRecursion (λ (j : Job). j.q ≡ q → j.entry.cid ≡ r.cid → goes j) s.controller.jobs) (sym ids.0) (subst (λ (c : ℕ). AllByRecursion (λ (j : Job). j.q ≡ d.q → j.entry.cid ≡ c → goes j) s.controller.jobs) (sym ids.1)
+          (no_job d.q d.cid goes s.controller.jobs (omega (arith, x.stood.places d.q (λ n. one (n == d.cid)), none)))));
+      completions = λ sub. queues_event (λ at. at.completions) (FullAnswer (a.after_submit d s) (a.submitted r) request 0) r.q s (events.Submit d) events.Accepted answers_move x.ok x.stood
+          (subst (λ (q : ℕ). AllByRecursion (λ (an : PostedCompletion). an.cid ≡ r.cid → full an) (completions_at s.controller.queues q)) (sym ids.0) (subst (λ (c : ℕ). AllByRecursion (λ (an : PostedCompletion). an.cid ≡ c → full an) (completions_at s.controller.queues d.q)) (sym ids.1)
+          (nobody (λ (an : PostedCompletion). an.cid) d.cid full (completions_at s.controller.queues d.q) (omega (arith, x.stood.places d.q (λ n. one (n == d.cid)), none)))));
       full = λ held. absurd (true≢false (sym held));
     }
   where
     goes : Job → Type 0
     goes j = goes_well j.verdict ≡ true → Reading at (a.after_submit d s) (a.submitted r) request 0 j
 
-    full : Answer → Type 0
+    full : PostedCompletion → Type 0
     full an = is_success an.status ≡ true → Full (read_targets (a.submitted r) request) 0 × InImage (a.after_submit d s) request
 
     stand : AllByRecursion (Stands (a.after_submit d s).memory) d.data_pages
     stand = subst (λ (o : Option SubEntry). AllByRecursion (Stands (option_map_or (λ entry. a.posted d.q entry (a.on_records (with_record d.q d.cid a.submitted) (a.on_memory (with_pages (d.data_pages ++ d.chain_pages)) s))) o s).memory) d.data_pages) (sym built)
         (submitted_stand s d entry x.ok.0 x.proper.data_pages x.stood.grounds)
 
-    answers_move : QueueMove (λ at. at.answers) (FullAnswer (a.after_submit d s) (a.submitted r) request 0) r.q s (events.Submit d)
+    answers_move : QueueMove (λ at. at.completions) (FullAnswer (a.after_submit d s) (a.submitted r) request 0) r.q s (events.Submit d)
     answers_move = record {
       posts = λ d entry at is built z all. all;
       sends = λ entry at z all. all;
       rings = λ rung at all. all;
-      reaps = λ at all. dropped at.answers all;
+      reaps = λ at all. dropped at.completions all;
       fetches = λ rung at all. all;
       stops = λ at all. all;
       drops = λ at all. tt;
@@ -355,7 +355,7 @@ submitted_reads s d events.Accepted x drafts at entry r request built found fits
       completes = λ cid j head at is found all. absurd (cc (is));
     }
       where
-        dropped : (xs : List Answer) → AllByRecursion (FullAnswer (a.after_submit d s) (a.submitted r) request 0) xs → AllByRecursion (FullAnswer (a.after_submit d s) (a.submitted r) request 0) (drop 1 xs)
+        dropped : (xs : List PostedCompletion) → AllByRecursion (FullAnswer (a.after_submit d s) (a.submitted r) request 0) xs → AllByRecursion (FullAnswer (a.after_submit d s) (a.submitted r) request 0) (drop 1 xs)
         dropped [] h = tt
         dropped (y ∷ xs) h = h.1
 submitted_reads s d reply x drafts at entry r request built found fits w = absurd x.ok.1
@@ -411,7 +411,7 @@ reads_move drafts at s e reply x = record {
       long = y.long;
       unfetched = λ sub. absurd (true≢false (sym sub));
       jobs = λ sub. absurd (true≢false (sym sub));
-      answers = λ sub. absurd (true≢false (sym sub));
+      completions = λ sub. absurd (true≢false (sym sub));
       full = λ held st' is ok. done (ap is_success (some_is is) ∙ ok);
     }
 
@@ -421,7 +421,7 @@ reads_move drafts at s e reply x = record {
         let sub = reaped_sub q cid r n found in
         let y = kept s e reply x r request (in_found (is_at q cid) s.host.records r found) m (rw sub refl) (subst (λ (z : Event). takes z r ≡ false) (sym is) refl) w kind drafts at h in
         hold st r request y.0
-        (λ ok. let f = answered_full s q cid st r request h.k x.trusted n status (ids_of s q cid r found) ok (h.answers sub) in (λ i p target. omega (arith, f.0 i p target, y.1), omega (arith, f.1, x.image)))
+        (λ ok. let f = answered_full s q cid st r request h.k x.trusted n status (ids_of s q cid r found) ok (h.completions sub) in (λ i p target. omega (arith, f.0 i p target, y.1), omega (arith, f.1, x.image)))
 
     lose : (r : Record) → In r s.host.records → is_submitted r.phase ≡ true → takes e r ≡ false → Member s r → (w : Work) → r.work ≡ w → ReadIfIo drafts at s r w
         → ReadIfIo (submitted_by e reply ++ drafts) (fetched_in s e reply at) (a.after s e reply) (record r { phase = Held; status = Some ABORTED_SQ_DELETION }) w
@@ -433,7 +433,7 @@ reads_move drafts at s e reply x = record {
 
 pub record ReadsKnown (drafts : List DraftContents) (at : Images) (s : State) : Type 0 where
   pub records : AllByRecursion (ReadRecord drafts at s) s.host.records
-  pub images : (q cid : ℕ) → length (at q cid) ≡ length s.device.image
+  pub images : (q cid : ℕ) → length (at q cid) ≡ length s.controller.image
 
 reads_on : (drafts : List DraftContents) (at : Images) (s : State) (e : Event) (reply : Reply) → Taken s e reply → ReadsKnown drafts at s → ReadsKnown (submitted_by e reply ++ drafts) (fetched_in s e reply at) (a.after s e reply)
 reads_on drafts at s e reply x h = record {

@@ -11,14 +11,14 @@ use Rattle.entry_codec.specs.declared.submission.SubEntry.{SubEntry}
 use Rattle.io_commands.specs.{Jobs.{is_success, verdict_of, direction_of_entry}}
 use Rattle.machine_model.{proofs.{Steps.{Accepts, managed_by, permitted}, Tokens.is_job}, specs.{After.final_status, Events.{Event, Reply}}}
 use Rattle.machine_model.specs.{Image.Made, Opening.opening, Refusals.{job_at, next_rung, conflicts, refusal_of}, Script.{played, left_by}}
-use Rattle.machine_model.specs.{State.{State, Job, Device}, Step.{resets, Step, Refuses}, Trusted.{TrustedRun, Steps, forges_by}, WorkedReads.ordinary}
+use Rattle.machine_model.specs.{State.{State, Job, Controller}, Step.{resets, Step, Refuses}, Trusted.{TrustedRun, Steps, forges_by}, WorkedReads.ordinary}
 use Rattle.machine_model.specs.declared.words.Refusal.{Refusal, TheVariants.{Nothing}}
 use Rattle.run_laws.{proofs.{Moves.{JobsMove, jobs_event}, OneEnd.none_parts}, specs.Statuses.{status_by, fetches, fetches_by}}
 use Rattle.run_laws.specs.Verdicts.{FoundDifference, first_verdicts_count, jobs_stay, KeepsVerdict, IsRefusedWalk, verdicts_stay, verdicts_end_walks}
 use Rattle.run_laws.specs.WorkedVerdicts.{one_aborted, deleted_under, deleted_under_said}
 use Rattle.two_sides.proofs.Along.{Unforged, unforged_front, unforged_back, unforged_run, Carried, keeps, made_of, cut, along_proper, before_step, stays_trusted, trusted_end, trusted_step_by}
 use Rattle.two_sides.proofs.{JobLaws.stood_after, NeverFull.{one_job, stood_on, stood_at_opening, some_none, host_jobs}}
-use Rattle.two_sides.proofs.{Provided.{all_in, only_found}, Served.Stood, Standing.device-answered}
+use Rattle.two_sides.proofs.{Provided.{all_in, only_found}, Served.Stood, Standing.controller-answered}
 use Rattle.admin_commands.specs.{Entries.{named_queue, named_command}, declared.SqState.TheVariants.Absent}
 use Rattle.controller_walk.specs.Units.{Act, Moves, moving, from_place}
 use Rattle.sgl_descriptor.specs.{Spelling.descriptor_of, declared.Direction.{Direction, TheVariants.{Destination, Source}}}
@@ -35,7 +35,7 @@ Has q cid st j = is_job q cid j ≡ true → j.verdict ≡ Some st
 -- so it is as long as no command of its identifier is fetched
 record Marked (q cid : ℕ) (st : Status) (done : List Made) (s : State) : Type 0 where
   pub stood : Stood s
-  pub jobs : list_any (fetches q cid) done ≡ false → AllByRecursion (Has q cid st) s.device.jobs
+  pub jobs : list_any (fetches q cid) done ≡ false → AllByRecursion (Has q cid st) s.controller.jobs
 
 fetched_by : (s : State) (k : ℕ) (reply : Reply) (entry : SubEntry) → Accepts s (events.Fetch k) reply → next_rung s k ≡ Some entry → fetches_by k entry.cid (events.Fetch k) reply ≡ true
 fetched_by s k reply entry ok next = grind arith
@@ -93,12 +93,12 @@ runs_count_first_verdicts image earlier m between completion later end q cid job
     let here : job_at two.0 q cid ≡ Some job = subst (λ (s : State). job_at s q cid ≡ Some job) two.2.0 at in
     let marked : Marked q cid verdict [] two.0 = record {
       stood = stood;
-      jobs = λ none. all_in (λ j. is_job q cid j ≡ true → j ≡ job) (Has q cid verdict) two.0.device.jobs (λ j within only is. ap (λ (x : Job). x.verdict) (only is) ∙ v) (only_found (is_job q cid) two.0.device.jobs job here (one_job two.0 stood q cid));
+      jobs = λ none. all_in (λ j. is_job q cid j ≡ true → j ≡ job) (Has q cid verdict) two.0.controller.jobs (λ j within only is. ap (λ (x : Job). x.verdict) (only is) ∙ v) (only_found (is_job q cid) two.0.controller.jobs job here (one_job two.0 stood q cid));
     } in
     let b = before_step (Marked q cid verdict) (keeps (Marked q cid verdict) (marked_carried q cid verdict)) [] (m ∷ between) later completion two.0 end two.2 rest marked in
     let j = given_job completion.before completion.event completion.reply q cid st given in
     let its : j.0.verdict ≡ Some verdict =
-    all-found (Has q cid verdict) (is_job q cid) completion.before.device.jobs j.0 j.1 (b.holds.jobs (not-true (list_any (fetches q cid) (m ∷ between)) far)) (found_is (is_job q cid) completion.before.device.jobs j.0 j.1) in
+    all-found (Has q cid verdict) (is_job q cid) completion.before.controller.jobs j.0 j.1 (b.holds.jobs (not-true (list_any (fetches q cid) (m ∷ between)) far)) (found_is (is_job q cid) completion.before.controller.jobs j.0 j.1) in
     subst (Gives completion q cid verdict) j.2 (job_gives completion q cid j.0 verdict j.1 its)
 
 -- A job stays until it completes, or the controller is reset.
@@ -124,80 +124,80 @@ there_some q cid test f same js h = there_map q cid (λ j. if test j then f j el
 
 -- Fetching
 
-there_fetch : (q cid k : ℕ) (s : State) → There q cid s.device.jobs → There q cid (a.after_fetch k s).device.jobs
+there_fetch : (q cid k : ℕ) (s : State) → There q cid s.controller.jobs → There q cid (a.after_fetch k s).controller.jobs
 there_fetch q cid k s h = go (next_rung s k)
   where
     one_more : (js : List Job) (new : Job) → There q cid js → There q cid (js ++ new ∷ [])
     one_more js new all = there_append q cid js new all
 
-    managed : (e : SubEntry) → There q cid (a.managed e (a.taken_off 0 s)).device.jobs
+    managed : (e : SubEntry) → There q cid (a.managed e (a.taken_off 0 s)).controller.jobs
     managed e =
-        managed_by (λ (t : State). There q cid t.device.jobs) e (a.taken_off 0 s)
+        managed_by (λ (t : State). There q cid t.controller.jobs) e (a.taken_off 0 s)
         (record {
-          refuses = λ st bad. one_more s.device.jobs _ h;
-          aborts = λ is8 w. one_more (map (λ (j : Job). if (j.q == named_queue e) && (j.entry.cid == named_command e) then record j { verdict = Some ABORT_REQUESTED; waiting_abort = Some e.cid } else j) s.device.jobs) _
-              (there_some q cid (λ j. (j.q == named_queue e) && (j.entry.cid == named_command e)) (λ j. record j { verdict = Some ABORT_REQUESTED; waiting_abort = Some e.cid }) (λ j. refl) s.device.jobs h);
-          is_late = λ is8. one_more s.device.jobs _ h;
-          stops = λ is0 q0 runs. one_more (map (a.stopped (named_queue e)) s.device.jobs) _
-              (there_some q cid (λ j. (j.q == named_queue e) && is_none j.verdict) (λ j. record j { verdict = Some ABORTED_SQ_DELETION }) (λ j. refl) s.device.jobs h);
-          drops = λ is4 q0 there gone. one_more s.device.jobs _ h;
-          makes_completion = λ is5 q0 none. one_more s.device.jobs _ h;
-          makes_submission = λ is1 q0 gone there. one_more s.device.jobs _ h;
+          refuses = λ st bad. one_more s.controller.jobs _ h;
+          aborts = λ is8 w. one_more (map (λ (j : Job). if (j.q == named_queue e) && (j.entry.cid == named_command e) then record j { verdict = Some ABORT_REQUESTED; waiting_abort = Some e.cid } else j) s.controller.jobs) _
+              (there_some q cid (λ j. (j.q == named_queue e) && (j.entry.cid == named_command e)) (λ j. record j { verdict = Some ABORT_REQUESTED; waiting_abort = Some e.cid }) (λ j. refl) s.controller.jobs h);
+          is_late = λ is8. one_more s.controller.jobs _ h;
+          stops = λ is0 q0 runs. one_more (map (a.stopped (named_queue e)) s.controller.jobs) _
+              (there_some q cid (λ j. (j.q == named_queue e) && is_none j.verdict) (λ j. record j { verdict = Some ABORTED_SQ_DELETION }) (λ j. refl) s.controller.jobs h);
+          drops = λ is4 q0 there gone. one_more s.controller.jobs _ h;
+          makes_completion = λ is5 q0 none. one_more s.controller.jobs _ h;
+          makes_submission = λ is1 q0 gone there. one_more s.controller.jobs _ h;
         })
 
-    inner : (e : SubEntry) (b z : Bool) → There q cid (if b then a.answered k e.cid COMMAND_ID_CONFLICT 0 (a.taken_off k s) else if z then a.managed e (a.taken_off 0 s) else a.begun k e (a.taken_off k s)).device.jobs
-    inner e true z = subst (λ (d : Device). There q cid d.jobs) (sym (device-answered k e.cid COMMAND_ID_CONFLICT 0 (a.taken_off k s))) h
+    inner : (e : SubEntry) (b z : Bool) → There q cid (if b then a.answered k e.cid COMMAND_ID_CONFLICT 0 (a.taken_off k s) else if z then a.managed e (a.taken_off 0 s) else a.begun k e (a.taken_off k s)).controller.jobs
+    inner e true z = subst (λ (d : Controller). There q cid d.jobs) (sym (controller-answered k e.cid COMMAND_ID_CONFLICT 0 (a.taken_off k s))) h
     inner e false true = managed e
-    inner e false false = one_more s.device.jobs _ h
+    inner e false false = one_more s.controller.jobs _ h
 
-    go : (o : Option SubEntry) → There q cid (option_map_or (λ e. if conflicts s k then a.answered k e.cid COMMAND_ID_CONFLICT 0 (a.taken_off k s) else if k == 0 then a.managed e (a.taken_off 0 s) else a.begun k e (a.taken_off k s)) o s).device.jobs
+    go : (o : Option SubEntry) → There q cid (option_map_or (λ e. if conflicts s k then a.answered k e.cid COMMAND_ID_CONFLICT 0 (a.taken_off k s) else if k == 0 then a.managed e (a.taken_off 0 s) else a.begun k e (a.taken_off k s)) o s).controller.jobs
     go None = h
     go (Some e) = inner e (conflicts s k) (k == 0)
 
 -- Walking
 
-there_walk : (q cid k c : ℕ) (s : State) → There q cid s.device.jobs → There q cid (a.after_walk k c s).device.jobs
+there_walk : (q cid k c : ℕ) (s : State) → There q cid s.controller.jobs → There q cid (a.after_walk k c s).controller.jobs
 there_walk q cid k c s h = elim (option_is (job_at s k c)) [
   | inl e ↦ rw e (h)
   | inr (j, e) ↦ rw e (inner j (a.next_unit s j))
 ]
   where
-    moved : (dir : Direction) (act : Act) → There q cid (a.moved dir act k c s).device.jobs
+    moved : (dir : Direction) (act : Act) → There q cid (a.moved dir act k c s).controller.jobs
     moved Destination (Moves place n offset) = grind arith
     moved Source (Moves place n offset) =
-        there_some q cid (λ j. is_job k c j) (λ j. record j { bytes = with_bytes j.bytes offset (a.page_bytes s.memory place n) }) (λ j. refl) s.device.jobs h
+        there_some q cid (λ j. is_job k c j) (λ j. record j { bytes = with_bytes j.bytes offset (a.page_bytes s.memory place n) }) (λ j. refl) s.controller.jobs h
     moved dir act = h
 
-    inner : (j : Job) (o : Option Act) → There q cid (option_map_or (λ act. a.on_job k c (λ x. record x { units_done = x.units_done + 1; verdict = verdict_of (a.next_answer s j) }) (a.moved (direction_of_entry j.entry) act k c s)) o s).device.jobs
+    inner : (j : Job) (o : Option Act) → There q cid (option_map_or (λ act. a.on_job k c (λ x. record x { units_done = x.units_done + 1; verdict = verdict_of (a.next_answer s j) }) (a.moved (direction_of_entry j.entry) act k c s)) o s).controller.jobs
     inner j None = h
     inner j (Some act) =
-        there_some q cid (λ x. is_job k c x) (λ x. record x { units_done = x.units_done + 1; verdict = verdict_of (a.next_answer s j) }) (λ x. refl) (a.moved (direction_of_entry j.entry) act k c s).device.jobs (moved (direction_of_entry j.entry) act)
+        there_some q cid (λ x. is_job k c x) (λ x. record x { units_done = x.units_done + 1; verdict = verdict_of (a.next_answer s j) }) (λ x. refl) (a.moved (direction_of_entry j.entry) act k c s).controller.jobs (moved (direction_of_entry j.entry) act)
 
 -- Completing another
 
 both_is : (q cid k c : ℕ) (j : Job) → ((k == q) && (c == cid)) ≡ false → is_job q cid j ≡ true → not (is_job k c j) ≡ true
 both_is q cid k c j far is = grind (arith, is_job, eq-eqb, eqb-true)
 
-there_complete : (q cid k c : ℕ) (s : State) → ((k == q) && (c == cid)) ≡ false → There q cid s.device.jobs → There q cid (a.after_complete k c s).device.jobs
+there_complete : (q cid k c : ℕ) (s : State) → ((k == q) && (c == cid)) ≡ false → There q cid s.controller.jobs → There q cid (a.after_complete k c s).controller.jobs
 there_complete q cid k c s far h = go (job_at s k c)
   where
-    fewer : There q cid (filter (λ j. not (is_job k c j)) s.device.jobs)
-    fewer = there_filter q cid (λ j. not (is_job k c j)) (λ j is. both_is q cid k c j far is) s.device.jobs h
+    fewer : There q cid (filter (λ j. not (is_job k c j)) s.controller.jobs)
+    fewer = there_filter q cid (λ j. not (is_job k c j)) (λ j is. both_is q cid k c j far is) s.controller.jobs h
 
-    deleted : (j : Job) (b : Bool) (t : State) → There q cid t.device.jobs → There q cid (if b then a.on_device_queue (named_queue j.entry) (λ at. record at { state = Absent; unfetched = []; rung = 0 }) t else t).device.jobs
+    deleted : (j : Job) (b : Bool) (t : State) → There q cid t.controller.jobs → There q cid (if b then a.on_served_queue (named_queue j.entry) (λ at. record at { state = Absent; unfetched = []; rung = 0 }) t else t).controller.jobs
     deleted j true t h = h
     deleted j false t h = h
 
-    go : (o : Option Job) → There q cid (option_map_or (λ j. let st = a.final_status s j in a.answered k c st j.dw0 (a.deletion_done j st (a.on_device (λ d. record d { image = a.image_completed j d.image }) (a.without_job k c s)))) o s).device.jobs
+    go : (o : Option Job) → There q cid (option_map_or (λ j. let st = a.final_status s j in a.answered k c st j.dw0 (a.deletion_done j st (a.on_controller (λ d. record d { image = a.image_completed j d.image }) (a.without_job k c s)))) o s).controller.jobs
     go None = h
     go (Some j) =
         let st = a.final_status s j in
-        let t = a.on_device (λ d. record d { image = a.image_completed j d.image }) (a.without_job k c s) in
-        subst (λ (d : Device). There q cid d.jobs) (sym (device-answered k c st j.dw0 (a.deletion_done j st t))) (deleted j ((j.q == 0) && (j.entry.opcode == DELETE_IO_SQ) && is_success st) t fewer)
+        let t = a.on_controller (λ d. record d { image = a.image_completed j d.image }) (a.without_job k c s) in
+        subst (λ (d : Controller). There q cid d.jobs) (sym (controller-answered k c st j.dw0 (a.deletion_done j st t))) (deleted j ((j.q == 0) && (j.entry.opcode == DELETE_IO_SQ) && is_success st) t fewer)
 
 -- Every event
 
-there_event : (q cid : ℕ) (s : State) (e : Event) (reply : Reply) → resets e ≡ false → Accepts s e reply → (job : Job) → job_at s q cid ≡ Some job → status_by s e reply q cid ≡ None → There q cid (a.after s e reply).device.jobs
+there_event : (q cid : ℕ) (s : State) (e : Event) (reply : Reply) → resets e ≡ false → Accepts s e reply → (job : Job) → job_at s q cid ≡ Some job → status_by s e reply q cid ≡ None → There q cid (a.after s e reply).controller.jobs
 there_event q cid s (events.Fetch k) (events.Fetched c touched) other ok job at none = there_fetch q cid k s (ap is_some at)
 there_event q cid s (events.Walk k c) (events.Walked o touched) other ok job at none = there_walk q cid k c s (ap is_some at)
 there_event q cid s (events.Complete k c) (events.Completed touched) other ok job at none = there_complete q cid k c s (elim (cases_Bool ((k == q) && (c == cid))) [ inl is ↦ let none = rw is at none in absurd (some_none (sym (ap (option_map (a.final_status s)) at) ∙ none)) | inr is ↦ is ]) (ap is_some at)
@@ -209,7 +209,7 @@ there_event q cid s e reply other ok job at none = subst (There q cid) (sym (hos
 pub runs_keep_jobs : jobs_stay
 runs_keep_jobs image made old new e reply q cid job run step unforged other at none =
     let trusted : old.trusted ≡ true = trusted_end image made old run in
-    trusted_step_by (λ (e : Event) (reply : Reply) (t : State). resets e ≡ false → job_at old q cid ≡ Some job → status_by old e reply q cid ≡ None → There q cid t.device.jobs) old
+    trusted_step_by (λ (e : Event) (reply : Reply) (t : State). resets e ≡ false → job_at old q cid ≡ Some job → status_by old e reply q cid ≡ None → There q cid t.controller.jobs) old
     (λ e why touched other at none. ap is_some at) (λ e reply proper ok other at none. there_event q cid old e reply other ok job at none) e reply new step trusted
     (stays_trusted old e reply new step (not-true (forges_by e reply) unforged) trusted) (not-true (resets e) other) at none
 
@@ -237,15 +237,15 @@ verdicts_kept s e q cid before st at v = record {
 
 pub runs_keep_verdicts : verdicts_stay
 runs_keep_verdicts image made old new e reply q cid before after st run step unforged at v here =
-    let only : (s : State) → Stood s → job_at s q cid ≡ Some before → AllByRecursion (Is q cid before) s.device.jobs =
-    λ s stood at. only_found (is_job q cid) s.device.jobs before at (one_job s stood q cid) in
-    all-found (Keeps q cid before) (is_job q cid) new.device.jobs after here
-    (trusted_step_by (λ (e : Event) (reply : Reply) (t : State). Stood old → job_at old q cid ≡ Some before → AllByRecursion (Keeps q cid before) t.device.jobs) old
-    (λ e why touched stood at. all_in (Is q cid before) (Keeps q cid before) old.device.jobs (λ j within p is. subst (KeepsVerdict before) (sym (p is)) (record { verdict = refl; units_done = refl; bytes = refl })) (only old stood at))
+    let only : (s : State) → Stood s → job_at s q cid ≡ Some before → AllByRecursion (Is q cid before) s.controller.jobs =
+    λ s stood at. only_found (is_job q cid) s.controller.jobs before at (one_job s stood q cid) in
+    all-found (Keeps q cid before) (is_job q cid) new.controller.jobs after here
+    (trusted_step_by (λ (e : Event) (reply : Reply) (t : State). Stood old → job_at old q cid ≡ Some before → AllByRecursion (Keeps q cid before) t.controller.jobs) old
+    (λ e why touched stood at. all_in (Is q cid before) (Keeps q cid before) old.controller.jobs (λ j within p is. subst (KeepsVerdict before) (sym (p is)) (record { verdict = refl; units_done = refl; bytes = refl })) (only old stood at))
     (λ e reply proper ok stood at. jobs_event (Is q cid before) (Keeps q cid before) old e reply (verdicts_kept old e q cid before st at v) ok stood (only old stood at))
     e reply new step (trusted_end image made old run)
     (stays_trusted old e reply new step (not-true (forges_by e reply) unforged) (trusted_end image made old run)) (stood_after image made old run) at)
-    (found_is (is_job q cid) new.device.jobs after here)
+    (found_is (is_job q cid) new.controller.jobs after here)
 
 -- A walk of a job that has a verdict
 

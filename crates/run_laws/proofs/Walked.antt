@@ -7,7 +7,7 @@ use Rattle.std.specs.Option.{option_map_or}
 use Rattle.entry_codec.specs.declared.{admin_opcode.TheConstants.DELETE_IO_SQ, status.Status.Status}
 use Rattle.entry_codec.specs.declared.{status.TheConstants.Status.{COMMAND_ID_CONFLICT, ABORT_REQUESTED, ABORTED_SQ_DELETION}, submission.SubEntry.SubEntry}
 use Rattle.machine_model.{proofs.{Steps.{managed_by, permitted, exact}, Tokens.is_job}, specs.{Events.{Event, Reply}, Image.Made}}
-use Rattle.machine_model.specs.{Opening.opening, Refusals.{next_rung, job_at, conflicts}, State.{State, Job, Device}, Step.{Step, resets, unit_answered}}
+use Rattle.machine_model.specs.{Opening.opening, Refusals.{next_rung, job_at, conflicts}, State.{State, Job, Controller}, Step.{Step, resets, unit_answered}}
 use Rattle.machine_model.specs.{Trusted.Steps, declared.words.Refusal.Refusal}
 use Rattle.run_laws.proofs.Causes.{since_more, any_longer, any_last, not_conflicting, none_found, refused_no_fetch}
 use Rattle.run_laws.proofs.{DataKept.{Going, stood_step, stood_along, along_steps}, DataOnce.fetched_entry, Moves.{JobsMove, jobs_event, is_walked}}
@@ -15,7 +15,7 @@ use Rattle.run_laws.specs.Statuses.{fetches, fetches_by, since_fetch}
 use Rattle.run_laws.specs.Walked.{walks_by, walks_of, times_walked, units_done_count_the_walks, HasJobSo, walks_go_on_without_a_verdict, completes_by, ends_job, ends_walk_by, only_the_last_walk_ends}
 use Rattle.two_sides.proofs.Along.{Carried, keeps, made_of, run_along, Unforged, unforged_next, unforged_front, unforged_back, unforged_run, unforged_end, trusted_end, cut}
 use Rattle.two_sides.proofs.{Commands.walking, JobLaws.{not_zero as positive, stood_after}, NeverFull.{stood_on, stood_at_opening, host_jobs}}
-use Rattle.two_sides.proofs.{PlacesKept.in_hand, Provided.{all_at, all_in}, Served.Stood, Standing.device-answered}
+use Rattle.two_sides.proofs.{PlacesKept.in_hand, Provided.{all_at, all_in}, Served.Stood, Standing.controller-answered}
 use Rattle.admin_commands.specs.{Entries.{named_queue, named_command}, declared.SqState.TheVariants.Absent}
 use Rattle.controller_walk.specs.{Units.{Act, Stays, Reads, Moves}, Walks.is_more, declared.walk.WalkState.WalkState}
 use Rattle.sgl_descriptor.specs.declared.Direction.{Direction, TheVariants.{Destination, Source}}
@@ -36,7 +36,7 @@ abbrev pub CountedIfIo : List Made → Job → Type 0
 CountedIfIo earlier j = (j.q == 0) ≡ false → Counted earlier j
 
 abbrev pub AllCounted : List Made → State → Type 0
-AllCounted earlier s = AllByRecursion (CountedIfIo earlier) s.device.jobs
+AllCounted earlier s = AllByRecursion (CountedIfIo earlier) s.controller.jobs
 
 -- one step more
 
@@ -59,13 +59,13 @@ counted_same earlier j k m kq kc ku far still h = record {
 
 -- A step is no fetch of a job, and no walk of a job that it doesn't walk
 
-pub not_refetched : (s : State) (e : Event) (reply : Reply) → Going s e reply → (k : ℕ) (j : Job) → slice_get s.device.jobs k ≡ Some j → fetches_by j.q j.entry.cid e reply ≡ false
+pub not_refetched : (s : State) (e : Event) (reply : Reply) → Going s e reply → (k : ℕ) (j : Job) → slice_get s.controller.jobs k ≡ Some j → fetches_by j.q j.entry.cid e reply ≡ false
 not_refetched s (events.Fetch q) (events.Fetched c touched) g k j at = elim (cases_Bool ((q == j.q) && (c == j.entry.cid))) [
   | inl e ↦
       rw e (let ids = and_parts (q == j.q) (c == j.entry.cid) e in
       let f = fetched_entry s q j.entry.cid c g.ok.1.0 (eqb-true c j.entry.cid ids.1) in
       let none = not_conflicting s g.stood q f.0 (in_hand s q f.0 f.1) in
-      let no = all_at (λ j. is_job q f.0.cid j ≡ false) s.device.jobs k j at (none_found q f.0.cid s.device.jobs none) in
+      let no = all_at (λ j. is_job q f.0.cid j ≡ false) s.controller.jobs k j at (none_found q f.0.cid s.controller.jobs none) in
       absurd (true≢false (sym (rw (eq-eqb j.q q (sym (eqb-true q j.q ids.0)), eq-eqb j.entry.cid f.0.cid (sym f.2)) refl) ∙ no)))
   | inr e ↦ rw e refl
 ]
@@ -117,7 +117,7 @@ counts_carried : Carried CountedSo
 counts_carried = record {
   refused = λ done s e why touched h. record {
     stood = h.stood;
-    counted = all_in (CountedIfIo done) (CountedIfIo (done ++ made_of s e (events.Refused why touched) ∷ [])) s.device.jobs
+    counted = all_in (CountedIfIo done) (CountedIfIo (done ++ made_of s e (events.Refused why touched) ∷ [])) s.controller.jobs
         (λ j within p other. counted_same done j j (made_of s e (events.Refused why touched)) refl refl refl (refused_no_fetch e why touched j.q j.entry.cid) (refused_no_walk e why touched j.q j.entry.cid) (p other)) h.counted;
   };
   taken = λ done s e reply proper ok t h. record {
@@ -129,9 +129,9 @@ counts_carried = record {
 pub units_counted : units_done_count_the_walks
 units_counted image made end q cid j run io found =
     let all = (run_along CountedSo (keeps CountedSo counts_carried) image (λ pages queues n s opens. record { stood = stood_at_opening pages queues n s image opens; counted = tt }) made end run).counted in
-    let ids = and_parts (j.q == q) (j.entry.cid == cid) (found_is (is_job q cid) end.device.jobs j found) in
+    let ids = and_parts (j.q == q) (j.entry.cid == cid) (found_is (is_job q cid) end.controller.jobs j found) in
     let jq = eqb-true j.q q ids.0 in
-    let c = all-found (CountedIfIo made) (is_job q cid) end.device.jobs j found all (ap (λ (n : ℕ). n == 0) jq ∙ positive q io) in
+    let c = all-found (CountedIfIo made) (is_job q cid) end.controller.jobs j found all (ap (λ (n : ℕ). n == 0) jq ∙ positive q io) in
     c.count ∙ ap (λ (n : ℕ). times_walked n j.entry.cid made) jq ∙ ap (λ (n : ℕ). times_walked q n made) (eqb-true j.entry.cid cid ids.1)
 
 -- A walk that ended goes on no more: its job has a verdict until it is completed.
@@ -163,10 +163,10 @@ pub record Decided (q cid : ℕ) (s : State) : Type 0 where
 abbrev pub DecidedIn : ℕ → ℕ → List Job → Type 0
 DecidedIn q cid js = (j : Job) × (find (is_job q cid) js ≡ Some j) × (is_some j.verdict ≡ true)
 
-decided_in : (q cid : ℕ) (s : State) → Decided q cid s → DecidedIn q cid s.device.jobs
+decided_in : (q cid : ℕ) (s : State) → Decided q cid s → DecidedIn q cid s.controller.jobs
 decided_in q cid s h = (h.job, h.found, h.over)
 
-of_list : (q cid : ℕ) (s : State) → DecidedIn q cid s.device.jobs → Decided q cid s
+of_list : (q cid : ℕ) (s : State) → DecidedIn q cid s.controller.jobs → Decided q cid s
 of_list q cid s h = record { job = h.0; found = h.1; over = h.2 }
 
 -- jobs that keep their identifiers, and their verdicts where they have one
@@ -174,42 +174,42 @@ mapped : (q cid : ℕ) (f : Job → Job) (js : List Job) → ((j : Job) → (f j
     → DecidedIn q cid js → DecidedIn q cid (map f js)
 mapped q cid f js same_q same_entry over h = (f h.0, found_mapped q cid f (λ j. rw (same_q j, same_entry j) refl) js h.0 h.1, over h.0 h.2)
 
-fetch_decided : (s : State) (n : ℕ) → Stood s → (q cid : ℕ) → DecidedIn q cid s.device.jobs → DecidedIn q cid (a.after_fetch n s).device.jobs
+fetch_decided : (s : State) (n : ℕ) → Stood s → (q cid : ℕ) → DecidedIn q cid s.controller.jobs → DecidedIn q cid (a.after_fetch n s).controller.jobs
 fetch_decided s n stood q cid h = go (next_rung s n) refl
   where
     one_more : (js : List Job) (new : Job) → DecidedIn q cid js → DecidedIn q cid (js ++ new ∷ [])
     one_more js new x = (x.0, found_more q cid js (new ∷ []) x.0 x.1, x.2)
 
-    managed : (e : SubEntry) → DecidedIn q cid (a.managed e (a.taken_off 0 s)).device.jobs
+    managed : (e : SubEntry) → DecidedIn q cid (a.managed e (a.taken_off 0 s)).controller.jobs
     managed e =
         let abort_over : (j : Job) (b : Bool) → is_some j.verdict ≡ true → is_some (if b then record j { verdict = Some ABORT_REQUESTED; waiting_abort = Some e.cid } else j).verdict ≡ true =
         λ j b o. grind arith in
         let stop_q : (j : Job) (b : Bool) → (if b then record j { verdict = Some ABORTED_SQ_DELETION } else j).q ≡ j.q = λ j b. grind arith in
         let stop_entry : (j : Job) (b : Bool) → (if b then record j { verdict = Some ABORTED_SQ_DELETION } else j).entry ≡ j.entry = λ j b. grind arith in
         let stop_over : (j : Job) (b : Bool) → is_some j.verdict ≡ true → is_some (if b then record j { verdict = Some ABORTED_SQ_DELETION } else j).verdict ≡ true = λ j b o. grind arith in
-        managed_by (λ (t : State). DecidedIn q cid t.device.jobs) e (a.taken_off 0 s)
+        managed_by (λ (t : State). DecidedIn q cid t.controller.jobs) e (a.taken_off 0 s)
         (record {
-          refuses = λ st bad. one_more s.device.jobs _ h;
-          aborts = λ is8 w. one_more (map (λ (j : Job). if (j.q == named_queue e) && (j.entry.cid == named_command e) then record j { verdict = Some ABORT_REQUESTED; waiting_abort = Some e.cid } else j) s.device.jobs) _
-              (mapped q cid (λ (j : Job). if (j.q == named_queue e) && (j.entry.cid == named_command e) then record j { verdict = Some ABORT_REQUESTED; waiting_abort = Some e.cid } else j) s.device.jobs
+          refuses = λ st bad. one_more s.controller.jobs _ h;
+          aborts = λ is8 w. one_more (map (λ (j : Job). if (j.q == named_queue e) && (j.entry.cid == named_command e) then record j { verdict = Some ABORT_REQUESTED; waiting_abort = Some e.cid } else j) s.controller.jobs) _
+              (mapped q cid (λ (j : Job). if (j.q == named_queue e) && (j.entry.cid == named_command e) then record j { verdict = Some ABORT_REQUESTED; waiting_abort = Some e.cid } else j) s.controller.jobs
               (λ j. (grind arith)) (λ j. (grind arith)) (λ j. abort_over j ((j.q == named_queue e) && (j.entry.cid == named_command e))) h);
-          is_late = λ is8. one_more s.device.jobs _ h;
-          stops = λ is0 q0 runs. one_more (map (a.stopped (named_queue e)) s.device.jobs) _
-              (mapped q cid (a.stopped (named_queue e)) s.device.jobs (λ j. stop_q j ((j.q == named_queue e) && is_none j.verdict)) (λ j. stop_entry j ((j.q == named_queue e) && is_none j.verdict)) (λ j. stop_over j ((j.q == named_queue e) && is_none j.verdict)) h);
-          drops = λ is4 q0 there gone. one_more s.device.jobs _ h;
-          makes_completion = λ is5 q0 none. one_more s.device.jobs _ h;
-          makes_submission = λ is1 q0 gone there. one_more s.device.jobs _ h;
+          is_late = λ is8. one_more s.controller.jobs _ h;
+          stops = λ is0 q0 runs. one_more (map (a.stopped (named_queue e)) s.controller.jobs) _
+              (mapped q cid (a.stopped (named_queue e)) s.controller.jobs (λ j. stop_q j ((j.q == named_queue e) && is_none j.verdict)) (λ j. stop_entry j ((j.q == named_queue e) && is_none j.verdict)) (λ j. stop_over j ((j.q == named_queue e) && is_none j.verdict)) h);
+          drops = λ is4 q0 there gone. one_more s.controller.jobs _ h;
+          makes_completion = λ is5 q0 none. one_more s.controller.jobs _ h;
+          makes_submission = λ is1 q0 gone there. one_more s.controller.jobs _ h;
         })
 
     inner : (e : SubEntry) → next_rung s n ≡ Some e → (b z : Bool) → conflicts s n ≡ b
-        → DecidedIn q cid (if b then a.answered n e.cid COMMAND_ID_CONFLICT 0 (a.taken_off n s) else if z then a.managed e (a.taken_off 0 s) else a.begun n e (a.taken_off n s)).device.jobs
+        → DecidedIn q cid (if b then a.answered n e.cid COMMAND_ID_CONFLICT 0 (a.taken_off n s) else if z then a.managed e (a.taken_off 0 s) else a.begun n e (a.taken_off n s)).controller.jobs
     inner e r true z con =
         absurd (true≢false (sym con ∙ ap (λ (o : Option SubEntry). option_map_or (λ e. is_some (job_at s n e.cid)) o false) r ∙ not_conflicting s stood n e (in_hand s n e r)))
     inner e r false true con = managed e
-    inner e r false false con = one_more s.device.jobs _ h
+    inner e r false false con = one_more s.controller.jobs _ h
 
     go : (o : Option SubEntry) → next_rung s n ≡ o
-        → DecidedIn q cid (option_map_or (λ e. if conflicts s n then a.answered n e.cid COMMAND_ID_CONFLICT 0 (a.taken_off n s) else if n == 0 then a.managed e (a.taken_off 0 s) else a.begun n e (a.taken_off n s)) o s).device.jobs
+        → DecidedIn q cid (option_map_or (λ e. if conflicts s n then a.answered n e.cid COMMAND_ID_CONFLICT 0 (a.taken_off n s) else if n == 0 then a.managed e (a.taken_off 0 s) else a.begun n e (a.taken_off n s)) o s).controller.jobs
     go None r = h
     go (Some e) r = inner e r (conflicts s n) (n == 0) refl
 
@@ -218,43 +218,43 @@ other_job : (q cid k c : ℕ) (f : Job → Job) (js : List Job) → ((k == q) &&
     → DecidedIn q cid js → DecidedIn q cid (map (λ (j : Job). if (j.q == k) && (j.entry.cid == c) then f j else j) js)
 other_job q cid k c f js far same_q same_entry h = grind (arith, is_job, found_mapped, found_is, eq-eqb, eqb-true)
 
-walk_decided : (s : State) (k c : ℕ) (q cid : ℕ) → ((k == q) && (c == cid)) ≡ false → DecidedIn q cid s.device.jobs → DecidedIn q cid (a.after_walk k c s).device.jobs
+walk_decided : (s : State) (k c : ℕ) (q cid : ℕ) → ((k == q) && (c == cid)) ≡ false → DecidedIn q cid s.controller.jobs → DecidedIn q cid (a.after_walk k c s).controller.jobs
 walk_decided s k c q cid far h = go (job_at s k c)
   where
     last : (j : Job) (js : List Job) → DecidedIn q cid js → DecidedIn q cid (map (λ (x : Job). if (x.q == k) && (x.entry.cid == c) then record x { units_done = x.units_done + 1; verdict = verdict_of (a.next_answer s j) } else x) js)
     last j js x = other_job q cid k c (λ x. record x { units_done = x.units_done + 1; verdict = verdict_of (a.next_answer s j) }) js far (λ x. refl) (λ x. refl) x
 
-    moved : (j : Job) (dir : Direction) (act : Act) → DecidedIn q cid (a.on_job k c (λ x. record x { units_done = x.units_done + 1; verdict = verdict_of (a.next_answer s j) }) (a.moved dir act k c s)).device.jobs
-    moved j dir Stays = last j s.device.jobs h
-    moved j dir (Reads place) = last j s.device.jobs h
+    moved : (j : Job) (dir : Direction) (act : Act) → DecidedIn q cid (a.on_job k c (λ x. record x { units_done = x.units_done + 1; verdict = verdict_of (a.next_answer s j) }) (a.moved dir act k c s)).controller.jobs
+    moved j dir Stays = last j s.controller.jobs h
+    moved j dir (Reads place) = last j s.controller.jobs h
     moved j Source (Moves place n offset) =
-        last j (map (λ (x : Job). if (x.q == k) && (x.entry.cid == c) then record x { bytes = with_bytes x.bytes offset (a.page_bytes s.memory place n) } else x) s.device.jobs)
-        (other_job q cid k c (λ x. record x { bytes = with_bytes x.bytes offset (a.page_bytes s.memory place n) }) s.device.jobs far (λ x. refl) (λ x. refl) h)
+        last j (map (λ (x : Job). if (x.q == k) && (x.entry.cid == c) then record x { bytes = with_bytes x.bytes offset (a.page_bytes s.memory place n) } else x) s.controller.jobs)
+        (other_job q cid k c (λ x. record x { bytes = with_bytes x.bytes offset (a.page_bytes s.memory place n) }) s.controller.jobs far (λ x. refl) (λ x. refl) h)
     moved j Destination (Moves place n offset) = elim (option_is (job_at s k c)) [
-      | inl e ↦ rw e (last j s.device.jobs h)
-      | inr (x, e) ↦ rw e (last j s.device.jobs h)
+      | inl e ↦ rw e (last j s.controller.jobs h)
+      | inr (x, e) ↦ rw e (last j s.controller.jobs h)
     ]
 
-    inner : (j : Job) (o : Option Act) → DecidedIn q cid (option_map_or (λ act. a.on_job k c (λ x. record x { units_done = x.units_done + 1; verdict = verdict_of (a.next_answer s j) }) (a.moved (direction_of_entry j.entry) act k c s)) o s).device.jobs
+    inner : (j : Job) (o : Option Act) → DecidedIn q cid (option_map_or (λ act. a.on_job k c (λ x. record x { units_done = x.units_done + 1; verdict = verdict_of (a.next_answer s j) }) (a.moved (direction_of_entry j.entry) act k c s)) o s).controller.jobs
     inner j None = h
     inner j (Some act) = moved j (direction_of_entry j.entry) act
 
-    go : (o : Option Job) → DecidedIn q cid (option_map_or (λ j. option_map_or (λ act. a.on_job k c (λ x. record x { units_done = x.units_done + 1; verdict = verdict_of (a.next_answer s j) }) (a.moved (direction_of_entry j.entry) act k c s)) (a.next_unit s j) s) o s).device.jobs
+    go : (o : Option Job) → DecidedIn q cid (option_map_or (λ j. option_map_or (λ act. a.on_job k c (λ x. record x { units_done = x.units_done + 1; verdict = verdict_of (a.next_answer s j) }) (a.moved (direction_of_entry j.entry) act k c s)) (a.next_unit s j) s) o s).controller.jobs
     go None = h
     go (Some j) = inner j (a.next_unit s j)
 
-complete_decided : (s : State) (k c : ℕ) (q cid : ℕ) → ((k == q) && (c == cid)) ≡ false → DecidedIn q cid s.device.jobs → DecidedIn q cid (a.after_complete k c s).device.jobs
+complete_decided : (s : State) (k c : ℕ) (q cid : ℕ) → ((k == q) && (c == cid)) ≡ false → DecidedIn q cid s.controller.jobs → DecidedIn q cid (a.after_complete k c s).controller.jobs
 complete_decided s k c q cid far h =
     let kept : (j : Job) → is_job q cid j ≡ true → not (is_job k c j) ≡ true = λ j is. grind (arith, is_job, eq-eqb, eqb-true) in
     elim (option_is (job_at s k c)) [
       | inl e ↦ rw e (h)
       | inr (j, e) ↦
-          rw e (let s1 = a.on_device (λ d. record d { image = a.image_completed j d.image }) (a.without_job k c s) in
-          subst (λ (d : Device). DecidedIn q cid d.jobs) (sym (device-answered k c (a.final_status s j) j.dw0 (a.deletion_done j (a.final_status s j) s1)))
-          (deleted s1 j ((j.q == 0) && (j.entry.opcode == DELETE_IO_SQ) && is_success (a.final_status s j)) (h.0, found_kept q cid (λ x. not (is_job k c x)) kept s.device.jobs h.0 h.1, h.2)))
+          rw e (let s1 = a.on_controller (λ d. record d { image = a.image_completed j d.image }) (a.without_job k c s) in
+          subst (λ (d : Controller). DecidedIn q cid d.jobs) (sym (controller-answered k c (a.final_status s j) j.dw0 (a.deletion_done j (a.final_status s j) s1)))
+          (deleted s1 j ((j.q == 0) && (j.entry.opcode == DELETE_IO_SQ) && is_success (a.final_status s j)) (h.0, found_kept q cid (λ x. not (is_job k c x)) kept s.controller.jobs h.0 h.1, h.2)))
     ]
   where
-    deleted : (s1 : State) (j : Job) (b : Bool) → DecidedIn q cid s1.device.jobs → DecidedIn q cid (if b then a.on_device_queue (named_queue j.entry) (λ at. record at { state = Absent; unfetched = []; rung = 0 }) s1 else s1).device.jobs
+    deleted : (s1 : State) (j : Job) (b : Bool) → DecidedIn q cid s1.controller.jobs → DecidedIn q cid (if b then a.on_served_queue (named_queue j.entry) (λ at. record at { state = Absent; unfetched = []; rung = 0 }) s1 else s1).controller.jobs
     deleted s1 j true x = x
     deleted s1 j false x = x
 
@@ -298,17 +298,17 @@ walk_leaves s q cid j act at unit =
     as_record t h = record { job = h.0; found = h.1; is = h.2 }
 
     moved : (dir : Direction) (x : Act) → WalkedTo q cid (a.on_job q cid (λ k. record k { units_done = k.units_done + 1; verdict = verdict_of (a.next_answer s j) }) (a.moved dir x q cid s)) (verdict_of (a.next_answer s j))
-    moved dir Stays = as_record (a.on_job q cid (λ k. record k { units_done = k.units_done + 1; verdict = verdict_of (a.next_answer s j) }) s) (last s.device.jobs j at)
-    moved dir (Reads place) = as_record (a.on_job q cid (λ k. record k { units_done = k.units_done + 1; verdict = verdict_of (a.next_answer s j) }) s) (last s.device.jobs j at)
+    moved dir Stays = as_record (a.on_job q cid (λ k. record k { units_done = k.units_done + 1; verdict = verdict_of (a.next_answer s j) }) s) (last s.controller.jobs j at)
+    moved dir (Reads place) = as_record (a.on_job q cid (λ k. record k { units_done = k.units_done + 1; verdict = verdict_of (a.next_answer s j) }) s) (last s.controller.jobs j at)
     moved Source (Moves place n offset) =
         as_record (a.on_job q cid (λ k. record k { units_done = k.units_done + 1; verdict = verdict_of (a.next_answer s j) }) (a.moved Source (Moves place n offset) q cid s))
-        (last (map (λ (k : Job). if (k.q == q) && (k.entry.cid == cid) then record k { bytes = with_bytes k.bytes offset (a.page_bytes s.memory place n) } else k) s.device.jobs)
+        (last (map (λ (k : Job). if (k.q == q) && (k.entry.cid == cid) then record k { bytes = with_bytes k.bytes offset (a.page_bytes s.memory place n) } else k) s.controller.jobs)
         (record j { bytes = with_bytes j.bytes offset (a.page_bytes s.memory place n) })
-        (walked_one q cid (λ k. record k { bytes = with_bytes k.bytes offset (a.page_bytes s.memory place n) }) (λ k. refl) (λ k. refl) s.device.jobs j at))
+        (walked_one q cid (λ k. record k { bytes = with_bytes k.bytes offset (a.page_bytes s.memory place n) }) (λ k. refl) (λ k. refl) s.controller.jobs j at))
     moved Destination (Moves place n offset) = elim (option_is (job_at s q cid)) [
-      | inl e ↦ rw e (as_record (a.on_job q cid (λ k. record k { units_done = k.units_done + 1; verdict = verdict_of (a.next_answer s j) }) s) (last s.device.jobs j at))
+      | inl e ↦ rw e (as_record (a.on_job q cid (λ k. record k { units_done = k.units_done + 1; verdict = verdict_of (a.next_answer s j) }) s) (last s.controller.jobs j at))
       | inr (x, e) ↦
-          rw e (as_record (a.on_job q cid (λ k. record k { units_done = k.units_done + 1; verdict = verdict_of (a.next_answer s j) }) (a.on_memory (λ mem. with_page_bytes mem (place / 4096) (place % 4096) (take n (drop offset x.bytes))) s)) (last s.device.jobs j at))
+          rw e (as_record (a.on_job q cid (λ k. record k { units_done = k.units_done + 1; verdict = verdict_of (a.next_answer s j) }) (a.on_memory (λ mem. with_page_bytes mem (place / 4096) (place % 4096) (take n (drop offset x.bytes))) s)) (last s.controller.jobs j at))
     ]
 
 walk_left : (s : State) (q cid : ℕ) (outcome : WalkState) (touched : List ℕ) → Going s (events.Walk q cid) (events.Walked outcome touched) → WalkedTo q cid (a.after_walk q cid s) (verdict_of outcome)

@@ -31,7 +31,7 @@ reads_give_their_blocks =
 -- The image is the run's
 abbrev pub the_image_is_the_runs : Type 0
 the_image_is_the_runs =
-    (image : List ℕ) (made : List Made) (end : State) → TrustedRun image made end → end.device.image ≡ image_after image made
+    (image : List ℕ) (made : List Made) (end : State) → TrustedRun image made end → end.controller.image ≡ image_after image made
 
 -- A compare succeeds exactly where the blocks are then its draft's bytes
 abbrev pub blocks_of_request : Request → List ℕ → List ℕ
@@ -42,7 +42,7 @@ compares_tell_equality =
     (image : List ℕ) (earlier later : List Made) (m : Made) (end : State) (q cid : ℕ) (st : Status) (d : DraftContents) → TrustedRun image (earlier ++ m ∷ later) end
     → status_given m q cid ≡ Some st → IsTrue (is_compare m q cid) → draft_of q cid (drafts_of earlier) ≡ Some d
     → IsTrue (not (same_status st ABORT_REQUESTED || same_status st ABORTED_SQ_DELETION || same_status st LBA_OUT_OF_RANGE))
-    → st ≡ (if bytes_eq (gathered d.request.pieces d.data_pages) (blocks_of_request d.request m.before.device.image) then SUCCESS else COMPARE_FAILURE)
+    → st ≡ (if bytes_eq (gathered d.request.pieces d.data_pages) (blocks_of_request d.request m.before.controller.image) then SUCCESS else COMPARE_FAILURE)
 
 -- A read that was stopped: the blocks' bytes for so many counted bytes, and the draft's own for the rest. Its draft is the latest
 -- before it was collected: a command that was never fetched may stand behind one of its identifier that was (`worked_never_fetched`).

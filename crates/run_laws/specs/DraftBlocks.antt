@@ -14,7 +14,7 @@ abbrev pub image_after_steps : List ℕ → List Done → List ℕ
 image_after_steps image done = image_after image (made_by done)
 
 abbrev pub benches_write_their_blocks : Type 0
-benches_write_their_blocks = (image : List ℕ) (done : List Done) (end : Table) → TrustedBench image done end → end.world.device.image ≡ image_after_steps image done
+benches_write_their_blocks = (image : List ℕ) (done : List Done) (end : Table) → TrustedBench image done end → end.world.controller.image ≡ image_after_steps image done
 
 -- the drafts that a bench submitted, each as it kept it then, the latest first
 abbrev pub drafts_submitted : List Done → List DraftContents

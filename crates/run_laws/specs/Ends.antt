@@ -4,16 +4,16 @@ use Rattle.std.specs.Prelude.{◌≡◌, ◌⊎◌, ℕ, ◌==◌, nat_lt, Bool,
 use Rattle.entry_codec.specs.declared.status.Status.{Status}
 use Rattle.entry_codec.specs.declared.status.TheConstants.Status.{SUCCESS, ABORT_REQUESTED, ABORTED_SQ_DELETION, LBA_OUT_OF_RANGE, COMPARE_FAILURE}
 use Rattle.io_commands.specs.Values.{FinishedContents}
-use Rattle.machine_model.specs.{Events.{Event, Reply}, Image.Made, Refusals.{device_queue, conflicts, record_is, is_submitted}, State.{State, Answer}}
+use Rattle.machine_model.specs.{Events.{Event, Reply}, Image.Made, Refusals.{served_queue, conflicts, record_is, is_submitted}, State.{State, PostedCompletion}}
 use Rattle.machine_model.specs.{Step.Step, Trusted.{TrustedRun, is_reset}, declared.words.Reaped.{Reaped, TheVariants.{Empty, Done, AdminDone}}}
 use Rattle.run_laws.specs.Statuses.{status_given, has_cause, since_fetch, aborts, deletes, passes_image, is_compare}
 use Rattle.machine_model.specs.Events as events
 
 -- What a reap answers: the oldest answer of the queue, and never a rejection
-abbrev pub answers_of : State → ℕ → List Answer
-answers_of s q = option_map_or (λ at. at.answers) (device_queue s q) []
+abbrev pub answers_of : State → ℕ → List PostedCompletion
+answers_of s q = option_map_or (λ at. at.completions) (served_queue s q) []
 
-abbrev pub front : ℕ → List Answer → Reaped
+abbrev pub front : ℕ → List PostedCompletion → Reaped
 front q [] = Empty
 front q (answer ∷ rest) = if q == 0 then AdminDone answer.cid answer.status answer.dw0 else Done answer.cid answer.status
 

@@ -72,7 +72,7 @@ compares_by_their_drafts =
     (image : List ℕ) (earlier later : List Made) (m : Made) (end : State) (q cid : ℕ) (st : Status) (d : DraftContents) → TrustedRun image (earlier ++ m ∷ later) end
     → status_given m q cid ≡ Some st → draft_of q cid (drafts_of earlier) ≡ Some d → d.request.kind ≡ Compare
     → IsTrue (not (same_status st ABORT_REQUESTED || same_status st ABORTED_SQ_DELETION || same_status st LBA_OUT_OF_RANGE))
-    → st ≡ (if bytes_eq (gathered d.request.pieces d.data_pages) (blocks_of_request d.request m.before.device.image) then SUCCESS else COMPARE_FAILURE)
+    → st ≡ (if bytes_eq (gathered d.request.pieces d.data_pages) (blocks_of_request d.request m.before.controller.image) then SUCCESS else COMPARE_FAILURE)
 
 -- and no other command fails as a Compare: the latest draft of a command that does is one
 abbrev pub compare_failures_are_of_compares : Type 0

@@ -230,7 +230,7 @@ fn put_touched_word(out: &mut String, touched: &Touched) -> Result<(), AllocErro
 }
 
 /// Puts the answer of a walk, and the pages that it touched.
-fn put_device_answer(
+fn put_controller_answer(
     out: &mut String,
     state: WalkState,
     touched: &Touched,
@@ -296,7 +296,7 @@ fn put_answer(out: &mut String, reply: &Reply) -> Result<(), AllocError>
         } => put_reserved(out, *q, *cid, *data, *chain),
         Reply::Accepted => out.push_str("ok"),
         Reply::Fetched { cid, touched } => put_fetched(out, *cid, touched),
-        Reply::Walked { state, touched } => put_device_answer(out, *state, touched),
+        Reply::Walked { state, touched } => put_controller_answer(out, *state, touched),
         Reply::Completed { touched } => put_completed(out, touched),
         Reply::Reaps(what) => put_reaped(out, what),
         Reply::Collected(status) => put_collected(out, *status),

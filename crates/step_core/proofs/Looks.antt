@@ -11,17 +11,17 @@ use Rattle.controller_core.specs.declared.{look.ControllerStep.{ControllerStep, 
 use Rattle.controller_core.specs.declared.refusal.Refusal.{Refusal}
 use Rattle.host_core.specs.{Alone.alone, Looks.completion_waits}
 use Rattle.machine_model.specs.{Agreeing.{has_completions_at, is_absent_at}, Events.Reply, Refusals.{refusal_of, is_reaped, fetch_slot, post_slot}}
-use Rattle.machine_model.specs.{State.{State, HostQueue, DeviceQueue, outstanding_on}, Touch.touched_by, declared.words.HostState.HostState}
+use Rattle.machine_model.specs.{State.{State, HostQueue, ServedQueue, outstanding_on}, Touch.touched_by, declared.words.HostState.HostState}
 use Rattle.page_memory.specs.{Memory.{Memory, counted, page_of, pages_reached, TouchesMore}, Pages.byte_at}
 use Rattle.two_sides.proofs.{CompleteSteps.complete_refused_alike, FetchSteps.refuse_alike}
-use Rattle.two_sides.proofs.Frames.{IsKnown, controller_at, device_at, known, placed, there_ring}
+use Rattle.two_sides.proofs.Frames.{IsKnown, controller_at, served_at, known, placed, there_ring}
 use Rattle.two_sides.proofs.{Places.{completions_seen, fetch_slot_is, post_slot_is, shows}, WalkSteps.walk_refused_alike}
-use Rattle.two_sides.specs.{Serving.{why_of, fetch_reply, walk_reply, complete_reply}, Sides.{Sides, state_of, device_queue_of}, Ties.{ShareQueues, IsWorld}}
+use Rattle.two_sides.specs.{Serving.{why_of, fetch_reply, walk_reply, complete_reply}, Sides.{Sides, state_of, served_queue_of}, Ties.{ShareQueues, IsWorld}}
 use Rattle.step_core.specs.Looks.{event_of, has_completion, IsAtRest}
 use Rattle.step_core.specs.Rings.{fetching_of, posting_of, ShowsHalves, TellsRung, TellsFetching, TellsPosting, IsPosting}
 use Rattle.step_core.specs.{Touching.{touches_more, LooksAtMost}, declared.rings.{FetchPositions.FetchPositions, PostPositions.PostPositions, Rings.Rings}}
 use Rattle.admin_commands.specs.Verdicts.{is_absent}
-use Rattle.queue_pair.specs.{Lists.expected_phase, Memory.completion_place, Positions.host_positions, Rings.DeviceSide, Slots.distance}
+use Rattle.queue_pair.specs.{Lists.expected_phase, Memory.completion_place, Positions.host_positions, Rings.ControllerSide, Slots.distance}
 use Rattle.queue_pair.specs.declared.positions.HostPositions.{HostPositions}
 use Rattle.entry_codec.specs.declared.submission.SubEntry.{SubEntry}
 use Rattle.controller_walk.specs.declared.walk.WalkState.{WalkState}
@@ -125,17 +125,17 @@ pub record IsLook (s : Sides) (q : ℕ) (h : HostQueue) (c : ControllerQueue) (r
   pub completion : rings.completion ≡ posting_of c
 
 module _ (s : Sides) (q : ℕ) (h : HostQueue) (c : ControllerQueue) (rings : Rings) (l : IsLook s q h c rings) where
-  queue : DeviceQueue
-  queue = device_queue_of (byte_at s.pages) h.ring c
+  queue : ServedQueue
+  queue = served_queue_of (byte_at s.pages) h.ring c
 
-  beside : slice_get (state_of s).device.queues q ≡ Some (device_queue_of (byte_at s.pages) h.ring c)
-  beside = device_at s q h c l.host l.controller
+  beside : slice_get (state_of s).controller.queues q ≡ Some (served_queue_of (byte_at s.pages) h.ring c)
+  beside = served_at s q h c l.host l.controller
 
-  absent : is_absent_at (state_of s).device.queues q ≡ is_absent c.state
-  absent = ap (λ (o : Option DeviceQueue). option_map_or (λ at. is_absent at.state) o true) beside
+  absent : is_absent_at (state_of s).controller.queues q ≡ is_absent c.state
+  absent = ap (λ (o : Option ServedQueue). option_map_or (λ at. is_absent at.state) o true) beside
 
-  there : has_completions_at (state_of s).device.queues q ≡ c.cq_there
-  there = ap (λ (o : Option DeviceQueue). option_map_or (λ at. at.cq_there) o false) beside
+  there : has_completions_at (state_of s).controller.queues q ≡ c.cq_there
+  there = ap (λ (o : Option ServedQueue). option_map_or (λ at. at.cq_there) o false) beside
 
   none_if : (b : Bool) (at : FetchPositions) → is_some (if b then None else Some at) ≡ not b
   none_if true at = refl
@@ -152,26 +152,26 @@ module _ (s : Sides) (q : ℕ) (h : HostQueue) (c : ControllerQueue) (rings : Ri
         completion = ap is_some l.completion ∙ some_if c.cq_there _ ∙ sym there;
       }
 
-  rung : (b : Bool) → is_absent c.state ≡ b → is_absent c.state ≡ false → option_map_or (λ (at : DeviceQueue). at.rung) (slice_get (state_of s).device.queues q) 0 ≡ distance c.device.entries c.device.ring.head c.device.ring.bell
+  rung : (b : Bool) → is_absent c.state ≡ b → is_absent c.state ≡ false → option_map_or (λ (at : ServedQueue). at.rung) (slice_get (state_of s).controller.queues q) 0 ≡ distance c.controller.entries c.controller.ring.head c.controller.ring.bell
   rung b is has =
-      ap (λ (o : Option DeviceQueue). option_map_or (λ (at : DeviceQueue). at.rung) o 0) beside
-      ∙ ap (λ (b : Bool). if b then 0 else distance c.device.entries c.device.ring.head c.device.ring.bell) has
+      ap (λ (o : Option ServedQueue). option_map_or (λ (at : ServedQueue). at.rung) o 0) beside
+      ∙ ap (λ (b : Bool). if b then 0 else distance c.controller.entries c.controller.ring.head c.controller.ring.bell) has
 
   pub tells_rung : TellsRung (state_of s) q rings
   tells_rung = subst (λ (o : Option FetchPositions). IfSome o Tells) (sym l.submission) (go (is_absent c.state) refl)
     where
       Tells : FetchPositions → Type 0
-      Tells at = distance s.host.entries at.head at.tail_doorbell ≡ option_map_or (λ (queue : DeviceQueue). queue.rung) (slice_get (state_of s).device.queues q) 0
+      Tells at = distance s.host.entries at.head at.tail_doorbell ≡ option_map_or (λ (queue : ServedQueue). queue.rung) (slice_get (state_of s).controller.queues q) 0
 
-      go : (b : Bool) → is_absent c.state ≡ b → IfSome (if b then None else Some (record { head = c.device.ring.head; tail_doorbell = c.device.ring.bell })) Tells
+      go : (b : Bool) → is_absent c.state ≡ b → IfSome (if b then None else Some (record { head = c.controller.ring.head; tail_doorbell = c.controller.ring.bell })) Tells
       go true is = tt
       go false is =
-          ap (λ (n : ℕ). distance n c.device.ring.head c.device.ring.bell) (sym (placed s l.world q h c l.host l.controller).share.entries) ∙ sym (rung false is is)
+          ap (λ (n : ℕ). distance n c.controller.ring.head c.controller.ring.bell) (sym (placed s l.world q h c l.host l.controller).share.entries) ∙ sym (rung false is is)
 
   pub tells_fetching : s.trusted ≡ true → TellsFetching (state_of s) q rings
   tells_fetching t = subst (λ (o : Option FetchPositions). IfSome o (λ at. at.head ≡ fetch_slot (state_of s) q)) (sym l.submission) (go (is_absent c.state) refl)
     where
-      go : (b : Bool) → is_absent c.state ≡ b → IfSome (if b then None else Some (record { head = c.device.ring.head; tail_doorbell = c.device.ring.bell })) (λ (at : FetchPositions). at.head ≡ fetch_slot (state_of s) q)
+      go : (b : Bool) → is_absent c.state ≡ b → IfSome (if b then None else Some (record { head = c.controller.ring.head; tail_doorbell = c.controller.ring.bell })) (λ (at : FetchPositions). at.head ≡ fetch_slot (state_of s) q)
       go true is = tt
       go false is = sym (fetch_slot_is (state_of s) s q h c (shows s q h c l.host l.controller) (known s l.world t q h c l.host l.controller) is)
 
@@ -185,13 +185,13 @@ module _ (s : Sides) (q : ℕ) (h : HostQueue) (c : ControllerQueue) (rings : Ri
       head = ap (λ (at : HostPositions). at.completion_head) l.positions
 
       go : (b : Bool) → c.cq_there ≡ b
-          → IfSome (if b then Some (record { tail = c.device.ring.tail; phase = c.device.ring.phase; head_doorbell = c.device.ring.known_head }) else None) (λ (at : PostPositions). IsPosting (state_of s) q rings at)
+          → IfSome (if b then Some (record { tail = c.controller.ring.tail; phase = c.controller.ring.phase; head_doorbell = c.controller.ring.known_head }) else None) (λ (at : PostPositions). IsPosting (state_of s) q rings at)
       go false is = tt
       go true is =
           record {
             tail = sym (post_slot_is (state_of s) s q h c (shows s q h c l.host l.controller) k is);
             heard = (k.rings (there_ring h c is)).heard ∙ sym head;
-            phase = ap (λ (at : HostPositions). at.phase) l.positions ∙ ((k.rings (there_ring h c is)).expected ∙ ap (λ (n : ℕ). expected_phase n c.device.ring.tail c.device.ring.phase) (sym head));
+            phase = ap (λ (at : HostPositions). at.phase) l.positions ∙ ((k.rings (there_ring h c is)).expected ∙ ap (λ (n : ℕ). expected_phase n c.controller.ring.tail c.controller.ring.phase) (sym head));
           }
 
 -- all that a look tells of a state
@@ -370,11 +370,11 @@ mapped_few : {X : Type 0} (f : X → ℕ) (o : Option X) (most : ℕ) → ((x : 
 mapped_few f None most few = omega arith
 mapped_few f (Some x) most few = few x
 
-post_few : (m : Memory) (device : DeviceSide) → post_touches m device ≤ 1
-post_few m device = either_few _ 1 0 1 (omega arith) (omega arith)
+post_few : (m : Memory) (controller : ControllerSide) → post_touches m controller ≤ 1
+post_few m controller = either_few _ 1 0 1 (omega arith) (omega arith)
 
 answer_few : (queues : List ControllerQueue) (m : Memory) (q : ℕ) → answer_touches queues m q ≤ 1
-answer_few queues m q = mapped_few (λ queue. post_touches m queue.device) (slice_get queues q) 1 (λ queue. post_few m queue.device)
+answer_few queues m q = mapped_few (λ queue. post_touches m queue.controller) (slice_get queues q) 1 (λ queue. post_few m queue.controller)
 
 entry_few : (c : Contents) (m : Memory) (q : ℕ) (e : SubEntry) → entry_touches c m q e ≤ 2
 entry_few c m q e = either_few _ (1 + answer_touches c.queues m q) 1 2 (omega (arith, answer_few c.queues m q)) (omega arith)

@@ -8,21 +8,21 @@ use Rattle.step_core.specs.declared.rings.{FetchPositions.FetchPositions, PostPo
 
 -- where a queue of the controller stands, as far as it is there
 abbrev pub fetching_of : ControllerQueue → Option FetchPositions
-fetching_of c = if is_absent c.state then None else Some (record { head = c.device.ring.head; tail_doorbell = c.device.ring.bell })
+fetching_of c = if is_absent c.state then None else Some (record { head = c.controller.ring.head; tail_doorbell = c.controller.ring.bell })
 
 abbrev pub posting_of : ControllerQueue → Option PostPositions
 posting_of c =
-    if c.cq_there then Some (record { tail = c.device.ring.tail; phase = c.device.ring.phase; head_doorbell = c.device.ring.known_head }) else None
+    if c.cq_there then Some (record { tail = c.controller.ring.tail; phase = c.controller.ring.phase; head_doorbell = c.controller.ring.known_head }) else None
 
 -- the halves that the controller has
 pub record ShowsHalves (s : State) (q : ℕ) (rings : Rings) : Type 0 where
-  pub submission : is_some rings.submission ≡ not (is_absent_at s.device.queues q)
-  pub completion : is_some rings.completion ≡ has_completions_at s.device.queues q
+  pub submission : is_some rings.submission ≡ not (is_absent_at s.controller.queues q)
+  pub completion : is_some rings.completion ≡ has_completions_at s.controller.queues q
 
 -- as many entries were rung and not fetched as lie from the controller's head to the tail that was rung
 abbrev pub TellsRung : State → ℕ → Rings → Type 0
 TellsRung s q rings =
-    IfSome rings.submission (λ at. distance s.entries at.head at.tail_doorbell ≡ option_map_or (λ queue. queue.rung) (slice_get s.device.queues q) 0)
+    IfSome rings.submission (λ at. distance s.entries at.head at.tail_doorbell ≡ option_map_or (λ queue. queue.rung) (slice_get s.controller.queues q) 0)
 
 -- Where nothing was forged: the controller's submission head is where the machine fetches next,
 abbrev pub TellsFetching : State → ℕ → Rings → Type 0

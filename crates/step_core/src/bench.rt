@@ -132,7 +132,7 @@ impl<A: Allocator + Copy> Bench<A> {
 
     /// The image as it is.
     pub fn image(&self) -> &Image<A>
-        ensures { result.now ≡ self.now.table.world.device.image }
+        ensures { result.now ≡ self.now.table.world.controller.image }
     {
         self.kept.world.image()
     }

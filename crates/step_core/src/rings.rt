@@ -56,7 +56,7 @@ fn fetching(queue: &ControllerQueue) -> Option<FetchPositions>
     match queue.state {
         SqState::Absent => None,
         SqState::Live | SqState::Stopping => {
-            let at = queue.device.positions();
+            let at = queue.controller.positions();
             Some(FetchPositions {
                 head: at.submission_head,
                 tail_doorbell: at.tail_doorbell,
@@ -72,7 +72,7 @@ fn posting(queue: &ControllerQueue) -> Option<PostPositions>
     if !queue.cq_there {
         return None;
     }
-    let at = queue.device.positions();
+    let at = queue.controller.positions();
     Some(PostPositions {
         tail: at.completion_tail,
         phase: at.phase,

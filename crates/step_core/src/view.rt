@@ -40,7 +40,7 @@ impl<A: Allocator> World<A> {
 
     /// The image as it is.
     pub fn image(&self) -> &Image<A>
-        ensures { result.now ≡ self.now.state.device.image }
+        ensures { result.now ≡ self.now.state.controller.image }
     {
         self.controller.image()
     }

@@ -205,7 +205,7 @@ event cs s e reply ok c holds share =
 
 -- a change that leaves where the halves begin, or one of another queue
 abbrev LeavesPlaces : (ControllerQueue → ControllerQueue) → Type 0
-LeavesPlaces g = (c : ControllerQueue) → ((g c).device.sq ≡ c.device.sq) × ((g c).device.cq ≡ c.device.cq)
+LeavesPlaces g = (c : ControllerQueue) → ((g c).controller.sq ≡ c.controller.sq) × ((g c).controller.cq ≡ c.controller.cq)
 
 pub places_left : (n k : ℕ) (g : ControllerQueue → ControllerQueue) (hs : List HostQueue) (cs : List ControllerQueue) → LeavesPlaces g → SharesAdmin n hs cs → SharesAdmin n hs (change k g cs)
 places_left n k g [] cs leaves h = tt
@@ -227,11 +227,11 @@ places_past n (suc k) g (x ∷ hs) (c ∷ cs) other h = h
 
 tail_leaves : (v : ℕ) → LeavesPlaces (with_tail v)
 tail_leaves v c =
-    cond_both (nat_lt v c.device.entries) (with_side (record c.device { ring = hearing_tail v c.device.ring }) c) c (λ x. (x.device.sq ≡ c.device.sq) × (x.device.cq ≡ c.device.cq)) (λ e. (refl, refl)) (λ e. (refl, refl))
+    cond_both (nat_lt v c.controller.entries) (with_side (record c.controller { ring = hearing_tail v c.controller.ring }) c) c (λ x. (x.controller.sq ≡ c.controller.sq) × (x.controller.cq ≡ c.controller.cq)) (λ e. (refl, refl)) (λ e. (refl, refl))
 
 head_leaves : (v : ℕ) → LeavesPlaces (with_head v)
 head_leaves v c =
-    cond_both (is_in_range c.device.entries c.device.ring.known_head c.device.ring.tail v) (with_side (record c.device { ring = hearing_head v c.device.ring }) c) c (λ x. (x.device.sq ≡ c.device.sq) × (x.device.cq ≡ c.device.cq))
+    cond_both (is_in_range c.controller.entries c.controller.ring.known_head c.controller.ring.tail v) (with_side (record c.controller { ring = hearing_head v c.controller.ring }) c) c (λ x. (x.controller.sq ≡ c.controller.sq) × (x.controller.cq ≡ c.controller.cq))
     (λ e. (refl, refl)) (λ e. (refl, refl))
 
 -- what holds of its queues where it heard nothing, and where it heard a tail or a head

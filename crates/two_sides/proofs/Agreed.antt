@@ -7,7 +7,7 @@ use Rattle.std.proofs.lemmas.{Bool.{true≢false, or_parts, cases_Bool, and_part
 use Rattle.std.specs.{List.{AllByRecursion, list_all}, Option.option_map_or}
 use Rattle.machine_model.proofs.{Headline.{sound_from_both, steps_keep, runs_are_sound, in_limits, limits_of}, HostLeaves.host_leaves}
 use Rattle.machine_model.proofs.Moves.{host_moves, drafted_record, sent_record, creates_cq, creates_sq}
-use Rattle.machine_model.proofs.Owned.{holds_from_sound, taken_from_out, all_reset, all_reset_queues, lost_keeps, reset_length, no_waiting, no_answering, reset_admin_commands, reset_device_length}
+use Rattle.machine_model.proofs.Owned.{holds_from_sound, taken_from_out, all_reset, all_reset_queues, lost_keeps, reset_length, no_waiting, no_admin_completions, reset_admin_commands, reset_controller_length}
 use Rattle.machine_model.proofs.Sound.{asked_from_fit}
 use Rattle.machine_model.proofs.Steps.{length-with_pages, first_fails, rest_fails, unrefused, length-in_store, Accepts, IsKept, each_step, kept_anyway, part_left}
 use Rattle.machine_model.proofs.TokensKept.{AreAdminHalves, IsSizedIfIo, sized_of, reset_pairs, reset_tokens, reset_command, reset_places, reset_heads, same_length, halves_fit, live_is, tokens_to}
@@ -16,7 +16,7 @@ use Rattle.machine_model.specs.{Claims.IsSound, Events.{Event, Reply}, Memory.{w
 use Rattle.machine_model.specs.{Positions.IsInRing, Proper.IsProper}
 use Rattle.machine_model.specs.{Refusals.{refusal_of, is_live, has_sq, has_cq, job_at, causes, no_identifier, is_job, job_is, post_page, is_submitted}, Run.Run}
 use Rattle.machine_model.specs.{Standing.{CommandStands, IsSized}, State.{State, HostQueue, Record, Job, outstanding_on, is_at, with_record, without_record}}
-use Rattle.machine_model.specs.Step.{Step, Refuses, MayRefuse, Answers, IsController, LeavesByController, LeavesByHost, IsNewIdentifier, allocates, reaped, touched_by_refusal, is_exact, HostPart, KeepsDevice}
+use Rattle.machine_model.specs.Step.{Step, Refuses, MayRefuse, Answers, IsController, LeavesByController, LeavesByHost, IsNewIdentifier, allocates, reaped, touched_by_refusal, is_exact, HostPart, KeepsController}
 use Rattle.machine_model.specs.{Work.Work, declared.words.{HostState.TheVariants.Live, Phase.TheVariants.Held, Refusal.Refusal, Work.TheVariants.Io}}
 use Rattle.two_sides.proofs.{Along.{along_proper, each_proper_step, stays_trusted}, Heads.heads_at_opening}
 use Rattle.two_sides.proofs.JobLaws.{stood_has_chains, stood_has_jobs, stood_keeps_chains, stood_keeps_lists, stood_linked, stood_stays, stood_keeps_pages_whole}
@@ -91,7 +91,7 @@ reset_is_step : (s : State) → Step s events.Reset events.Accepted (a.after_res
 reset_is_step s = let permits : (b : Bool) → MatchBool (b || true) (refusal_of s events.Reset ≡ None × Unit {0}) ⊥ = λ b. grind arith in (tt, permits s.trusted, refl)
 
 -- from what it looks at: the halves of queue 0, the requests and identifiers of records, and the limits
-recovered : (s : State) → IsSound s → 0 < s.entries → length s.host.queues ≤ 65536 → length s.memory ≤ 65536 → length s.device.queues ≡ length s.host.queues → AreAdminHalves s.entries s.host.queues
+recovered : (s : State) → IsSound s → 0 < s.entries → length s.host.queues ≤ 65536 → length s.memory ≤ 65536 → length s.controller.queues ≡ length s.host.queues → AreAdminHalves s.entries s.host.queues
     → AllByRecursion IsSizedIfIo s.host.records → AllByRecursion (λ r. r.cid < s.entries - 1) s.host.records → SidesAgree (a.after_reset s)
 recovered s sound some few small same whole sized low =
     let fresh : IsInRing s.entries fresh_host_ring = record { head = some; known_head = some; tail = some } in
@@ -101,17 +101,17 @@ recovered s sound some few small same whole sized low =
       some_entries = some;
       few_queues = subst (λ (n : ℕ). n ≤ 65536) (sym (reset_length s.host.queues)) few;
       few_pages = subst (λ (n : ℕ). n ≤ 65536) (sym (length-with_pages (zeroed_pages (a.admin_pages s.host.queues)) s.memory)) small;
-      pairs = reset_pairs s.entries s.host.queues s.device.queues same whole;
+      pairs = reset_pairs s.entries s.host.queues s.controller.queues same whole;
       job_queues = λ q has. absurd (omega (arith, has));
       job_service = λ q has. absurd (omega (arith, has));
-      admin_commands = rw (no_waiting s.device.queues, no_answering s.device.queues) (reset_admin_commands (a.reset_records s.host.records));
-      tokens = tokens_to (a.reset_records s.host.records) (a.reset_queues s.host.queues) (a.reset_device_queues s.device.queues) []
-          (rw (no_waiting s.device.queues, no_answering s.device.queues) (reset_tokens (a.reset_records s.host.records) s.host.queues s.device.queues same));
-      commands = all_reset IsSizedIfIo (CommandStands (with_pages (zeroed_pages (a.admin_pages s.host.queues)) s.memory) (a.reset_device_queues s.device.queues) [])
-          (λ r io is. reset_command (with_pages (zeroed_pages (a.admin_pages s.host.queues)) s.memory) (a.reset_device_queues s.device.queues) [] r is) s.host.records sized;
-      places = reset_places (a.reset_queues s.host.queues) (a.reset_records s.host.records) s.device.queues;
+      admin_commands = rw (no_waiting s.controller.queues, no_admin_completions s.controller.queues) (reset_admin_commands (a.reset_records s.host.records));
+      tokens = tokens_to (a.reset_records s.host.records) (a.reset_queues s.host.queues) (a.reset_served_queues s.controller.queues) []
+          (rw (no_waiting s.controller.queues, no_admin_completions s.controller.queues) (reset_tokens (a.reset_records s.host.records) s.host.queues s.controller.queues same));
+      commands = all_reset IsSizedIfIo (CommandStands (with_pages (zeroed_pages (a.admin_pages s.host.queues)) s.memory) (a.reset_served_queues s.controller.queues) [])
+          (λ r io is. reset_command (with_pages (zeroed_pages (a.admin_pages s.host.queues)) s.memory) (a.reset_served_queues s.controller.queues) [] r is) s.host.records sized;
+      places = reset_places (a.reset_queues s.host.queues) (a.reset_records s.host.records) s.controller.queues;
       units_left = tt;
-      heads = reset_heads s.entries s.host.queues (a.reset_records s.host.records) s.device.queues
+      heads = reset_heads s.entries s.host.queues (a.reset_records s.host.records) s.controller.queues
           (all_reset (λ r. r.cid < s.entries - 1) (λ r. r.cid < s.entries - 1) (λ r io is. subst (λ (c : ℕ). c < s.entries - 1) (sym (lost_keeps.cid r)) is) s.host.records low);
     }
   where
@@ -121,9 +121,9 @@ recovered s sound some few small same whole sized low =
 
 agrees_after_reset : (s : State) → SidesAgree s → SidesAgree (a.after_reset s)
 agrees_after_reset s agree =
-    recovered s agree.sound agree.some_entries agree.few_queues agree.few_pages (same_length s.entries s.host.queues s.device.queues agree.pairs)
-    (halves_fit s.entries s.host.queues s.device.queues agree.pairs agree.sound.admin)
-    (all_in (CommandStands s.memory s.device.queues s.device.jobs) IsSizedIfIo s.host.records (λ r within p. sized_of s.memory s.device.queues s.device.jobs r p) agree.commands) agree.heads.ids
+    recovered s agree.sound agree.some_entries agree.few_queues agree.few_pages (same_length s.entries s.host.queues s.controller.queues agree.pairs)
+    (halves_fit s.entries s.host.queues s.controller.queues agree.pairs agree.sound.admin)
+    (all_in (CommandStands s.memory s.controller.queues s.controller.jobs) IsSizedIfIo s.host.records (λ r within p. sized_of s.memory s.controller.queues s.controller.jobs r p) agree.commands) agree.heads.ids
 
 -- whatever was forged
 pub reset_recovers : resets_recover
@@ -291,7 +291,7 @@ left_by : (s next : State) (e : Event) → IsController e ≡ false ⊎ (is_exac
 left_by s next e (inr exact) = (next, judged _ _ exact refl)
 left_by s next e (inl host) = elim (cases_Bool (is_exact e s.trusted)) [
   | inl exact ↦ (next, judged _ _ exact refl)
-  | inr loose ↦ (record next { device = s.device }, unjudged _ _ loose (unjudged _ _ host (record { part = refl; memory = refl; device = record { image = refl; queues = refl } })))
+  | inr loose ↦ (record next { controller = s.controller }, unjudged _ _ loose (unjudged _ _ host (record { part = refl; memory = refl; controller = record { image = refl; queues = refl } })))
 ]
 
 -- a reply that no cause is against
@@ -318,7 +318,7 @@ walk_allowed s q cid none =
 
 pub has_unit : (s : State) (q cid : ℕ) (j : Job) → s.trusted ≡ true → IsInOrder s → job_at s q cid ≡ Some j → j.verdict ≡ None → (j.q == 0) ≡ false → (act : Act) × (next_unit s j ≡ Some act)
 has_unit s q cid j t order found unfinished io =
-    let some : (q == 0) ≡ false = ap (λ (k : ℕ). k == 0) (sym (eqb-true j.q q (and_parts (j.q == q) (j.entry.cid == cid) (found_is (is_job q cid) s.device.jobs j found)).0)) ∙ io in
+    let some : (q == 0) ≡ false = ap (λ (k : ℕ). k == 0) (sym (eqb-true j.q q (and_parts (j.q == q) (j.entry.cid == cid) (found_is (is_job q cid) s.controller.jobs j found)).0)) ∙ io in
     there (units (course_of s j)) j.units_done ((stood_has_jobs s (stood_of s (order.agree t)) q cid j (grind (arith, nat_tests, some)) found).unit_left unfinished)
   where
     there : (acts : List Act) (k : ℕ) → k < length acts → (act : Act) × (slice_get acts k ≡ Some act)
@@ -462,28 +462,28 @@ within_event queues pages s e reply ok c h =
 
 -- And there are as many queues on either side
 
-device_kept : (t c : Bool) (old next new : State) (A : Type 0) → t ≡ false → MatchBool t A (MatchBool c (LeavesByController old next new) (LeavesByHost old next new)) → KeepsDevice old new
-device_kept true c old next new A e h = absurd (true≢false e)
-device_kept false true old next new A e h = h.device
-device_kept false false old next new A e h = h.device
+controller_kept : (t c : Bool) (old next new : State) (A : Type 0) → t ≡ false → MatchBool t A (MatchBool c (LeavesByController old next new) (LeavesByHost old next new)) → KeepsController old new
+controller_kept true c old next new A e h = absurd (true≢false e)
+controller_kept false true old next new A e h = h.controller
+controller_kept false false old next new A e h = h.controller
 
-paired_step : (old : State) (e : Event) (reply : Reply) (new : State) → Step old e reply new → (old.trusted ≡ true → SidesAgree old) → length new.host.queues ≡ length old.host.queues → length old.device.queues ≡ length old.host.queues
-    → length new.device.queues ≡ length new.host.queues
-paired_step old e (events.Refused why touched) new step agree hosts h = subst (λ (s : State). length s.device.queues ≡ length s.host.queues) (sym step.2) h
-paired_step old (events.Forge q slot bytes) reply new step agree hosts h = step.2.device.queues ∙ h ∙ sym hosts
+paired_step : (old : State) (e : Event) (reply : Reply) (new : State) → Step old e reply new → (old.trusted ≡ true → SidesAgree old) → length new.host.queues ≡ length old.host.queues → length old.controller.queues ≡ length old.host.queues
+    → length new.controller.queues ≡ length new.host.queues
+paired_step old e (events.Refused why touched) new step agree hosts h = subst (λ (s : State). length s.controller.queues ≡ length s.host.queues) (sym step.2) h
+paired_step old (events.Forge q slot bytes) reply new step agree hosts h = step.2.controller.queues ∙ h ∙ sym hosts
 paired_step old events.Reset reply new step agree hosts h =
-    subst (λ (s : State). length s.device.queues ≡ length s.host.queues) (sym (reset_leaves old reply new step)) (reset_device_length old.device.queues ∙ h ∙ sym (reset_length old.host.queues))
+    subst (λ (s : State). length s.controller.queues ≡ length s.host.queues) (sym (reset_leaves old reply new step)) (reset_controller_length old.controller.queues ∙ h ∙ sym (reset_length old.host.queues))
 paired_step old e (events.Reserved d) new step agree hosts h = elim (cases_Bool old.trusted) [
   | inl t ↦
       let after = (step_keeps_agreement old e (events.Reserved d) new step (stays_trusted old e (events.Reserved d) new step refl t)).1 (agree t) in
-      same_length new.entries new.host.queues new.device.queues after.pairs
-  | inr t ↦ (device_kept old.trusted (IsController e) old (a.after old e (events.Reserved d)) new _ t step.2).queues ∙ h ∙ sym hosts
+      same_length new.entries new.host.queues new.controller.queues after.pairs
+  | inr t ↦ (controller_kept old.trusted (IsController e) old (a.after old e (events.Reserved d)) new _ t step.2).queues ∙ h ∙ sym hosts
 ]
 paired_step old e reply new step agree hosts h = elim (cases_Bool old.trusted) [
   | inl t ↦
       let after = (step_keeps_agreement old e reply new step (stays_trusted old e reply new step refl t)).1 (agree t) in
-      same_length new.entries new.host.queues new.device.queues after.pairs
-  | inr t ↦ (device_kept old.trusted (IsController e) old (a.after old e reply) new _ t step.2).queues ∙ h ∙ sym hosts
+      same_length new.entries new.host.queues new.controller.queues after.pairs
+  | inr t ↦ (controller_kept old.trusted (IsController e) old (a.after old e reply) new _ t step.2).queues ∙ h ∙ sym hosts
 ]
 
 -- The statements
@@ -498,7 +498,7 @@ openings_recover pages queues n s image opens =
       some_entries = agree.some_entries;
       few_queues = agree.few_queues;
       few_pages = agree.few_pages;
-      paired = same_length n (opening pages queues n s image).host.queues (opening pages queues n s image).device.queues agree.pairs;
+      paired = same_length n (opening pages queues n s image).host.queues (opening pages queues n s image).controller.queues agree.pairs;
     }
 
 pub recovery_kept : (old : State) (e : Event) (reply : Reply) (new : State) → Step old e reply new → (old.trusted ≡ true → SidesAgree old) → CanRecover old → CanRecover new

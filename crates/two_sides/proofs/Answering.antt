@@ -6,7 +6,7 @@ use Rattle.std.{proofs.lemmas.Bool.{true≢false, not-false, Decides.nat_tests},
 use Rattle.machine_model.proofs.{Counting.held_once, Kept.reaped_has_cq, Steps.{in_store-with_bytes, unrefused}}
 use Rattle.machine_model.specs.{After.{answered, change, after, on_memory}, Always.HasHalves, Memory.is_in}
 use Rattle.machine_model.specs.Refusals.{fetch_slot, host_queue, in_service, post_slot, slot_offset, slot_page, entry_of, is_reaped, seen_entry, refusal_of}
-use Rattle.machine_model.specs.{State.{State, HostQueue, Answer, DeviceQueue}, Step.{Step, host_part}}
+use Rattle.machine_model.specs.{State.{State, HostQueue, PostedCompletion, ServedQueue}, Step.{Step, host_part}}
 use Rattle.admin_commands.specs.Verdicts.{is_absent}
 use Rattle.controller_core.specs.{Answering.{completion_by, memory_posted, page_posted, post_refusal, with_answer}, Doorbells.{with_side, with_head}}
 use Rattle.controller_core.specs.declared.queue.ControllerQueue.{ControllerQueue}
@@ -16,8 +16,8 @@ use Rattle.two_sides.proofs.{Agreed.recovery_kept, Assembling.{ends_in_range, si
 use Rattle.two_sides.proofs.Frames.{SparesQueue, SparesSubmitted, apart_from_queues, halves_apart, own_halves_apart, one_queue, one_stands, IsKnown, queue_ring, controller_at, known, reaped_ring, half_in, half_lies, tied_of, queue_page_in}
 use Rattle.two_sides.proofs.JobLaws.{length-completion_bytes}
 use Rattle.two_sides.proofs.Places.{Shows, map-append, fetch_slot_is, post_slot_is, own_page, in_ring, completion_slot_page, heads_heard, HasAnswer, answer_there, has_answer, head_below, seen_first, seen_none}
-use Rattle.two_sides.proofs.{Provided.{all_append, all_at}, Shared.length-device, Untouched.bytes_elsewhere}
-use Rattle.two_sides.specs.Sides.{Sides, answer_of, completions_between, device_queue_of, present, state_of, device_queues_of}
+use Rattle.two_sides.proofs.{Provided.{all_append, all_at}, Shared.length-controller, Untouched.bytes_elsewhere}
+use Rattle.two_sides.specs.Sides.{Sides, posted_completion, completions_between, served_queue_of, present, state_of, served_queues_of}
 use Rattle.two_sides.specs.Stepping.{LeavesPages, completion_slots_are_in, forged, forged_entries_step, served}
 use Rattle.two_sides.specs.Ties.{HeadsFollow, IsWorld, QueueStands, RingsStand, ShareQueue, has_ring, AllQueuesStand, AreTied, AreSides, first_completion_page}
 use Rattle.page_ledger.specs.Owners.{is_among, pages_from}
@@ -25,10 +25,10 @@ use Rattle.page_memory.{proofs.Bytes.bytes_missing, specs.{Memory.{Memory, writt
 use Rattle.page_memory.specs.declared.page.Half.TheVariants.{Submission, Completion}
 use Rattle.host_core.proofs.{PageOwners.among-from, QueueLists.{page-written, place-written}}
 use Rattle.queue_pair.proofs.Halves.{entries_agree, completion_there, pages_agree}
-use Rattle.queue_pair.proofs.Rings.{answers_append, next_below, phases_kept, tie_kept_by_post, tie_kept_by_advance, told_alike}
-use Rattle.queue_pair.specs.{Lists.{HasPhases, answers_between, expected_phase}, Members.change as change_members}
+use Rattle.queue_pair.proofs.Rings.{completions_append, next_below, phases_kept, tie_kept_by_post, tie_kept_by_advance, told_alike}
+use Rattle.queue_pair.specs.{Lists.{HasPhases, completions_from, expected_phase}, Members.change as change_members}
 use Rattle.queue_pair.specs.Memory.{half_pages, completion_page, completion_place, completion_slot}
-use Rattle.queue_pair.specs.{Rings.{DeviceSide, hearing_head, knowing, next_head, next_phase}, Slots.{is_full, is_in_range, next_slot}}
+use Rattle.queue_pair.specs.{Rings.{ControllerSide, hearing_head, knowing, next_head, next_phase}, Slots.{is_full, is_in_range, next_slot}}
 use Rattle.slot_table.proofs.Rows.{option_is}
 
 -- A completion that the controller posts is the machine's answer, and leaves rings that stand.
@@ -59,8 +59,8 @@ slot_shown pages cq slot bytes pool there count =
     ∙ place-written pages (completion_place cq slot) bytes (subst (λ (p : ℕ). is_in pages p ≡ true) (sym page) there) (omega (arith, offset, count)) pool
 
 -- what a completion that was not refused tells
-pub post_room : (m : Memory) (device : DeviceSide) → post_refusal m device ≡ None → (is_full device.entries device.ring.known_head device.ring.tail ≡ false) × (completion_slot m device.cq device.ring.tail ≢ None)
-post_room m device none = go (is_full device.entries device.ring.known_head device.ring.tail) (completion_slot m device.cq device.ring.tail) none
+pub post_room : (m : Memory) (controller : ControllerSide) → post_refusal m controller ≡ None → (is_full controller.entries controller.ring.known_head controller.ring.tail ≡ false) × (completion_slot m controller.cq controller.ring.tail ≢ None)
+post_room m controller none = go (is_full controller.entries controller.ring.known_head controller.ring.tail) (completion_slot m controller.cq controller.ring.tail) none
   where
     go : (full : Bool) (slot : Option (List ℕ)) → (if full then Some refusal.Full else if is_none slot then Some refusal.SlotOut else None) ≡ None → (full ≡ false) × (slot ≢ None)
     go false (Some bytes) e = (refl, λ none. cc)
@@ -77,7 +77,7 @@ answer_shares n i h c share =
         most = share.side.most;
         head = share.side.head;
         bell = share.side.bell;
-        tail = next_below c.device.entries c.device.ring.tail share.side.tail;
+        tail = next_below c.controller.entries c.controller.ring.tail share.side.tail;
         known_head = share.side.known_head;
       };
     }
@@ -89,7 +89,7 @@ pub record CanAnswer (s : Sides) (q : ℕ) (h : HostQueue) (c : ControllerQueue)
   pub known : IsKnown s q h c
   pub there : is_absent c.state ≡ false
   pub served : in_service h.state ≡ true
-  pub room : is_full c.device.entries c.device.ring.known_head c.device.ring.tail ≡ false
+  pub room : is_full c.controller.entries c.controller.ring.known_head c.controller.ring.tail ≡ false
   pub typed : IsComEntry e
   pub fits : FitsCompletion e
 
@@ -99,31 +99,31 @@ rings_of s q h c e can = can.known.rings (queue_ring s q h c can.known can.there
 
 -- the pages behind it: the slot at the controller's tail has the completion's bytes
 abbrev pub with_completion : Sides → ControllerQueue → ComEntry → Pages
-with_completion s c e = with_page_bytes s.pages (page_posted c.device) (slot_offset 16 c.device.ring.tail) (completion_bytes e)
+with_completion s c e = with_page_bytes s.pages (page_posted c.controller) (slot_offset 16 c.controller.ring.tail) (completion_bytes e)
 
 -- the page of the slot is one of the queue's completion half, which is in
-pub page_is_own : (s : Sides) (q : ℕ) (h : HostQueue) (c : ControllerQueue) → IsKnown s q h c → has_ring h c ≡ true → is_among h.cq_pages (page_posted c.device) ≡ true
+pub page_is_own : (s : Sides) (q : ℕ) (h : HostQueue) (c : ControllerQueue) → IsKnown s q h c → has_ring h c ≡ true → is_among h.cq_pages (page_posted c.controller) ≡ true
 page_is_own s q h c known has =
-    subst (λ (pages : List ℕ). is_among pages (page_posted c.device) ≡ true) (sym (known.completion has))
-    (among-from c.device.cq (half_pages s.host.entries Completion) (c.device.ring.tail / 256) (omega (arith, known.placed.share.entries, known.placed.share.side.tail)))
+    subst (λ (pages : List ℕ). is_among pages (page_posted c.controller) ≡ true) (sym (known.completion has))
+    (among-from c.controller.cq (half_pages s.host.entries Completion) (c.controller.ring.tail / 256) (omega (arith, known.placed.share.entries, known.placed.share.side.tail)))
 
 pub byte_in_page : (pages : Pages) (place : ℕ) → IsSome (byte_at pages place) → is_in pages (place / 4096) ≡ true
 byte_in_page pages place some = grind arith
 
-pub page_is_in : (s : Sides) (q : ℕ) (h : HostQueue) (c : ControllerQueue) → IsKnown s q h c → has_ring h c ≡ true → is_in s.pages (page_posted c.device) ≡ true
+pub page_is_in : (s : Sides) (q : ℕ) (h : HostQueue) (c : ControllerQueue) → IsKnown s q h c → has_ring h c ≡ true → is_in s.pages (page_posted c.controller) ≡ true
 page_is_in s q h c known has =
-    let page : (4096 * c.device.cq + 16 * c.device.ring.tail) / 4096 ≡ page_posted c.device = omega arith in
+    let page : (4096 * c.controller.cq + 16 * c.controller.ring.tail) / 4096 ≡ page_posted c.controller = omega arith in
     subst (λ (p : ℕ). is_in s.pages p ≡ true) page
-    (byte_in_page s.pages (4096 * c.device.cq + 16 * c.device.ring.tail) ((known.completion_in has).there (16 * c.device.ring.tail) (omega (arith, known.placed.share.entries, known.placed.share.side.tail))))
+    (byte_in_page s.pages (4096 * c.controller.cq + 16 * c.controller.ring.tail) ((known.completion_in has).there (16 * c.controller.ring.tail) (omega (arith, known.placed.share.entries, known.placed.share.side.tail))))
 
 -- the memory behind it
-posted_shown : (s : Sides) (q : ℕ) (h : HostQueue) (c : ControllerQueue) (e : ComEntry) → IsWorld s → IsKnown s q h c → has_ring h c ≡ true → byte_at (with_completion s c e) ≡ memory_posted (byte_at s.pages) c.device e
-posted_shown s q h c e world known has = slot_shown s.pages c.device.cq c.device.ring.tail (completion_bytes e) world.sides.over.pool (page_is_in s q h c known has) (length-completion_bytes e)
+posted_shown : (s : Sides) (q : ℕ) (h : HostQueue) (c : ControllerQueue) (e : ComEntry) → IsWorld s → IsKnown s q h c → has_ring h c ≡ true → byte_at (with_completion s c e) ≡ memory_posted (byte_at s.pages) c.controller e
+posted_shown s q h c e world known has = slot_shown s.pages c.controller.cq c.controller.ring.tail (completion_bytes e) world.sides.over.pool (page_is_in s q h c known has) (length-completion_bytes e)
 
 -- A page that is not that of the slot is the same.
 page_spared : (s : Sides) (q : ℕ) (h : HostQueue) (c : ControllerQueue) (e : ComEntry) (p : ℕ) → IsKnown s q h c → has_ring h c ≡ true → is_among h.cq_pages p ≡ false → page_at (with_completion s c e) p ≡ page_at s.pages p
 page_spared s q h c e p known has far =
-    bytes_elsewhere s.pages (page_posted c.device) p (slot_offset 16 c.device.ring.tail) (completion_bytes e)
+    bytes_elsewhere s.pages (page_posted c.controller) p (slot_offset 16 c.controller.ring.tail) (completion_bytes e)
     (λ same. true≢false (sym (page_is_own s q h c known has) ∙ (ap (is_among h.cq_pages) same ∙ far)))
 
 -- The halves of the other queues are the same, and so are the pages of the submitted commands.
@@ -147,70 +147,70 @@ present-append (None ∷ xs) x = present-append xs x
 present-append (Some y ∷ xs) x = ap (λ ys. y ∷ ys) (present-append xs x)
 
 completions_grow : (s : Sides) (q : ℕ) (h : HostQueue) (c : ControllerQueue) (e : ComEntry) → IsWorld s → CanAnswer s q h c e
-    → completions_between (byte_at (with_completion s c e)) h.ring (with_answer c).device ≡ completions_between (byte_at s.pages) h.ring c.device ++ e ∷ []
+    → completions_between (byte_at (with_completion s c e)) h.ring (with_answer c).controller ≡ completions_between (byte_at s.pages) h.ring c.controller ++ e ∷ []
 completions_grow s q h c e world can =
-    let n = c.device.entries in
-    let tail = c.device.ring.tail in
-    ap (λ (m : Memory). completions_between m h.ring (with_answer c).device) (posted_shown s q h c e world can.known (queue_ring s q h c can.known can.there))
-    ∙ ap present (answers_append (byte_at s.pages) c.device.cq n h.ring.head tail (completion_bytes e) e (length-completion_bytes e) (round_trip e can.typed can.fits) (in_ring s q h c can.known).head can.known.placed.share.side.tail
+    let n = c.controller.entries in
+    let tail = c.controller.ring.tail in
+    ap (λ (m : Memory). completions_between m h.ring (with_answer c).controller) (posted_shown s q h c e world can.known (queue_ring s q h c can.known can.there))
+    ∙ ap present (completions_append (byte_at s.pages) c.controller.cq n h.ring.head tail (completion_bytes e) e (length-completion_bytes e) (round_trip e can.typed can.fits) (in_ring s q h c can.known).head can.known.placed.share.side.tail
     (subst (λ (k : ℕ). is_full n k tail ≡ false) (rings_of s q h c e can).heard can.room))
-    ∙ present-append (answers_between (byte_at s.pages) c.device.cq n h.ring.head tail) e
+    ∙ present-append (completions_from (byte_at s.pages) c.controller.cq n h.ring.head tail) e
 
 -- the machine's queue has one answer more
 pub answer_seen : (s : Sides) (q : ℕ) (h : HostQueue) (c : ControllerQueue) (e : ComEntry) → IsWorld s → slice_get s.host.host.queues q ≡ Some h → CanAnswer s q h c e
-    → device_queue_of (byte_at (with_completion s c e)) h.ring (with_answer c)
-    ≡ record (device_queue_of (byte_at s.pages) h.ring c) { answers = (device_queue_of (byte_at s.pages) h.ring c).answers ++ answer_of e ∷ [] }
+    → served_queue_of (byte_at (with_completion s c e)) h.ring (with_answer c)
+    ≡ record (served_queue_of (byte_at s.pages) h.ring c) { completions = (served_queue_of (byte_at s.pages) h.ring c).completions ++ posted_completion e ∷ [] }
 answer_seen s q h c e world at can =
-    ap₂ (λ (entries : List SubEntry) (answers : List Answer). record (device_queue_of (byte_at s.pages) h.ring c) { unfetched = if is_absent c.state then [] else entries; answers = answers })
+    ap₂ (λ (entries : List SubEntry) (answers : List PostedCompletion). record (served_queue_of (byte_at s.pages) h.ring c) { unfetched = if is_absent c.state then [] else entries; completions = answers })
     -- the entries that wait stay, and the completions are one more
     (let sq = can.known.submission can.there in
     let n = can.known.placed.share.entries in
-    let many = half_pages c.device.entries Submission in
-    let spared : (p : ℕ) → p < many → page_at s.pages (c.device.sq + p) ≡ page_at (with_completion s c e) (c.device.sq + p) =
-    λ p l. sym (page_spared s q h c e (c.device.sq + p) can.known (queue_ring s q h c can.known can.there) (own_halves_apart s world q h (c.device.sq + p) at
-    (subst (λ (pages : List ℕ). is_among pages (c.device.sq + p) ≡ true) (sym sq) (among-from c.device.sq (half_pages s.host.entries Submission) p (subst (λ (k : ℕ). p < half_pages k Submission) n l))))) in
-    ap present (sym (entries_agree (byte_at s.pages) (byte_at (with_completion s c e)) c.device.sq c.device.entries c.device.ring.head h.ring.tail
-    (pages_agree s.pages (with_completion s c e) c.device.sq many spared) can.known.placed.share.side.head)))
+    let many = half_pages c.controller.entries Submission in
+    let spared : (p : ℕ) → p < many → page_at s.pages (c.controller.sq + p) ≡ page_at (with_completion s c e) (c.controller.sq + p) =
+    λ p l. sym (page_spared s q h c e (c.controller.sq + p) can.known (queue_ring s q h c can.known can.there) (own_halves_apart s world q h (c.controller.sq + p) at
+    (subst (λ (pages : List ℕ). is_among pages (c.controller.sq + p) ≡ true) (sym sq) (among-from c.controller.sq (half_pages s.host.entries Submission) p (subst (λ (k : ℕ). p < half_pages k Submission) n l))))) in
+    ap present (sym (entries_agree (byte_at s.pages) (byte_at (with_completion s c e)) c.controller.sq c.controller.entries c.controller.ring.head h.ring.tail
+    (pages_agree s.pages (with_completion s c e) c.controller.sq many spared) can.known.placed.share.side.head)))
     (more c.cq_there (can.known.fits.half can.there))
   where
     old : List ComEntry
-    old = completions_between (byte_at s.pages) h.ring c.device
+    old = completions_between (byte_at s.pages) h.ring c.controller
 
     new : List ComEntry
-    new = completions_between (byte_at (with_completion s c e)) h.ring (with_answer c).device
+    new = completions_between (byte_at (with_completion s c e)) h.ring (with_answer c).controller
 
-    more : (b : Bool) → b ≡ true → (if b then map answer_of new else []) ≡ (if b then map answer_of old else []) ++ answer_of e ∷ []
-    more true there = ap (map answer_of) (completions_grow s q h c e world can) ∙ map-append answer_of old e
+    more : (b : Bool) → b ≡ true → (if b then map posted_completion new else []) ≡ (if b then map posted_completion old else []) ++ posted_completion e ∷ []
+    more true there = ap (map posted_completion) (completions_grow s q h c e world can) ∙ map-append posted_completion old e
     more false there = absurd (true≢false (sym there))
 
 heads_grow : (n from to : ℕ) (e : ComEntry) (es : List ComEntry) → to < n → e.sqhd ≡ to → HeadsFollow n from to es → HeadsFollow n from to (es ++ e ∷ [])
 heads_grow n from to e [] l same h = (subst (λ (x : ℕ). is_in_range n from to x ≡ true) (sym same) (ends_in_range n from to l), ends_in_range n e.sqhd to l)
 heads_grow n from to e (x ∷ es) l same h = (h.0, heads_grow n x.sqhd to e es l same h.1)
 
-answer_rings : (s : Sides) (q cid : ℕ) (st : Status) (dw0 : ℕ) (h : HostQueue) (c : ControllerQueue) → IsWorld s → CanAnswer s q h c (completion_by q cid st dw0 c.device)
-    → RingsStand (byte_at (with_completion s c (completion_by q cid st dw0 c.device))) q h (with_answer c)
+answer_rings : (s : Sides) (q cid : ℕ) (st : Status) (dw0 : ℕ) (h : HostQueue) (c : ControllerQueue) → IsWorld s → CanAnswer s q h c (completion_by q cid st dw0 c.controller)
+    → RingsStand (byte_at (with_completion s c (completion_by q cid st dw0 c.controller))) q h (with_answer c)
 answer_rings s q cid st dw0 h c world can =
-    let e : ComEntry = completion_by q cid st dw0 c.device in
+    let e : ComEntry = completion_by q cid st dw0 c.controller in
     let old = rings_of s q h c e can in
     let side = can.known.placed.share.side in
-    let n = c.device.entries in
+    let n = c.controller.entries in
     let grown = completions_grow s q h c e world can in
     record {
       fetched = old.fetched;
       rung = old.rung;
       heard = old.heard;
       expected = old.expected
-          ∙ sym (tie_kept_by_post n h.ring.head c.device.ring.tail c.device.ring.phase (in_ring s q h c can.known).head side.tail (subst (λ (k : ℕ). is_full n k c.device.ring.tail ≡ false) old.heard can.room));
-      phases = subst (λ (m : Memory). HasPhases m (with_answer c).device) (sym (posted_shown s q h c e world can.known (queue_ring s q h c can.known can.there)))
-          (phases_kept (byte_at s.pages) c.device.cq n c.device.ring.tail c.device.ring.phase (completion_bytes e) (length-completion_bytes e) (ap (λ (y : ComEntry). y.phase) (round_trip e can.typed can.fits)) side.tail old.phases);
-      owned = subst (AllByRecursion (λ (y : ComEntry). y.sqid ≡ q)) (sym grown) (all_append (λ (y : ComEntry). y.sqid ≡ q) (completions_between (byte_at s.pages) h.ring c.device) (e ∷ []) old.owned (refl, tt));
-      follow = subst (HeadsFollow n h.ring.known_head c.device.ring.head) (sym grown)
-          (heads_grow n h.ring.known_head c.device.ring.head e (completions_between (byte_at s.pages) h.ring c.device) side.head refl old.follow);
+          ∙ sym (tie_kept_by_post n h.ring.head c.controller.ring.tail c.controller.ring.phase (in_ring s q h c can.known).head side.tail (subst (λ (k : ℕ). is_full n k c.controller.ring.tail ≡ false) old.heard can.room));
+      phases = subst (λ (m : Memory). HasPhases m (with_answer c).controller) (sym (posted_shown s q h c e world can.known (queue_ring s q h c can.known can.there)))
+          (phases_kept (byte_at s.pages) c.controller.cq n c.controller.ring.tail c.controller.ring.phase (completion_bytes e) (length-completion_bytes e) (ap (λ (y : ComEntry). y.phase) (round_trip e can.typed can.fits)) side.tail old.phases);
+      owned = subst (AllByRecursion (λ (y : ComEntry). y.sqid ≡ q)) (sym grown) (all_append (λ (y : ComEntry). y.sqid ≡ q) (completions_between (byte_at s.pages) h.ring c.controller) (e ∷ []) old.owned (refl, tt));
+      follow = subst (HeadsFollow n h.ring.known_head c.controller.ring.head) (sym grown)
+          (heads_grow n h.ring.known_head c.controller.ring.head e (completions_between (byte_at s.pages) h.ring c.controller) side.head refl old.follow);
       drained = λ x. absurd (true≢false (sym can.served ∙ x));
     }
 
-pub answer_stands : (s : Sides) (q cid : ℕ) (st : Status) (dw0 : ℕ) (h : HostQueue) (c : ControllerQueue) → IsWorld s → CanAnswer s q h c (completion_by q cid st dw0 c.device)
-    → QueueStands s.host.entries (byte_at (with_completion s c (completion_by q cid st dw0 c.device))) q h (with_answer c)
+pub answer_stands : (s : Sides) (q cid : ℕ) (st : Status) (dw0 : ℕ) (h : HostQueue) (c : ControllerQueue) → IsWorld s → CanAnswer s q h c (completion_by q cid st dw0 c.controller)
+    → QueueStands s.host.entries (byte_at (with_completion s c (completion_by q cid st dw0 c.controller))) q h (with_answer c)
 answer_stands s q cid st dw0 h c world can =
     record {
       halves = record { submission = can.known.submission; completion = can.known.completion };
@@ -223,26 +223,26 @@ answered_as : (u : State) (q cid : ℕ) (st : Status) (dw0 : ℕ) (h : HostQueue
     → slot_page h.cq_pages 16 tail ≡ page → expected_phase h.ring.head tail h.ring.phase ≡ phase
     → record u {
       memory = with_page_bytes u.memory page (slot_offset 16 tail) (completion_bytes (record { dw0 = dw0; sqhd = head; sqid = q; cid = cid; phase = phase; status = st }));
-      device = record u.device { queues = change q (λ at. record at { answers = at.answers ++ record { cid = cid; status = st; dw0 = dw0; sq_head = head } ∷ [] }) u.device.queues };
+      controller = record u.controller { queues = change q (λ at. record at { completions = at.completions ++ record { cid = cid; status = st; dw0 = dw0; sq_head = head } ∷ [] }) u.controller.queues };
     }
     ≡ answered q cid st dw0 u
 answered_as u q cid st dw0 h head tail page phase eh ef ep epg eph = rw (← eph, ← epg, ← ef, ← ep, eh) refl
 
-pub answer_is : (u : State) (s : Sides) (q cid : ℕ) (st : Status) (dw0 : ℕ) (h : HostQueue) (c : ControllerQueue) → Shows u s q h c → u.memory ≡ s.pages → CanAnswer s q h c (completion_by q cid st dw0 c.device)
+pub answer_is : (u : State) (s : Sides) (q cid : ℕ) (st : Status) (dw0 : ℕ) (h : HostQueue) (c : ControllerQueue) → Shows u s q h c → u.memory ≡ s.pages → CanAnswer s q h c (completion_by q cid st dw0 c.controller)
     → record u {
-      memory = with_completion s c (completion_by q cid st dw0 c.device);
-      device = record u.device { queues = change q (λ at. record at { answers = at.answers ++ answer_of (completion_by q cid st dw0 c.device) ∷ [] }) u.device.queues };
+      memory = with_completion s c (completion_by q cid st dw0 c.controller);
+      controller = record u.controller { queues = change q (λ at. record at { completions = at.completions ++ posted_completion (completion_by q cid st dw0 c.controller) ∷ [] }) u.controller.queues };
     }
     ≡ answered q cid st dw0 u
 answer_is u s q cid st dw0 h c shown memory can =
     let has = queue_ring s q h c can.known can.there in
-    let ring = c.device.ring in
-    let e : ComEntry = completion_by q cid st dw0 c.device in
+    let ring = c.controller.ring in
+    let e : ComEntry = completion_by q cid st dw0 c.controller in
     ap (λ (m : Pages). record u {
-      memory = with_page_bytes m (page_posted c.device) (slot_offset 16 ring.tail) (completion_bytes e);
-      device = record u.device { queues = change q (λ at. record at { answers = at.answers ++ answer_of e ∷ [] }) u.device.queues };
+      memory = with_page_bytes m (page_posted c.controller) (slot_offset 16 ring.tail) (completion_bytes e);
+      controller = record u.controller { queues = change q (λ at. record at { completions = at.completions ++ posted_completion e ∷ [] }) u.controller.queues };
     }) (sym memory)
-    ∙ answered_as u q cid st dw0 h ring.head ring.tail (page_posted c.device) ring.phase shown.host (fetch_slot_is u s q h c shown can.known can.there) (post_slot_is u s q h c shown can.known (can.known.fits.half can.there)) (own_page s q h c can.known has)
+    ∙ answered_as u q cid st dw0 h ring.head ring.tail (page_posted c.controller) ring.phase shown.host (fetch_slot_is u s q h c shown can.known can.there) (post_slot_is u s q h c shown can.known (can.known.fits.half can.there)) (own_page s q h c can.known has)
     (ap (expected_phase h.ring.head ring.tail) (rings_of s q h c e can).expected ∙ sym (told_alike h.ring.head ring.tail ring.phase))
 
 -- A completion is taken from a ring, and its head is rung.
@@ -263,12 +263,12 @@ pub record Sees (s : Sides) (q : ℕ) (h : HostQueue) (c : ControllerQueue) : Ty
   pub has : has_ring h c ≡ true
   pub cq : c.cq_there ≡ true
   pub known : IsKnown s q h c
-  pub apart : h.ring.head ≢ c.device.ring.tail
+  pub apart : h.ring.head ≢ c.controller.ring.tail
   pub answer : HasAnswer (byte_at s.pages) h c
 
 -- the entries behind that answer
 abbrev pub behind : Memory → HostQueue → ControllerQueue → List ComEntry
-behind m h c = present (answers_between m c.device.cq c.device.entries (next_slot c.device.entries h.ring.head) c.device.ring.tail)
+behind m h c = present (completions_from m c.controller.cq c.controller.entries (next_slot c.controller.entries h.ring.head) c.controller.ring.tail)
 
 pub sees : (s : Sides) → IsWorld s → s.trusted ≡ true → (q : ℕ) (h : HostQueue) (e : ComEntry) → slice_get s.host.host.queues q ≡ Some h → is_reaped h.state ≡ true → seen_entry (state_of s) q ≡ Some e
     → (c : ControllerQueue) × (x : Sees s q h c) × (x.answer.entry.sqhd ≡ e.sqhd)
@@ -276,37 +276,37 @@ sees s world t q h e at reaped seen =
     let c = controller_at s world q h at in
     let k = known s world t q h c.0 at c.1 in
     let has = reaped_ring h c.0 reaped in
-    let apart : h.ring.head ≢ c.0.device.ring.tail = λ same. let none : None ≡ Some e = sym (seen_none s q h c.0 t at c.1 same) ∙ seen in absurd cc in
+    let apart : h.ring.head ≢ c.0.controller.ring.tail = λ same. let none : None ≡ Some e = sym (seen_none s q h c.0 t at c.1 same) ∙ seen in absurd cc in
     let cq = answer_there s q h c.0 k has apart in
     let answer = has_answer s q h c.0 k has apart in
-    let first : Some (entry_of q (answer_of answer.entry)) ≡ Some e = sym (seen_first s q h c.0 t at c.1 cq answer) ∙ seen in
-    let same : entry_of q (answer_of answer.entry) ≡ e = cc in
+    let first : Some (entry_of q (posted_completion answer.entry)) ≡ Some e = sym (seen_first s q h c.0 t at c.1 cq answer) ∙ seen in
+    let same : entry_of q (posted_completion answer.entry) ≡ e = cc in
     (c.0, record { at = at; there = c.1; has = has; cq = cq; known = k; apart = apart; answer = answer }, ap (λ (x : ComEntry). x.sqhd) same)
 
 -- A submission head that the host may take for the controller's: the answers that are left follow from it.
 pub record Follows (h : HostQueue) (c : ControllerQueue) (m : Memory) (head : ℕ) : Type 0 where
-  pub fetched : is_in_range c.device.entries head h.ring.tail c.device.ring.head ≡ true
-  pub heads : HeadsFollow c.device.entries head c.device.ring.head (behind m h c)
+  pub fetched : is_in_range c.controller.entries head h.ring.tail c.controller.ring.head ≡ true
+  pub heads : HeadsFollow c.controller.entries head c.controller.ring.head (behind m h c)
 
 first_follows : (s : Sides) (q : ℕ) (h : HostQueue) (c : ControllerQueue) → (x : Sees s q h c)
-    → HeadsFollow c.device.entries h.ring.known_head c.device.ring.head (x.answer.entry ∷ behind (byte_at s.pages) h c)
-first_follows s q h c x = subst (λ (es : List ComEntry). HeadsFollow c.device.entries h.ring.known_head c.device.ring.head es) x.answer.list (x.known.rings x.has).follow
+    → HeadsFollow c.controller.entries h.ring.known_head c.controller.ring.head (x.answer.entry ∷ behind (byte_at s.pages) h c)
+first_follows s q h c x = subst (λ (es : List ComEntry). HeadsFollow c.controller.entries h.ring.known_head c.controller.ring.head es) x.answer.list (x.known.rings x.has).follow
 
 -- the head that it knows, and the one that the answer tells
 pub known_follows : (s : Sides) (q : ℕ) (h : HostQueue) (c : ControllerQueue) → Sees s q h c → Follows h c (byte_at s.pages) h.ring.known_head
 known_follows s q h c x =
     let first = first_follows s q h c x in
-    let known : h.ring.known_head < c.device.entries = subst (λ (n : ℕ). h.ring.known_head < n) (sym x.known.placed.share.entries) x.known.placed.ring.known_head in
+    let known : h.ring.known_head < c.controller.entries = subst (λ (n : ℕ). h.ring.known_head < n) (sym x.known.placed.share.entries) x.known.placed.ring.known_head in
     record {
       fetched = (x.known.rings x.has).fetched;
-      heads = follow_before c.device.entries h.ring.known_head x.answer.entry.sqhd c.device.ring.head (behind (byte_at s.pages) h c) known x.known.placed.share.side.head first.0 first.1;
+      heads = follow_before c.controller.entries h.ring.known_head x.answer.entry.sqhd c.controller.ring.head (behind (byte_at s.pages) h c) known x.known.placed.share.side.head first.0 first.1;
     }
 
 pub answer_follows : (s : Sides) (q : ℕ) (h : HostQueue) (c : ControllerQueue) → (x : Sees s q h c) → Follows h c (byte_at s.pages) x.answer.entry.sqhd
 answer_follows s q h c x =
-    let n : c.device.entries ≡ s.host.entries = x.known.placed.share.entries in
-    let known : h.ring.known_head < c.device.entries = subst (λ (n : ℕ). h.ring.known_head < n) (sym n) x.known.placed.ring.known_head in
-    let tail : h.ring.tail < c.device.entries = subst (λ (n : ℕ). h.ring.tail < n) (sym n) x.known.placed.ring.tail in
+    let n : c.controller.entries ≡ s.host.entries = x.known.placed.share.entries in
+    let known : h.ring.known_head < c.controller.entries = subst (λ (n : ℕ). h.ring.known_head < n) (sym n) x.known.placed.ring.known_head in
+    let tail : h.ring.tail < c.controller.entries = subst (λ (n : ℕ). h.ring.tail < n) (sym n) x.known.placed.ring.tail in
     record { fetched = grind (arith, nat_tests); heads = (first_follows s q h c x).1 }
 
 -- The queue without that answer
@@ -314,23 +314,23 @@ answer_follows s q h c x =
 abbrev pub taken : ℕ → ℕ → HostQueue → HostQueue
 taken n head h = record h { ring = knowing head (next_head n h.ring) }
 
-abbrev pub one_fewer : DeviceQueue → DeviceQueue
-one_fewer at = record at { answers = drop 1 at.answers }
+abbrev pub one_fewer : ServedQueue → ServedQueue
+one_fewer at = record at { completions = drop 1 at.completions }
 
 -- the controller's queue, once it heard the head
 abbrev heard : ℕ → ControllerQueue → ControllerQueue
-heard v c = with_side (record c.device { ring = hearing_head v c.device.ring }) c
+heard v c = with_side (record c.controller { ring = hearing_head v c.controller.ring }) c
 
 taken_stands : (s : Sides) (q head : ℕ) (h : HostQueue) (c : ControllerQueue) → Sees s q h c → Follows h c (byte_at s.pages) head
-    → RingsStand (byte_at s.pages) q (taken c.device.entries head h) (heard (next_slot c.device.entries h.ring.head) c)
+    → RingsStand (byte_at s.pages) q (taken c.controller.entries head h) (heard (next_slot c.controller.entries h.ring.head) c)
 taken_stands s q head h c x follows =
     let rings = x.known.rings x.has in
     record {
       fetched = follows.fetched;
       rung = rings.rung;
       heard = refl;
-      expected = ap (next_phase c.device.entries h.ring.head) rings.expected
-          ∙ tie_kept_by_advance c.device.entries h.ring.head c.device.ring.tail c.device.ring.phase (head_below s q h c x.known.placed) x.known.placed.share.side.tail x.apart;
+      expected = ap (next_phase c.controller.entries h.ring.head) rings.expected
+          ∙ tie_kept_by_advance c.controller.entries h.ring.head c.controller.ring.tail c.controller.ring.phase (head_below s q h c x.known.placed) x.known.placed.share.side.tail x.apart;
       phases = rings.phases;
       owned = (subst (λ (es : List ComEntry). AllByRecursion (λ e. e.sqid ≡ q) es) x.answer.list rings.owned).1;
       follow = follows.heads;
@@ -340,7 +340,7 @@ taken_stands s q head h c x follows =
 -- All queues, once the answer is taken and its head is heard
 
 pub record IsTaken (s : Sides) (q v : ℕ) (hs : List HostQueue) : Type 0 where
-  pub device : device_queues_of (byte_at s.pages) hs (change_members q (with_head v) s.controller.queues) ≡ change_members q one_fewer (device_queues_of (byte_at s.pages) s.host.host.queues s.controller.queues)
+  pub controller : served_queues_of (byte_at s.pages) hs (change_members q (with_head v) s.controller.queues) ≡ change_members q one_fewer (served_queues_of (byte_at s.pages) s.host.host.queues s.controller.queues)
   pub queues : AllQueuesStand s.host.entries (byte_at s.pages) zero hs (change_members q (with_head v) s.controller.queues)
   pub head : option_map (λ h. h.ring.head) (slice_get hs q) ≡ Some v
 
@@ -364,14 +364,14 @@ takes s world tied q head h c f x follows is =
     let hs : List HostQueue = s.host.host.queues in
     let cs : List ControllerQueue = s.controller.queues in
     let v : ℕ = next_slot s.host.entries h.ring.head in
-    let n : c.device.entries ≡ s.host.entries = x.known.placed.share.entries in
+    let n : c.controller.entries ≡ s.host.entries = x.known.placed.share.entries in
     let heard_here : with_head v c ≡ heard v c = heads_heard s q h c world.sides tied x.at x.there x.has x.apart in
     record {
-      device = one_queue m m q f (with_head v) one_fewer hs cs
-          (only (λ (y : HostQueue) (d : ControllerQueue). device_queue_of m (f y).ring (with_head v d) ≡ one_fewer (device_queue_of m y.ring d)) hs cs q h c x.at x.there
-          (subst (λ (y : HostQueue). device_queue_of m y.ring (with_head v c) ≡ one_fewer (device_queue_of m h.ring c)) (sym is)
-          (subst (λ (d : ControllerQueue). device_queue_of m (taken s.host.entries head h).ring d ≡ one_fewer (device_queue_of m h.ring c)) (sym heard_here)
-          (subst (λ (n : ℕ). device_queue_of m (taken n head h).ring (heard (next_slot n h.ring.head) c) ≡ one_fewer (device_queue_of m h.ring c)) n (grind arith)))))
+      controller = one_queue m m q f (with_head v) one_fewer hs cs
+          (only (λ (y : HostQueue) (d : ControllerQueue). served_queue_of m (f y).ring (with_head v d) ≡ one_fewer (served_queue_of m y.ring d)) hs cs q h c x.at x.there
+          (subst (λ (y : HostQueue). served_queue_of m y.ring (with_head v c) ≡ one_fewer (served_queue_of m h.ring c)) (sym is)
+          (subst (λ (d : ControllerQueue). served_queue_of m (taken s.host.entries head h).ring d ≡ one_fewer (served_queue_of m h.ring c)) (sym heard_here)
+          (subst (λ (n : ℕ). served_queue_of m (taken n head h).ring (heard (next_slot n h.ring.head) c) ≡ one_fewer (served_queue_of m h.ring c)) n (grind arith)))))
           (λ i y d far at there. refl);
       queues = one_stands s.host.entries m m q f (with_head v) hs cs
           (only (λ (y : HostQueue) (d : ControllerQueue). QueueStands s.host.entries m q y d → QueueStands s.host.entries m q (f y) (with_head v d)) hs cs q h c x.at x.there
@@ -450,10 +450,10 @@ forged_stepped s q slot bytes h pages world count none at leaves wrote =
       record {
         part = ap (λ (m : Pages). host_part (state_of (forged s m))) memory ∙ sym (ap host_part due);
         memory = memory ∙ sym (ap (λ (x : State). x.memory) due);
-        device = record {
+        controller = record {
           image = refl;
-          queues = length-device (byte_at pages) s.host.entries 0 s.host.host.queues s.controller.queues world.sides.queues
-              ∙ sym (length-device (byte_at s.pages) s.host.entries 0 s.host.host.queues s.controller.queues world.sides.queues);
+          queues = length-controller (byte_at pages) s.host.entries 0 s.host.host.queues s.controller.queues world.sides.queues
+              ∙ sym (length-controller (byte_at s.pages) s.host.entries 0 s.host.host.queues s.controller.queues world.sides.queues);
         };
       },
     ) in (

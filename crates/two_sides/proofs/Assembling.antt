@@ -10,17 +10,17 @@ use Rattle.machine_model.proofs.{Moves.{collected_away, drafted_away, is_of_foun
 use Rattle.machine_model.{proofs.Steps.{Accepts, part_controller, found, unrefused}, specs.After.{after, collected, on_memory, on_records}}
 use Rattle.machine_model.specs.{Claims.HasOneOwner, Events.{Event, Reply}, Memory.{memory_of, without_pages}, Proper.IsProper}
 use Rattle.machine_model.specs.Refusals.{refusal_of, is_reaped, seen_entry, in_service, is_collected, is_drafted, is_held, is_submitted}
-use Rattle.machine_model.specs.State.{State, Device, HostQueue, DeviceQueue, Record, is_at, pages_of, record_at, with_record}
+use Rattle.machine_model.specs.State.{State, Controller, HostQueue, ServedQueue, Record, is_at, pages_of, record_at, with_record}
 use Rattle.machine_model.specs.Step.{Answers, IsController, IsNewIdentifier, Permits, Refuses, touched_by_refusal, Leaves, LeavesByController, LeavesByHost, Step, forges, host_part, times}
 use Rattle.machine_model.specs.declared.words.Refusal.{Refusal}
 use Rattle.two_sides.proofs.{AdminKept.admin_behind, Agreed.{step_keeps_agreement, recovery_kept}, Blind.{out_of, SeesAlike, bare, head_of_entry, left_alike}}
-use Rattle.two_sides.proofs.DeviceMoves.{steps_stay_in_rings}
+use Rattle.two_sides.proofs.ControllerMoves.{steps_stay_in_rings}
 use Rattle.two_sides.proofs.Frames.{tied_of, known, Spares, all_stand_still, free_apart_from_queues, one_queue, one_stands, queues_stay, unchanged, walks_after, commands_apart}
 use Rattle.two_sides.proofs.{Places.{seen_alike, told, tails_heard, in_ring, length-unfetched}, Provided.{steps_provide, in_found}, Serving.step_keeps_serving}
-use Rattle.two_sides.proofs.Shared.{refused_leaves, length-device, forged_step, commands-heard, image-heard, length-heard, share_queues, unreset}
+use Rattle.two_sides.proofs.Shared.{refused_leaves, length-controller, forged_step, commands-heard, image-heard, length-heard, share_queues, unreset}
 use Rattle.two_sides.{proofs.Untouched.without_elsewhere, specs.Hearing.heard}
 use Rattle.two_sides.specs.Laws.{looks_at_completions, hosts_answer, hosts_refuse, behind}
-use Rattle.two_sides.specs.{Sides.{Sides, state_of, device_of, device_queue_of, device_queues_of}, Stepping.{StepsTo, LeavesPages, served}}
+use Rattle.two_sides.specs.{Sides.{Sides, state_of, controller_part, served_queue_of, served_queues_of}, Stepping.{StepsTo, LeavesPages, served}}
 use Rattle.two_sides.specs.Ties.{AreSides, IsWorld, AllQueuesStand, ShareQueues, SharesAdmin, WalksStand, QueueStands}
 use Rattle.block_image.specs.Blocks.{block_count}
 use Rattle.controller_core.specs.Contents.{AreAwaited, AreCommands, Contents, FetchedCommand, IsController as ContentsIsController}
@@ -137,7 +137,7 @@ host_refused s e reply host pages world same stays proper permits leaves =
 -- An accepted call where nothing was forged: the machine's lists, and that the queues and the walks stand.
 pub record Ties (s : Sides) (e : Event) (reply : Reply) (host : HostView) (pages : Pages) : Type 0 where
   pub permits : Permits (state_of s) e reply
-  pub device : device_of (behind s e reply host pages) ≡ (after (state_of s) e reply).device
+  pub controller : controller_part (behind s e reply host pages) ≡ (after (state_of s) e reply).controller
   pub queues : AllQueuesStand s.host.entries (byte_at pages) zero host.host.queues (heard e reply host s.controller).queues
   pub walks : WalksStand (memory_of pages) s.controller.commands
 
@@ -170,18 +170,18 @@ left_bare s e reply host pages world c f step ok =
     ap₂ alone just.0 just.1 ∙ sym (ap bare (left_alike (state_of s) e reply c f (unreset s.host host s.pages pages e reply step) (sees_alike s e world ok.0) ok.1))
 
 accepted_due : (s : Sides) (e : Event) (reply : Reply) (host : HostView) (pages : Pages) → IsWorld s → machine.IsController e ≡ false → forges e ≡ false
-    → HostStep s.host s.pages e reply host pages → device_of (behind s e reply host pages) ≡ (after (state_of s) e reply).device → Accepts (alone s.host s.pages) e reply
+    → HostStep s.host s.pages e reply host pages → controller_part (behind s e reply host pages) ≡ (after (state_of s) e reply).controller → Accepts (alone s.host s.pages) e reply
     → state_of (behind s e reply host pages) ≡ after (state_of s) e reply
-accepted_due s e reply host pages world c f step device ok =
-    ap (λ (x : State). record x { device = device_of (behind s e reply host pages); trusted = s.trusted }) (left_bare s e reply host pages world c f step ok)
-    ∙ ap₂ (λ (d : Device) (b : Bool). record (after (state_of s) e reply) { device = d; trusted = b }) device
+accepted_due s e reply host pages world c f step controller ok =
+    ap (λ (x : State). record x { controller = controller_part (behind s e reply host pages); trusted = s.trusted }) (left_bare s e reply host pages world c f step ok)
+    ∙ ap₂ (λ (d : Controller) (b : Bool). record (after (state_of s) e reply) { controller = d; trusted = b }) controller
     (sym (ap (λ (x : State). x.trusted) (left_alike (state_of s) e reply c f (unreset s.host host s.pages pages e reply step) (sees_alike s e world ok.0) ok.1)))
 
 left_due : (s : Sides) (e : Event) (reply : Reply) (host : HostView) (pages : Pages) → IsWorld s → machine.IsController e ≡ false → forges e ≡ false
-    → HostStep s.host s.pages e reply host pages → device_of (behind s e reply host pages) ≡ (after (state_of s) e reply).device → state_of (behind s e reply host pages) ≡ after (state_of s) e reply
-left_due s e (events.Refused why touched) host pages world c f step device = refused_leaves s host pages step.2
-left_due s e (events.Reserved d) host pages world c f step device = accepted_due s e (events.Reserved d) host pages world c f step device (out_of _ (machine.IsController e) c step.1)
-left_due s e reply host pages world c f step device = accepted_due s e reply host pages world c f step device (out_of _ (machine.IsController e) c step.1)
+    → HostStep s.host s.pages e reply host pages → controller_part (behind s e reply host pages) ≡ (after (state_of s) e reply).controller → state_of (behind s e reply host pages) ≡ after (state_of s) e reply
+left_due s e (events.Refused why touched) host pages world c f step controller = refused_leaves s host pages step.2
+left_due s e (events.Reserved d) host pages world c f step controller = accepted_due s e (events.Reserved d) host pages world c f step controller (out_of _ (machine.IsController e) c step.1)
+left_due s e reply host pages world c f step controller = accepted_due s e reply host pages world c f step controller (out_of _ (machine.IsController e) c step.1)
 
 -- the rings have as many entries as before
 accepted_entries : (s : Sides) (e : Event) (reply : Reply) (host : HostView) (pages : Pages) → machine.IsController e ≡ false → HostStep s.host s.pages e reply host pages
@@ -214,7 +214,7 @@ host_stepped s e reply host pages world c f step over ties = (
   where
     go : (b : Bool) → s.trusted ≡ b → Step (state_of s) e reply (state_of (behind s e reply host pages))
     go false t = forged_step s e reply host pages t c step world.sides.queues
-    go true t = let tie = ties t in (step.0, tie.permits, exactly_left s e reply host pages t f (left_due s e reply host pages world c f step tie.device))
+    go true t = let tie = ties t in (step.0, tie.permits, exactly_left s e reply host pages t f (left_due s e reply host pages world c f step tie.controller))
 
 -- What holds whatever was forged stays behind each call of the controller, which takes no page out and brings none in.
 pub record ServesOver (s : Sides) (c : Contents) (pages : Pages) : Type 0 where
@@ -291,11 +291,11 @@ served_stepped s e reply c pages world is_controller serves accepted permits exa
     open_left = record {
       part = part;
       pages = serves.leaves.whole;
-      device = record {
+      controller = record {
         image = serves.image;
-        queues = length-device (byte_at pages) s.host.entries 0 s.host.host.queues c.queues serves.queues
+        queues = length-controller (byte_at pages) s.host.entries 0 s.host.host.queues c.queues serves.queues
             ∙ as_many s.host.entries 0 s.host.host.queues c.queues serves.queues
-            ∙ sym (length-device (byte_at s.pages) s.host.entries 0 s.host.host.queues s.controller.queues world.sides.queues ∙ as_many s.host.entries 0 s.host.host.queues s.controller.queues world.sides.queues);
+            ∙ sym (length-controller (byte_at s.pages) s.host.entries 0 s.host.host.queues s.controller.queues world.sides.queues ∙ as_many s.host.entries 0 s.host.host.queues s.controller.queues world.sides.queues);
       };
     }
 
@@ -322,18 +322,18 @@ walks_behind s e reply host pages world t c f step ok seen =
 -- A call that spares the queues' pages, and leaves the host's queues and the controller as they are.
 quiet_ties : (s : Sides) (e : Event) (reply : Reply) (host : HostView) (pages : Pages) → IsWorld s → s.trusted ≡ true → HostStep s.host s.pages e reply host pages
     → IsController e ≡ false → forges e ≡ false → looks_at_completions e ≡ false → heard e reply host s.controller ≡ s.controller
-    → (after (alone s.host s.pages) e reply).host.queues ≡ s.host.host.queues → (after (state_of s) e reply).device ≡ device_of s
+    → (after (alone s.host s.pages) e reply).host.queues ≡ s.host.host.queues → (after (state_of s) e reply).controller ≡ controller_part s
     → Accepts (alone s.host s.pages) e reply → Accepts (state_of s) e reply → Spares s (after (alone s.host s.pages) e reply).memory → Ties s e reply host pages
-quiet_ties s e reply host pages world t step c f looks unheard keeps device ok seen spared =
+quiet_ties s e reply host pages world t step c f looks unheard keeps controller ok seen spared =
     let just = leaves_just s.host host s.pages pages e reply c step in
     let queues : host.host.queues ≡ s.host.host.queues = ap (λ (v : HostView). v.host.queues) just.0 ∙ keeps in
     let spares : Spares s pages = subst (λ (m : Pages). Spares s m) (sym just.1) spared in
     record {
       permits = answer_as_machine s e reply host pages c looks step;
-      device = ap (λ (k : Contents). device_of (record s { host = host; pages = pages; controller = k })) unheard
-          ∙ ap (λ (hs : List HostQueue). record (device_of s) { queues = device_queues_of (byte_at pages) hs s.controller.queues }) queues
-          ∙ ap (λ (ds : List DeviceQueue). record (device_of s) { queues = ds }) (queues_stay s pages world t spares)
-          ∙ sym device;
+      controller = ap (λ (k : Contents). controller_part (record s { host = host; pages = pages; controller = k })) unheard
+          ∙ ap (λ (hs : List HostQueue). record (controller_part s) { queues = served_queues_of (byte_at pages) hs s.controller.queues }) queues
+          ∙ ap (λ (ds : List ServedQueue). record (controller_part s) { queues = ds }) (queues_stay s pages world t spares)
+          ∙ sym controller;
       queues = subst (λ (hs : List HostQueue). AllQueuesStand s.host.entries (byte_at pages) zero hs (heard e reply host s.controller).queues) (sym queues)
           (subst (λ (k : Contents). AllQueuesStand s.host.entries (byte_at pages) zero s.host.host.queues k.queues) (sym unheard) (all_stand_still s pages world t spares));
       walks = walks_behind s e reply host pages world t c f step ok seen;
@@ -396,19 +396,19 @@ collect_ties s q cid f host pages world t step =
     rw e refl in
     let its = found (λ r. is_submitted r.phase || is_held r.phase) (alone s.host s.pages) q cid (not-false _ (unrefused (alone s.host s.pages) (events.Collect q cid) step.1.0).0) in
     quiet_ties s (events.Collect q cid) (events.Collects f) host pages world t step refl refl refl refl
-    (ap (λ (x : State). x.host.queues) (collects (alone s.host s.pages) its.0 its.1)) (ap (λ (x : State). x.device) (collects (state_of s) its.0 its.1)) step.1 step.1
+    (ap (λ (x : State). x.host.queues) (collects (alone s.host s.pages) its.0 its.1)) (ap (λ (x : State). x.controller) (collects (state_of s) its.0 its.1)) step.1 step.1
     (subst (λ (x : State). Spares s x.memory) (sym (collects (alone s.host s.pages) its.0 its.1))
     (spares_from s _ (pages_of its.0) (command_apart s world q cid its.0 _ its.1 refl) (without_elsewhere (pages_of its.0) s.pages)))
 
 -- The controller hears a tail.
 
-abbrev with_rung : DeviceQueue → DeviceQueue
+abbrev with_rung : ServedQueue → ServedQueue
 with_rung at = record at { rung = length at.unfetched }
 
 rung_seen : (s : Sides) (q : ℕ) (h : HostQueue) (c : ControllerQueue) → IsWorld s → s.trusted ≡ true → slice_get s.host.host.queues q ≡ Some h → slice_get s.controller.queues q ≡ Some c
-    → device_queue_of (byte_at s.pages) h.ring (with_tail h.ring.tail c) ≡ with_rung (device_queue_of (byte_at s.pages) h.ring c)
+    → served_queue_of (byte_at s.pages) h.ring (with_tail h.ring.tail c) ≡ with_rung (served_queue_of (byte_at s.pages) h.ring c)
 rung_seen s q h c world t e f =
-    ap (device_queue_of (byte_at s.pages) h.ring) (tails_heard s q h c world.sides e f) ∙ ap (λ (n : ℕ). record (device_queue_of (byte_at s.pages) h.ring c) { rung = n }) (elim (cases_Bool (is_absent c.state)) [ inl there ↦ rw there refl | inr there ↦ rw there (sym (length-unfetched s q h c (known s world t q h c e f) there)) ])
+    ap (served_queue_of (byte_at s.pages) h.ring) (tails_heard s q h c world.sides e f) ∙ ap (λ (n : ℕ). record (served_queue_of (byte_at s.pages) h.ring c) { rung = n }) (elim (cases_Bool (is_absent c.state)) [ inl there ↦ rw there refl | inr there ↦ rw there (sym (length-unfetched s q h c (known s world t q h c e f) there)) ])
 
 pub ends_in_range : (n from to : ℕ) → to < n → is_in_range n from to to ≡ true
 ends_in_range n from to l = grind (arith, nat_tests, l)
@@ -424,7 +424,7 @@ rung_stands s q h c world t e f =
           let rings = known'.rings has in
           record {
             fetched = rings.fetched;
-            rung = ends_in_range c.device.entries c.device.ring.head h.ring.tail (in_ring s q h c known').tail;
+            rung = ends_in_range c.controller.entries c.controller.ring.head h.ring.tail (in_ring s q h c known').tail;
             heard = rings.heard;
             expected = rings.expected;
             phases = record { stands = rings.phases.stands };
@@ -441,14 +441,14 @@ ring_ties s q host pages world t step =
     let m : Memory = byte_at s.pages in
     let told : heard (events.Ring q) events.Accepted s.host s.controller ≡ tail_rung q its.0.ring.tail s.controller =
     ap (λ (o : Option HostQueue). option_map_or (λ tail. tail_rung q tail s.controller) (option_map (λ h. h.ring.tail) o) s.controller) its.1 in
-    let queues : device_queues_of m s.host.host.queues (change q (with_tail its.0.ring.tail) s.controller.queues) ≡ change q with_rung (device_queues_of m s.host.host.queues s.controller.queues) =
-    ap (λ (hs : List HostQueue). device_queues_of m hs (change q (with_tail its.0.ring.tail) s.controller.queues)) (sym (unchanged q s.host.host.queues))
+    let queues : served_queues_of m s.host.host.queues (change q (with_tail its.0.ring.tail) s.controller.queues) ≡ change q with_rung (served_queues_of m s.host.host.queues s.controller.queues) =
+    ap (λ (hs : List HostQueue). served_queues_of m hs (change q (with_tail its.0.ring.tail) s.controller.queues)) (sym (unchanged q s.host.host.queues))
     ∙ one_queue m m q (λ h. h) (with_tail its.0.ring.tail) with_rung s.host.host.queues s.controller.queues
-    (λ h c e f. same (λ x. device_queue_of m x.ring (with_tail its.0.ring.tail c) ≡ with_rung (device_queue_of m x.ring c)) h e (rung_seen s q its.0 c world t its.1 f))
+    (λ h c e f. same (λ x. served_queue_of m x.ring (with_tail its.0.ring.tail c) ≡ with_rung (served_queue_of m x.ring c)) h e (rung_seen s q its.0 c world t its.1 f))
     (λ i h c other e f. refl) in
     let here : Ties s (events.Ring q) events.Accepted s.host s.pages = record {
       permits = answer_as_machine s (events.Ring q) events.Accepted host pages refl refl step;
-      device = ap (λ (k : Contents). device_of (record s { controller = k })) told ∙ ap (λ (ds : List DeviceQueue). record (device_of s) { queues = ds }) queues;
+      controller = ap (λ (k : Contents). controller_part (record s { controller = k })) told ∙ ap (λ (ds : List ServedQueue). record (controller_part s) { queues = ds }) queues;
       queues = subst (λ (k : Contents). AllQueuesStand s.host.entries m zero s.host.host.queues k.queues) (sym told)
           (subst (λ (hs : List HostQueue). AllQueuesStand s.host.entries m zero hs (change q (with_tail its.0.ring.tail) s.controller.queues)) (unchanged q s.host.host.queues)
           (one_stands s.host.entries m m q (λ h. h) (with_tail its.0.ring.tail) s.host.host.queues s.controller.queues

@@ -7,7 +7,7 @@ use Rattle.page_memory.specs.{Pages.{Pages, with_page_bytes}, declared.page.Half
 use Rattle.io_commands.specs.Jobs.{is_success}
 use Rattle.machine_model.specs.{Events.{Event, Reply}, Memory.{with_pages, without_pages}}
 use Rattle.machine_model.specs.Refusals.{host_queue, seen_entry, refusal_of, slot_page, slot_offset, has_cq_alone}
-use Rattle.machine_model.specs.State.{State, Device, HostQueue, record_at, with_record, without_record, pages_of}
+use Rattle.machine_model.specs.State.{State, Controller, HostQueue, record_at, with_record, without_record, pages_of}
 use Rattle.machine_model.specs.Step.{Permits, Refuses, Answers, IsNewIdentifier, IsController, HostPart, host_part, touched_by_refusal, resets, forges}
 use Rattle.machine_model.specs.{Work.Work, declared.words.{Phase.TheVariants.Submitted, Reaped.Reaped, Refusal.Refusal, Work.TheVariants.{Io, Management}}}
 use Rattle.queue_pair.specs.Rings.{next_tail, knowing}
@@ -21,8 +21,8 @@ use Rattle.machine_model.specs.declared.words.Reaped.TheVariants as reaped
 -- What an event of the host leaves at the host is told by the host's part and the memory, where the same stands at the head of the completion ring that is reaped.
 
 -- a state with any part of the controller's, trusted or not
-abbrev over : State → Device → Bool → State
-over s d b = record s { device = d; trusted = b }
+abbrev over : State → Controller → Bool → State
+over s d b = record s { controller = d; trusted = b }
 
 abbrev pub bare : State → State
 bare s = over s nothing false
@@ -50,20 +50,20 @@ alike-if b false t t' u u' e e' = e'
 abbrev with_queue : ℕ → (HostQueue → HostQueue) → Seen → Seen
 with_queue q f x = (a.on_host_queue q f x.0, x.1)
 
-alike-posted : (q : ℕ) (entry : SubEntry) (s : State) (d d' : Device) (b b' : Bool) → Alike b (a.posted q entry (over s d b)) (a.posted q entry (over s d' b'))
+alike-posted : (q : ℕ) (entry : SubEntry) (s : State) (d d' : Controller) (b b' : Bool) → Alike b (a.posted q entry (over s d b)) (a.posted q entry (over s d' b'))
 alike-posted q entry s d d' b b' =
     let write : HostQueue → Pages → Pages = λ queue m. with_page_bytes m (slot_page queue.sq_pages 64 queue.ring.tail) (slot_offset 64 queue.ring.tail) (submission_bytes entry) in
     ap (with_queue q (λ queue. record queue { ring = next_tail s.entries queue.ring }))
     (alike-option b (λ queue. a.on_memory (write queue) (over s d b)) (λ queue. a.on_memory (write queue) (over s d' b')) (host_queue s q) (over s d b) (over s d' b') refl (λ queue. refl))
 
-alike-freed : (pages : HostQueue → List ℕ) (without : HostQueue → HostQueue) (q : ℕ) (s : State) (d d' : Device) (b b' : Bool)
+alike-freed : (pages : HostQueue → List ℕ) (without : HostQueue → HostQueue) (q : ℕ) (s : State) (d d' : Controller) (b b' : Bool)
     → Alike b (a.half_freed pages without q (over s d b)) (a.half_freed pages without q (over s d' b'))
 alike-freed pages without q s d d' b b' =
     alike-option b (λ queue. a.on_host_queue q without (a.given_back (pages queue) (over s d b)))
     (λ queue. a.on_host_queue q without (a.given_back (pages queue) (over s d' b')))
     (host_queue s q) (over s d b) (over s d' b') refl (λ queue. refl)
 
-alike-admin : (adm : AdminKind) (st : Status) (s : State) (d d' : Device) (b b' : Bool) → Alike b (a.after_admin adm st (over s d b)) (a.after_admin adm st (over s d' b'))
+alike-admin : (adm : AdminKind) (st : Status) (s : State) (d d' : Controller) (b b' : Bool) → Alike b (a.after_admin adm st (over s d b)) (a.after_admin adm st (over s d' b'))
 alike-admin (DeleteCq q) st s d d' b b' =
     alike-if b (is_success st && option_map_or (λ queue. has_cq_alone queue.state) (host_queue s q) false)
     (a.half_freed (λ queue. queue.cq_pages) a.gone q (over s d b))
@@ -81,7 +81,7 @@ alike-admin (CreateSq q n base) st s d d' b b' =
     refl (alike-freed (λ queue. queue.sq_pages) a.unmade_sq q s d d' b b')
 alike-admin x st s d d' b b' = refl
 
-alike-work : (w : Work) (q cid : ℕ) (st : Status) (s : State) (d d' : Device) (b b' : Bool) → Alike b (a.after_work w q cid st (over s d b)) (a.after_work w q cid st (over s d' b'))
+alike-work : (w : Work) (q cid : ℕ) (st : Status) (s : State) (d d' : Controller) (b b' : Bool) → Alike b (a.after_work w q cid st (over s d b)) (a.after_work w q cid st (over s d' b'))
 alike-work (Io r) q cid st s d d' b b' = refl
 alike-work (Management adm) q cid st s d d' b b' = alike-admin adm st (a.on_records (without_record q cid) s) d d' b b'
 
@@ -89,17 +89,17 @@ abbrev pub head_of_entry : ComEntry → ℕ
 head_of_entry e = e.sqhd
 
 -- of the completion that is reaped only its head tells
-alike-heard : (w : Work) (q cid : ℕ) (st : Status) (s : State) (d d' : Device) (b b' : Bool) (o o' : Option ComEntry) → option_map head_of_entry o ≡ option_map head_of_entry o'
+alike-heard : (w : Work) (q cid : ℕ) (st : Status) (s : State) (d d' : Controller) (b b' : Bool) (o o' : Option ComEntry) → option_map head_of_entry o ≡ option_map head_of_entry o'
     → Alike b (a.after_work w q cid st (option_map_or (λ e. a.heard q e (over s d b)) o (over s d b))) (a.after_work w q cid st (option_map_or (λ e. a.heard q e (over s d' b')) o' (over s d' b')))
 alike-heard w q cid st s d d' b b' None None same = alike-work w q cid st s d d' b b'
 alike-heard w q cid st s d d' b b' (Some e) (Some e') same =
     let head : e.sqhd ≡ e'.sqhd = cc in
     let hears : ℕ → State → State = λ n t. a.on_ring q (knowing n) (a.consumed q t) in
     subst (λ (n : ℕ). Alike b (a.after_work w q cid st (hears e.sqhd (over s d b))) (a.after_work w q cid st (hears n (over s d' b')))) head
-    (alike-work w q cid st (hears e.sqhd s) (hears e.sqhd (over s d b)).device (hears e.sqhd (over s d' b')).device b b')
+    (alike-work w q cid st (hears e.sqhd s) (hears e.sqhd (over s d b)).controller (hears e.sqhd (over s d' b')).controller b b')
 alike-heard w q cid st s d d' b b' x y same = absurd cc
 
-alike-done : (q cid : ℕ) (st : Status) (s : State) (d d' : Device) (b b' : Bool) (o o' : Option ComEntry) → option_map head_of_entry o ≡ option_map head_of_entry o'
+alike-done : (q cid : ℕ) (st : Status) (s : State) (d d' : Controller) (b b' : Bool) (o o' : Option ComEntry) → option_map head_of_entry o ≡ option_map head_of_entry o'
     → Alike b (option_map_or (λ r. a.after_work r.work q cid st (option_map_or (λ e. a.heard q e (over s d b)) o (over s d b))) (record_at s.host q cid) (over s d b))
     (option_map_or (λ r. a.after_work r.work q cid st (option_map_or (λ e. a.heard q e (over s d' b')) o' (over s d' b'))) (record_at s.host q cid) (over s d' b'))
 alike-done q cid st s d d' b b' o o' same =
@@ -107,13 +107,13 @@ alike-done q cid st s d d' b b' o o' same =
     (λ r. a.after_work r.work q cid st (option_map_or (λ e. a.heard q e (over s d' b')) o' (over s d' b'))) (record_at s.host q cid) (over s d b) (over s d' b') refl
     (λ r. alike-heard r.work q cid st s d d' b b' o o' same)
 
-alike-reap : (q : ℕ) (what : Reaped) (s : State) (d d' : Device) (b b' : Bool) → option_map head_of_entry (seen_entry (over s d b) q) ≡ option_map head_of_entry (seen_entry (over s d' b') q)
+alike-reap : (q : ℕ) (what : Reaped) (s : State) (d d' : Controller) (b b' : Bool) → option_map head_of_entry (seen_entry (over s d b) q) ≡ option_map head_of_entry (seen_entry (over s d' b') q)
     → Alike b (a.after_reap q what (over s d b)) (a.after_reap q what (over s d' b'))
 alike-reap q (reaped.Done cid st) s d d' b b' same = alike-done q cid st s d d' b b' (seen_entry (over s d b) q) (seen_entry (over s d' b') q) same
 alike-reap q (reaped.AdminDone cid st dw0) s d d' b b' same = alike-done q cid st s d d' b b' (seen_entry (over s d b) q) (seen_entry (over s d' b') q) same
 alike-reap q what s d d' b b' same = refl
 
-alike-sent : (adm : AdminKind) (id : ℕ) (entry : SubEntry) (s : State) (d d' : Device) (b b' : Bool) → Alike b (a.sent adm id entry (over s d b)) (a.sent adm id entry (over s d' b'))
+alike-sent : (adm : AdminKind) (id : ℕ) (entry : SubEntry) (s : State) (d d' : Controller) (b b' : Bool) → Alike b (a.sent adm id entry (over s d b)) (a.sent adm id entry (over s d' b'))
 alike-sent adm id entry s d d' b b' =
     alike-posted 0 entry (a.on_records (λ records. records ++ record { q = 0; cid = id; phase = Submitted; work = Management adm; data_pages = []; chain_pages = []; status = None } ∷ []) s) d d' b b'
 
@@ -122,7 +122,7 @@ abbrev pub SeesAlike : State → State → Event → Type 0
 SeesAlike t u (events.Reap q) = option_map head_of_entry (seen_entry t q) ≡ option_map head_of_entry (seen_entry u q)
 SeesAlike t u e = Unit {0}
 
-alike_after : (s : State) (d d' : Device) (b b' : Bool) (e : Event) (reply : Reply) → IsController e ≡ false → forges e ≡ false → resets e ≡ false → SeesAlike (over s d b) (over s d' b') e → Answers (over s d' b') e reply
+alike_after : (s : State) (d d' : Controller) (b b' : Bool) (e : Event) (reply : Reply) → IsController e ≡ false → forges e ≡ false → resets e ≡ false → SeesAlike (over s d b) (over s d' b') e → Answers (over s d' b') e reply
     → Alike b (a.after (over s d b) e reply) (a.after (over s d' b') e reply)
 alike_after s d d' b b' e (events.Refused why touched) c f z sees ok = refl
 alike_after s d d' b b' (events.Reserve q r) (events.Reserved dr) c f z sees ok = refl
@@ -163,20 +163,20 @@ alike_after s d d' b b' e reply c f z sees ok = absurd ok
 
 -- So a state is known behind an event by what the host alone leaves, and by the controller's part.
 pub left_alike : (s : State) (e : Event) (reply : Reply) → IsController e ≡ false → forges e ≡ false → resets e ≡ false → SeesAlike s (bare s) e → Answers (bare s) e reply
-    → a.after s e reply ≡ record (a.after (bare s) e reply) { device = (a.after s e reply).device; trusted = s.trusted }
+    → a.after s e reply ≡ record (a.after (bare s) e reply) { controller = (a.after s e reply).controller; trusted = s.trusted }
 left_alike s e reply c f z sees ok =
-    ap (λ (x : Seen). record x.0 { device = (a.after s e reply).device; trusted = x.1 }) (alike_after s s.device nothing s.trusted false e reply c f z sees ok)
+    ap (λ (x : Seen). record x.0 { controller = (a.after s e reply).controller; trusted = x.1 }) (alike_after s s.controller nothing s.trusted false e reply c f z sees ok)
 
 -- Once something was forged, nothing of the controller's part tells on the host's events.
 
 abbrev left_of : State → HostPart × Pages
 left_of s = (host_part s, s.memory)
 
-sees_blind : (s : State) (d d' : Device) (e : Event) → SeesAlike (over s d false) (over s d' false) e
+sees_blind : (s : State) (d d' : Controller) (e : Event) → SeesAlike (over s d false) (over s d' false) e
 sees_blind s d d' (events.Reap q) = refl
 sees_blind s d d' e = tt
 
-alike_blind : (s : State) (d d' : Device) (e : Event) (reply : Reply) → IsController e ≡ false → resets e ≡ false → Answers (over s d' false) e reply → Alike false (a.after (over s d false) e reply) (a.after (over s d' false) e reply)
+alike_blind : (s : State) (d d' : Controller) (e : Event) (reply : Reply) → IsController e ≡ false → resets e ≡ false → Answers (over s d' false) e reply → Alike false (a.after (over s d false) e reply) (a.after (over s d' false) e reply)
 alike_blind s d d' e (events.Refused why touched) c z ok = refl
 alike_blind s d d' (events.Forge q slot bytes) events.Accepted c z ok =
     let forged : State → HostQueue → State = λ t queue. record (a.on_memory (λ m. with_page_bytes m (slot_page queue.cq_pages 16 slot) (slot_offset 16 slot) bytes) t) { trusted = false } in
@@ -186,20 +186,20 @@ alike_blind s d d' e reply c z ok = alike_after s d d' false false e reply c ref
 
 -- and its answers are the same
 
-same_refusal : (s : State) (d d' : Device) (e : Event) → IsController e ≡ false → refusal_of (over s d false) e ≡ refusal_of (over s d' false) e
+same_refusal : (s : State) (d d' : Controller) (e : Event) → IsController e ≡ false → refusal_of (over s d false) e ≡ refusal_of (over s d' false) e
 same_refusal s d d' e c = grind arith
 
-same_touch : (s : State) (d d' : Device) (e : Event) (why : Refusal) → IsController e ≡ false → touched_by_refusal (over s d false) e why ≡ touched_by_refusal (over s d' false) e why
+same_touch : (s : State) (d d' : Controller) (e : Event) (why : Refusal) → IsController e ≡ false → touched_by_refusal (over s d false) e why ≡ touched_by_refusal (over s d' false) e why
 same_touch s d d' e why c = grind arith
 
-refuses_same : (s : State) (d d' : Device) (e : Event) (why : Refusal) (touched : List ℕ) → IsController e ≡ false → Refuses (over s d false) e why touched → Refuses (over s d' false) e why touched
+refuses_same : (s : State) (d d' : Controller) (e : Event) (why : Refusal) (touched : List ℕ) → IsController e ≡ false → Refuses (over s d false) e why touched → Refuses (over s d' false) e why touched
 refuses_same s d d' e refusal.Memory touched c h = (h.0, sym (same_refusal s d d' e c) ∙ h.1, h.2 ∙ same_touch s d d' e refusal.Memory c)
 refuses_same s d d' e why touched c h = (sym (same_refusal s d d' e c) ∙ h.0, h.1 ∙ same_touch s d d' e why c)
 
-new_same : (s : State) (d d' : Device) (q cid : ℕ) → IsNewIdentifier (over s d false) q cid → IsNewIdentifier (over s d' false) q cid
+new_same : (s : State) (d d' : Controller) (q cid : ℕ) → IsNewIdentifier (over s d false) q cid → IsNewIdentifier (over s d' false) q cid
 new_same s d d' q cid h = record { in_range = h.in_range; unused = h.unused }
 
-answers_same : (s : State) (d d' : Device) (e : Event) (reply : Reply) → IsController e ≡ false → Answers (over s d false) e reply → Answers (over s d' false) e reply
+answers_same : (s : State) (d d' : Controller) (e : Event) (reply : Reply) → IsController e ≡ false → Answers (over s d false) e reply → Answers (over s d' false) e reply
 answers_same s d d' (events.Reserve q r) (events.Reserved dr) c h =
     record { queue = h.queue; request = h.request; segment = h.segment; identifier = new_same s d d' q dr.cid h.identifier; data_pages = h.data_pages; chain_pages = h.chain_pages; free = h.free; zero = h.zero; not_built = h.not_built }
 answers_same s d d' (events.Abort q cid) (events.Sent id) c h = new_same s d d' 0 id h
@@ -220,7 +220,7 @@ into : {A : Type 0} (B : Type 0) (c : Bool) → c ≡ false → A → MatchBool 
 into B true e h = absurd (true≢false e)
 into B false e h = h
 
-permits_same : (s : State) (d d' : Device) (e : Event) (reply : Reply) → IsController e ≡ false → Permits (over s d false) e reply
+permits_same : (s : State) (d d' : Controller) (e : Event) (reply : Reply) → IsController e ≡ false → Permits (over s d false) e reply
     → Permits (over s d' false) e reply × (left_of (a.after (over s d false) e reply) ≡ left_of (a.after (over s d' false) e reply))
 permits_same s d d' e (events.Refused why touched) c h = (into _ (IsController e) c (refuses_same s d d' e why touched c (out_of _ (IsController e) c h)), refl)
 permits_same s d d' e (events.Reserved dr) c h =
@@ -232,9 +232,9 @@ permits_same s d d' e reply c h =
 
 pub blind : hosts_need_no_controller
 blind s d e reply t c h =
-    let here : over s s.device false ≡ s = ap (λ b. record s { trusted = b }) (sym t) in
-    let there : over s d false ≡ record s { device = d } = ap (λ b. record s { trusted = b; device = d }) (sym t) in
-    let both = permits_same s s.device d e reply c (subst (λ (x : State). Permits x e reply) (sym here) h) in
-    let same : left_of (a.after (record s { device = d }) e reply) ≡ left_of (a.after s e reply) =
+    let here : over s s.controller false ≡ s = ap (λ b. record s { trusted = b }) (sym t) in
+    let there : over s d false ≡ record s { controller = d } = ap (λ b. record s { trusted = b; controller = d }) (sym t) in
+    let both = permits_same s s.controller d e reply c (subst (λ (x : State). Permits x e reply) (sym here) h) in
+    let same : left_of (a.after (record s { controller = d }) e reply) ≡ left_of (a.after s e reply) =
     sym (ap (λ (x : State). left_of (a.after x e reply)) there) ∙ sym both.1 ∙ ap (λ (x : State). left_of (a.after x e reply)) here in
     (subst (λ (x : State). Permits x e reply) there both.0, ap (λ (x : HostPart × Pages). x.0) same, ap (λ (x : HostPart × Pages). x.1) same)

@@ -23,11 +23,11 @@ use Rattle.machine_model.specs.{Events.{Event, Reply}, Memory.{with_pages, witho
 use Rattle.machine_model.specs.Reached.{only, on_pages, ActIn, CourseIn}
 use Rattle.machine_model.specs.Refusals.{is_submitted, is_job, is_drafted, is_live, asks_for, in_state, refusal_of, job_at, job_is, slot_page, slot_offset}
 use Rattle.machine_model.specs.Standing.{HasEntry, ListStands, StandsAs, CommandStands, unfetched_at}
-use Rattle.machine_model.specs.State.{Answer, State, DeviceQueue, Record, Job, pages_of, is_at, with_record, record_at, without_record}
+use Rattle.machine_model.specs.State.{PostedCompletion, State, ServedQueue, Record, Job, pages_of, is_at, with_record, record_at, without_record}
 use Rattle.machine_model.specs.{Step.{times, HostPart, IsController}, Weights.{one, total, sent}, Work.Work, declared.words.Phase.TheVariants.{Drafted, Held}}
 use Rattle.machine_model.specs.declared.words.Work.TheVariants.{Io, Management}
 use Rattle.queue_pair.specs.Members.{change}
-use Rattle.two_sides.proofs.DeviceMoves.{unit_done, finished, cleared, fetch_by, walk_by, complete_by, unit_memory}
+use Rattle.two_sides.proofs.ControllerMoves.{unit_done, finished, cleared, fetch_by, walk_by, complete_by, unit_memory}
 use Rattle.two_sides.proofs.PlacesKept.{InHand, in_hand, first_is, on_job_q, on_job_entry, stopped_entry, PlacesIn}
 use Rattle.two_sides.proofs.Provided.{In, all_in_both, all_map, all_append, all_drop_one, in_found, in_at, all_in, all_with, is_found, sent_found}
 use Rattle.two_sides.proofs.Served.{counts_sent, chain_of, data_of, page_below, Stood, JobList, job_list, course_in, requests_same, first_read, brought, draft_spells}
@@ -40,104 +40,104 @@ use Rattle.page_memory.proofs.Lists.{found_is, all-back, all-found, all-filter}
 
 -- Where the controller has an entry
 
-abbrev pub Keeps : List DeviceQueue → List Job → List DeviceQueue → List Job → Type 0
+abbrev pub Keeps : List ServedQueue → List Job → List ServedQueue → List Job → Type 0
 Keeps qs js qs' js' = (q cid : ℕ) (entry : SubEntry) → HasEntry qs js q cid entry → HasEntry qs' js' q cid entry
 
-pub keeps_queue : (qs : List DeviceQueue) (js : List Job) (k : ℕ) (f : DeviceQueue → DeviceQueue)
-    → ((P : SubEntry → Type 0) (at : DeviceQueue) → AllByRecursion P at.unfetched → AllByRecursion P (f at).unfetched) → Keeps qs js (change k f qs) js
+pub keeps_queue : (qs : List ServedQueue) (js : List Job) (k : ℕ) (f : ServedQueue → ServedQueue)
+    → ((P : SubEntry → Type 0) (at : ServedQueue) → AllByRecursion P at.unfetched → AllByRecursion P (f at).unfetched) → Keeps qs js (change k f qs) js
 keeps_queue qs js k f step q cid entry h = record {
   unfetched = all_list (λ e. e.cid ≡ cid → e ≡ entry) (λ at. at.unfetched) k f qs q (λ at e all. step (λ e. e.cid ≡ cid → e ≡ entry) at all) h.unfetched;
   fetched = h.fetched;
 }
 
-keeps_state : (qs : List DeviceQueue) (js : List Job) (k : ℕ) (f : DeviceQueue → DeviceQueue) → ((at : DeviceQueue) → (f at).unfetched ≡ at.unfetched) → Keeps qs js (change k f qs) js
+keeps_state : (qs : List ServedQueue) (js : List Job) (k : ℕ) (f : ServedQueue → ServedQueue) → ((at : ServedQueue) → (f at).unfetched ≡ at.unfetched) → Keeps qs js (change k f qs) js
 keeps_state qs js k f same = keeps_queue qs js k f (λ P at all. subst (AllByRecursion P) (sym (same at)) all)
 
-pub keeps_jobs : (qs : List DeviceQueue) (js : List Job) (f : Job → Job) → ((j : Job) → (f j).q ≡ j.q) → ((j : Job) → (f j).entry ≡ j.entry) → Keeps qs js qs (map f js)
+pub keeps_jobs : (qs : List ServedQueue) (js : List Job) (f : Job → Job) → ((j : Job) → (f j).q ≡ j.q) → ((j : Job) → (f j).entry ≡ j.entry) → Keeps qs js qs (map f js)
 keeps_jobs qs js f sq se q cid entry h = record {
   unfetched = h.unfetched;
   fetched = all_map (λ j. j.q ≡ q → j.entry.cid ≡ cid → j.entry ≡ entry) (λ j. j.q ≡ q → j.entry.cid ≡ cid → j.entry ≡ entry) f js
       (λ j p eq ec. se j ∙ p (sym (sq j) ∙ eq) (ap (λ (e : SubEntry). e.cid) (sym (se j)) ∙ ec)) h.fetched;
 }
 
-keeps_filter : (qs : List DeviceQueue) (js : List Job) (keep : Job → Bool) → Keeps qs js qs (filter keep js)
+keeps_filter : (qs : List ServedQueue) (js : List Job) (keep : Job → Bool) → Keeps qs js qs (filter keep js)
 keeps_filter qs js keep q cid entry h = record { unfetched = h.unfetched; fetched = all-filter (λ j. j.q ≡ q → j.entry.cid ≡ cid → j.entry ≡ entry) keep js h.fetched }
 
-pub keeps_both : (qs qs' qs'' : List DeviceQueue) (js js' js'' : List Job) → Keeps qs js qs' js' → Keeps qs' js' qs'' js'' → Keeps qs js qs'' js''
+pub keeps_both : (qs qs' qs'' : List ServedQueue) (js js' js'' : List Job) → Keeps qs js qs' js' → Keeps qs' js' qs'' js'' → Keeps qs js qs'' js''
 keeps_both qs qs' qs'' js js' js'' f g q cid entry h = g q cid entry (f q cid entry h)
 
 -- a job comes of the entry in hand
-pub in_hand_is : (s : State) (q : ℕ) (e : SubEntry) → InHand s q e → (cid : ℕ) (entry : SubEntry) → HasEntry s.device.queues s.device.jobs q cid entry → e.cid ≡ cid → e ≡ entry
+pub in_hand_is : (s : State) (q : ℕ) (e : SubEntry) → InHand s q e → (cid : ℕ) (entry : SubEntry) → HasEntry s.controller.queues s.controller.jobs q cid entry → e.cid ≡ cid → e ≡ entry
 in_hand_is s q e hand cid entry h same =
     let first : AllByRecursion (λ e. e.cid ≡ cid → e ≡ entry) hand.queue.unfetched =
-    subst (λ (o : Option DeviceQueue). AllByRecursion (λ e. e.cid ≡ cid → e ≡ entry) (option_map_or (λ at. at.unfetched) o [])) hand.at h.unfetched in
+    subst (λ (o : Option ServedQueue). AllByRecursion (λ e. e.cid ≡ cid → e ≡ entry) (option_map_or (λ at. at.unfetched) o [])) hand.at h.unfetched in
     (subst (λ (xs : List SubEntry). AllByRecursion (λ e. e.cid ≡ cid → e ≡ entry) xs) (first_is hand.queue.unfetched e hand.first) first).0 same
 
-keeps_job : (s : State) (q : ℕ) (e : SubEntry) → InHand s q e → (qs' : List DeviceQueue) (js' : List Job) (j : Job) → j.q ≡ q → j.entry ≡ e → Keeps s.device.queues s.device.jobs qs' js' → Keeps s.device.queues s.device.jobs qs' (js' ++ j ∷ [])
+keeps_job : (s : State) (q : ℕ) (e : SubEntry) → InHand s q e → (qs' : List ServedQueue) (js' : List Job) (j : Job) → j.q ≡ q → j.entry ≡ e → Keeps s.controller.queues s.controller.jobs qs' js' → Keeps s.controller.queues s.controller.jobs qs' (js' ++ j ∷ [])
 keeps_job s q e hand qs' js' j jq je keeps k cid entry h =
     let h' = keeps k cid entry h in
     record {
       unfetched = h'.unfetched;
       fetched = all_append (λ j. j.q ≡ k → j.entry.cid ≡ cid → j.entry ≡ entry) js' (j ∷ []) h'.fetched
-          ((λ eq ec. je ∙ in_hand_is s q e hand cid entry (subst (λ (n : ℕ). HasEntry s.device.queues s.device.jobs n cid entry) (sym eq ∙ jq) h) (ap (λ (x : SubEntry). x.cid) (sym je) ∙ ec)), tt);
+          ((λ eq ec. je ∙ in_hand_is s q e hand cid entry (subst (λ (n : ℕ). HasEntry s.controller.queues s.controller.jobs n cid entry) (sym eq ∙ jq) h) (ap (λ (x : SubEntry). x.cid) (sym je) ∙ ec)), tt);
     }
 
-keeps_off : (s : State) (q : ℕ) → Keeps s.device.queues s.device.jobs (a.taken_off q s).device.queues s.device.jobs
-keeps_off s q = keeps_queue s.device.queues s.device.jobs q (λ at. record at { unfetched = drop 1 at.unfetched; rung = at.rung - 1 }) (λ P at all. all_drop_one P at.unfetched all)
+keeps_off : (s : State) (q : ℕ) → Keeps s.controller.queues s.controller.jobs (a.taken_off q s).controller.queues s.controller.jobs
+keeps_off s q = keeps_queue s.controller.queues s.controller.jobs q (λ at. record at { unfetched = drop 1 at.unfetched; rung = at.rung - 1 }) (λ P at all. all_drop_one P at.unfetched all)
 
-keeps_answered : (s t : State) (q : ℕ) (an : Answer) → Keeps s.device.queues s.device.jobs t.device.queues t.device.jobs
-    → Keeps s.device.queues s.device.jobs (change q (λ at. record at { answers = at.answers ++ an ∷ [] }) t.device.queues) t.device.jobs
+keeps_answered : (s t : State) (q : ℕ) (an : PostedCompletion) → Keeps s.controller.queues s.controller.jobs t.controller.queues t.controller.jobs
+    → Keeps s.controller.queues s.controller.jobs (change q (λ at. record at { completions = at.completions ++ an ∷ [] }) t.controller.queues) t.controller.jobs
 keeps_answered s t q an keeps =
-    let f : DeviceQueue → DeviceQueue = λ at. record at { answers = at.answers ++ an ∷ [] } in
-    keeps_both s.device.queues t.device.queues (change q f t.device.queues) s.device.jobs t.device.jobs t.device.jobs keeps (keeps_state t.device.queues t.device.jobs q f (λ at. refl))
+    let f : ServedQueue → ServedQueue = λ at. record at { completions = at.completions ++ an ∷ [] } in
+    keeps_both s.controller.queues t.controller.queues (change q f t.controller.queues) s.controller.jobs t.controller.jobs t.controller.jobs keeps (keeps_state t.controller.queues t.controller.jobs q f (λ at. refl))
 
-keeps_managed : (s : State) (e : SubEntry) → InHand s 0 e → Keeps s.device.queues s.device.jobs (a.managed e (a.taken_off 0 s)).device.queues (a.managed e (a.taken_off 0 s)).device.jobs
+keeps_managed : (s : State) (e : SubEntry) → InHand s 0 e → Keeps s.controller.queues s.controller.jobs (a.managed e (a.taken_off 0 s)).controller.queues (a.managed e (a.taken_off 0 s)).controller.jobs
 keeps_managed s e hand =
     let stop : Job → Job = λ j. record j { verdict = Some ABORT_REQUESTED; waiting_abort = Some e.cid } in
-    let qs : List DeviceQueue = (a.taken_off 0 s).device.queues in
-    let off : Keeps s.device.queues s.device.jobs (a.taken_off 0 s).device.queues s.device.jobs = keeps_off s 0 in
-    let queue : (f : DeviceQueue → DeviceQueue) → ((P : SubEntry → Type 0) (at : DeviceQueue) → AllByRecursion P at.unfetched → AllByRecursion P (f at).unfetched) → Keeps s.device.queues s.device.jobs (change (named_queue e) f qs) s.device.jobs = λ f step.
-    keeps_both s.device.queues qs (change (named_queue e) f qs) s.device.jobs s.device.jobs s.device.jobs off (keeps_queue qs s.device.jobs (named_queue e) f step) in
-    let decided : (t : State) → Keeps s.device.queues s.device.jobs t.device.queues t.device.jobs → (st : Status) (dw0 : ℕ) → Keeps s.device.queues s.device.jobs (a.decided e st dw0 t).device.queues (a.decided e st dw0 t).device.jobs = λ t keeps st dw0.
-    keeps_job s 0 e hand t.device.queues t.device.jobs (a.new_job 0 e (Some st) dw0 []) refl refl keeps in
+    let qs : List ServedQueue = (a.taken_off 0 s).controller.queues in
+    let off : Keeps s.controller.queues s.controller.jobs (a.taken_off 0 s).controller.queues s.controller.jobs = keeps_off s 0 in
+    let queue : (f : ServedQueue → ServedQueue) → ((P : SubEntry → Type 0) (at : ServedQueue) → AllByRecursion P at.unfetched → AllByRecursion P (f at).unfetched) → Keeps s.controller.queues s.controller.jobs (change (named_queue e) f qs) s.controller.jobs = λ f step.
+    keeps_both s.controller.queues qs (change (named_queue e) f qs) s.controller.jobs s.controller.jobs s.controller.jobs off (keeps_queue qs s.controller.jobs (named_queue e) f step) in
+    let decided : (t : State) → Keeps s.controller.queues s.controller.jobs t.controller.queues t.controller.jobs → (st : Status) (dw0 : ℕ) → Keeps s.controller.queues s.controller.jobs (a.decided e st dw0 t).controller.queues (a.decided e st dw0 t).controller.jobs = λ t keeps st dw0.
+    keeps_job s 0 e hand t.controller.queues t.controller.jobs (a.new_job 0 e (Some st) dw0 []) refl refl keeps in
     let s0 : State = a.taken_off 0 s in
-    managed_by (λ (t : State). Keeps s.device.queues s.device.jobs t.device.queues t.device.jobs) e s0
+    managed_by (λ (t : State). Keeps s.controller.queues s.controller.jobs t.controller.queues t.controller.jobs) e s0
     (record {
       refuses = λ st bad. decided s0 off st 0;
       aborts = λ is8 walks. decided (a.on_job (named_queue e) (named_command e) stop s0)
-          (keeps_both s.device.queues qs qs s.device.jobs s.device.jobs _ off
-          (keeps_jobs qs s.device.jobs (λ j. if (j.q == named_queue e) && (j.entry.cid == named_command e) then stop j else j)
+          (keeps_both s.controller.queues qs qs s.controller.jobs s.controller.jobs _ off
+          (keeps_jobs qs s.controller.jobs (λ j. if (j.q == named_queue e) && (j.entry.cid == named_command e) then stop j else j)
           (on_job_q (named_queue e) (named_command e) stop (λ j. refl)) (on_job_entry (named_queue e) (named_command e) stop (λ j. refl)))) _ 0;
       is_late = λ is8. decided s0 off _ 1;
-      stops = λ is0 q0 runs. decided (a.on_device (λ d. record d { jobs = map (a.stopped (named_queue e)) d.jobs }) (a.on_device_queue (named_queue e) (λ at. record at { state = Stopping }) s0))
-          (keeps_both s.device.queues (change (named_queue e) (λ at. record at { state = Stopping }) qs) (change (named_queue e) (λ at. record at { state = Stopping }) qs) s.device.jobs s.device.jobs (map (a.stopped (named_queue e)) s.device.jobs)
+      stops = λ is0 q0 runs. decided (a.on_controller (λ d. record d { jobs = map (a.stopped (named_queue e)) d.jobs }) (a.on_served_queue (named_queue e) (λ at. record at { state = Stopping }) s0))
+          (keeps_both s.controller.queues (change (named_queue e) (λ at. record at { state = Stopping }) qs) (change (named_queue e) (λ at. record at { state = Stopping }) qs) s.controller.jobs s.controller.jobs (map (a.stopped (named_queue e)) s.controller.jobs)
           (queue (λ at. record at { state = Stopping }) (λ P at all. all))
-          (keeps_jobs (change (named_queue e) (λ at. record at { state = Stopping }) qs) s.device.jobs (a.stopped (named_queue e)) (stopped_q (named_queue e)) (stopped_entry (named_queue e)))) _ 0;
-      drops = λ is4 q0 there gone. decided (a.on_device_queue (named_queue e) a.dropped s0) (queue a.dropped (λ P at all. all)) _ 0;
-      makes_completion = λ is5 q0 none. decided (a.on_device_queue (named_queue e) a.completion_made s0) (queue a.completion_made (λ P at all. all)) _ 0;
-      makes_submission = λ is1 q0 gone there. decided (a.on_device_queue (named_queue e) a.submission_made s0) (queue a.submission_made (λ P at all. tt)) _ 0;
+          (keeps_jobs (change (named_queue e) (λ at. record at { state = Stopping }) qs) s.controller.jobs (a.stopped (named_queue e)) (stopped_q (named_queue e)) (stopped_entry (named_queue e)))) _ 0;
+      drops = λ is4 q0 there gone. decided (a.on_served_queue (named_queue e) a.dropped s0) (queue a.dropped (λ P at all. all)) _ 0;
+      makes_completion = λ is5 q0 none. decided (a.on_served_queue (named_queue e) a.completion_made s0) (queue a.completion_made (λ P at all. all)) _ 0;
+      makes_submission = λ is1 q0 gone there. decided (a.on_served_queue (named_queue e) a.submission_made s0) (queue a.submission_made (λ P at all. tt)) _ 0;
     })
 
-pub keeps_fetch : (s : State) (q : ℕ) → Keeps s.device.queues s.device.jobs (a.after_fetch q s).device.queues (a.after_fetch q s).device.jobs
+pub keeps_fetch : (s : State) (q : ℕ) → Keeps s.controller.queues s.controller.jobs (a.after_fetch q s).controller.queues (a.after_fetch q s).controller.jobs
 keeps_fetch s q =
-    fetch_by (λ (t : State). Keeps s.device.queues s.device.jobs t.device.queues t.device.jobs) s q (λ k cid entry h. h)
+    fetch_by (λ (t : State). Keeps s.controller.queues s.controller.jobs t.controller.queues t.controller.jobs) s q (λ k cid entry h. h)
     (λ e n c. keeps_answered s (a.taken_off q s) q _ (keeps_off s q))
     (λ e n c z. keeps_managed s e (subst (λ (n : ℕ). InHand s n e) z (in_hand s q e n)))
     (λ e n c other. let t = a.taken_off q s in
-    keeps_job s q e (in_hand s q e n) t.device.queues s.device.jobs (a.new_job q e (io_fault (a.image_blocks t) e) 0 (bytes_after_check t.device.image e (io_fault (a.image_blocks t) e))) refl refl (keeps_off s q))
+    keeps_job s q e (in_hand s q e n) t.controller.queues s.controller.jobs (a.new_job q e (io_fault (a.image_blocks t) e) 0 (bytes_after_check t.controller.image e (io_fault (a.image_blocks t) e))) refl refl (keeps_off s q))
 
-pub keeps_walk : (s : State) (q cid : ℕ) → Keeps s.device.queues s.device.jobs (a.after_walk q cid s).device.queues (a.after_walk q cid s).device.jobs
+pub keeps_walk : (s : State) (q cid : ℕ) → Keeps s.controller.queues s.controller.jobs (a.after_walk q cid s).controller.queues (a.after_walk q cid s).controller.jobs
 keeps_walk s q cid =
-    walk_by (λ (t : State). Keeps s.device.queues s.device.jobs t.device.queues t.device.jobs) s q cid (λ k c entry h. h)
-    (λ j act at u. keeps_jobs s.device.queues s.device.jobs (λ k. if (k.q == q) && (k.entry.cid == cid) then unit_done s j act k else k) (on_job_q q cid (unit_done s j act) (λ k. refl)) (on_job_entry q cid (unit_done s j act) (λ k. refl)))
+    walk_by (λ (t : State). Keeps s.controller.queues s.controller.jobs t.controller.queues t.controller.jobs) s q cid (λ k c entry h. h)
+    (λ j act at u. keeps_jobs s.controller.queues s.controller.jobs (λ k. if (k.q == q) && (k.entry.cid == cid) then unit_done s j act k else k) (on_job_q q cid (unit_done s j act) (λ k. refl)) (on_job_entry q cid (unit_done s j act) (λ k. refl)))
 
-pub keeps_complete : (s : State) (q cid : ℕ) → Keeps s.device.queues s.device.jobs (a.after_complete q cid s).device.queues (a.after_complete q cid s).device.jobs
+pub keeps_complete : (s : State) (q cid : ℕ) → Keeps s.controller.queues s.controller.jobs (a.after_complete q cid s).controller.queues (a.after_complete q cid s).controller.jobs
 keeps_complete s q cid =
-    let less : Keeps s.device.queues s.device.jobs s.device.queues (filter (λ x. not (is_job q cid x)) s.device.jobs) = keeps_filter s.device.queues s.device.jobs (λ x. not (is_job q cid x)) in
-    complete_by (λ (t : State). Keeps s.device.queues s.device.jobs t.device.queues t.device.jobs) s q cid (λ k c entry h. h)
-    (λ j at c. keeps_answered s (a.on_device_queue (named_queue j.entry) cleared (finished q cid j s)) q _
-    (keeps_both s.device.queues s.device.queues (change (named_queue j.entry) cleared s.device.queues) s.device.jobs (finished q cid j s).device.jobs (finished q cid j s).device.jobs less
-    (keeps_queue s.device.queues (finished q cid j s).device.jobs (named_queue j.entry) cleared (λ P at all. tt))))
+    let less : Keeps s.controller.queues s.controller.jobs s.controller.queues (filter (λ x. not (is_job q cid x)) s.controller.jobs) = keeps_filter s.controller.queues s.controller.jobs (λ x. not (is_job q cid x)) in
+    complete_by (λ (t : State). Keeps s.controller.queues s.controller.jobs t.controller.queues t.controller.jobs) s q cid (λ k c entry h. h)
+    (λ j at c. keeps_answered s (a.on_served_queue (named_queue j.entry) cleared (finished q cid j s)) q _
+    (keeps_both s.controller.queues s.controller.queues (change (named_queue j.entry) cleared s.controller.queues) s.controller.jobs (finished q cid j s).controller.jobs (finished q cid j s).controller.jobs less
+    (keeps_queue s.controller.queues (finished q cid j s).controller.jobs (named_queue j.entry) cleared (λ P at all. tt))))
     (λ j at c. keeps_answered s (finished q cid j s) q _ less)
 
 -- Lists that stay while their chain pages stay
@@ -145,7 +145,7 @@ keeps_complete s q cid =
 pub only_same : (m m' : Pages) (chain : List ℕ) → ((p : ℕ) → is_among chain p ≡ true → page_at m' p ≡ page_at m p) → HasBytesOf (only (on_pages chain) (byte_at m')) (only (on_pages chain) (byte_at m))
 only_same m m' chain same place byte e = grind arith
 
-pub list_still : (m m' : Pages) (qs qs' : List DeviceQueue) (js js' : List Job) (r : Record) (request : Request) → ((p : ℕ) → is_among r.chain_pages p ≡ true → page_at m' p ≡ page_at m p)
+pub list_still : (m m' : Pages) (qs qs' : List ServedQueue) (js js' : List Job) (r : Record) (request : Request) → ((p : ℕ) → is_among r.chain_pages p ≡ true → page_at m' p ≡ page_at m p)
     → ((entry : SubEntry) → HasEntry qs js r.q r.cid entry → HasEntry qs' js' r.q r.cid entry) → ListStands m qs js r request → ListStands m' qs' js' r request
 list_still m m' qs qs' js js' r request same keeps l = record {
   first = l.first;
@@ -154,7 +154,7 @@ list_still m m' qs qs' js js' r request same keeps l = record {
   entry = keeps (io_entry r.cid request (spelling l.first)) l.entry;
 }
 
-pub commands_still : (X : Record → Type 0) (m m' : Pages) (qs qs' : List DeviceQueue) (js js' : List Job) (rs : List Record)
+pub commands_still : (X : Record → Type 0) (m m' : Pages) (qs qs' : List ServedQueue) (js js' : List Job) (rs : List Record)
     → ((r : Record) → In r rs → is_submitted r.phase ≡ true → (p : ℕ) → is_among r.chain_pages p ≡ true → page_at m' p ≡ page_at m p)
     → ((r : Record) → X r → (r.q == 0) ≡ false → is_submitted r.phase ≡ true → (entry : SubEntry) → HasEntry qs js r.q r.cid entry → HasEntry qs' js' r.q r.cid entry)
     → AllByRecursion (λ r. OwnsFit r.q r.work (pages_of r) × X r) rs → Commands m qs js rs → Commands m' qs' js' rs
@@ -166,7 +166,7 @@ commands_still X m m' qs qs' js js' rs same keeps fit h =
     of r within x (Management adm) f c = tt
 
 -- a command that is submitted no more
-pub quiet_stands : (m : Pages) (qs : List DeviceQueue) (js : List Job) (f : Record → Record) → ((r : Record) → (f r).work ≡ r.work) → ((r : Record) → (f r).data_pages ≡ r.data_pages)
+pub quiet_stands : (m : Pages) (qs : List ServedQueue) (js : List Job) (f : Record → Record) → ((r : Record) → (f r).work ≡ r.work) → ((r : Record) → (f r).data_pages ≡ r.data_pages)
     → (r : Record) → is_submitted (f r).phase ≡ false → CommandStands m qs js r → CommandStands m qs js (f r)
 quiet_stands m qs js f work pages r far c = subst (StandsAs m qs js (f r)) (sym (work r)) (of r.work c)
   where
@@ -177,7 +177,7 @@ quiet_stands m qs js f work pages r far c = subst (StandsAs m qs js (f r)) (sym 
 -- Every event keeps the lists of submitted commands.
 
 abbrev pub CommandsIn : State → Type 0
-CommandsIn s = Commands s.memory s.device.queues s.device.jobs s.host.records
+CommandsIn s = Commands s.memory s.controller.queues s.controller.jobs s.host.records
 
 abbrev Fine : Record → Type 0
 Fine r = OwnsFit r.q r.work (pages_of r) × Unit {0}
@@ -187,13 +187,13 @@ abbrev pub SamePages : State → Pages → Type 0
 SamePages s m = (p : ℕ) → 0 < total (sent_page p) s.host.records → page_at m p ≡ page_at s.memory p
 
 -- the same records, over another memory and another controller's part
-pub still : (s : State) (m : Pages) (qs : List DeviceQueue) (js : List Job) → Grounds s → SamePages s m → Keeps s.device.queues s.device.jobs qs js → CommandsIn s → Commands m qs js s.host.records
+pub still : (s : State) (m : Pages) (qs : List ServedQueue) (js : List Job) → Grounds s → SamePages s m → Keeps s.controller.queues s.controller.jobs qs js → CommandsIn s → Commands m qs js s.host.records
 still s m qs js g same keeps h =
-    commands_still (λ r. Unit {0}) s.memory m s.device.queues qs s.device.jobs js s.host.records
+    commands_still (λ r. Unit {0}) s.memory m s.controller.queues qs s.controller.jobs js s.host.records
     (λ r within sub p c. same p (counts_sent s r within sub p (chain_of r p c)))
     (λ r x other sub entry e. keeps r.q r.cid entry e) (all_in (λ r. OwnsFit r.q r.work (pages_of r)) Fine s.host.records (λ r within f. (f, tt)) g.stands.0.admins) h
 
-pub keeps_nothing : (qs : List DeviceQueue) (js : List Job) → Keeps qs js qs js
+pub keeps_nothing : (qs : List ServedQueue) (js : List Job) → Keeps qs js qs js
 keeps_nothing qs js q cid entry h = h
 
 -- Reserving
@@ -203,8 +203,8 @@ commands_reserve s q r d proper ok g h =
     let good : fault_of r.kind r.blocks r.pieces ≡ None = let e = (unrefused s (events.Reserve q r) ok.0).1.1.0 in grind arith in
     let new : Record = record { q = d.q; cid = d.cid; phase = Drafted; work = Io d.request; data_pages = numbers_of d.data_pages; chain_pages = numbers_of d.chain_pages; status = None } in
     let m = without_pages (numbers_of d.data_pages ++ numbers_of d.chain_pages) s.memory in
-    all_append (CommandStands m s.device.queues s.device.jobs) s.host.records (new ∷ [])
-    (still s m s.device.queues s.device.jobs g (λ p some. untouched s (events.Reserve q r) (events.Reserved d) ok refl g p some) (keeps_nothing s.device.queues s.device.jobs) h) (
+    all_append (CommandStands m s.controller.queues s.controller.jobs) s.host.records (new ∷ [])
+    (still s m s.controller.queues s.controller.jobs g (λ p some. untouched s (events.Reserve q r) (events.Reserved d) ok refl g p some) (keeps_nothing s.controller.queues s.controller.jobs) h) (
       (
         record {
           fits = subst FitsRequest (sym ok.1.request) proper;
@@ -264,15 +264,15 @@ pub commands_submit : (d : DraftContents) (entry : SubEntry) (r : Record) (s : S
     → CommandsIn (posts d.q entry (a.on_records (with_record d.q d.cid a.submitted) (a.on_memory (with_pages (d.data_pages ++ d.chain_pages)) s)))
 commands_submit d entry r s proper e its live g few places same h =
     let cid : entry.cid ≡ d.cid = ap (λ (x : SubEntry). x.cid) (carries_entry d entry proper.draft e) in
-    let qs = change d.q (λ at. record at { unfetched = at.unfetched ++ entry ∷ [] }) s.device.queues in
+    let qs = change d.q (λ at. record at { unfetched = at.unfetched ++ entry ∷ [] }) s.controller.queues in
     let m = (after_entry entry).memory in
-    let kept : Commands m qs s.device.jobs s.host.records =
-    commands_still (λ x. is_at d.q d.cid x ≡ true → x ≡ r) s.memory m s.device.queues qs s.device.jobs s.device.jobs s.host.records
+    let kept : Commands m qs s.controller.jobs s.host.records =
+    commands_still (λ x. is_at d.q d.cid x ≡ true → x ≡ r) s.memory m s.controller.queues qs s.controller.jobs s.controller.jobs s.host.records
     (λ x w sub p c. same p (counts_sent s x w sub p (chain_of x p c)))
     (λ x only_one other sub wanted has. others entry cid x only_one sub wanted has)
     (all_in_both (λ x. is_at d.q d.cid x ≡ true → x ≡ r) (λ r. OwnsFit r.q r.work (pages_of r)) (λ x. OwnsFit x.q x.work (pages_of x) × (is_at d.q d.cid x ≡ true → x ≡ r)) s.host.records (λ x w f o. (f, o)) g.stands.0.admins
     (is_found d.q d.cid s.host.records r its.found (g.stands.0.once d.q d.cid))) h in
-    all_with (CommandStands m qs s.device.jobs) (CommandStands m qs s.device.jobs) d.q d.cid a.submitted s.host.records r its.found (g.stands.0.once d.q d.cid) (λ x far c. c)
+    all_with (CommandStands m qs s.controller.jobs) (CommandStands m qs s.controller.jobs) d.q d.cid a.submitted s.host.records r its.found (g.stands.0.once d.q d.cid) (λ x far c. c)
     (λ c. own entry e r.work refl its.asks c) kept
   where
     after_entry : SubEntry → State
@@ -298,17 +298,17 @@ commands_submit d entry r s proper e its live g few places same h =
     not_past : past_at s.host.queues d.q ≡ false
     not_past = grind arith
 
-    no_entries : AllByRecursion (λ (e : SubEntry). e.cid ≡ d.cid → e ≡ draft_entry d) (unfetched_at s.device.queues d.q)
+    no_entries : AllByRecursion (λ (e : SubEntry). e.cid ≡ d.cid → e ≡ draft_entry d) (unfetched_at s.controller.queues d.q)
     no_entries =
-        let counted : unfetched_count d.q (λ n. one (n == d.cid)) s.host.queues s.device.queues ≡ total (λ (e : SubEntry). one (e.cid == d.cid)) (unfetched_at s.device.queues d.q) =
-        ap (λ (b : Bool). if b then 0 else total (λ (e : SubEntry). one (e.cid == d.cid)) (unfetched_at s.device.queues d.q)) not_past in
-        nobody (λ (e : SubEntry). e.cid) d.cid (λ e. e ≡ draft_entry d) (unfetched_at s.device.queues d.q) (omega (arith, counted, places d.q (λ n. one (n == d.cid)), unsent))
+        let counted : unfetched_count d.q (λ n. one (n == d.cid)) s.host.queues s.controller.queues ≡ total (λ (e : SubEntry). one (e.cid == d.cid)) (unfetched_at s.controller.queues d.q) =
+        ap (λ (b : Bool). if b then 0 else total (λ (e : SubEntry). one (e.cid == d.cid)) (unfetched_at s.controller.queues d.q)) not_past in
+        nobody (λ (e : SubEntry). e.cid) d.cid (λ e. e ≡ draft_entry d) (unfetched_at s.controller.queues d.q) (omega (arith, counted, places d.q (λ n. one (n == d.cid)), unsent))
 
-    new_entry : (entry : SubEntry) → entry ≡ draft_entry d → HasEntry (change d.q (λ at. record at { unfetched = at.unfetched ++ entry ∷ [] }) s.device.queues) s.device.jobs d.q d.cid (draft_entry d)
+    new_entry : (entry : SubEntry) → entry ≡ draft_entry d → HasEntry (change d.q (λ at. record at { unfetched = at.unfetched ++ entry ∷ [] }) s.controller.queues) s.controller.jobs d.q d.cid (draft_entry d)
     new_entry entry is = record {
-      unfetched = all_list (λ e. e.cid ≡ d.cid → e ≡ draft_entry d) (λ at. at.unfetched) d.q (λ at. record at { unfetched = at.unfetched ++ entry ∷ [] }) s.device.queues d.q
+      unfetched = all_list (λ e. e.cid ≡ d.cid → e ≡ draft_entry d) (λ at. at.unfetched) d.q (λ at. record at { unfetched = at.unfetched ++ entry ∷ [] }) s.controller.queues d.q
           (λ at z all. all_append (λ e. e.cid ≡ d.cid → e ≡ draft_entry d) at.unfetched (entry ∷ []) all ((λ c. is), tt)) no_entries;
-      fetched = (no_job d.q d.cid (λ j. j.entry ≡ draft_entry d) s.device.jobs (omega (arith, places d.q (λ n. one (n == d.cid)), unsent)));
+      fetched = (no_job d.q d.cid (λ j. j.entry ≡ draft_entry d) s.controller.jobs (omega (arith, places d.q (λ n. one (n == d.cid)), unsent)));
     }
 
     -- the chain pages stand in the store
@@ -316,7 +316,7 @@ commands_submit d entry r s proper e its live g few places same h =
     stand_there entry = all-back (λ (page : ℕ × List ℕ). page_at (after_entry entry).memory page.0 ≡ Some page.1) d.data_pages d.chain_pages (submitted_pages s d entry r its live g)
 
     new_list : (entry : SubEntry) → d.entry ≡ Some entry → (request : Request) → request ≡ d.request
-        → ListStands (after_entry entry).memory (change d.q (λ at. record at { unfetched = at.unfetched ++ entry ∷ [] }) s.device.queues) s.device.jobs (a.submitted r) request
+        → ListStands (after_entry entry).memory (change d.q (λ at. record at { unfetched = at.unfetched ++ entry ∷ [] }) s.controller.queues) s.controller.jobs (a.submitted r) request
     new_list entry e request same =
         let is : entry ≡ draft_entry d = carries_entry d entry proper.draft e in
         let ids = ids_of s d.q d.cid r its.found in
@@ -330,22 +330,22 @@ commands_submit d entry r s proper e its live g few places same h =
           spells = subst (λ (chain : List ℕ). Spells (only (on_pages chain) (byte_at (after_entry entry).memory)) (draft_first d) (joined_parts request.pieces r.data_pages)) its.chain_list
               (subst (λ (pages : List ℕ). Spells (only (on_pages (numbers_of d.chain_pages)) (byte_at (after_entry entry).memory)) (draft_first d) (joined_parts request.pieces pages)) its.data_list
               (subst (λ (x : Request). Spells (only (on_pages (numbers_of d.chain_pages)) (byte_at (after_entry entry).memory)) (draft_first d) (joined_parts x.pieces (numbers_of d.data_pages))) (sym same) spelled));
-          entry = subst (λ (x : Request). HasEntry (change d.q (λ at. record at { unfetched = at.unfetched ++ entry ∷ [] }) s.device.queues) s.device.jobs r.q r.cid (io_entry r.cid x (spelling (draft_first d)))) (sym same)
-              (subst (λ (c : ℕ). HasEntry (change d.q (λ at. record at { unfetched = at.unfetched ++ entry ∷ [] }) s.device.queues) s.device.jobs r.q c (io_entry c d.request (spelling (draft_first d)))) (sym ids.1)
-              (subst (λ (q : ℕ). HasEntry (change d.q (λ at. record at { unfetched = at.unfetched ++ entry ∷ [] }) s.device.queues) s.device.jobs q d.cid (draft_entry d)) (sym ids.0) (new_entry entry is)));
+          entry = subst (λ (x : Request). HasEntry (change d.q (λ at. record at { unfetched = at.unfetched ++ entry ∷ [] }) s.controller.queues) s.controller.jobs r.q r.cid (io_entry r.cid x (spelling (draft_first d)))) (sym same)
+              (subst (λ (c : ℕ). HasEntry (change d.q (λ at. record at { unfetched = at.unfetched ++ entry ∷ [] }) s.controller.queues) s.controller.jobs r.q c (io_entry c d.request (spelling (draft_first d)))) (sym ids.1)
+              (subst (λ (q : ℕ). HasEntry (change d.q (λ at. record at { unfetched = at.unfetched ++ entry ∷ [] }) s.controller.queues) s.controller.jobs q d.cid (draft_entry d)) (sym ids.0) (new_entry entry is)));
         }
 
     own : (entry : SubEntry) → d.entry ≡ Some entry → (w : Work) → r.work ≡ w → asks_for d.request w ≡ true
-        → StandsAs (after_entry entry).memory (change d.q (λ at. record at { unfetched = at.unfetched ++ entry ∷ [] }) s.device.queues) s.device.jobs r w
-        → StandsAs (after_entry entry).memory (change d.q (λ at. record at { unfetched = at.unfetched ++ entry ∷ [] }) s.device.queues) s.device.jobs (a.submitted r) w
+        → StandsAs (after_entry entry).memory (change d.q (λ at. record at { unfetched = at.unfetched ++ entry ∷ [] }) s.controller.queues) s.controller.jobs r w
+        → StandsAs (after_entry entry).memory (change d.q (λ at. record at { unfetched = at.unfetched ++ entry ∷ [] }) s.controller.queues) s.controller.jobs (a.submitted r) w
     own entry e (Io request) is asks c = (record { fits = c.0.fits; good = c.0.good; pages = c.0.pages }, λ sub. new_list entry e request (sym (requests_same d.request request asks)))
     own entry e (Management adm) is asks c = tt
 
     -- another command's entries are where they were
     others : (entry : SubEntry) → entry.cid ≡ d.cid → (x : Record) → (is_at d.q d.cid x ≡ true → x ≡ r) → is_submitted x.phase ≡ true → (wanted : SubEntry)
-        → HasEntry s.device.queues s.device.jobs x.q x.cid wanted → HasEntry (change d.q (λ at. record at { unfetched = at.unfetched ++ entry ∷ [] }) s.device.queues) s.device.jobs x.q x.cid wanted
+        → HasEntry s.controller.queues s.controller.jobs x.q x.cid wanted → HasEntry (change d.q (λ at. record at { unfetched = at.unfetched ++ entry ∷ [] }) s.controller.queues) s.controller.jobs x.q x.cid wanted
     others entry cid x only_one sub wanted has = record {
-      unfetched = all_list (λ e. e.cid ≡ x.cid → e ≡ wanted) (λ at. at.unfetched) d.q (λ at. record at { unfetched = at.unfetched ++ entry ∷ [] }) s.device.queues x.q
+      unfetched = all_list (λ e. e.cid ≡ x.cid → e ≡ wanted) (λ at. at.unfetched) d.q (λ at. record at { unfetched = at.unfetched ++ entry ∷ [] }) s.controller.queues x.q
           (λ at z all. all_append (λ e. e.cid ≡ x.cid → e ≡ wanted) at.unfetched (entry ∷ []) all ((λ c. absurd (clash z c)), tt)) has.unfetched;
       fetched = has.fetched;
     }
@@ -360,7 +360,7 @@ commands_submit d entry r s proper e its live g few places same h =
 same_pages : (s : State) (e : Event) (reply : Reply) → Accepts s e reply → is_walk e ≡ false → Grounds s → SamePages s (a.after s e reply).memory
 same_pages s e reply ok w g p some = untouched s e reply ok w g p some
 
-with_still : (m : Pages) (qs : List DeviceQueue) (js : List Job) (q cid : ℕ) (f : Record → Record) (s : State) (r : Record) → record_at s.host q cid ≡ Some r → Grounds s
+with_still : (m : Pages) (qs : List ServedQueue) (js : List Job) (q cid : ℕ) (f : Record → Record) (s : State) (r : Record) → record_at s.host q cid ≡ Some r → Grounds s
     → ((r : Record) → (f r).work ≡ r.work) → ((r : Record) → (f r).data_pages ≡ r.data_pages) → is_submitted (f r).phase ≡ false
     → Commands m qs js s.host.records → Commands m qs js (with_record q cid f s.host.records)
 with_still m qs js q cid f s r e g work pages far h =
@@ -370,52 +370,52 @@ with_still m qs js q cid f s r e g work pages far h =
 
 commands_ended : (q cid : ℕ) (pages : List (ℕ × List ℕ)) (s : State) → Grounds s → SamePages s (with_pages pages s.memory) → CommandsIn s → CommandsIn (a.after_end q cid pages s)
 commands_ended q cid pages s g same h =
-    all-filter (CommandStands (with_pages pages s.memory) s.device.queues s.device.jobs) (λ r. not (is_at q cid r)) s.host.records
-    (still s (with_pages pages s.memory) s.device.queues s.device.jobs g same (keeps_nothing s.device.queues s.device.jobs) h)
+    all-filter (CommandStands (with_pages pages s.memory) s.controller.queues s.controller.jobs) (λ r. not (is_at q cid r)) s.host.records
+    (still s (with_pages pages s.memory) s.controller.queues s.controller.jobs g same (keeps_nothing s.controller.queues s.controller.jobs) h)
 
 -- Sending
 
 -- queue 0 has no I/O command
 commands_sent : (adm : AdminKind) (id : ℕ) (s : State) (m : Pages) → Grounds s → SamePages s m → CommandsIn s
-    → Commands m (change 0 (λ at. record at { unfetched = at.unfetched ++ admin_entry adm id ∷ [] }) s.device.queues) s.device.jobs (s.host.records ++ sent_record adm id ∷ [])
+    → Commands m (change 0 (λ at. record at { unfetched = at.unfetched ++ admin_entry adm id ∷ [] }) s.controller.queues) s.controller.jobs (s.host.records ++ sent_record adm id ∷ [])
 commands_sent adm id s m g same h =
-    let qs = change 0 (λ at. record at { unfetched = at.unfetched ++ admin_entry adm id ∷ [] }) s.device.queues in
-    let kept : Commands m qs s.device.jobs s.host.records =
-    commands_still (λ r. Unit {0}) s.memory m s.device.queues qs s.device.jobs s.device.jobs s.host.records
+    let qs = change 0 (λ at. record at { unfetched = at.unfetched ++ admin_entry adm id ∷ [] }) s.controller.queues in
+    let kept : Commands m qs s.controller.jobs s.host.records =
+    commands_still (λ r. Unit {0}) s.memory m s.controller.queues qs s.controller.jobs s.controller.jobs s.host.records
     (λ r within sub p c. same p (counts_sent s r within sub p (chain_of r p c)))
     (λ r x other sub entry has. record {
-      unfetched = all_list (λ e. e.cid ≡ r.cid → e ≡ entry) (λ at. at.unfetched) 0 (λ at. record at { unfetched = at.unfetched ++ admin_entry adm id ∷ [] }) s.device.queues r.q
+      unfetched = all_list (λ e. e.cid ≡ r.cid → e ≡ entry) (λ at. at.unfetched) 0 (λ at. record at { unfetched = at.unfetched ++ admin_entry adm id ∷ [] }) s.controller.queues r.q
           (λ at z all. absurd (true≢false (sym (eq-eqb r.q 0 (sym z)) ∙ other))) has.unfetched;
       fetched = has.fetched;
     }) (all_in (λ r. OwnsFit r.q r.work (pages_of r)) (λ r. OwnsFit r.q r.work (pages_of r) × Unit {0}) s.host.records (λ r within f. (f, tt)) g.stands.0.admins) h in
-    all_append (CommandStands m qs s.device.jobs) s.host.records (sent_record adm id ∷ []) kept (tt, tt)
+    all_append (CommandStands m qs s.controller.jobs) s.host.records (sent_record adm id ∷ []) kept (tt, tt)
 
 -- Reaping
 
-keeps_consumed : (s : State) (q : ℕ) → Keeps s.device.queues s.device.jobs (change q (λ at. record at { answers = drop 1 at.answers }) s.device.queues) s.device.jobs
-keeps_consumed s q = keeps_queue s.device.queues s.device.jobs q (λ at. record at { answers = drop 1 at.answers }) (λ P at all. all)
+keeps_consumed : (s : State) (q : ℕ) → Keeps s.controller.queues s.controller.jobs (change q (λ at. record at { completions = drop 1 at.completions }) s.controller.queues) s.controller.jobs
+keeps_consumed s q = keeps_queue s.controller.queues s.controller.jobs q (λ at. record at { completions = drop 1 at.completions }) (λ P at all. all)
 
 commands_consumed : (q : ℕ) (s : State) → Grounds s → CommandsIn s → CommandsIn (a.consumed q s)
-commands_consumed q s g h = still s s.memory (change q (λ at. record at { answers = drop 1 at.answers }) s.device.queues) s.device.jobs g (λ p some. refl) (keeps_consumed s q) h
+commands_consumed q s g h = still s s.memory (change q (λ at. record at { completions = drop 1 at.completions }) s.controller.queues) s.controller.jobs g (λ p some. refl) (keeps_consumed s q) h
 
 -- Every event of the host
 
 commands_host : (s : State) (e : Event) (reply : Reply) → IsProper e → Accepts s e reply → IsController e ≡ false → is_walk e ≡ false → Stood s → CommandsIn (a.after s e reply)
 commands_host s e reply pr ok c w h =
-    let without : (q cid : ℕ) → Commands s.memory (a.consumed q s).device.queues s.device.jobs (without_record q cid s.host.records) = λ q cid.
-    all-filter (CommandStands s.memory (a.consumed q s).device.queues s.device.jobs) (λ r. not (is_at q cid r)) s.host.records (commands_consumed q s h.grounds h.commands) in
+    let without : (q cid : ℕ) → Commands s.memory (a.consumed q s).controller.queues s.controller.jobs (without_record q cid s.host.records) = λ q cid.
+    all-filter (CommandStands s.memory (a.consumed q s).controller.queues s.controller.jobs) (λ r. not (is_at q cid r)) s.host.records (commands_consumed q s h.grounds h.commands) in
     host_moves (λ (e : Event) (reply : Reply) (t : State). IsProper e → SamePages s t.memory → CommandsIn t) s e reply ok c
     (record {
       reserves = λ q request d none is pr same. commands_reserve s q request d pr (none, is) h.grounds h.commands;
       submits = λ d entry r none built its live pr same. commands_submit d entry r s pr built its live h.grounds h.few h.places same h.commands;
       cancels = λ d r its pr same. commands_ended d.q d.cid (d.data_pages ++ d.chain_pages) s h.grounds same h.commands;
       rings = λ q none pr same.
-          still s s.memory (change q (λ at. record at { rung = length at.unfetched }) s.device.queues) s.device.jobs h.grounds (λ p some. refl)
-          (keeps_queue s.device.queues s.device.jobs q (λ at. record at { rung = length at.unfetched }) (λ P at all. all)) h.commands;
+          still s s.memory (change q (λ at. record at { rung = length at.unfetched }) s.controller.queues) s.controller.jobs h.grounds (λ p some. refl)
+          (keeps_queue s.controller.queues s.controller.jobs q (λ at. record at { rung = length at.unfetched }) (λ P at all. all)) h.commands;
       rests = λ q is pr same. h.commands;
       rejects = λ q why is pr same. commands_consumed q s h.grounds h.commands;
       tells = λ q cid st what e r request t heard w pr same.
-          with_still s.memory (a.consumed q s).device.queues s.device.jobs q cid (a.held st) s r heard.found h.grounds (λ x. refl) (λ x. refl) refl (commands_consumed q s h.grounds h.commands);
+          with_still s.memory (a.consumed q s).controller.queues s.controller.jobs q cid (a.held st) s r heard.found h.grounds (λ x. refl) (λ x. refl) refl (commands_consumed q s h.grounds h.commands);
       hears = λ q cid st what e r adm t heard w quiet unmade pr same. without q cid;
       notes = λ q cid st what e r k t heard w pr same. without q cid;
       frees = λ q cid st what e r k queue t heard w at alone good pr same. without q cid;
@@ -424,8 +424,8 @@ commands_host s e reply pr ok c w h =
       makes_sq = λ q cid st what e r k n base t heard w good pr same. without q cid;
       unmakes_sq = λ q cid st what e r k n base queue t heard w at bad pr same. without q cid;
       collects = λ q cid r f at held is pr same.
-          with_still (without_pages (pages_of r) s.memory) s.device.queues s.device.jobs q cid a.collected s r at h.grounds (λ x. refl) (λ x. refl) refl
-          (still s (without_pages (pages_of r) s.memory) s.device.queues s.device.jobs h.grounds same (keeps_nothing s.device.queues s.device.jobs) h.commands);
+          with_still (without_pages (pages_of r) s.memory) s.controller.queues s.controller.jobs q cid a.collected s r at h.grounds (λ x. refl) (λ x. refl) refl
+          (still s (without_pages (pages_of r) s.memory) s.controller.queues s.controller.jobs h.grounds same (keeps_nothing s.controller.queues s.controller.jobs) h.commands);
       releases = λ f r its pr same. commands_ended f.q f.cid (f.data_pages ++ f.chain_pages) s h.grounds same h.commands;
       aborts = λ q cid id none new pr same. commands_sent (Abort q cid) id s (sends (Abort q cid) id s).memory h.grounds same h.commands;
       asks = λ q id queue none new live pr same. commands_sent (DeleteSq q) id s (sends (DeleteSq q) id s).memory h.grounds same h.commands;
@@ -433,29 +433,29 @@ commands_host s e reply pr ok c w h =
       creates_cqs = λ q id first queue none new granted pr same. commands_sent (creates_cq q first s) id s (sends (creates_cq q first s) id (grants_cq q first s)).memory h.grounds same h.commands;
       creates_sqs = λ q id first queue none new granted pr same. commands_sent (creates_sq q first s) id s (sends (creates_sq q first s) id (grants_sq q first s)).memory h.grounds same h.commands;
       retires = λ q queue none at deleted pr same.
-          all_map (CommandStands s.memory s.device.queues s.device.jobs) (CommandStands s.memory s.device.queues s.device.jobs) (a.lost q) s.host.records (λ r c. lose r ((r.q == q) && is_submitted r.phase) c) h.commands;
+          all_map (CommandStands s.memory s.controller.queues s.controller.jobs) (CommandStands s.memory s.controller.queues s.controller.jobs) (a.lost q) s.host.records (λ r c. lose r ((r.q == q) && is_submitted r.phase) c) h.commands;
       forges = λ q slot bytes queue none at pr same.
-          still s (with_page_bytes s.memory (slot_page queue.cq_pages 16 slot) (slot_offset 16 slot) bytes) s.device.queues s.device.jobs h.grounds same (keeps_nothing s.device.queues s.device.jobs) h.commands;
+          still s (with_page_bytes s.memory (slot_page queue.cq_pages 16 slot) (slot_offset 16 slot) bytes) s.controller.queues s.controller.jobs h.grounds same (keeps_nothing s.controller.queues s.controller.jobs) h.commands;
       resets = λ pr same.
           let m = with_pages (zeroed_pages (a.admin_pages s.host.queues)) s.memory in
-          all_reset (CommandStands s.memory s.device.queues s.device.jobs) (CommandStands m (a.reset_device_queues s.device.queues) [])
-          (λ r io p. reset_command m (a.reset_device_queues s.device.queues) [] r (sized_of s.memory s.device.queues s.device.jobs r p)) s.host.records h.commands;
+          all_reset (CommandStands s.memory s.controller.queues s.controller.jobs) (CommandStands m (a.reset_served_queues s.controller.queues) [])
+          (λ r io p. reset_command m (a.reset_served_queues s.controller.queues) [] r (sized_of s.memory s.controller.queues s.controller.jobs r p)) s.host.records h.commands;
     }) pr (same_pages s e reply ok w h.grounds)
   where
-    lose : (r : Record) (b : Bool) → CommandStands s.memory s.device.queues s.device.jobs r
-        → CommandStands s.memory s.device.queues s.device.jobs (if b then record r { phase = Held; status = Some ABORTED_SQ_DELETION } else r)
-    lose r true c = quiet_stands s.memory s.device.queues s.device.jobs (λ x. record x { phase = Held; status = Some ABORTED_SQ_DELETION }) (λ x. refl) (λ x. refl) r refl c
+    lose : (r : Record) (b : Bool) → CommandStands s.memory s.controller.queues s.controller.jobs r
+        → CommandStands s.memory s.controller.queues s.controller.jobs (if b then record r { phase = Held; status = Some ABORTED_SQ_DELETION } else r)
+    lose r true c = quiet_stands s.memory s.controller.queues s.controller.jobs (λ x. record x { phase = Held; status = Some ABORTED_SQ_DELETION }) (λ x. refl) (λ x. refl) r refl c
     lose r false c = c
 
 -- The controller
 
 commands_controller : (s : State) (e : Event) (reply : Reply) → IsController e ≡ true
     → ((r : Record) → In r s.host.records → is_submitted r.phase ≡ true → (p : ℕ) → is_among r.chain_pages p ≡ true → page_at (a.after s e reply).memory p ≡ page_at s.memory p)
-    → Keeps s.device.queues s.device.jobs (a.after s e reply).device.queues (a.after s e reply).device.jobs → Grounds s → CommandsIn s → CommandsIn (a.after s e reply)
+    → Keeps s.controller.queues s.controller.jobs (a.after s e reply).controller.queues (a.after s e reply).controller.jobs → Grounds s → CommandsIn s → CommandsIn (a.after s e reply)
 commands_controller s e reply c same keeps g h =
     let t = a.after s e reply in
-    subst (λ (part : HostPart). Commands t.memory t.device.queues t.device.jobs part.host.records) (sym (part_controller s e reply c))
-    (commands_still (λ r. Unit {0}) s.memory t.memory s.device.queues t.device.queues s.device.jobs t.device.jobs s.host.records same (λ r x other sub entry has. keeps r.q r.cid entry has)
+    subst (λ (part : HostPart). Commands t.memory t.controller.queues t.controller.jobs part.host.records) (sym (part_controller s e reply c))
+    (commands_still (λ r. Unit {0}) s.memory t.memory s.controller.queues t.controller.queues s.controller.jobs t.controller.jobs s.host.records same (λ r x other sub entry has. keeps r.q r.cid entry has)
     (all_in (λ r. OwnsFit r.q r.work (pages_of r)) (λ r. OwnsFit r.q r.work (pages_of r) × Unit {0}) s.host.records (λ r within f. (f, tt)) g.stands.0.admins) h)
 
 -- Walking
@@ -477,7 +477,7 @@ pub record Walking (s : State) (q cid : ℕ) (j : Job) : Type 0 where
 pub walking : (s : State) (q cid : ℕ) (j : Job) → refusal_of s (events.Walk q cid) ≡ None → Stood s → job_at s q cid ≡ Some j → Walking s q cid j
 walking s q cid j none stood e =
     let idle : job_is (λ j. is_some j.verdict || (j.q == 0)) s q cid ≡ false = (unrefused s (events.Walk q cid) none).1.0 in
-    let ids = and_parts (j.q == q) (j.entry.cid == cid) (found_is (is_job q cid) s.device.jobs j e) in
+    let ids = and_parts (j.q == q) (j.entry.cid == cid) (found_is (is_job q cid) s.controller.jobs j e) in
     let parts = or_parts (is_some j.verdict) (j.q == 0) (sym (ap (λ (o : Option Job). option_map_or (λ j. is_some j.verdict || (j.q == 0)) o false) e) ∙ idle) in
     record {
       found = e;
@@ -485,7 +485,7 @@ walking s q cid j none stood e =
       its_id = eqb-true j.entry.cid cid ids.1;
       other = parts.1;
       verdict = (let e = parts.0 in grind arith);
-      list = job_list s stood j (in_found (is_job q cid) s.device.jobs j e) parts.1 (λ P all. all-found P (is_job q cid) s.device.jobs j e all);
+      list = job_list s stood j (in_found (is_job q cid) s.controller.jobs j e) parts.1 (λ P all. all-found P (is_job q cid) s.controller.jobs j e all);
     }
 
 -- what a unit writes lies on its data pages

@@ -10,17 +10,17 @@ use Rattle.entry_codec.specs.{Completion.completion_bytes, declared.{admin_opcod
 use Rattle.entry_codec.specs.declared.status.Status.{Status}
 use Rattle.host_core.proofs.Lists.{change-other}
 use Rattle.machine_model.proofs.{Counting.{one, total}, Steps.{in_store, in_store-with_bytes}, Tokens.is_job}
-use Rattle.machine_model.specs.After.{change, deletion_done, final_status, image_completed, on_device, without_job, after_complete, answered}
+use Rattle.machine_model.specs.After.{change, deletion_done, final_status, image_completed, on_controller, without_job, after_complete, answered}
 use Rattle.machine_model.specs.{Agreeing.on_queue, Memory.{is_in, memory_of}}
-use Rattle.machine_model.specs.Refusals.{answers_full, in_service, is_abort_of, job_at, post_page, refusal_of, slot_offset, waits}
-use Rattle.machine_model.specs.{State.{State, DeviceQueue, HostQueue, Job}, Step.Permits}
+use Rattle.machine_model.specs.Refusals.{completions_full, in_service, is_abort_of, job_at, post_page, refusal_of, slot_offset, waits}
+use Rattle.machine_model.specs.{State.{State, ServedQueue, HostQueue, Job}, Step.Permits}
 use Rattle.two_sides.proofs.{AdminKept.{admin_ended, places_left}, Agreed.agreed_linked}
 use Rattle.two_sides.proofs.Answering.{CanAnswer, answer_is, answer_seen, answer_shares, answer_spares_commands, answer_spares_queues, answer_stands, page_is_in, post_room, slot_is_in, slot_written, with_completion}
-use Rattle.two_sides.proofs.{Assembling.{ServesOver, serve_refused, served_stepped}, DeviceMoves.cleared}
-use Rattle.two_sides.proofs.{Frames.{queue_stays, stands_still, walks_stay, IsKnown, device_at, known, there_ring, tied_of}, JobLaws.length-completion_bytes}
-use Rattle.two_sides.proofs.Places.{devices_changed, stands_changed, filter-map, IsFound, any-map, is_found, job-at, job-found, Shows, answers_full_is, post_page_is, shows}
+use Rattle.two_sides.proofs.{Assembling.{ServesOver, serve_refused, served_stepped}, ControllerMoves.cleared}
+use Rattle.two_sides.proofs.{Frames.{queue_stays, stands_still, walks_stay, IsKnown, served_at, known, there_ring, tied_of}, JobLaws.length-completion_bytes}
+use Rattle.two_sides.proofs.Places.{controllers_changed, stands_changed, filter-map, IsFound, any-map, is_found, job-at, job-found, Shows, completions_full_is, post_page_is, shows}
 use Rattle.two_sides.{proofs.{Provided.in_found, Serving.{with_served, either_by, same_pages}, Shared.belled}, specs.Serving.why_of}
-use Rattle.two_sides.specs.Sides.{Sides, state_of, device_of, device_queues_of, job_of, answer_of, device_queue_of}
+use Rattle.two_sides.specs.Sides.{Sides, state_of, controller_part, served_queues_of, job_of, posted_completion, served_queue_of}
 use Rattle.two_sides.specs.Stepping.{LeavesPages, StepsTo, served, completes_step, completes_refuse_alike}
 use Rattle.two_sides.specs.Ties.{AllQueuesStand, QueueStands, ShareQueue, ShareQueues, IsWorld, SharesAdmin, WalkStands, WalksStand, has_ring}
 use Rattle.page_memory.specs.{Memory.Memory, Pages.{Pages, byte_at}}
@@ -42,16 +42,16 @@ end_fits blocks q done image work fits = grind arith
 -- The queues
 
 -- the machine's queues behind the end of a command
-abbrev pub devices_of_end : Work → List DeviceQueue → List DeviceQueue
-devices_of_end (Io job) queues = queues
-devices_of_end (Admin entry status dw0) queues = if is_deletion entry status then change (named_queue entry) cleared queues else queues
+abbrev pub controllers_of_end : Work → List ServedQueue → List ServedQueue
+controllers_of_end (Io job) queues = queues
+controllers_of_end (Admin entry status dw0) queues = if is_deletion entry status then change (named_queue entry) cleared queues else queues
 
-pub devices_ended : (m : Memory) (work : Work) (hs : List HostQueue) (cs : List ControllerQueue) → device_queues_of m hs (queues_of_end work cs) ≡ devices_of_end work (device_queues_of m hs cs)
-devices_ended m (Io job) hs cs = refl
-devices_ended m (Admin entry status dw0) hs cs = go (is_deletion entry status)
+pub controllers_ended : (m : Memory) (work : Work) (hs : List HostQueue) (cs : List ControllerQueue) → served_queues_of m hs (queues_of_end work cs) ≡ controllers_of_end work (served_queues_of m hs cs)
+controllers_ended m (Io job) hs cs = refl
+controllers_ended m (Admin entry status dw0) hs cs = go (is_deletion entry status)
   where
-    go : (b : Bool) → device_queues_of m hs (if b then change (named_queue entry) without_submission cs else cs) ≡ (if b then change (named_queue entry) cleared (device_queues_of m hs cs) else device_queues_of m hs cs)
-    go true = devices_changed m m (named_queue entry) without_submission cleared hs cs (λ h c e f. refl) (λ i h c other e f. refl)
+    go : (b : Bool) → served_queues_of m hs (if b then change (named_queue entry) without_submission cs else cs) ≡ (if b then change (named_queue entry) cleared (served_queues_of m hs cs) else served_queues_of m hs cs)
+    go true = controllers_changed m m (named_queue entry) without_submission cleared hs cs (λ h c e f. refl) (λ i h c other e f. refl)
     go false = refl
 
 pub stands_ended : (n : ℕ) (m : Memory) (work : Work) (hs : List HostQueue) (cs : List ControllerQueue) → AllQueuesStand n m zero hs cs → AllQueuesStand n m zero hs (queues_of_end work cs)
@@ -83,18 +83,18 @@ share_ended n (Admin entry status dw0) hs cs share = go (is_deletion entry statu
     go false = share
 
 -- A command's own queue isn't the one that it deletes.
-pub devices_end_elsewhere : (blocks q done : ℕ) (work : Work) (queues : List DeviceQueue) → FitsWork blocks q done work → slice_get (devices_of_end work queues) q ≡ slice_get queues q
-devices_end_elsewhere blocks q done (Io job) queues fits = refl
-devices_end_elsewhere blocks q done (Admin entry status dw0) queues fits = elim (cases_Bool (is_deletion entry status)) [
+pub controllers_end_elsewhere : (blocks q done : ℕ) (work : Work) (queues : List ServedQueue) → FitsWork blocks q done work → slice_get (controllers_of_end work queues) q ≡ slice_get queues q
+controllers_end_elsewhere blocks q done (Io job) queues fits = refl
+controllers_end_elsewhere blocks q done (Admin entry status dw0) queues fits = elim (cases_Bool (is_deletion entry status)) [
   | inl e ↦ rw e (change-other (named_queue entry) q cleared queues (λ same. eqb-false (named_queue entry) 0 (fits.2 e) (same ∙ fits.0)))
   | inr e ↦ rw e refl
 ]
 
 -- Another change of a queue bears it.
-pub devices_end_behind : (work : Work) (q : ℕ) (f : DeviceQueue → DeviceQueue) (queues : List DeviceQueue) → ((at : DeviceQueue) → cleared (f at) ≡ f (cleared at))
-    → devices_of_end work (change q f queues) ≡ change q f (devices_of_end work queues)
-devices_end_behind (Io job) q f queues bears = refl
-devices_end_behind (Admin entry status dw0) q f queues bears = go (is_deletion entry status)
+pub controllers_end_behind : (work : Work) (q : ℕ) (f : ServedQueue → ServedQueue) (queues : List ServedQueue) → ((at : ServedQueue) → cleared (f at) ≡ f (cleared at))
+    → controllers_of_end work (change q f queues) ≡ change q f (controllers_of_end work queues)
+controllers_end_behind (Io job) q f queues bears = refl
+controllers_end_behind (Admin entry status dw0) q f queues bears = go (is_deletion entry status)
   where
     go : (b : Bool) → (if b then change (named_queue entry) cleared (change q f queues) else change q f queues) ≡ change q f (if b then change (named_queue entry) cleared queues else queues)
     go true = change-change (named_queue entry) q cleared f bears queues
@@ -102,14 +102,14 @@ devices_end_behind (Admin entry status dw0) q f queues bears = go (is_deletion e
 
 -- At the machine
 
-pub status_seen : (s : State) (k : FetchedCommand) (blocks : ℕ) → FitsWork blocks k.q k.units_done k.work → final_status s (job_of k) ≡ status_of_end s.device.image k.work
+pub status_seen : (s : State) (k : FetchedCommand) (blocks : ℕ) → FitsWork blocks k.q k.units_done k.work → final_status s (job_of k) ≡ status_of_end s.controller.image k.work
 status_seen s k blocks fits = grind arith
 
 image_seen : (image : List ℕ) (k : FetchedCommand) (blocks : ℕ) → FitsWork blocks k.q k.units_done k.work → image_completed (job_of k) image ≡ image_of_end image k.work
 image_seen image k blocks fits = grind arith
 
 deletion_seen : (s : State) (image : List ℕ) (k : FetchedCommand) (blocks : ℕ) → FitsWork blocks k.q k.units_done k.work
-    → deletion_done (job_of k) (status_of_end image k.work) s ≡ with_served s s.memory (devices_of_end k.work s.device.queues) s.device.jobs s.device.image
+    → deletion_done (job_of k) (status_of_end image k.work) s ≡ with_served s s.memory (controllers_of_end k.work s.controller.queues) s.controller.jobs s.controller.image
 deletion_seen s image k blocks fits = grind arith
 
 pub jobs-without : (q cid : ℕ) (commands : List FetchedCommand) → map job_of (without_command q cid commands) ≡ filter (λ j. not (is_job q cid j)) (map job_of commands)
@@ -117,11 +117,11 @@ jobs-without q cid commands = sym (filter-map job_of (λ (j : Job). not (is_job 
 
 -- the machine's state behind the end of a command, before its completion is posted
 pub ended : (s : Sides) (q cid : ℕ) (k : FetchedCommand) (blocks : ℕ) → FitsWork blocks k.q k.units_done k.work
-    → with_served (state_of s) s.pages (devices_of_end k.work (device_of s).queues) (map job_of (without_command q cid s.controller.commands)) (image_of_end s.controller.image k.work)
-    ≡ deletion_done (job_of k) (status_of_end s.controller.image k.work) (on_device (λ d. record d { image = image_completed (job_of k) d.image }) (without_job q cid (state_of s)))
+    → with_served (state_of s) s.pages (controllers_of_end k.work (controller_part s).queues) (map job_of (without_command q cid s.controller.commands)) (image_of_end s.controller.image k.work)
+    ≡ deletion_done (job_of k) (status_of_end s.controller.image k.work) (on_controller (λ d. record d { image = image_completed (job_of k) d.image }) (without_job q cid (state_of s)))
 ended s q cid k blocks fits =
-    ap₂ (with_served (state_of s) s.pages (devices_of_end k.work (device_of s).queues)) (jobs-without q cid s.controller.commands) (sym (image_seen s.controller.image k blocks fits))
-    ∙ sym (deletion_seen (on_device (λ d. record d { image = image_completed (job_of k) d.image }) (without_job q cid (state_of s))) s.controller.image k blocks fits)
+    ap₂ (with_served (state_of s) s.pages (controllers_of_end k.work (controller_part s).queues)) (jobs-without q cid s.controller.commands) (sym (image_seen s.controller.image k blocks fits))
+    ∙ sym (deletion_seen (on_controller (λ d. record d { image = image_completed (job_of k) d.image }) (without_job q cid (state_of s))) s.controller.image k blocks fits)
 
 -- The completion of a command is a step of the machine, and leaves both sides tied.
 
@@ -130,20 +130,20 @@ ended s q cid k blocks fits =
 there : (s : Sides) → IsWorld s → s.trusted ≡ true → (q cid : ℕ) (k : FetchedCommand) (h : HostQueue) (c : ControllerQueue) → find (is_command q cid) s.controller.commands ≡ Some k
     → slice_get s.host.host.queues q ≡ Some h → slice_get s.controller.queues q ≡ Some c → is_absent c.state ≡ false
 there s world t q cid k h c found at here =
-    ap (λ (o : Option DeviceQueue). option_map_or (λ at. is_absent at.state) o true) (sym (device_at s q h c at here))
+    ap (λ (o : Option ServedQueue). option_map_or (λ at. is_absent at.state) o true) (sym (served_at s q h c at here))
     ∙ (agreed_linked (state_of s) (tied_of s world t).agree).jobs_have_queues q cid (ap is_some (job-found s q cid k found))
 
 -- and the host has it in service
 served_there : (s : Sides) → IsWorld s → s.trusted ≡ true → (q cid : ℕ) (k : FetchedCommand) (h : HostQueue) → find (is_command q cid) s.controller.commands ≡ Some k → slice_get s.host.host.queues q ≡ Some h → in_service h.state ≡ true
 served_there s world t q cid k h found at =
     let named = and_parts (k.q == q) ((entry_of_work k.work).cid == cid) (is_found s world q cid k found).named in
-    let some : 0 < total (on_queue q) (state_of s).device.jobs = omega (arith, ap one named.0, in_found (is_job q cid) (state_of s).device.jobs (job_of k) (job-found s q cid k found) (on_queue q)) in
+    let some : 0 < total (on_queue q) (state_of s).controller.jobs = omega (arith, ap one named.0, in_found (is_job q cid) (state_of s).controller.jobs (job_of k) (job-found s q cid k found) (on_queue q)) in
     not-false (in_service h.state)
     (sym (ap (λ (o : Option HostQueue). option_map_or (λ h. not (in_service h.state)) o false) at) ∙ (tied_of s world t).agree.job_service q some)
 
 -- The refusals
 
-refused_by : (s : State) (q cid : ℕ) (j : Job) (waiting full : Bool) → job_at s q cid ≡ Some j → waits s j ≡ waiting → answers_full s q ≡ full → is_in s.memory (post_page s q) ≡ true
+refused_by : (s : State) (q cid : ℕ) (j : Job) (waiting full : Bool) → job_at s q cid ≡ Some j → waits s j ≡ waiting → completions_full s q ≡ full → is_in s.memory (post_page s q) ≡ true
     → refusal_of s (events.Complete q cid) ≡ (if is_none j.verdict then Some refusal.Walking else if waiting then Some refusal.Waits else if full then Some refusal.Full else None)
 refused_by s q cid j waiting full ej ew ef ei = rw (← ew, ← ef, ej, ei) refl
 
@@ -175,12 +175,12 @@ complete_refused_alike s q cid world t = go (find (is_command q cid) s.controlle
         let has = known.fits.half (there s world t q cid k h c e found.host_here found.queue_here) in
         let used = there_ring h c has in
         let shown = shows s q h c found.host_here found.queue_here in
-        let full = is_full c.device.entries c.device.ring.known_head c.device.ring.tail in
-        refused_by (state_of s) q cid (job_of k) (waits_among s.controller.commands k) full (job-found s q cid k e) (waits_seen s k) (answers_full_is (state_of s) s q h c shown known has)
+        let full = is_full c.controller.entries c.controller.ring.known_head c.controller.ring.tail in
+        refused_by (state_of s) q cid (job_of k) (waits_among s.controller.commands k) full (job-found s q cid k e) (waits_seen s k) (completions_full_is (state_of s) s q h c shown known has)
         (ap (is_in s.pages) (post_page_is (state_of s) s q h c shown known has) ∙ page_is_in s q h c known used)
-        ∙ same_causes (is_none (verdict_of_work k.work)) (waits_among s.controller.commands k) full (is_none (completion_slot (byte_at s.pages) c.device.cq c.device.ring.tail))
-        (none_some _ (completion_there (byte_at s.pages) c.device.cq s.host.entries c.device.ring.tail (known.completion_in used) (subst (λ (n : ℕ). c.device.ring.tail < n) known.placed.share.entries known.placed.share.side.tail)))
-        ∙ ap (λ (o : Option ControllerQueue). option_map why_of (if is_none (verdict_of_work k.work) then Some because.Walking else if waits_among s.controller.commands k then Some because.Waits else option_map_or (λ queue. post_refusal (byte_at s.pages) queue.device) o None)) (sym found.queue_here)
+        ∙ same_causes (is_none (verdict_of_work k.work)) (waits_among s.controller.commands k) full (is_none (completion_slot (byte_at s.pages) c.controller.cq c.controller.ring.tail))
+        (none_some _ (completion_there (byte_at s.pages) c.controller.cq s.host.entries c.controller.ring.tail (known.completion_in used) (subst (λ (n : ℕ). c.controller.ring.tail < n) known.placed.share.entries known.placed.share.side.tail)))
+        ∙ ap (λ (o : Option ControllerQueue). option_map why_of (if is_none (verdict_of_work k.work) then Some because.Walking else if waits_among s.controller.commands k then Some because.Waits else option_map_or (λ queue. post_refusal (byte_at s.pages) queue.controller) o None)) (sym found.queue_here)
 
 may_refuse : (s : Sides) (q cid : ℕ) (why : controller.Refusal) → IsWorld s → complete_refusal s.controller (byte_at s.pages) q cid ≡ Some why → Permits (state_of s) (events.Complete q cid) (events.Refused (why_of why) [])
 may_refuse s q cid why world e =
@@ -193,11 +193,11 @@ may_refuse s q cid why world e =
     first true why o here rest = here
     first false why o here rest = rest
 
-    posts : (o : Option ControllerQueue) → IfSome (option_map_or (λ queue. post_refusal (byte_at s.pages) queue.device) o None) Allowed
+    posts : (o : Option ControllerQueue) → IfSome (option_map_or (λ queue. post_refusal (byte_at s.pages) queue.controller) o None) Allowed
     posts None = tt
     posts (Some c) =
-        first (is_full c.device.entries c.device.ring.known_head c.device.ring.tail) because.Full _ (λ h. either_by s.trusted _ _ (λ t. (h t, refl)) (λ f. refl))
-        (first (is_none (completion_slot (byte_at s.pages) c.device.cq c.device.ring.tail)) because.SlotOut None (λ h. either_by s.trusted _ _ (λ t. (h t, refl)) (λ f. refl)) tt)
+        first (is_full c.controller.entries c.controller.ring.known_head c.controller.ring.tail) because.Full _ (λ h. either_by s.trusted _ _ (λ t. (h t, refl)) (λ f. refl))
+        (first (is_none (completion_slot (byte_at s.pages) c.controller.cq c.controller.ring.tail)) because.SlotOut None (λ h. either_by s.trusted _ _ (λ t. (h t, refl)) (λ f. refl)) tt)
 
     causes : (o : Option FetchedCommand) → IfSome (option_map_or (command_refusal s.controller (byte_at s.pages) q) o (Some because.NoJob)) Allowed
     causes None = λ h. either_by s.trusted _ _ (λ t. (h t, refl)) (λ f. refl)
@@ -212,7 +212,7 @@ refused_not true why o e = cc
 refused_not false why o e = (refl, e)
 
 after_complete_is : (s : State) (q cid : ℕ) (j : Job) (st : Status) → job_at s q cid ≡ Some j → final_status s j ≡ st
-    → after_complete q cid s ≡ answered q cid st j.dw0 (deletion_done j st (on_device (λ d. record d { image = image_completed j d.image }) (without_job q cid s)))
+    → after_complete q cid s ≡ answered q cid st j.dw0 (deletion_done j st (on_controller (λ d. record d { image = image_completed j d.image }) (without_job q cid s)))
 after_complete_is s q cid j st ej est = rw (← est, ej) refl
 
 module _ (s : Sides) (q cid : ℕ) (c : Contents) (pages : Pages) (touched : List ℕ) (world : IsWorld s) (leaves : LeavesPages s.pages pages) (free : complete_refusal s.controller (byte_at s.pages) q cid ≡ None) (w : CompletesTo s.controller q cid (byte_at s.pages) [] c (byte_at pages) touched) where
@@ -226,7 +226,7 @@ module _ (s : Sides) (q cid : ℕ) (c : Contents) (pages : Pages) (touched : Lis
   st = status_of_end s.controller.image k.work
 
   abbrev e : ComEntry
-  e = completion_by q cid st (dw0_of_work k.work) x.device
+  e = completion_by q cid st (dw0_of_work k.work) x.controller
 
   -- the pages with it, and what they show
   abbrev posted : Pages
@@ -241,20 +241,20 @@ module _ (s : Sides) (q cid : ℕ) (c : Contents) (pages : Pages) (touched : Lis
   found : IsFound s q cid k
   found = is_found s world q cid k w.found
 
-  room : (is_full x.device.entries x.device.ring.known_head x.device.ring.tail ≡ false) × (completion_slot (byte_at s.pages) x.device.cq x.device.ring.tail ≢ None)
+  room : (is_full x.controller.entries x.controller.ring.known_head x.controller.ring.tail ≡ false) × (completion_slot (byte_at s.pages) x.controller.cq x.controller.ring.tail ≢ None)
   -- there is room for it, and its slot is in
-  room = post_room (byte_at s.pages) x.device (grind arith)
+  room = post_room (byte_at s.pages) x.controller (grind arith)
 
   pages_are : pages ≡ posted
   pages_are =
-      slot_written s.pages pages x.device.cq x.device.ring.tail (completion_bytes e) world.sides.over.pool leaves
-      (slot_is_in s.pages x.device.cq x.device.ring.tail room.1) (length-completion_bytes e) w.memory
+      slot_written s.pages pages x.controller.cq x.controller.ring.tail (completion_bytes e) world.sides.over.pool leaves
+      (slot_is_in s.pages x.controller.cq x.controller.ring.tail room.1) (length-completion_bytes e) w.memory
 
   -- whatever was forged
   serves : IsController c → ServesOver s c pages
   serves is = record {
     leaves = leaves;
-    in_store = ap in_store pages_are ∙ in_store-with_bytes s.pages (page_posted x.device) (slot_offset 16 x.device.ring.tail) (completion_bytes e);
+    in_store = ap in_store pages_are ∙ in_store-with_bytes s.pages (page_posted x.controller) (slot_offset 16 x.controller.ring.tail) (completion_bytes e);
     controller = is;
     queues =
         subst (λ (c : Contents). ShareQueues s.host.entries 0 hs c.queues) (sym w.leaves)
@@ -282,14 +282,14 @@ module _ (s : Sides) (q cid : ℕ) (c : Contents) (pages : Pages) (touched : Lis
     can = record { known = queue_known; there = queue_there; served = served_there s world t q cid k found.host w.found found.host_here; room = room.0; typed = w.typed; fits = record { sct = end_fits (block_count s.controller.image) k.q k.units_done s.controller.image k.work found.fits.1 } }
 
     -- what changes of the machine's queue
-    abbrev grown : DeviceQueue → DeviceQueue
-    grown at = record at { answers = at.answers ++ answer_of e ∷ [] }
+    abbrev grown : ServedQueue → ServedQueue
+    grown at = record at { completions = at.completions ++ posted_completion e ∷ [] }
 
-    queues_posted : device_queues_of m hs (change q with_answer s.controller.queues) ≡ change q grown (device_of s).queues
+    queues_posted : served_queues_of m hs (change q with_answer s.controller.queues) ≡ change q grown (controller_part s).queues
     queues_posted =
-        devices_changed (byte_at s.pages) m q with_answer grown hs s.controller.queues
-        (λ h y at here. subst (λ (h : HostQueue). device_queue_of m h.ring (with_answer y) ≡ grown (device_queue_of (byte_at s.pages) h.ring y)) (some_is (sym found.host_here ∙ at))
-        (subst (λ (y : ControllerQueue). device_queue_of m found.host.ring (with_answer y) ≡ grown (device_queue_of (byte_at s.pages) found.host.ring y)) (some_is (sym w.here ∙ here))
+        controllers_changed (byte_at s.pages) m q with_answer grown hs s.controller.queues
+        (λ h y at here. subst (λ (h : HostQueue). served_queue_of m h.ring (with_answer y) ≡ grown (served_queue_of (byte_at s.pages) h.ring y)) (some_is (sym found.host_here ∙ at))
+        (subst (λ (y : ControllerQueue). served_queue_of m found.host.ring (with_answer y) ≡ grown (served_queue_of (byte_at s.pages) found.host.ring y)) (some_is (sym w.here ∙ here))
         (answer_seen s q found.host x e world found.host_here can)))
         (λ i h y other at here. queue_stays s posted i h y (known s world t i h y at here) (answer_spares_queues s q i found.host h x e world queue_known used found.host_here at other))
 
@@ -301,32 +301,32 @@ module _ (s : Sides) (q cid : ℕ) (c : Contents) (pages : Pages) (touched : Lis
         (λ i h y other at here stands. stands_still s posted i h y (known s world t i h y at here) (answer_spares_queues s q i found.host h x e world queue_known used found.host_here at other))
         (tied_of s world t).queues
 
-    queues_completed : device_queues_of m hs c.queues ≡ change q grown (devices_of_end k.work (device_of s).queues)
+    queues_completed : served_queues_of m hs c.queues ≡ change q grown (controllers_of_end k.work (controller_part s).queues)
     queues_completed =
-        ap (λ (c : Contents). device_queues_of m hs c.queues) w.leaves
-        ∙ ap (device_queues_of m hs) (sym (end-posted k.work q s.controller.queues))
-        ∙ devices_ended m k.work hs (change q with_answer s.controller.queues)
-        ∙ ap (devices_of_end k.work) queues_posted
-        ∙ devices_end_behind k.work q grown (device_of s).queues (λ at. refl)
+        ap (λ (c : Contents). served_queues_of m hs c.queues) w.leaves
+        ∙ ap (served_queues_of m hs) (sym (end-posted k.work q s.controller.queues))
+        ∙ controllers_ended m k.work hs (change q with_answer s.controller.queues)
+        ∙ ap (controllers_of_end k.work) queues_posted
+        ∙ controllers_end_behind k.work q grown (controller_part s).queues (λ at. refl)
 
     -- the machine's state behind the end of the command, in which its queue is as before
     abbrev behind_end : State
-    behind_end = with_served (state_of s) s.pages (devices_of_end k.work (device_of s).queues) (map job_of (without_command q cid s.controller.commands)) (image_of_end s.controller.image k.work)
+    behind_end = with_served (state_of s) s.pages (controllers_of_end k.work (controller_part s).queues) (map job_of (without_command q cid s.controller.commands)) (image_of_end s.controller.image k.work)
 
     shown : Shows behind_end s q found.host x
     shown = record {
       entries = refl;
       host = found.host_here;
-      device = subst (λ (p : ℕ). slice_get (devices_of_end k.work (device_of s).queues) p ≡ slice_get (device_of s).queues p) found.its_queue
-          (devices_end_elsewhere (block_count s.controller.image) k.q k.units_done k.work (device_of s).queues found.fits.1)
-          ∙ device_at s q found.host x found.host_here w.here;
+      controller = subst (λ (p : ℕ). slice_get (controllers_of_end k.work (controller_part s).queues) p ≡ slice_get (controller_part s).queues p) found.its_queue
+          (controllers_end_elsewhere (block_count s.controller.image) k.q k.units_done k.work (controller_part s).queues found.fits.1)
+          ∙ served_at s q found.host x found.host_here w.here;
     }
 
     state_completed : state_of (served s c pages) ≡ after_complete q cid (state_of s)
     state_completed =
         ap (λ (pages : Pages). state_of (served s c pages)) pages_are
-        ∙ ap (λ (queues : List DeviceQueue). with_served (state_of s) posted queues (map job_of c.commands) c.image) queues_completed
-        ∙ ap (λ (c : Contents). with_served (state_of s) posted (change q grown (devices_of_end k.work (device_of s).queues)) (map job_of c.commands) c.image) w.leaves
+        ∙ ap (λ (queues : List ServedQueue). with_served (state_of s) posted queues (map job_of c.commands) c.image) queues_completed
+        ∙ ap (λ (c : Contents). with_served (state_of s) posted (change q grown (controllers_of_end k.work (controller_part s).queues)) (map job_of c.commands) c.image) w.leaves
         ∙ answer_is behind_end s q cid st (dw0_of_work k.work) found.host x shown refl can
         ∙ ap (answered q cid st (dw0_of_work k.work)) (ended s q cid k (block_count s.controller.image) found.fits.1)
         ∙ sym (after_complete_is (state_of s) q cid (job_of k) st (job-found s q cid k w.found) (status_seen (state_of s) k (block_count s.controller.image) found.fits.1))

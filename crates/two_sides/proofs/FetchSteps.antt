@@ -7,8 +7,8 @@ use Rattle.machine_model.specs.After as after
 use Rattle.std.proofs.Common.{◌≡◌, ◌≢◌, ◌⊎◌, inl, inr, ℕ, zero, suc, ◌+◌, ◌*◌, ◌/◌, ◌==◌, ◌&&◌, nat_lt, not, Bool, true, false, Option, Some, None, is_none, is_some, List, [], ◌∷◌, slice_get, if◌then◌else◌, refl, ap, sym, ◌∙◌, arith, subst, eqb-true, ◌-◌, ◌<◌, Ok, Err, ◌++◌, length, map, drop}
 use Rattle.std.{proofs.lemmas.Bool.{true≢false, eqb-false, OnTrue_at, cases_Bool}, specs.Option.{option_map, option_map_or}}
 use Rattle.machine_model.{proofs.Steps.in_store-with_bytes, specs.{After.after_fetch, Memory.{is_in, memory_of}}}
-use Rattle.machine_model.specs.Refusals.{answers_full, conflicts, fetch_page, job_at, next_rung, post_page, refusal_of}
-use Rattle.machine_model.specs.{State.{State, HostQueue, DeviceQueue, Job}, Step.{MayRefuse, Permits, Refuses, touched_by_fetch}}
+use Rattle.machine_model.specs.Refusals.{completions_full, conflicts, fetch_page, job_at, next_rung, post_page, refusal_of}
+use Rattle.machine_model.specs.{State.{State, HostQueue, ServedQueue, Job}, Step.{MayRefuse, Permits, Refuses, touched_by_fetch}}
 use Rattle.admin_commands.specs.{Verdicts.{is_absent, is_live, decision}, declared.DeviceView.DeviceView}
 use Rattle.controller_core.{proofs.Lists.{all-append, some_is}, specs.Answering.{answer_refusal, completion_by, page_posted, post_refusal, with_answer}}
 use Rattle.controller_core.specs.Contents.{Contents, FetchedCommand, IsController, change}
@@ -22,13 +22,13 @@ use Rattle.two_sides.proofs.Answering.{byte_in_page, answer_shares, post_room, s
 use Rattle.two_sides.proofs.{Assembling.{ServesOver, serve_refused, served_stepped}, Frames.{host_at, known}, Heads.no_conflict}
 use Rattle.two_sides.proofs.JobLaws.{length-completion_bytes}
 use Rattle.two_sides.proofs.Managing.{Suits, acted, managed_is, taken_view, verdict_shares, verdict_stand, verdict_walks, suited}
-use Rattle.two_sides.proofs.{Places.{job-at, Shows, fetch_page_is, shows, map-append, devices_changed, stands_changed}, PlacesKept.in_hand}
+use Rattle.two_sides.proofs.{Places.{job-at, Shows, fetch_page_is, shows, map-append, controllers_changed, stands_changed}, PlacesKept.in_hand}
 use Rattle.two_sides.proofs.{Posted.{CanTake, entry_there, entries_first, not_absent, taken_seen, taken_shares, taken_stands}, Serving.{either_by, same_pages}}
-use Rattle.two_sides.{proofs.Shared.belled, specs.{Serving.why_of, Sides.{Sides, state_of, device_queue_of, device_queues_of, unfetched_between, job_of}}}
+use Rattle.two_sides.{proofs.Shared.belled, specs.{Serving.why_of, Sides.{Sides, state_of, served_queue_of, served_queues_of, unfetched_between, job_of}}}
 use Rattle.two_sides.specs.Stepping.{fetches_refuse_alike, LeavesPages, StepsTo, fetches_step, served}
 use Rattle.two_sides.specs.Ties.{IsWorld, AllQueuesStand, ShareQueues, SharesAdmin, WalkStands, WalksStand}
 use Rattle.page_memory.specs.{Memory.Memory, Pages.{byte_at, Pages}}
-use Rattle.queue_pair.{proofs.Rings.{distance_none, distance_same}, specs.{Memory.{entry_at, submission_page, completion_slot}, Rings.DeviceSide}}
+use Rattle.queue_pair.{proofs.Rings.{distance_none, distance_same}, specs.{Memory.{entry_at, submission_page, completion_slot}, Rings.ControllerSide}}
 use Rattle.queue_pair.specs.Slots.{distance, is_full}
 use Rattle.controller_walk.specs.Units.{course_of_list}
 use Rattle.io_commands.specs.Jobs.{JobContents, direction_of_entry, need_of_entry}
@@ -42,30 +42,30 @@ use Rattle.slot_table.proofs.Rows.{option_is}
 pub record IsLooked (s : Sides) (q : ℕ) (c : ControllerQueue) (e : SubEntry) : Type 0 where
   pub here : slice_get s.controller.queues q ≡ Some c
   pub live : is_live c.state ≡ true
-  pub rung : c.device.ring.head ≢ c.device.ring.bell
-  pub at : entry_at (byte_at s.pages) c.device.sq c.device.ring.head ≡ Some e
+  pub rung : c.controller.ring.head ≢ c.controller.ring.bell
+  pub at : entry_at (byte_at s.pages) c.controller.sq c.controller.ring.head ≡ Some e
 
 abbrev pub page_of_head : ControllerQueue → ℕ
-page_of_head c = submission_page c.device.sq c.device.ring.head
+page_of_head c = submission_page c.controller.sq c.controller.ring.head
 
-live_queue : (o : Option ControllerQueue) (device : DeviceSide) → live_side o ≡ Some device → (c : ControllerQueue) × (o ≡ Some c) × (is_live c.state ≡ true) × (c.device ≡ device)
-live_queue None device e = absurd cc
-live_queue (Some c) device e = elim (cases_Bool (is_live c.state)) [
-  | inl live ↦ let f = rw live at e in (c, refl, live, (let same : c.device ≡ device = cc in same))
+live_queue : (o : Option ControllerQueue) (controller : ControllerSide) → live_side o ≡ Some controller → (c : ControllerQueue) × (o ≡ Some c) × (is_live c.state ≡ true) × (c.controller ≡ controller)
+live_queue None controller e = absurd cc
+live_queue (Some c) controller e = elim (cases_Bool (is_live c.state)) [
+  | inl live ↦ let f = rw live at e in (c, refl, live, (let same : c.controller ≡ controller = cc in same))
   | inr live ↦ let f = rw live at e in absurd cc
 ]
 
 pub looked : (s : Sides) (q : ℕ) (e : SubEntry) (touched : List ℕ) → LooksAt s.controller (byte_at s.pages) [] q e touched → (c : ControllerQueue) × IsLooked s q c e × (touched ≡ page_of_head c ∷ [])
 looked s q e touched l =
-    let (c, here, live, same) = live_queue (slice_get s.controller.queues q) l.device l.here in (
+    let (c, here, live, same) = live_queue (slice_get s.controller.queues q) l.controller l.here in (
       c,
       record {
         here = here;
         live = live;
-        rung = subst (λ (device : DeviceSide). device.ring.head ≢ device.ring.bell) (sym same) l.rung;
-        at = subst (λ (device : DeviceSide). entry_at (byte_at s.pages) device.sq device.ring.head ≡ Some e) (sym same) l.at;
+        rung = subst (λ (controller : ControllerSide). controller.ring.head ≢ controller.ring.bell) (sym same) l.rung;
+        at = subst (λ (controller : ControllerSide). entry_at (byte_at s.pages) controller.sq controller.ring.head ≡ Some e) (sym same) l.at;
       },
-      l.touches ∙ ap (λ (device : DeviceSide). submission_page device.sq device.ring.head ∷ []) (sym same),
+      l.touches ∙ ap (λ (controller : ControllerSide). submission_page controller.sq controller.ring.head ∷ []) (sym same),
     )
 
 -- The machine's entry, where nothing was forged
@@ -81,15 +81,15 @@ pub record IsSeen (s : Sides) (q : ℕ) (c : ControllerQueue) (e : SubEntry) : T
   pub unknown : is_known s.controller q e ≡ false
   pub alone : conflicts (state_of s) q ≡ false
 
-next_seen : (s : Sides) (q : ℕ) (h : HostQueue) (c : ControllerQueue) (e : SubEntry) → Shows (state_of s) s q h c → CanTake s q h c → entry_at (byte_at s.pages) c.device.sq c.device.ring.head ≡ Some e → next_rung (state_of s) q ≡ Some e
+next_seen : (s : Sides) (q : ℕ) (h : HostQueue) (c : ControllerQueue) (e : SubEntry) → Shows (state_of s) s q h c → CanTake s q h c → entry_at (byte_at s.pages) c.controller.sq c.controller.ring.head ≡ Some e → next_rung (state_of s) q ≡ Some e
 next_seen s q h c e shown can at =
     let by : (l b : Bool) (k : ℕ) (us vs : List SubEntry) → l ≡ true → b ≡ false → k ≢ 0 → us ≡ e ∷ vs → (if l && nat_lt 0 (if b then 0 else k) then slice_get (if b then [] else us) 0 else None) ≡ Some e = λ l b k us vs el eb far eu.
     grind arith in
-    let ring = c.device.ring in
+    let ring = c.controller.ring in
     let side = can.known.placed.share.side in
-    let far : distance c.device.entries ring.head ring.bell ≢ 0 = λ none. can.rung (distance_none c.device.entries ring.head ring.bell side.head side.bell none) in
-    rw shown.device refl
-    ∙ by (is_live c.state) (is_absent c.state) (distance c.device.entries ring.head ring.bell) (unfetched_between (byte_at s.pages) h.ring c.device) _ can.live (not_absent c.state can.live) far (entries_first s q h c e can at)
+    let far : distance c.controller.entries ring.head ring.bell ≢ 0 = λ none. can.rung (distance_none c.controller.entries ring.head ring.bell side.head side.bell none) in
+    rw shown.controller refl
+    ∙ by (is_live c.state) (is_absent c.state) (distance c.controller.entries ring.head ring.bell) (unfetched_between (byte_at s.pages) h.ring c.controller) _ can.live (not_absent c.state can.live) far (entries_first s q h c e can at)
 
 pub seen : (s : Sides) (q : ℕ) (c : ControllerQueue) (e : SubEntry) → IsWorld s → s.trusted ≡ true → IsLooked s q c e → IsSeen s q c e
 seen s q c e world t l =
@@ -100,7 +100,7 @@ seen s q c e world t l =
     let page = fetch_page_is (state_of s) s q h c shown can.known (not_absent c.state l.live) in
     let alone = no_conflict (state_of s) (stood_of (state_of s) (OnTrue_at t world.tied).agree) q e (in_hand (state_of s) q e next) in
     let placed = can.known.placed in
-    let head : (4096 * c.device.sq + 64 * c.device.ring.head) / 4096 ≡ page_of_head c = omega arith in
+    let head : (4096 * c.controller.sq + 64 * c.controller.ring.head) / 4096 ≡ page_of_head c = omega arith in
     record {
       host = h;
       found = found;
@@ -108,25 +108,25 @@ seen s q c e world t l =
       next = next;
       page = page;
       inside = ap (is_in s.pages) page ∙ subst (λ (p : ℕ). is_in s.pages p ≡ true) head
-          (byte_in_page s.pages (4096 * c.device.sq + 64 * c.device.ring.head)
-          ((can.known.submission_in (not_absent c.state l.live)).there (64 * c.device.ring.head) (omega (arith, placed.share.entries, placed.share.side.head))));
+          (byte_in_page s.pages (4096 * c.controller.sq + 64 * c.controller.ring.head)
+          ((can.known.submission_in (not_absent c.state l.live)).there (64 * c.controller.ring.head) (omega (arith, placed.share.entries, placed.share.side.head))));
       unknown = (grind arith) ∙ sym (ap is_some (job-at s q e.cid)) ∙ alone;
       alone = ap (λ (o : Option SubEntry). option_map_or (λ e. is_some (job_at (state_of s) q e.cid)) o false) next ∙ alone;
     }
 
 -- nothing is rung where the controller finds nothing
-no_device : (m : Memory) (hs : List HostQueue) (cs : List ControllerQueue) (q : ℕ) → slice_get cs q ≡ None → slice_get (device_queues_of m hs cs) q ≡ None
-no_device m (h ∷ hs) (c ∷ cs) zero e = cc
-no_device m (h ∷ hs) (c ∷ cs) (suc q) e = no_device m hs cs q e
-no_device m x cs q e = refl
+no_controller : (m : Memory) (hs : List HostQueue) (cs : List ControllerQueue) (q : ℕ) → slice_get cs q ≡ None → slice_get (served_queues_of m hs cs) q ≡ None
+no_controller m (h ∷ hs) (c ∷ cs) zero e = cc
+no_controller m (h ∷ hs) (c ∷ cs) (suc q) e = no_controller m hs cs q e
+no_controller m x cs q e = refl
 
-next_idle : (s : Sides) (q : ℕ) (c : ControllerQueue) → IsWorld s → slice_get s.controller.queues q ≡ Some c → (is_live c.state ≡ false) ⊎ ((c.device.ring.head == c.device.ring.bell) ≡ true) → next_rung (state_of s) q ≡ None
+next_idle : (s : Sides) (q : ℕ) (c : ControllerQueue) → IsWorld s → slice_get s.controller.queues q ≡ Some c → (is_live c.state ≡ false) ⊎ ((c.controller.ring.head == c.controller.ring.bell) ≡ true) → next_rung (state_of s) q ≡ None
 next_idle s q c world here idle =
     let (h, found) = host_at s world q c here in
-    let d = device_queue_of (byte_at s.pages) h.ring c in
-    let ring = c.device.ring in
-    let n = c.device.entries in
-    rw (shows s q h c found here).device refl
+    let d = served_queue_of (byte_at s.pages) h.ring c in
+    let ring = c.controller.ring in
+    let n = c.controller.entries in
+    rw (shows s q h c found here).controller refl
     ∙ elim idle [
       | inl dead ↦ ap (λ (b : Bool). if b && nat_lt 0 d.rung then slice_get d.unfetched 0 else None) dead
       | inr same ↦
@@ -142,15 +142,15 @@ Looks s q =
 
 pub looks : (s : Sides) (q : ℕ) → IsWorld s → s.trusted ≡ true → Looks s q
 looks s q world t = elim (option_is (slice_get s.controller.queues q)) [
-  | inl e ↦ inl (rw e refl, rw e refl, rw (no_device (byte_at s.pages) s.host.host.queues s.controller.queues q e) refl)
-  | inr (c, e) ↦ found c e (is_live c.state) refl (c.device.ring.head == c.device.ring.bell) refl
+  | inl e ↦ inl (rw e refl, rw e refl, rw (no_controller (byte_at s.pages) s.host.host.queues s.controller.queues q e) refl)
+  | inr (c, e) ↦ found c e (is_live c.state) refl (c.controller.ring.head == c.controller.ring.bell) refl
 ]
   where
-    found : (c : ControllerQueue) → slice_get s.controller.queues q ≡ Some c → (a : Bool) → is_live c.state ≡ a → (b : Bool) → (c.device.ring.head == c.device.ring.bell) ≡ b → Looks s q
+    found : (c : ControllerQueue) → slice_get s.controller.queues q ≡ Some c → (a : Bool) → is_live c.state ≡ a → (b : Bool) → (c.controller.ring.head == c.controller.ring.bell) ≡ b → Looks s q
     found c here false live b same = inl (rw (here, live) refl, rw (here, live) refl, next_idle s q c world here (inl live))
     found c here true live true same = inl (rw (here, live, same) refl, rw (here, live, same) refl, next_idle s q c world here (inr same))
     found c here true live false same =
-        let rung = eqb-false c.device.ring.head c.device.ring.bell same in
+        let rung = eqb-false c.controller.ring.head c.controller.ring.bell same in
         let (h, at) = host_at s world q c here in
         let (e, entry) = entry_there s q h c (record { known = known s world t q h c at here; live = live; rung = rung }) in
         let is : IsSeen s q c e = seen s q c e world t (record { here = here; live = live; rung = rung; at = entry }) in
@@ -163,7 +163,7 @@ idle_by u q e = rw e refl
 
 taken_by : (u : State) (q : ℕ) (a b c : Bool) → is_none (next_rung u q) ≡ a → is_in u.memory (fetch_page u q) ≡ b → conflicts u q ≡ c
     → refusal_of u (events.Fetch q)
-    ≡ (if a then Some refusal.Idle else if not b then Some refusal.SlotOut else if c && answers_full u q then Some refusal.Full else if c && not (is_in u.memory (post_page u q)) then Some refusal.SlotOut else None)
+    ≡ (if a then Some refusal.Idle else if not b then Some refusal.SlotOut else if c && completions_full u q then Some refusal.Full else if c && not (is_in u.memory (post_page u q)) then Some refusal.SlotOut else None)
 taken_by u q a b c ea eb ec = rw (← ea, ← eb, ← ec) refl
 
 pub accepts : (s : Sides) (q : ℕ) (c : ControllerQueue) (e : SubEntry) → IsSeen s q c e → refusal_of (state_of s) (events.Fetch q) ≡ None
@@ -191,8 +191,8 @@ look_is P idle out s q why e = go (slice_get s.controller.queues q) e
     side false None e = is because.SlotOut out e
     side false (Some x) e = absurd cc
 
-    live : (c : ControllerQueue) (b : Bool) → option_map_or (side_refusal (byte_at s.pages)) (if b then Some c.device else None) (Some because.Idle) ≡ Some why → P why
-    live c true e = side (c.device.ring.head == c.device.ring.bell) (entry_at (byte_at s.pages) c.device.sq c.device.ring.head) e
+    live : (c : ControllerQueue) (b : Bool) → option_map_or (side_refusal (byte_at s.pages)) (if b then Some c.controller else None) (Some because.Idle) ≡ Some why → P why
+    live c true e = side (c.controller.ring.head == c.controller.ring.bell) (entry_at (byte_at s.pages) c.controller.sq c.controller.ring.head) e
     live c false e = is because.Idle idle e
 
     go : (o : Option ControllerQueue) → option_map_or (side_refusal (byte_at s.pages)) (live_side o) (Some because.Idle) ≡ Some why → P why
@@ -213,7 +213,7 @@ look_permits s q why world e =
 
 -- no room for an answer at once, or no memory for the command
 cause_is : (P : controller.Refusal → Type 0) → P because.Full → P because.SlotOut → P because.Memory → (m : Memory) (why : controller.Refusal) (known : Bool) (o : Option ControllerQueue)
-    → (if known then (if known then option_map_or (λ queue. post_refusal m queue.device) o None else None) else Some because.Memory) ≡ Some why → P why
+    → (if known then (if known then option_map_or (λ queue. post_refusal m queue.controller) o None else None) else Some because.Memory) ≡ Some why → P why
 cause_is P full out memory m why known o e = go known o e
   where
     is : (cause : controller.Refusal) → P cause → Some cause ≡ Some why → P why
@@ -224,9 +224,9 @@ cause_is P full out memory m why known o e = go known o e
     post false true e = is because.SlotOut out e
     post false false e = absurd cc
 
-    go : (known : Bool) (o : Option ControllerQueue) → (if known then (if known then option_map_or (λ queue. post_refusal m queue.device) o None else None) else Some because.Memory) ≡ Some why → P why
+    go : (known : Bool) (o : Option ControllerQueue) → (if known then (if known then option_map_or (λ queue. post_refusal m queue.controller) o None else None) else Some because.Memory) ≡ Some why → P why
     go true None e = absurd cc
-    go true (Some c) e = post (is_full c.device.entries c.device.ring.known_head c.device.ring.tail) (is_none (completion_slot m c.device.cq c.device.ring.tail)) e
+    go true (Some c) e = post (is_full c.controller.entries c.controller.ring.known_head c.controller.ring.tail) (is_none (completion_slot m c.controller.cq c.controller.ring.tail)) e
     go false o e = is because.Memory memory e
 
 entry_permits : (s : Sides) (q : ℕ) (why : controller.Refusal) (touched : List ℕ) → IsWorld s → RefusedEntry s.controller (byte_at s.pages) [] q why touched → Permits (state_of s) (events.Fetch q) (events.Refused (why_of why) touched)
@@ -280,8 +280,8 @@ can_take s q c e l is h x at here =
 
 taken_state : (s : Sides) (q : ℕ) (c : ControllerQueue) (e : SubEntry) → IsLooked s q c e → IsSeen s q c e → state_of (taken q s) ≡ after.taken_off q (state_of s)
 taken_state s q c e l is =
-    ap (λ (queues : List DeviceQueue). record (state_of s) { device = record (state_of s).device { queues = queues } })
-    (devices_changed (byte_at s.pages) (byte_at s.pages) q with_taken (λ (at : DeviceQueue). record at { unfetched = drop 1 at.unfetched; rung = at.rung - 1 }) s.host.host.queues s.controller.queues
+    ap (λ (queues : List ServedQueue). record (state_of s) { controller = record (state_of s).controller { queues = queues } })
+    (controllers_changed (byte_at s.pages) (byte_at s.pages) q with_taken (λ (at : ServedQueue). record at { unfetched = drop 1 at.unfetched; rung = at.rung - 1 }) s.host.host.queues s.controller.queues
     (λ h x at here. taken_seen s q h x (can_take s q c e l is h x at here)) (λ i h x far at here. refl))
 
 taken_stand : (s : Sides) (q : ℕ) (c : ControllerQueue) (e : SubEntry) → IsLooked s q c e → IsSeen s q c e → AllQueuesStand s.host.entries (byte_at s.pages) zero s.host.host.queues s.controller.queues
@@ -300,7 +300,7 @@ begins_walk m q image e job commands b walks =
 
 begun_is : (s : Sides) (q : ℕ) (e : SubEntry) (job : JobContents) → IsBegun s.controller.image e job → state_of (served s (begun q job s.controller) s.pages) ≡ after.begun q e (state_of (taken q s))
 begun_is s q e job b =
-    ap (λ (jobs : List Job). record (state_of (taken q s)) { device = record (state_of (taken q s)).device { jobs = jobs } }) (map-append job_of s.controller.commands (command_of q (Io job)))
+    ap (λ (jobs : List Job). record (state_of (taken q s)) { controller = record (state_of (taken q s)).controller { jobs = jobs } }) (map-append job_of s.controller.commands (command_of q (Io job)))
     ∙ ap (λ (j : Job). after.with_job j (state_of (taken q s))) (λ i. record { q = q; entry = b.entry i; bytes = b.bytes i; units_done = 0; verdict = b.verdict i; dw0 = 0; waiting_abort = None })
 
 -- where no page is written
@@ -360,13 +360,13 @@ answers : (s : Sides) (q : ℕ) (c : ControllerQueue) (e : SubEntry) (new : Cont
 answers s q c e new pages looked touched world l is leaves knows room one a image =
     let m = byte_at s.pages in
     let n = s.host.entries in
-    let device = a.queue.device in
-    let entry : ComEntry = completion_by q e.cid COMMAND_ID_CONFLICT 0 (with_taken a.queue).device in
-    let none : post_refusal m device ≡ None =
-    ap (λ (o : Option ControllerQueue). option_map_or (λ queue. post_refusal m queue.device) o None) (sym a.here)
+    let controller = a.queue.controller in
+    let entry : ComEntry = completion_by q e.cid COMMAND_ID_CONFLICT 0 (with_taken a.queue).controller in
+    let none : post_refusal m controller ≡ None =
+    ap (λ (o : Option ControllerQueue). option_map_or (λ queue. post_refusal m queue.controller) o None) (sym a.here)
     ∙ ap (λ (b : Bool). if b then answer_refusal s.controller.queues m q else None) (sym knows) ∙ room in
-    let inside = slot_is_in s.pages device.cq device.ring.tail (post_room m device none).1 in
-    let wrote = slot_written s.pages pages device.cq device.ring.tail (completion_bytes entry) world.sides.over.pool leaves inside (length-completion_bytes entry) a.memory in
+    let inside = slot_is_in s.pages controller.cq controller.ring.tail (post_room m controller none).1 in
+    let wrote = slot_written s.pages pages controller.cq controller.ring.tail (completion_bytes entry) world.sides.over.pool leaves inside (length-completion_bytes entry) a.memory in
     let serves : ServesOver s new pages =
     record {
       leaves = leaves;
@@ -379,7 +379,7 @@ answers s q c e new pages looked touched world l is leaves knows room one a imag
       image = ap length image;
     } in
     fetch_stepped s q c e new pages touched world l serves
-    (subst (λ (xs : List ℕ). length xs < 3) (sym (a.touches ∙ ap (λ (xs : List ℕ). xs ++ page_posted device ∷ []) one)) (omega arith))
+    (subst (λ (xs : List ℕ). length xs < 3) (sym (a.touches ∙ ap (λ (xs : List ℕ). xs ++ page_posted controller ∷ []) one)) (omega arith))
     (λ t seen. absurd (true≢false (sym knows ∙ seen.unknown)))
 
 -- All of them

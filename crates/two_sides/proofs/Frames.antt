@@ -6,19 +6,19 @@ use Rattle.machine_model.proofs.Counting.{one, held_once, total, not_held}
 use Rattle.machine_model.proofs.Owned.{in_queue, in_record, owned, owned_is, none_here, in_is, taken, taken_le, taken_from_out}
 use Rattle.machine_model.{proofs.Steps.{length-in_store, Accepts}, specs.{After.{course_of, after}, Agreeing.{QueueFits, QueuesFit}, Always.HasHalves}}
 use Rattle.machine_model.specs.{Events.{Event, Reply}, Memory.{is_in, memory_of}, Positions.IsInRing}
-use Rattle.machine_model.specs.Refusals.{has_cq, in_service, is_making_cq, is_reaped, device_queue, is_submitted}
-use Rattle.machine_model.specs.{State.{HostQueue, Record, pages_of, DeviceQueue, State, Job, Answer}, Step.times, declared.words.HostState.HostState}
+use Rattle.machine_model.specs.Refusals.{has_cq, in_service, is_making_cq, is_reaped, served_queue, is_submitted}
+use Rattle.machine_model.specs.{State.{HostQueue, Record, pages_of, ServedQueue, State, Job, PostedCompletion}, Step.times, declared.words.HostState.HostState}
 use Rattle.two_sides.proofs.{Agreed.stood_of, JobLaws.stay_after, NeverFull.ListsStay, Provided.{In, in_at, all_at, all_indexed}}
 use Rattle.two_sides.proofs.Served.{Stood, job_list, serves_in, course_in, course_ends, counts_sent, page_there}
 use Rattle.two_sides.proofs.Untouched.{among_counts, holds_left as among_left, holds_right as among_right, sent_page}
-use Rattle.two_sides.specs.Sides.{Sides, state_of, device_queue_of, device_queues_of, job_of, present, answer_of, unfetched_between, completions_between}
+use Rattle.two_sides.specs.Sides.{Sides, state_of, served_queue_of, served_queues_of, job_of, present, posted_completion, unfetched_between, completions_between}
 use Rattle.two_sides.specs.Ties.{AreSides, AreTied, IsWorld, ShareQueue, ShareQueues, RingsStand, QueueStands, AllQueuesStand, first_completion_page, has_ring, WalkStands, WalksStand, HeadsFollow, ShareHalves}
 use Rattle.page_ledger.specs.Owners.{is_among, pages_from}
 use Rattle.admin_commands.specs.Verdicts.{is_absent}
 use Rattle.controller_core.specs.{Contents.{FetchedCommand, FitsCommand, FitsWork, Work}, declared.command.Work.TheVariants.{Io, Admin}}
 use Rattle.controller_core.specs.declared.queue.ControllerQueue.{ControllerQueue}
 use Rattle.page_memory.specs.{Memory.Memory, Pages.{byte_at, Pages, page_at}, declared.page.Half.TheVariants.{Submission, Completion}}
-use Rattle.queue_pair.{proofs.Halves.{pages_in, pages_agree, entries_agree, answers_agree, phases_agree}, specs.{Halves.{IsIn, Agree}, Lists.PhasesStand}}
+use Rattle.queue_pair.{proofs.Halves.{pages_in, pages_agree, entries_agree, posted_agree, phases_agree}, specs.{Halves.{IsIn, Agree}, Lists.PhasesStand}}
 use Rattle.queue_pair.specs.{Members.change, Memory.half_pages}
 use Rattle.block_image.specs.Blocks.{block_count}
 use Rattle.controller_walk.{proofs.Same.{list_served, walk_served}, specs.{Laws.after_units, Serving.Serves}}
@@ -84,15 +84,15 @@ pub record IsPlaced (s : Sides) (q : ℕ) (h : HostQueue) (c : ControllerQueue) 
 pub record IsKnown (s : Sides) (q : ℕ) (h : HostQueue) (c : ControllerQueue) : Type 0 where
   pub placed : IsPlaced s q h c
   -- the submission half lies where both sides have it as long as the controller has the queue, and the completion half as long as its ring is in use; both are in
-  pub submission : is_absent c.state ≡ false → h.sq_pages ≡ pages_from c.device.sq (half_pages s.host.entries Submission)
-  pub completion : has_ring h c ≡ true → h.cq_pages ≡ pages_from c.device.cq (half_pages s.host.entries Completion)
-  pub submission_in : is_absent c.state ≡ false → IsIn (byte_at s.pages) c.device.sq (half_pages s.host.entries Submission)
-  pub completion_in : has_ring h c ≡ true → IsIn (byte_at s.pages) c.device.cq (half_pages s.host.entries Completion)
+  pub submission : is_absent c.state ≡ false → h.sq_pages ≡ pages_from c.controller.sq (half_pages s.host.entries Submission)
+  pub completion : has_ring h c ≡ true → h.cq_pages ≡ pages_from c.controller.cq (half_pages s.host.entries Completion)
+  pub submission_in : is_absent c.state ≡ false → IsIn (byte_at s.pages) c.controller.sq (half_pages s.host.entries Submission)
+  pub completion_in : has_ring h c ≡ true → IsIn (byte_at s.pages) c.controller.cq (half_pages s.host.entries Completion)
   -- its rings stand, and the ring that is granted for one is as it was granted
   pub rings : has_ring h c ≡ true → RingsStand (byte_at s.pages) q h c
   pub granted : is_making_cq h.state ≡ true → c.cq_there ≡ false → PhasesStand (byte_at s.pages) (first_completion_page h) s.host.entries 0 true
   pub granted_pages : is_making_cq h.state ≡ true → h.cq_pages ≡ pages_from (first_completion_page h) (half_pages s.host.entries Completion)
-  pub fits : QueueFits s.host.entries h (device_queue_of (byte_at s.pages) h.ring c)
+  pub fits : QueueFits s.host.entries h (served_queue_of (byte_at s.pages) h.ring c)
   pub served : in_service h.state ≡ true → c.cq_there ≡ true
 
 -- A completion ring is in use where the host reaps it, where the controller has it, and so where the controller has the submission queue.
@@ -128,18 +128,18 @@ host_at s world q c e = host_of s.host.entries 0 q s.host.host.queues s.controll
 
 -- What holds of each of them
 
-device_of : (m : Memory) (q : ℕ) (hs : List HostQueue) (cs : List ControllerQueue) (h : HostQueue) (c : ControllerQueue) → slice_get hs q ≡ Some h → slice_get cs q ≡ Some c
-    → slice_get (device_queues_of m hs cs) q ≡ Some (device_queue_of m h.ring c)
-device_of m zero (x ∷ hs) (y ∷ cs) h c e f =
+controller_part : (m : Memory) (q : ℕ) (hs : List HostQueue) (cs : List ControllerQueue) (h : HostQueue) (c : ControllerQueue) → slice_get hs q ≡ Some h → slice_get cs q ≡ Some c
+    → slice_get (served_queues_of m hs cs) q ≡ Some (served_queue_of m h.ring c)
+controller_part m zero (x ∷ hs) (y ∷ cs) h c e f =
     let host : x ≡ h = cc in
     let controller : y ≡ c = cc in
-    ap (λ (z : HostQueue). Some (device_queue_of m z.ring y)) host ∙ ap (λ (z : ControllerQueue). Some (device_queue_of m h.ring z)) controller
-device_of m (suc q) (x ∷ hs) (y ∷ cs) h c e f = device_of m q hs cs h c e f
-device_of m q x cs h c e f = absurd cc
+    ap (λ (z : HostQueue). Some (served_queue_of m z.ring y)) host ∙ ap (λ (z : ControllerQueue). Some (served_queue_of m h.ring z)) controller
+controller_part m (suc q) (x ∷ hs) (y ∷ cs) h c e f = controller_part m q hs cs h c e f
+controller_part m q x cs h c e f = absurd cc
 
-pub device_at : (s : Sides) (q : ℕ) (h : HostQueue) (c : ControllerQueue) → slice_get s.host.host.queues q ≡ Some h → slice_get s.controller.queues q ≡ Some c
-    → device_queue (state_of s) q ≡ Some (device_queue_of (byte_at s.pages) h.ring c)
-device_at s q h c e f = device_of (byte_at s.pages) q s.host.host.queues s.controller.queues h c e f
+pub served_at : (s : Sides) (q : ℕ) (h : HostQueue) (c : ControllerQueue) → slice_get s.host.host.queues q ≡ Some h → slice_get s.controller.queues q ≡ Some c
+    → served_queue (state_of s) q ≡ Some (served_queue_of (byte_at s.pages) h.ring c)
+served_at s q h c e f = controller_part (byte_at s.pages) q s.host.host.queues s.controller.queues h c e f
 
 -- one of all pairs, by what holds of each
 pub from_zero : (q : ℕ) → 0 + q ≡ q
@@ -168,11 +168,11 @@ stands_of n m i (suc q) (x ∷ hs) (y ∷ cs) h c all e f =
     subst (λ (k : ℕ). QueueStands n m k h c) next (stands_of n m (suc i) q hs cs h c all.1 e f)
 stands_of n m i q x cs h c all e f = absurd cc
 
-pub fits_of : (n q : ℕ) (hs : List HostQueue) (ds : List DeviceQueue) (h : HostQueue) (d : DeviceQueue) → QueuesFit n hs ds → slice_get hs q ≡ Some h → slice_get ds q ≡ Some d → QueueFits n h d
+pub fits_of : (n q : ℕ) (hs : List HostQueue) (ds : List ServedQueue) (h : HostQueue) (d : ServedQueue) → QueuesFit n hs ds → slice_get hs q ≡ Some h → slice_get ds q ≡ Some d → QueueFits n h d
 fits_of n zero (x ∷ hs) (y ∷ ds) h d fits e f =
     let host : x ≡ h = cc in
-    let device : y ≡ d = cc in
-    subst (λ (z : DeviceQueue). QueueFits n h z) device (subst (λ (z : HostQueue). QueueFits n z y) host fits.0)
+    let controller : y ≡ d = cc in
+    subst (λ (z : ServedQueue). QueueFits n h z) controller (subst (λ (z : HostQueue). QueueFits n z y) host fits.0)
 fits_of n (suc q) (x ∷ hs) (y ∷ ds) h d fits e f = fits_of n q hs ds h d fits.1 e f
 fits_of n q x ds h d fits e f = absurd cc
 
@@ -216,13 +216,13 @@ known s world t q h c e f =
       placed = place;
       submission = stands.halves.submission;
       completion = stands.halves.completion;
-      submission_in = λ there. half_in s world q h e h.sq_pages (λ p l. omega (arith, l)) c.device.sq (half_pages n Submission) (stands.halves.submission there);
-      completion_in = λ has. half_in s world q h e h.cq_pages (λ p l. omega (arith, l)) c.device.cq (half_pages n Completion) (stands.halves.completion has);
+      submission_in = λ there. half_in s world q h e h.sq_pages (λ p l. omega (arith, l)) c.controller.sq (half_pages n Submission) (stands.halves.submission there);
+      completion_in = λ has. half_in s world q h e h.cq_pages (λ p l. omega (arith, l)) c.controller.cq (half_pages n Completion) (stands.halves.completion has);
       rings = stands.rings;
       granted = stands.granted;
       granted_pages = λ making. half_lies n h some (all_at (HasHalves n) s.host.host.queues q h e world.sides.provided.queues) (grind arith);
-      fits = fits_of n q s.host.host.queues (device_queues_of m s.host.host.queues s.controller.queues) h _ tied.agree.pairs e (device_at s q h c e f);
-      served = tied.serve.serves q h _ e (device_at s q h c e f);
+      fits = fits_of n q s.host.host.queues (served_queues_of m s.host.host.queues s.controller.queues) h _ tied.agree.pairs e (served_at s q h c e f);
+      served = tied.serve.serves q h _ e (served_at s q h c e f);
     }
 
 -- The walks stay where they stand in their lists, in a memory that keeps the lists.
@@ -254,9 +254,9 @@ stands_again m other done job serves stands =
     ∙ stands ∙ sym (ap (after_units done) (list_served m other job.entry.sgl1 (direction_of_entry job.entry) (need_of_entry job.entry) serves))
 
 -- a memory that keeps the lists serves the list of each job
-pub job_served : (s : State) (m : Pages) (k : ℕ) (j : Job) → Stood s → ListsStay s m → slice_get s.device.jobs k ≡ Some j → (j.q == 0) ≡ false → Serves (memory_of s.memory) (memory_of m) (course_of s j)
+pub job_served : (s : State) (m : Pages) (k : ℕ) (j : Job) → Stood s → ListsStay s m → slice_get s.controller.jobs k ≡ Some j → (j.q == 0) ≡ false → Serves (memory_of s.memory) (memory_of m) (course_of s j)
 job_served s m k j stood stay at other =
-    let l = job_list s stood j (in_at s.device.jobs k j at) other (λ P all. all_at P s.device.jobs k j at all) in
+    let l = job_list s stood j (in_at s.controller.jobs k j at) other (λ P all. all_at P s.controller.jobs k j at all) in
     serves_in s.memory m l.command.chain_pages l.command.data_pages (stay.chains l.command l.within l.phase) (stay.own l.command l.within l.phase) (course_of s j) (course_in s j l) (course_ends s stood j l)
 
 pub still_stands : (s : Sides) (pages : Pages) → IsWorld s → s.trusted ≡ true → ListsStay (state_of s) pages → WalksStand (memory_of pages) s.controller.commands
@@ -279,20 +279,20 @@ one_more n i = omega arith
 
 -- queues that both memories show the same
 same_queues : (m m' : Memory) (hs : List HostQueue) (cs : List ControllerQueue)
-    → ((i : ℕ) (h : HostQueue) (c : ControllerQueue) → slice_get hs i ≡ Some h → slice_get cs i ≡ Some c → device_queue_of m' h.ring c ≡ device_queue_of m h.ring c)
-    → device_queues_of m' hs cs ≡ device_queues_of m hs cs
-same_queues m m' (h ∷ hs) (c ∷ cs) each = ap₂ (λ (d : DeviceQueue) (ds : List DeviceQueue). d ∷ ds) (each 0 h c refl refl) (same_queues m m' hs cs (λ i x y e f. each (suc i) x y e f))
+    → ((i : ℕ) (h : HostQueue) (c : ControllerQueue) → slice_get hs i ≡ Some h → slice_get cs i ≡ Some c → served_queue_of m' h.ring c ≡ served_queue_of m h.ring c)
+    → served_queues_of m' hs cs ≡ served_queues_of m hs cs
+same_queues m m' (h ∷ hs) (c ∷ cs) each = ap₂ (λ (d : ServedQueue) (ds : List ServedQueue). d ∷ ds) (each 0 h c refl refl) (same_queues m m' hs cs (λ i x y e f. each (suc i) x y e f))
 same_queues m m' x cs each = refl
 
 -- One queue is changed on both sides, and the machine's; of the others both memories show the same.
-pub one_queue : (m m' : Memory) (q : ℕ) (f : HostQueue → HostQueue) (g : ControllerQueue → ControllerQueue) (k : DeviceQueue → DeviceQueue) (hs : List HostQueue) (cs : List ControllerQueue)
-    → ((h : HostQueue) (c : ControllerQueue) → slice_get hs q ≡ Some h → slice_get cs q ≡ Some c → device_queue_of m' (f h).ring (g c) ≡ k (device_queue_of m h.ring c))
-    → ((i : ℕ) (h : HostQueue) (c : ControllerQueue) → i ≢ q → slice_get hs i ≡ Some h → slice_get cs i ≡ Some c → device_queue_of m' h.ring c ≡ device_queue_of m h.ring c)
-    → device_queues_of m' (change q f hs) (change q g cs) ≡ change q k (device_queues_of m hs cs)
+pub one_queue : (m m' : Memory) (q : ℕ) (f : HostQueue → HostQueue) (g : ControllerQueue → ControllerQueue) (k : ServedQueue → ServedQueue) (hs : List HostQueue) (cs : List ControllerQueue)
+    → ((h : HostQueue) (c : ControllerQueue) → slice_get hs q ≡ Some h → slice_get cs q ≡ Some c → served_queue_of m' (f h).ring (g c) ≡ k (served_queue_of m h.ring c))
+    → ((i : ℕ) (h : HostQueue) (c : ControllerQueue) → i ≢ q → slice_get hs i ≡ Some h → slice_get cs i ≡ Some c → served_queue_of m' h.ring c ≡ served_queue_of m h.ring c)
+    → served_queues_of m' (change q f hs) (change q g cs) ≡ change q k (served_queues_of m hs cs)
 one_queue m m' zero f g k (h ∷ hs) (c ∷ cs) here there =
-    ap₂ (λ (d : DeviceQueue) (ds : List DeviceQueue). d ∷ ds) (here h c refl refl) (same_queues m m' hs cs (λ i x y e f. there (suc i) x y (λ n. cc) e f))
+    ap₂ (λ (d : ServedQueue) (ds : List ServedQueue). d ∷ ds) (here h c refl refl) (same_queues m m' hs cs (λ i x y e f. there (suc i) x y (λ n. cc) e f))
 one_queue m m' (suc q) f g k (h ∷ hs) (c ∷ cs) here there =
-    ap₂ (λ (d : DeviceQueue) (ds : List DeviceQueue). d ∷ ds) (there 0 h c (λ n. cc) refl refl)
+    ap₂ (λ (d : ServedQueue) (ds : List ServedQueue). d ∷ ds) (there 0 h c (λ n. cc) refl refl)
     (one_queue m m' q f g k hs cs here (λ i x y other e f. there (suc i) x y (λ n. other (omega (arith, n))) e f))
 one_queue m m' q f g k x cs here there = refl
 
@@ -337,12 +337,12 @@ unchanged zero (x ∷ xs) = refl
 unchanged (suc k) (x ∷ xs) = ap (λ l. x ∷ l) (unchanged k xs)
 
 pub host_lists : (m : Memory) (q : ℕ) (f : HostQueue → HostQueue) (hs : List HostQueue) (cs : List ControllerQueue)
-    → ((h : HostQueue) (c : ControllerQueue) → slice_get hs q ≡ Some h → slice_get cs q ≡ Some c → device_queue_of m (f h).ring c ≡ device_queue_of m h.ring c)
-    → device_queues_of m (change q f hs) cs ≡ device_queues_of m hs cs
+    → ((h : HostQueue) (c : ControllerQueue) → slice_get hs q ≡ Some h → slice_get cs q ≡ Some c → served_queue_of m (f h).ring c ≡ served_queue_of m h.ring c)
+    → served_queues_of m (change q f hs) cs ≡ served_queues_of m hs cs
 host_lists m q f hs cs here =
-    ap (device_queues_of m (change q f hs)) (sym (unchanged q cs))
+    ap (served_queues_of m (change q f hs)) (sym (unchanged q cs))
     ∙ one_queue m m q f (λ c. c) (λ d. d) hs cs here (λ i h c other e g. refl)
-    ∙ unchanged q (device_queues_of m hs cs)
+    ∙ unchanged q (served_queues_of m hs cs)
 
 pub host_stands : (n : ℕ) (m : Memory) (q : ℕ) (f : HostQueue → HostQueue) (hs : List HostQueue) (cs : List ControllerQueue)
     → ((h : HostQueue) (c : ControllerQueue) → slice_get hs q ≡ Some h → slice_get cs q ≡ Some c → QueueStands n m q h c → QueueStands n m q (f h) c)
@@ -352,7 +352,7 @@ host_stands n m q f hs cs here all =
 
 -- a queue of the host in another state, with other pages: its rings stand, where nothing waits once it is out of service
 pub state_stands : (m : Memory) (q : ℕ) (h : HostQueue) (c : ControllerQueue) (st : HostState) (sq_pages cq_pages : List ℕ) → RingsStand m q h c
-    → (in_service st ≡ false → h.ring.head ≡ c.device.ring.tail) → RingsStand m q (record h { state = st; sq_pages = sq_pages; cq_pages = cq_pages }) c
+    → (in_service st ≡ false → h.ring.head ≡ c.controller.ring.tail) → RingsStand m q (record h { state = st; sq_pages = sq_pages; cq_pages = cq_pages }) c
 state_stands m q h c st sq_pages cq_pages stands drained =
     record {
       fetched = stands.fetched;
@@ -377,40 +377,40 @@ same_run s pages own first many same lie =
     pages_agree pages s.pages first many (λ p l. same (first + p) (ap (λ (ps : List ℕ). is_among ps (first + p)) lie ∙ among-from first many p l))
 
 pub completion_agrees : (s : Sides) (pages : Pages) (q : ℕ) (h : HostQueue) (c : ControllerQueue) → IsKnown s q h c → SparesQueue s.pages pages h → has_ring h c ≡ true
-    → Agree (byte_at pages) (byte_at s.pages) c.device.cq (half_pages c.device.entries Completion)
+    → Agree (byte_at pages) (byte_at s.pages) c.controller.cq (half_pages c.controller.entries Completion)
 completion_agrees s pages q h c known spares has =
-    subst (λ (n : ℕ). Agree (byte_at pages) (byte_at s.pages) c.device.cq (half_pages n Completion)) (sym known.placed.share.entries)
-    (same_run s pages h.cq_pages c.device.cq (half_pages s.host.entries Completion) spares.completion (known.completion has))
+    subst (λ (n : ℕ). Agree (byte_at pages) (byte_at s.pages) c.controller.cq (half_pages n Completion)) (sym known.placed.share.entries)
+    (same_run s pages h.cq_pages c.controller.cq (half_pages s.host.entries Completion) spares.completion (known.completion has))
 
 turned : (m m' : Memory) (first many : ℕ) → Agree m' m first many → Agree m m' first many
 turned m m' first many agree = record { same = λ k l. sym (agree.same k l) }
 
 -- the completions of each queue are the same
 completions_stay : (s : Sides) (pages : Pages) (q : ℕ) (h : HostQueue) (c : ControllerQueue) → IsKnown s q h c → SparesQueue s.pages pages h → has_ring h c ≡ true
-    → completions_between (byte_at pages) h.ring c.device ≡ completions_between (byte_at s.pages) h.ring c.device
+    → completions_between (byte_at pages) h.ring c.controller ≡ completions_between (byte_at s.pages) h.ring c.controller
 completions_stay s pages q h c known spares has =
-    ap present (answers_agree (byte_at pages) (byte_at s.pages) c.device.cq c.device.entries h.ring.head c.device.ring.tail
+    ap present (posted_agree (byte_at pages) (byte_at s.pages) c.controller.cq c.controller.entries h.ring.head c.controller.ring.tail
     (completion_agrees s pages q h c known spares has)
     (subst (λ (n : ℕ). h.ring.head < n) (sym known.placed.share.entries) known.placed.ring.head))
 
 -- then the machine's queue is the same, and it stands
 pub queue_stays : (s : Sides) (pages : Pages) (q : ℕ) (h : HostQueue) (c : ControllerQueue) → IsKnown s q h c → SparesQueue s.pages pages h
-    → device_queue_of (byte_at pages) h.ring c ≡ device_queue_of (byte_at s.pages) h.ring c
-queue_stays s pages q h c known spares = ap₂ (λ (us : List SubEntry) (ans : List Answer). shown us ans) (unfetched (is_absent c.state) refl) (answers c.cq_there refl)
+    → served_queue_of (byte_at pages) h.ring c ≡ served_queue_of (byte_at s.pages) h.ring c
+queue_stays s pages q h c known spares = ap₂ (λ (us : List SubEntry) (ans : List PostedCompletion). shown us ans) (unfetched (is_absent c.state) refl) (answers c.cq_there refl)
   where
-    shown : List SubEntry → List Answer → DeviceQueue
-    shown us ans = record { state = c.state; cq_there = c.cq_there; unfetched = us; rung = (device_queue_of (byte_at s.pages) h.ring c).rung; answers = ans }
+    shown : List SubEntry → List PostedCompletion → ServedQueue
+    shown us ans = record { state = c.state; cq_there = c.cq_there; unfetched = us; rung = (served_queue_of (byte_at s.pages) h.ring c).rung; completions = ans }
 
-    unfetched : (b : Bool) → is_absent c.state ≡ b → (if b then [] else unfetched_between (byte_at pages) h.ring c.device) ≡ (if b then [] else unfetched_between (byte_at s.pages) h.ring c.device)
+    unfetched : (b : Bool) → is_absent c.state ≡ b → (if b then [] else unfetched_between (byte_at pages) h.ring c.controller) ≡ (if b then [] else unfetched_between (byte_at s.pages) h.ring c.controller)
     unfetched true e = refl
     unfetched false e =
-        ap present (entries_agree (byte_at pages) (byte_at s.pages) c.device.sq c.device.entries c.device.ring.head h.ring.tail
-        (subst (λ (n : ℕ). Agree (byte_at pages) (byte_at s.pages) c.device.sq (half_pages n Submission)) (sym known.placed.share.entries)
-        (same_run s pages h.sq_pages c.device.sq (half_pages s.host.entries Submission) spares.submission (known.submission e))) known.placed.share.side.head)
+        ap present (entries_agree (byte_at pages) (byte_at s.pages) c.controller.sq c.controller.entries c.controller.ring.head h.ring.tail
+        (subst (λ (n : ℕ). Agree (byte_at pages) (byte_at s.pages) c.controller.sq (half_pages n Submission)) (sym known.placed.share.entries)
+        (same_run s pages h.sq_pages c.controller.sq (half_pages s.host.entries Submission) spares.submission (known.submission e))) known.placed.share.side.head)
 
-    answers : (b : Bool) → c.cq_there ≡ b → (if b then map answer_of (completions_between (byte_at pages) h.ring c.device) else []) ≡ (if b then map answer_of (completions_between (byte_at s.pages) h.ring c.device) else [])
+    answers : (b : Bool) → c.cq_there ≡ b → (if b then map posted_completion (completions_between (byte_at pages) h.ring c.controller) else []) ≡ (if b then map posted_completion (completions_between (byte_at s.pages) h.ring c.controller) else [])
     answers false e = refl
-    answers true e = ap (map answer_of) (completions_stay s pages q h c known spares (there_ring h c e))
+    answers true e = ap (map posted_completion) (completions_stay s pages q h c known spares (there_ring h c e))
 
 pub rings_stay : (s : Sides) (pages : Pages) (q : ℕ) (h : HostQueue) (c : ControllerQueue) → IsKnown s q h c → SparesQueue s.pages pages h → has_ring h c ≡ true
     → RingsStand (byte_at pages) q h c
@@ -422,10 +422,10 @@ rings_stay s pages q h c known spares has =
       rung = rings.rung;
       heard = rings.heard;
       expected = rings.expected;
-      phases = phases_agree (byte_at s.pages) (byte_at pages) c.device.cq c.device.entries c.device.ring.tail c.device.ring.phase
-          (turned (byte_at s.pages) (byte_at pages) c.device.cq (half_pages c.device.entries Completion) (completion_agrees s pages q h c known spares has)) rings.phases;
+      phases = phases_agree (byte_at s.pages) (byte_at pages) c.controller.cq c.controller.entries c.controller.ring.tail c.controller.ring.phase
+          (turned (byte_at s.pages) (byte_at pages) c.controller.cq (half_pages c.controller.entries Completion) (completion_agrees s pages q h c known spares has)) rings.phases;
       owned = subst (λ (es : List ComEntry). AllByRecursion (λ x. x.sqid ≡ q) es) same rings.owned;
-      follow = subst (λ (es : List ComEntry). HeadsFollow c.device.entries h.ring.known_head c.device.ring.head es) same rings.follow;
+      follow = subst (λ (es : List ComEntry). HeadsFollow c.controller.entries h.ring.known_head c.controller.ring.head es) same rings.follow;
       drained = rings.drained;
     }
 
@@ -451,7 +451,7 @@ abbrev pub Spares : Sides → Pages → Type 0
 Spares s pages = (q : ℕ) (h : HostQueue) → slice_get s.host.host.queues q ≡ Some h → SparesQueue s.pages pages h
 
 pub queues_stay : (s : Sides) (pages : Pages) → IsWorld s → s.trusted ≡ true → Spares s pages
-    → device_queues_of (byte_at pages) s.host.host.queues s.controller.queues ≡ device_queues_of (byte_at s.pages) s.host.host.queues s.controller.queues
+    → served_queues_of (byte_at pages) s.host.host.queues s.controller.queues ≡ served_queues_of (byte_at s.pages) s.host.host.queues s.controller.queues
 queues_stay s pages world t spares =
     same_queues (byte_at s.pages) (byte_at pages) s.host.host.queues s.controller.queues (λ q h c e f. queue_stays s pages q h c (known s world t q h c e f) (spares q h e))
 

@@ -4,15 +4,15 @@ use Rattle.std.proofs.Common.{◌≡◌, ℕ, zero, suc, ◌+◌, ◌<◌, ◌==
 use Rattle.std.{proofs.lemmas.Bool.{eqb-false, true≢false, cases_Bool}, specs.List.AllByRecursion}
 use Rattle.host_core.proofs.PageOwners.{among-from, pool-with, set-other, among-append, with-other}
 use Rattle.machine_model.{proofs.Counting.{held_once, run_times, zeroed_numbers}, specs.{Memory.{with_pages, zeroed_pages}, Placement.first_of_run}}
-use Rattle.machine_model.specs.{State.{HostQueue, DeviceQueue}, Step.times}
+use Rattle.machine_model.specs.{State.{HostQueue, ServedQueue}, Step.times}
 use Rattle.two_sides.proofs.Frames.{Spares, SparesSubmitted, free_apart_from_commands, free_apart_from_queues, free_below}
-use Rattle.two_sides.specs.Sides.{Sides, device_queues_of}
+use Rattle.two_sides.specs.Sides.{Sides, served_queues_of}
 use Rattle.two_sides.specs.Ties.{IsWorld, AllQueuesStand, QueueStands, RingsStand, ShareAdmin, ShareQueue, ShareQueues, SharesAdmin}
 use Rattle.page_ledger.specs.Owners.{is_among, pages_from}
 use Rattle.page_memory.{proofs.Bytes.length-zero_page, specs.{Memory.Memory, Pages.{AreWhole, Pages, byte_at, page_at, zero_page}}}
 use Rattle.page_memory.specs.declared.page.Half.TheVariants.{Completion}
 use Rattle.queue_pair.{proofs.Halves.{zeros_stand, pages_zero}, specs.{Halves.IsZero, Lists.PhasesStand, Memory.half_pages}}
-use Rattle.queue_pair.specs.Rings.{IsDeviceSide, fresh_device_ring}
+use Rattle.queue_pair.specs.Rings.{IsControllerSide, fresh_controller_ring}
 use Rattle.controller_core.specs.{Resetting.{queue_reset, queues_reset}, declared.queue.ControllerQueue.ControllerQueue}
 use Rattle.host_core.proofs.Making.{whole-zeros}
 
@@ -85,21 +85,21 @@ zeros_granted pages n first zeros = zeros_stand (byte_at pages) first n (pages_z
 
 -- What the machine has of them
 
-no_devices : (m m' : Memory) (q : ℕ) (hs : List HostQueue) (cs : List ControllerQueue)
-    → device_queues_of m' (map (λ other. a.no_queue) hs) (queues_reset (suc q) cs) ≡ map (λ other. a.no_device_queue) (device_queues_of m hs cs)
-no_devices m m' q (h ∷ hs) (c ∷ cs) = ap (λ (ds : List DeviceQueue). a.no_device_queue ∷ ds) (no_devices m m' (suc q) hs cs)
-no_devices m m' q x cs = refl
+no_controllers : (m m' : Memory) (q : ℕ) (hs : List HostQueue) (cs : List ControllerQueue)
+    → served_queues_of m' (map (λ other. a.no_queue) hs) (queues_reset (suc q) cs) ≡ map (λ other. a.no_served_queue) (served_queues_of m hs cs)
+no_controllers m m' q (h ∷ hs) (c ∷ cs) = ap (λ (ds : List ServedQueue). a.no_served_queue ∷ ds) (no_controllers m m' (suc q) hs cs)
+no_controllers m m' q x cs = refl
 
-pub devices_reset : (m m' : Memory) (hs : List HostQueue) (cs : List ControllerQueue) → device_queues_of m' (a.reset_queues hs) (queues_reset 0 cs) ≡ a.reset_device_queues (device_queues_of m hs cs)
-devices_reset m m' (h ∷ hs) (c ∷ cs) = ap (λ (ds : List DeviceQueue). a.reset_device_admin ∷ ds) (no_devices m m' 0 hs cs)
-devices_reset m m' x cs = refl
+pub controllers_reset : (m m' : Memory) (hs : List HostQueue) (cs : List ControllerQueue) → served_queues_of m' (a.reset_queues hs) (queues_reset 0 cs) ≡ a.reset_served_queues (served_queues_of m hs cs)
+controllers_reset m m' (h ∷ hs) (c ∷ cs) = ap (λ (ds : List ServedQueue). a.reset_controller_admin ∷ ds) (no_controllers m m' 0 hs cs)
+controllers_reset m m' x cs = refl
 
 -- What both sides share
 
 ring_reset : (n q i : ℕ) (h h' : HostQueue) (c : ControllerQueue) → ShareQueue n q h c → ShareQueue n q h' (queue_reset i c)
 ring_reset n q i h h' c share = go i
   where
-    fresh : IsDeviceSide (record c.device { ring = fresh_device_ring })
+    fresh : IsControllerSide (record c.controller { ring = fresh_controller_ring })
     fresh = record { least = share.side.least; most = share.side.most; head = omega (arith, share.side.least); bell = omega (arith, share.side.least); tail = omega (arith, share.side.least); known_head = omega (arith, share.side.least) }
 
     go : (i : ℕ) → ShareQueue n q h' (queue_reset i c)
@@ -124,21 +124,21 @@ admin_reset n x cs share = tt
 
 -- The rings of queue 0 stand over zero pages
 
-fresh_rings : (n : ℕ) (m : Memory) (h : HostQueue) (c : ControllerQueue) → ShareQueue n 0 h c → IsZero m c.device.cq (half_pages n Completion) → RingsStand m 0 (a.reset_admin h) (queue_reset 0 c)
+fresh_rings : (n : ℕ) (m : Memory) (h : HostQueue) (c : ControllerQueue) → ShareQueue n 0 h c → IsZero m c.controller.cq (half_pages n Completion) → RingsStand m 0 (a.reset_admin h) (queue_reset 0 c)
 fresh_rings n m h c share zeros =
-    let inside : (nat_lt 0 c.device.entries && true) ≡ true = rw (lt-ltb 0 c.device.entries (omega (arith, share.side.least))) refl in
+    let inside : (nat_lt 0 c.controller.entries && true) ≡ true = rw (lt-ltb 0 c.controller.entries (omega (arith, share.side.least))) refl in
     record {
       fetched = inside;
       rung = inside;
       heard = refl;
       expected = refl;
-      phases = zeros_stand m c.device.cq c.device.entries (subst (λ (k : ℕ). IsZero m c.device.cq (half_pages k Completion)) (sym share.entries) zeros);
+      phases = zeros_stand m c.controller.cq c.controller.entries (subst (λ (k : ℕ). IsZero m c.controller.cq (half_pages k Completion)) (sym share.entries) zeros);
       owned = tt;
       follow = inside;
       drained = λ e. refl;
     }
 
-admin_stands : (n : ℕ) (m : Memory) (h : HostQueue) (c : ControllerQueue) → ShareQueue n 0 h c → ShareAdmin n h c → IsZero m c.device.cq (half_pages n Completion) → QueueStands n m 0 (a.reset_admin h) (queue_reset 0 c)
+admin_stands : (n : ℕ) (m : Memory) (h : HostQueue) (c : ControllerQueue) → ShareQueue n 0 h c → ShareAdmin n h c → IsZero m c.controller.cq (half_pages n Completion) → QueueStands n m 0 (a.reset_admin h) (queue_reset 0 c)
 admin_stands n m h c share admin zeros =
     record { halves = record { submission = λ e. admin.submission; completion = λ e. admin.completion }; rings = λ e. fresh_rings n m h c share zeros; granted = λ making. absurd (true≢false (sym making)) }
 
@@ -159,11 +159,11 @@ pub stands_reset : (n : ℕ) (pages : Pages) (hs : List HostQueue) (cs : List Co
 stands_reset n pages (h ∷ hs) (c ∷ cs) share admin inside =
     let own : List ℕ = h.sq_pages ++ h.cq_pages in
     let zeroed : Pages = with_pages (zeroed_pages own) pages in
-    let zeros : IsZero (byte_at zeroed) c.device.cq (half_pages n Completion) =
-    pages_zero zeroed c.device.cq (half_pages n Completion)
-    (λ p l. let mine : is_among h.cq_pages (c.device.cq + p) ≡ true =
-    ap (λ (ps : List ℕ). is_among ps (c.device.cq + p)) admin.completion ∙ among-from c.device.cq (half_pages n Completion) p l in
-    zeroed_there own pages (c.device.cq + p) (inside h (c.device.cq + p) refl mine)
-    (λ none. absurd (true≢false (sym (among-append h.sq_pages h.cq_pages (c.device.cq + p) ∙ grind arith) ∙ none)))) in
+    let zeros : IsZero (byte_at zeroed) c.controller.cq (half_pages n Completion) =
+    pages_zero zeroed c.controller.cq (half_pages n Completion)
+    (λ p l. let mine : is_among h.cq_pages (c.controller.cq + p) ≡ true =
+    ap (λ (ps : List ℕ). is_among ps (c.controller.cq + p)) admin.completion ∙ among-from c.controller.cq (half_pages n Completion) p l in
+    zeroed_there own pages (c.controller.cq + p) (inside h (c.controller.cq + p) refl mine)
+    (λ none. absurd (true≢false (sym (among-append h.sq_pages h.cq_pages (c.controller.cq + p) ∙ grind arith) ∙ none)))) in
     (admin_stands n (byte_at zeroed) h c share.0 admin zeros, none_stand n (byte_at zeroed) 0 hs cs)
 stands_reset n pages x cs share admin inside = tt

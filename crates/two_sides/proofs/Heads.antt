@@ -7,22 +7,22 @@ use Rattle.queue_pair.{proofs.Rings.{next_below, distance_same, next_full, dista
 use Rattle.queue_pair.specs.{Rings.{HostRing, fresh_host_ring, next_tail, next_head, knowing}, Slots.{next_slot, distance, moved}}
 use Rattle.machine_model.proofs.{Counting.{total-append, total_with, total_without, total-map, get_other as changed_elsewhere}, HostLeaves.ids_of}
 use Rattle.machine_model.proofs.Kept.{making_sq_as_heard, ring_at, asked_serves}
-use Rattle.machine_model.proofs.Moves.{posts, sends, sent_record, host_moves, drafted_record, heard_without, half_from, creates_cq, creates_sq, grants_cq, grants_sq, IsHeard, answer_heard}
+use Rattle.machine_model.proofs.Moves.{posts, sends, sent_record, host_moves, drafted_record, heard_without, half_from, creates_cq, creates_sq, grants_cq, grants_sq, IsHeard, completion_heard}
 use Rattle.machine_model.proofs.{Owned.{all_reset, lost_keeps}, Sound.{still_live, asked_note}, Steps.{Accepts, part_controller, managed_by, unrefused}}
 use Rattle.machine_model.proofs.TokensKept.reset_heads
-use Rattle.machine_model.specs.Agreeing.{sent_count, AreAnswersBehind as AnswersBehind, answers_at, AreHeadsBehind as Heads, IsHeadBehind as HeadBehind, is_out_of_service_at as past_at, unfetched_count, job_weight}
-use Rattle.machine_model.specs.{Events.{Event, Reply}, Memory.with_pages, Opening.{Opens, opening, queues_from, device_queue as opened}, Positions.IsInRing}
+use Rattle.machine_model.specs.Agreeing.{sent_count, AreCompletionsBehind as AnswersBehind, completions_at, AreHeadsBehind as Heads, IsHeadBehind as HeadBehind, is_out_of_service_at as past_at, unfetched_count, job_weight}
+use Rattle.machine_model.specs.{Events.{Event, Reply}, Memory.with_pages, Opening.{Opens, opening, queues_from, served_queue as opened}, Positions.IsInRing}
 use Rattle.machine_model.specs.Proper.{IsProper}
-use Rattle.machine_model.specs.Refusals.{is_submitted, device_queue, no_identifier, entry_of, first_answer, in_service, job_at, fetch_slot, is_live, is_making, is_job}
+use Rattle.machine_model.specs.Refusals.{is_submitted, served_queue, no_identifier, entry_of, front_completion, in_service, job_at, fetch_slot, is_live, is_making, is_job}
 use Rattle.machine_model.specs.Standing.{unfetched_at}
-use Rattle.machine_model.specs.State.{Record, Answer, State, HostQueue, DeviceQueue, is_at, with_record, outstanding_on, without_record, record_at, Device, Host, Job}
+use Rattle.machine_model.specs.State.{Record, PostedCompletion, State, HostQueue, ServedQueue, is_at, with_record, outstanding_on, without_record, record_at, Controller, Host, Job}
 use Rattle.machine_model.specs.{Step.{HostPart, host_part, IsController}, Weights.{one, total, here, sent}}
 use Rattle.machine_model.specs.declared.words.{HostState.TheVariants.{Live, Deleting, MakingSq}, Phase.TheVariants.Held, Work.TheVariants.Management}
 use Rattle.admin_commands.specs.{Entries.{admin_entry, named_queue}, declared.AdminKind.{AdminKind, TheVariants.{Abort, DeleteSq, DeleteCq, CreateSq}}}
 use Rattle.admin_commands.specs.declared.SqState.TheVariants.{Stopping}
 use Rattle.entry_codec.specs.declared.{completion.ComEntry.ComEntry, status.{Status.Status, TheConstants.Status.ABORTED_SQ_DELETION}}
 use Rattle.entry_codec.specs.declared.submission.SubEntry.{SubEntry}
-use Rattle.two_sides.proofs.DeviceMoves.{fetch_by, walk_by, answers, finished, cleared, complete_by}
+use Rattle.two_sides.proofs.ControllerMoves.{fetch_by, walk_by, posts_completion, finished, cleared, complete_by}
 use Rattle.two_sides.proofs.PlacesKept.{sent_is, held_not, PlacesIn, places_event, running_not_past, sent_not, InHand, in_hand, first_is}
 use Rattle.two_sides.proofs.{Provided.{In, all_map, all_append, in_found}, Served.Stood, Standing.{list_at, list_same, admin_zero}}
 use Rattle.two_sides.proofs.TiedAll.{Grounds, pair_at, ring_in, zero_lives}
@@ -30,15 +30,15 @@ use Rattle.io_commands.specs.Jobs.{is_success}
 use Rattle.page_memory.specs.declared.page.Half.TheVariants.{Submission, Completion}
 use Rattle.page_memory.proofs.Lists.{found_is, all-filter}
 
--- How far the host's known head and the heads told by answers are behind the tail: never more than commands are submitted.
+-- How far the host's known head and the heads told by posts_completion are behind the tail: never more than commands are submitted.
 
 -- Answers, as something changes
 
-pub behind_more : (n tail k k' : ℕ) (ans : List Answer) → k ≤ k' → AnswersBehind n tail k ans → AnswersBehind n tail k' ans
+pub behind_more : (n tail k k' : ℕ) (ans : List PostedCompletion) → k ≤ k' → AnswersBehind n tail k ans → AnswersBehind n tail k' ans
 behind_more n tail k k' [] le h = tt
 behind_more n tail k k' (an ∷ ans) le h = (h.0, omega (arith, h.1, le), behind_more n tail (k - 1) (k' - 1) ans (omega (arith, le)) h.2)
 
-pub behind_posted : (n tail k : ℕ) (ans : List Answer) → tail < n → k < n - 1 → AnswersBehind n tail k ans → AnswersBehind n (next_slot n tail) (k + 1) ans
+pub behind_posted : (n tail k : ℕ) (ans : List PostedCompletion) → tail < n → k < n - 1 → AnswersBehind n tail k ans → AnswersBehind n (next_slot n tail) (k + 1) ans
 behind_posted n tail k [] t few h = tt
 behind_posted n tail k (an ∷ ans) t few h =
     let grows : distance n an.sq_head (next_slot n tail) ≡ suc (distance n an.sq_head tail) = distance_grows n an.sq_head tail h.0 t (λ e. absurd (omega (arith, e, h.1, few))) in (
@@ -47,7 +47,7 @@ behind_posted n tail k (an ∷ ans) t few h =
       subst (λ (m : ℕ). AnswersBehind n (next_slot n tail) m ans) (omega (arith, h.1)) (behind_posted n tail (k - 1) ans t (omega (arith, few)) h.2),
     )
 
-pub behind_answered : (n tail k : ℕ) (ans : List Answer) (an : Answer) → an.sq_head < n → distance n an.sq_head tail + length ans < k → AnswersBehind n tail k ans → AnswersBehind n tail k (ans ++ an ∷ [])
+pub behind_answered : (n tail k : ℕ) (ans : List PostedCompletion) (an : PostedCompletion) → an.sq_head < n → distance n an.sq_head tail + length ans < k → AnswersBehind n tail k ans → AnswersBehind n tail k (ans ++ an ∷ [])
 behind_answered n tail k [] an head less h = (head, omega (arith, less), tt)
 behind_answered n tail k (x ∷ ans) an head less h = (h.0, h.1, behind_answered n tail (k - 1) ans an head (omega (arith, less)) h.2)
 
@@ -127,90 +127,90 @@ total_ones (x ∷ xs) = omega (arith, total_ones xs)
 -- Every event keeps the heads behind the tail.
 
 abbrev pub HeadsS : State → Type 0
-HeadsS s = (Heads (host_part s).entries (host_part s).host.queues (host_part s).host.records s.device.queues)
+HeadsS s = (Heads (host_part s).entries (host_part s).host.queues (host_part s).host.records s.controller.queues)
 
 -- What does not concern heads
 
-pub heads_records : (n : ℕ) (hs : List HostQueue) (rs rs' : List Record) (qs : List DeviceQueue) → AllByRecursion (λ r. r.cid < n - 1) rs' → ((q : ℕ) → sent_count q rs ≤ sent_count q rs') → Heads n hs rs qs → Heads n hs rs' qs
+pub heads_records : (n : ℕ) (hs : List HostQueue) (rs rs' : List Record) (qs : List ServedQueue) → AllByRecursion (λ r. r.cid < n - 1) rs' → ((q : ℕ) → sent_count q rs ≤ sent_count q rs') → Heads n hs rs qs → Heads n hs rs' qs
 heads_records n hs rs rs' qs ids more h = record {
   ids = ids;
   behind = λ q queue e past.
       let b = h.behind q queue e past in
-      record { known = omega (arith, b.known, more q); answers = behind_more n queue.ring.tail (sent_count q rs) (sent_count q rs') (answers_at qs q) (more q) b.answers };
+      record { known = omega (arith, b.known, more q); completions = behind_more n queue.ring.tail (sent_count q rs) (sent_count q rs') (completions_at qs q) (more q) b.completions };
 }
 
-pub heads_device : (n : ℕ) (hs : List HostQueue) (rs : List Record) (qs qs' : List DeviceQueue) → ((q : ℕ) → answers_at qs' q ≡ answers_at qs q) → Heads n hs rs qs → Heads n hs rs qs'
-heads_device n hs rs qs qs' same h = record {
+pub heads_controller : (n : ℕ) (hs : List HostQueue) (rs : List Record) (qs qs' : List ServedQueue) → ((q : ℕ) → completions_at qs' q ≡ completions_at qs q) → Heads n hs rs qs → Heads n hs rs qs'
+heads_controller n hs rs qs qs' same h = record {
   ids = h.ids;
   behind = λ q queue e past. subst (HeadBehind n (sent_count q rs) queue) (sym (same q)) (h.behind q queue e past);
 }
 
 -- a queue of the host changes: what is said of it, and what stood of the others
-heads_change : (n k : ℕ) (f : HostQueue → HostQueue) (hs : List HostQueue) (rs : List Record) (qs : List DeviceQueue)
-    → ((x : HostQueue) → slice_get hs k ≡ Some x → in_service (f x).state ≡ true → HeadBehind n (sent_count k rs) (f x) (answers_at qs k)) → Heads n hs rs qs → Heads n (change k f hs) rs qs
+heads_change : (n k : ℕ) (f : HostQueue → HostQueue) (hs : List HostQueue) (rs : List Record) (qs : List ServedQueue)
+    → ((x : HostQueue) → slice_get hs k ≡ Some x → in_service (f x).state ≡ true → HeadBehind n (sent_count k rs) (f x) (completions_at qs k)) → Heads n hs rs qs → Heads n (change k f hs) rs qs
 heads_change n k f hs rs qs here h = record { ids = h.ids; behind = λ q queue e past. at q queue past (changed_at k f hs q queue e) }
   where
     at : (q : ℕ) (queue : HostQueue) → in_service queue.state ≡ true → ((k ≡ q) × ((x : HostQueue) × (slice_get hs q ≡ Some x) × (queue ≡ f x))) ⊎ ((k ≡ q → ⊥) × (slice_get hs q ≡ Some queue))
-        → HeadBehind n (sent_count q rs) queue (answers_at qs q)
+        → HeadBehind n (sent_count q rs) queue (completions_at qs q)
     at q queue past (inl (same, (x, e, is))) =
         let behind = here x (subst (λ (z : ℕ). slice_get hs z ≡ Some x) (sym same) e) (ap (λ (y : HostQueue). in_service y.state) (sym is) ∙ past) in
-        subst (λ (z : ℕ). HeadBehind n (sent_count z rs) queue (answers_at qs z)) same (subst (λ (y : HostQueue). HeadBehind n (sent_count k rs) y (answers_at qs k)) (sym is) behind)
+        subst (λ (z : ℕ). HeadBehind n (sent_count z rs) queue (completions_at qs z)) same (subst (λ (y : HostQueue). HeadBehind n (sent_count k rs) y (completions_at qs k)) (sym is) behind)
     at q queue past (inr (far, e)) = h.behind q queue e past
 
 -- its ring is left alone, and it is past where it was
-pub heads_state : (n k : ℕ) (f : HostQueue → HostQueue) (hs : List HostQueue) (rs : List Record) (qs : List DeviceQueue) → ((x : HostQueue) → (f x).ring ≡ x.ring)
+pub heads_state : (n k : ℕ) (f : HostQueue → HostQueue) (hs : List HostQueue) (rs : List Record) (qs : List ServedQueue) → ((x : HostQueue) → (f x).ring ≡ x.ring)
     → ((x : HostQueue) → slice_get hs k ≡ Some x → in_service (f x).state ≡ true → in_service x.state ≡ true) → Heads n hs rs qs → Heads n (change k f hs) rs qs
 heads_state n k f hs rs qs ring past h = heads_change n k f hs rs qs (λ x e open'.
     let b = h.behind k x e (past x e open') in
     let r = sym (ring x) in
     record {
       known = subst (λ (g : HostRing). distance n g.known_head g.tail ≤ sent_count k rs) r b.known;
-      answers = subst (λ (g : HostRing). AnswersBehind n g.tail (sent_count k rs) (answers_at qs k)) r b.answers;
+      completions = subst (λ (g : HostRing). AnswersBehind n g.tail (sent_count k rs) (completions_at qs k)) r b.completions;
     }) h
 
--- answers stay, or are gone
-pub list_emptied : {B : Type 0} (get : DeviceQueue → List B) (k : ℕ) (f : DeviceQueue → DeviceQueue) (qs : List DeviceQueue) (q : ℕ) → ((at : DeviceQueue) → get (f at) ≡ [])
+-- posts_completion stay, or are gone
+pub list_emptied : {B : Type 0} (get : ServedQueue → List B) (k : ℕ) (f : ServedQueue → ServedQueue) (qs : List ServedQueue) (q : ℕ) → ((at : ServedQueue) → get (f at) ≡ [])
     → (list_at get (change k f qs) q ≡ list_at get qs q) ⊎ (list_at get (change k f qs) q ≡ [])
 list_emptied get zero f (x ∷ qs) zero none = inr (none x)
 list_emptied get (suc k) f (x ∷ qs) (suc q) none = list_emptied get k f qs q none
 list_emptied get k f x q none = inl refl
 
-pub heads_fewer : (n : ℕ) (hs : List HostQueue) (rs : List Record) (qs qs' : List DeviceQueue) → ((q : ℕ) → (answers_at qs' q ≡ answers_at qs q) ⊎ (answers_at qs' q ≡ [])) → Heads n hs rs qs → Heads n hs rs qs'
+pub heads_fewer : (n : ℕ) (hs : List HostQueue) (rs : List Record) (qs qs' : List ServedQueue) → ((q : ℕ) → (completions_at qs' q ≡ completions_at qs q) ⊎ (completions_at qs' q ≡ [])) → Heads n hs rs qs → Heads n hs rs qs'
 heads_fewer n hs rs qs qs' fewer h = record { ids = h.ids; behind = λ q queue e open'. at q queue (h.behind q queue e open') (fewer q) }
   where
-    at : (q : ℕ) (queue : HostQueue) → HeadBehind n (sent_count q rs) queue (answers_at qs q) → (answers_at qs' q ≡ answers_at qs q) ⊎ (answers_at qs' q ≡ []) → HeadBehind n (sent_count q rs) queue (answers_at qs' q)
+    at : (q : ℕ) (queue : HostQueue) → HeadBehind n (sent_count q rs) queue (completions_at qs q) → (completions_at qs' q ≡ completions_at qs q) ⊎ (completions_at qs' q ≡ []) → HeadBehind n (sent_count q rs) queue (completions_at qs' q)
     at q queue b (inl same) = subst (HeadBehind n (sent_count q rs) queue) (sym same) b
-    at q queue b (inr none) = subst (HeadBehind n (sent_count q rs) queue) (sym none) (record { known = b.known; answers = tt })
+    at q queue b (inr none) = subst (HeadBehind n (sent_count q rs) queue) (sym none) (record { known = b.known; completions = tt })
 
 -- a queue is out of service from now on
-pub heads_out : (n k : ℕ) (f : HostQueue → HostQueue) (hs : List HostQueue) (rs : List Record) (qs : List DeviceQueue) → ((x : HostQueue) → in_service (f x).state ≡ false) → Heads n hs rs qs → Heads n (change k f hs) rs qs
+pub heads_out : (n k : ℕ) (f : HostQueue → HostQueue) (hs : List HostQueue) (rs : List Record) (qs : List ServedQueue) → ((x : HostQueue) → in_service (f x).state ≡ false) → Heads n hs rs qs → Heads n (change k f hs) rs qs
 heads_out n k f hs rs qs out h = heads_change n k f hs rs qs (λ x e open'. absurd (true≢false (sym open' ∙ out x))) h
 
--- a queue comes into service with rings as they open, and no answers
-pub heads_made : (n k : ℕ) (hs : List HostQueue) (rs : List Record) (qs : List DeviceQueue) → ((x : HostQueue) → slice_get hs k ≡ Some x → (x.ring ≡ fresh_host_ring) × (answers_at qs k ≡ [])) → Heads n hs rs qs → Heads n (change k a.live hs) rs qs
+-- a queue comes into service with rings as they open, and no posts_completion
+pub heads_made : (n k : ℕ) (hs : List HostQueue) (rs : List Record) (qs : List ServedQueue) → ((x : HostQueue) → slice_get hs k ≡ Some x → (x.ring ≡ fresh_host_ring) × (completions_at qs k ≡ [])) → Heads n hs rs qs → Heads n (change k a.live hs) rs qs
 heads_made n k hs rs qs fresh h = heads_change n k a.live hs rs qs (λ x e open'.
     let f = fresh x e in
-    subst (HeadBehind n (sent_count k rs) (a.live x)) (sym f.1) (record { known = omega (arith, ap (λ (r : HostRing). distance n r.known_head r.tail) f.0, distance_same n 0); answers = tt })) h
+    subst (HeadBehind n (sent_count k rs) (a.live x)) (sym f.1) (record { known = omega (arith, ap (λ (r : HostRing). distance n r.known_head r.tail) f.0, distance_same n 0); completions = tt })) h
 
 -- Posting
 
 pub heads_posted : (q : ℕ) (entry : SubEntry) (s : State) (rs : List Record) → AllByRecursion (λ r. r.cid < s.entries - 1) s.host.records
     → ((k : ℕ) → sent_count k rs + (if q == k then 1 else 0) ≤ sent_count k s.host.records) → sent_count q rs < s.entries - 1
     → ((queue : HostQueue) → slice_get s.host.queues q ≡ Some queue → IsInRing s.entries queue.ring)
-    → Heads s.entries s.host.queues rs s.device.queues → HeadsS (posts q entry s)
+    → Heads s.entries s.host.queues rs s.controller.queues → HeadsS (posts q entry s)
 heads_posted q entry s rs ids more few rings h = record {
   ids = ids;
-  behind = λ k queue e open'. subst (HeadBehind s.entries (sent_count k s.host.records) queue) (sym (list_same (λ at. at.answers) q (λ at. record at { unfetched = at.unfetched ++ entry ∷ [] }) s.device.queues k (λ at. refl)))
+  behind = λ k queue e open'. subst (HeadBehind s.entries (sent_count k s.host.records) queue) (sym (list_same (λ at. at.completions) q (λ at. record at { unfetched = at.unfetched ++ entry ∷ [] }) s.controller.queues k (λ at. refl)))
       (at k queue open' (changed_at q (λ x. record x { ring = next_tail s.entries x.ring }) s.host.queues k queue e));
 }
   where
     at : (k : ℕ) (queue : HostQueue) → in_service queue.state ≡ true
         → ((q ≡ k) × ((x : HostQueue) × (slice_get s.host.queues k ≡ Some x) × (queue ≡ record x { ring = next_tail s.entries x.ring }))) ⊎ ((q ≡ k → ⊥) × (slice_get s.host.queues k ≡ Some queue))
-        → HeadBehind s.entries (sent_count k s.host.records) queue (answers_at s.device.queues k)
+        → HeadBehind s.entries (sent_count k s.host.records) queue (completions_at s.controller.queues k)
     at k queue open' (inr (far, e)) =
         let b = h.behind k queue e open' in
         let le : sent_count k rs ≤ sent_count k s.host.records = omega (arith, more k) in
-        record { known = omega (arith, b.known, le); answers = behind_more s.entries queue.ring.tail (sent_count k rs) (sent_count k s.host.records) (answers_at s.device.queues k) le b.answers }
+        record { known = omega (arith, b.known, le); completions = behind_more s.entries queue.ring.tail (sent_count k rs) (sent_count k s.host.records) (completions_at s.controller.queues k) le b.completions }
     at k queue open' (inl (same, (x, e, is))) =
         let b = h.behind k x e (ap (λ (y : HostQueue). in_service y.state) (sym is) ∙ open') in
         let r = rings x (subst (λ (z : ℕ). slice_get s.host.queues z ≡ Some x) (sym same) e) in
@@ -218,11 +218,11 @@ heads_posted q entry s rs ids more few rings h = record {
         let one_more : sent_count k rs + 1 ≤ sent_count k s.host.records = omega (arith, more k, ap one (eq-eqb q k same)) in
         let grows : distance s.entries x.ring.known_head (next_slot s.entries x.ring.tail) ≡ suc (distance s.entries x.ring.known_head x.ring.tail) =
         distance_grows s.entries x.ring.known_head x.ring.tail r.known_head r.tail (λ z. absurd (omega (arith, z, b.known, few'))) in
-        subst (λ (y : HostQueue). HeadBehind s.entries (sent_count k s.host.records) y (answers_at s.device.queues k)) (sym is)
+        subst (λ (y : HostQueue). HeadBehind s.entries (sent_count k s.host.records) y (completions_at s.controller.queues k)) (sym is)
         (record {
           known = omega (arith, grows, b.known, one_more);
-          answers = behind_more s.entries (next_slot s.entries x.ring.tail) (sent_count k rs + 1) (sent_count k s.host.records) (answers_at s.device.queues k) one_more
-              (behind_posted s.entries x.ring.tail (sent_count k rs) (answers_at s.device.queues k) r.tail few' b.answers);
+          completions = behind_more s.entries (next_slot s.entries x.ring.tail) (sent_count k rs + 1) (sent_count k s.host.records) (completions_at s.controller.queues k) one_more
+              (behind_posted s.entries x.ring.tail (sent_count k rs) (completions_at s.controller.queues k) r.tail few' b.completions);
         })
 
 few_sent : (s : State) → Grounds s → HeadsS s → (q : ℕ) → total (on_queue' q) s.host.records ≤ s.entries - 1
@@ -253,8 +253,8 @@ drafted_room s q r same within quiet g h =
 
 -- Records that go, or change without being sent
 
-pub heads_less : (keep : Record → Bool) (s : State) → ((q : ℕ) → sent_count q s.host.records ≤ sent_count q (filter keep s.host.records)) → HeadsS s → Heads s.entries s.host.queues (filter keep s.host.records) s.device.queues
-heads_less keep s same h = heads_records s.entries s.host.queues s.host.records (filter keep s.host.records) s.device.queues (all-filter (λ r. r.cid < s.entries - 1) keep s.host.records h.ids) same h
+pub heads_less : (keep : Record → Bool) (s : State) → ((q : ℕ) → sent_count q s.host.records ≤ sent_count q (filter keep s.host.records)) → HeadsS s → Heads s.entries s.host.queues (filter keep s.host.records) s.controller.queues
+heads_less keep s same h = heads_records s.entries s.host.queues s.host.records (filter keep s.host.records) s.controller.queues (all-filter (λ r. r.cid < s.entries - 1) keep s.host.records h.ids) same h
 
 pub ids_with : (n q cid : ℕ) (f : Record → Record) (rs : List Record) → ((r : Record) → (f r).cid ≡ r.cid) → AllByRecursion (λ r. r.cid < n) rs → AllByRecursion (λ r. r.cid < n) (with_record q cid f rs)
 ids_with n q cid f rs same h = all_map (λ r. r.cid < n) (λ r. r.cid < n) (λ r. if is_at q cid r then f r else r) rs (λ x low. grind arith) h
@@ -267,58 +267,58 @@ heads_consumed q s h = record {
   behind = λ k queue e open'. at k queue open' (changed_at q (λ x. record x { ring = next_head s.entries x.ring }) s.host.queues k queue e);
 }
   where
-    fewer : (tail m : ℕ) (ans : List Answer) → AnswersBehind s.entries tail m ans → AnswersBehind s.entries tail m (drop 1 ans)
+    fewer : (tail m : ℕ) (ans : List PostedCompletion) → AnswersBehind s.entries tail m ans → AnswersBehind s.entries tail m (drop 1 ans)
     fewer tail m [] h = tt
     fewer tail m (x ∷ ans) h = behind_more s.entries tail (m - 1) m ans (omega arith) h.2
 
-    dropped : (k : ℕ) (tail m : ℕ) → AnswersBehind s.entries tail m (answers_at s.device.queues k) → AnswersBehind s.entries tail m (answers_at (change q (λ at. record at { answers = drop 1 at.answers }) s.device.queues) k)
-    dropped k tail m h = over q s.device.queues k h
+    dropped : (k : ℕ) (tail m : ℕ) → AnswersBehind s.entries tail m (completions_at s.controller.queues k) → AnswersBehind s.entries tail m (completions_at (change q (λ at. record at { completions = drop 1 at.completions }) s.controller.queues) k)
+    dropped k tail m h = over q s.controller.queues k h
       where
-        over : (q : ℕ) (qs : List DeviceQueue) (k : ℕ) → AnswersBehind s.entries tail m (answers_at qs k) → AnswersBehind s.entries tail m (answers_at (change q (λ at. record at { answers = drop 1 at.answers }) qs) k)
+        over : (q : ℕ) (qs : List ServedQueue) (k : ℕ) → AnswersBehind s.entries tail m (completions_at qs k) → AnswersBehind s.entries tail m (completions_at (change q (λ at. record at { completions = drop 1 at.completions }) qs) k)
         over q [] k h = h
-        over zero (at ∷ qs) zero h = fewer tail m at.answers h
+        over zero (at ∷ qs) zero h = fewer tail m at.completions h
         over zero (at ∷ qs) (suc k) h = h
         over (suc q) (at ∷ qs) zero h = h
         over (suc q) (at ∷ qs) (suc k) h = over q qs k h
 
     at : (k : ℕ) (queue : HostQueue) → in_service queue.state ≡ true
         → ((q ≡ k) × ((x : HostQueue) × (slice_get s.host.queues k ≡ Some x) × (queue ≡ record x { ring = next_head s.entries x.ring }))) ⊎ ((q ≡ k → ⊥) × (slice_get s.host.queues k ≡ Some queue))
-        → HeadBehind s.entries (sent_count k s.host.records) queue (answers_at (change q (λ at. record at { answers = drop 1 at.answers }) s.device.queues) k)
+        → HeadBehind s.entries (sent_count k s.host.records) queue (completions_at (change q (λ at. record at { completions = drop 1 at.completions }) s.controller.queues) k)
     at k queue open' (inr (far, e)) =
-        let b = h.behind k queue e open' in record { known = b.known; answers = dropped k queue.ring.tail (sent_count k s.host.records) b.answers }
+        let b = h.behind k queue e open' in record { known = b.known; completions = dropped k queue.ring.tail (sent_count k s.host.records) b.completions }
     at k queue open' (inl (same, (x, e, is))) =
         let b = h.behind k x e (ap (λ (y : HostQueue). in_service y.state) (sym is) ∙ open') in
-        subst (λ (y : HostQueue). HeadBehind s.entries (sent_count k s.host.records) y (answers_at (change q (λ at. record at { answers = drop 1 at.answers }) s.device.queues) k)) (sym is)
-        (record { known = b.known; answers = dropped k x.ring.tail (sent_count k s.host.records) b.answers })
+        subst (λ (y : HostQueue). HeadBehind s.entries (sent_count k s.host.records) y (completions_at (change q (λ at. record at { completions = drop 1 at.completions }) s.controller.queues) k)) (sym is)
+        (record { known = b.known; completions = dropped k x.ring.tail (sent_count k s.host.records) b.completions })
 
 -- a good answer: the host knows its head, and one command is submitted no more
-pub heads_heard : (q : ℕ) (an : Answer) (s : State) (rs : List Record) → option_and_then (λ queue. first_answer queue.answers) (device_queue s q) ≡ Some an → AllByRecursion (λ r. r.cid < s.entries - 1) rs
+pub heads_heard : (q : ℕ) (an : PostedCompletion) (s : State) (rs : List Record) → option_and_then (λ queue. front_completion queue.completions) (served_queue s q) ≡ Some an → AllByRecursion (λ r. r.cid < s.entries - 1) rs
     → ((k : ℕ) → sent_count k s.host.records ≤ sent_count k rs + (if q == k then 1 else 0)) → HeadsS s
-    → Heads s.entries (a.heard q (entry_of q an) s).host.queues rs (change q (λ at. record at { answers = drop 1 at.answers }) s.device.queues)
+    → Heads s.entries (a.heard q (entry_of q an) s).host.queues rs (change q (λ at. record at { completions = drop 1 at.completions }) s.controller.queues)
 heads_heard q an s rs first ids less h = record {
   ids = ids;
   behind = λ k queue e open'. at k queue open' (changed_at q (λ x. record x { ring = knowing (entry_of q an).sqhd x.ring }) (change q (λ x. record x { ring = next_head s.entries x.ring }) s.host.queues) k queue e);
 }
   where
-    qs' : List DeviceQueue
-    qs' = change q (λ at. record at { answers = drop 1 at.answers }) s.device.queues
+    qs' : List ServedQueue
+    qs' = change q (λ at. record at { completions = drop 1 at.completions }) s.controller.queues
 
-    head_rest : answers_at s.device.queues q ≡ an ∷ answers_at (change q (λ at. record at { answers = drop 1 at.answers }) s.device.queues) q
-    head_rest = over q s.device.queues first
+    head_rest : completions_at s.controller.queues q ≡ an ∷ completions_at (change q (λ at. record at { completions = drop 1 at.completions }) s.controller.queues) q
+    head_rest = over q s.controller.queues first
       where
-        cut : (ans : List Answer) → first_answer ans ≡ Some an → ans ≡ an ∷ drop 1 ans
+        cut : (ans : List PostedCompletion) → front_completion ans ≡ Some an → ans ≡ an ∷ drop 1 ans
         cut [] e = absurd cc
         cut (x ∷ ans) e = let same : x ≡ an = cc in ap (λ y. y ∷ ans) same
 
-        over : (q : ℕ) (qs : List DeviceQueue) → option_and_then (λ queue. first_answer queue.answers) (slice_get qs q) ≡ Some an → answers_at qs q ≡ an ∷ answers_at (change q (λ at. record at { answers = drop 1 at.answers }) qs) q
+        over : (q : ℕ) (qs : List ServedQueue) → option_and_then (λ queue. front_completion queue.completions) (slice_get qs q) ≡ Some an → completions_at qs q ≡ an ∷ completions_at (change q (λ at. record at { completions = drop 1 at.completions }) qs) q
         over q [] e = absurd cc
-        over zero (at ∷ qs) e = cut at.answers e
+        over zero (at ∷ qs) e = cut at.completions e
         over (suc q) (at ∷ qs) e = over q qs e
 
-    elsewhere : (k : ℕ) → (q ≡ k → ⊥) → answers_at (change q (λ at. record at { answers = drop 1 at.answers }) s.device.queues) k ≡ answers_at s.device.queues k
-    elsewhere k far = over q s.device.queues k far
+    elsewhere : (k : ℕ) → (q ≡ k → ⊥) → completions_at (change q (λ at. record at { completions = drop 1 at.completions }) s.controller.queues) k ≡ completions_at s.controller.queues k
+    elsewhere k far = over q s.controller.queues k far
       where
-        over : (q : ℕ) (qs : List DeviceQueue) (k : ℕ) → (q ≡ k → ⊥) → answers_at (change q (λ at. record at { answers = drop 1 at.answers }) qs) k ≡ answers_at qs k
+        over : (q : ℕ) (qs : List ServedQueue) (k : ℕ) → (q ≡ k → ⊥) → completions_at (change q (λ at. record at { completions = drop 1 at.completions }) qs) k ≡ completions_at qs k
         over q [] k far = refl
         over zero (at ∷ qs) zero far = absurd (far refl)
         over zero (at ∷ qs) (suc k) far = refl
@@ -327,20 +327,20 @@ heads_heard q an s rs first ids less h = record {
 
     -- the queue itself
     own : (k : ℕ) (x : HostQueue) → q ≡ k → slice_get s.host.queues k ≡ Some x → in_service x.state ≡ true
-        → (distance s.entries an.sq_head x.ring.tail ≤ sent_count k rs) × AnswersBehind s.entries x.ring.tail (sent_count k rs) (answers_at (change q (λ at. record at { answers = drop 1 at.answers }) s.device.queues) k)
+        → (distance s.entries an.sq_head x.ring.tail ≤ sent_count k rs) × AnswersBehind s.entries x.ring.tail (sent_count k rs) (completions_at (change q (λ at. record at { completions = drop 1 at.completions }) s.controller.queues) k)
     own k x same e open' =
         let b = h.behind k x e open' in
-        let front : AnswersBehind s.entries x.ring.tail (sent_count k s.host.records) (an ∷ answers_at (change q (λ at. record at { answers = drop 1 at.answers }) s.device.queues) k) =
-        subst (AnswersBehind s.entries x.ring.tail (sent_count k s.host.records)) (subst (λ (z : ℕ). answers_at s.device.queues z ≡ an ∷ answers_at (change q (λ at. record at { answers = drop 1 at.answers }) s.device.queues) z) same head_rest) b.answers in
+        let front : AnswersBehind s.entries x.ring.tail (sent_count k s.host.records) (an ∷ completions_at (change q (λ at. record at { completions = drop 1 at.completions }) s.controller.queues) k) =
+        subst (AnswersBehind s.entries x.ring.tail (sent_count k s.host.records)) (subst (λ (z : ℕ). completions_at s.controller.queues z ≡ an ∷ completions_at (change q (λ at. record at { completions = drop 1 at.completions }) s.controller.queues) z) same head_rest) b.completions in
         let one' : one (q == k) ≡ 1 = ap one (eq-eqb q k same) in (
           omega (arith, front.1, less k, one'),
-          behind_more s.entries x.ring.tail (sent_count k s.host.records - 1) (sent_count k rs) (answers_at (change q (λ at. record at { answers = drop 1 at.answers }) s.device.queues) k) (omega (arith, less k, one')) front.2,
+          behind_more s.entries x.ring.tail (sent_count k s.host.records - 1) (sent_count k rs) (completions_at (change q (λ at. record at { completions = drop 1 at.completions }) s.controller.queues) k) (omega (arith, less k, one')) front.2,
         )
 
     at : (k : ℕ) (queue : HostQueue) → in_service queue.state ≡ true
         → ((q ≡ k) × ((x : HostQueue) × (slice_get (change q (λ x. record x { ring = next_head s.entries x.ring }) s.host.queues) k ≡ Some x) × (queue ≡ record x { ring = knowing (entry_of q an).sqhd x.ring })))
         ⊎ ((q ≡ k → ⊥) × (slice_get (change q (λ x. record x { ring = next_head s.entries x.ring }) s.host.queues) k ≡ Some queue))
-        → HeadBehind s.entries (sent_count k rs) queue (answers_at (change q (λ at. record at { answers = drop 1 at.answers }) s.device.queues) k)
+        → HeadBehind s.entries (sent_count k rs) queue (completions_at (change q (λ at. record at { completions = drop 1 at.completions }) s.controller.queues) k)
     at k queue open' (inl (same, (x, e, is))) = elim (changed_at q (λ x. record x { ring = next_head s.entries x.ring }) s.host.queues k x e) [
       | inl (same', (y, ey, isy)) ↦
           let state : in_service y.state ≡ true = ap (λ (z : HostQueue). in_service z.state) (sym isy) ∙ ap (λ (z : HostQueue). in_service z.state) (sym is) ∙ open' in
@@ -348,7 +348,7 @@ heads_heard q an s rs first ids less h = record {
           let ring : queue.ring ≡ knowing (entry_of q an).sqhd (next_head s.entries y.ring) = ap (λ (z : HostQueue). z.ring) is ∙ ap (λ (z : HostQueue). knowing (entry_of q an).sqhd z.ring) isy in
           record {
             known = subst (λ (g : HostRing). distance s.entries g.known_head g.tail ≤ sent_count k rs) (sym ring) o.0;
-            answers = subst (λ (g : HostRing). AnswersBehind s.entries g.tail (sent_count k rs) (answers_at (change q (λ at. record at { answers = drop 1 at.answers }) s.device.queues) k)) (sym ring) o.1;
+            completions = subst (λ (g : HostRing). AnswersBehind s.entries g.tail (sent_count k rs) (completions_at (change q (λ at. record at { completions = drop 1 at.completions }) s.controller.queues) k)) (sym ring) o.1;
           }
       | inr (far, ey) ↦ absurd (far same)
     ]
@@ -359,8 +359,8 @@ heads_heard q an s rs first ids less h = record {
           let none : one (q == k) ≡ 0 = ap one (other q k far) in
           record {
             known = omega (arith, b.known, less k, none);
-            answers = subst (AnswersBehind s.entries queue.ring.tail (sent_count k rs)) (sym (elsewhere k far))
-                (behind_more s.entries queue.ring.tail (sent_count k s.host.records) (sent_count k rs) (answers_at s.device.queues k) (omega (arith, less k, none)) b.answers);
+            completions = subst (AnswersBehind s.entries queue.ring.tail (sent_count k rs)) (sym (elsewhere k far))
+                (behind_more s.entries queue.ring.tail (sent_count k s.host.records) (sent_count k rs) (completions_at s.controller.queues k) (omega (arith, less k, none)) b.completions);
           }
     ]
       where
@@ -371,7 +371,7 @@ heads_heard q an s rs first ids less h = record {
 
 -- Retiring
 
-heads_retire : (q : ℕ) (s : State) → HeadsS s → Heads s.entries (change q a.retired s.host.queues) (map (a.lost q) s.host.records) s.device.queues
+heads_retire : (q : ℕ) (s : State) → HeadsS s → Heads s.entries (change q a.retired s.host.queues) (map (a.lost q) s.host.records) s.controller.queues
 heads_retire q s h = record { ids = ids; behind = λ k x ex open'. at k x open' (changed_at q a.retired s.host.queues k x ex) }
   where
     ids : AllByRecursion (λ (r : Record). r.cid < s.entries - 1) (map (a.lost q) s.host.records)
@@ -390,9 +390,9 @@ heads_retire q s h = record { ids = ids; behind = λ k x ex open'. at k x open' 
         each r false e = refl
 
     at : (k : ℕ) (x : HostQueue) → in_service x.state ≡ true → ((q ≡ k) × ((y : HostQueue) × (slice_get s.host.queues k ≡ Some y) × (x ≡ a.retired y))) ⊎ ((q ≡ k → ⊥) × (slice_get s.host.queues k ≡ Some x))
-        → HeadBehind s.entries (sent_count k (map (a.lost q) s.host.records)) x (answers_at s.device.queues k)
+        → HeadBehind s.entries (sent_count k (map (a.lost q) s.host.records)) x (completions_at s.controller.queues k)
     at k x open' (inl (same, (y, e, is))) = absurd (true≢false (sym open' ∙ ap (λ (z : HostQueue). in_service z.state) is))
-    at k x open' (inr (far, e)) = subst (λ (m : ℕ). HeadBehind s.entries m x (answers_at s.device.queues k)) (sym (same_sent k (grind (arith, nat_tests)))) (h.behind k x e open')
+    at k x open' (inr (far, e)) = subst (λ (m : ℕ). HeadBehind s.entries m x (completions_at s.controller.queues k)) (sym (same_sent k (grind (arith, nat_tests)))) (h.behind k x e open')
 
 -- Fetching
 
@@ -400,9 +400,9 @@ heads_retire q s h = record { ids = ids; behind = λ k x ex open'. at k x open' 
 pub no_conflict : (s : State) → Stood s → (q : ℕ) (e : SubEntry) → InHand s q e → is_some (job_at s q e.cid) ≡ false
 no_conflict s stood q e hand = go (job_at s q e.cid) refl
   where
-    here_first : 1 ≤ total (λ (x : SubEntry). one (x.cid == e.cid)) (unfetched_at s.device.queues q)
+    here_first : 1 ≤ total (λ (x : SubEntry). one (x.cid == e.cid)) (unfetched_at s.controller.queues q)
     here_first =
-        subst (λ (o : Option DeviceQueue). 1 ≤ total (λ (x : SubEntry). one (x.cid == e.cid)) (option_map_or (λ at. at.unfetched) o [])) (sym hand.at)
+        subst (λ (o : Option ServedQueue). 1 ≤ total (λ (x : SubEntry). one (x.cid == e.cid)) (option_map_or (λ at. at.unfetched) o [])) (sym hand.at)
         (subst (λ (xs : List SubEntry). 1 ≤ total (λ (x : SubEntry). one (x.cid == e.cid)) xs) (sym (first_is hand.queue.unfetched e hand.first)) (omega (arith, ap one (eq-eqb e.cid e.cid refl))))
 
     few : (rs : List Record) → total (sent q (λ c. one (c == e.cid))) rs ≤ total (here q e.cid) rs
@@ -415,66 +415,66 @@ no_conflict s stood q e hand = go (job_at s q e.cid) refl
     go : (o : Option Job) → job_at s q e.cid ≡ o → is_some o ≡ false
     go None n = refl
     go (Some j) n =
-        let ids = and_parts (j.q == q) (j.entry.cid == e.cid) (found_is (is_job q e.cid) s.device.jobs j n) in
+        let ids = and_parts (j.q == q) (j.entry.cid == e.cid) (found_is (is_job q e.cid) s.controller.jobs j n) in
         let mine : job_weight q (λ c. one (c == e.cid)) j ≡ 1 = subst (λ (b : Bool). (if b then one (j.entry.cid == e.cid) else 0) ≡ 1) (sym ids.0) (ap one ids.1) in
-        let counted : unfetched_count q (λ c. one (c == e.cid)) s.host.queues s.device.queues ≡ total (λ (x : SubEntry). one (x.cid == e.cid)) (unfetched_at s.device.queues q) =
-        ap (λ (b : Bool). if b then 0 else total (λ (x : SubEntry). one (x.cid == e.cid)) (unfetched_at s.device.queues q)) (running_not_past s stood.grounds q e hand) in
-        absurd (omega (arith, counted, here_first, mine, in_found (is_job q e.cid) s.device.jobs j n (job_weight q (λ c. one (c == e.cid))), stood.places q (λ c. one (c == e.cid)), few s.host.records, stood.grounds.stands.0.once q e.cid))
+        let counted : unfetched_count q (λ c. one (c == e.cid)) s.host.queues s.controller.queues ≡ total (λ (x : SubEntry). one (x.cid == e.cid)) (unfetched_at s.controller.queues q) =
+        ap (λ (b : Bool). if b then 0 else total (λ (x : SubEntry). one (x.cid == e.cid)) (unfetched_at s.controller.queues q)) (running_not_past s stood.grounds q e hand) in
+        absurd (omega (arith, counted, here_first, mine, in_found (is_job q e.cid) s.controller.jobs j n (job_weight q (λ c. one (c == e.cid))), stood.places q (λ c. one (c == e.cid)), few s.host.records, stood.grounds.stands.0.once q e.cid))
 
--- a queue's answers stay, or are gone with its completion queue
-abbrev Fewer : State → Device → Type 0
-Fewer s d = (k : ℕ) → (answers_at d.queues k ≡ answers_at s.device.queues k) ⊎ (answers_at d.queues k ≡ [])
+-- a queue's posts_completion stay, or are gone with its completion queue
+abbrev Fewer : State → Controller → Type 0
+Fewer s d = (k : ℕ) → (completions_at d.queues k ≡ completions_at s.controller.queues k) ⊎ (completions_at d.queues k ≡ [])
 
-same_off : (s : State) (q k : ℕ) → answers_at (a.taken_off q s).device.queues k ≡ answers_at s.device.queues k
-same_off s q k = list_same (λ at. at.answers) q (λ at. record at { unfetched = drop 1 at.unfetched; rung = at.rung - 1 }) s.device.queues k (λ at. refl)
+same_off : (s : State) (q k : ℕ) → completions_at (a.taken_off q s).controller.queues k ≡ completions_at s.controller.queues k
+same_off s q k = list_same (λ at. at.completions) q (λ at. record at { unfetched = drop 1 at.unfetched; rung = at.rung - 1 }) s.controller.queues k (λ at. refl)
 
-fewer_managed : (s : State) (e : SubEntry) → Fewer s (a.managed e (a.taken_off 0 s)).device
+fewer_managed : (s : State) (e : SubEntry) → Fewer s (a.managed e (a.taken_off 0 s)).controller
 fewer_managed s e =
-    let emptied : (f : DeviceQueue → DeviceQueue) → ((at : DeviceQueue) → (f at).answers ≡ []) → Fewer s (a.on_device_queue (named_queue e) f (a.taken_off 0 s)).device = λ f none k.
-    elim (list_emptied (λ at. at.answers) (named_queue e) f (a.taken_off 0 s).device.queues k none) [
+    let emptied : (f : ServedQueue → ServedQueue) → ((at : ServedQueue) → (f at).completions ≡ []) → Fewer s (a.on_served_queue (named_queue e) f (a.taken_off 0 s)).controller = λ f none k.
+    elim (list_emptied (λ at. at.completions) (named_queue e) f (a.taken_off 0 s).controller.queues k none) [
       | inl same ↦ inl (same ∙ same_off s 0 k)
       | inr gone ↦ inr gone
     ] in
-    managed_by (λ (t : State). Fewer s t.device) e (a.taken_off 0 s)
+    managed_by (λ (t : State). Fewer s t.controller) e (a.taken_off 0 s)
     (record {
       refuses = λ st bad k. inl (same_off s 0 k);
       aborts = λ is8 walks k. inl (same_off s 0 k);
       is_late = λ is8 k. inl (same_off s 0 k);
-      stops = λ is0 q0 runs k. inl (list_same (λ at. at.answers) (named_queue e) (λ at. record at { state = Stopping }) (a.taken_off 0 s).device.queues k (λ at. refl) ∙ same_off s 0 k);
+      stops = λ is0 q0 runs k. inl (list_same (λ at. at.completions) (named_queue e) (λ at. record at { state = Stopping }) (a.taken_off 0 s).controller.queues k (λ at. refl) ∙ same_off s 0 k);
       drops = λ is4 q0 there gone. emptied a.dropped (λ at. refl);
       makes_completion = λ is5 q0 none. emptied a.completion_made (λ at. refl);
       makes_submission = λ is1 q0 gone there. emptied a.submission_made (λ at. refl);
     })
 
-fewer_fetch : (s : State) → Stood s → (q : ℕ) → Fewer s (a.after_fetch q s).device
+fewer_fetch : (s : State) → Stood s → (q : ℕ) → Fewer s (a.after_fetch q s).controller
 fewer_fetch s stood q =
-    fetch_by (λ (t : State). Fewer s t.device) s q (λ k. inl refl)
+    fetch_by (λ (t : State). Fewer s t.controller) s q (λ k. inl refl)
     (λ e n c. absurd (true≢false (sym c ∙ ap (λ (o : Option SubEntry). option_map_or (λ e. is_some (job_at s q e.cid)) o false) n ∙ no_conflict s stood q e (in_hand s q e n))))
     (λ e n c z. fewer_managed s e) (λ e n c other k. inl (same_off s q k))
 
 -- Walking
 
-fewer_walk : (s : State) (q cid : ℕ) → Fewer s (a.after_walk q cid s).device
-fewer_walk s q cid = walk_by (λ (t : State). Fewer s t.device) s q cid (λ k. inl refl) (λ j act at u k. inl refl)
+fewer_walk : (s : State) (q cid : ℕ) → Fewer s (a.after_walk q cid s).controller
+fewer_walk s q cid = walk_by (λ (t : State). Fewer s t.controller) s q cid (λ k. inl refl) (λ j act at u k. inl refl)
 
 -- Completing
 
 few_sent_heads_all : (s : State) → Grounds s → HeadsS s → (q : ℕ) → sent_count q s.host.records ≤ s.entries - 1
 few_sent_heads_all s g h q = omega (arith, sent_outstanding q s.host.records, few_outstanding q (s.entries - 1) s.host.records h.ids g.stands.0.once)
 
--- an answer is posted where entries and answers leave one command
+-- an answer is posted where entries and posts_completion leave one command
 heads_answered : (q cid : ℕ) (st : Status) (dw0 : ℕ) (t : State) → 0 < t.entries → ((k : ℕ) → sent_count k t.host.records ≤ t.entries - 1)
     → ((queue : HostQueue) → slice_get t.host.queues q ≡ Some queue → IsInRing t.entries queue.ring)
-    → PlacesIn (answers q cid st dw0 t) → HeadsS t → HeadsS (answers q cid st dw0 t)
+    → PlacesIn (posts_completion q cid st dw0 t) → HeadsS t → HeadsS (posts_completion q cid st dw0 t)
 heads_answered q cid st dw0 t pos few rings placed h =
-    let f : DeviceQueue → DeviceQueue = λ at. record at { answers = at.answers ++ record { cid = cid; status = st; dw0 = dw0; sq_head = fetch_slot t q } ∷ [] } in
-    let after : List DeviceQueue = change q (λ at. record at { answers = at.answers ++ record { cid = cid; status = st; dw0 = dw0; sq_head = fetch_slot t q } ∷ [] }) t.device.queues in
+    let f : ServedQueue → ServedQueue = λ at. record at { completions = at.completions ++ record { cid = cid; status = st; dw0 = dw0; sq_head = fetch_slot t q } ∷ [] } in
+    let after : List ServedQueue = change q (λ at. record at { completions = at.completions ++ record { cid = cid; status = st; dw0 = dw0; sq_head = fetch_slot t q } ∷ [] }) t.controller.queues in
     record { ids = h.ids; behind = λ k queue e open'. at k queue e open' (q == k) refl }
   where
-    an : Answer
+    an : PostedCompletion
     an = record { cid = cid; status = st; dw0 = dw0; sq_head = fetch_slot t q }
 
-    elsewhere : (q k : ℕ) (qs : List DeviceQueue) (g : DeviceQueue → DeviceQueue) → (q == k) ≡ false → answers_at (change q g qs) k ≡ answers_at qs k
+    elsewhere : (q k : ℕ) (qs : List ServedQueue) (g : ServedQueue → ServedQueue) → (q == k) ≡ false → completions_at (change q g qs) k ≡ completions_at qs k
     elsewhere q k [] g far = refl
     elsewhere zero zero (x ∷ qs) g far = absurd (true≢false far)
     elsewhere zero (suc k) (x ∷ qs) g far = refl
@@ -484,70 +484,70 @@ heads_answered q cid st dw0 t pos few rings placed h =
         less : (q k : ℕ) → (suc q == suc k) ≡ false → (q == k) ≡ false
         less q k e = grind (arith, nat_tests)
 
-    own_answers : (q : ℕ) (qs : List DeviceQueue) (at : DeviceQueue) (g : DeviceQueue → DeviceQueue) → slice_get qs q ≡ Some at → answers_at (change q g qs) q ≡ (g at).answers
+    own_answers : (q : ℕ) (qs : List ServedQueue) (at : ServedQueue) (g : ServedQueue → ServedQueue) → slice_get qs q ≡ Some at → completions_at (change q g qs) q ≡ (g at).completions
     own_answers q [] at g e = absurd cc
-    own_answers zero (x ∷ qs) at g e = let same : x ≡ at = cc in ap (λ (y : DeviceQueue). (g y).answers) same
+    own_answers zero (x ∷ qs) at g e = let same : x ≡ at = cc in ap (λ (y : ServedQueue). (g y).completions) same
     own_answers (suc q) (x ∷ qs) at g e = own_answers q qs at g e
 
-    own_entries : (q : ℕ) (qs : List DeviceQueue) (at : DeviceQueue) (g : DeviceQueue → DeviceQueue) → slice_get qs q ≡ Some at → unfetched_at (change q g qs) q ≡ (g at).unfetched
+    own_entries : (q : ℕ) (qs : List ServedQueue) (at : ServedQueue) (g : ServedQueue → ServedQueue) → slice_get qs q ≡ Some at → unfetched_at (change q g qs) q ≡ (g at).unfetched
     own_entries q [] at g e = absurd cc
-    own_entries zero (x ∷ qs) at g e = let same : x ≡ at = cc in ap (λ (y : DeviceQueue). (g y).unfetched) same
+    own_entries zero (x ∷ qs) at g e = let same : x ≡ at = cc in ap (λ (y : ServedQueue). (g y).unfetched) same
     own_entries (suc q) (x ∷ qs) at g e = own_entries q qs at g e
 
-    none_there : (q : ℕ) (qs : List DeviceQueue) (g : DeviceQueue → DeviceQueue) → slice_get qs q ≡ None → answers_at (change q g qs) q ≡ []
+    none_there : (q : ℕ) (qs : List ServedQueue) (g : ServedQueue → ServedQueue) → slice_get qs q ≡ None → completions_at (change q g qs) q ≡ []
     none_there q [] g e = refl
     none_there zero (x ∷ qs) g e = absurd cc
     none_there (suc q) (x ∷ qs) g e = none_there q qs g e
 
     at : (k : ℕ) (queue : HostQueue) → slice_get t.host.queues k ≡ Some queue → in_service queue.state ≡ true → (b : Bool) → (q == k) ≡ b
-        → HeadBehind t.entries (sent_count k t.host.records) queue (answers_at (change q (λ at. record at { answers = at.answers ++ record { cid = cid; status = st; dw0 = dw0; sq_head = fetch_slot t q } ∷ [] }) t.device.queues) k)
-    at k queue e open' false far = subst (HeadBehind t.entries (sent_count k t.host.records) queue) (sym (elsewhere q k t.device.queues _ far)) (h.behind k queue e open')
+        → HeadBehind t.entries (sent_count k t.host.records) queue (completions_at (change q (λ at. record at { completions = at.completions ++ record { cid = cid; status = st; dw0 = dw0; sq_head = fetch_slot t q } ∷ [] }) t.controller.queues) k)
+    at k queue e open' false far = subst (HeadBehind t.entries (sent_count k t.host.records) queue) (sym (elsewhere q k t.controller.queues _ far)) (h.behind k queue e open')
     at k queue e open' true same =
         let z : q ≡ k = eqb-true q k same in
-        subst (λ (m : ℕ). HeadBehind t.entries (sent_count m t.host.records) queue (answers_at (change q (λ at. record at { answers = at.answers ++ record { cid = cid; status = st; dw0 = dw0; sq_head = fetch_slot t q } ∷ [] }) t.device.queues) m)) z
-        (mine queue (subst (λ (m : ℕ). slice_get t.host.queues m ≡ Some queue) (sym z) e) open' (slice_get t.device.queues q) refl)
+        subst (λ (m : ℕ). HeadBehind t.entries (sent_count m t.host.records) queue (completions_at (change q (λ at. record at { completions = at.completions ++ record { cid = cid; status = st; dw0 = dw0; sq_head = fetch_slot t q } ∷ [] }) t.controller.queues) m)) z
+        (mine queue (subst (λ (m : ℕ). slice_get t.host.queues m ≡ Some queue) (sym z) e) open' (slice_get t.controller.queues q) refl)
       where
-        mine : (queue : HostQueue) → slice_get t.host.queues q ≡ Some queue → in_service queue.state ≡ true → (o : Option DeviceQueue) → slice_get t.device.queues q ≡ o
-            → HeadBehind t.entries (sent_count q t.host.records) queue (answers_at (change q (λ at. record at { answers = at.answers ++ record { cid = cid; status = st; dw0 = dw0; sq_head = fetch_slot t q } ∷ [] }) t.device.queues) q)
+        mine : (queue : HostQueue) → slice_get t.host.queues q ≡ Some queue → in_service queue.state ≡ true → (o : Option ServedQueue) → slice_get t.controller.queues q ≡ o
+            → HeadBehind t.entries (sent_count q t.host.records) queue (completions_at (change q (λ at. record at { completions = at.completions ++ record { cid = cid; status = st; dw0 = dw0; sq_head = fetch_slot t q } ∷ [] }) t.controller.queues) q)
         mine queue e open' None d =
-            subst (HeadBehind t.entries (sent_count q t.host.records) queue) (sym (none_there q t.device.queues _ d)) (record { known = (h.behind q queue e open').known; answers = tt })
+            subst (HeadBehind t.entries (sent_count q t.host.records) queue) (sym (none_there q t.controller.queues _ d)) (record { known = (h.behind q queue e open').known; completions = tt })
         mine queue e open' (Some x) d =
-            let g : DeviceQueue → DeviceQueue = λ at. record at { answers = at.answers ++ record { cid = cid; status = st; dw0 = dw0; sq_head = fetch_slot t q } ∷ [] } in
+            let g : ServedQueue → ServedQueue = λ at. record at { completions = at.completions ++ record { cid = cid; status = st; dw0 = dw0; sq_head = fetch_slot t q } ∷ [] } in
             let b = h.behind q queue e open' in
-            let before : AnswersBehind t.entries queue.ring.tail (sent_count q t.host.records) x.answers =
-            subst (λ (o : Option DeviceQueue). AnswersBehind t.entries queue.ring.tail (sent_count q t.host.records) (option_map_or (λ at. at.answers) o [])) d b.answers in
+            let before : AnswersBehind t.entries queue.ring.tail (sent_count q t.host.records) x.completions =
+            subst (λ (o : Option ServedQueue). AnswersBehind t.entries queue.ring.tail (sent_count q t.host.records) (option_map_or (λ at. at.completions) o [])) d b.completions in
             let past : past_at t.host.queues q ≡ false = ap (λ (o : Option HostQueue). option_map_or (λ h. not (in_service h.state)) o false) e ∙ ap not open' in
-            let entries' : unfetched_count q (λ c. 1) t.host.queues (change q g t.device.queues) ≡ length x.unfetched =
-            ap (λ (b : Bool). if b then 0 else total (λ (e : SubEntry). 1) (unfetched_at (change q g t.device.queues) q)) past ∙ ap (total (λ (e : SubEntry). 1)) (own_entries q t.device.queues x g d) ∙ total_ones x.unfetched in
-            let answers' : total (λ (an : Answer). 1) (answers_at (change q g t.device.queues) q) ≡ length x.answers + 1 =
-            ap (total (λ (an : Answer). 1)) (own_answers q t.device.queues x g d) ∙ total-append (λ (an : Answer). 1) x.answers (an ∷ []) ∙ ap (λ (n : ℕ). n + 1) (total_ones x.answers) in
-            let room : length x.unfetched + (length x.answers + 1) ≤ sent_count q t.host.records = omega (arith, placed q (λ c. 1), entries', answers') in
+            let entries' : unfetched_count q (λ c. 1) t.host.queues (change q g t.controller.queues) ≡ length x.unfetched =
+            ap (λ (b : Bool). if b then 0 else total (λ (e : SubEntry). 1) (unfetched_at (change q g t.controller.queues) q)) past ∙ ap (total (λ (e : SubEntry). 1)) (own_entries q t.controller.queues x g d) ∙ total_ones x.unfetched in
+            let answers' : total (λ (an : PostedCompletion). 1) (completions_at (change q g t.controller.queues) q) ≡ length x.completions + 1 =
+            ap (total (λ (an : PostedCompletion). 1)) (own_answers q t.controller.queues x g d) ∙ total-append (λ (an : PostedCompletion). 1) x.completions (an ∷ []) ∙ ap (λ (n : ℕ). n + 1) (total_ones x.completions) in
+            let room : length x.unfetched + (length x.completions + 1) ≤ sent_count q t.host.records = omega (arith, placed q (λ c. 1), entries', answers') in
             let slot : fetch_slot t q ≡ moved t.entries queue.ring.tail (t.entries - length x.unfetched) =
-            ap (λ (o : Option HostQueue). option_map_or (λ queue. option_map_or (λ at. moved t.entries queue.ring.tail (t.entries - length at.unfetched)) (device_queue t q) 0) o 0) e
-            ∙ ap (λ (o : Option DeviceQueue). option_map_or (λ at. moved t.entries queue.ring.tail (t.entries - length at.unfetched)) o 0) d in
+            ap (λ (o : Option HostQueue). option_map_or (λ queue. option_map_or (λ at. moved t.entries queue.ring.tail (t.entries - length at.unfetched)) (served_queue t q) 0) o 0) e
+            ∙ ap (λ (o : Option ServedQueue). option_map_or (λ at. moved t.entries queue.ring.tail (t.entries - length at.unfetched)) o 0) d in
             let head = head_at t.entries queue.ring.tail (length x.unfetched) (rings queue e).tail (omega (arith, room, few q, pos)) in
             let low : fetch_slot t q < t.entries = subst (λ (n : ℕ). n < t.entries) (sym slot) head.0 in
             let far : distance t.entries (fetch_slot t q) queue.ring.tail ≡ length x.unfetched = ap (λ (n : ℕ). distance t.entries n queue.ring.tail) slot ∙ head.1 in
-            subst (HeadBehind t.entries (sent_count q t.host.records) queue) (sym (own_answers q t.device.queues x g d))
-            (record { known = b.known; answers = behind_answered t.entries queue.ring.tail (sent_count q t.host.records) x.answers an low (omega (arith, far, room)) before })
+            subst (HeadBehind t.entries (sent_count q t.host.records) queue) (sym (own_answers q t.controller.queues x g d))
+            (record { known = b.known; completions = behind_answered t.entries queue.ring.tail (sent_count q t.host.records) x.completions an low (omega (arith, far, room)) before })
 
 heads_complete : (q cid : ℕ) (s : State) → Grounds s → PlacesIn (a.after_complete q cid s) → HeadsS s → HeadsS (a.after_complete q cid s)
 heads_complete q cid s g places h =
-    let answered : (t : State) (j : Job) → t.entries ≡ s.entries → t.host ≡ s.host → HeadsS t → PlacesIn (answers q cid (a.final_status s j) j.dw0 t) → HeadsS (answers q cid (a.final_status s j) j.dw0 t) = λ t j n host ht places.
+    let answered : (t : State) (j : Job) → t.entries ≡ s.entries → t.host ≡ s.host → HeadsS t → PlacesIn (posts_completion q cid (a.final_status s j) j.dw0 t) → HeadsS (posts_completion q cid (a.final_status s j) j.dw0 t) = λ t j n host ht places.
     heads_answered q cid (a.final_status s j) j.dw0 t (subst (λ (k : ℕ). 0 < k) (sym n) g.fit.some_entries)
     (λ k. subst (λ (x : Host). sent_count k x.records ≤ t.entries - 1) (sym host) (subst (λ (m : ℕ). sent_count k s.host.records ≤ m - 1) (sym n) (few_sent_heads_all s g h k)))
     (λ queue e. subst (λ (m : ℕ). IsInRing m queue.ring) (sym n) (ring_in s g q queue (subst (λ (x : Host). slice_get x.queues q ≡ Some queue) host e))) places ht in
     complete_by (λ (t : State). PlacesIn t → HeadsS t) s q cid (λ places. h)
-    (λ j at c. answered (a.on_device_queue (named_queue j.entry) cleared (finished q cid j s)) j refl refl
-    (heads_device s.entries s.host.queues s.host.records s.device.queues (change (named_queue j.entry) cleared s.device.queues) (λ n. list_same (λ at. at.answers) (named_queue j.entry) cleared s.device.queues n (λ at. refl)) h))
+    (λ j at c. answered (a.on_served_queue (named_queue j.entry) cleared (finished q cid j s)) j refl refl
+    (heads_controller s.entries s.host.queues s.host.records s.controller.queues (change (named_queue j.entry) cleared s.controller.queues) (λ n. list_same (λ at. at.completions) (named_queue j.entry) cleared s.controller.queues n (λ at. refl)) h))
     (λ j at c. answered (finished q cid j s) j refl refl h) places
 
 -- Every event
 
-controller_heads : (s : State) (e : Event) (reply : Reply) → IsController e ≡ true → Fewer s (a.after s e reply).device → HeadsS s → HeadsS (a.after s e reply)
+controller_heads : (s : State) (e : Event) (reply : Reply) → IsController e ≡ true → Fewer s (a.after s e reply).controller → HeadsS s → HeadsS (a.after s e reply)
 controller_heads s e reply c fewer h =
-    subst (λ (part : HostPart). (Heads part.entries part.host.queues part.host.records (a.after s e reply).device.queues)) (sym (part_controller s e reply c))
-    (heads_fewer s.entries s.host.queues s.host.records s.device.queues (a.after s e reply).device.queues fewer h)
+    subst (λ (part : HostPart). (Heads part.entries part.host.queues part.host.records (a.after s e reply).controller.queues)) (sym (part_controller s e reply c))
+    (heads_fewer s.entries s.host.queues s.host.records s.controller.queues (a.after s e reply).controller.queues fewer h)
 
 heads_host : (s : State) (e : Event) (reply : Reply) → Accepts s e reply → IsController e ≡ false → s.trusted ≡ true → Grounds s → HeadsS s → HeadsS (a.after s e reply)
 heads_host s e reply ok c t g h =
@@ -557,7 +557,7 @@ heads_host s e reply ok c t g h =
     host_moves (λ (e : Event) (reply : Reply) (t : State). HeadsS t) s e reply ok c
     (record {
       reserves = λ q request d none is.
-          heads_records s.entries s.host.queues s.host.records (s.host.records ++ drafted_record d ∷ []) s.device.queues
+          heads_records s.entries s.host.queues s.host.records (s.host.records ++ drafted_record d ∷ []) s.controller.queues
           (all_append (λ r. r.cid < s.entries - 1) s.host.records (drafted_record d ∷ []) h.ids (is.identifier.in_range, tt))
           (λ k. omega (arith, total-append (sent k (λ c. 1)) s.host.records (drafted_record d ∷ []))) h;
       submits = λ d entry r none built its live.
@@ -572,8 +572,8 @@ heads_host s e reply ok c t g h =
           (drafted_room s d.q r ids.0 (in_found (is_at d.q d.cid) s.host.records r its.found) its.quiet g h) (λ queue e. ring_in s g d.q queue e) h;
       cancels = λ d r its. ended d.q d.cid r its.found its.quiet;
       rings = λ q none.
-          heads_device s.entries s.host.queues s.host.records s.device.queues (change q (λ at. record at { rung = length at.unfetched }) s.device.queues)
-          (λ k. list_same (λ at. at.answers) q (λ at. record at { rung = length at.unfetched }) s.device.queues k (λ at. refl)) h;
+          heads_controller s.entries s.host.queues s.host.records s.controller.queues (change q (λ at. record at { rung = length at.unfetched }) s.controller.queues)
+          (λ k. list_same (λ at. at.completions) q (λ at. record at { rung = length at.unfetched }) s.controller.queues k (λ at. refl)) h;
       rests = λ q is. h;
       rejects = λ q why is. heads_consumed q s h;
       tells = λ q cid st what e r request told heard w.
@@ -582,56 +582,56 @@ heads_host s e reply ok c t g h =
       hears = λ q cid st what e r adm told heard w quiet unmade. without q cid st e r heard;
       notes = λ q cid st what e r k told heard w.
           let u = a.heard q e s in
-          heads_state s.entries k (λ queue. record queue { state = if is_success st then Deleting true else Live }) u.host.queues (without_record q cid s.host.records) u.device.queues (λ x. refl)
+          heads_state s.entries k (λ queue. record queue { state = if is_success st then Deleting true else Live }) u.host.queues (without_record q cid s.host.records) u.controller.queues (λ x. refl)
           (λ x ex open'. asked_serves x.state (asked_note s q cid st e r k g.stands.0 g.fit.asked heard w x ex)) (without q cid st e r heard);
-      frees = λ q cid st what e r k queue told heard w at alone good. heads_out s.entries k a.gone (a.heard q e s).host.queues (without_record q cid s.host.records) (a.heard q e s).device.queues (λ x. refl) (without q cid st e r heard);
-      makes_cq = λ q cid st what e r k n base told heard w good. heads_out s.entries k a.half_made (a.heard q e s).host.queues (without_record q cid s.host.records) (a.heard q e s).device.queues (λ x. refl) (without q cid st e r heard);
-      unmakes_cq = λ q cid st what e r k n base queue told heard w at bad. heads_out s.entries k a.gone (a.heard q e s).host.queues (without_record q cid s.host.records) (a.heard q e s).device.queues (λ x. refl) (without q cid st e r heard);
+      frees = λ q cid st what e r k queue told heard w at alone good. heads_out s.entries k a.gone (a.heard q e s).host.queues (without_record q cid s.host.records) (a.heard q e s).controller.queues (λ x. refl) (without q cid st e r heard);
+      makes_cq = λ q cid st what e r k n base told heard w good. heads_out s.entries k a.half_made (a.heard q e s).host.queues (without_record q cid s.host.records) (a.heard q e s).controller.queues (λ x. refl) (without q cid st e r heard);
+      unmakes_cq = λ q cid st what e r k n base queue told heard w at bad. heads_out s.entries k a.gone (a.heard q e s).host.queues (without_record q cid s.host.records) (a.heard q e s).controller.queues (λ x. refl) (without q cid st e r heard);
       makes_sq = λ q cid st what e r k n base told heard w good.
           let u = a.heard q e s in
-          heads_made s.entries k u.host.queues (without_record q cid s.host.records) u.device.queues (λ x ex. fresh q cid st e r k n base heard w x ex) (without q cid st e r heard);
-      unmakes_sq = λ q cid st what e r k n base queue told heard w at bad. heads_out s.entries k a.unmade_sq (a.heard q e s).host.queues (without_record q cid s.host.records) (a.heard q e s).device.queues (λ x. refl) (without q cid st e r heard);
+          heads_made s.entries k u.host.queues (without_record q cid s.host.records) u.controller.queues (λ x ex. fresh q cid st e r k n base heard w x ex) (without q cid st e r heard);
+      unmakes_sq = λ q cid st what e r k n base queue told heard w at bad. heads_out s.entries k a.unmade_sq (a.heard q e s).host.queues (without_record q cid s.host.records) (a.heard q e s).controller.queues (λ x. refl) (without q cid st e r heard);
       collects = λ q cid r f at held is.
-          heads_records s.entries s.host.queues s.host.records (with_record q cid a.collected s.host.records) s.device.queues (ids_with (s.entries - 1) q cid a.collected s.host.records (λ x. refl) h.ids)
+          heads_records s.entries s.host.queues s.host.records (with_record q cid a.collected s.host.records) s.controller.queues (ids_with (s.entries - 1) q cid a.collected s.host.records (λ x. refl) h.ids)
           (λ k. omega (arith, total_with (sent k (λ c. 1)) q cid a.collected s.host.records r at (g.stands.0.once q cid), sent_not k (λ c. 1) r (held_not r.phase held), sent_not k (λ c. 1) (a.collected r) refl)) h;
       releases = λ f r its. ended f.q f.cid r its.found its.quiet;
       aborts = λ q cid id none new. heads_sent (Abort q cid) id s new.in_range (unrefused s (events.Abort q cid) none).1.1.1.0 (λ queue e. ring_in s g 0 queue e) h;
       asks = λ q id queue none new live.
           let u = sends (DeleteSq q) id s in
-          heads_state s.entries q a.deleting u.host.queues u.host.records u.device.queues (λ x. refl) (λ x ex open'. ap in_service (still_live s q 0 (next_tail s.entries) queue x live ex))
+          heads_state s.entries q a.deleting u.host.queues u.host.records u.controller.queues (λ x. refl) (λ x ex open'. ap in_service (still_live s q 0 (next_tail s.entries) queue x live ex))
           (heads_sent (DeleteSq q) id s new.in_range (unrefused s (events.DeleteSq q) none).1.1.0 (λ queue e. ring_in s g 0 queue e) h);
       drops = λ q id none new. heads_sent (DeleteCq q) id s new.in_range (unrefused s (events.DeleteCq q) none).1.1.0 (λ queue e. ring_in s g 0 queue e) h;
       creates_cqs = λ q id first queue none new granted.
           let pages = half_from Completion first s in
-          heads_sent (creates_cq q first s) id (grants_cq q first s) new.in_range (unrefused s (events.CreateCq q) none).1.1.1.0 (zero_ring (a.making_cq pages) q granted.other) (heads_out s.entries q (a.making_cq pages) s.host.queues s.host.records s.device.queues (λ x. refl) h);
+          heads_sent (creates_cq q first s) id (grants_cq q first s) new.in_range (unrefused s (events.CreateCq q) none).1.1.1.0 (zero_ring (a.making_cq pages) q granted.other) (heads_out s.entries q (a.making_cq pages) s.host.queues s.host.records s.controller.queues (λ x. refl) h);
       creates_sqs = λ q id first queue none new granted.
           let pages = half_from Submission first s in
-          heads_sent (creates_sq q first s) id (grants_sq q first s) new.in_range (unrefused s (events.CreateSq q) none).1.1.0 (zero_ring (a.making_sq pages) q granted.other) (heads_out s.entries q (a.making_sq pages) s.host.queues s.host.records s.device.queues (λ x. refl) h);
+          heads_sent (creates_sq q first s) id (grants_sq q first s) new.in_range (unrefused s (events.CreateSq q) none).1.1.0 (zero_ring (a.making_sq pages) q granted.other) (heads_out s.entries q (a.making_sq pages) s.host.queues s.host.records s.controller.queues (λ x. refl) h);
       retires = λ q queue none at deleted. heads_retire q s h;
       forges = λ q slot bytes queue none at. h;
       resets =
-          reset_heads s.entries s.host.queues (a.reset_records s.host.records) s.device.queues
+          reset_heads s.entries s.host.queues (a.reset_records s.host.records) s.controller.queues
           (all_reset (λ r. r.cid < s.entries - 1) (λ r. r.cid < s.entries - 1) (λ r io low. subst (λ (c : ℕ). c < s.entries - 1) (sym (lost_keeps.cid r)) low) s.host.records h.ids);
     })
   where
-    ended : (q cid : ℕ) (r : Record) → record_at s.host q cid ≡ Some r → is_submitted r.phase ≡ false → Heads s.entries s.host.queues (without_record q cid s.host.records) s.device.queues
+    ended : (q cid : ℕ) (r : Record) → record_at s.host q cid ≡ Some r → is_submitted r.phase ≡ false → Heads s.entries s.host.queues (without_record q cid s.host.records) s.controller.queues
     ended q cid r at quiet = heads_less (λ r. not (is_at q cid r)) s (λ k. omega (arith, total_without (sent k (λ c. 1)) q cid s.host.records r at (g.stands.0.once q cid), sent_not k (λ c. 1) r quiet)) h
 
     good : (q cid : ℕ) (st : Status) (e : ComEntry) (r : Record) → IsHeard s q cid st e r → (rs : List Record) → AllByRecursion (λ r. r.cid < s.entries - 1) rs
-        → ((k : ℕ) → sent_count k s.host.records ≤ sent_count k rs + sent k (λ c. 1) r) → Heads s.entries (a.heard q e s).host.queues rs (change q (λ at. record at { answers = drop 1 at.answers }) s.device.queues)
+        → ((k : ℕ) → sent_count k s.host.records ≤ sent_count k rs + sent k (λ c. 1) r) → Heads s.entries (a.heard q e s).host.queues rs (change q (λ at. record at { completions = drop 1 at.completions }) s.controller.queues)
     good q cid st e r heard rs ids less =
-        let an = answer_heard s q cid st e r t heard in
+        let an = completion_heard s q cid st e r t heard in
         let its = ids_of s q cid r heard.found in
-        subst (λ (x : ComEntry). Heads s.entries (a.heard q x s).host.queues rs (change q (λ at. record at { answers = drop 1 at.answers }) s.device.queues)) (sym an.is)
+        subst (λ (x : ComEntry). Heads s.entries (a.heard q x s).host.queues rs (change q (λ at. record at { completions = drop 1 at.completions }) s.controller.queues)) (sym an.is)
         (heads_heard q an.answer s rs an.first ids (λ k. omega (arith, less k, sent_is q cid k (λ c. 1) r its.0 its.1 heard.submitted)) h)
 
     -- where a queue other than 0 changes
     zero_ring : (f : HostQueue → HostQueue) (q : ℕ) → (q == 0) ≡ false → (queue : HostQueue) → slice_get (change q f s.host.queues) 0 ≡ Some queue → IsInRing s.entries queue.ring
     zero_ring f q other queue e = ring_in s g 0 queue (sym (changed_elsewhere q f s.host.queues 0 (eqb-false q 0 other)) ∙ e)
 
-    -- a queue whose halves are both made has rings as they open, and no answers
+    -- a queue whose halves are both made has rings as they open, and no posts_completion
     fresh : (q cid : ℕ) (st : Status) (e : ComEntry) (r : Record) (k n base : ℕ) → IsHeard s q cid st e r → r.work ≡ Management (CreateSq k n base) → (x : HostQueue) → slice_get (a.heard q e s).host.queues k ≡ Some x
-        → (x.ring ≡ fresh_host_ring) × (answers_at (a.heard q e s).device.queues k ≡ [])
+        → (x.ring ≡ fresh_host_ring) × (completions_at (a.heard q e s).controller.queues k ≡ [])
     fresh q cid st e r k n base heard w x ex =
         let making = making_sq_as_heard s q cid st e r k n base g.stands.0 heard w x ex in
         let hs1 = change q (λ x. record x { ring = next_head s.entries x.ring }) s.host.queues in
@@ -640,7 +640,7 @@ heads_host s e reply ok c t g h =
         sym (changed_elsewhere q (λ x. record x { ring = next_head s.entries x.ring }) s.host.queues k far) ∙ sym (changed_elsewhere q (λ x. record x { ring = knowing e.sqhd x.ring }) hs1 k far) ∙ ex in
         let pair = pair_at s g k x there in (
           pair.2.fresh (ap is_making making),
-          ap (λ (o : Option DeviceQueue). option_map_or (λ at. at.answers) o []) (changed_elsewhere q (λ at. record at { answers = drop 1 at.answers }) s.device.queues k far ∙ pair.1) ∙ pair.2.answers (ap in_service making),
+          ap (λ (o : Option ServedQueue). option_map_or (λ at. at.completions) o []) (changed_elsewhere q (λ at. record at { completions = drop 1 at.completions }) s.controller.queues k far ∙ pair.1) ∙ pair.2.completions (ap in_service making),
         )
       where
         not_zero : (k : ℕ) (x : HostQueue) → x.state ≡ MakingSq → slice_get (a.heard q e s).host.queues k ≡ Some x → k ≡ 0 → ⊥
@@ -669,12 +669,12 @@ opened_heads page n (suc count) zero queue e = let same : queue.ring ≡ fresh_h
     ring_is queue e = sym (ap (λ (o : Option HostQueue). option_map_or (λ (h : HostQueue). h.ring) o fresh_host_ring) e)
 opened_heads page n (suc count) (suc q) queue e = opened_heads (page + half_pages n Submission + half_pages n Completion) n count q queue e
 
-nothing_answered : (k q : ℕ) → answers_at (replicate k opened) q ≡ []
+nothing_answered : (k q : ℕ) → completions_at (replicate k opened) q ≡ []
 nothing_answered (suc k) (suc q) = nothing_answered k q
 nothing_answered x q = refl
 
 pub heads_at_opening : (pages queues n s : ℕ) (image : List ℕ) → Opens pages queues n s → HeadsS (opening pages queues n s image)
 heads_at_opening pages queues n s image opens = record {
   ids = tt;
-  behind = λ q queue e open'. subst (HeadBehind n 0 queue) (sym (nothing_answered (queues + 1) q)) (record { known = omega (arith, opened_heads 0 n (queues + 1) q queue e); answers = tt });
+  behind = λ q queue e open'. subst (HeadBehind n 0 queue) (sym (nothing_answered (queues + 1) q)) (record { known = omega (arith, opened_heads 0 n (queues + 1) q queue e); completions = tt });
 }

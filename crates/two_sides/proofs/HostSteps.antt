@@ -11,7 +11,7 @@ use Rattle.machine_model.proofs.{Moves.{HostMoves, IsHeard, heard_without, host_
 use Rattle.machine_model.{proofs.Steps.{first_fails, Accepts, unrefused}, specs.After.{after, after_reap, after_retire}}
 use Rattle.machine_model.specs.{Agreeing.{has_completions_at, is_known_deleted}, Events.{Event, Reply}}
 use Rattle.machine_model.specs.Refusals.{in_service, is_reaped, refusal_of, seen_entry, in_state, is_deleted}
-use Rattle.machine_model.specs.{State.{State, HostQueue, Record, with_record, Device}, Step.{host_part, reaped, reaped_entry, Permits}}
+use Rattle.machine_model.specs.{State.{State, HostQueue, Record, with_record, Controller}, Step.{host_part, reaped, reaped_entry, Permits}}
 use Rattle.machine_model.specs.declared.words.{HostState.{HostState, TheVariants.{Live, Deleting}}, Reaped.Reaped, Refusal.Refusal, RejectedFor.RejectedFor}
 use Rattle.machine_model.specs.{declared.words.Work.TheVariants.Management, Memory.memory_of}
 use Rattle.admin_commands.specs.{Verdicts.is_absent, declared.AdminKind.TheVariants.{DeleteSq, DeleteCq, CreateCq, CreateSq, Abort}}
@@ -24,7 +24,7 @@ use Rattle.two_sides.proofs.Assembling.{Ties, host_refused, host_stepped, into, 
 use Rattle.two_sides.proofs.{Frames.{host_stands, known, IsKnown, reaped_ring}, Blind.bare}
 use Rattle.two_sides.proofs.Places.{comes_live, frees_half, makes_half, still_serves, unmakes_half, retires_half, seen_alike, told, answer_there, completions_seen, has_answer, seen_first, absent_is, carried, completions_is, freed_not_there, made_there, unmade_absent, unmade_not_there, known_absent}
 use Rattle.two_sides.proofs.{Posting.{create_cq_ties, create_sq_ties, abort_ties, delete_cq_ties, delete_sq_ties, submit_ties}, Shared.never_alone}
-use Rattle.two_sides.specs.{Hearing.heard, Laws.behind, Sides.{Sides, state_of, device_of, device_queue_of, device_queues_of}, Stepping.{StepsTo, hosts_step}}
+use Rattle.two_sides.specs.{Hearing.heard, Laws.behind, Sides.{Sides, state_of, controller_part, served_queue_of, served_queues_of}, Stepping.{StepsTo, hosts_step}}
 use Rattle.two_sides.specs.Ties.{AllQueuesStand, AreTied, IsWorld, QueueStands, has_ring, WalksStand}
 use Rattle.page_memory.specs.{Pages.{Pages, byte_at}, Memory.Memory}
 use Rattle.queue_pair.specs.{Members.change, Rings.{hearing_head, knowing, next_head}, Slots.{is_in_range, next_slot}}
@@ -36,22 +36,22 @@ view n = record { entries = n.entries; segment = n.segment; host = n.host }
 
 -- What is left, by the machine's host and memory
 
-record Leads (s : Sides) (e : Event) (reply : Reply) (host : HostView) (pages : Pages) (left : Device) : Type 0 where
-  pub device : device_of (behind s e reply host pages) ≡ left
+record Leads (s : Sides) (e : Event) (reply : Reply) (host : HostView) (pages : Pages) (left : Controller) : Type 0 where
+  pub controller : controller_part (behind s e reply host pages) ≡ left
   pub queues : AllQueuesStand s.host.entries (byte_at pages) zero host.host.queues (heard e reply host s.controller).queues
   pub walks : WalksStand (memory_of pages) s.controller.commands
 
 leads_to_ties : (s : Sides) (e : Event) (reply : Reply) (host : HostView) (pages : Pages) (n : State) → Permits (state_of s) e reply → alone host pages ≡ bare n → n ≡ after (state_of s) e reply
-    → Leads s e reply (view n) n.memory n.device → Ties s e reply host pages
+    → Leads s e reply (view n) n.memory n.controller → Ties s e reply host pages
 leads_to_ties s e reply host pages n permits same is leads =
-    let here : Leads s e reply host pages n.device = subst (λ (x : State). Leads s e reply (view x) x.memory n.device) (sym same) leads in
-    record { permits = permits; device = here.device ∙ ap (λ (x : State). x.device) is; queues = here.queues; walks = here.walks }
+    let here : Leads s e reply host pages n.controller = subst (λ (x : State). Leads s e reply (view x) x.memory n.controller) (sym same) leads in
+    record { permits = permits; controller = here.controller ∙ ap (λ (x : State). x.controller) is; queues = here.queues; walks = here.walks }
 
 -- A queue in another state: the machine's queues are the same
 
-rings_kept : (m : Memory) (k : ℕ) (f : HostQueue → HostQueue) (hs : List HostQueue) (cs : List ControllerQueue) → ((h : HostQueue) → (f h).ring ≡ h.ring) → device_queues_of m (change k f hs) cs ≡ device_queues_of m hs cs
-rings_kept m zero f (h ∷ hs) (c ∷ cs) same = ap (λ ring. device_queue_of m ring c ∷ device_queues_of m hs cs) (same h)
-rings_kept m (suc k) f (h ∷ hs) (c ∷ cs) same = ap (λ queues. device_queue_of m h.ring c ∷ queues) (rings_kept m k f hs cs same)
+rings_kept : (m : Memory) (k : ℕ) (f : HostQueue → HostQueue) (hs : List HostQueue) (cs : List ControllerQueue) → ((h : HostQueue) → (f h).ring ≡ h.ring) → served_queues_of m (change k f hs) cs ≡ served_queues_of m hs cs
+rings_kept m zero f (h ∷ hs) (c ∷ cs) same = ap (λ ring. served_queue_of m ring c ∷ served_queues_of m hs cs) (same h)
+rings_kept m (suc k) f (h ∷ hs) (c ∷ cs) same = ap (λ queues. served_queue_of m h.ring c ∷ queues) (rings_kept m k f hs cs same)
 rings_kept m k f x cs same = refl
 
 head_kept : (k q : ℕ) (f : HostQueue → HostQueue) (hs : List HostQueue) → ((h : HostQueue) → (f h).ring ≡ h.ring)
@@ -82,12 +82,12 @@ rung : (what : Reaped) (q : ℕ) (host : HostView) → (what ≡ found.Empty →
 rung what q host some = grind arith
 
 reap_leads : (s : Sides) → AreTied s → (q v : ℕ) (what : Reaped) (host : HostView) → (what ≡ found.Empty → ⊥) → IsTaken s q v host.host.queues
-    → Leads s (events.Reap q) (events.Reaps what) host s.pages (a.consumed q (state_of s)).device
+    → Leads s (events.Reap q) (events.Reaps what) host s.pages (a.consumed q (state_of s)).controller
 reap_leads s tied q v what host some t =
     let hears : heard (events.Reap q) (events.Reaps what) host s.controller ≡ controller.head_rung q v s.controller =
     ap (λ (o : Option ℕ). option_map_or (λ head. controller.head_rung q head s.controller) o s.controller) (rung what q host some ∙ t.head) in
     record {
-      device = ap (λ (c : Contents). device_of (record s { host = host; controller = c })) hears ∙ ap (λ queues. record (device_of s) { queues = queues }) t.device;
+      controller = ap (λ (c : Contents). controller_part (record s { host = host; controller = c })) hears ∙ ap (λ queues. record (controller_part s) { queues = queues }) t.controller;
       queues = subst (λ (c : Contents). AllQueuesStand s.host.entries (byte_at s.pages) 0 host.host.queues c.queues) (sym hears) t.queues;
       walks = tied.walks;
     }
@@ -106,7 +106,7 @@ restated : (s : Sides) (q v k : ℕ) (f : HostQueue → HostQueue) (hs : List Ho
     → IsTaken s q v hs → IsTaken s q v (change k f hs)
 restated s q v k f hs same here t =
     record {
-      device = rings_kept (byte_at s.pages) k f hs (change q (controller.with_head v) s.controller.queues) same ∙ t.device;
+      controller = rings_kept (byte_at s.pages) k f hs (change q (controller.with_head v) s.controller.queues) same ∙ t.controller;
       queues = host_stands s.host.entries (byte_at s.pages) k f hs (change q (controller.with_head v) s.controller.queues) here t.queues;
       head = head_kept k q f hs same ∙ t.head;
     }
@@ -148,9 +148,9 @@ record Was (s : Sides) (k : ℕ) (h : HostQueue) (c : ControllerQueue) : Type 0 
   completions : c.cq_there ≡ queue.cq_there
 
 head_keeps : (v : ℕ) (c : ControllerQueue) → ((controller.with_head v c).state ≡ c.state) × ((controller.with_head v c).cq_there ≡ c.cq_there)
-head_keeps v c = go (is_in_range c.device.entries c.device.ring.known_head c.device.ring.tail v)
+head_keeps v c = go (is_in_range c.controller.entries c.controller.ring.known_head c.controller.ring.tail v)
   where
-    go : (b : Bool) → (let d : ControllerQueue = (if b then controller.with_side (record c.device { ring = hearing_head v c.device.ring }) c else c) in (d.state ≡ c.state) × (d.cq_there ≡ c.cq_there))
+    go : (b : Bool) → (let d : ControllerQueue = (if b then controller.with_side (record c.controller { ring = hearing_head v c.controller.ring }) c else c) in (d.state ≡ c.state) × (d.cq_there ≡ c.cq_there))
     go true = (refl, refl)
     go false = (refl, refl)
 
@@ -179,7 +179,7 @@ module _ (s : Sides) (world : IsWorld s) (tied : AreTied s) (t : s.trusted ≡ t
   few : (h : HostQueue) (c : ControllerQueue) → Was s k h c → k < 65536
   few h c w = omega (arith, slice_get_within s.host.host.queues k w.host w.at, tied.agree.few_queues)
 
-  none_there : (h : HostQueue) (c : ControllerQueue) → (x : Was s k h c) → has_completions_at (state_of s).device.queues k ≡ false → c.cq_there ≡ false
+  none_there : (h : HostQueue) (c : ControllerQueue) → (x : Was s k h c) → has_completions_at (state_of s).controller.queues k ≡ false → c.cq_there ≡ false
   none_there h c x none = x.completions ∙ completions_is s k x.host x.queue false x.at x.there none
 
   -- a queue whose deletion is heard of is in service, and stays so
@@ -234,7 +234,7 @@ module _ (s : Sides) (world : IsWorld s) (tied : AreTied s) (t : s.trusted ≡ t
 -- Every answer of a reap
 
 abbrev ReapLeads : Sides → Event → Reply → State → Type 0
-ReapLeads s (events.Reap q) (events.Reaps what) n = refusal_of (state_of s) (events.Reap q) ≡ None → Leads s (events.Reap q) (events.Reaps what) (view n) n.memory n.device
+ReapLeads s (events.Reap q) (events.Reaps what) n = refusal_of (state_of s) (events.Reap q) ≡ None → Leads s (events.Reap q) (events.Reaps what) (view n) n.memory n.controller
 ReapLeads s e reply n = Unit {0}
 
 some_named : (cid : ℕ) (what : Reaped) → named what ≡ Some cid → what ≡ found.Empty → ⊥
@@ -247,7 +247,7 @@ moves s world tied t =
       submits = λ d entry r none built its live. tt;
       cancels = λ d r its. tt;
       rings = λ q none. tt;
-      rests = λ q is none. record { device = refl; queues = tied.queues; walks = tied.walks };
+      rests = λ q is none. record { controller = refl; queues = tied.queues; walks = tied.walks };
       rejects = λ q why is none. let x = consumes s world tied t q why none is in reap_leads s tied q x.0 (found.Rejected why) (view (a.consumed q (state_of s))) (λ e. absurd cc) x.1;
       tells = λ q cid st what e r request told heard w none.
           let x = hears s world tied t q e none heard.seen in reap_leads s tied q x.0 what (view (a.on_records (with_record q cid (a.held st)) (a.heard q e (state_of s)))) (some_named cid what told.names) x.1;
@@ -336,11 +336,11 @@ retire_refused s q why touched host pages world step =
 
 -- a ring at whose head nothing is seen is empty
 empty : (s : Sides) → IsWorld s → s.trusted ≡ true → (q : ℕ) (h : HostQueue) (c : ControllerQueue) → slice_get s.host.host.queues q ≡ Some h → slice_get s.controller.queues q ≡ Some c → is_reaped h.state ≡ true
-    → is_some (seen_entry (state_of s) q) ≡ false → h.ring.head ≡ c.device.ring.tail
+    → is_some (seen_entry (state_of s) q) ≡ false → h.ring.head ≡ c.controller.ring.tail
 empty s world t q h c at there reaped none =
     let k : IsKnown s q h c = known s world t q h c at there in
     let has : has_ring h c ≡ true = reaped_ring h c reaped in
-    elim (cases_eq h.ring.head c.device.ring.tail) [
+    elim (cases_eq h.ring.head c.controller.ring.tail) [
       | inl same ↦ same
       | inr apart ↦ absurd (true≢false (sym (ap is_some (seen_first s q h c t at there (answer_there s q h c k has apart) (has_answer s q h c k has apart))) ∙ none))
     ]
@@ -349,10 +349,10 @@ abbrev retired : ℕ → HostQueue → State → State
 retired q h s = a.on_host_queue q a.retired (a.given_back h.sq_pages (a.on_records (λ records. map (a.lost q) records) s))
 
 retire_leads : (s : Sides) → IsWorld s → AreTied s → s.trusted ≡ true → (q : ℕ) (h : HostQueue) → slice_get s.host.host.queues q ≡ Some h → is_deleted h.state ≡ true → is_some (seen_entry (state_of s) q) ≡ false
-    → Leads s (events.Retire q) events.Accepted (view (retired q h (state_of s))) s.pages (device_of s)
+    → Leads s (events.Retire q) events.Accepted (view (retired q h (state_of s))) s.pages (controller_part s)
 retire_leads s world tied t q h at deleted none =
     record {
-      device = ap (λ queues. record (device_of s) { queues = queues }) (rings_kept (byte_at s.pages) q a.retired s.host.host.queues s.controller.queues (λ y. refl));
+      controller = ap (λ queues. record (controller_part s) { queues = queues }) (rings_kept (byte_at s.pages) q a.retired s.host.host.queues s.controller.queues (λ y. refl));
       queues = host_stands s.host.entries (byte_at s.pages) q a.retired s.host.host.queues s.controller.queues
           (λ y c at' there stands.
           let same : h ≡ y = cc (at, at') in

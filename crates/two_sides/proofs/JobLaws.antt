@@ -19,7 +19,7 @@ use Rattle.machine_model.specs.{Events.{Event, Reply}, Image.Made, Linked.IsLink
 use Rattle.machine_model.specs.{Proper.{IsProper, IsPage, ArePages, IsProperDraft}, Reached.{only, on_pages, ActIn}}
 use Rattle.machine_model.specs.Refusals.{is_submitted, job_at, is_job, host_queue, slot_page, slot_offset, post_slot, fetch_slot}
 use Rattle.machine_model.specs.Standing.{HasEntry, StandsAs, CommandStands, HasUnitLeft, JobStands}
-use Rattle.machine_model.specs.State.{State, Job, DeviceQueue, Record, record_at, pages_of, is_at, HostQueue, with_record}
+use Rattle.machine_model.specs.State.{State, Job, ServedQueue, Record, record_at, pages_of, is_at, HostQueue, with_record}
 use Rattle.machine_model.specs.Step.{Step, IsController, unit_answered, HostPart, LeavesByController, LeavesByHost, forges}
 use Rattle.machine_model.specs.{Touch.{allowed, pages_of_command, pages_at_queues, stays_allowed, stays_own}, Trusted.TrustedRun, Work.Work}
 use Rattle.machine_model.specs.declared.words.Work.TheVariants.{Io, Management}
@@ -28,7 +28,7 @@ use Rattle.sgl_chain.proofs.{Back.spells_there, Spelled.length-spelling}
 use Rattle.entry_codec.specs.{Completion.completion_bytes, Submission.{submission_bytes, command_words}, declared.completion.ComEntry.ComEntry}
 use Rattle.entry_codec.specs.declared.{status.{Status.Status, TheConstants.Status.COMMAND_ID_CONFLICT}, submission.SubEntry.SubEntry}
 use Rattle.two_sides.proofs.{Along.along_proper, Commands.{keeps_fetch, keeps_walk, keeps_complete, Walking, walking, unit_in}}
-use Rattle.two_sides.proofs.DeviceMoves.{linked_from_tied, answered_bytes, unit_memory, finished, cleared, fetch_by, walk_by, complete_by}
+use Rattle.two_sides.proofs.ControllerMoves.{linked_from_tied, answered_bytes, unit_memory, finished, cleared, fetch_by, walk_by, complete_by}
 use Rattle.two_sides.proofs.{Ending.{lists_keep, act_touches}, NeverFull.{stood_on, stood_at_opening, ListsStay, stay_untouched, stay_walk}}
 use Rattle.two_sides.proofs.{PoolBytes.host_jobs, Provided.{in_found, all_append}}
 use Rattle.two_sides.proofs.Served.{Stood, JobList, job_list, list_of_job, course_in, course_ends, same_list, apart_in, chain_of, data_of, more_than_only}
@@ -125,26 +125,26 @@ of_entry cid entry (x ∷ xs) h = elim (cases_Bool (x.cid == cid)) [
   | inr e ↦ let ih = of_entry cid entry xs h.1 in rw e ih
 ]
 
-pub entries_named : (s : State) (q cid : ℕ) (entry : SubEntry) → HasEntry s.device.queues s.device.jobs q cid entry → AllByRecursion (λ e. e.sgl1 ≡ entry.sgl1) (entries_of s q cid)
+pub entries_named : (s : State) (q cid : ℕ) (entry : SubEntry) → HasEntry s.controller.queues s.controller.jobs q cid entry → AllByRecursion (λ e. e.sgl1 ≡ entry.sgl1) (entries_of s q cid)
 entries_named s q cid entry has =
-    all_append (λ e. e.sgl1 ≡ entry.sgl1) (option_map_or (λ at. filter (λ e. e.cid == cid) at.unfetched) (slice_get s.device.queues q) []) (option_map_or (λ j. j.entry ∷ []) (job_at s q cid) [])
-    (waiting (slice_get s.device.queues q) has.unfetched) (running (job_at s q cid) refl)
+    all_append (λ e. e.sgl1 ≡ entry.sgl1) (option_map_or (λ at. filter (λ e. e.cid == cid) at.unfetched) (slice_get s.controller.queues q) []) (option_map_or (λ j. j.entry ∷ []) (job_at s q cid) [])
+    (waiting (slice_get s.controller.queues q) has.unfetched) (running (job_at s q cid) refl)
   where
-    waiting : (o : Option DeviceQueue) → AllByRecursion (λ e. e.cid ≡ cid → e ≡ entry) (option_map_or (λ at. at.unfetched) o []) → AllByRecursion (λ e. e.sgl1 ≡ entry.sgl1) (option_map_or (λ at. filter (λ e. e.cid == cid) at.unfetched) o [])
+    waiting : (o : Option ServedQueue) → AllByRecursion (λ e. e.cid ≡ cid → e ≡ entry) (option_map_or (λ at. at.unfetched) o []) → AllByRecursion (λ e. e.sgl1 ≡ entry.sgl1) (option_map_or (λ at. filter (λ e. e.cid == cid) at.unfetched) o [])
     waiting None h = tt
     waiting (Some queue) h = of_entry cid entry queue.unfetched h
 
     running : (o : Option Job) → job_at s q cid ≡ o → AllByRecursion (λ e. e.sgl1 ≡ entry.sgl1) (option_map_or (λ j. j.entry ∷ []) o [])
     running None e = tt
     running (Some j) e =
-        let ids = and_parts (j.q == q) (j.entry.cid == cid) (found_is (is_job q cid) s.device.jobs j e) in
-        (ap (λ (y : SubEntry). y.sgl1) (all-found (λ j. j.q ≡ q → j.entry.cid ≡ cid → j.entry ≡ entry) (is_job q cid) s.device.jobs j e has.fetched (eqb-true j.q q ids.0) (eqb-true j.entry.cid cid ids.1)), tt)
+        let ids = and_parts (j.q == q) (j.entry.cid == cid) (found_is (is_job q cid) s.controller.jobs j e) in
+        (ap (λ (y : SubEntry). y.sgl1) (all-found (λ j. j.q ≡ q → j.entry.cid ≡ cid → j.entry ≡ entry) (is_job q cid) s.controller.jobs j e has.fetched (eqb-true j.q q ids.0) (eqb-true j.entry.cid cid ids.1)), tt)
 
 pub stood_has_chains : (end : State) → Stood end → (q cid : ℕ) (r : Record) → record_at end.host q cid ≡ Some r → is_submitted r.phase ≡ true → HasChainIfIo end r r.work
 stood_has_chains end stood q cid r found sub =
-    of r.work (all-found (CommandStands end.memory end.device.queues end.device.jobs) (is_at q cid) end.host.records r found stood.commands)
+    of r.work (all-found (CommandStands end.memory end.controller.queues end.controller.jobs) (is_at q cid) end.host.records r found stood.commands)
   where
-    of : (w : Work) → StandsAs end.memory end.device.queues end.device.jobs r w → HasChainIfIo end r w
+    of : (w : Work) → StandsAs end.memory end.controller.queues end.controller.jobs r w → HasChainIfIo end r w
     of (Io request) c =
         let l = c.1 sub in
         record {
@@ -176,13 +176,13 @@ not_zero q h = grind (arith, nat_tests)
 
 pub list_at : (s : State) → Stood s → (q cid : ℕ) (j : Job) → nat_lt 0 q ≡ true → job_at s q cid ≡ Some j → JobList s j
 list_at s stood q cid j some e =
-    let ids = and_parts (j.q == q) (j.entry.cid == cid) (found_is (is_job q cid) s.device.jobs j e) in
-    job_list s stood j (in_found (is_job q cid) s.device.jobs j e) (ap (λ (k : ℕ). k == 0) (eqb-true j.q q ids.0) ∙ not_zero q some) (λ P all. all-found P (is_job q cid) s.device.jobs j e all)
+    let ids = and_parts (j.q == q) (j.entry.cid == cid) (found_is (is_job q cid) s.controller.jobs j e) in
+    job_list s stood j (in_found (is_job q cid) s.controller.jobs j e) (ap (λ (k : ℕ). k == 0) (eqb-true j.q q ids.0) ∙ not_zero q some) (λ P all. all-found P (is_job q cid) s.controller.jobs j e all)
 
 pub stood_has_jobs : (end : State) → Stood end → (q cid : ℕ) (j : Job) → nat_lt 0 q ≡ true → job_at end q cid ≡ Some j → JobStands end j
 stood_has_jobs end stood q cid j some e =
     let l = list_at end stood q cid j some e in
-    let ids = and_parts (j.q == q) (j.entry.cid == cid) (found_is (is_job q cid) end.device.jobs j e) in
+    let ids = and_parts (j.q == q) (j.entry.cid == cid) (found_is (is_job q cid) end.controller.jobs j e) in
     record {
       command = l.command;
       request = l.request;
@@ -195,12 +195,12 @@ stood_has_jobs end stood q cid j some e =
       keeps = lists_keep l.command.chain_pages l.command.data_pages (memory_of end.memory) j.entry.sgl1 (joined_parts l.request.pieces l.command.data_pages) (direction_of_entry j.entry) (need_of_entry j.entry)
           (apart_in end stood.grounds l.command l.within) (list_of_job end j l);
       ends = course_ends end stood j l;
-      unit_left = all-found (HasUnitLeft end) (is_job q cid) end.device.jobs j e stood.walks (ap (λ (k : ℕ). k == 0) (eqb-true j.q q ids.0) ∙ not_zero q some);
+      unit_left = all-found (HasUnitLeft end) (is_job q cid) end.controller.jobs j e stood.walks (ap (λ (k : ℕ). k == 0) (eqb-true j.q q ids.0) ∙ not_zero q some);
     }
 
 -- a job of an identifier has one entry before and after a step
-same_entry : (s : State) (e : Event) (reply : Reply) → Accepts s e reply → (q cid : ℕ) (entry : SubEntry) → AllByRecursion (λ j. j.q ≡ q → j.entry.cid ≡ cid → j.entry ≡ entry) s.device.jobs
-    → HasEntry s.device.queues s.device.jobs q cid entry → AllByRecursion (λ j. j.q ≡ q → j.entry.cid ≡ cid → j.entry ≡ entry) (a.after s e reply).device.jobs
+same_entry : (s : State) (e : Event) (reply : Reply) → Accepts s e reply → (q cid : ℕ) (entry : SubEntry) → AllByRecursion (λ j. j.q ≡ q → j.entry.cid ≡ cid → j.entry ≡ entry) s.controller.jobs
+    → HasEntry s.controller.queues s.controller.jobs q cid entry → AllByRecursion (λ j. j.q ≡ q → j.entry.cid ≡ cid → j.entry ≡ entry) (a.after s e reply).controller.jobs
 same_entry s e (events.Refused why touched) ok q cid entry jobs has = jobs
 same_entry s (events.Fetch k) reply ok q cid entry jobs has = (keeps_fetch s k q cid entry has).fetched
 same_entry s (events.Walk k c) reply ok q cid entry jobs has = (keeps_walk s k c q cid entry has).fetched
@@ -219,16 +219,16 @@ stood_keeps_lists old new e reply q cid before after stood was step trusted some
     go (inr (proper, ok, m, all)) =
         let is : new ≡ a.after old e reply = all trusted in
         let l = list_at old stood q cid before some found in
-        let ids = and_parts (before.q == q) (before.entry.cid == cid) (found_is (is_job q cid) old.device.jobs before found) in
+        let ids = and_parts (before.q == q) (before.entry.cid == cid) (found_is (is_job q cid) old.controller.jobs before found) in
         let rec_ids = and_parts (l.command.q == before.q) (l.command.cid == before.entry.cid) (found_is (is_at before.q before.entry.cid) old.host.records l.command l.found) in
-        let has : HasEntry old.device.queues old.device.jobs q cid before.entry =
-        subst (λ (entry : SubEntry). HasEntry old.device.queues old.device.jobs q cid entry) (sym l.entry)
-        (subst (λ (k : ℕ). HasEntry old.device.queues old.device.jobs k cid (io_entry l.command.cid l.request (spelling l.list.first))) (eqb-true l.command.q before.q rec_ids.0 ∙ eqb-true before.q q ids.0)
-        (subst (λ (c : ℕ). HasEntry old.device.queues old.device.jobs l.command.q c (io_entry l.command.cid l.request (spelling l.list.first))) (eqb-true l.command.cid before.entry.cid rec_ids.1 ∙ eqb-true before.entry.cid cid ids.1) l.list.entry)) in
+        let has : HasEntry old.controller.queues old.controller.jobs q cid before.entry =
+        subst (λ (entry : SubEntry). HasEntry old.controller.queues old.controller.jobs q cid entry) (sym l.entry)
+        (subst (λ (k : ℕ). HasEntry old.controller.queues old.controller.jobs k cid (io_entry l.command.cid l.request (spelling l.list.first))) (eqb-true l.command.q before.q rec_ids.0 ∙ eqb-true before.q q ids.0)
+        (subst (λ (c : ℕ). HasEntry old.controller.queues old.controller.jobs l.command.q c (io_entry l.command.cid l.request (spelling l.list.first))) (eqb-true l.command.cid before.entry.cid rec_ids.1 ∙ eqb-true before.entry.cid cid ids.1) l.list.entry)) in
         let found'' : job_at (a.after old e reply) q cid ≡ Some after = sym (ap (λ (s : State). job_at s q cid) is) ∙ found' in
-        let ids' = and_parts (after.q == q) (after.entry.cid == cid) (found_is (is_job q cid) (a.after old e reply).device.jobs after found'') in
+        let ids' = and_parts (after.q == q) (after.entry.cid == cid) (found_is (is_job q cid) (a.after old e reply).controller.jobs after found'') in
         let entry : after.entry ≡ before.entry =
-        all-found (λ j. j.q ≡ q → j.entry.cid ≡ cid → j.entry ≡ before.entry) (is_job q cid) (a.after old e reply).device.jobs after found''
+        all-found (λ j. j.q ≡ q → j.entry.cid ≡ cid → j.entry ≡ before.entry) (is_job q cid) (a.after old e reply).controller.jobs after found''
         (same_entry old e reply ok q cid before.entry has.fetched has) (eqb-true after.q q ids'.0) (eqb-true after.entry.cid cid ids'.1) in
         let stay = stay_after old e reply ok stood in (
           entry,
@@ -277,7 +277,7 @@ walk_stays s q cid outcome pages ok stood =
     let kept = touched_by_unit j w (a.next_unit s j) refl ok.1.2 in
     and_from (list_all (is_among (allowed s)) pages) (list_all (is_among (pages_of_command s q cid)) pages)
     (either_among r.chain_pages r.data_pages (allowed s) pages
-    (λ p h. among_right p (pages_at_queues s.host.queues s.device.queues) (flat_map (λ r. if is_some (job_at s r.q r.cid) then pages_of r else []) s.host.records)
+    (λ p h. among_right p (pages_at_queues s.host.queues s.controller.queues) (flat_map (λ r. if is_some (job_at s r.q r.cid) then pages_of r else []) s.host.records)
     (job_pages s s.host.records r q cid at (ap is_some ok.1.1) p (of_command r p h))) kept)
     (either_among r.chain_pages r.data_pages (pages_of_command s q cid) pages
     (λ p h. ap (λ (o : Option Record). is_among (option_map_or pages_of o []) p) at ∙ of_command r p h) kept)
@@ -414,7 +414,7 @@ whole_after s (events.Walk q cid) (events.Walked outcome touched) pr ok stood wh
     (unit_in (on_pages w.list.command.chain_pages) (on_pages w.list.command.data_pages) (a.course_of s j) j.units_done act (course_in s j w.list) next) whole)
 whole_after s (events.Complete q cid) (events.Completed touched) pr ok stood whole =
     complete_by (λ (t : State). AreWhole t.memory) s q cid whole
-    (λ j at c. whole-answered q cid (a.final_status s j) j.dw0 (a.on_device_queue (named_queue j.entry) cleared (finished q cid j s)) whole)
+    (λ j at c. whole-answered q cid (a.final_status s j) j.dw0 (a.on_served_queue (named_queue j.entry) cleared (finished q cid j s)) whole)
     (λ j at c. whole-answered q cid (a.final_status s j) j.dw0 (finished q cid j s) whole)
 whole_after s (events.Fetch q) reply pr ok stood whole = absurd ok.1
 whole_after s (events.Walk q cid) reply pr ok stood whole = absurd ok.1

@@ -20,7 +20,7 @@ pub mod Provided
 pub mod Untouched
 pub mod Ending
 pub mod PoolBytes
-pub mod DeviceMoves
+pub mod ControllerMoves
 pub mod Agreed
 pub mod Served
 pub mod Standing

@@ -13,9 +13,9 @@ use Rattle.machine_model.specs.{Always.NamesItsHalf, Memory.is_in, Refusals.{in_
 use Rattle.machine_model.specs.{State.{HostQueue, Record, is_at}, Step.times, Work.Work, declared.words.{HostState.HostState, Work.TheVariants.Management}}
 use Rattle.page_ledger.specs.Owners.{pages_from, is_among}
 use Rattle.page_memory.specs.{Memory.Memory, Pages.Pages, declared.page.Half.TheVariants.{Submission, Completion}}
-use Rattle.queue_pair.specs.{Lists.{PhasesStand, expected_phase}, Memory.half_pages, Rings.{HostRing, fresh_host_ring, fresh_device_ring, DeviceRing}}
+use Rattle.queue_pair.specs.{Lists.{PhasesStand, expected_phase}, Memory.half_pages, Rings.{HostRing, fresh_host_ring, fresh_controller_ring, ControllerRing}}
 use Rattle.two_sides.proofs.{Frames.{first_of_half, there_ring, IsKnown, queue_page_in}, Posted.not_absent, Provided.in_found}
-use Rattle.two_sides.specs.{Sides.{device_queue_of, Sides}, Ties.{QueueStands, RingsStand, ShareQueue, first_completion_page, IsWorld}}
+use Rattle.two_sides.specs.{Sides.{served_queue_of, Sides}, Ties.{QueueStands, RingsStand, ShareQueue, first_completion_page, IsWorld}}
 use Rattle.host_core.proofs.PageOwners.{among-from}
 use Rattle.page_memory.proofs.Lists.{all-found}
 
@@ -35,15 +35,15 @@ pub record IsGrantedBeside (n base : ℕ) (h : HostQueue) (c : ControllerQueue) 
   pub half : h.sq_pages ≡ pages_from (base / 4096) (half_pages n Submission)
   pub there : c.cq_there ≡ true
 
-pub completion_seen : (m : Memory) (n base : ℕ) (h : HostQueue) (c : ControllerQueue) → IsGranted n base h c → device_queue_of m h.ring (with_completion base c) ≡ after.completion_made (device_queue_of m h.ring c)
-completion_seen m n base h c is = subst (λ (ring : HostRing). device_queue_of m ring (with_completion base c) ≡ after.completion_made (device_queue_of m ring c)) (sym is.fresh) (grind arith)
+pub completion_seen : (m : Memory) (n base : ℕ) (h : HostQueue) (c : ControllerQueue) → IsGranted n base h c → served_queue_of m h.ring (with_completion base c) ≡ after.completion_made (served_queue_of m h.ring c)
+completion_seen m n base h c is = subst (λ (ring : HostRing). served_queue_of m ring (with_completion base c) ≡ after.completion_made (served_queue_of m ring c)) (sym is.fresh) (grind arith)
 
-pub submission_seen : (m : Memory) (n base : ℕ) (h : HostQueue) (c : ControllerQueue) → IsGrantedBeside n base h c → device_queue_of m h.ring (with_submission base c) ≡ after.submission_made (device_queue_of m h.ring c)
-submission_seen m n base h c is = subst (λ (ring : HostRing). device_queue_of m ring (with_submission base c) ≡ after.submission_made (device_queue_of m ring c)) (sym is.fresh) (grind arith)
+pub submission_seen : (m : Memory) (n base : ℕ) (h : HostQueue) (c : ControllerQueue) → IsGrantedBeside n base h c → served_queue_of m h.ring (with_submission base c) ≡ after.submission_made (served_queue_of m h.ring c)
+submission_seen m n base h c is = subst (λ (ring : HostRing). served_queue_of m ring (with_submission base c) ≡ after.submission_made (served_queue_of m ring c)) (sym is.fresh) (grind arith)
 
 -- A queue that stops
 
-pub stopping_seen : (m : Memory) (h : HostQueue) (c : ControllerQueue) → is_live c.state ≡ true → device_queue_of m h.ring (stopping c) ≡ record (device_queue_of m h.ring c) { state = Stopping }
+pub stopping_seen : (m : Memory) (h : HostQueue) (c : ControllerQueue) → is_live c.state ≡ true → served_queue_of m h.ring (stopping c) ≡ record (served_queue_of m h.ring c) { state = Stopping }
 stopping_seen m h c live = grind arith
 
 pub stopping_stands : (n : ℕ) (m : Memory) (q : ℕ) (h : HostQueue) (c : ControllerQueue) → is_live c.state ≡ true → QueueStands n m q h c → QueueStands n m q h (stopping c)
@@ -57,12 +57,12 @@ stopping_stands n m q h c live stands =
 -- A completion queue that is deleted
 
 -- rings of a queue that is being made are as they open, and no slot of the completion ring is new
-fresh_phases : (m : Memory) (q : ℕ) (h : HostQueue) (c : ControllerQueue) → h.ring ≡ fresh_host_ring → in_service h.state ≡ false → RingsStand m q h c → PhasesStand m c.device.cq c.device.entries 0 true
+fresh_phases : (m : Memory) (q : ℕ) (h : HostQueue) (c : ControllerQueue) → h.ring ≡ fresh_host_ring → in_service h.state ≡ false → RingsStand m q h c → PhasesStand m c.controller.cq c.controller.entries 0 true
 fresh_phases m q h c fresh unserved r =
-    let tail : c.device.ring.tail ≡ 0 = sym (r.drained unserved) ∙ ap (λ (ring : HostRing). ring.head) fresh in
-    let phase : c.device.ring.phase ≡ true =
-    sym (ap₂ (λ (head at : ℕ). expected_phase head at c.device.ring.phase) (ap (λ (ring : HostRing). ring.head) fresh) tail) ∙ sym r.expected ∙ ap (λ (ring : HostRing). ring.phase) fresh in
-    subst (λ (p : Bool). PhasesStand m c.device.cq c.device.entries 0 p) phase (subst (λ (k : ℕ). PhasesStand m c.device.cq c.device.entries k c.device.ring.phase) tail r.phases)
+    let tail : c.controller.ring.tail ≡ 0 = sym (r.drained unserved) ∙ ap (λ (ring : HostRing). ring.head) fresh in
+    let phase : c.controller.ring.phase ≡ true =
+    sym (ap₂ (λ (head at : ℕ). expected_phase head at c.controller.ring.phase) (ap (λ (ring : HostRing). ring.head) fresh) tail) ∙ sym r.expected ∙ ap (λ (ring : HostRing). ring.phase) fresh in
+    subst (λ (p : Bool). PhasesStand m c.controller.cq c.controller.entries 0 p) phase (subst (λ (k : ℕ). PhasesStand m c.controller.cq c.controller.entries k c.controller.ring.phase) tail r.phases)
 
 pub dropped_stands : (n : ℕ) (m : Memory) (q : ℕ) (h : HostQueue) (c : ControllerQueue) → ShareQueue n q h c → (is_making_cq h.state ≡ true → h.ring ≡ fresh_host_ring) → QueueStands n m q h c
     → QueueStands n m q h (without_completion c)
@@ -79,8 +79,8 @@ dropped_stands n m q h c share fresh stands =
     granted making true e =
         let has = there_ring h c e in
         let some : 0 < n = omega (arith, share.entries, share.side.least) in
-        subst (λ (first : ℕ). PhasesStand m first n 0 true) (sym (first_of_half n c.device.cq h some (stands.halves.completion has)))
-        (subst (λ (k : ℕ). PhasesStand m c.device.cq k 0 true) share.entries (fresh_phases m q h c (fresh making) (grind arith) (stands.rings has)))
+        subst (λ (first : ℕ). PhasesStand m first n 0 true) (sym (first_of_half n c.controller.cq h some (stands.halves.completion has)))
+        (subst (λ (k : ℕ). PhasesStand m c.controller.cq k 0 true) share.entries (fresh_phases m q h c (fresh making) (grind arith) (stands.rings has)))
 
 -- A ring that is made
 
@@ -88,11 +88,11 @@ inside : (n : ℕ) → 0 < n → (nat_lt 0 n && true) ≡ true
 inside n some = ap (λ (b : Bool). b && true) (lt-ltb 0 n some)
 
 -- rings as they open stand, where no slot of the completion ring is new
-fresh_rings : (m : Memory) (q : ℕ) (h : HostQueue) (c : ControllerQueue) → 0 < c.device.entries → h.ring ≡ fresh_host_ring → c.device.ring ≡ fresh_device_ring → PhasesStand m c.device.cq c.device.entries 0 true → RingsStand m q h c
-fresh_rings m q h c some host device phases =
+fresh_rings : (m : Memory) (q : ℕ) (h : HostQueue) (c : ControllerQueue) → 0 < c.controller.entries → h.ring ≡ fresh_host_ring → c.controller.ring ≡ fresh_controller_ring → PhasesStand m c.controller.cq c.controller.entries 0 true → RingsStand m q h c
+fresh_rings m q h c some host controller phases =
     subst (λ (ring : HostRing). RingsStand m q (record h { ring = ring }) c) (sym host)
-    (subst (λ (ring : DeviceRing). RingsStand m q (record h { ring = fresh_host_ring }) (record c { device = record c.device { ring = ring } })) (sym device)
-    (record { fetched = inside c.device.entries some; rung = inside c.device.entries some; heard = refl; expected = refl; phases = phases; owned = tt; follow = inside c.device.entries some; drained = λ unserved. refl }))
+    (subst (λ (ring : ControllerRing). RingsStand m q (record h { ring = fresh_host_ring }) (record c { controller = record c.controller { ring = ring } })) (sym controller)
+    (record { fetched = inside c.controller.entries some; rung = inside c.controller.entries some; heard = refl; expected = refl; phases = phases; owned = tt; follow = inside c.controller.entries some; drained = λ unserved. refl }))
 
 pub completion_stands : (n : ℕ) (m : Memory) (q base : ℕ) (h : HostQueue) (c : ControllerQueue) → ShareQueue n q h c → IsGranted n base h c → QueueStands n m q h c → QueueStands n m q h (with_completion base c)
 completion_stands n m q base h c share is stands =
@@ -118,12 +118,12 @@ submission_stands n m q base h c share is stands =
 
 pub completion_shares : (n base i : ℕ) (h : HostQueue) (c : ControllerQueue) → ShareQueue n i h c → ShareQueue n i h (with_completion base c)
 completion_shares n base i h c x =
-    let some : 0 < c.device.entries = omega (arith, x.side.least) in
+    let some : 0 < c.controller.entries = omega (arith, x.side.least) in
     record { number = x.number; entries = x.entries; side = record { least = x.side.least; most = x.side.most; head = some; bell = some; tail = some; known_head = some } }
 
 pub submission_shares : (n base i : ℕ) (h : HostQueue) (c : ControllerQueue) → ShareQueue n i h c → ShareQueue n i h (with_submission base c)
 submission_shares n base i h c x =
-    let some : 0 < c.device.entries = omega (arith, x.side.least) in
+    let some : 0 < c.controller.entries = omega (arith, x.side.least) in
     record { number = x.number; entries = x.entries; side = record { least = x.side.least; most = x.side.most; head = some; bell = some; tail = some; known_head = some } }
 
 -- A creation that the controller fetches names the half that the host granted for it, where nothing was forged.

@@ -3,7 +3,7 @@ use Rattle.machine_model.specs.After as after
 use Rattle.std.proofs.Common.{◌≡◌, ℕ, zero, suc, ◌+◌, ◌-◌, ◌<◌, ◌==◌, ◌&&◌, nat_lt, nat_le, Bool, true, false, Option, Some, is_none, List, [], ◌∷◌, ◌++◌, length, find, map, slice_get, if◌then◌else◌, refl, ap, ap₂, sym, ◌∙◌, arith, subst, ltb-true, leb-true, inl, inr, ◌≤◌}
 use Rattle.std.{proofs.lemmas.Bool.{true≢false, and_parts, cond_both}, specs.{List.{AllByRecursion, count_by}, Option.option_map_or}}
 use Rattle.machine_model.specs.{After.change, Agreeing.EntryKnown, Refusals.{is_making_cq, next_rung}}
-use Rattle.machine_model.specs.{State.{State, HostQueue, DeviceQueue, Job}, Weights.total}
+use Rattle.machine_model.specs.{State.{State, HostQueue, ServedQueue, Job}, Weights.total}
 use Rattle.admin_commands.specs.{Entries.{named_queue, named_command, named_base}, Verdicts.{decision, is_live, is_absent}, declared.AdminVerdict.AdminVerdict}
 use Rattle.admin_commands.specs.declared.AdminVerdict.TheVariants.{Answer, AbortJob, StopQueue, DropCompletion, MakeCompletion, MakeSubmission}
 use Rattle.admin_commands.specs.declared.{DeviceView.DeviceView, SqState.TheVariants.{Absent, Stopping}}
@@ -16,8 +16,8 @@ use Rattle.entry_codec.specs.declared.{status.TheConstants.Status.{SUCCESS, ABOR
 use Rattle.two_sides.proofs.AdminKept.{same_decision, Decides, decides}
 use Rattle.two_sides.proofs.Frames.{from_zero, share_of, IsKnown, controller_at, known, tied_of}
 use Rattle.two_sides.proofs.Making.{IsGranted, IsGrantedBeside, completion_seen, completion_shares, completion_stands, dropped_stands, stopping_seen, stopping_stands, submission_seen, submission_shares, submission_stands, completion_granted, making_cq, submission_granted}
-use Rattle.two_sides.proofs.{Places.{devices_changed, stands_changed, job-at, map-append}, Provided.{all_in, all_of, only_found}}
-use Rattle.two_sides.{proofs.{Shared.{length-device, belled}, Standing.taken_entry}, specs.Sides.{Sides, state_of, device_queues_of, job_of}}
+use Rattle.two_sides.proofs.{Places.{controllers_changed, stands_changed, job-at, map-append}, Provided.{all_in, all_of, only_found}}
+use Rattle.two_sides.{proofs.{Shared.{length-controller, belled}, Standing.taken_entry}, specs.Sides.{Sides, state_of, served_queues_of, job_of}}
 use Rattle.two_sides.specs.Ties.{AllQueuesStand, QueueStands, ShareQueue, ShareQueues, WalkStands, WalksStand, IsWorld}
 use Rattle.page_memory.specs.{Memory.Memory, Pages.byte_at}
 use Rattle.queue_pair.specs.Rings.{fresh_host_ring}
@@ -28,8 +28,8 @@ use Rattle.slot_table.proofs.Rows.{option_is}
 -- What the rule looks at
 
 state_at : (m : Memory) (hs : List HostQueue) (cs : List ControllerQueue) (n i q : ℕ) → ShareQueues n i hs cs
-    → (option_map_or (λ at. at.state) (slice_get (device_queues_of m hs cs) q) Absent ≡ option_map_or (λ queue. queue.state) (slice_get cs q) Absent)
-    × (option_map_or (λ at. at.cq_there) (slice_get (device_queues_of m hs cs) q) false ≡ option_map_or (λ queue. queue.cq_there) (slice_get cs q) false)
+    → (option_map_or (λ at. at.state) (slice_get (served_queues_of m hs cs) q) Absent ≡ option_map_or (λ queue. queue.state) (slice_get cs q) Absent)
+    × (option_map_or (λ at. at.cq_there) (slice_get (served_queues_of m hs cs) q) false ≡ option_map_or (λ queue. queue.cq_there) (slice_get cs q) false)
 state_at m [] (c ∷ cs) n i q share = absurd share
 state_at m (h ∷ hs) [] n i q share = absurd share
 state_at m (h ∷ hs) (c ∷ cs) n i (suc q) share = state_at m hs cs n (suc i) q share.1
@@ -44,10 +44,10 @@ view_seen t e share =
     let at = state_at m t.host.host.queues t.controller.queues t.host.entries zero q share in
     let walks : after.walks (state_of t) q (named_command e) ≡ option_map_or (λ k. is_none (verdict_of_work k.work)) (find (is_command q (named_command e)) t.controller.commands) false =
     ap (λ (o : Option Job). option_map_or (λ j. is_none j.verdict) o false) (job-at t q (named_command e)) ∙ (grind arith) in
-    let many : length (device_queues_of m t.host.host.queues t.controller.queues) ≡ length t.controller.queues = length-device m t.host.entries zero t.host.host.queues t.controller.queues share in
+    let many : length (served_queues_of m t.host.host.queues t.controller.queues) ≡ length t.controller.queues = length-controller m t.host.entries zero t.host.host.queues t.controller.queues share in
     λ i. record { sq = at.0 i; cq_there = at.1 i; target_walks = walks i; queues = many i - 1; entries = t.host.entries; pages = length t.pages }
 
-entries_at : (hs : List HostQueue) (cs : List ControllerQueue) (n i q : ℕ) → ShareQueues n i hs cs → q < length cs → option_map_or (λ queue. queue.device.entries) (slice_get cs q) 0 ≡ n
+entries_at : (hs : List HostQueue) (cs : List ControllerQueue) (n i q : ℕ) → ShareQueues n i hs cs → q < length cs → option_map_or (λ queue. queue.controller.entries) (slice_get cs q) 0 ≡ n
 entries_at hs [] n i q share l = absurd (omega (arith, l))
 entries_at [] (c ∷ cs) n i q share l = absurd share
 entries_at (h ∷ hs) (c ∷ cs) n i zero share l = share.0.entries
@@ -108,44 +108,44 @@ abbrev IsActed : Sides → SubEntry → AdminVerdict → Type 0
 IsActed t e v = state_of (acted e v t) ≡ after.acted e v (state_of t)
 
 -- the machine with other queues and jobs at the controller
-abbrev with_device : State → List DeviceQueue → List Job → State
-with_device u queues jobs = record u { device = record u.device { queues = queues; jobs = jobs } }
+abbrev with_controller : State → List ServedQueue → List Job → State
+with_controller u queues jobs = record u { controller = record u.controller { queues = queues; jobs = jobs } }
 
 aborts : (t : Sides) (e : SubEntry) (q cid : ℕ) → AllByRecursion (λ k. is_command q cid k ≡ true → is_none (verdict_of_work k.work) ≡ true) t.controller.commands → IsActed t e (AbortJob q cid)
 aborts t e q cid walks =
     let commands = t.controller.commands in
     let jobs = jobs_by commands (aborted q cid e.cid) (λ (j : Job). if (j.q == q) && (j.entry.cid == cid) then marked e.cid j else j) (all_in _ _ commands (λ k among w. aborted_seen q cid e.cid k w) walks) in
-    ap (with_device (state_of t) (state_of t).device.queues) (map-append job_of (map (aborted q cid e.cid) commands) (command_of zero (Admin e SUCCESS zero)) ∙ ap (λ js. js ++ job_of (command_of zero (Admin e SUCCESS zero)) ∷ []) jobs)
+    ap (with_controller (state_of t) (state_of t).controller.queues) (map-append job_of (map (aborted q cid e.cid) commands) (command_of zero (Admin e SUCCESS zero)) ∙ ap (λ js. js ++ job_of (command_of zero (Admin e SUCCESS zero)) ∷ []) jobs)
 
 stops : (t : Sides) (e : SubEntry) (q : ℕ) → Suits t (StopQueue q) → IsActed t e (StopQueue q)
 stops t e q live =
     let commands = t.controller.commands in
     let m = byte_at t.pages in
-    let queues = devices_changed m m q stopping (λ (at : DeviceQueue). record at { state = Stopping }) t.host.host.queues t.controller.queues
+    let queues = controllers_changed m m q stopping (λ (at : ServedQueue). record at { state = Stopping }) t.host.host.queues t.controller.queues
     (λ h c i j. stopping_seen m h c (live h c i j)) (λ k h c far i j. refl) in
     let jobs = jobs_by commands (stopped_with_queue q) (after.stopped q) (all_of _ commands (λ k among. grind arith)) in
-    ap₂ (with_device (state_of t)) queues
+    ap₂ (with_controller (state_of t)) queues
     (map-append job_of (map (stopped_with_queue q) commands) (command_of zero (Admin e SUCCESS zero)) ∙ ap (λ js. js ++ job_of (command_of zero (Admin e SUCCESS zero)) ∷ []) jobs)
 
 drops : (t : Sides) (e : SubEntry) (q : ℕ) → IsActed t e (DropCompletion q)
 drops t e q =
-    ap₂ (with_device (state_of t))
-    (devices_changed (byte_at t.pages) (byte_at t.pages) q without_completion after.dropped t.host.host.queues t.controller.queues (λ h c i j. refl) (λ k h c far i j. refl))
+    ap₂ (with_controller (state_of t))
+    (controllers_changed (byte_at t.pages) (byte_at t.pages) q without_completion after.dropped t.host.host.queues t.controller.queues (λ h c i j. refl) (λ k h c far i j. refl))
     (map-append job_of t.controller.commands (command_of zero (Admin e SUCCESS zero)))
 
 acts : (t : Sides) (e : SubEntry) (v : AdminVerdict) → Suits t v → IsActed t e v
-acts t e (Answer st dw0) suits = ap (with_device (state_of t) (state_of t).device.queues) (map-append job_of t.controller.commands (command_of zero (Admin e st dw0)))
+acts t e (Answer st dw0) suits = ap (with_controller (state_of t) (state_of t).controller.queues) (map-append job_of t.controller.commands (command_of zero (Admin e st dw0)))
 acts t e (AbortJob q cid) suits = aborts t e q cid suits
 acts t e (StopQueue q) suits = stops t e q suits
 acts t e (DropCompletion q) suits = drops t e q
 acts t e (MakeCompletion q base) suits =
-    ap₂ (with_device (state_of t))
-    (devices_changed (byte_at t.pages) (byte_at t.pages) q (with_completion base) after.completion_made t.host.host.queues t.controller.queues
+    ap₂ (with_controller (state_of t))
+    (controllers_changed (byte_at t.pages) (byte_at t.pages) q (with_completion base) after.completion_made t.host.host.queues t.controller.queues
     (λ h c i j. completion_seen (byte_at t.pages) t.host.entries base h c (suits h c i j)) (λ k h c far i j. refl))
     (map-append job_of t.controller.commands (command_of zero (Admin e SUCCESS zero)))
 acts t e (MakeSubmission q base) suits =
-    ap₂ (with_device (state_of t))
-    (devices_changed (byte_at t.pages) (byte_at t.pages) q (with_submission base) after.submission_made t.host.host.queues t.controller.queues
+    ap₂ (with_controller (state_of t))
+    (controllers_changed (byte_at t.pages) (byte_at t.pages) q (with_submission base) after.submission_made t.host.host.queues t.controller.queues
     (λ h c i j. submission_seen (byte_at t.pages) t.host.entries base h c (suits h c i j)) (λ k h c far i j. refl))
     (map-append job_of t.controller.commands (command_of zero (Admin e SUCCESS zero)))
 
@@ -218,7 +218,7 @@ verdict_walks x m abort commands h = h
 taken_at : (cs : List ControllerQueue) (q k : ℕ)
     → (option_map_or (λ queue. queue.state) (slice_get (change q with_taken cs) k) Absent ≡ option_map_or (λ queue. queue.state) (slice_get cs k) Absent)
     × (option_map_or (λ queue. queue.cq_there) (slice_get (change q with_taken cs) k) false ≡ option_map_or (λ queue. queue.cq_there) (slice_get cs k) false)
-    × (option_map_or (λ queue. queue.device.entries) (slice_get (change q with_taken cs) k) 0 ≡ option_map_or (λ queue. queue.device.entries) (slice_get cs k) 0)
+    × (option_map_or (λ queue. queue.controller.entries) (slice_get (change q with_taken cs) k) 0 ≡ option_map_or (λ queue. queue.controller.entries) (slice_get cs k) 0)
 taken_at [] q k = (refl, refl, refl)
 taken_at (c ∷ cs) zero zero = (refl, refl, refl)
 taken_at (c ∷ cs) zero (suc k) = (refl, refl, refl)
@@ -253,7 +253,7 @@ taken_alike y k q x c e f = let same : x ≡ c = cc in record { state = ap (λ (
 -- the entry in hand is that of its record
 pub entry_known : (s : Sides) → IsWorld s → s.trusted ≡ true → (e : SubEntry) → next_rung (state_of s) 0 ≡ Some e → EntryKnown s.host.host.records e
 entry_known s world t e next =
-    (subst (AllByRecursion (EntryKnown s.host.host.records)) (taken_entry (state_of s).device.queues e next) (tied_of s world t).agree.admin_commands.entries).0
+    (subst (AllByRecursion (EntryKnown s.host.host.records)) (taken_entry (state_of s).controller.queues e next) (tied_of s world t).agree.admin_commands.entries).0
 
 pub suited : (s : Sides) → IsWorld s → s.trusted ≡ true → (e : SubEntry) → next_rung (state_of s) 0 ≡ Some e
     → Suits (taken s) (decision e (view_for (length s.pages) s.controller.queues s.controller.commands e))

@@ -17,15 +17,15 @@ use Rattle.page_memory.specs.Pages.{Pages, page_at, zero_page}
 use Rattle.machine_model.proofs.{Counting.{times-append, held_once}, Headline.{in_limits, limits_of}, HostLeaves.{ids_of, host_leaves}}
 use Rattle.machine_model.proofs.{Kept.live_serves, Moves.queue_known, Owned.{in_is, in_queue, taken, taken_le, none_here}}
 use Rattle.machine_model.proofs.Steps.{part-walk, in_store, length-in_store, Accepts, part_controller, managed_by, permitted, found, pages_match}
-use Rattle.machine_model.specs.{After.course_of, Agreeing.{job_weight, is_out_of_service_at as past_at, answers_at, sent_count}}
+use Rattle.machine_model.specs.{After.course_of, Agreeing.{job_weight, is_out_of_service_at as past_at, completions_at, sent_count}}
 use Rattle.machine_model.specs.{Events.{Event, Reply}, Image.Made, Linked.{absent, IsLinked}, Memory.{memory_of, is_in}}
-use Rattle.machine_model.specs.{Opening.{Opens, opening, device_queue as opened}, Proper.IsProper}
-use Rattle.machine_model.specs.Refusals.{is_submitted, refusal_of, is_job, causes, is_live, is_drafted, is_of, has_cq, is_io_queue, record_is, in_state, queue_full, no_identifier, host_queue, device_queue, next_rung, job_at, conflicts, answers_full, fetch_page, post_page}
-use Rattle.machine_model.specs.{Standing.{HasUnitLeft, unfetched_at}, State.{State, Record, Job, Answer, HostQueue, DeviceQueue, is_at, outstanding_on}}
+use Rattle.machine_model.specs.{Opening.{Opens, opening, served_queue as opened}, Proper.IsProper}
+use Rattle.machine_model.specs.Refusals.{is_submitted, refusal_of, is_job, causes, is_live, is_drafted, is_of, has_cq, is_io_queue, record_is, in_state, queue_full, no_identifier, host_queue, served_queue, next_rung, job_at, conflicts, completions_full, fetch_page, post_page}
+use Rattle.machine_model.specs.{Standing.{HasUnitLeft, unfetched_at}, State.{State, Record, Job, PostedCompletion, HostQueue, ServedQueue, is_at, outstanding_on}}
 use Rattle.machine_model.specs.{Step.{HostPart, IsController, Permits, Refuses}, Touch.pages_of_queue, Weights.{one, total, here, sent}}
 use Rattle.machine_model.specs.declared.words.Refusal.{Refusal}
 use Rattle.two_sides.proofs.{Along.{Keeps, each_proper_step, run_along}, Commands.{Walking, walking, chains_walk, commands_event}}
-use Rattle.two_sides.proofs.DeviceMoves.{unit_done, fetch_by, walk_by, complete_by, linked_from_tied}
+use Rattle.two_sides.proofs.ControllerMoves.{unit_done, fetch_by, walk_by, complete_by, linked_from_tied}
 use Rattle.two_sides.proofs.Heads.{sent_outstanding, few_outstanding, length_outstanding, total_ones, HeadsS, drafted_room, heads_event, heads_at_opening, no_conflict}
 use Rattle.two_sides.proofs.PlacesKept.{places_event, drafted_not, in_hand}
 use Rattle.two_sides.proofs.Provided.{In, in_at, all_indexed, all_in_both, all_map, all_append, only_found, in_found}
@@ -51,14 +51,14 @@ pub record ListsStay (s : State) (m : Pages) : Type 0 where
   pub own : (r : Record) → In r s.host.records → is_submitted r.phase ≡ true → (p : ℕ) → is_among r.data_pages p ≡ true → is_some (page_at m p) ≡ true
 
 -- a job's course in a state that comes after
-pub course_stays : (s t : State) → Stood s → ListsStay s t.memory → (k : ℕ) (j : Job) → slice_get s.device.jobs k ≡ Some j → (j.q == 0) ≡ false → course_of t j ≡ course_of s j
+pub course_stays : (s t : State) → Stood s → ListsStay s t.memory → (k : ℕ) (j : Job) → slice_get s.controller.jobs k ≡ Some j → (j.q == 0) ≡ false → course_of t j ≡ course_of s j
 course_stays s t stood stay k j e other =
-    let l = job_list s stood j (in_at s.device.jobs k j e) other (λ P all. all-at P s.device.jobs k j e all) in
+    let l = job_list s stood j (in_at s.controller.jobs k j e) other (λ P all. all-at P s.controller.jobs k j e all) in
     same_list s t stood j l (stay.chains l.command l.within l.phase) (stay.own l.command l.within l.phase)
 
-walks_still : (s t : State) → Stood s → ListsStay s t.memory → AllByRecursion (UnitLeft t.memory) s.device.jobs
+walks_still : (s t : State) → Stood s → ListsStay s t.memory → AllByRecursion (UnitLeft t.memory) s.controller.jobs
 walks_still s t stood stay =
-    all_indexed (HasUnitLeft s) (UnitLeft t.memory) s.device.jobs
+    all_indexed (HasUnitLeft s) (UnitLeft t.memory) s.controller.jobs
     (λ k j e left other none. subst (λ (c : Course). j.units_done < length (units c)) (sym (course_stays s t stood stay k j e other)) (left other none)) stood.walks
 
 pub stay_untouched : (s : State) (e : Event) (reply : Reply) → Accepts s e reply → is_walk e ≡ false → Stood s → ListsStay s (a.after s e reply).memory
@@ -82,16 +82,16 @@ stay_walk s q cid none stood = record {
 -- Fetching
 
 abbrev Units : Pages → State → Type 0
-Units m s = AllByRecursion (UnitLeft m) s.device.jobs
+Units m s = AllByRecursion (UnitLeft m) s.controller.jobs
 
 pub some_none : {st : Status} → Some st ≡ None → ⊥
 some_none e = cc
 
 units_decided : (m : Pages) (e : SubEntry) (st : Status) (dw0 : ℕ) (s : State) → Units m s → Units m (a.decided e st dw0 s)
-units_decided m e st dw0 s h = all_append (UnitLeft m) s.device.jobs (a.new_job 0 e (Some st) dw0 [] ∷ []) h ((λ other none. absurd (some_none none)), tt)
+units_decided m e st dw0 s h = all_append (UnitLeft m) s.controller.jobs (a.new_job 0 e (Some st) dw0 [] ∷ []) h ((λ other none. absurd (some_none none)), tt)
 
-units_stopped : (m : Pages) (f : Job → Job) (test : Job → Bool) (s : State) → ((j : Job) → is_some (f j).verdict ≡ true) → Units m s → AllByRecursion (UnitLeft m) (map (λ j. if test j then f j else j) s.device.jobs)
-units_stopped m f test s stopped h = all_map (UnitLeft m) (UnitLeft m) (λ j. if test j then f j else j) s.device.jobs (λ j left. each j (test j) left) h
+units_stopped : (m : Pages) (f : Job → Job) (test : Job → Bool) (s : State) → ((j : Job) → is_some (f j).verdict ≡ true) → Units m s → AllByRecursion (UnitLeft m) (map (λ j. if test j then f j else j) s.controller.jobs)
+units_stopped m f test s stopped h = all_map (UnitLeft m) (UnitLeft m) (λ j. if test j then f j else j) s.controller.jobs (λ j left. each j (test j) left) h
   where
     each : (j : Job) (b : Bool) → UnitLeft m j → UnitLeft m (if b then f j else j)
     each j true left = λ other none. absurd (true≢false (sym (stopped j) ∙ ap is_some none))
@@ -105,24 +105,24 @@ units_managed m e s h =
       aborts = λ is8 walks. units_decided m e SUCCESS 0 (a.on_job (named_queue e) (named_command e) (λ j. record j { verdict = Some ABORT_REQUESTED; waiting_abort = Some e.cid }) s)
           (units_stopped m (λ j. record j { verdict = Some ABORT_REQUESTED; waiting_abort = Some e.cid }) (λ j. (j.q == named_queue e) && (j.entry.cid == named_command e)) s (λ j. refl) h);
       is_late = λ is8. units_decided m e SUCCESS 1 s h;
-      stops = λ is0 q0 runs. units_decided m e SUCCESS 0 (a.on_device (λ d. record d { jobs = map (a.stopped (named_queue e)) d.jobs }) (a.on_device_queue (named_queue e) (λ at. record at { state = Stopping }) s))
+      stops = λ is0 q0 runs. units_decided m e SUCCESS 0 (a.on_controller (λ d. record d { jobs = map (a.stopped (named_queue e)) d.jobs }) (a.on_served_queue (named_queue e) (λ at. record at { state = Stopping }) s))
           (units_stopped m (λ j. record j { verdict = Some ABORTED_SQ_DELETION }) (λ j. (j.q == named_queue e) && is_none j.verdict) s (λ j. refl) h);
-      drops = λ is4 q0 there gone. units_decided m e SUCCESS 0 (a.on_device_queue (named_queue e) a.dropped s) h;
-      makes_completion = λ is5 q0 none. units_decided m e SUCCESS 0 (a.on_device_queue (named_queue e) a.completion_made s) h;
-      makes_submission = λ is1 q0 gone there. units_decided m e SUCCESS 0 (a.on_device_queue (named_queue e) a.submission_made s) h;
+      drops = λ is4 q0 there gone. units_decided m e SUCCESS 0 (a.on_served_queue (named_queue e) a.dropped s) h;
+      makes_completion = λ is5 q0 none. units_decided m e SUCCESS 0 (a.on_served_queue (named_queue e) a.completion_made s) h;
+      makes_submission = λ is1 q0 gone there. units_decided m e SUCCESS 0 (a.on_served_queue (named_queue e) a.submission_made s) h;
     })
 
 units_fetch : (m : Pages) (q : ℕ) (s : State) → Units m s → Units m (a.after_fetch q s)
 units_fetch m q s h =
     fetch_by (λ (t : State). Units m t) s q h (λ e n c. h) (λ e n c z. units_managed m e (a.taken_off 0 s) h)
     (λ e n c other. let t = a.taken_off q s in
-    all_append (UnitLeft m) s.device.jobs (a.new_job q e (io_fault (a.image_blocks t) e) 0 (bytes_after_check t.device.image e (io_fault (a.image_blocks t) e)) ∷ []) h ((λ other none. omega arith), tt))
+    all_append (UnitLeft m) s.controller.jobs (a.new_job q e (io_fault (a.image_blocks t) e) 0 (bytes_after_check t.controller.image e (io_fault (a.image_blocks t) e)) ∷ []) h ((λ other none. omega arith), tt))
 
 -- Completing
 
 units_complete : (m : Pages) (q cid : ℕ) (s : State) → Units m s → Units m (a.after_complete q cid s)
 units_complete m q cid s h =
-    complete_by (λ (t : State). Units m t) s q cid h (λ j at c. all-filter (UnitLeft m) (λ x. not (is_job q cid x)) s.device.jobs h) (λ j at c. all-filter (UnitLeft m) (λ x. not (is_job q cid x)) s.device.jobs h)
+    complete_by (λ (t : State). Units m t) s q cid h (λ j at c. all-filter (UnitLeft m) (λ x. not (is_job q cid x)) s.controller.jobs h) (λ j at c. all-filter (UnitLeft m) (λ x. not (is_job q cid x)) s.controller.jobs h)
 
 -- Walking
 
@@ -134,10 +134,10 @@ more_left (Does x rest) zero e h = omega arith
 more_left (Does x rest) (suc k) e h = omega (arith, more_left rest k e h)
 
 -- one job at most has an identifier
-pub one_job : (s : State) → Stood s → (q cid : ℕ) → total (λ j. one (is_job q cid j)) s.device.jobs < 2
+pub one_job : (s : State) → Stood s → (q cid : ℕ) → total (λ j. one (is_job q cid j)) s.controller.jobs < 2
 one_job s stood q cid =
     let same : (js : List Job) → total (λ j. one (is_job q cid j)) js ≤ total (job_weight q (λ c. one (c == cid))) js = λ js. grind arith in
-    omega (arith, same s.device.jobs, stood.places q (λ c. one (c == cid)), few s.host.records, stood.grounds.stands.0.once q cid)
+    omega (arith, same s.controller.jobs, stood.places q (λ c. one (c == cid)), few s.host.records, stood.grounds.stands.0.once q cid)
   where
     few : (rs : List Record) → total (sent q (λ c. one (c == cid))) rs ≤ total (here q cid) rs
     few [] = omega arith
@@ -152,12 +152,12 @@ Either m q cid f k = UnitLeft m k × (is_job q cid k ≡ true → UnitLeft m (f 
 
 units_walk : (q cid : ℕ) (s : State) → refusal_of s (events.Walk q cid) ≡ None → Stood s → Units (a.after_walk q cid s).memory s → Units (a.after_walk q cid s).memory (a.after_walk q cid s)
 units_walk q cid s none stood h =
-    let before : (j : Job) (act : Act) → Walking s q cid j → AllByRecursion (Either (a.after_walk q cid s).memory q cid (unit_done s j act)) s.device.jobs = λ j act w.
-    all_in_both (λ k. is_job q cid k ≡ true → k ≡ j) (UnitLeft (a.after_walk q cid s).memory) (Either (a.after_walk q cid s).memory q cid (unit_done s j act)) s.device.jobs
+    let before : (j : Job) (act : Act) → Walking s q cid j → AllByRecursion (Either (a.after_walk q cid s).memory q cid (unit_done s j act)) s.controller.jobs = λ j act w.
+    all_in_both (λ k. is_job q cid k ≡ true → k ≡ j) (UnitLeft (a.after_walk q cid s).memory) (Either (a.after_walk q cid s).memory q cid (unit_done s j act)) s.controller.jobs
     (λ k within left same. (left, λ t. subst (λ (x : Job). UnitLeft (a.after_walk q cid s).memory (unit_done s j act x)) (sym (same t)) (stepped j w)))
-    h (only_found (is_job q cid) s.device.jobs j w.found (one_job s stood q cid)) in
+    h (only_found (is_job q cid) s.controller.jobs j w.found (one_job s stood q cid)) in
     walk_by (λ (t : State). Units (a.after_walk q cid s).memory t) s q cid h
-    (λ j act at u. all_map (Either (a.after_walk q cid s).memory q cid (unit_done s j act)) (UnitLeft (a.after_walk q cid s).memory) (λ k. if (k.q == q) && (k.entry.cid == cid) then unit_done s j act k else k) s.device.jobs
+    (λ j act at u. all_map (Either (a.after_walk q cid s).memory q cid (unit_done s j act)) (UnitLeft (a.after_walk q cid s).memory) (λ k. if (k.q == q) && (k.entry.cid == cid) then unit_done s j act k else k) s.controller.jobs
     (λ k left. each (unit_done s j act) k ((k.q == q) && (k.entry.cid == cid)) refl left) (before j act (walking s q cid j none stood at)))
   where
     stays : (j : Job) → Walking s q cid j → course_of (a.after_walk q cid s) j ≡ course_of s j
@@ -176,7 +176,7 @@ units_walk q cid s none stood h =
 
 -- Every event
 
-pub walks_event : (s : State) (e : Event) (reply : Reply) → Accepts s e reply → Stood s → AllByRecursion (HasUnitLeft (a.after s e reply)) (a.after s e reply).device.jobs
+pub walks_event : (s : State) (e : Event) (reply : Reply) → Accepts s e reply → Stood s → AllByRecursion (HasUnitLeft (a.after s e reply)) (a.after s e reply).controller.jobs
 walks_event s (events.Fetch q) (events.Fetched c touched) ok h =
     units_fetch (a.after_fetch q s).memory q s (walks_still s (a.after_fetch q s) h (stay_untouched s (events.Fetch q) (events.Fetched c touched) ok refl h))
 walks_event s (events.Walk q cid) (events.Walked o touched) ok h = units_walk q cid s ok.0 h (walks_still s (a.after_walk q cid s) h (stay_walk s q cid ok.0 h))
@@ -216,7 +216,7 @@ nothing_unfetched : (w : ℕ → ℕ) (k q : ℕ) → total (λ (e : SubEntry). 
 nothing_unfetched w (suc k) (suc q) = nothing_unfetched w k q
 nothing_unfetched w x q = refl
 
-nothing_answered : (w : ℕ → ℕ) (k q : ℕ) → total (λ (an : Answer). w an.cid) (answers_at (replicate k opened) q) ≡ 0
+nothing_answered : (w : ℕ → ℕ) (k q : ℕ) → total (λ (an : PostedCompletion). w an.cid) (completions_at (replicate k opened) q) ≡ 0
 nothing_answered w (suc k) (suc q) = nothing_answered w k q
 nothing_answered w x q = refl
 
@@ -296,13 +296,13 @@ no_conflicts : (s : State) → Roomy s → (q : ℕ) → conflicts s q ≡ false
 no_conflicts s r q = elim (option_is (next_rung s q)) [ inl n ↦ rw n refl | inr (e, n) ↦ rw n (no_conflict s r.stood q e (in_hand s q e n)) ]
 
 -- where a job is, its queue has room for its answer
-room_for_answer : (s : State) → Roomy s → (q cid : ℕ) → is_none (job_at s q cid) ≡ false → answers_full s q ≡ false
-room_for_answer s r q cid job = go (device_queue s q) refl
+room_for_answer : (s : State) → Roomy s → (q cid : ℕ) → is_none (job_at s q cid) ≡ false → completions_full s q ≡ false
+room_for_answer s r q cid job = go (served_queue s q) refl
   where
-    some_job : (o : Option Job) → job_at s q cid ≡ o → is_none o ≡ false → 1 ≤ total (job_weight q (λ c. 1)) s.device.jobs
+    some_job : (o : Option Job) → job_at s q cid ≡ o → is_none o ≡ false → 1 ≤ total (job_weight q (λ c. 1)) s.controller.jobs
     some_job None e h = absurd (true≢false h)
     some_job (Some j) e h =
-        omega (arith, ap one (and_parts (j.q == q) (j.entry.cid == cid) (found_is (is_job q cid) s.device.jobs j e)).0, in_found (is_job q cid) s.device.jobs j e (job_weight q (λ c. 1)))
+        omega (arith, ap one (and_parts (j.q == q) (j.entry.cid == cid) (found_is (is_job q cid) s.controller.jobs j e)).0, in_found (is_job q cid) s.controller.jobs j e (job_weight q (λ c. 1)))
 
     there : absent s q ≡ false
     there = (linked s r).jobs_have_queues q cid (not_none (job_at s q cid) job)
@@ -313,11 +313,11 @@ room_for_answer s r q cid job = go (device_queue s q) refl
     far : (d n : ℕ) → d < n → (d == n) ≡ false
     far d n l = grind (arith, nat_tests)
 
-    go : (o : Option DeviceQueue) → device_queue s q ≡ o → option_map_or (λ at. length at.answers == s.entries - 1) o true ≡ false
-    go None e = absurd (true≢false (sym (ap (λ (o : Option DeviceQueue). option_map_or (λ at. is_absent at.state) o true) e) ∙ there))
+    go : (o : Option ServedQueue) → served_queue s q ≡ o → option_map_or (λ at. length at.completions == s.entries - 1) o true ≡ false
+    go None e = absurd (true≢false (sym (ap (λ (o : Option ServedQueue). option_map_or (λ at. is_absent at.state) o true) e) ∙ there))
     go (Some at) e =
-        let answers : total (λ (an : Answer). 1) (answers_at s.device.queues q) ≡ length at.answers = ap (λ (o : Option DeviceQueue). total (λ (an : Answer). 1) (option_map_or (λ at. at.answers) o [])) e ∙ total_ones at.answers in
-        far (length at.answers) (s.entries - 1) (omega (arith, answers, some_job (job_at s q cid) refl job, r.stood.places q (λ c. 1), few_sent s r q))
+        let answers : total (λ (an : PostedCompletion). 1) (completions_at s.controller.queues q) ≡ length at.completions = ap (λ (o : Option ServedQueue). total (λ (an : PostedCompletion). 1) (option_map_or (λ at. at.completions) o [])) e ∙ total_ones at.completions in
+        far (length at.completions) (s.entries - 1) (omega (arith, answers, some_job (job_at s q cid) refl job, r.stood.places q (λ c. 1), few_sent s r q))
 
 -- The causes of each event
 
@@ -394,7 +394,7 @@ no_cause s r (events.Fetch q) = (
   λ rung. (
     (λ t. absurd (in_after (is_in s.memory (fetch_page s q)) (queue_page_in s r.stood.grounds q (fetch_page s q) (fetch_stays_in s q (linked s r) (rung_there s q rung)).1) t)),
     λ f. (
-      (λ t. absurd (true≢false (sym (and_parts (conflicts s q) (answers_full s q) t).0 ∙ no_conflicts s r q))),
+      (λ t. absurd (true≢false (sym (and_parts (conflicts s q) (completions_full s q) t).0 ∙ no_conflicts s r q))),
       λ f. ((λ t. absurd (true≢false (sym (and_parts (conflicts s q) (not (is_in s.memory (post_page s q))) t).0 ∙ no_conflicts s r q))), λ f. tt),
     ),
   ),

@@ -8,23 +8,23 @@ use Rattle.controller_core.{proofs.Lists.{count-cons, here_counted, one}, specs.
 use Rattle.controller_core.specs.declared.{command.Work.TheVariants.Io, queue.ControllerQueue.ControllerQueue}
 use Rattle.host_core.{proofs.{Lists.change-same, QueueLists.index-from}, specs.Alone.alone}
 use Rattle.machine_model.proofs.{Counting.one as one_counting, Kept.service_is_reaped as served_reaped}
-use Rattle.machine_model.proofs.{Moves.{seen_trusted, IsHeard, answer_heard}, Tokens.{is_job, kind_known}}
-use Rattle.machine_model.specs.Agreeing.{SidesAgree, answered_well, answering, has_completions_at, is_absent_at, is_kind, is_known_deleted, unmade, waiting}
+use Rattle.machine_model.proofs.{Moves.{seen_trusted, IsHeard, completion_heard}, Tokens.{is_job, kind_known}}
+use Rattle.machine_model.specs.Agreeing.{SidesAgree, completed_well, admin_completions, has_completions_at, is_absent_at, is_kind, is_known_deleted, unmade, waiting}
 use Rattle.machine_model.specs.Positions.{IsInRing}
-use Rattle.machine_model.specs.Refusals.{answers_full, device_queue, fetch_page, fetch_slot, host_queue, post_page, post_slot, slot_page, entry_of, first_answer, in_service, is_reaped, seen_entry, slot_bytes, slot_entry, job_at, is_gone, is_live, is_making_cq}
-use Rattle.machine_model.specs.{State.{State, HostQueue, DeviceQueue, Job, Answer, Record}, declared.words.HostState.HostState}
+use Rattle.machine_model.specs.Refusals.{completions_full, served_queue, fetch_page, fetch_slot, host_queue, post_page, post_slot, slot_page, entry_of, front_completion, in_service, is_reaped, seen_entry, slot_bytes, slot_entry, job_at, is_gone, is_live, is_making_cq}
+use Rattle.machine_model.specs.{State.{State, HostQueue, ServedQueue, Job, PostedCompletion, Record}, declared.words.HostState.HostState}
 use Rattle.machine_model.specs.declared.words.{HostState.TheVariants.{Live, Retired, HalfMade}, Work.TheVariants.Management}
 use Rattle.page_ledger.specs.Owners.{pages_from}
 use Rattle.page_memory.specs.{Memory.Memory, Pages.byte_at, declared.page.Half.TheVariants.{Submission, Completion}}
-use Rattle.queue_pair.proofs.{Halves.{submission_there, completion_there}, Rings.{next_below, tail_moved, head_moved, answers_none, answers_pop, new_is_front}}
-use Rattle.queue_pair.specs.{Lists.{answers_between, expected_phase, front}, Members.change}
+use Rattle.queue_pair.proofs.{Halves.{submission_there, completion_there}, Rings.{next_below, tail_moved, head_moved, completions_none, completions_pop, new_is_front}}
+use Rattle.queue_pair.specs.{Lists.{completions_from, expected_phase, front}, Members.change}
 use Rattle.queue_pair.specs.Memory.{half_pages, entry_at, completion_at, submission_page, completion_page, completion_slot, new_completion_at, phased, with_phase}
 use Rattle.queue_pair.specs.Slots.{distance, is_full, moved, slots_from, next_slot, is_in_range}
-use Rattle.two_sides.proofs.{Agreed.{agreed_there, stood_of}, DeviceMoves.all_at}
-use Rattle.two_sides.proofs.Frames.{IsKnown, device_at, there_ring, IsPlaced, controller_at, known, reaped_ring, host_at, share_of, stands_of, tied_of, one_queue, one_stands, state_stands}
-use Rattle.two_sides.proofs.{PoolBytes.answers_stand, Standing.{admin_zero, answering_rest}, Tied.{deleted_is_gone, freed_is_gone}}
+use Rattle.two_sides.proofs.{Agreed.{agreed_there, stood_of}, ControllerMoves.all_at}
+use Rattle.two_sides.proofs.Frames.{IsKnown, served_at, there_ring, IsPlaced, controller_at, known, reaped_ring, host_at, share_of, stands_of, tied_of, one_queue, one_stands, state_stands}
+use Rattle.two_sides.proofs.{PoolBytes.answers_stand, Standing.{admin_zero, admin_completions_rest}, Tied.{deleted_is_gone, freed_is_gone}}
 use Rattle.two_sides.specs.Laws.{tails_are_heard, heads_are_heard}
-use Rattle.two_sides.specs.Sides.{Sides, state_of, answer_of, completions_between, device_queue_of, present, unfetched_between, job_of, device_queues_of}
+use Rattle.two_sides.specs.Sides.{Sides, state_of, posted_completion, completions_between, served_queue_of, present, unfetched_between, job_of, served_queues_of}
 use Rattle.two_sides.specs.{Stepping.completions_are_seen, Ties.{has_ring, IsWorld, RingsStand, AllQueuesStand, QueueStands}}
 use Rattle.entry_codec.specs.{Completion.completion_of, declared.{completion.ComEntry.ComEntry, status.Status.Status}}
 use Rattle.block_image.specs.Blocks.{block_count}
@@ -59,9 +59,9 @@ map-append f (y ∷ xs) x = ap (λ ys. f y ∷ ys) (map-append f xs x)
 
 -- the host's positions are slots of the controller's ring
 pub record InRing (h : HostQueue) (c : ControllerQueue) : Type 0 where
-  pub head : h.ring.head < c.device.entries
-  pub known_head : h.ring.known_head < c.device.entries
-  pub tail : h.ring.tail < c.device.entries
+  pub head : h.ring.head < c.controller.entries
+  pub known_head : h.ring.known_head < c.controller.entries
+  pub tail : h.ring.tail < c.controller.entries
 
 pub in_ring : (s : Sides) (q : ℕ) (h : HostQueue) (c : ControllerQueue) → IsKnown s q h c → InRing h c
 in_ring s q h c known =
@@ -70,56 +70,56 @@ in_ring s q h c known =
     record { head = omega (arith, n, is.head); known_head = omega (arith, n, is.known_head); tail = omega (arith, n, is.tail) }
 
 pub length-unfetched : (s : Sides) (q : ℕ) (h : HostQueue) (c : ControllerQueue) → IsKnown s q h c → is_absent c.state ≡ false
-    → length (unfetched_between (byte_at s.pages) h.ring c.device) ≡ distance c.device.entries c.device.ring.head h.ring.tail
+    → length (unfetched_between (byte_at s.pages) h.ring c.controller) ≡ distance c.controller.entries c.controller.ring.head h.ring.tail
 length-unfetched s q h c known queue-here =
-    all_present (entry_at (byte_at s.pages) c.device.sq) c.device.entries (distance c.device.entries c.device.ring.head h.ring.tail) c.device.ring.head known.placed.share.side.head
-    (λ k lt. some_mapped _ _ (submission_there (byte_at s.pages) c.device.sq s.host.entries k (known.submission_in queue-here) (omega (arith, lt, known.placed.share.entries))))
+    all_present (entry_at (byte_at s.pages) c.controller.sq) c.controller.entries (distance c.controller.entries c.controller.ring.head h.ring.tail) c.controller.ring.head known.placed.share.side.head
+    (λ k lt. some_mapped _ _ (submission_there (byte_at s.pages) c.controller.sq s.host.entries k (known.submission_in queue-here) (omega (arith, lt, known.placed.share.entries))))
 
 pub length-completions : (s : Sides) (q : ℕ) (h : HostQueue) (c : ControllerQueue) → IsKnown s q h c → has_ring h c ≡ true
-    → length (map answer_of (completions_between (byte_at s.pages) h.ring c.device)) ≡ distance c.device.entries h.ring.head c.device.ring.tail
+    → length (map posted_completion (completions_between (byte_at s.pages) h.ring c.controller)) ≡ distance c.controller.entries h.ring.head c.controller.ring.tail
 length-completions s q h c known has =
-    length-map answer_of (completions_between (byte_at s.pages) h.ring c.device)
-    ∙ all_present (completion_at (byte_at s.pages) c.device.cq) c.device.entries (distance c.device.entries h.ring.head c.device.ring.tail) h.ring.head (in_ring s q h c known).head
-    (λ k lt. some_mapped _ _ (completion_there (byte_at s.pages) c.device.cq s.host.entries k (known.completion_in has) (omega (arith, lt, known.placed.share.entries))))
+    length-map posted_completion (completions_between (byte_at s.pages) h.ring c.controller)
+    ∙ all_present (completion_at (byte_at s.pages) c.controller.cq) c.controller.entries (distance c.controller.entries h.ring.head c.controller.ring.tail) h.ring.head (in_ring s q h c known).head
+    (λ k lt. some_mapped _ _ (completion_there (byte_at s.pages) c.controller.cq s.host.entries k (known.completion_in has) (omega (arith, lt, known.placed.share.entries))))
 
 -- so many answers has the machine of a completion queue that is queue-here
-pub length-answers : (s : Sides) (q : ℕ) (h : HostQueue) (c : ControllerQueue) → IsKnown s q h c → c.cq_there ≡ true
-    → length (device_queue_of (byte_at s.pages) h.ring c).answers ≡ distance c.device.entries h.ring.head c.device.ring.tail
-length-answers s q h c known queue-here =
-    ap (λ (b : Bool). length (if b then map answer_of (completions_between (byte_at s.pages) h.ring c.device) else [])) queue-here
+pub length-posted : (s : Sides) (q : ℕ) (h : HostQueue) (c : ControllerQueue) → IsKnown s q h c → c.cq_there ≡ true
+    → length (served_queue_of (byte_at s.pages) h.ring c).completions ≡ distance c.controller.entries h.ring.head c.controller.ring.tail
+length-posted s q h c known queue-here =
+    ap (λ (b : Bool). length (if b then map posted_completion (completions_between (byte_at s.pages) h.ring c.controller) else [])) queue-here
     ∙ length-completions s q h c known (there_ring h c queue-here)
 
 -- A state of the machine that shows a queue as both sides have it: that of both sides, and those that an event makes of it elsewhere.
 pub record Shows (u : State) (s : Sides) (q : ℕ) (h : HostQueue) (c : ControllerQueue) : Type 0 where
   pub entries : u.entries ≡ s.host.entries
   pub host : host_queue u q ≡ Some h
-  pub device : device_queue u q ≡ Some (device_queue_of (byte_at s.pages) h.ring c)
+  pub controller : served_queue u q ≡ Some (served_queue_of (byte_at s.pages) h.ring c)
 
 pub shows : (s : Sides) (q : ℕ) (h : HostQueue) (c : ControllerQueue) → slice_get s.host.host.queues q ≡ Some h → slice_get s.controller.queues q ≡ Some c → Shows (state_of s) s q h c
-shows s q h c e f = record { entries = refl; host = e; device = device_at s q h c e f }
+shows s q h c e f = record { entries = refl; host = e; controller = served_at s q h c e f }
 
 -- The positions
 
-pub fetch_slot_is : (u : State) (s : Sides) (q : ℕ) (h : HostQueue) (c : ControllerQueue) → Shows u s q h c → IsKnown s q h c → is_absent c.state ≡ false → fetch_slot u q ≡ c.device.ring.head
+pub fetch_slot_is : (u : State) (s : Sides) (q : ℕ) (h : HostQueue) (c : ControllerQueue) → Shows u s q h c → IsKnown s q h c → is_absent c.state ≡ false → fetch_slot u q ≡ c.controller.ring.head
 fetch_slot_is u s q h c shown known queue-here =
-    rw (shown.host, shown.device, (shown.entries ∙ sym known.placed.share.entries)) refl
-    ∙ ap (λ (b : Bool). moved c.device.entries h.ring.tail (c.device.entries - length (if b then [] else unfetched_between (byte_at s.pages) h.ring c.device))) queue-here
-    ∙ ap (λ (k : ℕ). moved c.device.entries h.ring.tail (c.device.entries - k)) (length-unfetched s q h c known queue-here)
-    ∙ sym (head_moved c.device.entries c.device.ring.head h.ring.tail known.placed.share.side.head (in_ring s q h c known).tail)
+    rw (shown.host, shown.controller, (shown.entries ∙ sym known.placed.share.entries)) refl
+    ∙ ap (λ (b : Bool). moved c.controller.entries h.ring.tail (c.controller.entries - length (if b then [] else unfetched_between (byte_at s.pages) h.ring c.controller))) queue-here
+    ∙ ap (λ (k : ℕ). moved c.controller.entries h.ring.tail (c.controller.entries - k)) (length-unfetched s q h c known queue-here)
+    ∙ sym (head_moved c.controller.entries c.controller.ring.head h.ring.tail known.placed.share.side.head (in_ring s q h c known).tail)
 
-pub post_slot_is : (u : State) (s : Sides) (q : ℕ) (h : HostQueue) (c : ControllerQueue) → Shows u s q h c → IsKnown s q h c → c.cq_there ≡ true → post_slot u q ≡ c.device.ring.tail
+pub post_slot_is : (u : State) (s : Sides) (q : ℕ) (h : HostQueue) (c : ControllerQueue) → Shows u s q h c → IsKnown s q h c → c.cq_there ≡ true → post_slot u q ≡ c.controller.ring.tail
 post_slot_is u s q h c shown known queue-here =
-    rw (shown.host, shown.device, (shown.entries ∙ sym known.placed.share.entries)) refl
-    ∙ ap (λ (k : ℕ). moved c.device.entries h.ring.head k) (length-answers s q h c known queue-here)
-    ∙ sym (tail_moved c.device.entries h.ring.head c.device.ring.tail (in_ring s q h c known).head known.placed.share.side.tail)
+    rw (shown.host, shown.controller, (shown.entries ∙ sym known.placed.share.entries)) refl
+    ∙ ap (λ (k : ℕ). moved c.controller.entries h.ring.head k) (length-posted s q h c known queue-here)
+    ∙ sym (tail_moved c.controller.entries h.ring.head c.controller.ring.tail (in_ring s q h c known).head known.placed.share.side.tail)
 
-pub answers_full_is : (u : State) (s : Sides) (q : ℕ) (h : HostQueue) (c : ControllerQueue) → Shows u s q h c → IsKnown s q h c → c.cq_there ≡ true
-    → answers_full u q ≡ is_full c.device.entries c.device.ring.known_head c.device.ring.tail
-answers_full_is u s q h c shown known queue-here =
+pub completions_full_is : (u : State) (s : Sides) (q : ℕ) (h : HostQueue) (c : ControllerQueue) → Shows u s q h c → IsKnown s q h c → c.cq_there ≡ true
+    → completions_full u q ≡ is_full c.controller.entries c.controller.ring.known_head c.controller.ring.tail
+completions_full_is u s q h c shown known queue-here =
     -- whether the completion ring has room
-    rw (shown.device, (shown.entries ∙ sym known.placed.share.entries)) refl
-    ∙ ap (λ (k : ℕ). k == c.device.entries - 1) (length-answers s q h c known queue-here)
-    ∙ ap (λ (k : ℕ). is_full c.device.entries k c.device.ring.tail) (sym (known.rings (there_ring h c queue-here)).heard)
+    rw (shown.controller, (shown.entries ∙ sym known.placed.share.entries)) refl
+    ∙ ap (λ (k : ℕ). k == c.controller.entries - 1) (length-posted s q h c known queue-here)
+    ∙ ap (λ (k : ℕ). is_full c.controller.entries k c.controller.ring.tail) (sym (known.rings (there_ring h c queue-here)).heard)
 
 -- The pages of the slots
 
@@ -136,20 +136,20 @@ submission_slot_page first n slot l =
 post_page-by : (u : State) (q : ℕ) (h : HostQueue) (tail : ℕ) → host_queue u q ≡ Some h → post_slot u q ≡ tail → post_page u q ≡ slot_page h.cq_pages 16 tail
 post_page-by u q h tail eh et = rw (et, eh) refl
 
-pub own_page : (s : Sides) (q : ℕ) (h : HostQueue) (c : ControllerQueue) → IsKnown s q h c → has_ring h c ≡ true → slot_page h.cq_pages 16 c.device.ring.tail ≡ completion_page c.device.cq c.device.ring.tail
+pub own_page : (s : Sides) (q : ℕ) (h : HostQueue) (c : ControllerQueue) → IsKnown s q h c → has_ring h c ≡ true → slot_page h.cq_pages 16 c.controller.ring.tail ≡ completion_page c.controller.cq c.controller.ring.tail
 own_page s q h c known has =
-    ap (λ (ps : List ℕ). slot_page ps 16 c.device.ring.tail) (known.completion has)
-    ∙ completion_slot_page c.device.cq s.host.entries c.device.ring.tail (omega (arith, known.placed.share.entries, known.placed.share.side.tail))
+    ap (λ (ps : List ℕ). slot_page ps 16 c.controller.ring.tail) (known.completion has)
+    ∙ completion_slot_page c.controller.cq s.host.entries c.controller.ring.tail (omega (arith, known.placed.share.entries, known.placed.share.side.tail))
 
-pub fetch_page_is : (u : State) (s : Sides) (q : ℕ) (h : HostQueue) (c : ControllerQueue) → Shows u s q h c → IsKnown s q h c → is_absent c.state ≡ false → fetch_page u q ≡ submission_page c.device.sq c.device.ring.head
+pub fetch_page_is : (u : State) (s : Sides) (q : ℕ) (h : HostQueue) (c : ControllerQueue) → Shows u s q h c → IsKnown s q h c → is_absent c.state ≡ false → fetch_page u q ≡ submission_page c.controller.sq c.controller.ring.head
 fetch_page_is u s q h c shown known queue-here =
     rw ((fetch_slot_is u s q h c shown known queue-here), shown.host) refl
-    ∙ ap (λ (ps : List ℕ). slot_page ps 64 c.device.ring.head) (known.submission queue-here)
-    ∙ submission_slot_page c.device.sq s.host.entries c.device.ring.head (omega (arith, known.placed.share.entries, known.placed.share.side.head))
+    ∙ ap (λ (ps : List ℕ). slot_page ps 64 c.controller.ring.head) (known.submission queue-here)
+    ∙ submission_slot_page c.controller.sq s.host.entries c.controller.ring.head (omega (arith, known.placed.share.entries, known.placed.share.side.head))
 
-pub post_page_is : (u : State) (s : Sides) (q : ℕ) (h : HostQueue) (c : ControllerQueue) → Shows u s q h c → IsKnown s q h c → c.cq_there ≡ true → post_page u q ≡ completion_page c.device.cq c.device.ring.tail
+pub post_page_is : (u : State) (s : Sides) (q : ℕ) (h : HostQueue) (c : ControllerQueue) → Shows u s q h c → IsKnown s q h c → c.cq_there ≡ true → post_page u q ≡ completion_page c.controller.cq c.controller.ring.tail
 post_page_is u s q h c shown known queue-here =
-    post_page-by u q h c.device.ring.tail shown.host (post_slot_is u s q h c shown known queue-here) ∙ own_page s q h c known (there_ring h c queue-here)
+    post_page-by u q h c.controller.ring.tail shown.host (post_slot_is u s q h c shown known queue-here) ∙ own_page s q h c known (there_ring h c queue-here)
 
 -- What the host sees at the head of a completion ring is the machine's first answer.
 
@@ -160,36 +160,36 @@ told o = option_map (phased true) o
 -- What the slot at the head holds
 
 seen_alone : (s : Sides) → IsWorld s → (q : ℕ) (h : HostQueue) (c : ControllerQueue) → slice_get s.host.host.queues q ≡ Some h → IsKnown s q h c → has_ring h c ≡ true
-    → seen_entry (alone s.host s.pages) q ≡ new_completion_at (byte_at s.pages) c.device.cq h.ring.head h.ring.phase
+    → seen_entry (alone s.host s.pages) q ≡ new_completion_at (byte_at s.pages) c.controller.cq h.ring.head h.ring.phase
 seen_alone s world q h c e k has =
     let at_head : Option (List ℕ) → Option ComEntry = λ o. option_and_then (λ bytes. with_phase h.ring.phase (completion_of bytes)) o in
     ap (option_and_then (slot_entry s.pages)) e
     ∙ ap (λ (pages : List ℕ). at_head (slot_bytes s.pages pages 16 h.ring.head)) (k.completion has)
-    ∙ ap at_head (answers_stand s.pages c.device.cq (half_pages s.host.entries Completion) h.ring.head world.sides.over.pool.whole (omega arith))
-    ∙ then-map (with_phase h.ring.phase) completion_of (completion_slot (byte_at s.pages) c.device.cq h.ring.head)
+    ∙ ap at_head (answers_stand s.pages c.controller.cq (half_pages s.host.entries Completion) h.ring.head world.sides.over.pool.whole (omega arith))
+    ∙ then-map (with_phase h.ring.phase) completion_of (completion_slot (byte_at s.pages) c.controller.cq h.ring.head)
 
 -- Where nothing was forged, the answers in the ring
 
-no_answer : (m : Memory) (h : HostQueue) (c : ControllerQueue) → h.ring.head ≡ c.device.ring.tail → completions_between m h.ring c.device ≡ []
+no_answer : (m : Memory) (h : HostQueue) (c : ControllerQueue) → h.ring.head ≡ c.controller.ring.tail → completions_between m h.ring c.controller ≡ []
 no_answer m h c same = grind arith
 
 -- the answer at the head, and those behind it
 pub record HasAnswer (m : Memory) (h : HostQueue) (c : ControllerQueue) : Type 0 where
   pub entry : ComEntry
-  pub front : front (answers_between m c.device.cq c.device.entries h.ring.head c.device.ring.tail) ≡ Some entry
-  pub list : completions_between m h.ring c.device ≡ entry ∷ present (answers_between m c.device.cq c.device.entries (next_slot c.device.entries h.ring.head) c.device.ring.tail)
+  pub front : front (completions_from m c.controller.cq c.controller.entries h.ring.head c.controller.ring.tail) ≡ Some entry
+  pub list : completions_between m h.ring c.controller ≡ entry ∷ present (completions_from m c.controller.cq c.controller.entries (next_slot c.controller.entries h.ring.head) c.controller.ring.tail)
 
-pub head_below : (s : Sides) (q : ℕ) (h : HostQueue) (c : ControllerQueue) → IsPlaced s q h c → h.ring.head < c.device.entries
+pub head_below : (s : Sides) (q : ℕ) (h : HostQueue) (c : ControllerQueue) → IsPlaced s q h c → h.ring.head < c.controller.entries
 head_below s q h c p = subst (λ (n : ℕ). h.ring.head < n) (sym p.share.entries) p.ring.head
 
-pub has_answer : (s : Sides) (q : ℕ) (h : HostQueue) (c : ControllerQueue) → IsKnown s q h c → has_ring h c ≡ true → h.ring.head ≢ c.device.ring.tail → HasAnswer (byte_at s.pages) h c
+pub has_answer : (s : Sides) (q : ℕ) (h : HostQueue) (c : ControllerQueue) → IsKnown s q h c → has_ring h c ≡ true → h.ring.head ≢ c.controller.ring.tail → HasAnswer (byte_at s.pages) h c
 has_answer s q h c k has apart =
     let m : Memory = byte_at s.pages in
-    let below : h.ring.head < c.device.entries = head_below s q h c k.placed in
-    let behind : List (Option ComEntry) = answers_between m c.device.cq c.device.entries (next_slot c.device.entries h.ring.head) c.device.ring.tail in
-    let popped : answers_between m c.device.cq c.device.entries h.ring.head c.device.ring.tail ≡ completion_at m c.device.cq h.ring.head ∷ behind =
-    answers_pop m c.device.cq c.device.entries h.ring.head c.device.ring.tail below k.placed.share.side.tail apart in
-    elim (option_is (completion_at m c.device.cq h.ring.head)) [
+    let below : h.ring.head < c.controller.entries = head_below s q h c k.placed in
+    let behind : List (Option ComEntry) = completions_from m c.controller.cq c.controller.entries (next_slot c.controller.entries h.ring.head) c.controller.ring.tail in
+    let popped : completions_from m c.controller.cq c.controller.entries h.ring.head c.controller.ring.tail ≡ completion_at m c.controller.cq h.ring.head ∷ behind =
+    completions_pop m c.controller.cq c.controller.entries h.ring.head c.controller.ring.tail below k.placed.share.side.tail apart in
+    elim (option_is (completion_at m c.controller.cq h.ring.head)) [
       | inl is ↦ let phase = rw is at ((k.rings has).phases.stands h.ring.head below) in absurd cc
       | inr (entry, is) ↦
           let all = popped ∙ ap (λ (o : Option ComEntry). o ∷ behind) is in
@@ -197,30 +197,30 @@ has_answer s q h c k has apart =
     ]
 
 -- a queue whose completion ring is in use and has an answer has its completion queue at the controller
-pub answer_there : (s : Sides) (q : ℕ) (h : HostQueue) (c : ControllerQueue) → IsKnown s q h c → has_ring h c ≡ true → h.ring.head ≢ c.device.ring.tail → c.cq_there ≡ true
+pub answer_there : (s : Sides) (q : ℕ) (h : HostQueue) (c : ControllerQueue) → IsKnown s q h c → has_ring h c ≡ true → h.ring.head ≢ c.controller.ring.tail → c.cq_there ≡ true
 answer_there s q h c k has apart = elim (cases_Bool (in_service h.state)) [ inl e ↦ k.served e | inr e ↦ absurd (apart ((k.rings has).drained e)) ]
 
 -- the machine sees the first of its answers
 seen_of : (s : Sides) (q : ℕ) (h : HostQueue) (c : ControllerQueue) (b : Bool) → s.trusted ≡ true → slice_get s.host.host.queues q ≡ Some h → slice_get s.controller.queues q ≡ Some c → c.cq_there ≡ b
-    → seen_entry (state_of s) q ≡ option_map (entry_of q) (first_answer (if b then map answer_of (completions_between (byte_at s.pages) h.ring c.device) else []))
+    → seen_entry (state_of s) q ≡ option_map (entry_of q) (front_completion (if b then map posted_completion (completions_between (byte_at s.pages) h.ring c.controller) else []))
 seen_of s q h c b t e f queue-here =
     seen_trusted (state_of s) q t
-    ∙ ap (λ (o : Option DeviceQueue). option_map (entry_of q) (option_and_then (λ queue. first_answer queue.answers) o)) (device_at s q h c e f)
-    ∙ ap (λ (b : Bool). option_map (entry_of q) (first_answer (if b then map answer_of (completions_between (byte_at s.pages) h.ring c.device) else []))) queue-here
+    ∙ ap (λ (o : Option ServedQueue). option_map (entry_of q) (option_and_then (λ queue. front_completion queue.completions) o)) (served_at s q h c e f)
+    ∙ ap (λ (b : Bool). option_map (entry_of q) (front_completion (if b then map posted_completion (completions_between (byte_at s.pages) h.ring c.controller) else []))) queue-here
 
 pub seen_none : (s : Sides) (q : ℕ) (h : HostQueue) (c : ControllerQueue) → s.trusted ≡ true → slice_get s.host.host.queues q ≡ Some h → slice_get s.controller.queues q ≡ Some c
-    → h.ring.head ≡ c.device.ring.tail → seen_entry (state_of s) q ≡ None
+    → h.ring.head ≡ c.controller.ring.tail → seen_entry (state_of s) q ≡ None
 seen_none s q h c t e f same = elim (cases_Bool c.cq_there) [
-  | inl queue-here ↦ seen_of s q h c true t e f queue-here ∙ ap (λ (xs : List ComEntry). option_map (entry_of q) (first_answer (map answer_of xs))) (no_answer (byte_at s.pages) h c same)
+  | inl queue-here ↦ seen_of s q h c true t e f queue-here ∙ ap (λ (xs : List ComEntry). option_map (entry_of q) (front_completion (map posted_completion xs))) (no_answer (byte_at s.pages) h c same)
   | inr queue-here ↦ seen_of s q h c false t e f queue-here
 ]
 
 pub seen_first : (s : Sides) (q : ℕ) (h : HostQueue) (c : ControllerQueue) → s.trusted ≡ true → slice_get s.host.host.queues q ≡ Some h → slice_get s.controller.queues q ≡ Some c
-    → c.cq_there ≡ true → (a : HasAnswer (byte_at s.pages) h c) → seen_entry (state_of s) q ≡ Some (entry_of q (answer_of a.entry))
+    → c.cq_there ≡ true → (a : HasAnswer (byte_at s.pages) h c) → seen_entry (state_of s) q ≡ Some (entry_of q (posted_completion a.entry))
 seen_first s q h c t e f queue-here a =
-    seen_of s q h c true t e f queue-here ∙ ap (λ (xs : List ComEntry). option_map (entry_of q) (first_answer (map answer_of xs))) a.list
+    seen_of s q h c true t e f queue-here ∙ ap (λ (xs : List ComEntry). option_map (entry_of q) (front_completion (map posted_completion xs))) a.list
 
-owned_first : (q : ℕ) (e : ComEntry) → e.sqid ≡ q → told (Some e) ≡ told (Some (entry_of q (answer_of e)))
+owned_first : (q : ℕ) (e : ComEntry) → e.sqid ≡ q → told (Some e) ≡ told (Some (entry_of q (posted_completion e)))
 owned_first q e own = ap (λ (i : ℕ). Some (record { dw0 = e.dw0; sqhd = e.sqhd; sqid = i; cid = e.cid; phase = true; status = e.status })) own
 
 -- Both see the same
@@ -228,12 +228,12 @@ owned_first q e own = ap (λ (i : ℕ). Some (record { dw0 = e.dw0; sqhd = e.sqh
 trusted_alike : (s : Sides) → IsWorld s → s.trusted ≡ true → (q : ℕ) (h : HostQueue) (c : ControllerQueue) → slice_get s.host.host.queues q ≡ Some h → slice_get s.controller.queues q ≡ Some c → is_reaped h.state ≡ true
     → told (seen_entry (alone s.host s.pages) q) ≡ told (seen_entry (state_of s) q)
 trusted_alike s world t q h c e f reaped =
-    let newest : new_completion_at m c.device.cq h.ring.head (expected_phase h.ring.head c.device.ring.tail c.device.ring.phase) ≡ front (answers_between m c.device.cq c.device.entries h.ring.head c.device.ring.tail) =
-    new_is_front m c.device.cq c.device.entries h.ring.head c.device.ring.tail c.device.ring.phase (head_below s q h c k.placed) k.placed.share.side.tail rings.phases in
-    ap told (seen_alone s world q h c e k has ∙ ap (new_completion_at m c.device.cq h.ring.head) rings.expected ∙ newest)
-    ∙ elim (cases_eq h.ring.head c.device.ring.tail) [
-      | inl same ↦ ap (λ (head : ℕ). told (front (answers_between m c.device.cq c.device.entries head c.device.ring.tail))) same
-          ∙ ap (λ (xs : List (Option ComEntry)). told (front xs)) (answers_none m c.device.cq c.device.entries c.device.ring.tail)
+    let newest : new_completion_at m c.controller.cq h.ring.head (expected_phase h.ring.head c.controller.ring.tail c.controller.ring.phase) ≡ front (completions_from m c.controller.cq c.controller.entries h.ring.head c.controller.ring.tail) =
+    new_is_front m c.controller.cq c.controller.entries h.ring.head c.controller.ring.tail c.controller.ring.phase (head_below s q h c k.placed) k.placed.share.side.tail rings.phases in
+    ap told (seen_alone s world q h c e k has ∙ ap (new_completion_at m c.controller.cq h.ring.head) rings.expected ∙ newest)
+    ∙ elim (cases_eq h.ring.head c.controller.ring.tail) [
+      | inl same ↦ ap (λ (head : ℕ). told (front (completions_from m c.controller.cq c.controller.entries head c.controller.ring.tail))) same
+          ∙ ap (λ (xs : List (Option ComEntry)). told (front xs)) (completions_none m c.controller.cq c.controller.entries c.controller.ring.tail)
           ∙ sym (ap told (seen_none s q h c t e f same))
       | inr apart ↦ queue-here (answer_there s q h c k has apart) (has_answer s q h c k has apart)
     ]
@@ -250,7 +250,7 @@ trusted_alike s world t q h c e f reaped =
     rings : RingsStand m q h c
     rings = k.rings has
 
-    queue-here : c.cq_there ≡ true → HasAnswer m h c → told (front (answers_between m c.device.cq c.device.entries h.ring.head c.device.ring.tail)) ≡ told (seen_entry (state_of s) q)
+    queue-here : c.cq_there ≡ true → HasAnswer m h c → told (front (completions_from m c.controller.cq c.controller.entries h.ring.head c.controller.ring.tail)) ≡ told (seen_entry (state_of s) q)
     queue-here cq a =
         ap told a.front ∙ owned_first q a.entry (subst (λ (xs : List ComEntry). AllByRecursion (λ e. e.sqid ≡ q) xs) a.list rings.owned).0 ∙ sym (ap told (seen_first s q h c t e f cq a))
 
@@ -349,7 +349,7 @@ pub tails_heard : tails_are_heard
 tails_heard s q h c sides e f =
     let share = share_of s.host.entries 0 q s.host.host.queues s.controller.queues h c sides.queues e f in
     let inside = all_at (λ (queue : HostQueue). IsInRing s.host.entries queue.ring) s.host.host.queues q h e sides.sound.positions in
-    rw (lt-ltb h.ring.tail c.device.entries (subst (λ (n : ℕ). h.ring.tail < n) (sym share.entries) inside.tail)) refl
+    rw (lt-ltb h.ring.tail c.controller.entries (subst (λ (n : ℕ). h.ring.tail < n) (sym share.entries) inside.tail)) refl
 
 next_in_range : (n head tail : ℕ) → head < n → tail < n → head ≢ tail → is_in_range n head tail (next_slot n head) ≡ true
 next_in_range n head tail h t apart = grind (arith, nat_tests)
@@ -359,20 +359,20 @@ heads_heard s q h c sides tied e f has apart =
     let share = share_of s.host.entries 0 q s.host.host.queues s.controller.queues h c sides.queues e f in
     let stands = stands_of s.host.entries (byte_at s.pages) 0 q s.host.host.queues s.controller.queues h c tied.queues e f in
     let inside = all_at (λ (queue : HostQueue). IsInRing s.host.entries queue.ring) s.host.host.queues q h e sides.sound.positions in
-    let fits = next_in_range s.host.entries h.ring.head c.device.ring.tail inside.head (subst (λ (n : ℕ). c.device.ring.tail < n) share.entries share.side.tail) apart in
-    let here : is_in_range c.device.entries c.device.ring.known_head c.device.ring.tail (next_slot s.host.entries h.ring.head) ≡ true = rw (share.entries, (stands.rings has).heard) fits in
+    let fits = next_in_range s.host.entries h.ring.head c.controller.ring.tail inside.head (subst (λ (n : ℕ). c.controller.ring.tail < n) share.entries share.side.tail) apart in
+    let here : is_in_range c.controller.entries c.controller.ring.known_head c.controller.ring.tail (next_slot s.host.entries h.ring.head) ≡ true = rw (share.entries, (stands.rings has).heard) fits in
     rw here refl
 
 -- What the host's state of a queue, and an answer that it hears, tell of the controller's queue, where nothing was forged.
 
 -- of the machine's queue at a number
 pub absent_is : (s : Sides) (q : ℕ) (h : HostQueue) (c : ControllerQueue) (b : Bool) → slice_get s.host.host.queues q ≡ Some h → slice_get s.controller.queues q ≡ Some c
-    → is_absent_at (state_of s).device.queues q ≡ b → is_absent c.state ≡ b
-absent_is s q h c b at queue-here is = sym (ap (λ (o : Option DeviceQueue). option_map_or (λ x. is_absent x.state) o true) (device_at s q h c at queue-here)) ∙ is
+    → is_absent_at (state_of s).controller.queues q ≡ b → is_absent c.state ≡ b
+absent_is s q h c b at queue-here is = sym (ap (λ (o : Option ServedQueue). option_map_or (λ x. is_absent x.state) o true) (served_at s q h c at queue-here)) ∙ is
 
 pub completions_is : (s : Sides) (q : ℕ) (h : HostQueue) (c : ControllerQueue) (b : Bool) → slice_get s.host.host.queues q ≡ Some h → slice_get s.controller.queues q ≡ Some c
-    → has_completions_at (state_of s).device.queues q ≡ b → c.cq_there ≡ b
-completions_is s q h c b at queue-here is = sym (ap (λ (o : Option DeviceQueue). option_map_or (λ x. x.cq_there) o false) (device_at s q h c at queue-here)) ∙ is
+    → has_completions_at (state_of s).controller.queues q ≡ b → c.cq_there ≡ b
+completions_is s q h c b at queue-here is = sym (ap (λ (o : Option ServedQueue). option_map_or (λ x. x.cq_there) o false) (served_at s q h c at queue-here)) ∙ is
 
 pub known_absent : (s : Sides) → IsWorld s → s.trusted ≡ true → (q : ℕ) (h : HostQueue) (c : ControllerQueue) → slice_get s.host.host.queues q ≡ Some h → slice_get s.controller.queues q ≡ Some c
     → is_known_deleted h.state ≡ true → is_absent c.state ≡ true
@@ -389,20 +389,20 @@ known_live s world t q h c at queue-here is = absent_is s q h c false at queue-h
 -- What an answer tells that is heard: it counts among the answers
 
 pub record Carries (s : State) (adm : AdminKind) (ok : Bool) : Type 0 where
-  pub answered : (test : AdminKind → Bool) → one_counting (test adm && ok) ≤ answered_well test s.host.records (answering s.device.queues)
-  pub unmade : (test : AdminKind → Bool) → one_counting (test adm && not ok) ≤ unmade test s.host.records (waiting s.device.queues) s.device.jobs (answering s.device.queues)
+  pub answered : (test : AdminKind → Bool) → one_counting (test adm && ok) ≤ completed_well test s.host.records (admin_completions s.controller.queues)
+  pub unmade : (test : AdminKind → Bool) → one_counting (test adm && not ok) ≤ unmade test s.host.records (waiting s.controller.queues) s.controller.jobs (admin_completions s.controller.queues)
 
 pub carried : (s : State) (q cid : ℕ) (st : Status) (e : ComEntry) (r : Record) (adm : AdminKind) → s.trusted ≡ true → SidesAgree s → IsHeard s q cid st e r → r.work ≡ Management adm → Carries s adm (is_success st)
 carried s q cid st e r adm t agree heard w =
     let rs : List Record = s.host.records in
     let at_zero : IsHeard s 0 cid st e r → Carries s adm (is_success st) = λ heard.
-    let an = answer_heard s 0 cid st e r t heard in
-    let first = answering_rest s.device.queues an.answer an.first in
+    let an = completion_heard s 0 cid st e r t heard in
+    let first = admin_completions_rest s.controller.queues an.answer an.first in
     let kind : (test : AdminKind → Bool) → is_kind test rs an.answer.cid ≡ test adm = λ test. ap (is_kind test rs) an.its_id ∙ kind_known test rs cid adm (r, heard.found, w) in
     record {
-      answered = λ test. subst (λ (xs : List Answer). one_counting (test adm && is_success st) ≤ answered_well test rs xs) (sym first)
+      answered = λ test. subst (λ (xs : List PostedCompletion). one_counting (test adm && is_success st) ≤ completed_well test rs xs) (sym first)
           (omega (arith, ap (λ (b : Bool). one_counting (b && is_success an.answer.status)) (kind test), ap (λ (x : Status). one_counting (test adm && is_success x)) an.its_status));
-      unmade = λ test. subst (λ (xs : List Answer). one_counting (test adm && not (is_success st)) ≤ unmade test rs (waiting s.device.queues) s.device.jobs xs) (sym first)
+      unmade = λ test. subst (λ (xs : List PostedCompletion). one_counting (test adm && not (is_success st)) ≤ unmade test rs (waiting s.controller.queues) s.controller.jobs xs) (sym first)
           (omega (arith, ap (λ (b : Bool). one_counting (b && not (is_success an.answer.status))) (kind test), ap (λ (x : Status). one_counting (test adm && not (is_success x))) an.its_status));
     } in
     at_zero (subst (λ (z : ℕ). IsHeard s z cid st e r) (admin_zero s q cid r adm (stood_of s agree).grounds.stands.0 heard.found w) heard)
@@ -412,27 +412,27 @@ named_so : (k : ℕ) (b : Bool) → k < 65536 → b ≡ true → ((k % 65536 == 
 named_so k b l is = ap (λ (x : Bool). x && b) (eq-eqb (k % 65536) k (omega (arith, l))) ∙ is
 
 -- a completion queue that was deleted, or not made, is not queue-here
-pub freed_not_there : (s : State) (k : ℕ) (ok : Bool) → SidesAgree s → k < 65536 → ok ≡ true → Carries s (DeleteCq k) ok → has_completions_at s.device.queues k ≡ false
+pub freed_not_there : (s : State) (k : ℕ) (ok : Bool) → SidesAgree s → k < 65536 → ok ≡ true → Carries s (DeleteCq k) ok → has_completions_at s.controller.queues k ≡ false
 freed_not_there s k ok agree l good says = grind arith
 
-pub unmade_not_there : (s : State) (k n base : ℕ) (ok : Bool) → SidesAgree s → k < 65536 → ok ≡ false → Carries s (CreateCq k n base) ok → has_completions_at s.device.queues k ≡ false
+pub unmade_not_there : (s : State) (k n base : ℕ) (ok : Bool) → SidesAgree s → k < 65536 → ok ≡ false → Carries s (CreateCq k n base) ok → has_completions_at s.controller.queues k ≡ false
 unmade_not_there s k n base ok agree l bad says = grind arith
 
 -- a submission queue that was not made is absent, and one_counting that was made is not
-pub unmade_absent : (s : State) (k n base : ℕ) (ok : Bool) → SidesAgree s → k < 65536 → ok ≡ false → Carries s (CreateSq k n base) ok → is_absent_at s.device.queues k ≡ true
+pub unmade_absent : (s : State) (k n base : ℕ) (ok : Bool) → SidesAgree s → k < 65536 → ok ≡ false → Carries s (CreateSq k n base) ok → is_absent_at s.controller.queues k ≡ true
 unmade_absent s k n base ok agree l bad says = grind arith
 
-pub made_there : (s : State) (k n base : ℕ) (ok : Bool) → SidesAgree s → k < length s.host.queues → ok ≡ true → Carries s (CreateSq k n base) ok → is_absent_at s.device.queues k ≡ false
+pub made_there : (s : State) (k n base : ℕ) (ok : Bool) → SidesAgree s → k < length s.host.queues → ok ≡ true → Carries s (CreateSq k n base) ok → is_absent_at s.controller.queues k ≡ false
 made_there s k n base ok agree l good says = grind arith
 
 -- What a call of the controller makes of the machine's queues, and of the rings and halves, where it changes one of its queues.
 
-pub devices_changed : (m m' : Memory) (q : ℕ) (g : ControllerQueue → ControllerQueue) (k : DeviceQueue → DeviceQueue) (hs : List HostQueue) (cs : List ControllerQueue)
-    → ((h : HostQueue) (c : ControllerQueue) → slice_get hs q ≡ Some h → slice_get cs q ≡ Some c → device_queue_of m' h.ring (g c) ≡ k (device_queue_of m h.ring c))
-    → ((i : ℕ) (h : HostQueue) (c : ControllerQueue) → i ≢ q → slice_get hs i ≡ Some h → slice_get cs i ≡ Some c → device_queue_of m' h.ring c ≡ device_queue_of m h.ring c)
-    → device_queues_of m' hs (change q g cs) ≡ change q k (device_queues_of m hs cs)
-devices_changed m m' q g k hs cs here queue-here =
-    subst (λ (xs : List HostQueue). device_queues_of m' xs (change q g cs) ≡ change q k (device_queues_of m hs cs)) (change-same (λ h. h) (λ h. refl) q hs)
+pub controllers_changed : (m m' : Memory) (q : ℕ) (g : ControllerQueue → ControllerQueue) (k : ServedQueue → ServedQueue) (hs : List HostQueue) (cs : List ControllerQueue)
+    → ((h : HostQueue) (c : ControllerQueue) → slice_get hs q ≡ Some h → slice_get cs q ≡ Some c → served_queue_of m' h.ring (g c) ≡ k (served_queue_of m h.ring c))
+    → ((i : ℕ) (h : HostQueue) (c : ControllerQueue) → i ≢ q → slice_get hs i ≡ Some h → slice_get cs i ≡ Some c → served_queue_of m' h.ring c ≡ served_queue_of m h.ring c)
+    → served_queues_of m' hs (change q g cs) ≡ change q k (served_queues_of m hs cs)
+controllers_changed m m' q g k hs cs here queue-here =
+    subst (λ (xs : List HostQueue). served_queues_of m' xs (change q g cs) ≡ change q k (served_queues_of m hs cs)) (change-same (λ h. h) (λ h. refl) q hs)
     (one_queue m m' q (λ h. h) g k hs cs here queue-here)
 
 pub stands_changed : (n : ℕ) (m m' : Memory) (q : ℕ) (g : ControllerQueue → ControllerQueue) (hs : List HostQueue) (cs : List ControllerQueue)
@@ -456,7 +456,7 @@ still_serves n m q h c st served serves made stands =
     }
 
 -- its submission half is given back: it is absent, and nothing waits
-pub retires_half : (n : ℕ) (m : Memory) (q : ℕ) (h : HostQueue) (c : ControllerQueue) → in_service h.state ≡ true → is_absent c.state ≡ true → h.ring.head ≡ c.device.ring.tail
+pub retires_half : (n : ℕ) (m : Memory) (q : ℕ) (h : HostQueue) (c : ControllerQueue) → in_service h.state ≡ true → is_absent c.state ≡ true → h.ring.head ≡ c.controller.ring.tail
     → QueueStands n m q h c → QueueStands n m q (a.retired h) c
 retires_half n m q h c served absent drained stands =
     let has = reaped_ring h c (served_reaped h.state served) in

@@ -96,10 +96,10 @@ answers_written m cq pages slot page bytes l found whole count =
 
 -- What no event of the host changes.
 
-pub host_image : (s : State) (e : Event) (reply : Reply) → Accepts s e reply → IsController e ≡ false → (a.after s e reply).device.image ≡ s.device.image
+pub host_image : (s : State) (e : Event) (reply : Reply) → Accepts s e reply → IsController e ≡ false → (a.after s e reply).controller.image ≡ s.controller.image
 host_image s e reply ok c = (host_leaves s e reply ok c).image
 
-pub host_jobs : (s : State) (e : Event) (reply : Reply) → Accepts s e reply → IsController e ≡ false → resets e ≡ false → (a.after s e reply).device.jobs ≡ s.device.jobs
+pub host_jobs : (s : State) (e : Event) (reply : Reply) → Accepts s e reply → IsController e ≡ false → resets e ≡ false → (a.after s e reply).controller.jobs ≡ s.controller.jobs
 host_jobs s e reply ok c other = (host_leaves s e reply ok c).jobs other
 
 -- Once something was forged, it stays so until a reset: no other event restores the trust. So where the flag is set, nothing was forged since.

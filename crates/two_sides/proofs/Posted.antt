@@ -8,19 +8,19 @@ use Rattle.entry_codec.specs.{Submission.{FitsSubmission, IsSubEntry, command_wo
 use Rattle.entry_codec.specs.declared.submission.SubEntry.{SubEntry}
 use Rattle.io_commands.{proofs.Building.carries_entry, specs.Drafts.{DraftContents, draft_first}}
 use Rattle.machine_model.specs.{Memory.memory_of, Proper.IsProperDraft, Refusals.{slot_page, slot_offset}}
-use Rattle.machine_model.specs.State.{HostQueue, DeviceQueue}
+use Rattle.machine_model.specs.State.{HostQueue, ServedQueue}
 use Rattle.sgl_descriptor.specs.{Spelling.{spelling, descriptor_bytes}, declared.Descriptor.Descriptor}
 use Rattle.sgl_descriptor.specs.declared.Descriptor.TheVariants.{DataBlock, BitBucket, Segment, LastSegment}
 use Rattle.controller_core.specs.{Managing.with_taken, declared.queue.ControllerQueue.ControllerQueue}
 use Rattle.host_core.proofs.PageOwners.{among-from}
 use Rattle.two_sides.proofs.Frames.{Spares, SparesQueue, SparesSubmitted, apart_from_queues, halves_apart, one_queue, one_stands, own_halves_apart, queue_stays, rings_stay, stands_still, unchanged, walks_stay, IsKnown, known, queue_ring}
 use Rattle.two_sides.proofs.{Places.in_ring, PoolBytes.{entry_pages, entries_written}, Untouched.bytes_elsewhere}
-use Rattle.two_sides.specs.Sides.{Sides, answer_of, completions_between, device_queue_of, device_queues_of, present, unfetched_between}
+use Rattle.two_sides.specs.Sides.{Sides, posted_completion, completions_between, served_queue_of, served_queues_of, present, unfetched_between}
 use Rattle.two_sides.specs.Ties.{AllQueuesStand, HeadsFollow, IsWorld, QueueStands, RingsStand, WalksStand, has_ring, ShareQueue}
 use Rattle.page_ledger.specs.Owners.{is_among}
 use Rattle.page_memory.specs.{Memory.written, Pages.{AreWhole, Pages, byte_at, page_at, with_page_bytes}}
 use Rattle.page_memory.specs.declared.page.Half.TheVariants.{Submission, Completion}
-use Rattle.queue_pair.proofs.Halves.{answers_agree, phases_agree, submission_there, pages_agree}
+use Rattle.queue_pair.proofs.Halves.{posted_agree, phases_agree, submission_there, pages_agree}
 use Rattle.queue_pair.proofs.Rings.{entries_posted, room, entries_pop, distance_grows, in_range_below, in_range_near, room_ahead, next_below, distance_none, distance_shrinks, distance_parts}
 use Rattle.queue_pair.specs.{Halves.Agree, Lists.entries_between, Members.change}
 use Rattle.queue_pair.specs.{Memory.{half_pages, submission_page, submission_place, entry_at, submission_slot}, Rings.next_tail}
@@ -116,7 +116,7 @@ admin_typed kind cid id named qualified =
 abbrev pub tail_moved : ℕ → HostQueue → HostQueue
 tail_moved n queue = record queue { ring = next_tail n queue.ring }
 
-abbrev pub with_entry : SubEntry → DeviceQueue → DeviceQueue
+abbrev pub with_entry : SubEntry → ServedQueue → ServedQueue
 with_entry entry at = record at { unfetched = at.unfetched ++ entry ∷ [] }
 
 -- the memory with the entry in the slot at the tail
@@ -178,35 +178,35 @@ module _ (s : Sides) (mid : Pages) (q : ℕ) (h : HostQueue) (c : ControllerQueu
   has : has_ring h c ≡ true
   has = queue_ring s q h c knows can.there
 
-  tail_below : h.ring.tail < c.device.entries
+  tail_below : h.ring.tail < c.controller.entries
   tail_below = omega (arith, knows.placed.share.entries, knows.placed.ring.tail)
 
   -- the slot's page is one of the submission half
-  page_is : slot_page h.sq_pages 64 h.ring.tail ≡ submission_page c.device.sq h.ring.tail
+  page_is : slot_page h.sq_pages 64 h.ring.tail ≡ submission_page c.controller.sq h.ring.tail
   page_is =
       ap (λ (ps : List ℕ). slot_page ps 64 h.ring.tail) (knows.submission can.there)
-      ∙ entry_pages c.device.sq (half_pages s.host.entries Submission) h.ring.tail (omega (arith, knows.placed.ring.tail))
+      ∙ entry_pages c.controller.sq (half_pages s.host.entries Submission) h.ring.tail (omega (arith, knows.placed.ring.tail))
 
   own_page : is_among h.sq_pages (slot_page h.sq_pages 64 h.ring.tail) ≡ true
   own_page =
       rw (page_is, knows.submission can.there)
-      (among-from c.device.sq (half_pages s.host.entries Submission) (h.ring.tail / 64) (omega (arith, knows.placed.ring.tail)))
+      (among-from c.controller.sq (half_pages s.host.entries Submission) (h.ring.tail / 64) (omega (arith, knows.placed.ring.tail)))
 
   pub elsewhere : (p : ℕ) → is_among h.sq_pages p ≡ false → page_at new p ≡ page_at mid p
   elsewhere p out =
       bytes_elsewhere mid (slot_page h.sq_pages 64 h.ring.tail) p (slot_offset 64 h.ring.tail) (submission_bytes entry)
       (λ same. true≢false (sym own_page ∙ ap (is_among h.sq_pages) same ∙ out))
 
-  written_there : byte_at new ≡ written (byte_at mid) (submission_place c.device.sq h.ring.tail) (submission_bytes entry)
+  written_there : byte_at new ≡ written (byte_at mid) (submission_place c.controller.sq h.ring.tail) (submission_bytes entry)
   written_there =
-      let p : ℕ = submission_page c.device.sq h.ring.tail in
+      let p : ℕ = submission_page c.controller.sq h.ring.tail in
       let many : ℕ = half_pages s.host.entries Submission in
       let l = knows.placed.ring.tail in
-      let at : 4096 * c.device.sq + 4096 * (h.ring.tail / 64) ≡ 4096 * p + 0 = omega arith in
+      let at : 4096 * c.controller.sq + 4096 * (h.ring.tail / 64) ≡ 4096 * p + 0 = omega arith in
       let found = page_of_byte s.pages p (subst (λ (place : ℕ). IsSome (byte_at s.pages place)) at ((knows.submission_in can.there).there (4096 * (h.ring.tail / 64)) (omega (arith, l)))) in
       let brought : page_at mid p ≡ Some found.0 = (can.spares q h can.at).submission p (subst (λ (k : ℕ). is_among h.sq_pages k ≡ true) page_is own_page) ∙ found.1 in
       ap (λ (ps : List ℕ). byte_at (with_page_bytes mid (slot_page ps 64 h.ring.tail) (slot_offset 64 h.ring.tail) (submission_bytes entry))) (knows.submission can.there)
-      ∙ entries_written mid c.device.sq many h.ring.tail found.0 (submission_bytes entry) (omega (arith, l)) brought (is_whole mid p found.0 can.whole brought) (submission_length entry can.is.typed)
+      ∙ entries_written mid c.controller.sq many h.ring.tail found.0 (submission_bytes entry) (omega (arith, l)) brought (is_whole mid p found.0 can.whole brought) (submission_length entry can.is.typed)
 
   -- the halves of another queue, and the completion half of this one, stay
   spares_other : (k : ℕ) (x : HostQueue) → k ≢ q → slice_get s.host.host.queues k ≡ Some x → SparesQueue s.pages new x
@@ -220,13 +220,13 @@ module _ (s : Sides) (mid : Pages) (q : ℕ) (h : HostQueue) (c : ControllerQueu
   not_submission p false e among = refl
   not_submission p true e among = absurd (true≢false (sym among ∙ own_halves_apart s can.world q h p can.at e))
 
-  completions_agree : Agree (byte_at mid) (byte_at new) c.device.cq (half_pages c.device.entries Completion)
+  completions_agree : Agree (byte_at mid) (byte_at new) c.controller.cq (half_pages c.controller.entries Completion)
   completions_agree =
       let many : ℕ = half_pages s.host.entries Completion in
-      let own : (k : ℕ) → k < many → is_among h.cq_pages (c.device.cq + k) ≡ true =
-      λ k l. subst (λ (ps : List ℕ). is_among ps (c.device.cq + k) ≡ true) (sym (knows.completion has)) (among-from c.device.cq many k l) in
-      subst (λ (n : ℕ). Agree (byte_at mid) (byte_at new) c.device.cq (half_pages n Completion)) (sym knows.placed.share.entries)
-      (pages_agree mid new c.device.cq many (λ k l. sym (elsewhere (c.device.cq + k) (not_submission (c.device.cq + k) _ refl (own k l)))))
+      let own : (k : ℕ) → k < many → is_among h.cq_pages (c.controller.cq + k) ≡ true =
+      λ k l. subst (λ (ps : List ℕ). is_among ps (c.controller.cq + k) ≡ true) (sym (knows.completion has)) (among-from c.controller.cq many k l) in
+      subst (λ (n : ℕ). Agree (byte_at mid) (byte_at new) c.controller.cq (half_pages n Completion)) (sym knows.placed.share.entries)
+      (pages_agree mid new c.controller.cq many (λ k l. sym (elsewhere (c.controller.cq + k) (not_submission (c.controller.cq + k) _ refl (own k l)))))
 
   pub post_walks : SparesSubmitted s mid → WalksStand (memory_of new) s.controller.commands
   post_walks spares =
@@ -234,37 +234,37 @@ module _ (s : Sides) (mid : Pages) (q : ℕ) (h : HostQueue) (c : ControllerQueu
       (λ i r at submitted p among. elsewhere p (apart_from_queues s can.world q i h r p can.at at among).0 ∙ spares i r at submitted p among)
 
   -- the machine's queue has the entry
-  room_behind : is_full c.device.entries c.device.ring.head h.ring.tail ≡ false
+  room_behind : is_full c.controller.entries c.controller.ring.head h.ring.tail ≡ false
   room_behind =
       let n = knows.placed.share.entries in
-      room_ahead c.device.entries h.ring.known_head c.device.ring.head h.ring.tail (omega (arith, n, knows.placed.ring.known_head)) tail_below (knows.rings has).fetched
+      room_ahead c.controller.entries h.ring.known_head c.controller.ring.head h.ring.tail (omega (arith, n, knows.placed.ring.known_head)) tail_below (knows.rings has).fetched
       (subst (λ (k : ℕ). is_full k h.ring.known_head h.ring.tail ≡ false) (sym n) can.room)
 
-  completions_stay : completions_between (byte_at new) h.ring c.device ≡ completions_between (byte_at mid) h.ring c.device
+  completions_stay : completions_between (byte_at new) h.ring c.controller ≡ completions_between (byte_at mid) h.ring c.controller
   completions_stay =
-      ap present (sym (answers_agree (byte_at mid) (byte_at new) c.device.cq c.device.entries h.ring.head c.device.ring.tail
+      ap present (sym (posted_agree (byte_at mid) (byte_at new) c.controller.cq c.controller.entries h.ring.head c.controller.ring.tail
       completions_agree (omega (arith, knows.placed.share.entries, knows.placed.ring.head))))
 
-  unfetched_grow : unfetched_between (byte_at new) (next_tail s.host.entries h.ring) c.device ≡ unfetched_between (byte_at mid) h.ring c.device ++ entry ∷ []
+  unfetched_grow : unfetched_between (byte_at new) (next_tail s.host.entries h.ring) c.controller ≡ unfetched_between (byte_at mid) h.ring c.controller ++ entry ∷ []
   unfetched_grow =
-      let device = c.device in
+      let controller = c.controller in
       let n = s.host.entries in
-      ap present (entries_posted (byte_at mid) (byte_at new) device.sq n h.ring.tail (next_slot n h.ring.tail) (submission_place device.sq h.ring.tail) (submission_bytes entry) entry device
+      ap present (entries_posted (byte_at mid) (byte_at new) controller.sq n h.ring.tail (next_slot n h.ring.tail) (submission_place controller.sq h.ring.tail) (submission_bytes entry) entry controller
       written_there refl refl (submission_length entry can.is.typed) (round_trip entry can.is.typed can.is.fits) refl (sym knows.placed.share.entries) knows.placed.ring.tail knows.placed.share.side.head room_behind)
-      ∙ present_append (entries_between (byte_at mid) device.sq device.entries device.ring.head h.ring.tail) (Some entry ∷ [])
+      ∙ present_append (entries_between (byte_at mid) controller.sq controller.entries controller.ring.head h.ring.tail) (Some entry ∷ [])
 
-  queue_posted : device_queue_of (byte_at new) (next_tail s.host.entries h.ring) c ≡ with_entry entry (device_queue_of (byte_at s.pages) h.ring c)
+  queue_posted : served_queue_of (byte_at new) (next_tail s.host.entries h.ring) c ≡ with_entry entry (served_queue_of (byte_at s.pages) h.ring c)
   queue_posted =
       ap₂ seen unfetched_grow completions_stay ∙ rw can.there refl
       ∙ ap (with_entry entry) (queue_stays s mid q h c knows (can.spares q h can.at))
     where
-      seen : List SubEntry → List ComEntry → DeviceQueue
+      seen : List SubEntry → List ComEntry → ServedQueue
       seen es cs = record {
         state = c.state;
         cq_there = c.cq_there;
         unfetched = if is_absent c.state then [] else es;
-        rung = if is_absent c.state then 0 else distance c.device.entries c.device.ring.head c.device.ring.bell;
-        answers = if c.cq_there then map answer_of cs else [];
+        rung = if is_absent c.state then 0 else distance c.controller.entries c.controller.ring.head c.controller.ring.bell;
+        completions = if c.cq_there then map posted_completion cs else [];
       }
 
   -- its rings stand
@@ -272,18 +272,18 @@ module _ (s : Sides) (mid : Pages) (q : ℕ) (h : HostQueue) (c : ControllerQueu
   rings_posted =
       let stands = rings_stay s mid q h c knows (can.spares q h can.at) has in
       let n = knows.placed.share.entries in
-      let known_below : h.ring.known_head < c.device.entries = omega (arith, n, knows.placed.ring.known_head) in
-      let known_room : is_full c.device.entries h.ring.known_head h.ring.tail ≡ false = subst (λ (k : ℕ). is_full k h.ring.known_head h.ring.tail ≡ false) (sym n) can.room in
+      let known_below : h.ring.known_head < c.controller.entries = omega (arith, n, knows.placed.ring.known_head) in
+      let known_room : is_full c.controller.entries h.ring.known_head h.ring.tail ≡ false = subst (λ (k : ℕ). is_full k h.ring.known_head h.ring.tail ≡ false) (sym n) can.room in
       record {
-        fetched = subst (λ (k : ℕ). is_in_range c.device.entries h.ring.known_head (next_slot k h.ring.tail) c.device.ring.head ≡ true) n
-            (range_grows c.device.entries h.ring.known_head h.ring.tail c.device.ring.head known_below tail_below stands.fetched known_room);
-        rung = subst (λ (k : ℕ). is_in_range c.device.entries c.device.ring.head (next_slot k h.ring.tail) c.device.ring.bell ≡ true) n
-            (range_grows c.device.entries c.device.ring.head h.ring.tail c.device.ring.bell knows.placed.share.side.head tail_below stands.rung room_behind);
+        fetched = subst (λ (k : ℕ). is_in_range c.controller.entries h.ring.known_head (next_slot k h.ring.tail) c.controller.ring.head ≡ true) n
+            (range_grows c.controller.entries h.ring.known_head h.ring.tail c.controller.ring.head known_below tail_below stands.fetched known_room);
+        rung = subst (λ (k : ℕ). is_in_range c.controller.entries c.controller.ring.head (next_slot k h.ring.tail) c.controller.ring.bell ≡ true) n
+            (range_grows c.controller.entries c.controller.ring.head h.ring.tail c.controller.ring.bell knows.placed.share.side.head tail_below stands.rung room_behind);
         heard = stands.heard;
         expected = stands.expected;
-        phases = phases_agree (byte_at mid) (byte_at new) c.device.cq c.device.entries c.device.ring.tail c.device.ring.phase completions_agree stands.phases;
+        phases = phases_agree (byte_at mid) (byte_at new) c.controller.cq c.controller.entries c.controller.ring.tail c.controller.ring.phase completions_agree stands.phases;
         owned = subst (λ (xs : List ComEntry). AllByRecursion (λ x. x.sqid ≡ q) xs) (sym completions_stay) stands.owned;
-        follow = subst (λ (xs : List ComEntry). HeadsFollow c.device.entries h.ring.known_head c.device.ring.head xs) (sym completions_stay) stands.follow;
+        follow = subst (λ (xs : List ComEntry). HeadsFollow c.controller.entries h.ring.known_head c.controller.ring.head xs) (sym completions_stay) stands.follow;
         drained = stands.drained;
       }
 
@@ -302,14 +302,14 @@ module _ (s : Sides) (mid : Pages) (q : ℕ) (h : HostQueue) (c : ControllerQueu
       let k : Some c ≡ Some y = sym can.beside ∙ f in
       (cc, cc)
 
-  pub post_queues : device_queues_of (byte_at new) (change q (tail_moved s.host.entries) s.host.host.queues) s.controller.queues
-      ≡ change q (with_entry entry) (device_queues_of (byte_at s.pages) s.host.host.queues s.controller.queues)
+  pub post_queues : served_queues_of (byte_at new) (change q (tail_moved s.host.entries) s.host.host.queues) s.controller.queues
+      ≡ change q (with_entry entry) (served_queues_of (byte_at s.pages) s.host.host.queues s.controller.queues)
   post_queues =
-      ap (device_queues_of (byte_at new) (change q (tail_moved s.host.entries) s.host.host.queues)) (sym (unchanged q s.controller.queues))
+      ap (served_queues_of (byte_at new) (change q (tail_moved s.host.entries) s.host.host.queues)) (sym (unchanged q s.controller.queues))
       ∙ one_queue (byte_at s.pages) (byte_at new) q (tail_moved s.host.entries) (λ y. y) (with_entry entry) s.host.host.queues s.controller.queues
       (λ x y e f. let same = this x y e f in
-      subst (λ (y : ControllerQueue). device_queue_of (byte_at new) (next_tail s.host.entries x.ring) y ≡ with_entry entry (device_queue_of (byte_at s.pages) x.ring y)) same.1
-      (subst (λ (x : HostQueue). device_queue_of (byte_at new) (next_tail s.host.entries x.ring) c ≡ with_entry entry (device_queue_of (byte_at s.pages) x.ring c)) same.0 queue_posted))
+      subst (λ (y : ControllerQueue). served_queue_of (byte_at new) (next_tail s.host.entries x.ring) y ≡ with_entry entry (served_queue_of (byte_at s.pages) x.ring y)) same.1
+      (subst (λ (x : HostQueue). served_queue_of (byte_at new) (next_tail s.host.entries x.ring) c ≡ with_entry entry (served_queue_of (byte_at s.pages) x.ring c)) same.0 queue_posted))
       (λ k x y far e f. queue_stays s new k x y (known s can.world can.trusted k x y e f) (spares_other k x far e))
 
   pub post_stands : AllQueuesStand s.host.entries (byte_at new) zero (change q (tail_moved s.host.entries) s.host.host.queues) s.controller.queues
@@ -346,7 +346,7 @@ heads_on n from to (e ∷ es) f t last h =
 pub record CanTake (s : Sides) (q : ℕ) (h : HostQueue) (c : ControllerQueue) : Type 0 where
   pub known : IsKnown s q h c
   pub live : is_live c.state ≡ true
-  pub rung : c.device.ring.head ≢ c.device.ring.bell
+  pub rung : c.controller.ring.head ≢ c.controller.ring.bell
 
 pub not_absent : (sq : SqState) → is_live sq ≡ true → is_absent sq ≡ false
 not_absent sq e = grind arith
@@ -355,54 +355,54 @@ not_absent sq e = grind arith
 rings_of : (s : Sides) (q : ℕ) (h : HostQueue) (c : ControllerQueue) → CanTake s q h c → RingsStand (byte_at s.pages) q h c
 rings_of s q h c can = can.known.rings (queue_ring s q h c can.known (not_absent c.state can.live))
 
-some_left : (s : Sides) (q : ℕ) (h : HostQueue) (c : ControllerQueue) → CanTake s q h c → c.device.ring.head ≢ h.ring.tail
+some_left : (s : Sides) (q : ℕ) (h : HostQueue) (c : ControllerQueue) → CanTake s q h c → c.controller.ring.head ≢ h.ring.tail
 some_left s q h c can =
     let side = can.known.placed.share.side in
-    not_taken c.device.entries c.device.ring.head c.device.ring.bell h.ring.tail side.head side.bell (rings_of s q h c can).rung can.rung
+    not_taken c.controller.entries c.controller.ring.head c.controller.ring.bell h.ring.tail side.head side.bell (rings_of s q h c can).rung can.rung
 
-pub entry_there : (s : Sides) (q : ℕ) (h : HostQueue) (c : ControllerQueue) → CanTake s q h c → (e : SubEntry) × (entry_at (byte_at s.pages) c.device.sq c.device.ring.head ≡ Some e)
+pub entry_there : (s : Sides) (q : ℕ) (h : HostQueue) (c : ControllerQueue) → CanTake s q h c → (e : SubEntry) × (entry_at (byte_at s.pages) c.controller.sq c.controller.ring.head ≡ Some e)
 entry_there s q h c can =
     let placed = can.known.placed in
-    go (submission_slot (byte_at s.pages) c.device.sq c.device.ring.head) refl
-    (submission_there (byte_at s.pages) c.device.sq s.host.entries c.device.ring.head (can.known.submission_in (not_absent c.state can.live)) (omega (arith, placed.share.entries, placed.share.side.head)))
+    go (submission_slot (byte_at s.pages) c.controller.sq c.controller.ring.head) refl
+    (submission_there (byte_at s.pages) c.controller.sq s.host.entries c.controller.ring.head (can.known.submission_in (not_absent c.state can.live)) (omega (arith, placed.share.entries, placed.share.side.head)))
   where
-    go : (o : Option (List ℕ)) → submission_slot (byte_at s.pages) c.device.sq c.device.ring.head ≡ o → IsSome o → (e : SubEntry) × (entry_at (byte_at s.pages) c.device.sq c.device.ring.head ≡ Some e)
+    go : (o : Option (List ℕ)) → submission_slot (byte_at s.pages) c.controller.sq c.controller.ring.head ≡ o → IsSome o → (e : SubEntry) × (entry_at (byte_at s.pages) c.controller.sq c.controller.ring.head ≡ Some e)
     go None e some = cc
     go (Some bytes) e some = (submission_of bytes, ap (option_map submission_of) e)
 
-pub entries_first : (s : Sides) (q : ℕ) (h : HostQueue) (c : ControllerQueue) (e : SubEntry) → CanTake s q h c → entry_at (byte_at s.pages) c.device.sq c.device.ring.head ≡ Some e
-    → unfetched_between (byte_at s.pages) h.ring c.device ≡ e ∷ unfetched_between (byte_at s.pages) h.ring (with_taken c).device
+pub entries_first : (s : Sides) (q : ℕ) (h : HostQueue) (c : ControllerQueue) (e : SubEntry) → CanTake s q h c → entry_at (byte_at s.pages) c.controller.sq c.controller.ring.head ≡ Some e
+    → unfetched_between (byte_at s.pages) h.ring c.controller ≡ e ∷ unfetched_between (byte_at s.pages) h.ring (with_taken c).controller
 entries_first s q h c e can at =
-    ap present (entries_pop (byte_at s.pages) c.device.sq c.device.entries c.device.ring.head h.ring.tail can.known.placed.share.side.head (in_ring s q h c can.known).tail (some_left s q h c can))
-    ∙ ap (λ (o : Option SubEntry). present (o ∷ entries_between (byte_at s.pages) c.device.sq c.device.entries (next_slot c.device.entries c.device.ring.head) h.ring.tail)) at
+    ap present (entries_pop (byte_at s.pages) c.controller.sq c.controller.entries c.controller.ring.head h.ring.tail can.known.placed.share.side.head (in_ring s q h c can.known).tail (some_left s q h c can))
+    ∙ ap (λ (o : Option SubEntry). present (o ∷ entries_between (byte_at s.pages) c.controller.sq c.controller.entries (next_slot c.controller.entries c.controller.ring.head) h.ring.tail)) at
 
 -- the machine's queue has one entry less
 pub taken_seen : (s : Sides) (q : ℕ) (h : HostQueue) (c : ControllerQueue) → CanTake s q h c
-    → device_queue_of (byte_at s.pages) h.ring (with_taken c)
-    ≡ record (device_queue_of (byte_at s.pages) h.ring c) { unfetched = drop 1 (device_queue_of (byte_at s.pages) h.ring c).unfetched; rung = (device_queue_of (byte_at s.pages) h.ring c).rung - 1 }
+    → served_queue_of (byte_at s.pages) h.ring (with_taken c)
+    ≡ record (served_queue_of (byte_at s.pages) h.ring c) { unfetched = drop 1 (served_queue_of (byte_at s.pages) h.ring c).unfetched; rung = (served_queue_of (byte_at s.pages) h.ring c).rung - 1 }
 taken_seen s q h c can =
     let m = byte_at s.pages in
-    let n = c.device.entries in
-    let ring = c.device.ring in
+    let n = c.controller.entries in
+    let ring = c.controller.ring in
     let side = can.known.placed.share.side in
     let (e, at) = entry_there s q h c can in
     let less : distance n (next_slot n ring.head) ring.bell ≡ distance n ring.head ring.bell - 1 = omega (arith, distance_shrinks n ring.head ring.bell side.head side.bell can.rung) in
-    by (is_absent c.state) (unfetched_between m h.ring (with_taken c).device) (unfetched_between m h.ring c.device) (distance n (next_slot n ring.head) ring.bell) (distance n ring.head ring.bell)
+    by (is_absent c.state) (unfetched_between m h.ring (with_taken c).controller) (unfetched_between m h.ring c.controller) (distance n (next_slot n ring.head) ring.bell) (distance n ring.head ring.bell)
     (not_absent c.state can.live) (ap (drop 1) (sym (entries_first s q h c e can at))) less
   where
     by : (b : Bool) (us vs : List SubEntry) (k l : ℕ) → b ≡ false → us ≡ drop 1 vs → k ≡ l - 1
-        → record (device_queue_of (byte_at s.pages) h.ring c) { unfetched = if b then [] else us; rung = if b then 0 else k }
-        ≡ record (device_queue_of (byte_at s.pages) h.ring c) { unfetched = drop 1 (if b then [] else vs); rung = (if b then 0 else l) - 1 }
+        → record (served_queue_of (byte_at s.pages) h.ring c) { unfetched = if b then [] else us; rung = if b then 0 else k }
+        ≡ record (served_queue_of (byte_at s.pages) h.ring c) { unfetched = drop 1 (if b then [] else vs); rung = (if b then 0 else l) - 1 }
     by true us vs k l b e f = absurd (true≢false b)
-    by false us vs k l b e f = ap₂ (λ (xs : List SubEntry) (r : ℕ). record (device_queue_of (byte_at s.pages) h.ring c) { unfetched = xs; rung = r }) e f
+    by false us vs k l b e f = ap₂ (λ (xs : List SubEntry) (r : ℕ). record (served_queue_of (byte_at s.pages) h.ring c) { unfetched = xs; rung = r }) e f
 
 -- and its rings stand
 taken_rings : (s : Sides) (q : ℕ) (h : HostQueue) (c : ControllerQueue) → CanTake s q h c → RingsStand (byte_at s.pages) q h (with_taken c)
 taken_rings s q h c can =
     let old = rings_of s q h c can in
     let side = can.known.placed.share.side in
-    let n = c.device.entries in
-    let ring = c.device.ring in
+    let n = c.controller.entries in
+    let ring = c.controller.ring in
     let is = in_ring s q h c can.known in
     let left = some_left s q h c can in
     record {
@@ -421,7 +421,7 @@ taken_rings s q h c can =
       expected = old.expected;
       phases = old.phases;
       owned = old.owned;
-      follow = heads_on n h.ring.known_head ring.head (completions_between (byte_at s.pages) h.ring c.device) is.known_head side.head
+      follow = heads_on n h.ring.known_head ring.head (completions_between (byte_at s.pages) h.ring c.controller) is.known_head side.head
           (not_last n h.ring.known_head ring.head h.ring.tail is.known_head side.head is.tail old.fetched left) old.follow;
       drained = old.drained;
     }
@@ -439,7 +439,7 @@ taken_shares n i h c share =
       side = record {
         least = share.side.least;
         most = share.side.most;
-        head = next_below c.device.entries c.device.ring.head share.side.head;
+        head = next_below c.controller.entries c.controller.ring.head share.side.head;
         bell = share.side.bell;
         tail = share.side.tail;
         known_head = share.side.known_head;

@@ -10,7 +10,7 @@ use Rattle.machine_model.proofs.{Moves.{IsOf, draft_found, draft_lives, queue_fo
 use Rattle.machine_model.specs.{After.after, Agreeing.is_known_deleted, Always.IsProvided, Events.{Event, Reply}}
 use Rattle.machine_model.specs.{Memory.{memory_of, with_pages}, Placement.first_of_run, Proper.IsProperDraft}
 use Rattle.machine_model.specs.Refusals.{has_cq, host_queue, in_service, in_state, is_drafted, is_live, is_submitted, queue_full, refusal_of, is_gone, is_half_made, is_making}
-use Rattle.machine_model.specs.{State.{Device, HostQueue, Record, State, is_at, pages_of, record_at, with_record}, Step.{HostPart, LeavesByHost, Permits}}
+use Rattle.machine_model.specs.{State.{Controller, HostQueue, Record, State, is_at, pages_of, record_at, with_record}, Step.{HostPart, LeavesByHost, Permits}}
 use Rattle.machine_model.specs.declared.words.HostState.{HostState, TheVariants.{Deleting, MakingSq}}
 use Rattle.admin_commands.specs.{Entries.{admin_entry, named_by, qualified_by}, Verdicts.is_absent, declared.AdminKind.AdminKind}
 use Rattle.admin_commands.specs.declared.AdminKind.TheVariants.{Abort, DeleteSq, DeleteCq, CreateCq, CreateSq}
@@ -24,7 +24,7 @@ use Rattle.two_sides.proofs.Granting.{granted_pool, granted_spares, granted_subm
 use Rattle.two_sides.proofs.Places.{known_live, known_absent, known_gone}
 use Rattle.two_sides.proofs.Posted.{CanPost, post_queues, post_stands, post_walks, slot_written, tail_moved, with_entry, elsewhere, IsTyped, admin_typed, draft_typed}
 use Rattle.two_sides.specs.Hearing.heard
-use Rattle.two_sides.specs.Sides.{Sides, state_of, device_of, device_queue_of, device_queues_of, job_of}
+use Rattle.two_sides.specs.Sides.{Sides, state_of, controller_part, served_queue_of, served_queues_of, job_of}
 use Rattle.two_sides.specs.Ties.{AllQueuesStand, IsWorld, QueueStands, WalksStand, RingsStand, first_completion_page}
 use Rattle.page_ledger.specs.Owners.{is_among, pages_from}
 use Rattle.page_memory.specs.{Memory.Memory, Pages.{IsWhole, Pages, byte_at, page_at}, declared.page.Half.TheVariants.{Submission, Completion}}
@@ -66,18 +66,18 @@ room_found s q free = elim (option_is (host_queue s q)) [
 
 -- of any state
 after_posts : (q : ℕ) (entry : SubEntry) (h : HostQueue) (x : State) → host_queue x q ≡ Some h
-    → a.posted q entry x ≡ a.on_ring q (next_tail x.entries) (a.on_device_queue q (with_entry entry) (a.on_memory (slot_written h entry) x))
+    → a.posted q entry x ≡ a.on_ring q (next_tail x.entries) (a.on_served_queue q (with_entry entry) (a.on_memory (slot_written h entry) x))
 after_posts q entry h x at = grind arith
 
 -- A call leaves these queues of the host, and the entry posted over a memory.
 record Posts (s : Sides) (e : Event) (reply : Reply) (q : ℕ) (h : HostQueue) (entry : SubEntry) (mid : Pages) (hs : List HostQueue) : Type 0 where
   queues : (after (alone s.host s.pages) e reply).host.queues ≡ hs
   memory : (after (alone s.host s.pages) e reply).memory ≡ slot_written h entry mid
-  device : (after (state_of s) e reply).device ≡ record (device_of s) { queues = change q (with_entry entry) (device_of s).queues }
+  controller : (after (state_of s) e reply).controller ≡ record (controller_part s) { queues = change q (with_entry entry) (controller_part s).queues }
 
 -- Other queues of the host, which show the machine the same over a memory, and stand where those do.
 record StaysAlike (n : ℕ) (m : Memory) (cs : List ControllerQueue) (hs hs' : List HostQueue) : Type 0 where
-  lists : device_queues_of m hs' cs ≡ device_queues_of m hs cs
+  lists : served_queues_of m hs' cs ≡ served_queues_of m hs cs
   stands : AllQueuesStand n m zero hs cs → AllQueuesStand n m zero hs' cs
 
 -- a call that posts an entry, of which the controller hears nothing
@@ -87,15 +87,15 @@ ties : (s : Sides) (e : Event) (reply : Reply) (host : HostView) (pages mid : Pa
     → Posts s e reply q h entry mid hs → StaysAlike s.host.entries (byte_at (slot_written h entry mid)) s.controller.queues (change q (tail_moved s.host.entries) s.host.host.queues) hs
     → Ties s e reply host pages
 ties s e reply host pages mid q h c entry hs can spares permits unheard leaves posts stays =
-    let shown : Pages → List HostQueue → Contents → Device = λ ps xs k. record { queues = device_queues_of (byte_at ps) xs k.queues; jobs = map job_of k.commands; image = k.image } in
+    let shown : Pages → List HostQueue → Contents → Controller = λ ps xs k. record { queues = served_queues_of (byte_at ps) xs k.queues; jobs = map job_of k.commands; image = k.image } in
     let new : Pages = slot_written h entry mid in
     let queues : host.host.queues ≡ hs = ap (λ (part : HostPart). part.host.queues) leaves.part ∙ posts.queues in
     let memory : pages ≡ new = leaves.memory ∙ posts.memory in
     record {
       permits = permits;
-      device = ap (shown pages host.host.queues) unheard
+      controller = ap (shown pages host.host.queues) unheard
           ∙ (ap₂ (λ (ps : Pages) (xs : List HostQueue). shown ps xs s.controller) memory queues
-          ∙ (ap (λ qs. record (device_of s) { queues = qs }) (stays.lists ∙ post_queues s mid q h c entry can) ∙ sym posts.device));
+          ∙ (ap (λ qs. record (controller_part s) { queues = qs }) (stays.lists ∙ post_queues s mid q h c entry can) ∙ sym posts.controller));
       queues = subst (λ (k : Contents). AllQueuesStand s.host.entries (byte_at pages) zero host.host.queues k.queues) (sym unheard)
           (subst (λ (xs : List HostQueue). AllQueuesStand s.host.entries (byte_at pages) zero xs s.controller.queues) (sym queues)
           (subst (λ (ps : Pages). AllQueuesStand s.host.entries (byte_at ps) zero hs s.controller.queues) (sym memory) (stays.stands (post_stands s mid q h c entry can))));
@@ -154,12 +154,12 @@ submitted_posts : (s : Sides) (d : DraftContents) (entry : SubEntry) (h : HostQu
     → Posts s (events.Submit d) events.Accepted d.q h entry (brought s d) (change d.q (tail_moved s.host.entries) s.host.host.queues)
 submitted_posts s d entry h built at =
     let marked : State → State = λ x. a.on_records (with_record d.q d.cid a.submitted) (a.on_memory (with_pages (d.data_pages ++ d.chain_pages)) x) in
-    let leaves : (x : State) → host_queue x d.q ≡ Some h → a.after_submit d x ≡ a.on_ring d.q (next_tail x.entries) (a.on_device_queue d.q (with_entry entry) (a.on_memory (slot_written h entry) (marked x))) = λ x at.
+    let leaves : (x : State) → host_queue x d.q ≡ Some h → a.after_submit d x ≡ a.on_ring d.q (next_tail x.entries) (a.on_served_queue d.q (with_entry entry) (a.on_memory (slot_written h entry) (marked x))) = λ x at.
     ap (λ (o : Option SubEntry). option_map_or (λ e. a.posted d.q e (marked x)) o x) built ∙ after_posts d.q entry h (marked x) at in
     record {
       queues = ap (λ (x : State). x.host.queues) (leaves (alone s.host s.pages) at);
       memory = ap (λ (x : State). x.memory) (leaves (alone s.host s.pages) at);
-      device = ap (λ (x : State). x.device) (leaves (state_of s) at);
+      controller = ap (λ (x : State). x.controller) (leaves (state_of s) at);
     }
 
 pub submit_ties : (s : Sides) (d : DraftContents) (host : HostView) (pages : Pages) → IsWorld s → s.trusted ≡ true → HostStep s.host s.pages (events.Submit d) events.Accepted host pages
@@ -198,7 +198,7 @@ sent_ties : (s : Sides) (e : Event) (kind : AdminKind) (id : ℕ) (host : HostVi
 sent_ties s e kind id host pages g world t free new named qualified is permits unheard leaves stays =
     let noted : State → State = λ x. a.on_records (λ records. records ++ sent_record kind id ∷ []) x in
     let posts : (h : HostQueue) (x : State) → host_queue x 0 ≡ Some h
-    → a.sent kind id (admin_entry kind id) x ≡ a.on_ring 0 (next_tail x.entries) (a.on_device_queue 0 (with_entry (admin_entry kind id)) (a.on_memory (slot_written h (admin_entry kind id)) (noted x))) = λ h x at.
+    → a.sent kind id (admin_entry kind id) x ≡ a.on_ring 0 (next_tail x.entries) (a.on_served_queue 0 (with_entry (admin_entry kind id)) (a.on_memory (slot_written h (admin_entry kind id)) (noted x))) = λ h x at.
     after_posts 0 (admin_entry kind id) h (noted x) at in
     let room = room_found (state_of s) 0 free in
     let h : HostQueue = room.0 in
@@ -210,7 +210,7 @@ sent_ties s e kind id host pages g world t free new named qualified is permits u
     (record {
       queues = ap (λ (x : State). x.host.queues) (is (alone s.host s.pages)) ∙ ap (λ (x : State). g x.host.queues) (posts h (alone s.host s.pages) room.1);
       memory = ap (λ (x : State). x.memory) (is (alone s.host s.pages)) ∙ ap (λ (x : State). x.memory) (posts h (alone s.host s.pages) room.1);
-      device = ap (λ (x : State). x.device) (is (state_of s)) ∙ ap (λ (x : State). x.device) (posts h (state_of s) room.1);
+      controller = ap (λ (x : State). x.controller) (is (state_of s)) ∙ ap (λ (x : State). x.controller) (posts h (state_of s) room.1);
     })
     (stays (byte_at (slot_written h (admin_entry kind id) s.pages)))
 
@@ -295,27 +295,27 @@ first_stays g (suc q) [] io = refl
 first_stays g (suc q) (h ∷ hs) io = refl
 
 -- the state of either side, as the host has it
-abbrev pub seen_by : Sides → Device → Bool → State
-seen_by s d b = record (state_of s) { device = d; trusted = b }
+abbrev pub seen_by : Sides → Controller → Bool → State
+seen_by s d b = record (state_of s) { controller = d; trusted = b }
 
 -- what a queue with its new half is over a memory with an entry of queue 0 written, and with the half's pages as zeros
 pub record IsMade (s : Sides) (m : Memory) (q : ℕ) (f : HostQueue → HostQueue) : Type 0 where
-  pub lists : (h : HostQueue) (c : ControllerQueue) → slice_get s.host.host.queues q ≡ Some h → slice_get s.controller.queues q ≡ Some c → device_queue_of m (f h).ring c ≡ device_queue_of m h.ring c
+  pub lists : (h : HostQueue) (c : ControllerQueue) → slice_get s.host.host.queues q ≡ Some h → slice_get s.controller.queues q ≡ Some c → served_queue_of m (f h).ring c ≡ served_queue_of m h.ring c
   pub stands : (h : HostQueue) (c : ControllerQueue) → slice_get s.host.host.queues q ≡ Some h → slice_get s.controller.queues q ≡ Some c → QueueStands s.host.entries m q h c → QueueStands s.host.entries m q (f h) c
 
 pub made_ties : (s : Sides) (e : Event) (kind : AdminKind) (id : ℕ) (host : HostView) (pages : Pages) (q count first : ℕ) (f : HostQueue → HostQueue) → (world : IsWorld s) → s.trusted ≡ true → (q == 0) ≡ false
     → (run : first_of_run s.host.host.free count ≡ Some first) → queue_full (state_of s) 0 ≡ false → id < s.host.entries - 1 → named_by kind < 2 ^ 32 → qualified_by kind < 2 ^ 32
-    → ((d : Device) (b : Bool) → after (seen_by s d b) e (events.Sent id) ≡ a.sent kind id (admin_entry kind id) (a.on_host_queue q f (a.half_granted (pages_from first count) (seen_by s d b))))
+    → ((d : Controller) (b : Bool) → after (seen_by s d b) e (events.Sent id) ≡ a.sent kind id (admin_entry kind id) (a.on_host_queue q f (a.half_granted (pages_from first count) (seen_by s d b))))
     → Permits (state_of s) e (events.Sent id) → heard e (events.Sent id) host s.controller ≡ s.controller
     → LeavesByHost (alone s.host s.pages) (after (alone s.host s.pages) e (events.Sent id)) (alone host pages)
     → ((h : HostQueue) (c : ControllerQueue) → CanPost s (granted_pool s world count first run) 0 h c (admin_entry kind id) → IsMade s (byte_at (slot_written h (admin_entry kind id) (granted_pool s world count first run))) q f)
     → Ties s e (events.Sent id) host pages
 made_ties s e kind id host pages q count first f world t io run free new named qualified is permits unheard leaves made =
-    let granted_to : Device → Bool → State = λ d b. a.on_host_queue q f (a.half_granted (pages_from first count) (seen_by s d b)) in
+    let granted_to : Controller → Bool → State = λ d b. a.on_host_queue q f (a.half_granted (pages_from first count) (seen_by s d b)) in
     let noted : State → State = λ x. a.on_records (λ records. records ++ sent_record kind id ∷ []) x in
-    let leaves_of : (h : HostQueue) → slice_get s.host.host.queues 0 ≡ Some h → (d : Device) (b : Bool)
+    let leaves_of : (h : HostQueue) → slice_get s.host.host.queues 0 ≡ Some h → (d : Controller) (b : Bool)
     → after (seen_by s d b) e (events.Sent id)
-    ≡ a.on_ring 0 (next_tail s.host.entries) (a.on_device_queue 0 (with_entry (admin_entry kind id)) (a.on_memory (slot_written h (admin_entry kind id)) (noted (granted_to d b)))) = λ h at d b.
+    ≡ a.on_ring 0 (next_tail s.host.entries) (a.on_served_queue 0 (with_entry (admin_entry kind id)) (a.on_memory (slot_written h (admin_entry kind id)) (noted (granted_to d b)))) = λ h at d b.
     is d b ∙ after_posts 0 (admin_entry kind id) h (noted (granted_to d b)) (first_stays f q s.host.host.queues io ∙ at) in
     let room = room_found (state_of s) 0 free in
     let h : HostQueue = room.0 in
@@ -329,7 +329,7 @@ made_ties s e kind id host pages q count first f world t io run free new named q
     (record {
       queues = ap (λ (x : State). x.host.queues) (leaves_of h room.1 nothing false) ∙ changed_past_first (tail_moved s.host.entries) f q s.host.host.queues io;
       memory = ap (λ (x : State). x.memory) (leaves_of h room.1 nothing false);
-      device = ap (λ (x : State). x.device) (leaves_of h room.1 (device_of s) s.trusted);
+      controller = ap (λ (x : State). x.controller) (leaves_of h room.1 (controller_part s) s.trusted);
     })
     (record {
       lists = host_lists (byte_at (slot_written h entry mid)) q f sent s.controller.queues
@@ -353,7 +353,7 @@ found_here P hs q h x at at' p = let same : h ≡ x = cc (at, at') in subst P sa
 -- The completion half
 
 -- a queue of which the controller has neither half shows the machine the same, whatever the host's positions are
-absent_alike : (m : Memory) (r r' : HostRing) (c : ControllerQueue) → is_absent c.state ≡ true → c.cq_there ≡ false → device_queue_of m r c ≡ device_queue_of m r' c
+absent_alike : (m : Memory) (r r' : HostRing) (c : ControllerQueue) → is_absent c.state ≡ true → c.cq_there ≡ false → served_queue_of m r c ≡ served_queue_of m r' c
 absent_alike m r r' c absent gone = rw (absent, gone) refl
 
 -- no slot of the new half is new, once the entry is posted
@@ -373,7 +373,7 @@ half_is_granted s world first run entry h x c can some =
 pub create_cq_ties : (s : Sides) (q id : ℕ) (host : HostView) (pages : Pages) → IsWorld s → s.trusted ≡ true → HostStep s.host s.pages (events.CreateCq q) (events.Sent id) host pages
     → Ties s (events.CreateCq q) (events.Sent id) host pages
 create_cq_ties s q id host pages world t step =
-    let sends : Device → Bool → List ℕ → State = λ d b ps.
+    let sends : Controller → Bool → List ℕ → State = λ d b ps.
     a.sent (CreateCq q s.host.entries (a.base_of ps)) id (admin_entry (CreateCq q s.host.entries (a.base_of ps)) id) (a.on_host_queue q (a.making_cq ps) (a.half_granted ps (seen_by s d b))) in
     let is_gone_here : ((x : HostQueue) × (slice_get s.host.host.queues q ≡ Some x) × (is_gone x.state ≡ true)) → (x : HostQueue) → slice_get s.host.host.queues q ≡ Some x → is_gone x.state ≡ true = λ its x at.
     found_here (λ y. is_gone y.state ≡ true) s.host.host.queues q its.0 x its.1 at its.2 in
@@ -421,7 +421,7 @@ half_gets_submission s world t m q h c half at there made fresh stands =
 pub create_sq_ties : (s : Sides) (q id : ℕ) (host : HostView) (pages : Pages) → IsWorld s → s.trusted ≡ true → HostStep s.host s.pages (events.CreateSq q) (events.Sent id) host pages
     → Ties s (events.CreateSq q) (events.Sent id) host pages
 create_sq_ties s q id host pages world t step =
-    let sends : Device → Bool → List ℕ → State = λ d b ps.
+    let sends : Controller → Bool → List ℕ → State = λ d b ps.
     a.sent (CreateSq q s.host.entries (a.base_of ps)) id (admin_entry (CreateSq q s.host.entries (a.base_of ps)) id) (a.on_host_queue q (a.making_sq ps) (a.half_granted ps (seen_by s d b))) in
     let here : ((x : HostQueue) × (slice_get s.host.host.queues q ≡ Some x) × (is_half_made x.state ≡ true)) → (x : HostQueue) → slice_get s.host.host.queues q ≡ Some x → is_half_made x.state ≡ true = λ its x at.
     found_here (λ y. is_half_made y.state ≡ true) s.host.host.queues q its.0 x its.1 at its.2 in
@@ -443,6 +443,6 @@ create_sq_ties s q id host pages world t step =
     (λ h c can.
     let m = byte_at (slot_written h (admin_entry kind id) (granted_pool s world (half_pages n Submission) run.0 run.1)) in
     record {
-      lists = λ x y at there. ap (λ (r : HostRing). device_queue_of m r y) (sym (fresh its x y at there));
+      lists = λ x y at there. ap (λ (r : HostRing). served_queue_of m r y) (sym (fresh its x y at there));
       stands = λ x y at there stands. half_gets_submission s world t m q x y half at there (here its x at) (fresh its x y at there) stands;
     })

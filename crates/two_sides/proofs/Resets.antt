@@ -7,12 +7,12 @@ use Rattle.std.{proofs.lemmas.{Bool.true≢false, List.length-replicate}, specs.
 use Rattle.controller_core.specs.{Contents.IsController, Opening.{fresh_queue, queues_from}, Resetting.reset as controller_reset}
 use Rattle.host_core.{proofs.Openings.limits, specs.{Alone.{IsOver, alone}, Resetting.{host_reset, pages_reset}}}
 use Rattle.machine_model.{proofs.{Counting.held_once, Headline.{runs_are_sound, fits_pool}}, specs.{Agreeing.SidesAgree, Claims.{HasOneOwner, IsSound}}}
-use Rattle.machine_model.specs.{Opening.{opening, device_queue}, Refusals.{refusal_of, is_deleting}, State.{HostQueue, DeviceQueue, State}, Step.Step}
+use Rattle.machine_model.specs.{Opening.{opening, served_queue}, Refusals.{refusal_of, is_deleting}, State.{HostQueue, ServedQueue, State}, Step.Step}
 use Rattle.machine_model.specs.declared.words.HostState.TheVariants.{Live}
-use Rattle.two_sides.proofs.{Agreed.{reset_recovers, recovery_kept, opening_agrees, openings_recover}, DeviceMoves.rings_at_opening}
-use Rattle.two_sides.proofs.{Frames.{tied_of, queue_page_in}, Granting.{admin_reset, devices_reset, shared_reset, stands_reset}, Making.page_below}
+use Rattle.two_sides.proofs.{Agreed.{reset_recovers, recovery_kept, opening_agrees, openings_recover}, ControllerMoves.rings_at_opening}
+use Rattle.two_sides.proofs.{Frames.{tied_of, queue_page_in}, Granting.{admin_reset, controllers_reset, shared_reset, stands_reset}, Making.page_below}
 use Rattle.two_sides.{proofs.{Provided.runs_provide, Serving.{ServeS, serve_back, serve_reset}}, specs.Deletions.CompletionsServe}
-use Rattle.two_sides.specs.{Opening.{halves_from, opened_sides, openings_are_worlds}, Recovering.CanRecover, Sides.{Sides, state_of, device_queues_of}}
+use Rattle.two_sides.specs.{Opening.{halves_from, opened_sides, openings_are_worlds}, Recovering.CanRecover, Sides.{Sides, state_of, served_queues_of}}
 use Rattle.two_sides.specs.{Stepping.{reset_sides, resets_step}, Ties.{AreSides, IsWorld, ShareQueues, SharesAdmin, RingsStand, QueueStands, AllQueuesStand}}
 use Rattle.page_ledger.specs.Owners.{is_among, pages_from}
 use Rattle.page_memory.{proofs.Bytes.length-zero_page, specs.{Memory.Memory, Pages.{byte_at, page_at, zero_page}}}
@@ -24,8 +24,8 @@ use Rattle.queue_pair.{proofs.Halves.{zeros_stand, pages_zero}, specs.{Halves.Is
 module _ (s : Sides) (world : IsWorld s) where
   same : state_of (reset_sides s) ≡ a.after_reset (state_of s)
   same =
-      ap (λ (queues : List DeviceQueue). record (a.after_reset (state_of s)) { device = record { queues = queues; jobs = []; image = s.controller.image } })
-      (devices_reset (byte_at s.pages) (byte_at (pages_reset s.host s.pages)) s.host.host.queues s.controller.queues)
+      ap (λ (queues : List ServedQueue). record (a.after_reset (state_of s)) { controller = record { queues = queues; jobs = []; image = s.controller.image } })
+      (controllers_reset (byte_at s.pages) (byte_at (pages_reset s.host s.pages)) s.host.host.queues s.controller.queues)
 
   -- no cause refuses it
   step : Step (state_of s) events.Reset events.Accepted (state_of (reset_sides s))
@@ -81,7 +81,7 @@ module _ (s : Sides) (world : IsWorld s) where
   serve : CompletionsServe (state_of (reset_sides s))
   serve =
       serve_back (state_of (reset_sides s)) agree
-      (subst ServeS (sym same) (serve_reset s.host.host.queues (state_of s).device.queues))
+      (subst ServeS (sym same) (serve_reset s.host.host.queues (state_of s).controller.queues))
 
 pub reset_stepped : resets_step
 reset_stepped s world controller over = (
@@ -100,9 +100,9 @@ reset_stepped s world controller over = (
 
 -- Both sides as they open are the machine's opening.
 
-device_queues : (m : Memory) (page n q count : ℕ) → device_queues_of m (machine.queues_from page n count) (queues_from n q (halves_from page n count)) ≡ replicate count device_queue
-device_queues m page n q zero = refl
-device_queues m page n q (suc count) = ap (λ (l : List DeviceQueue). device_queue ∷ l) (device_queues m (page + half_pages n Submission + half_pages n Completion) n (suc q) count)
+served_queues : (m : Memory) (page n q count : ℕ) → served_queues_of m (machine.queues_from page n count) (queues_from n q (halves_from page n count)) ≡ replicate count served_queue
+served_queues m page n q zero = refl
+served_queues m page n q (suc count) = ap (λ (l : List ServedQueue). served_queue ∷ l) (served_queues m (page + half_pages n Submission + half_pages n Completion) n (suc q) count)
 
 shared : (page n q count : ℕ) → 2 ≤ n → n ≤ 1024 → ShareQueues n q (machine.queues_from page n count) (queues_from n q (halves_from page n count))
 shared page n q zero least most = tt
@@ -176,7 +176,7 @@ all_live page n (suc count) (suc q) h e = all_live (page + half_pages n Submissi
 opening_serves : (pages queues n segment : ℕ) (image : List ℕ) → CompletionsServe (opening pages queues n segment image)
 opening_serves pages queues n segment image =
     record {
-      serves = λ q h d e f live. sym (ap (λ (x : DeviceQueue). x.cq_there) (all_same (queues + 1) q device_queue d f));
+      serves = λ q h d e f live. sym (ap (λ (x : ServedQueue). x.cq_there) (all_same (queues + 1) q served_queue d f));
       order = λ q h e deleting. absurd (true≢false (sym deleting ∙ all_live 0 n (queues + 1) q h e));
     }
 
@@ -189,7 +189,7 @@ opened_are_worlds c image opens =
     let start = opening c.pages c.queues c.entries c.segment image in
     let sound : IsSound start = runs_are_sound c.pages c.queues c.entries c.segment image [] [] start opens refl in
     let same : state_of (opened_sides c image) ≡ start =
-    ap (λ (queues : List DeviceQueue). record start { device = record start.device { queues = queues } }) (device_queues (byte_at (replicate c.pages (Some zero_page))) 0 c.entries 0 (c.queues + 1)) in
+    ap (λ (queues : List ServedQueue). record start { controller = record start.controller { queues = queues } }) (served_queues (byte_at (replicate c.pages (Some zero_page))) 0 c.entries 0 (c.queues + 1)) in
     let count : length (replicate c.pages (Some zero_page)) ≡ c.pages = length-replicate c.pages (Some zero_page) in (
       same,
       record {

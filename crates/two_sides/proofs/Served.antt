@@ -36,7 +36,7 @@ use Rattle.two_sides.specs.InOrder.{IsInOrder, reserved_drafts_are_proper, colle
 use Rattle.queue_pair.proofs.Rings.{bytes_agree}
 use Rattle.page_memory.proofs.Lists.{found_is, all-found, some_is}
 use Rattle.host_core.proofs.PageOwners.{with-other}
-pub use Rattle.machine_model.specs.Agreeing.{is_out_of_service_at as past_at, answers_at, unfetched_count, job_weight, CommandsStandOnce as Places, CommandsStand as Commands}
+pub use Rattle.machine_model.specs.Agreeing.{is_out_of_service_at as past_at, completions_at, unfetched_count, job_weight, CommandsStandOnce as Places, CommandsStand as Commands}
 
 -- What the entry and the parts of a good request are.
 
@@ -184,9 +184,9 @@ joined_fit parts fit = all_joined (λ part. Fits (descriptor_of_part part)) fits
 pub record Stood (s : State) : Type 0 where
   pub grounds : Grounds s
   pub few : length s.memory ≤ 65536
-  pub commands : Commands s.memory s.device.queues s.device.jobs s.host.records
-  pub places : Places s.host.queues s.host.records s.device.queues s.device.jobs
-  pub walks : AllByRecursion (HasUnitLeft s) s.device.jobs
+  pub commands : Commands s.memory s.controller.queues s.controller.jobs s.host.records
+  pub places : Places s.host.queues s.host.records s.controller.queues s.controller.jobs
+  pub walks : AllByRecursion (HasUnitLeft s) s.controller.jobs
 
 -- The record of a job
 
@@ -198,29 +198,29 @@ pub record JobList (s : State) (j : Job) : Type 0 where
   pub work : command.work ≡ Io request
   pub phase : is_submitted command.phase ≡ true
   pub sized : IsSized command request
-  pub list : ListStands s.memory s.device.queues s.device.jobs command request
+  pub list : ListStands s.memory s.controller.queues s.controller.jobs command request
   pub entry : j.entry ≡ io_entry command.cid request (spelling list.first)
 
 one_self : (n : ℕ) → one (n == n) ≡ 1
 one_self n = ap one (eq-eqb n n refl)
 
-pub job_list : (s : State) → Stood s → (j : Job) → In j s.device.jobs → (j.q == 0) ≡ false
-    → ((P : Job → Type 0) → AllByRecursion P s.device.jobs → P j) → JobList s j
+pub job_list : (s : State) → Stood s → (j : Job) → In j s.controller.jobs → (j.q == 0) ≡ false
+    → ((P : Job → Type 0) → AllByRecursion P s.controller.jobs → P j) → JobList s j
 job_list s stood j within other at =
     let w : ℕ → ℕ = λ c. one (c == j.entry.cid) in
-    let counts : 1 ≤ total (job_weight j.q w) s.device.jobs =
+    let counts : 1 ≤ total (job_weight j.q w) s.controller.jobs =
     let mine : job_weight j.q w j ≡ 1 = subst (λ (b : Bool). (if b then one (j.entry.cid == j.entry.cid) else 0) ≡ 1) (sym (eq-eqb j.q j.q refl)) (one_self j.entry.cid) in
     omega (arith, mine, within (job_weight j.q w)) in
     let r = sent_found j.q j.entry.cid s.host.records (omega (arith, counts, stood.places j.q w)) (stood.grounds.stands.0.once j.q j.entry.cid) in
     let ids = and_parts (r.0.q == j.q) (r.0.cid == j.entry.cid) (found_is (is_at j.q j.entry.cid) s.host.records r.0 r.1) in
     of_work r.0 r.1 r.2 (eqb-true r.0.q j.q ids.0) (eqb-true r.0.cid j.entry.cid ids.1) r.0.work refl
     (all-found (λ r. OwnsFit r.q r.work (pages_of r)) (is_at j.q j.entry.cid) s.host.records r.0 r.1 stood.grounds.stands.0.admins)
-    (all-found (CommandStands s.memory s.device.queues s.device.jobs) (is_at j.q j.entry.cid) s.host.records r.0 r.1 stood.commands)
+    (all-found (CommandStands s.memory s.controller.queues s.controller.jobs) (is_at j.q j.entry.cid) s.host.records r.0 r.1 stood.commands)
   where
     of_work : (r : Record) → record_at s.host j.q j.entry.cid ≡ Some r → is_submitted r.phase ≡ true → r.q ≡ j.q → r.cid ≡ j.entry.cid → (work : Work) → r.work ≡ work
-        → OwnsFit r.q r.work (pages_of r) → CommandStands s.memory s.device.queues s.device.jobs r → JobList s j
+        → OwnsFit r.q r.work (pages_of r) → CommandStands s.memory s.controller.queues s.controller.jobs r → JobList s j
     of_work r e sub rq rc (Io request) is fit stands =
-        let stands' : StandsAs s.memory s.device.queues s.device.jobs r (Io request) = subst (StandsAs s.memory s.device.queues s.device.jobs r) is stands in
+        let stands' : StandsAs s.memory s.controller.queues s.controller.jobs r (Io request) = subst (StandsAs s.memory s.controller.queues s.controller.jobs r) is stands in
         let list = stands'.1 sub in
         record {
           command = r;

@@ -6,13 +6,13 @@ use Rattle.std.proofs.Common.{◌≡◌, ℕ, zero, suc, ◌-◌, ◌==◌, ◌|
 use Rattle.std.{proofs.lemmas.Bool.{true≢false, eqb-false, not-false, or_parts}, specs.{List.{list_any, AllByRecursion}, Option.option_map_or}}
 use Rattle.machine_model.proofs.{Counting.{one, total}, Kept.asked_as_heard, Moves.{creates_cq, creates_sq, half_from, host_moves}}
 use Rattle.machine_model.proofs.{Owned.{awaited_at, at_other, HoldsPart, holds_from_sound, reset_state}, Steps.{absent_state, managed_by, Accepts, unrefused}}
-use Rattle.machine_model.{proofs.TokensKept.device_same, specs.After.{change, after}}
+use Rattle.machine_model.{proofs.TokensKept.controller_same, specs.After.{change, after}}
 use Rattle.machine_model.specs.{Agreeing.{SidesAgree, QueuesFit, EntryKnown, deletes_sq, is_absent_at, is_kind}, Events.{Event, Reply}}
 use Rattle.machine_model.specs.Refusals.{in_service, is_deleting, is_live, next_rung, has_cq, is_changing, refusal_of}
-use Rattle.machine_model.specs.{State.{State, HostQueue, DeviceQueue, Record, Job}, Step.{IsController, host_part, Step}, declared.words.HostState.HostState}
+use Rattle.machine_model.specs.{State.{State, HostQueue, ServedQueue, Record, Job}, Step.{IsController, host_part, Step}, declared.words.HostState.HostState}
 use Rattle.entry_codec.specs.declared.{admin_opcode.TheConstants.DELETE_IO_CQ, completion.ComEntry.ComEntry, status.Status.Status, submission.SubEntry.SubEntry}
 use Rattle.two_sides.proofs.{Agreed.{agreed_there, step_keeps_agreement}, Along.trusted_step_by}
-use Rattle.two_sides.proofs.DeviceMoves.{cleared, answer_of, answers, complete_by, fetch_by, finished, walk_by}
+use Rattle.two_sides.proofs.ControllerMoves.{cleared, posted_completion, posts_completion, complete_by, fetch_by, finished, walk_by}
 use Rattle.two_sides.proofs.{Standing.{waiting, waiting_same, waiting_other, far_suc as ne_zero, taken_entry, io_other}, Tokens.{awaited_below, small}}
 use Rattle.two_sides.specs.{Deletions.{AreBefore, CompletionsServe, asks_cq_deletion, asks_sq_deletion}, Sides.Sides, Stepping.LeavesPages, Ties.IsWorld}
 use Rattle.queue_pair.specs.Rings.{HostRing, next_head, next_tail, knowing}
@@ -24,16 +24,16 @@ use Rattle.slot_table.proofs.Rows.{option_is}
 -- Queues that are deleted and keep their completion queues: what a change of one queue, or of the entries of queue 0, leaves of that.
 
 -- whether the controller has a completion queue of a number, or no queue of it at all
-abbrev pub keeps_at : List DeviceQueue → ℕ → Bool
+abbrev pub keeps_at : List ServedQueue → ℕ → Bool
 keeps_at ds q = option_map_or (λ d. d.cq_there) (slice_get ds q) true
 
 -- of each queue that is being deleted, over a list of entries of queue 0
-pub record Serve (hs : List HostQueue) (ds : List DeviceQueue) (un : List SubEntry) : Type 0 where
+pub record Serve (hs : List HostQueue) (ds : List ServedQueue) (un : List SubEntry) : Type 0 where
   pub keeps : (q : ℕ) → awaited_at is_deleting hs q ≡ true → keeps_at ds q ≡ true
   pub order : (q : ℕ) → awaited_at is_deleting hs q ≡ true → AreBefore (asks_cq_deletion q) (asks_sq_deletion q) un
 
 abbrev pub ServeS : State → Type 0
-ServeS s = Serve s.host.queues s.device.queues (waiting s.device.queues)
+ServeS s = Serve s.host.queues s.controller.queues (waiting s.controller.queues)
 
 -- As the public statement says it
 
@@ -45,32 +45,32 @@ awaited_found test hs q h e is = ap (λ (o : Option HostQueue). option_map_or (�
 
 pub serve_of : (s : State) → CompletionsServe s → ServeS s
 serve_of s serve = record {
-  keeps = λ q w. let (h, at, deleting) = found_awaited is_deleting s.host.queues q w in by (slice_get s.device.queues q) (λ d f. serve.serves q h d at f (grind arith)) refl;
+  keeps = λ q w. let (h, at, deleting) = found_awaited is_deleting s.host.queues q w in by (slice_get s.controller.queues q) (λ d f. serve.serves q h d at f (grind arith)) refl;
   order = λ q w. let (h, at, deleting) = found_awaited is_deleting s.host.queues q w in serve.order q h at deleting;
 }
   where
-    by : {o : Option DeviceQueue} (p : Option DeviceQueue) → ((d : DeviceQueue) → o ≡ Some d → d.cq_there ≡ true) → o ≡ p → option_map_or (λ d. d.cq_there) p true ≡ true
+    by : {o : Option ServedQueue} (p : Option ServedQueue) → ((d : ServedQueue) → o ≡ Some d → d.cq_there ≡ true) → o ≡ p → option_map_or (λ d. d.cq_there) p true ≡ true
     by f has e = grind arith
 
 -- the machine's part of a queue fits the host's
-fits_at : (n q : ℕ) (hs : List HostQueue) (ds : List DeviceQueue) (h : HostQueue) (d : DeviceQueue) → QueuesFit n hs ds → slice_get hs q ≡ Some h → slice_get ds q ≡ Some d → is_absent d.state ≡ false → d.cq_there ≡ true
+fits_at : (n q : ℕ) (hs : List HostQueue) (ds : List ServedQueue) (h : HostQueue) (d : ServedQueue) → QueuesFit n hs ds → slice_get hs q ≡ Some h → slice_get ds q ≡ Some d → is_absent d.state ≡ false → d.cq_there ≡ true
 fits_at n q [] ds h d fits e f there = absurd cc
 fits_at n q (x ∷ hs) [] h d fits e f there = absurd fits
 fits_at n zero (x ∷ hs) (y ∷ ds) h d fits e f there =
-    let device : y ≡ d = cc in
-    subst (λ (z : DeviceQueue). z.cq_there ≡ true) device (fits.0.half (subst (λ (z : DeviceQueue). is_absent z.state ≡ false) (sym device) there))
+    let controller : y ≡ d = cc in
+    subst (λ (z : ServedQueue). z.cq_there ≡ true) controller (fits.0.half (subst (λ (z : ServedQueue). is_absent z.state ≡ false) (sym controller) there))
 fits_at n (suc q) (x ∷ hs) (y ∷ ds) h d fits e f there = fits_at n q hs ds h d fits.1 e f there
 
 -- a live queue has its submission queue at the controller, and so its completion queue
-pub live_keeps : (s : State) → SidesAgree s → (q : ℕ) (h : HostQueue) (d : DeviceQueue) → slice_get s.host.queues q ≡ Some h → slice_get s.device.queues q ≡ Some d → is_live h.state ≡ true → d.cq_there ≡ true
+pub live_keeps : (s : State) → SidesAgree s → (q : ℕ) (h : HostQueue) (d : ServedQueue) → slice_get s.host.queues q ≡ Some h → slice_get s.controller.queues q ≡ Some d → is_live h.state ≡ true → d.cq_there ≡ true
 live_keeps s agree q h d e f live =
-    fits_at s.entries q s.host.queues s.device.queues h d agree.pairs e f
-    (sym (ap (λ (o : Option DeviceQueue). option_map_or (λ x. is_absent x.state) o true) f) ∙ agreed_there s q h agree e live)
+    fits_at s.entries q s.host.queues s.controller.queues h d agree.pairs e f
+    (sym (ap (λ (o : Option ServedQueue). option_map_or (λ x. is_absent x.state) o true) f) ∙ agreed_there s q h agree e live)
 
-pub live_keeps_at : (s : State) → SidesAgree s → (q : ℕ) (h : HostQueue) → slice_get s.host.queues q ≡ Some h → is_live h.state ≡ true → keeps_at s.device.queues q ≡ true
-live_keeps_at s agree q h e live = by (slice_get s.device.queues q) (λ d f. live_keeps s agree q h d e f live) refl
+pub live_keeps_at : (s : State) → SidesAgree s → (q : ℕ) (h : HostQueue) → slice_get s.host.queues q ≡ Some h → is_live h.state ≡ true → keeps_at s.controller.queues q ≡ true
+live_keeps_at s agree q h e live = by (slice_get s.controller.queues q) (λ d f. live_keeps s agree q h d e f live) refl
   where
-    by : {o : Option DeviceQueue} (p : Option DeviceQueue) → ((d : DeviceQueue) → o ≡ Some d → d.cq_there ≡ true) → o ≡ p → option_map_or (λ d. d.cq_there) p true ≡ true
+    by : {o : Option ServedQueue} (p : Option ServedQueue) → ((d : ServedQueue) → o ≡ Some d → d.cq_there ≡ true) → o ≡ p → option_map_or (λ d. d.cq_there) p true ≡ true
     by None has e = refl
     by (Some d) has e = has d e
 
@@ -80,10 +80,10 @@ serve_back s agree h = record {
   order = λ q x e deleting. h.order q (awaited_found is_deleting s.host.queues q x e deleting);
 }
   where
-    kept : (q : ℕ) (x : HostQueue) (d : DeviceQueue) → slice_get s.host.queues q ≡ Some x → slice_get s.device.queues q ≡ Some d → is_deleting x.state ≡ true → d.cq_there ≡ true
-    kept q x d e f deleting = sym (ap (λ (o : Option DeviceQueue). option_map_or (λ d. d.cq_there) o true) f) ∙ h.keeps q (awaited_found is_deleting s.host.queues q x e deleting)
+    kept : (q : ℕ) (x : HostQueue) (d : ServedQueue) → slice_get s.host.queues q ≡ Some x → slice_get s.controller.queues q ≡ Some d → is_deleting x.state ≡ true → d.cq_there ≡ true
+    kept q x d e f deleting = sym (ap (λ (o : Option ServedQueue). option_map_or (λ d. d.cq_there) o true) f) ∙ h.keeps q (awaited_found is_deleting s.host.queues q x e deleting)
 
-    go : (q : ℕ) (x : HostQueue) (d : DeviceQueue) → slice_get s.host.queues q ≡ Some x → slice_get s.device.queues q ≡ Some d → (st : HostState) → x.state ≡ st → in_service st ≡ true → d.cq_there ≡ true
+    go : (q : ℕ) (x : HostQueue) (d : ServedQueue) → slice_get s.host.queues q ≡ Some x → slice_get s.controller.queues q ≡ Some d → (st : HostState) → x.state ≡ st → in_service st ≡ true → d.cq_there ≡ true
     go q x d e f states.Live is live = live_keeps s agree q x d e f (ap is_live is)
     go q x d e f (states.Deleting noted) is live = kept q x d e f (ap is_deleting is)
     go q x d e f st is live = absurd (true≢false (sym live))
@@ -96,36 +96,36 @@ still_awaited test f zero (h ∷ hs) was zero w = was h refl w
 still_awaited test f (suc k) (h ∷ hs) was (suc q) w = still_awaited test f k hs was q w
 still_awaited test f k x was q w = w
 
-pub serve_host : (f : HostQueue → HostQueue) (k : ℕ) (hs : List HostQueue) (ds : List DeviceQueue) (un : List SubEntry) → ((h : HostQueue) → slice_get hs k ≡ Some h → is_deleting (f h).state ≡ true → is_deleting h.state ≡ true)
+pub serve_host : (f : HostQueue → HostQueue) (k : ℕ) (hs : List HostQueue) (ds : List ServedQueue) (un : List SubEntry) → ((h : HostQueue) → slice_get hs k ≡ Some h → is_deleting (f h).state ≡ true → is_deleting h.state ≡ true)
     → Serve hs ds un → Serve (change k f hs) ds un
 serve_host f k hs ds un was h = record { keeps = λ q w. h.keeps q (still_awaited is_deleting f k hs was q w); order = λ q w. h.order q (still_awaited is_deleting f k hs was q w) }
 
-pub serve_ring : (g : HostRing → HostRing) (k : ℕ) (hs : List HostQueue) (ds : List DeviceQueue) (un : List SubEntry) → Serve hs ds un → Serve (change k (λ x. record x { ring = g x.ring }) hs) ds un
+pub serve_ring : (g : HostRing → HostRing) (k : ℕ) (hs : List HostQueue) (ds : List ServedQueue) (un : List SubEntry) → Serve hs ds un → Serve (change k (λ x. record x { ring = g x.ring }) hs) ds un
 serve_ring g k hs ds un h = serve_host (λ x. record x { ring = g x.ring }) k hs ds un (λ x e w. w) h
 
 -- The controller's queues
 
-pub keeps_still : (g : DeviceQueue → DeviceQueue) (k : ℕ) (ds : List DeviceQueue) → ((d : DeviceQueue) → d.cq_there ≡ true → (g d).cq_there ≡ true) → (q : ℕ) → keeps_at ds q ≡ true → keeps_at (change k g ds) q ≡ true
+pub keeps_still : (g : ServedQueue → ServedQueue) (k : ℕ) (ds : List ServedQueue) → ((d : ServedQueue) → d.cq_there ≡ true → (g d).cq_there ≡ true) → (q : ℕ) → keeps_at ds q ≡ true → keeps_at (change k g ds) q ≡ true
 keeps_still g zero (d ∷ ds) stays zero h = stays d h
 keeps_still g (suc k) (d ∷ ds) stays (suc q) h = keeps_still g k ds stays q h
 keeps_still g k x stays q h = h
 
-pub keeps_other : (g : DeviceQueue → DeviceQueue) (k : ℕ) (ds : List DeviceQueue) (q : ℕ) → (k ≡ q → ⊥) → keeps_at (change k g ds) q ≡ keeps_at ds q
+pub keeps_other : (g : ServedQueue → ServedQueue) (k : ℕ) (ds : List ServedQueue) (q : ℕ) → (k ≡ q → ⊥) → keeps_at (change k g ds) q ≡ keeps_at ds q
 keeps_other g zero (d ∷ ds) zero far = absurd (far refl)
 keeps_other g (suc k) (d ∷ ds) (suc q) far = keeps_other g k ds q (λ e. far (ap suc e))
 keeps_other g k x q far = refl
 
-pub serve_device : (g : DeviceQueue → DeviceQueue) (k : ℕ) (hs : List HostQueue) (ds : List DeviceQueue) (un : List SubEntry) → ((d : DeviceQueue) → d.cq_there ≡ true → (g d).cq_there ≡ true) → Serve hs ds un → Serve hs (change k g ds) un
-serve_device g k hs ds un stays h = record { keeps = λ q w. keeps_still g k ds stays q (h.keeps q w); order = h.order }
+pub serve_controller : (g : ServedQueue → ServedQueue) (k : ℕ) (hs : List HostQueue) (ds : List ServedQueue) (un : List SubEntry) → ((d : ServedQueue) → d.cq_there ≡ true → (g d).cq_there ≡ true) → Serve hs ds un → Serve hs (change k g ds) un
+serve_controller g k hs ds un stays h = record { keeps = λ q w. keeps_still g k ds stays q (h.keeps q w); order = h.order }
 
 -- its entries stay, or it is not queue 0
-pub serve_same : (g : DeviceQueue → DeviceQueue) (k : ℕ) (hs : List HostQueue) (ds : List DeviceQueue) → ((d : DeviceQueue) → d.cq_there ≡ true → (g d).cq_there ≡ true) → ((d : DeviceQueue) → (g d).unfetched ≡ d.unfetched)
+pub serve_same : (g : ServedQueue → ServedQueue) (k : ℕ) (hs : List HostQueue) (ds : List ServedQueue) → ((d : ServedQueue) → d.cq_there ≡ true → (g d).cq_there ≡ true) → ((d : ServedQueue) → (g d).unfetched ≡ d.unfetched)
     → Serve hs ds (waiting ds) → Serve hs (change k g ds) (waiting (change k g ds))
-serve_same g k hs ds stays same h = subst (Serve hs (change k g ds)) (sym (waiting_same g same k ds)) (serve_device g k hs ds (waiting ds) stays h)
+serve_same g k hs ds stays same h = subst (Serve hs (change k g ds)) (sym (waiting_same g same k ds)) (serve_controller g k hs ds (waiting ds) stays h)
 
-pub serve_other : (g : DeviceQueue → DeviceQueue) (k : ℕ) (hs : List HostQueue) (ds : List DeviceQueue) → ((d : DeviceQueue) → d.cq_there ≡ true → (g d).cq_there ≡ true) → (k == 0) ≡ false
+pub serve_other : (g : ServedQueue → ServedQueue) (k : ℕ) (hs : List HostQueue) (ds : List ServedQueue) → ((d : ServedQueue) → d.cq_there ≡ true → (g d).cq_there ≡ true) → (k == 0) ≡ false
     → Serve hs ds (waiting ds) → Serve hs (change k g ds) (waiting (change k g ds))
-serve_other g k hs ds stays other h = subst (Serve hs (change k g ds)) (sym (waiting_other g k ds other)) (serve_device g k hs ds (waiting ds) stays h)
+serve_other g k hs ds stays other h = subst (Serve hs (change k g ds)) (sym (waiting_other g k ds other)) (serve_controller g k hs ds (waiting ds) stays h)
 
 -- The entries of queue 0
 
@@ -154,14 +154,14 @@ pub before_last : (first later : SubEntry → Bool) (un : List SubEntry) (x : Su
 before_last first later [] x far is = (λ w. absurd (true≢false (sym w ∙ far)), tt)
 before_last first later (e ∷ un) x far is = (λ w. any_last later un x is, before_last first later un x far is)
 
-abbrev pub posted_on : SubEntry → DeviceQueue → DeviceQueue
+abbrev pub posted_on : SubEntry → ServedQueue → ServedQueue
 posted_on x at = record at { unfetched = at.unfetched ++ x ∷ [] }
 
-pub posted_by : (Q : List SubEntry → Type 0) (x : SubEntry) (ds : List DeviceQueue) → Q [] → ((un : List SubEntry) → waiting ds ≡ un → Q (un ++ x ∷ [])) → Q (waiting (change 0 (posted_on x) ds))
+pub posted_by : (Q : List SubEntry → Type 0) (x : SubEntry) (ds : List ServedQueue) → Q [] → ((un : List SubEntry) → waiting ds ≡ un → Q (un ++ x ∷ [])) → Q (waiting (change 0 (posted_on x) ds))
 posted_by Q x [] none more = none
 posted_by Q x (d ∷ ds) none more = more d.unfetched refl
 
-pub serve_posted : (x : SubEntry) (hs : List HostQueue) (ds : List DeviceQueue) → ((q : ℕ) → awaited_at is_deleting hs q ≡ true → asks_cq_deletion q x ≡ false) → Serve hs ds (waiting ds)
+pub serve_posted : (x : SubEntry) (hs : List HostQueue) (ds : List ServedQueue) → ((q : ℕ) → awaited_at is_deleting hs q ≡ true → asks_cq_deletion q x ≡ false) → Serve hs ds (waiting ds)
     → Serve hs (change 0 (posted_on x) ds) (waiting (change 0 (posted_on x) ds))
 serve_posted x hs ds far h = record {
   keeps = λ q w. keeps_still (posted_on x) 0 ds (λ d there. there) q (h.keeps q w);
@@ -170,21 +170,21 @@ serve_posted x hs ds far h = record {
 }
 
 -- one is taken, and the queue is emptied
-abbrev pub taken_from : DeviceQueue → DeviceQueue
+abbrev pub taken_from : ServedQueue → ServedQueue
 taken_from at = record at { unfetched = drop 1 at.unfetched; rung = at.rung - 1 }
 
-waiting_less : (ds : List DeviceQueue) → waiting (change 0 taken_from ds) ≡ drop 1 (waiting ds)
+waiting_less : (ds : List ServedQueue) → waiting (change 0 taken_from ds) ≡ drop 1 (waiting ds)
 waiting_less [] = refl
 waiting_less (d ∷ ds) = refl
 
-pub serve_taken : (k : ℕ) (hs : List HostQueue) (ds : List DeviceQueue) → Serve hs ds (waiting ds) → Serve hs (change k taken_from ds) (waiting (change k taken_from ds))
+pub serve_taken : (k : ℕ) (hs : List HostQueue) (ds : List ServedQueue) → Serve hs ds (waiting ds) → Serve hs (change k taken_from ds) (waiting (change k taken_from ds))
 serve_taken zero hs ds h = record {
   keeps = λ q w. keeps_still taken_from zero ds (λ d there. there) q (h.keeps q w);
   order = λ q w. subst (AreBefore (asks_cq_deletion q) (asks_sq_deletion q)) (sym (waiting_less ds)) (before_less (asks_cq_deletion q) (asks_sq_deletion q) (waiting ds) (h.order q w));
 }
 serve_taken (suc k) hs ds h = serve_other taken_from (suc k) hs ds (λ d there. there) (ne_zero k) h
 
-pub serve_cleared : (k : ℕ) (hs : List HostQueue) (ds : List DeviceQueue) → Serve hs ds (waiting ds) → Serve hs (change k cleared ds) (waiting (change k cleared ds))
+pub serve_cleared : (k : ℕ) (hs : List HostQueue) (ds : List ServedQueue) → Serve hs ds (waiting ds) → Serve hs (change k cleared ds) (waiting (change k cleared ds))
 serve_cleared zero hs [] h = h
 serve_cleared zero hs (d ∷ ds) h = record { keeps = λ q w. keeps_still cleared zero (d ∷ ds) (λ x there. there) q (h.keeps q w); order = λ q w. tt }
 serve_cleared (suc k) hs ds h = serve_other cleared (suc k) hs ds (λ d there. there) (ne_zero k) h
@@ -199,8 +199,8 @@ asked_unmade rs q (e ∷ un) all any = go (asks_sq_deletion q e) refl any (λ la
     go : (b : Bool) → asks_sq_deletion q e ≡ b → (b || list_any (asks_sq_deletion q) un) ≡ true → (list_any (asks_sq_deletion q) un ≡ true → 0 < total (λ e. one (is_kind (deletes_sq q) rs e.cid)) un) → 0 < one (is_kind (deletes_sq q) rs e.cid) + total (λ e. one (is_kind (deletes_sq q) rs e.cid)) un
     go b is any later = grind arith
 
-answered_serve : (q : ℕ) (cid : ℕ) (st : Status) (dw0 : ℕ) (t : State) → ServeS t → ServeS (answers q cid st dw0 t)
-answered_serve q cid st dw0 t h = serve_same (λ at. record at { answers = at.answers ++ answer_of q cid st dw0 t ∷ [] }) q t.host.queues t.device.queues (λ x there. there) (λ x. refl) h
+answered_serve : (q : ℕ) (cid : ℕ) (st : Status) (dw0 : ℕ) (t : State) → ServeS t → ServeS (posts_completion q cid st dw0 t)
+answered_serve q cid st dw0 t h = serve_same (λ at. record at { completions = at.completions ++ posted_completion q cid st dw0 t ∷ [] }) q t.host.queues t.controller.queues (λ x there. there) (λ x. refl) h
 
 fetch_serves : (s : State) (q : ℕ) → SidesAgree s → ServeS s → ServeS (a.after_fetch q s)
 fetch_serves s q agree h =
@@ -221,10 +221,10 @@ fetch_serves s q agree h =
     hs : List HostQueue
     hs = s.host.queues
 
-    ds : List DeviceQueue
-    ds = s.device.queues
+    ds : List ServedQueue
+    ds = s.controller.queues
 
-    ds0 : List DeviceQueue
+    ds0 : List ServedQueue
     ds0 = change 0 taken_from ds
 
     Before : ℕ → List SubEntry → Type 0
@@ -255,7 +255,7 @@ fetch_serves s q agree h =
         by z w false far = keeps_other a.dropped (named_queue e) ds0 z (eqb-false (named_queue e) z far) ∙ off.keeps z w
         by z w true its =
             let absent : is_absent_at ds z ≡ true =
-            sym (device_same (λ at. is_absent at.state) true taken_from 0 ds (λ d ed. refl) z) ∙ subst (λ (k : ℕ). is_absent_at ds0 k ≡ true) (eqb-true (named_queue e) z its) (absent_state (a.taken_off 0 s) (named_queue e) gone) in
+            sym (controller_same (λ at. is_absent at.state) true taken_from 0 ds (λ d ed. refl) z) ∙ subst (λ (k : ℕ). is_absent_at ds0 k ≡ true) (eqb-true (named_queue e) z its) (absent_state (a.taken_off 0 s) (named_queue e) gone) in
             absurd (true≢false (sym absent ∙ served e z next is4 its w))
 
 pub serve_controller_event : (s : State) (e : Event) (reply : Reply) → Accepts s e reply → IsController e ≡ true → SidesAgree s → ServeS s → ServeS (a.after s e reply)
@@ -263,7 +263,7 @@ serve_controller_event s (events.Fetch q) (events.Fetched cid touched) ok c agre
 serve_controller_event s (events.Walk q cid) (events.Walked o touched) ok c agree h = walk_by ServeS s q cid h (λ j act at u. h)
 serve_controller_event s (events.Complete q cid) (events.Completed touched) ok c agree h =
     complete_by ServeS s q cid h
-    (λ j at c. answered_serve q cid (a.final_status s j) j.dw0 (a.on_device_queue (named_queue j.entry) _ (finished q cid j s)) (serve_cleared (named_queue j.entry) s.host.queues s.device.queues h))
+    (λ j at c. answered_serve q cid (a.final_status s j) j.dw0 (a.on_served_queue (named_queue j.entry) _ (finished q cid j s)) (serve_cleared (named_queue j.entry) s.host.queues s.controller.queues h))
     (λ j at c. answered_serve q cid (a.final_status s j) j.dw0 (finished q cid j s) h)
 serve_controller_event s (events.Fetch q) reply ok c agree h = absurd ok.1
 serve_controller_event s (events.Walk q cid) reply ok c agree h = absurd ok.1
@@ -276,7 +276,7 @@ differ : (x y : ℕ) (b : Bool) → (x ≡ y → b ≡ true) → b ≡ false →
 differ x y b same stays = grind arith
 
 -- behind a reset no queue is being deleted
-pub serve_reset : (hs : List HostQueue) (ds : List DeviceQueue) → Serve (a.reset_queues hs) (a.reset_device_queues ds) (waiting (a.reset_device_queues ds))
+pub serve_reset : (hs : List HostQueue) (ds : List ServedQueue) → Serve (a.reset_queues hs) (a.reset_served_queues ds) (waiting (a.reset_served_queues ds))
 serve_reset hs ds =
     record {
       keeps = λ q deleting. absurd (true≢false (sym deleting ∙ reset_state is_deleting refl refl hs q));
@@ -326,14 +326,14 @@ serve_host_event s e reply ok c agree h =
     hs : List HostQueue
     hs = s.host.queues
 
-    ds : List DeviceQueue
-    ds = s.device.queues
+    ds : List ServedQueue
+    ds = s.controller.queues
 
-    posted : AdminKind → ℕ → List DeviceQueue
+    posted : AdminKind → ℕ → List ServedQueue
     posted adm id = change 0 (posted_on (admin_entry adm id)) ds
 
-    reaped : DeviceQueue → DeviceQueue
-    reaped at = record at { answers = drop 1 at.answers }
+    reaped : ServedQueue → ServedQueue
+    reaped at = record at { completions = drop 1 at.completions }
 
     consumed : (q : ℕ) → Serve (a.consumed q s).host.queues (change q reaped ds) (waiting (change q reaped ds))
     consumed q = serve_ring (next_head s.entries) q hs (change q reaped ds) (waiting (change q reaped ds)) (serve_same reaped q hs ds (λ x there. there) (λ x. refl) h)
@@ -408,5 +408,5 @@ pub same_pages : (s : Sides) (pages : Pages) → IsWorld s → LeavesPages s.pag
 same_pages s pages world leaves e = told pages s.pages leaves.whole world.sides.over.pool.whole leaves.count (λ place. ap (λ (m : Memory). m place) e)
 
 -- the machine, with what a call of the controller makes of it
-abbrev pub with_served : State → Pages → List DeviceQueue → List Job → List ℕ → State
-with_served s pages queues jobs image = record s { memory = pages; device = record { queues = queues; jobs = jobs; image = image } }
+abbrev pub with_served : State → Pages → List ServedQueue → List Job → List ℕ → State
+with_served s pages queues jobs image = record s { memory = pages; controller = record { queues = queues; jobs = jobs; image = image } }

@@ -9,9 +9,9 @@ use Rattle.controller_core.specs.{Contents.Contents, Doorbells.{with_side, with_
 use Rattle.host_core.specs.Alone.{HostView, alone, HostStep}
 use Rattle.machine_model.{proofs.{HostLeaves.host_leaves, Steps.{Accepts, IsKept, each_step}}, specs.{After.{change, after}, Events.{Event, Reply}}}
 use Rattle.machine_model.specs.State.{State, HostQueue}
-use Rattle.machine_model.specs.Step.{HostPart, IsController, resets, KeepsDevice, Leaves, LeavesByController, LeavesByHost, Permits, forges, host_part}
+use Rattle.machine_model.specs.Step.{HostPart, IsController, resets, KeepsController, Leaves, LeavesByController, LeavesByHost, Permits, forges, host_part}
 use Rattle.two_sides.{proofs.{Blind.blind, PoolBytes.reset_leaves, TiedAll.queues_stay, AdminKept.heard_by}, specs.Hearing.heard}
-use Rattle.two_sides.specs.{Laws.{hosts_share_queues, behind, forged_hosts_step}, Sides.{Sides, state_of, device_of, device_queues_of}}
+use Rattle.two_sides.specs.{Laws.{hosts_share_queues, behind, forged_hosts_step}, Sides.{Sides, state_of, controller_part, served_queues_of}}
 use Rattle.two_sides.specs.Ties.{ShareQueue, ShareQueues}
 use Rattle.queue_pair.{proofs.Rings.in_range_below, specs.{Rings.{hearing_tail, hearing_head}, Slots.is_in_range}}
 use Rattle.page_memory.specs.{Memory.Memory, Pages.{Pages, byte_at}}
@@ -47,14 +47,14 @@ belled n q (suc k) f (x ∷ hs) (c ∷ cs) keeps h = (h.0, belled n (suc q) k f 
 
 tail_heard : (v n i : ℕ) (h : HostQueue) (c : ControllerQueue) → ShareQueue n i h c → ShareQueue n i h (with_tail v c)
 tail_heard v n i h c share =
-    cond_both (nat_lt v c.device.entries) (with_side (record c.device { ring = hearing_tail v c.device.ring }) c) c (ShareQueue n i h) (λ e.
-    let below : v < c.device.entries = grind (arith, nat_tests) in
+    cond_both (nat_lt v c.controller.entries) (with_side (record c.controller { ring = hearing_tail v c.controller.ring }) c) c (ShareQueue n i h) (λ e.
+    let below : v < c.controller.entries = grind (arith, nat_tests) in
     record { number = share.number; entries = share.entries; side = record { least = share.side.least; most = share.side.most; head = share.side.head; bell = below; tail = share.side.tail; known_head = share.side.known_head } }) (λ e. share)
 
 head_heard : (v n i : ℕ) (h : HostQueue) (c : ControllerQueue) → ShareQueue n i h c → ShareQueue n i h (with_head v c)
 head_heard v n i h c share =
-    cond_both (is_in_range c.device.entries c.device.ring.known_head c.device.ring.tail v) (with_side (record c.device { ring = hearing_head v c.device.ring }) c) c (ShareQueue n i h) (λ e.
-    let known = in_range_below c.device.entries c.device.ring.known_head c.device.ring.tail v e in
+    cond_both (is_in_range c.controller.entries c.controller.ring.known_head c.controller.ring.tail v) (with_side (record c.controller { ring = hearing_head v c.controller.ring }) c) c (ShareQueue n i h) (λ e.
+    let known = in_range_below c.controller.entries c.controller.ring.known_head c.controller.ring.tail v e in
     record { number = share.number; entries = share.entries; side = record { least = share.side.least; most = share.side.most; head = share.side.head; bell = share.side.bell; tail = share.side.tail; known_head = known } }) (λ e. share)
 
 pub share_queues : hosts_share_queues
@@ -86,19 +86,19 @@ image-heard e reply v c = grind arith
 pub commands-heard : (e : Event) (reply : Reply) (v : HostView) (c : Contents) → (heard e reply v c).commands ≡ c.commands
 commands-heard e reply v c = grind arith
 
-pub length-device : (m : Memory) (n q : ℕ) (hs : List HostQueue) (cs : List ControllerQueue) → ShareQueues n q hs cs → length (device_queues_of m hs cs) ≡ length cs
-length-device m n q [] [] h = refl
-length-device m n q (x ∷ hs) (c ∷ cs) h = ap suc (length-device m n (suc q) hs cs h.1)
-length-device m n q x y h = absurd h
+pub length-controller : (m : Memory) (n q : ℕ) (hs : List HostQueue) (cs : List ControllerQueue) → ShareQueues n q hs cs → length (served_queues_of m hs cs) ≡ length cs
+length-controller m n q [] [] h = refl
+length-controller m n q (x ∷ hs) (c ∷ cs) h = ap suc (length-controller m n (suc q) hs cs h.1)
+length-controller m n q x y h = absurd h
 
 keeps : (s : Sides) (e : Event) (reply : Reply) (host : HostView) (pages : Pages) → ShareQueues s.host.entries 0 s.host.host.queues s.controller.queues
-    → ShareQueues host.entries 0 host.host.queues (heard e reply host s.controller).queues → KeepsDevice (state_of s) (state_of (behind s e reply host pages))
+    → ShareQueues host.entries 0 host.host.queues (heard e reply host s.controller).queues → KeepsController (state_of s) (state_of (behind s e reply host pages))
 keeps s e reply host pages share share' =
     record {
       image = ap (λ (image : List ℕ). length image) (image-heard e reply host s.controller);
-      queues = length-device (byte_at pages) host.entries 0 host.host.queues (heard e reply host s.controller).queues share'
+      queues = length-controller (byte_at pages) host.entries 0 host.host.queues (heard e reply host s.controller).queues share'
           ∙ length-heard e reply host s.controller
-          ∙ sym (length-device (byte_at s.pages) s.host.entries 0 s.host.host.queues s.controller.queues share);
+          ∙ sym (length-controller (byte_at s.pages) s.host.entries 0 s.host.host.queues s.controller.queues share);
     }
 
 -- What it leaves
@@ -115,37 +115,37 @@ to_host z f t c s next new y e g h = grind arith
 pub refused_leaves : (s : Sides) (host : HostView) (pages : Pages) → alone host pages ≡ alone s.host s.pages → state_of (record s { host = host; pages = pages }) ≡ state_of s
 refused_leaves s host pages same = grind arith
 
-accepted_leaves : (s : Sides) (e : Event) (reply : Reply) (host : HostView) (pages : Pages) → s.trusted ≡ false → KeepsDevice (state_of s) (state_of (behind s e reply host pages))
+accepted_leaves : (s : Sides) (e : Event) (reply : Reply) (host : HostView) (pages : Pages) → s.trusted ≡ false → KeepsController (state_of s) (state_of (behind s e reply host pages))
     → host_part (after (state_of s) e reply) ≡ host_part (after (alone s.host s.pages) e reply)
     → (after (state_of s) e reply).memory ≡ (after (alone s.host s.pages) e reply).memory
     → LeavesByHost (alone s.host s.pages) (after (alone s.host s.pages) e reply) (alone host pages)
     → LeavesByHost (state_of s) (after (state_of s) e reply) (state_of (behind s e reply host pages))
-accepted_leaves s e reply host pages t device part memory leaves =
+accepted_leaves s e reply host pages t controller part memory leaves =
     let untold : host_part (state_of (behind s e reply host pages)) ≡ host_part (alone host pages) =
     ap (λ (b : Bool). record (host_part (alone host pages)) { trusted = b }) t in
-    record { part = untold ∙ leaves.part ∙ sym part; memory = leaves.memory ∙ sym memory; device = device }
+    record { part = untold ∙ leaves.part ∙ sym part; memory = leaves.memory ∙ sym memory; controller = controller }
 
-left : (s : Sides) (e : Event) (reply : Reply) (host : HostView) (pages : Pages) → s.trusted ≡ false → IsController e ≡ false → resets e ≡ false → KeepsDevice (state_of s) (state_of (behind s e reply host pages))
+left : (s : Sides) (e : Event) (reply : Reply) (host : HostView) (pages : Pages) → s.trusted ≡ false → IsController e ≡ false → resets e ≡ false → KeepsController (state_of s) (state_of (behind s e reply host pages))
     → host_part (after (state_of s) e reply) ≡ host_part (after (alone s.host s.pages) e reply)
     → (after (state_of s) e reply).memory ≡ (after (alone s.host s.pages) e reply).memory
     → Leaves (alone s.host s.pages) e reply (alone host pages)
     → Leaves (state_of s) e reply (state_of (behind s e reply host pages))
-left s e (events.Refused why touched) host pages t c z device part memory leaves = refused_leaves s host pages leaves
-left s e (events.Reserved d) host pages t c z device part memory leaves =
+left s e (events.Refused why touched) host pages t c z controller part memory leaves = refused_leaves s host pages leaves
+left s e (events.Reserved d) host pages t c z controller part memory leaves =
     to_host (resets e) (forges e) s.trusted (IsController e) (state_of s) _ _ z t c
-    (accepted_leaves s e (events.Reserved d) host pages t device part memory (by_host (resets e) (forges e) (IsController e) (alone s.host s.pages) _ _ z c leaves))
-left s e reply host pages t c z device part memory leaves =
+    (accepted_leaves s e (events.Reserved d) host pages t controller part memory (by_host (resets e) (forges e) (IsController e) (alone s.host s.pages) _ _ z c leaves))
+left s e reply host pages t c z controller part memory leaves =
     to_host (resets e) (forges e) s.trusted (IsController e) (state_of s) _ _ z t c
-    (accepted_leaves s e reply host pages t device part memory (by_host (resets e) (forges e) (IsController e) (alone s.host s.pages) _ _ z c leaves))
+    (accepted_leaves s e reply host pages t controller part memory (by_host (resets e) (forges e) (IsController e) (alone s.host s.pages) _ _ z c leaves))
 
 pub forged_step : forged_hosts_step
 forged_step s e reply host pages t c step share =
-    let both = blind (alone s.host s.pages) (device_of s) e reply refl c step.1 in
-    let same : record (alone s.host s.pages) { device = device_of s } ≡ state_of s = ap (λ (b : Bool). record (state_of s) { trusted = b }) (sym t) in
-    let device = keeps s e reply host pages share (share_queues s e reply host pages c step share) in (
+    let both = blind (alone s.host s.pages) (controller_part s) e reply refl c step.1 in
+    let same : record (alone s.host s.pages) { controller = controller_part s } ≡ state_of s = ap (λ (b : Bool). record (state_of s) { trusted = b }) (sym t) in
+    let controller = keeps s e reply host pages share (share_queues s e reply host pages c step share) in (
       step.0,
       subst (λ (x : State). Permits x e reply) same both.0,
-      left s e reply host pages t c (unreset s.host host s.pages pages e reply step) device
+      left s e reply host pages t c (unreset s.host host s.pages pages e reply step) controller
           (subst (λ (x : State). host_part (after x e reply) ≡ host_part (after (alone s.host s.pages) e reply)) same both.1)
           (subst (λ (x : State). (after x e reply).memory ≡ (after (alone s.host s.pages) e reply).memory) same both.2)
           step.2,

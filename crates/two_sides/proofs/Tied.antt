@@ -10,10 +10,10 @@ use Rattle.machine_model.proofs.Moves.{host_moves, posts, sends, queue_found, ha
 use Rattle.machine_model.proofs.{Owned.{HoldsPart, awaited_at, at_same, at_other, at_found, at_changed}, Sound.still_live}
 use Rattle.machine_model.proofs.{Steps.{managed_by, absent_state, unrefused, Accepts}, Tokens.{find_more, fewer_kept, knows_back, kind_known}}
 use Rattle.machine_model.proofs.TokensKept.{same_length, halves_fit, reset_pairs, TokensHeld}
-use Rattle.machine_model.specs.Agreeing.{is_absent_at as gone_at, has_completions_at as there_at, QueueFits as PairOk, QueuesFit as Paired, on_queue, is_out_of_service_at as out_at, is_known_deleted as is_over, is_known_deleted, AdminCommandsStand as Placed, Knows, is_kind, unmade, answered_well, done_well, deletes_sq, deletes_cq, creates_cq as creates_cq_agreeing, creates_sq as creates_sq_agreeing}
+use Rattle.machine_model.specs.Agreeing.{is_absent_at as gone_at, has_completions_at as there_at, QueueFits as PairOk, QueuesFit as Paired, on_queue, is_out_of_service_at as out_at, is_known_deleted as is_over, is_known_deleted, AdminCommandsStand as Placed, Knows, is_kind, unmade, completed_well, done_well, deletes_sq, deletes_cq, creates_cq as creates_cq_agreeing, creates_sq as creates_sq_agreeing}
 use Rattle.machine_model.specs.{Claims.AdminLives, Events.{Event, Reply}, Memory.with_pages}
 use Rattle.machine_model.specs.Refusals.{host_queue, next_rung, waits, in_service, is_gone, is_job, refusal_of, has_sq, has_cq, is_live, is_making, has_cq_alone}
-use Rattle.machine_model.specs.State.{State, Device, HostQueue, DeviceQueue, Job, Answer, with_record, Record, is_at, without_record}
+use Rattle.machine_model.specs.State.{State, Controller, HostQueue, ServedQueue, Job, PostedCompletion, with_record, Record, is_at, without_record}
 use Rattle.machine_model.specs.{Step.{HostPart, host_part, IsController}, Weights.{one, total}, declared.words.HostState.HostState}
 use Rattle.machine_model.specs.declared.words.HostState.TheVariants.{Live, Deleting, Gone, MakingCq, HalfMade, MakingSq}
 use Rattle.admin_commands.specs.{Entries.{named_queue, named_command, admin_entry}, Verdicts.{is_absent, is_live as is_running}, declared.AdminKind.AdminKind}
@@ -22,7 +22,7 @@ use Rattle.entry_codec.specs.declared.{admin_opcode.TheConstants.DELETE_IO_SQ, c
 use Rattle.entry_codec.specs.declared.{status.TheConstants.Status.{SUCCESS, ABORT_REQUESTED, ABORTED_SQ_DELETION}, submission.SubEntry.SubEntry}
 use Rattle.io_commands.specs.Jobs.{is_success, io_fault, bytes_after_check}
 use Rattle.queue_pair.specs.{Members.change, Memory.half_pages, Rings.{next_tail, next_head, knowing, HostRing}}
-use Rattle.two_sides.proofs.DeviceMoves.{paired_at, found_counts, Tied, Tie, Fit, tie_jobs, tie_less, tie_answered, tie_stop, tie_drop, tie_completion, tie_submission, tie_kill, stays_false, tie_host, tie_ring, tie_posted, pair_moves, unit_done, cleared, fetch_by, walk_by, complete_by}
+use Rattle.two_sides.proofs.ControllerMoves.{paired_at, found_counts, Tied, Tie, Fit, tie_jobs, tie_less, tie_answered, tie_stop, tie_drop, tie_completion, tie_submission, tie_kill, stays_false, tie_host, tie_ring, tie_posted, pair_moves, unit_done, cleared, fetch_by, walk_by, complete_by}
 use Rattle.two_sides.proofs.Standing.{runs_there, verdict_there, final_admin}
 use Rattle.page_memory.specs.declared.page.Half.TheVariants.{Submission, Completion}
 use Rattle.page_ledger.proofs.Pages.{length-pages_from}
@@ -30,13 +30,13 @@ use Rattle.controller_core.proofs.Lists.{length-change}
 
 -- Every event keeps the controller's queues tied to the host's.
 
-abbrev pub FitP : HostPart → Device → Type 0
+abbrev pub FitP : HostPart → Controller → Type 0
 FitP part d = Fit part.entries part.host.records part.host.queues d.queues d.jobs
 
 abbrev pub FitS : State → Type 0
-FitS s = FitP (host_part s) s.device
+FitS s = FitP (host_part s) s.controller
 
-abbrev pub TieP : HostPart → Device → Type 0
+abbrev pub TieP : HostPart → Controller → Type 0
 TieP part d = Tie part.entries part.host.queues d.queues d.jobs
 
 pub below : {A : Type 0} (xs : List A) (k : ℕ) → is_some (slice_get xs k) ≡ true → k < length xs
@@ -45,19 +45,19 @@ below (x ∷ xs) zero h = omega arith
 below (x ∷ xs) (suc k) h = omega (arith, below xs k h)
 
 -- what the tokens say of a queue
-pub deleted_is_gone : (s : State) → FitS s → (q : ℕ) (queue : HostQueue) → host_queue s q ≡ Some queue → is_over queue.state ≡ true → gone_at s.device.queues q ≡ true
+pub deleted_is_gone : (s : State) → FitS s → (q : ℕ) (queue : HostQueue) → host_queue s q ≡ Some queue → is_over queue.state ≡ true → gone_at s.controller.queues q ≡ true
 deleted_is_gone s h q queue e over = grind arith
 
-pub freed_is_gone : (s : State) → FitS s → (q : ℕ) (queue : HostQueue) → host_queue s q ≡ Some queue → is_gone queue.state ≡ true → there_at s.device.queues q ≡ false
+pub freed_is_gone : (s : State) → FitS s → (q : ℕ) (queue : HostQueue) → host_queue s q ≡ Some queue → is_gone queue.state ≡ true → there_at s.controller.queues q ≡ false
 freed_is_gone s h q queue e gone = grind arith
 
 pub tied_from_fit : (s : State) → FitS s → Tied s
 tied_from_fit s h = record { some_entries = h.some_entries; pairs = h.pairs; jobs = h.jobs; over = deleted_is_gone s h; gone = freed_is_gone s h }
 
--- The controller's events change its device alone
+-- The controller's events change its controller alone
 
 -- a job more, of a queue that is there and in service
-tie_more : (part : HostPart) (d : Device) (j : Job) → gone_at d.queues j.q ≡ false → out_at part.host.queues j.q ≡ false → TieP part d → TieP part (record d { jobs = d.jobs ++ j ∷ [] })
+tie_more : (part : HostPart) (d : Controller) (j : Job) → gone_at d.queues j.q ≡ false → out_at part.host.queues j.q ≡ false → TieP part d → TieP part (record d { jobs = d.jobs ++ j ∷ [] })
 tie_more part d j there served h = record {
   pairs = h.pairs;
   jobs = λ q some. go (λ z. gone_at d.queues z ≡ false) h.jobs there q (j.q == q) refl some (total-append (on_queue q) d.jobs (j ∷ []));
@@ -69,109 +69,109 @@ tie_more part d j there served h = record {
     go P before own q true e some t = subst P (eqb-true j.q q e) own
     go P before own q false e some t = before q (omega (arith, t, ap one e))
 
-tie_jobs_map : (part : HostPart) (d : Device) (f : Job → Job) → ((j : Job) → (f j).q ≡ j.q) → TieP part d → TieP part (record d { jobs = map f d.jobs })
+tie_jobs_map : (part : HostPart) (d : Controller) (f : Job → Job) → ((j : Job) → (f j).q ≡ j.q) → TieP part d → TieP part (record d { jobs = map f d.jobs })
 tie_jobs_map part d f same h =
     tie_jobs part.entries part.host.queues d.queues d.jobs (map f d.jobs) (λ q. omega (arith, total-map (on_queue q) f (λ j. ap (λ (z : ℕ). one (z == q)) (same j)) d.jobs)) h
 
-tie_on_job : (part : HostPart) (q cid : ℕ) (f : Job → Job) (s : State) → ((j : Job) → (f j).q ≡ j.q) → TieP part s.device → TieP part (a.on_job q cid f s).device
+tie_on_job : (part : HostPart) (q cid : ℕ) (f : Job → Job) (s : State) → ((j : Job) → (f j).q ≡ j.q) → TieP part s.controller → TieP part (a.on_job q cid f s).controller
 tie_on_job part q cid f s same h =
-    tie_jobs_map part s.device (λ j. if (j.q == q) && (j.entry.cid == cid) then f j else j)
+    tie_jobs_map part s.controller (λ j. if (j.q == q) && (j.entry.cid == cid) then f j else j)
     (λ j. (elim ((j.q == q) && (j.entry.cid == cid)) as (λ b. (if b then f j else j).q ≡ j.q) [ true ↦ same j | false ↦ refl ])) h
 
 pub stopped_q : (q : ℕ) (j : Job) → (a.stopped q j).q ≡ j.q
 stopped_q q j = (elim ((j.q == q) && is_none j.verdict) as (λ b. (if b then record j { verdict = Some ABORTED_SQ_DELETION } else j).q ≡ j.q) [ true ↦ refl | false ↦ refl ])
 
-tie_managed : (part : HostPart) (e : SubEntry) (s : State) → gone_at s.device.queues 0 ≡ false → out_at part.host.queues 0 ≡ false → TieP part s.device → TieP part (a.managed e s).device
+tie_managed : (part : HostPart) (e : SubEntry) (s : State) → gone_at s.controller.queues 0 ≡ false → out_at part.host.queues 0 ≡ false → TieP part s.controller → TieP part (a.managed e s).controller
 tie_managed part e s there served h =
-    let decided : (st : Status) (dw0 : ℕ) (t : State) → gone_at t.device.queues 0 ≡ false → TieP part t.device → TieP part (a.decided e st dw0 t).device = λ st dw0 t is.
-    tie_more part t.device (a.new_job 0 e (Some st) dw0 []) is served in
-    managed_by (λ (t : State). TieP part t.device) e s
+    let decided : (st : Status) (dw0 : ℕ) (t : State) → gone_at t.controller.queues 0 ≡ false → TieP part t.controller → TieP part (a.decided e st dw0 t).controller = λ st dw0 t is.
+    tie_more part t.controller (a.new_job 0 e (Some st) dw0 []) is served in
+    managed_by (λ (t : State). TieP part t.controller) e s
     (record {
       refuses = λ st bad. decided st 0 s there h;
       aborts = λ is8 w. decided SUCCESS 0 (a.on_job (named_queue e) (named_command e) (λ j. record j { verdict = Some ABORT_REQUESTED; waiting_abort = Some e.cid }) s) there
           (tie_on_job part (named_queue e) (named_command e) (λ j. record j { verdict = Some ABORT_REQUESTED; waiting_abort = Some e.cid }) s (λ j. refl) h);
       is_late = λ is8. decided SUCCESS 1 s there h;
       stops = λ is0 q0 runs.
-          let s1 = a.on_device_queue (named_queue e) (λ at. record at { state = Stopping }) s in
-          decided SUCCESS 0 (a.on_device (λ d. record d { jobs = map (a.stopped (named_queue e)) d.jobs }) s1) (still (λ d. record d { state = Stopping }) (λ d z. refl))
-          (tie_jobs_map part s1.device (a.stopped (named_queue e)) (stopped_q (named_queue e))
-          (tie_stop part.entries part.host.queues s.device.queues s.device.jobs (named_queue e) (runs_there s (named_queue e) runs) h));
-      drops = λ is4 q0 has gone. decided SUCCESS 0 (a.on_device_queue (named_queue e) a.dropped s) (still a.dropped (λ d z. z))
-          (tie_drop part.entries part.host.queues s.device.queues s.device.jobs (named_queue e) (absent_state s (named_queue e) gone) h);
-      makes_completion = λ is5 q0 gone. decided SUCCESS 0 (a.on_device_queue (named_queue e) a.completion_made s) (still a.completion_made (λ d z. z))
-          (tie_completion part.entries part.host.queues s.device.queues s.device.jobs (named_queue e) h);
-      makes_submission = λ is1 q0 gone has. decided SUCCESS 0 (a.on_device_queue (named_queue e) a.submission_made s) (still a.submission_made (λ d z. refl))
-          (tie_submission part.entries part.host.queues s.device.queues s.device.jobs (named_queue e) has h);
+          let s1 = a.on_served_queue (named_queue e) (λ at. record at { state = Stopping }) s in
+          decided SUCCESS 0 (a.on_controller (λ d. record d { jobs = map (a.stopped (named_queue e)) d.jobs }) s1) (still (λ d. record d { state = Stopping }) (λ d z. refl))
+          (tie_jobs_map part s1.controller (a.stopped (named_queue e)) (stopped_q (named_queue e))
+          (tie_stop part.entries part.host.queues s.controller.queues s.controller.jobs (named_queue e) (runs_there s (named_queue e) runs) h));
+      drops = λ is4 q0 has gone. decided SUCCESS 0 (a.on_served_queue (named_queue e) a.dropped s) (still a.dropped (λ d z. z))
+          (tie_drop part.entries part.host.queues s.controller.queues s.controller.jobs (named_queue e) (absent_state s (named_queue e) gone) h);
+      makes_completion = λ is5 q0 gone. decided SUCCESS 0 (a.on_served_queue (named_queue e) a.completion_made s) (still a.completion_made (λ d z. z))
+          (tie_completion part.entries part.host.queues s.controller.queues s.controller.jobs (named_queue e) h);
+      makes_submission = λ is1 q0 gone has. decided SUCCESS 0 (a.on_served_queue (named_queue e) a.submission_made s) (still a.submission_made (λ d z. refl))
+          (tie_submission part.entries part.host.queues s.controller.queues s.controller.jobs (named_queue e) has h);
     })
   where
-    still : (f : DeviceQueue → DeviceQueue) → ((d : DeviceQueue) → is_absent d.state ≡ false → is_absent (f d).state ≡ false) → gone_at (change (named_queue e) f s.device.queues) 0 ≡ false
-    still f same = stays_false (λ (d : DeviceQueue). is_absent d.state) true (named_queue e) f s.device.queues 0 (λ d ed z. same d) there
+    still : (f : ServedQueue → ServedQueue) → ((d : ServedQueue) → is_absent d.state ≡ false → is_absent (f d).state ≡ false) → gone_at (change (named_queue e) f s.controller.queues) 0 ≡ false
+    still f same = stays_false (λ (d : ServedQueue). is_absent d.state) true (named_queue e) f s.controller.queues 0 (λ d ed z. same d) there
 
 -- an entry that is fetched is one of a queue in service
-rung_served : (part : HostPart) (s : State) (q : ℕ) (e : SubEntry) → next_rung s q ≡ Some e → Paired part.entries part.host.queues s.device.queues → out_at part.host.queues q ≡ false
-rung_served part s q e h pairs = go (slice_get s.device.queues q) refl h
+rung_served : (part : HostPart) (s : State) (q : ℕ) (e : SubEntry) → next_rung s q ≡ Some e → Paired part.entries part.host.queues s.controller.queues → out_at part.host.queues q ≡ false
+rung_served part s q e h pairs = go (slice_get s.controller.queues q) refl h
   where
     fetched : (b : Bool) (un : List SubEntry) → (if b then slice_get un 0 else None) ≡ Some e → un ≡ [] → ⊥
     fetched true un is none = let no : ◌≡◌ {A = Option SubEntry} None (Some e) = sym (ap (λ (xs : List SubEntry). slice_get xs 0) none) ∙ is in absurd cc
     fetched false un is none = absurd cc
 
-    go : (o : Option DeviceQueue) → slice_get s.device.queues q ≡ o → option_and_then (λ queue. if is_running queue.state && nat_lt 0 queue.rung then slice_get queue.unfetched 0 else None) o ≡ Some e → out_at part.host.queues q ≡ false
+    go : (o : Option ServedQueue) → slice_get s.controller.queues q ≡ o → option_and_then (λ queue. if is_running queue.state && nat_lt 0 queue.rung then slice_get queue.unfetched 0 else None) o ≡ Some e → out_at part.host.queues q ≡ false
     go None at is = absurd cc
-    go (Some d) at is = let x = paired_at part.entries q part.host.queues s.device.queues d at pairs in let ex = x.1 in let pair = x.2 in grind arith
+    go (Some d) at is = let x = paired_at part.entries q part.host.queues s.controller.queues d at pairs in let ex = x.1 in let pair = x.2 in grind arith
 
-pub tie_fetch : (part : HostPart) (q : ℕ) (s : State) → TieP part s.device → TieP part (a.after_fetch q s).device
+pub tie_fetch : (part : HostPart) (q : ℕ) (s : State) → TieP part s.controller → TieP part (a.after_fetch q s).controller
 tie_fetch part q s h =
-    let off : (k : ℕ) → TieP part (a.taken_off k s).device = λ k.
-    tie_less part.entries part.host.queues s.device.queues s.device.jobs k (λ at. record at { unfetched = drop 1 at.unfetched; rung = at.rung - 1 }) (λ d. refl) (λ d. refl) (λ d none. ap (drop 1) none) (λ d none. none) h in
-    let kept : (e : SubEntry) → next_rung s q ≡ Some e → (k : ℕ) → gone_at (a.taken_off k s).device.queues q ≡ false = λ e next k.
-    stays_false (λ (d : DeviceQueue). is_absent d.state) true k (λ at. record at { unfetched = drop 1 at.unfetched; rung = at.rung - 1 }) s.device.queues q (λ d ed z i. i) (grind arith) in
-    fetch_by (λ (t : State). TieP part t.device) s q h
-    (λ e next c. tie_answered part.entries part.host.queues (a.taken_off q s).device.queues s.device.jobs q _ (rung_served part s q e next h.pairs) (off q))
-    (λ e next c z. tie_managed part e (a.taken_off 0 s) (subst (λ (k : ℕ). gone_at (a.taken_off 0 s).device.queues k ≡ false) z (kept e next 0)) (subst (λ (k : ℕ). out_at part.host.queues k ≡ false) z (rung_served part s q e next h.pairs)) (off 0))
+    let off : (k : ℕ) → TieP part (a.taken_off k s).controller = λ k.
+    tie_less part.entries part.host.queues s.controller.queues s.controller.jobs k (λ at. record at { unfetched = drop 1 at.unfetched; rung = at.rung - 1 }) (λ d. refl) (λ d. refl) (λ d none. ap (drop 1) none) (λ d none. none) h in
+    let kept : (e : SubEntry) → next_rung s q ≡ Some e → (k : ℕ) → gone_at (a.taken_off k s).controller.queues q ≡ false = λ e next k.
+    stays_false (λ (d : ServedQueue). is_absent d.state) true k (λ at. record at { unfetched = drop 1 at.unfetched; rung = at.rung - 1 }) s.controller.queues q (λ d ed z i. i) (grind arith) in
+    fetch_by (λ (t : State). TieP part t.controller) s q h
+    (λ e next c. tie_answered part.entries part.host.queues (a.taken_off q s).controller.queues s.controller.jobs q _ (rung_served part s q e next h.pairs) (off q))
+    (λ e next c z. tie_managed part e (a.taken_off 0 s) (subst (λ (k : ℕ). gone_at (a.taken_off 0 s).controller.queues k ≡ false) z (kept e next 0)) (subst (λ (k : ℕ). out_at part.host.queues k ≡ false) z (rung_served part s q e next h.pairs)) (off 0))
     (λ e next c other. let fault = io_fault (a.image_blocks (a.taken_off q s)) e in
-    tie_more part (a.taken_off q s).device (a.new_job q e fault 0 (bytes_after_check s.device.image e fault)) (kept e next q) (rung_served part s q e next h.pairs) (off q))
+    tie_more part (a.taken_off q s).controller (a.new_job q e fault 0 (bytes_after_check s.controller.image e fault)) (kept e next q) (rung_served part s q e next h.pairs) (off q))
 
-pub tie_walk : (part : HostPart) (q cid : ℕ) (s : State) → TieP part s.device → TieP part (a.after_walk q cid s).device
-tie_walk part q cid s h = walk_by (λ (t : State). TieP part t.device) s q cid h (λ j act at u. tie_on_job part q cid (unit_done s j act) s (λ j. refl) h)
+pub tie_walk : (part : HostPart) (q cid : ℕ) (s : State) → TieP part s.controller → TieP part (a.after_walk q cid s).controller
+tie_walk part q cid s h = walk_by (λ (t : State). TieP part t.controller) s q cid h (λ j act at u. tie_on_job part q cid (unit_done s j act) s (λ j. refl) h)
 
 -- no job of a queue is left where none passes the test
 none_left : (n : ℕ) (js : List Job) → list_any (λ k. k.q == n) js ≡ false → total (on_queue n) js ≡ 0
 none_left n [] h = refl
 none_left n (j ∷ js) h = let both = or_parts (j.q == n) (list_any (λ k. k.q == n) js) h in omega (arith, ap one both.0, none_left n js both.1)
 
-pub tie_complete : (part : HostPart) (q cid : ℕ) (s : State) → refusal_of s (events.Complete q cid) ≡ None → TieP part s.device → TieP part (a.after_complete q cid s).device
+pub tie_complete : (part : HostPart) (q cid : ℕ) (s : State) → refusal_of s (events.Complete q cid) ≡ None → TieP part s.controller → TieP part (a.after_complete q cid s).controller
 tie_complete part q cid s none h =
-    let rest : List Job = filter (λ k. not (is_job q cid k)) s.device.jobs in
-    let less : Tie part.entries part.host.queues s.device.queues (filter (λ k. not (is_job q cid k)) s.device.jobs) =
-    tie_jobs part.entries part.host.queues s.device.queues s.device.jobs (filter (λ k. not (is_job q cid k)) s.device.jobs) (λ z. total-filter (on_queue z) (λ k. not (is_job q cid k)) s.device.jobs) h in
-    complete_by (λ (t : State). TieP part t.device) s q cid h
+    let rest : List Job = filter (λ k. not (is_job q cid k)) s.controller.jobs in
+    let less : Tie part.entries part.host.queues s.controller.queues (filter (λ k. not (is_job q cid k)) s.controller.jobs) =
+    tie_jobs part.entries part.host.queues s.controller.queues s.controller.jobs (filter (λ k. not (is_job q cid k)) s.controller.jobs) (λ z. total-filter (on_queue z) (λ k. not (is_job q cid k)) s.controller.jobs) h in
+    complete_by (λ (t : State). TieP part t.controller) s q cid h
     (λ j e c.
     let judged : is_none j.verdict ≡ false = rw e at (unrefused s (events.Complete q cid) none).1.0 in
     let free : waits s j ≡ false = rw e at (unrefused s (events.Complete q cid) none).1.1.0 in
     let v = verdict_there j judged in
     let c1 = and_parts ((j.q == 0) && (j.entry.opcode == DELETE_IO_SQ)) (is_success (a.final_status s j)) c in
     let ok : is_success v.0 ≡ true = ap is_success (sym (final_admin s j v.0 (eqb-true j.q 0 (and_parts (j.q == 0) (j.entry.opcode == DELETE_IO_SQ) c1.0).0) v.1)) ∙ c1.1 in
-    tie_answered part.entries part.host.queues (change (named_queue j.entry) cleared s.device.queues) rest q _ (h.service q (found_counts q cid s.device.jobs j e))
-    (tie_kill part.entries part.host.queues s.device.queues rest (named_queue j.entry)
+    tie_answered part.entries part.host.queues (change (named_queue j.entry) cleared s.controller.queues) rest q _ (h.service q (found_counts q cid s.controller.jobs j e))
+    (tie_kill part.entries part.host.queues s.controller.queues rest (named_queue j.entry)
     -- a job of queue 0 whose deletion is done has no job of its queue before it
-    (omega (arith, none_left (named_queue j.entry) s.device.jobs (grind arith), total-filter (on_queue (named_queue j.entry)) (λ k. not (is_job q cid k)) s.device.jobs)) less))
-    (λ j e c. tie_answered part.entries part.host.queues s.device.queues rest q _ (h.service q (found_counts q cid s.device.jobs j e)) less)
+    (omega (arith, none_left (named_queue j.entry) s.controller.jobs (grind arith), total-filter (on_queue (named_queue j.entry)) (λ k. not (is_job q cid k)) s.controller.jobs)) less))
+    (λ j e c. tie_answered part.entries part.host.queues s.controller.queues rest q _ (h.service q (found_counts q cid s.controller.jobs j e)) less)
 
 -- The host's events keep the controller's queues tied to the host's.
 
 abbrev pub TieS : State → Type 0
-TieS s = Tie s.entries s.host.queues s.device.queues s.device.jobs
+TieS s = Tie s.entries s.host.queues s.controller.queues s.controller.jobs
 
 -- Posting: the queue is live, and there at the controller
 
 pub record TakesEntries (s : State) (q : ℕ) : Type 0 where
   pub live : (x : HostQueue) → slice_get s.host.queues q ≡ Some x → is_live x.state ≡ true
-  pub there : (x : HostQueue) → slice_get s.host.queues q ≡ Some x → gone_at s.device.queues q ≡ false
+  pub there : (x : HostQueue) → slice_get s.host.queues q ≡ Some x → gone_at s.controller.queues q ≡ false
 
 pub tie_posts : (q : ℕ) (entry : SubEntry) (s : State) → TakesEntries s q → TieS s → TieS (posts q entry s)
 tie_posts q entry s takes h =
-    tie_ring s.entries s.host.queues (change q (λ at. record at { unfetched = at.unfetched ++ entry ∷ [] }) s.device.queues) s.device.jobs q (next_tail s.entries) (λ x e. live_in_use x.state (takes.live x e))
-    (tie_posted s.entries s.host.queues s.device.queues s.device.jobs q entry takes.there (served (slice_get s.host.queues q) refl) h)
+    tie_ring s.entries s.host.queues (change q (λ at. record at { unfetched = at.unfetched ++ entry ∷ [] }) s.controller.queues) s.controller.jobs q (next_tail s.entries) (λ x e. live_in_use x.state (takes.live x e))
+    (tie_posted s.entries s.host.queues s.controller.queues s.controller.jobs q entry takes.there (served (slice_get s.host.queues q) refl) h)
   where
     served : (o : Option HostQueue) → slice_get s.host.queues q ≡ o → out_at s.host.queues q ≡ false
     served None e = ap (λ (o : Option HostQueue). option_map_or (λ h. not (in_service h.state)) o false) e
@@ -184,17 +184,17 @@ made s q none x e = grind arith
 
 tie_consumed : (q : ℕ) (s : State) → refusal_of s (events.Reap q) ≡ None → TieS s → TieS (a.consumed q s)
 tie_consumed q s none h =
-    tie_less s.entries (change q (λ x. record x { ring = next_head s.entries x.ring }) s.host.queues) s.device.queues s.device.jobs q (λ at. record at { answers = drop 1 at.answers }) (λ d. refl) (λ d. refl) (λ d e. e) (λ d e. ap (drop 1) e)
-    (tie_ring s.entries s.host.queues s.device.queues s.device.jobs q (next_head s.entries) (made s q none) h)
+    tie_less s.entries (change q (λ x. record x { ring = next_head s.entries x.ring }) s.host.queues) s.controller.queues s.controller.jobs q (λ at. record at { completions = drop 1 at.completions }) (λ d. refl) (λ d. refl) (λ d e. e) (λ d e. ap (drop 1) e)
+    (tie_ring s.entries s.host.queues s.controller.queues s.controller.jobs q (next_head s.entries) (made s q none) h)
 
 tie_heard : (q : ℕ) (e : ComEntry) (s : State) → refusal_of s (events.Reap q) ≡ None → TieS s → TieS (a.heard q e s)
 tie_heard q e s none h =
-    tie_ring s.entries (a.consumed q s).host.queues (a.consumed q s).device.queues s.device.jobs q (knowing e.sqhd)
+    tie_ring s.entries (a.consumed q s).host.queues (a.consumed q s).controller.queues s.controller.jobs q (knowing e.sqhd)
     (λ y ey. let x = ring_at q q (next_head s.entries) s.host.queues y ey in ap is_making x.2 ∙ made s q none x.0 x.1) (tie_consumed q s none h)
 
 -- Retiring: its completions are reaped
 
-pub no_answers : (s : State) (q : ℕ) → s.trusted ≡ true → refusal_of s (events.Retire q) ≡ None → (d : DeviceQueue) → slice_get s.device.queues q ≡ Some d → d.answers ≡ []
+pub no_answers : (s : State) (q : ℕ) → s.trusted ≡ true → refusal_of s (events.Retire q) ≡ None → (d : ServedQueue) → slice_get s.controller.queues q ≡ Some d → d.completions ≡ []
 no_answers s q t none d ed = grind arith
 
 -- Every event
@@ -206,8 +206,8 @@ pub record Ground (s : State) : Type 0 where
   pub trusted : s.trusted ≡ true
   pub holds : HoldsPart (host_part s)
   pub zero_live : AdminLives s.host.queues
-  pub live : (q : ℕ) (x : HostQueue) → slice_get s.host.queues q ≡ Some x → is_live x.state ≡ true → gone_at s.device.queues q ≡ false
-  pub over : (q : ℕ) (x : HostQueue) → slice_get s.host.queues q ≡ Some x → is_over x.state ≡ true → gone_at s.device.queues q ≡ true
+  pub live : (q : ℕ) (x : HostQueue) → slice_get s.host.queues q ≡ Some x → is_live x.state ≡ true → gone_at s.controller.queues q ≡ false
+  pub over : (q : ℕ) (x : HostQueue) → slice_get s.host.queues q ≡ Some x → is_over x.state ≡ true → gone_at s.controller.queues q ≡ true
 
 pub takes_zero : (s : State) → Ground s → TakesEntries s 0
 takes_zero s g = record { live = lives; there = λ x e. g.live 0 x e (lives x e) }
@@ -223,8 +223,8 @@ pub tie_host_event : (s : State) (e : Event) (reply : Reply) → Accepts s e rep
 tie_host_event s e reply ok c g h =
     let sent : (adm : AdminKind) (id : ℕ) → TieS (sends adm id s) = λ adm id.
     let takes = takes_zero s g in tie_posts 0 (admin_entry adm id) (a.on_records (λ records. records ++ sent_record adm id ∷ []) s) (record { live = takes.live; there = takes.there }) h in
-    let elsewhere : (adm : AdminKind) (id q : ℕ) (f : HostQueue → HostQueue) (t : State) → t.entries ≡ s.entries → t.host.queues ≡ change q f s.host.queues → t.device.queues ≡ s.device.queues → t.device.jobs ≡ s.device.jobs → (q == 0) ≡ false
-    → Tie s.entries (change q f s.host.queues) s.device.queues s.device.jobs → TieS (sends adm id t) = λ adm id q f t es hs ds js other tie.
+    let elsewhere : (adm : AdminKind) (id q : ℕ) (f : HostQueue → HostQueue) (t : State) → t.entries ≡ s.entries → t.host.queues ≡ change q f s.host.queues → t.controller.queues ≡ s.controller.queues → t.controller.jobs ≡ s.controller.jobs → (q == 0) ≡ false
+    → Tie s.entries (change q f s.host.queues) s.controller.queues s.controller.jobs → TieS (sends adm id t) = λ adm id q f t es hs ds js other tie.
     let takes = takes_zero s g in
     let back : (x : HostQueue) → slice_get t.host.queues 0 ≡ Some x → slice_get s.host.queues 0 ≡ Some x = λ x e. takes_still s q f other takes x (ap (λ xs. slice_get xs 0) (sym hs) ∙ e) in
     tie_posts 0 (admin_entry adm id) (a.on_records (λ records. records ++ sent_record adm id ∷ []) t)
@@ -237,43 +237,43 @@ tie_host_event s e reply ok c g h =
           let lives : (y : HostQueue) → slice_get s.host.queues d.q ≡ Some y → is_live y.state ≡ true = λ y e. let same : x.0 ≡ y = cc (x.1, e) in ap (λ (z : HostQueue). is_live z.state) (sym same) ∙ x.2 in
           tie_posts d.q entry (a.on_records (with_record d.q d.cid a.submitted) (a.on_memory (with_pages (d.data_pages ++ d.chain_pages)) s)) (record { live = lives; there = λ y e. g.live d.q y e (lives y e) }) h;
       cancels = λ d r its none'. h;
-      rings = λ q none none'. tie_less s.entries s.host.queues s.device.queues s.device.jobs q (λ at. record at { rung = length at.unfetched }) (λ d. refl) (λ d. refl) (λ d e. e) (λ d e. e) h;
+      rings = λ q none none'. tie_less s.entries s.host.queues s.controller.queues s.controller.jobs q (λ at. record at { rung = length at.unfetched }) (λ d. refl) (λ d. refl) (λ d e. e) (λ d e. e) h;
       rests = λ q is none'. h;
       rejects = λ q why is none'. tie_consumed q s none' h;
       tells = λ q cid st what e r request told heard w none'. tie_heard q e s none' h;
       hears = λ q cid st what e r adm told heard w quiet unmade none'. tie_heard q e s none' h;
       notes = λ q cid st what e r k told heard w none'.
           let u = a.heard q e s in
-          tie_host s.entries u.host.queues u.device.queues s.device.jobs k (λ queue. record queue { state = if is_success st then Deleting true else Live })
+          tie_host s.entries u.host.queues u.controller.queues s.controller.jobs k (λ queue. record queue { state = if is_success st then Deleting true else Live })
           (λ x d ex ed p. noted x d (asked_as_heard s q cid st e r k g.holds heard w x ex) p (is_success st)) (λ x ex some o. grind arith) (tie_heard q e s none' h);
       frees = λ q cid st what e r k queue told heard w at alone good none'.
           let u = a.heard q e s in
           let is : (x : HostQueue) → slice_get u.host.queues k ≡ Some x → in_service x.state ≡ false = λ x ex. let same : queue ≡ x = cc (at, ex) in ap (λ (z : HostQueue). in_service z.state) (sym same) ∙ alone_is_out queue.state alone in
-          tie_host s.entries u.host.queues u.device.queues s.device.jobs k a.gone
+          tie_host s.entries u.host.queues u.controller.queues s.controller.jobs k a.gone
           (λ x d ex ed p. pair_moves s.entries x (a.gone x) d (λ o. absurd (true≢false (sym o))) (λ o. absurd (true≢false (sym o))) (λ o. is x ex) (λ o. absurd (true≢false (sym o))) p)
           (λ x ex some o. absurd (true≢false (sym o ∙ is x ex))) (tie_heard q e s none' h);
       makes_cq = λ q cid st what e r k n base told heard w good none'.
           let u = a.heard q e s in
           let is : (x : HostQueue) → slice_get u.host.queues k ≡ Some x → x.state ≡ MakingCq = λ x ex. making_cq_as_heard s q cid st e r k n base g.holds heard w x ex in
-          tie_host s.entries u.host.queues u.device.queues s.device.jobs k a.half_made
+          tie_host s.entries u.host.queues u.controller.queues s.controller.jobs k a.half_made
           (λ x d ex ed p. pair_moves s.entries x (a.half_made x) d (λ o. absurd (true≢false (sym o))) (λ o. p.comp (ap has_cq (is x ex))) (λ o. ap in_service (is x ex)) (λ o. p.fresh (ap is_making (is x ex))) p)
           (λ x ex some o. absurd (true≢false (sym o ∙ ap in_service (is x ex)))) (tie_heard q e s none' h);
       unmakes_cq = λ q cid st what e r k n base queue told heard w at bad none'.
           let u = a.heard q e s in
           let is : (x : HostQueue) → slice_get u.host.queues k ≡ Some x → x.state ≡ MakingCq = λ x ex. making_cq_as_heard s q cid st e r k n base g.holds heard w x ex in
-          tie_host s.entries u.host.queues u.device.queues s.device.jobs k a.gone
+          tie_host s.entries u.host.queues u.controller.queues s.controller.jobs k a.gone
           (λ x d ex ed p. pair_moves s.entries x (a.gone x) d (λ o. absurd (true≢false (sym o))) (λ o. absurd (true≢false (sym o))) (λ o. ap in_service (is x ex)) (λ o. absurd (true≢false (sym o))) p)
           (λ x ex some o. absurd (true≢false (sym o ∙ ap in_service (is x ex)))) (tie_heard q e s none' h);
       makes_sq = λ q cid st what e r k n base told heard w good none'.
           let u = a.heard q e s in
           let is : (x : HostQueue) → slice_get u.host.queues k ≡ Some x → x.state ≡ MakingSq = λ x ex. making_sq_as_heard s q cid st e r k n base g.holds heard w x ex in
-          tie_host s.entries u.host.queues u.device.queues s.device.jobs k a.live
+          tie_host s.entries u.host.queues u.controller.queues s.controller.jobs k a.live
           (λ x d ex ed p. pair_moves s.entries x (a.live x) d (λ o. p.sub (ap has_sq (is x ex))) (λ o. p.comp (ap has_cq (is x ex))) (λ o. absurd (true≢false o)) (λ o. absurd (true≢false (sym o))) p)
           (λ x ex some o. refl) (tie_heard q e s none' h);
       unmakes_sq = λ q cid st what e r k n base queue told heard w at bad none'.
           let u = a.heard q e s in
           let is : (x : HostQueue) → slice_get u.host.queues k ≡ Some x → x.state ≡ MakingSq = λ x ex. making_sq_as_heard s q cid st e r k n base g.holds heard w x ex in
-          tie_host s.entries u.host.queues u.device.queues s.device.jobs k a.unmade_sq
+          tie_host s.entries u.host.queues u.controller.queues s.controller.jobs k a.unmade_sq
           (λ x d ex ed p. pair_moves s.entries x (a.unmade_sq x) d (λ o. absurd (true≢false (sym o))) (λ o. p.comp (ap has_cq (is x ex))) (λ o. ap in_service (is x ex)) (λ o. p.fresh (ap is_making (is x ex))) p)
           (λ x ex some o. absurd (true≢false (sym o ∙ ap in_service (is x ex)))) (tie_heard q e s none' h);
       collects = λ q cid r f at held is none'. h;
@@ -282,7 +282,7 @@ tie_host_event s e reply ok c g h =
       asks = λ q id queue none new live none'.
           let u = sends (DeleteSq q) id s in
           let is : (x : HostQueue) → slice_get u.host.queues q ≡ Some x → x.state ≡ Live = λ x ex. still_live s q 0 (next_tail s.entries) queue x live ex in
-          tie_host s.entries u.host.queues u.device.queues s.device.jobs q a.deleting
+          tie_host s.entries u.host.queues u.controller.queues s.controller.jobs q a.deleting
           (λ x d ex ed p. pair_moves s.entries x (a.deleting x) d (λ o. p.sub (ap has_sq (is x ex))) (λ o. p.comp (ap has_cq (is x ex))) (λ o. absurd (true≢false o)) (λ o. absurd (true≢false (sym o))) p)
           (λ x ex some o. refl) (sent (DeleteSq q) id);
       drops = λ q id none new none'. sent (DeleteCq q) id;
@@ -290,19 +290,19 @@ tie_host_event s e reply ok c g h =
           let f = a.making_cq (half_from Completion first s) in
           let is : (x : HostQueue) → slice_get s.host.queues q ≡ Some x → x.state ≡ Gone = λ x ex. let same : queue ≡ x = cc (granted.there, ex) in ap (λ (z : HostQueue). z.state) (sym same) ∙ granted.state in
           elsewhere (creates_cq q first s) id q f (grants_cq q first s) refl refl refl refl granted.other
-          (tie_host s.entries s.host.queues s.device.queues s.device.jobs q f
+          (tie_host s.entries s.host.queues s.controller.queues s.controller.jobs q f
           (λ x d ex ed p. pair_moves s.entries x (f x) d (λ o. absurd (true≢false (sym o))) (λ o. length-pages_from first (half_pages s.entries Completion)) (λ o. ap in_service (is x ex)) (λ o. refl) p)
           (λ x ex some o. absurd (true≢false (sym o ∙ ap in_service (is x ex)))) h);
       creates_sqs = λ q id first queue none new granted none'.
           let f = a.making_sq (half_from Submission first s) in
           let is : (x : HostQueue) → slice_get s.host.queues q ≡ Some x → x.state ≡ HalfMade = λ x ex. let same : queue ≡ x = cc (granted.there, ex) in ap (λ (z : HostQueue). z.state) (sym same) ∙ granted.state in
           elsewhere (creates_sq q first s) id q f (grants_sq q first s) refl refl refl refl granted.other
-          (tie_host s.entries s.host.queues s.device.queues s.device.jobs q f
+          (tie_host s.entries s.host.queues s.controller.queues s.controller.jobs q f
           (λ x d ex ed p. pair_moves s.entries x (f x) d (λ o. length-pages_from first (half_pages s.entries Submission)) (λ o. p.comp (ap has_cq (is x ex))) (λ o. ap in_service (is x ex)) (λ o. refl) p)
           (λ x ex some o. absurd (true≢false (sym o ∙ ap in_service (is x ex)))) h);
       retires = λ q queue none at deleted none'.
-          let gone : gone_at s.device.queues q ≡ true = g.over q queue at (ap is_over deleted) in
-          tie_host s.entries s.host.queues s.device.queues s.device.jobs q a.retired
+          let gone : gone_at s.controller.queues q ≡ true = g.over q queue at (ap is_over deleted) in
+          tie_host s.entries s.host.queues s.controller.queues s.controller.jobs q a.retired
           (λ x d ex ed p.
           let same : queue ≡ x = cc (at, ex) in
           record {
@@ -310,20 +310,20 @@ tie_host_event s e reply ok c g h =
             comp = λ o. p.comp (ap (λ (z : HostQueue). has_cq z.state) (sym same) ∙ ap has_cq deleted);
             half = p.half;
             emptied = p.emptied;
-            unfetched = λ o. p.emptied (sym (ap (λ (o : Option DeviceQueue). option_map_or (λ at. is_absent at.state) o true) ed) ∙ gone);
-            answers = λ o. no_answers s q g.trusted none d ed;
+            unfetched = λ o. p.emptied (sym (ap (λ (o : Option ServedQueue). option_map_or (λ at. is_absent at.state) o true) ed) ∙ gone);
+            completions = λ o. no_answers s q g.trusted none d ed;
             fresh = λ o. absurd (true≢false (sym o));
           })
           (λ x ex some o. absurd (true≢false (sym gone ∙ h.jobs q some))) h;
       forges = λ q slot bytes queue none at none'. h;
       resets = λ none. record {
-        pairs = reset_pairs s.entries s.host.queues s.device.queues (same_length s.entries s.host.queues s.device.queues h.pairs) (halves_fit s.entries s.host.queues s.device.queues h.pairs g.zero_live);
+        pairs = reset_pairs s.entries s.host.queues s.controller.queues (same_length s.entries s.host.queues s.controller.queues h.pairs) (halves_fit s.entries s.host.queues s.controller.queues h.pairs g.zero_live);
         jobs = λ q some. absurd (omega (arith, some));
         service = λ q some. absurd (omega (arith, some));
       };
     }) ok.0
   where
-    noted : (x : HostQueue) (d : DeviceQueue) → x.state ≡ Deleting false → PairOk s.entries x d → (b : Bool) → PairOk s.entries (record x { state = if b then Deleting true else Live }) d
+    noted : (x : HostQueue) (d : ServedQueue) → x.state ≡ Deleting false → PairOk s.entries x d → (b : Bool) → PairOk s.entries (record x { state = if b then Deleting true else Live }) d
     noted x d is p true = pair_moves s.entries x (record x { state = Deleting true }) d (λ o. p.sub (ap has_sq is)) (λ o. p.comp (ap has_cq is)) (λ o. absurd (true≢false o)) (λ o. absurd (true≢false (sym o))) p
     noted x d is p false = pair_moves s.entries x (record x { state = Live }) d (λ o. p.sub (ap has_sq is)) (λ o. p.comp (ap has_cq is)) (λ o. absurd (true≢false o)) (λ o. absurd (true≢false (sym o))) p
 
@@ -348,7 +348,7 @@ alike_ring k g hs = record {
 pub alike_then : (hs hs' hs'' : List HostQueue) → Alike hs hs' → Alike hs' hs'' → Alike hs hs''
 alike_then hs hs' hs'' a b = record { long = b.long ∙ a.long; known = λ q. b.known q ∙ a.known q; gone = λ q. b.gone q ∙ a.gone q; live = λ q. b.live q ∙ a.live q }
 
-pub tokens_alike : (rs : List Record) (hs hs' : List HostQueue) (ds : List DeviceQueue) (un : List SubEntry) (js : List Job) (ans : List Answer) → Alike hs hs' → TokensHeld rs hs ds un js ans → TokensHeld rs hs' ds un js ans
+pub tokens_alike : (rs : List Record) (hs hs' : List HostQueue) (ds : List ServedQueue) (un : List SubEntry) (js : List Job) (ans : List PostedCompletion) → Alike hs hs' → TokensHeld rs hs ds un js ans → TokensHeld rs hs' ds un js ans
 tokens_alike rs hs hs' ds un js ans a h = record {
   submission = λ q. omega (arith, h.submission q, ap one (a.known q));
   completion = λ q. omega (arith, h.completion q, ap one (a.gone q));
@@ -357,12 +357,12 @@ tokens_alike rs hs hs' ds un js ans a h = record {
 
 -- An admin command is sent, and its queue with it turns
 
-pub record Sends (rs : List Record) (un : List SubEntry) (js : List Job) (ans : List Answer) (rs' : List Record) (un' : List SubEntry) (adm : AdminKind) : Type 0 where
+pub record Sends (rs : List Record) (un : List SubEntry) (js : List Job) (ans : List PostedCompletion) (rs' : List Record) (un' : List SubEntry) (adm : AdminKind) : Type 0 where
   pub unmade : (test : AdminKind → Bool) → unmade test rs' un' js ans ≤ unmade test rs un js ans + one (test adm)
-  pub answered : (test : AdminKind → Bool) → answered_well test rs' ans ≤ answered_well test rs ans
+  pub answered : (test : AdminKind → Bool) → completed_well test rs' ans ≤ completed_well test rs ans
   pub done : (test : AdminKind → Bool) → done_well test rs' js ans ≤ done_well test rs js ans
 
-pub sends_more : (rs : List Record) (un : List SubEntry) (js : List Job) (ans : List Answer) (new : Record) (adm : AdminKind) (id : ℕ) → Placed rs un js ans → Knows (rs ++ new ∷ []) id adm
+pub sends_more : (rs : List Record) (un : List SubEntry) (js : List Job) (ans : List PostedCompletion) (new : Record) (adm : AdminKind) (id : ℕ) → Placed rs un js ans → Knows (rs ++ new ∷ []) id adm
     → Sends rs un js ans (rs ++ new ∷ []) (un ++ admin_entry adm id ∷ []) adm
 sends_more rs un js ans new adm id placed k =
     let few = (fewer_kept rs (rs ++ new ∷ []) un js ans placed (λ c a w. (w.0, find_more (is_at 0 c) rs new w.0 w.1, w.2))).0 in
@@ -378,7 +378,7 @@ pub record Turns (hs hs' : List HostQueue) (adm : AdminKind) : Type 0 where
   pub gone : (q : ℕ) → one (awaited_at is_gone hs' q) + one (creates_cq_agreeing q adm) ≤ one (awaited_at is_gone hs q)
   pub live : (q : ℕ) → one (awaited_at is_live hs' q) + one (deletes_sq q adm) ≤ one (awaited_at is_live hs q)
 
-pub tokens_sends : (rs rs' : List Record) (hs hs' : List HostQueue) (ds : List DeviceQueue) (un un' : List SubEntry) (js : List Job) (ans : List Answer) (adm : AdminKind) → Sends rs un js ans rs' un' adm → Turns hs hs' adm
+pub tokens_sends : (rs rs' : List Record) (hs hs' : List HostQueue) (ds : List ServedQueue) (un un' : List SubEntry) (js : List Job) (ans : List PostedCompletion) (adm : AdminKind) → Sends rs un js ans rs' un' adm → Turns hs hs' adm
     → TokensHeld rs hs ds un js ans → TokensHeld rs' hs' ds un' js ans
 tokens_sends rs rs' hs hs' ds un un' js ans adm f t h = record {
   submission = λ q. omega (arith, h.submission q, f.unmade (creates_sq_agreeing q), f.answered (deletes_sq q), t.known q);
@@ -419,12 +419,12 @@ turns_not adm hs none = record {
 
 -- An admin command is heard of, and its queue with it moves on
 
-pub record Hears (rs : List Record) (un : List SubEntry) (js : List Job) (ans : List Answer) (rs' : List Record) (ans' : List Answer) (adm : AdminKind) (ok : Bool) : Type 0 where
+pub record Hears (rs : List Record) (un : List SubEntry) (js : List Job) (ans : List PostedCompletion) (rs' : List Record) (ans' : List PostedCompletion) (adm : AdminKind) (ok : Bool) : Type 0 where
   pub unmade : (test : AdminKind → Bool) → unmade test rs' un js ans' + one (test adm && not ok) ≤ unmade test rs un js ans
-  pub answered : (test : AdminKind → Bool) → answered_well test rs' ans' + one (test adm && ok) ≤ answered_well test rs ans
+  pub answered : (test : AdminKind → Bool) → completed_well test rs' ans' + one (test adm && ok) ≤ completed_well test rs ans
   pub done : (test : AdminKind → Bool) → done_well test rs' js ans' + one (test adm && ok) ≤ done_well test rs js ans
 
-pub hears_first : (rs : List Record) (cid : ℕ) (un : List SubEntry) (js : List Job) (an : Answer) (ans : List Answer) (adm : AdminKind) → an.cid ≡ cid → Knows rs cid adm → Placed (without_record 0 cid rs) un js ans
+pub hears_first : (rs : List Record) (cid : ℕ) (un : List SubEntry) (js : List Job) (an : PostedCompletion) (ans : List PostedCompletion) (adm : AdminKind) → an.cid ≡ cid → Knows rs cid adm → Placed (without_record 0 cid rs) un js ans
     → Hears rs un js (an ∷ ans) (without_record 0 cid rs) ans adm (is_success an.status)
 hears_first rs cid un js an ans adm same k placed =
     let kind : (test : AdminKind → Bool) → is_kind test rs an.cid ≡ test adm = λ test. ap (λ (c : ℕ). is_kind test rs c) same ∙ kind_known test rs cid adm k in
@@ -441,7 +441,7 @@ pub record MovesOn (hs hs' : List HostQueue) (adm : AdminKind) (ok : Bool) : Typ
   pub gone : (q : ℕ) → one (awaited_at is_gone hs' q) ≤ one (awaited_at is_gone hs q) + (one (deletes_cq q adm && ok) + one (creates_cq_agreeing q adm && not ok))
   pub live : (q : ℕ) → one (awaited_at is_live hs' q) ≤ one (awaited_at is_live hs q) + (one (deletes_sq q adm && not ok) + one (creates_sq_agreeing q adm && ok))
 
-pub tokens_hears : (rs rs' : List Record) (hs hs' : List HostQueue) (ds : List DeviceQueue) (un : List SubEntry) (js : List Job) (ans ans' : List Answer) (adm : AdminKind) (ok : Bool) → Hears rs un js ans rs' ans' adm ok → MovesOn hs hs' adm ok
+pub tokens_hears : (rs rs' : List Record) (hs hs' : List HostQueue) (ds : List ServedQueue) (un : List SubEntry) (js : List Job) (ans ans' : List PostedCompletion) (adm : AdminKind) (ok : Bool) → Hears rs un js ans rs' ans' adm ok → MovesOn hs hs' adm ok
     → TokensHeld rs hs ds un js ans → TokensHeld rs' hs' ds un js ans'
 tokens_hears rs rs' hs hs' ds un js ans ans' adm ok f m h = record {
   submission = λ q. omega (arith, h.submission q, f.unmade (creates_sq_agreeing q), f.answered (deletes_sq q), m.known q);

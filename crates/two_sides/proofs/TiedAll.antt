@@ -12,11 +12,11 @@ use Rattle.machine_model.proofs.{HostLeaves.host_leaves, Kept.{submissions_await
 use Rattle.machine_model.proofs.{Moves.{host_moves, half_from, grants_cq, grants_sq}, Owned.{HoldsPart, reset_length}}
 use Rattle.machine_model.proofs.Sound.{asks, asked_event, asked_at, opened_quiet, opened_waits_not, TakenPart, Both, both_events, small}
 use Rattle.machine_model.proofs.{Steps.{Accepts, part_controller, unrefused}, TokensKept.{tokens_of, tokens_to, same_length}}
-use Rattle.machine_model.specs.Agreeing.{is_known_deleted, waiting, answering, is_absent_at as gone_at, has_completions_at as there_at, QueuesFit as Paired, QueueFits as PairOk}
-use Rattle.machine_model.specs.{Claims.AdminLives, Events.{Event, Reply}, Opening.{Opens, opening, queues_from, device_queue as opened}, Positions.IsInRing}
-use Rattle.machine_model.specs.{Refusals.{is_live, is_gone, job_at, refusal_of, is_job, host_queue}, State.{State, HostQueue, Job, DeviceQueue}}
+use Rattle.machine_model.specs.Agreeing.{is_known_deleted, waiting, admin_completions, is_absent_at as gone_at, has_completions_at as there_at, QueuesFit as Paired, QueueFits as PairOk}
+use Rattle.machine_model.specs.{Claims.AdminLives, Events.{Event, Reply}, Opening.{Opens, opening, queues_from, served_queue as opened}, Positions.IsInRing}
+use Rattle.machine_model.specs.{Refusals.{is_live, is_gone, job_at, refusal_of, is_job, host_queue}, State.{State, HostQueue, Job, ServedQueue}}
 use Rattle.machine_model.specs.{Step.{HostPart, host_part, IsController}, Weights.{one, total}, declared.words.HostState.TheVariants.{Live, Deleting}}
-use Rattle.two_sides.proofs.DeviceMoves.{tie_of, InRings, rings_on, rings_at_opening}
+use Rattle.two_sides.proofs.ControllerMoves.{tie_of, InRings, rings_on, rings_at_opening}
 use Rattle.two_sides.proofs.Standing.{StandsSound, stands_event, both_on, opening_stands}
 use Rattle.two_sides.proofs.Tied.{FitP, FitS, TieP, below, deleted_is_gone, tie_fetch, tie_walk, tie_complete, TieS, Ground, tie_host_event}
 use Rattle.two_sides.proofs.Tokens.{KnowingP, TokensP, tokens_fetch, tokens_walk, tokens_complete, TokensS, tokens_host_event}
@@ -29,19 +29,19 @@ use Rattle.host_core.proofs.KeptRows.{length-queues_from}
 
 -- What the tokens say of a live queue
 
-pub live_is_there : (s : State) → FitS s → (q : ℕ) (x : HostQueue) → slice_get s.host.queues q ≡ Some x → is_live x.state ≡ true → gone_at s.device.queues q ≡ false
+pub live_is_there : (s : State) → FitS s → (q : ℕ) (x : HostQueue) → slice_get s.host.queues q ≡ Some x → is_live x.state ≡ true → gone_at s.controller.queues q ≡ false
 live_is_there s h q x e live =
     h.tokens.there q (below s.host.queues q (ap is_some e)) (omega (arith, ap one (ap (λ (o : Option HostQueue). option_map_or (λ h. is_live h.state) o false) e ∙ live)))
 
 ground : (s : State) → s.trusted ≡ true → AdminLives s.host.queues → HoldsPart (host_part s) → FitS s → Ground s
 ground s t zero' holds h = record { trusted = t; holds = holds; zero_live = zero'; live = live_is_there s h; over = deleted_is_gone s h }
 
-known : (s : State) → StandsSound s → FitS s → KnowingP s.host.records s.host.queues s.device
+known : (s : State) → StandsSound s → FitS s → KnowingP s.host.records s.host.queues s.controller
 known s h f = record {
   placed = h.1.placed;
   once = h.0.once;
   few = f.few;
-  long = same_length s.entries s.host.queues s.device.queues f.pairs;
+  long = same_length s.entries s.host.queues s.controller.queues f.pairs;
   asked = f.asked;
   making = submissions_awaited s.host h.0.creations;
 }
@@ -56,7 +56,7 @@ whole s pos few asked tie held = record {
   pairs = tie.pairs;
   jobs = tie.jobs;
   service = tie.service;
-  tokens = tokens_to s.host.records s.host.queues s.device.queues s.device.jobs held;
+  tokens = tokens_to s.host.records s.host.queues s.controller.queues s.controller.jobs held;
 }
 
 -- how many queues there are stays
@@ -99,9 +99,9 @@ pub limits_stay : (n : ℕ) (s : State) (e : Event) (reply : Reply) → Accepts 
 limits_stay n s e reply ok c h = (omega (arith, (host_leaves s e reply ok c).entries, h.0), queues_stay s e reply ok c ∙ h.1)
 
 -- of the controller
-by_controller : (s : State) (e : Event) (reply : Reply) → IsController e ≡ true → FitS s → TieP (host_part s) (a.after s e reply).device → TokensP s.host.records s.host.queues (a.after s e reply).device → FitS (a.after s e reply)
+by_controller : (s : State) (e : Event) (reply : Reply) → IsController e ≡ true → FitS s → TieP (host_part s) (a.after s e reply).controller → TokensP s.host.records s.host.queues (a.after s e reply).controller → FitS (a.after s e reply)
 by_controller s e reply c f tie held =
-    subst (λ (part : HostPart). FitP part (a.after s e reply).device) (sym (part_controller s e reply c))
+    subst (λ (part : HostPart). FitP part (a.after s e reply).controller) (sym (part_controller s e reply c))
     (record {
       some_entries = f.some_entries;
       few = f.few;
@@ -109,37 +109,37 @@ by_controller s e reply c f tie held =
       pairs = tie.pairs;
       jobs = tie.jobs;
       service = tie.service;
-      tokens = tokens_to s.host.records s.host.queues (a.after s e reply).device.queues (a.after s e reply).device.jobs held;
+      tokens = tokens_to s.host.records s.host.queues (a.after s e reply).controller.queues (a.after s e reply).controller.jobs held;
     })
 
 -- of the host
 by_host : (s : State) (e : Event) (reply : Reply) → Accepts s e reply → IsController e ≡ false → s.trusted ≡ true → AdminLives s.host.queues → StandsSound s → FitS s → FitS (a.after s e reply)
 by_host s e reply ok c t zero' h f =
-    let tie = tie_host_event s e reply ok c (ground s t zero' h.0 f) (tie_of s.entries s.host.records s.host.queues s.device.queues s.device.jobs f) in
-    let held = tokens_host_event s e reply ok c t f.few (same_length s.entries s.host.queues s.device.queues f.pairs) h.0 h.1 (stands_event s e reply ok t h) (tokens_of s.host.records s.host.queues s.device.queues s.device.jobs f.tokens) in
+    let tie = tie_host_event s e reply ok c (ground s t zero' h.0 f) (tie_of s.entries s.host.records s.host.queues s.controller.queues s.controller.jobs f) in
+    let held = tokens_host_event s e reply ok c t f.few (same_length s.entries s.host.queues s.controller.queues f.pairs) h.0 h.1 (stands_event s e reply ok t h) (tokens_of s.host.records s.host.queues s.controller.queues s.controller.jobs f.tokens) in
     let limits = limits_stay (length s.host.queues) s e reply ok c (f.some_entries, refl) in
     whole (a.after s e reply) limits.0 (subst (λ (k : ℕ). k ≤ 65536) (sym limits.1) f.few) (asked_event s e reply ok c h.0 f.asked) tie held
 
 -- a job that is walked is no admin command's
-walked : (s : State) (q cid : ℕ) → refusal_of s (events.Walk q cid) ≡ None → TokensP s.host.records s.host.queues s.device → TokensP s.host.records s.host.queues (a.after_walk q cid s).device
+walked : (s : State) (q cid : ℕ) → refusal_of s (events.Walk q cid) ≡ None → TokensP s.host.records s.host.queues s.controller → TokensP s.host.records s.host.queues (a.after_walk q cid s).controller
 walked s q cid none h = tokens_walk s.host.records s.host.queues q cid s (go (job_at s q cid) refl (unrefused s (events.Walk q cid) none).0 (unrefused s (events.Walk q cid) none).1.0) h
   where
     go : (o : Option Job) → job_at s q cid ≡ o → is_none o ≡ false → option_map_or (λ j. is_some j.verdict || (j.q == 0)) o false ≡ false → (q == 0) ≡ false
     go None e there nothing = absurd (true≢false there)
     go (Some j) e there nothing =
-        let at = and_parts (j.q == q) (j.entry.cid == cid) (found_is (is_job q cid) s.device.jobs j e) in
+        let at = and_parts (j.q == q) (j.entry.cid == cid) (found_is (is_job q cid) s.controller.jobs j e) in
         ap (λ (k : ℕ). k == 0) (sym (eqb-true j.q q at.0)) ∙ (or_parts (is_some j.verdict) (j.q == 0) nothing).1
 
 fit_event : (s : State) (e : Event) (reply : Reply) → Accepts s e reply → s.trusted ≡ true → AdminLives s.host.queues → StandsSound s → FitS s → FitS (a.after s e reply)
 fit_event s (events.Fetch q) (events.Fetched c touched) ok t z h f =
-    by_controller s (events.Fetch q) (events.Fetched c touched) refl f (tie_fetch (host_part s) q s (tie_of s.entries s.host.records s.host.queues s.device.queues s.device.jobs f))
-    (tokens_fetch s.host.records s.host.queues q s (known s h f) (tokens_of s.host.records s.host.queues s.device.queues s.device.jobs f.tokens))
+    by_controller s (events.Fetch q) (events.Fetched c touched) refl f (tie_fetch (host_part s) q s (tie_of s.entries s.host.records s.host.queues s.controller.queues s.controller.jobs f))
+    (tokens_fetch s.host.records s.host.queues q s (known s h f) (tokens_of s.host.records s.host.queues s.controller.queues s.controller.jobs f.tokens))
 fit_event s (events.Walk q cid) (events.Walked o touched) ok t z h f =
-    by_controller s (events.Walk q cid) (events.Walked o touched) refl f (tie_walk (host_part s) q cid s (tie_of s.entries s.host.records s.host.queues s.device.queues s.device.jobs f))
-    (walked s q cid ok.0 (tokens_of s.host.records s.host.queues s.device.queues s.device.jobs f.tokens))
+    by_controller s (events.Walk q cid) (events.Walked o touched) refl f (tie_walk (host_part s) q cid s (tie_of s.entries s.host.records s.host.queues s.controller.queues s.controller.jobs f))
+    (walked s q cid ok.0 (tokens_of s.host.records s.host.queues s.controller.queues s.controller.jobs f.tokens))
 fit_event s (events.Complete q cid) (events.Completed touched) ok t z h f =
-    by_controller s (events.Complete q cid) (events.Completed touched) refl f (tie_complete (host_part s) q cid s ok.0 (tie_of s.entries s.host.records s.host.queues s.device.queues s.device.jobs f))
-    (tokens_complete s.host.records s.host.queues q cid s ok.0 (known s h f) (tokens_of s.host.records s.host.queues s.device.queues s.device.jobs f.tokens))
+    by_controller s (events.Complete q cid) (events.Completed touched) refl f (tie_complete (host_part s) q cid s ok.0 (tie_of s.entries s.host.records s.host.queues s.controller.queues s.controller.jobs f))
+    (tokens_complete s.host.records s.host.queues q cid s ok.0 (known s h f) (tokens_of s.host.records s.host.queues s.controller.queues s.controller.jobs f.tokens))
 fit_event s (events.Fetch q) reply ok t z h f = absurd ok.1
 fit_event s (events.Walk q cid) reply ok t z h f = absurd ok.1
 fit_event s (events.Complete q cid) reply ok t z h f = absurd ok.1
@@ -159,7 +159,7 @@ opened_pairs page n (suc count) = (
     half = λ o. refl;
     emptied = λ o. refl;
     unfetched = λ o. refl;
-    answers = λ o. refl;
+    completions = λ o. refl;
     fresh = λ o. refl;
   },
   opened_pairs (page + half_pages n Submission + half_pages n Completion) n count,
@@ -170,7 +170,7 @@ opened_there zero q l = absurd (omega (arith, l))
 opened_there (suc count) zero l = refl
 opened_there (suc count) (suc q) l = opened_there count q (omega (arith, l))
 
-opened_waiting : (count : ℕ) → (waiting (replicate count opened) ≡ []) × (answering (replicate count opened) ≡ [])
+opened_waiting : (count : ℕ) → (waiting (replicate count opened) ≡ []) × (admin_completions (replicate count opened) ≡ [])
 opened_waiting zero = (refl, refl)
 opened_waiting (suc count) = (refl, refl)
 
@@ -235,14 +235,14 @@ grounds_at_opening pages queues n s image opens = record {
 
 -- Halves and positions of the host's queues
 
-paired_host_at : (n k : ℕ) (hs : List HostQueue) (ds : List DeviceQueue) (h : HostQueue) → slice_get hs k ≡ Some h → Paired n hs ds → (d : DeviceQueue) × (slice_get ds k ≡ Some d) × PairOk n h d
+paired_host_at : (n k : ℕ) (hs : List HostQueue) (ds : List ServedQueue) (h : HostQueue) → slice_get hs k ≡ Some h → Paired n hs ds → (d : ServedQueue) × (slice_get ds k ≡ Some d) × PairOk n h d
 paired_host_at n k [] [] h e p = absurd cc
 paired_host_at n zero (x ∷ hs) (d ∷ ds) h e p = let same : x ≡ h = cc in (d, refl, subst (λ (y : HostQueue). PairOk n y d) same p.0)
 paired_host_at n (suc k) (x ∷ hs) (d ∷ ds) h e p = paired_host_at n k hs ds h e p.1
 paired_host_at n k x y h e p = absurd p
 
-pub pair_at : (s : State) → Grounds s → (q : ℕ) (queue : HostQueue) → host_queue s q ≡ Some queue → (d : DeviceQueue) × (slice_get s.device.queues q ≡ Some d) × PairOk s.entries queue d
-pair_at s g q queue e = paired_host_at s.entries q s.host.queues s.device.queues queue e g.fit.pairs
+pub pair_at : (s : State) → Grounds s → (q : ℕ) (queue : HostQueue) → host_queue s q ≡ Some queue → (d : ServedQueue) × (slice_get s.controller.queues q ≡ Some d) × PairOk s.entries queue d
+pair_at s g q queue e = paired_host_at s.entries q s.host.queues s.controller.queues queue e g.fit.pairs
 
 pub ring_in : (s : State) → Grounds s → (q : ℕ) (queue : HostQueue) → host_queue s q ≡ Some queue → IsInRing s.entries queue.ring
 ring_in s g q queue e = all-at (λ queue. IsInRing s.entries queue.ring) s.host.queues q queue e g.rings

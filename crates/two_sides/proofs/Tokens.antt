@@ -10,20 +10,20 @@ use Rattle.entry_codec.specs.declared.status.{Status.Status, TheConstants.Status
 use Rattle.entry_codec.specs.declared.submission.SubEntry.{SubEntry}
 use Rattle.io_commands.specs.Jobs.{is_success, io_fault, bytes_after_check}
 use Rattle.machine_model.proofs.{Counting.{total-append, total-filter, total_without}, Kept.{making_cq_as_heard, ring_after}}
-use Rattle.machine_model.proofs.Moves.{asked_is, host_moves, sends, sent_record, drafted_record, half_from, creates_cq as creates_cq_moves, creates_sq as creates_sq_moves, IsHeard, answer_heard}
-use Rattle.machine_model.proofs.{Owned.{Awaited, awaited_at, awaits, was_awaited, HoldsPart, at_same, no_waiting, no_answering}, Sound.unused}
+use Rattle.machine_model.proofs.Moves.{asked_is, host_moves, sends, sent_record, drafted_record, half_from, creates_cq as creates_cq_moves, creates_sq as creates_sq_moves, IsHeard, completion_heard}
+use Rattle.machine_model.proofs.{Owned.{Awaited, awaited_at, awaits, was_awaited, HoldsPart, at_same, no_waiting, no_admin_completions}, Sound.unused}
 use Rattle.machine_model.proofs.Steps.{managed_by, absent_state, unrefused, Accepts}
 use Rattle.machine_model.proofs.Tokens.{find_filter, total_gone, Named, Fewer, named, total_below, total_none, total_map_all, kind_found, failing, succeeding, failed, succeeded, find_more, find_new, find_map, fewer_kept, knows_back}
-use Rattle.machine_model.proofs.TokensKept.{TokensHeld, Fetched, fetched, tokens_fewer, tokens_device, tokens_plain, tokens_drop, tokens_completion, tokens_submission, device_same, device_other, reset_tokens}
-use Rattle.machine_model.specs.Agreeing.{is_known_deleted, knows_deleted_at, is_live_at, waiting, answering, AdminCommandsStand as Placed, Knows, JobKnown, is_absent_at as gone_at, entry_is, job_is, answer_is, is_kind, succeeds, unmade, answered_well, done_well, deletes_sq, deletes_cq, creates_cq, creates_sq, creates_cq as makes_cq, creates_sq as makes_sq}
+use Rattle.machine_model.proofs.TokensKept.{TokensHeld, Fetched, fetched, tokens_fewer, tokens_controller, tokens_plain, tokens_drop, tokens_completion, tokens_submission, controller_same, controller_other, reset_tokens}
+use Rattle.machine_model.specs.Agreeing.{is_known_deleted, knows_deleted_at, is_live_at, waiting, admin_completions, AdminCommandsStand as Placed, Knows, JobKnown, is_absent_at as gone_at, entry_is, job_is, answer_is, is_kind, succeeds, unmade, completed_well, done_well, deletes_sq, deletes_cq, creates_cq, creates_sq, creates_cq as makes_cq, creates_sq as makes_sq}
 use Rattle.machine_model.specs.Events.{Event, Reply}
 use Rattle.machine_model.specs.Refusals.{is_asked, is_live, is_making_sq, deletes_sq_of, creates_sq_of, job_at, next_rung, refusal_of, is_job, is_gone, is_submitted, has_cq_alone}
-use Rattle.machine_model.specs.State.{State, HostQueue, DeviceQueue, Device, Record, Job, Answer, is_at, without_record, with_record}
+use Rattle.machine_model.specs.State.{State, HostQueue, ServedQueue, Controller, Record, Job, PostedCompletion, is_at, without_record, with_record}
 use Rattle.machine_model.specs.{Step.{host_part, IsController}, Weights.{one, total, here}, Work.Work, declared.words.HostState.HostState}
 use Rattle.machine_model.specs.declared.words.{HostState.TheVariants.{Live, Deleting}, Phase.TheVariants.Held, Work.TheVariants.Management}
 use Rattle.queue_pair.specs.{Members.change, Rings.{next_tail, next_head, knowing}}
-use Rattle.two_sides.proofs.{DeviceMoves.{answer_of, unit_done, finished, cleared, clears, fetch_by, walk_by, complete_by}, Provided.only_found}
-use Rattle.two_sides.proofs.Standing.{clears_io, answering_more, some_zero, some_still, queue_there, waiting_same, answering_same, waiting_other, answering_other, runs_there, taken_entry, verdict_there, final_admin, PlacedIn, far_suc as ne_zero, Stands, admin_zero, io_other, answering_rest}
+use Rattle.two_sides.proofs.{ControllerMoves.{posted_completion, unit_done, finished, cleared, clears, fetch_by, walk_by, complete_by}, Provided.only_found}
+use Rattle.two_sides.proofs.Standing.{clears_io, admin_completions_more, some_zero, some_still, queue_there, waiting_same, admin_completions_same, waiting_other, admin_completions_other, runs_there, taken_entry, verdict_there, final_admin, PlacedIn, far_suc as ne_zero, Stands, admin_zero, io_other, admin_completions_rest}
 use Rattle.two_sides.proofs.Tied.{below, Alike, alike_ring, alike_then, tokens_alike, sends_more, Turns, tokens_sends, turns, turns_not, Hears, hears_first, MovesOn, tokens_hears, moves_on, moves_not}
 use Rattle.page_memory.specs.declared.page.Half.TheVariants.{Submission, Completion}
 use Rattle.slot_table.proofs.Rows.{option_is}
@@ -38,7 +38,7 @@ all_each P f (x ∷ xs) = (f x, all_each P f xs)
 
 -- Jobs whose admin commands are as they were
 
-fewer_jobs : (rs : List Record) (un : List SubEntry) (js : List Job) (ans : List Answer) (f : Job → Job)
+fewer_jobs : (rs : List Record) (un : List SubEntry) (js : List Job) (ans : List PostedCompletion) (f : Job → Job)
     → AllByRecursion (λ j. ((f j).q ≡ j.q) × ((f j).entry ≡ j.entry) × ((j.q ≡ 0) → succeeds (f j) ≡ succeeds j)) js → Fewer rs un js ans rs un (map f js) ans
 fewer_jobs rs un js ans f same = record {
   unmade = λ test. omega (arith, total_map_all (failing test rs) f js (all-all _ _ (one_job test not) js same));
@@ -51,7 +51,7 @@ fewer_jobs rs un js ans f same = record {
     one_job test g j h = rw (h.0, h.1) (elim (cases_Bool (j.q == 0)) [ inl e ↦ rw (h.2 (eqb-true j.q 0 e)) | inr e ↦ rw e ])
 
 -- an entry is answered at once, without success
-fewer_conflict : (rs : List Record) (e : SubEntry) (un : List SubEntry) (js : List Job) (ans : List Answer) (an : Answer) → an.cid ≡ e.cid → is_success an.status ≡ false → Fewer rs (e ∷ un) js ans rs un js (ans ++ an ∷ [])
+fewer_conflict : (rs : List Record) (e : SubEntry) (un : List SubEntry) (js : List Job) (ans : List PostedCompletion) (an : PostedCompletion) → an.cid ≡ e.cid → is_success an.status ≡ false → Fewer rs (e ∷ un) js ans rs un js (ans ++ an ∷ [])
 fewer_conflict rs e un js ans an same bad =
     let wins : (test : AdminKind → Bool) → succeeded test rs an ≡ 0 = λ test. grind (arith, bad) in
     record {
@@ -62,7 +62,7 @@ fewer_conflict rs e un js ans an same bad =
 
 -- What is known where a controller's event begins
 
-pub record Knowing (rs : List Record) (hs : List HostQueue) (ds : List DeviceQueue) (un : List SubEntry) (js : List Job) (ans : List Answer) : Type 0 where
+pub record Knowing (rs : List Record) (hs : List HostQueue) (ds : List ServedQueue) (un : List SubEntry) (js : List Job) (ans : List PostedCompletion) : Type 0 where
   pub placed : Placed rs un js ans
   pub once : (q c : ℕ) → total (here q c) rs < 2
   pub few : length hs ≤ 65536
@@ -80,7 +80,7 @@ same_where : (f : Job → Job) (test : Job → Bool) (j : Job) → (test j ≡ t
 same_where f test j same = elim (cases_Bool (test j)) [ inl e ↦ rw e (same e) | inr e ↦ rw e (refl, refl, λ z. refl) ]
 
 marks_same : (s : State) (q cid : ℕ) (f : Job → Job) → ((j : Job) → (f j).q ≡ j.q) → ((j : Job) → (f j).entry ≡ j.entry) → ((j : Job) → succeeds (f j) ≡ false)
-    → a.walks s q cid ≡ true → total (job_is cid) s.device.jobs < 2 → AllByRecursion (Same (λ j. if is_job q cid j then f j else j)) s.device.jobs
+    → a.walks s q cid ≡ true → total (job_is cid) s.controller.jobs < 2 → AllByRecursion (Same (λ j. if is_job q cid j then f j else j)) s.controller.jobs
 marks_same s q cid f fq fe fs walks few =
     let walking : (j : Job) × (job_at s q cid ≡ Some j) × (succeeds j ≡ false) = elim (option_is (job_at s q cid)) [
       | inl none ↦ absurd (true≢false (sym (rw none at walks)))
@@ -91,9 +91,9 @@ marks_same s q cid f fq fe fs walks few =
     elim (cases_Bool (q == 0)) [
       | inl z ↦
           let (j, e, none) = walking in
-          all-all (λ x. is_job 0 cid x ≡ true → x ≡ j) _ (λ x only. mark x (λ is at. ap succeeds (only (rw (eqb-true q 0 z) at is)) ∙ none)) s.device.jobs
-          (only_found (is_job 0 cid) s.device.jobs j (subst (λ (n : ℕ). find (is_job n cid) s.device.jobs ≡ Some j) (eqb-true q 0 z) e) few)
-      | inr z ↦ all_each _ (λ x. mark x (λ is at. absurd (true≢false (sym (eq-eqb q 0 (sym (eqb-true x.q q (and_parts (x.q == q) (x.entry.cid == cid) is).0) ∙ at)) ∙ z)))) s.device.jobs
+          all-all (λ x. is_job 0 cid x ≡ true → x ≡ j) _ (λ x only. mark x (λ is at. ap succeeds (only (rw (eqb-true q 0 z) at is)) ∙ none)) s.controller.jobs
+          (only_found (is_job 0 cid) s.controller.jobs j (subst (λ (n : ℕ). find (is_job n cid) s.controller.jobs ≡ Some j) (eqb-true q 0 z) e) few)
+      | inr z ↦ all_each _ (λ x. mark x (λ is at. absurd (true≢false (sym (eq-eqb q 0 (sym (eqb-true x.q q (and_parts (x.q == q) (x.entry.cid == cid) is).0) ∙ at)) ∙ z)))) s.controller.jobs
     ]
 
 stops_same : (q : ℕ) → (q == 0) ≡ false → (js : List Job) → AllByRecursion (Same (a.stopped q)) js
@@ -101,28 +101,28 @@ stops_same q other js = all_each _ (λ j. same_where (λ j. record j { verdict =
     (λ e. (refl, refl, λ z. absurd (true≢false (sym (eq-eqb q 0 (sym (eqb-true j.q q (and_parts (j.q == q) (is_none j.verdict) e).0) ∙ z)) ∙ other))))) js
 
 -- the tokens with an entry in hand
-abbrev InHand : List Record → List HostQueue → SubEntry → Device → Type 0
-InHand rs hs e d = TokensHeld rs hs d.queues (e ∷ waiting d.queues) d.jobs (answering d.queues)
+abbrev InHand : List Record → List HostQueue → SubEntry → Controller → Type 0
+InHand rs hs e d = TokensHeld rs hs d.queues (e ∷ waiting d.queues) d.jobs (admin_completions d.queues)
 
-abbrev pub TokensP : List Record → List HostQueue → Device → Type 0
-TokensP rs hs d = TokensHeld rs hs d.queues (waiting d.queues) d.jobs (answering d.queues)
+abbrev pub TokensP : List Record → List HostQueue → Controller → Type 0
+TokensP rs hs d = TokensHeld rs hs d.queues (waiting d.queues) d.jobs (admin_completions d.queues)
 
-tokens_managed : (rs : List Record) (hs : List HostQueue) (e : SubEntry) (s : State) → Knowing rs hs s.device.queues (e ∷ waiting s.device.queues) s.device.jobs (answering s.device.queues)
-    → InHand rs hs e s.device → TokensP rs hs (a.managed e s).device
+tokens_managed : (rs : List Record) (hs : List HostQueue) (e : SubEntry) (s : State) → Knowing rs hs s.controller.queues (e ∷ waiting s.controller.queues) s.controller.jobs (admin_completions s.controller.queues)
+    → InHand rs hs e s.controller → TokensP rs hs (a.managed e s).controller
 tokens_managed rs hs e s g h =
-    let taken : (js : List Job) (dw0 : ℕ) → Fetched rs e (waiting s.device.queues) js (js ++ a.new_job 0 e (Some SUCCESS) dw0 [] ∷ []) (answering s.device.queues) true = λ js dw0.
-    fetched rs e (waiting s.device.queues) js (answering s.device.queues) (a.new_job 0 e (Some SUCCESS) dw0 []) SUCCESS refl refl refl in
-    let plain : (n : ℕ) → (e.opcode == n) ≡ true → (n == DELETE_IO_CQ) ≡ false → (n == CREATE_IO_SQ) ≡ false → (js : List Job) (dw0 : ℕ) → TokensHeld rs hs s.device.queues (e ∷ waiting s.device.queues) js (answering s.device.queues)
-    → TokensHeld rs hs s.device.queues (waiting s.device.queues) (js ++ a.new_job 0 e (Some SUCCESS) dw0 [] ∷ []) (answering s.device.queues) = λ n is no4 no1 js dw0 h.
+    let taken : (js : List Job) (dw0 : ℕ) → Fetched rs e (waiting s.controller.queues) js (js ++ a.new_job 0 e (Some SUCCESS) dw0 [] ∷ []) (admin_completions s.controller.queues) true = λ js dw0.
+    fetched rs e (waiting s.controller.queues) js (admin_completions s.controller.queues) (a.new_job 0 e (Some SUCCESS) dw0 []) SUCCESS refl refl refl in
+    let plain : (n : ℕ) → (e.opcode == n) ≡ true → (n == DELETE_IO_CQ) ≡ false → (n == CREATE_IO_SQ) ≡ false → (js : List Job) (dw0 : ℕ) → TokensHeld rs hs s.controller.queues (e ∷ waiting s.controller.queues) js (admin_completions s.controller.queues)
+    → TokensHeld rs hs s.controller.queues (waiting s.controller.queues) (js ++ a.new_job 0 e (Some SUCCESS) dw0 [] ∷ []) (admin_completions s.controller.queues) = λ n is no4 no1 js dw0 h.
     let named : Named rs e = named rs e g.placed.entries.0.0 g.placed.entries.0.1 g.placed.entries.0.2 in
-    tokens_plain rs hs s.device.queues e (waiting s.device.queues) js (js ++ a.new_job 0 e (Some SUCCESS) dw0 [] ∷ []) (answering s.device.queues) true
-    (fetched rs e (waiting s.device.queues) js (answering s.device.queues) (a.new_job 0 e (Some SUCCESS) dw0 []) SUCCESS refl refl refl)
+    tokens_plain rs hs s.controller.queues e (waiting s.controller.queues) js (js ++ a.new_job 0 e (Some SUCCESS) dw0 [] ∷ []) (admin_completions s.controller.queues) true
+    (fetched rs e (waiting s.controller.queues) js (admin_completions s.controller.queues) (a.new_job 0 e (Some SUCCESS) dw0 []) SUCCESS refl refl refl)
     (λ q. rw (named.deletes_cq q, eqb-true e.opcode n is, no4) refl) (λ q. rw (named.creates_sq q, eqb-true e.opcode n is, no1) refl) h in
-    let ds : List DeviceQueue = s.device.queues in
-    let un : List SubEntry = waiting s.device.queues in
-    let ans : List Answer = answering s.device.queues in
+    let ds : List ServedQueue = s.controller.queues in
+    let un : List SubEntry = waiting s.controller.queues in
+    let ans : List PostedCompletion = admin_completions s.controller.queues in
     let names : Named rs e = named rs e g.placed.entries.0.0 g.placed.entries.0.1 g.placed.entries.0.2 in
-    managed_by (λ (t : State). TokensP rs hs t.device) e s
+    managed_by (λ (t : State). TokensP rs hs t.controller) e s
     (record {
       refuses = λ st bad. tokens_plain rs hs ds e un js (js ++ a.new_job 0 e (Some st) 0 [] ∷ []) ans (is_success st) (fetched rs e un js ans (a.new_job 0 e (Some st) 0 []) st refl refl refl)
           (λ q. grind (arith, bad)) (λ q. grind (arith, bad)) h;
@@ -134,85 +134,85 @@ tokens_managed rs hs e s g h =
           (marks_same s (named_queue e) (named_command e) f (λ j. refl) (λ j. refl) (λ j. refl) w (omega (arith, g.placed.places (named_command e), g.once 0 (named_command e))))) h);
       is_late = λ is8. plain ABORT is8 refl refl js 1 h;
       stops = λ is0 q0 runs.
-          let stop : DeviceQueue → DeviceQueue = λ at. record at { state = Stopping } in
+          let stop : ServedQueue → ServedQueue = λ at. record at { state = Stopping } in
           let k = named_queue e in
-          rw (waiting_other stop k ds q0, answering_other stop k ds q0)
-          (tokens_device rs hs ds (change k stop ds) un (map (a.stopped k) js ++ a.new_job 0 e (Some SUCCESS) 0 [] ∷ []) ans
-          (device_same (λ at. is_absent at.state) true stop k ds (λ d ed. sym (sym (ap (λ (o : Option DeviceQueue). option_map_or (λ at. is_absent at.state) o true) ed) ∙ runs_there s k runs)))
-          (device_same (λ at. at.cq_there) false stop k ds (λ d ed. refl))
+          rw (waiting_other stop k ds q0, admin_completions_other stop k ds q0)
+          (tokens_controller rs hs ds (change k stop ds) un (map (a.stopped k) js ++ a.new_job 0 e (Some SUCCESS) 0 [] ∷ []) ans
+          (controller_same (λ at. is_absent at.state) true stop k ds (λ d ed. sym (sym (ap (λ (o : Option ServedQueue). option_map_or (λ at. is_absent at.state) o true) ed) ∙ runs_there s k runs)))
+          (controller_same (λ at. at.cq_there) false stop k ds (λ d ed. refl))
           (plain DELETE_IO_SQ is0 refl refl (map (a.stopped k) js) 0 (tokens_fewer rs rs hs ds (e ∷ un) (e ∷ un) js (map (a.stopped k) js) ans ans (fewer_jobs rs (e ∷ un) js ans (a.stopped k) (stops_same k q0 js)) h)));
-      drops = λ is4 q0 has gone. rw (waiting_other a.dropped (named_queue e) ds q0, answering_other a.dropped (named_queue e) ds q0)
+      drops = λ is4 q0 has gone. rw (waiting_other a.dropped (named_queue e) ds q0, admin_completions_other a.dropped (named_queue e) ds q0)
           (tokens_drop rs hs ds e un js (js ++ a.new_job 0 e (Some SUCCESS) 0 [] ∷ []) ans (taken js 0) names is4 has h);
-      makes_completion = λ is5 q0 gone. rw (waiting_other a.completion_made (named_queue e) ds q0, answering_other a.completion_made (named_queue e) ds q0)
+      makes_completion = λ is5 q0 gone. rw (waiting_other a.completion_made (named_queue e) ds q0, admin_completions_other a.completion_made (named_queue e) ds q0)
           (tokens_completion rs hs ds e un js (js ++ a.new_job 0 e (Some SUCCESS) 0 [] ∷ []) ans (taken js 0) names is5 gone h);
-      makes_submission = λ is1 q0 gone has. rw (waiting_other a.submission_made (named_queue e) ds q0, answering_other a.submission_made (named_queue e) ds q0)
+      makes_submission = λ is1 q0 gone has. rw (waiting_other a.submission_made (named_queue e) ds q0, admin_completions_other a.submission_made (named_queue e) ds q0)
           (tokens_submission rs hs ds e un js (js ++ a.new_job 0 e (Some SUCCESS) 0 [] ∷ []) ans g.long (taken js 0) names is1 (absent_state s (named_queue e) gone) h);
     })
   where
     js : List Job
-    js = s.device.jobs
+    js = s.controller.jobs
 
 -- an entry taken off
-taken_off_tokens : (rs : List Record) (hs : List HostQueue) (q : ℕ) (d : Device) → TokensHeld rs hs d.queues (waiting d.queues) d.jobs (answering d.queues)
-    → TokensHeld rs hs (change q (λ at. record at { unfetched = drop 1 at.unfetched; rung = at.rung - 1 }) d.queues) (waiting d.queues) d.jobs (answering d.queues)
+taken_off_tokens : (rs : List Record) (hs : List HostQueue) (q : ℕ) (d : Controller) → TokensHeld rs hs d.queues (waiting d.queues) d.jobs (admin_completions d.queues)
+    → TokensHeld rs hs (change q (λ at. record at { unfetched = drop 1 at.unfetched; rung = at.rung - 1 }) d.queues) (waiting d.queues) d.jobs (admin_completions d.queues)
 taken_off_tokens rs hs q d h =
-    tokens_device rs hs d.queues (change q (λ at. record at { unfetched = drop 1 at.unfetched; rung = at.rung - 1 }) d.queues) (waiting d.queues) d.jobs (answering d.queues)
-    (device_same (λ at. is_absent at.state) true (λ at. record at { unfetched = drop 1 at.unfetched; rung = at.rung - 1 }) q d.queues (λ d ed. refl))
-    (device_same (λ at. at.cq_there) false (λ at. record at { unfetched = drop 1 at.unfetched; rung = at.rung - 1 }) q d.queues (λ d ed. refl)) h
+    tokens_controller rs hs d.queues (change q (λ at. record at { unfetched = drop 1 at.unfetched; rung = at.rung - 1 }) d.queues) (waiting d.queues) d.jobs (admin_completions d.queues)
+    (controller_same (λ at. is_absent at.state) true (λ at. record at { unfetched = drop 1 at.unfetched; rung = at.rung - 1 }) q d.queues (λ d ed. refl))
+    (controller_same (λ at. at.cq_there) false (λ at. record at { unfetched = drop 1 at.unfetched; rung = at.rung - 1 }) q d.queues (λ d ed. refl)) h
 
 -- a completion posted to another queue
-answered_elsewhere : (rs : List Record) (hs : List HostQueue) (q : ℕ) (an : Answer) (d : Device) → (q == 0) ≡ false → TokensP rs hs d → TokensP rs hs (record d { queues = change q (λ at. record at { answers = at.answers ++ an ∷ [] }) d.queues })
+answered_elsewhere : (rs : List Record) (hs : List HostQueue) (q : ℕ) (an : PostedCompletion) (d : Controller) → (q == 0) ≡ false → TokensP rs hs d → TokensP rs hs (record d { queues = change q (λ at. record at { completions = at.completions ++ an ∷ [] }) d.queues })
 answered_elsewhere rs hs q an d other h =
-    let f : DeviceQueue → DeviceQueue = λ at. record at { answers = at.answers ++ an ∷ [] } in
-    rw (waiting_other f q d.queues other, answering_other f q d.queues other)
-    (tokens_device rs hs d.queues (change q f d.queues) (waiting d.queues) d.jobs (answering d.queues) (device_same (λ at. is_absent at.state) true f q d.queues (λ d ed. refl)) (device_same (λ at. at.cq_there) false f q d.queues (λ d ed. refl)) h)
+    let f : ServedQueue → ServedQueue = λ at. record at { completions = at.completions ++ an ∷ [] } in
+    rw (waiting_other f q d.queues other, admin_completions_other f q d.queues other)
+    (tokens_controller rs hs d.queues (change q f d.queues) (waiting d.queues) d.jobs (admin_completions d.queues) (controller_same (λ at. is_absent at.state) true f q d.queues (λ d ed. refl)) (controller_same (λ at. at.cq_there) false f q d.queues (λ d ed. refl)) h)
 
 -- and to queue 0, which is there
-answered_zero : (rs : List Record) (hs : List HostQueue) (an : Answer) (d : Device) → is_some (slice_get d.queues 0) ≡ true → TokensHeld rs hs d.queues (waiting d.queues) d.jobs (answering d.queues ++ an ∷ [])
-    → TokensP rs hs (record d { queues = change 0 (λ at. record at { answers = at.answers ++ an ∷ [] }) d.queues })
+answered_zero : (rs : List Record) (hs : List HostQueue) (an : PostedCompletion) (d : Controller) → is_some (slice_get d.queues 0) ≡ true → TokensHeld rs hs d.queues (waiting d.queues) d.jobs (admin_completions d.queues ++ an ∷ [])
+    → TokensP rs hs (record d { queues = change 0 (λ at. record at { completions = at.completions ++ an ∷ [] }) d.queues })
 answered_zero rs hs an d there h =
-    let f : DeviceQueue → DeviceQueue = λ at. record at { answers = at.answers ++ an ∷ [] } in
-    rw (waiting_same f (λ at. refl) 0 d.queues, answering_more d.queues an there)
-    (tokens_device rs hs d.queues (change 0 f d.queues) (waiting d.queues) d.jobs (answering d.queues ++ an ∷ []) (device_same (λ at. is_absent at.state) true f 0 d.queues (λ d ed. refl)) (device_same (λ at. at.cq_there) false f 0 d.queues (λ d ed. refl)) h)
+    let f : ServedQueue → ServedQueue = λ at. record at { completions = at.completions ++ an ∷ [] } in
+    rw (waiting_same f (λ at. refl) 0 d.queues, admin_completions_more d.queues an there)
+    (tokens_controller rs hs d.queues (change 0 f d.queues) (waiting d.queues) d.jobs (admin_completions d.queues ++ an ∷ []) (controller_same (λ at. is_absent at.state) true f 0 d.queues (λ d ed. refl)) (controller_same (λ at. at.cq_there) false f 0 d.queues (λ d ed. refl)) h)
 
-abbrev pub KnowingP : List Record → List HostQueue → Device → Type 0
-KnowingP rs hs d = Knowing rs hs d.queues (waiting d.queues) d.jobs (answering d.queues)
+abbrev pub KnowingP : List Record → List HostQueue → Controller → Type 0
+KnowingP rs hs d = Knowing rs hs d.queues (waiting d.queues) d.jobs (admin_completions d.queues)
 
-pub tokens_fetch : (rs : List Record) (hs : List HostQueue) (q : ℕ) (s : State) → KnowingP rs hs s.device → TokensP rs hs s.device → TokensP rs hs (a.after_fetch q s).device
+pub tokens_fetch : (rs : List Record) (hs : List HostQueue) (q : ℕ) (s : State) → KnowingP rs hs s.controller → TokensP rs hs s.controller → TokensP rs hs (a.after_fetch q s).controller
 tokens_fetch rs hs zero s g h =
-    let hand : (e : SubEntry) → next_rung s 0 ≡ Some e → InHand rs hs e (a.taken_off 0 s).device = λ e next.
-    rw (answering_same (λ at. record at { unfetched = drop 1 at.unfetched; rung = at.rung - 1 }) (λ at. refl) 0 s.device.queues)
-    (subst (λ un. TokensHeld rs hs (a.taken_off 0 s).device.queues un s.device.jobs (answering s.device.queues)) (taken_entry s.device.queues e next) (taken_off_tokens rs hs 0 s.device h)) in
-    let knows : (e : SubEntry) → next_rung s 0 ≡ Some e → Knowing rs hs (a.taken_off 0 s).device.queues (e ∷ waiting (a.taken_off 0 s).device.queues) s.device.jobs (answering (a.taken_off 0 s).device.queues) = λ e next.
+    let hand : (e : SubEntry) → next_rung s 0 ≡ Some e → InHand rs hs e (a.taken_off 0 s).controller = λ e next.
+    rw (admin_completions_same (λ at. record at { unfetched = drop 1 at.unfetched; rung = at.rung - 1 }) (λ at. refl) 0 s.controller.queues)
+    (subst (λ un. TokensHeld rs hs (a.taken_off 0 s).controller.queues un s.controller.jobs (admin_completions s.controller.queues)) (taken_entry s.controller.queues e next) (taken_off_tokens rs hs 0 s.controller h)) in
+    let knows : (e : SubEntry) → next_rung s 0 ≡ Some e → Knowing rs hs (a.taken_off 0 s).controller.queues (e ∷ waiting (a.taken_off 0 s).controller.queues) s.controller.jobs (admin_completions (a.taken_off 0 s).controller.queues) = λ e next.
     record {
-      placed = rw (answering_same (λ at. record at { unfetched = drop 1 at.unfetched; rung = at.rung - 1 }) (λ at. refl) 0 s.device.queues)
-          (subst (λ un. Placed rs un s.device.jobs (answering s.device.queues)) (taken_entry s.device.queues e next) g.placed);
+      placed = rw (admin_completions_same (λ at. record at { unfetched = drop 1 at.unfetched; rung = at.rung - 1 }) (λ at. refl) 0 s.controller.queues)
+          (subst (λ un. Placed rs un s.controller.jobs (admin_completions s.controller.queues)) (taken_entry s.controller.queues e next) g.placed);
       once = g.once;
       few = g.few;
-      long = length-change 0 (λ at. record at { unfetched = drop 1 at.unfetched; rung = at.rung - 1 }) s.device.queues ∙ g.long;
+      long = length-change 0 (λ at. record at { unfetched = drop 1 at.unfetched; rung = at.rung - 1 }) s.controller.queues ∙ g.long;
       asked = g.asked;
       making = g.making;
     } in
-    fetch_by (λ (t : State). TokensP rs hs t.device) s 0 h
-    (λ e next c. let t = (a.taken_off 0 s).device in let an = answer_of 0 e.cid COMMAND_ID_CONFLICT 0 (a.taken_off 0 s) in
-    answered_zero rs hs an t (some_still (λ at. record at { unfetched = drop 1 at.unfetched; rung = at.rung - 1 }) 0 s.device.queues (some_zero s.device.queues e next))
-    (tokens_fewer rs rs hs t.queues (e ∷ waiting t.queues) (waiting t.queues) s.device.jobs s.device.jobs (answering t.queues) (answering t.queues ++ an ∷ [])
-    (fewer_conflict rs e (waiting t.queues) s.device.jobs (answering t.queues) an refl refl) (hand e next)))
+    fetch_by (λ (t : State). TokensP rs hs t.controller) s 0 h
+    (λ e next c. let t = (a.taken_off 0 s).controller in let an = posted_completion 0 e.cid COMMAND_ID_CONFLICT 0 (a.taken_off 0 s) in
+    answered_zero rs hs an t (some_still (λ at. record at { unfetched = drop 1 at.unfetched; rung = at.rung - 1 }) 0 s.controller.queues (some_zero s.controller.queues e next))
+    (tokens_fewer rs rs hs t.queues (e ∷ waiting t.queues) (waiting t.queues) s.controller.jobs s.controller.jobs (admin_completions t.queues) (admin_completions t.queues ++ an ∷ [])
+    (fewer_conflict rs e (waiting t.queues) s.controller.jobs (admin_completions t.queues) an refl refl) (hand e next)))
     (λ e next c z. tokens_managed rs hs e (a.taken_off 0 s) (knows e next) (hand e next))
     (λ e next c other. absurd (true≢false other))
 tokens_fetch rs hs (suc k) s g h =
-    let base : TokensP rs hs (a.taken_off (suc k) s).device =
-    let f : DeviceQueue → DeviceQueue = λ at. record at { unfetched = drop 1 at.unfetched; rung = at.rung - 1 } in
-    rw (waiting_other f (suc k) s.device.queues (ne_zero k), answering_other f (suc k) s.device.queues (ne_zero k)) (taken_off_tokens rs hs (suc k) s.device h) in
-    fetch_by (λ (t : State). TokensP rs hs t.device) s (suc k) h
-    (λ e next c. answered_elsewhere rs hs (suc k) (answer_of (suc k) e.cid COMMAND_ID_CONFLICT 0 (a.taken_off (suc k) s)) (a.taken_off (suc k) s).device (ne_zero k) base)
+    let base : TokensP rs hs (a.taken_off (suc k) s).controller =
+    let f : ServedQueue → ServedQueue = λ at. record at { unfetched = drop 1 at.unfetched; rung = at.rung - 1 } in
+    rw (waiting_other f (suc k) s.controller.queues (ne_zero k), admin_completions_other f (suc k) s.controller.queues (ne_zero k)) (taken_off_tokens rs hs (suc k) s.controller h) in
+    fetch_by (λ (t : State). TokensP rs hs t.controller) s (suc k) h
+    (λ e next c. answered_elsewhere rs hs (suc k) (posted_completion (suc k) e.cid COMMAND_ID_CONFLICT 0 (a.taken_off (suc k) s)) (a.taken_off (suc k) s).controller (ne_zero k) base)
     (λ e next c z. absurd (omega arith))
     (λ e next c other.
     let fault = io_fault (a.image_blocks (a.taken_off (suc k) s)) e in
-    let t = (a.taken_off (suc k) s).device in
-    let j = a.new_job (suc k) e fault 0 (bytes_after_check s.device.image e fault) in
+    let t = (a.taken_off (suc k) s).controller in
+    let j = a.new_job (suc k) e fault 0 (bytes_after_check s.controller.image e fault) in
     -- a job of another queue more, or less
-    tokens_fewer rs rs hs t.queues (waiting t.queues) (waiting t.queues) t.jobs (t.jobs ++ j ∷ []) (answering t.queues) (answering t.queues) (record {
+    tokens_fewer rs rs hs t.queues (waiting t.queues) (waiting t.queues) t.jobs (t.jobs ++ j ∷ []) (admin_completions t.queues) (admin_completions t.queues) (record {
       unmade = λ test. let none : failing test rs j ≡ 0 = rw (ne_zero k) refl in omega (arith, total-append (failing test rs) t.jobs (j ∷ []), none);
       answered = λ test. omega arith;
       done = λ test. let none : succeeding test rs j ≡ 0 = rw (ne_zero k) refl in omega (arith, total-append (succeeding test rs) t.jobs (j ∷ []), none);
@@ -220,25 +220,25 @@ tokens_fetch rs hs (suc k) s g h =
 
 -- Walking, a job of another queue
 
-pub tokens_walk : (rs : List Record) (hs : List HostQueue) (q cid : ℕ) (s : State) → (q == 0) ≡ false → TokensP rs hs s.device → TokensP rs hs (a.after_walk q cid s).device
+pub tokens_walk : (rs : List Record) (hs : List HostQueue) (q cid : ℕ) (s : State) → (q == 0) ≡ false → TokensP rs hs s.controller → TokensP rs hs (a.after_walk q cid s).controller
 tokens_walk rs hs q cid s other h =
-    walk_by (λ (t : State). TokensP rs hs t.device) s q cid h
+    walk_by (λ (t : State). TokensP rs hs t.controller) s q cid h
     (λ j act at u.
     let f : Job → Job = unit_done s j act in
-    tokens_fewer rs rs hs s.device.queues (waiting s.device.queues) (waiting s.device.queues) s.device.jobs (map (λ j. if is_job q cid j then f j else j) s.device.jobs) (answering s.device.queues) (answering s.device.queues)
-    (fewer_jobs rs (waiting s.device.queues) s.device.jobs (answering s.device.queues) (λ j. if is_job q cid j then f j else j)
+    tokens_fewer rs rs hs s.controller.queues (waiting s.controller.queues) (waiting s.controller.queues) s.controller.jobs (map (λ j. if is_job q cid j then f j else j) s.controller.jobs) (admin_completions s.controller.queues) (admin_completions s.controller.queues)
+    (fewer_jobs rs (waiting s.controller.queues) s.controller.jobs (admin_completions s.controller.queues) (λ j. if is_job q cid j then f j else j)
     (all_each _ (λ k. same_where f (is_job q cid) k
-    (λ e. (refl, refl, λ z. absurd (true≢false (sym (eq-eqb q 0 (sym (eqb-true k.q q (and_parts (k.q == q) (k.entry.cid == cid) e).0) ∙ z)) ∙ other))))) s.device.jobs)) h)
+    (λ e. (refl, refl, λ z. absurd (true≢false (sym (eq-eqb q 0 (sym (eqb-true k.q q (and_parts (k.q == q) (k.entry.cid == cid) e).0) ∙ z)) ∙ other))))) s.controller.jobs)) h)
 
 -- Completing
 
 -- a job of queue 0 is answered as its verdict tells
-pub record Completed (rs : List Record) (un : List SubEntry) (js js' : List Job) (ans ans' : List Answer) (c : ℕ) (ok : Bool) : Type 0 where
+pub record Completed (rs : List Record) (un : List SubEntry) (js js' : List Job) (ans ans' : List PostedCompletion) (c : ℕ) (ok : Bool) : Type 0 where
   pub unmade : (test : AdminKind → Bool) → unmade test rs un js' ans' ≤ unmade test rs un js ans
-  pub answered : (test : AdminKind → Bool) → answered_well test rs ans' ≡ answered_well test rs ans + one (is_kind test rs c && ok)
+  pub answered : (test : AdminKind → Bool) → completed_well test rs ans' ≡ completed_well test rs ans + one (is_kind test rs c && ok)
   pub done : (test : AdminKind → Bool) → done_well test rs js' ans' ≤ done_well test rs js ans
 
-completed : (rs : List Record) (un : List SubEntry) (js : List Job) (ans : List Answer) (cid : ℕ) (j : Job) (an : Answer) (st : Status) → find (is_job 0 cid) js ≡ Some j → j.verdict ≡ Some st → an.cid ≡ cid → an.status ≡ st
+completed : (rs : List Record) (un : List SubEntry) (js : List Job) (ans : List PostedCompletion) (cid : ℕ) (j : Job) (an : PostedCompletion) (st : Status) → find (is_job 0 cid) js ≡ Some j → j.verdict ≡ Some st → an.cid ≡ cid → an.status ≡ st
     → Completed rs un js (filter (λ k. not (is_job 0 cid k)) js) ans (ans ++ an ∷ []) cid (is_success st)
 completed rs un js ans cid j an st found jv ac as' =
     let job : (test : AdminKind → Bool) (g : Bool → Bool) → one ((j.q == 0) && is_kind test rs j.entry.cid && g (succeeds j)) ≡ one (is_kind test rs cid && g (is_success st)) = λ test g.
@@ -252,7 +252,7 @@ completed rs un js ans cid j an st found jv ac as' =
     }
 
 -- one that doesn't delete a submission queue with success
-tokens_answered : (rs : List Record) (hs : List HostQueue) (ds : List DeviceQueue) (un : List SubEntry) (js js' : List Job) (ans ans' : List Answer) (c : ℕ) (ok : Bool) → Completed rs un js js' ans ans' c ok
+tokens_answered : (rs : List Record) (hs : List HostQueue) (ds : List ServedQueue) (un : List SubEntry) (js js' : List Job) (ans ans' : List PostedCompletion) (c : ℕ) (ok : Bool) → Completed rs un js js' ans ans' c ok
     → ((q : ℕ) → (is_kind (deletes_sq q) rs c && ok) ≡ false) → TokensHeld rs hs ds un js ans → TokensHeld rs hs ds un js' ans'
 tokens_answered rs hs ds un js js' ans ans' c ok f quiet h = record {
   submission = λ q. omega (arith, h.submission q, f.unmade (creates_sq q), f.answered (deletes_sq q), ap one (quiet q));
@@ -262,8 +262,8 @@ tokens_answered rs hs ds un js js' ans ans' c ok f quiet h = record {
 
 -- Where no command of a kind is outstanding, none stands
 
-none_stands : (rs : List Record) (test : AdminKind → Bool) → ((c : ℕ) → is_kind test rs c ≡ false) → (un : List SubEntry) (js : List Job) (ans : List Answer)
-    → (unmade test rs un js ans ≡ 0) × (answered_well test rs ans ≡ 0) × (done_well test rs js ans ≡ 0)
+none_stands : (rs : List Record) (test : AdminKind → Bool) → ((c : ℕ) → is_kind test rs c ≡ false) → (un : List SubEntry) (js : List Job) (ans : List PostedCompletion)
+    → (unmade test rs un js ans ≡ 0) × (completed_well test rs ans ≡ 0) × (done_well test rs js ans ≡ 0)
 none_stands rs test none un js ans =
     let job : (g : Bool → Bool) (j : Job) → one ((j.q == 0) && is_kind test rs j.entry.cid && g (succeeds j)) ≡ 0 = λ g j. rw (none j.entry.cid) (grind arith) in (
       omega (arith, total_none (λ (e : SubEntry). one (is_kind test rs e.cid)) (λ e. ap one (none e.cid)) un, total_none (failing test rs) (λ j. job not j) js, total_none (failed test rs) (λ an. rw (none an.cid)) ans),
@@ -337,12 +337,12 @@ one_deletion rs hs q c c' once few h e e' = elim (cases_Bool (c' == c)) [
 ]
 
 -- a submission queue goes: its deletion is the only one, and it is not being made
-tokens_cleared : (rs : List Record) (hs : List HostQueue) (ds : List DeviceQueue) (un : List SubEntry) (js : List Job) (ans : List Answer) (cid : ℕ) (j : Job) (an : Answer) (st : Status)
+tokens_cleared : (rs : List Record) (hs : List HostQueue) (ds : List ServedQueue) (un : List SubEntry) (js : List Job) (ans : List PostedCompletion) (cid : ℕ) (j : Job) (an : PostedCompletion) (st : Status)
     → find (is_job 0 cid) js ≡ Some j → j.verdict ≡ Some st → an.cid ≡ cid → an.status ≡ st → is_success st ≡ true → (j.entry.opcode == DELETE_IO_SQ) ≡ true → Named rs j.entry
     → Knowing rs hs ds un js ans → TokensHeld rs hs ds un js ans → TokensHeld rs hs (change (named_queue j.entry) cleared ds) un (filter (λ k. not (is_job 0 cid k)) js) (ans ++ an ∷ [])
 tokens_cleared rs hs ds un js ans cid j an st found jv ac as' ok op names g h = record {
   submission = λ q. submits q (named_queue j.entry == q) refl;
-  completion = λ q. omega (arith, h.completion q, f.done (deletes_cq q), f.unmade (creates_cq q), ap one (device_same (λ (at : DeviceQueue). at.cq_there) false cleared (named_queue j.entry) ds (λ d ed. refl) q));
+  completion = λ q. omega (arith, h.completion q, f.done (deletes_cq q), f.unmade (creates_cq q), ap one (controller_same (λ (at : ServedQueue). at.cq_there) false cleared (named_queue j.entry) ds (λ d ed. refl) q));
   there = λ q inside some. comes q inside (named_queue j.entry == q) refl some;
 }
   where
@@ -371,7 +371,7 @@ tokens_cleared rs hs ds un js ans cid j an st found jv ac as' ok op names g h = 
     below_both : (a b : Bool) (n : ℕ) → one a ≤ n → one (a && b) ≤ n
     below_both a b n l = grind (arith, l)
 
-    answers_less : (q : ℕ) → (named_queue j.entry == q) ≡ true → answered_well (deletes_sq q) rs ans ≤ total (answer_is cid) ans
+    answers_less : (q : ℕ) → (named_queue j.entry == q) ≡ true → completed_well (deletes_sq q) rs ans ≤ total (answer_is cid) ans
     answers_less q at = total_below (succeeded (deletes_sq q) rs) (answer_is cid) (λ x. below_both (is_kind (deletes_sq q) rs x.cid) (is_success x.status) (one (x.cid == cid)) (less_one x.cid q at)) ans
 
     counts : (q : ℕ) → (named_queue j.entry == q) ≡ true → unmade (deletes_sq q) rs un (filter (λ k. not (is_job 0 cid k)) js) (ans ++ an ∷ []) ≤ total (entry_is cid) un + (total (job_is cid) (filter (λ k. not (is_job 0 cid k)) js) + total (answer_is cid) ans)
@@ -395,7 +395,7 @@ tokens_cleared rs hs ds un js ans cid j an st found jv ac as' ok op names g h = 
     uncreated q at = no_creation rs hs q g.once g.few g.making (not_other q is_making_sq not_making (own q at).waits)
 
     submits : (q : ℕ) (b : Bool) → (named_queue j.entry == q) ≡ b
-        → one (not (gone_at (change (named_queue j.entry) cleared ds) q)) + (answered_well (deletes_sq q) rs (ans ++ an ∷ []) + (one (knows_deleted_at hs q) + unmade (creates_sq q) rs un (filter (λ k. not (is_job 0 cid k)) js) (ans ++ an ∷ []))) ≤ 1
+        → one (not (gone_at (change (named_queue j.entry) cleared ds) q)) + (completed_well (deletes_sq q) rs (ans ++ an ∷ []) + (one (knows_deleted_at hs q) + unmade (creates_sq q) rs un (filter (λ k. not (is_job 0 cid k)) js) (ans ++ an ∷ []))) ≤ 1
     submits q true at =
         let off : gone_at (change (named_queue j.entry) cleared ds) q ≡ true = subst (λ (z : ℕ). gone_at (change z cleared ds) q ≡ true) (sym (eqb-true (named_queue j.entry) q at)) (gone_cleared q ds) in
         omega (
@@ -409,7 +409,7 @@ tokens_cleared rs hs ds un js ans cid j an st found jv ac as' ok op names g h = 
           ap one (not_other q is_known_deleted (λ st e. ap is_known_deleted (asked_is st e)) (own q at).waits),
         )
       where
-        gone_cleared : (k : ℕ) (ds : List DeviceQueue) → gone_at (change k cleared ds) k ≡ true
+        gone_cleared : (k : ℕ) (ds : List ServedQueue) → gone_at (change k cleared ds) k ≡ true
         gone_cleared k [] = refl
         gone_cleared zero (d ∷ ds) = refl
         gone_cleared (suc k) (d ∷ ds) = gone_cleared k ds
@@ -420,7 +420,7 @@ tokens_cleared rs hs ds un js ans cid j an st found jv ac as' ok op names g h = 
           f.unmade (creates_sq q),
           f.answered (deletes_sq q),
           ap (λ (b : Bool). one (b && is_success st)) (kind q false at),
-          ap (λ (b : Bool). one (not b)) (device_other (λ (at : DeviceQueue). is_absent at.state) true cleared (named_queue j.entry) ds q at),
+          ap (λ (b : Bool). one (not b)) (controller_other (λ (at : ServedQueue). is_absent at.state) true cleared (named_queue j.entry) ds q at),
         )
 
     comes : (q : ℕ) → q < length hs → (b : Bool) → (named_queue j.entry == q) ≡ b
@@ -430,68 +430,68 @@ tokens_cleared rs hs ds un js ans cid j an st found jv ac as' ok op names g h = 
         let none = none_stands rs (creates_sq q) (uncreated q at) un (filter (λ k. not (is_job 0 cid k)) js) (ans ++ an ∷ []) in
         absurd (omega (arith, some, none.2, counts q at, alone, ap one (not_other q is_live (λ st e. ap is_live (asked_is st e)) (own q at).waits)))
     comes q inside false at some =
-        device_other (λ (at : DeviceQueue). is_absent at.state) true cleared (named_queue j.entry) ds q at ∙ h.there q inside (omega (arith, some, f.unmade (deletes_sq q), f.done (creates_sq q)))
+        controller_other (λ (at : ServedQueue). is_absent at.state) true cleared (named_queue j.entry) ds q at ∙ h.there q inside (omega (arith, some, f.unmade (deletes_sq q), f.done (creates_sq q)))
 
-pub tokens_complete : (rs : List Record) (hs : List HostQueue) (q cid : ℕ) (s : State) → refusal_of s (events.Complete q cid) ≡ None → KnowingP rs hs s.device → TokensP rs hs s.device → TokensP rs hs (a.after_complete q cid s).device
+pub tokens_complete : (rs : List Record) (hs : List HostQueue) (q cid : ℕ) (s : State) → refusal_of s (events.Complete q cid) ≡ None → KnowingP rs hs s.controller → TokensP rs hs s.controller → TokensP rs hs (a.after_complete q cid s).controller
 tokens_complete rs hs zero cid s none g h =
-    let there : is_some (slice_get s.device.queues 0) ≡ true = queue_there s (unrefused s (events.Complete 0 cid) none).1.1.1.0 in
-    let its_queue : (j : Job) → job_at s 0 cid ≡ Some j → j.q ≡ 0 = λ j e. eqb-true j.q 0 (and_parts (j.q == 0) (j.entry.cid == cid) (found_is (is_job 0 cid) s.device.jobs j e)).0 in
+    let there : is_some (slice_get s.controller.queues 0) ≡ true = queue_there s (unrefused s (events.Complete 0 cid) none).1.1.1.0 in
+    let its_queue : (j : Job) → job_at s 0 cid ≡ Some j → j.q ≡ 0 = λ j e. eqb-true j.q 0 (and_parts (j.q == 0) (j.entry.cid == cid) (found_is (is_job 0 cid) s.controller.jobs j e)).0 in
     let verdict : (j : Job) → job_at s 0 cid ≡ Some j → (st : Status) × (j.verdict ≡ Some st) = λ j e. verdict_there j (rw e at (unrefused s (events.Complete 0 cid) none).1.0) in
-    complete_by (λ (t : State). TokensP rs hs t.device) s 0 cid h
+    complete_by (λ (t : State). TokensP rs hs t.controller) s 0 cid h
     (λ j e c.
     let v = verdict j e in
-    let n0 = clears_io rs s j v.0 (all-found (JobKnown rs) (is_job 0 cid) s.device.jobs j e g.placed.jobs) (its_queue j e) v.1 c in
+    let n0 = clears_io rs s j v.0 (all-found (JobKnown rs) (is_job 0 cid) s.controller.jobs j e g.placed.jobs) (its_queue j e) v.1 c in
     let parts = and_parts ((j.q == 0) && (j.entry.opcode == DELETE_IO_SQ)) (is_success (a.final_status s j)) c in
-    let an = answer_of 0 cid (a.final_status s j) j.dw0 (a.on_device_queue (named_queue j.entry) cleared (finished 0 cid j s)) in
-    let ds = s.device.queues in
-    answered_zero rs hs an (record s.device { queues = change (named_queue j.entry) cleared s.device.queues; jobs = filter (λ k. not (is_job 0 cid k)) s.device.jobs; image = a.image_completed j s.device.image })
+    let an = posted_completion 0 cid (a.final_status s j) j.dw0 (a.on_served_queue (named_queue j.entry) cleared (finished 0 cid j s)) in
+    let ds = s.controller.queues in
+    answered_zero rs hs an (record s.controller { queues = change (named_queue j.entry) cleared s.controller.queues; jobs = filter (λ k. not (is_job 0 cid k)) s.controller.jobs; image = a.image_completed j s.controller.image })
     (some_still cleared (named_queue j.entry) ds there)
-    (rw (waiting_other cleared (named_queue j.entry) ds n0, answering_other cleared (named_queue j.entry) ds n0)
-    (tokens_cleared rs hs ds (waiting ds) s.device.jobs (answering ds) cid j an v.0 e v.1 refl (final_admin s j v.0 (its_queue j e) v.1) (ap (λ (x : Status). is_success x) (sym (final_admin s j v.0 (its_queue j e) v.1)) ∙ parts.1)
+    (rw (waiting_other cleared (named_queue j.entry) ds n0, admin_completions_other cleared (named_queue j.entry) ds n0)
+    (tokens_cleared rs hs ds (waiting ds) s.controller.jobs (admin_completions ds) cid j an v.0 e v.1 refl (final_admin s j v.0 (its_queue j e) v.1) (ap (λ (x : Status). is_success x) (sym (final_admin s j v.0 (its_queue j e) v.1)) ∙ parts.1)
     (and_parts (j.q == 0) (j.entry.opcode == DELETE_IO_SQ) parts.0).1 (names j e) g h)))
     (λ j e c.
     let v = verdict j e in
-    let an = answer_of 0 cid (a.final_status s j) j.dw0 (finished 0 cid j s) in
-    let ds = s.device.queues in
-    answered_zero rs hs an (record s.device { jobs = filter (λ k. not (is_job 0 cid k)) s.device.jobs; image = a.image_completed j s.device.image }) there
-    (tokens_answered rs hs ds (waiting ds) s.device.jobs (filter (λ k. not (is_job 0 cid k)) s.device.jobs) (answering ds) (answering ds ++ an ∷ []) cid (is_success v.0)
-    (completed rs (waiting ds) s.device.jobs (answering ds) cid j an v.0 e v.1 refl (final_admin s j v.0 (its_queue j e) v.1)) (quiet j e v.0 v.1 c) h))
+    let an = posted_completion 0 cid (a.final_status s j) j.dw0 (finished 0 cid j s) in
+    let ds = s.controller.queues in
+    answered_zero rs hs an (record s.controller { jobs = filter (λ k. not (is_job 0 cid k)) s.controller.jobs; image = a.image_completed j s.controller.image }) there
+    (tokens_answered rs hs ds (waiting ds) s.controller.jobs (filter (λ k. not (is_job 0 cid k)) s.controller.jobs) (admin_completions ds) (admin_completions ds ++ an ∷ []) cid (is_success v.0)
+    (completed rs (waiting ds) s.controller.jobs (admin_completions ds) cid j an v.0 e v.1 refl (final_admin s j v.0 (its_queue j e) v.1)) (quiet j e v.0 v.1 c) h))
   where
     names : (j : Job) → job_at s 0 cid ≡ Some j → Named rs j.entry
     names j e =
-        let k = all-found (JobKnown rs) (is_job 0 cid) s.device.jobs j e g.placed.jobs (eqb-true j.q 0 (and_parts (j.q == 0) (j.entry.cid == cid) (found_is (is_job 0 cid) s.device.jobs j e)).0) in
+        let k = all-found (JobKnown rs) (is_job 0 cid) s.controller.jobs j e g.placed.jobs (eqb-true j.q 0 (and_parts (j.q == 0) (j.entry.cid == cid) (found_is (is_job 0 cid) s.controller.jobs j e)).0) in
         named rs j.entry k.0 k.1 k.2
 
     quiet : (j : Job) (e : job_at s 0 cid ≡ Some j) (st : Status) → j.verdict ≡ Some st → clears s j ≡ false → (q : ℕ) → (is_kind (deletes_sq q) rs cid && is_success st) ≡ false
     quiet j e st v c q =
-        let p = and_parts (j.q == 0) (j.entry.cid == cid) (found_is (is_job 0 cid) s.device.jobs j e) in
+        let p = and_parts (j.q == 0) (j.entry.cid == cid) (found_is (is_job 0 cid) s.controller.jobs j e) in
         let k : is_kind (deletes_sq q) rs cid ≡ ((j.entry.opcode == DELETE_IO_SQ) && (named_queue j.entry == q)) = rw (eqb-true j.entry.cid cid p.1) at (names j e).deletes_sq q in
         let c' : ((j.entry.opcode == DELETE_IO_SQ) && is_success st) ≡ false = rw (final_admin s j st (eqb-true j.q 0 p.0) v, p.0) at c in
         rw k (grind (arith, c'))
 tokens_complete rs hs (suc k) cid s none g h =
     let other : (j : Job) → job_at s (suc k) cid ≡ Some j → (j.q == 0) ≡ false = λ j e.
-    ap (λ (n : ℕ). n == 0) (eqb-true j.q (suc k) (and_parts (j.q == suc k) (j.entry.cid == cid) (found_is (is_job (suc k) cid) s.device.jobs j e)).0) ∙ ne_zero k in
-    complete_by (λ (t : State). TokensP rs hs t.device) s (suc k) cid h
+    ap (λ (n : ℕ). n == 0) (eqb-true j.q (suc k) (and_parts (j.q == suc k) (j.entry.cid == cid) (found_is (is_job (suc k) cid) s.controller.jobs j e)).0) ∙ ne_zero k in
+    complete_by (λ (t : State). TokensP rs hs t.controller) s (suc k) cid h
     (λ j e c. absurd (true≢false (sym (and_parts (j.q == 0) (j.entry.opcode == DELETE_IO_SQ) (and_parts ((j.q == 0) && (j.entry.opcode == DELETE_IO_SQ)) (is_success (a.final_status s j)) c).0).0 ∙ other j e)))
-    (λ j e c. answered_elsewhere rs hs (suc k) (answer_of (suc k) cid (a.final_status s j) j.dw0 (finished (suc k) cid j s)) (finished (suc k) cid j s).device (ne_zero k)
-    (tokens_fewer rs rs hs s.device.queues (waiting s.device.queues) (waiting s.device.queues) s.device.jobs (filter (λ j'. not (is_job (suc k) cid j')) s.device.jobs) (answering s.device.queues) (answering s.device.queues)
+    (λ j e c. answered_elsewhere rs hs (suc k) (posted_completion (suc k) cid (a.final_status s j) j.dw0 (finished (suc k) cid j s)) (finished (suc k) cid j s).controller (ne_zero k)
+    (tokens_fewer rs rs hs s.controller.queues (waiting s.controller.queues) (waiting s.controller.queues) s.controller.jobs (filter (λ j'. not (is_job (suc k) cid j')) s.controller.jobs) (admin_completions s.controller.queues) (admin_completions s.controller.queues)
     (record {
-      unmade = λ test. omega (arith, total-filter (failing test rs) (λ j'. not (is_job (suc k) cid j')) s.device.jobs);
+      unmade = λ test. omega (arith, total-filter (failing test rs) (λ j'. not (is_job (suc k) cid j')) s.controller.jobs);
       answered = λ test. omega arith;
-      done = λ test. omega (arith, total-filter (succeeding test rs) (λ j'. not (is_job (suc k) cid j')) s.device.jobs);
+      done = λ test. omega (arith, total-filter (succeeding test rs) (λ j'. not (is_job (suc k) cid j')) s.controller.jobs);
     }) h))
 
 -- Every event of the host keeps the tokens of what is deleted and made.
 
 abbrev pub TokensS : State → Type 0
-TokensS s = TokensP s.host.records s.host.queues s.device
+TokensS s = TokensP s.host.records s.host.queues s.controller
 
 -- Records that change, and their kinds stay
 
 abbrev KeepsKinds : (Record → Record) → Type 0
 KeepsKinds f = ((r : Record) → (f r).q ≡ r.q) × ((r : Record) → (f r).cid ≡ r.cid) × ((r : Record) → (f r).work ≡ r.work)
 
-tokens_map : (rs : List Record) (f : Record → Record) (hs : List HostQueue) (ds : List DeviceQueue) (un : List SubEntry) (js : List Job) (ans : List Answer) → KeepsKinds f → Placed rs un js ans
+tokens_map : (rs : List Record) (f : Record → Record) (hs : List HostQueue) (ds : List ServedQueue) (un : List SubEntry) (js : List Job) (ans : List PostedCompletion) → KeepsKinds f → Placed rs un js ans
     → TokensHeld rs hs ds un js ans → TokensHeld (map f rs) hs ds un js ans
 tokens_map rs f hs ds un js ans same placed h =
     tokens_fewer rs (map f rs) hs ds un un js js ans ans
@@ -513,55 +513,55 @@ keeps_lost q = (
 
 -- Posting
 
-posted_elsewhere : (rs : List Record) (hs : List HostQueue) (q : ℕ) (e : SubEntry) (d : Device) → (q == 0) ≡ false → TokensP rs hs d → TokensP rs hs (record d { queues = change q (λ at. record at { unfetched = at.unfetched ++ e ∷ [] }) d.queues })
+posted_elsewhere : (rs : List Record) (hs : List HostQueue) (q : ℕ) (e : SubEntry) (d : Controller) → (q == 0) ≡ false → TokensP rs hs d → TokensP rs hs (record d { queues = change q (λ at. record at { unfetched = at.unfetched ++ e ∷ [] }) d.queues })
 posted_elsewhere rs hs q e d other h =
-    let f : DeviceQueue → DeviceQueue = λ at. record at { unfetched = at.unfetched ++ e ∷ [] } in
-    rw (waiting_other f q d.queues other, answering_other f q d.queues other)
-    (tokens_device rs hs d.queues (change q f d.queues) (waiting d.queues) d.jobs (answering d.queues) (device_same (λ at. is_absent at.state) true f q d.queues (λ d ed. refl)) (device_same (λ at. at.cq_there) false f q d.queues (λ d ed. refl)) h)
+    let f : ServedQueue → ServedQueue = λ at. record at { unfetched = at.unfetched ++ e ∷ [] } in
+    rw (waiting_other f q d.queues other, admin_completions_other f q d.queues other)
+    (tokens_controller rs hs d.queues (change q f d.queues) (waiting d.queues) d.jobs (admin_completions d.queues) (controller_same (λ at. is_absent at.state) true f q d.queues (λ d ed. refl)) (controller_same (λ at. at.cq_there) false f q d.queues (λ d ed. refl)) h)
 
-posted_zero : (rs : List Record) (hs : List HostQueue) (e : SubEntry) (ds : List DeviceQueue) (js : List Job) → TokensHeld rs hs ds (waiting ds ++ e ∷ []) js (answering ds)
-    → TokensHeld rs hs (change 0 (λ at. record at { unfetched = at.unfetched ++ e ∷ [] }) ds) (waiting (change 0 (λ at. record at { unfetched = at.unfetched ++ e ∷ [] }) ds)) js (answering (change 0 (λ at. record at { unfetched = at.unfetched ++ e ∷ [] }) ds))
+posted_zero : (rs : List Record) (hs : List HostQueue) (e : SubEntry) (ds : List ServedQueue) (js : List Job) → TokensHeld rs hs ds (waiting ds ++ e ∷ []) js (admin_completions ds)
+    → TokensHeld rs hs (change 0 (λ at. record at { unfetched = at.unfetched ++ e ∷ [] }) ds) (waiting (change 0 (λ at. record at { unfetched = at.unfetched ++ e ∷ [] }) ds)) js (admin_completions (change 0 (λ at. record at { unfetched = at.unfetched ++ e ∷ [] }) ds))
 posted_zero rs hs e [] js h =
     tokens_fewer rs rs hs [] (e ∷ []) [] js js [] [] (record { unmade = λ test. omega arith; answered = λ test. omega arith; done = λ test. omega arith }) h
 posted_zero rs hs e (at ∷ ds) js h =
-    let f : DeviceQueue → DeviceQueue = λ at. record at { unfetched = at.unfetched ++ e ∷ [] } in
-    tokens_device rs hs (at ∷ ds) (change 0 f (at ∷ ds)) (at.unfetched ++ e ∷ []) js at.answers (device_same (λ at. is_absent at.state) true f 0 (at ∷ ds) (λ d ed. refl)) (device_same (λ at. at.cq_there) false f 0 (at ∷ ds) (λ d ed. refl)) h
+    let f : ServedQueue → ServedQueue = λ at. record at { unfetched = at.unfetched ++ e ∷ [] } in
+    tokens_controller rs hs (at ∷ ds) (change 0 f (at ∷ ds)) (at.unfetched ++ e ∷ []) js at.completions (controller_same (λ at. is_absent at.state) true f 0 (at ∷ ds) (λ d ed. refl)) (controller_same (λ at. at.cq_there) false f 0 (at ∷ ds) (λ d ed. refl)) h
 
 -- an admin command is sent
 sent_tokens : (adm : AdminKind) (id : ℕ) (s : State) (hs : List HostQueue) → total (here 0 id) s.host.records ≡ 0 → Stands s → Turns s.host.queues hs adm → TokensS s
-    → TokensHeld (s.host.records ++ sent_record adm id ∷ []) hs (change 0 (λ at. record at { unfetched = at.unfetched ++ admin_entry adm id ∷ [] }) s.device.queues) (waiting (change 0 (λ at. record at { unfetched = at.unfetched ++ admin_entry adm id ∷ [] }) s.device.queues)) s.device.jobs
-    (answering (change 0 (λ at. record at { unfetched = at.unfetched ++ admin_entry adm id ∷ [] }) s.device.queues))
+    → TokensHeld (s.host.records ++ sent_record adm id ∷ []) hs (change 0 (λ at. record at { unfetched = at.unfetched ++ admin_entry adm id ∷ [] }) s.controller.queues) (waiting (change 0 (λ at. record at { unfetched = at.unfetched ++ admin_entry adm id ∷ [] }) s.controller.queues)) s.controller.jobs
+    (admin_completions (change 0 (λ at. record at { unfetched = at.unfetched ++ admin_entry adm id ∷ [] }) s.controller.queues))
 sent_tokens adm id s hs none stands turned h =
     let rs = s.host.records in
     let new = sent_record adm id in
     let knows : Knows (rs ++ new ∷ []) id adm = (new, find_new (is_at 0 id) rs new none (rw (eq-eqb id id refl) refl), refl) in
-    posted_zero (rs ++ new ∷ []) hs (admin_entry adm id) s.device.queues s.device.jobs
-    (tokens_sends rs (rs ++ new ∷ []) s.host.queues hs s.device.queues (waiting s.device.queues) (waiting s.device.queues ++ admin_entry adm id ∷ []) s.device.jobs (answering s.device.queues) adm
-    (sends_more rs (waiting s.device.queues) s.device.jobs (answering s.device.queues) new adm id stands.placed knows) turned h)
+    posted_zero (rs ++ new ∷ []) hs (admin_entry adm id) s.controller.queues s.controller.jobs
+    (tokens_sends rs (rs ++ new ∷ []) s.host.queues hs s.controller.queues (waiting s.controller.queues) (waiting s.controller.queues ++ admin_entry adm id ∷ []) s.controller.jobs (admin_completions s.controller.queues) adm
+    (sends_more rs (waiting s.controller.queues) s.controller.jobs (admin_completions s.controller.queues) new adm id stands.placed knows) turned h)
 
 -- Reaping
 
-fewer_answers : (rs : List Record) (un : List SubEntry) (js : List Job) (ans : List Answer) → Fewer rs un js ans rs un js (drop 1 ans)
+fewer_answers : (rs : List Record) (un : List SubEntry) (js : List Job) (ans : List PostedCompletion) → Fewer rs un js ans rs un js (drop 1 ans)
 fewer_answers rs un js [] = record { unmade = λ test. omega arith; answered = λ test. omega arith; done = λ test. omega arith }
 fewer_answers rs un js (an ∷ ans) = record { unmade = λ test. omega arith; answered = λ test. omega arith; done = λ test. omega arith }
 
-consumed_tokens : (rs : List Record) (hs : List HostQueue) (q : ℕ) (d : Device) → TokensP rs hs d → TokensP rs hs (record d { queues = change q (λ at. record at { answers = drop 1 at.answers }) d.queues })
+consumed_tokens : (rs : List Record) (hs : List HostQueue) (q : ℕ) (d : Controller) → TokensP rs hs d → TokensP rs hs (record d { queues = change q (λ at. record at { completions = drop 1 at.completions }) d.queues })
 consumed_tokens rs hs zero d h = go d.queues h
   where
-    f : DeviceQueue → DeviceQueue
-    f at = record at { answers = drop 1 at.answers }
+    f : ServedQueue → ServedQueue
+    f at = record at { completions = drop 1 at.completions }
 
-    go : (ds : List DeviceQueue) → TokensHeld rs hs ds (waiting ds) d.jobs (answering ds)
-        → TokensHeld rs hs (change 0 (λ at. record at { answers = drop 1 at.answers }) ds) (waiting (change 0 (λ at. record at { answers = drop 1 at.answers }) ds)) d.jobs (answering (change 0 (λ at. record at { answers = drop 1 at.answers }) ds))
+    go : (ds : List ServedQueue) → TokensHeld rs hs ds (waiting ds) d.jobs (admin_completions ds)
+        → TokensHeld rs hs (change 0 (λ at. record at { completions = drop 1 at.completions }) ds) (waiting (change 0 (λ at. record at { completions = drop 1 at.completions }) ds)) d.jobs (admin_completions (change 0 (λ at. record at { completions = drop 1 at.completions }) ds))
     go [] h = h
     go (at ∷ ds) h =
-        let f : DeviceQueue → DeviceQueue = λ at. record at { answers = drop 1 at.answers } in
-        tokens_device rs hs (at ∷ ds) (change 0 f (at ∷ ds)) at.unfetched d.jobs (drop 1 at.answers) (device_same (λ at. is_absent at.state) true f 0 (at ∷ ds) (λ d ed. refl)) (device_same (λ at. at.cq_there) false f 0 (at ∷ ds) (λ d ed. refl))
-        (tokens_fewer rs rs hs (at ∷ ds) at.unfetched at.unfetched d.jobs d.jobs at.answers (drop 1 at.answers) (fewer_answers rs at.unfetched d.jobs at.answers) h)
+        let f : ServedQueue → ServedQueue = λ at. record at { completions = drop 1 at.completions } in
+        tokens_controller rs hs (at ∷ ds) (change 0 f (at ∷ ds)) at.unfetched d.jobs (drop 1 at.completions) (controller_same (λ at. is_absent at.state) true f 0 (at ∷ ds) (λ d ed. refl)) (controller_same (λ at. at.cq_there) false f 0 (at ∷ ds) (λ d ed. refl))
+        (tokens_fewer rs rs hs (at ∷ ds) at.unfetched at.unfetched d.jobs d.jobs at.completions (drop 1 at.completions) (fewer_answers rs at.unfetched d.jobs at.completions) h)
 consumed_tokens rs hs (suc k) d h =
-    let f : DeviceQueue → DeviceQueue = λ at. record at { answers = drop 1 at.answers } in
-    rw (waiting_other f (suc k) d.queues (ne_zero k), answering_other f (suc k) d.queues (ne_zero k))
-    (tokens_device rs hs d.queues (change (suc k) f d.queues) (waiting d.queues) d.jobs (answering d.queues) (device_same (λ at. is_absent at.state) true f (suc k) d.queues (λ d ed. refl)) (device_same (λ at. at.cq_there) false f (suc k) d.queues (λ d ed. refl)) h)
+    let f : ServedQueue → ServedQueue = λ at. record at { completions = drop 1 at.completions } in
+    rw (waiting_other f (suc k) d.queues (ne_zero k), admin_completions_other f (suc k) d.queues (ne_zero k))
+    (tokens_controller rs hs d.queues (change (suc k) f d.queues) (waiting d.queues) d.jobs (admin_completions d.queues) (controller_same (λ at. is_absent at.state) true f (suc k) d.queues (λ d ed. refl)) (controller_same (λ at. at.cq_there) false f (suc k) d.queues (λ d ed. refl)) h)
 
 heard_alike : (q : ℕ) (e : ComEntry) (s : State) → Alike s.host.queues (a.heard q e s).host.queues
 heard_alike q e s =
@@ -569,54 +569,54 @@ heard_alike q e s =
 
 -- an admin command is heard of
 heard_tokens : (q cid : ℕ) (st : Status) (e : ComEntry) (r : Record) (adm : AdminKind) (s : State) (hs : List HostQueue) → q ≡ 0 → s.trusted ≡ true → IsHeard s q cid st e r → r.work ≡ Management adm
-    → PlacedIn (without_record q cid s.host.records) (record s.device { queues = change q (λ at. record at { answers = drop 1 at.answers }) s.device.queues }) → MovesOn (a.heard q e s).host.queues hs adm (is_success st) → TokensS s
-    → TokensP (without_record q cid s.host.records) hs (record s.device { queues = change q (λ at. record at { answers = drop 1 at.answers }) s.device.queues })
+    → PlacedIn (without_record q cid s.host.records) (record s.controller { queues = change q (λ at. record at { completions = drop 1 at.completions }) s.controller.queues }) → MovesOn (a.heard q e s).host.queues hs adm (is_success st) → TokensS s
+    → TokensP (without_record q cid s.host.records) hs (record s.controller { queues = change q (λ at. record at { completions = drop 1 at.completions }) s.controller.queues })
 heard_tokens (suc k) cid st e r adm s hs is t heard w placed moved h = absurd (omega (arith, is))
 heard_tokens zero cid st e r adm s hs is t heard w placed moved h =
     let rs = s.host.records in
-    let ds = s.device.queues in
-    let f : DeviceQueue → DeviceQueue = λ at. record at { answers = drop 1 at.answers } in
-    let an = answer_heard s 0 cid st e r t heard in
-    let first = answering_rest ds an.answer an.first in
+    let ds = s.controller.queues in
+    let f : ServedQueue → ServedQueue = λ at. record at { completions = drop 1 at.completions } in
+    let an = completion_heard s 0 cid st e r t heard in
+    let first = admin_completions_rest ds an.answer an.first in
     let un : waiting (change 0 f ds) ≡ waiting ds = waiting_same f (λ at. refl) 0 ds in
-    let placed' : Placed (without_record 0 cid rs) (waiting ds) s.device.jobs (answering (change 0 f ds)) = subst (λ xs. Placed (without_record 0 cid rs) xs s.device.jobs (answering (change 0 f ds))) un placed.placed in
-    let before : TokensHeld rs (a.heard 0 e s).host.queues ds (waiting ds) s.device.jobs (an.answer ∷ answering (change 0 f ds)) =
-    subst (λ xs. TokensHeld rs (a.heard 0 e s).host.queues ds (waiting ds) s.device.jobs xs) first (tokens_alike rs s.host.queues (a.heard 0 e s).host.queues ds (waiting ds) s.device.jobs (answering ds) (heard_alike 0 e s) h) in
-    let hears : Hears rs (waiting ds) s.device.jobs (an.answer ∷ answering (change 0 f ds)) (without_record 0 cid rs) (answering (change 0 f ds)) adm (is_success st) =
-    subst (λ (x : Status). Hears rs (waiting ds) s.device.jobs (an.answer ∷ answering (change 0 f ds)) (without_record 0 cid rs) (answering (change 0 f ds)) adm (is_success x)) an.its_status
-    (hears_first rs cid (waiting ds) s.device.jobs an.answer (answering (change 0 f ds)) adm an.its_id (r, heard.found, w) placed') in
-    subst (λ xs. TokensHeld (without_record 0 cid rs) hs (change 0 f ds) xs s.device.jobs (answering (change 0 f ds))) (sym un)
-    (tokens_device (without_record 0 cid rs) hs ds (change 0 f ds) (waiting ds) s.device.jobs (answering (change 0 f ds)) (device_same (λ at. is_absent at.state) true f 0 ds (λ d ed. refl)) (device_same (λ at. at.cq_there) false f 0 ds (λ d ed. refl))
-    (tokens_hears rs (without_record 0 cid rs) (a.heard 0 e s).host.queues hs ds (waiting ds) s.device.jobs (an.answer ∷ answering (change 0 f ds)) (answering (change 0 f ds)) adm (is_success st) hears moved before))
+    let placed' : Placed (without_record 0 cid rs) (waiting ds) s.controller.jobs (admin_completions (change 0 f ds)) = subst (λ xs. Placed (without_record 0 cid rs) xs s.controller.jobs (admin_completions (change 0 f ds))) un placed.placed in
+    let before : TokensHeld rs (a.heard 0 e s).host.queues ds (waiting ds) s.controller.jobs (an.answer ∷ admin_completions (change 0 f ds)) =
+    subst (λ xs. TokensHeld rs (a.heard 0 e s).host.queues ds (waiting ds) s.controller.jobs xs) first (tokens_alike rs s.host.queues (a.heard 0 e s).host.queues ds (waiting ds) s.controller.jobs (admin_completions ds) (heard_alike 0 e s) h) in
+    let hears : Hears rs (waiting ds) s.controller.jobs (an.answer ∷ admin_completions (change 0 f ds)) (without_record 0 cid rs) (admin_completions (change 0 f ds)) adm (is_success st) =
+    subst (λ (x : Status). Hears rs (waiting ds) s.controller.jobs (an.answer ∷ admin_completions (change 0 f ds)) (without_record 0 cid rs) (admin_completions (change 0 f ds)) adm (is_success x)) an.its_status
+    (hears_first rs cid (waiting ds) s.controller.jobs an.answer (admin_completions (change 0 f ds)) adm an.its_id (r, heard.found, w) placed') in
+    subst (λ xs. TokensHeld (without_record 0 cid rs) hs (change 0 f ds) xs s.controller.jobs (admin_completions (change 0 f ds))) (sym un)
+    (tokens_controller (without_record 0 cid rs) hs ds (change 0 f ds) (waiting ds) s.controller.jobs (admin_completions (change 0 f ds)) (controller_same (λ at. is_absent at.state) true f 0 ds (λ d ed. refl)) (controller_same (λ at. at.cq_there) false f 0 ds (λ d ed. refl))
+    (tokens_hears rs (without_record 0 cid rs) (a.heard 0 e s).host.queues hs ds (waiting ds) s.controller.jobs (an.answer ∷ admin_completions (change 0 f ds)) (admin_completions (change 0 f ds)) adm (is_success st) hears moved before))
 
 -- Every event
 
 alone_known : (st : HostState) → has_cq_alone st ≡ true → is_known_deleted st ≡ true
 alone_known st h = grind arith
 
-pub tokens_host_event : (s : State) (e : Event) (reply : Reply) → Accepts s e reply → IsController e ≡ false → s.trusted ≡ true → length s.host.queues ≤ 65536 → length s.device.queues ≡ length s.host.queues → HoldsPart (host_part s) → Stands s → Stands (a.after s e reply)
+pub tokens_host_event : (s : State) (e : Event) (reply : Reply) → Accepts s e reply → IsController e ≡ false → s.trusted ≡ true → length s.host.queues ≤ 65536 → length s.controller.queues ≡ length s.host.queues → HoldsPart (host_part s) → Stands s → Stands (a.after s e reply)
     → TokensS s → TokensS (a.after s e reply)
 tokens_host_event s e reply ok c t few long holds stands left h =
-    let posted : AdminKind → ℕ → List DeviceQueue = λ adm id. change 0 (λ at. record at { unfetched = at.unfetched ++ admin_entry adm id ∷ [] }) s.device.queues in
-    let with : (q cid : ℕ) (f : Record → Record) → KeepsKinds f → TokensHeld (with_record q cid f s.host.records) s.host.queues s.device.queues (waiting s.device.queues) s.device.jobs (answering s.device.queues) = λ q cid f same.
-    tokens_map s.host.records (λ r. if is_at q cid r then f r else r) s.host.queues s.device.queues (waiting s.device.queues) s.device.jobs (answering s.device.queues) (keeps_with q cid f same) stands.placed h in
-    let less : (q cid : ℕ) → Placed (without_record q cid s.host.records) (waiting s.device.queues) s.device.jobs (answering s.device.queues) → TokensHeld (without_record q cid s.host.records) s.host.queues s.device.queues (waiting s.device.queues) s.device.jobs (answering s.device.queues) = λ q cid placed.
-    tokens_fewer s.host.records (without_record q cid s.host.records) s.host.queues s.device.queues (waiting s.device.queues) (waiting s.device.queues) s.device.jobs s.device.jobs (answering s.device.queues) (answering s.device.queues)
-    (fewer_kept (without_record q cid s.host.records) s.host.records (waiting s.device.queues) s.device.jobs (answering s.device.queues) placed (knows_back q cid s.host.records)).1 h in
+    let posted : AdminKind → ℕ → List ServedQueue = λ adm id. change 0 (λ at. record at { unfetched = at.unfetched ++ admin_entry adm id ∷ [] }) s.controller.queues in
+    let with : (q cid : ℕ) (f : Record → Record) → KeepsKinds f → TokensHeld (with_record q cid f s.host.records) s.host.queues s.controller.queues (waiting s.controller.queues) s.controller.jobs (admin_completions s.controller.queues) = λ q cid f same.
+    tokens_map s.host.records (λ r. if is_at q cid r then f r else r) s.host.queues s.controller.queues (waiting s.controller.queues) s.controller.jobs (admin_completions s.controller.queues) (keeps_with q cid f same) stands.placed h in
+    let less : (q cid : ℕ) → Placed (without_record q cid s.host.records) (waiting s.controller.queues) s.controller.jobs (admin_completions s.controller.queues) → TokensHeld (without_record q cid s.host.records) s.host.queues s.controller.queues (waiting s.controller.queues) s.controller.jobs (admin_completions s.controller.queues) = λ q cid placed.
+    tokens_fewer s.host.records (without_record q cid s.host.records) s.host.queues s.controller.queues (waiting s.controller.queues) (waiting s.controller.queues) s.controller.jobs s.controller.jobs (admin_completions s.controller.queues) (admin_completions s.controller.queues)
+    (fewer_kept (without_record q cid s.host.records) s.host.records (waiting s.controller.queues) s.controller.jobs (admin_completions s.controller.queues) placed (knows_back q cid s.host.records)).1 h in
     let sent : (adm : AdminKind) (id : ℕ) → total (here 0 id) s.host.records ≡ 0 → ((z : ℕ) → (makes_sq z adm ≡ false) × (makes_cq z adm ≡ false) × (deletes_sq z adm ≡ false)) → TokensS (sends adm id s) = λ adm id none quiet.
-    let p = change 0 (λ at. record at { unfetched = at.unfetched ++ admin_entry adm id ∷ [] }) s.device.queues in
-    tokens_alike (s.host.records ++ sent_record adm id ∷ []) s.host.queues (change 0 (λ x. record x { ring = next_tail s.entries x.ring }) s.host.queues) p (waiting p) s.device.jobs (answering p) (alike_ring 0 (next_tail s.entries) s.host.queues)
+    let p = change 0 (λ at. record at { unfetched = at.unfetched ++ admin_entry adm id ∷ [] }) s.controller.queues in
+    tokens_alike (s.host.records ++ sent_record adm id ∷ []) s.host.queues (change 0 (λ x. record x { ring = next_tail s.entries x.ring }) s.host.queues) p (waiting p) s.controller.jobs (admin_completions p) (alike_ring 0 (next_tail s.entries) s.host.queues)
     (sent_tokens adm id s s.host.queues none stands (turns_not adm s.host.queues quiet) h) in
     let both : (x y : Bool) → x ≡ true → y ≡ true → (x && y) ≡ true = λ x y e f. grind arith in
     -- a queue of the host is named by its number
     let named : (k : ℕ) (x : HostQueue) (hs : List HostQueue) → slice_get hs k ≡ Some x → length hs ≤ 65536 → ((k % 65536 == k) ≡ true) × (k % 65536 ≡ k) = λ k x hs e few.
     let is = small k (length hs) (below hs k (ap is_some e)) few in (eq-eqb (k % 65536) k is, is) in
     let moved : (q cid : ℕ) (st : Status) (e : ComEntry) (r : Record) (adm : AdminKind) → IsHeard s q cid st e r → r.work ≡ Management adm
-    → PlacedIn (without_record q cid s.host.records) (record s.device { queues = change q (λ at. record at { answers = drop 1 at.answers }) s.device.queues }) → (k : ℕ) (f : HostQueue → HostQueue)
+    → PlacedIn (without_record q cid s.host.records) (record s.controller { queues = change q (λ at. record at { completions = drop 1 at.completions }) s.controller.queues }) → (k : ℕ) (f : HostQueue → HostQueue)
     → ((x : HostQueue) → slice_get (a.heard q e s).host.queues k ≡ Some x → (k % 65536 == k) ≡ true → (one (is_known_deleted (f x).state) ≤ one (is_known_deleted x.state) + (one (deletes_sq k adm && is_success st) + one (makes_sq k adm && not (is_success st))))
     × (one (is_gone (f x).state) ≤ one (is_gone x.state) + (one (deletes_cq k adm && is_success st) + one (makes_cq k adm && not (is_success st))))
     × (one (is_live (f x).state) ≤ one (is_live x.state) + (one (deletes_sq k adm && not (is_success st)) + one (makes_sq k adm && is_success st))))
-    → TokensP (without_record q cid s.host.records) (change k f (a.heard q e s).host.queues) (record s.device { queues = change q (λ at. record at { answers = drop 1 at.answers }) s.device.queues }) = λ q cid st e r adm heard w placed k f each.
+    → TokensP (without_record q cid s.host.records) (change k f (a.heard q e s).host.queues) (record s.controller { queues = change q (λ at. record at { completions = drop 1 at.completions }) s.controller.queues }) = λ q cid st e r adm heard w placed k f each.
     let hs1 = (a.heard q e s).host.queues in
     let long : length hs1 ≤ 65536 = subst (λ (n : ℕ). n ≤ 65536) (sym (heard_alike q e s).long) few in
     heard_tokens q cid st e r adm s (change k f hs1) (admin_zero s q cid r adm holds heard.found w) t heard w placed
@@ -629,28 +629,28 @@ tokens_host_event s e reply ok c t few long holds stands left h =
       live = at_same is_live a.retired q hs (λ x e. sym (ap is_live (is x e)));
     } in
     let rs : List Record = s.host.records in
-    let ds : List DeviceQueue = s.device.queues in
-    let un : List SubEntry = waiting s.device.queues in
-    let js : List Job = s.device.jobs in
-    let ans : List Answer = answering s.device.queues in
+    let ds : List ServedQueue = s.controller.queues in
+    let un : List SubEntry = waiting s.controller.queues in
+    let js : List Job = s.controller.jobs in
+    let ans : List PostedCompletion = admin_completions s.controller.queues in
     host_moves (λ (e : Event) (reply : Reply) (u : State). Stands u → TokensS u) s e reply ok c
     (record {
       reserves = λ q request d none is left. tokens_fewer rs (rs ++ drafted_record d ∷ []) hs ds un un js js ans ans
           (fewer_kept rs (rs ++ drafted_record d ∷ []) un js ans stands.placed (λ c adm k. (k.0, find_more (is_at 0 c) rs (drafted_record d) k.0 k.1, k.2))).0 h;
       submits = λ d entry r none built its live left.
           let hs' = change d.q (λ x. record x { ring = next_tail s.entries x.ring }) hs in
-          posted_elsewhere (with_record d.q d.cid a.submitted rs) hs' d.q entry s.device (io_other s d.q d.cid r its.asked.0 holds its.found its.asked.1)
+          posted_elsewhere (with_record d.q d.cid a.submitted rs) hs' d.q entry s.controller (io_other s d.q d.cid r its.asked.0 holds its.found its.asked.1)
           (tokens_alike (with_record d.q d.cid a.submitted rs) hs hs' ds un js ans (alike_ring d.q (next_tail s.entries) hs) (with d.q d.cid a.submitted ((λ r'. refl), (λ r'. refl), (λ r'. refl))));
       cancels = λ d r its left. less d.q d.cid left.placed;
       rings = λ q none left.
-          let f : DeviceQueue → DeviceQueue = λ at. record at { rung = length at.unfetched } in
-          rw (waiting_same f (λ at. refl) q ds, answering_same f (λ at. refl) q ds)
-          (tokens_device rs hs ds (change q f ds) un js ans (device_same (λ at. is_absent at.state) true f q ds (λ d ed. refl)) (device_same (λ at. at.cq_there) false f q ds (λ d ed. refl)) h);
+          let f : ServedQueue → ServedQueue = λ at. record at { rung = length at.unfetched } in
+          rw (waiting_same f (λ at. refl) q ds, admin_completions_same f (λ at. refl) q ds)
+          (tokens_controller rs hs ds (change q f ds) un js ans (controller_same (λ at. is_absent at.state) true f q ds (λ d ed. refl)) (controller_same (λ at. at.cq_there) false f q ds (λ d ed. refl)) h);
       rests = λ q is left. h;
-      rejects = λ q why is left. consumed_tokens rs (a.consumed q s).host.queues q s.device (tokens_alike rs hs (a.consumed q s).host.queues ds un js ans (alike_ring q (next_head s.entries) hs) h);
+      rejects = λ q why is left. consumed_tokens rs (a.consumed q s).host.queues q s.controller (tokens_alike rs hs (a.consumed q s).host.queues ds un js ans (alike_ring q (next_head s.entries) hs) h);
       tells = λ q cid st what e r request told heard w left.
           let rs' = with_record q cid (a.held st) rs in
-          consumed_tokens rs' (a.heard q e s).host.queues q s.device (tokens_alike rs' hs (a.heard q e s).host.queues ds un js ans (heard_alike q e s) (with q cid (a.held st) ((λ r'. refl), (λ r'. refl), (λ r'. refl))));
+          consumed_tokens rs' (a.heard q e s).host.queues q s.controller (tokens_alike rs' hs (a.heard q e s).host.queues ds un js ans (heard_alike q e s) (with q cid (a.held st) ((λ r'. refl), (λ r'. refl), (λ r'. refl))));
       hears = λ q cid st what e r adm told heard w quiet unmade left.
           heard_tokens q cid st e r adm s (a.heard q e s).host.queues (admin_zero s q cid r adm holds heard.found w) t heard w (record { placed = left.placed }) (moves_not adm (is_success st) (a.heard q e s).host.queues) h;
       notes = λ q cid st what e r k told heard w left.
@@ -691,7 +691,7 @@ tokens_host_event s e reply ok c t few long holds stands left h =
           let kk = named q queue hs granted.there few in
           let was : is_gone queue.state ≡ true = ap is_gone granted.state in
           let over : is_known_deleted queue.state ≡ true = ap is_known_deleted granted.state in
-          tokens_alike (rs ++ sent_record adm id ∷ []) (change q f hs) (change 0 (λ x. record x { ring = next_tail s.entries x.ring }) (change q f hs)) (posted adm id) (waiting (posted adm id)) js (answering (posted adm id)) (alike_ring 0 (next_tail s.entries) (change q f hs))
+          tokens_alike (rs ++ sent_record adm id ∷ []) (change q f hs) (change 0 (λ x. record x { ring = next_tail s.entries x.ring }) (change q f hs)) (posted adm id) (waiting (posted adm id)) js (admin_completions (posted adm id)) (alike_ring 0 (next_tail s.entries) (change q f hs))
           (sent_tokens adm id s (change q f hs) (unused s 0 id new) stands
           (turns adm hs q f queue granted.there (λ z far. (refl, ap (λ (n : ℕ). n == z) kk.1 ∙ far, refl)) (omega (arith, ap one over), omega (arith, ap one kk.0, ap one was), omega arith)) h);
       creates_sqs = λ q id first queue none new granted left.
@@ -699,7 +699,7 @@ tokens_host_event s e reply ok c t few long holds stands left h =
           let adm = creates_sq_moves q first s in
           let kk = named q queue hs granted.there few in
           let over : is_known_deleted queue.state ≡ true = ap is_known_deleted granted.state in
-          tokens_alike (rs ++ sent_record adm id ∷ []) (change q f hs) (change 0 (λ x. record x { ring = next_tail s.entries x.ring }) (change q f hs)) (posted adm id) (waiting (posted adm id)) js (answering (posted adm id)) (alike_ring 0 (next_tail s.entries) (change q f hs))
+          tokens_alike (rs ++ sent_record adm id ∷ []) (change q f hs) (change 0 (λ x. record x { ring = next_tail s.entries x.ring }) (change q f hs)) (posted adm id) (waiting (posted adm id)) js (admin_completions (posted adm id)) (alike_ring 0 (next_tail s.entries) (change q f hs))
           (sent_tokens adm id s (change q f hs) (unused s 0 id new) stands
           (turns adm hs q f queue granted.there (λ z far. (ap (λ (n : ℕ). n == z) kk.1 ∙ far, refl, refl)) (omega (arith, ap one kk.0, ap one over), omega arith, omega arith)) h);
       retires = λ q queue none at deleted left.
@@ -707,7 +707,7 @@ tokens_host_event s e reply ok c t few long holds stands left h =
           (alike_retired q hs (λ x ex. let same : queue ≡ x = cc (at, ex) in ap (λ (z : HostQueue). z.state) (sym same) ∙ deleted))
           (tokens_map rs (a.lost q) hs ds un js ans (keeps_lost q) stands.placed h);
       forges = λ q slot bytes queue none at left. h;
-      resets = λ left. rw (no_waiting s.device.queues, no_answering s.device.queues) (reset_tokens (a.reset_records s.host.records) s.host.queues s.device.queues long);
+      resets = λ left. rw (no_waiting s.controller.queues, no_admin_completions s.controller.queues) (reset_tokens (a.reset_records s.host.records) s.host.queues s.controller.queues long);
     }) left
   where
     hs : List HostQueue

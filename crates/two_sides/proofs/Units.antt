@@ -10,7 +10,7 @@ use Rattle.controller_walk.specs.declared.walk.WalkState.TheVariants.{End, Fault
 use Rattle.entry_codec.specs.declared.status.TheConstants.Status.{DATA_TRANSFER_ERROR}
 use Rattle.host_core.proofs.QueueLists.{page-written}
 use Rattle.io_commands.specs.Jobs.{course_of_walk}
-use Rattle.two_sides.proofs.DeviceMoves.{unit_bytes, unit_memory}
+use Rattle.two_sides.proofs.ControllerMoves.{unit_bytes, unit_memory}
 use Rattle.page_memory.{proofs.Bytes.{bytes_within, bytes_missing, told}, specs.Memory.{Memory, bytes_at, pages_reached, written}}
 use Rattle.page_memory.specs.Pages.{Pages, page_at, byte_at, AreWhole, IsPool}
 use Rattle.sgl_descriptor.specs.declared.Direction.{Direction, TheVariants.{Destination, Source}}

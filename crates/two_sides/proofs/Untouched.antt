@@ -10,8 +10,8 @@ use Rattle.machine_model.proofs.Kept.{live_has_sq, reaped_has_cq, service_is_rea
 use Rattle.machine_model.proofs.Moves.{host_moves, posts, posted_is, sends, sent_record, half_from, creates_cq, creates_sq, grants_cq, grants_sq}
 use Rattle.machine_model.{proofs.{Owned.{Holds, in_queue, in_record}, Steps.{first_fails, permitted, managed_by, Accepts, unrefused}}, specs.Agreeing.on_queue}
 use Rattle.machine_model.specs.{Events.{Event, Reply}, Linked.{absent, IsLinked}, Memory.{is_in, with_pages, without_pages, zeroed_pages}, Positions.IsInRing}
-use Rattle.machine_model.specs.Refusals.{host_queue, device_queue, next_rung, slot_page, fetch_slot, post_slot, fetch_page, post_page, conflicts, job_at, answers_full, job_is, waits, is_submitted, is_drafted, is_collected, is_live, has_cq, in_service, is_reaped, slot_offset, in_state, is_job}
-use Rattle.machine_model.specs.State.{State, HostQueue, DeviceQueue, pages_of, Host, Record, Job, record_at, with_record}
+use Rattle.machine_model.specs.Refusals.{host_queue, served_queue, next_rung, slot_page, fetch_slot, post_slot, fetch_page, post_page, conflicts, job_at, completions_full, job_is, waits, is_submitted, is_drafted, is_collected, is_live, has_cq, in_service, is_reaped, slot_offset, in_state, is_job}
+use Rattle.machine_model.specs.State.{State, HostQueue, ServedQueue, pages_of, Host, Record, Job, record_at, with_record}
 use Rattle.machine_model.specs.Step.{Step, Refuses, IsController, touched_by_refusal, touched_by_fetch, times}
 use Rattle.machine_model.specs.{Touch.{allowed, pages_at_queue, pages_at_queues, pages_of_queue, own_pages, stays_allowed, stays_own}, Weights.{one, total}}
 use Rattle.machine_model.specs.declared.words.{HostState.HostState, Refusal.Refusal}
@@ -22,7 +22,7 @@ use Rattle.controller_walk.specs.Units.{first_passing}
 use Rattle.queue_pair.{proofs.Rings.moved_below, specs.{Members.change, Memory.half_pages, Slots.moved}}
 use Rattle.page_memory.specs.{Pages.{Pages, page_at, with_page_bytes, with_bytes}, declared.page.Half.TheVariants.{Submission, Completion}}
 use Rattle.io_commands.specs.Values.{numbers_of}
-use Rattle.two_sides.proofs.{DeviceMoves.{answers, answers_is, finished, cleared, fetch_by, complete_by}, Provided.{In, in_at, in_found}}
+use Rattle.two_sides.proofs.{ControllerMoves.{posts_completion, answers_is, finished, cleared, fetch_by, complete_by}, Provided.{In, in_at, in_found}}
 use Rattle.two_sides.proofs.TiedAll.{Grounds, pair_at, ring_in, zero_lives}
 use Rattle.entry_codec.specs.{Completion.completion_bytes, Submission.submission_bytes, declared.status.Status.Status}
 use Rattle.entry_codec.specs.declared.{status.TheConstants.Status.COMMAND_ID_CONFLICT, submission.SubEntry.SubEntry}
@@ -57,7 +57,7 @@ holds_index (x ∷ xs) zero l = or_left (x == x) (is_among xs x) (eq-eqb x x ref
 holds_index (x ∷ xs) (suc k) l = or_right (x == slice_index xs k) (is_among xs (slice_index xs k)) (holds_index xs k (omega arith))
 
 -- the pages of the queue at an index
-at_queues : (p k : ℕ) (queues : List HostQueue) (ats : List DeviceQueue) (queue : HostQueue) (at : DeviceQueue) → slice_get queues k ≡ Some queue → slice_get ats k ≡ Some at
+at_queues : (p k : ℕ) (queues : List HostQueue) (ats : List ServedQueue) (queue : HostQueue) (at : ServedQueue) → slice_get queues k ≡ Some queue → slice_get ats k ≡ Some at
     → is_among (pages_at_queue queue at) p ≡ true → is_among (pages_at_queues queues ats) p ≡ true
 at_queues p zero (x ∷ queues) (y ∷ ats) queue at e e' h =
     let same : x ≡ queue = cc in
@@ -75,35 +75,35 @@ pub answer_inside : (n k : ℕ) → k < n → k * 16 / 4096 < half_pages n Compl
 answer_inside n k l = omega arith
 
 fetch_slot_below : (s : State) (q : ℕ) → IsLinked s → fetch_slot s q < s.entries
-fetch_slot_below s q linked = go (host_queue s q) (device_queue s q) (linked.inside q)
+fetch_slot_below s q linked = go (host_queue s q) (served_queue s q) (linked.inside q)
   where
-    go : (o : Option HostQueue) (d : Option DeviceQueue) → ((queue : HostQueue) → o ≡ Some queue → IsInRing s.entries queue.ring)
+    go : (o : Option HostQueue) (d : Option ServedQueue) → ((queue : HostQueue) → o ≡ Some queue → IsInRing s.entries queue.ring)
         → option_map_or (λ queue. option_map_or (λ at. moved s.entries queue.ring.tail (s.entries - length at.unfetched)) d 0) o 0 < s.entries
     go None d inside = linked.entries
     go (Some queue) None inside = linked.entries
     go (Some queue) (Some at) inside = moved_below s.entries queue.ring.tail (s.entries - length at.unfetched) (inside queue refl).tail
 
 post_slot_below : (s : State) (q : ℕ) → IsLinked s → post_slot s q < s.entries
-post_slot_below s q linked = go (host_queue s q) (device_queue s q) (linked.inside q)
+post_slot_below s q linked = go (host_queue s q) (served_queue s q) (linked.inside q)
   where
-    go : (o : Option HostQueue) (d : Option DeviceQueue) → ((queue : HostQueue) → o ≡ Some queue → IsInRing s.entries queue.ring)
-        → option_map_or (λ queue. option_map_or (λ at. moved s.entries queue.ring.head (length at.answers)) d 0) o 0 < s.entries
+    go : (o : Option HostQueue) (d : Option ServedQueue) → ((queue : HostQueue) → o ≡ Some queue → IsInRing s.entries queue.ring)
+        → option_map_or (λ queue. option_map_or (λ at. moved s.entries queue.ring.head (length at.completions)) d 0) o 0 < s.entries
     go None d inside = linked.entries
     go (Some queue) None inside = linked.entries
-    go (Some queue) (Some at) inside = moved_below s.entries queue.ring.head (length at.answers) (inside queue refl).head
+    go (Some queue) (Some at) inside = moved_below s.entries queue.ring.head (length at.completions) (inside queue refl).head
 
 -- a page is allowed, and its queue's
 abbrev pub StaysIn : State → ℕ → ℕ → Type 0
 StaysIn s q p = (is_among (allowed s) p ≡ true) × (is_among (pages_of_queue s q) p ≡ true)
 
-in_device : (s : State) (q : ℕ) → absent s q ≡ false → (at : DeviceQueue) × (device_queue s q ≡ Some at) × (is_absent at.state ≡ false)
-in_device s q there = elim (option_is (device_queue s q)) [ inl e ↦ let h = rw e at there in absurd (true≢false h) | inr (at, e) ↦ let h = rw e at there in (at, e, h) ]
+in_controller : (s : State) (q : ℕ) → absent s q ≡ false → (at : ServedQueue) × (served_queue s q ≡ Some at) × (is_absent at.state ≡ false)
+in_controller s q there = elim (option_is (served_queue s q)) [ inl e ↦ let h = rw e at there in absurd (true≢false h) | inr (at, e) ↦ let h = rw e at there in (at, e, h) ]
 
-of_half : (s : State) (q p : ℕ) (queue : HostQueue) (at : DeviceQueue) → host_queue s q ≡ Some queue → device_queue s q ≡ Some at
+of_half : (s : State) (q p : ℕ) (queue : HostQueue) (at : ServedQueue) → host_queue s q ≡ Some queue → served_queue s q ≡ Some at
     → is_among (pages_at_queue queue at) p ≡ true → is_among (queue.sq_pages ++ queue.cq_pages) p ≡ true → StaysIn s q p
 of_half s q p queue at e e' h own = (
-  holds_left p (pages_at_queues s.host.queues s.device.queues) (flat_map (λ r. if is_some (job_at s r.q r.cid) then pages_of r else []) s.host.records)
-      (at_queues p q s.host.queues s.device.queues queue at e e' h),
+  holds_left p (pages_at_queues s.host.queues s.controller.queues) (flat_map (λ r. if is_some (job_at s r.q r.cid) then pages_of r else []) s.host.records)
+      (at_queues p q s.host.queues s.controller.queues queue at e e' h),
   ap (λ (o : Option HostQueue). is_among (option_map_or (λ queue. queue.sq_pages ++ queue.cq_pages) o []) p) e ∙ own,
 )
 
@@ -113,7 +113,7 @@ fetch_stays_in s q linked there = go (host_queue s q) refl
     go : (o : Option HostQueue) → host_queue s q ≡ o → StaysIn s q (option_map_or (λ queue. slot_page queue.sq_pages 64 (fetch_slot s q)) o 0)
     go None e = let known : is_some (host_queue s q) ≡ true = linked.known q there in absurd (true≢false (sym (rw e at known)))
     go (Some queue) e =
-        let at = in_device s q there in
+        let at = in_controller s q there in
         let p : ℕ = slot_page queue.sq_pages 64 (fetch_slot s q) in
         let inside : fetch_slot s q * 64 / 4096 < length queue.sq_pages =
         subst (λ (n : ℕ). fetch_slot s q * 64 / 4096 < n) (sym (linked.submission_whole q queue e there)) (entry_inside s.entries (fetch_slot s q) (fetch_slot_below s q linked)) in
@@ -129,10 +129,10 @@ post_stays_in s q linked there = go (host_queue s q) refl
     go : (o : Option HostQueue) → host_queue s q ≡ o → StaysIn s q (option_map_or (λ queue. slot_page queue.cq_pages 16 (post_slot s q)) o 0)
     go None e = let known : is_some (host_queue s q) ≡ true = linked.known q there in absurd (true≢false (sym (rw e at known)))
     go (Some queue) e =
-        let at = in_device s q there in
+        let at = in_controller s q there in
         let p : ℕ = slot_page queue.cq_pages 16 (post_slot s q) in
-        let cq : option_map_or (λ (at : DeviceQueue). at.cq_there) (device_queue s q) false ≡ true = linked.completion_stays q there in
-        let cq' : at.0.cq_there ≡ true = sym (ap (λ (o : Option DeviceQueue). option_map_or (λ (at : DeviceQueue). at.cq_there) o false) at.1) ∙ cq in
+        let cq : option_map_or (λ (at : ServedQueue). at.cq_there) (served_queue s q) false ≡ true = linked.completion_stays q there in
+        let cq' : at.0.cq_there ≡ true = sym (ap (λ (o : Option ServedQueue). option_map_or (λ (at : ServedQueue). at.cq_there) o false) at.1) ∙ cq in
         let inside : post_slot s q * 16 / 4096 < length queue.cq_pages =
         subst (λ (n : ℕ). post_slot s q * 16 / 4096 < n) (sym (linked.completion_whole q queue e (linked.completion_stays q there))) (answer_inside s.entries (post_slot s q) (post_slot_below s q linked)) in
         let held : is_among queue.cq_pages p ≡ true = holds_index queue.cq_pages (post_slot s q * 16 / 4096) inside in
@@ -151,7 +151,7 @@ first_other c x y rest h far = grind arith
 abbrev after_idle : State → ℕ → List (Bool × Refusal)
 after_idle s q =
     (not (is_in s.memory (fetch_page s q)), refusal.SlotOut)
-    ∷ (conflicts s q && answers_full s q, refusal.Full)
+    ∷ (conflicts s q && completions_full s q, refusal.Full)
     ∷ (conflicts s q && not (is_in s.memory (post_page s q)), refusal.SlotOut)
     ∷ []
 
@@ -204,7 +204,7 @@ abbrev after_no_job : State → ℕ → ℕ → List (Bool × Refusal)
 after_no_job s q cid =
     (job_is (λ j. is_none j.verdict) s q cid, refusal.Walking)
     ∷ (job_is (waits s) s q cid, refusal.Waits)
-    ∷ (answers_full s q, refusal.Full)
+    ∷ (completions_full s q, refusal.Full)
     ∷ (not (is_in s.memory (post_page s q)), refusal.SlotOut)
     ∷ []
 
@@ -322,7 +322,7 @@ pub posts_elsewhere : (q : ℕ) (entry : SubEntry) (s : State) (p : ℕ) → Pos
 posts_elsewhere q entry s p known = ap (λ (t : State). page_at t.memory p) (posted_is q entry s) ∙ posted_elsewhere q entry s p known
 
 post_below : (s : State) (q : ℕ) (queue : HostQueue) → host_queue s q ≡ Some queue → queue.ring.head < s.entries → post_slot s q < s.entries
-post_below s q queue e l = rw e (elim (option_is (device_queue s q)) [ inl none ↦ rw none (omega (arith, l)) | inr (at, d) ↦ rw d (moved_below s.entries queue.ring.head (length at.answers) l) ])
+post_below s q queue e l = rw e (elim (option_is (served_queue s q)) [ inl none ↦ rw none (omega (arith, l)) | inr (at, d) ↦ rw d (moved_below s.entries queue.ring.head (length at.completions) l) ])
 
 answered_elsewhere : (q cid : ℕ) (st : Status) (dw0 : ℕ) (s : State) (p : ℕ) → AnswersElsewhere s q p → Same (a.answered q cid st dw0 s).memory s p
 answered_elsewhere q cid st dw0 s p known = go (host_queue s q) refl
@@ -336,7 +336,7 @@ answered_elsewhere q cid st dw0 s p known = go (host_queue s q) refl
         bytes_elsewhere s.memory (slot_page queue.cq_pages 16 (post_slot s q)) p (slot_offset 16 (post_slot s q)) _
         (index_counts queue.cq_pages (post_slot s q * 16 / 4096) p (subst (λ (n : ℕ). post_slot s q * 16 / 4096 < n) (sym k.1) (answer_inside s.entries (post_slot s q) (post_below s q queue e k.2))) k.0)
 
-answers_elsewhere : (q cid : ℕ) (st : Status) (dw0 : ℕ) (s : State) (p : ℕ) → AnswersElsewhere s q p → Same (answers q cid st dw0 s).memory s p
+answers_elsewhere : (q cid : ℕ) (st : Status) (dw0 : ℕ) (s : State) (p : ℕ) → AnswersElsewhere s q p → Same (posts_completion q cid st dw0 s).memory s p
 answers_elsewhere q cid st dw0 s p known = ap (λ (t : State). page_at t.memory p) (answers_is q cid st dw0 s) ∙ answered_elsewhere q cid st dw0 s p known
 
 -- What is known of a queue
@@ -356,8 +356,8 @@ served_there st h = reaped_has_cq st (service_is_reaped st h)
 -- so is the queue of a job
 completed_there : (s : State) → Grounds s → (q cid : ℕ) (j : Job) → job_at s q cid ≡ Some j → (queue : HostQueue) → host_queue s q ≡ Some queue → has_cq queue.state ≡ true
 completed_there s g q cid j at queue there =
-    let its = and_parts (j.q == q) (j.entry.cid == cid) (found_is (is_job q cid) s.device.jobs j at) in
-    let served = g.fit.service q (omega (arith, in_found (is_job q cid) s.device.jobs j at (on_queue q), ap one its.0)) in
+    let its = and_parts (j.q == q) (j.entry.cid == cid) (found_is (is_job q cid) s.controller.jobs j at) in
+    let served = g.fit.service q (omega (arith, in_found (is_job q cid) s.controller.jobs j at (on_queue q), ap one its.0)) in
     served_there queue.state (not-false (in_service queue.state) (sym (ap (λ (o : Option HostQueue). option_map_or (λ h. not (in_service h.state)) o false) there) ∙ served))
 
 -- Memory that stays
@@ -397,7 +397,7 @@ fetch_elsewhere q p s g some =
 complete_elsewhere : (q cid p : ℕ) (s : State) → Grounds s → Kept s p → Same (a.after_complete q cid s).memory s p
 complete_elsewhere q cid p s g some =
     let known : (j : Job) → job_at s q cid ≡ Some j → AnswersElsewhere s q p = λ j at. answers_there s g q p (completed_there s g q cid j at) some in
-    complete_by (λ (t : State). Same t.memory s p) s q cid refl (λ j at c. answers_elsewhere q cid (a.final_status s j) j.dw0 (a.on_device_queue (named_queue j.entry) cleared (finished q cid j s)) p (known j at))
+    complete_by (λ (t : State). Same t.memory s p) s q cid refl (λ j at c. answers_elsewhere q cid (a.final_status s j) j.dw0 (a.on_served_queue (named_queue j.entry) cleared (finished q cid j s)) p (known j at))
     (λ j at c. answers_elsewhere q cid (a.final_status s j) j.dw0 (finished q cid j s) p (known j at))
 
 -- a page that nobody else has is as it was, whatever happens but a walk, and the collecting of its command

@@ -2,7 +2,7 @@
 use Rattle.std.proofs.Common.{◌≡◌, ℕ, ◌+◌, ◌<◌, ◌==◌, ◌||◌, Bool, true, false, Option, Some, None, Ok, Err, IfSome, is_some, List, [], length, find, map, slice_get, if◌then◌else◌, refl, ap, ap₂, sym, ◌∙◌, subst, inl, inr, arith}
 use Rattle.std.{proofs.lemmas.{Bool.true≢false, Option.slice_get-map}, specs.Option.{option_map, option_map_or}}
 use Rattle.machine_model.{proofs.{Steps.in_store, Tokens.is_job}, specs.After.{after_walk, course_of, next_answer, next_unit}}
-use Rattle.machine_model.specs.{Memory.memory_of, Refusals.{job_at, refusal_of}, State.{State, DeviceQueue, Job, Record, is_at, pages_of}}
+use Rattle.machine_model.specs.{Memory.memory_of, Refusals.{job_at, refusal_of}, State.{State, ServedQueue, Job, Record, is_at, pages_of}}
 use Rattle.machine_model.specs.Step.{Permits, unit_answered}
 use Rattle.block_image.specs.Blocks.{block_count}
 use Rattle.controller_core.proofs.Lists.{all-at, all_set}
@@ -12,12 +12,12 @@ use Rattle.controller_walk.specs.{Laws.after_units, Units.Act, Walks.{IfMore, an
 use Rattle.entry_codec.specs.declared.{status.Status.Status, submission.SubEntry.SubEntry}
 use Rattle.io_commands.specs.Jobs.{job_course, direction_of_entry, verdict_of}
 use Rattle.two_sides.proofs.{Assembling.{serve_refused, served_stepped}, Commands.{Walking, walk_writes}}
-use Rattle.two_sides.proofs.DeviceMoves.{unit_bytes, unit_done, unit_memory, walk_is}
+use Rattle.two_sides.proofs.ControllerMoves.{unit_bytes, unit_done, unit_memory, walk_is}
 use Rattle.two_sides.proofs.Frames.{Spares, all_stand_still, apart_from_queues, queues_stay, tied_of, job_served, stands_again, still_stands, stood}
 use Rattle.two_sides.proofs.{NeverFull.{ListsStay, stay_walk}, Places.{is_found, job-at, job-found, map_one, seen, seen_is}}
 use Rattle.two_sides.proofs.{PoolBytes.reads_the_pool, Served.data_of, Serving.{either_by, same_pages, with_served}}
 use Rattle.two_sides.{proofs.Units.{FirstUnit, HeadInPage, effect_told, few_touched, first_unit, head_in_page, next_done, unit_stays}, specs.Serving.why_of}
-use Rattle.two_sides.specs.{Sides.{Sides, state_of, device_queues_of, job_of}, Stepping.{LeavesPages, StepsTo, served, walks_step, walks_refuse_alike}}
+use Rattle.two_sides.specs.{Sides.{Sides, state_of, served_queues_of, job_of}, Stepping.{LeavesPages, StepsTo, served, walks_step, walks_refuse_alike}}
 use Rattle.two_sides.specs.Ties.{IsWorld, ShareQueues, SharesAdmin, AllQueuesStand, WalkStands, WalksStand}
 use Rattle.page_ledger.specs.Owners.{is_among}
 use Rattle.page_memory.specs.{Memory.Memory, Pages.{Pages, byte_at, page_at, AreWhole}}
@@ -162,8 +162,8 @@ module _ (s : Sides) (q cid : ℕ) (outcome : WalkState) (c : Contents) (pages :
 
     state_walked : state_of (served s c pages) ≡ after_walk q cid (state_of s)
     state_walked =
-        let old = device_queues_of (byte_at s.pages) s.host.host.queues s.controller.queues in
-        ap (λ (queues : List DeviceQueue). with_served (state_of s) pages queues (map job_of c.commands) c.image) (ap (device_queues_of (byte_at pages) s.host.host.queues) w.queues ∙ queues_stay s pages world t spared)
+        let old = served_queues_of (byte_at s.pages) s.host.host.queues s.controller.queues in
+        ap (λ (queues : List ServedQueue). with_served (state_of s) pages queues (map job_of c.commands) c.image) (ap (served_queues_of (byte_at pages) s.host.host.queues) w.queues ∙ queues_stay s pages world t spared)
         ∙ ap₂ (with_served (state_of s) pages old) (sym jobs_walked) w.image
         ∙ ap (λ (pages : Pages). with_served (state_of s) pages old (map changed (map job_of s.controller.commands)) s.controller.image) told.0
         ∙ walk_is (state_of s) q cid j unit.act job_here next.0

@@ -54,12 +54,12 @@ abbrev pub tails_are_heard : Type 0
 tails_are_heard =
     (s : Sides) (q : ℕ) (h : HostQueue) (c : ControllerQueue)
     → AreSides s → slice_get s.host.host.queues q ≡ Some h → slice_get s.controller.queues q ≡ Some c
-    → with_tail h.ring.tail c ≡ with_side (record c.device { ring = hearing_tail h.ring.tail c.device.ring }) c
+    → with_tail h.ring.tail c ≡ with_side (record c.controller { ring = hearing_tail h.ring.tail c.controller.ring }) c
 
 -- Where nothing was forged, and an answer waits in the completion ring of a queue that is in use, the head behind it is heard.
 abbrev pub heads_are_heard : Type 0
 heads_are_heard =
     (s : Sides) (q : ℕ) (h : HostQueue) (c : ControllerQueue)
     → AreSides s → AreTied s → slice_get s.host.host.queues q ≡ Some h → slice_get s.controller.queues q ≡ Some c
-    → has_ring h c ≡ true → h.ring.head ≢ c.device.ring.tail
-    → with_head (next_slot s.host.entries h.ring.head) c ≡ with_side (record c.device { ring = hearing_head (next_slot s.host.entries h.ring.head) c.device.ring }) c
+    → has_ring h c ≡ true → h.ring.head ≢ c.controller.ring.tail
+    → with_head (next_slot s.host.entries h.ring.head) c ≡ with_side (record c.controller { ring = hearing_head (next_slot s.host.entries h.ring.head) c.controller.ring }) c

@@ -4,7 +4,7 @@ use Rattle.std.specs.Prelude.{◌≡◌, ℕ, ◌==◌, Bool, true, false, ◌&&
 use Rattle.page_ledger.specs.Owners.{is_among}
 use Rattle.machine_model.specs.{After.{after, course_of}, Events.{Event, Reply}, Image.Made, Linked.{absent, IsLinked}}
 use Rattle.machine_model.specs.{Refusals.{job_at, is_submitted, host_queue, is_live}, Standing.JobStands}
-use Rattle.machine_model.specs.{State.{State, Device, Record, record_at, outstanding_on, HostQueue, Job}, Step.{Step, Permits, IsController, host_part, times}}
+use Rattle.machine_model.specs.{State.{State, Controller, Record, record_at, outstanding_on, HostQueue, Job}, Step.{Step, Permits, IsController, host_part, times}}
 use Rattle.machine_model.specs.{Touch.{stays_allowed, stays_own}, Trusted.{TrustedRun, forges_by}, Work.Work, declared.words.Work.TheVariants.{Io, Management}}
 use Rattle.io_commands.specs.{Asked.Request, Requests.joined_parts}
 use Rattle.sgl_descriptor.specs.{Spelling.spelling, declared.Descriptor.Descriptor}
@@ -28,7 +28,7 @@ rings_are_never_full =
 -- A record doesn't keep its entry: after the completion nobody reads the chain.
 abbrev pub entries_of : State → ℕ → ℕ → List SubEntry
 entries_of s q cid =
-    option_map_or (λ at. filter (λ e. e.cid == cid) at.unfetched) (slice_get s.device.queues q) []
+    option_map_or (λ at. filter (λ e. e.cid == cid) at.unfetched) (slice_get s.controller.queues q) []
     ++ option_map_or (λ j. j.entry ∷ []) (job_at s q cid) []
 
 pub record HasChain (s : State) (r : Record) (request : Request) : Type 0 where
@@ -62,9 +62,9 @@ trusted_steps_stay_allowed =
 -- Where nothing was forged, an admin command stands at the controller once, and only where it is outstanding: not fetched, fetched, or answered
 abbrev pub admin_places : State → List ℕ
 admin_places s =
-    map (λ e. e.cid) (option_map_or (λ at. at.unfetched) (slice_get s.device.queues 0) [])
-    ++ map (λ j. j.entry.cid) (filter (λ j. j.q == 0) s.device.jobs)
-    ++ map (λ a. a.cid) (option_map_or (λ at. at.answers) (slice_get s.device.queues 0) [])
+    map (λ e. e.cid) (option_map_or (λ at. at.unfetched) (slice_get s.controller.queues 0) [])
+    ++ map (λ j. j.entry.cid) (filter (λ j. j.q == 0) s.controller.jobs)
+    ++ map (λ a. a.cid) (option_map_or (λ at. at.completions) (slice_get s.controller.queues 0) [])
 
 abbrev pub admin_commands_stand_once : Type 0
 admin_commands_stand_once =
@@ -74,10 +74,10 @@ admin_commands_stand_once =
 -- Once something was forged: what the host is answered, and what its part and the memory become, hangs on nothing of the controller's part
 abbrev pub hosts_need_no_controller : Type 0
 hosts_need_no_controller =
-    (s : State) (d : Device) (e : Event) (reply : Reply) → s.trusted ≡ false → IsController e ≡ false → Permits s e reply
-    → Permits (record s { device = d }) e reply
-    × (host_part (after (record s { device = d }) e reply) ≡ host_part (after s e reply))
-    × ((after (record s { device = d }) e reply).memory ≡ (after s e reply).memory)
+    (s : State) (d : Controller) (e : Event) (reply : Reply) → s.trusted ≡ false → IsController e ≡ false → Permits s e reply
+    → Permits (record s { controller = d }) e reply
+    × (host_part (after (record s { controller = d }) e reply) ≡ host_part (after s e reply))
+    × ((after (record s { controller = d }) e reply).memory ≡ (after s e reply).memory)
 
 -- whenever nothing was forged
 abbrev pub trusted_worlds_are_linked : Type 0

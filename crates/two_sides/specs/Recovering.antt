@@ -21,7 +21,7 @@ pub record CanRecover (s : State) : Type 0 where
   pub few_queues : length s.host.queues ≤ 65536
   pub few_pages : length s.memory ≤ 65536
   -- as many queues on either side
-  pub paired : length s.device.queues ≡ length s.host.queues
+  pub paired : length s.controller.queues ≡ length s.host.queues
 
 abbrev pub openings_can_recover : Type 0
 openings_can_recover = (pages queues n s : ℕ) (image : List ℕ) → Opens pages queues n s → CanRecover (opening pages queues n s image)

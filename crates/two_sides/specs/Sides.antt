@@ -6,9 +6,9 @@ use Rattle.controller_core.specs.Contents.{Contents, FetchedCommand, Work, entry
 use Rattle.controller_core.specs.declared.{command.Work.TheVariants.{Io, Admin}, queue.ControllerQueue.ControllerQueue}
 use Rattle.entry_codec.specs.declared.{completion.ComEntry.ComEntry, submission.SubEntry.SubEntry}
 use Rattle.host_core.specs.Alone.{HostView}
-use Rattle.machine_model.specs.State.{State, Device, Answer, HostQueue, DeviceQueue}
+use Rattle.machine_model.specs.State.{State, Controller, PostedCompletion, HostQueue, ServedQueue}
 use Rattle.page_memory.specs.{Memory.Memory, Pages.{Pages, byte_at}}
-use Rattle.queue_pair.specs.{Lists.{entries_between, answers_between}, Rings.{HostRing, DeviceSide}, Slots.distance}
+use Rattle.queue_pair.specs.{Lists.{entries_between, completions_from}, Rings.{HostRing, ControllerSide}, Slots.distance}
 use Rattle.machine_model.specs.State as machine
 
 -- both sides, the pages that they share, and whether nothing was forged since the last reset
@@ -24,33 +24,33 @@ present [] = []
 present (None ∷ xs) = present xs
 present (Some x ∷ xs) = x ∷ present xs
 
-abbrev pub answer_of : ComEntry → Answer
-answer_of e = record { cid = e.cid; status = e.status; dw0 = e.dw0; sq_head = e.sqhd }
+abbrev pub posted_completion : ComEntry → PostedCompletion
+posted_completion e = record { cid = e.cid; status = e.status; dw0 = e.dw0; sq_head = e.sqhd }
 
 -- the entries that stand between the controller's head and the host's tail
-abbrev pub unfetched_between : Memory → HostRing → DeviceSide → List SubEntry
-unfetched_between m ring device = present (entries_between m device.sq device.entries device.ring.head ring.tail)
+abbrev pub unfetched_between : Memory → HostRing → ControllerSide → List SubEntry
+unfetched_between m ring controller = present (entries_between m controller.sq controller.entries controller.ring.head ring.tail)
 
 -- the completions that stand between the host's head and the controller's tail
-abbrev pub completions_between : Memory → HostRing → DeviceSide → List ComEntry
-completions_between m ring device = present (answers_between m device.cq device.entries ring.head device.ring.tail)
+abbrev pub completions_between : Memory → HostRing → ControllerSide → List ComEntry
+completions_between m ring controller = present (completions_from m controller.cq controller.entries ring.head controller.ring.tail)
 
 -- a queue of the controller as the machine has it; an absent submission queue has no entries, and a completion queue that is not there no answers
-abbrev pub device_queue_of : Memory → HostRing → ControllerQueue → DeviceQueue
-device_queue_of m ring queue =
+abbrev pub served_queue_of : Memory → HostRing → ControllerQueue → ServedQueue
+served_queue_of m ring queue =
     record {
       state = queue.state;
       cq_there = queue.cq_there;
-      unfetched = if is_absent queue.state then [] else unfetched_between m ring queue.device;
-      rung = if is_absent queue.state then 0 else distance queue.device.entries queue.device.ring.head queue.device.ring.bell;
-      answers = if queue.cq_there then map answer_of (completions_between m ring queue.device) else [];
+      unfetched = if is_absent queue.state then [] else unfetched_between m ring queue.controller;
+      rung = if is_absent queue.state then 0 else distance queue.controller.entries queue.controller.ring.head queue.controller.ring.bell;
+      completions = if queue.cq_there then map posted_completion (completions_between m ring queue.controller) else [];
     }
 
 -- queue by queue, as long as both sides have one
-abbrev pub device_queues_of : Memory → List HostQueue → List ControllerQueue → List DeviceQueue
-device_queues_of m [] cs = []
-device_queues_of m (h ∷ hs) [] = []
-device_queues_of m (h ∷ hs) (c ∷ cs) = device_queue_of m h.ring c ∷ device_queues_of m hs cs
+abbrev pub served_queues_of : Memory → List HostQueue → List ControllerQueue → List ServedQueue
+served_queues_of m [] cs = []
+served_queues_of m (h ∷ hs) [] = []
+served_queues_of m (h ∷ hs) (c ∷ cs) = served_queue_of m h.ring c ∷ served_queues_of m hs cs
 
 abbrev pub bytes_of_work : Work → List ℕ
 bytes_of_work (Io job) = job.bytes
@@ -69,10 +69,10 @@ job_of k =
     }
 
 -- the controller's part of the machine
-abbrev pub device_of : Sides → Device
-device_of s =
+abbrev pub controller_part : Sides → Controller
+controller_part s =
     record {
-      queues = device_queues_of (byte_at s.pages) s.host.host.queues s.controller.queues;
+      queues = served_queues_of (byte_at s.pages) s.host.host.queues s.controller.queues;
       jobs = map job_of s.controller.commands;
       image = s.controller.image;
     }
@@ -85,6 +85,6 @@ state_of s =
       segment = s.host.segment;
       memory = s.pages;
       host = s.host.host;
-      device = device_of s;
+      controller = controller_part s;
       trusted = s.trusted;
     }

@@ -12,14 +12,14 @@ use Rattle.machine_model.specs.State.{HostQueue}
 use Rattle.two_sides.specs.{Deletions.CompletionsServe, Recovering.CanRecover, Sides.{Sides, state_of, completions_between}}
 use Rattle.page_ledger.specs.Owners.{pages_from}
 use Rattle.page_memory.specs.{Memory.Memory, Pages.byte_at, declared.page.Half.TheVariants.{Submission, Completion}}
-use Rattle.queue_pair.specs.{Lists.{HasPhases, PhasesStand, expected_phase}, Memory.half_pages, Rings.IsDeviceSide, Slots.is_in_range}
+use Rattle.queue_pair.specs.{Lists.{HasPhases, PhasesStand, expected_phase}, Memory.half_pages, Rings.IsControllerSide, Slots.is_in_range}
 
 -- The controller's side of queue q has n entries in each ring, as the host's has. Where the halves of an I/O queue lie is said where nothing was forged: after a
 -- forged entry a controller may have fetched an old entry that makes a queue somewhere else.
 pub record ShareQueue (n q : ℕ) (h : HostQueue) (c : ControllerQueue) : Type 0 where
-  pub number : c.device.q ≡ q
-  pub entries : c.device.entries ≡ n
-  pub side : IsDeviceSide c.device
+  pub number : c.controller.q ≡ q
+  pub entries : c.controller.entries ≡ n
+  pub side : IsControllerSide c.controller
 
 -- one after the other, from queue q on, and as many on either side
 abbrev pub ShareQueues : ℕ → ℕ → List HostQueue → List ControllerQueue → Type 0
@@ -30,8 +30,8 @@ ShareQueues n q (h ∷ hs) (c ∷ cs) = ShareQueue n q h c × ShareQueues n (suc
 
 -- Queue 0 has its halves where both sides have them, and keeps them whatever was forged: no command deletes it or makes it again.
 pub record ShareAdmin (n : ℕ) (h : HostQueue) (c : ControllerQueue) : Type 0 where
-  pub submission : h.sq_pages ≡ pages_from c.device.sq (half_pages n Submission)
-  pub completion : h.cq_pages ≡ pages_from c.device.cq (half_pages n Completion)
+  pub submission : h.sq_pages ≡ pages_from c.controller.sq (half_pages n Submission)
+  pub completion : h.cq_pages ≡ pages_from c.controller.cq (half_pages n Completion)
 
 -- it is the first on either side
 abbrev pub SharesAdmin : ℕ → List HostQueue → List ControllerQueue → Type 0
@@ -60,20 +60,20 @@ has_ring h c = is_reaped h.state || c.cq_there
 
 -- The halves of a queue lie where both sides have them: the submission half as long as the controller has it, the completion half as long as either side uses it.
 pub record ShareHalves (n : ℕ) (h : HostQueue) (c : ControllerQueue) : Type 0 where
-  pub submission : is_absent c.state ≡ false → h.sq_pages ≡ pages_from c.device.sq (half_pages n Submission)
-  pub completion : has_ring h c ≡ true → h.cq_pages ≡ pages_from c.device.cq (half_pages n Completion)
+  pub submission : is_absent c.state ≡ false → h.sq_pages ≡ pages_from c.controller.sq (half_pages n Submission)
+  pub completion : has_ring h c ≡ true → h.cq_pages ≡ pages_from c.controller.cq (half_pages n Completion)
 
 -- The rings of queue q stand: what was posted, rung and taken on either side fits.
 pub record RingsStand (m : Memory) (q : ℕ) (h : HostQueue) (c : ControllerQueue) : Type 0 where
-  pub fetched : is_in_range c.device.entries h.ring.known_head h.ring.tail c.device.ring.head ≡ true
-  pub rung : is_in_range c.device.entries c.device.ring.head h.ring.tail c.device.ring.bell ≡ true
-  pub heard : c.device.ring.known_head ≡ h.ring.head
-  pub expected : h.ring.phase ≡ expected_phase h.ring.head c.device.ring.tail c.device.ring.phase
-  pub phases : HasPhases m c.device
-  pub owned : AllByRecursion (λ e. e.sqid ≡ q) (completions_between m h.ring c.device)
-  pub follow : HeadsFollow c.device.entries h.ring.known_head c.device.ring.head (completions_between m h.ring c.device)
+  pub fetched : is_in_range c.controller.entries h.ring.known_head h.ring.tail c.controller.ring.head ≡ true
+  pub rung : is_in_range c.controller.entries c.controller.ring.head h.ring.tail c.controller.ring.bell ≡ true
+  pub heard : c.controller.ring.known_head ≡ h.ring.head
+  pub expected : h.ring.phase ≡ expected_phase h.ring.head c.controller.ring.tail c.controller.ring.phase
+  pub phases : HasPhases m c.controller
+  pub owned : AllByRecursion (λ e. e.sqid ≡ q) (completions_between m h.ring c.controller)
+  pub follow : HeadsFollow c.controller.entries h.ring.known_head c.controller.ring.head (completions_between m h.ring c.controller)
   -- nothing waits in the completion ring of a queue that is out of service
-  pub drained : in_service h.state ≡ false → h.ring.head ≡ c.device.ring.tail
+  pub drained : in_service h.state ≡ false → h.ring.head ≡ c.controller.ring.tail
 
 -- where the completion half of a queue begins at the host
 abbrev pub first_completion_page : HostQueue → ℕ

@@ -16,7 +16,7 @@ pub fn law_of_forged_worlds()
 
 /// The host's positions in its rings are slots of them: after every run from an opening, forged entries or not, and a step that
 /// begins so ends so.
-#[tactic(auto, using(crate::proofs::DeviceMoves::steps_stay_in_rings, crate::proofs::DeviceMoves::runs_stay_in_rings))]
+#[tactic(auto, using(crate::proofs::ControllerMoves::steps_stay_in_rings, crate::proofs::ControllerMoves::runs_stay_in_rings))]
 pub fn law_of_positions()
     ensures steps { each_step_stays_in_rings }
     ensures runs { every_run_stays_in_rings }

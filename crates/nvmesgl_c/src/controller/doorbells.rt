@@ -15,7 +15,7 @@ fn code_of_tail(queues: &[ControllerQueue], q: u16, value: u16) -> u32
 {
     match queues.get(usize::from(q)) {
         Some(queue) => {
-            if value < queue.device.entries() {
+            if value < queue.controller.entries() {
                 DONE
             } else {
                 BAD_DOORBELL
@@ -31,8 +31,8 @@ fn code_of_head(queues: &[ControllerQueue], q: u16, value: u16) -> u32
 {
     match queues.get(usize::from(q)) {
         Some(queue) => {
-            let mut device = queue.device;
-            match device.head_bell(value) {
+            let mut controller = queue.controller;
+            match controller.head_bell(value) {
                 Ok(()) => DONE,
                 Err(_) => BAD_DOORBELL,
             }

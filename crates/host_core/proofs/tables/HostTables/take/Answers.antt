@@ -1,5 +1,5 @@
 use Rattle.std.proofs.Common.{[], Some, length, ap, ◌∙◌}
-use Rattle.host_core.{proofs.{Lists.length-change, Reaps.{looks, reaps-rejected}}, specs.{Parts.tables_of, Reaping.with_answer_taken, Tables.Tables}}
+use Rattle.host_core.{proofs.{Lists.length-change, Reaps.{looks, reaps-rejected}}, specs.{Parts.tables_of, Reaping.with_completion_taken, Tables.Tables}}
 use Rattle.host_core.proofs.tables.HostTables.take.Goals as goal
 
 pub returns-in-Err-clause-reaps : goal.returns-in-Err-clause-reaps
@@ -8,4 +8,4 @@ returns-in-Err-clause-reaps g c = λ pages w seen.
     reaps-rejected t (tables_of c.consume.new.self pages) w c.args.q c.args.entry c.in-Err.why (looks t c.args.q (Some c.args.entry) c.requires.there seen) (c.in-Err.ensures.rejected pages w) (c.consume.ensures pages)
 
 pub returns-in-Err-clause-many : goal.returns-in-Err-clause-many
-returns-in-Err-clause-many g c = ap (λ (u : Tables). length u.queues) (c.consume.ensures []) ∙ length-change c.args.q with_answer_taken (tables_of c.args.self.now []).queues
+returns-in-Err-clause-many g c = ap (λ (u : Tables). length u.queues) (c.consume.ensures []) ∙ length-change c.args.q with_completion_taken (tables_of c.args.self.now []).queues

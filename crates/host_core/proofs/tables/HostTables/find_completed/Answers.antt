@@ -2,7 +2,7 @@ use Rattle.std.proofs.Common.{◌≡◌, true, sym, ◌∙◌, subst, eq-eqb}
 use Rattle.queue_pair.specs.Slots.{is_in_range}
 use Rattle.host_core.proofs.{QueueLists.completion-at, Reaps.{reject-none, reject-phase, submitted-is}, RowRecords.{found-row, no-row}}
 use Rattle.host_core.specs.{Parts.{record_of, tables_of}, Rows.Queue, Tables.Tables}
-use Rattle.host_core.proofs.tables.HostTables.find_answered.Goals as goal
+use Rattle.host_core.proofs.tables.HostTables.find_completed.Goals as goal
 use Rattle.page_memory.proofs.Lists.{some_is}
 
 pub returns-in_default-clause-rejected : goal.returns-in_default-clause-rejected

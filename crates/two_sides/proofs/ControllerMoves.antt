@@ -9,7 +9,7 @@ use Rattle.machine_model.specs.After.{cq_there, dropped, completion_made, submis
 use Rattle.machine_model.specs.Agreeing.{is_absent_at as gone_at, has_completions_at as there_at, TokensGoRound, QueueFits as PairOk, QueuesFit as Paired, is_out_of_service_at as out_at, on_queue}
 use Rattle.machine_model.specs.{Events.{Event, Reply}, Linked.{absent, IsLinked}, Opening.{opening, queues_from, Opens}, Positions.IsInRing}
 use Rattle.machine_model.specs.Refusals.{host_queue, next_rung, job_at, is_job, conflicts, fetch_slot, post_slot, slot_page, slot_offset, has_cq, is_gone, has_sq, in_service, is_making}
-use Rattle.machine_model.specs.{State.{State, HostQueue, DeviceQueue, Job, Answer, Record}, Step.{HostPart, host_part, IsController, fits_ring}}
+use Rattle.machine_model.specs.{State.{State, HostQueue, ServedQueue, Job, PostedCompletion, Record}, Step.{HostPart, host_part, IsController, fits_ring}}
 use Rattle.machine_model.specs.Weights.{one, total}
 use Rattle.admin_commands.specs.{Entries.named_queue, Verdicts.is_absent, declared.SqState.TheVariants.{Absent, Stopping}}
 use Rattle.controller_walk.specs.Units.{Act, Stays, Reads, Moves}
@@ -29,8 +29,8 @@ pub use Rattle.machine_model.specs.Agreeing.{is_known_deleted as is_over, QueueF
 
 -- A posted answer: the memory alone hangs on whether the queue is there
 
-abbrev pub answer_of : ℕ → ℕ → Status → ℕ → State → Answer
-answer_of q cid st dw0 s = record { cid = cid; status = st; dw0 = dw0; sq_head = fetch_slot s q }
+abbrev pub posted_completion : ℕ → ℕ → Status → ℕ → State → PostedCompletion
+posted_completion q cid st dw0 s = record { cid = cid; status = st; dw0 = dw0; sq_head = fetch_slot s q }
 
 abbrev pub answered_bytes : ℕ → ℕ → Status → ℕ → State → Pages
 answered_bytes q cid st dw0 s =
@@ -38,16 +38,16 @@ answered_bytes q cid st dw0 s =
     (λ queue. with_page_bytes s.memory (slot_page queue.cq_pages 16 (post_slot s q)) (slot_offset 16 (post_slot s q))
     (completion_bytes (record { dw0 = dw0; sqhd = fetch_slot s q; sqid = q; cid = cid; phase = a.post_phase s q queue; status = st }))) (host_queue s q) s.memory
 
-abbrev pub answers : ℕ → ℕ → Status → ℕ → State → State
-answers q cid st dw0 s = a.on_device_queue q (λ at. record at { answers = at.answers ++ answer_of q cid st dw0 s ∷ [] }) (record s { memory = answered_bytes q cid st dw0 s })
+abbrev pub posts_completion : ℕ → ℕ → Status → ℕ → State → State
+posts_completion q cid st dw0 s = a.on_served_queue q (λ at. record at { completions = at.completions ++ posted_completion q cid st dw0 s ∷ [] }) (record s { memory = answered_bytes q cid st dw0 s })
 
-pub answers_is : (q cid : ℕ) (st : Status) (dw0 : ℕ) (s : State) → answers q cid st dw0 s ≡ a.answered q cid st dw0 s
+pub answers_is : (q cid : ℕ) (st : Status) (dw0 : ℕ) (s : State) → posts_completion q cid st dw0 s ≡ a.answered q cid st dw0 s
 answers_is q cid st dw0 s = grind arith
 
 -- Fetching
 
 pub fetch_of : (P : State → Type 0) (s : State) (q : ℕ) (e : SubEntry) → next_rung s q ≡ Some e
-    → (conflicts s q ≡ true → P (answers q e.cid COMMAND_ID_CONFLICT 0 (a.taken_off q s)))
+    → (conflicts s q ≡ true → P (posts_completion q e.cid COMMAND_ID_CONFLICT 0 (a.taken_off q s)))
     → (conflicts s q ≡ false → q ≡ 0 → P (a.managed e (a.taken_off 0 s)))
     → (conflicts s q ≡ false → (q == 0) ≡ false → P (a.begun q e (a.taken_off q s))) → P (a.after_fetch q s)
 fetch_of P s q e n conflict manages begins =
@@ -60,7 +60,7 @@ fetch_of P s q e n conflict manages begins =
     by false false c is = begins c is
 
 pub fetch_by : (P : State → Type 0) (s : State) (q : ℕ) → P s
-    → ((e : SubEntry) → next_rung s q ≡ Some e → conflicts s q ≡ true → P (answers q e.cid COMMAND_ID_CONFLICT 0 (a.taken_off q s)))
+    → ((e : SubEntry) → next_rung s q ≡ Some e → conflicts s q ≡ true → P (posts_completion q e.cid COMMAND_ID_CONFLICT 0 (a.taken_off q s)))
     → ((e : SubEntry) → next_rung s q ≡ Some e → conflicts s q ≡ false → q ≡ 0 → P (a.managed e (a.taken_off 0 s)))
     → ((e : SubEntry) → next_rung s q ≡ Some e → conflicts s q ≡ false → (q == 0) ≡ false → P (a.begun q e (a.taken_off q s))) → P (a.after_fetch q s)
 fetch_by P s q idle conflict manages begins = elim (option_is (next_rung s q)) [
@@ -96,7 +96,7 @@ walks_is s q cid j dir (Reads place) at = refl
 walks_is s q cid j Destination (Moves place n offset) at =
     ap (λ (o : Option Job). a.on_job q cid (λ k. record k { units_done = k.units_done + 1; verdict = verdict_of (a.next_answer s j) })
     (option_map_or (λ j. a.on_memory (λ m. with_page_bytes m (place / 4096) (place % 4096) (take n (drop offset j.bytes))) s) o s)) (sym at)
-walks_is s q cid j Source (Moves place n offset) at = ap (λ (js : List Job). record s { device = record s.device { jobs = js } }) (fuse s.device.jobs)
+walks_is s q cid j Source (Moves place n offset) at = ap (λ (js : List Job). record s { controller = record s.controller { jobs = js } }) (fuse s.controller.jobs)
   where
     one : (k : Job) (b : Bool) → is_job q cid k ≡ b
         → (if b then record k { bytes = with_bytes k.bytes offset (a.page_bytes s.memory place n); units_done = k.units_done + 1; verdict = verdict_of (a.next_answer s j) } else k)
@@ -120,22 +120,22 @@ walk_by P s q cid idle walks = elim (option_is (job_at s q cid)) [ inl at ↦ rw
 -- Completing
 
 abbrev pub finished : ℕ → ℕ → Job → State → State
-finished q cid j s = a.on_device (λ d. record d { image = a.image_completed j d.image }) (a.without_job q cid s)
+finished q cid j s = a.on_controller (λ d. record d { image = a.image_completed j d.image }) (a.without_job q cid s)
 
-abbrev pub cleared : DeviceQueue → DeviceQueue
+abbrev pub cleared : ServedQueue → ServedQueue
 cleared at = record at { state = Absent; unfetched = []; rung = 0 }
 
 abbrev pub clears : State → Job → Bool
 clears s j = (j.q == 0) && (j.entry.opcode == DELETE_IO_SQ) && is_success (a.final_status s j)
 
 pub complete_by : (P : State → Type 0) (s : State) (q cid : ℕ) → P s
-    → ((j : Job) → job_at s q cid ≡ Some j → clears s j ≡ true → P (answers q cid (a.final_status s j) j.dw0 (a.on_device_queue (named_queue j.entry) cleared (finished q cid j s))))
-    → ((j : Job) → job_at s q cid ≡ Some j → clears s j ≡ false → P (answers q cid (a.final_status s j) j.dw0 (finished q cid j s))) → P (a.after_complete q cid s)
+    → ((j : Job) → job_at s q cid ≡ Some j → clears s j ≡ true → P (posts_completion q cid (a.final_status s j) j.dw0 (a.on_served_queue (named_queue j.entry) cleared (finished q cid j s))))
+    → ((j : Job) → job_at s q cid ≡ Some j → clears s j ≡ false → P (posts_completion q cid (a.final_status s j) j.dw0 (finished q cid j s))) → P (a.after_complete q cid s)
 complete_by P s q cid idle clearing plain = elim (option_is (job_at s q cid)) [ inl at ↦ rw at idle | inr (j, at) ↦ rw at (inner j at (clears s j) refl) ]
   where
     inner : (j : Job) → job_at s q cid ≡ Some j → (b : Bool) → clears s j ≡ b
-        → P (a.answered q cid (a.final_status s j) j.dw0 (if b then a.on_device_queue (named_queue j.entry) (λ at. record at { state = Absent; unfetched = []; rung = 0 }) (finished q cid j s) else finished q cid j s))
-    inner j at true c = subst P (answers_is q cid (a.final_status s j) j.dw0 (a.on_device_queue (named_queue j.entry) cleared (finished q cid j s))) (clearing j at c)
+        → P (a.answered q cid (a.final_status s j) j.dw0 (if b then a.on_served_queue (named_queue j.entry) (λ at. record at { state = Absent; unfetched = []; rung = 0 }) (finished q cid j s) else finished q cid j s))
+    inner j at true c = subst P (answers_is q cid (a.final_status s j) j.dw0 (a.on_served_queue (named_queue j.entry) cleared (finished q cid j s))) (clearing j at c)
     inner j at false c = subst P (answers_is q cid (a.final_status s j) j.dw0 (finished q cid j s)) (plain j at c)
 
 -- Every step leaves the host's positions in their rings.
@@ -225,45 +225,45 @@ runs_stay_in_rings pages queues n s image es replies new opens run = each_run In
 
 -- Where nothing was forged: what the host knows of a queue fits what the controller has of it.
 
-pub paired_host : (n k : ℕ) (f : HostQueue → HostQueue) (hs : List HostQueue) (ds : List DeviceQueue)
-    → ((h : HostQueue) (d : DeviceQueue) → slice_get hs k ≡ Some h → slice_get ds k ≡ Some d → PairOk n h d → PairOk n (f h) d) → Paired n hs ds → Paired n (change k f hs) ds
+pub paired_host : (n k : ℕ) (f : HostQueue → HostQueue) (hs : List HostQueue) (ds : List ServedQueue)
+    → ((h : HostQueue) (d : ServedQueue) → slice_get hs k ≡ Some h → slice_get ds k ≡ Some d → PairOk n h d → PairOk n (f h) d) → Paired n hs ds → Paired n (change k f hs) ds
 paired_host n k f [] [] step p = p
 paired_host n zero f (h ∷ hs) (d ∷ ds) step p = (step h d refl refl p.0, p.1)
 paired_host n (suc k) f (h ∷ hs) (d ∷ ds) step p = (p.0, paired_host n k f hs ds step p.1)
 paired_host n k f x y step p = absurd p
 
-pub paired_device : (n k : ℕ) (f : DeviceQueue → DeviceQueue) (hs : List HostQueue) (ds : List DeviceQueue)
-    → ((h : HostQueue) (d : DeviceQueue) → slice_get hs k ≡ Some h → slice_get ds k ≡ Some d → PairOk n h d → PairOk n h (f d)) → Paired n hs ds → Paired n hs (change k f ds)
-paired_device n k f [] [] step p = p
-paired_device n zero f (h ∷ hs) (d ∷ ds) step p = (step h d refl refl p.0, p.1)
-paired_device n (suc k) f (h ∷ hs) (d ∷ ds) step p = (p.0, paired_device n k f hs ds step p.1)
-paired_device n k f x y step p = absurd p
+pub paired_controller : (n k : ℕ) (f : ServedQueue → ServedQueue) (hs : List HostQueue) (ds : List ServedQueue)
+    → ((h : HostQueue) (d : ServedQueue) → slice_get hs k ≡ Some h → slice_get ds k ≡ Some d → PairOk n h d → PairOk n h (f d)) → Paired n hs ds → Paired n hs (change k f ds)
+paired_controller n k f [] [] step p = p
+paired_controller n zero f (h ∷ hs) (d ∷ ds) step p = (step h d refl refl p.0, p.1)
+paired_controller n (suc k) f (h ∷ hs) (d ∷ ds) step p = (p.0, paired_controller n k f hs ds step p.1)
+paired_controller n k f x y step p = absurd p
 
 -- a queue of the controller stands at the host
-pub paired_at : (n k : ℕ) (hs : List HostQueue) (ds : List DeviceQueue) (d : DeviceQueue) → slice_get ds k ≡ Some d → Paired n hs ds → (h : HostQueue) × (slice_get hs k ≡ Some h) × PairOk n h d
+pub paired_at : (n k : ℕ) (hs : List HostQueue) (ds : List ServedQueue) (d : ServedQueue) → slice_get ds k ≡ Some d → Paired n hs ds → (h : HostQueue) × (slice_get hs k ≡ Some h) × PairOk n h d
 paired_at n k [] [] d e p = absurd cc
-paired_at n zero (h ∷ hs) (x ∷ ds) d e p = let same : x ≡ d = cc in (h, refl, subst (λ (y : DeviceQueue). PairOk n h y) same p.0)
+paired_at n zero (h ∷ hs) (x ∷ ds) d e p = let same : x ≡ d = cc in (h, refl, subst (λ (y : ServedQueue). PairOk n h y) same p.0)
 paired_at n (suc k) (h ∷ hs) (x ∷ ds) d e p = paired_at n k hs ds d e p.1
 paired_at n k x y d e p = absurd p
 
 -- with whether each job's queue is there, what a touch needs
 pub record Tied (s : State) : Type 0 where
   pub some_entries : 0 < s.entries
-  pub pairs : Paired s.entries s.host.queues s.device.queues
-  pub jobs : (q : ℕ) → 0 < total (on_queue q) s.device.jobs → gone_at s.device.queues q ≡ false
+  pub pairs : Paired s.entries s.host.queues s.controller.queues
+  pub jobs : (q : ℕ) → 0 < total (on_queue q) s.controller.jobs → gone_at s.controller.queues q ≡ false
   -- what the host holds for deleted is deleted
-  pub over : (q : ℕ) (queue : HostQueue) → host_queue s q ≡ Some queue → is_over queue.state ≡ true → gone_at s.device.queues q ≡ true
-  pub gone : (q : ℕ) (queue : HostQueue) → host_queue s q ≡ Some queue → is_gone queue.state ≡ true → there_at s.device.queues q ≡ false
+  pub over : (q : ℕ) (queue : HostQueue) → host_queue s q ≡ Some queue → is_over queue.state ≡ true → gone_at s.controller.queues q ≡ true
+  pub gone : (q : ℕ) (queue : HostQueue) → host_queue s q ≡ Some queue → is_gone queue.state ≡ true → there_at s.controller.queues q ≡ false
 
 pub found_counts : (q cid : ℕ) (js : List Job) (j : Job) → find (is_job q cid) js ≡ Some j → 0 < total (on_queue q) js
 found_counts q cid [] j e = absurd cc
 found_counts q cid (x ∷ js) j e = grind (arith, found_counts q cid js j)
 
-there_queue : (s : State) (q : ℕ) → absent s q ≡ false → (d : DeviceQueue) × (slice_get s.device.queues q ≡ Some d) × (is_absent d.state ≡ false)
-there_queue s q h = elim (option_is (slice_get s.device.queues q)) [ inl e ↦ let h = rw e at h in absurd (true≢false h) | inr (d, e) ↦ let h = rw e at h in (d, e, h) ]
+there_queue : (s : State) (q : ℕ) → absent s q ≡ false → (d : ServedQueue) × (slice_get s.controller.queues q ≡ Some d) × (is_absent d.state ≡ false)
+there_queue s q h = elim (option_is (slice_get s.controller.queues q)) [ inl e ↦ let h = rw e at h in absurd (true≢false h) | inr (d, e) ↦ let h = rw e at h in (d, e, h) ]
 
-completion_queue : (s : State) (q : ℕ) → cq_there s q ≡ true → (d : DeviceQueue) × (slice_get s.device.queues q ≡ Some d) × (d.cq_there ≡ true)
-completion_queue s q h = elim (option_is (slice_get s.device.queues q)) [
+completion_queue : (s : State) (q : ℕ) → cq_there s q ≡ true → (d : ServedQueue) × (slice_get s.controller.queues q ≡ Some d) × (d.cq_there ≡ true)
+completion_queue s q h = elim (option_is (slice_get s.controller.queues q)) [
   | inl e ↦ let h = rw e at h in absurd (true≢false (sym h))
   | inr (d, e) ↦ let h = rw e at h in (d, e, h)
 ]
@@ -274,20 +274,20 @@ linked_from_tied s rings tied = record {
   inside = λ q queue e. all-at (λ queue. IsInRing s.entries queue.ring) s.host.queues q queue e rings;
   submission_whole = λ q queue e there.
       let d = there_queue s q there in
-      let p = paired_at s.entries q s.host.queues s.device.queues d.0 d.1 tied.pairs in
+      let p = paired_at s.entries q s.host.queues s.controller.queues d.0 d.1 tied.pairs in
       let same : p.0 ≡ queue = cc (p.1, e) in
       subst (λ (h : HostQueue). length h.sq_pages ≡ half_pages s.entries Submission) same (p.2.sub (sq_stays p.0.state (λ o. true≢false (sym (tied.over q p.0 p.1 o) ∙ there))));
   completion_whole = λ q queue e there.
       let d = completion_queue s q there in
-      let p = paired_at s.entries q s.host.queues s.device.queues d.0 d.1 tied.pairs in
+      let p = paired_at s.entries q s.host.queues s.controller.queues d.0 d.1 tied.pairs in
       let same : p.0 ≡ queue = cc (p.1, e) in
       subst (λ (h : HostQueue). length h.cq_pages ≡ half_pages s.entries Completion) same (p.2.comp (cq_stays p.0.state (λ o. true≢false (sym there ∙ tied.gone q p.0 p.1 (grind arith)))));
   known = λ q there.
       let d = there_queue s q there in
-      ap is_some (paired_at s.entries q s.host.queues s.device.queues d.0 d.1 tied.pairs).1;
+      ap is_some (paired_at s.entries q s.host.queues s.controller.queues d.0 d.1 tied.pairs).1;
   completion_stays = λ q there.
       let d = there_queue s q there in
-      ap (λ o. option_map_or (λ (at : DeviceQueue). at.cq_there) o false) d.1 ∙ (paired_at s.entries q s.host.queues s.device.queues d.0 d.1 tied.pairs).2.half d.2;
+      ap (λ o. option_map_or (λ (at : ServedQueue). at.cq_there) o false) d.1 ∙ (paired_at s.entries q s.host.queues s.controller.queues d.0 d.1 tied.pairs).2.half d.2;
   jobs_have_queues = λ q cid is. job_queue q cid is;
 }
   where
@@ -296,18 +296,18 @@ linked_from_tied s rings tied = record {
       where
         go : (o : Option Job) → job_at s q cid ≡ o → is_some o ≡ true → absent s q ≡ false
         go None e h = absurd (true≢false (sym h))
-        go (Some j) e h = tied.jobs q (found_counts q cid s.device.jobs j e)
+        go (Some j) e h = tied.jobs q (found_counts q cid s.controller.jobs j e)
 
 -- Where nothing was forged: what a change of one queue, or of the jobs, does to the tie of the controller's queues to the host's.
 
 -- queues fit, and a job's queue is there and in service
-pub record Tie (n : ℕ) (hs : List HostQueue) (ds : List DeviceQueue) (js : List Job) : Type 0 where
+pub record Tie (n : ℕ) (hs : List HostQueue) (ds : List ServedQueue) (js : List Job) : Type 0 where
   pub pairs : Paired n hs ds
   pub jobs : (q : ℕ) → 0 < total (on_queue q) js → gone_at ds q ≡ false
   pub service : (q : ℕ) → 0 < total (on_queue q) js → out_at hs q ≡ false
 
 -- with what is outstanding, and with the tokens of what is deleted and made
-pub record Fit (n : ℕ) (rs : List Record) (hs : List HostQueue) (ds : List DeviceQueue) (js : List Job) : Type 0 where
+pub record Fit (n : ℕ) (rs : List Record) (hs : List HostQueue) (ds : List ServedQueue) (js : List Job) : Type 0 where
   pub some_entries : 0 < n
   pub few : length hs ≤ 65536
   pub asked : (q : ℕ) → total (asks q) rs ≡ one (asked_at hs q)
@@ -316,7 +316,7 @@ pub record Fit (n : ℕ) (rs : List Record) (hs : List HostQueue) (ds : List Dev
   pub service : (q : ℕ) → 0 < total (on_queue q) js → out_at hs q ≡ false
   pub tokens : TokensGoRound rs hs ds js
 
-pub tie_of : (n : ℕ) (rs : List Record) (hs : List HostQueue) (ds : List DeviceQueue) (js : List Job) → Fit n rs hs ds js → Tie n hs ds js
+pub tie_of : (n : ℕ) (rs : List Record) (hs : List HostQueue) (ds : List ServedQueue) (js : List Job) → Fit n rs hs ds js → Tie n hs ds js
 tie_of n rs hs ds js h = record { pairs = h.pairs; jobs = h.jobs; service = h.service }
 
 -- what a queue passes not, it passes not as one is changed
@@ -327,7 +327,7 @@ stays_false g b (suc k) f (x ∷ xs) (suc q) step h = stays_false g b k f xs q (
 stays_false g b k f x q step h = h
 
 -- fewer jobs
-pub tie_jobs : (n : ℕ) (hs : List HostQueue) (ds : List DeviceQueue) (js js' : List Job) → ((q : ℕ) → total (on_queue q) js' ≤ total (on_queue q) js) → Tie n hs ds js → Tie n hs ds js'
+pub tie_jobs : (n : ℕ) (hs : List HostQueue) (ds : List ServedQueue) (js js' : List Job) → ((q : ℕ) → total (on_queue q) js' ≤ total (on_queue q) js) → Tie n hs ds js → Tie n hs ds js'
 tie_jobs n hs ds js js' less h = record {
   pairs = h.pairs;
   jobs = λ q some. h.jobs q (omega (arith, less q));
@@ -335,8 +335,8 @@ tie_jobs n hs ds js js' less h = record {
 }
 
 -- one of the host's queues
-pub tie_host : (n : ℕ) (hs : List HostQueue) (ds : List DeviceQueue) (js : List Job) (k : ℕ) (f : HostQueue → HostQueue)
-    → ((x : HostQueue) (d : DeviceQueue) → slice_get hs k ≡ Some x → slice_get ds k ≡ Some d → PairOk n x d → PairOk n (f x) d)
+pub tie_host : (n : ℕ) (hs : List HostQueue) (ds : List ServedQueue) (js : List Job) (k : ℕ) (f : HostQueue → HostQueue)
+    → ((x : HostQueue) (d : ServedQueue) → slice_get hs k ≡ Some x → slice_get ds k ≡ Some d → PairOk n x d → PairOk n (f x) d)
     → ((x : HostQueue) → slice_get hs k ≡ Some x → 0 < total (on_queue k) js → in_service x.state ≡ true → in_service (f x).state ≡ true)
     → Tie n hs ds js → Tie n (change k f hs) ds js
 tie_host n hs ds js k f pair served h = record {
@@ -346,117 +346,117 @@ tie_host n hs ds js k f pair served h = record {
 }
 
 -- one of the controller's
-pub tie_device : (n : ℕ) (hs : List HostQueue) (ds : List DeviceQueue) (js : List Job) (k : ℕ) (f : DeviceQueue → DeviceQueue)
-    → ((x : HostQueue) (d : DeviceQueue) → slice_get hs k ≡ Some x → slice_get ds k ≡ Some d → PairOk n x d → PairOk n x (f d))
-    → ((d : DeviceQueue) → slice_get ds k ≡ Some d → 0 < total (on_queue k) js → is_absent d.state ≡ false → is_absent (f d).state ≡ false)
+pub tie_controller : (n : ℕ) (hs : List HostQueue) (ds : List ServedQueue) (js : List Job) (k : ℕ) (f : ServedQueue → ServedQueue)
+    → ((x : HostQueue) (d : ServedQueue) → slice_get hs k ≡ Some x → slice_get ds k ≡ Some d → PairOk n x d → PairOk n x (f d))
+    → ((d : ServedQueue) → slice_get ds k ≡ Some d → 0 < total (on_queue k) js → is_absent d.state ≡ false → is_absent (f d).state ≡ false)
     → Tie n hs ds js → Tie n hs (change k f ds) js
-tie_device n hs ds js k f pair there h = record {
-  pairs = paired_device n k f hs ds pair h.pairs;
-  jobs = λ q some. stays_false (λ (d : DeviceQueue). is_absent d.state) true k f ds q (λ d e same. there d e (subst (λ (z : ℕ). 0 < total (on_queue z) js) (sym same) some)) (h.jobs q some);
+tie_controller n hs ds js k f pair there h = record {
+  pairs = paired_controller n k f hs ds pair h.pairs;
+  jobs = λ q some. stays_false (λ (d : ServedQueue). is_absent d.state) true k f ds q (λ d e same. there d e (subst (λ (z : ℕ). 0 < total (on_queue z) js) (sym same) some)) (h.jobs q some);
   service = h.service;
 }
 
-gone_of : (ds : List DeviceQueue) (k : ℕ) (d : DeviceQueue) → slice_get ds k ≡ Some d → gone_at ds k ≡ is_absent d.state
-gone_of ds k d e = ap (λ o. option_map_or (λ (at : DeviceQueue). is_absent at.state) o true) e
+gone_of : (ds : List ServedQueue) (k : ℕ) (d : ServedQueue) → slice_get ds k ≡ Some d → gone_at ds k ≡ is_absent d.state
+gone_of ds k d e = ap (λ o. option_map_or (λ (at : ServedQueue). is_absent at.state) o true) e
 
-pub there_of : (ds : List DeviceQueue) (k : ℕ) (d : DeviceQueue) → slice_get ds k ≡ Some d → there_at ds k ≡ d.cq_there
-there_of ds k d e = ap (λ o. option_map_or (λ (at : DeviceQueue). at.cq_there) o false) e
+pub there_of : (ds : List ServedQueue) (k : ℕ) (d : ServedQueue) → slice_get ds k ≡ Some d → there_at ds k ≡ d.cq_there
+there_of ds k d e = ap (λ o. option_map_or (λ (at : ServedQueue). at.cq_there) o false) e
 
 out_of : (hs : List HostQueue) (k : ℕ) (x : HostQueue) → slice_get hs k ≡ Some x → out_at hs k ≡ not (in_service x.state)
 out_of hs k x e = ap (λ o. option_map_or (λ (h : HostQueue). not (in_service h.state)) o false) e
 
 -- what the host holds of a queue changes, and it comes into service or stays where it was
-pub pair_moves : (n : ℕ) (x y : HostQueue) (d : DeviceQueue) → (has_sq y.state ≡ true → length y.sq_pages ≡ half_pages n Submission) → (has_cq y.state ≡ true → length y.cq_pages ≡ half_pages n Completion)
+pub pair_moves : (n : ℕ) (x y : HostQueue) (d : ServedQueue) → (has_sq y.state ≡ true → length y.sq_pages ≡ half_pages n Submission) → (has_cq y.state ≡ true → length y.cq_pages ≡ half_pages n Completion)
     → (in_service y.state ≡ false → in_service x.state ≡ false) → (is_making y.state ≡ true → y.ring ≡ fresh_host_ring) → PairOk n x d → PairOk n y d
-pair_moves n x y d sub comp out fresh p = record { sub = sub; comp = comp; half = p.half; emptied = p.emptied; unfetched = λ o. p.unfetched (out o); answers = λ o. p.answers (out o); fresh = fresh }
+pair_moves n x y d sub comp out fresh p = record { sub = sub; comp = comp; half = p.half; emptied = p.emptied; unfetched = λ o. p.unfetched (out o); completions = λ o. p.completions (out o); fresh = fresh }
 
 -- a ring of the host's, of a queue that is not being made
-pub tie_ring : (n : ℕ) (hs : List HostQueue) (ds : List DeviceQueue) (js : List Job) (k : ℕ) (g : HostRing → HostRing) → ((x : HostQueue) → slice_get hs k ≡ Some x → is_making x.state ≡ false)
+pub tie_ring : (n : ℕ) (hs : List HostQueue) (ds : List ServedQueue) (js : List Job) (k : ℕ) (g : HostRing → HostRing) → ((x : HostQueue) → slice_get hs k ≡ Some x → is_making x.state ≡ false)
     → Tie n hs ds js → Tie n (change k (λ h. record h { ring = g h.ring }) hs) ds js
 tie_ring n hs ds js k g made h =
     tie_host n hs ds js k (λ h. record h { ring = g h.ring })
-    (λ x d ex ed p. record { sub = p.sub; comp = p.comp; half = p.half; emptied = p.emptied; unfetched = p.unfetched; answers = p.answers; fresh = λ o. absurd (true≢false (sym o ∙ made x ex)) })
+    (λ x d ex ed p. record { sub = p.sub; comp = p.comp; half = p.half; emptied = p.emptied; unfetched = p.unfetched; completions = p.completions; fresh = λ o. absurd (true≢false (sym o ∙ made x ex)) })
     (λ x ex some o. o) h
 
 -- an entry is fetched, or the doorbell rung
-pub tie_less : (n : ℕ) (hs : List HostQueue) (ds : List DeviceQueue) (js : List Job) (k : ℕ) (f : DeviceQueue → DeviceQueue)
-    → ((d : DeviceQueue) → (f d).state ≡ d.state) → ((d : DeviceQueue) → (f d).cq_there ≡ d.cq_there) → ((d : DeviceQueue) → d.unfetched ≡ [] → (f d).unfetched ≡ []) → ((d : DeviceQueue) → d.answers ≡ [] → (f d).answers ≡ [])
+pub tie_less : (n : ℕ) (hs : List HostQueue) (ds : List ServedQueue) (js : List Job) (k : ℕ) (f : ServedQueue → ServedQueue)
+    → ((d : ServedQueue) → (f d).state ≡ d.state) → ((d : ServedQueue) → (f d).cq_there ≡ d.cq_there) → ((d : ServedQueue) → d.unfetched ≡ [] → (f d).unfetched ≡ []) → ((d : ServedQueue) → d.completions ≡ [] → (f d).completions ≡ [])
     → Tie n hs ds js → Tie n hs (change k f ds) js
 tie_less n hs ds js k f state there un an h =
-    tie_device n hs ds js k f
+    tie_controller n hs ds js k f
     (λ x d ex ed p. record {
       sub = p.sub;
       comp = p.comp;
       half = λ o. there d ∙ p.half (ap is_absent (sym (state d)) ∙ o);
       emptied = λ o. un d (p.emptied (ap is_absent (sym (state d)) ∙ o));
       unfetched = λ o. un d (p.unfetched o);
-      answers = λ o. an d (p.answers o);
+      completions = λ o. an d (p.completions o);
       fresh = p.fresh;
     })
     (λ d ed some o. ap is_absent (state d) ∙ o) h
 
 -- an entry is posted to a queue that is there and in service
-pub tie_posted : (n : ℕ) (hs : List HostQueue) (ds : List DeviceQueue) (js : List Job) (k : ℕ) (e : SubEntry) → ((x : HostQueue) → slice_get hs k ≡ Some x → gone_at ds k ≡ false) → out_at hs k ≡ false
+pub tie_posted : (n : ℕ) (hs : List HostQueue) (ds : List ServedQueue) (js : List Job) (k : ℕ) (e : SubEntry) → ((x : HostQueue) → slice_get hs k ≡ Some x → gone_at ds k ≡ false) → out_at hs k ≡ false
     → Tie n hs ds js → Tie n hs (change k (λ at. record at { unfetched = at.unfetched ++ e ∷ [] }) ds) js
 tie_posted n hs ds js k e there served h =
-    tie_device n hs ds js k (λ at. record at { unfetched = at.unfetched ++ e ∷ [] })
+    tie_controller n hs ds js k (λ at. record at { unfetched = at.unfetched ++ e ∷ [] })
     (λ x d ex ed p. record {
       sub = p.sub;
       comp = p.comp;
       half = p.half;
       emptied = λ o. absurd (true≢false (sym o ∙ sym (gone_of ds k d ed) ∙ there x ex));
       unfetched = λ o. absurd (true≢false (ap not (sym o) ∙ sym (out_of hs k x ex) ∙ served));
-      answers = p.answers;
+      completions = p.completions;
       fresh = p.fresh;
     })
     (λ d ed some o. o) h
 
 -- a completion is posted to a queue that is in service
-pub tie_answered : (n : ℕ) (hs : List HostQueue) (ds : List DeviceQueue) (js : List Job) (k : ℕ) (an : Answer) → out_at hs k ≡ false
-    → Tie n hs ds js → Tie n hs (change k (λ at. record at { answers = at.answers ++ an ∷ [] }) ds) js
+pub tie_answered : (n : ℕ) (hs : List HostQueue) (ds : List ServedQueue) (js : List Job) (k : ℕ) (an : PostedCompletion) → out_at hs k ≡ false
+    → Tie n hs ds js → Tie n hs (change k (λ at. record at { completions = at.completions ++ an ∷ [] }) ds) js
 tie_answered n hs ds js k an served h =
-    tie_device n hs ds js k (λ at. record at { answers = at.answers ++ an ∷ [] })
+    tie_controller n hs ds js k (λ at. record at { completions = at.completions ++ an ∷ [] })
     (λ x d ex ed p. record {
       sub = p.sub;
       comp = p.comp;
       half = p.half;
       emptied = p.emptied;
       unfetched = p.unfetched;
-      answers = λ o. absurd (true≢false (ap not (sym o) ∙ sym (out_of hs k x ex) ∙ served));
+      completions = λ o. absurd (true≢false (ap not (sym o) ∙ sym (out_of hs k x ex) ∙ served));
       fresh = p.fresh;
     })
     (λ d ed some o. o) h
 
 -- a queue stops
-pub tie_stop : (n : ℕ) (hs : List HostQueue) (ds : List DeviceQueue) (js : List Job) (k : ℕ) → gone_at ds k ≡ false → Tie n hs ds js → Tie n hs (change k (λ d. record d { state = Stopping }) ds) js
+pub tie_stop : (n : ℕ) (hs : List HostQueue) (ds : List ServedQueue) (js : List Job) (k : ℕ) → gone_at ds k ≡ false → Tie n hs ds js → Tie n hs (change k (λ d. record d { state = Stopping }) ds) js
 tie_stop n hs ds js k there h =
-    tie_device n hs ds js k (λ d. record d { state = Stopping })
+    tie_controller n hs ds js k (λ d. record d { state = Stopping })
     (λ x d ex ed p.
-    record { sub = p.sub; comp = p.comp; half = λ o. p.half (sym (gone_of ds k d ed) ∙ there); emptied = λ o. absurd (true≢false (sym o)); unfetched = p.unfetched; answers = p.answers; fresh = p.fresh })
+    record { sub = p.sub; comp = p.comp; half = λ o. p.half (sym (gone_of ds k d ed) ∙ there); emptied = λ o. absurd (true≢false (sym o)); unfetched = p.unfetched; completions = p.completions; fresh = p.fresh })
     (λ d ed some o. refl) h
 
 -- a completion queue goes, its submission queue gone
-pub tie_drop : (n : ℕ) (hs : List HostQueue) (ds : List DeviceQueue) (js : List Job) (k : ℕ) → gone_at ds k ≡ true → Tie n hs ds js → Tie n hs (change k dropped ds) js
+pub tie_drop : (n : ℕ) (hs : List HostQueue) (ds : List ServedQueue) (js : List Job) (k : ℕ) → gone_at ds k ≡ true → Tie n hs ds js → Tie n hs (change k dropped ds) js
 tie_drop n hs ds js k gone h =
-    tie_device n hs ds js k dropped
+    tie_controller n hs ds js k dropped
     (λ x d ex ed p.
-    record { sub = p.sub; comp = p.comp; half = λ o. absurd (true≢false (sym gone ∙ gone_of ds k d ed ∙ o)); emptied = p.emptied; unfetched = p.unfetched; answers = λ o. refl; fresh = p.fresh })
+    record { sub = p.sub; comp = p.comp; half = λ o. absurd (true≢false (sym gone ∙ gone_of ds k d ed ∙ o)); emptied = p.emptied; unfetched = p.unfetched; completions = λ o. refl; fresh = p.fresh })
     (λ d ed some o. o) h
 
 -- one is made
-pub tie_completion : (n : ℕ) (hs : List HostQueue) (ds : List DeviceQueue) (js : List Job) (k : ℕ) → Tie n hs ds js → Tie n hs (change k completion_made ds) js
+pub tie_completion : (n : ℕ) (hs : List HostQueue) (ds : List ServedQueue) (js : List Job) (k : ℕ) → Tie n hs ds js → Tie n hs (change k completion_made ds) js
 tie_completion n hs ds js k h =
-    tie_device n hs ds js k completion_made
-    (λ x d ex ed p. record { sub = p.sub; comp = p.comp; half = λ o. refl; emptied = p.emptied; unfetched = p.unfetched; answers = λ o. refl; fresh = p.fresh }) (λ d ed some o. o) h
+    tie_controller n hs ds js k completion_made
+    (λ x d ex ed p. record { sub = p.sub; comp = p.comp; half = λ o. refl; emptied = p.emptied; unfetched = p.unfetched; completions = λ o. refl; fresh = p.fresh }) (λ d ed some o. o) h
 
 -- a submission queue is made, its completion queue there
-pub tie_submission : (n : ℕ) (hs : List HostQueue) (ds : List DeviceQueue) (js : List Job) (k : ℕ) → there_at ds k ≡ true → Tie n hs ds js → Tie n hs (change k submission_made ds) js
+pub tie_submission : (n : ℕ) (hs : List HostQueue) (ds : List ServedQueue) (js : List Job) (k : ℕ) → there_at ds k ≡ true → Tie n hs ds js → Tie n hs (change k submission_made ds) js
 tie_submission n hs ds js k there h =
-    tie_device n hs ds js k submission_made
-    (λ x d ex ed p. record { sub = p.sub; comp = p.comp; half = λ o. sym (there_of ds k d ed) ∙ there; emptied = λ o. refl; unfetched = λ o. refl; answers = λ o. refl; fresh = p.fresh }) (λ d ed some o. refl) h
+    tie_controller n hs ds js k submission_made
+    (λ x d ex ed p. record { sub = p.sub; comp = p.comp; half = λ o. sym (there_of ds k d ed) ∙ there; emptied = λ o. refl; unfetched = λ o. refl; completions = λ o. refl; fresh = p.fresh }) (λ d ed some o. refl) h
 
 -- a submission queue goes, with no job left
-pub tie_kill : (n : ℕ) (hs : List HostQueue) (ds : List DeviceQueue) (js : List Job) (k : ℕ) → total (on_queue k) js ≡ 0 → Tie n hs ds js → Tie n hs (change k cleared ds) js
+pub tie_kill : (n : ℕ) (hs : List HostQueue) (ds : List ServedQueue) (js : List Job) (k : ℕ) → total (on_queue k) js ≡ 0 → Tie n hs ds js → Tie n hs (change k cleared ds) js
 tie_kill n hs ds js k none h =
-    tie_device n hs ds js k cleared
-    (λ x d ex ed p. record { sub = p.sub; comp = p.comp; half = λ o. absurd (true≢false o); emptied = λ o. refl; unfetched = λ o. refl; answers = p.answers; fresh = p.fresh }) (λ d ed some o. absurd (omega (arith, none))) h
+    tie_controller n hs ds js k cleared
+    (λ x d ex ed p. record { sub = p.sub; comp = p.comp; half = λ o. absurd (true≢false o); emptied = λ o. refl; unfetched = λ o. refl; completions = p.completions; fresh = p.fresh }) (λ d ed some o. absurd (omega (arith, none))) h
