@@ -70,5 +70,12 @@ pub(crate) fn answer<A: Allocator, D: Dma>(
     ensures unlisted { D.unlisted dma.new ≡ D.unlisted dma.old }
     ensures pool { D.page_count dma.new ≡ D.page_count dma.old }
 {
-    post_completion(&mut queues[usize::from(q)].controller, q, cid, status, dw0, dma)
+    post_completion(
+        &mut queues[usize::from(q)].controller,
+        q,
+        cid,
+        status,
+        dw0,
+        dma,
+    )
 }

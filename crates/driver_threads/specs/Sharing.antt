@@ -82,7 +82,7 @@ pub record TellsStopping (opening : State) (answer : Bool) : Type 0 where
   pub tells : answer ≡ book.stopping
 
 -- some book of this opening says whose a page is, or that it has no such page
-pub record Tells (opening : State) (p : ℕ) (answer : Option Owner) : Type 0 where
+pub record TellsOwner (opening : State) (p : ℕ) (answer : Option Owner) : Type 0 where
   pub book : BookContents
   pub of : IsBookOf opening book
   pub tells : MatchOption answer (length book.world.memory ≤ p) (λ owner. Contains (claims_of book.world.host) (p, owner))

@@ -58,7 +58,7 @@ pub record Recovers : Type 0 where
   pub agree : SidesAgree new
 
 -- some sound world says whose a page is, or that it has no such page
-pub record Tells (p : ℕ) (answer : Option Owner) : Type 0 where
+pub record TellsOwner (p : ℕ) (answer : Option Owner) : Type 0 where
   pub world : State
   pub sound : IsSound world
   pub tells : MatchOption answer (length world.memory ≤ p) (λ owner. Contains (claims_of world.host) (p, owner))

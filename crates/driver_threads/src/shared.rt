@@ -3,7 +3,7 @@
 ghost use Rattle.std.specs.Prelude.{◌≡◌, true, IfOk, IfErr};
 ghost use Rattle.std.specs.Sync.Mutex.{mutex_guard_value};
 ghost use Rattle.driver_book.specs.State.{BookContents};
-ghost use Rattle.driver_threads.specs.Sharing.{IsBookOf, Seated, GivesNoSeat, Stops, TellsStopping, Tells, Counted, Closes, StaysOpen};
+ghost use Rattle.driver_threads.specs.Sharing.{IsBookOf, Seated, GivesNoSeat, Stops, TellsStopping, TellsOwner, Counted, Closes, StaysOpen};
 
 use crate::changes::{Change, Changes, Condvars};
 use driver_book::{Book, CloseRefused, LogBrand, NoSeat, ReportIn, Seat};
@@ -113,7 +113,7 @@ impl<L: LogBrand, A: Allocator + Copy> Shared<L, A> {
 
     /// Whose a page is; `None` for one that the pool does not have.
     pub fn owner<R: Wait>(&self, rt: &R, p: PageNo) -> Option<Owner>
-        ensures { Tells L.opening p result }
+        ensures { TellsOwner L.opening p result }
     {
         let locked = self.lock(rt);
         if p.0 < locked.book.pages() {

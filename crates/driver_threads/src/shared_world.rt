@@ -2,7 +2,7 @@
 
 ghost use Rattle.std.specs.Sync.Mutex.{mutex_guard_value};
 ghost use Rattle.machine_model.specs.Claims.{IsSound};
-ghost use Rattle.driver_threads.specs.WorldSharing.{Counted, Tells};
+ghost use Rattle.driver_threads.specs.WorldSharing.{Counted, TellsOwner};
 
 use page_ledger::{Counts, Owner};
 use page_memory::PageNo;
@@ -104,7 +104,7 @@ impl<A: Allocator + Copy> SharedWorld<A> {
 
     /// Whose a page is; `None` for one that the pool does not have.
     pub fn owner<R: Wait>(&self, rt: &R, p: PageNo) -> Option<Owner>
-        ensures { Tells p result }
+        ensures { TellsOwner p result }
     {
         let locked = self.lock(rt, NONE);
         if p.0 < locked.world.pages() {

@@ -12,7 +12,7 @@ use Rattle.host_core.proofs.KeptRows.{goes_on, opens_tied, length-queues_from, d
 use Rattle.host_core.{proofs.{Outstanding.collected_named}, specs.Alone.{HostView, alone, HasPlacedPages, IsLowest}}
 use Rattle.host_core.specs.Calls.{reset_alone, Does, Fills, Builds, Submits, Cancels, Collects, Gathers, Releases}
 use Rattle.host_core.specs.CommandValues.{with_first, IsBench, table_with, as_draft, as_ticket, as_finished, picked, IsOut}
-use Rattle.host_core.specs.{Kept.{FillsDraft, BuildsDraft, opened_alone}, Opening.{opened_pages, opened_view}, Pool.Keeps, Resetting.{host_reset, pages_reset}, Values.Reply}
+use Rattle.host_core.specs.{BenchTables.{FillsDraft, BuildsDraft, opened_alone}, Opening.{opened_pages, opened_view}, Pool.Keeps, Resetting.{host_reset, pages_reset}, Values.Reply}
 use Rattle.host_core.specs.declared.{config.Config.Config, values.CommandValue.CommandValue}
 use Rattle.machine_model.specs.{After.after_reset, Image.{draft_of, is_draft}, Memory.is_in, Script.{Table, finished_at, is_ticket, filled_draft, is_finished}}
 use Rattle.machine_model.specs.{State.State, Step.Step, declared.words.Refusal.Refusal}

@@ -24,5 +24,5 @@ pub mod Values
 pub mod Doorbells
 pub mod Calls
 pub mod CommandValues
-pub mod Kept
+pub mod BenchTables
 pub mod Pool

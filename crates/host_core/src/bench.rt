@@ -12,11 +12,11 @@ ghost use Rattle.page_memory.specs.Memory.{bytes_at};
 ghost use Rattle.page_memory.specs.Pages.{byte_at};
 ghost use Rattle.queue_pair.specs.Positions.{host_positions};
 ghost use Rattle.host_core.specs.Calls.{Does};
-ghost use Rattle.host_core.specs.Kept.{opened_alone, table_of};
+ghost use Rattle.host_core.specs.BenchTables.{opened_alone, table_of};
 ghost use Rattle.host_core.specs.Pool.{IsWritten};
 
+use crate::bench_tables::BenchTables;
 use crate::call::{CallIn, ReplyIn};
-use crate::kept::Kept;
 use crate::pool::{read, write};
 use crate::{Config, Host};
 use machine_model::words::{HostState, OpenRefusal};
@@ -31,12 +31,12 @@ use std::marker::Model;
 /// machine that is this host over these pages, with no controller, and lists of these values.
 #[derive(Drop)]
 pub struct HostBench<A: Allocator = Global> {
-    kept: Kept<A>,
+    kept: BenchTables<A>,
 }
 
 impl<A: Allocator> Model for HostBench<A> {
     ghost use Rattle.machine_model.specs.Script.{Table};
-    ghost use Rattle.host_core.specs.Kept.{table_of, IsKept};
+    ghost use Rattle.host_core.specs.BenchTables.{table_of, IsKept};
 
     ghost Value = { Table };
 
@@ -63,7 +63,7 @@ impl<A: Allocator + Copy> HostBench<A> {
         };
         match SlotTable::open(alloc, config.queues + 1, config.entries) {
             Ok(values) => Ok(HostBench {
-                kept: Kept {
+                kept: BenchTables {
                     host: opened.host,
                     store: opened.store,
                     values,

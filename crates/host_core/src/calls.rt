@@ -5,13 +5,13 @@ ghost use Rattle.std.specs.Option.{option_map};
 ghost use Rattle.host_core.specs.Alone.{IsOver};
 ghost use Rattle.host_core.specs.Calls.{Does};
 ghost use Rattle.host_core.specs.Doorbells as doorbells;
-ghost use Rattle.host_core.specs.Kept.{state_of, table_of};
+ghost use Rattle.host_core.specs.BenchTables.{state_of, table_of};
 ghost use Rattle.host_core.specs.CommandValues.{IsBench};
 
+use crate::bench_tables::BenchTables;
 use crate::call::{Bytes, Call, CallIn, Reply, ReplyIn};
 use crate::doorbell::Doorbell;
 use crate::fill::{build_draft, fill_draft, no_memory};
-use crate::kept::Kept;
 use crate::values::{
     CommandValue, drop_row, finished_in, put_back, put_next, take_draft, take_finished, take_ticket,
 };
@@ -37,7 +37,7 @@ fn head_bell(q: u16, slot: Option<u16>) -> Option<Doorbell>
     }
 }
 
-impl<A: Allocator + Copy> Kept<A> {
+impl<A: Allocator + Copy> BenchTables<A> {
     /// Reserves a command, and keeps its draft.
     fn reserve(&mut self, q: u16, request: Request<A>) -> ReplyIn<A>
         requires over { IsOver self.old.host self.old.store.pages }

@@ -16,9 +16,9 @@ ghost use Rattle.host_core.specs.Touching.{HostTouches, TouchesBy};
 
 use crate::host::Host;
 use crate::moving::move_out;
-use crate::tables::HostTables;
 use crate::record::Record;
 use crate::refused::Refused;
+use crate::tables::HostTables;
 use entry_codec::Status;
 use io_commands::{Finished, Request, Ticket};
 use machine_model::words::{Phase, Refusal, Work};

@@ -8,8 +8,8 @@ ghost use Rattle.machine_model.specs.Refusals.{is_of, asks_for as spec_asks_for,
 ghost use Rattle.host_core.specs.Commands.{phase_of_end, has_drafted, has_record as spec_has_record};
 ghost use Rattle.host_core.specs.Parts.{record_of, records_of};
 
-use crate::tables::HostTables;
 use crate::record::Record;
+use crate::tables::HostTables;
 use io_commands::{Draft, Kind, Piece, Request};
 use machine_model::words::Work;
 use page_memory::{PAGE_BYTES, Page, PageNo};

@@ -20,9 +20,9 @@ ghost use Rattle.host_core.specs.Touching.{HostTouches, TouchesBy};
 
 use crate::host::Host;
 use crate::moving::zero_run;
-use crate::tables::HostTables;
 use crate::queue::Queue;
 use crate::queues::{host_state, next_identifier};
+use crate::tables::HostTables;
 use admin_commands::{AdminKind, entry};
 use machine_model::words::{HostState, Refusal};
 use page_ledger::Owner;

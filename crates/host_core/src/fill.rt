@@ -1,7 +1,7 @@
 //! A draft is filled and built.
 
 ghost use Rattle.std.specs.Prelude.{◌≡◌};
-ghost use Rattle.host_core.specs.Kept.{BuildsDraft, FillsDraft};
+ghost use Rattle.host_core.specs.BenchTables.{BuildsDraft, FillsDraft};
 
 use crate::call::{Bytes, Reply, ReplyIn};
 use io_commands::Draft;

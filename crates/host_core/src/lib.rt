@@ -17,6 +17,7 @@
 #![tactic(auto)]
 
 mod bench;
+mod bench_tables;
 mod call;
 mod calls;
 mod collect;
@@ -25,14 +26,11 @@ mod config;
 mod create;
 mod doorbell;
 mod fill;
-mod release;
 mod host;
-mod kept;
 pub mod laws;
 mod look;
 mod moving;
 mod open;
-mod tables;
 mod place;
 mod pool;
 mod post;
@@ -42,6 +40,7 @@ mod reap;
 mod record;
 mod records;
 mod refused;
+mod release;
 mod reserve;
 mod reset;
 mod retire;
@@ -49,6 +48,7 @@ mod ring;
 mod rings;
 mod send;
 mod submit;
+mod tables;
 pub mod values;
 mod view;
 pub mod worked;

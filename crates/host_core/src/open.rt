@@ -13,9 +13,9 @@ ghost use Rattle.host_core.specs.Touching.{IsUntouched};
 
 use crate::config::Config;
 use crate::host::Host;
-use crate::tables::HostTables;
 use crate::queue::Queue;
 use crate::record::Record;
+use crate::tables::HostTables;
 use machine_model::words::{HostState, OpenRefusal};
 use page_ledger::{Ledger, Owner};
 use page_memory::{Half, OpenFault, PageNo, Store};

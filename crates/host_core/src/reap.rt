@@ -17,11 +17,11 @@ ghost use Rattle.host_core.specs.Tables.{state_of};
 ghost use Rattle.host_core.specs.Whole.{IsHost, IsWhole};
 ghost use Rattle.host_core.specs.Touching.{HostTouches};
 
-use crate::release::unclaim;
 use crate::host::Host;
-use crate::tables::HostTables;
 use crate::queue::Queue;
 use crate::queues::{has_cq_alone, has_no_completion, host_state, note};
+use crate::release::unclaim;
+use crate::tables::HostTables;
 use admin_commands::AdminKind;
 use entry_codec::{ComEntry, Status};
 use machine_model::words::{HostState, Reaped, Refusal, RejectedFor};

@@ -9,8 +9,8 @@ ghost use Rattle.slot_table.specs.Table.{IsPlace};
 ghost use Rattle.slot_table.specs.Rows.{value_at};
 ghost use Rattle.host_core.specs.Parts.{record_of, records_of, Becomes};
 
-use crate::tables::HostTables;
 use crate::record::Record;
+use crate::tables::HostTables;
 use entry_codec::Status;
 use std::alloc::Allocator;
 

@@ -13,9 +13,9 @@ ghost use Rattle.host_core.specs.Touching.{HostTouches, TouchesBy};
 use crate::compare::are_whole;
 use crate::host::Host;
 use crate::moving::move_in;
-use crate::tables::HostTables;
 use crate::queue::Queue;
 use crate::refused::Refused;
+use crate::tables::HostTables;
 use io_commands::{Draft, Finished};
 use machine_model::words::Refusal;
 use page_memory::{Page, PageNo, Store};
@@ -108,7 +108,10 @@ impl<A: Allocator> Host<A> {
         let request = finished.request();
         let (data_pages, chain_pages) = finished.pages().split_at(finished.data_pages());
         let command = (finished.q(), finished.cid());
-        if !self.parts.has_record(true, command, request, data_pages, chain_pages) {
+        if !self
+            .parts
+            .has_record(true, command, request, data_pages, chain_pages)
+        {
             return Err(Refused {
                 value: finished,
                 why: Refusal::Stranger,

@@ -13,11 +13,11 @@ ghost use Rattle.host_core.specs.Touching.{HostTouches, TouchesBy};
 
 use crate::host::Host;
 use crate::moving::move_out_zeroed;
-use crate::tables::HostTables;
 use crate::place::{Grant, pages_wanted, place_command};
 use crate::queues::{claim, host_state, is_deleting, next_identifier, takes_no_io};
 use crate::record::Record;
 use crate::refused::Refused;
+use crate::tables::HostTables;
 use io_commands::{Draft, Request};
 use machine_model::words::{Phase, Refusal, Work};
 use page_ledger::NoPages;

@@ -16,8 +16,8 @@ ghost use Rattle.host_core.specs.Touching.{HostTouches, TouchesBy};
 
 use crate::host::Host;
 use crate::moving::zero_run;
-use crate::tables::HostTables;
 use crate::queue::Queue;
+use crate::tables::HostTables;
 use machine_model::words::HostState;
 use page_memory::{Half, Store};
 use queue_pair::{HostPair, half_pages};

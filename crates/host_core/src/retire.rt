@@ -13,8 +13,8 @@ ghost use Rattle.host_core.specs.Whole.{IsHost, IsWhole};
 ghost use Rattle.host_core.specs.Touching.{HostTouches, TouchesBy};
 
 use crate::host::Host;
-use crate::tables::HostTables;
 use crate::queues::{host_state, is_deleted, note};
+use crate::tables::HostTables;
 use entry_codec::ComEntry;
 use machine_model::words::{HostState, Refusal};
 use page_memory::{Half, Store, TouchRecord};

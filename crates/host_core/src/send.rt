@@ -22,11 +22,11 @@ ghost use Rattle.host_core.specs.Whole.{IsHost, IsWhole};
 ghost use Rattle.host_core.specs.Touching.{HostTouches, TouchesBy};
 
 use crate::host::Host;
-use crate::tables::HostTables;
 use crate::queues::{
     claim, has_cq_alone, host_state, is_changing, is_deleting, next_identifier, note, takes_no_io,
 };
 use crate::record::Record;
+use crate::tables::HostTables;
 use admin_commands::{AdminKind, entry};
 use machine_model::words::{HostState, Phase, Refusal, Work};
 use page_memory::Store;

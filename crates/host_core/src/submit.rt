@@ -14,9 +14,9 @@ ghost use Rattle.host_core.specs.Touching.{HostTouches, TouchesBy};
 
 use crate::host::Host;
 use crate::moving::move_in;
-use crate::tables::HostTables;
 use crate::queues::is_live;
 use crate::refused::Refused;
+use crate::tables::HostTables;
 use entry_codec::SubEntry;
 use io_commands::{Draft, Ticket};
 use machine_model::words::Refusal;

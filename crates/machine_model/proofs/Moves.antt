@@ -109,7 +109,7 @@ status_in (events.Done cid st) = Some st
 status_in (events.AdminDone cid st dw0) = Some st
 status_in x = None
 
-pub record Tells (s : State) (q cid : ℕ) (st : Status) (what : Reaped) : Type 0 where
+pub record ReapTells (s : State) (q cid : ℕ) (st : Status) (what : Reaped) : Type 0 where
   pub is : what ≡ reaped s q
   pub names : named what ≡ Some cid
   pub status : status_in what ≡ Some st
@@ -127,23 +127,23 @@ pub record HostMoves (P : Event → Reply → State → Type 0) (s : State) : Ty
   pub rings : (q : ℕ) → refusal_of s (events.Ring q) ≡ None → P (events.Ring q) events.Accepted (a.after_ring q s)
   pub rests : (q : ℕ) → events.Empty ≡ reaped s q → P (events.Reap q) (events.Reaps events.Empty) s
   pub rejects : (q : ℕ) (why : events.RejectedFor) → events.Rejected why ≡ reaped s q → P (events.Reap q) (events.Reaps (events.Rejected why)) (a.consumed q s)
-  pub tells : (q cid : ℕ) (st : Status) (what : Reaped) (e : ComEntry) (r : Record) (request : Request) → Tells s q cid st what → IsHeard s q cid st e r → r.work ≡ Io request
+  pub tells : (q cid : ℕ) (st : Status) (what : Reaped) (e : ComEntry) (r : Record) (request : Request) → ReapTells s q cid st what → IsHeard s q cid st e r → r.work ≡ Io request
       → P (events.Reap q) (events.Reaps what) (a.on_records (with_record q cid (a.held st)) (a.heard q e s))
-  pub hears : (q cid : ℕ) (st : Status) (what : Reaped) (e : ComEntry) (r : Record) (adm : AdminKind) → Tells s q cid st what → IsHeard s q cid st e r → r.work ≡ Management adm
+  pub hears : (q cid : ℕ) (st : Status) (what : Reaped) (e : ComEntry) (r : Record) (adm : AdminKind) → ReapTells s q cid st what → IsHeard s q cid st e r → r.work ≡ Management adm
       → ((k : ℕ) → deletes_sq_of k (Management adm) ≡ false) → ((k : ℕ) → (creates_cq_of k (Management adm) || creates_sq_of k (Management adm)) ≡ true → host_queue (a.heard q e s) k ≡ None)
       → P (events.Reap q) (events.Reaps what) (heard_without q cid e s)
-  pub notes : (q cid : ℕ) (st : Status) (what : Reaped) (e : ComEntry) (r : Record) (k : ℕ) → Tells s q cid st what → IsHeard s q cid st e r → r.work ≡ Management (DeleteSq k)
+  pub notes : (q cid : ℕ) (st : Status) (what : Reaped) (e : ComEntry) (r : Record) (k : ℕ) → ReapTells s q cid st what → IsHeard s q cid st e r → r.work ≡ Management (DeleteSq k)
       → P (events.Reap q) (events.Reaps what) (a.on_host_queue k (λ queue. record queue { state = if is_success st then Deleting true else Live }) (heard_without q cid e s))
-  pub frees : (q cid : ℕ) (st : Status) (what : Reaped) (e : ComEntry) (r : Record) (k : ℕ) (queue : HostQueue) → Tells s q cid st what → IsHeard s q cid st e r → r.work ≡ Management (DeleteCq k)
+  pub frees : (q cid : ℕ) (st : Status) (what : Reaped) (e : ComEntry) (r : Record) (k : ℕ) (queue : HostQueue) → ReapTells s q cid st what → IsHeard s q cid st e r → r.work ≡ Management (DeleteCq k)
       → host_queue (a.heard q e s) k ≡ Some queue → has_cq_alone queue.state ≡ true → is_success st ≡ true → P (events.Reap q) (events.Reaps what) (a.on_host_queue k a.gone (a.given_back queue.cq_pages (heard_without q cid e s)))
-  pub makes_cq : (q cid : ℕ) (st : Status) (what : Reaped) (e : ComEntry) (r : Record) (k n base : ℕ) → Tells s q cid st what → IsHeard s q cid st e r → r.work ≡ Management (CreateCq k n base)
+  pub makes_cq : (q cid : ℕ) (st : Status) (what : Reaped) (e : ComEntry) (r : Record) (k n base : ℕ) → ReapTells s q cid st what → IsHeard s q cid st e r → r.work ≡ Management (CreateCq k n base)
       → is_success st ≡ true → P (events.Reap q) (events.Reaps what) (a.on_host_queue k a.half_made (heard_without q cid e s))
-  pub unmakes_cq : (q cid : ℕ) (st : Status) (what : Reaped) (e : ComEntry) (r : Record) (k n base : ℕ) (queue : HostQueue) → Tells s q cid st what → IsHeard s q cid st e r
+  pub unmakes_cq : (q cid : ℕ) (st : Status) (what : Reaped) (e : ComEntry) (r : Record) (k n base : ℕ) (queue : HostQueue) → ReapTells s q cid st what → IsHeard s q cid st e r
       → r.work ≡ Management (CreateCq k n base) → host_queue (a.heard q e s) k ≡ Some queue → is_success st ≡ false
       → P (events.Reap q) (events.Reaps what) (a.on_host_queue k a.gone (a.given_back queue.cq_pages (heard_without q cid e s)))
-  pub makes_sq : (q cid : ℕ) (st : Status) (what : Reaped) (e : ComEntry) (r : Record) (k n base : ℕ) → Tells s q cid st what → IsHeard s q cid st e r → r.work ≡ Management (CreateSq k n base)
+  pub makes_sq : (q cid : ℕ) (st : Status) (what : Reaped) (e : ComEntry) (r : Record) (k n base : ℕ) → ReapTells s q cid st what → IsHeard s q cid st e r → r.work ≡ Management (CreateSq k n base)
       → is_success st ≡ true → P (events.Reap q) (events.Reaps what) (a.on_host_queue k a.live (heard_without q cid e s))
-  pub unmakes_sq : (q cid : ℕ) (st : Status) (what : Reaped) (e : ComEntry) (r : Record) (k n base : ℕ) (queue : HostQueue) → Tells s q cid st what → IsHeard s q cid st e r
+  pub unmakes_sq : (q cid : ℕ) (st : Status) (what : Reaped) (e : ComEntry) (r : Record) (k n base : ℕ) (queue : HostQueue) → ReapTells s q cid st what → IsHeard s q cid st e r
       → r.work ≡ Management (CreateSq k n base) → host_queue (a.heard q e s) k ≡ Some queue → is_success st ≡ false
       → P (events.Reap q) (events.Reaps what) (a.on_host_queue k a.unmade_sq (a.given_back queue.sq_pages (heard_without q cid e s)))
   pub collects : (q cid : ℕ) (r : Record) (f : FinishedContents) → record_at s.host q cid ≡ Some r → is_held r.phase ≡ true → finished_from s r ≡ Some f
@@ -243,7 +243,7 @@ io_queue s q h = let h1 = (and_parts (not (q == 0)) (is_some (host_queue s q)) (
 pub run_found : (s : State) (half : Half) → is_none (run_for s half) ≡ false → (first : ℕ) × (run_for s half ≡ Some first)
 run_found s half h = elim (option_is (run_for s half)) [ inl e ↦ let h = rw e at h in absurd (true≢false h) | inr (first, e) ↦ (first, e) ]
 
-pub heard_of : (s : State) (q cid : ℕ) (st : Status) (what : Reaped) → Tells s q cid st what → (e : ComEntry) × (r : Record) × IsHeard s q cid st e r
+pub heard_of : (s : State) (q cid : ℕ) (st : Status) (what : Reaped) → ReapTells s q cid st what → (e : ComEntry) × (r : Record) × IsHeard s q cid st e r
 heard_of s q cid st what t = grind arith
 
 -- Where nothing was forged, an entry that is heard is the oldest answer
@@ -269,7 +269,7 @@ nobody hs z k is at = subst (λ (n : ℕ). slice_get hs n ≡ None) (eqb-true k 
 alone : (b : Bool) → (b || false) ≡ true → b ≡ true
 alone b h = grind arith
 
-told : (P : Event → Reply → State → Type 0) (s : State) (q cid : ℕ) (st : Status) (what : Reaped) → HostMoves P s → Tells s q cid st what
+told : (P : Event → Reply → State → Type 0) (s : State) (q cid : ℕ) (st : Status) (what : Reaped) → HostMoves P s → ReapTells s q cid st what
     → P (events.Reap q) (events.Reaps what) (option_map_or (λ r. a.after_work r.work q cid st (option_map_or (λ e. a.heard q e s) (seen_entry s q) s)) (record_at s.host q cid) s)
 told P s q cid st what move t =
     let x = heard_of s q cid st what t in

@@ -10,7 +10,7 @@ use Rattle.page_memory.specs.{Pages.{Pages, with_page_bytes}, declared.page.Half
 use Rattle.queue_pair.specs.{Memory.half_pages, Rings.{HostRing, next_tail, next_head, knowing}}
 use Rattle.machine_model.proofs.Counting.{one, times_granted, times_joined, not_held, held_once, total, here, total-change_same, total-change, total_without, times-outstanding, total-append, total-map, total_with, run_times, zeroed_numbers}
 use Rattle.machine_model.proofs.Kept.{Waits, awaited_event, asked_as_heard, ring_at, deletions_awaited, completions_awaited, submissions_awaited, deletions_fit, creations_fit, bare_event, halves_event, zero_host}
-use Rattle.machine_model.proofs.Moves.{IsLiveQueue, IsHeard, host_moves, posts, posted_bytes, posted_bits, sent_record, sends, heard_without, half_from, creates_cq, creates_sq, grants_cq, grants_sq, drafted_record, heard_of, Tells}
+use Rattle.machine_model.proofs.Moves.{IsLiveQueue, IsHeard, host_moves, posts, posted_bytes, posted_bits, sent_record, sends, heard_without, half_from, creates_cq, creates_sq, grants_cq, grants_sq, drafted_record, heard_of, ReapTells}
 use Rattle.machine_model.proofs.Owned.{HoldsPart, in_queue, in_record, Owns, OwnsPart, owns_of, owns_queues, KeepsRecord, owns_map, owns_more, owns_less, awaited_at, was_awaited as was_awaited_for, lost_keeps, all_reset, reset_fewer, reset_pages, reset_halves, reset_taken, admin_has, submitted_in, Taken, taken, is_out, none, none_here, some_here, taken_le, out_same, out_other, in_same, in_other}
 use Rattle.machine_model.proofs.Steps.{Accepts, IsKept, in_store, length-in_store, length-with_pages, length-without_pages, in_store-with_bytes, first_fails, found_all}
 use Rattle.machine_model.specs.{After.change, Claims.{DeletionsFit, CreationsFit, OwnsFit, HasNoOtherPages}, Commands.{Work, Management, Io}}
@@ -472,7 +472,7 @@ IsSubmittedAt s q cid = (r : Record) × (record_at s.host q cid ≡ Some r) × (
 pub reaped_submitted : (s : State) (q cid : ℕ) → named (reaped s q) ≡ Some cid → IsSubmittedAt s q cid
 reaped_submitted s q cid h = go (reaped s q) refl h
   where
-    of : (st : Status) (what : Reaped) → Tells s q cid st what → IsSubmittedAt s q cid
+    of : (st : Status) (what : Reaped) → ReapTells s q cid st what → IsSubmittedAt s q cid
     of st what t = let x = heard_of s q cid st what t in (x.1, x.2.found, x.2.submitted)
 
     go : (what : Reaped) → reaped s q ≡ what → named what ≡ Some cid → IsSubmittedAt s q cid

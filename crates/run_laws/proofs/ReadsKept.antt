@@ -31,7 +31,7 @@ use Rattle.two_sides.proofs.{Commands.{Walking, walk_writes, in_hand_is}, Heads.
 use Rattle.two_sides.proofs.PlacesKept.{running_not_past, InHand, in_hand, first_is}
 use Rattle.two_sides.proofs.Provided.{In, in_at, in_found, is_found, all_in, all_drop_one, all_append, sent_found}
 use Rattle.two_sides.proofs.{Served.{good_is, Stood, data_of, entry_direction, parts_count, JobList, job_list, course_whole}, Standing.list_at, TiedAll.Grounds}
-use Rattle.two_sides.proofs.Untouched.{owned_once, among_counts, Kept, untouched_kept}
+use Rattle.two_sides.proofs.Untouched.{owned_once, among_counts, IsSubmittedPage, untouched_kept}
 use Rattle.page_memory.proofs.Lists.{all-at, found_is, all-found, some_is, all-slots}
 
 -- What is known of Reads: so many of their blocks' bytes stand in their data pages, and the draft's own behind them.
@@ -135,7 +135,7 @@ apart_by s g test r r' within within' passes fails p own =
     subst (λ (b : Bool). (if b then 0 else in_record p r') ≤ total (λ x. if test x then 0 else in_record p x) s.host.records) fails (within' (λ x. if test x then 0 else in_record p x)) in
     omega (arith, a, b, split p test s.host.records, owned_once _ p s.host g.stands.0, held_once p (pages_of r) own)
 
-kept_record : (s : State) → Grounds s → (r : Record) → In r s.host.records → (is_submitted r.phase || is_held r.phase) ≡ true → (p : ℕ) → is_among (pages_of r) p ≡ true → Kept s p
+kept_record : (s : State) → Grounds s → (r : Record) → In r s.host.records → (is_submitted r.phase || is_held r.phase) ≡ true → (p : ℕ) → is_among (pages_of r) p ≡ true → IsSubmittedPage s p
 kept_record s g r within stays p own = record {
   free = omega (arith, owned_once _ p s.host g.stands.0, within (in_record p), held_once p (pages_of r) own);
   queues = λ q queue e. omega (arith, owned_once _ p s.host g.stands.0, within (in_record p), held_once p (pages_of r) own, in_at s.host.queues q queue e (in_queue p));

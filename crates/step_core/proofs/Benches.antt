@@ -12,7 +12,7 @@ use Rattle.io_commands.specs.{Asked.Request, Drafts.{DraftContents, built}, Valu
 use Rattle.machine_model.specs.{Image.{draft_of, is_draft}, Script.{Table, finished_at, is_ticket, filled_draft, is_finished}, State.State}
 use Rattle.machine_model.specs.declared.words.Refusal.{Refusal}
 use Rattle.slot_table.specs.{Rows.{Row, value_at, with_value, without}, Table.{TableOf, IsPlace, with_row}}
-use Rattle.step_core.specs.{Bench.{Does, Fills, Builds, Gathers, DoesAll}, Kept.{FillsDraft, BuildsDraft, BenchContents}, Touching.{StepTouches, last_pages}}
+use Rattle.step_core.specs.{Bench.{Does, Fills, Builds, Gathers, DoesAll}, BenchTables.{FillsDraft, BuildsDraft, BenchContents}, Touching.{StepTouches, last_pages}}
 use Rattle.step_core.specs.{TouchingAll.TouchAll, Values.{Reply, Step}}
 use Rattle.host_core.proofs.KeptRows.{drafts_named, tickets_named, finished_named, named_there, place_free, put_back, put_same, put_next, reserved, row_dropped, renewed, followed, ended, goes_on, found_at, changed_at, changed_other, taken_at, taken_other}
 use Rattle.host_core.proofs.Outstanding.{collected_named}

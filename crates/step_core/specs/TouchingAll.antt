@@ -1,6 +1,6 @@
 -- How many pages a list of steps of a bench touches.
 use Rattle.std.specs.Prelude.{◌≡◌, List, [], ◌∷◌}
-use Rattle.step_core.specs.{Bench.Does, Kept.BenchContents, Touching.StepTouches, Values.{Reply, Step}}
+use Rattle.step_core.specs.{Bench.Does, BenchTables.BenchContents, Touching.StepTouches, Values.{Reply, Step}}
 
 -- Steps and answers of which each is what a step does from where the one before led, and touches as many pages as it tells.
 abbrev pub TouchAll : BenchContents → List Step → List Reply → BenchContents → Type 0

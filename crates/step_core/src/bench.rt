@@ -12,7 +12,7 @@ ghost use Rattle.page_memory.specs.Pages.{byte_at};
 ghost use Rattle.queue_pair.specs.Positions.{host_positions};
 ghost use Rattle.page_ledger.specs.Counting.{total};
 ghost use Rattle.step_core.specs.Bench.{Does, DoesAll};
-ghost use Rattle.step_core.specs.Kept.{table_of, contents_of};
+ghost use Rattle.step_core.specs.BenchTables.{table_of, contents_of};
 ghost use Rattle.host_core.specs.CommandValues.{IsBench};
 ghost use Rattle.step_core.specs.Rings.{ShowsHalves, TellsRung, TellsFetching, TellsPosting};
 ghost use Rattle.host_core.specs.Opening.{refusal_of_config, RefusesOpening};
@@ -20,8 +20,8 @@ ghost use Rattle.step_core.specs.Opening.{opening_of};
 ghost use Rattle.step_core.specs.Touching.{LooksAtMost, StepTouches};
 ghost use Rattle.step_core.specs.TouchingAll.{TouchAll};
 
+use crate::bench_tables::BenchTables;
 use crate::ended::Ended;
-use crate::kept::Kept;
 use crate::open::OpenRefused;
 use crate::rings::Rings;
 use crate::step::{ReplyIn, StepIn};
@@ -38,11 +38,11 @@ use std::marker::Model;
 /// A world, with the drafts, tickets and finished commands that are about. Contracts see the world's state and these lists (`table`), a
 /// ticket as its queue and identifier, and how many pages were touched so far (`touches`).
 pub struct Bench<A: Allocator = Global> {
-    kept: Kept<A>,
+    kept: BenchTables<A>,
 }
 
 impl<A: Allocator> Model for Bench<A> {
-    ghost use Rattle.step_core.specs.Kept.{BenchContents, contents_of};
+    ghost use Rattle.step_core.specs.BenchTables.{BenchContents, contents_of};
     ghost use Rattle.host_core.specs.CommandValues.{IsBench};
 
     ghost Value = { BenchContents };
@@ -52,7 +52,7 @@ impl<A: Allocator> Model for Bench<A> {
     ghost invariant = { λ b. IsBench b.kept.world.state b.kept.values };
 }
 
-impl<A: Allocator + Copy> Kept<A> {
+impl<A: Allocator + Copy> BenchTables<A> {
     /// Does the steps in order, with room for their answers.
     fn do_all(&mut self, steps: Vec<StepIn<A>, A>, replies: &mut Vec<ReplyIn<A>, A>)
         requires bench { IsBench self.old.world.state self.old.values }
@@ -96,7 +96,7 @@ impl<A: Allocator + Copy> Bench<A> {
         };
         match World::over(opened, alloc, config, image) {
             Ok(world) => Ok(Bench {
-                kept: Kept {
+                kept: BenchTables {
                     world,
                     values,
                     alloc,
@@ -216,7 +216,7 @@ impl<A: Allocator + Copy> Bench<A> {
     /// Ends the bench: its world, and each value that is about. It takes no memory.
     pub fn end(self) -> Ended {
         let Bench { kept } = self;
-        let Kept {
+        let BenchTables {
             world,
             values,
             alloc: _,

@@ -2,12 +2,12 @@
 
 ghost use Rattle.std.specs.Prelude.{◌≡◌, [], length};
 ghost use Rattle.step_core.specs.Bench.{Does};
-ghost use Rattle.step_core.specs.Kept.{table_of};
+ghost use Rattle.step_core.specs.BenchTables.{table_of};
 ghost use Rattle.host_core.specs.CommandValues.{IsBench};
 ghost use Rattle.step_core.specs.Touching.{StepTouches};
 
+use crate::bench_tables::BenchTables;
 use crate::fill::{build_draft, fill_draft, no_memory};
-use crate::kept::Kept;
 use crate::refused::{StepRefused, none_touched};
 use crate::step::{Bytes, Reply, ReplyIn, Step, StepIn};
 use host_core::Refused;
@@ -38,7 +38,7 @@ fn refused_step<A: Allocator>(step: StepRefused) -> ReplyIn<A>
     }
 }
 
-impl<A: Allocator + Copy> Kept<A> {
+impl<A: Allocator + Copy> BenchTables<A> {
     /// Reserves a command, and keeps its draft.
     fn reserve(&mut self, q: u16, request: Request<A>) -> ReplyIn<A>
         requires { IsBench self.old.world.state self.old.values }

@@ -1,7 +1,7 @@
 //! A draft on a bench is filled and built.
 
 ghost use Rattle.std.specs.Prelude.{◌≡◌, []};
-ghost use Rattle.step_core.specs.Kept.{BuildsDraft, FillsDraft};
+ghost use Rattle.step_core.specs.BenchTables.{BuildsDraft, FillsDraft};
 
 use crate::refused::none_touched;
 use crate::step::{Bytes, Reply, ReplyIn};

@@ -19,11 +19,11 @@
 
 mod bench;
 mod bench_steps;
+mod bench_tables;
 mod commands;
 mod ended;
 mod fill;
 mod forge;
-mod kept;
 pub mod laws;
 mod look;
 mod open;

@@ -14,10 +14,10 @@ use Rattle.test_support.specs.contracts.allocator.refuses_call as ask
 use Rattle.test_support.specs.contracts.allocator.count_block as block
 use Rattle.test_support.specs.contracts.allocator.count_return as returned
 
-abbrev pub Kept : RattleType
-Kept = account.the_row
+abbrev pub AccountRow : RattleType
+AccountRow = account.the_row
 
-abbrev pub kept_laws : RowLaws Kept
+abbrev pub kept_laws : RowLaws AccountRow
 kept_laws = account_laws.the_row_laws.shr_laws
 
 -- an account as contracts see it: nothing is known of its words
@@ -50,9 +50,9 @@ module _ {M : Type 1} {𝓤 : Ura M} (𝓛 : Logic 𝓤) (at_mem : Memory → SP
 module _ {M : Type 1} {𝓤 : Ura M} (𝓛 : Logic 𝓤) (at_mem : Memory → SProp 𝓤) (run : Routine → Fun 𝓤) (κ : Lft) (q : Share) (c : ℕ × ℕ) where
   open 𝓛 use {H, A}
 
-  pub Ask-goes : ent 𝓤 (sep 𝓤 (sem 𝓛 (hidden_shr Kept κ (some_account) c.0 c.1)) (A.lft κ q)) ((Ask 𝓛 at_mem run).pre (at_ask 𝓛 at_mem run κ q c))
+  pub Ask-goes : ent 𝓤 (sep 𝓤 (sem 𝓛 (hidden_shr AccountRow κ (some_account) c.0 c.1)) (A.lft κ q)) ((Ask 𝓛 at_mem run).pre (at_ask 𝓛 at_mem run κ q c))
   Ask-goes =
-      qed 𝓛 (‵ (hidden_shr Kept κ (some_account) c.0 c.1) ∷ ‵ (flft κ q) ∷ []) ∵ feq_i ! (List Val) (vptr c.0 c.1 ∷ []) (vptr c.0 c.1 ∷ []) refl $ fjoin ! $
+      qed 𝓛 (‵ (hidden_shr AccountRow κ (some_account) c.0 c.1) ∷ ‵ (flft κ q) ∷ []) ∵ feq_i ! (List Val) (vptr c.0 c.1 ∷ []) (vptr c.0 c.1 ∷ []) refl $ fjoin ! $
       nothing ! $ move ! (1 ∷ []) $ fjoin ! $ nothing ! $ move ! (2 ∷ []) $ join ! $ join ! $ nothing ! $ move ! (1 ∷ []) $ join ! $ done !
 
   pub Ask-gives : (v : Val) → ent 𝓤 ((Ask 𝓛 at_mem run).post (at_ask 𝓛 at_mem run κ q c) v) (H.⇛ (ex 𝓤 (λ (y : Bool). guard 𝓤 (v ≡ vbool y) (A.lft κ q))))
@@ -62,9 +62,9 @@ module _ {M : Type 1} {𝓤 : Ura M} (𝓛 : Logic 𝓤) (at_mem : Memory → SP
       split ! $ split ! $ move ! (1 ∷ []) $ feq_l ! (λ e. split ! $ at_once ! $
       show ! (λ (z : Bool). guard 𝓤 (v ≡ vbool z) (A.lft κ q)) y $ check ! (ap only e) $ keep ! (0 ∷ []) $ done !))
 
-  pub Block-goes : (n : ℕ) → n < 2 ^ 64 → ent 𝓤 (sep 𝓤 (sem 𝓛 (hidden_shr Kept κ (some_account) c.0 c.1)) (A.lft κ q)) ((Block 𝓛 at_mem run).pre (at_block 𝓛 at_mem run κ q c n))
+  pub Block-goes : (n : ℕ) → n < 2 ^ 64 → ent 𝓤 (sep 𝓤 (sem 𝓛 (hidden_shr AccountRow κ (some_account) c.0 c.1)) (A.lft κ q)) ((Block 𝓛 at_mem run).pre (at_block 𝓛 at_mem run κ q c n))
   Block-goes n fn =
-      qed 𝓛 (‵ (hidden_shr Kept κ (some_account) c.0 c.1) ∷ ‵ (flft κ q) ∷ []) ∵
+      qed 𝓛 (‵ (hidden_shr AccountRow κ (some_account) c.0 c.1) ∷ ‵ (flft κ q) ∷ []) ∵
       nothing ! $ flt_i ! n (2 ^ 64) fn $ feq_i ! (List Val) (vint w64 n ∷ []) (vint w64 n ∷ []) refl $ fjoin ! $ fjoin ! $
       move ! (1 ∷ []) $ feq_i ! (List Val) (vptr c.0 c.1 ∷ []) (vptr c.0 c.1 ∷ []) refl $ fjoin ! $ move ! (0 ∷ 1 ∷ []) $ fjoin ! $
       nothing ! $ move ! (2 ∷ []) $ join ! $ join ! $ nothing ! $ move ! (1 ∷ []) $ join ! $ done !
@@ -75,9 +75,9 @@ module _ {M : Type 1} {𝓤 : Ura M} (𝓛 : Logic 𝓤) (at_mem : Memory → SP
       use1 𝓛 (later (some (λ (r : Unit {0}). ((‵ (flft κ q) ⊛ ‵ ftrue) ⊛ ‵ (unit.own_val r (v ∷ []))) ⊛ some (λ (ws : Unit {0} × (Unit {0} × Unit {0})). ‵ (fsep ftrue (fsep ftrue ftrue)) ⊛ ‵ ftrue)))) (id⊢ 𝓤 _) $ await ! tt $ pick ! (λ r.
       split ! $ split ! $ move ! (1 ∷ []) $ feq_l ! (λ e. split ! $ at_once ! $ check ! (ap only e) $ keep ! (0 ∷ []) $ done !))
 
-  pub Returned-goes : (n : ℕ) → n < 2 ^ 64 → ent 𝓤 (sep 𝓤 (sem 𝓛 (hidden_shr Kept κ (some_account) c.0 c.1)) (A.lft κ q)) ((Returned 𝓛 at_mem run).pre (at_returned 𝓛 at_mem run κ q c n))
+  pub Returned-goes : (n : ℕ) → n < 2 ^ 64 → ent 𝓤 (sep 𝓤 (sem 𝓛 (hidden_shr AccountRow κ (some_account) c.0 c.1)) (A.lft κ q)) ((Returned 𝓛 at_mem run).pre (at_returned 𝓛 at_mem run κ q c n))
   Returned-goes n fn =
-      qed 𝓛 (‵ (hidden_shr Kept κ (some_account) c.0 c.1) ∷ ‵ (flft κ q) ∷ []) ∵
+      qed 𝓛 (‵ (hidden_shr AccountRow κ (some_account) c.0 c.1) ∷ ‵ (flft κ q) ∷ []) ∵
       nothing ! $ flt_i ! n (2 ^ 64) fn $ feq_i ! (List Val) (vint w64 n ∷ []) (vint w64 n ∷ []) refl $ fjoin ! $ fjoin ! $
       move ! (1 ∷ []) $ feq_i ! (List Val) (vptr c.0 c.1 ∷ []) (vptr c.0 c.1 ∷ []) refl $ fjoin ! $ move ! (0 ∷ 1 ∷ []) $ fjoin ! $
       nothing ! $ move ! (2 ∷ []) $ join ! $ join ! $ nothing ! $ move ! (1 ∷ []) $ join ! $ done !

@@ -10,7 +10,7 @@ use Rattle.controller_walk.specs.declared.{cause.{DescriptorAt.DescriptorAt, Wal
 use Rattle.controller_walk.specs.declared.{progress.State.TheVariants.{First, Next, Data, Over}, walk.{Walk.Walk, WalkState.WalkState}}
 use Rattle.controller_walk.specs.declared.walk.WalkState.TheVariants.{More, End, Fault}
 use Rattle.texts.specs.{Ending.{Goes, Ends, WalkedTo}, Slots.{rows_text, row_bytes_text}}
-use Rattle.texts.specs.Taking.{bytes_of, taken_at, taken_next, with_next, own, then_place, places_of, reads_of, HaveBytes, BeginWithOwn, AreOf, Begun, Tells, ToldTo}
+use Rattle.texts.specs.Taking.{bytes_of, taken_at, taken_next, with_next, own, then_place, places_of, reads_of, HaveBytes, BeginWithOwn, AreOf, Begun, TellsTaken, ToldTo}
 use Rattle.texts.specs.declared.explain.list.Taken.{Taken}
 use Rattle.page_memory.specs.Memory.{Memory, bytes_at}
 use Rattle.sgl_descriptor.specs.declared.Direction.{Direction}
@@ -291,7 +291,7 @@ begun_next (suc unit) now sgl1 (first ∷ told) w w' begun = by (taken_next now 
     by (Some taken) = begun
 
 pub tells_on : (at : ℕ → Bool) (m : Memory) (sgl1 : List ℕ) (c : Course) (told : List Taken) (w w' : Walk) (result : WalkState) (now now' : Memory) (bytes bytes' r r' : List ℕ) →
-    ReadsNext w → IsApart at (direction_of w) c → Tells at m sgl1 c told w now → DoesFirst (course now w) (direction_of w) now now' bytes bytes' r r' → LeavesRest (course now w) result (course now w') →
+    ReadsNext w → IsApart at (direction_of w) c → TellsTaken at m sgl1 c told w now → DoesFirst (course now w) (direction_of w) now now' bytes bytes' r r' → LeavesRest (course now w) result (course now w') →
     is_over w' ≡ not (is_more result) → ToldTo (is_over w') at m sgl1 c (with_next told (taken_next now sgl1 w)) w' now'
 tells_on at m sgl1 c told w w' result now now' bytes bytes' r r' reads apart tells does leaves over = by (after_units tells.unit c) refl
   where
@@ -348,7 +348,7 @@ tells_on at m sgl1 c told w w' result now now' bytes bytes' r r' reads apart tel
         }
 
 -- a walk that begins
-pub tells_none : (at : ℕ → Bool) (m : Memory) (sgl1 : List ℕ) (c : Course) (w : Walk) → StandsAfter at m 0 c w → next_of w ≡ Some own → Tells at m sgl1 c [] w m
+pub tells_none : (at : ℕ → Bool) (m : Memory) (sgl1 : List ℕ) (c : Course) (w : Walk) → StandsAfter at m 0 c w → next_of w ≡ Some own → TellsTaken at m sgl1 c [] w m
 tells_none at m sgl1 c w stands next = record {
   unit = 0;
   agrees = record { there = λ q. refl; same = λ q h. refl };
@@ -360,7 +360,7 @@ tells_none at m sgl1 c w stands next = record {
 
 -- a walk in the midst of its list, or at its end, and what it told
 pub record Telling (begun w : Walk) (before now : Memory) (sgl1 : List ℕ) (told : List Taken) : Type 0 where
-  pub tells : (at : ℕ → Bool) (m : Memory) (c : Course) → IsApart at (direction_of begun) c → Tells at m sgl1 c [] begun before → ToldTo (is_over w) at m sgl1 c told w now
+  pub tells : (at : ℕ → Bool) (m : Memory) (c : Course) → IsApart at (direction_of begun) c → TellsTaken at m sgl1 c [] begun before → ToldTo (is_over w) at m sgl1 c told w now
   pub direction : direction_of w ≡ direction_of begun
 
 pub telling_first : (w : Walk) (m : Memory) (sgl1 : List ℕ) → is_over w ≡ false → Telling w w m m sgl1 []
@@ -370,7 +370,7 @@ telling_first w m sgl1 is = record {
 }
 
 pub telling_on : (begun w w' : Walk) (before now now' : Memory) (sgl1 : List ℕ) (told told' : List Taken) → Telling begun w before now sgl1 told → is_over w ≡ false →
-    ((at : ℕ → Bool) (m : Memory) (c : Course) → IsApart at (direction_of w) c → Tells at m sgl1 c told w now → ToldTo (is_over w') at m sgl1 c told' w' now') →
+    ((at : ℕ → Bool) (m : Memory) (c : Course) → IsApart at (direction_of w) c → TellsTaken at m sgl1 c told w now → ToldTo (is_over w') at m sgl1 c told' w' now') →
     direction_of w' ≡ direction_of w → Telling begun w' before now' sgl1 told'
 telling_on begun w w' before now now' sgl1 told told' telling is steps direction = record {
   tells = λ at m c apart tells. steps at m c (subst (λ (d : Direction). IsApart at d c) (sym telling.direction) apart)
@@ -385,7 +385,7 @@ pub told_same : (told : List Taken) (next : Option Taken) → next ≡ None → 
 told_same told next is = rw is refl
 
 pub told_all : (begun w : Walk) (before now : Memory) (sgl1 : List ℕ) (told : List Taken) → Telling begun w before now sgl1 told → is_over w ≡ true →
-    (at : ℕ → Bool) (m : Memory) (c : Course) → IsApart at (direction_of begun) c → Tells at m sgl1 c [] begun before → AreOf m sgl1 c told
+    (at : ℕ → Bool) (m : Memory) (c : Course) → IsApart at (direction_of begun) c → TellsTaken at m sgl1 c [] begun before → AreOf m sgl1 c told
 told_all begun w before now sgl1 told telling is at m c apart tells = subst (λ (b : Bool). ToldTo b at m sgl1 c told w now) is (telling.tells at m c apart tells)
 
 -- Rows of bytes, one behind the other.

@@ -70,7 +70,7 @@ Begun zero told w = (told ≡ []) × (next_of w ≡ Some own)
 Begun (suc unit) told w = BeginWithOwn told
 
 -- some units of a list are done, and what was read so far is told
-pub record Tells (at : ℕ → Bool) (m : Memory) (sgl1 : List ℕ) (c : Course) (told : List Taken) (w : Walk) (now : Memory) : Type 0 where
+pub record TellsTaken (at : ℕ → Bool) (m : Memory) (sgl1 : List ℕ) (c : Course) (told : List Taken) (w : Walk) (now : Memory) : Type 0 where
   pub unit : ℕ
   pub agrees : Agree at m now
   pub stands : StandsAfter at m unit c w
@@ -80,4 +80,4 @@ pub record Tells (at : ℕ → Bool) (m : Memory) (sgl1 : List ℕ) (c : Course)
 
 abbrev pub ToldTo : Bool → (ℕ → Bool) → Memory → List ℕ → Course → List Taken → Walk → Memory → Type 0
 ToldTo true at m sgl1 c told w now = AreOf m sgl1 c told
-ToldTo false at m sgl1 c told w now = Tells at m sgl1 c told w now
+ToldTo false at m sgl1 c told w now = TellsTaken at m sgl1 c told w now

@@ -6,7 +6,7 @@ use Rattle.std.proofs.Common.{◌≡◌, ℕ, zero, ◌+◌, ◌-◌, ◌≤◌,
 use Rattle.std.{proofs.lemmas.Bool.{true≢false, and_parts, eqb-false, cases_Bool}, specs.Option.option_map_or}
 use Rattle.machine_model.proofs.{Counting.{total-append, total-map, total-filter, total_with, total_without}, HostLeaves.ids_of}
 use Rattle.machine_model.proofs.Kept.{asked_serves, submissions_awaited}
-use Rattle.machine_model.proofs.Moves.{seen_trusted, named, Tells, heard_of, completion_heard, host_moves, posts, sends, sent_record, drafted_record, heard_without, IsHeard, making_sq_is, half_from, grants_cq, grants_sq, creates_cq, creates_sq}
+use Rattle.machine_model.proofs.Moves.{seen_trusted, named, ReapTells, heard_of, completion_heard, host_moves, posts, sends, sent_record, drafted_record, heard_without, IsHeard, making_sq_is, half_from, grants_cq, grants_sq, creates_cq, creates_sq}
 use Rattle.machine_model.proofs.{Owned.{awaited_at, was_awaited, awaited_is}, Sound.{still_live, asked_note}}
 use Rattle.machine_model.proofs.{Steps.{managed_by, Accepts, part_controller, unrefused}, TokensKept.reset_places}
 use Rattle.machine_model.specs.Agreeing.{CommandsStandOnce as Places, is_out_of_service_at as past_at, completions_at, unfetched_count, job_weight, is_absent_at as gone_at, is_known_deleted as is_over, on_queue}
@@ -312,7 +312,7 @@ pub reaped_answer : (s : State) (q cid : ℕ) → s.trusted ≡ true → named (
     → (an : PostedCompletion) × (option_and_then (λ queue. front_completion queue.completions) (served_queue s q) ≡ Some an) × (an.cid ≡ cid) × (seen_entry s q ≡ Some (entry_of q an))
 reaped_answer s q cid t h = go (reaped s q) refl h
   where
-    of : (st : Status) (what : Reaped) → Tells s q cid st what → (an : PostedCompletion) × (option_and_then (λ queue. front_completion queue.completions) (served_queue s q) ≡ Some an) × (an.cid ≡ cid) × (seen_entry s q ≡ Some (entry_of q an))
+    of : (st : Status) (what : Reaped) → ReapTells s q cid st what → (an : PostedCompletion) × (option_and_then (λ queue. front_completion queue.completions) (served_queue s q) ≡ Some an) × (an.cid ≡ cid) × (seen_entry s q ≡ Some (entry_of q an))
     of st what tells = let x = heard_of s q cid st what tells in let an = completion_heard s q cid st x.0 x.1 t x.2 in (an.answer, an.first, an.its_id, x.2.seen ∙ ap Some an.is)
 
     go : (what : Reaped) → reaped s q ≡ what → named what ≡ Some cid → (an : PostedCompletion) × (option_and_then (λ queue. front_completion queue.completions) (served_queue s q) ≡ Some an) × (an.cid ≡ cid) × (seen_entry s q ≡ Some (entry_of q an))

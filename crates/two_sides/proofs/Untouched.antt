@@ -296,7 +296,7 @@ abbrev Same : Pages → State → ℕ → Type 0
 Same m s p = page_at m p ≡ page_at s.memory p
 
 -- a page that is no free one, no queue's, and no drafted or collected command's
-pub record Kept (s : State) (p : ℕ) : Type 0 where
+pub record IsSubmittedPage (s : State) (p : ℕ) : Type 0 where
   pub free : times p s.host.free ≡ 0
   pub queues : (q : ℕ) (queue : HostQueue) → host_queue s q ≡ Some queue → in_queue p queue ≡ 0
   pub others : (r : Record) → In r s.host.records → (is_drafted r.phase || is_collected r.phase) ≡ true → in_record p r ≡ 0
@@ -341,11 +341,11 @@ answers_elsewhere q cid st dw0 s p known = ap (λ (t : State). page_at t.memory 
 
 -- What is known of a queue
 
-pub posts_live : (s : State) → Grounds s → (q p : ℕ) → ((queue : HostQueue) → host_queue s q ≡ Some queue → is_live queue.state ≡ true) → Kept s p → PostsElsewhere s q p
+pub posts_live : (s : State) → Grounds s → (q p : ℕ) → ((queue : HostQueue) → host_queue s q ≡ Some queue → is_live queue.state ≡ true) → IsSubmittedPage s p → PostsElsewhere s q p
 posts_live s g q p live some queue e =
     (omega (arith, some.queues q queue e), (pair_at s g q queue e).2.sub (live_has_sq queue.state (live queue e)), (ring_in s g q queue e).tail)
 
-answers_there : (s : State) → Grounds s → (q p : ℕ) → ((queue : HostQueue) → host_queue s q ≡ Some queue → has_cq queue.state ≡ true) → Kept s p → AnswersElsewhere s q p
+answers_there : (s : State) → Grounds s → (q p : ℕ) → ((queue : HostQueue) → host_queue s q ≡ Some queue → has_cq queue.state ≡ true) → IsSubmittedPage s p → AnswersElsewhere s q p
 answers_there s g q p there some queue e =
     (omega (arith, some.queues q queue e), (pair_at s g q queue e).2.comp (there queue e), (ring_in s g q queue e).head)
 
@@ -378,30 +378,30 @@ kept_managed e s =
 -- Each event
 
 -- free pages are others
-free_elsewhere : (s : State) (pages : List ℕ) (p : ℕ) → ((p : ℕ) → times p pages ≡ (if is_among pages p && is_among s.host.free p then 1 else 0)) → Kept s p → is_among pages p ≡ false
+free_elsewhere : (s : State) (pages : List ℕ) (p : ℕ) → ((p : ℕ) → times p pages ≡ (if is_among pages p && is_among s.host.free p then 1 else 0)) → IsSubmittedPage s p → is_among pages p ≡ false
 free_elsewhere s pages p are some = among_counts p pages (are p ∙ rw (among_counts p s.host.free some.free) (grind arith))
 
 -- the pages of a drafted or collected record
-others_elsewhere : (s : State) (q cid p : ℕ) (r : Record) → record_at s.host q cid ≡ Some r → (is_drafted r.phase || is_collected r.phase) ≡ true → Kept s p → is_among (pages_of r) p ≡ false
+others_elsewhere : (s : State) (q cid p : ℕ) (r : Record) → record_at s.host q cid ≡ Some r → (is_drafted r.phase || is_collected r.phase) ≡ true → IsSubmittedPage s p → is_among (pages_of r) p ≡ false
 others_elsewhere s q cid p r e away some = among_counts p (pages_of r) (some.others r (in_found _ s.host.records r e) away)
 
 pub live_queue : (s : State) (q : ℕ) → in_state is_live s q ≡ true → (queue : HostQueue) → host_queue s q ≡ Some queue → is_live queue.state ≡ true
 live_queue s q h queue e = sym (ap (λ (o : Option HostQueue). option_map_or (λ queue. is_live queue.state) o false) e) ∙ h
 
-fetch_elsewhere : (q p : ℕ) (s : State) → Grounds s → Kept s p → Same (a.after_fetch q s).memory s p
+fetch_elsewhere : (q p : ℕ) (s : State) → Grounds s → IsSubmittedPage s p → Same (a.after_fetch q s).memory s p
 fetch_elsewhere q p s g some =
     -- an entry that is fetched is one of a queue in service
     fetch_by (λ (t : State). Same t.memory s p) s q refl (λ e n c. answers_elsewhere q e.cid COMMAND_ID_CONFLICT 0 (a.taken_off q s) p (answers_there s g q p (λ queue at. grind arith) some))
     (λ e n c z. ap (λ (x : Pages). page_at x p) (kept_managed e (a.taken_off 0 s))) (λ e n c other. refl)
 
-complete_elsewhere : (q cid p : ℕ) (s : State) → Grounds s → Kept s p → Same (a.after_complete q cid s).memory s p
+complete_elsewhere : (q cid p : ℕ) (s : State) → Grounds s → IsSubmittedPage s p → Same (a.after_complete q cid s).memory s p
 complete_elsewhere q cid p s g some =
     let known : (j : Job) → job_at s q cid ≡ Some j → AnswersElsewhere s q p = λ j at. answers_there s g q p (completed_there s g q cid j at) some in
     complete_by (λ (t : State). Same t.memory s p) s q cid refl (λ j at c. answers_elsewhere q cid (a.final_status s j) j.dw0 (a.on_served_queue (named_queue j.entry) cleared (finished q cid j s)) p (known j at))
     (λ j at c. answers_elsewhere q cid (a.final_status s j) j.dw0 (finished q cid j s) p (known j at))
 
 -- a page that nobody else has is as it was, whatever happens but a walk, and the collecting of its command
-pub untouched_kept : (s : State) (e : Event) (reply : Reply) → Accepts s e reply → is_walk e ≡ false → Grounds s → (p : ℕ) → Kept s p
+pub untouched_kept : (s : State) (e : Event) (reply : Reply) → Accepts s e reply → is_walk e ≡ false → Grounds s → (p : ℕ) → IsSubmittedPage s p
     → ((q cid : ℕ) (r : Record) → e ≡ events.Collect q cid → record_at s.host q cid ≡ Some r → is_among (pages_of r) p ≡ false) → page_at (a.after s e reply).memory p ≡ page_at s.memory p
 untouched_kept s (events.Fetch q) (events.Fetched c touched) ok w g p some away = fetch_elsewhere q p s g some
 untouched_kept s (events.Complete q cid) (events.Completed touched) ok w g p some away = complete_elsewhere q cid p s g some

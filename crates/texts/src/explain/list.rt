@@ -7,7 +7,7 @@ ghost use Rattle.controller_walk.specs.Laws.{IsApart};
 ghost use Rattle.controller_walk.specs.Units.{Course, Does, Reads};
 ghost use Rattle.controller_walk.specs.Walks.{course, direction_of, is_over, left_of, need_of};
 ghost use Rattle.texts.specs.Ending.{Ends, Goes, WalkedTo};
-ghost use Rattle.texts.specs.Taking.{AreOf, Tells, ToldTo, taken_at, taken_next, with_next};
+ghost use Rattle.texts.specs.Taking.{AreOf, TellsTaken, ToldTo, taken_at, taken_next, with_next};
 ghost use Rattle.texts.specs.declared.explain.list.Taken.{Taken};
 ghost use Rattle.page_memory.specs.Memory.{Memory};
 
@@ -85,7 +85,7 @@ fn step<D: TouchRecord>(
 
     // and it is told exactly where it is read: behind it, the other ones of the list are left to be told.
     ensures tells { (at : ℕ → Bool) (m : Memory) (c : Course) (told : List Taken) → IsApart at (direction_of walk.old) c
-        → Tells at m sgl1.now c told walk.old (D.memory dma.old)
+        → TellsTaken at m sgl1.now c told walk.old (D.memory dma.old)
         → ToldTo (is_over walk.new) at m sgl1.now c (with_next told (taken_next (D.memory dma.old) sgl1.now walk.old)) walk.new (D.memory dma.new) }
     ensures direction { direction_of walk.new ≡ direction_of walk.old }
     ensures need { need_of walk.new ≡ need_of walk.old }
@@ -111,7 +111,7 @@ pub(crate) fn walk_list<D: TouchRecord>(
     ensures ends { IfOk result (λ walked. (at : ℕ → Bool) (m : Memory) (c : Course) → IsApart at (direction_of begun) c → Goes at m c begun (D.memory dma.old)
         → Ends at m c walked.fault) }
     ensures told { IfOk result (λ walked. (at : ℕ → Bool) (m : Memory) (c : Course) → IsApart at (direction_of begun) c
-        → Tells at m sgl1.now c [] begun (D.memory dma.old) → AreOf m sgl1.now c walked.taken.items) }
+        → TellsTaken at m sgl1.now c [] begun (D.memory dma.old) → AreOf m sgl1.now c walked.taken.items) }
     ensures staging { length staging.new ≡ length staging.old }
 {
     let mut walk = begun;

@@ -1,5 +1,5 @@
 use Rattle.std.proofs.Common.{subst}
-use Rattle.step_core.specs.{Bench.Does, Kept.{BenchContents, table_of}}
+use Rattle.step_core.specs.{Bench.Does, BenchTables.{BenchContents, table_of}}
 use Rattle.step_core.proofs.bench.Bench.step.Goals as goal
 
 pub returns-clause-does : goal.returns-clause-does

@@ -15,7 +15,7 @@ use denote.{Builtin.{usize, RefOf}, Exit.yes, Memory.hidden_shr, Opens.{unhide, 
 use denote.{RattleType.owns, RawPtr.block_ptr, Ref.shr_vals, Signature.{Slot, plain, types_at}, Steps.{heard, nothing}, Triple.Call.calls_at}
 use denote.Triple.{Clauses.{Ended, Clauses}, Spec.triple_of, Statement.Triple, Table.{entered, cited}}
 use denote.Triple.Walked.{Stays, stay_dropped, walk_of, ends_at, walked, Goes-dropped, walk_Meets}
-use Rattle.test_support.proofs.Accounts.{then_runs, some_account, Kept, kept_laws, Ask, at_ask, Ask-goes, Ask-gives, Block, at_block, Block-goes, Block-gives}
+use Rattle.test_support.proofs.Accounts.{then_runs, some_account, AccountRow, kept_laws, Ask, at_ask, Ask-goes, Ask-gives, Block, at_block, Block-goes, Block-gives}
 use Rattle.test_support.proofs.allocator.refuses_call.Symbol as ask_sym
 use Rattle.test_support.proofs.allocator.refuses_call.Met as ask_met
 use Rattle.test_support.proofs.allocator.count_block.Symbol as block_sym
@@ -83,7 +83,7 @@ module _ (Z : Al) {M : Type 1} {𝓤 : Ura M} (𝓛 : Logic 𝓤) (at_mem : Memo
         qed 𝓛 (((‵ (flft κ₁ q₁) ⊛ ‵ (flft κ₂ q₂) ⊛ ‵ ftrue) ⊛ ‵ (owns (types_at (ended Z).signature.params bound.0.0) bound.0.3 bound.0.4)) ∷ (raw (fact 𝓤 (κ₂ ⊑ Z.row.lives)) ⊛ raw (fact 𝓤 Said)) ∷ []) ∵
         move ! (1 ∷ []) $ split ! $ heard ! (κ₂ ⊑ Z.row.lives) (λ le. heard ! Said (λ said.
         split ! $ split ! $ move ! (2 ∷ []) $ fsplit ! $ fsplit ! $ move ! (1 ∷ []) $ unhide ! $ fsplit ! $ fsplit ! $ use1 𝓛 (‵ (seen Z κ₁ p h)) (id⊢ 𝓤 _) $ move ! (1 ∷ []) $ fsplit ! $
-        use1 𝓛 (‵ (hidden_shr Kept κ₁ some_account c.0 c.1)) (id⊢ 𝓤 _) $ shr_dup ! Kept kept_laws some_account c.0 c.1 κ₁ $ keep ! (0 ∷ 7 ∷ 1 ∷ 3 ∷ 8 ∷ []) $
+        use1 𝓛 (‵ (hidden_shr AccountRow κ₁ some_account c.0 c.1)) (id⊢ 𝓤 _) $ shr_dup ! AccountRow kept_laws some_account c.0 c.1 κ₁ $ keep ! (0 ∷ 7 ∷ 1 ∷ 3 ∷ 8 ∷ []) $
         -- [the account; the token; the account; the inner allocator; the other tokens]
         enter ! 𝓣.C 𝓣.Λ (here Z) vs _ $ alloc_all ! (λ l. pass_all ! refl ((tt, tt), ((tt, record { fits = fn }), ((tt, record { fits = fa }), tt))) $
         let En : Env 𝓤 H = env (here Z).locals l in

@@ -1,7 +1,7 @@
 -- The descriptor is looked at before the step, and that changes no byte.
 use Rattle.std.proofs.Common.{◌≡◌, ◌∙◌, List, sym, subst}
 use Rattle.controller_walk.specs.Walks.{is_over}
-use Rattle.texts.{proofs.Telling.{tells_on, steps_on}, specs.{Ending.Goes, Taking.{Tells, ToldTo, taken_next, with_next}}}
+use Rattle.texts.{proofs.Telling.{tells_on, steps_on}, specs.{Ending.Goes, Taking.{TellsTaken, ToldTo, taken_next, with_next}}}
 use Rattle.page_memory.specs.Memory.{Memory}
 use Rattle.texts.proofs.explain.list.step.Goals as goal
 
@@ -16,8 +16,8 @@ returns-clause-walked g c at m list apart goes =
 pub returns-clause-tells : goal.returns-clause-tells
 returns-clause-tells g c at m list told apart tells =
     let same : g.D.Dma.memory c.next_taken-next.new.dma ≡ g.D.Dma.memory c.args.dma.now = c.next_taken-next.ensures.memory ∙ c.clear.ensures.memory in
-    let tells' : Tells at m c.args.sgl1.now list told c.args.walk.now (g.D.Dma.memory c.next_taken-next.new.dma) =
-    subst (λ (x : Memory). Tells at m c.args.sgl1.now list told c.args.walk.now x) (sym same) tells in
+    let tells' : TellsTaken at m c.args.sgl1.now list told c.args.walk.now (g.D.Dma.memory c.next_taken-next.new.dma) =
+    subst (λ (x : Memory). TellsTaken at m c.args.sgl1.now list told c.args.walk.now x) (sym same) tells in
     subst (λ (x : Memory). ToldTo (is_over c.step-answer.new.self) at m c.args.sgl1.now list (with_next told (taken_next x c.args.sgl1.now c.args.walk.now)) c.step-answer.new.self (g.D.Dma.memory c.step-answer.new.dma)) same
     (tells_on at m c.args.sgl1.now list told c.args.walk.now c.step-answer.new.self c.step-answer.result _ _ _ _ _ _ c.next_taken-next.ensures.reads apart tells' c.step-answer.ensures.does
     c.step-answer.ensures.leaves c.step-answer.ensures.over)

@@ -1,0 +1,12 @@
+use Rattle.std.proofs.Common.{◌+◌, ◌-◌, ◌≤◌, length, vec_len, vec_capacity}
+use Rattle.step_core.specs.{Bench.DoesAll, BenchTables.{contents_of, table_of}, TouchingAll.TouchAll}
+use Rattle.host_core.specs.CommandValues.{IsBench}
+use Rattle.step_core.proofs.bench_tables.BenchTables.do_all.Given as goal
+
+abbrev pub invariant-loop-step : goal.invariant-loop-step
+invariant-loop-step g l = record {
+  bench : IsBench l.self.world.state l.self.values;
+  done : DoesAll (table_of l.initial.self) l.yielded l.replies.items (table_of l.self);
+  touched : TouchAll (contents_of l.initial.self) l.yielded l.replies.items (contents_of l.self);
+  answers : vec_len l.replies + (length l.fn.steps.items - length l.yielded) ≤ vec_capacity l.replies;
+}

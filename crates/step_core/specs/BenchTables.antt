@@ -1,0 +1,32 @@
+-- A bench's world and kept values, as a table.
+use Rattle.std.specs.{List.AllByRecursion, Prelude.{◌≡◌, ℕ, ◌-◌, None, Some, Option, List, [], length, filter_map, find, Result, Ok, Err}}
+use Rattle.io_commands.specs.{Asked.Request, Drafts.{DraftContents, built}, Values.{FinishedContents, TicketContents}}
+use Rattle.machine_model.specs.{Script.{Table, fill_fault, filled_draft}, State.{State, Record, is_at}, declared.words.Work.TheVariants.Io}
+use Rattle.slot_table.specs.{Rows.{Row, IsDistinct, value_at, with_value}, Table.{TableOf, AreInside}}
+use Rattle.host_core.specs.CommandValues.{table_with}
+use Rattle.step_core.specs.{Values.Reply, declared.bench_tables.BenchTables.BenchTables}
+use Rattle.machine_model.specs.declared.words.Refusal.TheVariants as refusal
+use Rattle.step_core.specs.declared.step.Reply.TheVariants as reply
+
+abbrev pub table_of : {A : Type 0} → BenchTables A → Table
+table_of kept = table_with kept.world.state kept.values
+
+-- what contracts see of a bench: its table, and how many pages were touched so far
+pub record BenchContents : Type 0 where
+  pub table : Table
+  pub touches : ℕ
+
+abbrev pub contents_of : {A : Type 0} → BenchTables A → BenchContents
+contents_of kept = record { table = table_of kept; touches = kept.world.touches }
+
+-- what filling a draft answers, and what it leaves of it
+abbrev pub FillsDraft : DraftContents → List ℕ → Reply → DraftContents → Type 0
+FillsDraft d bytes reply.Accepted new = (fill_fault bytes d ≡ None) × (new ≡ filled_draft bytes d)
+FillsDraft d bytes (reply.NotFilled why) new = (fill_fault bytes d ≡ Some why) × (new ≡ d)
+FillsDraft d bytes answer new = ⊥
+
+-- what building a draft answers, and what it leaves of it
+abbrev pub BuildsDraft : DraftContents → Reply → DraftContents → Type 0
+BuildsDraft d reply.Accepted new = new ≡ built d
+BuildsDraft d (reply.Refused refusal.Memory []) new = new ≡ d
+BuildsDraft d answer new = ⊥

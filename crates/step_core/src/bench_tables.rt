@@ -1,0 +1,15 @@
+//! What a bench holds.
+
+use crate::world::World;
+use host_core::values::CommandValues;
+use std::alloc::Allocator;
+
+/// A world, and the values that are about.
+pub(crate) struct BenchTables<A: Allocator> {
+    /// The world.
+    pub(crate) world: World<A>,
+    /// The value of each command that the bench reserved and that is outstanding.
+    pub(crate) values: CommandValues<A>,
+    /// Where chains, gathered bytes and lists are made.
+    pub(crate) alloc: A,
+}
