@@ -189,7 +189,6 @@ fills : (t : Table) (q cid : ℕ) (bytes : List ℕ) (o : Option DraftContents) 
 fills t q cid bytes None answer new e is = rests t new (step.Fill q cid bytes) answer (λ k n. (ap (fill_by k n (step.Fill q cid bytes)) is.0, refl)) is.1
 fills t q cid bytes (Some d) reply.Accepted new e is = Filled q cid bytes d (λ k n. refl) e is.0 (ap (λ (x : Table). x.world) is.1) (ap (λ (x : Table). x.drafts) is.1) (λ k n. refl)
 fills t q cid bytes (Some d) (reply.NotFilled why) new e is = rests t new (step.Fill q cid bytes) (reply.NotFilled why) (λ k n. (refl, refl)) is.1
-fills t q cid bytes (Some d) (reply.Refused refusal.Memory []) new e is = rests t new (step.Fill q cid bytes) (reply.Refused refusal.Memory []) (λ k n. (refl, refl)) is.1
 fills t q cid bytes (Some d) answer new e is = absurd is
 
 builds : (t : Table) (q cid : ℕ) (o : Option DraftContents) (answer : Reply) (new : Table) → draft_of q cid t.drafts ≡ o → Builds t q cid o answer new → DraftMove t (step.Build q cid) answer new

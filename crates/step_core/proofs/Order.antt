@@ -95,7 +95,7 @@ own : (t : Table) (what : Step) → Has (IsOwn t what)
 own t (step.Fill q cid bytes) = fills (draft_of q cid t.drafts)
   where
     by_fault : (d : DraftContents) (fault : Option FillFault) → fill_fault bytes d ≡ fault → Has (Fills t q cid bytes (Some d))
-    by_fault d None none = record { answer = reply.Refused refusal.Memory []; left = t; is = (none, refl) }
+    by_fault d None none = record { answer = reply.Accepted; left = record t { drafts = with_first (is_draft q cid) (filled_draft bytes) t.drafts }; is = (none, refl) }
     by_fault d (Some why) some = record { answer = reply.NotFilled why; left = t; is = (some, refl) }
 
     fills : (o : Option DraftContents) → Has (Fills t q cid bytes o)
@@ -230,7 +230,6 @@ fills_left : (t : Table) (q cid : ℕ) (bytes : List ℕ) (o : Option DraftConte
 fills_left t q cid bytes None answer new is = Same is.1
 fills_left t q cid bytes (Some d) reply.Accepted new is = Changed (is_draft q cid) (filled_draft bytes) (filled_stays_proper bytes) is.1
 fills_left t q cid bytes (Some d) (reply.NotFilled why) new is = Same is.1
-fills_left t q cid bytes (Some d) (reply.Refused refusal.Memory []) new is = Same is.1
 fills_left t q cid bytes (Some d) answer new is = absurd is
 
 builds_left : (t : Table) (q cid : ℕ) (o : Option DraftContents) (answer : Reply) (new : Table) → Builds t q cid o answer new → OwnLeft t new

@@ -96,7 +96,6 @@ abbrev pub Fills : Table → ℕ → ℕ → List ℕ → Option DraftContents �
 Fills t q cid bytes None answer new = HasNoValue t answer new
 Fills t q cid bytes (Some d) reply.Accepted new = (fill_fault bytes d ≡ None) × (new ≡ record t { drafts = with_first (is_draft q cid) (filled_draft bytes) t.drafts })
 Fills t q cid bytes (Some d) (reply.NotFilled why) new = (fill_fault bytes d ≡ Some why) × (new ≡ t)
-Fills t q cid bytes (Some d) (reply.Refused refusal.Memory []) new = (fill_fault bytes d ≡ None) × (new ≡ t)
 Fills t q cid bytes (Some d) answer new = ⊥
 
 abbrev pub Builds : Table → ℕ → ℕ → Option DraftContents → Reply → Table → Type 0
