@@ -6,7 +6,7 @@ use Rattle.std.proofs.Common.{◌≡◌, ℕ, zero, suc, Bool, true, false, not,
 use Rattle.std.proofs.lemmas.Bool.{and_right, false_from_ne_true, not-false, not-true, or_from}
 use Rattle.std.proofs.lemmas.{List.{length-take-le, length-drop, Folds.list_any-append}, Option.{slice_get_within, slice_get-map}}
 use Rattle.std.specs.{List.{AllByRecursion, list_any}, Option.{option_and_then, option_map, option_map_or}, Prelude.{slice_index, slice_range}}
-use Rattle.machine_model.{proofs.{Headline.steps_keep, BenchTables.{reaped_has_cq, sq_with_cq}}, specs.{After.{after, change}, Claims.{IsSound, is_away}}}
+use Rattle.machine_model.{proofs.{Headline.steps_keep, Kept.{reaped_has_cq, sq_with_cq}}, specs.{After.{after, change}, Claims.{IsSound, is_away}}}
 use Rattle.machine_model.specs.{Events.{Event, Reply}, Memory.is_in, Proper.IsProper}
 use Rattle.machine_model.specs.Refusals.{has_cq, has_sq, slot_page, slot_offset, host_queue, in_state, seen_entry, slot_bytes, slot_entry, is_reaped}
 use Rattle.machine_model.specs.State.{State, Record, pages_of, Controller, HostQueue, ServedQueue}

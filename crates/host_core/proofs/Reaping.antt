@@ -9,7 +9,7 @@ use Rattle.std.proofs.lemmas.{Bool.{true≢false, and_parts, and_right, cases_Bo
 use Rattle.std.specs.{Option.{option_map_or, option_map}, List.AllByRecursion}
 use Rattle.entry_codec.specs.declared.{completion.ComEntry.ComEntry, status.{Status.Status, TheConstants.Status.ABORTED_SQ_DELETION}}
 use Rattle.io_commands.specs.{Asked.Request, Jobs.is_success}
-use Rattle.machine_model.proofs.{BenchTables.{alone_has_cq, alone_has_no_sq, asked_has_sq}, Steps.found_all}
+use Rattle.machine_model.proofs.{Kept.{alone_has_cq, alone_has_no_sq, asked_has_sq}, Steps.found_all}
 use Rattle.machine_model.specs.{After.{after_reap, change, held, after_admin, half_freed, half_made, gone, unmade_sq}, Claims.OwnsFit}
 use Rattle.machine_model.specs.Refusals.{refusal_of, seen_entry, is_reaped, creates_cq_of, creates_sq_of, deletes_sq_of, host_queue, is_asked, is_making_cq, is_making_sq, has_cq_alone, has_cq, has_sq}
 use Rattle.machine_model.specs.{State.{State, HostQueue, Record, record_at, with_record, is_at, pages_of, without_record}, Step.{reaped, reaped_entry}}

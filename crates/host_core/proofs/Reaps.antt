@@ -11,7 +11,7 @@ use Rattle.std.specs.Option.{option_map_or}
 use Rattle.admin_commands.specs.declared.AdminKind.{AdminKind, TheVariants.{Abort, DeleteSq, DeleteCq, CreateCq, CreateSq}}
 use Rattle.entry_codec.specs.declared.{completion.ComEntry.ComEntry, status.{Status.Status, TheConstants.Status.ABORTED_SQ_DELETION}}
 use Rattle.io_commands.specs.{Asked.Request, Jobs.is_success}
-use Rattle.machine_model.{proofs.BenchTables.{sq_with_cq, deleted_has_sq}, specs.{After.{change, held, after_retire, lost}, Claims.OwnsFit}}
+use Rattle.machine_model.{proofs.Kept.{sq_with_cq, deleted_has_sq}, specs.{After.{change, held, after_retire, lost}, Claims.OwnsFit}}
 use Rattle.machine_model.specs.Refusals.{refusal_of, has_cq_alone, is_submitted, is_reaped, host_queue, is_deleted, is_live, has_cq}
 use Rattle.machine_model.specs.State.{HostQueue, Record, is_at, with_record, without_record, State, pages_of}
 use Rattle.machine_model.specs.{Step.{fits_ring, reaped_as, reaped_entry, submitted_at, Step}, Work.Work, declared.words.HostState.HostState}

@@ -5,7 +5,7 @@ use Rattle.machine_model.specs.declared.words.Refusal.TheVariants as refusal
 use Rattle.std.proofs.Common.{◌≡◌, ℕ, IsSome, ◌+◌, ◌<◌, ◌≤◌, ◌/◌, ◌%◌, ◌++◌, ◌∷◌, [], Bool, true, false, Option, Some, None, List, length, slice_get, slice_set, refl, ap, sym, ◌∙◌, subst, arith, length-set, not, position}
 use Rattle.admin_commands.specs.{Entries.admin_entry, declared.AdminKind.{AdminKind, TheVariants.{Abort, DeleteSq, CreateCq, CreateSq}}}
 use Rattle.entry_codec.specs.{Submission.{submission_bytes, FitsSubmission}, declared.submission.SubEntry.SubEntry}
-use Rattle.machine_model.{proofs.{BenchTables.{live_has_sq, service_has_sq}}, specs.{After.change, Proper.IsProper}}
+use Rattle.machine_model.{proofs.{Kept.{live_has_sq, service_has_sq}}, specs.{After.change, Proper.IsProper}}
 use Rattle.machine_model.specs.Refusals.{in_state, no_identifier, queue_full, refusal_of, has_sq, in_service}
 use Rattle.machine_model.specs.{State.{HostQueue, State}, Step.{Answers, IsController, IsNewIdentifier, Refuses, Step, touched_by_refusal}}
 use Rattle.machine_model.specs.declared.words.{HostState.TheVariants.Deleting, Refusal.Refusal}

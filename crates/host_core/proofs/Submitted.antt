@@ -8,7 +8,7 @@ use Rattle.std.specs.{List.AllByRecursion, Option.{option_map_or, option_map}}
 use Rattle.entry_codec.specs.{Submission.{submission_bytes, FitsSubmission}, declared.submission.SubEntry.SubEntry}
 use Rattle.io_commands.{proofs.Building.carries_entry, specs.{DataBytes.PagesOut, Drafts.{DraftContents, draft_first}, Values.numbers_of}}
 use Rattle.sgl_chain.proofs.Spelled.{length-spelling}
-use Rattle.machine_model.proofs.{Counting.held_once, BenchTables.live_has_sq, Steps.{length-with_pages, first_fails, found_all}}
+use Rattle.machine_model.proofs.{Counting.held_once, Kept.live_has_sq, Steps.{length-with_pages, first_fails, found_all}}
 use Rattle.machine_model.specs.{Memory.with_pages, Proper.IsProperDraft, After.{change, after_submit}, declared.words.Work.TheVariants.{Io, Management}}
 use Rattle.machine_model.specs.Refusals.{refusal_of, is_drafted, is_of, is_live, in_state, queue_full, record_is, host_queue}
 use Rattle.machine_model.specs.{State.{State, Record, is_at, pages_of, with_record, HostQueue}, Step.{Refuses}, Work.Work}
