@@ -14,9 +14,9 @@ use Rattle.driver_book.specs.Close.{same_seat, has, stands, StandBefore, accepte
 use Rattle.driver_book.specs.{Entries.Entry, History.{accepted, is_accepted}, Keeping.may_end, Passes.{is_known, AreKnown, StandOf, IsMissingAt}}
 use Rattle.driver_book.specs.{Seats.{AreSettled, is_without_status}, State.{SeatContents, is_seated, AreSeated, BookContents, IsBook}}
 use Rattle.driver_book.specs.declared.report.Receipt.{Receipt}
-use Rattle.two_sides.proofs.Provided.{all_at}
 use Rattle.step_core.specs.Values.{Reply, Step}
 use Rattle.host_core.proofs.Granting.{all-used}
+use Rattle.page_memory.proofs.Lists.{all-at}
 
 -- A seat, as a submission is accepted and as its command is released.
 
@@ -357,7 +357,7 @@ first_missing log seats i end number x all less here seated counted so_far =
     let m = so_far.missing less in
     let same : x ≡ m.entry = here ∙ get_or_from_slice_get log end m.entry x m.there in
     let named : m.entry.seat ≡ Some (unwrap_or m.entry.seat 0)
-    = seat_named m.entry.seat (is_accepted m.entry) m.accepted (all_at (λ (e : Entry). is_seated e ≡ true) log end m.entry m.there seated) in
+    = seat_named m.entry.seat (is_accepted m.entry) m.accepted (all-at (λ (e : Entry). is_seated e ≡ true) log end m.entry m.there seated) in
     (end, m.entry, m.there, m.accepted, named ∙ ap (λ (e : Entry). Some (unwrap_or e.seat 0)) (sym same), counted, m.fails, all_before log seats i end all so_far)
 
 -- Where each accepted submission stands in a receipt, there are at least as many receipts.

@@ -17,7 +17,7 @@ use Rattle.run_laws.proofs.Standing.{any_with, few_with, Few, few_more, few_with
 use Rattle.run_laws.specs.Drafts.{ReservedCommand, IsReservedDraft, benches_submit_what_they_reserved_and_filled, takes_draft, fills_of, data_bytes, written_over, submitted_drafts_were_reserved}
 use Rattle.run_laws.specs.Values.{Done, Goes}
 use Rattle.page_memory.specs.Pages.{zero_page}
-use Rattle.two_sides.proofs.Served.good_is
+use Rattle.two_sides.proofs.Served.{good_is}
 use Rattle.std.proofs.lemmas.Bool.{cases_Bool}
 use Rattle.page_memory.proofs.Lists.{found_any, all-found}
 

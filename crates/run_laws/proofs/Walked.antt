@@ -15,7 +15,7 @@ use Rattle.run_laws.specs.Statuses.{fetches, fetches_by, since_fetch}
 use Rattle.run_laws.specs.Walked.{walks_by, walks_of, times_walked, units_done_count_the_walks, HasJobSo, walks_go_on_without_a_verdict, completes_by, ends_job, ends_walk_by, only_the_last_walk_ends}
 use Rattle.two_sides.proofs.Along.{Carried, keeps, made_of, run_along, Unforged, unforged_next, unforged_front, unforged_back, unforged_run, unforged_end, trusted_end, cut}
 use Rattle.two_sides.proofs.{Commands.walking, JobLaws.{not_zero as positive, stood_after}, NeverFull.{stood_on, stood_at_opening, host_jobs}}
-use Rattle.two_sides.proofs.{PlacesKept.in_hand, Provided.{all_at, all_in}, Served.Stood, Standing.controller-answered}
+use Rattle.two_sides.proofs.{PlacesKept.in_hand, Provided.all_in, Served.Stood, Standing.controller-answered}
 use Rattle.admin_commands.specs.{Entries.{named_queue, named_command}, declared.SqState.TheVariants.Absent}
 use Rattle.controller_walk.specs.{Units.{Act, Stays, Reads, Moves}, Walks.is_more, declared.walk.WalkState.WalkState}
 use Rattle.sgl_descriptor.specs.declared.Direction.{Direction, TheVariants.{Destination, Source}}
@@ -23,6 +23,7 @@ use Rattle.io_commands.specs.Jobs.{is_success, verdict_of, direction_of_entry}
 use Rattle.page_memory.specs.Pages.{with_page_bytes, with_bytes}
 use Rattle.slot_table.proofs.Rows.{option_is}
 use Rattle.page_memory.proofs.Lists.{found_is, all-found}
+use Rattle.page_memory.proofs.Lists.{all-at}
 
 -- A job has done as many units as there were walk steps of it since its fetch.
 
@@ -65,7 +66,7 @@ not_refetched s (events.Fetch q) (events.Fetched c touched) g k j at = elim (cas
       rw e (let ids = and_parts (q == j.q) (c == j.entry.cid) e in
       let f = fetched_entry s q j.entry.cid c g.ok.1.0 (eqb-true c j.entry.cid ids.1) in
       let none = not_conflicting s g.stood q f.0 (in_hand s q f.0 f.1) in
-      let no = all_at (λ j. is_job q f.0.cid j ≡ false) s.controller.jobs k j at (none_found q f.0.cid s.controller.jobs none) in
+      let no = all-at (λ j. is_job q f.0.cid j ≡ false) s.controller.jobs k j at (none_found q f.0.cid s.controller.jobs none) in
       absurd (true≢false (sym (rw (eq-eqb j.q q (sym (eqb-true q j.q ids.0)), eq-eqb j.entry.cid f.0.cid (sym f.2)) refl) ∙ no)))
   | inr e ↦ rw e refl
 ]

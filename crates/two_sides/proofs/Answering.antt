@@ -16,7 +16,7 @@ use Rattle.two_sides.proofs.{Agreed.recovery_kept, Assembling.{ends_in_range, si
 use Rattle.two_sides.proofs.Frames.{SparesQueue, SparesSubmitted, apart_from_queues, halves_apart, own_halves_apart, one_queue, one_stands, IsKnown, queue_ring, controller_at, known, reaped_ring, half_in, half_lies, tied_of, queue_page_in}
 use Rattle.two_sides.proofs.JobLaws.{length-completion_bytes}
 use Rattle.two_sides.proofs.Places.{Shows, map-append, fetch_slot_is, post_slot_is, own_page, in_ring, completion_slot_page, heads_heard, HasAnswer, answer_there, has_answer, head_below, seen_first, seen_none}
-use Rattle.two_sides.proofs.{Provided.{all_append, all_at}, Shared.length-controller, Untouched.bytes_elsewhere}
+use Rattle.two_sides.proofs.{Provided.all_append, Shared.length-controller, Untouched.bytes_elsewhere}
 use Rattle.two_sides.specs.Sides.{Sides, posted_completion, completions_between, served_queue_of, present, state_of, served_queues_of}
 use Rattle.two_sides.specs.Stepping.{LeavesPages, completion_slots_are_in, forged, forged_entries_step, served}
 use Rattle.two_sides.specs.Ties.{HeadsFollow, IsWorld, QueueStands, RingsStand, ShareQueue, has_ring, AllQueuesStand, AreTied, AreSides, first_completion_page}
@@ -30,6 +30,7 @@ use Rattle.queue_pair.specs.{Lists.{HasPhases, completions_from, expected_phase}
 use Rattle.queue_pair.specs.Memory.{half_pages, completion_page, completion_place, completion_slot}
 use Rattle.queue_pair.specs.{Rings.{ControllerSide, hearing_head, knowing, next_head, next_phase}, Slots.{is_full, is_in_range, next_slot}}
 use Rattle.slot_table.proofs.Rows.{option_is}
+use Rattle.page_memory.proofs.Lists.{all-at}
 
 -- A completion that the controller posts is the machine's answer, and leaves rings that stand.
 
@@ -400,7 +401,7 @@ slot_of s q slot bytes h world none at =
     let below = (let within : slot < s.host.entries = grind (arith, nat_tests) in within) in
     record {
       below = below;
-      half = half_lies s.host.entries h (omega (arith, below)) (all_at (HasHalves s.host.entries) s.host.host.queues q h at world.sides.provided.queues) (reaped_has_cq h.state reaped);
+      half = half_lies s.host.entries h (omega (arith, below)) (all-at (HasHalves s.host.entries) s.host.host.queues q h at world.sides.provided.queues) (reaped_has_cq h.state reaped);
     }
 
 pub slots_are_in : completion_slots_are_in

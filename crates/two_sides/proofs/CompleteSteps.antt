@@ -1,5 +1,5 @@
 -- Completions are steps of the machine.
-use Rattle.controller_core.{proofs.{Lists.{change-change, some_is}, Rows.end-posted}, specs.Answering.{completion_by, page_posted, post_refusal, with_answer}}
+use Rattle.controller_core.{proofs.{Lists.change-change, Rows.end-posted}, specs.Answering.{completion_by, page_posted, post_refusal, with_answer}}
 use Rattle.controller_core.specs.Completing.{image_of_end, queues_of_end, status_of_end, without_command, without_submission, CompletesTo, command_refusal, complete_refusal, has_success, waits_among}
 use Rattle.controller_core.specs.Contents.{FetchedCommand, FitsWork, Work, is_deletion, Contents, IsController, dw0_of_work, entry_of_work, is_command, verdict_of_work}
 use Rattle.controller_core.specs.declared.{command.Work.TheVariants.{Io, Admin}, queue.ControllerQueue.ControllerQueue}
@@ -31,6 +31,7 @@ use Rattle.controller_core.specs.declared.refusal.Refusal.TheVariants as because
 use Rattle.machine_model.specs.Events as events
 use Rattle.machine_model.specs.declared.words.Refusal.TheVariants as refusal
 use Rattle.page_memory.proofs.Lists.{all-filter}
+use Rattle.page_memory.proofs.Lists.{some_is}
 
 -- How a command ends: on both sides, and at the machine.
 

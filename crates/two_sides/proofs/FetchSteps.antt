@@ -10,7 +10,7 @@ use Rattle.machine_model.{proofs.Steps.in_store-with_bytes, specs.{After.after_f
 use Rattle.machine_model.specs.Refusals.{completions_full, conflicts, fetch_page, job_at, next_rung, post_page, refusal_of}
 use Rattle.machine_model.specs.{State.{State, HostQueue, ServedQueue, Job}, Step.{MayRefuse, Permits, Refuses, touched_by_fetch}}
 use Rattle.admin_commands.specs.{Verdicts.{is_absent, is_live, decision}, declared.DeviceView.DeviceView}
-use Rattle.controller_core.{proofs.Lists.{all-append, some_is}, specs.Answering.{answer_refusal, completion_by, page_posted, post_refusal, with_answer}}
+use Rattle.controller_core.specs.Answering.{answer_refusal, completion_by, page_posted, post_refusal, with_answer}
 use Rattle.controller_core.specs.Contents.{Contents, FetchedCommand, IsController, change}
 use Rattle.controller_core.specs.Fetching.{LooksAt, fetch_refusal, is_known, live_side, look_refusal, AnswersKnown, IsBegun, RefusedBy, RefusedEntry, Takes, TakesIn, begun, entry_refusal, side_refusal}
 use Rattle.controller_core.specs.Managing.{admin_work, command_of, commands_after, managed, verdict_for, view_for, with_taken}
@@ -33,6 +33,7 @@ use Rattle.queue_pair.specs.Slots.{distance, is_full}
 use Rattle.controller_walk.specs.Units.{course_of_list}
 use Rattle.io_commands.specs.Jobs.{JobContents, direction_of_entry, need_of_entry}
 use Rattle.slot_table.proofs.Rows.{option_is}
+use Rattle.page_memory.proofs.Lists.{all-append, some_is}
 
 -- What the controller finds at the head of a queue is what the machine has there, where nothing was forged; so both refuse a fetch alike.
 

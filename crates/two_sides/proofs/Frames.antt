@@ -8,7 +8,7 @@ use Rattle.machine_model.{proofs.Steps.{length-in_store, Accepts}, specs.{After.
 use Rattle.machine_model.specs.{Events.{Event, Reply}, Memory.{is_in, memory_of}, Positions.IsInRing}
 use Rattle.machine_model.specs.Refusals.{has_cq, in_service, is_making_cq, is_reaped, served_queue, is_submitted}
 use Rattle.machine_model.specs.{State.{HostQueue, Record, pages_of, ServedQueue, State, Job, PostedCompletion}, Step.times, declared.words.HostState.HostState}
-use Rattle.two_sides.proofs.{Agreed.stood_of, JobLaws.stay_after, NeverFull.ListsStay, Provided.{In, in_at, all_at, all_indexed}}
+use Rattle.two_sides.proofs.{Agreed.stood_of, JobLaws.stay_after, NeverFull.ListsStay, Provided.{In, in_at, all_indexed}}
 use Rattle.two_sides.proofs.Served.{Stood, job_list, serves_in, course_in, course_ends, counts_sent, page_there}
 use Rattle.two_sides.proofs.Untouched.{among_counts, holds_left as among_left, holds_right as among_right, sent_page}
 use Rattle.two_sides.specs.Sides.{Sides, state_of, served_queue_of, served_queues_of, job_of, present, posted_completion, unfetched_between, completions_between}
@@ -27,6 +27,7 @@ use Rattle.io_commands.specs.Jobs.{JobContents, job_course, course_of_walk, dire
 use Rattle.entry_codec.specs.declared.{completion.ComEntry.ComEntry, submission.SubEntry.SubEntry}
 use Rattle.page_memory.proofs.Lists.{some_is}
 use Rattle.machine_model.proofs.Sound.{small}
+use Rattle.page_memory.proofs.Lists.{all-at}
 
 -- Each page of the pool is free, or of one queue's half, or of one command.
 
@@ -181,7 +182,7 @@ pub placed : (s : Sides) → IsWorld s → (q : ℕ) (h : HostQueue) (c : Contro
 placed s world q h c e f =
     record {
       share = subst (λ (k : ℕ). ShareQueue s.host.entries k h c) (from_zero q) (share_of s.host.entries 0 q s.host.host.queues s.controller.queues h c world.sides.queues e f);
-      ring = all_at _ s.host.host.queues q h e world.sides.sound.positions;
+      ring = all-at _ s.host.host.queues q h e world.sides.sound.positions;
     }
 
 -- a half is in, wherever its pages begin
@@ -220,7 +221,7 @@ known s world t q h c e f =
       completion_in = λ has. half_in s world q h e h.cq_pages (λ p l. omega (arith, l)) c.controller.cq (half_pages n Completion) (stands.halves.completion has);
       rings = stands.rings;
       granted = stands.granted;
-      granted_pages = λ making. half_lies n h some (all_at (HasHalves n) s.host.host.queues q h e world.sides.provided.queues) (grind arith);
+      granted_pages = λ making. half_lies n h some (all-at (HasHalves n) s.host.host.queues q h e world.sides.provided.queues) (grind arith);
       fits = fits_of n q s.host.host.queues (served_queues_of m s.host.host.queues s.controller.queues) h _ tied.agree.pairs e (served_at s q h c e f);
       served = tied.serve.serves q h _ e (served_at s q h c e f);
     }
@@ -256,13 +257,13 @@ stands_again m other done job serves stands =
 -- a memory that keeps the lists serves the list of each job
 pub job_served : (s : State) (m : Pages) (k : ℕ) (j : Job) → Stood s → ListsStay s m → slice_get s.controller.jobs k ≡ Some j → (j.q == 0) ≡ false → Serves (memory_of s.memory) (memory_of m) (course_of s j)
 job_served s m k j stood stay at other =
-    let l = job_list s stood j (in_at s.controller.jobs k j at) other (λ P all. all_at P s.controller.jobs k j at all) in
+    let l = job_list s stood j (in_at s.controller.jobs k j at) other (λ P all. all-at P s.controller.jobs k j at all) in
     serves_in s.memory m l.command.chain_pages l.command.data_pages (stay.chains l.command l.within l.phase) (stay.own l.command l.within l.phase) (course_of s j) (course_in s j l) (course_ends s stood j l)
 
 pub still_stands : (s : Sides) (pages : Pages) → IsWorld s → s.trusted ≡ true → ListsStay (state_of s) pages → WalksStand (memory_of pages) s.controller.commands
 still_stands s pages world t stay =
     all_indexed (λ (k : FetchedCommand). WalkStands (memory_of s.pages) k.units_done k.work) (λ (k : FetchedCommand). WalkStands (memory_of pages) k.units_done k.work) s.controller.commands
-    (λ i k at. one k.q k.waiting_abort k.work k.units_done (all_at (FitsCommand (block_count s.controller.image) (length s.controller.queues)) s.controller.commands i k at world.sides.controller.commands.each).1
+    (λ i k at. one k.q k.waiting_abort k.work k.units_done (all-at (FitsCommand (block_count s.controller.image) (length s.controller.queues)) s.controller.commands i k at world.sides.controller.commands.each).1
     (job_served (state_of s) pages i (job_of k) (stood s world t) stay (slice_get-map job_of s.controller.commands i ∙ ap (option_map job_of) at)))
     (tied_of s world t).walks
   where

@@ -9,7 +9,7 @@ use Rattle.machine_model.proofs.{Counting.{total-append, total_with, total_witho
 use Rattle.machine_model.proofs.Kept.{making_sq_as_heard, ring_at, asked_serves}
 use Rattle.machine_model.proofs.Moves.{posts, sends, sent_record, host_moves, drafted_record, heard_without, half_from, creates_cq, creates_sq, grants_cq, grants_sq, IsHeard, completion_heard}
 use Rattle.machine_model.proofs.{Owned.{all_reset, lost_keeps}, Sound.{still_live, asked_note}, Steps.{Accepts, part_controller, managed_by, unrefused}}
-use Rattle.machine_model.proofs.TokensKept.reset_heads
+use Rattle.machine_model.proofs.TokensKept.{reset_heads}
 use Rattle.machine_model.specs.Agreeing.{sent_count, AreCompletionsBehind as AnswersBehind, completions_at, AreHeadsBehind as Heads, IsHeadBehind as HeadBehind, is_out_of_service_at as past_at, unfetched_count, job_weight}
 use Rattle.machine_model.specs.{Events.{Event, Reply}, Memory.with_pages, Opening.{Opens, opening, queues_from, served_queue as opened}, Positions.IsInRing}
 use Rattle.machine_model.specs.Proper.{IsProper}

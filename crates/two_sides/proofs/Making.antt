@@ -5,7 +5,7 @@ use Rattle.std.proofs.Common.{◌≡◌, ℕ, ◌/◌, ◌<◌, nat_lt, ◌&&◌
 use Rattle.std.{proofs.lemmas.{Bool.{true≢false, cases_Bool}, Nat.from_le_bytes-to_le_bytes_8}, specs.Option.option_map_or}
 use Rattle.admin_commands.specs.{Entries.{admin_entry, named_base, named_queue}, Verdicts.{is_absent, is_live}, declared.AdminKind.AdminKind}
 use Rattle.admin_commands.specs.declared.{AdminKind.TheVariants.{CreateCq, CreateSq}, SqState.TheVariants.Stopping}
-use Rattle.controller_core.{proofs.Lists.some_is, specs.Managing.{stopping, with_completion, with_submission, without_completion}}
+use Rattle.controller_core.specs.Managing.{stopping, with_completion, with_submission, without_completion}
 use Rattle.controller_core.specs.declared.queue.ControllerQueue.{ControllerQueue}
 use Rattle.entry_codec.specs.declared.{admin_opcode.TheConstants.{CREATE_IO_CQ, CREATE_IO_SQ}, submission.SubEntry.SubEntry}
 use Rattle.machine_model.{proofs.{Counting.{held_once, one}, Owned.{awaits, length_awaits, in_queue}}, specs.Agreeing.{EntryKnown, Knows}}
@@ -18,6 +18,7 @@ use Rattle.two_sides.proofs.{Frames.{first_of_half, there_ring, IsKnown, queue_p
 use Rattle.two_sides.specs.{Sides.{served_queue_of, Sides}, Ties.{QueueStands, RingsStand, ShareQueue, first_completion_page, IsWorld}}
 use Rattle.host_core.proofs.PageOwners.{among-from}
 use Rattle.page_memory.proofs.Lists.{all-found}
+use Rattle.page_memory.proofs.Lists.{some_is}
 
 -- What the fetch of an admin entry makes of a queue on both sides: a queue stops, its completion queue is deleted, or one of its two rings is made.
 

@@ -7,7 +7,7 @@ use Rattle.machine_model.specs.{State.{State, HostQueue, ServedQueue, Job}, Weig
 use Rattle.admin_commands.specs.{Entries.{named_queue, named_command, named_base}, Verdicts.{decision, is_live, is_absent}, declared.AdminVerdict.AdminVerdict}
 use Rattle.admin_commands.specs.declared.AdminVerdict.TheVariants.{Answer, AbortJob, StopQueue, DropCompletion, MakeCompletion, MakeSubmission}
 use Rattle.admin_commands.specs.declared.{DeviceView.DeviceView, SqState.TheVariants.{Absent, Stopping}}
-use Rattle.controller_core.proofs.Lists.{all-map, count-cons, one, length-change}
+use Rattle.controller_core.proofs.Lists.{count-cons, one, length-change}
 use Rattle.controller_core.specs.Contents.{FetchedCommand, Work, is_command, verdict_of_work, change as change_contents}
 use Rattle.controller_core.specs.Managing.{aborted, admin_work, command_of, commands_after, queues_after, stopped_with_queue, stopped_work, stopping, view_for, with_completion, with_submission, with_taken, without_completion}
 use Rattle.controller_core.specs.declared.{command.Work.TheVariants.{Io, Admin}, queue.ControllerQueue.ControllerQueue}
@@ -22,6 +22,7 @@ use Rattle.two_sides.specs.Ties.{AllQueuesStand, QueueStands, ShareQueue, ShareQ
 use Rattle.page_memory.specs.{Memory.Memory, Pages.byte_at}
 use Rattle.queue_pair.specs.Rings.{fresh_host_ring}
 use Rattle.slot_table.proofs.Rows.{option_is}
+use Rattle.page_memory.proofs.Lists.{all-map}
 
 -- What an admin entry does at its fetch is the machine's.
 

@@ -20,7 +20,7 @@ use Rattle.queue_pair.proofs.{Halves.{submission_there, completion_there}, Rings
 use Rattle.queue_pair.specs.{Lists.{completions_from, expected_phase, front}, Members.change}
 use Rattle.queue_pair.specs.Memory.{half_pages, entry_at, completion_at, submission_page, completion_page, completion_slot, new_completion_at, phased, with_phase}
 use Rattle.queue_pair.specs.Slots.{distance, is_full, moved, slots_from, next_slot, is_in_range}
-use Rattle.two_sides.proofs.{Agreed.{agreed_there, stood_of}, ControllerMoves.all_at}
+use Rattle.two_sides.proofs.Agreed.{agreed_there, stood_of}
 use Rattle.two_sides.proofs.Frames.{IsKnown, served_at, there_ring, IsPlaced, controller_at, known, reaped_ring, host_at, share_of, stands_of, tied_of, one_queue, one_stands, state_stands}
 use Rattle.two_sides.proofs.{PoolBytes.answers_stand, Standing.{admin_zero, admin_completions_rest}, Tied.{deleted_is_gone, freed_is_gone}}
 use Rattle.two_sides.specs.Laws.{tails_are_heard, heads_are_heard}
@@ -32,6 +32,7 @@ use Rattle.io_commands.specs.Jobs.{JobContents, is_success}
 use Rattle.slot_table.proofs.Rows.{option_is}
 use Rattle.page_memory.proofs.Lists.{found_is, then-map, found_at, all-found}
 use Rattle.host_core.proofs.Identifiers.{queue-here}
+use Rattle.page_memory.proofs.Lists.{all-at}
 
 -- Where the controller stands in its rings: the machine tells it from its lists, where nothing was forged.
 
@@ -348,7 +349,7 @@ is_found s world q cid k e =
 pub tails_heard : tails_are_heard
 tails_heard s q h c sides e f =
     let share = share_of s.host.entries 0 q s.host.host.queues s.controller.queues h c sides.queues e f in
-    let inside = all_at (λ (queue : HostQueue). IsInRing s.host.entries queue.ring) s.host.host.queues q h e sides.sound.positions in
+    let inside = all-at (λ (queue : HostQueue). IsInRing s.host.entries queue.ring) s.host.host.queues q h e sides.sound.positions in
     rw (lt-ltb h.ring.tail c.controller.entries (subst (λ (n : ℕ). h.ring.tail < n) (sym share.entries) inside.tail)) refl
 
 next_in_range : (n head tail : ℕ) → head < n → tail < n → head ≢ tail → is_in_range n head tail (next_slot n head) ≡ true
@@ -358,7 +359,7 @@ pub heads_heard : heads_are_heard
 heads_heard s q h c sides tied e f has apart =
     let share = share_of s.host.entries 0 q s.host.host.queues s.controller.queues h c sides.queues e f in
     let stands = stands_of s.host.entries (byte_at s.pages) 0 q s.host.host.queues s.controller.queues h c tied.queues e f in
-    let inside = all_at (λ (queue : HostQueue). IsInRing s.host.entries queue.ring) s.host.host.queues q h e sides.sound.positions in
+    let inside = all-at (λ (queue : HostQueue). IsInRing s.host.entries queue.ring) s.host.host.queues q h e sides.sound.positions in
     let fits = next_in_range s.host.entries h.ring.head c.controller.ring.tail inside.head (subst (λ (n : ℕ). c.controller.ring.tail < n) share.entries share.side.tail) apart in
     let here : is_in_range c.controller.entries c.controller.ring.known_head c.controller.ring.tail (next_slot s.host.entries h.ring.head) ≡ true = rw (share.entries, (stands.rings has).heard) fits in
     rw here refl

@@ -23,7 +23,7 @@ use Rattle.two_sides.proofs.Frames.{Spares, SparesSubmitted, apart_from_commands
 use Rattle.two_sides.proofs.Granting.{granted_pool, granted_spares, granted_submitted, granted_whole, free, granted_zero, zeros_granted}
 use Rattle.two_sides.proofs.Places.{known_live, known_absent, known_gone}
 use Rattle.two_sides.proofs.Posted.{CanPost, post_queues, post_stands, post_walks, slot_written, tail_moved, with_entry, elsewhere, IsTyped, admin_typed, draft_typed}
-use Rattle.two_sides.specs.Hearing.heard
+use Rattle.two_sides.specs.Hearing.{heard}
 use Rattle.two_sides.specs.Sides.{Sides, state_of, controller_part, served_queue_of, served_queues_of, job_of}
 use Rattle.two_sides.specs.Ties.{AllQueuesStand, IsWorld, QueueStands, WalksStand, RingsStand, first_completion_page}
 use Rattle.page_ledger.specs.Owners.{is_among, pages_from}

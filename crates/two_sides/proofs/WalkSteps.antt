@@ -5,7 +5,7 @@ use Rattle.machine_model.{proofs.{Steps.in_store, Tokens.is_job}, specs.After.{a
 use Rattle.machine_model.specs.{Memory.memory_of, Refusals.{job_at, refusal_of}, State.{State, ServedQueue, Job, Record, is_at, pages_of}}
 use Rattle.machine_model.specs.Step.{Permits, unit_answered}
 use Rattle.block_image.specs.Blocks.{block_count}
-use Rattle.controller_core.proofs.Lists.{all-at, all_set}
+use Rattle.controller_core.proofs.Lists.{all_set}
 use Rattle.controller_core.specs.Contents.{Contents, FetchedCommand, FitsWork, IsController, Work, is_command, verdict_of_work}
 use Rattle.controller_core.specs.{Walking.{WalksTo, ended_refusal, stepped, walk_refusal}, declared.command.Work.TheVariants.{Io, Admin}}
 use Rattle.controller_walk.specs.{Laws.after_units, Units.Act, Walks.{IfMore, answer}, declared.walk.WalkState.{WalkState, TheVariants.{More, End, Fault}}}
@@ -29,6 +29,7 @@ use Rattle.machine_model.specs.Events as events
 use Rattle.machine_model.specs.declared.words.Refusal.TheVariants as refusal
 use Rattle.slot_table.proofs.Rows.{option_is}
 use Rattle.page_memory.proofs.Lists.{found_at}
+use Rattle.page_memory.proofs.Lists.{all-at}
 
 -- The refusals
 
