@@ -139,7 +139,7 @@ jobs_event P Q s events.Reset reply move ok stood h = absurd ok.1
 jobs_event P Q s e reply move ok stood h =
     subst (AllByRecursion Q) (sym (host_jobs s e reply ok refl refl)) (all_indexed P Q s.controller.jobs (λ k j f p. move.stays k j f refl p) h)
 
--- What each event does to the lists of a queue at the controller: its entries and its posts_completion.
+-- What each event does to the lists of a queue at the controller: its entries and its completions.
 
 -- what holds of each in a list of queue n, and of what comes to it
 pub record QueueMove {B : Type 0} (get : ServedQueue → List B) (Q : B → Type 0) (n : ℕ) (s : State) (e : Event) : Type 0 where

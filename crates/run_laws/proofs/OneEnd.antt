@@ -33,7 +33,7 @@ use Rattle.run_laws.specs.Ends.{answers_of, front, reaps_answer_the_front, nothi
 use Rattle.slot_table.proofs.Rows.{option_is}
 use Rattle.page_memory.proofs.Lists.{found_is, all-found, some_is}
 
--- The heads that the posts_completion of a queue tell never come back: each is as near to the tail as the one before it, the first as the head that the host knows, and what is not fetched is nearer than all.
+-- The heads that the completions of a queue tell never come back: each is as near to the tail as the one before it, the first as the head that the host knows, and what is not fetched is nearer than all.
 
 abbrev pub Falls : (n tail top : ℕ) → List PostedCompletion → (unfetched : ℕ) → Type 0
 Falls n tail top [] u = u ≤ top
@@ -125,7 +125,7 @@ opened_lists zero q at e = absurd cc
 opened_lists (suc k) zero at e = cc
 opened_lists (suc k) (suc q) at e = opened_lists k q at e
 
--- Every event keeps the heads that posts_completion tell in order, so a reap posts_completion the oldest answer.
+-- Every event keeps the heads that completions tell in order, so a reap answers the oldest completion.
 
 abbrev pub Fall : State → Type 0
 Fall s = AllFall s.entries s.host.queues s.controller.queues
@@ -199,7 +199,7 @@ fall_fetch q s stood h =
         → AllFall s.entries s.host.queues (change (named_queue x) f (change 0 (λ at. record at { unfetched = drop 1 at.unfetched; rung = at.rung - 1 }) s.controller.queues))
     acts x f each = fall_controller s.entries (named_queue x) f s.host.queues (change 0 (λ at. record at { unfetched = drop 1 at.unfetched; rung = at.rung - 1 }) s.controller.queues) (λ queue at eh eq falls. each queue at falls) (off 0)
 
-    -- without its posts_completion
+    -- without its completions
     emptied : (queue : HostQueue) (at : ServedQueue) → FallsAt s.entries queue.ring at → length at.unfetched ≤ distance s.entries queue.ring.known_head queue.ring.tail
     emptied queue at falls = falls_to s.entries queue.ring.tail (distance s.entries queue.ring.known_head queue.ring.tail) at.completions (length at.unfetched) falls
 
@@ -216,10 +216,10 @@ fall_complete q cid s g h =
 -- A reset leaves no answer and no entry
 
 reset_falls : (qs : List ServedQueue) (q : ℕ) (at : ServedQueue) (n : ℕ) (ring : HostRing) → slice_get (a.reset_served_queues qs) q ≡ Some at → FallsAt n ring at
-reset_falls qs q at n ring e = rw (posts_completion, (sym (ap (λ (o : Option ServedQueue). option_map_or (λ at. at.unfetched) o []) e) ∙ no_unfetched qs q)) (omega arith)
+reset_falls qs q at n ring e = rw (none_left, (sym (ap (λ (o : Option ServedQueue). option_map_or (λ at. at.unfetched) o []) e) ∙ no_unfetched qs q)) (omega arith)
   where
-    posts_completion : at.completions ≡ []
-    completions = sym (ap (λ (o : Option ServedQueue). option_map_or (λ at. at.completions) o []) e) ∙ no_completions_at qs q
+    none_left : at.completions ≡ []
+    none_left = sym (ap (λ (o : Option ServedQueue). option_map_or (λ at. at.completions) o []) e) ∙ no_completions_at qs q
 
 -- Every event
 

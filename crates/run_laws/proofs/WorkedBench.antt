@@ -144,5 +144,5 @@ fills_twice = (
     submits = refl;
     stays = refl;
   },
-  record { request = refl; steps = refl; completions = refl; submitted = refl; fills = refl; bytes = refl },
+  record { request = refl; steps = refl; answers = refl; submitted = refl; fills = refl; bytes = refl },
 )

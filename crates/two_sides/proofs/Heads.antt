@@ -30,7 +30,7 @@ use Rattle.io_commands.specs.Jobs.{is_success}
 use Rattle.page_memory.specs.declared.page.Half.TheVariants.{Submission, Completion}
 use Rattle.page_memory.proofs.Lists.{found_is, all-filter}
 
--- How far the host's known head and the heads told by posts_completion are behind the tail: never more than commands are submitted.
+-- How far the host's known head and the heads told by completions are behind the tail: never more than commands are submitted.
 
 -- Answers, as something changes
 
@@ -168,7 +168,7 @@ heads_state n k f hs rs qs ring past h = heads_change n k f hs rs qs (λ x e ope
       completions = subst (λ (g : HostRing). AnswersBehind n g.tail (sent_count k rs) (completions_at qs k)) r b.completions;
     }) h
 
--- posts_completion stay, or are gone
+-- completions stay, or are gone
 pub list_emptied : {B : Type 0} (get : ServedQueue → List B) (k : ℕ) (f : ServedQueue → ServedQueue) (qs : List ServedQueue) (q : ℕ) → ((at : ServedQueue) → get (f at) ≡ [])
     → (list_at get (change k f qs) q ≡ list_at get qs q) ⊎ (list_at get (change k f qs) q ≡ [])
 list_emptied get zero f (x ∷ qs) zero none = inr (none x)
@@ -186,7 +186,7 @@ heads_fewer n hs rs qs qs' fewer h = record { ids = h.ids; behind = λ q queue e
 pub heads_out : (n k : ℕ) (f : HostQueue → HostQueue) (hs : List HostQueue) (rs : List Record) (qs : List ServedQueue) → ((x : HostQueue) → in_service (f x).state ≡ false) → Heads n hs rs qs → Heads n (change k f hs) rs qs
 heads_out n k f hs rs qs out h = heads_change n k f hs rs qs (λ x e open'. absurd (true≢false (sym open' ∙ out x))) h
 
--- a queue comes into service with rings as they open, and no posts_completion
+-- a queue comes into service with rings as they open, and no completions
 pub heads_made : (n k : ℕ) (hs : List HostQueue) (rs : List Record) (qs : List ServedQueue) → ((x : HostQueue) → slice_get hs k ≡ Some x → (x.ring ≡ fresh_host_ring) × (completions_at qs k ≡ [])) → Heads n hs rs qs → Heads n (change k a.live hs) rs qs
 heads_made n k hs rs qs fresh h = heads_change n k a.live hs rs qs (λ x e open'.
     let f = fresh x e in
@@ -421,7 +421,7 @@ no_conflict s stood q e hand = go (job_at s q e.cid) refl
         ap (λ (b : Bool). if b then 0 else total (λ (x : SubEntry). one (x.cid == e.cid)) (unfetched_at s.controller.queues q)) (running_not_past s stood.grounds q e hand) in
         absurd (omega (arith, counted, here_first, mine, in_found (is_job q e.cid) s.controller.jobs j n (job_weight q (λ c. one (c == e.cid))), stood.places q (λ c. one (c == e.cid)), few s.host.records, stood.grounds.stands.0.once q e.cid))
 
--- a queue's posts_completion stay, or are gone with its completion queue
+-- a queue's completions stay, or are gone with its completion queue
 abbrev Fewer : State → Controller → Type 0
 Fewer s d = (k : ℕ) → (completions_at d.queues k ≡ completions_at s.controller.queues k) ⊎ (completions_at d.queues k ≡ [])
 
@@ -462,7 +462,7 @@ fewer_walk s q cid = walk_by (λ (t : State). Fewer s t.controller) s q cid (λ 
 few_sent_heads_all : (s : State) → Grounds s → HeadsS s → (q : ℕ) → sent_count q s.host.records ≤ s.entries - 1
 few_sent_heads_all s g h q = omega (arith, sent_outstanding q s.host.records, few_outstanding q (s.entries - 1) s.host.records h.ids g.stands.0.once)
 
--- an answer is posted where entries and posts_completion leave one command
+-- an answer is posted where entries and completions leave one command
 heads_answered : (q cid : ℕ) (st : Status) (dw0 : ℕ) (t : State) → 0 < t.entries → ((k : ℕ) → sent_count k t.host.records ≤ t.entries - 1)
     → ((queue : HostQueue) → slice_get t.host.queues q ≡ Some queue → IsInRing t.entries queue.ring)
     → PlacesIn (posts_completion q cid st dw0 t) → HeadsS t → HeadsS (posts_completion q cid st dw0 t)
@@ -629,7 +629,7 @@ heads_host s e reply ok c t g h =
     zero_ring : (f : HostQueue → HostQueue) (q : ℕ) → (q == 0) ≡ false → (queue : HostQueue) → slice_get (change q f s.host.queues) 0 ≡ Some queue → IsInRing s.entries queue.ring
     zero_ring f q other queue e = ring_in s g 0 queue (sym (changed_elsewhere q f s.host.queues 0 (eqb-false q 0 other)) ∙ e)
 
-    -- a queue whose halves are both made has rings as they open, and no posts_completion
+    -- a queue whose halves are both made has rings as they open, and no completions
     fresh : (q cid : ℕ) (st : Status) (e : ComEntry) (r : Record) (k n base : ℕ) → IsHeard s q cid st e r → r.work ≡ Management (CreateSq k n base) → (x : HostQueue) → slice_get (a.heard q e s).host.queues k ≡ Some x
         → (x.ring ≡ fresh_host_ring) × (completions_at (a.heard q e s).controller.queues k ≡ [])
     fresh q cid st e r k n base heard w x ex =

@@ -64,7 +64,7 @@ lessens_state hs qs js k f un an q w =
     let u : unfetched_count q w hs (change k f qs) ≡ unfetched_count q w hs qs = ap (λ (xs : List SubEntry). if past_at hs q then 0 else total (entries_weigh w) xs) (list_same (λ at. at.unfetched) k f qs q un) in
     omega (arith, u, ap (total (answers_weigh w)) (list_same (λ at. at.completions) k f qs q an))
 
--- its entries or posts_completion go
+-- its entries or completions go
 lessens_less : (hs : List HostQueue) (qs : List ServedQueue) (js : List Job) (k : ℕ) (f : ServedQueue → ServedQueue)
     → ((w : ℕ → ℕ) (at : ServedQueue) → total (entries_weigh w) (f at).unfetched ≤ total (entries_weigh w) at.unfetched) → ((w : ℕ → ℕ) (at : ServedQueue) → total (answers_weigh w) (f at).completions ≤ total (answers_weigh w) at.completions)
     → Lessens hs qs js (change k f qs) js
