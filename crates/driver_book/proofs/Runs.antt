@@ -26,7 +26,6 @@ use Rattle.io_commands.{proofs.Building.joined_parts_few, specs.{Asked.Request, 
 use Rattle.io_commands.specs.{Values.{TicketContents, numbers_of}, declared.request.Piece.Piece}
 use Rattle.sgl_chain.proofs.Spelled.{needed_few}
 use Rattle.page_memory.proofs.Lists.{all-at}
-use Rattle.two_sides.proofs.PoolBytes.{ends_unforged}
 
 -- Logs, and the runs that they tell of.
 
@@ -157,6 +156,10 @@ forged_since old new (e ∷ log) (next, tells, rest) =
     go true c here all since = since
     go false true here all since = all
     go false false here all since = rw (here, all) refl
+
+pub trusted_logs : trusted_ends_are_unforged
+trusted_logs old log world leads trusted =
+    rw (forged_since old world log leads) (trusted_unforged (made_by old world log leads) old world (steps_by old world log leads) trusted)
 
 -- What is kept stands for the same where the lists get longer, and so a log grows by an entry.
 

@@ -1,5 +1,5 @@
+use Rattle.driver_book.proofs.Runs.{trusted_logs}
 use Rattle.driver_book.proofs.laws.law_of_trusted_ends.Goals as goal
-use Rattle.two_sides.proofs.PoolBytes.{ends_unforged}
 
 pub returns : goal.returns
-returns c = ends_unforged
+returns c = trusted_logs
