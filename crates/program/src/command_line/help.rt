@@ -4,7 +4,7 @@
 pub const ABOUT: &str =
     "An NVMe host driver and a modelled controller that move data by scatter-gather lists.
 
-It drives no real controller. `nvmesgl steps` plays a script over a fresh pool of pages and
+It drives no real device. `nvmesgl steps` plays a script over a fresh pool of pages and
 prints what each step answered. `nvmesgl threads` lets several threads do the jobs of a
 script over one pool, and prints how each job ended; `nvmesgl load` makes jobs itself and
 measures. `nvmesgl shell` answers one step after the other, and `nvmesgl draw` makes a page
