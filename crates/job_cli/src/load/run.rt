@@ -53,18 +53,27 @@ fn play<G: Gate + Sync, R: Threads + Wait + Sync>(
     }
 }
 
-/// Runs the commands of a round: the world that they leave, and how they ended.
+/// What the commands of a round left.
+#[derive(Drop)]
+struct Left {
+    world: World,
+    ends: JobEnds,
+    /// How many ended how.
+    tally: Tally,
+}
+
+/// Runs the commands of a round, and looks at how they ended.
 fn run_plans<G: Gate + Sync, R: Threads + Wait + Sync>(
     rt: &R,
     alloc: Global,
     world: World,
-    course: &Course,
+    course: &mut Course,
     depth: usize,
     gate: &G,
     plans: &[Vec<Planned>],
-) -> Result<(World, JobEnds), LoadFault>
-    requires all { length plans.now ≡ course.now.layout.submitters }
-    requires inside { All (λ plan. All (IsInside course.now.layout) plan.items) plans.now }
+) -> Result<Left, LoadFault>
+    requires all { length plans.now ≡ course.old.layout.submitters }
+    requires inside { All (λ plan. All (IsInside course.old.layout) plan.items) plans.now }
     requires some_depth { 1 ≤ depth }
     requires little_depth { depth ≤ 256 }
 {
@@ -75,7 +84,8 @@ fn run_plans<G: Gate + Sync, R: Threads + Wait + Sync>(
         jobs: ends,
         ..
     } = play(rt, alloc, world, jobs, depth, gate, blank)?;
-    Ok((world, ends))
+    let tally = course.look(alloc, plans, &ends)?;
+    Ok(Left { world, ends, tally })
 }
 
 /// How many commands plans have.
@@ -131,12 +141,10 @@ fn run_some<R: Clock + Threads + Wait + Sync>(
     requires little_depth { depth ≤ 256 }
 {
     let plans = course.plan(alloc, most)?;
-    let depth = usize::from(depth);
-    let (world, ends) = run_plans(rt, alloc, world, course, depth, timing, &plans)?;
-    let tally = course.look(alloc, &plans, &ends)?;
-    course.count(tally, true);
-    course.measure(&plans, &ends, &timing.take(alloc)?);
-    Ok((world, commands_of(&plans)))
+    let left = run_plans(rt, alloc, world, course, usize::from(depth), timing, &plans)?;
+    course.count(left.tally, true);
+    course.measure(&plans, &left.ends, &timing.take(alloc)?);
+    Ok((left.world, commands_of(&plans)))
 }
 
 /// Runs the commands of a load, in rounds.
@@ -185,10 +193,9 @@ fn read_again<R: Threads + Wait + Sync>(
     let step = course.round_slots();
     for from in (0..course.slots()).step_by(step) {
         let plans = course.plan_reads(alloc, from)?;
-        let (after, ends) = run_plans(rt, alloc, world, course, depth, &Open, &plans)?;
-        let tally = course.look(alloc, &plans, &ends)?;
-        course.count(tally, false);
-        world = after;
+        let left = run_plans(rt, alloc, world, course, depth, &Open, &plans)?;
+        course.count(left.tally, false);
+        world = left.world;
     }
     Ok(world)
 }

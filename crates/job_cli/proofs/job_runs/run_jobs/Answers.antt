@@ -7,7 +7,7 @@ returns-clause-ran g c =
     run_writes c.write_run.result (g.I.Read.remaining c.args.reader.now) c.args.submitters c.args.config c.args.image (g.W.Write.contents c.args.writer.now) (g.W.Write.contents c.write_run.new.writer)
     c.in_ok-script.script _ c.in_ok-script.ensures.script
     (jobs_text_is (λ list. list.items) c.args.submitters c.args.config c.args.image c.in_ok-script.script _ c.in_ok-orders.orders.headings.items c.in_ok-orders.orders.lists.items c.in_ok-ends.ends _ _
-    c.into_jobs.ensures c.in_ok-orders.ensures.headings c.in_ok-orders.ensures.lists c.in_ok-ends.ensures.ended c.in_ok-script.ensures.below c.in_ok-ends.ensures.ran c.deref.ensures.value)
+    c.into_jobs.ensures c.in_ok-orders.ensures.headings c.in_ok-orders.ensures.lists c.in_ok-ends.ensures.ended c.in_ok-script.ensures.below c.in_ok-ends.ensures.ran c.deref.ensures)
     c.write_run.ensures.ran
 
 pub returns-in_err-ends-clause-failed : goal.returns-in_err-ends-clause-failed
@@ -20,5 +20,5 @@ returns-clause-failed g c =
     run_is_cut c.write_run.result (g.I.Read.remaining c.args.reader.now) c.args.submitters c.args.config c.args.image (g.W.Write.contents c.args.writer.now) (g.W.Write.contents c.write_run.new.writer)
     c.in_ok-script.script _ c.in_ok-script.ensures.script
     (jobs_text_is (λ list. list.items) c.args.submitters c.args.config c.args.image c.in_ok-script.script _ c.in_ok-orders.orders.headings.items c.in_ok-orders.orders.lists.items c.in_ok-ends.ends _ _
-    c.into_jobs.ensures c.in_ok-orders.ensures.headings c.in_ok-orders.ensures.lists c.in_ok-ends.ensures.ended c.in_ok-script.ensures.below c.in_ok-ends.ensures.ran c.deref.ensures.value)
+    c.into_jobs.ensures c.in_ok-orders.ensures.headings c.in_ok-orders.ensures.lists c.in_ok-ends.ensures.ended c.in_ok-script.ensures.below c.in_ok-ends.ensures.ran c.deref.ensures)
     c.write_run.ensures.cut c.write_run.ensures.fault
