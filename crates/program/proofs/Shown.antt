@@ -3,7 +3,6 @@ use Rattle.std.proofs.Common.{arith, ◌≡◌, ◌≤◌, ◌+◌, ◌-◌, ℕ
 use Rattle.machine_model.specs.State.{State}
 use Rattle.program.specs.{Pages.{rows_text, row_said, before_next, bytes_text, page_text}, Rings.{SaysRings, SaysAllRings}, declared.shell.pages.Before.Before}
 use Rattle.page_ledger.specs.declared.owner.Owner.{Owner}
-use Rattle.controller_walk.proofs.Courses.{on_ok}
 
 -- What is said of queues, one behind the other.
 
@@ -61,6 +60,10 @@ comes_to_end said before at rest whole (zero, e, same) short = sym (append-nil s
 comes_to_end said before at rest whole (suc n, e, same) short = grind (arith)
 
 -- What holds where a call succeeded.
+
+pub on_ok : {A E : Type 0} (r : Result A E) (P Q : Type 0) → (P → Q) → OnOk r P → OnOk r Q
+on_ok (Ok x) P Q f h = f h
+on_ok (Err e) P Q f h = tt
 
 -- a page that is in
 pub in_text : (pages p : ℕ) (found : Option (List ℕ)) (bytes text : List ℕ) (owner : Owner) → nat_le pages p ≡ false → found ≡ Some bytes → text ≡ bytes_text bytes → text ≡ page_text pages p found owner

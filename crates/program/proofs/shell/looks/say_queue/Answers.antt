@@ -1,6 +1,6 @@
 use Rattle.std.proofs.Common.{Some}
+use Rattle.program.proofs.Shown.{on_ok}
 use Rattle.program.proofs.shell.looks.say_queue.Goals as goal
-use Rattle.controller_walk.proofs.Courses.{on_ok}
 
 pub returns : goal.returns
 returns c = on_ok c.say_ring.result _ _ (λ text. record {

@@ -2,9 +2,8 @@
 use Rattle.std.proofs.Common.{rules, ◌≡◌, ◌*◌, Some, nat_le, false, length, string_bytes}
 use Rattle.page_ledger.specs.declared.owner.Owner.TheVariants.{Free}
 use Rattle.page_memory.specs.{Memory.bytes_at, Pages.byte_at}
-use Rattle.program.{proofs.Shown.{in_text, not_out}, specs.Pages.bytes_text}
+use Rattle.program.{proofs.Shown.{in_text, not_out, on_ok}, specs.Pages.bytes_text}
 use Rattle.program.proofs.shell.pages.say_page.Goals as goal
-use Rattle.controller_walk.proofs.Courses.{on_ok}
 
 pub returns-in-Ok-clause-said : goal.returns-in-Ok-clause-said
 returns-in-Ok-clause-said c = on_ok c.say_bytes.result (string_bytes c.say_bytes.new.out ≡ bytes_text c.read.new.into) _ (λ text. record {
