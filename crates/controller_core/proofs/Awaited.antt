@@ -2,10 +2,10 @@
 use Rattle.controller_core.specs.declared.refusal.Refusal.TheVariants as refusal
 use Rattle.controller_core.proofs.Lists.{length-change, change_at, count-cons, one, all_set}
 use Rattle.controller_core.proofs.Rows.{named, some_name, cid_of}
-use Rattle.controller_core.specs.Answering.{completion_by, memory_posted, page_posted, with_answer, answer_refusal}
+use Rattle.controller_core.specs.Posting.{completion_by, memory_posted, page_posted, with_posted, post_refusal_at}
 use Rattle.controller_core.specs.Completing.{without_command, command_refusal, complete_refusal, is_abort_of, waits_among}
 use Rattle.controller_core.specs.Contents.{change, Contents, IsController, AreCommands, FitsCommand, FitsWork, is_command, entry_of_work, FetchedCommand, AreAwaited, IsNamedBy, entry_of, FitsVerdict as ContentsFitsVerdict}
-use Rattle.controller_core.specs.{Fetching.{IsBegun, Begins, AnswersKnown, LooksAt, FetchesTo, Takes, TakesIn, is_known, live_side}}
+use Rattle.controller_core.specs.{Fetching.{IsBegun, Begins, PostsConflict, LooksAt, FetchesTo, Takes, TakesIn, is_known, live_side}}
 use Rattle.controller_core.specs.{Looks.name_at, Managing.{with_taken, command_of, managed}, declared.command.Work.TheVariants.{Io}}
 use Rattle.controller_core.specs.declared.{queue.ControllerQueue.ControllerQueue, refusal.Refusal.Refusal}
 use Rattle.std.proofs.Common.{◌≡◌, ℕ, ◌<◌, ◌==◌, ◌&&◌, ◌++◌, ◌∷◌, [], not, Bool, true, false, Option, Some, Result, Ok, Err, cond, List, length, find, slice_set, get_or, if◌then◌else◌, refl, ap, ap₂, sym, ◌∙◌, arith, subst, eqb-true, true≢false, None, zero, suc, ◌||◌, IfSome, map, slice_get, inl, inr, ◌≢◌, ◌+◌, nat_lt, is_none, is_some}
@@ -201,11 +201,11 @@ waits_no commands k alone zeroth = (or_parts _ _ (rw zeroth at alone)).0
 pub completes_alone : (c : Contents) (m : Memory) (q cid : ℕ) → complete_refusal c m q cid ≡ None → (q == 0) ≡ true → list_any (λ k. is_abort_of cid k.waiting_abort) c.commands ≡ false
 completes_alone c m q cid ready zeroth = go (find (is_command q cid) c.commands) refl ready
   where
-    waits : (k : FetchedCommand) (b : Bool) → waits_among c.commands k ≡ b → (if b then Some refusal.Waits else answer_refusal c.queues m q) ≡ None → waits_among c.commands k ≡ false
+    waits : (k : FetchedCommand) (b : Bool) → waits_among c.commands k ≡ b → (if b then Some refusal.Waits else post_refusal_at c.queues m q) ≡ None → waits_among c.commands k ≡ false
     waits k true h ready = absurd (none-some refusal.Waits (sym ready))
     waits k false h ready = h
 
-    walked : (k : FetchedCommand) (b : Bool) → (if b then Some refusal.Walking else if waits_among c.commands k then Some refusal.Waits else answer_refusal c.queues m q) ≡ None → waits_among c.commands k ≡ false
+    walked : (k : FetchedCommand) (b : Bool) → (if b then Some refusal.Walking else if waits_among c.commands k then Some refusal.Waits else post_refusal_at c.queues m q) ≡ None → waits_among c.commands k ≡ false
     walked k true ready = absurd (none-some refusal.Walking (sym ready))
     walked k false ready = waits k (waits_among c.commands k) refl ready
 
@@ -351,16 +351,16 @@ on_err (Err e) p = p
 pub count_kept : (c : Contents) (queues : List ControllerQueue) → IsController c → length queues ≡ length c.queues → IsController (record { queues = queues; commands = c.commands; image = c.image })
 count_kept c queues is e = record { commands = subst (λ (n : ℕ). AreCommands (block_count c.image) n c.commands) (sym e) is.commands; awaited = is.awaited }
 
-pub answers_by : (result : Result (Unit {0}) Refusal) (queues : List ControllerQueue) (q i cid : ℕ) (m m' : Memory) (reached reached' : List ℕ) (queue queue' : ControllerQueue)
-    → i ≡ q → q < length queues → queue ≡ get_or queues i queue → OnOk result (queue' ≡ with_answer (with_taken queue))
+pub posts_conflict : (result : Result (Unit {0}) Refusal) (queues : List ControllerQueue) (q i cid : ℕ) (m m' : Memory) (reached reached' : List ℕ) (queue queue' : ControllerQueue)
+    → i ≡ q → q < length queues → queue ≡ get_or queues i queue → OnOk result (queue' ≡ with_posted (with_taken queue))
     → OnOk result (m' ≡ memory_posted m queue.controller (completion_by q cid COMMAND_ID_CONFLICT 0 (with_taken queue).controller)) → OnOk result (reached' ≡ reached ++ page_posted queue.controller ∷ [])
-    → OnOk result (AnswersKnown queues q cid m reached (slice_set queues i queue') m' reached')
-answers_by (Err why) queues q i cid m m' reached reached' queue queue' same there at a b d = tt
-answers_by (Ok x) queues q i cid m m' reached reached' queue queue' same there at a b d =
+    → OnOk result (PostsConflict queues q cid m reached (slice_set queues i queue') m' reached')
+posts_conflict (Err why) queues q i cid m m' reached reached' queue queue' same there at a b d = tt
+posts_conflict (Ok x) queues q i cid m m' reached reached' queue queue' same there at a b d =
     record {
       queue = queue;
       here = slice_get_read queues _ q queue refl there (subst (λ (j : ℕ). queue ≡ get_or queues j queue) same at);
-      leaves = change_at q i (λ queue. with_answer (with_taken queue)) queues queue queue' same (omega (arith, same, there)) at a;
+      leaves = change_at q i (λ queue. with_posted (with_taken queue)) queues queue queue' same (omega (arith, same, there)) at a;
       memory = b;
       touches = d;
     }
@@ -399,10 +399,10 @@ found_by (Some x) o is = ap is_some is
 
 -- An entry whose identifier is known
 
-pub answers_fetch : (pages : ℕ) (v c c' : Contents) (queues : List ControllerQueue) (m m' m'' : Memory) (q : ℕ) (e : SubEntry) (reached looked reached' : List ℕ) → v ≡ c
-    → is_some (find (is_command q e.cid) v.commands) ≡ true → LooksAt c m reached q e looked → m' ≡ m → None ≡ answer_refusal v.queues m' q
-    → AnswersKnown v.queues q e.cid m' looked queues m'' reached' → c' ≡ record { queues = queues; commands = v.commands; image = v.image } → FetchesTo c pages m reached q e.cid c' m'' reached'
-answers_fetch pages v c c' queues m m' m'' q e reached looked reached' same found looks em room answers is =
+pub fetches_conflict : (pages : ℕ) (v c c' : Contents) (queues : List ControllerQueue) (m m' m'' : Memory) (q : ℕ) (e : SubEntry) (reached looked reached' : List ℕ) → v ≡ c
+    → is_some (find (is_command q e.cid) v.commands) ≡ true → LooksAt c m reached q e looked → m' ≡ m → None ≡ post_refusal_at v.queues m' q
+    → PostsConflict v.queues q e.cid m' looked queues m'' reached' → c' ≡ record { queues = queues; commands = v.commands; image = v.image } → FetchesTo c pages m reached q e.cid c' m'' reached'
+fetches_conflict pages v c c' queues m m' m'' q e reached looked reached' same found looks em room answers is =
     let known : is_known c q e ≡ true =
     subst (λ (x : Contents). is_some (find (is_command q e.cid) x.commands) ≡ true) same found in
     record {
@@ -410,8 +410,8 @@ answers_fetch pages v c c' queues m m' m'' q e reached looked reached' same foun
       looked = looked;
       looks = looks;
       named = refl;
-      room = ap (λ (b : Bool). if b then answer_refusal c.queues m q else None) known
-          ∙ sym (room ∙ ap₂ (λ (x : Contents) (n : Memory). answer_refusal x.queues n q) same em);
+      room = ap (λ (b : Bool). if b then post_refusal_at c.queues m q else None) known
+          ∙ sym (room ∙ ap₂ (λ (x : Contents) (n : Memory). post_refusal_at x.queues n q) same em);
       takes = subst (λ (b : Bool). Takes b c pages q e m looked c' m'' reached') (sym known)
           (subst (λ (x : Contents). Takes true x pages q e m looked c' m'' reached') same
           (subst (λ (n : Memory). Takes true v pages q e n looked c' m'' reached') em
@@ -429,7 +429,7 @@ manages_fetch pages v c c' m m' reached q e reached' same none zeroth looks afte
       looked = reached';
       looks = looks;
       named = refl;
-      room = ap (λ (b : Bool). if b then answer_refusal c.queues m q else None) unknown;
+      room = ap (λ (b : Bool). if b then post_refusal_at c.queues m q else None) unknown;
       takes = subst (λ (b : Bool). Takes b c pages q e m reached' c' m' reached') (sym unknown)
           (subst (λ (b : Bool). TakesIn b c pages q e c') (sym (ap (λ (k : ℕ). k == 0) zeroth)) managed_by, after, refl);
     }
@@ -444,7 +444,7 @@ begins_fetch pages v c c' m m' reached q e reached' same none ne looks after beg
       looked = reached';
       looks = looks;
       named = refl;
-      room = ap (λ (b : Bool). if b then answer_refusal c.queues m q else None) unknown;
+      room = ap (λ (b : Bool). if b then post_refusal_at c.queues m q else None) unknown;
       takes = subst (λ (b : Bool). Takes b c pages q e m reached' c' m' reached') (sym unknown)
           (subst (λ (b : Bool). TakesIn b c pages q e c') (sym (no_zero q ne)) begins, after, refl);
     }

@@ -1,4 +1,5 @@
 -- Commands that are changed where they stand, how many each queue has, and loops over them.
+use Rattle.controller_core.specs.declared.refusal.Refusal.{Refusal}
 use Rattle.controller_core.specs.declared.refusal.Refusal.TheVariants as refusal
 use Rattle.controller_core.proofs.{Lists.{count-cons, count_set, one, swept, length-swept}, Managing.stopped_entry}
 use Rattle.controller_core.proofs.Rows.{commands_put, distinct_with, place_is, place_named, named_with, cid_of, Rows, some_name, commands_of, stands_somewhere, value_found, named}
@@ -6,13 +7,17 @@ use Rattle.controller_core.{proofs.Awaited.count-more}
 use Rattle.controller_core.specs.{Contents.{FetchedCommand, change, entry_of_work, is_command, Work, Contents}, Looks.{name_at, IsStuck}}
 use Rattle.controller_core.specs.{Managing.{aborted, stopped_with_queue, stopped_work}, Tables.{AreNamed, AreCounted, Outstanding, count_of}}
 use Rattle.controller_core.specs.Walking.{WalksOne, WalksAmong, ended_refusal, refusal_among}
-use Rattle.std.proofs.Common.{◌≡◌, ℕ, zero, suc, ◌<◌, ◌==◌, not, Bool, true, false, Option, Some, None, List, [], ◌∷◌, ◌++◌, length, map, find, slice_get, slice_set, if◌then◌else◌, refl, ap, ap₂, sym, ◌∙◌, arith, subst, eqb-true, true≢false, inl, inr, ◌≤◌, IfSome, ◌+◌, ◌-◌, ◌||◌, get_or, replicate, drop, below_more}
-use Rattle.std.proofs.lemmas.{Bool.{cases_Bool, eq-eqb, Decides.nat_tests}, Grind.get_or_default_zero, List.{get_or-set_same, get_or-set_other, get_or_past}}
-use Rattle.std.{proofs.lemmas.{List.Sums.count_by-le-length, Option.none-some}, specs.{List.{count_by, list_any}, Option.{option_map, option_map_or, IsSome}}}
+use Rattle.std.proofs.Common.{◌≡◌, ℕ, zero, suc, ◌<◌, ◌==◌, not, Bool, true, false, Option, Some, None, List, [], ◌∷◌, ◌++◌, length, map, find, slice_get, slice_set, if◌then◌else◌, refl, ap, ap₂, sym, ◌∙◌, arith, subst, eqb-true, true≢false, inl, inr, ◌≤◌, IfSome, ◌+◌, ◌-◌, ◌||◌, get_or, replicate, drop, below_more, Result, Ok, Err, OnErr, IfOk}
+use Rattle.std.proofs.lemmas.{Bool.{cases_Bool, eq-eqb}, Grind.get_or_default_zero, List.{get_or-set_same, get_or-set_other, get_or_past}}
+use Rattle.std.{proofs.lemmas.{List.Sums.count_by-le-length, Option.none-some}, specs.{List.{count_by, list_any}, Option.{option_map_or}}}
 use Rattle.slot_table.{proofs.Walks.eqb-turned, specs.Rows.{is_at, value_at, without, with_value, with_last, IsDistinct}}
 use Rattle.controller_walk.specs.declared.walk.WalkState.{WalkState}
 use Rattle.entry_codec.specs.declared.{status.TheConstants.Status.{ABORTED_SQ_DELETION, ABORT_REQUESTED}, submission.SubEntry.SubEntry}
 use Rattle.page_memory.{proofs.Lists.some_is, specs.Memory.{Memory, TouchesMore}}
+
+-- so many queues and these commands
+abbrev pub outstanding : ℕ → List FetchedCommand → Outstanding
+outstanding queues list = record { queues = queues; list = list }
 
 -- A command that is changed where it stands in a table.
 
@@ -28,13 +33,13 @@ changed_named rows q cid k k' n d has alike =
 
 -- A walk
 
-pub walked_alike : (k k' : FetchedCommand) (m m' : Memory) (reached reached' : List ℕ) (outcome : WalkState) → WalksOne k m reached outcome k' m' reached' → IsNamedAlike k k'
-walked_alike k k' m m' reached reached' outcome w = (
+one_alike : (k k' : FetchedCommand) (m m' : Memory) (reached reached' : List ℕ) (outcome : WalkState) → WalksOne k m reached outcome k' m' reached' → IsNamedAlike k k'
+one_alike k k' m m' reached reached' outcome w = (
   ap (λ (x : FetchedCommand). x.q) w.leaves,
   ap cid_of w.leaves ∙ ap (λ (e : SubEntry). e.cid) w.unit.entry ∙ sym (ap (λ (work : Work). (entry_of_work work).cid) w.work),
 )
 
-pub walks_among : (rows : Rows) (q cid : ℕ) (k k' : FetchedCommand) (m m' : Memory) (reached reached' : List ℕ) (outcome : WalkState) → AreNamed rows → value_at rows q cid ≡ Some k → WalksOne k m reached outcome k' m' reached'
+walks_among : (rows : Rows) (q cid : ℕ) (k k' : FetchedCommand) (m m' : Memory) (reached reached' : List ℕ) (outcome : WalkState) → AreNamed rows → value_at rows q cid ≡ Some k → WalksOne k m reached outcome k' m' reached'
     → WalksAmong (commands_of rows) q cid m reached outcome (commands_of (with_value rows q cid k')) m' reached'
 walks_among rows q cid k k' m m' reached reached' outcome n has w =
     let s = stands_somewhere rows q cid k n has in
@@ -52,16 +57,41 @@ walks_among rows q cid k k' m m' reached reached' outcome n has w =
       leaves = s.stands.changed k' ∙ ap (slice_set (commands_of rows) s.place) w.leaves;
     }
 
-pub accepted_one : (commands : List FetchedCommand) (q cid : ℕ) (k : FetchedCommand) → find (is_command q cid) commands ≡ Some k → refusal_among commands q cid ≡ None → ended_refusal k ≡ None
-accepted_one commands q cid k found accepted = subst (λ (o : Option FetchedCommand). option_map_or ended_refusal o (Some refusal.NoJob) ≡ None) found accepted
+-- why the walk of a command is refused, and of one that is not there
+pub refusal_one : (commands : List FetchedCommand) (q cid : ℕ) (o : Option FetchedCommand) → find (is_command q cid) commands ≡ o → refusal_among commands q cid ≡ option_map_or ended_refusal o (Some refusal.NoJob)
+refusal_one commands q cid o found = ap (λ (o : Option FetchedCommand). option_map_or ended_refusal o (Some refusal.NoJob)) found
 
-pub few_one : (commands : List FetchedCommand) (q cid : ℕ) (k : FetchedCommand) → find (is_command q cid) commands ≡ Some k → IfSome (find (is_command q cid) commands) (λ k. k.units_done ≤ 12545) → k.units_done ≤ 12545
-few_one commands q cid k found few = subst (λ (o : Option FetchedCommand). IfSome o (λ k. k.units_done ≤ 12545)) found few
+pub few_one : (commands : List FetchedCommand) (q cid : ℕ) (k : FetchedCommand) → find (is_command q cid) commands ≡ Some k
+    → (refusal_among commands q cid ≡ None → IfSome (find (is_command q cid) commands) (λ k. k.units_done ≤ 12545)) → ended_refusal k ≡ None → k.units_done ≤ 12545
+few_one commands q cid k found few going = subst (λ (o : Option FetchedCommand). IfSome o (λ k. k.units_done ≤ 12545)) found (few (refusal_one commands q cid (Some k) found ∙ going))
 
-pub accepted_some : {A : Type 0} (f : A → FetchedCommand) (o : Option A) (commands : List FetchedCommand) (q cid : ℕ) → find (is_command q cid) commands ≡ option_map f o → refusal_among commands q cid ≡ None → IsSome o
-accepted_some f None commands q cid none accepted =
-    let refused : Some refusal.NoJob ≡ None = subst (λ (o : Option FetchedCommand). option_map_or ended_refusal o (Some refusal.NoJob) ≡ None) none accepted in cc
-accepted_some f (Some x) commands q cid has accepted = refl
+-- a table in which a command is put back as it was
+unchanged : (rows : Rows) (q cid : ℕ) (k : FetchedCommand) → value_at rows q cid ≡ Some k → with_value rows q cid k ≡ rows
+unchanged [] q cid k has = refl
+unchanged (row ∷ rows) q cid k has = go (is_at row q cid) has (unchanged rows q cid k)
+  where
+    go : (here : Bool) → (if here then Some row.value else value_at rows q cid) ≡ Some k → (value_at rows q cid ≡ Some k → with_value rows q cid k ≡ rows)
+        → (if here then record row { value = k } ∷ rows else row ∷ with_value rows q cid k) ≡ row ∷ rows
+    go true is behind = let same : row.value ≡ k = cc in rw (← same) refl
+    go false is behind = ap (λ rest. row ∷ rest) (behind is)
+
+-- What the walk of a command leaves of all commands, done or refused.
+module _ (rows : Rows) (q cid : ℕ) (k k' : FetchedCommand) (m m' : Memory) (reached reached' : List ℕ) (n : AreNamed rows) (has : value_at rows q cid ≡ Some k) where
+  abbrev WalkedOrSame : Result WalkState Refusal → Type 0
+  WalkedOrSame r = OnErr r ((k' ≡ k) × (m' ≡ m) × (reached' ≡ reached)) × IfOk r (λ outcome. WalksOne k m reached outcome k' m' reached')
+
+  pub walked_alike : (r : Result WalkState Refusal) → WalkedOrSame r → IsNamedAlike k k'
+  walked_alike (Ok outcome) (_, w) = one_alike k k' m m' reached reached' outcome w
+  walked_alike (Err why) (same, _) = (ap (λ (x : FetchedCommand). x.q) same.0, ap cid_of same.0)
+
+  pub walked_among : (r : Result WalkState Refusal) → WalkedOrSame r → IfOk r (λ outcome. WalksAmong (commands_of rows) q cid m reached outcome (commands_of (with_value rows q cid k')) m' reached')
+  walked_among (Ok outcome) (_, w) = walks_among rows q cid k k' m m' reached reached' outcome n has w
+  walked_among (Err why) _ = tt
+
+  pub refused_same : (queues : ℕ) (r : Result WalkState Refusal) → WalkedOrSame r
+      → OnErr r ((outstanding queues (commands_of (with_value rows q cid k')) ≡ outstanding queues (commands_of rows)) × (m' ≡ m) × (reached' ≡ reached))
+  refused_same queues (Ok outcome) _ = tt
+  refused_same queues (Err why) (same, _) = (ap (λ x. outstanding queues (commands_of (with_value rows q cid x))) same.0 ∙ ap (λ (x : Rows). outstanding queues (commands_of x)) (unchanged rows q cid k has), same.1, same.2)
 
 -- Commands that are stopped
 
@@ -82,10 +112,6 @@ pub stopped_one : (q cid abort : ℕ) (k : FetchedCommand) → is_command q cid 
 stopped_one q cid abort k own = rw own refl
 
 -- How many commands each queue has.
-
--- so many queues and these commands
-abbrev pub outstanding : ℕ → List FetchedCommand → Outstanding
-outstanding queues list = record { queues = queues; list = list }
 
 -- a place that was reached by an equal number
 pub count_read : (counts : List ℕ) (q i n : ℕ) → i ≡ q → q < length counts → n ≡ get_or counts i n → n ≡ get_or counts q 0

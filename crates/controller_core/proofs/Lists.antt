@@ -1,9 +1,9 @@
 -- Lists of which one member is changed or taken out; and each call goes one way.
 use Rattle.controller_core.specs.declared.refusal.Refusal.TheVariants as refusal
-use Rattle.std.proofs.Common.{◌≡◌, ℕ, zero, suc, ◌+◌, ◌<◌, ◌≤◌, Bool, true, false, cond, Some, List, [], ◌∷◌, ◌++◌, length, map, filter, find, drop, get_or, slice_get, slice_set, refl, ap, sym, ◌∙◌, arith, subst, ◌==◌, take, Option, None, if◌then◌else◌, ap₂, eqb-true, inl, inr}
+use Rattle.std.proofs.Common.{◌≡◌, ℕ, zero, suc, ◌+◌, ◌<◌, ◌≤◌, Bool, true, false, cond, Some, List, [], ◌∷◌, ◌++◌, length, map, filter, drop, get_or, slice_get, slice_set, refl, ap, sym, ◌∙◌, arith, subst, ◌==◌, take, Option, None, if◌then◌else◌, ap₂, eqb-true}
 use Rattle.std.{proofs.lemmas.List.{map-append, map-set, Sums.sum_by-cons}, specs.List.{AllByRecursion, count_by}}
 use Rattle.std.specs.Option.{option_map_or}
-use Rattle.controller_core.specs.{Answering.{completion_by, memory_posted, page_posted}, Completing.{completed, status_of_end}}
+use Rattle.controller_core.specs.{Posting.{completion_by, memory_posted, page_posted}, Completing.{completed, status_of_end}}
 use Rattle.controller_core.specs.Contents.{change, Contents, FetchedCommand, Work, dw0_of_work, is_command}
 use Rattle.controller_core.specs.Fetching.{LooksAt, Begins, IsBegun, TakesIn, Takes, RefusedBy, RefusedEntry, is_known, entry_refusal, side_refusal, look_refusal, begun}
 use Rattle.controller_core.specs.Laws.{AreAlike, unplaced_command, WalksOneWay, CompletesOneWay, FetchesOneWay, RefusesOneWay, ServedUnlessMemory}

@@ -1,12 +1,12 @@
 -- What each verdict of an admin entry comes from, and what it keeps.
 use Rattle.controller_core.proofs.{Lists.{count-cons, one, length-change, all_set, count_set}, Rows.{commands-without, length-end}}
 use Rattle.controller_core.proofs.Awaited.{Awaits, IsAlike, awaited_changed, awaited_more, awaits_alike, named_last, none_mapped, awaited_set, awaited_without, completes_alone, commands-with, none_found}
-use Rattle.controller_core.specs.{Answering.{Posts, with_answer}, Completing.{complete_refusal, queues_of_end, without_command}}
+use Rattle.controller_core.specs.{Posting.{Posts, with_posted}, Completing.{complete_refusal, queues_of_end, without_command}}
 use Rattle.controller_core.specs.Contents.{FitsVerdict, Contents, IsController, IsNamedBy, AreAwaited, AreCommands, FetchedCommand, Work, FitsWork, FitsCommand, change, entry_of_work, is_command, is_deletion}
 use Rattle.controller_core.specs.Managing.{with_taken, command_of, admin_work, stopped_work, aborted, stopped_with_queue, stopping, without_completion, with_completion, with_submission, NamesPages, commands_after, queues_after, verdict_for, view_for, managed}
 use Rattle.controller_core.specs.{Walking.{WalksAmong, stepped, ended_refusal, refusal_among}, declared.command.Work.TheVariants.{Io, Admin}}
 use Rattle.controller_core.specs.declared.queue.ControllerQueue.{ControllerQueue}
-use Rattle.std.proofs.Common.{◌≡◌, ℕ, ◌+◌, ◌/◌, ◌%◌, ◌<◌, ◌≤◌, ◌==◌, ◌&&◌, ◌||◌, not, nat_lt, Bool, true, false, Option, Some, None, if◌then◌else◌, refl, arith, eqb-true, suc, zero, ◌-◌, min, nat_eq, cond, is_some, List, ◌^◌, is_none, [], ◌∷◌, ◌++◌, find, length, map, ap, ap₂, sym, ◌∙◌, subst, IfSome}
+use Rattle.std.proofs.Common.{◌≡◌, ℕ, ◌+◌, ◌/◌, ◌%◌, ◌<◌, ◌≤◌, ◌==◌, ◌&&◌, ◌||◌, not, nat_lt, Bool, true, false, Option, Some, None, if◌then◌else◌, refl, arith, eqb-true, suc, zero, ◌-◌, min, nat_eq, cond, is_some, List, ◌^◌, is_none, [], ◌∷◌, ◌++◌, find, length, map, ap, ap₂, sym, ◌∙◌, subst, IfSome, Result, Ok, Err, OnErr, IfOk}
 use Rattle.std.{proofs.lemmas.{Bool.{and_parts, and_right, eq-eqb, not-false, not-true, or_parts, true≢false, Decides.nat_tests}, List.map-append}, specs.{List.count_by, Option.{option_map_or, option_map}}}
 use Rattle.admin_commands.specs.Entries.{named_queue, named_command, named_base, named_size, named_completion_queue, is_contiguous, is_opcode}
 use Rattle.admin_commands.specs.Verdicts.{decision, is_live, is_absent, is_io_queue, half_fault, abort_verdict, delete_sq_verdict, delete_cq_verdict, create_cq_verdict, create_sq_verdict}
@@ -29,6 +29,7 @@ use Rattle.sgl_descriptor.specs.{Spelling.descriptor_of, declared.Descriptor.{De
 use Rattle.sgl_descriptor.specs.declared.Direction.{Direction}
 use Rattle.block_image.specs.Blocks.{block_count}
 use Rattle.controller_walk.specs.declared.progress.State as progress
+use Rattle.controller_core.specs.{Tables.Outstanding, declared.refusal.Refusal.Refusal}
 use Rattle.controller_core.specs.declared.refusal.Refusal.TheVariants as refusal
 
 -- What each verdict comes from.
@@ -214,7 +215,7 @@ walk_ends_fit m (Some w) = course_fits m w w.state
 
 -- What holds of each verdict
 
--- No command that is answered at once deletes a queue, and what is made or deleted is an I/O queue.
+-- No command that is completed at once deletes a queue, and what is made or deleted is an I/O queue.
 abbrev Suits : SubEntry → AdminVerdict → Type 0
 Suits e (Answer st dw0) = (st.sct < 8) × (is_deletion e st ≡ false)
 Suits e v = (named_queue e == 0) ≡ false
@@ -455,26 +456,34 @@ pub awaited_kept : (commands : List FetchedCommand) (q cid : ℕ) (m : Memory) (
 awaited_kept commands q cid m reached outcome commands' m' reached' are h =
     subst AreAwaited (sym h.leaves) (awaited_set commands h.place h.command (stepped h.job' h.command) h.at (refl, h.unit.entry ∙ sym (ap entry_of_work h.work)) refl are)
 
+-- A controller stays one over a walk, done or refused.
+pub walked_sound : (c : Contents) (q cid : ℕ) (m m' : Memory) (reached reached' : List ℕ) (old new : Outstanding) (r : Result WalkState Refusal) → old.list ≡ c.commands → IsController c
+    → OnErr r ((new ≡ old) × (m' ≡ m) × (reached' ≡ reached)) → IfOk r (λ outcome. WalksAmong old.list q cid m reached outcome new.list m' reached') → IsController (record c { commands = new.list })
+walked_sound c q cid m m' reached reached' old new (Ok outcome) is sound same walks =
+    let among = subst (λ (list : List FetchedCommand). WalksAmong list q cid m reached outcome new.list m' reached') is walks in
+    record { commands = walked_kept _ _ _ q cid m reached outcome new.list m' reached' sound.commands among; awaited = awaited_kept _ q cid m reached outcome new.list m' reached' sound.awaited among }
+walked_sound c q cid m m' reached reached' old new (Err why) is sound same walks = subst (λ (list : List FetchedCommand). IsController (record c { commands = list })) (sym (ap (λ (o : Outstanding). o.list) same.0 ∙ is)) sound
+
 -- A walk that goes on has done so many units at most.
 few_done : (blocks q done : ℕ) (work : Work) (units : ℕ) (waiting : Option ℕ) → FitsWork blocks q done work → ended_refusal (record { q = q; units_done = units; waiting_abort = waiting; work = work }) ≡ None → done ≤ 12545
 few_done blocks q done (Io job) units waiting fits going = omega (arith, fits.3)
 few_done blocks q done (Admin entry status dw0) units waiting fits going = cc
 
-pub few_walked : (c : Contents) (q cid : ℕ) → IsController c → None ≡ refusal_among c.commands q cid → IfSome (find (is_command q cid) c.commands) (λ k. k.units_done ≤ 12545)
+pub few_walked : (c : Contents) (q cid : ℕ) → IsController c → refusal_among c.commands q cid ≡ None → IfSome (find (is_command q cid) c.commands) (λ k. k.units_done ≤ 12545)
 few_walked c q cid is accepted = go (find (is_command q cid) c.commands) refl
   where
     go : (o : Option FetchedCommand) → find (is_command q cid) c.commands ≡ o → IfSome o (λ k. k.units_done ≤ 12545)
     go None found = tt
     go (Some k) found =
         let fits = all-found (FitsCommand (block_count c.image) (length c.queues)) (is_command q cid) c.commands k found is.commands.each in
-        let going : ended_refusal k ≡ None = sym (accepted ∙ ap (λ (o : Option FetchedCommand). option_map_or ended_refusal o (Some refusal.NoJob)) found) in
+        let going : ended_refusal k ≡ None = sym (ap (λ (o : Option FetchedCommand). option_map_or ended_refusal o (Some refusal.NoJob)) found) ∙ accepted in
         few_done (block_count c.image) k.q k.units_done k.work k.units_done k.waiting_abort fits.1 going
 
 -- A completion takes out no Abort that waits.
 pub length_finished : (queues queues' queues'' : List ControllerQueue) (work : Work) (q cid : ℕ) (st : Status) (dw0 : ℕ) (m m' : Memory) (reached reached' : List ℕ)
     → Posts queues q cid st dw0 m reached queues' m' reached' → queues'' ≡ queues_of_end work queues' → length queues'' ≡ length queues
 length_finished queues queues' queues'' work q cid st dw0 m m' reached reached' posts eq =
-    ap length eq ∙ (length-end work queues' ∙ (ap length posts.queues_posted ∙ length-change q with_answer queues))
+    ap length eq ∙ (length-end work queues' ∙ (ap length posts.queues_posted ∙ length-change q with_posted queues))
 
 pub finished_kept : (c : Contents) (m m' : Memory) (q cid : ℕ) (k : FetchedCommand) (queues queues' : List ControllerQueue) (commands : List FetchedCommand) (image : List ℕ) (st : Status) (dw0 : ℕ) (reached reached' : List ℕ)
     → IsController c → complete_refusal c m q cid ≡ None → Posts c.queues q cid st dw0 m reached queues m' reached' → commands ≡ without_command q cid c.commands → queues' ≡ queues_of_end k.work queues → length image ≡ length c.image

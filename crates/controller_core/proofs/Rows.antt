@@ -1,6 +1,6 @@
 -- Fetched commands in a table, as a list, and which of them complete.
 use Rattle.controller_core.proofs.Lists.{change-change, length-change, change_at, count-filter}
-use Rattle.controller_core.specs.Answering.{completion_by, memory_posted, page_posted, with_answer, Posts}
+use Rattle.controller_core.specs.Posting.{completion_by, memory_posted, page_posted, with_posted, Posts}
 use Rattle.controller_core.specs.Completing.{CompletesTo, queues_of_end, image_of_end, status_of_end, CanEnd, without_command, without_submission}
 use Rattle.controller_core.specs.Contents.{change, Contents, IsController, AreCommands, FitsCommand, FitsWork, is_command, is_deletion, entry_of_work, dw0_of_work, FetchedCommand, Work}
 use Rattle.controller_core.specs.{Doorbells.with_side}
@@ -9,7 +9,7 @@ use Rattle.controller_core.specs.{Tables.{AreNamed}}
 use Rattle.controller_core.specs.declared.{command.Work.TheVariants.{Io, Admin}, queue.ControllerQueue.ControllerQueue, refusal.Refusal.Refusal}
 use Rattle.std.proofs.Common.{◌≡◌, ℕ, ◌<◌, ◌==◌, ◌&&◌, ◌++◌, ◌∷◌, [], not, Bool, true, false, Option, Some, Result, Ok, Err, cond, List, length, find, slice_set, get_or, if◌then◌else◌, refl, ap, ap₂, sym, ◌∙◌, arith, subst, eqb-true, true≢false, None, zero, suc, map, slice_get, inl, inr, is_some}
 use Rattle.std.proofs.lemmas.{Bool.{and_parts, cases_Bool, eq-eqb}}
-use Rattle.std.{proofs.lemmas.{Option.{none-some, slice_get_read}}, specs.{List.{AllByRecursion}}}
+use Rattle.std.{proofs.lemmas.{Option.{none-some, slice_get_read}}}
 use Rattle.std.specs.{Option.{is_some}, Result.{OnOk}, Str.bytes_eq}
 use Rattle.admin_commands.specs.Entries.{named_queue}
 use Rattle.block_image.specs.Blocks.{block_count, blocks_at}
@@ -89,10 +89,10 @@ over_fits blocks q done (Admin entry status dw0) fits = tt
 
 -- What it leaves
 
-pub end-posted : (work : Work) (q : ℕ) (queues : List ControllerQueue) → queues_of_end work (change q with_answer queues) ≡ change q with_answer (queues_of_end work queues)
+pub end-posted : (work : Work) (q : ℕ) (queues : List ControllerQueue) → queues_of_end work (change q with_posted queues) ≡ change q with_posted (queues_of_end work queues)
 end-posted (Io job) q queues = refl
 end-posted (Admin entry status dw0) q queues = elim (cases_Bool (is_deletion entry status)) [
-  | inl deletes ↦ rw deletes (change-change (named_queue entry) q without_submission with_answer (λ queue. refl) queues)
+  | inl deletes ↦ rw deletes (change-change (named_queue entry) q without_submission with_posted (λ queue. refl) queues)
   | inr keeps ↦ rw keeps refl
 ]
 
@@ -104,7 +104,7 @@ finishes c m m' q cid k k' queues queues' commands image st dw0 reached reached'
     let same : k ≡ k' = some_is (sym f.found ∙ f'.found) in
     let by_status : st ≡ status_of_end c.image k'.work = es ∙ ap (λ (x : FetchedCommand). status_of_end c.image x.work) same in
     let by_dw0 : dw0 ≡ dw0_of_work k'.work = ed ∙ ap (λ (x : FetchedCommand). dw0_of_work x.work) same in
-    let left : queues' ≡ change q with_answer (queues_of_end k'.work c.queues) = eq ∙ (ap (queues_of_end k'.work) posts.queues_posted ∙ end-posted k'.work q c.queues) in
+    let left : queues' ≡ change q with_posted (queues_of_end k'.work c.queues) = eq ∙ (ap (queues_of_end k'.work) posts.queues_posted ∙ end-posted k'.work q c.queues) in
     record {
       command = k';
       queue = posts.queue;
@@ -133,7 +133,7 @@ posts_by (Ok x) queues q i cid st dw0 m m' reached reached' queue controller sam
     record {
       queue = queue;
       here = slice_get_read queues _ q queue refl there (subst (λ (k : ℕ). queue ≡ get_or queues k queue) same at);
-      queues_posted = change_at q i with_answer queues queue (with_side controller queue) same (omega (arith, same, there)) at (ap (λ (side : ControllerSide). with_side side queue) a);
+      queues_posted = change_at q i with_posted queues queue (with_side controller queue) same (omega (arith, same, there)) at (ap (λ (side : ControllerSide). with_side side queue) a);
       typed = t;
       memory = b;
       touches = d;

@@ -5,7 +5,7 @@ use Rattle.admin_commands.specs.{Entries.named_queue, declared.SqState.TheVarian
 use Rattle.entry_codec.specs.{Completion.IsComEntry, declared.{admin_opcode.TheConstants.DELETE_IO_SQ, status.Status.Status}}
 use Rattle.io_commands.specs.Jobs.{finished_status, finished_image, is_success}
 use Rattle.page_memory.specs.Memory.{Memory}
-use Rattle.controller_core.specs.Answering.{answer_refusal, completion_by, memory_posted, page_posted, with_answer}
+use Rattle.controller_core.specs.Posting.{post_refusal_at, completion_by, memory_posted, page_posted, with_posted}
 use Rattle.controller_core.specs.Contents.{Contents, FetchedCommand, Work, change, entry_of_work, verdict_of_work, dw0_of_work, is_command, is_deletion}
 use Rattle.controller_core.specs.declared.{command.Work.TheVariants.{Io, Admin}, queue.ControllerQueue.ControllerQueue, refusal.Refusal.Refusal}
 use Rattle.controller_core.specs.declared.refusal.Refusal.TheVariants as refusal
@@ -30,7 +30,7 @@ abbrev pub command_refusal : Contents → Memory → ℕ → FetchedCommand → 
 command_refusal c m q k =
     if is_none (verdict_of_work k.work) then Some refusal.Walking
     else if waits_among c.commands k then Some refusal.Waits
-    else answer_refusal c.queues m q
+    else post_refusal_at c.queues m q
 
 -- what a completion is refused for, the first that holds
 abbrev pub complete_refusal : Contents → Memory → ℕ → ℕ → Option Refusal
@@ -66,7 +66,7 @@ without_command q cid commands = filter (λ k. not (is_command q cid k)) command
 abbrev pub completed : ℕ → ℕ → Work → Contents → Contents
 completed q cid work c =
     record {
-      queues = change q with_answer (queues_of_end work c.queues);
+      queues = change q with_posted (queues_of_end work c.queues);
       commands = without_command q cid c.commands;
       image = image_of_end c.image work;
     }

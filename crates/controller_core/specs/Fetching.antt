@@ -7,7 +7,7 @@ use Rattle.entry_codec.specs.declared.{status.TheConstants.Status.COMMAND_ID_CON
 use Rattle.io_commands.specs.Jobs.{JobContents, io_fault, bytes_after_check, BeginsWalk, left_of_walk}
 use Rattle.page_memory.specs.Memory.{Memory}
 use Rattle.queue_pair.specs.{Memory.{submission_page, entry_at}, Rings.ControllerSide}
-use Rattle.controller_core.specs.{Answering.{answer_refusal, completion_by, memory_posted, page_posted, with_answer}, Contents.{Contents, change, is_command}}
+use Rattle.controller_core.specs.{Posting.{post_refusal_at, completion_by, memory_posted, page_posted, with_posted}, Contents.{Contents, change, is_command}}
 use Rattle.controller_core.specs.{Managing.{with_taken, command_of, managed}, declared.{command.Work.TheVariants.Io, queue.ControllerQueue.ControllerQueue}}
 use Rattle.controller_core.specs.declared.refusal.Refusal.{Refusal}
 use Rattle.controller_core.specs.declared.refusal.Refusal.TheVariants as refusal
@@ -28,9 +28,9 @@ look_refusal c m q = option_map_or (side_refusal m) (live_side (slice_get c.queu
 abbrev pub is_known : Contents → ℕ → SubEntry → Bool
 is_known c q e = is_some (find (is_command q e.cid) c.commands)
 
--- An identifier that was fetched and not completed is answered at once, and wants room for that.
+-- An identifier that was fetched and not completed gets Command Identifier Conflict at once, and wants room for that.
 abbrev pub entry_refusal : Contents → Memory → ℕ → SubEntry → Option Refusal
-entry_refusal c m q e = if is_known c q e then answer_refusal c.queues m q else None
+entry_refusal c m q e = if is_known c q e then post_refusal_at c.queues m q else None
 
 -- the entry at the head of a live queue, rung or not, where no byte of its slot is missing
 abbrev pub rung_entry : Contents → Memory → ℕ → Option SubEntry
@@ -67,11 +67,11 @@ pub record Begins (c : Contents) (q : ℕ) (e : SubEntry) (c' : Contents) : Type
   pub is : IsBegun c.image e job
   pub leaves : c' ≡ begun q job c
 
--- The entry is taken, and its identifier is answered at once.
-pub record AnswersKnown (queues : List ControllerQueue) (q cid : ℕ) (m : Memory) (reached : List ℕ) (queues' : List ControllerQueue) (m' : Memory) (reached' : List ℕ) : Type 0 where
+-- The entry is taken, and Command Identifier Conflict is posted for its identifier at once.
+pub record PostsConflict (queues : List ControllerQueue) (q cid : ℕ) (m : Memory) (reached : List ℕ) (queues' : List ControllerQueue) (m' : Memory) (reached' : List ℕ) : Type 0 where
   pub queue : ControllerQueue
   pub here : slice_get queues q ≡ Some queue
-  pub leaves : queues' ≡ change q (λ queue. with_answer (with_taken queue)) queues
+  pub leaves : queues' ≡ change q (λ queue. with_posted (with_taken queue)) queues
   pub memory : m' ≡ memory_posted m queue.controller (completion_by q cid COMMAND_ID_CONFLICT 0 (with_taken queue).controller)
   pub touches : reached' ≡ reached ++ page_posted queue.controller ∷ []
 
@@ -81,7 +81,7 @@ TakesIn true c pages q e c' = c' ≡ managed pages e c
 TakesIn false c pages q e c' = Begins c q e c'
 
 abbrev pub Takes : Bool → Contents → ℕ → ℕ → SubEntry → Memory → List ℕ → Contents → Memory → List ℕ → Type 0
-Takes true c pages q e m looked c' m' reached' = AnswersKnown c.queues q e.cid m looked c'.queues m' reached' × (c'.commands ≡ c.commands) × (c'.image ≡ c.image)
+Takes true c pages q e m looked c' m' reached' = PostsConflict c.queues q e.cid m looked c'.queues m' reached' × (c'.commands ≡ c.commands) × (c'.image ≡ c.image)
 Takes false c pages q e m looked c' m' reached' = TakesIn (q == 0) c pages q e c' × (m' ≡ m) × (reached' ≡ looked)
 
 -- What a fetch makes of a controller, of the memory and of the list of the pages touched, over a pool of so many pages.
@@ -93,7 +93,7 @@ pub record FetchesTo (c : Contents) (pages : ℕ) (m : Memory) (reached : List �
   pub room : entry_refusal c m q entry ≡ None
   pub takes : Takes (is_known c q entry) c pages q entry m looked c' m' reached'
 
--- What one is refused for: nothing to look at, no room for an answer at once, or else memory for the command.
+-- What one is refused for: nothing to look at, no room for a completion at once, or else memory for the command.
 pub record RefusedEntry (c : Contents) (m : Memory) (reached : List ℕ) (q : ℕ) (why : Refusal) (reached' : List ℕ) : Type 0 where
   pub entry : SubEntry
   pub looks : LooksAt c m reached q entry reached'

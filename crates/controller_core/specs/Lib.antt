@@ -1,7 +1,7 @@
 pub mod Contents
 pub mod Doorbells
 pub mod Walking
-pub mod Answering
+pub mod Posting
 pub mod Completing
 pub mod Managing
 pub mod Fetching

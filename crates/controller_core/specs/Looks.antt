@@ -4,7 +4,7 @@ use Rattle.std.specs.Prelude.{◌≡◌, ℕ, zero, suc, ◌+◌, ◌<◌, false
 use Rattle.entry_codec.specs.declared.submission.SubEntry.{SubEntry}
 use Rattle.page_memory.specs.Memory.{Memory}
 use Rattle.queue_pair.specs.Rings.{ControllerSide}
-use Rattle.controller_core.specs.{Answering.post_refusal, Completing.complete_refusal, Contents.{Contents, FetchedCommand, entry_of_work}}
+use Rattle.controller_core.specs.{Posting.post_refusal, Completing.complete_refusal, Contents.{Contents, FetchedCommand, entry_of_work}}
 use Rattle.controller_core.specs.{Fetching.{fetch_refusal, look_refusal, rung_entry, is_known}, Walking.walk_refusal}
 use Rattle.controller_core.specs.declared.{look.ControllerStep.{ControllerStep, TheVariants.{Fetch, Walk, Complete}}, queue.ControllerQueue.ControllerQueue}
 use Rattle.controller_core.specs.declared.refusal.Refusal.{Refusal}
@@ -34,12 +34,12 @@ pub record IsAtRest (c : Contents) (m : Memory) : Type 0 where
 abbrev pub post_touches : Memory → ControllerSide → ℕ
 post_touches m controller = if is_none (post_refusal m controller) then 1 else 0
 
-abbrev pub answer_touches : List ControllerQueue → Memory → ℕ → ℕ
-answer_touches queues m q = option_map_or (λ queue. post_touches m queue.controller) (slice_get queues q) 0
+abbrev pub post_touches_at : List ControllerQueue → Memory → ℕ → ℕ
+post_touches_at queues m q = option_map_or (λ queue. post_touches m queue.controller) (slice_get queues q) 0
 
--- the page of the entry at the head of a queue, and, where its identifier is known, that of the answer which it would get at once
+-- the page of the entry at the head of a queue, and, where its identifier is known, that of the completion which it would get at once
 abbrev pub entry_touches : Contents → Memory → ℕ → SubEntry → ℕ
-entry_touches c m q e = if is_known c q e then 1 + answer_touches c.queues m q else 1
+entry_touches c m q e = if is_known c q e then 1 + post_touches_at c.queues m q else 1
 
 abbrev pub fetch_touches : Contents → Memory → ℕ → ℕ
 fetch_touches c m q = if is_some (look_refusal c m q) then 0 else option_map_or (entry_touches c m q) (rung_entry c m q) 0
@@ -60,7 +60,7 @@ fetches_touch c m None = heads_touch c m (queue_numbers c)
 
 -- of a command, only the page of a completion that could be posted
 abbrev pub command_touches : Contents → Memory → Option ControllerStep → ℕ
-command_touches c m (Some (Complete q cid)) = answer_touches c.queues m q
+command_touches c m (Some (Complete q cid)) = post_touches_at c.queues m q
 command_touches c m step = 0
 
 -- a look for something to do, by what it finds

@@ -9,7 +9,7 @@ use Rattle.io_commands.specs.Jobs.{JobContents}
 use Rattle.page_memory.specs.Memory.{Memory, written}
 use Rattle.queue_pair.specs.Rings.{fresh_controller_ring}
 use Rattle.sgl_descriptor.specs.declared.Direction.TheVariants.{Destination}
-use Rattle.controller_core.specs.{Answering.completion_by, Completing.{completed, without_submission}, Contents.{Contents, change}, Doorbells.tail_rung}
+use Rattle.controller_core.specs.{Posting.completion_by, Completing.{completed, without_submission}, Contents.{Contents, change}, Doorbells.tail_rung}
 use Rattle.controller_core.specs.{Fetching.begun, Managing.{command_of, managed, without_completion}, Opening.opened, Resetting.reset}
 use Rattle.controller_core.specs.declared.{command.Work.TheVariants.Io, queue.{ControllerQueue.ControllerQueue, QueuePages.QueuePages}}
 

@@ -3,6 +3,7 @@
 ghost use Rattle.std.specs.Prelude.{◌≡◌, ◌+◌, ◌<◌, ◌≤◌, ◌==◌, ◌++◌, ◌∷◌, [], ℕ, None, Some, IfOk, IfSome, OnOk, OnErr, false, is_some, map, find, get_or, length, slice_get};
 ghost use Rattle.std.specs.List.{list_any};
 ghost use Rattle.std.specs.Option.{option_copied};
+ghost use Rattle.std.specs.Result.{result_err};
 ghost use Rattle.controller_core.specs.Completing.{without_command};
 ghost use Rattle.controller_core.specs.Contents.{change, entry_of_work, is_command};
 ghost use Rattle.controller_core.specs.Looks.{name_at};
@@ -11,6 +12,7 @@ ghost use Rattle.controller_core.specs.Tables.{count_of};
 ghost use Rattle.controller_core.specs.Walking.{refusal_among, WalksAmong};
 
 use crate::command::FetchedCommand;
+use crate::refusal::Refusal;
 use controller_walk::WalkState;
 use entry_codec::Status;
 use io_commands::Job;
@@ -93,17 +95,30 @@ impl<A: Allocator> Commands<A> {
         self.table.next(q, cid)
     }
 
-    /// Does the next unit of a command whose walk goes on.
-    pub(crate) fn walk<D: Dma>(&mut self, q: u16, cid: u16, dma: &mut D) -> WalkState
-        requires accepted { refusal_among self.old.list q cid ≡ None }
-        requires few { IfSome (find (is_command q cid) self.old.list) (λ k. k.units_done ≤ 12545) }
+    /// Does the next unit of a command.
+    ///
+    /// # Errors
+    ///
+    /// The first cause against it. Then nothing changed.
+    pub(crate) fn walk<D: Dma>(
+        &mut self,
+        q: u16,
+        cid: u16,
+        dma: &mut D,
+    ) -> Result<WalkState, Refusal>
+        requires few { refusal_among self.old.list q cid ≡ None → IfSome (find (is_command q cid) self.old.list) (λ k. k.units_done ≤ 12545) }
         requires room { length (D.reached dma.old) ≤ 2 }
-        ensures among { WalksAmong self.old.list q cid (D.memory dma.old) (D.reached dma.old) result self.new.list (D.memory dma.new) (D.reached dma.new) }
+        ensures refusal { result_err result ≡ refusal_among self.old.list q cid }
+        ensures refused { OnErr result ((self.new ≡ self.old) × (D.memory dma.new ≡ D.memory dma.old) × (D.reached dma.new ≡ D.reached dma.old)) }
+        ensures among { IfOk result (λ state. WalksAmong self.old.list q cid (D.memory dma.old) (D.reached dma.old) state self.new.list (D.memory dma.new) (D.reached dma.new)) }
         ensures queues { self.new.queues ≡ self.old.queues }
         ensures unlisted { D.unlisted dma.new ≡ D.unlisted dma.old }
         ensures pool { D.page_count dma.new ≡ D.page_count dma.old }
     {
-        self.table.get_mut(q, cid).unwrap().walk(dma)
+        let Some(command) = self.table.get_mut(q, cid) else {
+            return Err(Refusal::NoJob);
+        };
+        command.walk(dma)
     }
 
     /// Stops the command that an Abort names.

@@ -5,13 +5,13 @@ ghost use Rattle.std.specs.Option.{option_and_then};
 ghost use Rattle.std.specs.Result.{result_err};
 ghost use Rattle.block_image.specs.Blocks.{block_count};
 ghost use Rattle.page_memory.specs.Memory.{Memory};
-ghost use Rattle.controller_core.specs.Answering.{answer_refusal};
+ghost use Rattle.controller_core.specs.Posting.{post_refusal_at};
 ghost use Rattle.controller_core.specs.Completing.{complete_refusal, status_of_end, image_of_end, queues_of_end, without_submission, CanEnd, CompletesTo};
 ghost use Rattle.controller_core.specs.Contents.{change, dw0_of_work, verdict_of_work, is_command, is_deletion, IsController};
 
-use crate::answer::answer;
 use crate::command::Work;
 use crate::controller::Controller;
+use crate::post::post_at;
 use crate::queue::ControllerQueue;
 use crate::refusal::Refusal;
 use crate::waiting::is_success;
@@ -88,7 +88,7 @@ impl<A: Allocator> Controller<A> {
     /// The first cause against it.
     pub(crate) fn check_complete(&self, q: u16, cid: u16) -> Result<(), Refusal>
         ensures refused { IfErr result (λ why. (m : Memory) → complete_refusal self.now m q cid ≡ Some why) }
-        ensures ready { IfOk result (λ _. (m : Memory) → complete_refusal self.now m q cid ≡ answer_refusal self.now.queues m q) }
+        ensures ready { IfOk result (λ _. (m : Memory) → complete_refusal self.now m q cid ≡ post_refusal_at self.now.queues m q) }
         ensures ended { IfOk result (λ _. IsSome (option_and_then (λ k. verdict_of_work k.work) (find (is_command q cid) self.now.commands))) }
     {
         let Some(command) = self.commands.get(q, cid) else {
@@ -123,7 +123,7 @@ impl<A: Allocator> Controller<A> {
     {
         self.check_complete(q, cid)?;
         let (status, dw0) = self.commands.get(q, cid).unwrap().work.end(&self.image);
-        answer(&mut self.queues, q, cid, status, dw0, dma)?;
+        post_at(&mut self.queues, q, cid, status, dw0, dma)?;
         let command = self.commands.take(q, cid).unwrap();
         settle(&mut self.queues, &mut self.image, command.work);
         Ok(())

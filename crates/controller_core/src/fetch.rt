@@ -4,16 +4,16 @@ ghost use Rattle.std.specs.Prelude.{◌≡◌, ◌≢◌, ◌<◌, ◌+◌, ◌�
 ghost use Rattle.std.specs.Result.{result_err};
 ghost use Rattle.entry_codec.specs.declared.status.TheConstants.Status.{COMMAND_ID_CONFLICT};
 ghost use Rattle.queue_pair.specs.Memory.{entry_at, submission_page};
-ghost use Rattle.controller_core.specs.Answering.{answer_refusal, post_refusal, completion_by, memory_posted, page_posted, with_answer};
+ghost use Rattle.controller_core.specs.Posting.{post_refusal_at, post_refusal, completion_by, memory_posted, page_posted, with_posted};
 ghost use Rattle.controller_core.specs.Contents.{change, is_command, IsController};
-ghost use Rattle.controller_core.specs.Fetching.{live_side, side_refusal, look_refusal, LooksAt, Begins, AnswersKnown, Fetches};
+ghost use Rattle.controller_core.specs.Fetching.{live_side, side_refusal, look_refusal, LooksAt, Begins, PostsConflict, Fetches};
 ghost use Rattle.controller_core.specs.Managing.{with_taken, command_of, managed};
 ghost use Rattle.controller_core.specs.declared.command.Work.TheVariants.{Io};
 
-use crate::answer::post_completion;
 use crate::command::{FetchedCommand, Work};
 use crate::controller::Controller;
 use crate::manage::{act, end_of, view_of};
+use crate::post::post_completion;
 use crate::queue::ControllerQueue;
 use crate::refusal::Refusal;
 use admin_commands::{SqState, decide};
@@ -58,12 +58,12 @@ fn head_entry<D: Dma>(pair: &DevicePair, dma: &mut D) -> Result<SubEntry, Refusa
 }
 
 impl ControllerQueue {
-    /// Takes the entry at the head, and answers its identifier at once. Where that is refused nothing changed.
-    fn answer_taken<D: Dma>(&mut self, q: u16, cid: u16, dma: &mut D) -> Result<(), Refusal>
+    /// Takes the entry at the head, and posts Command Identifier Conflict for it. Where that is refused nothing changed.
+    fn post_conflict<D: Dma>(&mut self, q: u16, cid: u16, dma: &mut D) -> Result<(), Refusal>
         requires rung { self.old.controller.ring.head ≢ self.old.controller.ring.bell }
         requires room { length (D.reached dma.old) ≤ 2 }
         ensures refusal { result_err result ≡ post_refusal (D.memory dma.old) self.old.controller }
-        ensures queue { OnOk result (self.new ≡ with_answer (with_taken self.old)) }
+        ensures queue { OnOk result (self.new ≡ with_posted (with_taken self.old)) }
         ensures written { OnOk result (D.memory dma.new ≡ memory_posted (D.memory dma.old) self.old.controller (completion_by q cid COMMAND_ID_CONFLICT 0 (with_taken self.old).controller)) }
         ensures touched { OnOk result (D.reached dma.new ≡ D.reached dma.old ++ page_posted self.old.controller ∷ []) }
         ensures refused { OnErr result ((self.new ≡ self.old) × (D.memory dma.new ≡ D.memory dma.old) × (D.reached dma.new ≡ D.reached dma.old)) }
@@ -87,8 +87,8 @@ fn take_entry<A: Allocator>(queues: &mut Vec<ControllerQueue, A>, q: u16)
     queues[usize::from(q)].controller.take();
 }
 
-/// Takes the entry at the head of a queue, and answers its identifier at once. Where that is refused nothing changed.
-fn answer_in<A: Allocator, D: Dma>(
+/// Takes the entry at the head of a queue, and posts Command Identifier Conflict for it. Where that is refused nothing changed.
+fn post_conflict_at<A: Allocator, D: Dma>(
     queues: &mut Vec<ControllerQueue, A>,
     q: u16,
     cid: u16,
@@ -97,14 +97,14 @@ fn answer_in<A: Allocator, D: Dma>(
     requires there { q < length queues.old.items }
     requires rung { IfSome (slice_get queues.old.items q) (λ queue. queue.controller.ring.head ≢ queue.controller.ring.bell) }
     requires room { length (D.reached dma.old) ≤ 2 }
-    ensures refusal { result_err result ≡ answer_refusal queues.old.items (D.memory dma.old) q }
-    ensures answers { OnOk result (AnswersKnown queues.old.items q cid (D.memory dma.old) (D.reached dma.old) queues.new.items (D.memory dma.new) (D.reached dma.new)) }
+    ensures refusal { result_err result ≡ post_refusal_at queues.old.items (D.memory dma.old) q }
+    ensures posts { OnOk result (PostsConflict queues.old.items q cid (D.memory dma.old) (D.reached dma.old) queues.new.items (D.memory dma.new) (D.reached dma.new)) }
     ensures count { length queues.new.items ≡ length queues.old.items }
     ensures refused { OnErr result ((queues.new.items ≡ queues.old.items) × (D.memory dma.new ≡ D.memory dma.old) × (D.reached dma.new ≡ D.reached dma.old)) }
     ensures unlisted { D.unlisted dma.new ≡ D.unlisted dma.old }
     ensures pool { D.page_count dma.new ≡ D.page_count dma.old }
 {
-    queues[usize::from(q)].answer_taken(q, cid, dma)
+    queues[usize::from(q)].post_conflict(q, cid, dma)
 }
 
 /// A command as it is fetched.
@@ -178,13 +178,13 @@ impl<A: Allocator + Copy> Controller<A> {
     /// field check fails, that is its verdict, and a Read takes its blocks from the image as it is now. An entry of queue 0 is decided
     /// here: an Abort stops its command, the deletion of a submission queue stops that queue and its commands, the deletion of a completion
     /// queue drops it, and a creation makes its queue, with empty rings at the pages that it names. An identifier that was fetched from the
-    /// queue and not completed is answered at once, with Command Identifier Conflict. The list of the touched pages has one page at most
-    /// before. It gets the entry's page, and behind it that of such an answer.
+    /// queue and not completed is completed at once, with Command Identifier Conflict. The list of the touched pages has one page at most
+    /// before. It gets the entry's page, and behind it that of such a completion.
     ///
     /// # Errors
     ///
     /// 1. `Idle`: there is no such queue, nothing is fetched from it, or nothing is rung. 2. `SlotOut`: a byte of the entry's slot is
-    /// missing. Where the identifier is answered at once: 3. `Full`: the completion ring is full. 4. `SlotOut`: a byte of the
+    /// missing. Where the identifier is completed at once: 3. `Full`: the completion ring is full. 4. `SlotOut`: a byte of the
     /// completion's slot is missing. Else 5. `Memory`, where memory is refused. Then nothing changed but the touched list, which has the
     /// entry's page from the third on.
     pub fn fetch<D: Dma>(&mut self, q: u16, dma: &mut D) -> Result<u16, Refusal>
@@ -197,7 +197,7 @@ impl<A: Allocator + Copy> Controller<A> {
         let entry = self.look(q, dma)?;
         let cid = entry.cid;
         if self.commands.get(q, cid).is_some() {
-            answer_in(&mut self.queues, q, cid, dma)?;
+            post_conflict_at(&mut self.queues, q, cid, dma)?;
             return Ok(cid);
         }
         if q == 0 {

@@ -10,7 +10,6 @@
 //! [`Controller::next_step`] alone empties it, and leaves it empty.
 #![tactic(auto)]
 
-mod answer;
 mod command;
 mod commands;
 mod complete;
@@ -20,6 +19,7 @@ mod fetch;
 pub mod laws;
 mod look;
 mod manage;
+mod post;
 mod queue;
 mod refusal;
 mod reset;

@@ -1,9 +1,9 @@
 //! What the controller can do: a look that changes nothing but the touched list, for an emulator that asks before it calls.
 
 ghost use Rattle.std.specs.Prelude.{◌≡◌, ◌+◌, ◌<◌, ◌≤◌, ℕ, [], false, is_none, None, IfSome, IfNone, length};
-ghost use Rattle.controller_core.specs.Answering.{answer_refusal, post_refusal};
+ghost use Rattle.controller_core.specs.Posting.{post_refusal_at, post_refusal};
 ghost use Rattle.controller_core.specs.Fetching.{fetch_refusal};
-ghost use Rattle.controller_core.specs.Looks.{refusal_by, IsAtRest, IsStuck, post_touches, answer_touches, fetch_touches, fetches_touch, command_touches, looked};
+ghost use Rattle.controller_core.specs.Looks.{refusal_by, IsAtRest, IsStuck, post_touches, post_touches_at, fetch_touches, fetches_touch, command_touches, looked};
 ghost use Rattle.page_memory.specs.Memory.{counted, TouchesMore};
 
 use crate::controller::Controller;
@@ -57,10 +57,10 @@ fn post_cause<D: Dma>(pair: &DevicePair, dma: &mut D) -> Option<Refusal>
 }
 
 /// The same of a queue by its number.
-fn answer_cause<D: Dma>(queues: &[ControllerQueue], q: u16, dma: &mut D) -> Option<Refusal>
+fn post_cause_at<D: Dma>(queues: &[ControllerQueue], q: u16, dma: &mut D) -> Option<Refusal>
     requires room { length (D.reached dma.old) ≤ 2 }
-    ensures cause { result ≡ answer_refusal queues.now (D.memory dma.old) q }
-    ensures touched { length (D.reached dma.new) ≡ length (D.reached dma.old) + answer_touches queues.now (D.memory dma.old) q }
+    ensures cause { result ≡ post_refusal_at queues.now (D.memory dma.old) q }
+    ensures touched { length (D.reached dma.new) ≡ length (D.reached dma.old) + post_touches_at queues.now (D.memory dma.old) q }
     ensures unlisted { D.unlisted dma.new ≡ D.unlisted dma.old }
     ensures memory { D.memory dma.new ≡ D.memory dma.old }
     ensures pool { D.page_count dma.new ≡ D.page_count dma.old }
@@ -83,7 +83,7 @@ impl<A: Allocator + Copy> Controller<A> {
         match self.look(q, dma) {
             Ok(entry) => {
                 if self.commands.get(q, entry.cid).is_some() {
-                    answer_cause(&self.queues, q, dma).is_none()
+                    post_cause_at(&self.queues, q, dma).is_none()
                 } else {
                     true
                 }
@@ -124,7 +124,7 @@ impl<A: Allocator + Copy> Controller<A> {
         if self.check_complete(q, cid).is_err() {
             return None;
         }
-        match answer_cause(&self.queues, q, dma) {
+        match post_cause_at(&self.queues, q, dma) {
             Some(_) => None,
             None => Some(ControllerStep::Complete { q, cid }),
         }

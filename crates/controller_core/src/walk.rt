@@ -15,23 +15,30 @@ use page_memory::Dma;
 use std::alloc::Allocator;
 
 impl<A: Allocator> FetchedCommand<Job<A>> {
-    /// Does the next unit of its list, where its walk goes on.
-    pub(crate) fn walk<D: Dma>(&mut self, dma: &mut D) -> WalkState
-        requires accepted { ended_refusal self.old ≡ None }
-        requires few { self.old.units_done ≤ 12545 }
+    /// Does the next unit of its list.
+    ///
+    /// # Errors
+    ///
+    /// `Nothing` where it has its verdict, as an admin command has from its fetch on. Then nothing changed.
+    pub(crate) fn walk<D: Dma>(&mut self, dma: &mut D) -> Result<WalkState, Refusal>
+        requires few { ended_refusal self.old ≡ None → self.old.units_done ≤ 12545 }
         requires room { length (D.reached dma.old) ≤ 2 }
-        ensures walks { WalksOne self.old (D.memory dma.old) (D.reached dma.old) result self.new (D.memory dma.new) (D.reached dma.new) }
+        ensures refusal { result_err result ≡ ended_refusal self.old }
+        ensures refused { OnErr result ((self.new ≡ self.old) × (D.memory dma.new ≡ D.memory dma.old) × (D.reached dma.new ≡ D.reached dma.old)) }
+        ensures walks { IfOk result (λ state. WalksOne self.old (D.memory dma.old) (D.reached dma.old) state self.new (D.memory dma.new) (D.reached dma.new)) }
         ensures unlisted { D.unlisted dma.new ≡ D.unlisted dma.old }
         ensures pool { D.page_count dma.new ≡ D.page_count dma.old }
     {
         match &mut self.work {
             Work::Io(job) => {
+                if job.verdict().is_some() {
+                    return Err(Refusal::Nothing);
+                }
                 let state = job.step(dma);
                 self.units_done += 1;
-                state
+                Ok(state)
             }
-            // An admin command has its verdict from its fetch on, so it has no walk.
-            Work::Admin { .. } => unreachable!(),
+            Work::Admin { .. } => Err(Refusal::Nothing),
         }
     }
 }
@@ -73,7 +80,6 @@ impl<A: Allocator> Controller<A> {
         ensures unlisted { D.unlisted dma.new ≡ D.unlisted dma.old }
         ensures pool { D.page_count dma.new ≡ D.page_count dma.old }
     {
-        self.commands.check_walk(q, cid)?;
-        Ok(self.commands.walk(q, cid, dma))
+        self.commands.walk(q, cid, dma)
     }
 }

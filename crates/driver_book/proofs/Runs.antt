@@ -5,27 +5,26 @@ use Rattle.two_sides.specs.Histories as histories
 use Rattle.step_core.specs.declared.step.Step.TheVariants as step
 use Rattle.machine_model.specs.Step as machine
 use Rattle.machine_model.specs.declared.words.Refusal.TheVariants as refusal
-use Rattle.std.proofs.Common.{◌≡◌, ℕ, Bool, true, false, true≢false, not, IsTrue, None, List, [], ◌∷◌, ◌++◌, map, if◌then◌else◌, refl, sym, ap, ◌∙◌, subst, ◌+◌, ◌≤◌, ◌<◌, length, drop, get_or, Option, Some, arith, length-append, ◌⊎◌, inl, inr, ◌-◌, ◌||◌, cond, Result, Ok, Err, is_ok, is_err, OnOk, OnErr, IfOk, IfErr}
-use Rattle.std.proofs.lemmas.{List.{take-append-le, map-append, take_all, drop_at, append-nil, Sums.sum_by_push}, Option.{slice_get-map, slice_get_read}}
-use Rattle.std.{proofs.lemmas.Slice.between_is, specs.{Bool.OnTrue, List.list_any, Option.option_map, Prelude.{slice_get, is_some, MatchBool}}}
+use Rattle.std.proofs.Common.{◌≡◌, ℕ, Bool, true, false, true≢false, not, IsTrue, None, List, [], ◌∷◌, ◌++◌, map, if◌then◌else◌, refl, sym, ap, ◌∙◌, subst, ◌+◌, ◌≤◌, length, drop, Option, Some, arith, length-append, ◌⊎◌, inr, ◌||◌, cond, Result, Ok, Err, is_ok, OnOk, IfOk, IfErr}
+use Rattle.std.proofs.lemmas.{List.{take-append-le, map-append, take_all, drop_at, append-nil, Sums.sum_by_push}}
+use Rattle.std.{proofs.lemmas.Slice.between_is, specs.{Bool.OnTrue, List.list_any, Option.option_map, Prelude.{is_some, MatchBool}}}
 use Rattle.machine_model.{proofs.Headline.steps_keep, specs.{Claims.IsSound, Events.Event, Image.Made, Refusals.refusal_of, State.State}}
 use Rattle.machine_model.specs.{Trusted.{Steps, TrustedRun}, declared.words.Refusal.Refusal}
 use Rattle.two_sides.proofs.{Agreed.{opens_in_order, order_kept, agreed_stays}, Along.trusted_end, PoolBytes.ends_unforged as trusted_unforged}
 use Rattle.two_sides.specs.InOrder.{IsInOrder}
 use Rattle.step_core.{proofs.Order.same_forgery, specs.{Going.forges_by, Opening.opening_of, Replies.{accept_reply, reserve_reply}, Touching.StaysAllowed}}
 use Rattle.step_core.specs.Values.{Step, Reply as Answer, Reply}
-use Rattle.driver_book.specs.Calls.{noted, entries, Does, WantsMemoryFor, IsLogFull, MayWorldWant, LacksRoomToReserve, most_of, most_pages}
+use Rattle.driver_book.specs.Calls.{noted, entries, Does, WantsMemoryFor, MayWorldWant, most_of, most_pages}
 use Rattle.driver_book.specs.Entries.{Entry, LoggedDraft, answered, Room, LogContents, Takes, Lacks}
 use Rattle.driver_book.specs.History.{asked, told, draft_of, TellsOf, LeadsTo, entry_of, is_submission, is_accepted, accepted}
-use Rattle.driver_book.specs.Keeping.{KeptRequest, KeptStep, KeptDraft, Kept, part_of, shown_request, shown_step, shown_draft, shown, bare_step, HasNoRequest, FitsIn, StepFits, DraftFits, EntryFits, AllFit}
+use Rattle.driver_book.specs.Keeping.{KeptRequest, KeptStep, KeptDraft, Kept, part_of, shown_request, shown_step, shown_draft, shown, FitsIn, StepFits, DraftFits, EntryFits, AllFit}
 use Rattle.driver_book.specs.Laws.{IsEntryOf, is_forgery, entries_name_allowed_pages, logs_are_trusted_runs, logs_of_jobs_are_trusted_runs, pieces_are_one_history, resets, is_reset, since_reset, trusted_ends_are_unforged}
-use Rattle.driver_book.specs.{State.{is_of_jobs, AreOfJobs, BookContents, SeatContents, IsBook, is_seated, AreSeated}, declared.entry.Span.Span}
+use Rattle.driver_book.specs.{State.{is_of_jobs, AreOfJobs, BookContents, IsBook, is_seated, AreSeated}, declared.entry.Span.Span}
 use Rattle.host_core.specs.{Opening.refusal_of_config, declared.{config.Config.Config, refused.Refused.Refused}}
 use Rattle.block_image.specs.Blocks.{IsImage}
 use Rattle.io_commands.{proofs.Building.joined_parts_few, specs.{Asked.Request, Drafts.DraftContents, Requests.{data_count, joined_parts}}}
 use Rattle.io_commands.specs.{Values.{TicketContents, numbers_of}, declared.request.Piece.Piece}
 use Rattle.sgl_chain.proofs.Spelled.{needed_few}
-use Rattle.page_memory.proofs.Lists.{all-at}
 
 -- Logs, and the runs that they tell of.
 
@@ -438,8 +437,8 @@ does_in {at = at} same v now room touches seat e r step is =
     rw (← same) (does at new v now room touches seat e r step is refl)
 
 -- a fact of the world inside a book
-pub touches_in : (book : BookContents) (w : State) (e : Event) (r : events.Reply) → book.world ≡ w → StaysAllowed w e r → StaysAllowed book.world e r
-touches_in book w e r is stays = rw is stays
+pub touches_in : {at old : BookContents} → at ≡ old → (e : Event) (r : events.Reply) → StaysAllowed at.world e r → StaysAllowed old.world e r
+touches_in same e r stays = rw (← same) stays
 
 -- Want of memory
 
@@ -467,51 +466,13 @@ takes_memory Cause same new e (events.Refused refusal.Memory touched) step = inr
 takes_memory Cause same new e (events.Refused why touched) step = tt
 takes_memory Cause same new e r step = tt
 
--- Room
-
--- where room was made for one more, there is some
-pub has_room : {A E : Type 0} (len capacity : ℕ) (made : Result A E) → is_err made ≡ false → OnOk made (len + 1 ≤ capacity) → len < capacity
-has_room len capacity (Ok done) is room = omega (arith, room)
-has_room len capacity (Err e) is room = absurd (true≢false is)
-
--- and so in a log
-pub log_has_room : {A E : Type 0} (room : Room) (pieces pages : ℕ) (made : Result A E) → is_err made ≡ false → OnOk made (Takes room pieces pages) → Takes room pieces pages
-log_has_room room pieces pages (Ok done) is takes = takes
-log_has_room room pieces pages (Err e) is takes = absurd (true≢false is)
-
-pub log_has_some : {A E : Type 0} (room : Room) (made : Result A E) → is_err made ≡ false → OnOk made (Takes room 0 0) → 0 < room.entries
-log_has_some room made is takes = omega (arith, (log_has_room room 0 0 made is takes).entry)
-
--- where none was made, the log has too little
-pub log_lacks : {A E : Type 0} {at old : BookContents} → at ≡ old → (pieces pages : ℕ) (made : Result A E) → is_err made ≡ true → OnErr made (Lacks at.room pieces pages)
-    → Lacks old.room pieces pages
-log_lacks same pieces pages (Ok done) is lacks = absurd (true≢false (sym is))
-log_lacks same pieces pages (Err e) is lacks = rw (← same) lacks
-
--- so of a seat's receipts
-pub receipts_full : {A E : Type 0} {at old : SeatContents} → at ≡ old → (capacity taken : ℕ) → at.spare ≡ capacity - taken → (made : Result A E) → is_err made ≡ true → OnErr made (capacity < taken + 1) → old.spare ≡ 0
-receipts_full same capacity taken spare (Ok done) is full = absurd (true≢false (sym is))
-receipts_full same capacity taken spare (Err e) is full = let none : capacity - taken ≡ 0 = omega (arith, full) in rw (← same) (spare ∙ none)
-
--- so of a reservation, whose numbers the code found
-pub lacks_to_reserve : {at old : BookContents} → at ≡ old → (q : ℕ) (r : Request) (p n : ℕ) → p ≡ length r.pieces → n ≡ most_pages at.world q r → Lacks old.room p n → LacksRoomToReserve old q r
-lacks_to_reserve {old = old} same q r p n pieces pages lacks =
-    let there : n ≡ most_pages old.world q r = pages ∙ ap (λ (b : BookContents). most_pages b.world q r) same in
-    subst (λ (m : ℕ). Lacks old.room (length r.pieces) m) there (subst (λ (k : ℕ). Lacks old.room k n) pieces lacks)
+-- Room, for numbers that the code found
 
 pub takes_as : (room : Room) (p n k m : ℕ) → p ≡ k → n ≡ m → Takes room p n → Takes room k m
 takes_as room p n k m pieces pages takes = subst (λ (x : ℕ). Takes room k x) pages (subst (λ (x : ℕ). Takes room x n) pieces takes)
 
 pub lacks_as : (room : Room) (p n k m : ℕ) → p ≡ k → n ≡ m → Lacks room p n → Lacks room k m
 lacks_as room p n k m pieces pages lacks = subst (λ (x : ℕ). Lacks room k x) pages (subst (λ (x : ℕ). Lacks room x n) pieces lacks)
-
-no_entry : (room : Room) → Lacks room 0 0 → room.entries ≡ 0
-no_entry room (inl none) = none
-no_entry room (inr (inl few)) = absurd (omega (arith, few))
-no_entry room (inr (inr few)) = absurd (omega (arith, few))
-
-pub no_room : {A E : Type 0} {at old : BookContents} → at ≡ old → (made : Result A E) → is_err made ≡ true → OnErr made (Lacks at.room 0 0) → IsLogFull old
-no_room {old = old} same made is lacks = no_entry old.room (log_lacks same 0 0 made is lacks)
 
 pub wants_room : {Cause : Type 0} (why : Refusal) (touched : List ℕ) → why ≡ refusal.Memory → Cause → WantsMemoryFor Cause (events.Refused why touched)
 wants_room why touched is cause = rw is cause
@@ -552,13 +513,7 @@ reservation_written s new q request (Ok d) log mid now step back same written re
     written ∙ rw (same, is.queue, is.request) refl
 reservation_written s new q request (Err r) log mid now step back same written refused = refused ∙ rw (same, back) refl
 
--- and the room that it takes
-pub reservation_takes : (s new : State) (q : ℕ) (request : Request) (answer : Result DraftContents (Refused Request)) (room : Room)
-    → machine.Step s (events.Reserve q request) (reserve_reply answer) new → IfErr answer (λ r. r.value ≡ request) → Takes room (length request.pieces) (most_pages s q request)
-    → IfErr answer (λ r. Takes room (length r.value.pieces) 0)
-reservation_takes s new q request (Ok d) room step back takes = tt
-reservation_takes s new q request (Err r) room step back takes = record { entry = takes.entry; pieces = rw back takes.pieces; pages = omega arith }
-
+-- and the room that its draft takes
 pub draft_takes : (s new : State) (q : ℕ) (request : Request) (answer : Result DraftContents (Refused Request)) (room : Room)
     → machine.Step s (events.Reserve q request) (reserve_reply answer) new → Takes room (length request.pieces) (most_pages s q request)
     → IfOk answer (λ d. Takes room (length d.request.pieces) (length d.data_pages + length d.chain_pages))

@@ -25,9 +25,9 @@ impl<L: FullLogBrand, A: Allocator + Copy> Book<L, A> {
         ensures touches { Touches self.old.world.entries self.old.touches (events.Abort q cid) (send_reply result) self.new.touches }
         ensures memory { WantsMemoryFor (IsLogFull self.old) (send_reply result) }
     {
-        if self.log.make_room(0, 0).is_err() {
+        let Ok(()) = self.log.make_room(0, 0) else {
             return Err(Refusal::Memory);
-        }
+        };
         let answer = self.world.abort(q, cid);
         note(&mut self.log, None, Step::Abort { q, cid }, sent(&answer));
         answer
@@ -43,9 +43,9 @@ impl<L: FullLogBrand, A: Allocator + Copy> Book<L, A> {
         ensures touches { Touches self.old.world.entries self.old.touches (events.DeleteSq q) (send_reply result) self.new.touches }
         ensures memory { WantsMemoryFor (IsLogFull self.old) (send_reply result) }
     {
-        if self.log.make_room(0, 0).is_err() {
+        let Ok(()) = self.log.make_room(0, 0) else {
             return Err(Refusal::Memory);
-        }
+        };
         let answer = self.world.delete_sq(q);
         note(&mut self.log, None, Step::DeleteSq { q }, sent(&answer));
         answer
@@ -61,9 +61,9 @@ impl<L: FullLogBrand, A: Allocator + Copy> Book<L, A> {
         ensures touches { Touches self.old.world.entries self.old.touches (events.DeleteCq q) (send_reply result) self.new.touches }
         ensures memory { WantsMemoryFor (IsLogFull self.old) (send_reply result) }
     {
-        if self.log.make_room(0, 0).is_err() {
+        let Ok(()) = self.log.make_room(0, 0) else {
             return Err(Refusal::Memory);
-        }
+        };
         let answer = self.world.delete_cq(q);
         note(&mut self.log, None, Step::DeleteCq { q }, sent(&answer));
         answer
@@ -79,9 +79,9 @@ impl<L: FullLogBrand, A: Allocator + Copy> Book<L, A> {
         ensures touches { Touches self.old.world.entries self.old.touches (events.CreateCq q) (send_reply result) self.new.touches }
         ensures memory { WantsMemoryFor (IsLogFull self.old) (send_reply result) }
     {
-        if self.log.make_room(0, 0).is_err() {
+        let Ok(()) = self.log.make_room(0, 0) else {
             return Err(Refusal::Memory);
-        }
+        };
         let answer = self.world.create_cq(q);
         note(&mut self.log, None, Step::CreateCq { q }, sent(&answer));
         answer
@@ -97,9 +97,9 @@ impl<L: FullLogBrand, A: Allocator + Copy> Book<L, A> {
         ensures touches { Touches self.old.world.entries self.old.touches (events.CreateSq q) (send_reply result) self.new.touches }
         ensures memory { WantsMemoryFor (IsLogFull self.old) (send_reply result) }
     {
-        if self.log.make_room(0, 0).is_err() {
+        let Ok(()) = self.log.make_room(0, 0) else {
             return Err(Refusal::Memory);
-        }
+        };
         let answer = self.world.create_sq(q);
         note(&mut self.log, None, Step::CreateSq { q }, sent(&answer));
         answer
@@ -115,9 +115,9 @@ impl<L: FullLogBrand, A: Allocator + Copy> Book<L, A> {
         ensures touches { Touches self.old.world.entries self.old.touches (events.Retire q) (ring_reply result) self.new.touches }
         ensures memory { WantsMemoryFor (IsLogFull self.old) (ring_reply result) }
     {
-        if self.log.make_room(0, 0).is_err() {
+        let Ok(()) = self.log.make_room(0, 0) else {
             return Err(Refusal::Memory);
-        }
+        };
         let answer = self.world.retire(q);
         note(&mut self.log, None, Step::Retire { q }, done(&answer));
         answer
@@ -133,9 +133,9 @@ impl<L: FullLogBrand, A: Allocator + Copy> Book<L, A> {
         ensures touches { Touches self.old.world.entries self.old.touches (events.Forge q slot bytes) (ring_reply result) self.new.touches }
         ensures memory { WantsMemoryFor (IsLogFull self.old) (ring_reply result) }
     {
-        if self.log.make_room(0, 0).is_err() {
+        let Ok(()) = self.log.make_room(0, 0) else {
             return Err(Refusal::Memory);
-        }
+        };
         let answer = self.world.forge(q, slot, bytes);
         note(
             &mut self.log,
@@ -157,9 +157,9 @@ impl<L: FullLogBrand, A: Allocator + Copy> Book<L, A> {
         ensures recovers { OnOk result (SidesAgree self.new.world) }
         ensures memory { IfErr result (λ why. (why ≡ Refusal.Memory) × IsLogFull self.old) }
     {
-        if self.log.make_room(0, 0).is_err() {
+        let Ok(()) = self.log.make_room(0, 0) else {
             return Err(Refusal::Memory);
-        }
+        };
         self.world.reset();
         note(&mut self.log, None, Step::Reset, Some(Reply::Accepted));
         Ok(())

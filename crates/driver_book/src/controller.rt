@@ -35,9 +35,9 @@ impl<L: LogBrand, A: Allocator + Copy> Book<L, A> {
         ensures tells { TellsAll self.old.touches (fetch_reply result) self.new.touches }
         ensures memory { WantsMemoryFor (IsLogFull self.old ⊎ MayWorldWant self.old (events.Fetch q)) (fetch_reply result) }
     {
-        if self.log.make_room(0, 0).is_err() {
+        let Ok(()) = self.log.make_room(0, 0) else {
             return Err(unlogged());
-        }
+        };
         let answer = self.world.fetch(q);
         note(&mut self.log, None, Step::Fetch { q }, fetched(&answer));
         answer
@@ -54,9 +54,9 @@ impl<L: LogBrand, A: Allocator + Copy> Book<L, A> {
         ensures tells { TellsAll self.old.touches (walk_reply result) self.new.touches }
         ensures memory { WantsMemoryFor (IsLogFull self.old) (walk_reply result) }
     {
-        if self.log.make_room(0, 0).is_err() {
+        let Ok(()) = self.log.make_room(0, 0) else {
             return Err(unlogged());
-        }
+        };
         let answer = self.world.walk(q, cid);
         note(&mut self.log, None, Step::Walk { q, cid }, walked(&answer));
         answer
@@ -73,9 +73,9 @@ impl<L: LogBrand, A: Allocator + Copy> Book<L, A> {
         ensures tells { TellsAll self.old.touches (complete_reply result) self.new.touches }
         ensures memory { WantsMemoryFor (IsLogFull self.old) (complete_reply result) }
     {
-        if self.log.make_room(0, 0).is_err() {
+        let Ok(()) = self.log.make_room(0, 0) else {
             return Err(unlogged());
-        }
+        };
         let answer = self.world.complete(q, cid);
         note(
             &mut self.log,

@@ -54,9 +54,9 @@ impl<L: LogBrand, A: Allocator + Copy> Book<L, A> {
     {
         let pieces = request.pieces().len();
         let pages = pages_to_log(&self.world, q, &request);
-        if self.log.make_room(pieces, pages).is_err() {
+        let Ok(()) = self.log.make_room(pieces, pages) else {
             return Err(unlogged(request));
-        }
+        };
         let answer = self.world.reserve(q, request);
         note_reservation(&mut self.log, q, &answer);
         answer
@@ -73,9 +73,9 @@ impl<L: LogBrand, A: Allocator + Copy> Book<L, A> {
         ensures back { IfErr result (λ r. r.value ≡ draft) }
         ensures memory { WantsMemoryFor (IsLogFull self.old) (accept_reply result) }
     {
-        if self.log.make_room(0, 0).is_err() {
+        let Ok(()) = self.log.make_room(0, 0) else {
             return Err(unlogged(draft));
-        }
+        };
         let step = Step::Cancel {
             q: draft.q(),
             cid: draft.cid(),
@@ -95,9 +95,9 @@ impl<L: LogBrand, A: Allocator + Copy> Book<L, A> {
         ensures touches { Touches self.old.world.entries self.old.touches (events.Ring q) (ring_reply result) self.new.touches }
         ensures memory { WantsMemoryFor (IsLogFull self.old) (ring_reply result) }
     {
-        if self.log.make_room(0, 0).is_err() {
+        let Ok(()) = self.log.make_room(0, 0) else {
             return Err(Refusal::Memory);
-        }
+        };
         let answer = self.world.ring(q);
         note(&mut self.log, None, Step::Ring { q }, done(&answer));
         answer
@@ -113,9 +113,9 @@ impl<L: LogBrand, A: Allocator + Copy> Book<L, A> {
         ensures touches { Touches self.old.world.entries self.old.touches (events.Reap q) (reap_reply result) self.new.touches }
         ensures memory { WantsMemoryFor (IsLogFull self.old) (reap_reply result) }
     {
-        if self.log.make_room(0, 0).is_err() {
+        let Ok(()) = self.log.make_room(0, 0) else {
             return Err(Refusal::Memory);
-        }
+        };
         let answer = self.world.reap(q);
         note(&mut self.log, None, Step::Reap { q }, reaped(&answer));
         answer
@@ -132,9 +132,9 @@ impl<L: LogBrand, A: Allocator + Copy> Book<L, A> {
         ensures back { IfErr result (λ r. r.value ≡ ticket) }
         ensures memory { WantsMemoryFor (IsLogFull self.old ⊎ MayWorldWant self.old (events.Collect ticket.q ticket.cid)) (collect_reply result) }
     {
-        if self.log.make_room(0, 0).is_err() {
+        let Ok(()) = self.log.make_room(0, 0) else {
             return Err(unlogged(ticket));
-        }
+        };
         let step = Step::Collect {
             q: ticket.q(),
             cid: ticket.cid(),

@@ -162,12 +162,12 @@ impl<L: LogBrand, A: Allocator + Copy> Book<L, A> {
         ensures memory { WantsMemoryFor (LacksRoomToSubmit self.old draft ⊎ AreReceiptsFull seat.old) (accept_reply result) }
     {
         let pieces = draft.request().pieces().len();
-        if self.log.make_room(pieces, draft.pages().len()).is_err() {
+        let Ok(()) = self.log.make_room(pieces, draft.pages().len()) else {
             return Err(unlogged(draft));
-        }
-        if seat.receipts.reserve(1).is_err() {
+        };
+        let Ok(()) = seat.receipts.reserve(1) else {
             return Err(unlogged(draft));
-        }
+        };
         let (q, cid) = (draft.q(), draft.cid());
         self.log.push_submission(Some(seat.number), &draft);
         let answer = self.world.submit(draft);
@@ -203,9 +203,9 @@ impl<L: LogBrand, A: Allocator + Copy> Book<L, A> {
         ensures back { IfErr result (λ r. r.value ≡ finished) }
         ensures memory { WantsMemoryFor (IsLogFull self.old) (accept_reply result) }
     {
-        if self.log.make_room(0, 0).is_err() {
+        let Ok(()) = self.log.make_room(0, 0) else {
             return Err(unlogged(finished));
-        }
+        };
         let (q, cid) = (finished.q(), finished.cid());
         let status = self.world.status_of(q, cid);
         let answer = self.world.release(finished);

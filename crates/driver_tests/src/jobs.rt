@@ -6,12 +6,10 @@ ghost use Rattle.std.specs.Prelude.{◌≡◌, ◌≤◌, vec_len, IfOk};
 use crate::looks::{counts, see};
 use crate::part::USUAL;
 use crate::runs::{Outcome, is_done, job, play};
-use driver_book::Report;
+use crate::two_submitters::{ON_ONE_QUEUE, are_ended, is_as_wanted, two_lists, writes_and_reads};
 use driver_threads::{Gate, GateClosed, Job, JobEnd, JobRefusal, Open, Point, RunFault};
 use entry_codec::Status;
 use io_commands::{Kind, RequestFault};
-use page_ledger::Owner;
-use page_memory::Half;
 use std::alloc::{AllocError, Global};
 use std::process::Abort;
 use std::sync::Wait;
@@ -72,83 +70,11 @@ impl Gate for Closed {
     }
 }
 
-/// Three jobs of one block each, from block `first` on; where they are Writes, of this byte and the two behind it.
-fn put_three(
-    alloc: Global,
-    jobs: &mut Vec<Job>,
-    q: u16,
-    kind: Kind,
-    first: u64,
-    byte: u8,
-) -> Result<(), AllocError> {
-    for i in 0..3u8 {
-        let slba = first.wrapping_add(u64::from(i));
-        let bytes = [byte.wrapping_add(i)];
-        let bytes: &[u8] = if kind == Kind::Write { &bytes } else { &[] };
-        jobs.push(job(alloc, q, kind, slba, 1, bytes)?)?;
-    }
-    Ok(())
-}
-
-/// Three Writes of a block from `first` on, and the Reads of these blocks.
-fn writes_and_reads(alloc: Global, q: u16, first: u64, byte: u8) -> Result<Vec<Job>, AllocError> {
-    let mut jobs = Vec::new(alloc);
-    put_three(alloc, &mut jobs, q, Kind::Write, first, byte)?;
-    put_three(alloc, &mut jobs, q, Kind::Read, first, byte)?;
-    Ok(jobs)
-}
-
-/// A block that begins with a byte, with zeros behind it.
-fn block(byte: u8) -> [u8; 512] {
-    let mut block = [0; 512];
-    block[0] = byte;
-    block
-}
-
-/// Whether these are the ends of three such Writes and Reads.
-fn are_written_and_read(ends: &[JobEnd], byte: u8) -> bool {
-    ends.len() == 6
-        && ends
-            .iter()
-            .take(3)
-            .all(|end| is_done(end, Status::SUCCESS, &[]))
-        && ends.iter().skip(3).zip(0..3u8).all(|(end, i)| is_done(
-            end,
-            Status::SUCCESS,
-            &block(byte.wrapping_add(i)),
-        ))
-}
-
-/// The jobs of two submitters: on which queue, from which block on, and of which bytes.
-fn two_lists(alloc: Global, asked: [(u16, u64, u8); 2]) -> Result<Vec<Vec<Job>>, AllocError>
-    ensures { IfOk result (λ lists. vec_len lists ≡ 2) }
-{
-    let [first, second] = asked;
-    let mut lists = Vec::new(alloc);
-    lists.push(writes_and_reads(alloc, first.0, first.1, first.2)?)?;
-    lists.push(writes_and_reads(alloc, second.0, second.1, second.2)?)?;
-    Ok(lists)
-}
-
-/// Sees that two submitters' Writes and Reads came to their ends.
-fn see_ends<R: Abort>(rt: &R, outcome: &Outcome, bytes: [u8; 2]) {
-    match outcome.jobs.as_slice() {
-        [first, second] => {
-            assert!(rt; are_written_and_read(first, bytes[0]));
-            assert!(rt; are_written_and_read(second, bytes[1]));
-        }
-        _ => panic!(rt; "two lists"),
-    }
-}
-
 /// Sees how many entries the log has, none of which is a refusal.
 fn see_log<R: Abort>(rt: &R, outcome: &Outcome, entries: usize) {
     see(rt, &outcome.refusals, &0);
     see(rt, &outcome.entries, &entries);
 }
-
-/// Two submitters' jobs on one queue.
-const ON_ONE_QUEUE: [(u16, u64, u8); 2] = [(1, 0, 0xA0), (1, 8, 0xB0)];
 
 /// Two submitters on one queue, with a gate.
 fn two_submitters<G: Gate + Sync, R: Threads + Wait + Sync>(
@@ -159,78 +85,24 @@ fn two_submitters<G: Gate + Sync, R: Threads + Wait + Sync>(
     Ok(play(rt, alloc, USUAL, 64, two_lists(alloc, ON_ONE_QUEUE)?, gate)?)
 }
 
-/// Who has the first four pages.
-const QUEUES: [Owner; 4] = [
-    Owner::Queue {
-        q: 0,
-        half: Half::Submission,
-    },
-    Owner::Queue {
-        q: 0,
-        half: Half::Completion,
-    },
-    Owner::Queue {
-        q: 1,
-        half: Half::Submission,
-    },
-    Owner::Queue {
-        q: 1,
-        half: Half::Completion,
-    },
-];
-
-/// Sees that the first four pages are those of the queues, and that the others are free.
-fn see_owners<R: Abort>(rt: &R, owners: &[Owner]) {
-    assert!(rt; owners.len() == 16);
-    assert!(rt;
-        owners
-            .iter()
-            .zip(QUEUES)
-            .all(|(owner, queue)| *owner == queue)
-    );
-    assert!(rt; owners.iter().skip(4).all(|owner| *owner == Owner::Free));
-}
-
-/// Sees that a report counts twelve submissions, six for each of two seats, and that no command has a page.
-fn see_report<R: Abort>(rt: &R, report: &Report) {
-    see(rt, &report.counts, &counts(12, 4, 0));
-    see(rt, &report.submissions, &12);
-    assert!(rt;
-        report
-            .receipts
-            .as_slice()
-            .iter()
-            .all(|list| list.len() == 6)
-    );
-}
-
-/// What two submitters must leave, whatever the schedule: each job has one reserve, submit, ring, fetch, complete, reap, collect and release
-/// in the log, and two steps of its walk, and nothing was refused.
-fn see_outcome<R: Abort>(rt: &R, outcome: &Outcome) {
-    see_ends(rt, outcome, [0xA0, 0xB0]);
-    see_owners(rt, &outcome.owners);
-    see_report(rt, &outcome.report);
-    see_log(rt, outcome, 12 * 10);
-}
-
 #[test]
 fn two_submitters_write_and_read(rt: HostRuntime) -> Result<(), Fail> {
     let outcome = two_submitters(&rt, rt.alloc(), &Open)?;
-    see_outcome(&rt, &outcome);
+    assert!(rt; is_as_wanted(&outcome));
     Ok(())
 }
 
 #[test]
 fn two_submitters_meet_once_reserved(rt: HostRuntime) -> Result<(), Fail> {
     let outcome = two_submitters(&rt, rt.alloc(), &Meeting::new(Point::Reserved))?;
-    see_outcome(&rt, &outcome);
+    assert!(rt; is_as_wanted(&outcome));
     Ok(())
 }
 
 #[test]
 fn two_submitters_meet_once_submitted(rt: HostRuntime) -> Result<(), Fail> {
     let outcome = two_submitters(&rt, rt.alloc(), &Meeting::new(Point::Submitted))?;
-    see_outcome(&rt, &outcome);
+    assert!(rt; is_as_wanted(&outcome));
     Ok(())
 }
 
@@ -281,8 +153,7 @@ fn submitters_have_queues_of_their_own(rt: HostRuntime) -> Result<(), Fail> {
     };
     let jobs = two_lists(alloc, [(1, 0, 0x10), (2, 8, 0x20)])?;
     let outcome = play(&rt, alloc, config, 64, jobs, &Open)?;
-    see_ends(&rt, &outcome, [0x10, 0x20]);
-    see_log(&rt, &outcome, 12 * 10);
+    assert!(rt; are_ended(&outcome, [0x10, 0x20]));
     Ok(())
 }
 

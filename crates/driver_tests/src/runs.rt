@@ -4,13 +4,13 @@ ghost use Rattle.std.specs.Prelude.{◌≡◌, ◌≤◌, vec_len};
 ghost use Rattle.step_core.specs.Opening.{opening_of};
 
 use block_image::Image;
-use driver_book::{Book, LogBrand, Report};
-use driver_threads::{Gate, Job, JobEnd, JobEnds, Ran, RunFault, run_threads};
+use driver_book::{Book, LogBrand, ReportIn};
+use driver_threads::{Gate, Job, JobEnd, JobEndIn, JobEnds, JobIn, Ran, RunFault, run_threads};
 use entry_codec::Status;
 use io_commands::{Kind, Piece, Pieces, Request};
 use page_ledger::Owner;
 use page_memory::PageNo;
-use std::alloc::{AllocError, Global};
+use std::alloc::{AllocError, Allocator, Global};
 use std::marker::Brand;
 use std::sync::Wait;
 use std::sync::ledger::Blank;
@@ -19,19 +19,24 @@ use step_core::{Bytes, Config, Reply};
 
 /// What a run leaves.
 #[derive(Drop)]
-pub(crate) struct Outcome {
-    pub(crate) report: Report,
-    pub(crate) jobs: JobEnds,
+pub struct Outcome<A: Allocator = Global> {
+    /// The report of its book.
+    pub report: ReportIn<A>,
+    /// How its jobs ended.
+    pub jobs: JobEnds<A>,
     /// Whose each page is.
-    pub(crate) owners: Vec<Owner>,
+    pub owners: Vec<Owner, A>,
     /// How many entries the log has.
-    pub(crate) entries: usize,
+    pub entries: usize,
     /// How many of them are refusals.
-    pub(crate) refusals: usize,
+    pub refusals: usize,
 }
 
 /// Whose each page is.
-fn owners_of<L: LogBrand>(alloc: Global, book: &Book<L>) -> Result<Vec<Owner>, RunFault> {
+fn owners_of<L: LogBrand, A: Allocator + Copy>(
+    alloc: A,
+    book: &Book<L, A>,
+) -> Result<Vec<Owner, A>, RunFault> {
     let mut owners = Vec::new(alloc);
     for p in 0..book.pages() {
         if owners.push(book.owner(PageNo(p))).is_err() {
@@ -42,7 +47,7 @@ fn owners_of<L: LogBrand>(alloc: Global, book: &Book<L>) -> Result<Vec<Owner>, R
 }
 
 /// How many entries of a book's log are refusals.
-fn refusals_of<L: LogBrand>(book: &Book<L>) -> usize {
+fn refusals_of<L: LogBrand, A: Allocator + Copy>(book: &Book<L, A>) -> usize {
     let log = book.log();
     (0..log.len())
         .filter_map(|index| log.get(index))
@@ -51,16 +56,21 @@ fn refusals_of<L: LogBrand>(book: &Book<L>) -> usize {
 }
 
 /// Runs jobs over a new book.
-fn outcome_of<L: LogBrand + Send + Sync, G: Gate + Sync, R: Threads + Wait + Sync>(
+fn outcome_of<
+    L: LogBrand + Send + Sync,
+    A: Allocator + Copy + Send + Sync,
+    G: Gate + Sync,
+    R: Threads + Wait + Sync,
+>(
     rt: &R,
-    alloc: Global,
+    alloc: A,
     config: Config,
-    image: Image,
-    jobs: Vec<Vec<Job>>,
+    image: Image<A>,
+    jobs: Vec<Vec<JobIn<A>, A>, A>,
     depth: usize,
     gate: &G,
     blank: Blank,
-) -> Result<Outcome, RunFault>
+) -> Result<Outcome<A>, RunFault>
     requires name { blank.name ≡ L.name }
     requires parts { blank.parts ≡ L.parts }
     requires number { blank.parts ≡ 65536 }
@@ -70,7 +80,7 @@ fn outcome_of<L: LogBrand + Send + Sync, G: Gate + Sync, R: Threads + Wait + Syn
     requires at_least_one { 1 ≤ depth }
     requires at_most { depth ≤ 256 }
 {
-    let ran: Ran<L> = run_threads(rt, alloc, config, image, jobs, depth, gate, blank)?;
+    let ran: Ran<L, A> = run_threads(rt, alloc, config, image, jobs, depth, gate, blank)?;
     let Ran { report, jobs, book } = ran;
     Ok(Outcome {
         report,
@@ -82,15 +92,15 @@ fn outcome_of<L: LogBrand + Send + Sync, G: Gate + Sync, R: Threads + Wait + Syn
 }
 
 /// Runs jobs over a new book, whose image has so many zero blocks, each submitter with so many in flight at most.
-pub(crate) fn play_at<G: Gate + Sync, R: Threads + Wait + Sync>(
+pub fn play_at<A: Allocator + Copy + Send + Sync, G: Gate + Sync, R: Threads + Wait + Sync>(
     rt: &R,
-    alloc: Global,
+    alloc: A,
     config: Config,
     blocks: u32,
-    jobs: Vec<Vec<Job>>,
+    jobs: Vec<Vec<JobIn<A>, A>, A>,
     depth: usize,
     gate: &G,
-) -> Result<Outcome, RunFault>
+) -> Result<Outcome<A>, RunFault>
     requires some { 1 ≤ vec_len jobs }
     requires few { vec_len jobs ≤ 16 }
     requires at_least_one { 1 ≤ depth }
@@ -99,7 +109,7 @@ pub(crate) fn play_at<G: Gate + Sync, R: Threads + Wait + Sync>(
     let Ok(image) = Image::zeroed(alloc, blocks) else {
         return Err(RunFault::Memory);
     };
-    outcome_of::<Brand, G, R>(
+    outcome_of::<Brand, A, G, R>(
         rt,
         alloc,
         config,
@@ -112,14 +122,14 @@ pub(crate) fn play_at<G: Gate + Sync, R: Threads + Wait + Sync>(
 }
 
 /// Runs jobs one after the other for each submitter, over a new book, whose image has so many zero blocks.
-pub(crate) fn play<G: Gate + Sync, R: Threads + Wait + Sync>(
+pub fn play<A: Allocator + Copy + Send + Sync, G: Gate + Sync, R: Threads + Wait + Sync>(
     rt: &R,
-    alloc: Global,
+    alloc: A,
     config: Config,
     blocks: u32,
-    jobs: Vec<Vec<Job>>,
+    jobs: Vec<Vec<JobIn<A>, A>, A>,
     gate: &G,
-) -> Result<Outcome, RunFault>
+) -> Result<Outcome<A>, RunFault>
     requires some { 1 ≤ vec_len jobs }
     requires few { vec_len jobs ≤ 16 }
 {
@@ -127,7 +137,7 @@ pub(crate) fn play<G: Gate + Sync, R: Threads + Wait + Sync>(
 }
 
 /// So many pieces of one block each.
-fn pieces(alloc: Global, blocks: u32) -> Result<Pieces, AllocError> {
+fn pieces<A: Allocator + Copy>(alloc: A, blocks: u32) -> Result<Pieces<A>, AllocError> {
     let mut pieces = Pieces::new(alloc);
     for _ in 0..blocks {
         pieces.push(Piece::Data {
@@ -139,14 +149,14 @@ fn pieces(alloc: Global, blocks: u32) -> Result<Pieces, AllocError> {
 }
 
 /// A job of so many blocks, each in a piece of its own.
-pub(crate) fn job(
-    alloc: Global,
+pub fn job<A: Allocator + Copy>(
+    alloc: A,
     q: u16,
     kind: Kind,
     slba: u64,
     blocks: u32,
     bytes: &[u8],
-) -> Result<Job, AllocError> {
+) -> Result<JobIn<A>, AllocError> {
     Ok(Job {
         q,
         request: Request {
@@ -160,7 +170,7 @@ pub(crate) fn job(
 }
 
 /// Whether a job was carried through, with this status and these bytes.
-pub(crate) fn is_done(end: &JobEnd, status: Status, bytes: &[u8]) -> bool {
+pub fn is_done<A: Allocator>(end: &JobEndIn<A>, status: Status, bytes: &[u8]) -> bool {
     match end {
         JobEnd::Done {
             status: told,

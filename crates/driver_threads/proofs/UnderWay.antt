@@ -1,6 +1,6 @@
 -- A submitter under way: commands are taken into flight, and the oldest ones end.
 use Rattle.machine_model.specs.Events as events
-use Rattle.std.proofs.Common.{◌≡◌, ℕ, ◌==◌, Bool, true, false, ◌||◌, Option, Some, None, Result, Ok, Err, find, IfOk, MatchBool, refl, ap, sym, ◌∙◌, ◌+◌, ◌<◌, ◌&&◌, true≢false, OnOk, OnErr, List, [], ◌∷◌, ◌++◌, length, position, arith, eq-eqb, ◌-◌, ◌≤◌, suc, zero, map, get_or, subst}
+use Rattle.std.proofs.Common.{◌≡◌, ℕ, ◌==◌, Bool, true, false, ◌||◌, Option, Some, None, Result, Ok, Err, find, IfOk, MatchBool, refl, ap, sym, ◌∙◌, ◌+◌, ◌<◌, OnOk, OnErr, List, [], ◌∷◌, ◌++◌, length, position, arith, eq-eqb, ◌-◌, ◌≤◌, suc, zero, map, get_or, subst}
 use Rattle.std.proofs.{Math.Seq.{get_or-append_seam, set-append_seam}, lemmas.{Bool.{eqb-true, or_parts}, Iterator.Adapters.position_from-zero}}
 use Rattle.std.{proofs.lemmas.{List.{append-nil, length-append, append_assoc, length-map, map-append}, Option.slice_get-get_or}, specs.Bool.OnTrue}
 use Rattle.std.specs.{List.{list_any, position_from}, Option.{option_map, option_map_or}, Prelude.{option_and_then, is_none, slice_get, slice_set}}

@@ -5,8 +5,8 @@ use Rattle.machine_model.specs.declared.words.Refusal.TheVariants as refusal
 use Rattle.host_core.specs.declared.values.CommandValue.TheVariants as value
 use Rattle.host_core.specs.declared.call.Reply.TheVariants as reply
 use Rattle.host_core.specs.declared.call.Call.TheVariants as call
-use Rattle.std.proofs.Common.{◌≡◌, ◌+◌, ◌-◌, Option, [], refl, ap, ap₂, sym, subst, ℕ, Bool, true, false, Some, None, List, ◌∷◌, ◌++◌, length, ◌==◌, ◌&&◌, find, ◌∙◌, ◌≢◌, ◌*◌, ◌<◌, ◌≤◌, inl, inr, is_some, arith, Result, Ok, Err, OnOk, OnErr}
-use Rattle.std.proofs.lemmas.{Bool.{cases_Bool, cases_lt, true_from_ne_false}, List.{append-nil, Elements.filter_map-append}, Option.slice_get-get_or}
+use Rattle.std.proofs.Common.{◌≡◌, ◌+◌, ◌-◌, Option, [], refl, ap, ap₂, sym, subst, ℕ, true, false, Some, None, List, ◌∷◌, ◌++◌, length, ◌==◌, ◌&&◌, ◌∙◌, ◌≢◌, ◌*◌, ◌<◌, ◌≤◌, inl, inr, is_some, arith, Result, Ok, Err, OnOk, OnErr}
+use Rattle.std.proofs.lemmas.{Bool.{cases_lt, true_from_ne_false}, List.{append-nil, Elements.filter_map-append}, Option.slice_get-get_or}
 use Rattle.std.specs.{Option.option_and_then, List.list_any}
 use Rattle.host_core.proofs.KeptRows.{goes_on, opens_tied, length-queues_from, drafts_named, tickets_named, finished_named, named_there, place_free, put_back, put_same, put_next, reserved, row_dropped, renewed, followed, ended, found_at, changed_at, changed_other, taken_at, taken_other}
 use Rattle.host_core.{proofs.{Outstanding.collected_named}, specs.Alone.{HostView, alone, HasPlacedPages, IsLowest}}
@@ -52,14 +52,14 @@ module _ {A : Type 0} where
 
 -- What the small calls on kept values do is what a step of a bench does, and the bench stays tied to its world.
 
-abbrev table_of_parts : State → List DraftContents → List (ℕ × ℕ) → List FinishedContents → Table
+abbrev pub table_of_parts : State → List DraftContents → List (ℕ × ℕ) → List FinishedContents → Table
 table_of_parts world drafts tickets finished = record { world = world; drafts = drafts; tickets = tickets; finished = finished }
 
-tables_same : (world : State) (drafts ds : List DraftContents) (tickets ts : List (ℕ × ℕ)) (finished fs : List FinishedContents) → drafts ≡ ds → tickets ≡ ts → finished ≡ fs
+pub tables_same : (world : State) (drafts ds : List DraftContents) (tickets ts : List (ℕ × ℕ)) (finished fs : List FinishedContents) → drafts ≡ ds → tickets ≡ ts → finished ≡ fs
     → table_of_parts world drafts tickets finished ≡ table_of_parts world ds ts fs
 tables_same world drafts ds tickets ts finished fs d t f = rw (d, t, f) refl
 
-abbrev Values : Type 0 → Type 0
+abbrev pub Values : Type 0 → Type 0
 Values A = TableOf (Option (CommandValue A))
 
 module _ {A : Type 0} where
@@ -79,7 +79,7 @@ module _ {A : Type 0} where
   -- A command is reserved
 
   -- a row more, with no value of the kind
-  more_none : {X : Type 0} (pick : Option (CommandValue A) → Option X) (rows : List (Row (Option (CommandValue A))))
+  pub more_none : {X : Type 0} (pick : Option (CommandValue A) → Option X) (rows : List (Row (Option (CommandValue A))))
       (row : Row (Option (CommandValue A))) → pick row.value ≡ None → picked pick (rows ++ row ∷ []) ≡ picked pick rows
   more_none pick rows row none = filter_map-append (λ (r : Row (Option (CommandValue A))). pick r.value) rows (row ∷ []) ∙ rw none (append-nil (picked pick rows))
 
@@ -114,13 +114,13 @@ module _ {A : Type 0} where
   -- A draft is filled or built
 
   module _ (s : State) (old mid : Values A) (q cid : ℕ) (d : DraftContents) (b : IsBench s old) (out : IsOut old q cid (value.Draft d) mid) where
-    found_draft : draft_of q cid (table_with s old).drafts ≡ Some d
+    pub found_draft : draft_of q cid (table_with s old).drafts ≡ Some d
     found_draft = draft_at s old q cid b ∙ ap (option_and_then as_draft) out.there
 
-    left_same : (d' : DraftContents) (new : Values A) → d' ≡ d → new ≡ record mid { rows = with_value mid.rows q cid (Some (value.Draft d')) } → table_with s new ≡ table_with s old
+    pub left_same : (d' : DraftContents) (new : Values A) → d' ≡ d → new ≡ record mid { rows = with_value mid.rows q cid (Some (value.Draft d')) } → table_with s new ≡ table_with s old
     left_same d' new same is = ap (table_with s) (put_same old mid q cid (value.Draft d) out (value.Draft d') new (ap value.Draft same) is)
 
-    left_changed : (f : DraftContents → DraftContents) (d' : DraftContents) (new : Values A) → d' ≡ f d → new ≡ record mid { rows = with_value mid.rows q cid (Some (value.Draft d')) }
+    pub left_changed : (f : DraftContents → DraftContents) (d' : DraftContents) (new : Values A) → d' ≡ f d → new ≡ record mid { rows = with_value mid.rows q cid (Some (value.Draft d')) }
         → table_with s new ≡ record (table_with s old) { drafts = with_first (is_draft q cid) f (table_with s old).drafts }
     left_changed f d' new same is =
         ap (table_with s) (put_back old mid q cid (value.Draft d) out (value.Draft d') new is)
@@ -147,7 +147,7 @@ module _ {A : Type 0} where
         go (reply.Refused refusal.Memory) is = left_same d' new is left
         go answer is = absurd is
 
-    kept_name : (d' : DraftContents) (new : Values A) → d'.q ≡ d.q → d'.cid ≡ d.cid → new ≡ record mid { rows = with_value mid.rows q cid (Some (value.Draft d')) } → IsBench s new
+    pub kept_name : (d' : DraftContents) (new : Values A) → d'.q ≡ d.q → d'.cid ≡ d.cid → new ≡ record mid { rows = with_value mid.rows q cid (Some (value.Draft d')) } → IsBench s new
     kept_name d' new queue identifier left =
         subst (IsBench s) (sym (put_back old mid q cid (value.Draft d) out (value.Draft d') new left)) (renewed s old q cid (value.Draft d) (value.Draft d') b out.there queue identifier)
 
@@ -216,13 +216,13 @@ module _ {A : Type 0} where
   -- A ticket is collected
 
   module _ (s : State) (old mid : Values A) (q cid : ℕ) (ticket : TicketContents) (b : IsBench s old) (out : IsOut old q cid (value.Ticket ticket) mid) where
-    found_ticket : list_any (is_ticket q cid) (table_with s old).tickets ≡ true
+    pub found_ticket : list_any (is_ticket q cid) (table_with s old).tickets ≡ true
     found_ticket = ticket_at s old q cid (Some (ticket.q, ticket.cid)) b (ap (option_and_then as_ticket) out.there)
 
-    ticket_name : (ticket.q ≡ q) × (ticket.cid ≡ cid)
+    pub ticket_name : (ticket.q ≡ q) × (ticket.cid ≡ cid)
     ticket_name = named_there s old q cid (value.Ticket ticket) b out.there
 
-    by_name : (reply : events.Reply) (world : State) → machine.Step s (events.Collect ticket.q ticket.cid) reply world → machine.Step s (events.Collect q cid) reply world
+    pub by_name : (reply : events.Reply) (world : State) → machine.Step s (events.Collect ticket.q ticket.cid) reply world → machine.Step s (events.Collect q cid) reply world
     by_name reply world step =
         subst (λ (k : ℕ). machine.Step s (events.Collect k cid) reply world) ticket_name.0 (subst (λ (n : ℕ). machine.Step s (events.Collect ticket.q n) reply world) ticket_name.1 step)
 
@@ -260,7 +260,7 @@ module _ {A : Type 0} where
   -- A finished command is gathered
 
   module _ (s : State) (values : Values A) (q cid : ℕ) (f : FinishedContents) (b : IsBench s values) (there : Some f ≡ option_and_then as_finished (value_at values.rows q cid)) where
-    is_finished_there : finished_at q cid (table_with s values).finished ≡ Some f
+    pub is_finished_there : finished_at q cid (table_with s values).finished ≡ Some f
     is_finished_there = finished_there s values q cid b ∙ sym there
 
     pub gathers : (bytes : List ℕ) → bytes ≡ gathered_from f → Gathers (table_with s values) (finished_at q cid (table_with s values).finished) (reply.Gathered bytes) (table_with s values)
@@ -272,7 +272,7 @@ module _ {A : Type 0} where
   -- It is released
 
   module _ (s : State) (old mid : Values A) (q cid : ℕ) (f : FinishedContents) (b : IsBench s old) (out : IsOut old q cid (value.Finished f) mid) where
-    found_finished : finished_at q cid (table_with s old).finished ≡ Some f
+    pub found_finished : finished_at q cid (table_with s old).finished ≡ Some f
     found_finished = finished_there s old q cid b ∙ ap (option_and_then as_finished) out.there
 
     pub releases : (world : State) (new : Values A) → machine.Step s (events.Release f) events.Accepted world → new ≡ record mid { rows = without mid.rows q cid }

@@ -7,11 +7,11 @@ use Rattle.entry_codec.specs.declared.submission.SubEntry.{SubEntry}
 use Rattle.machine_model.specs.{After.change, Memory.zeroed_pages, Proper.IsProper, State.{HostQueue, Record, State, is_at}}
 use Rattle.machine_model.specs.Refusals.{in_state, is_gone, is_half_made, is_making, no_identifier, queue_full, refusal_of, run_for}
 use Rattle.machine_model.specs.{Step.{Answers, IsController, IsNewIdentifier, Refuses, Step, touched_by_refusal}, declared.words.HostState.HostState}
-use Rattle.machine_model.specs.declared.words.{HostState.TheVariants.{Gone, HalfMade}, Refusal.Refusal}
+use Rattle.machine_model.specs.declared.words.{HostState.TheVariants.{Gone}, Refusal.Refusal}
 use Rattle.page_ledger.specs.{Owners.pages_from, Runs.lowest_run}
 use Rattle.page_memory.specs.declared.page.Half.{Half, TheVariants.{Submission, Completion}}
 use Rattle.queue_pair.specs.Memory.{half_pages}
-use Rattle.host_core.proofs.{Granting.{in_state-is, next-fresh, next-left, none-left}, QueueLists.{Settled, host_step, Steps, steps}}
+use Rattle.host_core.proofs.{Granting.{in_state-is, next-fresh, next-left, none-left}, Identifiers.Settled, QueueLists.{host_step, Steps, steps}}
 use Rattle.host_core.proofs.Making.{any-count, IsBare, granted-state, half_in, run-within, settled-granted, some-pages, with-some, same-run}
 use Rattle.host_core.proofs.Sending.{Next, can-post-to, first-there, past, send-typed, HasHalfIn, half-in, sent-exact, sent_in, settled-sent}
 use Rattle.host_core.{proofs.Submitted.full_is, specs.{Commands.{ClaimsNext, with_claim}, Posting.{CanPostTo, Posts, posted}, Rows.Queue}}
@@ -45,19 +45,19 @@ untouched s Submission q why = refl
 
 run-is : (t : Tables) (half : Half) (k : ℕ) (o : Option ℕ) → IsWhole t → k ≡ half_pages t.entries half → lowest_run k t.owners ≡ o → run_for (state_of t) half ≡ o
 run-is t half k o w is found =
-    same-run t.owners (half_pages t.entries half) (some-pages t.entries half w.least_entries) ∙ (ap (λ (n : ℕ). lowest_run n t.owners) (sym is) ∙ found)
+    same-run t.owners (half_pages t.entries half) (some-pages t.entries half w.host.limits.least_entries) ∙ (ap (λ (n : ℕ). lowest_run n t.owners) (sym is) ∙ found)
 
 pub create-no_identifier : (t : Tables) (half : Half) (q : ℕ) (queues : List Queue) → IsWhole t → first_passing (named_causes (state_of t) (creation half q 0 0)) ≡ None → queues ≡ t.queues → Next queues None
     → Refuses (state_of t) (creating half q) refusal.NoIdentifier []
 create-no_identifier t half q queues w free same next =
-    let x = first-there t.queues w.some_queues in
+    let x = first-there t.queues w.host.limits.some_queues in
     let none = none-left t w 0 x.0 x.1 (sym (next x.0 (ap (λ (qs : List Queue). slice_get qs 0) same ∙ x.1))) in
     (behind (state_of t) half q free ∙ rw none refl, untouched (state_of t) half q refusal.NoIdentifier)
 
 pub create-no_run : (t : Tables) (half : Half) (q k : ℕ) (queues : List Queue) (cid : ℕ) → IsWhole t → first_passing (named_causes (state_of t) (creation half q 0 0)) ≡ None → queues ≡ t.queues → Next queues (Some cid)
     → k ≡ half_pages t.entries half → lowest_run k t.owners ≡ None → Refuses (state_of t) (creating half q) (refusal.NoRun k) []
 create-no_run t half q k queues cid w free same next is none =
-    let x = first-there t.queues w.some_queues in
+    let x = first-there t.queues w.host.limits.some_queues in
     let left = next-left t w 0 cid x.0 x.1 (sym (next x.0 (ap (λ (qs : List Queue). slice_get qs 0) same ∙ x.1))) in
     subst (λ (n : ℕ). Refuses (state_of t) (creating half q) (refusal.NoRun n) []) (sym is)
     (behind (state_of t) half q free ∙ rw (left, run-is t half k None w is none) refl, untouched (state_of t) half q (refusal.NoRun (half_pages t.entries half)))
@@ -65,19 +65,19 @@ create-no_run t half q k queues cid w free same next is none =
 pub create-full : (t : Tables) (half : Half) (q k : ℕ) (queues : List Queue) (cid first : ℕ) → IsWhole t → first_passing (named_causes (state_of t) (creation half q 0 0)) ≡ None → queues ≡ t.queues → Next queues (Some cid)
     → k ≡ half_pages t.entries half → lowest_run k t.owners ≡ Some first → queue_full (state_of t) 0 ≡ true → Refuses (state_of t) (creating half q) refusal.QueueFull []
 create-full t half q k queues cid first w free same next is found full =
-    let x = first-there t.queues w.some_queues in
+    let x = first-there t.queues w.host.limits.some_queues in
     let left = next-left t w 0 cid x.0 x.1 (sym (next x.0 (ap (λ (qs : List Queue). slice_get qs 0) same ∙ x.1))) in
     (behind (state_of t) half q free ∙ rw (left, run-is t half k (Some first) w is found, full) refl, untouched (state_of t) half q refusal.QueueFull)
 
 pub create-ready : (t : Tables) (half : Half) (q k : ℕ) (queues : List Queue) (cid first : ℕ) → IsWhole t → first_passing (named_causes (state_of t) (creation half q 0 0)) ≡ None → queues ≡ t.queues → Next queues (Some cid)
     → k ≡ half_pages t.entries half → lowest_run k t.owners ≡ Some first → queue_full (state_of t) 0 ≡ false → CanCreate t half q cid first
 create-ready t half q k queues cid first w free same next is found room =
-    let x = first-there t.queues w.some_queues in
+    let x = first-there t.queues w.host.limits.some_queues in
     let next' = sym (next x.0 (ap (λ (qs : List Queue). slice_get qs 0) same ∙ x.1)) in
     let run = run-is t half k (Some first) w is found in
     record {
       none = behind (state_of t) half q free ∙ rw (next-left t w 0 cid x.0 x.1 next', run, room) refl;
-      slot = record { queue = x.0; at = x.1; next = next'; room = full_is t w.queues 0 x.0 x.1 ∙ room };
+      slot = record { queue = x.0; at = x.1; next = next'; room = full_is t w.host.rings 0 x.0 x.1 ∙ room };
       run = run;
     }
 
@@ -119,7 +119,7 @@ bare-of t Submission q w none =
       at = is.1;
       other = grind (arith, none);
       state = state;
-      none = none-of q t.records (sym (any-count q t.records) ∙ ap (nat_lt 0) (w.sound.bare q making));
+      none = none-of q t.records (sym (any-count q t.records) ∙ ap (nat_lt 0) (w.host.sound.bare q making));
     }
 
 -- The half is granted, and queue 0 stands as it stood
@@ -185,7 +185,7 @@ created_made t new half q cid first w can creates =
     let exact : state_of (sent kind cid can.slot.queue g) ≡ a.after (state_of t) (creating half q) (events.Sent cid) =
     sent-exact g kind cid s slot in_half (send-typed kind cid)
     ∙ (ap (sent_in kind cid) (granted-state t half q first w bare)
-    ∙ sym (created-after (state_of t) half q cid first can.run (some-pages t.entries half w.least_entries))) in
+    ∙ sym (created-after (state_of t) half q cid first can.run (some-pages t.entries half w.host.limits.least_entries))) in
     rw (creates can.slot.queue can.slot.at) (steps t (sent kind cid can.slot.queue g) (creating half q) (events.Sent cid) w (is-hosts half q) (is-proper half q)
     (can.none, created-answers (state_of t) half q cid (next-fresh t w 0 cid can.slot.queue can.slot.at can.slot.next), exact) (settled-sent g kind cid s slot in_half (send-typed kind cid)))
 
@@ -195,7 +195,7 @@ create-refused t half q why h = host_step t t (creating half q) (events.Refused 
 -- What is written
 
 pub first-within : (t : Tables) (half : Half) (first : ℕ) → IsWhole t → run_for (state_of t) half ≡ Some first → first < 65536
-first-within t half first w run = omega (arith, run-within t half first (half_pages t.entries half) w refl run, some-pages t.entries half w.least_entries)
+first-within t half first w run = omega (arith, run-within t half first (half_pages t.entries half) w refl run, some-pages t.entries half w.host.limits.least_entries)
 
 pub granted-there : (t u : Tables) (half : Half) (q cid first : ℕ) → IsWhole t → CanCreate t half q cid first → u ≡ granted half q first t → 0 < length u.queues
 granted-there t u half q cid first w can same =

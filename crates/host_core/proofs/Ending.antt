@@ -12,14 +12,14 @@ use Rattle.machine_model.specs.{Memory.{is_in, without_pages, with_pages}, Prope
 use Rattle.machine_model.specs.Refusals.{refusal_of, is_submitted, is_held, is_drafted, is_collected, is_of, record_is}
 use Rattle.machine_model.specs.State.{State, HostQueue, Record, is_at, pages_of, with_record, without_record}
 use Rattle.machine_model.specs.{Step.{Step, IsController, finished_from, Refuses, pages_with_bytes}, Work.Work, declared.words.Phase.Phase}
-use Rattle.machine_model.specs.declared.words.{Phase.TheVariants.{Held, Drafted, Collected}, Work.TheVariants.{Io, Management}}
+use Rattle.machine_model.specs.declared.words.{Phase.TheVariants.{Held, Drafted, Collected, Submitted}, Work.TheVariants.{Io, Management}}
 use Rattle.page_ledger.specs.{Lists.ListsAll, Owners.{free_pages, is_among, is_command, is_owned_at, given_back}, declared.owner.Owner.Owner}
 use Rattle.page_ledger.specs.declared.owner.{Owner.TheVariants.{Free, Command}, Role.TheVariants.{Data, Chain}}
 use Rattle.page_memory.specs.Pages.{Pages, IsPool, page_at}
 use Rattle.host_core.proofs.Lists.{length-change, map-change, change-same, all-filter_by, all-from}
 use Rattle.host_core.proofs.PageOwners.{can-take, pool-without, record-in, set-other, without-append, can-put, pool-with, record-out, record-inside, owner-stays, times-at, command-pages, given-free}
-use Rattle.host_core.proofs.{Outstanding.ids, QueueLists.{host_step, settled-of, settled-with, Steps, steps}, RowRecords.{Marks, marked-claims, marked-records, marked-tells, claims_keep_queue, claims_keep_tells, each_claimed}}
-use Rattle.host_core.{specs.{Collecting.{taken_pages, StandsAt}, Exact.Exactly}, proofs.Identifiers.claim-less}
+use Rattle.host_core.proofs.{Outstanding.ids, QueueLists.{host_step, settled-with, Steps, steps}, RowRecords.{Marks, marked-claims, marked-records, marked-tells, claims_keep_queue, claims_keep_tells, each_claimed}}
+use Rattle.host_core.{specs.{Collecting.{taken_pages, StandsAt}, Exact.Exactly}, proofs.Identifiers.{claim-less, sound-of, lent-of, settled-of}}
 use Rattle.host_core.specs.Commands.{claims_changed, taken_out, CanTake, ended, without_claim, CanPut, Brings, Belongs, Claims, has_record, phase_of_end}
 use Rattle.host_core.specs.{Rows.Queue, Tables.{Tables, state_of, host_queue_of}}
 use Rattle.host_core.specs.Whole.{IsWhole, IsQueue, ClaimIdentifiers, TellsQueue, TellsCommand, IsRecord, FitsWork, FitsPhase}
@@ -49,7 +49,7 @@ moved_is t q f pages owners records =
 pub record Fits (t : Tables) (q : ℕ) (f : List Bool → List Bool) (pages : Pages) (owners : List Owner) (records : List Record) : Type 0 where
   pub pool : IsPool pages
   pub many : length pages ≡ length t.pages
-  pub table : length owners ≡ length t.owners
+  pub lent : length owners ≡ length t.owners
   pub size : (bits : List Bool) → length (f bits) ≡ length bits
   pub queues_told : (k : ℕ) (queue : Queue) → slice_get t.queues k ≡ Some queue → TellsQueue owners k queue
   pub commands_told : AllByRecursion (TellsCommand owners) records
@@ -64,9 +64,9 @@ moved_whole t q f pages owners records e reply whole fits c p exact =
     (settled-with t pages owners (change q (claims_changed f) t.queues) records (settled-of t whole)
     (record {
       pool = fits.pool;
-      table = fits.table ∙ (whole.table ∙ sym fits.many);
+      lent = fits.lent ∙ ((lent-of t whole) ∙ sym fits.many);
       many = length-change q (claims_changed f) t.queues;
-      queues = record { each = each_claimed (IsQueue t.entries) f (claims_keep_queue f fits.size t.entries) q t.queues whole.queues.each };
+      queues = record { each = each_claimed (IsQueue t.entries) f (claims_keep_queue f fits.size t.entries) q t.queues whole.host.rings.each };
       identifiers = fits.identifiers;
       owners = record { queues_told = each_claimed (TellsQueue owners) f (claims_keep_tells f owners) q t.queues fits.queues_told; commands_told = fits.commands_told };
       records = fits.fit;
@@ -82,7 +82,7 @@ fits-collected (Management kind) r is = tt
 pub collect_can_take : (t : Tables) (q cid : ℕ) (r : Record) → IsWhole t → find (is_at q cid) t.records ≡ Some r → is_out r.phase ≡ false → CanTake (pages_of r) t.pages
 collect_can_take t q cid r whole was stays =
     let at = found_at (is_at q cid) t.records r was in
-    can-take (pages_of r) t.pages (record-in (state_of t) whole.sound at.0 r at.1 stays)
+    can-take (pages_of r) t.pages (record-in (state_of t) (sound-of t whole) at.0 r at.1 stays)
 
 taken-due : (t : Tables) (q cid : ℕ) (r : Record) → find (is_at q cid) t.records ≡ Some r
     → after_collect q cid (state_of t) ≡ due (state_of t) (taken_out q cid (pages_of r) t).pages t.owners (taken_out q cid (pages_of r) t).records
@@ -109,14 +109,14 @@ collected_step t q cid r f whole none was is =
   where
     fits : Fits t q (λ claimed. claimed) (taken_out q cid (pages_of r) t).pages t.owners (taken_out q cid (pages_of r) t).records
     fits = record {
-      pool = pool-without (pages_of r) t.pages whole.pool;
+      pool = pool-without (pages_of r) t.pages whole.over.pool;
       many = length-without_pages (pages_of r) t.pages;
-      table = refl;
+      lent = refl;
       size = λ bits. refl;
-      queues_told = whole.owners.queues_told;
-      commands_told = marked-tells collected marks-collected t.owners t.records q cid whole.owners.commands_told;
-      identifiers = rw (change-same (claims_changed (λ claimed. claimed)) (λ x. refl) q t.queues) (marked-claims collected marks-collected t.records t.queues q cid whole.identifiers);
-      fit = marked-records collected (length t.queues) t.records q cid (λ x at is. record { queue = is.queue; work = fits-collected x.work x is.work; phase = tt }) whole.records;
+      queues_told = whole.host.table.owners.queues_told;
+      commands_told = marked-tells collected marks-collected t.owners t.records q cid whole.host.table.owners.commands_told;
+      identifiers = rw (change-same (claims_changed (λ claimed. claimed)) (λ x. refl) q t.queues) (marked-claims collected marks-collected t.records t.queues q cid whole.host.table.identifiers);
+      fit = marked-records collected (length t.queues) t.records q cid (λ x at is. record { queue = is.queue; work = fits-collected x.work x is.work; phase = tt }) whole.host.table.records;
     }
 
 -- Pages taken out one after the other are those of the memory, and the calls of collect.
@@ -167,14 +167,14 @@ pub held_can_take : (t : Tables) (q cid : ℕ) → IsWhole t → (is : StandsAt 
 held_can_take t q cid whole is =
     take-parts is.entry.data_pages is.entry.chain_pages t.pages (collect_can_take t q cid is.entry whole is.was (in_store is.entry is.held))
 
-pub held_fits : (t : Tables) (q cid : ℕ) → IsWhole t → (is : StandsAt t q cid) → FitsPhase Held is.entry.work is.entry.status
-held_fits t q cid whole is =
-    let fits = found_all (IsRecord (length t.queues)) (is_at q cid) t.records is.entry is.was whole.records in
-    subst (λ (p : Phase). FitsPhase p is.entry.work is.entry.status) is.held fits.phase
+pub not-held : (t : Tables) (q cid : ℕ) (r : Record) → IsWhole t → find (is_at q cid) t.records ≡ Some r → (FitsPhase Held r.work r.status → ⊥) → r.phase ≡ Held → ⊥
+not-held t q cid r whole was not held =
+    let fits = found_all (IsRecord (length t.queues)) (is_at q cid) t.records r was whole.host.table.records in
+    not (subst (λ (p : Phase). FitsPhase p r.work r.status) held fits.phase)
 
 pub held_work : (t : Tables) (q cid : ℕ) (r : Request) → IsWhole t → (is : StandsAt t q cid) → is.entry.work ≡ Io r → IsGood r × (length is.entry.data_pages ≡ data_count r.pieces)
 held_work t q cid r whole is e =
-    let fits = found_all (IsRecord (length t.queues)) (is_at q cid) t.records is.entry is.was whole.records in
+    let fits = found_all (IsRecord (length t.queues)) (is_at q cid) t.records is.entry is.was whole.host.table.records in
     subst (λ (w : Work). FitsWork w is.entry) e fits.work
 
 -- by equal numbers
@@ -186,8 +186,14 @@ found-at t q cid q' cid' r eq ec h = rw (← eq, ← ec) h
 pub collect-none : (t : Tables) (q cid : ℕ) → find (is_at q cid) t.records ≡ None → Refuses (state_of t) (events.Collect q cid) refusal.Stranger []
 collect-none t q cid e = (rw e refl, refl)
 
-pub collect-stranger : (t : Tables) (q cid : ℕ) (r : Record) → find (is_at q cid) t.records ≡ Some r → (is_submitted r.phase ≡ false) → (is_held r.phase ≡ false) → Refuses (state_of t) (events.Collect q cid) refusal.Stranger []
-collect-stranger t q cid r e a b = (rw (e, a, b) refl, refl)
+pub collect-stranger : (t : Tables) (q cid : ℕ) (r : Record) → find (is_at q cid) t.records ≡ Some r → (r.phase ≡ Submitted → ⊥) → (r.phase ≡ Held → ⊥) → Refuses (state_of t) (events.Collect q cid) refusal.Stranger []
+collect-stranger t q cid r e submitted held = (rw e (go r.phase submitted held), refl)
+  where
+    go : (phase : Phase) → (phase ≡ Submitted → ⊥) → (phase ≡ Held → ⊥) → (if not (is_submitted phase || is_held phase) then Some refusal.Stranger else (if is_submitted phase then Some refusal.NotYet else None)) ≡ Some refusal.Stranger
+    go Drafted submitted held = refl
+    go Submitted submitted held = absurd (submitted refl)
+    go Held submitted held = absurd (held refl)
+    go Collected submitted held = refl
 
 pub collect-not_yet : (t : Tables) (q cid : ℕ) (r : Record) → find (is_at q cid) t.records ≡ Some r → (is_submitted r.phase ≡ true) → Refuses (state_of t) (events.Collect q cid) refusal.NotYet []
 collect-not_yet t q cid r e a = (rw (e, a) refl, refl)
@@ -240,7 +246,7 @@ collect_enough t q cid r pages whole is ew ep =
 -- The end of a command on the tables is the machine's, and leaves them whole.
 
 pub at_most_once : (t : Tables) → IsWhole t → (q cid : ℕ) → total (here q cid) t.records < 2
-at_most_once t whole q cid = let h = holds_from_sound (state_of t) whole.sound in h.once q cid
+at_most_once t whole q cid = let h = holds_from_sound (state_of t) (sound-of t whole) in h.once q cid
 
 away_is : (r : Record) → is_away r ≡ is_out r.phase
 away_is r = go r.phase
@@ -254,8 +260,8 @@ pub ended_can_put : (t : Tables) (q cid : ℕ) (pages : PagesOut) → IsWhole t 
 ended_can_put t q cid pages whole brings =
     let at = found_at (is_at q cid) t.records brings.entry brings.was in
     can-put pages t.pages
-    (λ p. rw brings.numbers (record-out (state_of t) whole.sound at.0 brings.entry at.1 (sym (away_is brings.entry) ∙ brings.out) p))
-    (λ p some. record-inside (state_of t) whole.sound at.0 brings.entry at.1 p (rw brings.numbers at some))
+    (λ p. rw brings.numbers (record-out (state_of t) (sound-of t whole) at.0 brings.entry at.1 (sym (away_is brings.entry) ∙ brings.out) p))
+    (λ p some. record-inside (state_of t) (sound-of t whole) at.0 brings.entry at.1 p (rw brings.numbers at some))
 
 -- a command's pages are those that its record lists
 pub command-listed : (t : Tables) (q cid : ℕ) (r : Record) → IsWhole t → find (is_at q cid) t.records ≡ Some r → ListsAll (is_command q cid) t.owners (pages_of r)
@@ -263,15 +269,15 @@ command-listed t q cid r whole was =
     let at = found_at (is_at q cid) t.records r was in
     let both = and_parts (r.q == q) (r.cid == cid) (found_is (is_at q cid) t.records r was) in
     record {
-      within = λ i d l. rw whole.table (record-inside (state_of t) whole.sound at.0 r at.1 (get_or (pages_of r) i d) (times-at (pages_of r) i d l));
+      within = λ i d l. rw (lent-of t whole) (record-inside (state_of t) (sound-of t whole) at.0 r at.1 (get_or (pages_of r) i d) (times-at (pages_of r) i d l));
       lists = λ p l.
-          sym (command-pages t whole.sound whole.owners q cid r was (eqb-true r.q q both.0) (eqb-true r.cid cid both.1) (at_most_once t whole q cid) p (rw (← whole.table) l));
+          sym (command-pages t (sound-of t whole) whole.host.table.owners q cid r was (eqb-true r.q q both.0) (eqb-true r.cid cid both.1) (at_most_once t whole q cid) p (rw (← (lent-of t whole)) l));
     }
 
 named : (t : Tables) (q cid : ℕ) (pages : PagesOut) → IsWhole t → Brings t q cid pages → (p : ℕ) → p < length t.pages
     → is_owned_at (is_command q cid) t.owners p ≡ is_among (numbers_of pages) p
 named t q cid pages whole brings p l =
-    sym ((command-listed t q cid brings.entry whole brings.was).lists p (rw whole.table l)) ∙ ap (λ (ps : List ℕ). is_among ps p) (sym brings.numbers)
+    sym ((command-listed t q cid brings.entry whole brings.was).lists p (rw (lent-of t whole) l)) ∙ ap (λ (ps : List ℕ). is_among ps p) (sym brings.numbers)
 
 ended-due : (t : Tables) (q cid : ℕ) (pages : PagesOut) → IsWhole t → Brings t q cid pages
     → after_end q cid pages (state_of t) ≡ due (state_of t) (ended q cid pages t).pages (ended q cid pages t).owners (ended q cid pages t).records
@@ -279,7 +285,7 @@ ended-due t q cid pages whole brings =
     let s = state_of t in
     let size : length (with_pages pages t.pages) ≡ length t.pages = length-with_pages pages t.pages in
     ap (λ (free : List ℕ). record s { memory = (ended q cid pages t).pages; host = record s.host { free = free; records = (ended q cid pages t).records } })
-    (sym (given-free t.owners (is_command q cid) (length (with_pages pages t.pages)) (numbers_of pages) (size ∙ sym whole.table)
+    (sym (given-free t.owners (is_command q cid) (length (with_pages pages t.pages)) (numbers_of pages) (size ∙ sym (lent-of t whole))
     (λ p l. named t q cid pages whole brings p (subst (λ (n : ℕ). p < n) size l))))
 
 pub ended_exact : (t : Tables) (q cid : ℕ) (pages : PagesOut) → IsWhole t → Brings t q cid pages → state_of (ended q cid pages t) ≡ after_end q cid pages (state_of t)
@@ -289,11 +295,11 @@ ended_exact t q cid pages whole brings =
 ended-fits : (t : Tables) (q cid : ℕ) (pages : PagesOut) → IsWhole t → ArePages pages → Brings t q cid pages
     → Fits t q (λ claimed. slice_set claimed cid false) (ended q cid pages t).pages (ended q cid pages t).owners (ended q cid pages t).records
 ended-fits t q cid pages whole are brings = record {
-  pool = pool-with pages t.pages (all-from (λ (page : ℕ × List ℕ). length page.1 ≡ 4096) pages are) whole.pool;
+  pool = pool-with pages t.pages (all-from (λ (page : ℕ × List ℕ). length page.1 ≡ 4096) pages are) whole.over.pool;
   many = length-with_pages pages t.pages;
-  table = length-map t.owners (λ (o : Owner). if is_command q cid o then Free else o);
+  lent = length-map t.owners (λ (o : Owner). if is_command q cid o then Free else o);
   size = λ bits. length-set bits cid false;
-  queues_told = λ k queue e. let tells = whole.owners.queues_told k queue e in record {
+  queues_told = λ k queue e. let tells = whole.host.table.owners.queues_told k queue e in record {
     submission = λ p h. owner-stays t.owners (is_command q cid) p _ refl (tells.submission p h);
     completion = λ p h. owner-stays t.owners (is_command q cid) p _ refl (tells.completion p h);
   };
@@ -302,9 +308,9 @@ ended-fits t q cid pages whole are brings = record {
       (λ x e tells. record {
         data_pages = λ p h. owner-stays t.owners (is_command q cid) p (Command x.q x.cid Data) (not-true (is_at q cid x) e) (tells.data_pages p h);
         chain_pages = λ p h. owner-stays t.owners (is_command q cid) p (Command x.q x.cid Chain) (not-true (is_at q cid x) e) (tells.chain_pages p h);
-      }) t.records whole.owners.commands_told;
-  identifiers = claim-less t.records t.queues q cid whole.identifiers (found_any (is_at q cid) t.records brings.entry brings.was);
-  fit = all-filter (IsRecord (length t.queues)) (λ (r : Record). not (is_at q cid r)) t.records whole.records;
+      }) t.records whole.host.table.owners.commands_told;
+  identifiers = claim-less t.records t.queues q cid whole.host.table.identifiers (found_any (is_at q cid) t.records brings.entry brings.was);
+  fit = all-filter (IsRecord (length t.queues)) (λ (r : Record). not (is_at q cid r)) t.records whole.host.table.records;
 }
 
 -- The record that a moved value belongs to.
@@ -346,13 +352,13 @@ ends t q cid pages e whole are brings c p exact =
 pub ended_there : (t : Tables) (q cid : ℕ) (pages : PagesOut) → IsWhole t → Brings t q cid pages → q < length t.queues
 ended_there t q cid pages whole brings =
     let both = and_parts (brings.entry.q == q) (brings.entry.cid == cid) (found_is (is_at q cid) t.records brings.entry brings.was) in
-    let fits = found_all (IsRecord (length t.queues)) (is_at q cid) t.records brings.entry brings.was whole.records in
+    let fits = found_all (IsRecord (length t.queues)) (is_at q cid) t.records brings.entry brings.was whole.host.table.records in
     subst (λ (k : ℕ). k < length t.queues) (eqb-true brings.entry.q q both.0) fits.queue
 
 pub ended_claimed : (t : Tables) (q cid : ℕ) (pages : PagesOut) → IsWhole t → Brings t q cid pages → Claims t.queues q cid
 ended_claimed t q cid pages whole brings queue at =
     let there = found_any (is_at q cid) t.records brings.entry brings.was in
-    let claims = whole.identifiers.each q queue at in
+    let claims = whole.host.table.identifiers.each q queue at in
     claims.told cid (claims.inside cid there) ∙ ap Some there
 
 pub ended_tables : (t u : Tables) (q cid : ℕ) (brought' : PagesOut) (pages : Pages) (owners : List Owner) (queues : List declared.Queue) → u ≡ record t { records = without_record q cid t.records }

@@ -1,7 +1,7 @@
 -- Commands that are reserved.
 use Rattle.machine_model.specs.Events as events
 use Rattle.host_core.specs.Rows as declared
-use Rattle.std.proofs.Common.{◌≡◌, ℕ, ◌<◌, ◌≤◌, ◌==◌, nat_lt, true, false, ◌&&◌, ◌||◌, Option, Some, None, List, [], ◌∷◌, ◌++◌, length, map, slice_get, slice_set, is_some, is_none, refl, ap, ap₂, sym, ◌∙◌, arith, subst, length-set, if◌then◌else◌, not, ◌+◌, All, length-append, inl, inr}
+use Rattle.std.proofs.Common.{◌≡◌, ℕ, ◌<◌, ◌≤◌, ◌==◌, nat_lt, true, false, ◌&&◌, ◌||◌, Some, None, List, [], ◌∷◌, ◌++◌, length, map, slice_get, slice_set, is_none, refl, ap, ap₂, sym, ◌∙◌, arith, subst, length-set, if◌then◌else◌, not, ◌+◌, All, length-append, inl, inr}
 use Rattle.std.proofs.lemmas.Bool.{true≢false, true_from_ne_false, false_from_ne_true, cases_Bool, cond_both, or_left, or_right, or_parts}
 use Rattle.std.proofs.lemmas.List.{length-map, take_at, drop_at, Elements.{All-map, All-append}}
 use Rattle.std.{proofs.lemmas.Option.{slice_get-map, slice_get_within}, specs.{List.AllByRecursion, Option.{option_map}}}
@@ -15,7 +15,7 @@ use Rattle.machine_model.specs.{Refusals.{refusal_of, no_io_queue, in_state, in_
 use Rattle.machine_model.specs.{Step.{IsReserved, times}, declared.words.{Phase.TheVariants.Drafted, Work.TheVariants.Io}}
 use Rattle.page_ledger.specs.{Owners.{is_among, owner_at, with_owner, free_pages, is_free, is_owned_at, pages_from}, declared.owner.Owner.Owner}
 use Rattle.page_ledger.{specs.declared.owner.{Owner.TheVariants.{Free, Command}, Role.TheVariants.{Data, Chain}}, proofs.Tables.{length-with_owner, owner-with}}
-use Rattle.host_core.proofs.{Ending.{Fits, due, moved_is, moved_whole}, Identifiers.claim-more}
+use Rattle.host_core.proofs.{Ending.{Fits, due, moved_is, moved_whole}, Identifiers.{claim-more, sound-of}}
 use Rattle.host_core.proofs.{PageOwners.{free-owner, granted-free, among-append, pool-without, can-take, free-in, without-append}, QueueLists.Steps}
 use Rattle.host_core.specs.{Alone.HasPlacedPages, Commands.{reserved, record_of_draft, first_placed, then_placed, with_claim, CanTake, Grants, new_draft}}
 use Rattle.host_core.specs.{Rows.Queue, Tables.{Tables, state_of, host_queue_of, view_of}, Whole.{IsWhole, TellsCommand, IsRecord}}
@@ -132,18 +132,18 @@ reserved_step t q r d whole proper none is =
 
     fits : Fits t d.q (λ claimed. slice_set claimed d.cid true) (reserved d t).pages (reserved d t).owners (reserved d t).records
     fits = record {
-      pool = pool-without (numbers d) t.pages whole.pool;
+      pool = pool-without (numbers d) t.pages whole.over.pool;
       many = length-without_pages (numbers d) t.pages;
-      table = length-with_owner (with_owner t.owners (numbers_of d.data_pages) (Command d.q d.cid Data)) (numbers_of d.chain_pages) (Command d.q d.cid Chain) ∙ length-with_owner t.owners (numbers_of d.data_pages) (Command d.q d.cid Data);
+      lent = length-with_owner (with_owner t.owners (numbers_of d.data_pages) (Command d.q d.cid Data)) (numbers_of d.chain_pages) (Command d.q d.cid Chain) ∙ length-with_owner t.owners (numbers_of d.data_pages) (Command d.q d.cid Data);
       size = λ bits. length-set bits d.cid true;
-      queues_told = λ k queue e. let tells = whole.owners.queues_told k queue e in record {
+      queues_told = λ k queue e. let tells = whole.host.table.owners.queues_told k queue e in record {
         submission = λ p h. owner-stays t d (reserving t q r d is) p _ (λ f. cc) (tells.submission p h);
         completion = λ p h. owner-stays t d (reserving t q r d is) p _ (λ f. cc) (tells.completion p h);
       };
-      commands_told = commands-told t d (reserving t q r d is) whole.owners.commands_told;
-      identifiers = claim-more t.records t.queues (record_of_draft d) whole.identifiers
-          (λ queue e. let side = (whole.queues.each d.q queue e) in omega (arith, is.identifier.in_range, side.host_side.identifiers, side.entries));
-      fit = all-append (IsRecord (length t.queues)) t.records (record_of_draft d) whole.records (record {
+      commands_told = commands-told t d (reserving t q r d is) whole.host.table.owners.commands_told;
+      identifiers = claim-more t.records t.queues (record_of_draft d) whole.host.table.identifiers
+          (λ queue e. let side = (whole.host.rings.each d.q queue e) in omega (arith, is.identifier.in_range, side.host_side.identifiers, side.entries));
+      fit = all-append (IsRecord (length t.queues)) t.records (record_of_draft d) whole.host.table.records (record {
         queue = slice_get_within t.queues d.q at.0 at.1;
         work = (
           subst (λ (x : Request). fault_of x.kind x.blocks x.pieces ≡ None) (sym is.request) (passes (state_of t) q r none).good,
@@ -190,7 +190,7 @@ can-take-append (x ∷ a) b m h = let r = can-take-append a b (slice_set m x Non
 pub granted_can_take : (t : Tables) → IsWhole t → (m n : ℕ) → CanTake (first_placed t.owners m) t.pages × CanTake (then_placed t.owners m n) (without_pages (first_placed t.owners m) t.pages)
 granted_can_take t whole m n =
     can-take-append (first_placed t.owners m) (then_placed t.owners m n) t.pages
-    (can-take _ t.pages (λ p. omega (arith, placed-times t.owners m n p, free-in (state_of t) whole.sound p)))
+    (can-take _ t.pages (λ p. omega (arith, placed-times t.owners m n p, free-in (state_of t) (sound-of t whole) p)))
 
 -- The draft
 

@@ -84,18 +84,18 @@ one-unused n c xs inside few l z = omega (arith, below-all n xs inside, one-miss
 
 -- the claimed identifiers of a queue that there is
 size-of-claims : (t : Tables) → IsWhole t → (q : ℕ) (queue : Queue) → slice_get t.queues q ≡ Some queue → length queue.host.claimed ≡ t.entries - 1
-size-of-claims t whole q queue at = let is = whole.queues.each q queue at in omega (arith, is.host_side.identifiers, is.entries)
+size-of-claims t whole q queue at = let is = whole.host.rings.each q queue at in omega (arith, is.host_side.identifiers, is.entries)
 
 outstanding-inside : (t : Tables) → IsWhole t → (q : ℕ) (queue : Queue) → slice_get t.queues q ≡ Some queue → (k : ℕ) → 0 < times k (outstanding_on (state_of t).host q) → k < length queue.host.claimed
 outstanding-inside t whole q queue at k some =
-    (whole.identifiers.each q queue at).inside k (outstanding-among (state_of t).host q k ∙ true_from_ne_false (is_among (outstanding_on (state_of t).host q) k)
+    (whole.host.table.identifiers.each q queue at).inside k (outstanding-among (state_of t).host q k ∙ true_from_ne_false (is_among (outstanding_on (state_of t).host q) k)
     (λ e. omega (arith, some, not_held k (outstanding_on (state_of t).host q) e)))
 
 pub next-fresh : (t : Tables) → IsWhole t → (q cid : ℕ) (queue : Queue) → slice_get t.queues q ≡ Some queue → position not queue.host.claimed ≡ Some cid → IsNewIdentifier (state_of t) q cid
 next-fresh t whole q cid queue at next = record {
   in_range = omega (arith, found_within queue.host.claimed cid next, size-of-claims t whole q queue at);
   unused = ap not (sym (outstanding-among (state_of t).host q cid)
-      ∙ some_is (sym ((whole.identifiers.each q queue at).told cid (found_within queue.host.claimed cid next)) ∙ found_free queue.host.claimed cid next));
+      ∙ some_is (sym ((whole.host.table.identifiers.each q queue at).told cid (found_within queue.host.claimed cid next)) ∙ found_free queue.host.claimed cid next));
 }
 
 pub next-left : (t : Tables) → IsWhole t → (q cid : ℕ) (queue : Queue) → slice_get t.queues q ≡ Some queue → position not queue.host.claimed ≡ Some cid → no_identifier (state_of t) q ≡ false
@@ -105,7 +105,7 @@ next-left t whole q cid queue at next =
     let none : times cid (outstanding_on (state_of t).host q) ≡ 0 = not_held cid (outstanding_on (state_of t).host q) (not-true _ fresh.unused) in
     let few : length (outstanding_on (state_of t).host q) < t.entries - 1 =
     one-unused (t.entries - 1) cid (outstanding_on (state_of t).host q) (λ k some. omega (arith, outstanding-inside t whole q queue at k some, size))
-    (whole.sound.identifiers q) (omega (arith, found_within queue.host.claimed cid next, size)) none in
+    (whole.host.sound.identifiers q) (omega (arith, found_within queue.host.claimed cid next, size)) none in
     grind (arith, nat_tests, few)
 
 pub none-left : (t : Tables) → IsWhole t → (q : ℕ) (queue : Queue) → slice_get t.queues q ≡ Some queue → position not queue.host.claimed ≡ None → no_identifier (state_of t) q ≡ true
@@ -114,7 +114,7 @@ none-left t whole q queue at next =
     let all : t.entries - 1 ≤ length (outstanding_on (state_of t).host q) =
     all-used (t.entries - 1) (outstanding_on (state_of t).host q) (λ k l.
     let within : k < length queue.host.claimed = omega arith in
-    let yes : is_outstanding t.records q k ≡ true = some_is (sym ((whole.identifiers.each q queue at).told k within) ∙ all_claimed queue.host.claimed k next within) in
+    let yes : is_outstanding t.records q k ≡ true = some_is (sym ((whole.host.table.identifiers.each q queue at).told k within) ∙ all_claimed queue.host.claimed k next within) in
     held_once k (outstanding_on (state_of t).host q) (sym (outstanding-among (state_of t).host q k) ∙ yes)) in
     grind (arith, nat_tests, all)
 
@@ -169,7 +169,7 @@ granted t q r cid front back whole asked next ef eb enough = record {
 -- The next identifier of a queue is the lowest that is not outstanding.
 pub next-lowest : (t : Tables) → IsWhole t → (q cid : ℕ) (queue : Queue) → slice_get t.queues q ≡ Some queue → position not queue.host.claimed ≡ Some cid → IsLowest (view_of t).host q cid
 next-lowest t w q cid queue at next lower l =
-    let claims = w.identifiers.each q queue at in
+    let claims = w.host.table.identifiers.each q queue at in
     let within : lower < length queue.host.claimed = omega (arith, l, found_within queue.host.claimed cid next) in
     sym (outstanding-among (view_of t).host q lower) ∙ some_is (sym (claims.told lower within) ∙ lower_claimed queue.host.claimed cid lower next l)
 

@@ -8,11 +8,11 @@ use Rattle.machine_model.specs.{Claims.{IsSound, HasNoOtherPages, HasOneOwner, c
 use Rattle.machine_model.specs.{State.{State, Host, Record, is_at, outstanding_on, without_record, pages_of, with_record}, Step.{IsNewIdentifier}}
 use Rattle.machine_model.specs.{Work.Work, declared.words.{Work.TheVariants.{Io, Management}}}
 use Rattle.host_core.proofs.{Lists.{each-change, map-agree}, RowRecords.{claims-same, empty-row}}
-use Rattle.host_core.specs.{Alone.{alone, IsOver, IsSoundHost}, Commands.{with_claim, without_claim}, Parts.tables_of, Resetting.{HasPlaces, IsPlaced}}
+use Rattle.host_core.specs.{Alone.{alone, IsSoundHost}, Commands.{with_claim, without_claim}, Parts.tables_of, Resetting.{HasPlaces, IsPlaced}}
 use Rattle.host_core.specs.{Rows.Queue, Tables.{Tables, view_of, host_queue_of, state_of}}
-use Rattle.host_core.specs.{Whole.{IsHost, IsQueue, IsWhole, ClaimsIdentifiers, ClaimIdentifiers, is_outstanding, IsRecord}, declared.tables.HostTables.HostTables}
+use Rattle.host_core.specs.{Whole.{HasLimits, IsTable, IsSoundTable, AreQueues, IsHost, IsQueue, IsWhole, ClaimsIdentifiers, ClaimIdentifiers, is_outstanding, IsRecord}, declared.tables.HostTables.HostTables}
 use Rattle.page_ledger.{proofs.Tables.{slice_get-set_same, slice_get-set_other}, specs.{Counting.total, Owners.is_among}}
-use Rattle.page_memory.specs.Pages.{Pages}
+use Rattle.page_memory.specs.Pages.{Pages, IsPool}
 use Rattle.slot_table.specs.{Rows.value_at, Table.IsPlace}
 use Rattle.slot_table.proofs.Rows.{option_is}
 use Rattle.std.proofs.lemmas.Map.Keys.{any_passes_from_place}
@@ -34,67 +34,50 @@ no-others (x ∷ queues) = (record { submission = λ e. rw e refl; completion = 
 abbrev pub over_pages : Tables → Pages → Tables
 over_pages t pages = record t { pages = pages }
 
-pub whole_of : (t : Tables) (pages : Pages) → IsHost t → IsOver (view_of t) pages → IsWhole (over_pages t pages)
-whole_of t pages h over =
-    let count : total (counts_of (view_of t).host) ≡ length t.owners = counts_are_all (length t.owners) (view_of t).host h.sound.owners in
-    let size : length t.owners ≡ length pages = sym (over.size ∙ count) in
-    record {
-      sound = record {
-        owners = subst (λ (n : ℕ). HasOneOwner n (view_of t).host) size h.sound.owners;
-        counted = sym over.size;
-        identifiers = h.sound.identifiers;
-        out = over.out;
-        works_fit = h.sound.works_fit;
-        deletions = h.sound.deletions;
-        creations = h.sound.creations;
-        bare = h.sound.bare;
-        halves = no-others t.queues;
-        admin = h.sound.admin;
-      };
-      pool = over.pool;
-      table = size;
-      least_entries = h.limits.least_entries;
-      most_entries = h.limits.most_entries;
-      least_segment = h.limits.least_segment;
-      most_segment = h.limits.most_segment;
-      some_queues = h.limits.some_queues;
-      few_queues = h.limits.few_queues;
-      record_queues = h.limits.record_queues;
-      record_places = h.limits.record_places;
-      queues = h.rings;
-      identifiers = h.table.identifiers;
-      owners = h.table.owners;
-      records = h.table.records;
-    }
-
 pub host_of : (t : Tables) (pages : Pages) → IsWhole (over_pages t pages) → IsHost t
-host_of t pages w =
+host_of t pages w = record { limits = w.host.limits; table = w.host.table; sound = w.host.sound; rings = w.host.rings }
+
+pub count_of : (t : Tables) → IsHost t → total (counts_of (view_of t).host) ≡ length t.owners
+count_of t h = counts_are_all (length t.owners) (view_of t).host h.sound.owners
+
+pub lent-of : (t : Tables) → IsWhole t → length t.owners ≡ length t.pages
+lent-of t w = sym (w.over.size ∙ count_of t w.host)
+
+pub sound-of : (t : Tables) → IsWhole t → IsSound (state_of t)
+sound-of t w =
+    let h = w.host.sound in
     record {
-      limits = record {
-        least_entries = w.least_entries;
-        most_entries = w.most_entries;
-        least_segment = w.least_segment;
-        most_segment = w.most_segment;
-        some_queues = w.some_queues;
-        few_queues = w.few_queues;
-        record_queues = w.record_queues;
-        record_places = w.record_places;
-      };
-      table = record { owners = w.owners; identifiers = w.identifiers; records = w.records };
-      sound = record {
-        owners = subst (λ (n : ℕ). HasOneOwner n (view_of t).host) (sym w.table) w.sound.owners;
-        identifiers = w.sound.identifiers;
-        works_fit = w.sound.works_fit;
-        deletions = w.sound.deletions;
-        creations = w.sound.creations;
-        bare = w.sound.bare;
-        admin = w.sound.admin;
-      };
-      rings = w.queues;
+      owners = subst (λ (n : ℕ). HasOneOwner n (view_of t).host) (lent-of t w) h.owners;
+      counted = sym w.over.size;
+      identifiers = h.identifiers;
+      out = w.over.out;
+      works_fit = h.works_fit;
+      deletions = h.deletions;
+      creations = h.creations;
+      bare = h.bare;
+      halves = no-others t.queues;
+      admin = h.admin;
     }
 
-pub over_of : (t : Tables) → IsWhole t → IsOver (view_of t) t.pages
-over_of t w = record { pool = w.pool; size = sym w.sound.counted; out = w.sound.out }
+-- What holds of the tables over their pages, where what the machine's laws say of their state is left aside.
+pub record Settled (t : Tables) : Type 0 where
+  pub pool : IsPool t.pages
+  pub lent : length t.owners ≡ length t.pages
+  pub limits : HasLimits t.entries t.segment (length t.queues) t.record_queues t.record_places
+  pub table : IsTable (length t.queues) t.owners t.queues t.records
+  pub rings : AreQueues t.entries t.queues
+
+pub settled-of : (t : Tables) → IsWhole t → Settled t
+settled-of t w = record { pool = w.over.pool; lent = lent-of t w; limits = w.host.limits; table = w.host.table; rings = w.host.rings }
+
+pub whole-of : (t : Tables) → Settled t → IsSound (state_of t) → IsWhole t
+whole-of t s h =
+    let sound : IsSoundTable (length t.pages) (view_of t).host =
+    record { owners = h.owners; identifiers = h.identifiers; works_fit = h.works_fit; deletions = h.deletions; creations = h.creations; bare = h.bare; admin = h.admin } in
+    record {
+      host = record { limits = s.limits; table = s.table; sound = subst (λ (n : ℕ). IsSoundTable n (view_of t).host) (sym s.lent) sound; rings = s.rings };
+      over = record { pool = s.pool; size = sym h.counted; out = h.out };
+    }
 
 -- What of this a caller may know.
 
@@ -111,9 +94,6 @@ inside-rings n k (x ∷ queues) each =
       inside-rings n (k + 1) queues
           (λ q queue e. let same : k + suc q ≡ k + 1 + q = omega arith in subst (λ (j : ℕ). IsQueue n j queue) same (each (suc q) queue e)),
     )
-
-pub count_of : (t : Tables) → IsHost t → total (counts_of (view_of t).host) ≡ length t.owners
-count_of t h = counts_are_all (length t.owners) (view_of t).host h.sound.owners
 
 pub sound_host : (t : Tables) → IsHost t → IsSoundHost (view_of t)
 sound_host t h =
@@ -223,7 +203,7 @@ pub place-of : {A : Type 0} (parts : HostTables A) (pages : Pages) (q cid : ℕ)
 place-of parts pages q cid many places there new = record { queue = omega (arith, many, there); identifier = omega (arith, places, new.in_range) }
 
 pub new-place : {A : Type 0} (parts : HostTables A) (pages : Pages) (q cid : ℕ) → IsWhole (tables_of parts pages) → q < length parts.queues.items → IsNewIdentifier (state_of (tables_of parts pages)) q cid → IsPlace parts.records q cid
-new-place parts pages q cid w there new = place-of parts pages q cid w.record_queues w.record_places there new
+new-place parts pages q cid w there new = place-of parts pages q cid w.host.limits.record_queues w.host.limits.record_places there new
 
 -- An outstanding command stands in one of the places of its queue
 

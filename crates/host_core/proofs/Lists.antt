@@ -1,12 +1,11 @@
 -- Lists of the host's tables.
-use Rattle.std.proofs.Common.{◌≡◌, ◌≢◌, ℕ, zero, suc, ◌<◌, ◌≤◌, List, [], ◌∷◌, Some, length, slice_get, slice_set, get_or, refl, ap, sym, ◌∙◌, arith, Bool, true, false, Option, inl, inr, ◌||◌, None, ◌++◌, map, filter, find, All, ap₂, subst, ◌+◌, ◌==◌, drop, if◌then◌else◌}
-use Rattle.std.{proofs.lemmas.{Bool.{and_right, cases_Bool, cond_both}, Option.none-some}, specs.{List.{AllByRecursion, list_any}, Option.option_map_or}}
+use Rattle.std.proofs.Common.{◌≡◌, ◌≢◌, ℕ, zero, suc, ◌<◌, ◌≤◌, List, [], ◌∷◌, Some, length, slice_get, slice_set, get_or, refl, ap, sym, ◌∙◌, arith, Bool, true, false, Option, ◌||◌, None, map, filter, All, ap₂, subst, ◌+◌, ◌==◌, drop, if◌then◌else◌}
+use Rattle.std.{proofs.lemmas.{Bool.{and_right, cond_both}, Option.none-some}, specs.{List.{AllByRecursion, list_any}, Option.option_map_or}}
 use Rattle.machine_model.specs.{After.change, Refusals.{same_piece, same_pieces}, State.Record}
 use Rattle.io_commands.specs.declared.request.Piece.{Piece}
 use Rattle.slot_table.specs.Rows.{Row, first_place}
 use Rattle.host_core.specs.{Parts.{records_of}, Rows.{RecordRow, rows_on}}
-use Rattle.machine_model.proofs.Counting.{get_changed}
-use Rattle.page_memory.proofs.Lists.{some_is, all-append, all-map, all-all, all-at, all-slots, all-filter, found_is, found_at, found_any, all-to, all-front, all-back}
+use Rattle.page_memory.proofs.Lists.{some_is}
 use Rattle.machine_model.proofs.Cases.{none_some}
 
 -- A member of a list that is changed, by its place.

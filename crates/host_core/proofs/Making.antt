@@ -16,7 +16,7 @@ use Rattle.page_ledger.proofs.{Pages.lowest_run-within, Tables.{free-others, len
 use Rattle.page_ledger.specs.{Owners.{is_among, is_free, is_owned_at, owner_at, free_pages, pages_from, with_owner}, Runs.{is_free_run, lowest_run}}
 use Rattle.page_ledger.specs.declared.owner.{Owner.{Owner, TheVariants.Free}, Role.TheVariants.{Data, Chain}}
 use Rattle.host_core.proofs.PageOwners.{free-owner, free-in, pool-with, set-other, set-there}
-use Rattle.host_core.{proofs.QueueLists.{map-change, Settled, settled-of, settled-turned}, specs.{Commands.{state_at, CanZero}, Rows.Queue}}
+use Rattle.host_core.{proofs.{Identifiers.{sound-of, lent-of, Settled, settled-of}, QueueLists.{map-change, settled-turned}}, specs.{Commands.{state_at, CanZero}, Rows.Queue}}
 use Rattle.host_core.specs.{Sending.{named_causes, granted, half_from, making, renewed}, Tables.{Tables, state_of, host_queue_of, cq_pages_of, sq_pages_of}}
 use Rattle.host_core.specs.Whole.{ClaimsIdentifiers, HaveOwner, IsQueue, IsWhole, TellsCommand, TellsQueue, is_outstanding}
 use Rattle.admin_commands.specs.declared.AdminKind.TheVariants.{CreateCq}
@@ -128,7 +128,7 @@ run-owner t half first p run among = free-owner t.owners p (held_once p (free_pa
 
 pub run-in : (t : Tables) (half : Half) (first p : ℕ) → IsWhole t → run_for (state_of t) half ≡ Some first → is_among (half_from t half first) p ≡ true → is_in t.pages p ≡ true
 run-in t half first p w run among =
-    true_from_ne_false (is_in t.pages p) (λ e. omega (arith, ap one e, free-in (state_of t) w.sound p, held_once p (free_pages t.owners) (run-free t half first p run among)))
+    true_from_ne_false (is_in t.pages p) (λ e. omega (arith, ap one e, free-in (state_of t) (sound-of t w) p, held_once p (free_pages t.owners) (run-free t half first p run among)))
 
 -- a page that is in stays so where others are written
 
@@ -254,16 +254,16 @@ settled-granted t half q first w bare run =
     settled-turned t q (making half first) (with_pages (zeroed_pages (half_from t half first)) t.pages) (owned half q first t) t.records s
     (record {
       pool = pool-with (zeroed_pages (half_from t half first)) t.pages (whole-zeros (half_from t half first)) s.pool;
-      table = length-with_owner t.owners (half_from t half first) (owner.Queue q half) ∙ (s.table ∙ sym (length-with_pages (zeroed_pages (half_from t half first)) t.pages));
-      queue = λ y at. made-queue half first t.entries q y (s.queues.each q y at);
-      identifiers = s.identifiers.each;
+      lent = length-with_owner t.owners (half_from t half first) (owner.Queue q half) ∙ (s.lent ∙ sym (length-with_pages (zeroed_pages (half_from t half first)) t.pages));
+      queue = λ y at. made-queue half first t.entries q y (s.rings.each q y at);
+      identifiers = s.table.identifiers.each;
       claims = λ y at. subst (ClaimsIdentifiers t.records q) (sym (made-claims half first q y)) (claims-none t.records q (y.host.entries - 1) bare.none);
-      others = λ k y _ at. others-told t half q first k y run (s.owners.queues_told k y at);
+      others = λ k y _ at. others-told t half q first k y run (s.table.owners.queues_told k y at);
       own = λ y at.
           let same : bare.queue ≡ y = some_is (sym bare.at ∙ at) in
-          own-told t half q first y run (subst (λ (z : Queue). z.state ≡ was half) same bare.state) (s.queues.each q y at).entries (s.owners.queues_told q y at);
-      commands = commands-told t half q first run s.owners.commands_told;
-      records = s.records;
+          own-told t half q first y run (subst (λ (z : Queue). z.state ≡ was half) same bare.state) (s.rings.each q y at).entries (s.table.owners.queues_told q y at);
+      commands = commands-told t half q first run s.table.owners.commands_told;
+      records = s.table.records;
     })
 
 -- The machine that they stand for
@@ -289,7 +289,7 @@ granted-state t half q first w bare =
     (map-change host_queue_of (making half first) (half_in half (half_from t half first)) q t.queues
     (λ x at.
     let same : bare.queue ≡ x = some_is (sym bare.at ∙ at) in
-    shown-made half first t.entries x (subst (λ (z : Queue). z.state ≡ was half) same bare.state) (w.queues.each q x at).entries))
+    shown-made half first t.entries x (subst (λ (z : Queue). z.state ≡ was half) same bare.state) (w.host.rings.each q x at).entries))
   where
     shown : List ℕ → List HostQueue → State
     shown free hs =
@@ -303,11 +303,11 @@ some-pages n Completion l = omega arith
 
 pub run-lowest : (t : Tables) (half : Half) (first k : ℕ) → IsWhole t → k ≡ half_pages t.entries half → run_for (state_of t) half ≡ Some first → lowest_run k t.owners ≡ Some first
 run-lowest t half first k w is run =
-    ap (λ (n : ℕ). lowest_run n t.owners) is ∙ (sym (same-run t.owners (half_pages t.entries half) (some-pages t.entries half w.least_entries)) ∙ run)
+    ap (λ (n : ℕ). lowest_run n t.owners) is ∙ (sym (same-run t.owners (half_pages t.entries half) (some-pages t.entries half w.host.limits.least_entries)) ∙ run)
 
 pub run-within : (t : Tables) (half : Half) (first k : ℕ) → IsWhole t → k ≡ half_pages t.entries half → run_for (state_of t) half ≡ Some first → first + k ≤ 65536
 run-within t half first k w is run =
-    omega (arith, w.pool.few, w.table, is, some-pages t.entries half w.least_entries, lowest_run-within k first t.owners (subst (λ (n : ℕ). 0 < n) (sym is) (some-pages t.entries half w.least_entries)) (run-lowest t half first k w is run))
+    omega (arith, w.over.pool.few, (lent-of t w), is, some-pages t.entries half w.host.limits.least_entries, lowest_run-within k first t.owners (subst (λ (n : ℕ). 0 < n) (sym is) (some-pages t.entries half w.host.limits.least_entries)) (run-lowest t half first k w is run))
 
 -- as it is made of its parts
 pub made-granted : (t : Tables) (half : Half) (q first k : ℕ) (pages : Pages) (owners : List Owner) (queues : List Queue) → k ≡ half_pages t.entries half

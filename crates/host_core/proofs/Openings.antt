@@ -7,10 +7,10 @@ use Rattle.std.{specs.{List.Contains, Option.{option_map_or, option_map}}, proof
 use Rattle.page_ledger.{proofs.{Pages.finds_lowest, Tables.{length-with_owner, owner_changed, owner_kept}}, specs.declared.owner.Owner.Owner}
 use Rattle.page_ledger.specs.{Owners.{is_free, is_owned_at, owner_at, pages_from, with_owner, is_among, free_pages}, Runs.lowest_run}
 use Rattle.page_memory.{proofs.Bytes.length-zero_page, specs.{Pages.{Pages, page_at, zero_page}, declared.page.Half.TheVariants.{Submission, Completion}}}
-use Rattle.host_core.{proofs.Identifiers.{over_pages, whole_of, alone_sound, host_of, over_of}, specs.Alone.{HostView, HostStep, IsOver, alone}}
+use Rattle.host_core.{proofs.Identifiers.{over_pages, alone_sound, host_of, whole-of}, specs.Alone.{HostView, HostStep, IsOver, alone}}
 use Rattle.host_core.specs.Opening.{sq_from, cq_from, IsFreeFrom, AreGranted, opened_view, opened_pages, refusal_of_config, fresh_at, fresh_queue, fresh_queues, HalvesGranted, opened}
 use Rattle.host_core.specs.{Parts.records_of, Ringing.head_of, Rows.{Queue, RecordRow}, Tables.{Tables, host_queue_of, state_of, view_of}, Looks.cause_of}
-use Rattle.host_core.{specs.{Whole.{IsHost, IsWhole, IsQueue, ClaimsIdentifiers, TellsQueue}, declared.config.Config.Config}, proofs.Making.claims-none}
+use Rattle.host_core.{specs.{Whole.{HasLimits, IsHost, IsWhole, IsQueue, ClaimsIdentifiers, TellsQueue}, declared.config.Config.Config}, proofs.Making.claims-none}
 use Rattle.machine_model.{proofs.Headline.{runs_are_sound, fits_pool, in_limits}, specs.{Claims.IsSound, Events.{Event, Reply}}}
 use Rattle.machine_model.specs.{Opening.{opening, queues_from}, Refusals.refusal_of, State.{State, HostQueue}, Step.{Step, Refuses}}
 use Rattle.machine_model.specs.declared.words.Refusal.{Refusal}
@@ -161,7 +161,7 @@ both_granted a b q x y sq cq owners mid new some some' e f room granted first is
 
 -- what a call may lean on
 pub whole_at : (t : Tables) (v : HostView) (pages : Pages) → view_of t ≡ v → IsHost t → IsOver v pages → IsWhole (over_pages t pages)
-whole_at t v pages is host over = whole_of t pages host (subst (λ (x : HostView). IsOver x pages) (sym is) over)
+whole_at t v pages is host over = record { host = record { limits = host.limits; table = host.table; sound = host.sound; rings = host.rings }; over = subst (λ (x : HostView). IsOver x pages) (sym is) over }
 
 -- and what it answers for
 pub step_at : (t new : Tables) (v : HostView) (e : Event) (reply : Reply) → view_of t ≡ v → Step (state_of t) e reply (state_of new) → HostStep v t.pages e reply (view_of new) new.pages
@@ -223,27 +223,24 @@ opened_view_is c owners size granted =
 -- The limits
 
 pub record Limits (c : Config) : Type 0 where
-  pub least_pages : 8 ≤ c.pages
   pub most_pages : c.pages ≤ 65536
-  pub least_queues : 1 ≤ c.queues
-  pub most_queues : c.queues ≤ 64
-  pub least_entries : 2 ≤ c.entries
-  pub most_entries : c.entries ≤ 1024
-  pub least_segment : 2 ≤ c.segment
-  pub most_segment : c.segment ≤ 256
+  pub numbers : HasLimits c.entries c.segment (c.queues + 1) (c.queues + 1) (c.entries - 1)
 
 pub limits : (c : Config) → refusal_of_config c ≡ None → Limits c
 limits c opens =
     let h = in_limits c.pages c.queues c.entries c.segment opens in
     record {
-      least_pages = grind (arith, nat_tests, h);
       most_pages = grind (arith, nat_tests, h);
-      least_queues = grind (arith, nat_tests, h);
-      most_queues = grind (arith, nat_tests, h);
-      least_entries = grind (arith, nat_tests, h);
-      most_entries = grind (arith, nat_tests, h);
-      least_segment = grind (arith, nat_tests, h);
-      most_segment = grind (arith, nat_tests, h);
+      numbers = record {
+        least_entries = grind (arith, nat_tests, h);
+        most_entries = grind (arith, nat_tests, h);
+        least_segment = grind (arith, nat_tests, h);
+        most_segment = grind (arith, nat_tests, h);
+        some_queues = grind (arith, nat_tests, h);
+        few_queues = grind (arith, nat_tests, h);
+        record_queues = refl;
+        record_places = grind (arith, nat_tests, h);
+      };
     }
 
 pub fits : (c : Config) → refusal_of_config c ≡ None → sq_from (half_pages c.entries Submission) (half_pages c.entries Completion) (c.queues + 1) ≤ c.pages
@@ -302,23 +299,19 @@ opened_whole c owners opens size granted =
     let view = opened_view_is c owners size granted in
     let sound = runs_are_sound c.pages c.queues c.entries c.segment [] [] [] (opening c.pages c.queues c.entries c.segment []) opens refl in
     let many : length (fresh_queues c.entries (c.queues + 1)) ≡ c.queues + 1 = length-map (pages_from 0 (c.queues + 1)) (fresh_queue c.entries) ∙ length-pages_from 0 (c.queues + 1) in
-    record {
-      sound = subst (λ (v : HostView). IsSound (alone v (opened_pages c))) (sym view) (alone_sound (opening c.pages c.queues c.entries c.segment []) sound);
+    whole-of (opened c owners)
+    (record {
       pool = record { few = omega (arith, length-replicate c.pages (Some zero_page), l.most_pages); whole = blank_pool c.pages };
-      table = size ∙ sym (length-replicate c.pages (Some zero_page));
-      least_entries = l.least_entries;
-      most_entries = l.most_entries;
-      least_segment = l.least_segment;
-      most_segment = l.most_segment;
-      some_queues = omega (arith, many, l.least_queues);
-      few_queues = omega (arith, many, l.most_queues);
-      record_queues = sym many;
-      record_places = omega (arith, l.least_entries);
-      queues = record { each = each_fresh (IsQueue c.entries) c.entries (c.queues + 1) (λ q h. fresh_sides c.entries _ _ q l.least_entries l.most_entries) };
-      identifiers = record { each = each_fresh (λ q queue. ClaimsIdentifiers [] q queue.host.claimed) c.entries (c.queues + 1) (λ q h. claims-none [] q (c.entries - 1) (λ cid. refl)) };
-      owners = record { queues_told = each_fresh (TellsQueue owners) c.entries (c.queues + 1) (fresh_told c.entries (c.queues + 1) owners granted); commands_told = tt };
-      records = tt;
-    }
+      lent = size ∙ sym (length-replicate c.pages (Some zero_page));
+      limits = subst (λ (n : ℕ). HasLimits c.entries c.segment n (c.queues + 1) (c.entries - 1)) (sym many) l.numbers;
+      table = record {
+        owners = record { queues_told = each_fresh (TellsQueue owners) c.entries (c.queues + 1) (fresh_told c.entries (c.queues + 1) owners granted); commands_told = tt };
+        identifiers = record { each = each_fresh (λ q queue. ClaimsIdentifiers [] q queue.host.claimed) c.entries (c.queues + 1) (λ q h. claims-none [] q (c.entries - 1) (λ cid. refl)) };
+        records = tt;
+      };
+      rings = record { each = each_fresh (IsQueue c.entries) c.entries (c.queues + 1) (λ q h. fresh_sides c.entries _ _ q l.numbers.least_entries l.numbers.most_entries) };
+    })
+    (subst (λ (v : HostView). IsSound (alone v (opened_pages c))) (sym view) (alone_sound (opening c.pages c.queues c.entries c.segment []) sound))
 
 abbrev pub made : Config → List Owner → TableOf RecordRow → List Queue → Tables
 made c owners table queues =
@@ -351,8 +344,8 @@ opens_made c owners table queues opens size granted er eq =
     rw (er, eq) (record {
       host = host_of (made c owners (no_records c) (fresh_queues c.entries (c.queues + 1))) (replicate c.pages (Some zero_page)) w;
       view = opened_view_is c owners size granted;
-      over = over_of (opened c owners) w;
+      over = w.over;
     })
 
 pub fits_word : (c : Config) → refusal_of_config c ≡ None → Fits w16 c.entries × Fits w16 c.segment
-fits_word c opens = let l = limits c opens in (record { fits = omega (arith, l.most_entries) }, record { fits = omega (arith, l.most_segment) })
+fits_word c opens = let l = limits c opens in (record { fits = omega (arith, l.numbers.most_entries) }, record { fits = omega (arith, l.numbers.most_segment) })

@@ -14,7 +14,7 @@ use Rattle.admin_commands.specs.declared.AdminKind.{AdminKind, TheVariants.{Abor
 use Rattle.entry_codec.specs.declared.status.{Status.Status}
 use Rattle.io_commands.specs.{Asked.Request, Drafts.DraftContents, Values.FinishedContents}
 use Rattle.slot_table.proofs.Rows.{option_is}
-use Rattle.page_memory.proofs.Lists.{some_is, found_is, found_any}
+use Rattle.page_memory.proofs.Lists.{some_is, found_is}
 use Rattle.machine_model.proofs.Steps.{surely}
 
 -- Records that are found by their names: others are added, changed and taken out.

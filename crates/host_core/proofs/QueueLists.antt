@@ -6,17 +6,17 @@ use Rattle.std.proofs.Common.{◌≡◌, ℕ, zero, suc, Bool, true, false, not,
 use Rattle.std.proofs.lemmas.Bool.{and_right, false_from_ne_true, not-false, not-true, or_from}
 use Rattle.std.proofs.lemmas.{List.{length-take-le, length-drop, Folds.list_any-append}, Option.{slice_get_within, slice_get-map}}
 use Rattle.std.specs.{List.{AllByRecursion, list_any}, Option.{option_and_then, option_map, option_map_or}, Prelude.{slice_index, slice_range}}
-use Rattle.machine_model.{proofs.{Headline.steps_keep, Kept.{reaped_has_cq, sq_with_cq}}, specs.{After.{after, change}, Claims.{IsSound, is_away}}}
+use Rattle.machine_model.{proofs.{Headline.steps_keep, Kept.{reaped_has_cq, sq_with_cq}}, specs.{After.{after, change}, Claims.{is_away}}}
 use Rattle.machine_model.specs.{Events.{Event, Reply}, Memory.is_in, Proper.IsProper}
 use Rattle.machine_model.specs.Refusals.{has_cq, has_sq, slot_page, slot_offset, host_queue, in_state, seen_entry, slot_bytes, slot_entry, is_reaped}
 use Rattle.machine_model.specs.State.{State, Record, pages_of, Controller, HostQueue, ServedQueue}
 use Rattle.machine_model.specs.Step.{Step, IsController, KeepsController, forges, resets, LeavesByController, LeavesByHost, host_part}
 use Rattle.machine_model.specs.declared.words.HostState.{HostState, TheVariants.{HalfMade}}
-use Rattle.host_core.proofs.{Lists.{change-at-lists as change-at, each-change, get-at, length-change}, PageOwners.among-from}
+use Rattle.host_core.proofs.{Lists.{change-at-lists as change-at, each-change, get-at, length-change}, Identifiers.{sound-of, lent-of, Settled, whole-of}, PageOwners.among-from}
 use Rattle.host_core.specs.{Alone.alone, Exact.Exactly, Looks.completion_base, Posting.{with_tail_moved, tail_place, posted, CanPost}}
 use Rattle.host_core.specs.{Reaping.{IsCompletionSlot, lacks_completion, with_state}, Rows.Queue}
 use Rattle.host_core.specs.Tables.{Tables, state_of, host_queue_of, sq_pages_of, view_of, cq_pages_of}
-use Rattle.host_core.specs.Whole.{IsWhole, HasLimits, TellsCommand, HaveOwner, IsQueue, AreQueues, IsRecord, ClaimIdentifiers, ClaimsIdentifiers, OwnersTell, TellsQueue}
+use Rattle.host_core.specs.Whole.{IsWhole, HasLimits, IsTable, TellsCommand, HaveOwner, IsQueue, AreQueues, IsRecord, ClaimIdentifiers, ClaimsIdentifiers, OwnersTell, TellsQueue}
 use Rattle.page_ledger.specs.{Owners.{is_among, owner_at, pages_from}, declared.owner.Owner.Owner}
 use Rattle.page_memory.{proofs.Bytes.{bytes_within, told, told as same_pool, byte_at-with_page_bytes}, specs.Memory.{written, bytes_at, Memory}}
 use Rattle.page_memory.specs.{Pages.{byte_at, page_at, Pages, with_bytes, with_page_bytes, AreWhole, IsPool}, declared.page.Half.Half}
@@ -73,8 +73,8 @@ none-away owners q half p mine (r ∷ rs) h =
 
 pub queue_page-in : (t : Tables) → IsWhole t → (q : ℕ) (half : Half) (p : ℕ) → owner_at t.owners p ≡ Some (owner.Queue q half) → is_in t.pages p ≡ true
 queue_page-in t w q half p mine =
-    let inside : p < length t.pages = subst (λ (n : ℕ). p < n) w.table (slice_get_within t.owners p _ mine) in
-    w.sound.out p inside ∙ ap not (none-away t.owners q half p mine t.records w.owners.commands_told)
+    let inside : p < length t.pages = subst (λ (n : ℕ). p < n) (lent-of t w) (slice_get_within t.owners p _ mine) in
+    w.over.out p inside ∙ ap not (none-away t.owners q half p mine t.records w.host.table.owners.commands_told)
 
 pub queue-at : (t : Tables) (q i : ℕ) (x : Queue) → q < length t.queues → i ≡ q → x ≡ get_or t.queues i x → slice_get t.queues q ≡ Some x
 queue-at t q i x l e at = get-at q t.queues x l (subst (λ (k : ℕ). x ≡ get_or t.queues k x) e at)
@@ -84,15 +84,15 @@ pub completion_page-in : (t : Tables) → IsWhole t → (q : ℕ) (queue : Queue
     → (k : ℕ) → k < half_pages queue.host.entries Completion → IsSome (page_at t.pages (queue.host.cq + k))
 completion_page-in t w q queue at live k l =
     queue_page-in t w q Completion (queue.host.cq + k)
-    ((w.owners.queues_told q queue at).completion (queue.host.cq + k) (rw live (among-from queue.host.cq (half_pages queue.host.entries Completion) k l)))
+    ((w.host.table.owners.queues_told q queue at).completion (queue.host.cq + k) (rw live (among-from queue.host.cq (half_pages queue.host.entries Completion) k l)))
 
 pub completion-in : (t : Tables) → IsWhole t → (q : ℕ) (queue : Queue) → slice_get t.queues q ≡ Some queue → has_cq queue.state ≡ true
     → IsIn (byte_at t.pages) queue.host.cq (half_pages queue.host.entries Completion)
-completion-in t w q queue at live = pages_in t.pages queue.host.cq (half_pages queue.host.entries Completion) w.pool.whole (completion_page-in t w q queue at live)
+completion-in t w q queue at live = pages_in t.pages queue.host.cq (half_pages queue.host.entries Completion) w.over.pool.whole (completion_page-in t w q queue at live)
 
 pub submission-owner : (t : Tables) → IsWhole t → (q : ℕ) (queue : Queue) → slice_get t.queues q ≡ Some queue → has_sq queue.state ≡ true
     → (k : ℕ) → k < half_pages queue.host.entries Submission → owner_at t.owners (queue.host.sq + k) ≡ Some (owner.Queue q Submission)
-submission-owner t w q queue at live k l = (w.owners.queues_told q queue at).submission (queue.host.sq + k)
+submission-owner t w q queue at live k l = (w.host.table.owners.queues_told q queue at).submission (queue.host.sq + k)
     (rw live (among-from queue.host.sq (half_pages queue.host.entries Submission) k l))
 
 pub submission_page-in : (t : Tables) → IsWhole t → (q : ℕ) (queue : Queue) → slice_get t.queues q ≡ Some queue → has_sq queue.state ≡ true
@@ -158,7 +158,7 @@ completion-fits cq slot = omega arith
 
 pub slot-in : (t : Tables) → IsWhole t → (q slot place : ℕ) → IsCompletionSlot t q slot place → IsSome (page_at t.pages (place / 4096))
 slot-in t w q slot place s =
-    let n : s.queue.host.entries ≡ t.entries = (w.queues.each q s.queue s.at).entries in
+    let n : s.queue.host.entries ≡ t.entries = (w.host.rings.each q s.queue s.at).entries in
     let l : slot / 256 < half_pages s.queue.host.entries Completion = omega (arith, n, s.below) in
     subst (λ (p : ℕ). IsSome (page_at t.pages p)) (omega (arith, s.there))
     (completion_page-in t w q s.queue s.at (reaped_has_cq s.queue.state s.live) (slot / 256) l)
@@ -302,7 +302,7 @@ slot-read pages p at there fits pool = elim (option_is (page_at pages p)) [
 slot-seen : (t : Tables) → IsWhole t → (q : ℕ) (x : Queue) → slice_get t.queues q ≡ Some x → is_reaped x.state ≡ true
     → slot_bytes t.pages (cq_pages_of x) 16 x.host.ring.head ≡ completion_slot (byte_at t.pages) x.host.cq x.host.ring.head
 slot-seen t w q x at live =
-    let is = w.queues.each q x at in
+    let is = w.host.rings.each q x at in
     let place : ℕ = completion_place x.host.cq x.host.ring.head in
     let pages : cq_pages_of x ≡ pages_from x.host.cq (half_pages x.host.entries Completion) = rw (reaped_has_cq x.state live) refl in
     let page : slot_page (cq_pages_of x) 16 x.host.ring.head ≡ place / 4096 = ap (λ (ps : List ℕ). slot_page ps 16 x.host.ring.head) pages ∙ completion-page x.host.entries x.host.cq x.host.ring.head is.host_side.head in
@@ -311,7 +311,7 @@ slot-seen t w q x at live =
     (record { queue = x; at = at; live = live; below = subst (λ (n : ℕ). x.host.ring.head < n) is.entries is.host_side.head; there = refl }) in
     ap (λ (p : ℕ). option_map (λ bytes. slice_range bytes (slot_offset 16 x.host.ring.head) (slot_offset 16 x.host.ring.head + 16)) (page_at t.pages p)) page
     ∙ (ap (λ (k : ℕ). option_map (λ bytes. slice_range bytes k (k + 16)) (page_at t.pages (place / 4096))) offset
-    ∙ (slot-read t.pages (place / 4096) (place % 4096) inside (completion-fits x.host.cq x.host.ring.head) w.pool
+    ∙ (slot-read t.pages (place / 4096) (place % 4096) inside (completion-fits x.host.cq x.host.ring.head) w.over.pool
     ∙ ap (λ (p : ℕ). bytes_at (byte_at t.pages) p 16) (place-parts place)))
 
 pub untrusted-seen : (t : Tables) → IsWhole t → (q : ℕ) (x : Queue) → slice_get t.queues q ≡ Some x → is_reaped x.state ≡ true
@@ -339,7 +339,7 @@ pub see-there : (t : Tables) → IsWhole t → (seen : Pages) (q i : ℕ) (x : Q
 see-there t w seen q i x there e at same =
     let here = completion-at t q i x there e at in
     subst (λ (m : Memory). IsSome (completion_slot m x.host.cq x.host.ring.head)) (sym same)
-    (completion_there (byte_at t.pages) x.host.cq x.host.entries x.host.ring.head (completion-in t w q x here (reaped_has_cq x.state (completion-live t q x there here))) (w.queues.each q x here).host_side.head)
+    (completion_there (byte_at t.pages) x.host.cq x.host.entries x.host.ring.head (completion-in t w q x here (reaped_has_cq x.state (completion-live t q x there here))) (w.host.rings.each q x here).host_side.head)
 
 pub see-seen : (t : Tables) → IsWhole t → (seen : Pages) (q i : ℕ) (x : Queue) (r : Option ComEntry) → lacks_completion (slice_get t.queues q) ≡ false → i ≡ q → x ≡ get_or t.queues i x → byte_at seen ≡ byte_at t.pages
     → r ≡ new_completion_at (byte_at seen) x.host.cq x.host.ring.head x.host.ring.phase → r ≡ seen_entry (state_of t) q
@@ -382,58 +382,6 @@ base-gone t q gone = rw (slice_get-map host_queue_of t.queues q) (elim (option_i
   | inr (x, at) ↦ let no : is_reaped x.state ≡ false = not-true _ (rw at at gone) in rw (at, no) (refl, refl)
 ])
 
--- What holds of the tables by themselves: what the machine's laws say of their state is left aside.
-
-pub record Settled (t : Tables) : Type 0 where
-  pub pool : IsPool t.pages
-  pub table : length t.owners ≡ length t.pages
-  pub limits : HasLimits t
-  pub queues : AreQueues t.entries t.queues
-  pub identifiers : ClaimIdentifiers t.records t.queues
-  pub owners : OwnersTell t.owners t.queues t.records
-  pub records : AllByRecursion (IsRecord (length t.queues)) t.records
-
-pub settled-of : (t : Tables) → IsWhole t → Settled t
-settled-of t w =
-    record {
-      pool = w.pool;
-      table = w.table;
-      limits = record {
-        least_entries = w.least_entries;
-        most_entries = w.most_entries;
-        least_segment = w.least_segment;
-        most_segment = w.most_segment;
-        some_queues = w.some_queues;
-        few_queues = w.few_queues;
-        record_queues = w.record_queues;
-        record_places = w.record_places;
-      };
-      queues = w.queues;
-      identifiers = w.identifiers;
-      owners = w.owners;
-      records = w.records;
-    }
-
-pub whole-of : (t : Tables) → Settled t → IsSound (state_of t) → IsWhole t
-whole-of t s sound =
-    record {
-      sound = sound;
-      pool = s.pool;
-      table = s.table;
-      least_entries = s.limits.least_entries;
-      most_entries = s.limits.most_entries;
-      least_segment = s.limits.least_segment;
-      most_segment = s.limits.most_segment;
-      some_queues = s.limits.some_queues;
-      few_queues = s.limits.few_queues;
-      record_queues = s.limits.record_queues;
-      record_places = s.limits.record_places;
-      queues = s.queues;
-      identifiers = s.identifiers;
-      owners = s.owners;
-      records = s.records;
-    }
-
 -- What a call makes of whole tables: a step of the machine, and whole tables.
 pub record Steps (t : Tables) (e : Event) (reply : Reply) (new : Tables) : Type 0 where
   pub step : Step (state_of t) e reply (state_of new)
@@ -441,7 +389,7 @@ pub record Steps (t : Tables) (e : Event) (reply : Reply) (new : Tables) : Type 
 
 pub steps : (t new : Tables) (e : Event) (reply : Reply) → IsWhole t → IsController e ≡ false → IsProper e → Exactly (state_of t) e reply (state_of new) → Settled new → Steps t e reply new
 steps t new e reply w c p exact s =
-    let step = host_step t new e reply c p exact in record { step = step; whole = whole-of new s (steps_keep (state_of t) e reply (state_of new) step w.sound) }
+    let step = host_step t new e reply c p exact in record { step = step; whole = whole-of new s (steps_keep (state_of t) e reply (state_of new) step (sound-of t w)) }
 
 abbrev pub with_tables : Tables → Pages → List Owner → List Queue → List Record → Tables
 with_tables t pages owners queues records = record t { pages = pages; owners = owners; queues = queues; records = records }
@@ -449,7 +397,7 @@ with_tables t pages owners queues records = record t { pages = pages; owners = o
 -- other pages, owners, queues and records, of which the same holds
 pub record Settles (t : Tables) (pages : Pages) (os : List Owner) (qs : List Queue) (rs : List Record) : Type 0 where
   pub pool : IsPool pages
-  pub table : length os ≡ length pages
+  pub lent : length os ≡ length pages
   pub many : length qs ≡ length t.queues
   pub queues : AreQueues t.entries qs
   pub identifiers : ClaimIdentifiers rs qs
@@ -461,27 +409,16 @@ pub settled-with : (t : Tables) (pages : Pages) (owners : List Owner) (queues : 
 settled-with t pages owners queues records s h =
     record {
       pool = h.pool;
-      table = h.table;
-      limits = record {
-        least_entries = s.limits.least_entries;
-        most_entries = s.limits.most_entries;
-        least_segment = s.limits.least_segment;
-        most_segment = s.limits.most_segment;
-        some_queues = subst (λ (n : ℕ). 2 ≤ n) (sym h.many) s.limits.some_queues;
-        few_queues = subst (λ (n : ℕ). n ≤ 65) (sym h.many) s.limits.few_queues;
-        record_queues = s.limits.record_queues ∙ sym h.many;
-        record_places = s.limits.record_places;
-      };
-      queues = h.queues;
-      identifiers = h.identifiers;
-      owners = h.owners;
-      records = subst (λ (n : ℕ). AllByRecursion (IsRecord n) records) (sym h.many) h.records;
+      lent = h.lent;
+      limits = subst (λ (n : ℕ). HasLimits t.entries t.segment n t.record_queues t.record_places) (sym h.many) s.limits;
+      table = subst (λ (n : ℕ). IsTable n owners queues records) (sym h.many) (record { owners = h.owners; identifiers = h.identifiers; records = h.records });
+      rings = h.queues;
     }
 
 -- One queue is changed, over other pages, owners and records, of which the same holds.
 pub record Turns (t : Tables) (q : ℕ) (f : Queue → Queue) (pages : Pages) (os : List Owner) (rs : List Record) : Type 0 where
   pub pool : IsPool pages
-  pub table : length os ≡ length pages
+  pub lent : length os ≡ length pages
   pub queue : (x : Queue) → slice_get t.queues q ≡ Some x → IsQueue t.entries q (f x)
   pub identifiers : (k : ℕ) (x : Queue) → slice_get t.queues k ≡ Some x → ClaimsIdentifiers rs k x.host.claimed
   pub claims : (x : Queue) → slice_get t.queues q ≡ Some x → ClaimsIdentifiers rs q (f x).host.claimed
@@ -496,9 +433,9 @@ settled-turned t q f pages os rs s h =
     settled-with t pages os (change q f t.queues) rs s
     (record {
       pool = h.pool;
-      table = h.table;
+      lent = h.lent;
       many = length-change q f t.queues;
-      queues = record { each = each-change (IsQueue t.entries) q f t.queues (λ k x _ at. s.queues.each k x at) h.queue };
+      queues = record { each = each-change (IsQueue t.entries) q f t.queues (λ k x _ at. s.rings.each k x at) h.queue };
       identifiers = record { each = each-change (λ (k : ℕ) (x : Queue). ClaimsIdentifiers rs k x.host.claimed) q f t.queues (λ k x _ at. h.identifiers k x at) h.claims };
       owners = record { queues_told = each-change (TellsQueue os) q f t.queues h.others h.own; commands_told = h.commands };
       records = h.records;
@@ -528,20 +465,20 @@ settled-as t k state owners s size own others commands =
     settled-turned t k (with_state state) t.pages owners t.records s
     (record {
       pool = s.pool;
-      table = size ∙ s.table;
-      queue = λ x at. let is = s.queues.each k x at in record { number = is.number; entries = is.entries; host_side = is.host_side };
-      identifiers = s.identifiers.each;
-      claims = s.identifiers.each k;
+      lent = size ∙ s.lent;
+      queue = λ x at. let is = s.rings.each k x at in record { number = is.number; entries = is.entries; host_side = is.host_side };
+      identifiers = s.table.identifiers.each;
+      claims = s.table.identifiers.each k;
       others = others;
       own = own;
       commands = commands;
-      records = s.records;
+      records = s.table.records;
     })
 
 pub settled-state : (t : Tables) (k : ℕ) (state : HostState) → Settled t → has_sq state ≡ true → ((x : Queue) → slice_get t.queues k ≡ Some x → has_sq x.state ≡ true)
     → Settled (record t { queues = change k (with_state state) t.queues })
 settled-state t k state s new old =
-    settled-as t k state t.owners s refl (λ y at. told-kept t.owners k state y new (old y at) (s.owners.queues_told k y at)) (λ j y _ at. s.owners.queues_told j y at) s.owners.commands_told
+    settled-as t k state t.owners s refl (λ y at. told-kept t.owners k state y new (old y at) (s.table.owners.queues_told k y at)) (λ j y _ at. s.table.owners.queues_told j y at) s.table.owners.commands_told
 
 -- A queue of which a half is given back
 

@@ -16,9 +16,9 @@ use Rattle.machine_model.specs.{State.{State, HostQueue, Record, record_at, with
 use Rattle.machine_model.specs.{Work.Work, declared.words.HostState.{HostState, TheVariants.{Live, Gone, MakingCq, HalfMade, MakingSq}}}
 use Rattle.machine_model.specs.declared.words.{Phase.TheVariants.Held, RejectedFor.RejectedFor, Work.TheVariants.{Io, Management}}
 use Rattle.queue_pair.{proofs.Rings.next_below, specs.{Memory.half_pages, Rings.{knowing, next_head}}}
-use Rattle.host_core.proofs.{Identifiers.claim-less, Granting.in_state-is, Lists.{each-change, length-change}}
+use Rattle.host_core.proofs.{Identifiers.{claim-less, sound-of, lent-of, Settled, settled-of}, Granting.in_state-is, Lists.{each-change, length-change}}
 use Rattle.host_core.proofs.PageOwners.{OwnsHalf, commands-told, half-listed, half-owned, others-told, owner-stays, given-free}
-use Rattle.host_core.proofs.QueueLists.{map-change, Settled, settled-of, settled-turned, settled-with, cq-kept, none-told, settled-as, settled-half_made, settled-state, sq-kept}
+use Rattle.host_core.proofs.QueueLists.{map-change, settled-turned, settled-with, cq-kept, none-told, settled-as, settled-half_made, settled-state, sq-kept}
 use Rattle.host_core.proofs.RowRecords.{Marks, marked-claims, marked-tells, claims_keep_queue, claims_keep_tells, each_claimed}
 use Rattle.host_core.specs.{Commands.{passes, state_at, without_claim}, Exact.Exactly, Halves.HasMeant}
 use Rattle.host_core.specs.Reaping.{consumed, ended_with, seen_at, with_completion_heard, with_completion_taken, heard, gives_back, meant, over, state_deleted, with_state, without_completion, without_submission}
@@ -72,7 +72,7 @@ with_lists s hs = record s { host = record s.host { queues = hs } }
 
 consumed-host : (t : Tables) → IsWhole t → (q : ℕ) → map host_queue_of (change q with_completion_taken t.queues) ≡ change q (on_head t.entries) (map host_queue_of t.queues)
 consumed-host t w q =
-    map-change host_queue_of with_completion_taken (on_head t.entries) q t.queues (λ y at. ap (λ (n : ℕ). on_head n (host_queue_of y)) (w.queues.each q y at).entries)
+    map-change host_queue_of with_completion_taken (on_head t.entries) q t.queues (λ y at. ap (λ (n : ℕ). on_head n (host_queue_of y)) (w.host.rings.each q y at).entries)
 
 pub reject-exact : (t : Tables) → IsWhole t → (q : ℕ) (x : Queue) (e : ComEntry) (why : RejectedFor) → Sees t q x e → reaped_entry (state_of t) q e ≡ found.Rejected why
     → Exactly (state_of t) (events.Reap q) (events.Reaps (found.Rejected why)) (state_of (consumed q t))
@@ -90,20 +90,20 @@ settled-taken t s q f tells claims is =
     settled-turned t q f t.pages t.owners t.records s
     (record {
       pool = s.pool;
-      table = s.table;
+      lent = s.lent;
       queue = is;
-      identifiers = s.identifiers.each;
-      claims = λ y at. subst (ClaimsIdentifiers t.records q) (sym (claims y)) (s.identifiers.each q y at);
-      others = λ k y _ at. s.owners.queues_told k y at;
-      own = λ y at. tells y (s.owners.queues_told q y at);
-      commands = s.owners.commands_told;
-      records = s.records;
+      identifiers = s.table.identifiers.each;
+      claims = λ y at. subst (ClaimsIdentifiers t.records q) (sym (claims y)) (s.table.identifiers.each q y at);
+      others = λ k y _ at. s.table.owners.queues_told k y at;
+      own = λ y at. tells y (s.table.owners.queues_told q y at);
+      commands = s.table.owners.commands_told;
+      records = s.table.records;
     })
 
 pub settled-consumed : (t : Tables) → IsWhole t → (q : ℕ) → Settled (consumed q t)
 settled-consumed t w q =
     settled-taken t (settled-of t w) q with_completion_taken (λ y told. record { submission = told.submission; completion = told.completion }) (λ y. refl)
-    (λ y at. let is = w.queues.each q y at in taken-queue t.entries q y.host.ring.known_head y is.host_side.known_head is)
+    (λ y at. let is = w.host.rings.each q y at in taken-queue t.entries q y.host.ring.known_head y is.host_side.known_head is)
 
 -- How an I/O command ended is held
 
@@ -118,7 +118,7 @@ change-twice {A = A} f g (suc q) (x ∷ xs) = ap (λ (l : List A). x ∷ l) (cha
 pub heard-host : (t : Tables) → IsWhole t → (q k : ℕ) → map host_queue_of (change q (with_completion_heard k) t.queues) ≡ change q (knowing_head k) (change q (on_head t.entries) (map host_queue_of t.queues))
 heard-host t w q k =
     map-change host_queue_of (with_completion_heard k) (λ (h : HostQueue). knowing_head k (on_head t.entries h)) q t.queues
-    (λ y at. ap (λ (n : ℕ). knowing_head k (on_head n (host_queue_of y))) (w.queues.each q y at).entries)
+    (λ y at. ap (λ (n : ℕ). knowing_head k (on_head n (host_queue_of y))) (w.host.rings.each q y at).entries)
     ∙ sym (change-twice (knowing_head k) (on_head t.entries) q (map host_queue_of t.queues))
 
 abbrev pub with_all : State → List HostQueue → List Record → State
@@ -154,7 +154,7 @@ done-exact t w q cid status x e sees io = (
 pub settled-heard : (t : Tables) → IsWhole t → (q : ℕ) (x : Queue) (e : ComEntry) → Sees t q x e → e.sqhd < x.host.entries → Settled (heard q e.sqhd t)
 settled-heard t w q x e sees below =
     settled-taken t (settled-of t w) q (with_completion_heard e.sqhd) (λ y told. record { submission = told.submission; completion = told.completion }) (λ y. refl)
-    (λ y at. let same : x ≡ y = some_is (sym sees.at ∙ at) in taken-queue t.entries q e.sqhd y (subst (λ (z : Queue). e.sqhd < z.host.entries) same below) (w.queues.each q y at))
+    (λ y at. let same : x ≡ y = some_is (sym sees.at ∙ at) in taken-queue t.entries q e.sqhd y (subst (λ (z : Queue). e.sqhd < z.host.entries) same below) (w.host.rings.each q y at))
 
 -- The record is held
 
@@ -192,7 +192,7 @@ held-records n q cid status (r ∷ rs) io owns all = (
 
 io-queue : (t : Tables) → IsWhole t → (q cid : ℕ) (status : Status) (e : ComEntry) → EndsIo t q cid status e → (q == 0) ≡ false
 io-queue t w q cid status e io =
-    let owns = found_all (λ (r : Record). OwnsFit r.q r.work (pages_of r)) (is_at q cid) t.records io.entry io.was w.sound.works_fit in
+    let owns = found_all (λ (r : Record). OwnsFit r.q r.work (pages_of r)) (is_at q cid) t.records io.entry io.was w.host.sound.works_fit in
     let at = and_parts (io.entry.q == q) (io.entry.cid == cid) (found_is (is_at q cid) t.records io.entry io.was) in
     subst (λ (k : ℕ). (k == 0) ≡ false) (eqb-true io.entry.q q at.0) (subst (λ (v : Work). OwnsFit io.entry.q v (pages_of io.entry)) io.work owns)
 
@@ -204,12 +204,12 @@ done-settled t w q cid status x e sees io below =
     settled-with u u.pages u.owners u.queues (with_record q cid (held status) u.records) s
     (record {
       pool = s.pool;
-      table = s.table;
+      lent = s.lent;
       many = refl;
-      queues = s.queues;
-      identifiers = marked-claims (held status) (marks-held status) u.records u.queues q cid s.identifiers;
-      owners = record { queues_told = s.owners.queues_told; commands_told = marked-tells (held status) (marks-held status) u.owners u.records q cid s.owners.commands_told };
-      records = held-records (length u.queues) q cid status u.records (io-queue t w q cid status e io) w.sound.works_fit s.records;
+      queues = s.rings;
+      identifiers = marked-claims (held status) (marks-held status) u.records u.queues q cid s.table.identifiers;
+      owners = record { queues_told = s.table.owners.queues_told; commands_told = marked-tells (held status) (marks-held status) u.owners u.records q cid s.table.owners.commands_told };
+      records = held-records (length u.queues) q cid status u.records (io-queue t w q cid status e io) w.host.sound.works_fit s.table.records;
     })
 
 -- An admin command was reaped: what its end means, on the tables.
@@ -329,8 +329,8 @@ meant-state u (CreateSq k n base) status size m = elim (cases_Bool (is_success s
 settled-freed : (u : Tables) (k : ℕ) → Settled u → Settled (without_completion k u)
 settled-freed u k s =
     settled-as u k Gone (given_back (is_half k Completion) u.owners) s (length-map u.owners _) (λ y at. record { submission = none-told _ _; completion = none-told _ _ })
-    (λ j x far at. others-told u.owners k j Completion x far (s.owners.queues_told j x at))
-    (commands-told u.owners k Completion u.records s.owners.commands_told)
+    (λ j x far at. others-told u.owners k j Completion x far (s.table.owners.queues_told j x at))
+    (commands-told u.owners k Completion u.records s.table.owners.commands_told)
 
 making-cq : (u : Tables) (k : ℕ) (half : Half) (st : HostState) → has_cq st ≡ true → Makes u k half st → (x : Queue) → slice_get u.queues k ≡ Some x → has_cq x.state ≡ true
 making-cq u k half st has m x at = subst (λ (z : Queue). has_cq z.state ≡ true) (some_is (sym m.at ∙ at)) (ap has_cq m.making ∙ has)
@@ -341,9 +341,9 @@ completion-kept q = and_right (q == q) false refl
 settled-unmade : (u : Tables) (k : ℕ) → Settled u → Makes u k Submission MakingSq → Settled (without_submission HalfMade k u)
 settled-unmade u k s m =
     settled-half_made u k (given_back (is_half k Submission) u.owners) s (length-map u.owners _) (making-cq u k Submission MakingSq refl m)
-    (λ x at p h. owner-stays u.owners (is_half k Submission) p (owner.Queue k Completion) (completion-kept k) ((s.owners.queues_told k x at).completion p h))
-    (λ j x far at. others-told u.owners k j Submission x far (s.owners.queues_told j x at))
-    (commands-told u.owners k Submission u.records s.owners.commands_told)
+    (λ x at p h. owner-stays u.owners (is_half k Submission) p (owner.Queue k Completion) (completion-kept k) ((s.table.owners.queues_told k x at).completion p h))
+    (λ j x far at. others-told u.owners k j Submission x far (s.table.owners.queues_told j x at))
+    (commands-told u.owners k Submission u.records s.table.owners.commands_told)
 
 pub meant-settled : (u : Tables) (kind : AdminKind) (status : Status) → Settled u → Means kind u → Settled (meant kind status u)
 meant-settled u (Abort k cid) status s m = s
@@ -351,8 +351,8 @@ meant-settled u (DeleteSq k) status s m = settled-state u k (state_deleted statu
 meant-settled u (DeleteCq k) status s m = cond_both (gives_back k status u) _ _ Settled (λ _. settled-freed u k s) (λ _. s)
 meant-settled u (CreateCq k n base) status s m =
     cond_both (is_success status) _ _ Settled
-    (λ _. settled-half_made u k u.owners s refl (making-cq u k Completion MakingCq refl m) (λ x at. (s.owners.queues_told k x at).completion)
-    (λ j x far at. s.owners.queues_told j x at) s.owners.commands_told)
+    (λ _. settled-half_made u k u.owners s refl (making-cq u k Completion MakingCq refl m) (λ x at. (s.table.owners.queues_told k x at).completion)
+    (λ j x far at. s.table.owners.queues_told j x at) s.table.owners.commands_told)
     (λ _. settled-freed u k s)
 meant-settled u (CreateSq k n base) status s m =
     cond_both (is_success status) _ _ Settled (λ _. settled-state u k Live s refl (making-has u k Submission m)) (λ _. settled-unmade u k s m)
@@ -374,15 +374,15 @@ settled-over t w q x e kind sees ends below =
     settled-with u u.pages u.owners (change q (without_claim e.cid) u.queues) (without_record q e.cid u.records) s
     (record {
       pool = s.pool;
-      table = s.table;
+      lent = s.lent;
       many = length-change q (without_claim e.cid) u.queues;
-      queues = record { each = each_claimed (IsQueue u.entries) less (claims_keep_queue less (λ bits. length-set bits e.cid false) u.entries) q u.queues s.queues.each };
-      identifiers = claim-less u.records u.queues q e.cid s.identifiers (found_any (is_at q e.cid) t.records ends.entry ends.was);
+      queues = record { each = each_claimed (IsQueue u.entries) less (claims_keep_queue less (λ bits. length-set bits e.cid false) u.entries) q u.queues s.rings.each };
+      identifiers = claim-less u.records u.queues q e.cid s.table.identifiers (found_any (is_at q e.cid) t.records ends.entry ends.was);
       owners = record {
-        queues_told = each_claimed (TellsQueue u.owners) less (claims_keep_tells less u.owners) q u.queues s.owners.queues_told;
-        commands_told = all-filter (TellsCommand u.owners) (λ (r : Record). not (is_at q e.cid r)) u.records s.owners.commands_told;
+        queues_told = each_claimed (TellsQueue u.owners) less (claims_keep_tells less u.owners) q u.queues s.table.owners.queues_told;
+        commands_told = all-filter (TellsCommand u.owners) (λ (r : Record). not (is_at q e.cid r)) u.records s.table.owners.commands_told;
       };
-      records = all-filter (IsRecord (length u.queues)) (λ (r : Record). not (is_at q e.cid r)) u.records s.records;
+      records = all-filter (IsRecord (length u.queues)) (λ (r : Record). not (is_at q e.cid r)) u.records s.table.records;
     })
 
 -- what the end of an admin command leans on is there
@@ -401,7 +401,7 @@ found-counts test p (y ∷ xs) x h is = grind (arith, is, found-counts test p xs
 asked-at : (t : Tables) → IsWhole t → (q cid k : ℕ) (r : Record) → find (is_at q cid) t.records ≡ Some r → r.work ≡ Management (DeleteSq k) → (x : Queue) → slice_get t.queues k ≡ Some x → is_asked x.state ≡ true
 asked-at t w q cid k r was work x at = true_from_ne_false (is_asked x.state) (λ e.
     let deletes : deletes_sq_of k r.work ≡ true = ap (deletes_sq_of k) work ∙ eq-eqb k k refl in
-    let count = w.sound.deletions k ∙ ap (λ (o : Option HostQueue). if option_map_or (λ (queue : HostQueue). is_asked queue.state) o false then 1 else 0)
+    let count = w.host.sound.deletions k ∙ ap (λ (o : Option HostQueue). if option_map_or (λ (queue : HostQueue). is_asked queue.state) o false then 1 else 0)
     (slice_get-map host_queue_of t.queues k ∙ ap (option_map host_queue_of) at) in
     omega (arith, found-counts (is_at q cid) (λ (s : Record). deletes_sq_of k s.work) t.records r was deletes, count, ap {B = ℕ} (λ (b : Bool). if b then 1 else 0) e))
 
@@ -440,10 +440,10 @@ over-owns : (t : Tables) → IsWhole t → (q : ℕ) (e : ComEntry) (k : ℕ) (h
     (length t.pages) k half y
 over-owns t w q e k Submission y at =
     each-over (λ (j : ℕ) (y : Queue). OwnsHalf t.owners (length t.pages) j Submission y) q e.sqhd e.cid t.queues (λ j y h. h) (λ j y h. h)
-    (λ j z at. half-owned t (length t.pages) w.sound.owners w.owners j Submission z at) k y at
+    (λ j z at. half-owned t (length t.pages) (sound-of t w).owners w.host.table.owners j Submission z at) k y at
 over-owns t w q e k Completion y at =
     each-over (λ (j : ℕ) (y : Queue). OwnsHalf t.owners (length t.pages) j Completion y) q e.sqhd e.cid t.queues (λ j y h. h) (λ j y h. h)
-    (λ j z at. half-owned t (length t.pages) w.sound.owners w.owners j Completion z at) k y at
+    (λ j z at. half-owned t (length t.pages) (sound-of t w).owners w.host.table.owners j Completion z at) k y at
 
 over-makes : (t : Tables) → IsWhole t → (q : ℕ) (e : ComEntry) (k : ℕ) (half : Half) (st : HostState) (x : Queue) → slice_get t.queues k ≡ Some x → x.state ≡ st → Makes (over q e.sqhd e.cid t) k half st
 over-makes t w q e k half st x at is =
@@ -456,10 +456,10 @@ over-means t w q e (DeleteSq k) ends =
     (λ j y at' same. asked_has_sq y.state (asked-at t w q e.cid k ends.entry ends.was ends.work y (subst (λ (i : ℕ). slice_get t.queues i ≡ Some y) (sym same) at'))) k x at refl
 over-means t w q e (DeleteCq k) ends = λ x at. over-owns t w q e k Completion x at
 over-means t w q e (CreateCq k n base) ends =
-    let is = made-at t creates_cq_of is_making_cq q e.cid k ends.entry (w.sound.creations k).0 ends.was (ap (creates_cq_of k) ends.work ∙ eq-eqb k k refl) in
+    let is = made-at t creates_cq_of is_making_cq q e.cid k ends.entry (w.host.sound.creations k).0 ends.was (ap (creates_cq_of k) ends.work ∙ eq-eqb k k refl) in
     over-makes t w q e k Completion MakingCq is.0 is.1 (making_cq_is is.0.state is.2)
 over-means t w q e (CreateSq k n base) ends =
-    let is = made-at t creates_sq_of is_making_sq q e.cid k ends.entry (w.sound.creations k).1 ends.was (ap (creates_sq_of k) ends.work ∙ eq-eqb k k refl) in
+    let is = made-at t creates_sq_of is_making_sq q e.cid k ends.entry (w.host.sound.creations k).1 ends.was (ap (creates_sq_of k) ends.work ∙ eq-eqb k k refl) in
     over-makes t w q e k Submission MakingSq is.0 is.1 (making_sq_is is.0.state is.2)
 
 pub over-has : (t : Tables) → IsHost t → (q : ℕ) (e : ComEntry) (kind : AdminKind) → (entry : Record) → find (is_at q e.cid) t.records ≡ Some entry → entry.work ≡ Management kind → HasMeant kind (over q e.sqhd e.cid t)
@@ -512,7 +512,7 @@ pub admin-exact : (t : Tables) → IsWhole t → (q : ℕ) (x : Queue) (e : ComE
 admin-exact t w q x e kind sees ends = (
   reap-none t q x sees.at sees.live,
   sym (reaped-told (state_of t) q e sees.seen ∙ ends.says),
-  meant-state (over q e.sqhd e.cid t) kind e.status w.table (over-means t w q e kind ends)
+  meant-state (over q e.sqhd e.cid t) kind e.status (lent-of t w) (over-means t w q e kind ends)
       ∙ (ap (after_admin kind e.status) (over-exact t w q e) ∙ sym (admin-after t q x e kind sees ends)),
 )
 

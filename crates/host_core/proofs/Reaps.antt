@@ -20,7 +20,7 @@ use Rattle.machine_model.specs.declared.words.{Phase.TheVariants.{Submitted, Hel
 use Rattle.queue_pair.{proofs.Rings.in_range_below, specs.Slots.is_in_range}
 use Rattle.host_core.proofs.{Granting.in_state-is, Lists.{each-change, length-change, any-map}, RowRecords.claims-same}
 use Rattle.host_core.proofs.PageOwners.{commands-told, half-owned, half-there, others-told, owner-stays, given-free}
-use Rattle.host_core.proofs.QueueLists.{map-change, host-at, host_step, Settled, settled-of, settled-turned, Steps, steps}
+use Rattle.host_core.proofs.{Identifiers.{sound-of, lent-of, Settled, settled-of}, QueueLists.{map-change, host-at, host_step, settled-turned, Steps, steps}}
 use Rattle.host_core.proofs.Reaping.{EndsAdmin, admin-exact, admin-settled, ended_admin, done-settled, EndsIo, Sees, done-exact, held-lost, reap-none, reaped-empty, reject-exact, settled-consumed, work-cases}
 use Rattle.host_core.specs.{Commands.{Claims, passes, state_at, without_claim}, Exact.Exactly, Halves.HasHalf, Looks.completion_waits}
 use Rattle.host_core.specs.Reaping.{lacks_completion, Answered, ReapsTo, consumed, ended_with, gives_back, heard, kind_of, meant, over, seen_at, state_deleted, with_completion_heard, with_state, without_completion, without_submission}
@@ -41,7 +41,7 @@ pub fits-at : (t : Tables) → IsWhole t → (q : ℕ) (x : Queue) (e : ComEntry
     → fits_ring (state_of t) q e ≡ is_in_range x.host.entries x.host.ring.known_head x.host.ring.tail e.sqhd
 fits-at t w q x e at =
     ap (λ (o : Option HostQueue). option_map_or (λ queue. is_in_range t.entries queue.ring.known_head queue.ring.tail e.sqhd) o false) (host-at t q x at)
-    ∙ ap (λ (n : ℕ). is_in_range n x.host.ring.known_head x.host.ring.tail e.sqhd) (sym (w.queues.each q x at).entries)
+    ∙ ap (λ (n : ℕ). is_in_range n x.host.ring.known_head x.host.ring.tail e.sqhd) (sym (w.host.rings.each q x at).entries)
 
 after-tests : (t : Tables) → IsWhole t → (q : ℕ) (x : Queue) (e : ComEntry) → slice_get t.queues q ≡ Some x → (e.sqid == q) ≡ true
     → is_in_range x.host.entries x.host.ring.known_head x.host.ring.tail e.sqhd ≡ true
@@ -217,7 +217,7 @@ retired-state t w q x r =
     (map-change host_queue_of (with_state Retired) a.retired q t.queues (λ y at. let has : has_cq y.state ≡ true = subst (λ (z : Queue). has_cq z.state ≡ true)
     (same-at t q x y r at) (there t q x r) in rw has refl))
     ∙ (ap (λ (free : List ℕ). with_free free (change q a.retired (map host_queue_of t.queues)))
-    (given-free t.owners (is_half q Submission) (length t.pages) (sq_pages_of x) (sym w.table) (half-owned t (length t.pages) w.sound.owners w.owners q Submission x r.at))
+    (given-free t.owners (is_half q Submission) (length t.pages) (sq_pages_of x) (sym (lent-of t w)) (half-owned t (length t.pages) (sound-of t w).owners w.host.table.owners q Submission x r.at))
     ∙ ap (λ (o : Option HostQueue). option_map_or (λ (queue : HostQueue). a.on_host_queue q a.retired (a.given_back queue.sq_pages (state_of (with_lost q t)))) o (state_of (with_lost q t)))
     (sym (host-at t q x r.at)))
   where
@@ -265,7 +265,7 @@ lost-records n q (r ∷ records) io owns all = (lost-fits n q r io owns.0 all.0,
 not-admin : (t : Tables) → IsWhole t → (q : ℕ) (x : Queue) → Retires t q x → (q == 0) ≡ false
 not-admin t w q x r = false_from_ne_true (q == 0) (λ e.
     let first : host_queue (state_of t) 0 ≡ Some (host_queue_of x) = subst (λ (k : ℕ). host_queue (state_of t) k ≡ Some (host_queue_of x)) (eqb-true q 0 e) (host-at t q x r.at) in
-    let live : is_live x.state ≡ true = ap (λ (o : Option HostQueue). option_map_or (λ (queue : HostQueue). is_live queue.state) o true) (sym first) ∙ w.sound.admin in
+    let live : is_live x.state ≡ true = ap (λ (o : Option HostQueue). option_map_or (λ (queue : HostQueue). is_live queue.state) o true) (sym first) ∙ w.host.sound.admin in
     dead x.state r.deleted live)
   where
     dead : (state : HostState) → is_deleted state ≡ true → is_live state ≡ true → ⊥
@@ -293,14 +293,14 @@ settled-retired t w q x r =
     settled-turned t q (with_state Retired) t.pages owners (map (lost q) t.records) s
     (record {
       pool = s.pool;
-      table = length-map t.owners _ ∙ s.table;
-      queue = λ y at. let is = s.queues.each q y at in record { number = is.number; entries = is.entries; host_side = is.host_side };
-      identifiers = λ j y at. lost-claims q t.records j y.host.claimed (s.identifiers.each j y at);
-      claims = λ y at. lost-claims q t.records q y.host.claimed (s.identifiers.each q y at);
-      others = λ j y far at. others-told t.owners q j Submission y far (s.owners.queues_told j y at);
-      own = λ y at. retired-told t.owners q y (live y at) (s.owners.queues_told q y at);
-      commands = all-map (TellsCommand owners) (lost q) (λ y h. lost-told owners q y h) t.records (commands-told t.owners q Submission t.records s.owners.commands_told);
-      records = lost-records (length t.queues) q t.records (not-admin t w q x r) w.sound.works_fit s.records;
+      lent = length-map t.owners _ ∙ s.lent;
+      queue = λ y at. let is = s.rings.each q y at in record { number = is.number; entries = is.entries; host_side = is.host_side };
+      identifiers = λ j y at. lost-claims q t.records j y.host.claimed (s.table.identifiers.each j y at);
+      claims = λ y at. lost-claims q t.records q y.host.claimed (s.table.identifiers.each q y at);
+      others = λ j y far at. others-told t.owners q j Submission y far (s.table.owners.queues_told j y at);
+      own = λ y at. retired-told t.owners q y (live y at) (s.table.owners.queues_told q y at);
+      commands = all-map (TellsCommand owners) (lost q) (λ y h. lost-told owners q y h) t.records (commands-told t.owners q Submission t.records s.table.owners.commands_told);
+      records = lost-records (length t.queues) q t.records (not-admin t w q x r) w.host.sound.works_fit s.table.records;
     })
 
 -- As the code tells it

@@ -15,11 +15,11 @@ use Rattle.page_ledger.specs.{Lists.ListsAll, Owners.{is_among, owner_at, pages_
 use Rattle.page_ledger.specs.declared.owner.Owner.{Owner, TheVariants.{Free, Queue as OwnerQueue, Command}}
 use Rattle.page_memory.specs.{Pages.{Pages, zero_page}, declared.page.Half.{Half, TheVariants.{Submission, Completion}}}
 use Rattle.queue_pair.specs.{Memory.half_pages, Rings.first_page_of}
-use Rattle.host_core.proofs.Identifiers.{queue-here, alone_sound, host_of, over_pages, places-of}
+use Rattle.host_core.proofs.Identifiers.{sound-of, lent-of, Settled, settled-of, whole-of, queue-here, alone_sound, over_pages, places-of}
 use Rattle.host_core.proofs.Lists.{change-at-lists as change-at, get-at, length-change, map-agree}
 use Rattle.host_core.proofs.Making.{can-zero, some-pages, with-some, claims-none, made-queue, whole-zeros}
 use Rattle.host_core.proofs.PageOwners.{half-from, half-told, among-from, with-append, half-lists, half-standing, owner-stays, among-append, pool-with, given-free}
-use Rattle.host_core.proofs.QueueLists.{queue_page-in, host-at, Settled, none-told, settled-of, settled-with, whole-of}
+use Rattle.host_core.proofs.QueueLists.{queue_page-in, host-at, none-told, settled-with}
 use Rattle.host_core.proofs.{Reaping.{held-lost, work-cases}, RowRecords.claims-same}
 use Rattle.host_core.specs.{Alone.{HostView, alone}, Commands.CanZero, Halves.{half_of, has_half}, Laws.shown}
 use Rattle.host_core.specs.Resetting.{admin_reset, with_admin_renewed, gone, gone_behind_first, is_of_io_queue, with_queue_gone, ListHalves, ListsHalf, tables_reset, with_records_reset, HasPlaces, IsPlaced}
@@ -33,7 +33,7 @@ use Rattle.machine_model.proofs.Cases.{none_some}
 -- Queue 0 is live, so both halves are there.
 
 pub admin-live : (t : Tables) → IsWhole t → (x : Queue) → slice_get t.queues 0 ≡ Some x → x.state ≡ Live
-admin-live t w x at = live_is x.state (ap (λ (o : Option HostQueue). option_map_or (λ (queue : HostQueue). is_live queue.state) o true) (sym (host-at t 0 x at)) ∙ w.sound.admin)
+admin-live t w x at = live_is x.state (ap (λ (o : Option HostQueue). option_map_or (λ (queue : HostQueue). is_live queue.state) o true) (sym (host-at t 0 x at)) ∙ w.host.sound.admin)
 
 has-both : (half : Half) → has_half half Live ≡ true
 has-both Submission = refl
@@ -42,7 +42,7 @@ has-both Completion = refl
 pub admin-half : (t : Tables) → IsWhole t → (x : Queue) → slice_get t.queues 0 ≡ Some x → (half : Half) → half_of half x ≡ pages_from (first_page_of half x.host) (half_pages t.entries half)
 admin-half t w x at half =
     half-from half x (ap (has_half half) (admin-live t w x at) ∙ has-both half)
-    ∙ ap (λ (n : ℕ). pages_from (first_page_of half x.host) (half_pages n half)) (w.queues.each 0 x at).entries
+    ∙ ap (λ (n : ℕ). pages_from (first_page_of half x.host) (half_pages n half)) (w.host.rings.each 0 x at).entries
 
 -- A run of pages that is a half of queue 0
 pub record IsAdminRun (t : Tables) (half : Half) (first count : ℕ) : Type 0 where
@@ -52,21 +52,21 @@ pub record IsAdminRun (t : Tables) (half : Half) (first count : ℕ) : Type 0 wh
   pub many : count ≡ half_pages t.entries half
 
 pub admin-run : (t : Tables) (half : Half) (x : Queue) (first count : ℕ) → IsWhole t → x ≡ get_or t.queues 0 x → first ≡ first_page_of half x.host → count ≡ half_pages t.entries half → IsAdminRun t half first count
-admin-run t half x first count w was from many = record { queue = x; at = get-at 0 t.queues x (omega (arith, w.some_queues)) was; first_page = from; many = many }
+admin-run t half x first count w was from many = record { queue = x; at = get-at 0 t.queues x (omega (arith, w.host.limits.some_queues)) was; first_page = from; many = many }
 
 run-half : (t : Tables) → IsWhole t → (half : Half) (first count : ℕ) (r : IsAdminRun t half first count) → pages_from first count ≡ half_of half r.queue
 run-half t w half first count r = ap₂ pages_from r.first_page r.many ∙ sym (admin-half t w r.queue r.at half)
 
 run-owner : (t : Tables) → IsWhole t → (half : Half) (first count : ℕ) → IsAdminRun t half first count → (p : ℕ) → is_among (pages_from first count) p ≡ true → owner_at t.owners p ≡ Some (owner.Queue 0 half)
 run-owner t w half first count r p among =
-    half-told t.owners 0 half r.queue (w.owners.queues_told 0 r.queue r.at) p (subst (λ (ps : List ℕ). is_among ps p ≡ true) (run-half t w half first count r) among)
+    half-told t.owners 0 half r.queue (w.host.table.owners.queues_told 0 r.queue r.at) p (subst (λ (ps : List ℕ). is_among ps p ≡ true) (run-half t w half first count r) among)
 
 pub run-few : (t : Tables) → IsWhole t → (half : Half) (first count : ℕ) → IsAdminRun t half first count → first + count ≤ 65536
 run-few t w half first count r =
-    let some : 0 < count = subst (λ (n : ℕ). 0 < n) (sym r.many) (some-pages t.entries half w.least_entries) in
+    let some : 0 < count = subst (λ (n : ℕ). 0 < n) (sym r.many) (some-pages t.entries half w.host.limits.least_entries) in
     let last : first + (count - 1) < length t.owners =
     slice_get_within t.owners (first + (count - 1)) (owner.Queue 0 half) (run-owner t w half first count r (first + (count - 1)) (among-from first count (count - 1) (omega (arith, some)))) in
-    omega (arith, some, last, w.table, w.pool.few)
+    omega (arith, some, last, (lent-of t w), w.over.pool.few)
 
 -- whatever other pages were written before
 pub run-can_zero : (t : Tables) → IsWhole t → (half : Half) (first count : ℕ) (written : List (ℕ × List ℕ)) → IsAdminRun t half first count → CanZero (pages_from first count) (with_pages written t.pages)
@@ -353,12 +353,12 @@ in-io (y ∷ queues) (suc q) half x p io at h = in-all queues q half x p at h
 
 io-owned : (t : Tables) → IsWhole t → (p : ℕ) → p < length t.pages → is_owned_at is_of_io_queue t.owners p ≡ is_among (a.io_pages (view_of t).host.queues) p
 io-owned t w p l = elim (cases_Bool (is_among (a.io_pages (view_of t).host.queues) p)) [
-  | inl h ↦ let s = io-stands t.queues p h in rw (h, half-told t.owners (suc s.0) s.1 s.2 (w.owners.queues_told (suc s.0) s.2 s.3) p s.4, not-first s.0) refl
+  | inl h ↦ let s = io-stands t.queues p h in rw (h, half-told t.owners (suc s.0) s.1 s.2 (w.host.table.owners.queues_told (suc s.0) s.2 s.3) p s.4, not-first s.0) refl
   | inr h ↦ rw h (false_from_ne_true (is_owned_at is_of_io_queue t.owners p) (λ e. true≢false (sym (standing (owner_at t.owners p) refl e) ∙ h)))
 ]
   where
     standing : (o : Option Owner) → owner_at t.owners p ≡ o → option_map_or is_of_io_queue o false ≡ true → is_among (a.io_pages (view_of t).host.queues) p ≡ true
-    standing (Some (owner.Queue q half)) at e = let s = half-standing t (length t.pages) w.sound.owners w.owners q half p l at in in-io t.queues q half s.0 p (not-true (q == 0) e) s.1 s.2
+    standing (Some (owner.Queue q half)) at e = let s = half-standing t (length t.pages) (sound-of t w).owners w.host.table.owners q half p l at in in-io t.queues q half s.0 p (not-true (q == 0) e) s.1 s.2
     standing o at e = cc
 
 -- The machine's state
@@ -366,7 +366,7 @@ io-owned t w p l = elim (cases_Bool (is_among (a.io_pages (view_of t).host.queue
 pub view-reset : (t : Tables) → IsWhole t → view_of (tables_reset t) ≡ shown (after_reset (state_of t))
 view-reset t w =
     ap₂ (λ (free : List ℕ) (queues : List HostQueue). record (view_of t) { host = record { free = free; queues = queues; records = reset_records t.records } })
-    (given-free t.owners is_of_io_queue (length t.pages) (a.io_pages (view_of t).host.queues) (sym w.table) (io-owned t w))
+    (given-free t.owners is_of_io_queue (length t.pages) (a.io_pages (view_of t).host.queues) (sym (lent-of t w)) (io-owned t w))
     (shown-left t.queues (λ x at. admin-live t w x at))
 
 -- The records
@@ -417,28 +417,28 @@ settled-reset : (t : Tables) → IsWhole t → Settled (tables_reset t)
 settled-reset t w =
     let s = settled-of t w in
     let zeros = a.admin_pages (view_of t).host.queues in
-    let placed = (places-of t (host_of t t.pages w)).commands in
+    let placed = (places-of t w.host).commands in
     settled-with t (with_pages (zeroed_pages zeros) t.pages) (given_back is_of_io_queue t.owners) (queues_left t.queues) (reset_records t.records) s
     (record {
       pool = pool-with (zeroed_pages zeros) t.pages (whole-zeros zeros) s.pool;
-      table = length-map t.owners _ ∙ (s.table ∙ sym (length-with_pages (zeroed_pages zeros) t.pages));
+      lent = length-map t.owners _ ∙ (s.lent ∙ sym (length-with_pages (zeroed_pages zeros) t.pages));
       many = many-left t.queues;
-      queues = record { each = each-left (IsQueue t.entries) t.queues (λ x at. admin-queue t.entries 0 x (s.queues.each 0 x at)) (λ k x at. gone-queue t.entries (suc k) x (s.queues.each (suc k) x at)) };
+      queues = record { each = each-left (IsQueue t.entries) t.queues (λ x at. admin-queue t.entries 0 x (s.rings.each 0 x at)) (λ k x at. gone-queue t.entries (suc k) x (s.rings.each (suc k) x at)) };
       identifiers = record {
         each = each-left (λ (k : ℕ) (y : RowsQueue). ClaimsIdentifiers (reset_records t.records) k y.host.claimed) t.queues
             (λ x at. claims-none (reset_records t.records) 0 (x.host.entries - 1) (none-left t.entries (length t.queues) t.records placed))
-            (λ k x at. claims-left t.entries (length t.queues) t.records placed k x.host.claimed (s.identifiers.each (suc k) x at));
+            (λ k x at. claims-left t.entries (length t.queues) t.records placed k x.host.claimed (s.table.identifiers.each (suc k) x at));
       };
       owners = record {
         queues_told = each-left (TellsQueue (given_back is_of_io_queue t.owners)) t.queues
-            (λ x at. let told = s.owners.queues_told 0 x at in record {
+            (λ x at. let told = s.table.owners.queues_told 0 x at in record {
               submission = λ p h. owner-stays t.owners is_of_io_queue p _ refl (told.submission p h);
               completion = λ p h. owner-stays t.owners is_of_io_queue p _ refl (told.completion p h);
             })
             (λ k x at. record { submission = none-told _ _; completion = none-told _ _ });
-        commands_told = commands-left t.owners t.records s.owners.commands_told;
+        commands_told = commands-left t.owners t.records s.table.owners.commands_told;
       };
-      records = records-left (length t.queues) t.records s.records;
+      records = records-left (length t.queues) t.records s.table.records;
     })
 
 reset-step : (t : Tables) → Step (state_of t) events.Reset events.Accepted (after_reset (state_of t))
@@ -449,13 +449,13 @@ whole-reset t w =
     let left : State = after_reset (state_of t) in
     whole-of (tables_reset t) (settled-reset t w)
     (subst (λ (v : HostView). IsSound (alone v (tables_reset t).pages)) (sym (view-reset t w))
-    (alone_sound left (steps_keep (state_of t) events.Reset events.Accepted left (reset-step t) w.sound)))
+    (alone_sound left (steps_keep (state_of t) events.Reset events.Accepted left (reset-step t) (sound-of t w))))
 
 -- What the parts of a reset lean on
 
 pub places-renewed : (t : Tables) (pages : Pages) → IsWhole t → HasPlaces (over_pages (with_admin_renewed t) pages)
 places-renewed t pages w =
-    let h = places-of t (host_of t t.pages w) in
+    let h = places-of t w.host in
     let many = length-change 0 admin_reset t.queues in
     record {
       some_entries = h.some_entries;
@@ -479,7 +479,7 @@ half-renewed t records pages q half h =
 
 pub halves-renewed : (t : Tables) (pages : Pages) → IsWhole t → ListHalves (with_records_reset (over_pages (with_admin_renewed t) pages))
 halves-renewed t pages w =
-    let h = list-halves t (host_of t t.pages w) in
+    let h = list-halves t w.host in
     let many = length-change 0 admin_reset t.queues in
     record {
       few_queues = subst (λ (n : ℕ). n ≤ 65) (sym many) h.few_queues;

@@ -24,6 +24,10 @@ find-rows (row ∷ rows) q cid = grind (arith, nat_tests, find-rows rows q cid)
 pub found-row : (rows : List (Row RecordRow)) (q cid : ℕ) (value : RecordRow) → value_at rows q cid ≡ Some value → find (is_at q cid) (records_of rows) ≡ Some (record_of q cid value)
 found-row rows q cid value h = find-rows rows q cid ∙ ap (option_map (record_of q cid)) h
 
+-- a row is the record that stands in its place
+pub row-is : (rows : List (Row RecordRow)) (q cid : ℕ) {value : RecordRow} {r : Record} → value_at rows q cid ≡ Some value → find (is_at q cid) (records_of rows) ≡ Some r → record_of q cid value ≡ r
+row-is rows q cid {value} h was = some_is (sym (found-row rows q cid value h) ∙ was)
+
 pub row-there : (rows : List (Row RecordRow)) (q cid : ℕ) {value : RecordRow} → value_at rows q cid ≡ Some value → true ≡ is_some (find (is_at q cid) (records_of rows))
 row-there rows q cid {value} h = sym (ap is_some (found-row rows q cid value h))
 

@@ -11,9 +11,9 @@ use Rattle.machine_model.specs.{State.{HostQueue, State}, Step.{Answers, IsContr
 use Rattle.machine_model.specs.declared.words.{HostState.TheVariants.Deleting, Refusal.Refusal}
 use Rattle.page_memory.specs.{Pages.page_at, declared.page.Half.TheVariants.Submission}
 use Rattle.queue_pair.{proofs.Halves.found_within, specs.Memory.half_pages}
-use Rattle.host_core.proofs.{Granting.{in_state-is, next-fresh, next-left, none-left}, Identifiers.claim-more}
+use Rattle.host_core.proofs.{Granting.{in_state-is, next-fresh, next-left, none-left}, Identifiers.{claim-more, Settled, settled-of}}
 use Rattle.host_core.proofs.Lists.{each-change, length-change, map-change}
-use Rattle.host_core.proofs.QueueLists.{posted-exact, posted-queue, submission_length, tail-fits, tail-in, pool-with_bytes, submission_page-in, Settled, settled-of, settled-state, settled-turned, settled-with, host_step, Steps, steps}
+use Rattle.host_core.proofs.QueueLists.{posted-exact, posted-queue, submission_length, tail-fits, tail-in, pool-with_bytes, submission_page-in, settled-state, settled-turned, settled-with, host_step, Steps, steps}
 use Rattle.host_core.proofs.{Reaping.state-set, RowRecords.{claims_keep_queue, claims_keep_tells, each_claimed}, Submitted.{admin_live, full_is}}
 use Rattle.host_core.specs.{Commands.with_claim, Exact.Exactly, Posting.{CanPost, posted, tail_place, with_tail_moved, CanPostTo, Posts}, Rows.Queue}
 use Rattle.host_core.specs.Sending.{CanSend, HasSlot, Sends, asked, grants_none, noted, record_of_admin, sending, sent, named_causes}
@@ -38,16 +38,16 @@ settled-noted t kind cid s slot =
     settled-with t t.pages t.owners (change 0 (with_claim cid) t.queues) (t.records ++ record_of_admin kind cid ∷ []) s
     (record {
       pool = s.pool;
-      table = s.table;
+      lent = s.lent;
       many = length-change 0 (with_claim cid) t.queues;
-      queues = record { each = each_claimed (IsQueue t.entries) (more cid) (claims_keep_queue (more cid) (λ bits. length-set bits cid true) t.entries) 0 t.queues s.queues.each };
-      identifiers = claim-more t.records t.queues (record_of_admin kind cid) s.identifiers
+      queues = record { each = each_claimed (IsQueue t.entries) (more cid) (claims_keep_queue (more cid) (λ bits. length-set bits cid true) t.entries) 0 t.queues s.rings.each };
+      identifiers = claim-more t.records t.queues (record_of_admin kind cid) s.table.identifiers
           (λ queue e. subst (λ (x : Queue). cid < length x.host.claimed) (some_is (sym slot.at ∙ e)) (found_within slot.queue.host.claimed cid slot.next));
       owners = record {
-        queues_told = each_claimed (TellsQueue t.owners) (more cid) (claims_keep_tells (more cid) t.owners) 0 t.queues s.owners.queues_told;
-        commands_told = all-append (TellsCommand t.owners) t.records (record_of_admin kind cid) s.owners.commands_told (none-told t kind cid);
+        queues_told = each_claimed (TellsQueue t.owners) (more cid) (claims_keep_tells (more cid) t.owners) 0 t.queues s.table.owners.queues_told;
+        commands_told = all-append (TellsCommand t.owners) t.records (record_of_admin kind cid) s.table.owners.commands_told (none-told t kind cid);
       };
-      records = all-append (IsRecord (length t.queues)) t.records (record_of_admin kind cid) s.records (record { queue = slice_get_within t.queues 0 slot.queue slot.at; work = tt; phase = tt });
+      records = all-append (IsRecord (length t.queues)) t.records (record_of_admin kind cid) s.table.records (record { queue = slice_get_within t.queues 0 slot.queue slot.at; work = tt; phase = tt });
     })
 
 -- the machine shows no claims
@@ -86,7 +86,7 @@ can-send t kind cid s slot half is =
       fits = is.fits;
       pool = s.pool;
       inside = half.inside;
-      queues = (settled-noted t kind cid s slot).queues;
+      queues = (settled-noted t kind cid s slot).rings;
     }
 
 settled-posted : (u : Tables) (q : ℕ) (x : Queue) (entry : SubEntry) → Settled u → CanPost u q x entry → Settled (posted q x entry u)
@@ -95,14 +95,14 @@ settled-posted u q x entry s post =
     settled-turned u q with_tail_moved (posted q x entry u).pages u.owners u.records s
     (record {
       pool = pool-with_bytes u.pages (tail_place x / 4096) (tail_place x % 4096) (submission_bytes entry) (tail-in u q x entry post) (omega (arith, count, tail-fits x)) post.pool;
-      table = s.table ∙ sym (length-set u.pages (tail_place x / 4096) _);
-      queue = λ y at. posted-queue u.entries q y (s.queues.each q y at);
-      identifiers = s.identifiers.each;
-      claims = s.identifiers.each q;
-      others = λ k y _ at. s.owners.queues_told k y at;
-      own = λ y at. let told = s.owners.queues_told q y at in record { submission = told.submission; completion = told.completion };
-      commands = s.owners.commands_told;
-      records = s.records;
+      lent = s.lent ∙ sym (length-set u.pages (tail_place x / 4096) _);
+      queue = λ y at. posted-queue u.entries q y (s.rings.each q y at);
+      identifiers = s.table.identifiers.each;
+      claims = s.table.identifiers.each q;
+      others = λ k y _ at. s.table.owners.queues_told k y at;
+      own = λ y at. let told = s.table.owners.queues_told q y at in record { submission = told.submission; completion = told.completion };
+      commands = s.table.owners.commands_told;
+      records = s.table.records;
     })
 
 pub settled-sent : (t : Tables) (kind : AdminKind) (cid : ℕ) → Settled t → (slot : HasSlot t cid) → HasHalfIn t slot.queue → IsTyped (admin_entry kind cid) → Settled (sent kind cid slot.queue t)
@@ -231,26 +231,26 @@ Next queues o = (x : Queue) → slice_get queues 0 ≡ Some x → o ≡ position
 pub send-no_identifier : (t : Tables) (kind : AdminKind) (queues : List Queue) → IsWhole t → grants_none kind ≡ true → first_passing (named_causes (state_of t) kind) ≡ None → queues ≡ t.queues → Next queues None
     → Refuses (state_of t) (sending kind) refusal.NoIdentifier []
 send-no_identifier t kind queues w plain free same next =
-    let x = first-there t.queues w.some_queues in
+    let x = first-there t.queues w.host.limits.some_queues in
     let none = none-left t w 0 x.0 x.1 (sym (next x.0 (ap (λ (qs : List Queue). slice_get qs 0) same ∙ x.1))) in
     (behind (state_of t) kind plain free ∙ rw none refl, untouched (state_of t) kind refusal.NoIdentifier)
 
 pub send-full : (t : Tables) (kind : AdminKind) (queues : List Queue) (cid : ℕ) → IsWhole t → grants_none kind ≡ true → first_passing (named_causes (state_of t) kind) ≡ None → queues ≡ t.queues → Next queues (Some cid)
     → queue_full (state_of t) 0 ≡ true → Refuses (state_of t) (sending kind) refusal.QueueFull []
 send-full t kind queues cid w plain free same next full =
-    let x = first-there t.queues w.some_queues in
+    let x = first-there t.queues w.host.limits.some_queues in
     let left = next-left t w 0 cid x.0 x.1 (sym (next x.0 (ap (λ (qs : List Queue). slice_get qs 0) same ∙ x.1))) in
     (behind (state_of t) kind plain free ∙ rw (left, full) refl, untouched (state_of t) kind refusal.QueueFull)
 
 pub send-ready : (t : Tables) (kind : AdminKind) (queues : List Queue) (cid : ℕ) → IsWhole t → grants_none kind ≡ true → first_passing (named_causes (state_of t) kind) ≡ None → queues ≡ t.queues → Next queues (Some cid)
     → queue_full (state_of t) 0 ≡ false → CanSend t kind cid
 send-ready t kind queues cid w plain free same next room =
-    let x = first-there t.queues w.some_queues in
+    let x = first-there t.queues w.host.limits.some_queues in
     let is = sym (next x.0 (ap (λ (qs : List Queue). slice_get qs 0) same ∙ x.1)) in
     record {
       plain = plain;
       none = behind (state_of t) kind plain free ∙ rw (next-left t w 0 cid x.0 x.1 is, room) refl;
-      slot = record { queue = x.0; at = x.1; next = is; room = full_is t w.queues 0 x.0 x.1 ∙ room };
+      slot = record { queue = x.0; at = x.1; next = is; room = full_is t w.host.rings 0 x.0 x.1 ∙ room };
     }
 
 -- What is written

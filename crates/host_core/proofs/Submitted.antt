@@ -17,7 +17,7 @@ use Rattle.page_memory.specs.{Pages.Pages, declared.page.Half.{TheVariants.Submi
 use Rattle.queue_pair.specs.{Memory.half_pages, Slots.is_full}
 use Rattle.host_core.proofs.{Ending.{cancel_brings, joined-pages, belongs-passes, belongs_brings, ended_can_put}, Granting.in_state-is}
 use Rattle.host_core.proofs.{Lists.all-from, PageOwners.{command-owner, pool-with, with-other}}
-use Rattle.host_core.proofs.QueueLists.{posted-exact, posted-queue, tail-in, tail-fits, submission_length, pool-with_bytes, submission-owner, submission_page-in, Settled, settled-of, settled-turned, Steps, steps}
+use Rattle.host_core.proofs.{Identifiers.{lent-of, Settled, settled-of}, QueueLists.{posted-exact, posted-queue, tail-in, tail-fits, submission_length, pool-with_bytes, submission-owner, submission_page-in, settled-turned, Steps, steps}}
 use Rattle.host_core.proofs.RowRecords.{Marks, marked-claims, marked-records, marked-tells, Spares}
 use Rattle.host_core.specs.{Commands.{Brings, BelongsToDraft, CanPut, passes, state_at}, Exact.Exactly}
 use Rattle.host_core.specs.{Posting.{with_tail_moved, tail_place, CanPost, CanPostTo, Posts}, Rows.Queue}
@@ -38,7 +38,7 @@ brings t d x entry c =
 spares : (t : Tables) (d : DraftContents) (x : Queue) (entry : SubEntry) → IsWhole t → CanSubmit t d x entry → Spares t (brought_in d t).pages
 spares t d x entry whole c = record {
   same = λ k half p at. with-other pages t.pages p (false_from_ne_true (is_among (numbers_of pages) p) (λ e.
-      let o = command-owner t.owners b.entry (found_all (TellsCommand t.owners) (is_at d.q d.cid) t.records b.entry b.was whole.owners.commands_told) p
+      let o = command-owner t.owners b.entry (found_all (TellsCommand t.owners) (is_at d.q d.cid) t.records b.entry b.was whole.host.table.owners.commands_told) p
       (held_once p (pages_of b.entry) (rw (← b.numbers) e)) in
       let same : OfQueue k half ≡ Command b.entry.q b.entry.cid o.0 = some_is (sym at ∙ o.1) in cc));
 }
@@ -68,9 +68,9 @@ can-post t d x entry whole c =
       room = c.room;
       sgl1 = draft-sgl1 d entry c.proper c.built;
       fits = c.fits;
-      pool = pool-with (d.data_pages ++ d.chain_pages) t.pages (are-pages d c.proper) whole.pool;
+      pool = pool-with (d.data_pages ++ d.chain_pages) t.pages (are-pages d c.proper) whole.over.pool;
       inside = λ k l. subst (λ (o : Option (List ℕ)). IsSome o) (sym (spared.same d.q Submission (x.host.sq + k) (own k l))) (submission_page-in t whole d.q x c.at kept k l);
-      queues = whole.queues;
+      queues = whole.host.rings;
     }
   where
     own : (k : ℕ) → k < half_pages x.host.entries Submission → owner_at t.owners (x.host.sq + k) ≡ Some (OfQueue d.q Submission)
@@ -111,19 +111,19 @@ pub submit-settled : (t : Tables) (d : DraftContents) (x : Queue) (entry : SubEn
 submit-settled t d x entry w c =
     let post = can-post t d x entry w c in
     let count : length (submission_bytes entry) ≡ 64 = submission_length entry (draft-sgl1 d entry c.proper c.built) in
-    let claims = marked-claims a.submitted marks-submitted t.records t.queues d.q d.cid w.identifiers in
+    let claims = marked-claims a.submitted marks-submitted t.records t.queues d.q d.cid w.host.table.identifiers in
     settled-turned t d.q with_tail_moved (submitted d x entry t).pages t.owners (with_record d.q d.cid a.submitted t.records) (settled-of t w)
     (record {
       pool = pool-with_bytes (brought_in d t).pages (tail_place x / 4096) (tail_place x % 4096) (submission_bytes entry) (tail-in (brought_in d t) d.q x entry post)
           (omega (arith, count, tail-fits x)) post.pool;
-      table = w.table ∙ sym (length-set (brought_in d t).pages (tail_place x / 4096) _ ∙ length-with_pages (d.data_pages ++ d.chain_pages) t.pages);
-      queue = λ y at. posted-queue t.entries d.q y (w.queues.each d.q y at);
+      lent = (lent-of t w) ∙ sym (length-set (brought_in d t).pages (tail_place x / 4096) _ ∙ length-with_pages (d.data_pages ++ d.chain_pages) t.pages);
+      queue = λ y at. posted-queue t.entries d.q y (w.host.rings.each d.q y at);
       identifiers = claims.each;
       claims = claims.each d.q;
-      others = λ k y _ at. w.owners.queues_told k y at;
-      own = λ y at. let told = w.owners.queues_told d.q y at in record { submission = told.submission; completion = told.completion };
-      commands = marked-tells a.submitted marks-submitted t.owners t.records d.q d.cid w.owners.commands_told;
-      records = marked-records a.submitted (length t.queues) t.records d.q d.cid (λ r _ fits. submitted-fits (length t.queues) r fits) w.records;
+      others = λ k y _ at. w.host.table.owners.queues_told k y at;
+      own = λ y at. let told = w.host.table.owners.queues_told d.q y at in record { submission = told.submission; completion = told.completion };
+      commands = marked-tells a.submitted marks-submitted t.owners t.records d.q d.cid w.host.table.owners.commands_told;
+      records = marked-records a.submitted (length t.queues) t.records d.q d.cid (λ r _ fits. submitted-fits (length t.queues) r fits) w.host.table.records;
     })
 
 -- The calls of a submission: what is found before it, and what it leaves.
@@ -171,7 +171,7 @@ submit_ready t d entry whole proper belongs built live free =
         proper = proper;
         at = x.1;
         live = x.2;
-        room = full_is t whole.queues d.q x.0 x.1 ∙ free;
+        room = full_is t whole.host.rings d.q x.0 x.1 ∙ free;
         built = built;
         fits = entry-fits d entry proper built;
       };
@@ -223,4 +223,4 @@ submit_made t new d entry whole ready left =
 
 pub admin_live : (t : Tables) → IsWhole t → (queue : Queue) → slice_get t.queues 0 ≡ Some queue → is_live queue.state ≡ true
 admin_live t w queue here =
-    ap (λ (o : Option HostQueue). option_map_or (λ x. is_live x.state) o true) (sym (slice_get-map host_queue_of t.queues 0 ∙ ap (option_map host_queue_of) here)) ∙ w.sound.admin
+    ap (λ (o : Option HostQueue). option_map_or (λ x. is_live x.state) o true) (sym (slice_get-map host_queue_of t.queues 0 ∙ ap (option_map host_queue_of) here)) ∙ w.host.sound.admin

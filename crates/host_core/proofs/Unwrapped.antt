@@ -1,5 +1,5 @@
 -- What an unwrap of a result owes.
-use Rattle.std.specs.Prelude.{◌≡◌, Result, Ok, Err, IsOk, IsErr, OnErr}
+use Rattle.std.specs.Prelude.{Result, Ok, Err, IsOk, IsErr, OnErr}
 use Rattle.std.proofs.Common.{refl}
 
 pub not-err : {T E : Type 0} (r : Result T E) → (IsErr r → ⊥) → IsOk r

@@ -2,13 +2,13 @@
 use Rattle.std.specs.{List.{AllByRecursion, list_any}, Prelude.{◌≡◌, ℕ, ◌+◌, ◌<◌, ◌≤◌, Bool, true, Option, Some, None, List, length, slice_get}}
 use Rattle.entry_codec.specs.declared.status.Status.{Status}
 use Rattle.io_commands.specs.{Requests.data_count, Values.IsGood}
-use Rattle.machine_model.specs.Claims.{IsSound, HasOneOwner, IdentifiersDiffer, DeletionsFit, CreationsFit, NewQueuesAreBare, AdminLives, OwnsFit}
-use Rattle.machine_model.specs.{State.{Record, is_at, pages_of}, Work.Work, declared.words.Phase.{Phase, TheVariants.{Drafted, Submitted, Held, Collected}}}
+use Rattle.machine_model.specs.Claims.{HasOneOwner, IdentifiersDiffer, DeletionsFit, CreationsFit, NewQueuesAreBare, AdminLives, OwnsFit}
+use Rattle.machine_model.specs.{State.{Host, Record, is_at, pages_of}, Work.Work, declared.words.Phase.{Phase, TheVariants.{Drafted, Submitted, Held, Collected}}}
 use Rattle.machine_model.specs.declared.words.Work.TheVariants.{Io, Management}
 use Rattle.page_ledger.specs.{Owners.{is_among, owner_at}, declared.owner.{Owner.Owner, Role.TheVariants.{Data, Chain}}}
-use Rattle.page_memory.specs.{Pages.IsPool, declared.page.Half.TheVariants.{Submission, Completion}}
+use Rattle.page_memory.specs.declared.page.Half.TheVariants.{Submission, Completion}
 use Rattle.queue_pair.specs.Rings.{IsHostSide}
-use Rattle.host_core.specs.{Rows.Queue, Tables.{Tables, state_of, view_of, sq_pages_of, cq_pages_of}}
+use Rattle.host_core.specs.{Alone.IsOver, Rows.Queue, Tables.{Tables, view_of, sq_pages_of, cq_pages_of}}
 use Rattle.page_ledger.specs.declared.owner.Owner.TheVariants as owner
 
 -- a queue speaks of its own rings, with its positions inside
@@ -69,55 +69,42 @@ pub record IsRecord (queues : ℕ) (r : Record) : Type 0 where
   pub work : FitsWork r.work r
   pub phase : FitsPhase r.phase r.work r.status
 
--- what holds of a host's tables over the pages that it is lent
-pub record IsWhole (t : Tables) : Type 0 where
-  pub sound : IsSound (state_of t)
-  pub pool : IsPool t.pages
-  pub table : length t.owners ≡ length t.pages
-  pub least_entries : 2 ≤ t.entries
-  pub most_entries : t.entries ≤ 1024
-  pub least_segment : 2 ≤ t.segment
-  pub most_segment : t.segment ≤ 256
-  pub some_queues : 2 ≤ length t.queues
-  pub few_queues : length t.queues ≤ 65
-  pub record_queues : t.record_queues ≡ length t.queues
-  pub record_places : t.record_places + 1 ≡ t.entries
-  pub queues : AreQueues t.entries t.queues
-  pub identifiers : ClaimIdentifiers t.records t.queues
-  pub owners : OwnersTell t.owners t.queues t.records
-  pub records : AllByRecursion (IsRecord (length t.queues)) t.records
-
--- What of this is the host's own, whatever pages it is lent, in four groups.
+-- What holds of a host's tables by themselves, whatever pages it is lent, in four groups.
 
 -- the limits of its numbers
-pub record HasLimits (t : Tables) : Type 0 where
-  pub least_entries : 2 ≤ t.entries
-  pub most_entries : t.entries ≤ 1024
-  pub least_segment : 2 ≤ t.segment
-  pub most_segment : t.segment ≤ 256
-  pub some_queues : 2 ≤ length t.queues
-  pub few_queues : length t.queues ≤ 65
-  pub record_queues : t.record_queues ≡ length t.queues
-  pub record_places : t.record_places + 1 ≡ t.entries
+pub record HasLimits (entries segment queues rows places : ℕ) : Type 0 where
+  pub least_entries : 2 ≤ entries
+  pub most_entries : entries ≤ 1024
+  pub least_segment : 2 ≤ segment
+  pub most_segment : segment ≤ 256
+  pub some_queues : 2 ≤ queues
+  pub few_queues : queues ≤ 65
+  pub record_queues : rows ≡ queues
+  pub record_places : places + 1 ≡ entries
 
 -- the ledger tells each claim, the claimed identifiers are those outstanding, and each record fits its work
-pub record IsTable (t : Tables) : Type 0 where
-  pub owners : OwnersTell t.owners t.queues t.records
-  pub identifiers : ClaimIdentifiers t.records t.queues
-  pub records : AllByRecursion (IsRecord (length t.queues)) t.records
+pub record IsTable (count : ℕ) (ledger : List Owner) (rings : List Queue) (commands : List Record) : Type 0 where
+  pub owners : OwnersTell ledger rings commands
+  pub identifiers : ClaimIdentifiers commands rings
+  pub records : AllByRecursion (IsRecord count) commands
 
 -- each page has one owner, identifiers differ, and commands and queues are as the machine keeps them
-pub record IsSoundTable (t : Tables) : Type 0 where
-  pub owners : HasOneOwner (length t.owners) (view_of t).host
-  pub identifiers : IdentifiersDiffer (view_of t).host
-  pub works_fit : AllByRecursion (λ r. OwnsFit r.q r.work (pages_of r)) t.records
-  pub deletions : DeletionsFit (view_of t).host
-  pub creations : CreationsFit (view_of t).host
-  pub bare : NewQueuesAreBare (view_of t).host
-  pub admin : AdminLives (view_of t).host.queues
+pub record IsSoundTable (count : ℕ) (h : Host) : Type 0 where
+  pub owners : HasOneOwner count h
+  pub identifiers : IdentifiersDiffer h
+  pub works_fit : AllByRecursion (λ r. OwnsFit r.q r.work (pages_of r)) h.records
+  pub deletions : DeletionsFit h
+  pub creations : CreationsFit h
+  pub bare : NewQueuesAreBare h
+  pub admin : AdminLives h.queues
 
 pub record IsHost (t : Tables) : Type 0 where
-  pub limits : HasLimits t
-  pub table : IsTable t
-  pub sound : IsSoundTable t
+  pub limits : HasLimits t.entries t.segment (length t.queues) t.record_queues t.record_places
+  pub table : IsTable (length t.queues) t.owners t.queues t.records
+  pub sound : IsSoundTable (length t.owners) (view_of t).host
   pub rings : AreQueues t.entries t.queues
+
+-- and over the pages that it is lent
+pub record IsWhole (t : Tables) : Type 0 where
+  pub host : IsHost t
+  pub over : IsOver (view_of t) t.pages

@@ -1,17 +1,16 @@
 //! A command that has ended is collected.
 
-ghost use Rattle.std.specs.Prelude.{◌≡◌, ◌+◌, ◌≤◌, ◌++◌, [], find, length, vec_len, vec_capacity, IfOk, IfErr, Some};
+ghost use Rattle.std.specs.Prelude.{◌≡◌, ◌+◌, ◌≤◌, ◌++◌, [], length, vec_len, vec_capacity, IfOk, IfErr};
 ghost use Rattle.machine_model.specs.Events as events;
 ghost use Rattle.machine_model.specs.Memory.{without_pages};
-ghost use Rattle.machine_model.specs.State.{is_at};
 ghost use Rattle.machine_model.specs.Step.{Step, Refuses};
 ghost use Rattle.host_core.specs.Alone.{HostStep, IsOver};
 ghost use Rattle.host_core.specs.Collecting.{taken_pages, HasRoom, StandsAt, CollectTells};
 ghost use Rattle.host_core.specs.Commands.{CanTake};
-ghost use Rattle.host_core.specs.Parts.{record_of, records_of, tables_of, Over};
+ghost use Rattle.host_core.specs.Parts.{tables_of, Over};
 ghost use Rattle.host_core.specs.Replies.{collect_reply};
 ghost use Rattle.host_core.specs.Tables.{state_of};
-ghost use Rattle.host_core.specs.Whole.{IsWhole, FitsPhase};
+ghost use Rattle.host_core.specs.Whole.{IsWhole};
 ghost use Rattle.host_core.specs.Touching.{HostTouches, TouchesBy};
 
 use crate::host::Host;
@@ -25,6 +24,14 @@ use machine_model::words::{Phase, Refusal, Work};
 use page_memory::{Page, PageNo, Store};
 use std::alloc::{AllocError, Allocator};
 
+/// What collect reads of a held command.
+#[derive(Drop)]
+pub(crate) struct Held<'a, A: Allocator> {
+    request: &'a Request<A>,
+    status: Status,
+    pages: usize,
+}
+
 /// What a finished command is made of, before its pages are taken out.
 #[derive(Drop)]
 struct Room<A: Allocator> {
@@ -34,23 +41,16 @@ struct Room<A: Allocator> {
 }
 
 /// Room for what a held command hands over.
-fn room_for<A: Allocator + Copy>(alloc: A, entry: &Record<A>) -> Result<Room<A>, AllocError>
-    requires { FitsPhase Phase.Held entry.now.work entry.now.status }
-    ensures request { IfOk result (λ room. entry.now.work ≡ Work.Io room.request) }
-    ensures status { IfOk result (λ room. entry.now.status ≡ Some room.status) }
-    ensures room { IfOk result (λ room. (room.pages.items ≡ []) × (vec_len room.pages ≡ 0) × (length entry.now.data_pages + length entry.now.chain_pages ≤ vec_capacity room.pages)) }
+fn room_for<A: Allocator + Copy>(alloc: A, held: &Held<'_, A>) -> Result<Room<A>, AllocError>
+    ensures same { IfOk result (λ room. (room.request ≡ held.now.request.now) × (room.status ≡ held.now.status)) }
+    ensures room { IfOk result (λ room. (room.pages.items ≡ []) × (vec_len room.pages ≡ 0) × (held.now.pages ≤ vec_capacity room.pages)) }
 {
-    let many = entry.data_pages.len() + entry.chain_pages.len();
-    let pages = Vec::with_capacity(alloc, many)?;
-    match (&entry.work, entry.status) {
-        (Work::Io(request), Some(status)) => Ok(Room {
-            request: request.copied(alloc)?,
-            status,
-            pages,
-        }),
-        // What is held is a command of an I/O queue, and has its status.
-        (Work::Io(_), None) | (Work::Management(_), _) => unreachable!(),
-    }
+    let pages = Vec::with_capacity(alloc, held.pages)?;
+    Ok(Room {
+        request: held.request.copied(alloc)?,
+        status: held.status,
+        pages,
+    })
 }
 
 /// Takes a command's pages out.
@@ -71,19 +71,25 @@ fn take_pages<A: Allocator>(
 }
 
 impl<A: Allocator> HostTables<A> {
-    /// The record of a command that is held.
-    pub(crate) fn check_collect(&self, q: u16, cid: u16) -> Result<&Record<A>, Refusal>
+    /// What collect reads of a command that is held.
+    pub(crate) fn check_collect(&self, q: u16, cid: u16) -> Result<Held<'_, A>, Refusal>
         ensures stands { IfOk result (λ _. Over self.now (λ t. StandsAt t q cid)) }
-        ensures found { IfOk result (λ entry. find (is_at q cid) (records_of self.now.records.rows) ≡ Some (record_of q cid entry.now)) }
+        ensures tells { IfOk result (λ held. Over self.now (λ t. CollectTells t q cid held.request.now held.status)) }
+        ensures pages { IfOk result (λ held. Over self.now (λ t. HasRoom t q cid held.pages)) }
         ensures refused { IfErr result (λ why. Over self.now (λ t. Refuses (state_of t) (events.Collect q cid) why [])) }
     {
         let Some(entry) = self.records.get(q, cid) else {
             return Err(Refusal::Stranger);
         };
-        match entry.phase {
-            Phase::Held => Ok(entry),
-            Phase::Submitted => Err(Refusal::NotYet),
-            Phase::Drafted | Phase::Collected => Err(Refusal::Stranger),
+        match (entry.phase, &entry.work, entry.status) {
+            (Phase::Held, Work::Io(request), Some(status)) => Ok(Held {
+                request,
+                status,
+                pages: entry.data_pages.len() + entry.chain_pages.len(),
+            }),
+            (Phase::Submitted, _, _) => Err(Refusal::NotYet),
+            // What is held has its request and its status, so this is drafted or collected.
+            _ => Err(Refusal::Stranger),
         }
     }
 
@@ -109,14 +115,9 @@ impl<A: Allocator> HostTables<A> {
             status,
             mut pages,
         } = room;
-        match self.records.get_mut(q, cid) {
-            Some(entry) => {
-                take_pages(store, entry, &mut pages);
-                entry.collect();
-            }
-            // What is held has its record.
-            None => unreachable!(),
-        }
+        let entry = self.records.get_mut(q, cid).unwrap();
+        take_pages(store, entry, &mut pages);
+        entry.collect();
         Finished::make(q, cid, request, status, pages)
     }
 }
@@ -139,11 +140,11 @@ impl<A: Allocator + Copy> Host<A> {
         ensures over { IsOver self.new store.new.pages }
         ensures back { IfErr result (λ r. r.value ≡ ticket) }
     {
-        let entry = match self.parts.check_collect(ticket.q(), ticket.cid()) {
-            Ok(entry) => entry,
+        let held = match self.parts.check_collect(ticket.q(), ticket.cid()) {
+            Ok(held) => held,
             Err(why) => return Err(Refused { value: ticket, why }),
         };
-        let room = match room_for(self.parts.alloc, entry) {
+        let room = match room_for(self.parts.alloc, &held) {
             Ok(room) => room,
             Err(_) => {
                 return Err(Refused {

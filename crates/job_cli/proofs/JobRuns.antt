@@ -1,18 +1,14 @@
 -- Runs of scripts of jobs: who does which job, what is printed, and how a run ends.
 use Rattle.script_cli.specs.declared.fault.ScriptFault.TheVariants as fault
-use Rattle.driver_threads.specs.declared.jobs.RunFault as threads_fault
-use Rattle.driver_threads.specs.declared.jobs.RunFault.TheVariants as threads
-use Rattle.driver_book.specs.declared.report.CloseFault.TheVariants as closing
-use Rattle.machine_model.specs.declared.words.OpenRefusal.TheVariants as opening
 use Rattle.script_cli.specs.declared.fault.RunFault.TheVariants as run
 use Rattle.std.proofs.Common.{arith, ℕ, ◌≡◌, ◌≤◌, ◌+◌, List, ◌∷◌, Bool, true, false, nat_lt, Option, Result, Ok, Err, length, refl, ◌<◌, ◌^◌, Some, None, [], codes, if◌then◌else◌, ◌==◌, ◌⊎◌, inl, inr, ◌++◌, append_assoc, is_some, length-set, length-append, get_or, map, replicate, slice_get, slice_set, sym, ap, ◌∙◌, subst, eqb-true, zero, suc, option_and_then, true≢false, not}
 use Rattle.std.proofs.lemmas.{Bool.{ltb-true, eqb-false, eq-eqb, or_parts}, Grind.common_steps}
 use Rattle.std.proofs.lemmas.List.{append-nil, length-replicate, get_or-map, get_or-replicate, get_or_at, map-set, length-map, map-append}
 use Rattle.std.{proofs.lemmas.{List.Elements.{All-nil, All-push}, Option.{slice_get-get_or, get_or_from_slice_get}}, specs.Io.KnownBytes.{Appends, Keeps}}
 use Rattle.std.specs.{List.list_any, Prelude.{All, IfOk, IfSome, IfErr, IsErrAnd, OnErr, OnOk}, Str.bytes_eq}
-use Rattle.job_cli.specs.{Faults.fault_of_threads, GoneOn.{Round, GoOn, HasGoneOn, logs_of, receipts_of}}
+use Rattle.job_cli.specs.{GoneOn.{Round, GoOn, HasGoneOn, logs_of, receipts_of}}
 use Rattle.job_cli.specs.Headings.{heading_at, heading, headings_from, end_at, headed_text, headed_lines}
-use Rattle.job_cli.specs.JobRuns.{is_of, jobs_for, AreListsOf, end_of, ended_text, job_lines, all_ended, closing_text, ClosesFrom, IsLeftFrom, IsJobsText, HasJobs, HasJobFault, IsNoJobs, IsNoRun, WritesJobs, EndsJobsWith, IsWanting}
+use Rattle.job_cli.specs.JobRuns.{is_of, jobs_for, AreListsOf, end_of, ended_text, job_lines, all_ended, ClosesFrom, IsLeftFrom, IsJobsText, HasJobs, HasJobFault, IsNoJobs, IsNoRun, WritesJobs, EndsJobsWith}
 use Rattle.job_cli.specs.Jobs.{numbered_job, with_job, jobs_from, jobs_in, jobs_of, IsReadAs, head_words, data_words, job_words, some_job, job_of_words, job_of_line, at_line, then_jobs}
 use Rattle.job_cli.specs.declared.{job_runs.Heading.Heading, jobs.JobLine.JobLine}
 use Rattle.script_cli.{proofs.{Runs.{number_fits, then_fits, whatever_fits}, Texts.{appends_more, keeps_then, same_if_short}}, specs.Faults.fault_of_script}
@@ -20,7 +16,7 @@ use Rattle.script_cli.specs.{Grammar.{Words, number_word, kind_word, pieces_from
 use Rattle.script_cli.specs.{Runs.AreOwners, declared.fault.{LineFault.{LineFault, TheVariants.{UnknownVerb, TooManyLines}}, RunFault.RunFault}}
 use Rattle.script_cli.specs.declared.fault.ScriptFault.{ScriptFault}
 use Rattle.driver_threads.{proofs.UnderWay.{behind_none, behind_long}, specs.{Behind.behind, Ends.{AllAgree, ends_of, statuses_of}}}
-use Rattle.driver_threads.specs.{Runs.{RefusesRun, EndsRound, IsAfterOpening}, Values.{Job, JobEnd}, declared.jobs.JobEnd.TheVariants.{Done, Refused}}
+use Rattle.driver_threads.specs.{Runs.{EndsRound}, Values.{Job, JobEnd}, declared.jobs.JobEnd.TheVariants.{Done, Refused}}
 use Rattle.page_ledger.{proofs.Tables.{slice_get-set_same, slice_get-set_other}, specs.declared.owner.{Counts.Counts, Owner.Owner}}
 use Rattle.step_core.specs.{Opening.opening_of, World.WorldContents}
 use Rattle.host_core.specs.{Opening.refusal_of_config, declared.config.Config.Config}

@@ -4,7 +4,7 @@ use Rattle.std.proofs.Math.{ListN.get_or-append, Nat.{add-mul, mul-add, mul-le-m
 use Rattle.std.{proofs.lemmas.{Bool.{cases_lt, le-ltb, lt-ltb}, List.{length-append, length-map, map-append, append-nil}}, specs.Io.KnownBytes.{Appends, Keeps}}
 use Rattle.std.specs.Prelude.{slice_index_or}
 use Rattle.job_cli.specs.{Content.{block_bytes, blocks_bytes}, Histograms.{IsBucketOf, low_of}, Lines.{IsLineFront, line_text}}
-use Rattle.job_cli.specs.{Planning.{full_pieces, pieces_of}, Tallies.{both, no_tally, of_end, tallies_from, tally_from}, declared.load.plan.Planned.Planned}
+use Rattle.job_cli.specs.{Planning.{full_pieces, pieces_of}, Tallies.{both, no_tally, tallies_from, tally_from}, declared.load.plan.Planned.Planned}
 use Rattle.job_cli.specs.declared.load.{tally.Tally.Tally, workload.Pattern.Pattern}
 use Rattle.io_commands.specs.declared.request.Piece.{Piece, TheVariants.Data}
 use Rattle.driver_threads.specs.Values.{JobEnd}

@@ -158,9 +158,8 @@ pub(crate) fn do_jobs<R: Threads + Wait + Sync>(
         world = round.world;
         ends.append(round.jobs)?;
         if !some_has_jobs(&left) {
-            return Ok(Done { ends, world });
+            break;
         }
     }
-    // A loop over `forever` ends by a return alone.
-    unreachable!()
+    Ok(Done { ends, world })
 }

@@ -280,7 +280,7 @@ tells p q all st e = grind (arith, each (λ st. not (p st) || q st) all st)
 pub denies : (p q : HostState → Bool) → in_each (λ st. not (p st) || not (q st)) ≡ true → (st : HostState) → p st ≡ true → q st ≡ false
 denies p q all st e = grind (arith, each (λ st. not (p st) || not (q st)) all st)
 
--- a queue that is live is in service, and so is one whose deletion is asked for or was answered
+-- a queue that is live is in service, and so is one whose deletion is asked for or completed
 pub live_serves : (st : HostState) → is_live st ≡ true → in_service st ≡ true
 live_serves = tells is_live in_service refl
 

@@ -89,7 +89,7 @@ creates_cq q first s = CreateCq q s.entries (a.base_of (half_from Completion fir
 abbrev pub creates_sq : ℕ → ℕ → State → AdminKind
 creates_sq q first s = CreateSq q s.entries (a.base_of (half_from Submission first s))
 
--- the entry that a reap sees, and the command that it answers
+-- the entry that a reap sees, and the command that it ends
 pub record IsHeard (s : State) (q cid : ℕ) (st : Status) (e : ComEntry) (r : Record) : Type 0 where
   pub seen : seen_entry s q ≡ Some e
   pub its_id : e.cid ≡ cid
@@ -246,19 +246,19 @@ run_found s half h = elim (option_is (run_for s half)) [ inl e ↦ let h = rw e 
 pub heard_of : (s : State) (q cid : ℕ) (st : Status) (what : Reaped) → ReapTells s q cid st what → (e : ComEntry) × (r : Record) × IsHeard s q cid st e r
 heard_of s q cid st what t = grind arith
 
--- Where nothing was forged, an entry that is heard is the oldest answer
+-- Where nothing was forged, an entry that is heard is the oldest completion
 
-pub record HeardAnswer (s : State) (q cid : ℕ) (st : Status) (e : ComEntry) : Type 0 where
-  pub answer : PostedCompletion
-  pub first : option_and_then (λ queue. front_completion queue.completions) (served_queue s q) ≡ Some answer
-  pub its_id : answer.cid ≡ cid
-  pub its_status : answer.status ≡ st
-  pub is : e ≡ entry_of q answer
+pub record HeardCompletion (s : State) (q cid : ℕ) (st : Status) (e : ComEntry) : Type 0 where
+  pub completion : PostedCompletion
+  pub first : option_and_then (λ queue. front_completion queue.completions) (served_queue s q) ≡ Some completion
+  pub its_id : completion.cid ≡ cid
+  pub its_status : completion.status ≡ st
+  pub is : e ≡ entry_of q completion
 
 pub seen_trusted : (s : State) (q : ℕ) → s.trusted ≡ true → seen_entry s q ≡ option_map (entry_of q) (option_and_then (λ queue. front_completion queue.completions) (served_queue s q))
 seen_trusted s q t = rw t refl
 
-pub completion_heard : (s : State) (q cid : ℕ) (st : Status) (e : ComEntry) (r : Record) → s.trusted ≡ true → IsHeard s q cid st e r → HeardAnswer s q cid st e
+pub completion_heard : (s : State) (q cid : ℕ) (st : Status) (e : ComEntry) (r : Record) → s.trusted ≡ true → IsHeard s q cid st e r → HeardCompletion s q cid st e
 completion_heard s q cid st e r t heard = grind (arith, sym (seen_trusted s q t) ∙ heard.seen)
 
 -- Each event of the host is one of the cases

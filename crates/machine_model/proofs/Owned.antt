@@ -325,7 +325,7 @@ pub awaited_starts : (of : ℕ → Work → Bool) (test : HostState → Bool) (r
     → ((q : ℕ) → (k == q) ≡ false → of q new.work ≡ false) → one (test (f x).state) ≡ one (test x.state) + one (of k new.work) → Awaited of test rs hs → Awaited of test (rs ++ new ∷ []) (change k f hs)
 awaited_starts of test rs hs f k new x there others moves h q = grind (arith, total, eqb-true, total-append, at_other, eqb-false, at_found, at_changed)
 
--- one is answered, and its queue waits no longer
+-- one is completed, and its queue waits no longer
 pub awaited_ends : (of : ℕ → Work → Bool) (test : HostState → Bool) (rs : List Record) (hs : List HostQueue) (f : HostQueue → HostQueue) (k at c : ℕ) (r : Record) → find (is_at at c) rs ≡ Some r → total (here at c) rs < 2
     → ((q : ℕ) → (k == q) ≡ false → of q r.work ≡ false) → ((x : HostQueue) → slice_get hs k ≡ Some x → one (test (f x).state) + one (of k r.work) ≡ one (test x.state))
     → Awaited of test rs hs → Awaited of test (without_record at c rs) (change k f hs)

@@ -14,7 +14,7 @@ use Rattle.admin_commands.specs.declared.SqState.TheVariants.{Stopping}
 use Rattle.io_commands.specs.{Asked.Request, Jobs.{is_success}, Values.numbers_of}
 use Rattle.page_memory.specs.{Pages.{Pages, page_at, with_page_bytes, with_bytes}, declared.page.Half.{Half, TheVariants.{Submission, Completion}}}
 use Rattle.queue_pair.specs.{Memory.half_pages}
-use Rattle.machine_model.specs.After.{acted, managed, decided, on_job, on_controller, on_served_queue, stopped, dropped, completion_made, submission_made, sq_state, cq_there, walks, view_of, on_memory, after_fetch, after_walk, after_complete, answered, post_phase, taken_off, moved, deletion_done, after}
+use Rattle.machine_model.specs.After.{acted, managed, decided, on_job, on_controller, on_served_queue, stopped, dropped, completion_made, submission_made, sq_state, cq_there, walks, view_of, on_memory, after_fetch, after_walk, after_complete, with_posted_completion, post_phase, taken_off, moved, deletion_done, after}
 use Rattle.machine_model.specs.{Events.{Event, Reply}, Linked.absent, Memory.{with_pages, without_pages}}
 use Rattle.machine_model.specs.Refusals.{host_queue, next_rung, conflicts, slot_page, slot_offset, post_slot, fetch_slot, causes, refusal_of, record_is, is_of, asks_for}
 use Rattle.machine_model.specs.{Run.Run, State.{State, Job, HostQueue, Record, Phase, record_at, pages_of}}
@@ -132,8 +132,8 @@ part-option f o s each = grind arith
 pub part-if : (b : Bool) (t u s : State) → host_part t ≡ host_part s → host_part u ≡ host_part s → host_part (if b then t else u) ≡ host_part s
 part-if b t u s et eu = grind arith
 
-pub part-answered : (q cid : ℕ) (st : Status) (dw0 : ℕ) (s : State) → host_part (answered q cid st dw0 s) ≡ host_part s
-part-answered q cid st dw0 s =
+pub part-completed : (q cid : ℕ) (st : Status) (dw0 : ℕ) (s : State) → host_part (with_posted_completion q cid st dw0 s) ≡ host_part s
+part-completed q cid st dw0 s =
     let write : HostQueue → Pages → Pages = λ queue m. with_page_bytes m (slot_page queue.cq_pages 16 (post_slot s q)) (slot_offset 16 (post_slot s q))
     (completion_bytes (record { dw0 = dw0; sqhd = fetch_slot s q; sqid = q; cid = cid; phase = post_phase s q queue; status = st })) in
     part-option (λ queue. on_memory (write queue) s) (host_queue s q) s
@@ -155,7 +155,7 @@ part-managed e s =
 pub part-fetch : (q : ℕ) (s : State) → host_part (after_fetch q s) ≡ host_part s
 part-fetch q s =
     part-option _ (next_rung s q) s
-    (λ e. part-if (conflicts s q) _ _ s (part-answered q e.cid COMMAND_ID_CONFLICT 0 (taken_off q s))
+    (λ e. part-if (conflicts s q) _ _ s (part-completed q e.cid COMMAND_ID_CONFLICT 0 (taken_off q s))
     (part-if (q == 0) _ _ s (part-managed e (taken_off 0 s)) (refl)))
 
 part-moved : (d : Direction) (act : Act) (q cid : ℕ) (s : State) → host_part (moved d act q cid s) ≡ host_part s
@@ -171,7 +171,7 @@ part-deletion : (j : Job) (st : Status) (s : State) → host_part (deletion_done
 part-deletion j st s = part-if _ _ _ s refl refl
 
 pub part-complete : (q cid : ℕ) (s : State) → host_part (after_complete q cid s) ≡ host_part s
-part-complete q cid s = grind (arith, part-option, part-answered, part-deletion)
+part-complete q cid s = grind (arith, part-option, part-completed, part-deletion)
 
 -- how many pages there are
 pub length-in_store : (m : Pages) → length (in_store m) ≡ length m

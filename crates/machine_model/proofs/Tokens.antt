@@ -9,7 +9,7 @@ use Rattle.machine_model.proofs.{Counting.{one, total, total-append, total_witho
 use Rattle.machine_model.specs.{Commands.{Management}, State.{Record, Job, PostedCompletion, is_at, without_record}}
 use Rattle.page_memory.proofs.Lists.{all-all, all-append, found_is, all-found, all-filter}
 pub use Rattle.machine_model.specs.Refusals.{is_job}
-pub use Rattle.machine_model.specs.Agreeing.{is_absent_at as gone_at, has_completions_at as there_at, Knows, DeletesIo, EntryKnown, JobKnown, CompletionKnown, entry_is, job_is, answer_is, AdminCommandsStand as Placed, kind_of, kind_at, is_kind, succeeds, unmade, completed_well, done_well, deletes_sq, deletes_cq, creates_cq, creates_sq}
+pub use Rattle.machine_model.specs.Agreeing.{is_absent_at as gone_at, has_completions_at as there_at, Knows, DeletesIo, EntryKnown, JobKnown, CompletionKnown, entry_is, job_is, completion_is, AdminCommandsStand as Placed, kind_of, kind_at, is_kind, succeeds, unmade, completed_well, done_well, deletes_sq, deletes_cq, creates_cq, creates_sq}
 
 -- Where nothing was forged: each admin command's entry is in one place, and says what its record says.
 
@@ -90,7 +90,7 @@ placed_sent rs un js ans adm id new none at work h =
     more : (c : ℕ) (b : Bool) → (id == c) ≡ b
         → total (here 0 c) (rs ++ new ∷ []) ≡ total (here 0 c) rs + (here 0 c new + 0)
         → total (entry_is c) (un ++ admin_entry adm id ∷ []) ≡ total (entry_is c) un + (one (id == c) + 0)
-        → total (entry_is c) (un ++ admin_entry adm id ∷ []) + (total (job_is c) js + total (answer_is c) ans) ≤ total (here 0 c) (rs ++ new ∷ [])
+        → total (entry_is c) (un ++ admin_entry adm id ∷ []) + (total (job_is c) js + total (completion_is c) ans) ≤ total (here 0 c) (rs ++ new ∷ [])
     more c b e r u = grind arith
 
 -- Fetching one
@@ -111,13 +111,13 @@ placed_decided rs e un js ans j st jq je jv promise h =
       completions = h.completions;
     }
 
--- an entry that is answered at once, without success
+-- an entry that is completed at once, without success
 pub placed_conflict : (rs : List Record) (e : SubEntry) (un : List SubEntry) (js : List Job) (ans : List PostedCompletion) (an : PostedCompletion)
     → an.cid ≡ e.cid → Placed rs (e ∷ un) js ans → Placed rs un js (ans ++ an ∷ [])
 placed_conflict rs e un js ans an same h = record {
   places = λ c.
-      let one' : answer_is c an ≡ entry_is c e = rw same refl in
-      omega (arith, h.places c, total-append (answer_is c) ans (an ∷ []), one');
+      let one' : completion_is c an ≡ entry_is c e = rw same refl in
+      omega (arith, h.places c, total-append (completion_is c) ans (an ∷ []), one');
   entries = h.entries.1;
   jobs = h.jobs;
   completions = all-append (CompletionKnown rs) ans an h.completions (h.entries.0.0, rw same h.entries.0.1);
@@ -149,12 +149,12 @@ placed_reaped rs un js an ans once h =
     let at = and_parts (r.q == 0) (r.cid == an.cid) (found_is (is_at 0 an.cid) rs r knows.1) in
     let rq : r.q ≡ 0 = eqb-true r.q 0 at.0 in
     let rc : r.cid ≡ an.cid = eqb-true r.cid an.cid at.1 in
-    let mine : (c : ℕ) → here 0 c r ≡ answer_is c an = λ c. rw (rq, rc) refl in
-    let own : answer_is an.cid an ≡ 1 = ap one (eq-eqb an.cid an.cid refl) in
+    let mine : (c : ℕ) → here 0 c r ≡ completion_is c an = λ c. rw (rq, rc) refl in
+    let own : completion_is an.cid an ≡ 1 = ap one (eq-eqb an.cid an.cid refl) in
     let few = h.places an.cid in
     let no_entry = others (entry_is an.cid) (λ (e : SubEntry). e.cid) an.cid (λ e. refl) un (omega arith) in
     let no_job = jobs_others an.cid js (omega arith) in
-    let no_answer = others (answer_is an.cid) (λ (a : PostedCompletion). a.cid) an.cid (λ a. refl) ans (omega arith) in
+    let no_answer = others (completion_is an.cid) (λ (a : PostedCompletion). a.cid) an.cid (λ a. refl) ans (omega arith) in
     record {
       places = λ c. omega (arith, h.places c, total_without (here 0 c) 0 an.cid rs r knows.1 once, mine c);
       entries = all-both (EntryKnown rs) (λ e. e.cid ≡ an.cid → ⊥) (EntryKnown (without_record 0 an.cid rs)) (λ e k far. (k.0, still e.cid k.0 far k.1, k.2)) un h.entries no_entry;
@@ -179,8 +179,8 @@ placed_completed rs un js ans cid j an found same h =
     let ac : an.cid ≡ j.entry.cid = same ∙ sym jc in
     record {
       places = λ c.
-          let mine : job_is c j ≡ answer_is c an = rw (jq, jc, same) refl in
-          omega (arith, h.places c, total_gone (job_is c) (is_job 0 cid) js j found, mine, total-append (answer_is c) ans (an ∷ []));
+          let mine : job_is c j ≡ completion_is c an = rw (jq, jc, same) refl in
+          omega (arith, h.places c, total_gone (job_is c) (is_job 0 cid) js j found, mine, total-append (completion_is c) ans (an ∷ []));
       entries = h.entries;
       jobs = all-filter (JobKnown rs) (λ k'. not (is_job 0 cid k')) js h.jobs;
       completions = all-append (CompletionKnown rs) ans an h.completions (k.0, rw ac k.1);
@@ -206,7 +206,7 @@ placed_job_less rs un js ans keep h = record {
   completions = h.completions;
 }
 
--- How many admin commands of a kind stand at the controller, and how their answers go: what each change does to those counts.
+-- How many admin commands of a kind stand at the controller, and how their completions go: what each change does to those counts.
 
 -- Sums
 
@@ -270,7 +270,7 @@ succeeded test rs an = one (is_kind test rs an.cid && is_success an.status)
 
 pub record Fewer (rs : List Record) (un : List SubEntry) (js : List Job) (ans : List PostedCompletion) (rs' : List Record) (un' : List SubEntry) (js' : List Job) (ans' : List PostedCompletion) : Type 0 where
   pub unmade : (test : AdminKind → Bool) → unmade test rs' un' js' ans' ≤ unmade test rs un js ans
-  pub answered : (test : AdminKind → Bool) → completed_well test rs' ans' ≤ completed_well test rs ans
+  pub completed : (test : AdminKind → Bool) → completed_well test rs' ans' ≤ completed_well test rs ans
   pub done : (test : AdminKind → Bool) → done_well test rs' js' ans' ≤ done_well test rs js ans
 
 -- Records change, and each command that stands is known as before
@@ -282,12 +282,12 @@ fewer_kept rs rs' un js ans placed still =
     λ test. total_all _ _ js (all-all (JobKnown rs) _ (λ j k. job_same test (λ j. not (succeeds j)) j k) js placed.jobs) in
     let wins : (test : AdminKind → Bool) → total (succeeding test rs') js ≡ total (succeeding test rs) js =
     λ test. total_all _ _ js (all-all (JobKnown rs) _ (λ j k. job_same test succeeds j k) js placed.jobs) in
-    let answers_fail : (test : AdminKind → Bool) → total (failed test rs') ans ≡ total (failed test rs) ans =
+    let completions_fail : (test : AdminKind → Bool) → total (failed test rs') ans ≡ total (failed test rs) ans =
     λ test. total_all _ _ ans (all-all (CompletionKnown rs) _ (λ an k. ap (λ (b : Bool). one (b && not (is_success an.status))) (same test an.cid k.0 k.1)) ans placed.completions) in
-    let answers_well : (test : AdminKind → Bool) → total (succeeded test rs') ans ≡ total (succeeded test rs) ans =
+    let completions_well : (test : AdminKind → Bool) → total (succeeded test rs') ans ≡ total (succeeded test rs) ans =
     λ test. total_all _ _ ans (all-all (CompletionKnown rs) _ (λ an k. ap (λ (b : Bool). one (b && is_success an.status)) (same test an.cid k.0 k.1)) ans placed.completions) in (
-      record { unmade = λ test. omega (arith, entries test, fails test, answers_fail test); answered = λ test. omega (arith, answers_well test); done = λ test. omega (arith, wins test, answers_well test) },
-      record { unmade = λ test. omega (arith, entries test, fails test, answers_fail test); answered = λ test. omega (arith, answers_well test); done = λ test. omega (arith, wins test, answers_well test) },
+      record { unmade = λ test. omega (arith, entries test, fails test, completions_fail test); completed = λ test. omega (arith, completions_well test); done = λ test. omega (arith, wins test, completions_well test) },
+      record { unmade = λ test. omega (arith, entries test, fails test, completions_fail test); completed = λ test. omega (arith, completions_well test); done = λ test. omega (arith, wins test, completions_well test) },
     )
   where
     same : (test : AdminKind → Bool) (c : ℕ) (adm : AdminKind) → Knows rs c adm → is_kind test rs' c ≡ is_kind test rs c

@@ -18,7 +18,7 @@ use Rattle.queue_pair.specs.{Memory.half_pages}
 
 -- The controller's events keep the tokens of what is deleted and made.
 
--- The tokens, by the entries, jobs and answers of queue 0
+-- The tokens, by the entries, jobs and completions of queue 0
 pub record TokensHeld (rs : List Record) (hs : List HostQueue) (ds : List ServedQueue) (un : List SubEntry) (js : List Job) (ans : List PostedCompletion) : Type 0 where
   pub submission : (q : ℕ) → one (not (gone_at ds q)) + (completed_well (deletes_sq q) rs ans + (one (knows_deleted_at hs q) + unmade (creates_sq q) rs un js ans)) ≤ 1
   pub completion : (q : ℕ) → one (there_at ds q) + (done_well (deletes_cq q) rs js ans + (one (is_gone_at hs q) + unmade (creates_cq q) rs un js ans)) ≤ 1
@@ -34,7 +34,7 @@ tokens_to rs hs ds js h = record { submission = h.submission; completion = h.com
 pub tokens_fewer : (rs rs' : List Record) (hs : List HostQueue) (ds : List ServedQueue) (un un' : List SubEntry) (js js' : List Job) (ans ans' : List PostedCompletion)
     → Fewer rs un js ans rs' un' js' ans' → TokensHeld rs hs ds un js ans → TokensHeld rs' hs ds un' js' ans'
 tokens_fewer rs rs' hs ds un un' js js' ans ans' few h = record {
-  submission = λ q. omega (arith, h.submission q, few.answered (deletes_sq q), few.unmade (creates_sq q));
+  submission = λ q. omega (arith, h.submission q, few.completed (deletes_sq q), few.unmade (creates_sq q));
   completion = λ q. omega (arith, h.completion q, few.done (deletes_cq q), few.unmade (creates_cq q));
   there = λ q inside some. h.there q inside (omega (arith, some, few.unmade (deletes_sq q), few.done (creates_sq q)));
 }

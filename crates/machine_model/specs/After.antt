@@ -301,11 +301,11 @@ managed e s = acted e (decision e (view_of s e)) s
 abbrev pub post_phase : State → ℕ → HostQueue → Bool
 post_phase s q queue = expected_phase queue.ring.head (post_slot s q) queue.ring.phase
 
--- an answer behind the tail of a queue's completion ring, in its slot's bytes too
-abbrev pub answered : ℕ → ℕ → Status → ℕ → State → State
-answered q cid st dw0 s =
-    let answer : PostedCompletion = record { cid = cid; status = st; dw0 = dw0; sq_head = fetch_slot s q } in
-    on_served_queue q (λ at. record at { completions = at.completions ++ answer ∷ [] })
+-- a completion behind the tail of a queue's completion ring, in its slot's bytes too
+abbrev pub with_posted_completion : ℕ → ℕ → Status → ℕ → State → State
+with_posted_completion q cid st dw0 s =
+    let completion : PostedCompletion = record { cid = cid; status = st; dw0 = dw0; sq_head = fetch_slot s q } in
+    on_served_queue q (λ at. record at { completions = at.completions ++ completion ∷ [] })
     (option_map_or
     (λ queue. on_memory (λ m. with_page_bytes m (slot_page queue.cq_pages 16 (post_slot s q)) (slot_offset 16 (post_slot s q))
     (completion_bytes (record { dw0 = dw0; sqhd = fetch_slot s q; sqid = q; cid = cid; phase = post_phase s q queue; status = st }))) s)
@@ -317,7 +317,7 @@ taken_off q s = on_served_queue q (λ at. record at { unfetched = drop 1 at.unfe
 abbrev pub after_fetch : ℕ → State → State
 after_fetch q s =
     option_map_or
-    (λ e. if conflicts s q then answered q e.cid COMMAND_ID_CONFLICT 0 (taken_off q s)
+    (λ e. if conflicts s q then with_posted_completion q e.cid COMMAND_ID_CONFLICT 0 (taken_off q s)
     else if q == 0 then managed e (taken_off 0 s)
     else begun q e (taken_off q s))
     (next_rung s q) s
@@ -375,7 +375,7 @@ abbrev pub after_complete : ℕ → ℕ → State → State
 after_complete q cid s =
     option_map_or
     (λ j. let st = final_status s j in
-    answered q cid st j.dw0
+    with_posted_completion q cid st j.dw0
     (deletion_done j st
     (on_controller (λ d. record d { image = image_completed j d.image }) (without_job q cid s))))
     (job_at s q cid) s
@@ -419,7 +419,7 @@ io_pages (queue ∷ queues) = flat_map halves_of queues
 abbrev pub reset_host : ℕ → Host → Host
 reset_host count h = record { free = joined_in_order count (io_pages h.queues) h.free; queues = reset_queues h.queues; records = reset_records h.records }
 
--- the controller: no job, no entry, no answer; of its queues the first alone is there
+-- the controller: no job, no entry, no completion; of its queues the first alone is there
 abbrev pub reset_controller_admin : ServedQueue
 reset_controller_admin = record { state = Running; cq_there = true; unfetched = []; rung = 0; completions = [] }
 

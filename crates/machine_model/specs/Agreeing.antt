@@ -72,21 +72,21 @@ EntryKnown rs e = (adm : AdminKind) × Knows rs e.cid adm × (e ≡ admin_entry 
 abbrev pub JobKnown : List Record → Job → Type 0
 JobKnown rs j = (j.q ≡ 0) → (adm : AdminKind) × Knows rs j.entry.cid adm × (j.entry ≡ admin_entry adm j.entry.cid) × ((st : Status) → j.verdict ≡ Some st → is_success st ≡ true → DeletesIo adm)
 
--- an answer is that of an outstanding command
+-- a completion is that of an outstanding command
 abbrev pub CompletionKnown : List Record → PostedCompletion → Type 0
 CompletionKnown rs an = (adm : AdminKind) × Knows rs an.cid adm
 
--- 1 for an entry, a job of queue 0 and an answer of this identifier
+-- 1 for an entry, a job of queue 0 and a completion of this identifier
 abbrev pub entry_is : ℕ → SubEntry → ℕ
 entry_is c e = one (e.cid == c)
 
 abbrev pub job_is : ℕ → Job → ℕ
 job_is c j = one ((j.q == 0) && (j.entry.cid == c))
 
-abbrev pub answer_is : ℕ → PostedCompletion → ℕ
-answer_is c an = one (an.cid == c)
+abbrev pub completion_is : ℕ → PostedCompletion → ℕ
+completion_is c an = one (an.cid == c)
 
--- the entries of queue 0 that were not fetched, and its answers
+-- the entries of queue 0 that were not fetched, and its completions
 abbrev pub waiting : List ServedQueue → List SubEntry
 waiting ds = option_map_or (λ at. at.unfetched) (slice_get ds 0) []
 
@@ -95,7 +95,7 @@ admin_completions ds = option_map_or (λ at. at.completions) (slice_get ds 0) []
 
 -- each of them is known, and no identifier stands in more places than it is outstanding
 pub record AdminCommandsStand (rs : List Record) (un : List SubEntry) (js : List Job) (ans : List PostedCompletion) : Type 0 where
-  pub places : (c : ℕ) → total (entry_is c) un + (total (job_is c) js + total (answer_is c) ans) ≤ total (here 0 c) rs
+  pub places : (c : ℕ) → total (entry_is c) un + (total (job_is c) js + total (completion_is c) ans) ≤ total (here 0 c) rs
   pub entries : AllByRecursion (EntryKnown rs) un
   pub jobs : AllByRecursion (JobKnown rs) js
   pub completions : AllByRecursion (CompletionKnown rs) ans
@@ -132,7 +132,7 @@ creates_sq q adm = false
 abbrev pub is_kind : (AdminKind → Bool) → List Record → ℕ → Bool
 is_kind test rs c = option_map_or test (kind_at rs c) false
 
--- whether an admin job will be answered with success
+-- whether an admin job will be completed with success
 abbrev pub succeeds : Job → Bool
 succeeds j = option_map_or is_success j.verdict false
 
@@ -143,11 +143,11 @@ unmade test rs un js ans =
     + (total (λ j. one ((j.q == 0) && is_kind test rs j.entry.cid && not (succeeds j))) js
     + total (λ an. one (is_kind test rs an.cid && not (is_success an.status))) ans)
 
--- how many such commands are answered with success, and are not heard of
+-- how many such commands are completed with success, and not reaped
 abbrev pub completed_well : (AdminKind → Bool) → List Record → List PostedCompletion → ℕ
 completed_well test rs ans = total (λ an. one (is_kind test rs an.cid && is_success an.status)) ans
 
--- and how many have succeeded, answered or not
+-- and how many have succeeded, completed or not
 abbrev pub done_well : (AdminKind → Bool) → List Record → List Job → List PostedCompletion → ℕ
 done_well test rs js ans =
     total (λ j. one ((j.q == 0) && is_kind test rs j.entry.cid && succeeds j)) js + completed_well test rs ans
@@ -187,7 +187,7 @@ pub record TokensGoRound (rs : List Record) (hs : List HostQueue) (ds : List Ser
 abbrev pub is_out_of_service_at : List HostQueue → ℕ → Bool
 is_out_of_service_at hs q = option_map_or (λ h. not (in_service h.state)) (slice_get hs q) false
 
--- the answers of a queue that were not reaped
+-- the completions of a queue that were not reaped
 abbrev pub completions_at : List ServedQueue → ℕ → List PostedCompletion
 completions_at qs q = option_map_or (λ at. at.completions) (slice_get qs q) []
 
@@ -199,7 +199,7 @@ unfetched_count q w hs qs = if is_out_of_service_at hs q then 0 else total (λ e
 abbrev pub job_weight : ℕ → (ℕ → ℕ) → Job → ℕ
 job_weight q w j = if j.q == q then w j.entry.cid else 0
 
--- the entries, jobs and answers of a queue count no more than its submitted commands
+-- the entries, jobs and completions of a queue count no more than its submitted commands
 abbrev pub CommandsStandOnce : List HostQueue → List Record → List ServedQueue → List Job → Type 0
 CommandsStandOnce hs rs qs js =
     (q : ℕ) (w : ℕ → ℕ) → unfetched_count q w hs qs + (total (job_weight q w) js + total (λ an. w an.cid) (completions_at qs q)) ≤ total (sent q w) rs
@@ -214,12 +214,12 @@ CommandsStand m qs js rs = AllByRecursion (CommandStands m qs js) rs
 abbrev pub sent_count : ℕ → List Record → ℕ
 sent_count q rs = total (sent q (λ c. 1)) rs
 
--- Each answer's head is a slot, and no more slots behind the tail than commands are submitted that this answer and those before it don't end.
+-- Each completion's head is a slot, and no more slots behind the tail than commands are submitted that this completion and those before it don't end.
 abbrev pub AreCompletionsBehind : (n tail k : ℕ) → List PostedCompletion → Type 0
 AreCompletionsBehind n tail k [] = Unit {0}
 AreCompletionsBehind n tail k (an ∷ ans) = (an.sq_head < n) × (distance n an.sq_head tail < k) × AreCompletionsBehind n tail (k - 1) ans
 
--- the head that the host knows of a queue is no further behind its tail than `k` commands, and so are those that its answers tell
+-- the head that the host knows of a queue is no further behind its tail than `k` commands, and so are those that its completions tell
 pub record IsHeadBehind (n k : ℕ) (queue : HostQueue) (ans : List PostedCompletion) : Type 0 where
   pub known : distance n queue.ring.known_head queue.ring.tail ≤ k
   pub completions : AreCompletionsBehind n queue.ring.tail k ans

@@ -33,7 +33,7 @@ abbrev pub is_deleted : HostState → Bool
 is_deleted (Deleting noted) = noted
 is_deleted state = false
 
--- its deletion was asked for and not answered
+-- its deletion was asked for and not completed
 abbrev pub is_asked : HostState → Bool
 is_asked (Deleting noted) = not noted
 is_asked state = false
@@ -46,7 +46,7 @@ abbrev pub is_gone : HostState → Bool
 is_gone Gone = true
 is_gone state = false
 
--- the creation of its completion queue was asked for and not answered, and so that of its submission queue
+-- the creation of its completion queue was asked for and not completed, and so that of its submission queue
 abbrev pub is_making_cq : HostState → Bool
 is_making_cq MakingCq = true
 is_making_cq state = false
@@ -208,7 +208,7 @@ slot_offset size k = k * size % 4096
 abbrev pub slot_bytes : Pages → List ℕ → ℕ → ℕ → Option (List ℕ)
 slot_bytes m pages size k = option_map (λ bytes. slice_range bytes (slot_offset size k) (slot_offset size k + size)) (page_at m (slot_page pages size k))
 
--- the completion entry that the host sees at its head: the oldest answer, and after a forged entry whatever the slot holds with the expected phase
+-- the completion entry that the host sees at its head: the oldest completion, and after a forged entry whatever the slot holds with the expected phase
 abbrev pub entry_of : ℕ → PostedCompletion → ComEntry
 entry_of q a = record { dw0 = a.dw0; sqhd = a.sq_head; sqid = q; cid = a.cid; phase = true; status = a.status }
 
@@ -244,7 +244,7 @@ abbrev pub fetch_slot : State → ℕ → ℕ
 fetch_slot s q =
     option_map_or (λ queue. option_map_or (λ at. moved s.entries queue.ring.tail (s.entries - length at.unfetched)) (served_queue s q) 0) (host_queue s q) 0
 
--- its tail of a completion ring: from the host's head it is one move for each answer
+-- its tail of a completion ring: from the host's head it is one move for each completion
 abbrev pub post_slot : State → ℕ → ℕ
 post_slot s q =
     option_map_or (λ queue. option_map_or (λ at. moved s.entries queue.ring.head (length at.completions)) (served_queue s q) 0) (host_queue s q) 0

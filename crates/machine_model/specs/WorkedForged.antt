@@ -83,7 +83,7 @@ emptied at = record at { state = Absent; cq_there = false; unfetched = []; rung 
 abbrev pub blank : Controller → Controller
 blank d = record d { queues = map emptied d.queues; jobs = [] }
 
--- with an answer to each command that there could be, on each queue
+-- with a completion of each command that there could be, on each queue
 abbrev pub a_completion : ℕ → PostedCompletion
 a_completion cid = record { cid = cid; status = SUCCESS; dw0 = 0; sq_head = 0 }
 

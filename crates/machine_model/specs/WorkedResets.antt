@@ -41,7 +41,7 @@ reset_run = one_of_each ++ after_all ++ creation
 abbrev pub reset_run_said : List Said
 reset_run_said = one_of_each_said ++ after_all_said ++ creation_said
 
--- a forged entry answers a command that is a job, whose walk is not done: behind a reset the machine is trusted again
+-- a forged entry completes a command that is a job, whose walk is not done: behind a reset the machine is trusted again
 abbrev pub forged_and_reset : List Line
 forged_and_reset =
     block 1 Read ∷ build 1 0 ∷ submit 1 0 ∷ ring 1 ∷ fetch 1 ∷ walk 1 0 ∷ forge 1 0 (forged 1 1 0) ∷ reap 1 ∷ reset ∷ walk 1 0 ∷ collect 1 0 ∷ release 1 0 ∷ creation

@@ -32,7 +32,7 @@ is_sound s =
 abbrev pub all_sound : List Made → Bool
 all_sound made = list_all (λ m. is_sound m.before) made
 
--- three entries, two commands at a time, answered in the other order, with an Abort that comes too late
+-- three entries, two commands at a time, completed in the other order, with an Abort that comes too late
 abbrev pub three_entries : Table
 three_entries = defaults 16 1 3 256
 

@@ -12,7 +12,7 @@ use Rattle.machine_model.specs.State.{State, Record, is_at, record_at, pages_of,
 use Rattle.machine_model.specs.{Step.{Step, reaped, finished_from, asked_by, pages_with_bytes}, Trusted.Steps, Work.Work, declared.words.Phase.Phase}
 use Rattle.machine_model.specs.declared.words.{Phase.TheVariants.Held, Refusal.Refusal, Work.TheVariants.{Io, Management}}
 use Rattle.two_sides.proofs.Along.{along, trusted_step_by, Unforged, unforged_next, unforged_front, unforged_back, unforged_run, unforged_end, cut}
-use Rattle.two_sides.proofs.{Commands.{nobody, no_job}, NeverFull.{stood_on, stood_at_opening, host_jobs}, PlacesKept.{drafted_not, reaped_answer}}
+use Rattle.two_sides.proofs.{Commands.{nobody, no_job}, NeverFull.{stood_on, stood_at_opening, host_jobs}, PlacesKept.{drafted_not, reaped_completion}}
 use Rattle.two_sides.proofs.{Provided.{is_found, In, all_append, sent}, Served.{Stood, requests_same, completions_at}, Standing.list_at}
 use Rattle.io_commands.specs.{Drafts.DraftContents, Values.{numbers_of, FinishedContents}}
 use Rattle.run_laws.proofs.{Carrying.Stands, Known.{submit_record, unsent, submitted_stand, stand_still}}
@@ -334,7 +334,7 @@ data_numbers_stay c = ap numbers_of (course c).collects.data_pages ∙ with_numb
 pub chain_numbers_stay : (c : CollectedCommand) → numbers_of c.finished.chain_pages ≡ numbers_of c.draft.chain_pages
 chain_numbers_stay c = ap numbers_of (course c).collects.chain_pages ∙ with_numbers (course c).third.memory (course c).collects.command.chain_pages ∙ sym (kept c).chain_pages
 
--- A command that is never fetched: the controller has no job and no answer of it, and its data pages keep the draft's bytes.
+-- A command that is never fetched: the controller has no job and no completion of it, and its data pages keep the draft's bytes.
 
 -- What is known
 
@@ -368,7 +368,7 @@ jobs_on d other s e reply g far = record {
   walks = λ q cid j act is w unit p. p;
 }
 
--- No answer comes
+-- No completion comes
 
 answers_on : (d : DraftContents) (s : State) (e : Event) → AllByRecursion (λ j. j.q ≡ d.q → j.entry.cid ≡ d.cid → ⊥) s.controller.jobs
     → QueueMove (λ at. at.completions) (λ (an : PostedCompletion). an.cid ≡ d.cid → ⊥) d.q s e
@@ -403,7 +403,7 @@ untouched_on s d e reply g h r within free at on of stand =
     (λ p x. ap (λ (xs : List ℕ). is_among xs p) (sym of.data_pages) ∙ x) stand
 
 no_reap : (s : State) (d : DraftContents) → s.trusted ≡ true → Unread d s → (q cid : ℕ) (r : Record) → named (reaped s q) ≡ Some cid → record_at s.host q cid ≡ Some r → is_at d.q d.cid r ≡ true → ⊥
-no_reap s d t h q cid r n found at = grind (arith, reaped_answer, ids_of, first_all, list_at, eqb-true)
+no_reap s d t h q cid r n found at = grind (arith, reaped_completion, ids_of, first_all, list_at, eqb-true)
 
 records_on : (d : DraftContents) → (d.q == 0) ≡ false → (s : State) (e : Event) (reply : Reply) → Going s e reply → submits d.q d.cid (record { before = s; event = e; reply = reply }) ≡ false → Unread d s
     → RecordsMove (Waits d s) (Waits d (a.after s e reply)) s e

@@ -141,14 +141,14 @@ fetched_clears s new q cid other f = subst (NoEntry q cid) (sym f.left) (go (nex
     few = omega (arith, un, one_less, self, f.going.stood.places q (λ c. one (c == cid)), sent_few q cid s.host.records, f.going.stood.grounds.stands.0.once q cid)
 
     inner : (e : SubEntry) → next_rung s q ≡ Some e → (b z : Bool) → conflicts s q ≡ b → (q == 0) ≡ z
-        → NoEntry q cid (if b then a.answered q e.cid COMMAND_ID_CONFLICT 0 (a.taken_off q s) else if z then a.managed e (a.taken_off 0 s) else a.begun q e (a.taken_off q s))
+        → NoEntry q cid (if b then a.with_posted_completion q e.cid COMMAND_ID_CONFLICT 0 (a.taken_off q s) else if z then a.managed e (a.taken_off 0 s) else a.begun q e (a.taken_off q s))
     inner e r true z con is0 =
         absurd (true≢false (sym con ∙ ap (λ (o : Option SubEntry). option_map_or (λ e. is_some (job_at s q e.cid)) o false) r ∙ not_conflicting s f.going.stood q e (in_hand s q e r)))
     inner e r false true con is0 = absurd (true≢false (sym is0 ∙ other))
     inner e r false false con is0 = (nobody (λ (e : SubEntry). e.cid) cid (λ e. ⊥) (list_at (λ at. at.unfetched) (change q off s.controller.queues) q) few)
 
     go : (o : Option SubEntry) → next_rung s q ≡ o
-        → NoEntry q cid (option_map_or (λ e. if conflicts s q then a.answered q e.cid COMMAND_ID_CONFLICT 0 (a.taken_off q s) else if q == 0 then a.managed e (a.taken_off 0 s) else a.begun q e (a.taken_off q s)) o s)
+        → NoEntry q cid (option_map_or (λ e. if conflicts s q then a.with_posted_completion q e.cid COMMAND_ID_CONFLICT 0 (a.taken_off q s) else if q == 0 then a.managed e (a.taken_off 0 s) else a.begun q e (a.taken_off q s)) o s)
     go None r = grind arith
     go (Some e) r = inner e r (conflicts s q) (q == 0) refl refl
 

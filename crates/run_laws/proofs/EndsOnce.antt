@@ -9,7 +9,7 @@ use Rattle.run_laws.proofs.{DataKept.{Going, left_step, along_steps}, DataOnce.{
 use Rattle.run_laws.proofs.{OneEnd.{submit_at, At, at_step}, ReadsWalked.sent_few as sent_less, Verdicts.given_job}
 use Rattle.run_laws.specs.{Ends.{submits_by, submits, commands_complete_once}, Statuses.status_by}
 use Rattle.two_sides.proofs.{Along.{cut, unforged_front}, Commands.nobody, ControllerMoves.finished, JobLaws.not_zero as positive}
-use Rattle.two_sides.proofs.{Provided.in_found, Served.{Stood, job_weight, unfetched_count}, Standing.controller-answered}
+use Rattle.two_sides.proofs.{Provided.in_found, Served.{Stood, job_weight, unfetched_count}, Standing.controller-completed}
 use Rattle.machine_model.specs.After as a
 use Rattle.machine_model.specs.Events as events
 use Rattle.page_memory.proofs.Lists.{found_is, all-found}
@@ -66,8 +66,8 @@ job_alone s q cid j stood at =
 jobs_completed : (s : State) (q cid : ℕ) (j : Job) → job_at s q cid ≡ Some j → (a.after_complete q cid s).controller.jobs ≡ filter (λ k. not (is_job q cid k)) s.controller.jobs
 jobs_completed s q cid j at =
     let st = a.final_status s j in
-    ap (λ (o : Option Job). (option_map_or (λ j. let st = a.final_status s j in a.answered q cid st j.dw0 (a.deletion_done j st (a.on_controller (λ d. record d { image = a.image_completed j d.image }) (a.without_job q cid s)))) o s).controller.jobs) at
-    ∙ ap (λ (d : Controller). d.jobs) (controller-answered q cid st j.dw0 (a.deletion_done j st (finished q cid j s)))
+    ap (λ (o : Option Job). (option_map_or (λ j. let st = a.final_status s j in a.with_posted_completion q cid st j.dw0 (a.deletion_done j st (a.on_controller (λ d. record d { image = a.image_completed j d.image }) (a.without_job q cid s)))) o s).controller.jobs) at
+    ∙ ap (λ (d : Controller). d.jobs) (controller-completed q cid st j.dw0 (a.deletion_done j st (finished q cid j s)))
     ∙ grind arith
 
 -- behind it nothing of the command is left

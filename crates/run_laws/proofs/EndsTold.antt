@@ -26,7 +26,7 @@ use Rattle.run_laws.proofs.{Causes.{any_longer, any_last}, Moves.{JobsMove, jobs
 use Rattle.run_laws.{proofs.ReadsKept.{Member, members}, specs.Ends.{renews_by, renews, since_renewed, submits_by, submits, WasLost, WasLostByReset}}
 use Rattle.run_laws.specs.Statuses.{deletes, status_by, status_given}
 use Rattle.two_sides.proofs.{Along.{made_of, Carried}, ControllerMoves.{posted_completion, finished, cleared, clears, fetch_by, complete_by, is_over}, Heads.changed_at}
-use Rattle.two_sides.proofs.{NeverFull.{stood_on, stood_at_opening}, PlacesKept.reaped_answer}
+use Rattle.two_sides.proofs.{NeverFull.{stood_on, stood_at_opening}, PlacesKept.reaped_completion}
 use Rattle.two_sides.proofs.Provided.{In, all_in, all_in_both, all_map, all_with, all_append, all_drop_one, sent, sent_found}
 use Rattle.two_sides.proofs.{Served.{Stood, completions_at}, Standing.list_at, Tied.{below, deleted_is_gone}, TiedAll.{live_is_there, pair_at}}
 use Rattle.page_memory.proofs.Lists.{all-at, all-found, all-filter, some_is}
@@ -54,7 +54,7 @@ deleted_longer q done m far h = ap (list_any (deletes q)) (since_longer q done m
 deleted_last : (q : ℕ) (done : List Made) (m : Made) → renews q m ≡ false → deletes q m ≡ true → DeletedSince q (done ++ m ∷ [])
 deleted_last q done m far is = ap (list_any (deletes q)) (since_longer q done m far) ∙ any_last (deletes q) (since_renewed q done) m is
 
--- The job of a Delete SQ was fetched, and since then its queue was not renewed: the host waits for its answer
+-- The job of a Delete SQ was fetched, and since then its queue was not renewed: the host waits for its completion
 
 abbrev pub DeletionFetched : List Made → Job → Type 0
 DeletionFetched done j = j.q ≡ 0 → (j.entry.opcode == DELETE_IO_SQ) ≡ true → DeletedSince (named_queue j.entry) done
@@ -302,7 +302,7 @@ gone_on done s e reply ok stood stood' jobs h q y at ey serves eat absent =
         absurd (true≢false (sym gone ∙ live_is_there (a.after s e reply) stood'.grounds.fit q y ey live))
     deleting false far = (grind (arith, serves, far))
 
--- Where statuses come from: those of answers and of held commands, along a run.
+-- Where statuses come from: those of completions and of held commands, along a run.
 
 -- a command's completion with a status, its cause left aside
 pub record CompletedIn (earlier : List Made) (q cid : ℕ) (st : Status) : Type 0 where
@@ -374,9 +374,9 @@ not_submitted s e reply ok q cid others = grind arith
 
 -- Answers
 
--- an answer is that of a submitted command
-answer_sent : (s : State) → Stood s → (q : ℕ) (an : PostedCompletion) → In an (list_at (λ at. at.completions) s.controller.queues q) → (r : Record) × (record_at s.host q an.cid ≡ Some r) × (is_submitted r.phase ≡ true)
-answer_sent s stood q an within = grind (arith, total, completions_at, eq-eqb, sent_found)
+-- a completion is that of a submitted command
+completion_sent : (s : State) → Stood s → (q : ℕ) (an : PostedCompletion) → In an (list_at (λ at. at.completions) s.controller.queues q) → (r : Record) × (record_at s.host q an.cid ≡ Some r) × (is_submitted r.phase ≡ true)
+completion_sent s stood q an within = grind (arith, total, completions_at, eq-eqb, sent_found)
 
 sent_not_drafted : (ph : Phase) → is_submitted ph ≡ true → is_drafted ph ≡ false
 sent_not_drafted ph e = grind arith
@@ -384,20 +384,20 @@ sent_not_drafted ph e = grind arith
 held_not_drafted : (ph : Phase) → is_held ph ≡ true → is_drafted ph ≡ false
 held_not_drafted ph e = grind arith
 
-abbrev pub AnswerTold : List Made → ℕ → PostedCompletion → Type 0
-AnswerTold done q an = CompletedIn done q an.cid an.status
+abbrev pub CompletionTold : List Made → ℕ → PostedCompletion → Type 0
+CompletionTold done q an = CompletedIn done q an.cid an.status
 
-abbrev pub AnswersTold : List Made → ℕ → List ServedQueue → Type 0
-AnswersTold done q qs = AllByRecursion (AnswerTold done q) (list_at (λ at. at.completions) qs q)
+abbrev pub CompletionsTold : List Made → ℕ → List ServedQueue → Type 0
+CompletionsTold done q qs = AllByRecursion (CompletionTold done q) (list_at (λ at. at.completions) qs q)
 
 -- where a step submits none of their commands
-answers_longer : (done : List Made) (s : State) (m : Made) (q : ℕ) → ((an : PostedCompletion) → In an (list_at (λ at. at.completions) s.controller.queues q) → submits q an.cid m ≡ false) → AnswersTold done q s.controller.queues → AnswersTold (done ++ m ∷ []) q s.controller.queues
-answers_longer done s m q far h =
-    all_in (AnswerTold done q) (AnswerTold (done ++ m ∷ []) q) (list_at (λ at. at.completions) s.controller.queues q) (λ an within c. completed_on done m q an.cid an.status (far an within) c) h
+completions_longer : (done : List Made) (s : State) (m : Made) (q : ℕ) → ((an : PostedCompletion) → In an (list_at (λ at. at.completions) s.controller.queues q) → submits q an.cid m ≡ false) → CompletionsTold done q s.controller.queues → CompletionsTold (done ++ m ∷ []) q s.controller.queues
+completions_longer done s m q far h =
+    all_in (CompletionTold done q) (CompletionTold (done ++ m ∷ []) q) (list_at (λ at. at.completions) s.controller.queues q) (λ an within c. completed_on done m q an.cid an.status (far an within) c) h
 
-answer_not_submitted : (s : State) (e : Event) (reply : Reply) → Accepts s e reply → Stood s → (q : ℕ) (an : PostedCompletion) → In an (list_at (λ at. at.completions) s.controller.queues q) → submits_by q an.cid e reply ≡ false
-answer_not_submitted s e reply ok stood q an within =
-    let r = answer_sent s stood q an within in
+completion_not_submitted : (s : State) (e : Event) (reply : Reply) → Accepts s e reply → Stood s → (q : ℕ) (an : PostedCompletion) → In an (list_at (λ at. at.completions) s.controller.queues q) → submits_by q an.cid e reply ≡ false
+completion_not_submitted s e reply ok stood q an within =
+    let r = completion_sent s stood q an within in
     not_submitted s e reply ok q an.cid (λ r0 at. sent_not_drafted r0.phase (subst (λ (x : Record). is_submitted x.phase ≡ true) (some_is (sym r.1 ∙ at)) r.2))
 
 completes_by : (s : State) (reply : Reply) (q cid : ℕ) (j : Job) → Accepts s (events.Complete q cid) reply → job_at s q cid ≡ Some j → status_by s (events.Complete q cid) reply q cid ≡ Some (a.final_status s j)
@@ -407,12 +407,12 @@ completes_at : (s : State) (e : Event) (reply : Reply) (q cid : ℕ) (j : Job) �
 completes_at s e reply q cid j ok is at =
     subst (λ (x : Event). status_by s x reply q cid ≡ Some (a.final_status s j)) (sym is) (completes_by s reply q cid j (subst (λ (x : Event). Accepts s x reply) is ok) at)
 
-answers_turn : (done : List Made) (s : State) (e : Event) (reply : Reply) → Accepts s e reply → (q : ℕ) → QueueMove (λ at. at.completions) (AnswerTold (done ++ made_of s e reply ∷ []) q) q s e
-answers_turn done s e reply ok q = record {
+completions_turn : (done : List Made) (s : State) (e : Event) (reply : Reply) → Accepts s e reply → (q : ℕ) → QueueMove (λ at. at.completions) (CompletionTold (done ++ made_of s e reply ∷ []) q) q s e
+completions_turn done s e reply ok q = record {
   posts = λ d entry at e' built here h. h;
   sends = λ entry at z h. h;
   rings = λ rung at h. h;
-  reaps = λ at h. all_drop_one (AnswerTold (done ++ made_of s e reply ∷ []) q) at.completions h;
+  reaps = λ at h. all_drop_one (CompletionTold (done ++ made_of s e reply ∷ []) q) at.completions h;
   fetches = λ rung at h. h;
   stops = λ at h. h;
   drops = λ at h. tt;
@@ -421,14 +421,14 @@ answers_turn done s e reply ok q = record {
   clears = λ at h. h;
   empties = (tt, tt);
   completes = λ cid j head at e' job h.
-      all_append (AnswerTold (done ++ made_of s e reply ∷ []) q) at.completions (record { cid = cid; status = a.final_status s j; dw0 = j.dw0; sq_head = head } ∷ []) h
+      all_append (CompletionTold (done ++ made_of s e reply ∷ []) q) at.completions (record { cid = cid; status = a.final_status s j; dw0 = j.dw0; sq_head = head } ∷ []) h
       (record { before = done; completion = made_of s e reply; between = []; parts = refl; given = completes_at s e reply q cid j ok e' job; since = refl }, tt);
 }
 
-answers_on : (done : List Made) (s : State) (e : Event) (reply : Reply) → Accepts s e reply → Stood s → (q : ℕ) → AnswersTold done q s.controller.queues → AnswersTold (done ++ made_of s e reply ∷ []) q (a.after s e reply).controller.queues
-answers_on done s e reply ok stood q h =
-    queues_event (λ at. at.completions) (AnswerTold (done ++ made_of s e reply ∷ []) q) q s e reply (answers_turn done s e reply ok q) ok stood
-    (answers_longer done s (made_of s e reply) q (λ an within. answer_not_submitted s e reply ok stood q an within) h)
+completions_on : (done : List Made) (s : State) (e : Event) (reply : Reply) → Accepts s e reply → Stood s → (q : ℕ) → CompletionsTold done q s.controller.queues → CompletionsTold (done ++ made_of s e reply ∷ []) q (a.after s e reply).controller.queues
+completions_on done s e reply ok stood q h =
+    queues_event (λ at. at.completions) (CompletionTold (done ++ made_of s e reply ∷ []) q) q s e reply (completions_turn done s e reply ok q) ok stood
+    (completions_longer done s (made_of s e reply) q (λ an within. completion_not_submitted s e reply ok stood q an within) h)
 
 -- the oldest is among them
 pub first_told : (Q : PostedCompletion → Type 0) (qs : List ServedQueue) (q : ℕ) (an : PostedCompletion) → option_and_then (λ (queue : ServedQueue). front_completion queue.completions) (slice_get qs q) ≡ Some an → AllByRecursion Q (list_at (λ at. at.completions) qs q) → Q an
@@ -464,15 +464,15 @@ held_stays done s e reply ok r k held st is =
     (not_submitted s e reply ok r.q r.cid (λ r0 at. subst (λ (x : Record). is_drafted x.phase ≡ false) (k.0.only r.q r.cid r0 at (is_itself r)) (held_not_drafted r.phase held))) (k.1 held st is)
 
 -- a reap holds one with the status that its completion gave
-reaped_told : (done : List Made) (s : State) (e : Event) (reply : Reply) → Accepts s e reply → s.trusted ≡ true → Stood s → ((q : ℕ) → (q == 0) ≡ false → AnswersTold done q s.controller.queues)
+reaped_told : (done : List Made) (s : State) (e : Event) (reply : Reply) → Accepts s e reply → s.trusted ≡ true → Stood s → ((q : ℕ) → (q == 0) ≡ false → CompletionsTold done q s.controller.queues)
     → (q cid : ℕ) (st : Status) (request : Request) (r : Record) → named (reaped s q) ≡ Some cid → status_in (reaped s q) ≡ Some st → record_at s.host q cid ≡ Some r → r.work ≡ Io request → Known s done r
     → CompletedIn (done ++ made_of s e reply ∷ []) r.q r.cid st
 reaped_told done s e reply ok t stood answers q cid st request r n is at w k =
-    let an = reaped_answer s q cid t n in
+    let an = reaped_completion s q cid t n in
     let ids = ids_of s q cid r at in
     let other : (q == 0) ≡ false = ap (λ (x : ℕ). x == 0) (sym ids.0) ∙ subst (λ (x : Work). OwnsFit r.q x (pages_of r)) w k.0.fits in
-    let told = first_told (AnswerTold (done ++ made_of s e reply ∷ []) q) s.controller.queues q an.0 an.1
-    (answers_longer done s (made_of s e reply) q (λ x within. answer_not_submitted s e reply ok stood q x within) (answers q other)) in
+    let told = first_told (CompletionTold (done ++ made_of s e reply ∷ []) q) s.controller.queues q an.0 an.1
+    (completions_longer done s (made_of s e reply) q (λ x within. completion_not_submitted s e reply ok stood q x within) (answers q other)) in
     let status : an.0.status ≡ st = told_entry s q (entry_of q an.0) st (sym (ap (λ (o : Option ComEntry). status_in (option_map_or (reaped_entry s q) o Empty)) an.3) ∙ is) in
     subst (λ (x : ℕ). CompletedIn (done ++ made_of s e reply ∷ []) x r.cid st) (sym ids.0)
     (subst (λ (x : ℕ). CompletedIn (done ++ made_of s e reply ∷ []) q x st) (an.2 ∙ sym ids.1)
@@ -499,7 +499,7 @@ reset_told done s stood r within sub = record { before = done; reset = made_of s
 abbrev KnownIn : State → List Made → Record → Type 0
 KnownIn s done r = In r s.host.records × Known s done r
 
-held_host : (done : List Made) (s : State) (e : Event) (reply : Reply) → Accepts s e reply → IsController e ≡ false → s.trusted ≡ true → Stood s → ((q : ℕ) → (q == 0) ≡ false → AnswersTold done q s.controller.queues)
+held_host : (done : List Made) (s : State) (e : Event) (reply : Reply) → Accepts s e reply → IsController e ≡ false → s.trusted ≡ true → Stood s → ((q : ℕ) → (q == 0) ≡ false → CompletionsTold done q s.controller.queues)
     → GoneTold done s.host.queues s.controller.queues → AllByRecursion (KnownIn s done) s.host.records → AllByRecursion (HeldTold (done ++ made_of s e reply ∷ [])) (a.after s e reply).host.records
 held_host done s e reply ok c trusted stood answers gone h =
     let less : (e : Event) (reply : Reply) → Accepts s e reply → (q cid : ℕ) → AllByRecursion (HeldTold (done ++ made_of s e reply ∷ [])) (without_record q cid s.host.records) =
@@ -564,7 +564,7 @@ held_host done s e reply ok c trusted stood answers gone h =
         lost_by (HeldTold (done ++ made_of s events.Reset events.Accepted ∷ [])) r (λ quiet. held_stays done s events.Reset events.Accepted ok r k.1)
         (λ sub held st same. inr (inr (subst (WasLostByReset (done ++ made_of s events.Reset events.Accepted ∷ []) r.q r.cid) (some_is same) (reset_told done s stood r k.0 sub))))
 
-held_event : (done : List Made) (s : State) (e : Event) (reply : Reply) → Accepts s e reply → s.trusted ≡ true → Stood s → ((q : ℕ) → (q == 0) ≡ false → AnswersTold done q s.controller.queues)
+held_event : (done : List Made) (s : State) (e : Event) (reply : Reply) → Accepts s e reply → s.trusted ≡ true → Stood s → ((q : ℕ) → (q == 0) ≡ false → CompletionsTold done q s.controller.queues)
     → GoneTold done s.host.queues s.controller.queues → AllByRecursion (KnownIn s done) s.host.records → AllByRecursion (HeldTold (done ++ made_of s e reply ∷ [])) (a.after s e reply).host.records
 held_event done s e reply ok trusted stood answers gone h = go (IsController e) refl
   where
@@ -577,7 +577,7 @@ held_event done s e reply ok trusted stood answers gone h = go (IsController e) 
 
 pub record Told (done : List Made) (s : State) : Type 0 where
   pub stood : Stood s
-  pub completions : (q : ℕ) → (q == 0) ≡ false → AnswersTold done q s.controller.queues
+  pub completions : (q : ℕ) → (q == 0) ≡ false → CompletionsTold done q s.controller.queues
   pub held : AllByRecursion (HeldTold done) s.host.records
   pub deletions : AllByRecursion (DeletionFetched done) s.controller.jobs
   pub gone : GoneTold done s.host.queues s.controller.queues
@@ -585,7 +585,7 @@ pub record Told (done : List Made) (s : State) : Type 0 where
 told_on : (done : List Made) (s : State) (e : Event) (reply : Reply) → IsProper e → Accepts s e reply → s.trusted ≡ true → Told done s → Told (done ++ made_of s e reply ∷ []) (a.after s e reply)
 told_on done s e reply proper ok t h = record {
   stood = stood_on s e reply proper ok t h.stood;
-  completions = λ q other. answers_on done s e reply ok h.stood q (h.completions q other);
+  completions = λ q other. completions_on done s e reply ok h.stood q (h.completions q other);
   held = held_event done s e reply ok t h.stood h.completions h.gone (all_in_both (HeldTold done) (Member s) (KnownIn s done) s.host.records (λ r within m k. (within, (m, k))) (members s h.stood) h.held);
   deletions = deletions_on done s e reply ok h.stood h.deletions;
   gone = gone_on done s e reply ok h.stood (stood_on s e reply proper ok t h.stood) h.deletions h.gone;
@@ -594,7 +594,7 @@ told_on done s e reply proper ok t h = record {
 told_refused : (done : List Made) (s : State) (e : Event) (why : Refusal) (touched : List ℕ) → Told done s → Told (done ++ made_of s e (events.Refused why touched) ∷ []) s
 told_refused done s e why touched h = record {
   stood = h.stood;
-  completions = λ q other. answers_longer done s (made_of s e (events.Refused why touched)) q (λ an within. refused_no_submit e why touched q an.cid) (h.completions q other);
+  completions = λ q other. completions_longer done s (made_of s e (events.Refused why touched)) q (λ an within. refused_no_submit e why touched q an.cid) (h.completions q other);
   held = all_in (HeldTold done) (HeldTold (done ++ made_of s e (events.Refused why touched) ∷ [])) s.host.records
       (λ r within k held st is. ended_on done (made_of s e (events.Refused why touched)) r.q r.cid st (refused_no_submit e why touched r.q r.cid) (k held st is)) h.held;
   deletions = all_in (DeletionFetched done) (DeletionFetched (done ++ made_of s e (events.Refused why touched) ∷ [])) s.controller.jobs
@@ -605,14 +605,14 @@ told_refused done s e why touched h = record {
 pub told_carried : Carried Told
 told_carried = record { refused = told_refused; taken = told_on }
 
-nothing_answered : (k q : ℕ) → list_at (λ at. at.completions) (replicate k opened) q ≡ []
-nothing_answered (suc k) (suc q) = nothing_answered k q
-nothing_answered k q = refl
+nothing_completed : (k q : ℕ) → list_at (λ at. at.completions) (replicate k opened) q ≡ []
+nothing_completed (suc k) (suc q) = nothing_completed k q
+nothing_completed k q = refl
 
 pub told_at_opening : (pages queues n s : ℕ) (image : List ℕ) → Opens pages queues n s → Told [] (opening pages queues n s image)
 told_at_opening pages queues n s image opens = record {
   stood = stood_at_opening pages queues n s image opens;
-  completions = λ q other. subst (AllByRecursion (AnswerTold [] q)) (sym (nothing_answered (queues + 1) q)) tt;
+  completions = λ q other. subst (AllByRecursion (CompletionTold [] q)) (sym (nothing_completed (queues + 1) q)) tt;
   held = tt;
   deletions = tt;
   gone = λ q x at ex serves e absent. absurd (true≢false (sym absent ∙ ap (λ (x : ServedQueue). is_absent x.state) (opened_lists (queues + 1) q at e)));

@@ -27,7 +27,7 @@ use Rattle.run_laws.specs.Walked.{compares_by_their_drafts, compare_failures_are
 use Rattle.two_sides.proofs.Along.{Carried, AtOpenings, Before, keeps, made_of, run_along, run_before, unforged_run, trusted_end}
 use Rattle.two_sides.proofs.{ControllerMoves.{fetch_by, walk_by}, JobLaws.not_zero as positive, NeverFull.{stood_on, stood_at_opening}}
 use Rattle.two_sides.proofs.{PoolBytes.{host_image, trusted_or_reset, unforged_step}, Provided.in_found}
-use Rattle.two_sides.proofs.{Served.{Stood, JobList, job_list, good_is}, Standing.controller-answered}
+use Rattle.two_sides.proofs.{Served.{Stood, JobList, job_list, good_is}, Standing.controller-completed}
 use Rattle.two_sides.specs.Histories.{openings_have_histories, steps_make_histories}
 use Rattle.sgl_chain.specs.Spells.{Holds}
 use Rattle.page_memory.{proofs.Bytes.{byte_in, slice_get-set_other, slice_get-set_same}, specs.Pages.{Pages, page_at, byte_at}}
@@ -111,7 +111,7 @@ complete_image drafts s q cid none stood known = elim (option_is (job_at s q cid
   | inl e ↦ rw e refl
   | inr (j, e) ↦
       rw e (let s1 = a.on_controller (λ d. record d { image = a.image_completed j d.image }) (a.without_job q cid s) in
-      ap (λ (d : Controller). d.image) (controller-answered q cid (a.final_status s j) j.dw0 (a.deletion_done j (a.final_status s j) s1))
+      ap (λ (d : Controller). d.image) (controller-completed q cid (a.final_status s j) j.dw0 (a.deletion_done j (a.final_status s j) s1))
       ∙ (grind arith) ∙ completed drafts s q cid j stood known e (has_verdict s q cid j none e))
 ]
 

@@ -189,11 +189,11 @@ queues_complete : {B : Type 0} (get : ServedQueue → List B) (Q : B → Type 0)
     → AllByRecursion Q (list_at get s.controller.queues n) → AllByRecursion Q (list_at get (a.after_complete q cid s).controller.queues n)
 queues_complete get Q n s q cid move h =
     complete_by (λ (t : State). AllByRecursion Q (list_at get t.controller.queues n)) s q cid h
-    (λ j at c. answered (a.on_served_queue (named_queue j.entry) cleared (finished q cid j s)) j at (all_list Q get (named_queue j.entry) cleared s.controller.queues n (λ at z all. move.clears at all) h))
-    (λ j at c. answered (finished q cid j s) j at h)
+    (λ j at c. completed (a.on_served_queue (named_queue j.entry) cleared (finished q cid j s)) j at (all_list Q get (named_queue j.entry) cleared s.controller.queues n (λ at z all. move.clears at all) h))
+    (λ j at c. completed (finished q cid j s) j at h)
   where
-    answered : (t : State) (j : Job) → job_at s q cid ≡ Some j → AllByRecursion Q (list_at get t.controller.queues n) → AllByRecursion Q (list_at get (posts_completion q cid (a.final_status s j) j.dw0 t).controller.queues n)
-    answered t j e h =
+    completed : (t : State) (j : Job) → job_at s q cid ≡ Some j → AllByRecursion Q (list_at get t.controller.queues n) → AllByRecursion Q (list_at get (posts_completion q cid (a.final_status s j) j.dw0 t).controller.queues n)
+    completed t j e h =
         all_list Q get q (λ at. record at { completions = at.completions ++ posted_completion q cid (a.final_status s j) j.dw0 t ∷ [] }) t.controller.queues n
         (λ at z all. move.completes cid j (fetch_slot t q) at (ap (λ (k : ℕ). events.Complete k cid) z) (subst (λ (k : ℕ). job_at s k cid ≡ Some j) z e) all) h
 

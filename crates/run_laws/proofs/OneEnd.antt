@@ -29,7 +29,7 @@ use Rattle.entry_codec.specs.declared.submission.SubEntry.{SubEntry}
 use Rattle.io_commands.specs.{Drafts.DraftContents, Jobs.is_success, Values.FinishedContents}
 use Rattle.page_memory.specs.declared.page.Half.TheVariants.{Submission, Completion}
 use Rattle.run_laws.proofs.Moves.{queues_walk, RecordsMove, records_event}
-use Rattle.run_laws.specs.Ends.{answers_of, front, reaps_answer_the_front, nothing_conflicts, submits_by, submits, ends_by, ends_are_told_once, commands_are_collected_once, submitted_commands_end_once}
+use Rattle.run_laws.specs.Ends.{completions_of, front, reaps_answer_the_front, nothing_conflicts, submits_by, submits, ends_by, ends_are_told_once, commands_are_collected_once, submitted_commands_end_once}
 use Rattle.slot_table.proofs.Rows.{option_is}
 use Rattle.page_memory.proofs.Lists.{found_is, all-found, some_is}
 
@@ -64,9 +64,9 @@ pub falls_posted : (n tail top : ℕ) (ans : List PostedCompletion) (u : ℕ) �
 falls_posted n tail top [] u t room h = omega (arith, h)
 falls_posted n tail top (an ∷ ans) u t room h = grind (arith, falls_posted n tail (distance n an.sq_head tail) ans u, distance_grows)
 
-pub falls_answered : (n tail top : ℕ) (ans : List PostedCompletion) (u : ℕ) (an : PostedCompletion) → an.sq_head < n → distance n an.sq_head tail ≡ u → Falls n tail top ans u → Falls n tail top (ans ++ an ∷ []) u
-falls_answered n tail top [] u an below is h = (below, omega (arith, is, h), omega (arith, is))
-falls_answered n tail top (x ∷ ans) u an below is h = (h.0, h.1, falls_answered n tail (distance n x.sq_head tail) ans u an below is h.2)
+pub falls_completed : (n tail top : ℕ) (ans : List PostedCompletion) (u : ℕ) (an : PostedCompletion) → an.sq_head < n → distance n an.sq_head tail ≡ u → Falls n tail top ans u → Falls n tail top (ans ++ an ∷ []) u
+falls_completed n tail top [] u an below is h = (below, omega (arith, is, h), omega (arith, is))
+falls_completed n tail top (x ∷ ans) u an below is h = (h.0, h.1, falls_completed n tail (distance n x.sq_head tail) ans u an below is h.2)
 
 -- Queues, as one changes
 
@@ -141,7 +141,7 @@ fall_consumed n q hs qs h =
     fewer tail top [] u h = h
     fewer tail top (x ∷ ans) u h = falls_more n tail (distance n x.sq_head tail) top ans u h.1 h.2
 
--- the first answer is taken, and the host knows its head
+-- the first completion is taken, and the host knows its head
 fall_heard : (n q : ℕ) (an : PostedCompletion) (hs : List HostQueue) (qs : List ServedQueue) → option_and_then (λ queue. front_completion queue.completions) (slice_get qs q) ≡ Some an → AllFall n hs qs
     → AllFall n (change q (λ x. record x { ring = knowing an.sq_head x.ring }) (change q (λ x. record x { ring = next_head n x.ring }) hs)) (change q (λ at. record at { completions = drop 1 at.completions }) qs)
 fall_heard n q an hs qs first h =
@@ -161,9 +161,9 @@ fall_off n k hs qs h =
     fall_controller n k (λ at. record at { unfetched = drop 1 at.unfetched; rung = at.rung - 1 }) hs qs
     (λ queue at eh eq falls. falls_less n queue.ring.tail (distance n queue.ring.known_head queue.ring.tail) at.completions (length at.unfetched) (length (drop 1 at.unfetched)) (shorter at.unfetched) falls) h
 
-fall_answered : (q cid : ℕ) (st : Status) (dw0 : ℕ) (s : State) → ((queue : HostQueue) → host_queue s q ≡ Some queue → (queue.ring.known_head < s.entries) × (queue.ring.tail < s.entries)) → Fall s
+fall_completed : (q cid : ℕ) (st : Status) (dw0 : ℕ) (s : State) → ((queue : HostQueue) → host_queue s q ≡ Some queue → (queue.ring.known_head < s.entries) × (queue.ring.tail < s.entries)) → Fall s
     → AllFall s.entries s.host.queues (posts_completion q cid st dw0 s).controller.queues
-fall_answered q cid st dw0 s rings h =
+fall_completed q cid st dw0 s rings h =
     fall_controller s.entries q (λ at. record at { completions = at.completions ++ posted_completion q cid st dw0 s ∷ [] }) s.host.queues s.controller.queues
     (λ queue at eh eq falls.
     let r = rings queue eh in
@@ -173,7 +173,7 @@ fall_answered q cid st dw0 s rings h =
     ap (λ (o : Option HostQueue). option_map_or (λ queue. option_map_or (λ at. moved s.entries queue.ring.tail (s.entries - length at.unfetched)) (served_queue s q) 0) o 0) eh
     ∙ ap (λ (o : Option ServedQueue). option_map_or (λ at. moved s.entries queue.ring.tail (s.entries - length at.unfetched)) o 0) eq in
     let head = head_at s.entries queue.ring.tail (length at.unfetched) r.1 (omega (arith, few, near)) in
-    falls_answered s.entries queue.ring.tail (distance s.entries queue.ring.known_head queue.ring.tail) at.completions (length at.unfetched) (posted_completion q cid st dw0 s)
+    falls_completed s.entries queue.ring.tail (distance s.entries queue.ring.known_head queue.ring.tail) at.completions (length at.unfetched) (posted_completion q cid st dw0 s)
     (subst (λ (k : ℕ). k < s.entries) (sym slot) head.0) (ap (λ (k : ℕ). distance s.entries k queue.ring.tail) slot ∙ head.1) falls) h
 
 fall_fetch : (q : ℕ) (s : State) → Stood s → Fall s → AllFall s.entries s.host.queues (a.after_fetch q s).controller.queues
@@ -208,12 +208,12 @@ fall_complete q cid s g h =
     let rings : (queue : HostQueue) → host_queue s q ≡ Some queue → (queue.ring.known_head < s.entries) × (queue.ring.tail < s.entries) =
     λ queue e. let r = ring_in s g q queue e in (r.known_head, r.tail) in
     complete_by (λ (t : State). AllFall s.entries s.host.queues t.controller.queues) s q cid h
-    (λ j at c. fall_answered q cid (a.final_status s j) j.dw0 (a.on_served_queue (named_queue j.entry) cleared (finished q cid j s)) rings
+    (λ j at c. fall_completed q cid (a.final_status s j) j.dw0 (a.on_served_queue (named_queue j.entry) cleared (finished q cid j s)) rings
     (fall_controller s.entries (named_queue j.entry) cleared s.host.queues s.controller.queues
     (λ queue at eh eq falls. falls_less s.entries queue.ring.tail (distance s.entries queue.ring.known_head queue.ring.tail) at.completions (length at.unfetched) 0 (omega arith) falls) h))
-    (λ j at c. fall_answered q cid (a.final_status s j) j.dw0 (finished q cid j s) rings h)
+    (λ j at c. fall_completed q cid (a.final_status s j) j.dw0 (finished q cid j s) rings h)
 
--- A reset leaves no answer and no entry
+-- A reset leaves no completion and no entry
 
 reset_falls : (qs : List ServedQueue) (q : ℕ) (at : ServedQueue) (n : ℕ) (ring : HostRing) → slice_get (a.reset_served_queues qs) q ≡ Some at → FallsAt n ring at
 reset_falls qs q at n ring e = rw (none_left, (sym (ap (λ (o : Option ServedQueue). option_map_or (λ at. at.unfetched) o []) e) ∙ no_unfetched qs q)) (omega arith)
@@ -272,7 +272,7 @@ fall_host_event s e reply ok c t g h =
     hears : (q cid : ℕ) (st : Status) (e : ComEntry) (r : Record) → IsHeard s q cid st e r → AllFall s.entries (a.heard q e s).host.queues (a.heard q e s).controller.queues
     hears q cid st e r heard =
         let x = completion_heard s q cid st e r t heard in
-        subst (λ (y : ComEntry). AllFall s.entries (a.heard q y s).host.queues (a.heard q y s).controller.queues) (sym x.is) (fall_heard s.entries q x.answer s.host.queues s.controller.queues x.first h)
+        subst (λ (y : ComEntry). AllFall s.entries (a.heard q y s).host.queues (a.heard q y s).controller.queues) (sym x.is) (fall_heard s.entries q x.completion s.host.queues s.controller.queues x.first h)
 
     ended : (q cid : ℕ) (st : Status) (e : ComEntry) (r : Record) (k : ℕ) (f : HostQueue → HostQueue) → IsHeard s q cid st e r → ((x : HostQueue) → (f x).ring ≡ x.ring)
         → AllFall s.entries (change k f (a.heard q e s).host.queues) (a.heard q e s).controller.queues
@@ -336,12 +336,12 @@ near_tail n known head tail k h t le = grind (arith, distance_is n head tail, di
 in_range : (n known head tail : ℕ) → head < n → distance n known head ≤ distance n known tail → is_in_range n known tail head ≡ true
 in_range n known head tail h le = grind (arith, nat_tests)
 
--- the front answer is that of a submitted command
-answered_record : (s : State) → Stood s → (q : ℕ) (at : ServedQueue) (an : PostedCompletion) (rest : List PostedCompletion) → served_queue s q ≡ Some at → at.completions ≡ an ∷ rest
+-- the front completion is that of a submitted command
+completed_record : (s : State) → Stood s → (q : ℕ) (at : ServedQueue) (an : PostedCompletion) (rest : List PostedCompletion) → served_queue s q ≡ Some at → at.completions ≡ an ∷ rest
     → (r : Record) × (record_at s.host q an.cid ≡ Some r) × (is_submitted r.phase ≡ true)
-answered_record s stood q at an rest e is = grind (arith, completions_at, posts_completion, total, eq-eqb, sent_found)
+completed_record s stood q at an rest e is = grind (arith, completions_at, posts_completion, total, eq-eqb, sent_found)
 
-pub front_reaped : (s : State) → Fronted s → s.trusted ≡ true → (q : ℕ) → is_none (host_queue s q) ≡ false → reaped s q ≡ front q (answers_of s q)
+pub front_reaped : (s : State) → Fronted s → s.trusted ≡ true → (q : ℕ) → is_none (host_queue s q) ≡ false → reaped s q ≡ front q (completions_of s q)
 front_reaped s f t q there =
     ap (λ (o : Option ComEntry). option_map_or (reaped_entry s q) o Empty) (seen_trusted s q t) ∙ elim (option_is (served_queue s q)) [
       | inl eq ↦ rw eq refl
@@ -371,7 +371,7 @@ front_reaped s f t q there =
     entry : (at : ServedQueue) (an : PostedCompletion) (rest : List PostedCompletion) → served_queue s q ≡ Some at → at.completions ≡ an ∷ rest
         → reaped_entry s q (entry_of q an) ≡ (if q == 0 then AdminDone an.cid an.status an.dw0 else Done an.cid an.status)
     entry at an rest eq is =
-        let r = answered_record s f.stood q at an rest eq is in
+        let r = completed_record s f.stood q at an rest eq is in
         let fit = all-found (λ r. OwnsFit r.q r.work (pages_of r)) (is_at q an.cid) s.host.records r.0 r.1 f.stood.grounds.stands.0.admins in
         ap (λ (b : Bool). if not b then Rejected WrongQueue else if not (fits_ring s q (entry_of q an)) then Rejected BadHead else option_map_or (λ r. reaped_as q (entry_of q an) r.work) (submitted_at s q an.cid) (Rejected UnknownId)) (eq-eqb q q refl)
         ∙ ap (λ (b : Bool). if not b then Rejected BadHead else option_map_or (λ r. reaped_as q (entry_of q an) r.work) (submitted_at s q an.cid) (Rejected UnknownId)) (fits_there (host_queue s q) refl there at an rest eq is)
@@ -454,7 +454,7 @@ past_carried test l q cid other = record {
   };
 }
 
--- Between two reaps that answer a command, between two collects of it, and between two steps that end it while it is submitted, it was submitted anew.
+-- Between two reaps that end a command, between two collects of it, and between two steps that end it while it is submitted, it was submitted anew.
 
 abbrev refusing : Reply → Bool
 refusing (events.Refused why touched) = true

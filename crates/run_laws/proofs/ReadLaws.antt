@@ -21,7 +21,7 @@ use Rattle.run_laws.proofs.ReadsWalked.{ReadsSo, images_of, images_append, reads
 use Rattle.run_laws.specs.Blocks.{collected_of, is_read, blocks_of_request, partly, reads_give_their_blocks, stopped_reads_give_a_prefix}
 use Rattle.run_laws.specs.Ends.{retires_by, WasCompleted, WasLost, WasLostByReset, CauseOfEnd, Succeeded, Aborted, Stopped, Lost, LostByReset, PastImage, Differed, ends_come_from_completions, retired_queues_were_deleted, collects_tell_how_commands_ended, every_collect_has_its_cause}
 use Rattle.run_laws.specs.Statuses.{aborts, deletes, since_fetch, passes_image, is_compare, fetches}
-use Rattle.two_sides.proofs.{Along.{Before, keeps, run_before}, JobLaws.not_zero as positive, PlacesKept.reaped_answer}
+use Rattle.two_sides.proofs.{Along.{Before, keeps, run_before}, JobLaws.not_zero as positive, PlacesKept.reaped_completion}
 use Rattle.two_sides.proofs.Served.{good_is, Stood}
 use Rattle.page_ledger.specs.Owners.{is_among}
 use Rattle.block_image.specs.Blocks.{blocks_at}
@@ -53,7 +53,7 @@ above q h = grind (arith, nat_tests, h)
 -- Reaping
 
 reap_told : (done : List Made) (s next : State) (q cid : ℕ) (st : Status) → Step s (events.Reap q) (events.Reaps (Done cid st)) next → s.trusted ≡ true → (q == 0) ≡ false → Told done s → CompletedIn done q cid st
-reap_told done s next q cid st step t other h = grind (arith, permitted, reaped_answer, named, first_told, told_entry, status_in)
+reap_told done s next q cid st step t other h = grind (arith, permitted, reaped_completion, named, first_told, told_entry, status_in)
 
 pub runs_end_by_completions : ends_come_from_completions
 runs_end_by_completions image earlier later m end q cid st run io is_event is_reply =

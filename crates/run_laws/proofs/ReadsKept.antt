@@ -71,8 +71,8 @@ ReadingIf at s r request k j = j.q ≡ r.q → j.entry.cid ≡ r.cid → goes_we
 abbrev pub UnreadEntry : Record → ℕ → SubEntry → Type 0
 UnreadEntry r k e = e.cid ≡ r.cid → k ≡ 0
 
-abbrev pub FullAnswer : State → Record → Request → ℕ → PostedCompletion → Type 0
-FullAnswer s r request k an = an.cid ≡ r.cid → is_success an.status ≡ true → Full (read_targets r request) k × InImage s request
+abbrev pub FullCompletion : State → Record → Request → ℕ → PostedCompletion → Type 0
+FullCompletion s r request k an = an.cid ≡ r.cid → is_success an.status ≡ true → Full (read_targets r request) k × InImage s request
 
 pub record ReadSoFar (drafts : List DraftContents) (at : Images) (s : State) (r : Record) (request : Request) : Type 0 where
   pub draft : DraftContents
@@ -87,7 +87,7 @@ pub record ReadSoFar (drafts : List DraftContents) (at : Images) (s : State) (r 
   pub long : 0 < k → length (read_blocks at r request) ≡ length (read_targets r request)
   pub unfetched : is_submitted r.phase ≡ true → AllByRecursion (UnreadEntry r k) (list_at (λ at. at.unfetched) s.controller.queues r.q)
   pub jobs : is_submitted r.phase ≡ true → AllByRecursion (ReadingIf at s r request k) s.controller.jobs
-  pub completions : is_submitted r.phase ≡ true → AllByRecursion (FullAnswer s r request k) (list_at (λ at. at.completions) s.controller.queues r.q)
+  pub completions : is_submitted r.phase ≡ true → AllByRecursion (FullCompletion s r request k) (list_at (λ at. at.completions) s.controller.queues r.q)
   pub full : is_held r.phase ≡ true → (st : Status) → r.status ≡ Some st → is_success st ≡ true → Full (read_targets r request) k × InImage s request
 
 abbrev pub ReadIfIo : List DraftContents → Images → State → Record → Work → Type 0
@@ -377,12 +377,12 @@ quiet_entries s e reply r request x k = record {
         true≢false (sym (and_from (d.q == r.q) (d.cid == r.cid) (eq-eqb d.q r.q z) (eq-eqb d.cid r.cid (sym cid ∙ same))) ∙ no_draft s e reply x.ok r x.member x.stays d is)
 
 quiet_answers : (s : State) (e : Event) (reply : Reply) (r : Record) (request : Request) (x : Quiet s e reply r request) (drafts : List DraftContents) (at : Images) (h : ReadSoFar drafts at s r request) → is_submitted r.phase ≡ true
-    → QueueMove (λ at. at.completions) (FullAnswer (a.after s e reply) r request h.k) r.q s e
+    → QueueMove (λ at. at.completions) (FullCompletion (a.after s e reply) r request h.k) r.q s e
 quiet_answers s e reply r request x drafts at h sub = record {
   posts = λ d entry at is built z all. all;
   sends = λ entry at z all. all;
   rings = λ rung at all. all;
-  reaps = λ at all. all_drop_one (FullAnswer (a.after s e reply) r request h.k) at.completions all;
+  reaps = λ at all. all_drop_one (FullCompletion (a.after s e reply) r request h.k) at.completions all;
   fetches = λ rung at all. all;
   stops = λ at all. all;
   drops = λ at all. tt;
@@ -391,14 +391,14 @@ quiet_answers s e reply r request x drafts at h sub = record {
   clears = λ at all. all;
   empties = (tt, tt);
   completes = λ cid j head at' is found all.
-      all_append (FullAnswer (a.after s e reply) r request h.k) at'.completions (record { cid = cid; status = a.final_status s j; dw0 = j.dw0; sq_head = head } ∷ []) all
-      ((λ same ok. answered cid j is found same ok j.verdict refl), tt);
+      all_append (FullCompletion (a.after s e reply) r request h.k) at'.completions (record { cid = cid; status = a.final_status s j; dw0 = j.dw0; sq_head = head } ∷ []) all
+      ((λ same ok. completed cid j is found same ok j.verdict refl), tt);
 }
   where
-    answered : (cid : ℕ) (j : Job) → e ≡ events.Complete r.q cid → job_at s r.q cid ≡ Some j → cid ≡ r.cid → is_success (a.final_status s j) ≡ true → (o : Option Status) → j.verdict ≡ o → Full (read_targets r request) h.k × InImage (a.after s e reply) request
-    answered cid j is found same ok None v =
+    completed : (cid : ℕ) (j : Job) → e ≡ events.Complete r.q cid → job_at s r.q cid ≡ Some j → cid ≡ r.cid → is_success (a.final_status s j) ≡ true → (o : Option Status) → j.verdict ≡ o → Full (read_targets r request) h.k × InImage (a.after s e reply) request
+    completed cid j is found same ok None v =
         absurd (true≢false (sym (has_verdict s r.q cid j (subst (λ (y : Event). refusal_of s y ≡ None) is x.ok.0) found) ∙ ap is_some v))
-    answered cid j is found same ok (Some v) verdict = elim (cases_Bool (is_success v)) [
+    completed cid j is found same ok (Some v) verdict = elim (cases_Bool (is_success v)) [
       | inl well ↦
           let reading = all-found (ReadingIf at s r request h.k) (is_job r.q cid) s.controller.jobs j found (h.jobs sub) sq sc (ap goes_well verdict ∙ well) in (
             all_came s x.stood at r request x.member x.work x.kind h.k j
@@ -441,8 +441,8 @@ quiet_on s e reply r request x far drafts at h = (
     long = λ some. long some (fetches_by r.q r.cid e reply) refl;
     unfetched = λ sub. queues_event (λ at. at.unfetched) (UnreadEntry r h.k) r.q s e reply (quiet_entries s e reply r request x h.k) x.ok x.stood (h.unfetched sub);
     jobs = λ sub. jobs_event (ReadingIf at s r request h.k) (ReadingIf (fetched_in s e reply at) (a.after s e reply) r request h.k) s e reply (quiet_jobs s e reply r request x drafts at h sub) x.ok x.stood (h.jobs sub);
-    completions = λ sub. queues_event (λ at. at.completions) (FullAnswer (a.after s e reply) r request h.k) r.q s e reply (quiet_answers s e reply r request x drafts at h sub) x.ok x.stood
-        (all_in (FullAnswer s r request h.k) (FullAnswer (a.after s e reply) r request h.k) (list_at (λ at. at.completions) s.controller.queues r.q) (λ an within full same ok. let f = full same ok in (f.0, omega (arith, f.1, x.image))) (h.completions sub));
+    completions = λ sub. queues_event (λ at. at.completions) (FullCompletion (a.after s e reply) r request h.k) r.q s e reply (quiet_answers s e reply r request x drafts at h sub) x.ok x.stood
+        (all_in (FullCompletion s r request h.k) (FullCompletion (a.after s e reply) r request h.k) (list_at (λ at. at.completions) s.controller.queues r.q) (λ an within full same ok. let f = full same ok in (f.0, omega (arith, f.1, x.image))) (h.completions sub));
     full = λ held st status ok. let f = h.full held st status ok in (f.0, omega (arith, f.1, x.image));
   },
   omega arith,

@@ -22,7 +22,7 @@ use Rattle.entry_codec.specs.declared.submission.SubEntry.{SubEntry}
 use Rattle.io_commands.specs.{Asked.Request, Drafts.DraftContents, Jobs.{need_of_entry, direction_of_entry, is_success}, Requests.{parts_of, direction_of}}
 use Rattle.io_commands.specs.{Values.numbers_of, declared.request.Kind.TheVariants.Read}
 use Rattle.two_sides.proofs.{Along.{Carried, Before, keeps, made_of, run_before}, Commands.{nobody, Walking, walking, no_job}}
-use Rattle.two_sides.proofs.{ControllerMoves.{unit_memory, walk_is}, NeverFull.stood_at_opening, PlacesKept.{drafted_not, reaped_answer}, PoolBytes.host_jobs}
+use Rattle.two_sides.proofs.{ControllerMoves.{unit_memory, walk_is}, NeverFull.stood_at_opening, PlacesKept.{drafted_not, reaped_completion}, PoolBytes.host_jobs}
 use Rattle.two_sides.proofs.Provided.{In, in_found, all_in, all_of, all_in_both}
 use Rattle.two_sides.proofs.{Served.{entry_direction, good_is, Stood, course_in, course_whole, requests_same}, Standing.list_at, TiedAll.Grounds}
 use Rattle.two_sides.proofs.Untouched.{owned_once, bytes_elsewhere}
@@ -30,7 +30,7 @@ use Rattle.run_laws.proofs.Carrying.{MoveTo, MovesTo, moves_to, length_with, rea
 use Rattle.run_laws.proofs.{Causes.{goes_well, Traced, traced_carried, event_keeps}, Images.{walk_image, drafts_more}}
 use Rattle.run_laws.proofs.Known.{course_stays, over_units, page_found, unsent, submitted_stand}
 use Rattle.run_laws.proofs.Moves.{JobsMove, jobs_event, walked, walked_bytes, queues_walk, QueueMove, queues_event, RecordsMove, records_event, takes, told_entry}
-use Rattle.run_laws.proofs.ReadsKept.{Images, read_targets, read_blocks, Reading, ReadingIf, UnreadEntry, FullAnswer, ReadSoFar, Member, sized_of, queue_of, fetched_in, Full, InImage, ReadIfIo, ReadRecord, members, job_request, quiet_on}
+use Rattle.run_laws.proofs.ReadsKept.{Images, read_targets, read_blocks, Reading, ReadingIf, UnreadEntry, FullCompletion, ReadSoFar, Member, sized_of, queue_of, fetched_in, Full, InImage, ReadIfIo, ReadRecord, members, job_request, quiet_on}
 use Rattle.slot_table.proofs.Rows.{option_is}
 use Rattle.page_memory.proofs.Lists.{found_is, all-found, some_is}
 
@@ -118,8 +118,8 @@ further s q cid r request j act x o touched ok drafts at h = (
         (subst (λ (c : ℕ). AllByRecursion (λ (e : SubEntry). e.cid ≡ c → came act h.k ≡ 0) (unfetched_at s.controller.queues r.q)) (sym ids.1)
         (subst (λ (n : ℕ). AllByRecursion (λ (e : SubEntry). e.cid ≡ cid → came act h.k ≡ 0) (unfetched_at s.controller.queues n)) (sym ids.0) (no_entry s x.stood q cid j x.found (λ e. came act h.k ≡ 0))));
     jobs = λ sub. jobs_event (ReadingIf at s r request h.k) (ReadingIf at (a.after_walk q cid s) r request (came act h.k)) s (events.Walk q cid) (events.Walked o touched) job_moves ok x.stood (h.jobs sub);
-    completions = λ sub. subst (λ (qs : List ServedQueue). AllByRecursion (FullAnswer (a.after_walk q cid s) r request (came act h.k)) (list_at (λ at. at.completions) qs r.q)) (sym (queues_walk s q cid))
-        (all_in (FullAnswer s r request h.k) (FullAnswer (a.after_walk q cid s) r request (came act h.k)) (list_at (λ at. at.completions) s.controller.queues r.q)
+    completions = λ sub. subst (λ (qs : List ServedQueue). AllByRecursion (FullCompletion (a.after_walk q cid s) r request (came act h.k)) (list_at (λ at. at.completions) qs r.q)) (sym (queues_walk s q cid))
+        (all_in (FullCompletion s r request h.k) (FullCompletion (a.after_walk q cid s) r request (came act h.k)) (list_at (λ at. at.completions) s.controller.queues r.q)
         (λ an within full same ok. let f = full same ok in (λ i p target. omega (arith, f.0 i p target, more), omega (arith, f.1, image))) (h.completions sub));
     full = λ held. absurd (true≢false (sym held ∙ (grind arith)));
   },
@@ -296,9 +296,9 @@ pub first_all : (P : PostedCompletion → Type 0) (o : Option ServedQueue) (an :
 first_all P None an e all = absurd cc
 first_all P (Some queue) an e all = grind arith
 
-answered_full : (s : State) (q cid : ℕ) (st : Status) (r : Record) (request : Request) (k : ℕ) → s.trusted ≡ true → named (reaped s q) ≡ Some cid → status_in (reaped s q) ≡ Some st → (r.q ≡ q) × (r.cid ≡ cid) → is_success st ≡ true
-    → AllByRecursion (FullAnswer s r request k) (list_at (λ at. at.completions) s.controller.queues r.q) → Full (read_targets r request) k × InImage s request
-answered_full s q cid st r request k trusted n x ids ok all = grind (arith, reaped_answer, told_entry, status_in, first_all, list_at)
+completed_full : (s : State) (q cid : ℕ) (st : Status) (r : Record) (request : Request) (k : ℕ) → s.trusted ≡ true → named (reaped s q) ≡ Some cid → status_in (reaped s q) ≡ Some st → (r.q ≡ q) × (r.cid ≡ cid) → is_success st ≡ true
+    → AllByRecursion (FullCompletion s r request k) (list_at (λ at. at.completions) s.controller.queues r.q) → Full (read_targets r request) k × InImage s request
+completed_full s q cid st r request k trusted n x ids ok all = grind (arith, reaped_completion, told_entry, status_in, first_all, list_at)
 
 -- a command that is submitted has read nothing
 submitted_reads : (s : State) (d : DraftContents) (reply : Reply) → Taken s (events.Submit d) reply → (drafts : List DraftContents) (at : Images) (entry : SubEntry) (r : Record) (request : Request) → d.entry ≡ Some entry → record_at s.host d.q d.cid ≡ Some r
@@ -323,7 +323,7 @@ submitted_reads s d events.Accepted x drafts at entry r request built found fits
       jobs = λ sub. subst (AllByRecursion (ReadingIf at (a.after_submit d s) (a.submitted r) request 0)) (sym (host_jobs s (events.Submit d) events.Accepted x.ok refl refl))
           (subst (λ (q : ℕ). AllByRecursion (λ (j : Job). j.q ≡ q → j.entry.cid ≡ r.cid → goes j) s.controller.jobs) (sym ids.0) (subst (λ (c : ℕ). AllByRecursion (λ (j : Job). j.q ≡ d.q → j.entry.cid ≡ c → goes j) s.controller.jobs) (sym ids.1)
           (no_job d.q d.cid goes s.controller.jobs (omega (arith, x.stood.places d.q (λ n. one (n == d.cid)), none)))));
-      completions = λ sub. queues_event (λ at. at.completions) (FullAnswer (a.after_submit d s) (a.submitted r) request 0) r.q s (events.Submit d) events.Accepted answers_move x.ok x.stood
+      completions = λ sub. queues_event (λ at. at.completions) (FullCompletion (a.after_submit d s) (a.submitted r) request 0) r.q s (events.Submit d) events.Accepted completions_move x.ok x.stood
           (subst (λ (q : ℕ). AllByRecursion (λ (an : PostedCompletion). an.cid ≡ r.cid → full an) (completions_at s.controller.queues q)) (sym ids.0) (subst (λ (c : ℕ). AllByRecursion (λ (an : PostedCompletion). an.cid ≡ c → full an) (completions_at s.controller.queues d.q)) (sym ids.1)
           (nobody (λ (an : PostedCompletion). an.cid) d.cid full (completions_at s.controller.queues d.q) (omega (arith, x.stood.places d.q (λ n. one (n == d.cid)), none)))));
       full = λ held. absurd (true≢false (sym held));
@@ -339,8 +339,8 @@ submitted_reads s d events.Accepted x drafts at entry r request built found fits
     stand = subst (λ (o : Option SubEntry). AllByRecursion (Stands (option_map_or (λ entry. a.posted d.q entry (a.on_records (with_record d.q d.cid a.submitted) (a.on_memory (with_pages (d.data_pages ++ d.chain_pages)) s))) o s).memory) d.data_pages) (sym built)
         (submitted_stand s d entry x.ok.0 x.proper.data_pages x.stood.grounds)
 
-    answers_move : QueueMove (λ at. at.completions) (FullAnswer (a.after_submit d s) (a.submitted r) request 0) r.q s (events.Submit d)
-    answers_move = record {
+    completions_move : QueueMove (λ at. at.completions) (FullCompletion (a.after_submit d s) (a.submitted r) request 0) r.q s (events.Submit d)
+    completions_move = record {
       posts = λ d entry at is built z all. all;
       sends = λ entry at z all. all;
       rings = λ rung at all. all;
@@ -355,7 +355,7 @@ submitted_reads s d events.Accepted x drafts at entry r request built found fits
       completes = λ cid j head at is found all. absurd (cc (is));
     }
       where
-        dropped : (xs : List PostedCompletion) → AllByRecursion (FullAnswer (a.after_submit d s) (a.submitted r) request 0) xs → AllByRecursion (FullAnswer (a.after_submit d s) (a.submitted r) request 0) (drop 1 xs)
+        dropped : (xs : List PostedCompletion) → AllByRecursion (FullCompletion (a.after_submit d s) (a.submitted r) request 0) xs → AllByRecursion (FullCompletion (a.after_submit d s) (a.submitted r) request 0) (drop 1 xs)
         dropped [] h = tt
         dropped (y ∷ xs) h = h.1
 submitted_reads s d reply x drafts at entry r request built found fits w = absurd x.ok.1
@@ -421,7 +421,7 @@ reads_move drafts at s e reply x = record {
         let sub = reaped_sub q cid r n found in
         let y = kept s e reply x r request (in_found (is_at q cid) s.host.records r found) m (rw sub refl) (subst (λ (z : Event). takes z r ≡ false) (sym is) refl) w kind drafts at h in
         hold st r request y.0
-        (λ ok. let f = answered_full s q cid st r request h.k x.trusted n status (ids_of s q cid r found) ok (h.completions sub) in (λ i p target. omega (arith, f.0 i p target, y.1), omega (arith, f.1, x.image)))
+        (λ ok. let f = completed_full s q cid st r request h.k x.trusted n status (ids_of s q cid r found) ok (h.completions sub) in (λ i p target. omega (arith, f.0 i p target, y.1), omega (arith, f.1, x.image)))
 
     lose : (r : Record) → In r s.host.records → is_submitted r.phase ≡ true → takes e r ≡ false → Member s r → (w : Work) → r.work ≡ w → ReadIfIo drafts at s r w
         → ReadIfIo (submitted_by e reply ++ drafts) (fetched_in s e reply at) (a.after s e reply) (record r { phase = Held; status = Some ABORTED_SQ_DELETION }) w

@@ -18,7 +18,7 @@ use Rattle.run_laws.specs.Verdicts.{FoundDifference, first_verdicts_count, jobs_
 use Rattle.run_laws.specs.WorkedVerdicts.{one_aborted, deleted_under, deleted_under_said}
 use Rattle.two_sides.proofs.Along.{Unforged, unforged_front, unforged_back, unforged_run, Carried, keeps, made_of, cut, along_proper, before_step, stays_trusted, trusted_end, trusted_step_by}
 use Rattle.two_sides.proofs.{JobLaws.stood_after, NeverFull.{one_job, stood_on, stood_at_opening, some_none, host_jobs}}
-use Rattle.two_sides.proofs.{Provided.{all_in, only_found}, Served.Stood, Standing.controller-answered}
+use Rattle.two_sides.proofs.{Provided.{all_in, only_found}, Served.Stood, Standing.controller-completed}
 use Rattle.admin_commands.specs.{Entries.{named_queue, named_command}, declared.SqState.TheVariants.Absent}
 use Rattle.controller_walk.specs.Units.{Act, Moves, moving, from_place}
 use Rattle.sgl_descriptor.specs.{Spelling.descriptor_of, declared.Direction.{Direction, TheVariants.{Destination, Source}}}
@@ -145,12 +145,12 @@ there_fetch q cid k s h = go (next_rung s k)
           makes_submission = λ is1 q0 gone there. one_more s.controller.jobs _ h;
         })
 
-    inner : (e : SubEntry) (b z : Bool) → There q cid (if b then a.answered k e.cid COMMAND_ID_CONFLICT 0 (a.taken_off k s) else if z then a.managed e (a.taken_off 0 s) else a.begun k e (a.taken_off k s)).controller.jobs
-    inner e true z = subst (λ (d : Controller). There q cid d.jobs) (sym (controller-answered k e.cid COMMAND_ID_CONFLICT 0 (a.taken_off k s))) h
+    inner : (e : SubEntry) (b z : Bool) → There q cid (if b then a.with_posted_completion k e.cid COMMAND_ID_CONFLICT 0 (a.taken_off k s) else if z then a.managed e (a.taken_off 0 s) else a.begun k e (a.taken_off k s)).controller.jobs
+    inner e true z = subst (λ (d : Controller). There q cid d.jobs) (sym (controller-completed k e.cid COMMAND_ID_CONFLICT 0 (a.taken_off k s))) h
     inner e false true = managed e
     inner e false false = one_more s.controller.jobs _ h
 
-    go : (o : Option SubEntry) → There q cid (option_map_or (λ e. if conflicts s k then a.answered k e.cid COMMAND_ID_CONFLICT 0 (a.taken_off k s) else if k == 0 then a.managed e (a.taken_off 0 s) else a.begun k e (a.taken_off k s)) o s).controller.jobs
+    go : (o : Option SubEntry) → There q cid (option_map_or (λ e. if conflicts s k then a.with_posted_completion k e.cid COMMAND_ID_CONFLICT 0 (a.taken_off k s) else if k == 0 then a.managed e (a.taken_off 0 s) else a.begun k e (a.taken_off k s)) o s).controller.jobs
     go None = h
     go (Some e) = inner e (conflicts s k) (k == 0)
 
@@ -188,12 +188,12 @@ there_complete q cid k c s far h = go (job_at s k c)
     deleted j true t h = h
     deleted j false t h = h
 
-    go : (o : Option Job) → There q cid (option_map_or (λ j. let st = a.final_status s j in a.answered k c st j.dw0 (a.deletion_done j st (a.on_controller (λ d. record d { image = a.image_completed j d.image }) (a.without_job k c s)))) o s).controller.jobs
+    go : (o : Option Job) → There q cid (option_map_or (λ j. let st = a.final_status s j in a.with_posted_completion k c st j.dw0 (a.deletion_done j st (a.on_controller (λ d. record d { image = a.image_completed j d.image }) (a.without_job k c s)))) o s).controller.jobs
     go None = h
     go (Some j) =
         let st = a.final_status s j in
         let t = a.on_controller (λ d. record d { image = a.image_completed j d.image }) (a.without_job k c s) in
-        subst (λ (d : Controller). There q cid d.jobs) (sym (controller-answered k c st j.dw0 (a.deletion_done j st t))) (deleted j ((j.q == 0) && (j.entry.opcode == DELETE_IO_SQ) && is_success st) t fewer)
+        subst (λ (d : Controller). There q cid d.jobs) (sym (controller-completed k c st j.dw0 (a.deletion_done j st t))) (deleted j ((j.q == 0) && (j.entry.opcode == DELETE_IO_SQ) && is_success st) t fewer)
 
 -- Every event
 

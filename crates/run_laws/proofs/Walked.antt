@@ -15,7 +15,7 @@ use Rattle.run_laws.specs.Statuses.{fetches, fetches_by, since_fetch}
 use Rattle.run_laws.specs.Walked.{walks_by, walks_of, times_walked, units_done_count_the_walks, HasJobSo, walks_go_on_without_a_verdict, completes_by, ends_job, ends_walk_by, only_the_last_walk_ends}
 use Rattle.two_sides.proofs.Along.{Carried, keeps, made_of, run_along, Unforged, unforged_next, unforged_front, unforged_back, unforged_run, unforged_end, trusted_end, cut}
 use Rattle.two_sides.proofs.{Commands.walking, JobLaws.{not_zero as positive, stood_after}, NeverFull.{stood_on, stood_at_opening, host_jobs}}
-use Rattle.two_sides.proofs.{PlacesKept.in_hand, Provided.all_in, Served.Stood, Standing.controller-answered}
+use Rattle.two_sides.proofs.{PlacesKept.in_hand, Provided.all_in, Served.Stood, Standing.controller-completed}
 use Rattle.admin_commands.specs.{Entries.{named_queue, named_command}, declared.SqState.TheVariants.Absent}
 use Rattle.controller_walk.specs.{Units.{Act, Stays, Reads, Moves}, Walks.is_more, declared.walk.WalkState.WalkState}
 use Rattle.sgl_descriptor.specs.declared.Direction.{Direction, TheVariants.{Destination, Source}}
@@ -203,14 +203,14 @@ fetch_decided s n stood q cid h = go (next_rung s n) refl
         })
 
     inner : (e : SubEntry) → next_rung s n ≡ Some e → (b z : Bool) → conflicts s n ≡ b
-        → DecidedIn q cid (if b then a.answered n e.cid COMMAND_ID_CONFLICT 0 (a.taken_off n s) else if z then a.managed e (a.taken_off 0 s) else a.begun n e (a.taken_off n s)).controller.jobs
+        → DecidedIn q cid (if b then a.with_posted_completion n e.cid COMMAND_ID_CONFLICT 0 (a.taken_off n s) else if z then a.managed e (a.taken_off 0 s) else a.begun n e (a.taken_off n s)).controller.jobs
     inner e r true z con =
         absurd (true≢false (sym con ∙ ap (λ (o : Option SubEntry). option_map_or (λ e. is_some (job_at s n e.cid)) o false) r ∙ not_conflicting s stood n e (in_hand s n e r)))
     inner e r false true con = managed e
     inner e r false false con = one_more s.controller.jobs _ h
 
     go : (o : Option SubEntry) → next_rung s n ≡ o
-        → DecidedIn q cid (option_map_or (λ e. if conflicts s n then a.answered n e.cid COMMAND_ID_CONFLICT 0 (a.taken_off n s) else if n == 0 then a.managed e (a.taken_off 0 s) else a.begun n e (a.taken_off n s)) o s).controller.jobs
+        → DecidedIn q cid (option_map_or (λ e. if conflicts s n then a.with_posted_completion n e.cid COMMAND_ID_CONFLICT 0 (a.taken_off n s) else if n == 0 then a.managed e (a.taken_off 0 s) else a.begun n e (a.taken_off n s)) o s).controller.jobs
     go None r = h
     go (Some e) r = inner e r (conflicts s n) (n == 0) refl
 
@@ -251,7 +251,7 @@ complete_decided s k c q cid far h =
       | inl e ↦ rw e (h)
       | inr (j, e) ↦
           rw e (let s1 = a.on_controller (λ d. record d { image = a.image_completed j d.image }) (a.without_job k c s) in
-          subst (λ (d : Controller). DecidedIn q cid d.jobs) (sym (controller-answered k c (a.final_status s j) j.dw0 (a.deletion_done j (a.final_status s j) s1)))
+          subst (λ (d : Controller). DecidedIn q cid d.jobs) (sym (controller-completed k c (a.final_status s j) j.dw0 (a.deletion_done j (a.final_status s j) s1)))
           (deleted s1 j ((j.q == 0) && (j.entry.opcode == DELETE_IO_SQ) && is_success (a.final_status s j)) (h.0, found_kept q cid (λ x. not (is_job k c x)) kept s.controller.jobs h.0 h.1, h.2)))
     ]
   where

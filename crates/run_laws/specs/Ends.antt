@@ -9,9 +9,9 @@ use Rattle.machine_model.specs.{Step.Step, Trusted.{TrustedRun, is_reset}, decla
 use Rattle.run_laws.specs.Statuses.{status_given, has_cause, since_fetch, aborts, deletes, passes_image, is_compare}
 use Rattle.machine_model.specs.Events as events
 
--- What a reap answers: the oldest answer of the queue, and never a rejection
-abbrev pub answers_of : State → ℕ → List PostedCompletion
-answers_of s q = option_map_or (λ at. at.completions) (served_queue s q) []
+-- What a reap answers: the oldest completion of the queue, and never a rejection
+abbrev pub completions_of : State → ℕ → List PostedCompletion
+completions_of s q = option_map_or (λ at. at.completions) (served_queue s q) []
 
 abbrev pub front : ℕ → List PostedCompletion → Reaped
 front q [] = Empty
@@ -20,7 +20,7 @@ front q (answer ∷ rest) = if q == 0 then AdminDone answer.cid answer.status an
 abbrev pub reaps_answer_the_front : Type 0
 reaps_answer_the_front =
     (image : List ℕ) (made : List Made) (s new : State) (q : ℕ) (what : Reaped)
-    → TrustedRun image made s → Step s (events.Reap q) (events.Reaps what) new → what ≡ front q (answers_of s q)
+    → TrustedRun image made s → Step s (events.Reap q) (events.Reaps what) new → what ≡ front q (completions_of s q)
 
 -- No entry that is next to be fetched has the identifier of a job of its queue
 abbrev pub nothing_conflicts : Type 0
@@ -126,7 +126,7 @@ every_collect_has_its_cause =
     (image : List ℕ) (earlier later : List Made) (m : Made) (end : State) (q cid : ℕ) (f : FinishedContents) → TrustedRun image (earlier ++ m ∷ later) end
     → m.event ≡ events.Collect q cid → m.reply ≡ events.Collects f → CauseOfEnd earlier q cid f.status
 
--- Each command ends once: between two completions of its identifier it was submitted anew, and so between two reaps that answer it, and
+-- Each command ends once: between two completions of its identifier it was submitted anew, and so between two reaps that end it, and
 -- between two collects
 abbrev pub commands_complete_once : Type 0
 commands_complete_once =
@@ -148,7 +148,7 @@ commands_are_collected_once =
     → first.event ≡ events.Collect q cid → first.reply ≡ events.Collects f → second.event ≡ events.Collect q cid → second.reply ≡ events.Collects f'
     → IsTrue (list_any (submits q cid) between)
 
--- A step ends a submitted command: a reap answers it, its queue is retired, or the controller is reset
+-- A step ends a submitted command: a reap takes its completion, its queue is retired, or the controller is reset
 abbrev pub ends_by : ℕ → ℕ → State → Event → Reply → Bool
 ends_by q cid s (events.Reap k) (events.Reaps (Done c st)) = (k == q) && (c == cid)
 ends_by q cid s (events.Retire k) events.Accepted = (k == q) && record_is (λ r. is_submitted r.phase) s q cid

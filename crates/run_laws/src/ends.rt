@@ -8,7 +8,7 @@ pub fn law_of_reaps()
     ensures { reaps_answer_the_front }
 {}
 
-/// Where nothing was forged, no entry that is fetched has the identifier of a job of its queue, so no command is answered with a conflict
+/// Where nothing was forged, no entry that is fetched has the identifier of a job of its queue, so no command is completed with a conflict
 /// of identifiers.
 pub fn law_of_identifiers()
     ensures { nothing_conflicts }
@@ -39,9 +39,9 @@ pub fn law_of_collects()
     ensures causes { every_collect_has_its_cause }
 {}
 
-/// Where nothing was forged, each command of an I/O queue ends once: between two completions of an identifier, between two reaps that answer
+/// Where nothing was forged, each command of an I/O queue ends once: between two completions of an identifier, between two reaps that end
 /// it, and between two collects of it, it was submitted anew. So it was between two steps that end it, while it is submitted: a reap that
-/// answers it, the retirement of its queue, or a reset.
+/// takes its completion, the retirement of its queue, or a reset.
 pub fn law_of_single_ends()
     ensures completions { commands_complete_once }
     ensures reaps { ends_are_told_once }

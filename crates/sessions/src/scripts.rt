@@ -7,7 +7,7 @@
 mod bench;
 mod book;
 mod fault;
-mod lock;
+mod player;
 mod refused;
 mod report;
 mod standing;
@@ -15,20 +15,22 @@ mod threads;
 mod visit;
 mod way;
 
-use bench::{play_on_bench, refuse_all_on_bench, refuse_each_on_bench};
-use book::{BookEnd, play_through_book, refuse_each_through_book};
-use fault::Fault;
-use lock::play_behind_lock;
+use bench::{BenchPlayer, WithoutMemory};
+use book::BookPlayer;
+use fault::{Fault, Wrong};
+use player::{play_whole, refuse_each};
 use report::{print_line, print_runs};
 pub(crate) use report::{Scores, print_sum};
 use script_cli::transcripts::{Transcript, read_transcript};
+use standing::DeskStanding;
 use std::alloc::AllocGlobal;
 use std::rt::Files;
 use std::sync::Wait;
 use std::thread::Threads;
 use std::{fs, io};
-use threads::refuse_each_in_threads;
-use visit::refuse_each_of_visit;
+use threads::ThreadsPlayer;
+use visit::VisitPlayer;
+use way::Way;
 
 /// Plays the transcript of a file in each way, prints its line and counts it. Where it is not as it says, that is told, and the answer is false.
 pub(crate) fn play_script<R: AllocGlobal + Eprint + Files + Print + Wait>(
@@ -37,69 +39,72 @@ pub(crate) fn play_script<R: AllocGlobal + Eprint + Files + Print + Wait>(
     sum: &mut Scores,
 ) -> io::Result<bool> {
     match play_file(rt, file) {
-        Ok(scores) => {
+        Ok((scores, end)) => {
+            print_line(rt, file, scores, &end)?;
             sum.add(scores);
             Ok(true)
         }
         Err(fault) => {
-            eprint!(rt; "{file}: ")?;
-            fault.print(rt)?;
+            eprintln!(rt; "{file}: {fault}")?;
             Ok(false)
         }
     }
 }
 
-/// Plays the transcript of a file in each way, and prints its line.
-fn play_file<R: AllocGlobal + Files + Print + Wait>(rt: &R, file: &str) -> Result<Scores, Fault> {
-    let alloc = rt.alloc();
+/// Reads the transcript of a file.
+fn read_file<R: AllocGlobal + Files>(rt: &R, file: &str) -> Result<Transcript, Wrong> {
     let Ok(text) = fs::read_to_string(rt, file) else {
-        return Err(Fault::Unreadable);
+        return Err(Wrong::Unreadable);
     };
-    let transcript = read_transcript(alloc, &text)?;
-    let (scores, end) = play_each_way(rt, &transcript)?;
-    match print_line(rt, file, scores, &end) {
-        Ok(()) => Ok(scores),
-        Err(_) => Err(Fault::Output),
-    }
+    Ok(read_transcript(rt.alloc(), &text)?)
 }
 
-/// Plays a transcript on a bench, through a book and behind a lock, and with its growths refused.
-fn play_each_way<R: AllocGlobal + Wait>(
+/// Plays the transcript of a file on a bench, through a book and behind a lock, and with its growths refused. It answers how much was played, and
+/// how the book stood at the end.
+fn play_file<R: AllocGlobal + Files + Wait>(
     rt: &R,
-    transcript: &Transcript,
-) -> Result<(Scores, BookEnd), Fault> {
+    file: &str,
+) -> Result<(Scores, DeskStanding), Fault> {
     let alloc = rt.alloc();
-    let on_bench = play_on_bench(alloc, transcript)?;
-    let through_book = play_through_book(rt, alloc, transcript, &on_bench.standing.holdings)?;
-    play_behind_lock(rt, alloc, transcript, &through_book)?;
+    let transcript = &Fault::at(Way::Unplayed, read_file(rt, file))?;
+    let on_bench = play_whole(alloc, &BenchPlayer::new(transcript, None))?;
+    let through_book = play_whole(alloc, &BookPlayer::new(rt, transcript, false, None))?;
+    if through_book.standing.holdings != on_bench.standing.holdings {
+        let (way, wrong) = (Way::Book(0), Wrong::Standing);
+        return Err(Fault { way, wrong });
+    }
+    let wanted = Some(&through_book);
+    play_whole(alloc, &BookPlayer::new(rt, transcript, true, wanted))?;
     let scores = Scores {
         scripts: 1,
-        on_bench: refuse_each_on_bench(alloc, transcript, &on_bench)?,
-        through_book: refuse_each_through_book(rt, alloc, transcript, &through_book)?,
-        without_memory: refuse_all_on_bench(alloc, transcript, &on_bench)?,
+        on_bench: refuse_each(alloc, &BenchPlayer::new(transcript, Some(&on_bench)))?,
+        through_book: refuse_each(alloc, &BookPlayer::new(rt, transcript, false, wanted))?,
+        without_memory: play_whole(alloc, &WithoutMemory::new(transcript, &on_bench))?,
     };
-    Ok((scores, through_book))
+    Ok((scores, through_book.standing))
 }
 
-/// Refuses each growth of a draft that visits another book, and of two submitters with a poller and a controller in threads.
+/// Refuses each growth of a draft that visits another book, and of two submitters with a poller and a controller in threads, and prints how many
+/// there are.
 pub(crate) fn refuse_growths<R: AllocGlobal + Eprint + Print + Sync + Threads + Wait>(
     rt: &R,
 ) -> io::Result<bool> {
-    match refuse_each_growth(rt) {
-        Ok(()) => Ok(true),
+    match each_growth(rt) {
+        Ok((visit, threads)) => {
+            print_runs(rt, threads, visit)?;
+            Ok(true)
+        }
         Err(fault) => {
-            fault.print(rt)?;
+            eprintln!(rt; "{fault}")?;
             Ok(false)
         }
     }
 }
 
-/// Refuses each growth of a visit and of a run of threads, and prints how many there are.
-fn refuse_each_growth<R: AllocGlobal + Print + Sync + Threads + Wait>(rt: &R) -> Result<(), Fault> {
-    let visit = refuse_each_of_visit(rt, rt.alloc())?;
-    let threads = refuse_each_in_threads(rt, rt.alloc())?;
-    match print_runs(rt, threads, visit) {
-        Ok(()) => Ok(()),
-        Err(_) => Err(Fault::Output),
-    }
+/// How many growths a visit has, and a run of threads. Each was refused.
+fn each_growth<R: AllocGlobal + Sync + Threads + Wait>(rt: &R) -> Result<(u64, u64), Fault> {
+    let alloc = rt.alloc();
+    let visit = refuse_each(alloc, &VisitPlayer { rt })?;
+    let threads = refuse_each(alloc, &ThreadsPlayer { rt })?;
+    Ok((visit, threads))
 }

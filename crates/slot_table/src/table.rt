@@ -114,7 +114,8 @@ impl<R, A: Allocator> SlotTable<R, A> {
     pub fn get(&self, q: u16, cid: u16) -> Option<&R>
         ensures value { option_copied result ≡ value_at self.now.rows q cid }
 
-        // It's the only one there.
+        // It stands in a place that the table has, and is the only one there.
+        ensures place { IfSome result (λ _. IsPlace self.now q cid) }
         ensures distinct { IfSome result (λ _. IsDistinct self.now.rows) }
     {
         let place = self.index(q, cid)?;
@@ -137,15 +138,13 @@ impl<R, A: Allocator> SlotTable<R, A> {
     }
 
     fn record_mut(&mut self, q: u16, cid: u16) -> &mut R
-        requires { IsSome (value_at self.old.rows q cid) }
+        requires place { IsPlace self.old q cid }
+        requires there { IsSome (value_at self.old.rows q cid) }
         ensures* writes_back { sem 𝓛 (lends_record R.row A.row A.Allocator self.entry q cid result) }
         ensures value { value_at self.old.rows q cid ≡ Some result.now }
     {
-        match self.index(q, cid) {
-            Some(place) => content_mut(&mut self.records[place]),
-            // There is such a place: a record stands there.
-            None => unreachable!(),
-        }
+        let place = u32::from(q) * self.places + u32::from(cid);
+        content_mut(&mut self.records[place as usize])
     }
 
     /// The place of the first row, as its queue and its identifier.

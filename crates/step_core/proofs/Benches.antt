@@ -5,47 +5,24 @@ use Rattle.machine_model.specs.declared.words.Refusal.TheVariants as refusal
 use Rattle.host_core.specs.declared.values.CommandValue.TheVariants as value
 use Rattle.step_core.specs.declared.step.Reply.TheVariants as reply
 use Rattle.step_core.specs.declared.step.Step.TheVariants as step
-use Rattle.std.proofs.Common.{◌≡◌, ℕ, Bool, true, false, ◌||◌, Option, Some, None, List, [], ◌∷◌, ◌++◌, length, ◌==◌, ◌&&◌, find, cond, refl, ap, ap₂, sym, ◌∙◌, subst, ◌+◌}
-use Rattle.std.{proofs.lemmas.List.{append-nil, Elements.filter_map-append}, specs.{List.list_any, Option.option_and_then}}
+use Rattle.std.proofs.Common.{◌≡◌, ℕ, Option, Some, List, [], ◌∷◌, ◌++◌, length, ◌==◌, ◌&&◌, refl, ap, ap₂, sym, ◌∙◌, subst, ◌+◌}
+use Rattle.std.{proofs.lemmas.List.{Elements.filter_map-append}, specs.{Option.option_and_then}}
 use Rattle.entry_codec.specs.declared.status.Status.{Status}
 use Rattle.io_commands.specs.{Asked.Request, Drafts.{DraftContents, built}, Values.{FinishedContents, TicketContents, gathered_from}}
 use Rattle.machine_model.specs.{Image.{draft_of, is_draft}, Script.{Table, finished_at, is_ticket, filled_draft, is_finished}, State.State}
 use Rattle.machine_model.specs.declared.words.Refusal.{Refusal}
-use Rattle.slot_table.specs.{Rows.{Row, value_at, with_value, without}, Table.{TableOf, IsPlace, with_row}}
+use Rattle.slot_table.specs.{Rows.{Row, value_at, with_value, without}, Table.{with_row}}
 use Rattle.step_core.specs.{Bench.{Does, Fills, Builds, Gathers, DoesAll}, BenchTables.{FillsDraft, BuildsDraft, BenchContents}, Touching.{StepTouches, last_pages}}
 use Rattle.step_core.specs.{TouchingAll.TouchAll, Values.{Reply, Step}}
-use Rattle.host_core.proofs.KeptRows.{drafts_named, tickets_named, finished_named, named_there, place_free, put_back, put_same, put_next, reserved, row_dropped, renewed, followed, ended, goes_on, found_at, changed_at, changed_other, taken_at, taken_other}
+use Rattle.host_core.proofs.Benches.{Values, tables_same, more_none, found_draft, left_same, left_changed, kept_name, found_ticket, by_name, is_finished_there, found_finished}
+use Rattle.host_core.proofs.KeptRows.{drafts_named, tickets_named, finished_named, named_there, put_same, put_next, reserved, row_dropped, followed, ended, goes_on, taken_at, taken_other}
 use Rattle.host_core.proofs.Outstanding.{collected_named}
-use Rattle.host_core.specs.CommandValues.{without_first, with_first, as_draft, as_ticket, as_finished, picked, table_with, IsBench, IsOut}
+use Rattle.host_core.specs.CommandValues.{without_first, as_draft, as_ticket, as_finished, picked, table_with, IsBench, IsOut}
 use Rattle.host_core.specs.declared.values.CommandValue.{CommandValue}
-use Rattle.page_memory.proofs.Lists.{any_found}
 
 -- What the small calls on kept values do is what a step of a bench does, and the bench stays tied to its world.
 
-abbrev table_of_parts : State → List DraftContents → List (ℕ × ℕ) → List FinishedContents → Table
-table_of_parts world drafts tickets finished = record { world = world; drafts = drafts; tickets = tickets; finished = finished }
-
-tables_same : (world : State) (drafts ds : List DraftContents) (tickets ts : List (ℕ × ℕ)) (finished fs : List FinishedContents) → drafts ≡ ds → tickets ≡ ts → finished ≡ fs
-    → table_of_parts world drafts tickets finished ≡ table_of_parts world ds ts fs
-tables_same world drafts ds tickets ts finished fs d t f =
-    ap (λ (x : List DraftContents). table_of_parts world x tickets finished) d
-    ∙ ap₂ (λ (x : List (ℕ × ℕ)) (y : List FinishedContents). table_of_parts world ds x y) t f
-
-abbrev Values : Type 0 → Type 0
-Values A = TableOf (Option (CommandValue A))
-
 module _ {A : Type 0} where
-  -- What is found under a name
-
-  pub draft_at : (s : State) (values : Values A) (q cid : ℕ) → IsBench s values → draft_of q cid (table_with s values).drafts ≡ option_and_then as_draft (value_at values.rows q cid)
-  draft_at s values q cid b = found_at as_draft is_draft values.rows q cid b.distinct (drafts_named s values b)
-
-  pub ticket_at : (s : State) (values : Values A) (q cid : ℕ) (o : Option (ℕ × ℕ)) → IsBench s values → option_and_then as_ticket (value_at values.rows q cid) ≡ o → list_any (is_ticket q cid) (table_with s values).tickets ≡ elim o [ None ↦ false | Some x ↦ true ]
-  ticket_at s values q cid o b e = any_found (is_ticket q cid) (table_with s values).tickets o (found_at as_ticket is_ticket values.rows q cid b.distinct (tickets_named s values b) ∙ e)
-
-  pub finished_there : (s : State) (values : Values A) (q cid : ℕ) → IsBench s values → finished_at q cid (table_with s values).finished ≡ option_and_then as_finished (value_at values.rows q cid)
-  finished_there s values q cid b = found_at as_finished is_finished values.rows q cid b.distinct (finished_named s values b)
-
   -- A command is reserved
 
   pub reserves : (s : State) (old : Values A) (q cid : ℕ) (request : Request) (d : DraftContents) (b : IsBench s old) (world : State) (answer : Reply) (new : Values A) → machine.Step s (events.Reserve q request) (events.Reserved d) world → cid ≡ d.cid
@@ -58,8 +35,8 @@ module _ {A : Type 0} where
       keeps = ap (table_with world) is
           ∙ tables_same world _ _ _ _ _ _
           (filter_map-append (λ (r : Row (Option (CommandValue A))). as_draft r.value) old.rows (row ∷ []))
-          (filter_map-append (λ (r : Row (Option (CommandValue A))). as_ticket r.value) old.rows (row ∷ []) ∙ append-nil (picked as_ticket old.rows))
-          (filter_map-append (λ (r : Row (Option (CommandValue A))). as_finished r.value) old.rows (row ∷ []) ∙ append-nil (picked as_finished old.rows));
+          (more_none as_ticket old.rows row refl)
+          (more_none as_finished old.rows row refl);
     }),
     subst (IsBench world) (sym is) (reserved s world q request d old made b),
   )
@@ -70,58 +47,35 @@ module _ {A : Type 0} where
       is : new ≡ with_row old q d.cid (Some (value.Draft d))
       is = left ∙ ap (λ (n : ℕ). with_row old q n (Some (value.Draft d))) same
 
-  pub place_of : (s : State) (old : Values A) (q cid : ℕ) (request : Request) (d : DraftContents) (b : IsBench s old) (world : State) → machine.Step s (events.Reserve q request) (events.Reserved d) world → cid ≡ d.cid
-      → IsPlace old q cid × (value_at old.rows q cid ≡ None)
-  place_of s old q cid request d b world made same = subst (λ (n : ℕ). IsPlace old q n × (value_at old.rows q n ≡ None)) (sym same) (place_free s world q request d old made b)
-
   -- A draft is filled or built
 
   module _ (s : State) (old mid : Values A) (q cid : ℕ) (d : DraftContents) (b : IsBench s old) (out : IsOut old q cid (value.Draft d) mid) where
-    found_draft : draft_of q cid (table_with s old).drafts ≡ Some d
-    found_draft = draft_at s old q cid b ∙ ap (option_and_then as_draft) out.there
-
-    left_same : (d' : DraftContents) (new : Values A) → d' ≡ d → new ≡ record mid { rows = with_value mid.rows q cid (Some (value.Draft d')) } → table_with s new ≡ table_with s old
-    left_same d' new same is = ap (table_with s) (put_same old mid q cid (value.Draft d) out (value.Draft d') new (ap value.Draft same) is)
-
-    left_changed : (f : DraftContents → DraftContents) (d' : DraftContents) (new : Values A) → d' ≡ f d → new ≡ record mid { rows = with_value mid.rows q cid (Some (value.Draft d')) }
-        → table_with s new ≡ record (table_with s old) { drafts = with_first (is_draft q cid) f (table_with s old).drafts }
-    left_changed f d' new same is =
-        ap (table_with s) (put_back old mid q cid (value.Draft d) out (value.Draft d') new is)
-        ∙ tables_same s _ _ _ _ _ _
-        (changed_at as_draft is_draft f old.rows q cid (Some (value.Draft d)) (Some (value.Draft d')) d out.there refl (ap Some same) (drafts_named s old b))
-        (changed_other as_ticket old.rows q cid (Some (value.Draft d)) (Some (value.Draft d')) out.there refl refl)
-        (changed_other as_finished old.rows q cid (Some (value.Draft d)) (Some (value.Draft d')) out.there refl refl)
-
     pub fills : (bytes : List ℕ) (answer : Reply) (d' : DraftContents) (new : Values A) → FillsDraft d bytes answer d' → new ≡ record mid { rows = with_value mid.rows q cid (Some (value.Draft d')) }
         → Fills (table_with s old) q cid bytes (draft_of q cid (table_with s old).drafts) answer (table_with s new)
-    fills bytes answer d' new is left = rw found_draft (go answer is)
+    fills bytes answer d' new is left = rw (found_draft s old mid q cid d b out) (go answer is)
       where
         go : (answer : Reply) → FillsDraft d bytes answer d' → Fills (table_with s old) q cid bytes (Some d) answer (table_with s new)
-        go reply.Accepted is = (is.0, left_changed (filled_draft bytes) d' new is.1 left)
-        go (reply.NotFilled why) is = (is.0, left_same d' new is.1 left)
+        go reply.Accepted is = (is.0, left_changed s old mid q cid d b out (filled_draft bytes) d' new is.1 left)
+        go (reply.NotFilled why) is = (is.0, left_same s old mid q cid d b out d' new is.1 left)
         go answer is = absurd is
 
     pub builds : (answer : Reply) (d' : DraftContents) (new : Values A) → BuildsDraft d answer d' → new ≡ record mid { rows = with_value mid.rows q cid (Some (value.Draft d')) }
         → Builds (table_with s old) q cid (draft_of q cid (table_with s old).drafts) answer (table_with s new)
-    builds answer d' new is left = rw found_draft (go answer is)
+    builds answer d' new is left = rw (found_draft s old mid q cid d b out) (go answer is)
       where
         go : (answer : Reply) → BuildsDraft d answer d' → Builds (table_with s old) q cid (Some d) answer (table_with s new)
-        go reply.Accepted is = left_changed built d' new is left
-        go (reply.Refused refusal.Memory []) is = left_same d' new is left
+        go reply.Accepted is = left_changed s old mid q cid d b out built d' new is left
+        go (reply.Refused refusal.Memory []) is = left_same s old mid q cid d b out d' new is left
         go answer is = absurd is
 
-    kept_name : (d' : DraftContents) (new : Values A) → d'.q ≡ d.q → d'.cid ≡ d.cid → new ≡ record mid { rows = with_value mid.rows q cid (Some (value.Draft d')) } → IsBench s new
-    kept_name d' new queue identifier left =
-        subst (IsBench s) (sym (put_back old mid q cid (value.Draft d) out (value.Draft d') new left)) (renewed s old q cid (value.Draft d) (value.Draft d') b out.there queue identifier)
-
     pub fills_kept : (bytes : List ℕ) (answer : Reply) (d' : DraftContents) (new : Values A) → FillsDraft d bytes answer d' → new ≡ record mid { rows = with_value mid.rows q cid (Some (value.Draft d')) } → IsBench s new
-    fills_kept bytes reply.Accepted d' new is left = kept_name d' new (ap (λ (x : DraftContents). x.q) is.1) (ap (λ (x : DraftContents). x.cid) is.1) left
-    fills_kept bytes (reply.NotFilled why) d' new is left = kept_name d' new (ap (λ (x : DraftContents). x.q) is.1) (ap (λ (x : DraftContents). x.cid) is.1) left
+    fills_kept bytes reply.Accepted d' new is left = kept_name s old mid q cid d b out d' new (ap (λ (x : DraftContents). x.q) is.1) (ap (λ (x : DraftContents). x.cid) is.1) left
+    fills_kept bytes (reply.NotFilled why) d' new is left = kept_name s old mid q cid d b out d' new (ap (λ (x : DraftContents). x.q) is.1) (ap (λ (x : DraftContents). x.cid) is.1) left
     fills_kept bytes answer d' new is left = absurd is
 
     pub builds_kept : (answer : Reply) (d' : DraftContents) (new : Values A) → BuildsDraft d answer d' → new ≡ record mid { rows = with_value mid.rows q cid (Some (value.Draft d')) } → IsBench s new
-    builds_kept reply.Accepted d' new is left = kept_name d' new (ap (λ (x : DraftContents). x.q) is) (ap (λ (x : DraftContents). x.cid) is) left
-    builds_kept (reply.Refused refusal.Memory []) d' new is left = kept_name d' new (ap (λ (x : DraftContents). x.q) is) (ap (λ (x : DraftContents). x.cid) is) left
+    builds_kept reply.Accepted d' new is left = kept_name s old mid q cid d b out d' new (ap (λ (x : DraftContents). x.q) is) (ap (λ (x : DraftContents). x.cid) is) left
+    builds_kept (reply.Refused refusal.Memory []) d' new is left = kept_name s old mid q cid d b out d' new (ap (λ (x : DraftContents). x.q) is) (ap (λ (x : DraftContents). x.cid) is) left
     builds_kept answer d' new is left = absurd is
 
     -- It is submitted, or cancelled
@@ -130,7 +84,7 @@ module _ {A : Type 0} where
         → new ≡ with_row (record mid { rows = without mid.rows q cid }) q cid (Some (value.Ticket ticket))
         → Does (table_with s old) (step.Submit q cid) reply.Accepted (table_with world new) × IsBench world new
     submits world ticket new step is left = (
-      rw found_draft (record {
+      rw (found_draft s old mid q cid d b out) (record {
         reply = events.Accepted;
         tells = refl;
         step = step;
@@ -151,7 +105,7 @@ module _ {A : Type 0} where
 
         drafts : picked as_draft (without old.rows q cid ++ row ∷ []) ≡ without_first (is_draft q cid) (picked as_draft old.rows)
         drafts =
-            filter_map-append (λ (r : Row (Option (CommandValue A))). as_draft r.value) (without old.rows q cid) (row ∷ []) ∙ append-nil (picked as_draft (without old.rows q cid))
+            more_none as_draft (without old.rows q cid) row refl
             ∙ taken_at as_draft is_draft old.rows q cid b.distinct (drafts_named s old b)
 
         tickets : picked as_ticket (without old.rows q cid ++ row ∷ []) ≡ picked as_ticket old.rows ++ (q, cid) ∷ []
@@ -161,7 +115,7 @@ module _ {A : Type 0} where
 
         finished : picked as_finished (without old.rows q cid ++ row ∷ []) ≡ picked as_finished old.rows
         finished =
-            filter_map-append (λ (r : Row (Option (CommandValue A))). as_finished r.value) (without old.rows q cid) (row ∷ []) ∙ append-nil (picked as_finished (without old.rows q cid))
+            more_none as_finished (without old.rows q cid) row refl
             ∙ taken_other as_finished old.rows q cid (Some (value.Draft d)) out.there refl
 
     pub submit_refused : (world : State) (x : DraftContents) (why : Refusal) (answer : Reply) (new : Values A) → machine.Step s (events.Submit d) (events.Refused why []) world → x ≡ d → answer ≡ reply.Refused why []
@@ -169,7 +123,7 @@ module _ {A : Type 0} where
         → Does (table_with s old) (step.Submit q cid) answer (table_with world new) × IsBench world new
     submit_refused world x why answer new step back says left =
         let stays = put_same old mid q cid (value.Draft d) out (value.Draft x) new (ap value.Draft back) left in (
-          rw (found_draft, says) (record { reply = events.Refused why []; tells = refl; step = step; keeps = ap (table_with world) stays }),
+          rw (found_draft s old mid q cid d b out, says) (record { reply = events.Refused why []; tells = refl; step = step; keeps = ap (table_with world) stays }),
           subst (IsBench world) (sym stays) (goes_on s (events.Submit d) (events.Refused why []) world old step (λ k n. refl) b),
         )
 
@@ -178,7 +132,7 @@ module _ {A : Type 0} where
     cancels world new step left =
         let name = named_there s old q cid (value.Draft d) b out.there in
         let is = row_dropped old mid q cid (value.Draft d) out new left in (
-          rw found_draft (record { reply = events.Accepted; tells = refl; step = step; keeps = ap (table_with world) is ∙ tables_same world _ _ _ _ _ _ (taken_at as_draft is_draft old.rows q cid b.distinct (drafts_named s old b)) (taken_other as_ticket old.rows q cid (Some (value.Draft d)) out.there refl) (taken_other as_finished old.rows q cid (Some (value.Draft d)) out.there refl) }),
+          rw (found_draft s old mid q cid d b out) (record { reply = events.Accepted; tells = refl; step = step; keeps = ap (table_with world) is ∙ tables_same world _ _ _ _ _ _ (taken_at as_draft is_draft old.rows q cid b.distinct (drafts_named s old b)) (taken_other as_ticket old.rows q cid (Some (value.Draft d)) out.there refl) (taken_other as_finished old.rows q cid (Some (value.Draft d)) out.there refl) }),
           subst (IsBench world) (sym is) (ended s (events.Cancel d) events.Accepted world old q cid step (λ k n. ap₂ (λ (x y : ℕ). (x == k) && (y == n)) name.0 name.1) b),
         )
 
@@ -187,23 +141,13 @@ module _ {A : Type 0} where
         → Does (table_with s old) (step.Cancel q cid) answer (table_with world new) × IsBench world new
     cancel_refused world x why answer new step back says left =
         let stays = put_same old mid q cid (value.Draft d) out (value.Draft x) new (ap value.Draft back) left in (
-          rw (found_draft, says) (record { reply = events.Refused why []; tells = refl; step = step; keeps = ap (table_with world) stays }),
+          rw (found_draft s old mid q cid d b out, says) (record { reply = events.Refused why []; tells = refl; step = step; keeps = ap (table_with world) stays }),
           subst (IsBench world) (sym stays) (goes_on s (events.Cancel d) (events.Refused why []) world old step (λ k n. refl) b),
         )
 
   -- A ticket is collected
 
   module _ (s : State) (old mid : Values A) (q cid : ℕ) (ticket : TicketContents) (b : IsBench s old) (out : IsOut old q cid (value.Ticket ticket) mid) where
-    found_ticket : list_any (is_ticket q cid) (table_with s old).tickets ≡ true
-    found_ticket = ticket_at s old q cid (Some (ticket.q, ticket.cid)) b (ap (option_and_then as_ticket) out.there)
-
-    ticket_name : (ticket.q ≡ q) × (ticket.cid ≡ cid)
-    ticket_name = named_there s old q cid (value.Ticket ticket) b out.there
-
-    by_name : (reply : events.Reply) (world : State) → machine.Step s (events.Collect ticket.q ticket.cid) reply world → machine.Step s (events.Collect q cid) reply world
-    by_name reply world step =
-        subst (λ (k : ℕ). machine.Step s (events.Collect k cid) reply world) ticket_name.0 (subst (λ (n : ℕ). machine.Step s (events.Collect ticket.q n) reply world) ticket_name.1 step)
-
     last_finished : (f : FinishedContents) → picked as_finished (without old.rows q cid ++ record { q = q; cid = cid; value = Some (value.Finished f) } ∷ []) ≡ picked as_finished old.rows ++ f ∷ []
     last_finished f =
         filter_map-append (λ (r : Row (Option (CommandValue A))). as_finished r.value) (without old.rows q cid) (record { q = q; cid = cid; value = Some (value.Finished f) } ∷ [])
@@ -218,10 +162,10 @@ module _ {A : Type 0} where
         → new ≡ with_row (record mid { rows = without mid.rows q cid }) q cid (Some (value.Finished f))
         → Does (table_with s old) (step.Collect q cid) (reply.Collected status) (table_with world new) × IsBench world new
     collects world f status new step ends left = (
-      rw found_ticket (record {
+      rw (found_ticket s old mid q cid ticket b out) (record {
         reply = events.Collects f;
         tells = ap reply.Collected ends;
-        step = by_name (events.Collects f) world step;
+        step = by_name s old mid q cid ticket b out (events.Collects f) world step;
         keeps = ap (table_with world) (put_next old mid q cid (value.Ticket ticket) out (value.Finished f) new left) ∙ tables_same world _ _ _ _ _ _ drafts tickets (last_finished f);
       }),
       subst (IsBench world) (sym (put_next old mid q cid (value.Ticket ticket) out (value.Finished f) new left))
@@ -229,19 +173,19 @@ module _ {A : Type 0} where
     )
       where
         name : (f.q ≡ q) × (f.cid ≡ cid)
-        name = collected_named s world q cid f (by_name (events.Collects f) world step)
+        name = collected_named s world q cid f (by_name s old mid q cid ticket b out (events.Collects f) world step)
 
         row : Row (Option (CommandValue A))
         row = record { q = q; cid = cid; value = Some (value.Finished f) }
 
         drafts : picked as_draft (without old.rows q cid ++ row ∷ []) ≡ picked as_draft old.rows
         drafts =
-            filter_map-append (λ (r : Row (Option (CommandValue A))). as_draft r.value) (without old.rows q cid) (row ∷ []) ∙ append-nil (picked as_draft (without old.rows q cid))
+            more_none as_draft (without old.rows q cid) row refl
             ∙ taken_other as_draft old.rows q cid (Some (value.Ticket ticket)) out.there refl
 
         tickets : picked as_ticket (without old.rows q cid ++ row ∷ []) ≡ without_first (is_ticket q cid) (picked as_ticket old.rows)
         tickets =
-            filter_map-append (λ (r : Row (Option (CommandValue A))). as_ticket r.value) (without old.rows q cid) (row ∷ []) ∙ append-nil (picked as_ticket (without old.rows q cid))
+            more_none as_ticket (without old.rows q cid) row refl
             ∙ taken_at as_ticket is_ticket old.rows q cid b.distinct (tickets_named s old b)
 
     pub collect_refused : (world : State) (x : TicketContents) (why : Refusal) (answer : Reply) (new : Values A) → machine.Step s (events.Collect ticket.q ticket.cid) (events.Refused why []) world → x ≡ ticket → answer ≡ reply.Refused why []
@@ -249,34 +193,28 @@ module _ {A : Type 0} where
         → Does (table_with s old) (step.Collect q cid) answer (table_with world new) × IsBench world new
     collect_refused world x why answer new step back says left =
         let stays = put_same old mid q cid (value.Ticket ticket) out (value.Ticket x) new (ap value.Ticket back) left in (
-          rw (found_ticket, says) (record { reply = events.Refused why []; tells = refl; step = by_name (events.Refused why []) world step; keeps = ap (table_with world) stays }),
+          rw (found_ticket s old mid q cid ticket b out, says) (record { reply = events.Refused why []; tells = refl; step = by_name s old mid q cid ticket b out (events.Refused why []) world step; keeps = ap (table_with world) stays }),
           subst (IsBench world) (sym stays) (goes_on s (events.Collect ticket.q ticket.cid) (events.Refused why []) world old step (λ k n. refl) b),
         )
 
   -- A finished command is gathered
 
   module _ (s : State) (values : Values A) (q cid : ℕ) (f : FinishedContents) (b : IsBench s values) (there : Some f ≡ option_and_then as_finished (value_at values.rows q cid)) where
-    is_finished_there : finished_at q cid (table_with s values).finished ≡ Some f
-    is_finished_there = finished_there s values q cid b ∙ sym there
-
     pub gathers : (bytes : List ℕ) → bytes ≡ gathered_from f → Gathers (table_with s values) (finished_at q cid (table_with s values).finished) (reply.Gathered bytes) (table_with s values)
-    gathers bytes is = rw is_finished_there (is, refl)
+    gathers bytes is = rw (is_finished_there s values q cid f b there) (is, refl)
 
     pub gathers_nothing : (answer : Reply) → answer ≡ reply.Refused refusal.Memory [] → Gathers (table_with s values) (finished_at q cid (table_with s values).finished) answer (table_with s values)
-    gathers_nothing answer is = rw (is_finished_there, is) refl
+    gathers_nothing answer is = rw (is_finished_there s values q cid f b there, is) refl
 
   -- It is released
 
   module _ (s : State) (old mid : Values A) (q cid : ℕ) (f : FinishedContents) (b : IsBench s old) (out : IsOut old q cid (value.Finished f) mid) where
-    found_finished : finished_at q cid (table_with s old).finished ≡ Some f
-    found_finished = finished_there s old q cid b ∙ ap (option_and_then as_finished) out.there
-
     pub releases : (world : State) (new : Values A) → machine.Step s (events.Release f) events.Accepted world → new ≡ record mid { rows = without mid.rows q cid }
         → Does (table_with s old) (step.Release q cid) reply.Accepted (table_with world new) × IsBench world new
     releases world new step left =
         let name = named_there s old q cid (value.Finished f) b out.there in
         let is = row_dropped old mid q cid (value.Finished f) out new left in (
-          rw found_finished (record { reply = events.Accepted; tells = refl; step = step; keeps = ap (table_with world) is ∙ tables_same world _ _ _ _ _ _ (taken_other as_draft old.rows q cid (Some (value.Finished f)) out.there refl) (taken_other as_ticket old.rows q cid (Some (value.Finished f)) out.there refl) (taken_at as_finished is_finished old.rows q cid b.distinct (finished_named s old b)) }),
+          rw (found_finished s old mid q cid f b out) (record { reply = events.Accepted; tells = refl; step = step; keeps = ap (table_with world) is ∙ tables_same world _ _ _ _ _ _ (taken_other as_draft old.rows q cid (Some (value.Finished f)) out.there refl) (taken_other as_ticket old.rows q cid (Some (value.Finished f)) out.there refl) (taken_at as_finished is_finished old.rows q cid b.distinct (finished_named s old b)) }),
           subst (IsBench world) (sym is) (ended s (events.Release f) events.Accepted world old q cid step (λ k n. ap₂ (λ (x y : ℕ). (x == k) && (y == n)) name.0 name.1) b),
         )
 
@@ -285,7 +223,7 @@ module _ {A : Type 0} where
         → Does (table_with s old) (step.Release q cid) answer (table_with world new) × IsBench world new
     release_refused world x why answer new step back says left =
         let stays = put_same old mid q cid (value.Finished f) out (value.Finished x) new (ap value.Finished back) left in (
-          rw (found_finished, says) (record { reply = events.Refused why []; tells = refl; step = step; keeps = ap (table_with world) stays }),
+          rw (found_finished s old mid q cid f b out, says) (record { reply = events.Refused why []; tells = refl; step = step; keeps = ap (table_with world) stays }),
           subst (IsBench world) (sym stays) (goes_on s (events.Release f) (events.Refused why []) world old step (λ k n. refl) b),
         )
 

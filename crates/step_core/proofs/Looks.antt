@@ -6,11 +6,11 @@ use Rattle.std.proofs.Common.{◌≡◌, ℕ, suc, ◌+◌, ◌<◌, ◌≤◌, 
 use Rattle.std.{proofs.lemmas.{Bool.{OnTrue_from, eq-eqb}, Option.{slice_get_cases, none-some, slice_get_past, slice_get_read}}, specs.Bool.OnTrue}
 use Rattle.std.specs.{Option.{option_map, option_map_or}, Prelude.{slice_get, nat_eq, OnOk, OnErr}}
 use Rattle.controller_core.specs.{Contents.Contents, Fetching.fetch_refusal}
-use Rattle.controller_core.specs.Looks.{refusal_by, post_touches, answer_touches, entry_touches, fetch_touches, heads_touch, looked, queue_numbers}
+use Rattle.controller_core.specs.Looks.{refusal_by, post_touches, post_touches_at, entry_touches, fetch_touches, heads_touch, looked, queue_numbers}
 use Rattle.controller_core.specs.declared.{look.ControllerStep.{ControllerStep, TheVariants.{Fetch, Walk, Complete}}, queue.ControllerQueue.ControllerQueue}
 use Rattle.controller_core.specs.declared.refusal.Refusal.{Refusal}
 use Rattle.host_core.specs.{Alone.alone, Looks.completion_waits}
-use Rattle.machine_model.specs.{Agreeing.{has_completions_at, is_absent_at}, Events.Reply, Refusals.{refusal_of, is_reaped, fetch_slot, post_slot}}
+use Rattle.machine_model.specs.{Agreeing.{has_completions_at, is_absent_at}, Events.Reply, Refusals.{refusal_of, is_reaped, fetch_slot}}
 use Rattle.machine_model.specs.{State.{State, HostQueue, ServedQueue, outstanding_on}, Touch.touched_by, declared.words.HostState.HostState}
 use Rattle.page_memory.specs.{Memory.{Memory, counted, page_of, pages_reached, TouchesMore}, Pages.byte_at}
 use Rattle.two_sides.proofs.{CompleteSteps.complete_refused_alike, FetchSteps.refuse_alike}
@@ -373,11 +373,11 @@ mapped_few f (Some x) most few = few x
 post_few : (m : Memory) (controller : ControllerSide) → post_touches m controller ≤ 1
 post_few m controller = either_few _ 1 0 1 (omega arith) (omega arith)
 
-answer_few : (queues : List ControllerQueue) (m : Memory) (q : ℕ) → answer_touches queues m q ≤ 1
+answer_few : (queues : List ControllerQueue) (m : Memory) (q : ℕ) → post_touches_at queues m q ≤ 1
 answer_few queues m q = mapped_few (λ queue. post_touches m queue.controller) (slice_get queues q) 1 (λ queue. post_few m queue.controller)
 
 entry_few : (c : Contents) (m : Memory) (q : ℕ) (e : SubEntry) → entry_touches c m q e ≤ 2
-entry_few c m q e = either_few _ (1 + answer_touches c.queues m q) 1 2 (omega (arith, answer_few c.queues m q)) (omega arith)
+entry_few c m q e = either_few _ (1 + post_touches_at c.queues m q) 1 2 (omega (arith, answer_few c.queues m q)) (omega arith)
 
 head_few : (c : Contents) (m : Memory) (q : ℕ) → fetch_touches c m q ≤ 2
 head_few c m q = either_few _ 0 _ 2 (omega arith) (mapped_few (entry_touches c m q) _ 2 (λ e. entry_few c m q e))

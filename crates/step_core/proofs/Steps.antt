@@ -4,10 +4,9 @@ use Rattle.host_core.specs.Ringing as ringing
 use Rattle.machine_model.specs.Events as events
 use Rattle.machine_model.specs.Step as machine
 use Rattle.page_memory.specs.Pages as store
-use Rattle.machine_model.specs.declared.words.Refusal.TheVariants as refusal
 use Rattle.controller_core.specs.Opening as controller
-use Rattle.std.proofs.Common.{◌≡◌, ℕ, Bool, true, false, Option, Some, List, [], Result, Ok, Err, OnErr, IfOk, length, refl, ap, sym, ◌∙◌, subst, rules, ◌≢◌, ◌+◌, ◌*◌, ◌<◌, ◌≤◌, ◌||◌, MatchBool, None, ◌∷◌, ap₂, arith, ◌⊎◌, inl, inr, get_or, zero, suc, ◌++◌}
-use Rattle.std.{proofs.lemmas.{Bool.{true≢false, OnTrue_at, OnTrue_from, lt-leb, le-leb}, Option.slice_get_cases}, specs.Option.{option_map_or, option_map}}
+use Rattle.std.proofs.Common.{◌≡◌, ℕ, Bool, true, false, Option, Some, List, [], Result, Ok, Err, OnErr, IfOk, length, refl, ap, sym, ◌∙◌, subst, rules, ◌≢◌, ◌+◌, ◌*◌, ◌<◌, ◌≤◌, None, ◌∷◌, ap₂, arith, ◌⊎◌, inl, inr, get_or, zero, suc, ◌++◌}
+use Rattle.std.{proofs.lemmas.{Bool.{true≢false, OnTrue_at, OnTrue_from, lt-leb}, Option.slice_get_cases}, specs.Option.{option_map_or, option_map}}
 use Rattle.std.specs.{Prelude.{slice_get, slice_index, option_and_then, if◌then◌else◌}, Result.result_err}
 use Rattle.controller_core.specs.{Completing.{CompletesTo, complete_refusal}, Contents.{Contents, IsController}, Doorbells.{tail_rung, head_rung}}
 use Rattle.controller_core.specs.{Fetching.Fetches, Resetting.reset, Walking.{WalksTo, walk_refusal}, declared.queue.QueuePages.QueuePages}
@@ -16,7 +15,7 @@ use Rattle.host_core.specs.{Alone.{HostView, HostStep, IsOver, alone}, Looks.com
 use Rattle.host_core.specs.{Resetting.{host_reset, pages_reset}, Ringing.tail_of, declared.config.Config.Config}
 use Rattle.machine_model.specs.{Agreeing.SidesAgree, Claims.IsSound, Events.{Event, Reply}, Refusals.{refusal_of, in_state, is_reaped}}
 use Rattle.machine_model.specs.{State.{State, HostQueue}, Step.{Step, forges, Refuses}, declared.words.{Reaped.Reaped, Refusal.Refusal}}
-use Rattle.two_sides.proofs.{Agreed.agreed_stays, Answering.{forged_stepped, slots_are_in}, CompleteSteps.complete_steps, FetchSteps.fetches}
+use Rattle.two_sides.proofs.{Agreed.agreed_stays, CompletionPosts.{forged_stepped, slots_are_in}, CompleteSteps.complete_steps, FetchSteps.fetches}
 use Rattle.two_sides.{proofs.{HostSteps.hosts_stepped, Resets.{reset_stepped, opened_are_worlds}, WalkSteps.walk_steps}, specs.{Hearing.heard, Laws.behind}}
 use Rattle.two_sides.specs.{Opening.halves_from, Serving.{Walks, Completes, fetch_reply, walk_reply, complete_reply}, Sides.{Sides, state_of}}
 use Rattle.two_sides.specs.{Stepping.{StepsTo, LeavesPages, forged, reset_sides}, Ties.{IsWorld, first_completion_page}}

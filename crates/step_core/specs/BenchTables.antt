@@ -1,8 +1,7 @@
 -- A bench's world and kept values, as a table.
-use Rattle.std.specs.{List.AllByRecursion, Prelude.{◌≡◌, ℕ, ◌-◌, None, Some, Option, List, [], length, filter_map, find, Result, Ok, Err}}
-use Rattle.io_commands.specs.{Asked.Request, Drafts.{DraftContents, built}, Values.{FinishedContents, TicketContents}}
-use Rattle.machine_model.specs.{Script.{Table, fill_fault, filled_draft}, State.{State, Record, is_at}, declared.words.Work.TheVariants.Io}
-use Rattle.slot_table.specs.{Rows.{Row, IsDistinct, value_at, with_value}, Table.{TableOf, AreInside}}
+use Rattle.std.specs.{Prelude.{◌≡◌, ℕ, None, Some, List, []}}
+use Rattle.io_commands.specs.{Drafts.{DraftContents, built}}
+use Rattle.machine_model.specs.{Script.{Table, fill_fault, filled_draft}}
 use Rattle.host_core.specs.CommandValues.{table_with}
 use Rattle.step_core.specs.{Values.Reply, declared.bench_tables.BenchTables.BenchTables}
 use Rattle.machine_model.specs.declared.words.Refusal.TheVariants as refusal

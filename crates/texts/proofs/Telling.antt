@@ -1,11 +1,11 @@
 -- A walk tells the descriptors of its list, and ends as that does.
-use Rattle.std.proofs.Common.{arith, ◌≡◌, ◌≤◌, ◌<◌, ◌+◌, ◌∙◌, ℕ, suc, Bool, true, false, not, List, Option, Some, None, refl, sym, ap, subst, length, nat_lt, append_assoc, append-nil, ◌-◌, ◌++◌, zero, [], ◌∷◌, add-zero, if◌then◌else◌, nat_le, min, option_and_then, ◌/◌, codes, take, drop}
-use Rattle.std.{proofs.lemmas.Bool.Decides.nat_tests, specs.{List.AllByRecursion, Option.option_map}}
+use Rattle.std.proofs.Common.{arith, ◌≡◌, ◌≤◌, ◌<◌, ◌+◌, ◌∙◌, ℕ, suc, Bool, true, false, not, List, Option, Some, None, refl, sym, ap, subst, length, nat_lt, append_assoc, append-nil, ◌-◌, ◌++◌, zero, [], ◌∷◌, add-zero, if◌then◌else◌, nat_le, option_and_then, ◌/◌, codes, take, drop}
+use Rattle.std.{proofs.lemmas.Bool.Decides.nat_tests, specs.{Option.option_map}}
 use Rattle.controller_walk.proofs.{Courses.{from_none, from_missing, from_read}, Stands.{stands_at_first, step_does_unit}}
-use Rattle.controller_walk.specs.Faults.{fault_met, fault_of, fault_status, answered_status, counts_of, next_in, next_of}
+use Rattle.controller_walk.specs.Faults.{fault_met, fault_of, fault_status, answered_status, next_in, next_of}
 use Rattle.controller_walk.specs.Laws.{Agree, IsApart, ReadsWithin, StandsAfter, DoesUnitAt, answer_at, after_units}
 use Rattle.controller_walk.specs.Units.{Stays, Reads, Moves, Course, Closes, Does, units, verdict, course_of_list, Act}
-use Rattle.controller_walk.specs.Walks.{course, is_over, is_more, need_of, direction_of, DoesFirst, LeavesRest, IfMore, answer, course_in, counted_of}
+use Rattle.controller_walk.specs.Walks.{course, is_over, is_more, need_of, direction_of, DoesFirst, LeavesRest, IfMore, answer, course_in}
 use Rattle.controller_walk.specs.declared.{cause.{DescriptorAt.DescriptorAt, WalkFault.WalkFault}, cursor.Cursor.Cursor, progress.State.State}
 use Rattle.controller_walk.specs.declared.{progress.State.TheVariants.{First, Next, Data, Over}, walk.{Walk.Walk, WalkState.WalkState}}
 use Rattle.controller_walk.specs.declared.walk.WalkState.TheVariants.{More, End, Fault}

@@ -1,3 +1,4 @@
+pub mod Checking
 pub mod Found
 pub mod Slots
 pub mod Ending

@@ -85,9 +85,9 @@ keeps_job s q e hand qs' js' j jq je keeps k cid entry h =
 keeps_off : (s : State) (q : ℕ) → Keeps s.controller.queues s.controller.jobs (a.taken_off q s).controller.queues s.controller.jobs
 keeps_off s q = keeps_queue s.controller.queues s.controller.jobs q (λ at. record at { unfetched = drop 1 at.unfetched; rung = at.rung - 1 }) (λ P at all. all_drop_one P at.unfetched all)
 
-keeps_answered : (s t : State) (q : ℕ) (an : PostedCompletion) → Keeps s.controller.queues s.controller.jobs t.controller.queues t.controller.jobs
+keeps_completed : (s t : State) (q : ℕ) (an : PostedCompletion) → Keeps s.controller.queues s.controller.jobs t.controller.queues t.controller.jobs
     → Keeps s.controller.queues s.controller.jobs (change q (λ at. record at { completions = at.completions ++ an ∷ [] }) t.controller.queues) t.controller.jobs
-keeps_answered s t q an keeps =
+keeps_completed s t q an keeps =
     let f : ServedQueue → ServedQueue = λ at. record at { completions = at.completions ++ an ∷ [] } in
     keeps_both s.controller.queues t.controller.queues (change q f t.controller.queues) s.controller.jobs t.controller.jobs t.controller.jobs keeps (keeps_state t.controller.queues t.controller.jobs q f (λ at. refl))
 
@@ -121,7 +121,7 @@ keeps_managed s e hand =
 pub keeps_fetch : (s : State) (q : ℕ) → Keeps s.controller.queues s.controller.jobs (a.after_fetch q s).controller.queues (a.after_fetch q s).controller.jobs
 keeps_fetch s q =
     fetch_by (λ (t : State). Keeps s.controller.queues s.controller.jobs t.controller.queues t.controller.jobs) s q (λ k cid entry h. h)
-    (λ e n c. keeps_answered s (a.taken_off q s) q _ (keeps_off s q))
+    (λ e n c. keeps_completed s (a.taken_off q s) q _ (keeps_off s q))
     (λ e n c z. keeps_managed s e (subst (λ (n : ℕ). InHand s n e) z (in_hand s q e n)))
     (λ e n c other. let t = a.taken_off q s in
     keeps_job s q e (in_hand s q e n) t.controller.queues s.controller.jobs (a.new_job q e (io_fault (a.image_blocks t) e) 0 (bytes_after_check t.controller.image e (io_fault (a.image_blocks t) e))) refl refl (keeps_off s q))
@@ -135,10 +135,10 @@ pub keeps_complete : (s : State) (q cid : ℕ) → Keeps s.controller.queues s.c
 keeps_complete s q cid =
     let less : Keeps s.controller.queues s.controller.jobs s.controller.queues (filter (λ x. not (is_job q cid x)) s.controller.jobs) = keeps_filter s.controller.queues s.controller.jobs (λ x. not (is_job q cid x)) in
     complete_by (λ (t : State). Keeps s.controller.queues s.controller.jobs t.controller.queues t.controller.jobs) s q cid (λ k c entry h. h)
-    (λ j at c. keeps_answered s (a.on_served_queue (named_queue j.entry) cleared (finished q cid j s)) q _
+    (λ j at c. keeps_completed s (a.on_served_queue (named_queue j.entry) cleared (finished q cid j s)) q _
     (keeps_both s.controller.queues s.controller.queues (change (named_queue j.entry) cleared s.controller.queues) s.controller.jobs (finished q cid j s).controller.jobs (finished q cid j s).controller.jobs less
     (keeps_queue s.controller.queues (finished q cid j s).controller.jobs (named_queue j.entry) cleared (λ P at all. tt))))
-    (λ j at c. keeps_answered s (finished q cid j s) q _ less)
+    (λ j at c. keeps_completed s (finished q cid j s) q _ less)
 
 -- Lists that stay while their chain pages stay
 

@@ -1,5 +1,5 @@
 -- Completions are steps of the machine.
-use Rattle.controller_core.{proofs.{Lists.change-change, Rows.end-posted}, specs.Answering.{completion_by, page_posted, post_refusal, with_answer}}
+use Rattle.controller_core.{proofs.{Lists.change-change, Rows.end-posted}, specs.Posting.{completion_by, page_posted, post_refusal, with_posted}}
 use Rattle.controller_core.specs.Completing.{image_of_end, queues_of_end, status_of_end, without_command, without_submission, CompletesTo, command_refusal, complete_refusal, has_success, waits_among}
 use Rattle.controller_core.specs.Contents.{FetchedCommand, FitsWork, Work, is_deletion, Contents, IsController, dw0_of_work, entry_of_work, is_command, verdict_of_work}
 use Rattle.controller_core.specs.declared.{command.Work.TheVariants.{Io, Admin}, queue.ControllerQueue.ControllerQueue}
@@ -10,12 +10,12 @@ use Rattle.entry_codec.specs.{Completion.completion_bytes, declared.{admin_opcod
 use Rattle.entry_codec.specs.declared.status.Status.{Status}
 use Rattle.host_core.proofs.Lists.{change-other}
 use Rattle.machine_model.proofs.{Counting.{one, total}, Steps.{in_store, in_store-with_bytes}, Tokens.is_job}
-use Rattle.machine_model.specs.After.{change, deletion_done, final_status, image_completed, on_controller, without_job, after_complete, answered}
+use Rattle.machine_model.specs.After.{change, deletion_done, final_status, image_completed, on_controller, without_job, after_complete, with_posted_completion}
 use Rattle.machine_model.specs.{Agreeing.on_queue, Memory.{is_in, memory_of}}
 use Rattle.machine_model.specs.Refusals.{completions_full, in_service, is_abort_of, job_at, post_page, refusal_of, slot_offset, waits}
 use Rattle.machine_model.specs.{State.{State, ServedQueue, HostQueue, Job}, Step.Permits}
 use Rattle.two_sides.proofs.{AdminKept.{admin_ended, places_left}, Agreed.agreed_linked}
-use Rattle.two_sides.proofs.Answering.{CanAnswer, answer_is, answer_seen, answer_shares, answer_spares_commands, answer_spares_queues, answer_stands, page_is_in, post_room, slot_is_in, slot_written, with_completion}
+use Rattle.two_sides.proofs.CompletionPosts.{CanPostCompletion, posted_is, posted_seen, posted_shares, posted_spares_commands, posted_spares_queues, posted_stands, page_is_in, post_room, slot_is_in, slot_written, with_completion}
 use Rattle.two_sides.proofs.{Assembling.{ServesOver, serve_refused, served_stepped}, ControllerMoves.cleared}
 use Rattle.two_sides.proofs.{Frames.{queue_stays, stands_still, walks_stay, IsKnown, served_at, known, there_ring, tied_of}, JobLaws.length-completion_bytes}
 use Rattle.two_sides.proofs.Places.{controllers_changed, stands_changed, filter-map, IsFound, any-map, is_found, job-at, job-found, Shows, completions_full_is, post_page_is, shows}
@@ -213,7 +213,7 @@ refused_not true why o e = cc
 refused_not false why o e = (refl, e)
 
 after_complete_is : (s : State) (q cid : ℕ) (j : Job) (st : Status) → job_at s q cid ≡ Some j → final_status s j ≡ st
-    → after_complete q cid s ≡ answered q cid st j.dw0 (deletion_done j st (on_controller (λ d. record d { image = image_completed j d.image }) (without_job q cid s)))
+    → after_complete q cid s ≡ with_posted_completion q cid st j.dw0 (deletion_done j st (on_controller (λ d. record d { image = image_completed j d.image }) (without_job q cid s)))
 after_complete_is s q cid j st ej est = rw (← est, ej) refl
 
 module _ (s : Sides) (q cid : ℕ) (c : Contents) (pages : Pages) (touched : List ℕ) (world : IsWorld s) (leaves : LeavesPages s.pages pages) (free : complete_refusal s.controller (byte_at s.pages) q cid ≡ None) (w : CompletesTo s.controller q cid (byte_at s.pages) [] c (byte_at pages) touched) where
@@ -259,10 +259,10 @@ module _ (s : Sides) (q cid : ℕ) (c : Contents) (pages : Pages) (touched : Lis
     controller = is;
     queues =
         subst (λ (c : Contents). ShareQueues s.host.entries 0 hs c.queues) (sym w.leaves)
-        (belled s.host.entries 0 q with_answer hs (queues_of_end k.work s.controller.queues) (answer_shares s.host.entries) (share_ended s.host.entries k.work hs s.controller.queues world.sides.queues));
+        (belled s.host.entries 0 q with_posted hs (queues_of_end k.work s.controller.queues) (posted_shares s.host.entries) (share_ended s.host.entries k.work hs s.controller.queues world.sides.queues));
     admin =
         subst (λ (c : Contents). SharesAdmin s.host.entries hs c.queues) (sym w.leaves)
-        (places_left s.host.entries q with_answer hs (queues_of_end k.work s.controller.queues) (λ x. (refl, refl)) (admin_ended s.host.entries k.work hs s.controller.queues world.sides.admin));
+        (places_left s.host.entries q with_posted hs (queues_of_end k.work s.controller.queues) (λ x. (refl, refl)) (admin_ended s.host.entries k.work hs s.controller.queues world.sides.admin));
     image = w.as_long;
   }
 
@@ -279,34 +279,34 @@ module _ (s : Sides) (q cid : ℕ) (c : Contents) (pages : Pages) (touched : Lis
     used : has_ring found.host x ≡ true
     used = there_ring found.host x has
 
-    can : CanAnswer s q found.host x e
+    can : CanPostCompletion s q found.host x e
     can = record { known = queue_known; there = queue_there; served = served_there s world t q cid k found.host w.found found.host_here; room = room.0; typed = w.typed; fits = record { sct = end_fits (block_count s.controller.image) k.q k.units_done s.controller.image k.work found.fits.1 } }
 
     -- what changes of the machine's queue
     abbrev grown : ServedQueue → ServedQueue
     grown at = record at { completions = at.completions ++ posted_completion e ∷ [] }
 
-    queues_posted : served_queues_of m hs (change q with_answer s.controller.queues) ≡ change q grown (controller_part s).queues
+    queues_posted : served_queues_of m hs (change q with_posted s.controller.queues) ≡ change q grown (controller_part s).queues
     queues_posted =
-        controllers_changed (byte_at s.pages) m q with_answer grown hs s.controller.queues
-        (λ h y at here. subst (λ (h : HostQueue). served_queue_of m h.ring (with_answer y) ≡ grown (served_queue_of (byte_at s.pages) h.ring y)) (some_is (sym found.host_here ∙ at))
-        (subst (λ (y : ControllerQueue). served_queue_of m found.host.ring (with_answer y) ≡ grown (served_queue_of (byte_at s.pages) found.host.ring y)) (some_is (sym w.here ∙ here))
-        (answer_seen s q found.host x e world found.host_here can)))
-        (λ i h y other at here. queue_stays s posted i h y (known s world t i h y at here) (answer_spares_queues s q i found.host h x e world queue_known used found.host_here at other))
+        controllers_changed (byte_at s.pages) m q with_posted grown hs s.controller.queues
+        (λ h y at here. subst (λ (h : HostQueue). served_queue_of m h.ring (with_posted y) ≡ grown (served_queue_of (byte_at s.pages) h.ring y)) (some_is (sym found.host_here ∙ at))
+        (subst (λ (y : ControllerQueue). served_queue_of m found.host.ring (with_posted y) ≡ grown (served_queue_of (byte_at s.pages) found.host.ring y)) (some_is (sym w.here ∙ here))
+        (posted_seen s q found.host x e world found.host_here can)))
+        (λ i h y other at here. queue_stays s posted i h y (known s world t i h y at here) (posted_spares_queues s q i found.host h x e world queue_known used found.host_here at other))
 
-    stand_posted : AllQueuesStand s.host.entries m 0 hs (change q with_answer s.controller.queues)
+    stand_posted : AllQueuesStand s.host.entries m 0 hs (change q with_posted s.controller.queues)
     stand_posted =
-        stands_changed s.host.entries (byte_at s.pages) m q with_answer hs s.controller.queues
-        (λ h y at here stands. subst (λ (h : HostQueue). QueueStands s.host.entries m q h (with_answer y)) (some_is (sym found.host_here ∙ at))
-        (subst (λ (y : ControllerQueue). QueueStands s.host.entries m q found.host (with_answer y)) (some_is (sym w.here ∙ here)) (answer_stands s q cid st (dw0_of_work k.work) found.host x world can)))
-        (λ i h y other at here stands. stands_still s posted i h y (known s world t i h y at here) (answer_spares_queues s q i found.host h x e world queue_known used found.host_here at other))
+        stands_changed s.host.entries (byte_at s.pages) m q with_posted hs s.controller.queues
+        (λ h y at here stands. subst (λ (h : HostQueue). QueueStands s.host.entries m q h (with_posted y)) (some_is (sym found.host_here ∙ at))
+        (subst (λ (y : ControllerQueue). QueueStands s.host.entries m q found.host (with_posted y)) (some_is (sym w.here ∙ here)) (posted_stands s q cid st (dw0_of_work k.work) found.host x world can)))
+        (λ i h y other at here stands. stands_still s posted i h y (known s world t i h y at here) (posted_spares_queues s q i found.host h x e world queue_known used found.host_here at other))
         (tied_of s world t).queues
 
     queues_completed : served_queues_of m hs c.queues ≡ change q grown (controllers_of_end k.work (controller_part s).queues)
     queues_completed =
         ap (λ (c : Contents). served_queues_of m hs c.queues) w.leaves
         ∙ ap (served_queues_of m hs) (sym (end-posted k.work q s.controller.queues))
-        ∙ controllers_ended m k.work hs (change q with_answer s.controller.queues)
+        ∙ controllers_ended m k.work hs (change q with_posted s.controller.queues)
         ∙ ap (controllers_of_end k.work) queues_posted
         ∙ controllers_end_behind k.work q grown (controller_part s).queues (λ at. refl)
 
@@ -328,8 +328,8 @@ module _ (s : Sides) (q cid : ℕ) (c : Contents) (pages : Pages) (touched : Lis
         ap (λ (pages : Pages). state_of (served s c pages)) pages_are
         ∙ ap (λ (queues : List ServedQueue). with_served (state_of s) posted queues (map job_of c.commands) c.image) queues_completed
         ∙ ap (λ (c : Contents). with_served (state_of s) posted (change q grown (controllers_of_end k.work (controller_part s).queues)) (map job_of c.commands) c.image) w.leaves
-        ∙ answer_is behind_end s q cid st (dw0_of_work k.work) found.host x shown refl can
-        ∙ ap (answered q cid st (dw0_of_work k.work)) (ended s q cid k (block_count s.controller.image) found.fits.1)
+        ∙ posted_is behind_end s q cid st (dw0_of_work k.work) found.host x shown refl can
+        ∙ ap (with_posted_completion q cid st (dw0_of_work k.work)) (ended s q cid k (block_count s.controller.image) found.fits.1)
         ∙ sym (after_complete_is (state_of s) q cid (job_of k) st (job-found s q cid k w.found) (status_seen (state_of s) k (block_count s.controller.image) found.fits.1))
 
     stand_completed : AllQueuesStand s.host.entries (byte_at pages) 0 hs c.queues
@@ -337,14 +337,14 @@ module _ (s : Sides) (q cid : ℕ) (c : Contents) (pages : Pages) (touched : Lis
         subst (λ (pages : Pages). AllQueuesStand s.host.entries (byte_at pages) 0 hs c.queues) (sym pages_are)
         (subst (λ (c : Contents). AllQueuesStand s.host.entries m 0 hs c.queues) (sym w.leaves)
         (subst (AllQueuesStand s.host.entries m 0 hs) (end-posted k.work q s.controller.queues)
-        (stands_ended s.host.entries m k.work hs (change q with_answer s.controller.queues) stand_posted)))
+        (stands_ended s.host.entries m k.work hs (change q with_posted s.controller.queues) stand_posted)))
 
     walks_completed : WalksStand (memory_of pages) c.commands
     walks_completed =
         subst (λ (pages : Pages). WalksStand (memory_of pages) c.commands) (sym pages_are)
         (subst (λ (c : Contents). WalksStand (memory_of posted) c.commands) (sym w.leaves)
         (all-filter (λ (k : FetchedCommand). WalkStands (memory_of posted) k.units_done k.work) (λ (k : FetchedCommand). not (is_command q cid k)) s.controller.commands
-        (walks_stay s posted world t (answer_spares_commands s q found.host x e world queue_known used found.host_here))))
+        (walks_stay s posted world t (posted_spares_commands s q found.host x e world queue_known used found.host_here))))
 
   permits : Permits (state_of s) (events.Complete q cid) (events.Completed touched)
   permits =

@@ -27,22 +27,22 @@ pub use Rattle.machine_model.specs.Agreeing.{is_known_deleted as is_over, QueueF
 
 -- What an event of the controller leaves, case by case: a statement that holds of what each case leaves holds after the event.
 
--- A posted answer: the memory alone hangs on whether the queue is there
+-- A posted completion: the memory alone hangs on whether the queue is there
 
 abbrev pub posted_completion : ℕ → ℕ → Status → ℕ → State → PostedCompletion
 posted_completion q cid st dw0 s = record { cid = cid; status = st; dw0 = dw0; sq_head = fetch_slot s q }
 
-abbrev pub answered_bytes : ℕ → ℕ → Status → ℕ → State → Pages
-answered_bytes q cid st dw0 s =
+abbrev pub completed_bytes : ℕ → ℕ → Status → ℕ → State → Pages
+completed_bytes q cid st dw0 s =
     option_map_or
     (λ queue. with_page_bytes s.memory (slot_page queue.cq_pages 16 (post_slot s q)) (slot_offset 16 (post_slot s q))
     (completion_bytes (record { dw0 = dw0; sqhd = fetch_slot s q; sqid = q; cid = cid; phase = a.post_phase s q queue; status = st }))) (host_queue s q) s.memory
 
 abbrev pub posts_completion : ℕ → ℕ → Status → ℕ → State → State
-posts_completion q cid st dw0 s = a.on_served_queue q (λ at. record at { completions = at.completions ++ posted_completion q cid st dw0 s ∷ [] }) (record s { memory = answered_bytes q cid st dw0 s })
+posts_completion q cid st dw0 s = a.on_served_queue q (λ at. record at { completions = at.completions ++ posted_completion q cid st dw0 s ∷ [] }) (record s { memory = completed_bytes q cid st dw0 s })
 
-pub answers_is : (q cid : ℕ) (st : Status) (dw0 : ℕ) (s : State) → posts_completion q cid st dw0 s ≡ a.answered q cid st dw0 s
-answers_is q cid st dw0 s = grind arith
+pub completes_is : (q cid : ℕ) (st : Status) (dw0 : ℕ) (s : State) → posts_completion q cid st dw0 s ≡ a.with_posted_completion q cid st dw0 s
+completes_is q cid st dw0 s = grind arith
 
 -- Fetching
 
@@ -51,11 +51,11 @@ pub fetch_of : (P : State → Type 0) (s : State) (q : ℕ) (e : SubEntry) → n
     → (conflicts s q ≡ false → q ≡ 0 → P (a.managed e (a.taken_off 0 s)))
     → (conflicts s q ≡ false → (q == 0) ≡ false → P (a.begun q e (a.taken_off q s))) → P (a.after_fetch q s)
 fetch_of P s q e n conflict manages begins =
-    subst (λ (o : Option SubEntry). P (option_map_or (λ e. if conflicts s q then a.answered q e.cid COMMAND_ID_CONFLICT 0 (a.taken_off q s) else if q == 0 then a.managed e (a.taken_off 0 s) else a.begun q e (a.taken_off q s)) o s)) (sym n)
+    subst (λ (o : Option SubEntry). P (option_map_or (λ e. if conflicts s q then a.with_posted_completion q e.cid COMMAND_ID_CONFLICT 0 (a.taken_off q s) else if q == 0 then a.managed e (a.taken_off 0 s) else a.begun q e (a.taken_off q s)) o s)) (sym n)
     (by (conflicts s q) (q == 0) refl refl)
   where
-    by : (b z : Bool) → conflicts s q ≡ b → (q == 0) ≡ z → P (if b then a.answered q e.cid COMMAND_ID_CONFLICT 0 (a.taken_off q s) else if z then a.managed e (a.taken_off 0 s) else a.begun q e (a.taken_off q s))
-    by true z c is = subst P (answers_is q e.cid COMMAND_ID_CONFLICT 0 (a.taken_off q s)) (conflict c)
+    by : (b z : Bool) → conflicts s q ≡ b → (q == 0) ≡ z → P (if b then a.with_posted_completion q e.cid COMMAND_ID_CONFLICT 0 (a.taken_off q s) else if z then a.managed e (a.taken_off 0 s) else a.begun q e (a.taken_off q s))
+    by true z c is = subst P (completes_is q e.cid COMMAND_ID_CONFLICT 0 (a.taken_off q s)) (conflict c)
     by false true c is = manages c (eqb-true q 0 is)
     by false false c is = begins c is
 
@@ -64,7 +64,7 @@ pub fetch_by : (P : State → Type 0) (s : State) (q : ℕ) → P s
     → ((e : SubEntry) → next_rung s q ≡ Some e → conflicts s q ≡ false → q ≡ 0 → P (a.managed e (a.taken_off 0 s)))
     → ((e : SubEntry) → next_rung s q ≡ Some e → conflicts s q ≡ false → (q == 0) ≡ false → P (a.begun q e (a.taken_off q s))) → P (a.after_fetch q s)
 fetch_by P s q idle conflict manages begins = elim (option_is (next_rung s q)) [
-  | inl n ↦ subst (λ (o : Option SubEntry). P (option_map_or (λ e. if conflicts s q then a.answered q e.cid COMMAND_ID_CONFLICT 0 (a.taken_off q s) else if q == 0 then a.managed e (a.taken_off 0 s) else a.begun q e (a.taken_off q s)) o s)) (sym n) idle
+  | inl n ↦ subst (λ (o : Option SubEntry). P (option_map_or (λ e. if conflicts s q then a.with_posted_completion q e.cid COMMAND_ID_CONFLICT 0 (a.taken_off q s) else if q == 0 then a.managed e (a.taken_off 0 s) else a.begun q e (a.taken_off q s)) o s)) (sym n) idle
   | inr (e, n) ↦ fetch_of P s q e n (conflict e n) (manages e n) (begins e n)
 ]
 
@@ -134,9 +134,9 @@ pub complete_by : (P : State → Type 0) (s : State) (q cid : ℕ) → P s
 complete_by P s q cid idle clearing plain = elim (option_is (job_at s q cid)) [ inl at ↦ rw at idle | inr (j, at) ↦ rw at (inner j at (clears s j) refl) ]
   where
     inner : (j : Job) → job_at s q cid ≡ Some j → (b : Bool) → clears s j ≡ b
-        → P (a.answered q cid (a.final_status s j) j.dw0 (if b then a.on_served_queue (named_queue j.entry) (λ at. record at { state = Absent; unfetched = []; rung = 0 }) (finished q cid j s) else finished q cid j s))
-    inner j at true c = subst P (answers_is q cid (a.final_status s j) j.dw0 (a.on_served_queue (named_queue j.entry) cleared (finished q cid j s))) (clearing j at c)
-    inner j at false c = subst P (answers_is q cid (a.final_status s j) j.dw0 (finished q cid j s)) (plain j at c)
+        → P (a.with_posted_completion q cid (a.final_status s j) j.dw0 (if b then a.on_served_queue (named_queue j.entry) (λ at. record at { state = Absent; unfetched = []; rung = 0 }) (finished q cid j s) else finished q cid j s))
+    inner j at true c = subst P (completes_is q cid (a.final_status s j) j.dw0 (a.on_served_queue (named_queue j.entry) cleared (finished q cid j s))) (clearing j at c)
+    inner j at false c = subst P (completes_is q cid (a.final_status s j) j.dw0 (finished q cid j s)) (plain j at c)
 
 -- Every step leaves the host's positions in their rings.
 
@@ -412,9 +412,9 @@ tie_posted n hs ds js k e there served h =
     (λ d ed some o. o) h
 
 -- a completion is posted to a queue that is in service
-pub tie_answered : (n : ℕ) (hs : List HostQueue) (ds : List ServedQueue) (js : List Job) (k : ℕ) (an : PostedCompletion) → out_at hs k ≡ false
+pub tie_completed : (n : ℕ) (hs : List HostQueue) (ds : List ServedQueue) (js : List Job) (k : ℕ) (an : PostedCompletion) → out_at hs k ≡ false
     → Tie n hs ds js → Tie n hs (change k (λ at. record at { completions = at.completions ++ an ∷ [] }) ds) js
-tie_answered n hs ds js k an served h =
+tie_completed n hs ds js k an served h =
     tie_controller n hs ds js k (λ at. record at { completions = at.completions ++ an ∷ [] })
     (λ x d ex ed p. record {
       sub = p.sub;

@@ -10,15 +10,15 @@ use Rattle.machine_model.{proofs.Steps.in_store-with_bytes, specs.{After.after_f
 use Rattle.machine_model.specs.Refusals.{completions_full, conflicts, fetch_page, job_at, next_rung, post_page, refusal_of}
 use Rattle.machine_model.specs.{State.{State, HostQueue, ServedQueue, Job}, Step.{MayRefuse, Permits, Refuses, touched_by_fetch}}
 use Rattle.admin_commands.specs.{Verdicts.{is_absent, is_live, decision}, declared.DeviceView.DeviceView}
-use Rattle.controller_core.specs.Answering.{answer_refusal, completion_by, page_posted, post_refusal, with_answer}
+use Rattle.controller_core.specs.Posting.{post_refusal_at, completion_by, page_posted, post_refusal, with_posted}
 use Rattle.controller_core.specs.Contents.{Contents, FetchedCommand, IsController, change}
-use Rattle.controller_core.specs.Fetching.{LooksAt, fetch_refusal, is_known, live_side, look_refusal, AnswersKnown, IsBegun, RefusedBy, RefusedEntry, Takes, TakesIn, begun, entry_refusal, side_refusal}
+use Rattle.controller_core.specs.Fetching.{LooksAt, fetch_refusal, is_known, live_side, look_refusal, PostsConflict, IsBegun, RefusedBy, RefusedEntry, Takes, TakesIn, begun, entry_refusal, side_refusal}
 use Rattle.controller_core.specs.Managing.{admin_work, command_of, commands_after, managed, verdict_for, view_for, with_taken}
 use Rattle.controller_core.specs.declared.{command.Work.TheVariants.Io, queue.ControllerQueue.ControllerQueue}
 use Rattle.entry_codec.specs.{Completion.completion_bytes, declared.{completion.ComEntry.ComEntry, status.TheConstants.Status.COMMAND_ID_CONFLICT}}
 use Rattle.entry_codec.specs.declared.submission.SubEntry.{SubEntry}
 use Rattle.two_sides.proofs.{AdminKept.{admin_verdict, places_left}, Agreed.stood_of}
-use Rattle.two_sides.proofs.Answering.{byte_in_page, answer_shares, post_room, slot_is_in, slot_written}
+use Rattle.two_sides.proofs.CompletionPosts.{byte_in_page, posted_shares, post_room, slot_is_in, slot_written}
 use Rattle.two_sides.proofs.{Assembling.{ServesOver, serve_refused, served_stepped}, Frames.{host_at, known}, Heads.no_conflict}
 use Rattle.two_sides.proofs.JobLaws.{length-completion_bytes}
 use Rattle.two_sides.proofs.Managing.{Suits, acted, managed_is, taken_view, verdict_shares, verdict_stand, verdict_walks, suited}
@@ -212,7 +212,7 @@ look_permits s q why world e =
     ])
     (λ f. look_is (λ (w : controller.Refusal). MayRefuse (events.Fetch q) (why_of w) []) refl (omega arith) s q why e)
 
--- no room for an answer at once, or no memory for the command
+-- no room for a completion at once, or no memory for the command
 cause_is : (P : controller.Refusal → Type 0) → P because.Full → P because.SlotOut → P because.Memory → (m : Memory) (why : controller.Refusal) (known : Bool) (o : Option ControllerQueue)
     → (if known then (if known then option_map_or (λ queue. post_refusal m queue.controller) o None else None) else Some because.Memory) ≡ Some why → P why
 cause_is P full out memory m why known o e = go known o e
@@ -356,7 +356,7 @@ manages s c e world l is =
 
 answers : (s : Sides) (q : ℕ) (c : ControllerQueue) (e : SubEntry) (new : Contents) (pages : Pages) (looked touched : List ℕ) → IsWorld s → IsLooked s q c e → IsController new → LeavesPages s.pages pages
     → is_known s.controller q e ≡ true → entry_refusal s.controller (byte_at s.pages) q e ≡ None → looked ≡ page_of_head c ∷ []
-    → AnswersKnown s.controller.queues q e.cid (byte_at s.pages) looked new.queues (byte_at pages) touched → new.image ≡ s.controller.image
+    → PostsConflict s.controller.queues q e.cid (byte_at s.pages) looked new.queues (byte_at pages) touched → new.image ≡ s.controller.image
     → StepsTo s (events.Fetch q) (events.Fetched e.cid touched) (served s new pages)
 answers s q c e new pages looked touched world l is leaves knows room one a image =
     let m = byte_at s.pages in
@@ -365,7 +365,7 @@ answers s q c e new pages looked touched world l is leaves knows room one a imag
     let entry : ComEntry = completion_by q e.cid COMMAND_ID_CONFLICT 0 (with_taken a.queue).controller in
     let none : post_refusal m controller ≡ None =
     ap (λ (o : Option ControllerQueue). option_map_or (λ queue. post_refusal m queue.controller) o None) (sym a.here)
-    ∙ ap (λ (b : Bool). if b then answer_refusal s.controller.queues m q else None) (sym knows) ∙ room in
+    ∙ ap (λ (b : Bool). if b then post_refusal_at s.controller.queues m q else None) (sym knows) ∙ room in
     let inside = slot_is_in s.pages controller.cq controller.ring.tail (post_room m controller none).1 in
     let wrote = slot_written s.pages pages controller.cq controller.ring.tail (completion_bytes entry) world.sides.over.pool leaves inside (length-completion_bytes entry) a.memory in
     let serves : ServesOver s new pages =
@@ -374,9 +374,9 @@ answers s q c e new pages looked touched world l is leaves knows room one a imag
       in_store = ap (map is_some) wrote ∙ in_store-with_bytes s.pages _ _ (completion_bytes entry);
       controller = is;
       queues = subst (ShareQueues n zero s.host.host.queues) (sym a.leaves)
-          (belled n zero q (λ queue. with_answer (with_taken queue)) s.host.host.queues s.controller.queues (λ i h x share. answer_shares n i h (with_taken x) (taken_shares n i h x share)) world.sides.queues);
+          (belled n zero q (λ queue. with_posted (with_taken queue)) s.host.host.queues s.controller.queues (λ i h x share. posted_shares n i h (with_taken x) (taken_shares n i h x share)) world.sides.queues);
       admin = subst (SharesAdmin n s.host.host.queues) (sym a.leaves)
-          (places_left n q (λ queue. with_answer (with_taken queue)) s.host.host.queues s.controller.queues (λ x. (refl, refl)) world.sides.admin);
+          (places_left n q (λ queue. with_posted (with_taken queue)) s.host.host.queues s.controller.queues (λ x. (refl, refl)) world.sides.admin);
       image = ap length image;
     } in
     fetch_stepped s q c e new pages touched world l serves

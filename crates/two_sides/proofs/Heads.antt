@@ -10,7 +10,7 @@ use Rattle.machine_model.proofs.Kept.{making_sq_as_heard, ring_at, asked_serves}
 use Rattle.machine_model.proofs.Moves.{posts, sends, sent_record, host_moves, drafted_record, heard_without, half_from, creates_cq, creates_sq, grants_cq, grants_sq, IsHeard, completion_heard}
 use Rattle.machine_model.proofs.{Owned.{all_reset, lost_keeps}, Sound.{still_live, asked_note}, Steps.{Accepts, part_controller, managed_by, unrefused}}
 use Rattle.machine_model.proofs.TokensKept.{reset_heads}
-use Rattle.machine_model.specs.Agreeing.{sent_count, AreCompletionsBehind as AnswersBehind, completions_at, AreHeadsBehind as Heads, IsHeadBehind as HeadBehind, is_out_of_service_at as past_at, unfetched_count, job_weight}
+use Rattle.machine_model.specs.Agreeing.{sent_count, AreCompletionsBehind as CompletionsBehind, completions_at, AreHeadsBehind as Heads, IsHeadBehind as HeadBehind, is_out_of_service_at as past_at, unfetched_count, job_weight}
 use Rattle.machine_model.specs.{Events.{Event, Reply}, Memory.with_pages, Opening.{Opens, opening, queues_from, served_queue as opened}, Positions.IsInRing}
 use Rattle.machine_model.specs.Proper.{IsProper}
 use Rattle.machine_model.specs.Refusals.{is_submitted, served_queue, no_identifier, entry_of, front_completion, in_service, job_at, fetch_slot, is_live, is_making, is_job}
@@ -34,22 +34,22 @@ use Rattle.page_memory.proofs.Lists.{found_is, all-filter}
 
 -- Answers, as something changes
 
-pub behind_more : (n tail k k' : ℕ) (ans : List PostedCompletion) → k ≤ k' → AnswersBehind n tail k ans → AnswersBehind n tail k' ans
+pub behind_more : (n tail k k' : ℕ) (ans : List PostedCompletion) → k ≤ k' → CompletionsBehind n tail k ans → CompletionsBehind n tail k' ans
 behind_more n tail k k' [] le h = tt
 behind_more n tail k k' (an ∷ ans) le h = (h.0, omega (arith, h.1, le), behind_more n tail (k - 1) (k' - 1) ans (omega (arith, le)) h.2)
 
-pub behind_posted : (n tail k : ℕ) (ans : List PostedCompletion) → tail < n → k < n - 1 → AnswersBehind n tail k ans → AnswersBehind n (next_slot n tail) (k + 1) ans
+pub behind_posted : (n tail k : ℕ) (ans : List PostedCompletion) → tail < n → k < n - 1 → CompletionsBehind n tail k ans → CompletionsBehind n (next_slot n tail) (k + 1) ans
 behind_posted n tail k [] t few h = tt
 behind_posted n tail k (an ∷ ans) t few h =
     let grows : distance n an.sq_head (next_slot n tail) ≡ suc (distance n an.sq_head tail) = distance_grows n an.sq_head tail h.0 t (λ e. absurd (omega (arith, e, h.1, few))) in (
       h.0,
       omega (arith, grows, h.1),
-      subst (λ (m : ℕ). AnswersBehind n (next_slot n tail) m ans) (omega (arith, h.1)) (behind_posted n tail (k - 1) ans t (omega (arith, few)) h.2),
+      subst (λ (m : ℕ). CompletionsBehind n (next_slot n tail) m ans) (omega (arith, h.1)) (behind_posted n tail (k - 1) ans t (omega (arith, few)) h.2),
     )
 
-pub behind_answered : (n tail k : ℕ) (ans : List PostedCompletion) (an : PostedCompletion) → an.sq_head < n → distance n an.sq_head tail + length ans < k → AnswersBehind n tail k ans → AnswersBehind n tail k (ans ++ an ∷ [])
-behind_answered n tail k [] an head less h = (head, omega (arith, less), tt)
-behind_answered n tail k (x ∷ ans) an head less h = (h.0, h.1, behind_answered n tail (k - 1) ans an head (omega (arith, less)) h.2)
+pub behind_completed : (n tail k : ℕ) (ans : List PostedCompletion) (an : PostedCompletion) → an.sq_head < n → distance n an.sq_head tail + length ans < k → CompletionsBehind n tail k ans → CompletionsBehind n tail k (ans ++ an ∷ [])
+behind_completed n tail k [] an head less h = (head, omega (arith, less), tt)
+behind_completed n tail k (x ∷ ans) an head less h = (h.0, h.1, behind_completed n tail (k - 1) ans an head (omega (arith, less)) h.2)
 
 -- The controller's head
 
@@ -165,7 +165,7 @@ heads_state n k f hs rs qs ring past h = heads_change n k f hs rs qs (λ x e ope
     let r = sym (ring x) in
     record {
       known = subst (λ (g : HostRing). distance n g.known_head g.tail ≤ sent_count k rs) r b.known;
-      completions = subst (λ (g : HostRing). AnswersBehind n g.tail (sent_count k rs) (completions_at qs k)) r b.completions;
+      completions = subst (λ (g : HostRing). CompletionsBehind n g.tail (sent_count k rs) (completions_at qs k)) r b.completions;
     }) h
 
 -- completions stay, or are gone
@@ -267,14 +267,14 @@ heads_consumed q s h = record {
   behind = λ k queue e open'. at k queue open' (changed_at q (λ x. record x { ring = next_head s.entries x.ring }) s.host.queues k queue e);
 }
   where
-    fewer : (tail m : ℕ) (ans : List PostedCompletion) → AnswersBehind s.entries tail m ans → AnswersBehind s.entries tail m (drop 1 ans)
+    fewer : (tail m : ℕ) (ans : List PostedCompletion) → CompletionsBehind s.entries tail m ans → CompletionsBehind s.entries tail m (drop 1 ans)
     fewer tail m [] h = tt
     fewer tail m (x ∷ ans) h = behind_more s.entries tail (m - 1) m ans (omega arith) h.2
 
-    dropped : (k : ℕ) (tail m : ℕ) → AnswersBehind s.entries tail m (completions_at s.controller.queues k) → AnswersBehind s.entries tail m (completions_at (change q (λ at. record at { completions = drop 1 at.completions }) s.controller.queues) k)
+    dropped : (k : ℕ) (tail m : ℕ) → CompletionsBehind s.entries tail m (completions_at s.controller.queues k) → CompletionsBehind s.entries tail m (completions_at (change q (λ at. record at { completions = drop 1 at.completions }) s.controller.queues) k)
     dropped k tail m h = over q s.controller.queues k h
       where
-        over : (q : ℕ) (qs : List ServedQueue) (k : ℕ) → AnswersBehind s.entries tail m (completions_at qs k) → AnswersBehind s.entries tail m (completions_at (change q (λ at. record at { completions = drop 1 at.completions }) qs) k)
+        over : (q : ℕ) (qs : List ServedQueue) (k : ℕ) → CompletionsBehind s.entries tail m (completions_at qs k) → CompletionsBehind s.entries tail m (completions_at (change q (λ at. record at { completions = drop 1 at.completions }) qs) k)
         over q [] k h = h
         over zero (at ∷ qs) zero h = fewer tail m at.completions h
         over zero (at ∷ qs) (suc k) h = h
@@ -291,7 +291,7 @@ heads_consumed q s h = record {
         subst (λ (y : HostQueue). HeadBehind s.entries (sent_count k s.host.records) y (completions_at (change q (λ at. record at { completions = drop 1 at.completions }) s.controller.queues) k)) (sym is)
         (record { known = b.known; completions = dropped k x.ring.tail (sent_count k s.host.records) b.completions })
 
--- a good answer: the host knows its head, and one command is submitted no more
+-- a good completion: the host knows its head, and one command is submitted no more
 pub heads_heard : (q : ℕ) (an : PostedCompletion) (s : State) (rs : List Record) → option_and_then (λ queue. front_completion queue.completions) (served_queue s q) ≡ Some an → AllByRecursion (λ r. r.cid < s.entries - 1) rs
     → ((k : ℕ) → sent_count k s.host.records ≤ sent_count k rs + (if q == k then 1 else 0)) → HeadsS s
     → Heads s.entries (a.heard q (entry_of q an) s).host.queues rs (change q (λ at. record at { completions = drop 1 at.completions }) s.controller.queues)
@@ -327,11 +327,11 @@ heads_heard q an s rs first ids less h = record {
 
     -- the queue itself
     own : (k : ℕ) (x : HostQueue) → q ≡ k → slice_get s.host.queues k ≡ Some x → in_service x.state ≡ true
-        → (distance s.entries an.sq_head x.ring.tail ≤ sent_count k rs) × AnswersBehind s.entries x.ring.tail (sent_count k rs) (completions_at (change q (λ at. record at { completions = drop 1 at.completions }) s.controller.queues) k)
+        → (distance s.entries an.sq_head x.ring.tail ≤ sent_count k rs) × CompletionsBehind s.entries x.ring.tail (sent_count k rs) (completions_at (change q (λ at. record at { completions = drop 1 at.completions }) s.controller.queues) k)
     own k x same e open' =
         let b = h.behind k x e open' in
-        let front : AnswersBehind s.entries x.ring.tail (sent_count k s.host.records) (an ∷ completions_at (change q (λ at. record at { completions = drop 1 at.completions }) s.controller.queues) k) =
-        subst (AnswersBehind s.entries x.ring.tail (sent_count k s.host.records)) (subst (λ (z : ℕ). completions_at s.controller.queues z ≡ an ∷ completions_at (change q (λ at. record at { completions = drop 1 at.completions }) s.controller.queues) z) same head_rest) b.completions in
+        let front : CompletionsBehind s.entries x.ring.tail (sent_count k s.host.records) (an ∷ completions_at (change q (λ at. record at { completions = drop 1 at.completions }) s.controller.queues) k) =
+        subst (CompletionsBehind s.entries x.ring.tail (sent_count k s.host.records)) (subst (λ (z : ℕ). completions_at s.controller.queues z ≡ an ∷ completions_at (change q (λ at. record at { completions = drop 1 at.completions }) s.controller.queues) z) same head_rest) b.completions in
         let one' : one (q == k) ≡ 1 = ap one (eq-eqb q k same) in (
           omega (arith, front.1, less k, one'),
           behind_more s.entries x.ring.tail (sent_count k s.host.records - 1) (sent_count k rs) (completions_at (change q (λ at. record at { completions = drop 1 at.completions }) s.controller.queues) k) (omega (arith, less k, one')) front.2,
@@ -348,7 +348,7 @@ heads_heard q an s rs first ids less h = record {
           let ring : queue.ring ≡ knowing (entry_of q an).sqhd (next_head s.entries y.ring) = ap (λ (z : HostQueue). z.ring) is ∙ ap (λ (z : HostQueue). knowing (entry_of q an).sqhd z.ring) isy in
           record {
             known = subst (λ (g : HostRing). distance s.entries g.known_head g.tail ≤ sent_count k rs) (sym ring) o.0;
-            completions = subst (λ (g : HostRing). AnswersBehind s.entries g.tail (sent_count k rs) (completions_at (change q (λ at. record at { completions = drop 1 at.completions }) s.controller.queues) k)) (sym ring) o.1;
+            completions = subst (λ (g : HostRing). CompletionsBehind s.entries g.tail (sent_count k rs) (completions_at (change q (λ at. record at { completions = drop 1 at.completions }) s.controller.queues) k)) (sym ring) o.1;
           }
       | inr (far, ey) ↦ absurd (far same)
     ]
@@ -359,7 +359,7 @@ heads_heard q an s rs first ids less h = record {
           let none : one (q == k) ≡ 0 = ap one (other q k far) in
           record {
             known = omega (arith, b.known, less k, none);
-            completions = subst (AnswersBehind s.entries queue.ring.tail (sent_count k rs)) (sym (elsewhere k far))
+            completions = subst (CompletionsBehind s.entries queue.ring.tail (sent_count k rs)) (sym (elsewhere k far))
                 (behind_more s.entries queue.ring.tail (sent_count k s.host.records) (sent_count k rs) (completions_at s.controller.queues k) (omega (arith, less k, none)) b.completions);
           }
     ]
@@ -462,11 +462,11 @@ fewer_walk s q cid = walk_by (λ (t : State). Fewer s t.controller) s q cid (λ 
 few_sent_heads_all : (s : State) → Grounds s → HeadsS s → (q : ℕ) → sent_count q s.host.records ≤ s.entries - 1
 few_sent_heads_all s g h q = omega (arith, sent_outstanding q s.host.records, few_outstanding q (s.entries - 1) s.host.records h.ids g.stands.0.once)
 
--- an answer is posted where entries and completions leave one command
-heads_answered : (q cid : ℕ) (st : Status) (dw0 : ℕ) (t : State) → 0 < t.entries → ((k : ℕ) → sent_count k t.host.records ≤ t.entries - 1)
+-- a completion is posted where entries and completions leave one command
+heads_completed : (q cid : ℕ) (st : Status) (dw0 : ℕ) (t : State) → 0 < t.entries → ((k : ℕ) → sent_count k t.host.records ≤ t.entries - 1)
     → ((queue : HostQueue) → slice_get t.host.queues q ≡ Some queue → IsInRing t.entries queue.ring)
     → PlacesIn (posts_completion q cid st dw0 t) → HeadsS t → HeadsS (posts_completion q cid st dw0 t)
-heads_answered q cid st dw0 t pos few rings placed h =
+heads_completed q cid st dw0 t pos few rings placed h =
     let f : ServedQueue → ServedQueue = λ at. record at { completions = at.completions ++ record { cid = cid; status = st; dw0 = dw0; sq_head = fetch_slot t q } ∷ [] } in
     let after : List ServedQueue = change q (λ at. record at { completions = at.completions ++ record { cid = cid; status = st; dw0 = dw0; sq_head = fetch_slot t q } ∷ [] }) t.controller.queues in
     record { ids = h.ids; behind = λ k queue e open'. at k queue e open' (q == k) refl }
@@ -484,10 +484,10 @@ heads_answered q cid st dw0 t pos few rings placed h =
         less : (q k : ℕ) → (suc q == suc k) ≡ false → (q == k) ≡ false
         less q k e = grind (arith, nat_tests)
 
-    own_answers : (q : ℕ) (qs : List ServedQueue) (at : ServedQueue) (g : ServedQueue → ServedQueue) → slice_get qs q ≡ Some at → completions_at (change q g qs) q ≡ (g at).completions
-    own_answers q [] at g e = absurd cc
-    own_answers zero (x ∷ qs) at g e = let same : x ≡ at = cc in ap (λ (y : ServedQueue). (g y).completions) same
-    own_answers (suc q) (x ∷ qs) at g e = own_answers q qs at g e
+    own_completions : (q : ℕ) (qs : List ServedQueue) (at : ServedQueue) (g : ServedQueue → ServedQueue) → slice_get qs q ≡ Some at → completions_at (change q g qs) q ≡ (g at).completions
+    own_completions q [] at g e = absurd cc
+    own_completions zero (x ∷ qs) at g e = let same : x ≡ at = cc in ap (λ (y : ServedQueue). (g y).completions) same
+    own_completions (suc q) (x ∷ qs) at g e = own_completions q qs at g e
 
     own_entries : (q : ℕ) (qs : List ServedQueue) (at : ServedQueue) (g : ServedQueue → ServedQueue) → slice_get qs q ≡ Some at → unfetched_at (change q g qs) q ≡ (g at).unfetched
     own_entries q [] at g e = absurd cc
@@ -514,13 +514,13 @@ heads_answered q cid st dw0 t pos few rings placed h =
         mine queue e open' (Some x) d =
             let g : ServedQueue → ServedQueue = λ at. record at { completions = at.completions ++ record { cid = cid; status = st; dw0 = dw0; sq_head = fetch_slot t q } ∷ [] } in
             let b = h.behind q queue e open' in
-            let before : AnswersBehind t.entries queue.ring.tail (sent_count q t.host.records) x.completions =
-            subst (λ (o : Option ServedQueue). AnswersBehind t.entries queue.ring.tail (sent_count q t.host.records) (option_map_or (λ at. at.completions) o [])) d b.completions in
+            let before : CompletionsBehind t.entries queue.ring.tail (sent_count q t.host.records) x.completions =
+            subst (λ (o : Option ServedQueue). CompletionsBehind t.entries queue.ring.tail (sent_count q t.host.records) (option_map_or (λ at. at.completions) o [])) d b.completions in
             let past : past_at t.host.queues q ≡ false = ap (λ (o : Option HostQueue). option_map_or (λ h. not (in_service h.state)) o false) e ∙ ap not open' in
             let entries' : unfetched_count q (λ c. 1) t.host.queues (change q g t.controller.queues) ≡ length x.unfetched =
             ap (λ (b : Bool). if b then 0 else total (λ (e : SubEntry). 1) (unfetched_at (change q g t.controller.queues) q)) past ∙ ap (total (λ (e : SubEntry). 1)) (own_entries q t.controller.queues x g d) ∙ total_ones x.unfetched in
             let answers' : total (λ (an : PostedCompletion). 1) (completions_at (change q g t.controller.queues) q) ≡ length x.completions + 1 =
-            ap (total (λ (an : PostedCompletion). 1)) (own_answers q t.controller.queues x g d) ∙ total-append (λ (an : PostedCompletion). 1) x.completions (an ∷ []) ∙ ap (λ (n : ℕ). n + 1) (total_ones x.completions) in
+            ap (total (λ (an : PostedCompletion). 1)) (own_completions q t.controller.queues x g d) ∙ total-append (λ (an : PostedCompletion). 1) x.completions (an ∷ []) ∙ ap (λ (n : ℕ). n + 1) (total_ones x.completions) in
             let room : length x.unfetched + (length x.completions + 1) ≤ sent_count q t.host.records = omega (arith, placed q (λ c. 1), entries', answers') in
             let slot : fetch_slot t q ≡ moved t.entries queue.ring.tail (t.entries - length x.unfetched) =
             ap (λ (o : Option HostQueue). option_map_or (λ queue. option_map_or (λ at. moved t.entries queue.ring.tail (t.entries - length at.unfetched)) (served_queue t q) 0) o 0) e
@@ -528,19 +528,19 @@ heads_answered q cid st dw0 t pos few rings placed h =
             let head = head_at t.entries queue.ring.tail (length x.unfetched) (rings queue e).tail (omega (arith, room, few q, pos)) in
             let low : fetch_slot t q < t.entries = subst (λ (n : ℕ). n < t.entries) (sym slot) head.0 in
             let far : distance t.entries (fetch_slot t q) queue.ring.tail ≡ length x.unfetched = ap (λ (n : ℕ). distance t.entries n queue.ring.tail) slot ∙ head.1 in
-            subst (HeadBehind t.entries (sent_count q t.host.records) queue) (sym (own_answers q t.controller.queues x g d))
-            (record { known = b.known; completions = behind_answered t.entries queue.ring.tail (sent_count q t.host.records) x.completions an low (omega (arith, far, room)) before })
+            subst (HeadBehind t.entries (sent_count q t.host.records) queue) (sym (own_completions q t.controller.queues x g d))
+            (record { known = b.known; completions = behind_completed t.entries queue.ring.tail (sent_count q t.host.records) x.completions an low (omega (arith, far, room)) before })
 
 heads_complete : (q cid : ℕ) (s : State) → Grounds s → PlacesIn (a.after_complete q cid s) → HeadsS s → HeadsS (a.after_complete q cid s)
 heads_complete q cid s g places h =
-    let answered : (t : State) (j : Job) → t.entries ≡ s.entries → t.host ≡ s.host → HeadsS t → PlacesIn (posts_completion q cid (a.final_status s j) j.dw0 t) → HeadsS (posts_completion q cid (a.final_status s j) j.dw0 t) = λ t j n host ht places.
-    heads_answered q cid (a.final_status s j) j.dw0 t (subst (λ (k : ℕ). 0 < k) (sym n) g.fit.some_entries)
+    let completed : (t : State) (j : Job) → t.entries ≡ s.entries → t.host ≡ s.host → HeadsS t → PlacesIn (posts_completion q cid (a.final_status s j) j.dw0 t) → HeadsS (posts_completion q cid (a.final_status s j) j.dw0 t) = λ t j n host ht places.
+    heads_completed q cid (a.final_status s j) j.dw0 t (subst (λ (k : ℕ). 0 < k) (sym n) g.fit.some_entries)
     (λ k. subst (λ (x : Host). sent_count k x.records ≤ t.entries - 1) (sym host) (subst (λ (m : ℕ). sent_count k s.host.records ≤ m - 1) (sym n) (few_sent_heads_all s g h k)))
     (λ queue e. subst (λ (m : ℕ). IsInRing m queue.ring) (sym n) (ring_in s g q queue (subst (λ (x : Host). slice_get x.queues q ≡ Some queue) host e))) places ht in
     complete_by (λ (t : State). PlacesIn t → HeadsS t) s q cid (λ places. h)
-    (λ j at c. answered (a.on_served_queue (named_queue j.entry) cleared (finished q cid j s)) j refl refl
+    (λ j at c. completed (a.on_served_queue (named_queue j.entry) cleared (finished q cid j s)) j refl refl
     (heads_controller s.entries s.host.queues s.host.records s.controller.queues (change (named_queue j.entry) cleared s.controller.queues) (λ n. list_same (λ at. at.completions) (named_queue j.entry) cleared s.controller.queues n (λ at. refl)) h))
-    (λ j at c. answered (finished q cid j s) j refl refl h) places
+    (λ j at c. completed (finished q cid j s) j refl refl h) places
 
 -- Every event
 
@@ -623,7 +623,7 @@ heads_host s e reply ok c t g h =
         let an = completion_heard s q cid st e r t heard in
         let its = ids_of s q cid r heard.found in
         subst (λ (x : ComEntry). Heads s.entries (a.heard q x s).host.queues rs (change q (λ at. record at { completions = drop 1 at.completions }) s.controller.queues)) (sym an.is)
-        (heads_heard q an.answer s rs an.first ids (λ k. omega (arith, less k, sent_is q cid k (λ c. 1) r its.0 its.1 heard.submitted)) h)
+        (heads_heard q an.completion s rs an.first ids (λ k. omega (arith, less k, sent_is q cid k (λ c. 1) r its.0 its.1 heard.submitted)) h)
 
     -- where a queue other than 0 changes
     zero_ring : (f : HostQueue → HostQueue) (q : ℕ) → (q == 0) ≡ false → (queue : HostQueue) → slice_get (change q f s.host.queues) 0 ≡ Some queue → IsInRing s.entries queue.ring
@@ -669,12 +669,12 @@ opened_heads page n (suc count) zero queue e = let same : queue.ring ≡ fresh_h
     ring_is queue e = sym (ap (λ (o : Option HostQueue). option_map_or (λ (h : HostQueue). h.ring) o fresh_host_ring) e)
 opened_heads page n (suc count) (suc q) queue e = opened_heads (page + half_pages n Submission + half_pages n Completion) n count q queue e
 
-nothing_answered : (k q : ℕ) → completions_at (replicate k opened) q ≡ []
-nothing_answered (suc k) (suc q) = nothing_answered k q
-nothing_answered x q = refl
+nothing_completed : (k q : ℕ) → completions_at (replicate k opened) q ≡ []
+nothing_completed (suc k) (suc q) = nothing_completed k q
+nothing_completed x q = refl
 
 pub heads_at_opening : (pages queues n s : ℕ) (image : List ℕ) → Opens pages queues n s → HeadsS (opening pages queues n s image)
 heads_at_opening pages queues n s image opens = record {
   ids = tt;
-  behind = λ q queue e open'. subst (HeadBehind n 0 queue) (sym (nothing_answered (queues + 1) q)) (record { known = omega (arith, opened_heads 0 n (queues + 1) q queue e); completions = tt });
+  behind = λ q queue e open'. subst (HeadBehind n 0 queue) (sym (nothing_completed (queues + 1) q)) (record { known = omega (arith, opened_heads 0 n (queues + 1) q queue e); completions = tt });
 }

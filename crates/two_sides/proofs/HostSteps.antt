@@ -19,10 +19,10 @@ use Rattle.controller_core.specs.{Contents.Contents, declared.queue.ControllerQu
 use Rattle.entry_codec.specs.declared.{completion.ComEntry.ComEntry, status.Status.Status}
 use Rattle.host_core.specs.{Alone.{HostView, HostStep, alone}, Ringing.{head_of, head_rung}}
 use Rattle.io_commands.specs.Jobs.{is_success}
-use Rattle.two_sides.proofs.{Agreed.stood_of, Answering.{Follows, IsTaken, answer_follows, known_follows, sees, taken, takes}}
+use Rattle.two_sides.proofs.{Agreed.stood_of, CompletionPosts.{Follows, IsTaken, completion_follows, known_follows, sees, taken, takes}}
 use Rattle.two_sides.proofs.Assembling.{Ties, host_refused, host_stepped, into, refuses, refuse_as_machine, cancel_ties, collect_ties, release_ties, reserve_ties, ring_ties, left_bare}
 use Rattle.two_sides.proofs.{Frames.{host_stands, known, IsKnown, reaped_ring}, Blind.bare}
-use Rattle.two_sides.proofs.Places.{comes_live, frees_half, makes_half, still_serves, unmakes_half, retires_half, seen_alike, told, answer_there, completions_seen, has_answer, seen_first, absent_is, carried, completions_is, freed_not_there, made_there, unmade_absent, unmade_not_there, known_absent}
+use Rattle.two_sides.proofs.Places.{comes_live, frees_half, makes_half, still_serves, unmakes_half, retires_half, seen_alike, told, first_completion_there, completions_seen, has_completion, seen_first, absent_is, carried, completions_is, freed_not_there, made_there, unmade_absent, unmade_not_there, known_absent}
 use Rattle.two_sides.proofs.{Posting.{create_cq_ties, create_sq_ties, abort_ties, delete_cq_ties, delete_sq_ties, submit_ties}, Shared.never_alone}
 use Rattle.two_sides.specs.{Hearing.heard, Laws.behind, Sides.{Sides, state_of, controller_part, served_queue_of, served_queues_of}, Stepping.{StepsTo, hosts_step}}
 use Rattle.two_sides.specs.Ties.{AllQueuesStand, AreTied, IsWorld, QueueStands, has_ring, WalksStand}
@@ -62,7 +62,7 @@ head_kept zero (suc q) f (h ∷ hs) same = refl
 head_kept (suc k) zero f (h ∷ hs) same = refl
 head_kept (suc k) (suc q) f (h ∷ hs) same = head_kept k q f hs same
 
--- A reap: its answer is the machine's, and the answer that it takes is gone on both sides.
+-- A reap: its answer is the machine's, and the completion that it takes is gone on both sides.
 
 -- What is reaped
 
@@ -111,7 +111,7 @@ restated s q v k f hs same here t =
       head = head_kept k q f hs same ∙ t.head;
     }
 
--- the answer that is heard
+-- the completion that is heard
 hears : (s : Sides) → IsWorld s → AreTied s → s.trusted ≡ true → (q : ℕ) (e : ComEntry) → refusal_of (state_of s) (events.Reap q) ≡ None → seen_entry (state_of s) q ≡ Some e
     → (v : ℕ) × IsTaken s q v (a.heard q e (state_of s)).host.queues
 hears s world tied t q e none seen =
@@ -121,7 +121,7 @@ hears s world tied t q e none seen =
       next_slot n h.0.ring.head,
       subst (λ (hs : List HostQueue). IsTaken s q (next_slot n h.0.ring.head) hs)
           (sym (change_twice (λ (queue : HostQueue). record queue { ring = knowing e.sqhd queue.ring }) (λ (queue : HostQueue). record queue { ring = next_head n queue.ring }) q s.host.host.queues))
-          (takes s world tied q e.sqhd h.0 x.0 (taken n e.sqhd) x.1 (subst (λ (head : ℕ). Follows h.0 x.0 (byte_at s.pages) head) x.2 (answer_follows s q h.0 x.0 x.1)) refl),
+          (takes s world tied q e.sqhd h.0 x.0 (taken n e.sqhd) x.1 (subst (λ (head : ℕ). Follows h.0 x.0 (byte_at s.pages) head) x.2 (completion_follows s q h.0 x.0 x.1)) refl),
     )
 
 -- a rejected one is consumed
@@ -136,7 +136,7 @@ consumes s world tied t q why none is = elim (option_is (seen_entry (state_of s)
       (next_slot n h.0.ring.head, takes s world tied q h.0.ring.known_head h.0 x.0 (λ queue. record queue { ring = next_head n queue.ring }) x.1 (known_follows s q h.0 x.0 x.1) refl)
 ]
 
--- What an answer that is heard tells of the queues behind it
+-- What a completion that is heard tells of the queues behind it
 
 -- a queue behind it, as it was before
 record Was (s : Sides) (k : ℕ) (h : HostQueue) (c : ControllerQueue) : Type 0 where
@@ -308,7 +308,7 @@ reap_refused s q why touched host pages world step =
     host_refused s (events.Reap q) (events.Refused why touched) host pages world step.2 (ap (λ (x : State). record s { host = view x; pages = x.memory }) step.2) tt
     (into _ s.trusted false refl (refuses s (events.Reap q) why touched refl refl step.1)) refl
 
--- A queue is retired: the controller has no such queue, and no answer of it is left.
+-- A queue is retired: the controller has no such queue, and no completion of it is left.
 
 -- The refusal is the machine's, whatever was forged
 
@@ -342,7 +342,7 @@ empty s world t q h c at there reaped none =
     let has : has_ring h c ≡ true = reaped_ring h c reaped in
     elim (cases_eq h.ring.head c.controller.ring.tail) [
       | inl same ↦ same
-      | inr apart ↦ absurd (true≢false (sym (ap is_some (seen_first s q h c t at there (answer_there s q h c k has apart) (has_answer s q h c k has apart))) ∙ none))
+      | inr apart ↦ absurd (true≢false (sym (ap is_some (seen_first s q h c t at there (first_completion_there s q h c k has apart) (has_completion s q h c k has apart))) ∙ none))
     ]
 
 abbrev retired : ℕ → HostQueue → State → State

@@ -28,7 +28,7 @@ use Rattle.sgl_chain.proofs.{Back.spells_there, Spelled.length-spelling}
 use Rattle.entry_codec.specs.{Completion.completion_bytes, Submission.{submission_bytes, command_words}, declared.completion.ComEntry.ComEntry}
 use Rattle.entry_codec.specs.declared.{status.{Status.Status, TheConstants.Status.COMMAND_ID_CONFLICT}, submission.SubEntry.SubEntry}
 use Rattle.two_sides.proofs.{Along.along_proper, Commands.{keeps_fetch, keeps_walk, keeps_complete, Walking, walking, unit_in}}
-use Rattle.two_sides.proofs.ControllerMoves.{linked_from_tied, answered_bytes, unit_memory, finished, cleared, fetch_by, walk_by, complete_by}
+use Rattle.two_sides.proofs.ControllerMoves.{linked_from_tied, completed_bytes, unit_memory, finished, cleared, fetch_by, walk_by, complete_by}
 use Rattle.two_sides.proofs.{Ending.{lists_keep, act_touches}, NeverFull.{stood_on, stood_at_opening, ListsStay, stay_untouched, stay_walk}}
 use Rattle.two_sides.proofs.{PoolBytes.host_jobs, Provided.{in_found, all_append}}
 use Rattle.two_sides.proofs.Served.{Stood, JobList, job_list, list_of_job, course_in, course_ends, same_list, apart_in, chain_of, data_of, more_than_only}
@@ -360,8 +360,8 @@ brought_pages xs ys m x y whole = whole_brought (xs ++ ys) m (All-append (λ pag
 
 -- What the controller does
 
-whole-answered : (q cid : ℕ) (st : Status) (dw0 : ℕ) (s : State) → AreWhole s.memory → AreWhole (answered_bytes q cid st dw0 s)
-whole-answered q cid st dw0 s whole = go (host_queue s q)
+whole-completed : (q cid : ℕ) (st : Status) (dw0 : ℕ) (s : State) → AreWhole s.memory → AreWhole (completed_bytes q cid st dw0 s)
+whole-completed q cid st dw0 s whole = go (host_queue s q)
   where
     go : (o : Option HostQueue)
         → AreWhole (option_map_or (λ queue. with_page_bytes s.memory (slot_page queue.cq_pages 16 (post_slot s q)) (slot_offset 16 (post_slot s q))
@@ -386,7 +386,7 @@ whole-managed e s whole =
 
 whole-fetch : (q : ℕ) (s : State) → AreWhole s.memory → AreWhole (a.after_fetch q s).memory
 whole-fetch q s whole =
-    fetch_by (λ (t : State). AreWhole t.memory) s q whole (λ e n c. whole-answered q e.cid COMMAND_ID_CONFLICT 0 (a.taken_off q s) whole) (λ e n c z. whole-managed e (a.taken_off 0 s) whole) (λ e n c other. whole)
+    fetch_by (λ (t : State). AreWhole t.memory) s q whole (λ e n c. whole-completed q e.cid COMMAND_ID_CONFLICT 0 (a.taken_off q s) whole) (λ e n c z. whole-managed e (a.taken_off 0 s) whole) (λ e n c other. whole)
 
 taken_few : (n offset : ℕ) (bytes : List ℕ) → length (take n (drop offset bytes)) ≤ n
 taken_few n offset bytes = few n (drop offset bytes)
@@ -414,8 +414,8 @@ whole_after s (events.Walk q cid) (events.Walked outcome touched) pr ok stood wh
     (unit_in (on_pages w.list.command.chain_pages) (on_pages w.list.command.data_pages) (a.course_of s j) j.units_done act (course_in s j w.list) next) whole)
 whole_after s (events.Complete q cid) (events.Completed touched) pr ok stood whole =
     complete_by (λ (t : State). AreWhole t.memory) s q cid whole
-    (λ j at c. whole-answered q cid (a.final_status s j) j.dw0 (a.on_served_queue (named_queue j.entry) cleared (finished q cid j s)) whole)
-    (λ j at c. whole-answered q cid (a.final_status s j) j.dw0 (finished q cid j s) whole)
+    (λ j at c. whole-completed q cid (a.final_status s j) j.dw0 (a.on_served_queue (named_queue j.entry) cleared (finished q cid j s)) whole)
+    (λ j at c. whole-completed q cid (a.final_status s j) j.dw0 (finished q cid j s) whole)
 whole_after s (events.Fetch q) reply pr ok stood whole = absurd ok.1
 whole_after s (events.Walk q cid) reply pr ok stood whole = absurd ok.1
 whole_after s (events.Complete q cid) reply pr ok stood whole = absurd ok.1

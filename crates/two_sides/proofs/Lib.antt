@@ -5,7 +5,7 @@ pub mod Places
 pub mod Frames
 pub mod Serving
 pub mod Granting
-pub mod Answering
+pub mod CompletionPosts
 pub mod HostSteps
 pub mod Posted
 pub mod Posting

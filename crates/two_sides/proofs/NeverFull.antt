@@ -216,16 +216,16 @@ nothing_unfetched : (w : ℕ → ℕ) (k q : ℕ) → total (λ (e : SubEntry). 
 nothing_unfetched w (suc k) (suc q) = nothing_unfetched w k q
 nothing_unfetched w x q = refl
 
-nothing_answered : (w : ℕ → ℕ) (k q : ℕ) → total (λ (an : PostedCompletion). w an.cid) (completions_at (replicate k opened) q) ≡ 0
-nothing_answered w (suc k) (suc q) = nothing_answered w k q
-nothing_answered w x q = refl
+nothing_completed : (w : ℕ → ℕ) (k q : ℕ) → total (λ (an : PostedCompletion). w an.cid) (completions_at (replicate k opened) q) ≡ 0
+nothing_completed w (suc k) (suc q) = nothing_completed w k q
+nothing_completed w x q = refl
 
 pub stood_at_opening : (pages queues n s : ℕ) (image : List ℕ) → Opens pages queues n s → Stood (opening pages queues n s image)
 stood_at_opening pages queues n s image opens = record {
   grounds = grounds_at_opening pages queues n s image opens;
   few = omega (arith, length-replicate pages (Some zero_page), few_opened pages queues n s opens);
   commands = tt;
-  places = λ q w. omega (arith, counted (past_at (opening pages queues n s image).host.queues q) q w, nothing_answered w (queues + 1) q);
+  places = λ q w. omega (arith, counted (past_at (opening pages queues n s image).host.queues q) q w, nothing_completed w (queues + 1) q);
   walks = tt;
 }
   where
@@ -295,9 +295,9 @@ linked s r = linked_from_tied s r.stood.grounds.rings (tied_from_fit s r.stood.g
 no_conflicts : (s : State) → Roomy s → (q : ℕ) → conflicts s q ≡ false
 no_conflicts s r q = elim (option_is (next_rung s q)) [ inl n ↦ rw n refl | inr (e, n) ↦ rw n (no_conflict s r.stood q e (in_hand s q e n)) ]
 
--- where a job is, its queue has room for its answer
-room_for_answer : (s : State) → Roomy s → (q cid : ℕ) → is_none (job_at s q cid) ≡ false → completions_full s q ≡ false
-room_for_answer s r q cid job = go (served_queue s q) refl
+-- where a job is, its queue has room for its completion
+room_for_completion : (s : State) → Roomy s → (q cid : ℕ) → is_none (job_at s q cid) ≡ false → completions_full s q ≡ false
+room_for_completion s r q cid job = go (served_queue s q) refl
   where
     some_job : (o : Option Job) → job_at s q cid ≡ o → is_none o ≡ false → 1 ≤ total (job_weight q (λ c. 1)) s.controller.jobs
     some_job None e h = absurd (true≢false h)
@@ -407,7 +407,7 @@ no_cause s r (events.Complete q cid) = (
     λ f. (
       (λ t. refl),
       λ f. (
-        (λ t. absurd (true≢false (sym t ∙ room_for_answer s r q cid job))),
+        (λ t. absurd (true≢false (sym t ∙ room_for_completion s r q cid job))),
         λ f. (
           (λ t. absurd (in_after (is_in s.memory (post_page s q)) (queue_page_in s r.stood.grounds q (post_page s q)
               (post_stays_in s q (linked s r) ((linked s r).jobs_have_queues q cid (grind arith))).1) t)),

@@ -22,7 +22,7 @@ use Rattle.queue_pair.specs.Memory.{half_pages, entry_at, completion_at, submiss
 use Rattle.queue_pair.specs.Slots.{distance, is_full, moved, slots_from, next_slot, is_in_range}
 use Rattle.two_sides.proofs.Agreed.{agreed_there, stood_of}
 use Rattle.two_sides.proofs.Frames.{IsKnown, served_at, there_ring, IsPlaced, controller_at, known, reaped_ring, host_at, share_of, stands_of, tied_of, one_queue, one_stands, state_stands}
-use Rattle.two_sides.proofs.{PoolBytes.answers_stand, Standing.{admin_zero, admin_completions_rest}, Tied.{deleted_is_gone, freed_is_gone}}
+use Rattle.two_sides.proofs.{PoolBytes.completions_stand, Standing.{admin_zero, admin_completions_rest}, Tied.{deleted_is_gone, freed_is_gone}}
 use Rattle.two_sides.specs.Laws.{tails_are_heard, heads_are_heard}
 use Rattle.two_sides.specs.Sides.{Sides, state_of, posted_completion, completions_between, served_queue_of, present, unfetched_between, job_of, served_queues_of}
 use Rattle.two_sides.specs.{Stepping.completions_are_seen, Ties.{has_ring, IsWorld, RingsStand, AllQueuesStand, QueueStands}}
@@ -83,7 +83,7 @@ length-completions s q h c known has =
     ∙ all_present (completion_at (byte_at s.pages) c.controller.cq) c.controller.entries (distance c.controller.entries h.ring.head c.controller.ring.tail) h.ring.head (in_ring s q h c known).head
     (λ k lt. some_mapped _ _ (completion_there (byte_at s.pages) c.controller.cq s.host.entries k (known.completion_in has) (omega (arith, lt, known.placed.share.entries))))
 
--- so many answers has the machine of a completion queue that is queue-here
+-- so many completions has the machine of a completion queue that is queue-here
 pub length-posted : (s : Sides) (q : ℕ) (h : HostQueue) (c : ControllerQueue) → IsKnown s q h c → c.cq_there ≡ true
     → length (served_queue_of (byte_at s.pages) h.ring c).completions ≡ distance c.controller.entries h.ring.head c.controller.ring.tail
 length-posted s q h c known queue-here =
@@ -152,7 +152,7 @@ pub post_page_is : (u : State) (s : Sides) (q : ℕ) (h : HostQueue) (c : Contro
 post_page_is u s q h c shown known queue-here =
     post_page-by u q h c.controller.ring.tail shown.host (post_slot_is u s q h c shown known queue-here) ∙ own_page s q h c known (there_ring h c queue-here)
 
--- What the host sees at the head of a completion ring is the machine's first answer.
+-- What the host sees at the head of a completion ring is the machine's first completion.
 
 -- A completion as it says of its command: its phase left aside.
 abbrev pub told : Option ComEntry → Option ComEntry
@@ -166,16 +166,16 @@ seen_alone s world q h c e k has =
     let at_head : Option (List ℕ) → Option ComEntry = λ o. option_and_then (λ bytes. with_phase h.ring.phase (completion_of bytes)) o in
     ap (option_and_then (slot_entry s.pages)) e
     ∙ ap (λ (pages : List ℕ). at_head (slot_bytes s.pages pages 16 h.ring.head)) (k.completion has)
-    ∙ ap at_head (answers_stand s.pages c.controller.cq (half_pages s.host.entries Completion) h.ring.head world.sides.over.pool.whole (omega arith))
+    ∙ ap at_head (completions_stand s.pages c.controller.cq (half_pages s.host.entries Completion) h.ring.head world.sides.over.pool.whole (omega arith))
     ∙ then-map (with_phase h.ring.phase) completion_of (completion_slot (byte_at s.pages) c.controller.cq h.ring.head)
 
--- Where nothing was forged, the answers in the ring
+-- Where nothing was forged, the completions in the ring
 
-no_answer : (m : Memory) (h : HostQueue) (c : ControllerQueue) → h.ring.head ≡ c.controller.ring.tail → completions_between m h.ring c.controller ≡ []
-no_answer m h c same = grind arith
+no_completion : (m : Memory) (h : HostQueue) (c : ControllerQueue) → h.ring.head ≡ c.controller.ring.tail → completions_between m h.ring c.controller ≡ []
+no_completion m h c same = grind arith
 
--- the answer at the head, and those behind it
-pub record HasAnswer (m : Memory) (h : HostQueue) (c : ControllerQueue) : Type 0 where
+-- the completion at the head, and those behind it
+pub record HasCompletion (m : Memory) (h : HostQueue) (c : ControllerQueue) : Type 0 where
   pub entry : ComEntry
   pub front : front (completions_from m c.controller.cq c.controller.entries h.ring.head c.controller.ring.tail) ≡ Some entry
   pub list : completions_between m h.ring c.controller ≡ entry ∷ present (completions_from m c.controller.cq c.controller.entries (next_slot c.controller.entries h.ring.head) c.controller.ring.tail)
@@ -183,8 +183,8 @@ pub record HasAnswer (m : Memory) (h : HostQueue) (c : ControllerQueue) : Type 0
 pub head_below : (s : Sides) (q : ℕ) (h : HostQueue) (c : ControllerQueue) → IsPlaced s q h c → h.ring.head < c.controller.entries
 head_below s q h c p = subst (λ (n : ℕ). h.ring.head < n) (sym p.share.entries) p.ring.head
 
-pub has_answer : (s : Sides) (q : ℕ) (h : HostQueue) (c : ControllerQueue) → IsKnown s q h c → has_ring h c ≡ true → h.ring.head ≢ c.controller.ring.tail → HasAnswer (byte_at s.pages) h c
-has_answer s q h c k has apart =
+pub has_completion : (s : Sides) (q : ℕ) (h : HostQueue) (c : ControllerQueue) → IsKnown s q h c → has_ring h c ≡ true → h.ring.head ≢ c.controller.ring.tail → HasCompletion (byte_at s.pages) h c
+has_completion s q h c k has apart =
     let m : Memory = byte_at s.pages in
     let below : h.ring.head < c.controller.entries = head_below s q h c k.placed in
     let behind : List (Option ComEntry) = completions_from m c.controller.cq c.controller.entries (next_slot c.controller.entries h.ring.head) c.controller.ring.tail in
@@ -197,11 +197,11 @@ has_answer s q h c k has apart =
           record { entry = entry; front = ap front all; list = ap present all }
     ]
 
--- a queue whose completion ring is in use and has an answer has its completion queue at the controller
-pub answer_there : (s : Sides) (q : ℕ) (h : HostQueue) (c : ControllerQueue) → IsKnown s q h c → has_ring h c ≡ true → h.ring.head ≢ c.controller.ring.tail → c.cq_there ≡ true
-answer_there s q h c k has apart = elim (cases_Bool (in_service h.state)) [ inl e ↦ k.served e | inr e ↦ absurd (apart ((k.rings has).drained e)) ]
+-- a queue whose completion ring is in use and has a completion has its completion queue at the controller
+pub first_completion_there : (s : Sides) (q : ℕ) (h : HostQueue) (c : ControllerQueue) → IsKnown s q h c → has_ring h c ≡ true → h.ring.head ≢ c.controller.ring.tail → c.cq_there ≡ true
+first_completion_there s q h c k has apart = elim (cases_Bool (in_service h.state)) [ inl e ↦ k.served e | inr e ↦ absurd (apart ((k.rings has).drained e)) ]
 
--- the machine sees the first of its answers
+-- the machine sees the first of its completions
 seen_of : (s : Sides) (q : ℕ) (h : HostQueue) (c : ControllerQueue) (b : Bool) → s.trusted ≡ true → slice_get s.host.host.queues q ≡ Some h → slice_get s.controller.queues q ≡ Some c → c.cq_there ≡ b
     → seen_entry (state_of s) q ≡ option_map (entry_of q) (front_completion (if b then map posted_completion (completions_between (byte_at s.pages) h.ring c.controller) else []))
 seen_of s q h c b t e f queue-here =
@@ -212,12 +212,12 @@ seen_of s q h c b t e f queue-here =
 pub seen_none : (s : Sides) (q : ℕ) (h : HostQueue) (c : ControllerQueue) → s.trusted ≡ true → slice_get s.host.host.queues q ≡ Some h → slice_get s.controller.queues q ≡ Some c
     → h.ring.head ≡ c.controller.ring.tail → seen_entry (state_of s) q ≡ None
 seen_none s q h c t e f same = elim (cases_Bool c.cq_there) [
-  | inl queue-here ↦ seen_of s q h c true t e f queue-here ∙ ap (λ (xs : List ComEntry). option_map (entry_of q) (front_completion (map posted_completion xs))) (no_answer (byte_at s.pages) h c same)
+  | inl queue-here ↦ seen_of s q h c true t e f queue-here ∙ ap (λ (xs : List ComEntry). option_map (entry_of q) (front_completion (map posted_completion xs))) (no_completion (byte_at s.pages) h c same)
   | inr queue-here ↦ seen_of s q h c false t e f queue-here
 ]
 
 pub seen_first : (s : Sides) (q : ℕ) (h : HostQueue) (c : ControllerQueue) → s.trusted ≡ true → slice_get s.host.host.queues q ≡ Some h → slice_get s.controller.queues q ≡ Some c
-    → c.cq_there ≡ true → (a : HasAnswer (byte_at s.pages) h c) → seen_entry (state_of s) q ≡ Some (entry_of q (posted_completion a.entry))
+    → c.cq_there ≡ true → (a : HasCompletion (byte_at s.pages) h c) → seen_entry (state_of s) q ≡ Some (entry_of q (posted_completion a.entry))
 seen_first s q h c t e f queue-here a =
     seen_of s q h c true t e f queue-here ∙ ap (λ (xs : List ComEntry). option_map (entry_of q) (front_completion (map posted_completion xs))) a.list
 
@@ -236,7 +236,7 @@ trusted_alike s world t q h c e f reaped =
       | inl same ↦ ap (λ (head : ℕ). told (front (completions_from m c.controller.cq c.controller.entries head c.controller.ring.tail))) same
           ∙ ap (λ (xs : List (Option ComEntry)). told (front xs)) (completions_none m c.controller.cq c.controller.entries c.controller.ring.tail)
           ∙ sym (ap told (seen_none s q h c t e f same))
-      | inr apart ↦ queue-here (answer_there s q h c k has apart) (has_answer s q h c k has apart)
+      | inr apart ↦ queue-here (first_completion_there s q h c k has apart) (has_completion s q h c k has apart)
     ]
   where
     m : Memory
@@ -251,7 +251,7 @@ trusted_alike s world t q h c e f reaped =
     rings : RingsStand m q h c
     rings = k.rings has
 
-    queue-here : c.cq_there ≡ true → HasAnswer m h c → told (front (completions_from m c.controller.cq c.controller.entries h.ring.head c.controller.ring.tail)) ≡ told (seen_entry (state_of s) q)
+    queue-here : c.cq_there ≡ true → HasCompletion m h c → told (front (completions_from m c.controller.cq c.controller.entries h.ring.head c.controller.ring.tail)) ≡ told (seen_entry (state_of s) q)
     queue-here cq a =
         ap told a.front ∙ owned_first q a.entry (subst (λ (xs : List ComEntry). AllByRecursion (λ e. e.sqid ≡ q) xs) a.list rings.owned).0 ∙ sym (ap told (seen_first s q h c t e f cq a))
 
@@ -364,7 +364,7 @@ heads_heard s q h c sides tied e f has apart =
     let here : is_in_range c.controller.entries c.controller.ring.known_head c.controller.ring.tail (next_slot s.host.entries h.ring.head) ≡ true = rw (share.entries, (stands.rings has).heard) fits in
     rw here refl
 
--- What the host's state of a queue, and an answer that it hears, tell of the controller's queue, where nothing was forged.
+-- What the host's state of a queue, and a completion that it hears, tell of the controller's queue, where nothing was forged.
 
 -- of the machine's queue at a number
 pub absent_is : (s : Sides) (q : ℕ) (h : HostQueue) (c : ControllerQueue) (b : Bool) → slice_get s.host.host.queues q ≡ Some h → slice_get s.controller.queues q ≡ Some c
@@ -387,10 +387,10 @@ pub known_live : (s : Sides) → IsWorld s → s.trusted ≡ true → (q : ℕ) 
     → is_live h.state ≡ true → is_absent c.state ≡ false
 known_live s world t q h c at queue-here is = absent_is s q h c false at queue-here (agreed_there (state_of s) q h (tied_of s world t).agree at is)
 
--- What an answer tells that is heard: it counts among the answers
+-- What a completion tells that is heard: it counts among the completions
 
 pub record Carries (s : State) (adm : AdminKind) (ok : Bool) : Type 0 where
-  pub answered : (test : AdminKind → Bool) → one_counting (test adm && ok) ≤ completed_well test s.host.records (admin_completions s.controller.queues)
+  pub completed : (test : AdminKind → Bool) → one_counting (test adm && ok) ≤ completed_well test s.host.records (admin_completions s.controller.queues)
   pub unmade : (test : AdminKind → Bool) → one_counting (test adm && not ok) ≤ unmade test s.host.records (waiting s.controller.queues) s.controller.jobs (admin_completions s.controller.queues)
 
 pub carried : (s : State) (q cid : ℕ) (st : Status) (e : ComEntry) (r : Record) (adm : AdminKind) → s.trusted ≡ true → SidesAgree s → IsHeard s q cid st e r → r.work ≡ Management adm → Carries s adm (is_success st)
@@ -398,13 +398,13 @@ carried s q cid st e r adm t agree heard w =
     let rs : List Record = s.host.records in
     let at_zero : IsHeard s 0 cid st e r → Carries s adm (is_success st) = λ heard.
     let an = completion_heard s 0 cid st e r t heard in
-    let first = admin_completions_rest s.controller.queues an.answer an.first in
-    let kind : (test : AdminKind → Bool) → is_kind test rs an.answer.cid ≡ test adm = λ test. ap (is_kind test rs) an.its_id ∙ kind_known test rs cid adm (r, heard.found, w) in
+    let first = admin_completions_rest s.controller.queues an.completion an.first in
+    let kind : (test : AdminKind → Bool) → is_kind test rs an.completion.cid ≡ test adm = λ test. ap (is_kind test rs) an.its_id ∙ kind_known test rs cid adm (r, heard.found, w) in
     record {
-      answered = λ test. subst (λ (xs : List PostedCompletion). one_counting (test adm && is_success st) ≤ completed_well test rs xs) (sym first)
-          (omega (arith, ap (λ (b : Bool). one_counting (b && is_success an.answer.status)) (kind test), ap (λ (x : Status). one_counting (test adm && is_success x)) an.its_status));
+      completed = λ test. subst (λ (xs : List PostedCompletion). one_counting (test adm && is_success st) ≤ completed_well test rs xs) (sym first)
+          (omega (arith, ap (λ (b : Bool). one_counting (b && is_success an.completion.status)) (kind test), ap (λ (x : Status). one_counting (test adm && is_success x)) an.its_status));
       unmade = λ test. subst (λ (xs : List PostedCompletion). one_counting (test adm && not (is_success st)) ≤ unmade test rs (waiting s.controller.queues) s.controller.jobs xs) (sym first)
-          (omega (arith, ap (λ (b : Bool). one_counting (b && not (is_success an.answer.status))) (kind test), ap (λ (x : Status). one_counting (test adm && not (is_success x))) an.its_status));
+          (omega (arith, ap (λ (b : Bool). one_counting (b && not (is_success an.completion.status))) (kind test), ap (λ (x : Status). one_counting (test adm && not (is_success x))) an.its_status));
     } in
     at_zero (subst (λ (z : ℕ). IsHeard s z cid st e r) (admin_zero s q cid r adm (stood_of s agree).grounds.stands.0 heard.found w) heard)
 

@@ -35,8 +35,8 @@ use Rattle.slot_table.proofs.Rows.{option_is}
 abbrev entries_weigh : (ℕ → ℕ) → SubEntry → ℕ
 entries_weigh w e = w e.cid
 
-abbrev answers_weigh : (ℕ → ℕ) → PostedCompletion → ℕ
-answers_weigh w an = w an.cid
+abbrev completions_weigh : (ℕ → ℕ) → PostedCompletion → ℕ
+completions_weigh w an = w an.cid
 
 -- where the queue counts, what is there counts more or less
 count_more : (b : Bool) (n n' extra : ℕ) → n' ≤ n + extra → (if b then 0 else n') ≤ (if b then 0 else n) + extra
@@ -48,7 +48,7 @@ count_less b n n' less none h = grind arith
 -- Changes of the controller's part: what one queue's places count afterwards, for each of the host's states
 
 abbrev load : ℕ → (ℕ → ℕ) → List HostQueue → List ServedQueue → List Job → ℕ
-load q w hs qs js = unfetched_count q w hs qs + (total (job_weight q w) js + total (answers_weigh w) (completions_at qs q))
+load q w hs qs js = unfetched_count q w hs qs + (total (job_weight q w) js + total (completions_weigh w) (completions_at qs q))
 
 -- nothing comes to a place
 abbrev pub Lessens : List HostQueue → List ServedQueue → List Job → List ServedQueue → List Job → Type 0
@@ -62,22 +62,22 @@ pub lessens_state : (hs : List HostQueue) (qs : List ServedQueue) (js : List Job
     → Lessens hs qs js (change k f qs) js
 lessens_state hs qs js k f un an q w =
     let u : unfetched_count q w hs (change k f qs) ≡ unfetched_count q w hs qs = ap (λ (xs : List SubEntry). if past_at hs q then 0 else total (entries_weigh w) xs) (list_same (λ at. at.unfetched) k f qs q un) in
-    omega (arith, u, ap (total (answers_weigh w)) (list_same (λ at. at.completions) k f qs q an))
+    omega (arith, u, ap (total (completions_weigh w)) (list_same (λ at. at.completions) k f qs q an))
 
 -- its entries or completions go
 lessens_less : (hs : List HostQueue) (qs : List ServedQueue) (js : List Job) (k : ℕ) (f : ServedQueue → ServedQueue)
-    → ((w : ℕ → ℕ) (at : ServedQueue) → total (entries_weigh w) (f at).unfetched ≤ total (entries_weigh w) at.unfetched) → ((w : ℕ → ℕ) (at : ServedQueue) → total (answers_weigh w) (f at).completions ≤ total (answers_weigh w) at.completions)
+    → ((w : ℕ → ℕ) (at : ServedQueue) → total (entries_weigh w) (f at).unfetched ≤ total (entries_weigh w) at.unfetched) → ((w : ℕ → ℕ) (at : ServedQueue) → total (completions_weigh w) (f at).completions ≤ total (completions_weigh w) at.completions)
     → Lessens hs qs js (change k f qs) js
 lessens_less hs qs js k f un an q w =
     let u = more_at (λ at. at.unfetched) (entries_weigh w) k f 0 qs q (λ at. omega (arith, un w at)) in
-    let v = more_at (λ at. at.completions) (answers_weigh w) k f 0 qs q (λ at. omega (arith, an w at)) in
+    let v = more_at (λ at. at.completions) (completions_weigh w) k f 0 qs q (λ at. omega (arith, an w at)) in
     let none : (if k == q then zero else zero) ≡ zero = grind arith in
     omega (arith, count_more (past_at hs q) (total (entries_weigh w) (unfetched_at qs q)) (total (entries_weigh w) (unfetched_at (change k f qs) q)) 0 (omega (arith, u, none)), v, none)
 
 lessens_cleared : (hs : List HostQueue) (qs : List ServedQueue) (js : List Job) (k : ℕ) → Lessens hs qs js (change k (λ at. record at { state = Absent; unfetched = []; rung = 0 }) qs) js
 lessens_cleared hs qs js k = lessens_less hs qs js k (λ at. record at { state = Absent; unfetched = []; rung = 0 }) (λ w at. omega arith) (λ w at. omega arith)
 
--- its oldest answer goes
+-- its oldest completion goes
 dropped : {B : Type 0} (w : B → ℕ) (xs : List B) → total w (drop 1 xs) ≤ total w xs
 dropped w e = grind arith
 
@@ -133,16 +133,16 @@ taken_off_load hs s q e hand past k w =
     let f : ServedQueue → ServedQueue = λ at. record at { unfetched = drop 1 at.unfetched; rung = at.rung - 1 } in
     let qs = s.controller.queues in
     let u = less_at (λ at. at.unfetched) (entries_weigh w) q f (w e.cid) qs k hand.queue hand.at (omega (arith, dropped_head (entries_weigh w) (λ xs. None) hand.queue.unfetched e (first_is hand.queue.unfetched e hand.first))) in
-    let v : total (answers_weigh w) (completions_at (change q f qs) k) ≡ total (answers_weigh w) (completions_at qs k) = ap (total (answers_weigh w)) (list_same (λ at. at.completions) q f qs k (λ at. refl)) in
+    let v : total (completions_weigh w) (completions_at (change q f qs) k) ≡ total (completions_weigh w) (completions_at qs k) = ap (total (completions_weigh w)) (list_same (λ at. at.completions) q f qs k (λ at. refl)) in
     omega (arith, v, count_less (past_at hs k) (total (entries_weigh w) (unfetched_at qs k)) (total (entries_weigh w) (unfetched_at (change q f qs) k)) (if q == k then w e.cid else 0) (none (q == k) refl) u)
 
--- an answer more
-answered_load : (hs : List HostQueue) (qs : List ServedQueue) (js : List Job) (q : ℕ) (an : PostedCompletion) (k : ℕ) (w : ℕ → ℕ)
+-- a completion more
+completed_load : (hs : List HostQueue) (qs : List ServedQueue) (js : List Job) (q : ℕ) (an : PostedCompletion) (k : ℕ) (w : ℕ → ℕ)
     → load k w hs (change q (λ at. record at { completions = at.completions ++ an ∷ [] }) qs) js ≤ load k w hs qs js + (if q == k then w an.cid else 0)
-answered_load hs qs js q an k w =
+completed_load hs qs js q an k w =
     let f : ServedQueue → ServedQueue = λ at. record at { completions = at.completions ++ an ∷ [] } in
     let u : unfetched_count k w hs (change q f qs) ≡ unfetched_count k w hs qs = ap (λ (xs : List SubEntry). if past_at hs k then 0 else total (entries_weigh w) xs) (list_same (λ at. at.unfetched) q f qs k (λ at. refl)) in
-    let v = more_at (λ at. at.completions) (answers_weigh w) q f (w an.cid) qs k (λ at. omega (arith, total-append (answers_weigh w) at.completions (an ∷ []))) in
+    let v = more_at (λ at. at.completions) (completions_weigh w) q f (w an.cid) qs k (λ at. omega (arith, total-append (completions_weigh w) at.completions (an ∷ []))) in
     omega (arith, u, v)
 
 -- a job more
@@ -191,7 +191,7 @@ lessens_fetch hs s q past k w =
     → load k w hs (change q (λ at. record at { unfetched = drop 1 at.unfetched; rung = at.rung - 1 }) s.controller.queues) s.controller.jobs + (if q == k then w e.cid else 0) ≤ load k w hs s.controller.queues s.controller.jobs = λ e n.
     taken_off_load hs s q e (in_hand s q e n) (past e (in_hand s q e n)) k w in
     fetch_by (λ (t : State). load k w hs t.controller.queues t.controller.jobs ≤ load k w hs s.controller.queues s.controller.jobs) s q (omega arith)
-    (λ e n c. omega (arith, off e n, answered_load hs (a.taken_off q s).controller.queues s.controller.jobs q (posted_completion q e.cid COMMAND_ID_CONFLICT 0 (a.taken_off q s)) k w))
+    (λ e n c. omega (arith, off e n, completed_load hs (a.taken_off q s).controller.queues s.controller.jobs q (posted_completion q e.cid COMMAND_ID_CONFLICT 0 (a.taken_off q s)) k w))
     (λ e n c z. let off' = subst (λ (n : ℕ). load k w hs (change n (λ at. record at { unfetched = drop 1 at.unfetched; rung = at.rung - 1 }) s.controller.queues) s.controller.jobs + (if n == k then w e.cid else 0) ≤ load k w hs s.controller.queues s.controller.jobs) z (off e n) in
     omega (arith, off', fetches_managed hs s e k w))
     (λ e n c other. let t = a.taken_off q s in
@@ -222,12 +222,12 @@ job_less k w q cid (x ∷ js) j e = go (is_job q cid x) refl e (job_less k w q c
 pub lessens_complete : (hs : List HostQueue) (q cid : ℕ) (s : State) → Lessens hs s.controller.queues s.controller.jobs (a.after_complete q cid s).controller.queues (a.after_complete q cid s).controller.jobs
 lessens_complete hs q cid s k w =
     complete_by (λ (t : State). load k w hs t.controller.queues t.controller.jobs ≤ load k w hs s.controller.queues s.controller.jobs) s q cid (omega arith)
-    (λ j at c. answered (a.on_served_queue (named_queue j.entry) cleared (finished q cid j s)) j at (lessens_cleared hs s.controller.queues (finished q cid j s).controller.jobs (named_queue j.entry) k w))
-    (λ j at c. answered (finished q cid j s) j at (omega arith))
+    (λ j at c. completed (a.on_served_queue (named_queue j.entry) cleared (finished q cid j s)) j at (lessens_cleared hs s.controller.queues (finished q cid j s).controller.jobs (named_queue j.entry) k w))
+    (λ j at c. completed (finished q cid j s) j at (omega arith))
   where
-    answered : (t : State) (j : Job) → job_at s q cid ≡ Some j → load k w hs t.controller.queues t.controller.jobs ≤ load k w hs s.controller.queues (filter (λ x. not (is_job q cid x)) s.controller.jobs)
+    completed : (t : State) (j : Job) → job_at s q cid ≡ Some j → load k w hs t.controller.queues t.controller.jobs ≤ load k w hs s.controller.queues (filter (λ x. not (is_job q cid x)) s.controller.jobs)
         → load k w hs (posts_completion q cid (a.final_status s j) j.dw0 t).controller.queues (posts_completion q cid (a.final_status s j) j.dw0 t).controller.jobs ≤ load k w hs s.controller.queues s.controller.jobs
-    answered t j at less = omega (arith, answered_load hs t.controller.queues t.controller.jobs q (posted_completion q cid (a.final_status s j) j.dw0 t) k w, less, job_less k w q cid s.controller.jobs j at)
+    completed t j at less = omega (arith, completed_load hs t.controller.queues t.controller.jobs q (posted_completion q cid (a.final_status s j) j.dw0 t) k w, less, job_less k w q cid s.controller.jobs j at)
 
 -- What the host does
 
@@ -237,15 +237,15 @@ pub posted_load : (hs : List HostQueue) (qs : List ServedQueue) (js : List Job) 
 posted_load hs qs js q entry k w =
     let f : ServedQueue → ServedQueue = λ at. record at { unfetched = at.unfetched ++ entry ∷ [] } in
     let u = more_at (λ at. at.unfetched) (entries_weigh w) q f (w entry.cid) qs k (λ at. omega (arith, total-append (entries_weigh w) at.unfetched (entry ∷ []))) in
-    let v : total (answers_weigh w) (completions_at (change q f qs) k) ≡ total (answers_weigh w) (completions_at qs k) = ap (total (answers_weigh w)) (list_same (λ at. at.completions) q f qs k (λ at. refl)) in
+    let v : total (completions_weigh w) (completions_at (change q f qs) k) ≡ total (completions_weigh w) (completions_at qs k) = ap (total (completions_weigh w)) (list_same (λ at. at.completions) q f qs k (λ at. refl)) in
     omega (arith, v, count_more (past_at hs k) (total (entries_weigh w) (unfetched_at qs k)) (total (entries_weigh w) (unfetched_at (change q f qs) k)) (if q == k then w entry.cid else 0) u)
 
--- the oldest answer of a queue goes
+-- the oldest completion of a queue goes
 pub reaped_load : (hs : List HostQueue) (qs : List ServedQueue) (js : List Job) (q : ℕ) (k : ℕ) (w : ℕ → ℕ) → load k w hs (change q (λ at. record at { completions = drop 1 at.completions }) qs) js ≤ load k w hs qs js
 reaped_load hs qs js q k w =
     let f : ServedQueue → ServedQueue = λ at. record at { completions = drop 1 at.completions } in
     let u : unfetched_count k w hs (change q f qs) ≡ unfetched_count k w hs qs = ap (λ (xs : List SubEntry). if past_at hs k then 0 else total (entries_weigh w) xs) (list_same (λ at. at.unfetched) q f qs k (λ at. refl)) in
-    let v = more_at (λ at. at.completions) (answers_weigh w) q f 0 qs k (λ at. omega (arith, dropped (answers_weigh w) at.completions)) in
+    let v = more_at (λ at. at.completions) (completions_weigh w) q f 0 qs k (λ at. omega (arith, dropped (completions_weigh w) at.completions)) in
     omega (arith, u, v, let nothing : (if (q == k) then 0 else 0) ≡ zero = grind arith in nothing)
 
 -- and it was this one
@@ -257,7 +257,7 @@ heard_load hs qs js q an h k w = elim (option_is (slice_get qs q)) [
       let h = rw e at h in
       let u : unfetched_count k w hs (change q (λ at. record at { completions = drop 1 at.completions }) qs) ≡ unfetched_count k w hs qs =
       ap (λ (xs : List SubEntry). if past_at hs k then 0 else total (entries_weigh w) xs) (list_same (λ at. at.unfetched) q (λ at. record at { completions = drop 1 at.completions }) qs k (λ at. refl)) in
-      let v = less_at (λ at. at.completions) (answers_weigh w) q (λ at. record at { completions = drop 1 at.completions }) (w an.cid) qs k queue e (omega (arith, dropped_head (answers_weigh w) front_completion queue.completions an (head_of queue.completions an h))) in
+      let v = less_at (λ at. at.completions) (completions_weigh w) q (λ at. record at { completions = drop 1 at.completions }) (w an.cid) qs k queue e (omega (arith, dropped_head (completions_weigh w) front_completion queue.completions an (head_of queue.completions an h))) in
       omega (arith, u, v)
 ]
 
@@ -307,13 +307,13 @@ held_not ph e = grind arith
 
 -- Reaping
 
--- the answer that is reaped
-pub reaped_answer : (s : State) (q cid : ℕ) → s.trusted ≡ true → named (reaped s q) ≡ Some cid
+-- the completion that is reaped
+pub reaped_completion : (s : State) (q cid : ℕ) → s.trusted ≡ true → named (reaped s q) ≡ Some cid
     → (an : PostedCompletion) × (option_and_then (λ queue. front_completion queue.completions) (served_queue s q) ≡ Some an) × (an.cid ≡ cid) × (seen_entry s q ≡ Some (entry_of q an))
-reaped_answer s q cid t h = go (reaped s q) refl h
+reaped_completion s q cid t h = go (reaped s q) refl h
   where
     of : (st : Status) (what : Reaped) → ReapTells s q cid st what → (an : PostedCompletion) × (option_and_then (λ queue. front_completion queue.completions) (served_queue s q) ≡ Some an) × (an.cid ≡ cid) × (seen_entry s q ≡ Some (entry_of q an))
-    of st what tells = let x = heard_of s q cid st what tells in let an = completion_heard s q cid st x.0 x.1 t x.2 in (an.answer, an.first, an.its_id, x.2.seen ∙ ap Some an.is)
+    of st what tells = let x = heard_of s q cid st what tells in let an = completion_heard s q cid st x.0 x.1 t x.2 in (an.completion, an.first, an.its_id, x.2.seen ∙ ap Some an.is)
 
     go : (what : Reaped) → reaped s q ≡ what → named what ≡ Some cid → (an : PostedCompletion) × (option_and_then (λ queue. front_completion queue.completions) (served_queue s q) ≡ Some an) × (an.cid ≡ cid) × (seen_entry s q ≡ Some (entry_of q an))
     go (outcome.Done c st) is n = of st (outcome.Done c st) (record { is = sym is; names = n; status = refl })
@@ -341,7 +341,7 @@ places_opens k f s none h q w =
       | inr is ↦ omega (arith, h q w, ap (λ (b : Bool). if b then 0 else total (λ (e : SubEntry). w e.cid) (unfetched_at s.controller.queues q)) (past_other k f s.host.queues q (eqb-false k q is)))
     ]
 
--- the answer is gone, and so is the submitted command
+-- the completion is gone, and so is the submitted command
 places_heard : (q cid : ℕ) (st : Status) (e : ComEntry) (r : Record) (s : State) (rs : List Record) → s.trusted ≡ true → IsHeard s q cid st e r
     → ((k : ℕ) (w : ℕ → ℕ) → total (sent k w) s.host.records ≤ total (sent k w) rs + sent k w r) → PlacesIn s
     → Places (a.heard q e s).host.queues rs (change q (λ at. record at { completions = drop 1 at.completions }) s.controller.queues) s.controller.jobs
@@ -353,7 +353,7 @@ places_heard q cid st e r s rs t heard fewer h =
     (places_hosts s.host.queues hs1 rs (change q (λ at. record at { completions = drop 1 at.completions }) s.controller.queues) s.controller.jobs (consumed_past q (next_head s.entries) s.host.queues)
     (λ k w. omega (
       arith,
-      heard_load s.host.queues s.controller.queues s.controller.jobs q an.answer an.first k w,
+      heard_load s.host.queues s.controller.queues s.controller.jobs q an.completion an.first k w,
       ap (λ (c : ℕ). if q == k then w c else 0) an.its_id,
       h k w,
       fewer k w,
@@ -380,14 +380,14 @@ places_retire q queue s t none e deleted g h = λ k w. elim (cases_Bool (q == k)
       let past : past_at (change q a.retired s.host.queues) k ≡ true = subst (λ (n : ℕ). past_at (change q a.retired s.host.queues) n ≡ true) here' (past_here q a.retired s.host.queues (λ x. refl) queue e) in
       let none_un : unfetched_count k w (change q a.retired s.host.queues) s.controller.queues ≡ 0 = ap (λ (b : Bool). if b then 0 else total (λ (e : SubEntry). w e.cid) (unfetched_at s.controller.queues k)) past in
       let none_jobs : total (job_weight k w) s.controller.jobs ≡ 0 = no_jobs k w s.controller.jobs (subst (λ (n : ℕ). total (on_queue n) s.controller.jobs ≡ 0) here' jobless) in
-      omega (arith, none_un, none_jobs, ap (total (λ (an : PostedCompletion). w an.cid)) (subst (λ (n : ℕ). completions_at s.controller.queues n ≡ []) here' no_answers))
+      omega (arith, none_un, none_jobs, ap (total (λ (an : PostedCompletion). w an.cid)) (subst (λ (n : ℕ). completions_at s.controller.queues n ≡ []) here' no_completions))
   | inr far ↦
       let past : past_at (change q a.retired s.host.queues) k ≡ past_at s.host.queues k = past_other q a.retired s.host.queues k (eqb-false q k far) in
       omega (arith, ap (λ (b : Bool). if b then 0 else total (λ (e : SubEntry). w e.cid) (unfetched_at s.controller.queues k)) past, h k w, same_sent k w far)
 ]
   where
-    no_answers : completions_at s.controller.queues q ≡ []
-    no_answers = at (served_queue s q) (subst (λ (o : Option ComEntry). is_some o ≡ false) (seen_trusted s q t) (unrefused s (events.Retire q) none).1.0)
+    no_completions : completions_at s.controller.queues q ≡ []
+    no_completions = at (served_queue s q) (subst (λ (o : Option ComEntry). is_some o ≡ false) (seen_trusted s q t) (unrefused s (events.Retire q) none).1.0)
       where
         empty : (xs : List PostedCompletion) → is_some (option_map (entry_of q) (front_completion xs)) ≡ false → xs ≡ []
         empty [] e = refl

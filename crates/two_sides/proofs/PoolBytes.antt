@@ -13,7 +13,7 @@ use Rattle.machine_model.{proofs.{HostLeaves.host_leaves, Steps.{Accepts, kept_a
 use Rattle.machine_model.specs.{Refusals.slot_offset, State.State, Step.{IsController, resets, Step, HostPart}}
 use Rattle.machine_model.specs.Trusted.{Steps, forges_by, is_forgery, is_reset}
 use Rattle.two_sides.specs.{Histories.{trusted_ends_are_unforged, since_reset, resets_restore_trust}, Lists.{walks_read_the_pool, walks_go_as_in_the_pool}}
-use Rattle.two_sides.specs.Slots.{entries_lie_in_pages, answers_lie_in_pages, entries_stand_in_memory, answers_stand_in_memory, entries_are_written, answers_are_written}
+use Rattle.two_sides.specs.Slots.{entries_lie_in_pages, completions_lie_in_pages, entries_stand_in_memory, completions_stand_in_memory, entries_are_written, completions_are_written}
 use Rattle.page_ledger.specs.Owners.{pages_from}
 use Rattle.queue_pair.specs.Memory.{submission_page, completion_page}
 
@@ -51,8 +51,8 @@ page_in_order p (suc k) (suc i) l = page_in_order (p + 1) k i (omega arith) ∙ 
 pub entry_pages : entries_lie_in_pages
 entry_pages sq pages slot l = page_in_order sq pages (slot * 64 / 4096) (omega arith) ∙ omega arith
 
-pub answer_pages : answers_lie_in_pages
-answer_pages cq pages slot l = page_in_order cq pages (slot * 16 / 4096) (omega arith) ∙ omega arith
+pub completion_pages : completions_lie_in_pages
+completion_pages cq pages slot l = page_in_order cq pages (slot * 16 / 4096) (omega arith) ∙ omega arith
 
 -- a range in one page, by its page
 in_page : (m : Pages) (p at n : ℕ) (o : Option (List ℕ)) → page_at m p ≡ o → IfSome o (λ page. length page ≡ 4096) → at + n ≤ 4096 → 0 < n
@@ -70,11 +70,11 @@ entries_stand m sq pages slot whole l =
     ∙ in_page m (submission_page sq slot) (slot * 64 % 4096) 64 (page_at m (submission_page sq slot)) refl (whole (submission_page sq slot)) at (omega arith)
     ∙ ap (λ (place : ℕ). bytes_at (byte_at m) place 64) place
 
-pub answers_stand : answers_stand_in_memory
-answers_stand m cq pages slot whole l =
+pub completions_stand : completions_stand_in_memory
+completions_stand m cq pages slot whole l =
     let at : slot * 16 % 4096 + 16 ≤ 4096 = omega arith in
     let place : 4096 * (cq + slot / 256) + slot * 16 % 4096 ≡ 4096 * cq + 16 * slot = omega arith in
-    ap (λ (p : ℕ). option_map (λ bytes. slice_range bytes (slot_offset 16 slot) (slot_offset 16 slot + 16)) (page_at m p)) (answer_pages cq pages slot l)
+    ap (λ (p : ℕ). option_map (λ bytes. slice_range bytes (slot_offset 16 slot) (slot_offset 16 slot + 16)) (page_at m p)) (completion_pages cq pages slot l)
     ∙ in_page m (completion_page cq slot) (slot * 16 % 4096) 16 (page_at m (completion_page cq slot)) refl (whole (completion_page cq slot)) at (omega arith)
     ∙ ap (λ (place : ℕ). bytes_at (byte_at m) place 16) place
 
@@ -86,11 +86,11 @@ entries_written m sq pages slot page bytes l found whole count =
     ∙ byte_at-with_page_bytes m (submission_page sq slot) (slot * 64 % 4096) bytes page found whole at
     ∙ ap (λ (place : ℕ). written (byte_at m) place bytes) place
 
-pub answers_written : answers_are_written
-answers_written m cq pages slot page bytes l found whole count =
+pub completions_written : completions_are_written
+completions_written m cq pages slot page bytes l found whole count =
     let at : slot * 16 % 4096 + length bytes ≤ 4096 = omega (arith, count) in
     let place : 4096 * (cq + slot / 256) + slot * 16 % 4096 ≡ 4096 * cq + 16 * slot = omega arith in
-    ap (λ (p : ℕ). byte_at (with_page_bytes m p (slot_offset 16 slot) bytes)) (answer_pages cq pages slot l)
+    ap (λ (p : ℕ). byte_at (with_page_bytes m p (slot_offset 16 slot) bytes)) (completion_pages cq pages slot l)
     ∙ byte_at-with_page_bytes m (completion_page cq slot) (slot * 16 % 4096) bytes page found whole at
     ∙ ap (λ (place : ℕ). written (byte_at m) place bytes) place
 

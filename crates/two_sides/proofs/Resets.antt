@@ -214,12 +214,12 @@ opened_are_worlds c image opens =
           };
           provided = runs_provide c.pages c.queues c.entries c.segment image [] [] start opens refl;
           controller = record { commands = record { each = tt; differ = λ q cid. omega arith }; awaited = tt };
-          queues = shared 0 c.entries 0 (c.queues + 1) l.least_entries l.most_entries;
+          queues = shared 0 c.entries 0 (c.queues + 1) l.numbers.least_entries l.numbers.most_entries;
           admin = admin_shared 0 c.entries 0 (c.queues + 1);
         };
         recovers = subst (λ (s : State). CanRecover s) (sym same) (openings_recover c.pages c.queues c.entries c.segment image opens);
         tied = record {
-          queues = all_stand c.pages 0 c.entries 0 (c.queues + 1) (omega (arith, l.least_entries)) (from_zero _ c.pages (fits_pool c.pages c.queues c.entries c.segment opens));
+          queues = all_stand c.pages 0 c.entries 0 (c.queues + 1) (omega (arith, l.numbers.least_entries)) (from_zero _ c.pages (fits_pool c.pages c.queues c.entries c.segment opens));
           walks = tt;
           agree = subst (λ (s : State). SidesAgree s) (sym same) (opening_agrees c.pages c.queues c.entries c.segment image opens);
           serve = subst (λ (s : State). CompletionsServe s) (sym same) (opening_serves c.pages c.queues c.entries c.segment image);

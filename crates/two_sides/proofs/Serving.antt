@@ -199,13 +199,13 @@ asked_unmade rs q (e ∷ un) all any = go (asks_sq_deletion q e) refl any (λ la
     go : (b : Bool) → asks_sq_deletion q e ≡ b → (b || list_any (asks_sq_deletion q) un) ≡ true → (list_any (asks_sq_deletion q) un ≡ true → 0 < total (λ e. one (is_kind (deletes_sq q) rs e.cid)) un) → 0 < one (is_kind (deletes_sq q) rs e.cid) + total (λ e. one (is_kind (deletes_sq q) rs e.cid)) un
     go b is any later = grind arith
 
-answered_serve : (q : ℕ) (cid : ℕ) (st : Status) (dw0 : ℕ) (t : State) → ServeS t → ServeS (posts_completion q cid st dw0 t)
-answered_serve q cid st dw0 t h = serve_same (λ at. record at { completions = at.completions ++ posted_completion q cid st dw0 t ∷ [] }) q t.host.queues t.controller.queues (λ x there. there) (λ x. refl) h
+completed_serve : (q : ℕ) (cid : ℕ) (st : Status) (dw0 : ℕ) (t : State) → ServeS t → ServeS (posts_completion q cid st dw0 t)
+completed_serve q cid st dw0 t h = serve_same (λ at. record at { completions = at.completions ++ posted_completion q cid st dw0 t ∷ [] }) q t.host.queues t.controller.queues (λ x there. there) (λ x. refl) h
 
 fetch_serves : (s : State) (q : ℕ) → SidesAgree s → ServeS s → ServeS (a.after_fetch q s)
 fetch_serves s q agree h =
     fetch_by ServeS s q h
-    (λ e next con. answered_serve q e.cid _ 0 (a.taken_off q s) (serve_taken q hs ds h))
+    (λ e next con. completed_serve q e.cid _ 0 (a.taken_off q s) (serve_taken q hs ds h))
     (λ e next con z. managed_by ServeS e (a.taken_off 0 s)
     (record {
       refuses = λ st bad. off;
@@ -263,8 +263,8 @@ serve_controller_event s (events.Fetch q) (events.Fetched cid touched) ok c agre
 serve_controller_event s (events.Walk q cid) (events.Walked o touched) ok c agree h = walk_by ServeS s q cid h (λ j act at u. h)
 serve_controller_event s (events.Complete q cid) (events.Completed touched) ok c agree h =
     complete_by ServeS s q cid h
-    (λ j at c. answered_serve q cid (a.final_status s j) j.dw0 (a.on_served_queue (named_queue j.entry) _ (finished q cid j s)) (serve_cleared (named_queue j.entry) s.host.queues s.controller.queues h))
-    (λ j at c. answered_serve q cid (a.final_status s j) j.dw0 (finished q cid j s) h)
+    (λ j at c. completed_serve q cid (a.final_status s j) j.dw0 (a.on_served_queue (named_queue j.entry) _ (finished q cid j s)) (serve_cleared (named_queue j.entry) s.host.queues s.controller.queues h))
+    (λ j at c. completed_serve q cid (a.final_status s j) j.dw0 (finished q cid j s) h)
 serve_controller_event s (events.Fetch q) reply ok c agree h = absurd ok.1
 serve_controller_event s (events.Walk q cid) reply ok c agree h = absurd ok.1
 serve_controller_event s (events.Complete q cid) reply ok c agree h = absurd ok.1

@@ -29,7 +29,7 @@ use Rattle.page_memory.proofs.Lists.{found_is, all-found}
 pub use Rattle.machine_model.specs.Agreeing.{waiting, admin_completions}
 pub use Rattle.machine_model.proofs.Moves.{named, seen_trusted}
 
--- What one change of the controller's queues does to sums over entries and answers.
+-- What one change of the controller's queues does to sums over entries and completions.
 
 abbrev pub list_at : {B : Type 0} → (ServedQueue → List B) → List ServedQueue → ℕ → List B
 list_at get qs q = option_map_or get (slice_get qs q) []
@@ -116,7 +116,7 @@ admin_completions_other f zero ds e = absurd (true≢false e)
 admin_completions_other f (suc k) [] e = refl
 admin_completions_other f (suc k) (at ∷ ds) e = refl
 
--- what it leaves where the entries and the answers of queue 0 stay
+-- what it leaves where the entries and the completions of queue 0 stay
 pub placed_change : (rs : List Record) (d : Controller) (k : ℕ) (f : ServedQueue → ServedQueue)
     → waiting (change k f d.queues) ≡ waiting d.queues → admin_completions (change k f d.queues) ≡ admin_completions d.queues
     → PlacedIn rs d → PlacedIn rs (record d { queues = change k f d.queues })
@@ -129,9 +129,9 @@ placed_other rs d k f other h = placed_change rs d k f (waiting_other f k d.queu
 
 -- Where memory alone differs
 
-pub controller-answered : (q cid : ℕ) (st : Status) (dw0 : ℕ) (s : State)
-    → (a.answered q cid st dw0 s).controller ≡ record s.controller { queues = change q (λ at. record at { completions = at.completions ++ record { cid = cid; status = st; dw0 = dw0; sq_head = fetch_slot s q } ∷ [] }) s.controller.queues }
-controller-answered q cid st dw0 s = grind arith
+pub controller-completed : (q cid : ℕ) (st : Status) (dw0 : ℕ) (s : State)
+    → (a.with_posted_completion q cid st dw0 s).controller ≡ record s.controller { queues = change q (λ at. record at { completions = at.completions ++ record { cid = cid; status = st; dw0 = dw0; sq_head = fetch_slot s q } ∷ [] }) s.controller.queues }
+controller-completed q cid st dw0 s = grind arith
 
 pub controller-posted : (q : ℕ) (entry : SubEntry) (s : State)
     → (a.posted q entry s).controller ≡ record s.controller { queues = change q (λ at. record at { unfetched = at.unfetched ++ entry ∷ [] }) s.controller.queues }
@@ -221,10 +221,10 @@ placed_managed rs e s h =
     other : {P : Type 0} (n : ℕ) → (e.opcode == n) ≡ true → (n == DELETE_IO_SQ) ≡ false → (e.opcode == DELETE_IO_SQ) ≡ true → P
     other n is differs deletes = absurd (true≢false (sym deletes ∙ ap (λ (o : ℕ). o == DELETE_IO_SQ) (eqb-true e.opcode n is) ∙ differs))
 
-placed_answered_other : (rs : List Record) (q : ℕ) (an : PostedCompletion) (d : Controller) → (q == 0) ≡ false → PlacedIn rs d → PlacedIn rs (record d { queues = change q (λ at. record at { completions = at.completions ++ an ∷ [] }) d.queues })
-placed_answered_other rs q an d other h = placed_other rs d q (λ at. record at { completions = at.completions ++ an ∷ [] }) other h
+placed_completed_other : (rs : List Record) (q : ℕ) (an : PostedCompletion) (d : Controller) → (q == 0) ≡ false → PlacedIn rs d → PlacedIn rs (record d { queues = change q (λ at. record at { completions = at.completions ++ an ∷ [] }) d.queues })
+placed_completed_other rs q an d other h = placed_other rs d q (λ at. record at { completions = at.completions ++ an ∷ [] }) other h
 
--- an answer more of queue 0, which is there
+-- a completion more of queue 0, which is there
 pub admin_completions_more : (ds : List ServedQueue) (an : PostedCompletion) → is_some (slice_get ds 0) ≡ true → admin_completions (change 0 (λ at. record at { completions = at.completions ++ an ∷ [] }) ds) ≡ admin_completions ds ++ an ∷ []
 admin_completions_more [] an h = absurd (true≢false (sym h))
 admin_completions_more (at ∷ ds) an h = refl
@@ -254,7 +254,7 @@ placed_fetch rs zero s h =
 placed_fetch rs (suc k) s h =
     let base : PlacedIn rs (a.taken_off (suc k) s).controller = placed_other rs s.controller (suc k) (λ at. record at { unfetched = drop 1 at.unfetched; rung = at.rung - 1 }) (far_suc k) h in
     fetch_by (λ (t : State). PlacedIn rs t.controller) s (suc k) h
-    (λ e next c. placed_answered_other rs (suc k) (posted_completion (suc k) e.cid COMMAND_ID_CONFLICT 0 (a.taken_off (suc k) s)) (a.taken_off (suc k) s).controller (far_suc k) base)
+    (λ e next c. placed_completed_other rs (suc k) (posted_completion (suc k) e.cid COMMAND_ID_CONFLICT 0 (a.taken_off (suc k) s)) (a.taken_off (suc k) s).controller (far_suc k) base)
     (λ e next c z. absurd (omega arith))
     (λ e next c other. let fault = io_fault (a.image_blocks (a.taken_off (suc k) s)) e in
     record { placed = placed_job_more rs _ (a.taken_off (suc k) s).controller.jobs _ (a.new_job (suc k) e fault 0 (bytes_after_check s.controller.image e fault)) (far_suc k) base.placed })
@@ -294,11 +294,11 @@ verdict_there j h = go j.verdict h
 pub clears_io : (rs : List Record) (s : State) (j : Job) (st : Status) → JobKnown rs j → j.q ≡ 0 → j.verdict ≡ Some st → clears s j ≡ true → (named_queue j.entry == 0) ≡ false
 clears_io rs s j st known jq v c = grind arith
 
--- the answer of a job of queue 0 takes its place
-placed_answer : (rs : List Record) (cid : ℕ) (d : Controller) (ds : List ServedQueue) (j : Job) (an : PostedCompletion) → find (is_job 0 cid) d.jobs ≡ Some j → an.cid ≡ cid
+-- the completion of a job of queue 0 takes its place
+placed_completion : (rs : List Record) (cid : ℕ) (d : Controller) (ds : List ServedQueue) (j : Job) (an : PostedCompletion) → find (is_job 0 cid) d.jobs ≡ Some j → an.cid ≡ cid
     → waiting ds ≡ waiting d.queues → admin_completions ds ≡ admin_completions d.queues → is_some (slice_get ds 0) ≡ true → PlacedIn rs d
     → Placed rs (waiting (change 0 (λ at. record at { completions = at.completions ++ an ∷ [] }) ds)) (filter (λ k. not (is_job 0 cid k)) d.jobs) (admin_completions (change 0 (λ at. record at { completions = at.completions ++ an ∷ [] }) ds))
-placed_answer rs cid d ds j an found same w an' there h =
+placed_completion rs cid d ds j an found same w an' there h =
     rw (waiting_same (λ at. record at { completions = at.completions ++ an ∷ [] }) (λ at. refl) 0 ds, admin_completions_more ds an there, w, an')
     (placed_completed rs (waiting d.queues) d.jobs (admin_completions d.queues) cid j an found same h.placed)
 
@@ -324,17 +324,17 @@ placed_complete rs zero cid s none h =
     let jq : j.q ≡ 0 = eqb-true j.q 0 (and_parts (j.q == 0) (j.entry.cid == cid) (found_is (is_job 0 cid) s.controller.jobs j e)).0 in
     let n0 = clears_io rs s j v.0 (all-found (JobKnown rs) (is_job 0 cid) s.controller.jobs j e h.placed.jobs) jq v.1 c in
     record {
-      placed = placed_answer rs cid s.controller (change (named_queue j.entry) cleared s.controller.queues) j
+      placed = placed_completion rs cid s.controller (change (named_queue j.entry) cleared s.controller.queues) j
           (posted_completion 0 cid (a.final_status s j) j.dw0 (a.on_served_queue (named_queue j.entry) cleared (finished 0 cid j s))) e refl
           (waiting_other cleared (named_queue j.entry) s.controller.queues n0) (admin_completions_other cleared (named_queue j.entry) s.controller.queues n0)
           (some_still cleared (named_queue j.entry) s.controller.queues there) h;
     })
-    (λ j e c. record { placed = placed_answer rs cid s.controller s.controller.queues j (posted_completion 0 cid (a.final_status s j) j.dw0 (finished 0 cid j s)) e refl refl refl there h })
+    (λ j e c. record { placed = placed_completion rs cid s.controller s.controller.queues j (posted_completion 0 cid (a.final_status s j) j.dw0 (finished 0 cid j s)) e refl refl refl there h })
 placed_complete rs (suc k) cid s none h =
     let its_queue : (j : Job) → job_at s (suc k) cid ≡ Some j → (j.q == 0) ≡ false = λ j e.
     ap (λ (n : ℕ). n == 0) (eqb-true j.q (suc k) (and_parts (j.q == suc k) (j.entry.cid == cid) (found_is (is_job (suc k) cid) s.controller.jobs j e)).0) ∙ far_suc k in
     complete_by (λ (t : State). PlacedIn rs t.controller) s (suc k) cid h (λ j e c. absurd (true≢false (sym (and_parts (j.q == 0) (j.entry.opcode == DELETE_IO_SQ) (and_parts ((j.q == 0) && (j.entry.opcode == DELETE_IO_SQ)) (is_success (a.final_status s j)) c).0).0 ∙ its_queue j e)))
-    (λ j e c. placed_answered_other rs (suc k) (posted_completion (suc k) cid (a.final_status s j) j.dw0 (finished (suc k) cid j s)) (finished (suc k) cid j s).controller (far_suc k)
+    (λ j e c. placed_completed_other rs (suc k) (posted_completion (suc k) cid (a.final_status s j) j.dw0 (finished (suc k) cid j s)) (finished (suc k) cid j s).controller (far_suc k)
     (record { placed = placed_job_less rs (waiting s.controller.queues) s.controller.jobs (admin_completions s.controller.queues) (λ j'. not (is_job (suc k) cid j')) h.placed }))
 
 -- The host's events keep where admin commands stand; every trusted run does.
@@ -424,7 +424,7 @@ stands_consumed : (q : ℕ) (s : State) → Stands s → Stands (a.consumed q s)
 stands_consumed zero s h = admin_completions_less s.host.records s.controller h
 stands_consumed (suc k) s h = placed_other s.host.records s.controller (suc k) (λ at. record at { completions = drop 1 at.completions }) (far_suc k) h
 
--- the oldest answer of queue 0 goes with its record
+-- the oldest completion of queue 0 goes with its record
 stands_reaped : (cid : ℕ) (an : PostedCompletion) (s : State) → option_and_then (λ queue. front_completion queue.completions) (served_queue s 0) ≡ Some an → an.cid ≡ cid → total (here 0 cid) s.host.records < 2 → Stands s
     → PlacedIn (without_record 0 cid s.host.records) (record s.controller { queues = change 0 (λ at. record at { completions = drop 1 at.completions }) s.controller.queues })
 stands_reaped cid an s first is once h = record { placed = rw (waiting_same (λ at. record at { completions = drop 1 at.completions }) (λ at. refl) 0 s.controller.queues) reaped' }
@@ -497,7 +497,7 @@ stands_host s e reply ok c t h =
         let zero' = admin_zero s q cid r adm h.0 heard.found w in
         let an = completion_heard s q cid st e r t heard in
         subst (λ (z : ℕ). Stands (heard_without z cid e s)) (sym zero')
-        (stands_reaped cid an.answer s (subst (λ (z : ℕ). option_and_then (λ (queue : ServedQueue). front_completion queue.completions) (served_queue s z) ≡ Some an.answer) zero' an.first) an.its_id (h.0.once 0 cid) h.1)
+        (stands_reaped cid an.completion s (subst (λ (z : ℕ). option_and_then (λ (queue : ServedQueue). front_completion queue.completions) (served_queue s z) ≡ Some an.completion) zero' an.first) an.its_id (h.0.once 0 cid) h.1)
 
 stands_walk : (q cid : ℕ) (s : State) → refusal_of s (events.Walk q cid) ≡ None → Stands s → PlacedIn s.host.records (a.after_walk q cid s).controller
 stands_walk q cid s none h =

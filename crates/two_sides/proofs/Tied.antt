@@ -22,7 +22,7 @@ use Rattle.entry_codec.specs.declared.{admin_opcode.TheConstants.DELETE_IO_SQ, c
 use Rattle.entry_codec.specs.declared.{status.TheConstants.Status.{SUCCESS, ABORT_REQUESTED, ABORTED_SQ_DELETION}, submission.SubEntry.SubEntry}
 use Rattle.io_commands.specs.Jobs.{is_success, io_fault, bytes_after_check}
 use Rattle.queue_pair.specs.{Members.change, Memory.half_pages, Rings.{next_tail, next_head, knowing, HostRing}}
-use Rattle.two_sides.proofs.ControllerMoves.{paired_at, found_counts, Tied, Tie, Fit, tie_jobs, tie_less, tie_answered, tie_stop, tie_drop, tie_completion, tie_submission, tie_kill, stays_false, tie_host, tie_ring, tie_posted, pair_moves, unit_done, cleared, fetch_by, walk_by, complete_by}
+use Rattle.two_sides.proofs.ControllerMoves.{paired_at, found_counts, Tied, Tie, Fit, tie_jobs, tie_less, tie_completed, tie_stop, tie_drop, tie_completion, tie_submission, tie_kill, stays_false, tie_host, tie_ring, tie_posted, pair_moves, unit_done, cleared, fetch_by, walk_by, complete_by}
 use Rattle.two_sides.proofs.Standing.{runs_there, verdict_there, final_admin}
 use Rattle.page_memory.specs.declared.page.Half.TheVariants.{Submission, Completion}
 use Rattle.page_ledger.proofs.Pages.{length-pages_from}
@@ -126,7 +126,7 @@ tie_fetch part q s h =
     let kept : (e : SubEntry) → next_rung s q ≡ Some e → (k : ℕ) → gone_at (a.taken_off k s).controller.queues q ≡ false = λ e next k.
     stays_false (λ (d : ServedQueue). is_absent d.state) true k (λ at. record at { unfetched = drop 1 at.unfetched; rung = at.rung - 1 }) s.controller.queues q (λ d ed z i. i) (grind arith) in
     fetch_by (λ (t : State). TieP part t.controller) s q h
-    (λ e next c. tie_answered part.entries part.host.queues (a.taken_off q s).controller.queues s.controller.jobs q _ (rung_served part s q e next h.pairs) (off q))
+    (λ e next c. tie_completed part.entries part.host.queues (a.taken_off q s).controller.queues s.controller.jobs q _ (rung_served part s q e next h.pairs) (off q))
     (λ e next c z. tie_managed part e (a.taken_off 0 s) (subst (λ (k : ℕ). gone_at (a.taken_off 0 s).controller.queues k ≡ false) z (kept e next 0)) (subst (λ (k : ℕ). out_at part.host.queues k ≡ false) z (rung_served part s q e next h.pairs)) (off 0))
     (λ e next c other. let fault = io_fault (a.image_blocks (a.taken_off q s)) e in
     tie_more part (a.taken_off q s).controller (a.new_job q e fault 0 (bytes_after_check s.controller.image e fault)) (kept e next q) (rung_served part s q e next h.pairs) (off q))
@@ -151,11 +151,11 @@ tie_complete part q cid s none h =
     let v = verdict_there j judged in
     let c1 = and_parts ((j.q == 0) && (j.entry.opcode == DELETE_IO_SQ)) (is_success (a.final_status s j)) c in
     let ok : is_success v.0 ≡ true = ap is_success (sym (final_admin s j v.0 (eqb-true j.q 0 (and_parts (j.q == 0) (j.entry.opcode == DELETE_IO_SQ) c1.0).0) v.1)) ∙ c1.1 in
-    tie_answered part.entries part.host.queues (change (named_queue j.entry) cleared s.controller.queues) rest q _ (h.service q (found_counts q cid s.controller.jobs j e))
+    tie_completed part.entries part.host.queues (change (named_queue j.entry) cleared s.controller.queues) rest q _ (h.service q (found_counts q cid s.controller.jobs j e))
     (tie_kill part.entries part.host.queues s.controller.queues rest (named_queue j.entry)
     -- a job of queue 0 whose deletion is done has no job of its queue before it
     (omega (arith, none_left (named_queue j.entry) s.controller.jobs (grind arith), total-filter (on_queue (named_queue j.entry)) (λ k. not (is_job q cid k)) s.controller.jobs)) less))
-    (λ j e c. tie_answered part.entries part.host.queues s.controller.queues rest q _ (h.service q (found_counts q cid s.controller.jobs j e)) less)
+    (λ j e c. tie_completed part.entries part.host.queues s.controller.queues rest q _ (h.service q (found_counts q cid s.controller.jobs j e)) less)
 
 -- The host's events keep the controller's queues tied to the host's.
 
@@ -194,8 +194,8 @@ tie_heard q e s none h =
 
 -- Retiring: its completions are reaped
 
-pub no_answers : (s : State) (q : ℕ) → s.trusted ≡ true → refusal_of s (events.Retire q) ≡ None → (d : ServedQueue) → slice_get s.controller.queues q ≡ Some d → d.completions ≡ []
-no_answers s q t none d ed = grind arith
+pub no_completions : (s : State) (q : ℕ) → s.trusted ≡ true → refusal_of s (events.Retire q) ≡ None → (d : ServedQueue) → slice_get s.controller.queues q ≡ Some d → d.completions ≡ []
+no_completions s q t none d ed = grind arith
 
 -- Every event
 
@@ -311,7 +311,7 @@ tie_host_event s e reply ok c g h =
             half = p.half;
             emptied = p.emptied;
             unfetched = λ o. p.emptied (sym (ap (λ (o : Option ServedQueue). option_map_or (λ at. is_absent at.state) o true) ed) ∙ gone);
-            completions = λ o. no_answers s q g.trusted none d ed;
+            completions = λ o. no_completions s q g.trusted none d ed;
             fresh = λ o. absurd (true≢false (sym o));
           })
           (λ x ex some o. absurd (true≢false (sym gone ∙ h.jobs q some))) h;
@@ -359,7 +359,7 @@ tokens_alike rs hs hs' ds un js ans a h = record {
 
 pub record Sends (rs : List Record) (un : List SubEntry) (js : List Job) (ans : List PostedCompletion) (rs' : List Record) (un' : List SubEntry) (adm : AdminKind) : Type 0 where
   pub unmade : (test : AdminKind → Bool) → unmade test rs' un' js ans ≤ unmade test rs un js ans + one (test adm)
-  pub answered : (test : AdminKind → Bool) → completed_well test rs' ans ≤ completed_well test rs ans
+  pub completed : (test : AdminKind → Bool) → completed_well test rs' ans ≤ completed_well test rs ans
   pub done : (test : AdminKind → Bool) → done_well test rs' js ans ≤ done_well test rs js ans
 
 pub sends_more : (rs : List Record) (un : List SubEntry) (js : List Job) (ans : List PostedCompletion) (new : Record) (adm : AdminKind) (id : ℕ) → Placed rs un js ans → Knows (rs ++ new ∷ []) id adm
@@ -368,7 +368,7 @@ sends_more rs un js ans new adm id placed k =
     let few = (fewer_kept rs (rs ++ new ∷ []) un js ans placed (λ c a w. (w.0, find_more (is_at 0 c) rs new w.0 w.1, w.2))).0 in
     record {
       unmade = λ test. omega (arith, few.unmade test, total-append (λ (e : SubEntry). one (is_kind test (rs ++ new ∷ []) e.cid)) un (admin_entry adm id ∷ []), ap one (kind_known test (rs ++ new ∷ []) id adm k));
-      answered = few.answered;
+      completed = few.completed;
       done = few.done;
     }
 
@@ -381,7 +381,7 @@ pub record Turns (hs hs' : List HostQueue) (adm : AdminKind) : Type 0 where
 pub tokens_sends : (rs rs' : List Record) (hs hs' : List HostQueue) (ds : List ServedQueue) (un un' : List SubEntry) (js : List Job) (ans : List PostedCompletion) (adm : AdminKind) → Sends rs un js ans rs' un' adm → Turns hs hs' adm
     → TokensHeld rs hs ds un js ans → TokensHeld rs' hs' ds un' js ans
 tokens_sends rs rs' hs hs' ds un un' js ans adm f t h = record {
-  submission = λ q. omega (arith, h.submission q, f.unmade (creates_sq_agreeing q), f.answered (deletes_sq q), t.known q);
+  submission = λ q. omega (arith, h.submission q, f.unmade (creates_sq_agreeing q), f.completed (deletes_sq q), t.known q);
   completion = λ q. omega (arith, h.completion q, f.unmade (creates_cq_agreeing q), f.done (deletes_cq q), t.gone q);
   there = λ q inside some. h.there q (omega (arith, inside, t.long)) (omega (arith, some, f.unmade (deletes_sq q), f.done (creates_sq_agreeing q), t.live q));
 }
@@ -421,7 +421,7 @@ turns_not adm hs none = record {
 
 pub record Hears (rs : List Record) (un : List SubEntry) (js : List Job) (ans : List PostedCompletion) (rs' : List Record) (ans' : List PostedCompletion) (adm : AdminKind) (ok : Bool) : Type 0 where
   pub unmade : (test : AdminKind → Bool) → unmade test rs' un js ans' + one (test adm && not ok) ≤ unmade test rs un js ans
-  pub answered : (test : AdminKind → Bool) → completed_well test rs' ans' + one (test adm && ok) ≤ completed_well test rs ans
+  pub completed : (test : AdminKind → Bool) → completed_well test rs' ans' + one (test adm && ok) ≤ completed_well test rs ans
   pub done : (test : AdminKind → Bool) → done_well test rs' js ans' + one (test adm && ok) ≤ done_well test rs js ans
 
 pub hears_first : (rs : List Record) (cid : ℕ) (un : List SubEntry) (js : List Job) (an : PostedCompletion) (ans : List PostedCompletion) (adm : AdminKind) → an.cid ≡ cid → Knows rs cid adm → Placed (without_record 0 cid rs) un js ans
@@ -431,7 +431,7 @@ hears_first rs cid un js an ans adm same k placed =
     let few = (fewer_kept (without_record 0 cid rs) rs un js ans placed (knows_back 0 cid rs)).1 in
     record {
       unmade = λ test. omega (arith, few.unmade test, ap (λ (b : Bool). one (b && not (is_success an.status))) (kind test));
-      answered = λ test. omega (arith, few.answered test, ap (λ (b : Bool). one (b && is_success an.status)) (kind test));
+      completed = λ test. omega (arith, few.completed test, ap (λ (b : Bool). one (b && is_success an.status)) (kind test));
       done = λ test. omega (arith, few.done test, ap (λ (b : Bool). one (b && is_success an.status)) (kind test));
     }
 
@@ -444,7 +444,7 @@ pub record MovesOn (hs hs' : List HostQueue) (adm : AdminKind) (ok : Bool) : Typ
 pub tokens_hears : (rs rs' : List Record) (hs hs' : List HostQueue) (ds : List ServedQueue) (un : List SubEntry) (js : List Job) (ans ans' : List PostedCompletion) (adm : AdminKind) (ok : Bool) → Hears rs un js ans rs' ans' adm ok → MovesOn hs hs' adm ok
     → TokensHeld rs hs ds un js ans → TokensHeld rs' hs' ds un js ans'
 tokens_hears rs rs' hs hs' ds un js ans ans' adm ok f m h = record {
-  submission = λ q. omega (arith, h.submission q, f.unmade (creates_sq_agreeing q), f.answered (deletes_sq q), m.known q);
+  submission = λ q. omega (arith, h.submission q, f.unmade (creates_sq_agreeing q), f.completed (deletes_sq q), m.known q);
   completion = λ q. omega (arith, h.completion q, f.unmade (creates_cq_agreeing q), f.done (deletes_cq q), m.gone q);
   there = λ q inside some. h.there q (omega (arith, inside, m.long)) (omega (arith, some, f.unmade (deletes_sq q), f.done (creates_sq_agreeing q), m.live q));
 }

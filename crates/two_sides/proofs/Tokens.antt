@@ -15,7 +15,7 @@ use Rattle.machine_model.proofs.{Owned.{Awaited, awaited_at, awaits, was_awaited
 use Rattle.machine_model.proofs.Steps.{managed_by, absent_state, unrefused, Accepts}
 use Rattle.machine_model.proofs.Tokens.{find_filter, total_gone, Named, Fewer, named, total_below, total_none, total_map_all, kind_found, failing, succeeding, failed, succeeded, find_more, find_new, find_map, fewer_kept, knows_back}
 use Rattle.machine_model.proofs.TokensKept.{TokensHeld, Fetched, fetched, tokens_fewer, tokens_controller, tokens_plain, tokens_drop, tokens_completion, tokens_submission, controller_same, controller_other, reset_tokens}
-use Rattle.machine_model.specs.Agreeing.{is_known_deleted, knows_deleted_at, is_live_at, waiting, admin_completions, AdminCommandsStand as Placed, Knows, JobKnown, is_absent_at as gone_at, entry_is, job_is, answer_is, is_kind, succeeds, unmade, completed_well, done_well, deletes_sq, deletes_cq, creates_cq, creates_sq, creates_cq as makes_cq, creates_sq as makes_sq}
+use Rattle.machine_model.specs.Agreeing.{is_known_deleted, knows_deleted_at, is_live_at, waiting, admin_completions, AdminCommandsStand as Placed, Knows, JobKnown, is_absent_at as gone_at, entry_is, job_is, completion_is, is_kind, succeeds, unmade, completed_well, done_well, deletes_sq, deletes_cq, creates_cq, creates_sq, creates_cq as makes_cq, creates_sq as makes_sq}
 use Rattle.machine_model.specs.Events.{Event, Reply}
 use Rattle.machine_model.specs.Refusals.{is_asked, is_live, is_making_sq, deletes_sq_of, creates_sq_of, job_at, next_rung, refusal_of, is_job, is_gone, is_submitted, has_cq_alone}
 use Rattle.machine_model.specs.State.{State, HostQueue, ServedQueue, Controller, Record, Job, PostedCompletion, is_at, without_record, with_record}
@@ -42,7 +42,7 @@ fewer_jobs : (rs : List Record) (un : List SubEntry) (js : List Job) (ans : List
     → AllByRecursion (λ j. ((f j).q ≡ j.q) × ((f j).entry ≡ j.entry) × ((j.q ≡ 0) → succeeds (f j) ≡ succeeds j)) js → Fewer rs un js ans rs un (map f js) ans
 fewer_jobs rs un js ans f same = record {
   unmade = λ test. omega (arith, total_map_all (failing test rs) f js (all-all _ _ (one_job test not) js same));
-  answered = λ test. omega arith;
+  completed = λ test. omega arith;
   done = λ test. omega (arith, total_map_all (succeeding test rs) f js (all-all _ _ (one_job test (λ b. b)) js same));
 }
   where
@@ -50,13 +50,13 @@ fewer_jobs rs un js ans f same = record {
         → one (((f j).q == 0) && is_kind test rs (f j).entry.cid && g (succeeds (f j))) ≡ one ((j.q == 0) && is_kind test rs j.entry.cid && g (succeeds j))
     one_job test g j h = rw (h.0, h.1) (elim (cases_Bool (j.q == 0)) [ inl e ↦ rw (h.2 (eqb-true j.q 0 e)) | inr e ↦ rw e ])
 
--- an entry is answered at once, without success
+-- an entry is completed at once, without success
 fewer_conflict : (rs : List Record) (e : SubEntry) (un : List SubEntry) (js : List Job) (ans : List PostedCompletion) (an : PostedCompletion) → an.cid ≡ e.cid → is_success an.status ≡ false → Fewer rs (e ∷ un) js ans rs un js (ans ++ an ∷ [])
 fewer_conflict rs e un js ans an same bad =
     let wins : (test : AdminKind → Bool) → succeeded test rs an ≡ 0 = λ test. grind (arith, bad) in
     record {
       unmade = λ test. let fails : failed test rs an ≤ one (is_kind test rs e.cid) = rw same (grind arith) in omega (arith, total-append (failed test rs) ans (an ∷ []), fails);
-      answered = λ test. omega (arith, total-append (succeeded test rs) ans (an ∷ []), wins test);
+      completed = λ test. omega (arith, total-append (succeeded test rs) ans (an ∷ []), wins test);
       done = λ test. omega (arith, total-append (succeeded test rs) ans (an ∷ []), wins test);
     }
 
@@ -161,16 +161,16 @@ taken_off_tokens rs hs q d h =
     (controller_same (λ at. at.cq_there) false (λ at. record at { unfetched = drop 1 at.unfetched; rung = at.rung - 1 }) q d.queues (λ d ed. refl)) h
 
 -- a completion posted to another queue
-answered_elsewhere : (rs : List Record) (hs : List HostQueue) (q : ℕ) (an : PostedCompletion) (d : Controller) → (q == 0) ≡ false → TokensP rs hs d → TokensP rs hs (record d { queues = change q (λ at. record at { completions = at.completions ++ an ∷ [] }) d.queues })
-answered_elsewhere rs hs q an d other h =
+completed_elsewhere : (rs : List Record) (hs : List HostQueue) (q : ℕ) (an : PostedCompletion) (d : Controller) → (q == 0) ≡ false → TokensP rs hs d → TokensP rs hs (record d { queues = change q (λ at. record at { completions = at.completions ++ an ∷ [] }) d.queues })
+completed_elsewhere rs hs q an d other h =
     let f : ServedQueue → ServedQueue = λ at. record at { completions = at.completions ++ an ∷ [] } in
     rw (waiting_other f q d.queues other, admin_completions_other f q d.queues other)
     (tokens_controller rs hs d.queues (change q f d.queues) (waiting d.queues) d.jobs (admin_completions d.queues) (controller_same (λ at. is_absent at.state) true f q d.queues (λ d ed. refl)) (controller_same (λ at. at.cq_there) false f q d.queues (λ d ed. refl)) h)
 
 -- and to queue 0, which is there
-answered_zero : (rs : List Record) (hs : List HostQueue) (an : PostedCompletion) (d : Controller) → is_some (slice_get d.queues 0) ≡ true → TokensHeld rs hs d.queues (waiting d.queues) d.jobs (admin_completions d.queues ++ an ∷ [])
+completed_zero : (rs : List Record) (hs : List HostQueue) (an : PostedCompletion) (d : Controller) → is_some (slice_get d.queues 0) ≡ true → TokensHeld rs hs d.queues (waiting d.queues) d.jobs (admin_completions d.queues ++ an ∷ [])
     → TokensP rs hs (record d { queues = change 0 (λ at. record at { completions = at.completions ++ an ∷ [] }) d.queues })
-answered_zero rs hs an d there h =
+completed_zero rs hs an d there h =
     let f : ServedQueue → ServedQueue = λ at. record at { completions = at.completions ++ an ∷ [] } in
     rw (waiting_same f (λ at. refl) 0 d.queues, admin_completions_more d.queues an there)
     (tokens_controller rs hs d.queues (change 0 f d.queues) (waiting d.queues) d.jobs (admin_completions d.queues ++ an ∷ []) (controller_same (λ at. is_absent at.state) true f 0 d.queues (λ d ed. refl)) (controller_same (λ at. at.cq_there) false f 0 d.queues (λ d ed. refl)) h)
@@ -195,7 +195,7 @@ tokens_fetch rs hs zero s g h =
     } in
     fetch_by (λ (t : State). TokensP rs hs t.controller) s 0 h
     (λ e next c. let t = (a.taken_off 0 s).controller in let an = posted_completion 0 e.cid COMMAND_ID_CONFLICT 0 (a.taken_off 0 s) in
-    answered_zero rs hs an t (some_still (λ at. record at { unfetched = drop 1 at.unfetched; rung = at.rung - 1 }) 0 s.controller.queues (some_zero s.controller.queues e next))
+    completed_zero rs hs an t (some_still (λ at. record at { unfetched = drop 1 at.unfetched; rung = at.rung - 1 }) 0 s.controller.queues (some_zero s.controller.queues e next))
     (tokens_fewer rs rs hs t.queues (e ∷ waiting t.queues) (waiting t.queues) s.controller.jobs s.controller.jobs (admin_completions t.queues) (admin_completions t.queues ++ an ∷ [])
     (fewer_conflict rs e (waiting t.queues) s.controller.jobs (admin_completions t.queues) an refl refl) (hand e next)))
     (λ e next c z. tokens_managed rs hs e (a.taken_off 0 s) (knows e next) (hand e next))
@@ -205,7 +205,7 @@ tokens_fetch rs hs (suc k) s g h =
     let f : ServedQueue → ServedQueue = λ at. record at { unfetched = drop 1 at.unfetched; rung = at.rung - 1 } in
     rw (waiting_other f (suc k) s.controller.queues (ne_zero k), admin_completions_other f (suc k) s.controller.queues (ne_zero k)) (taken_off_tokens rs hs (suc k) s.controller h) in
     fetch_by (λ (t : State). TokensP rs hs t.controller) s (suc k) h
-    (λ e next c. answered_elsewhere rs hs (suc k) (posted_completion (suc k) e.cid COMMAND_ID_CONFLICT 0 (a.taken_off (suc k) s)) (a.taken_off (suc k) s).controller (ne_zero k) base)
+    (λ e next c. completed_elsewhere rs hs (suc k) (posted_completion (suc k) e.cid COMMAND_ID_CONFLICT 0 (a.taken_off (suc k) s)) (a.taken_off (suc k) s).controller (ne_zero k) base)
     (λ e next c z. absurd (omega arith))
     (λ e next c other.
     let fault = io_fault (a.image_blocks (a.taken_off (suc k) s)) e in
@@ -214,7 +214,7 @@ tokens_fetch rs hs (suc k) s g h =
     -- a job of another queue more, or less
     tokens_fewer rs rs hs t.queues (waiting t.queues) (waiting t.queues) t.jobs (t.jobs ++ j ∷ []) (admin_completions t.queues) (admin_completions t.queues) (record {
       unmade = λ test. let none : failing test rs j ≡ 0 = rw (ne_zero k) refl in omega (arith, total-append (failing test rs) t.jobs (j ∷ []), none);
-      answered = λ test. omega arith;
+      completed = λ test. omega arith;
       done = λ test. let none : succeeding test rs j ≡ 0 = rw (ne_zero k) refl in omega (arith, total-append (succeeding test rs) t.jobs (j ∷ []), none);
     }) base)
 
@@ -232,10 +232,10 @@ tokens_walk rs hs q cid s other h =
 
 -- Completing
 
--- a job of queue 0 is answered as its verdict tells
+-- a job of queue 0 is completed as its verdict tells
 pub record Completed (rs : List Record) (un : List SubEntry) (js js' : List Job) (ans ans' : List PostedCompletion) (c : ℕ) (ok : Bool) : Type 0 where
   pub unmade : (test : AdminKind → Bool) → unmade test rs un js' ans' ≤ unmade test rs un js ans
-  pub answered : (test : AdminKind → Bool) → completed_well test rs ans' ≡ completed_well test rs ans + one (is_kind test rs c && ok)
+  pub completed : (test : AdminKind → Bool) → completed_well test rs ans' ≡ completed_well test rs ans + one (is_kind test rs c && ok)
   pub done : (test : AdminKind → Bool) → done_well test rs js' ans' ≤ done_well test rs js ans
 
 completed : (rs : List Record) (un : List SubEntry) (js : List Job) (ans : List PostedCompletion) (cid : ℕ) (j : Job) (an : PostedCompletion) (st : Status) → find (is_job 0 cid) js ≡ Some j → j.verdict ≡ Some st → an.cid ≡ cid → an.status ≡ st
@@ -247,15 +247,15 @@ completed rs un js ans cid j an st found jv ac as' =
     rw (ac, as') in
     record {
       unmade = λ test. omega (arith, total_gone (failing test rs) (is_job 0 cid) js j found, total-append (failed test rs) ans (an ∷ []), job test not, answer test not);
-      answered = λ test. omega (arith, total-append (succeeded test rs) ans (an ∷ []), answer test (λ b. b));
+      completed = λ test. omega (arith, total-append (succeeded test rs) ans (an ∷ []), answer test (λ b. b));
       done = λ test. omega (arith, total_gone (succeeding test rs) (is_job 0 cid) js j found, total-append (succeeded test rs) ans (an ∷ []), job test (λ b. b), answer test (λ b. b));
     }
 
 -- one that doesn't delete a submission queue with success
-tokens_answered : (rs : List Record) (hs : List HostQueue) (ds : List ServedQueue) (un : List SubEntry) (js js' : List Job) (ans ans' : List PostedCompletion) (c : ℕ) (ok : Bool) → Completed rs un js js' ans ans' c ok
+tokens_completed : (rs : List Record) (hs : List HostQueue) (ds : List ServedQueue) (un : List SubEntry) (js js' : List Job) (ans ans' : List PostedCompletion) (c : ℕ) (ok : Bool) → Completed rs un js js' ans ans' c ok
     → ((q : ℕ) → (is_kind (deletes_sq q) rs c && ok) ≡ false) → TokensHeld rs hs ds un js ans → TokensHeld rs hs ds un js' ans'
-tokens_answered rs hs ds un js js' ans ans' c ok f quiet h = record {
-  submission = λ q. omega (arith, h.submission q, f.unmade (creates_sq q), f.answered (deletes_sq q), ap one (quiet q));
+tokens_completed rs hs ds un js js' ans ans' c ok f quiet h = record {
+  submission = λ q. omega (arith, h.submission q, f.unmade (creates_sq q), f.completed (deletes_sq q), ap one (quiet q));
   completion = λ q. omega (arith, h.completion q, f.done (deletes_cq q), f.unmade (creates_cq q));
   there = λ q inside some. h.there q inside (omega (arith, some, f.unmade (deletes_sq q), f.done (creates_sq q)));
 }
@@ -371,21 +371,21 @@ tokens_cleared rs hs ds un js ans cid j an st found jv ac as' ok op names g h = 
     below_both : (a b : Bool) (n : ℕ) → one a ≤ n → one (a && b) ≤ n
     below_both a b n l = grind (arith, l)
 
-    answers_less : (q : ℕ) → (named_queue j.entry == q) ≡ true → completed_well (deletes_sq q) rs ans ≤ total (answer_is cid) ans
-    answers_less q at = total_below (succeeded (deletes_sq q) rs) (answer_is cid) (λ x. below_both (is_kind (deletes_sq q) rs x.cid) (is_success x.status) (one (x.cid == cid)) (less_one x.cid q at)) ans
+    completions_less : (q : ℕ) → (named_queue j.entry == q) ≡ true → completed_well (deletes_sq q) rs ans ≤ total (completion_is cid) ans
+    completions_less q at = total_below (succeeded (deletes_sq q) rs) (completion_is cid) (λ x. below_both (is_kind (deletes_sq q) rs x.cid) (is_success x.status) (one (x.cid == cid)) (less_one x.cid q at)) ans
 
-    counts : (q : ℕ) → (named_queue j.entry == q) ≡ true → unmade (deletes_sq q) rs un (filter (λ k. not (is_job 0 cid k)) js) (ans ++ an ∷ []) ≤ total (entry_is cid) un + (total (job_is cid) (filter (λ k. not (is_job 0 cid k)) js) + total (answer_is cid) ans)
+    counts : (q : ℕ) → (named_queue j.entry == q) ≡ true → unmade (deletes_sq q) rs un (filter (λ k. not (is_job 0 cid k)) js) (ans ++ an ∷ []) ≤ total (entry_is cid) un + (total (job_is cid) (filter (λ k. not (is_job 0 cid k)) js) + total (completion_is cid) ans)
     counts q at = omega (
       arith,
       total_below (λ (e : SubEntry). one (is_kind (deletes_sq q) rs e.cid)) (entry_is cid) (λ e. less_one e.cid q at) un,
       total_below (failing (deletes_sq q) rs) (job_is cid) (λ k. (let l = less_one k.entry.cid q at in grind (arith, l))) (filter (λ k. not (is_job 0 cid k)) js),
-      total_below (failed (deletes_sq q) rs) (answer_is cid) (λ x. below_both (is_kind (deletes_sq q) rs x.cid) (not (is_success x.status)) (one (x.cid == cid)) (less_one x.cid q at)) ans,
+      total_below (failed (deletes_sq q) rs) (completion_is cid) (λ x. below_both (is_kind (deletes_sq q) rs x.cid) (not (is_success x.status)) (one (x.cid == cid)) (less_one x.cid q at)) ans,
       total-append (failed (deletes_sq q) rs) ans (an ∷ []),
       let none : failed (deletes_sq q) rs an ≡ 0 = rw (as', ok) (grind arith) in none,
     )
 
     -- the job is the only place of its command
-    alone : total (entry_is cid) un + (total (job_is cid) (filter (λ k. not (is_job 0 cid k)) js) + total (answer_is cid) ans) ≡ 0
+    alone : total (entry_is cid) un + (total (job_is cid) (filter (λ k. not (is_job 0 cid k)) js) + total (completion_is cid) ans) ≡ 0
     alone = let mine : job_is cid j ≡ 1 = rw (eq-eqb j.q 0 ids.0, eq-eqb j.entry.cid cid ids.1) refl in omega (arith, g.placed.places cid, g.once 0 cid, total_gone (job_is cid) (is_job 0 cid) js j found, mine)
 
     not_making : (st : HostState) → is_asked st ≡ true → is_making_sq st ≡ false
@@ -402,8 +402,8 @@ tokens_cleared rs hs ds un js ans cid j an st found jv ac as' ok op names g h = 
           arith,
           ap (λ (b : Bool). one (not b)) off,
           (none_stands rs (creates_sq q) (uncreated q at) un (filter (λ k. not (is_job 0 cid k)) js) (ans ++ an ∷ [])).0,
-          f.answered (deletes_sq q),
-          answers_less q at,
+          f.completed (deletes_sq q),
+          completions_less q at,
           alone,
           let bit : one (is_kind (deletes_sq q) rs cid && is_success st) ≤ 1 = grind arith in bit,
           ap one (not_other q is_known_deleted (λ st e. ap is_known_deleted (asked_is st e)) (own q at).waits),
@@ -418,7 +418,7 @@ tokens_cleared rs hs ds un js ans cid j an st found jv ac as' ok op names g h = 
           arith,
           h.submission q,
           f.unmade (creates_sq q),
-          f.answered (deletes_sq q),
+          f.completed (deletes_sq q),
           ap (λ (b : Bool). one (b && is_success st)) (kind q false at),
           ap (λ (b : Bool). one (not b)) (controller_other (λ (at : ServedQueue). is_absent at.state) true cleared (named_queue j.entry) ds q at),
         )
@@ -444,7 +444,7 @@ tokens_complete rs hs zero cid s none g h =
     let parts = and_parts ((j.q == 0) && (j.entry.opcode == DELETE_IO_SQ)) (is_success (a.final_status s j)) c in
     let an = posted_completion 0 cid (a.final_status s j) j.dw0 (a.on_served_queue (named_queue j.entry) cleared (finished 0 cid j s)) in
     let ds = s.controller.queues in
-    answered_zero rs hs an (record s.controller { queues = change (named_queue j.entry) cleared s.controller.queues; jobs = filter (λ k. not (is_job 0 cid k)) s.controller.jobs; image = a.image_completed j s.controller.image })
+    completed_zero rs hs an (record s.controller { queues = change (named_queue j.entry) cleared s.controller.queues; jobs = filter (λ k. not (is_job 0 cid k)) s.controller.jobs; image = a.image_completed j s.controller.image })
     (some_still cleared (named_queue j.entry) ds there)
     (rw (waiting_other cleared (named_queue j.entry) ds n0, admin_completions_other cleared (named_queue j.entry) ds n0)
     (tokens_cleared rs hs ds (waiting ds) s.controller.jobs (admin_completions ds) cid j an v.0 e v.1 refl (final_admin s j v.0 (its_queue j e) v.1) (ap (λ (x : Status). is_success x) (sym (final_admin s j v.0 (its_queue j e) v.1)) ∙ parts.1)
@@ -453,8 +453,8 @@ tokens_complete rs hs zero cid s none g h =
     let v = verdict j e in
     let an = posted_completion 0 cid (a.final_status s j) j.dw0 (finished 0 cid j s) in
     let ds = s.controller.queues in
-    answered_zero rs hs an (record s.controller { jobs = filter (λ k. not (is_job 0 cid k)) s.controller.jobs; image = a.image_completed j s.controller.image }) there
-    (tokens_answered rs hs ds (waiting ds) s.controller.jobs (filter (λ k. not (is_job 0 cid k)) s.controller.jobs) (admin_completions ds) (admin_completions ds ++ an ∷ []) cid (is_success v.0)
+    completed_zero rs hs an (record s.controller { jobs = filter (λ k. not (is_job 0 cid k)) s.controller.jobs; image = a.image_completed j s.controller.image }) there
+    (tokens_completed rs hs ds (waiting ds) s.controller.jobs (filter (λ k. not (is_job 0 cid k)) s.controller.jobs) (admin_completions ds) (admin_completions ds ++ an ∷ []) cid (is_success v.0)
     (completed rs (waiting ds) s.controller.jobs (admin_completions ds) cid j an v.0 e v.1 refl (final_admin s j v.0 (its_queue j e) v.1)) (quiet j e v.0 v.1 c) h))
   where
     names : (j : Job) → job_at s 0 cid ≡ Some j → Named rs j.entry
@@ -473,11 +473,11 @@ tokens_complete rs hs (suc k) cid s none g h =
     ap (λ (n : ℕ). n == 0) (eqb-true j.q (suc k) (and_parts (j.q == suc k) (j.entry.cid == cid) (found_is (is_job (suc k) cid) s.controller.jobs j e)).0) ∙ ne_zero k in
     complete_by (λ (t : State). TokensP rs hs t.controller) s (suc k) cid h
     (λ j e c. absurd (true≢false (sym (and_parts (j.q == 0) (j.entry.opcode == DELETE_IO_SQ) (and_parts ((j.q == 0) && (j.entry.opcode == DELETE_IO_SQ)) (is_success (a.final_status s j)) c).0).0 ∙ other j e)))
-    (λ j e c. answered_elsewhere rs hs (suc k) (posted_completion (suc k) cid (a.final_status s j) j.dw0 (finished (suc k) cid j s)) (finished (suc k) cid j s).controller (ne_zero k)
+    (λ j e c. completed_elsewhere rs hs (suc k) (posted_completion (suc k) cid (a.final_status s j) j.dw0 (finished (suc k) cid j s)) (finished (suc k) cid j s).controller (ne_zero k)
     (tokens_fewer rs rs hs s.controller.queues (waiting s.controller.queues) (waiting s.controller.queues) s.controller.jobs (filter (λ j'. not (is_job (suc k) cid j')) s.controller.jobs) (admin_completions s.controller.queues) (admin_completions s.controller.queues)
     (record {
       unmade = λ test. omega (arith, total-filter (failing test rs) (λ j'. not (is_job (suc k) cid j')) s.controller.jobs);
-      answered = λ test. omega arith;
+      completed = λ test. omega arith;
       done = λ test. omega (arith, total-filter (succeeding test rs) (λ j'. not (is_job (suc k) cid j')) s.controller.jobs);
     }) h))
 
@@ -522,7 +522,7 @@ posted_elsewhere rs hs q e d other h =
 posted_zero : (rs : List Record) (hs : List HostQueue) (e : SubEntry) (ds : List ServedQueue) (js : List Job) → TokensHeld rs hs ds (waiting ds ++ e ∷ []) js (admin_completions ds)
     → TokensHeld rs hs (change 0 (λ at. record at { unfetched = at.unfetched ++ e ∷ [] }) ds) (waiting (change 0 (λ at. record at { unfetched = at.unfetched ++ e ∷ [] }) ds)) js (admin_completions (change 0 (λ at. record at { unfetched = at.unfetched ++ e ∷ [] }) ds))
 posted_zero rs hs e [] js h =
-    tokens_fewer rs rs hs [] (e ∷ []) [] js js [] [] (record { unmade = λ test. omega arith; answered = λ test. omega arith; done = λ test. omega arith }) h
+    tokens_fewer rs rs hs [] (e ∷ []) [] js js [] [] (record { unmade = λ test. omega arith; completed = λ test. omega arith; done = λ test. omega arith }) h
 posted_zero rs hs e (at ∷ ds) js h =
     let f : ServedQueue → ServedQueue = λ at. record at { unfetched = at.unfetched ++ e ∷ [] } in
     tokens_controller rs hs (at ∷ ds) (change 0 f (at ∷ ds)) (at.unfetched ++ e ∷ []) js at.completions (controller_same (λ at. is_absent at.state) true f 0 (at ∷ ds) (λ d ed. refl)) (controller_same (λ at. at.cq_there) false f 0 (at ∷ ds) (λ d ed. refl)) h
@@ -541,9 +541,9 @@ sent_tokens adm id s hs none stands turned h =
 
 -- Reaping
 
-fewer_answers : (rs : List Record) (un : List SubEntry) (js : List Job) (ans : List PostedCompletion) → Fewer rs un js ans rs un js (drop 1 ans)
-fewer_answers rs un js [] = record { unmade = λ test. omega arith; answered = λ test. omega arith; done = λ test. omega arith }
-fewer_answers rs un js (an ∷ ans) = record { unmade = λ test. omega arith; answered = λ test. omega arith; done = λ test. omega arith }
+fewer_completions : (rs : List Record) (un : List SubEntry) (js : List Job) (ans : List PostedCompletion) → Fewer rs un js ans rs un js (drop 1 ans)
+fewer_completions rs un js [] = record { unmade = λ test. omega arith; completed = λ test. omega arith; done = λ test. omega arith }
+fewer_completions rs un js (an ∷ ans) = record { unmade = λ test. omega arith; completed = λ test. omega arith; done = λ test. omega arith }
 
 consumed_tokens : (rs : List Record) (hs : List HostQueue) (q : ℕ) (d : Controller) → TokensP rs hs d → TokensP rs hs (record d { queues = change q (λ at. record at { completions = drop 1 at.completions }) d.queues })
 consumed_tokens rs hs zero d h = go d.queues h
@@ -557,7 +557,7 @@ consumed_tokens rs hs zero d h = go d.queues h
     go (at ∷ ds) h =
         let f : ServedQueue → ServedQueue = λ at. record at { completions = drop 1 at.completions } in
         tokens_controller rs hs (at ∷ ds) (change 0 f (at ∷ ds)) at.unfetched d.jobs (drop 1 at.completions) (controller_same (λ at. is_absent at.state) true f 0 (at ∷ ds) (λ d ed. refl)) (controller_same (λ at. at.cq_there) false f 0 (at ∷ ds) (λ d ed. refl))
-        (tokens_fewer rs rs hs (at ∷ ds) at.unfetched at.unfetched d.jobs d.jobs at.completions (drop 1 at.completions) (fewer_answers rs at.unfetched d.jobs at.completions) h)
+        (tokens_fewer rs rs hs (at ∷ ds) at.unfetched at.unfetched d.jobs d.jobs at.completions (drop 1 at.completions) (fewer_completions rs at.unfetched d.jobs at.completions) h)
 consumed_tokens rs hs (suc k) d h =
     let f : ServedQueue → ServedQueue = λ at. record at { completions = drop 1 at.completions } in
     rw (waiting_other f (suc k) d.queues (ne_zero k), admin_completions_other f (suc k) d.queues (ne_zero k))
@@ -577,17 +577,17 @@ heard_tokens zero cid st e r adm s hs is t heard w placed moved h =
     let ds = s.controller.queues in
     let f : ServedQueue → ServedQueue = λ at. record at { completions = drop 1 at.completions } in
     let an = completion_heard s 0 cid st e r t heard in
-    let first = admin_completions_rest ds an.answer an.first in
+    let first = admin_completions_rest ds an.completion an.first in
     let un : waiting (change 0 f ds) ≡ waiting ds = waiting_same f (λ at. refl) 0 ds in
     let placed' : Placed (without_record 0 cid rs) (waiting ds) s.controller.jobs (admin_completions (change 0 f ds)) = subst (λ xs. Placed (without_record 0 cid rs) xs s.controller.jobs (admin_completions (change 0 f ds))) un placed.placed in
-    let before : TokensHeld rs (a.heard 0 e s).host.queues ds (waiting ds) s.controller.jobs (an.answer ∷ admin_completions (change 0 f ds)) =
+    let before : TokensHeld rs (a.heard 0 e s).host.queues ds (waiting ds) s.controller.jobs (an.completion ∷ admin_completions (change 0 f ds)) =
     subst (λ xs. TokensHeld rs (a.heard 0 e s).host.queues ds (waiting ds) s.controller.jobs xs) first (tokens_alike rs s.host.queues (a.heard 0 e s).host.queues ds (waiting ds) s.controller.jobs (admin_completions ds) (heard_alike 0 e s) h) in
-    let hears : Hears rs (waiting ds) s.controller.jobs (an.answer ∷ admin_completions (change 0 f ds)) (without_record 0 cid rs) (admin_completions (change 0 f ds)) adm (is_success st) =
-    subst (λ (x : Status). Hears rs (waiting ds) s.controller.jobs (an.answer ∷ admin_completions (change 0 f ds)) (without_record 0 cid rs) (admin_completions (change 0 f ds)) adm (is_success x)) an.its_status
-    (hears_first rs cid (waiting ds) s.controller.jobs an.answer (admin_completions (change 0 f ds)) adm an.its_id (r, heard.found, w) placed') in
+    let hears : Hears rs (waiting ds) s.controller.jobs (an.completion ∷ admin_completions (change 0 f ds)) (without_record 0 cid rs) (admin_completions (change 0 f ds)) adm (is_success st) =
+    subst (λ (x : Status). Hears rs (waiting ds) s.controller.jobs (an.completion ∷ admin_completions (change 0 f ds)) (without_record 0 cid rs) (admin_completions (change 0 f ds)) adm (is_success x)) an.its_status
+    (hears_first rs cid (waiting ds) s.controller.jobs an.completion (admin_completions (change 0 f ds)) adm an.its_id (r, heard.found, w) placed') in
     subst (λ xs. TokensHeld (without_record 0 cid rs) hs (change 0 f ds) xs s.controller.jobs (admin_completions (change 0 f ds))) (sym un)
     (tokens_controller (without_record 0 cid rs) hs ds (change 0 f ds) (waiting ds) s.controller.jobs (admin_completions (change 0 f ds)) (controller_same (λ at. is_absent at.state) true f 0 ds (λ d ed. refl)) (controller_same (λ at. at.cq_there) false f 0 ds (λ d ed. refl))
-    (tokens_hears rs (without_record 0 cid rs) (a.heard 0 e s).host.queues hs ds (waiting ds) s.controller.jobs (an.answer ∷ admin_completions (change 0 f ds)) (admin_completions (change 0 f ds)) adm (is_success st) hears moved before))
+    (tokens_hears rs (without_record 0 cid rs) (a.heard 0 e s).host.queues hs ds (waiting ds) s.controller.jobs (an.completion ∷ admin_completions (change 0 f ds)) (admin_completions (change 0 f ds)) adm (is_success st) hears moved before))
 
 -- Every event
 

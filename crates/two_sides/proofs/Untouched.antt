@@ -22,7 +22,7 @@ use Rattle.controller_walk.specs.Units.{first_passing}
 use Rattle.queue_pair.{proofs.Rings.moved_below, specs.{Members.change, Memory.half_pages, Slots.moved}}
 use Rattle.page_memory.specs.{Pages.{Pages, page_at, with_page_bytes, with_bytes}, declared.page.Half.TheVariants.{Submission, Completion}}
 use Rattle.io_commands.specs.Values.{numbers_of}
-use Rattle.two_sides.proofs.{ControllerMoves.{posts_completion, answers_is, finished, cleared, fetch_by, complete_by}, Provided.{In, in_at, in_found}}
+use Rattle.two_sides.proofs.{ControllerMoves.{posts_completion, completes_is, finished, cleared, fetch_by, complete_by}, Provided.{In, in_at, in_found}}
 use Rattle.two_sides.proofs.TiedAll.{Grounds, pair_at, ring_in, zero_lives}
 use Rattle.entry_codec.specs.{Completion.completion_bytes, Submission.submission_bytes, declared.status.Status.Status}
 use Rattle.entry_codec.specs.declared.{status.TheConstants.Status.COMMAND_ID_CONFLICT, submission.SubEntry.SubEntry}
@@ -71,8 +71,8 @@ at_queues p k x ats queue at e e' h = absurd cc
 pub entry_inside : (n k : ℕ) → k < n → k * 64 / 4096 < half_pages n Submission
 entry_inside n k l = omega arith
 
-pub answer_inside : (n k : ℕ) → k < n → k * 16 / 4096 < half_pages n Completion
-answer_inside n k l = omega arith
+pub completion_inside : (n k : ℕ) → k < n → k * 16 / 4096 < half_pages n Completion
+completion_inside n k l = omega arith
 
 fetch_slot_below : (s : State) (q : ℕ) → IsLinked s → fetch_slot s q < s.entries
 fetch_slot_below s q linked = go (host_queue s q) (served_queue s q) (linked.inside q)
@@ -134,7 +134,7 @@ post_stays_in s q linked there = go (host_queue s q) refl
         let cq : option_map_or (λ (at : ServedQueue). at.cq_there) (served_queue s q) false ≡ true = linked.completion_stays q there in
         let cq' : at.0.cq_there ≡ true = sym (ap (λ (o : Option ServedQueue). option_map_or (λ (at : ServedQueue). at.cq_there) o false) at.1) ∙ cq in
         let inside : post_slot s q * 16 / 4096 < length queue.cq_pages =
-        subst (λ (n : ℕ). post_slot s q * 16 / 4096 < n) (sym (linked.completion_whole q queue e (linked.completion_stays q there))) (answer_inside s.entries (post_slot s q) (post_slot_below s q linked)) in
+        subst (λ (n : ℕ). post_slot s q * 16 / 4096 < n) (sym (linked.completion_whole q queue e (linked.completion_stays q there))) (completion_inside s.entries (post_slot s q) (post_slot_below s q linked)) in
         let held : is_among queue.cq_pages p ≡ true = holds_index queue.cq_pages (post_slot s q * 16 / 4096) inside in
         let half : is_among (if at.0.cq_there then queue.cq_pages else []) p ≡ true = rw cq' held in
         of_half s q p queue at.0 e at.1
@@ -307,8 +307,8 @@ pub record IsSubmittedPage (s : State) (p : ℕ) : Type 0 where
 abbrev pub PostsElsewhere : State → ℕ → ℕ → Type 0
 PostsElsewhere s q p = (queue : HostQueue) → host_queue s q ≡ Some queue → (times p queue.sq_pages ≡ 0) × (length queue.sq_pages ≡ half_pages s.entries Submission) × (queue.ring.tail < s.entries)
 
-abbrev AnswersElsewhere : State → ℕ → ℕ → Type 0
-AnswersElsewhere s q p = (queue : HostQueue) → host_queue s q ≡ Some queue → (times p queue.cq_pages ≡ 0) × (length queue.cq_pages ≡ half_pages s.entries Completion) × (queue.ring.head < s.entries)
+abbrev CompletesElsewhere : State → ℕ → ℕ → Type 0
+CompletesElsewhere s q p = (queue : HostQueue) → host_queue s q ≡ Some queue → (times p queue.cq_pages ≡ 0) × (length queue.cq_pages ≡ half_pages s.entries Completion) × (queue.ring.head < s.entries)
 
 pub posted_elsewhere : (q : ℕ) (entry : SubEntry) (s : State) (p : ℕ) → PostsElsewhere s q p → Same (a.posted q entry s).memory s p
 posted_elsewhere q entry s p known = elim (option_is (host_queue s q)) [
@@ -324,8 +324,8 @@ posts_elsewhere q entry s p known = ap (λ (t : State). page_at t.memory p) (pos
 post_below : (s : State) (q : ℕ) (queue : HostQueue) → host_queue s q ≡ Some queue → queue.ring.head < s.entries → post_slot s q < s.entries
 post_below s q queue e l = rw e (elim (option_is (served_queue s q)) [ inl none ↦ rw none (omega (arith, l)) | inr (at, d) ↦ rw d (moved_below s.entries queue.ring.head (length at.completions) l) ])
 
-answered_elsewhere : (q cid : ℕ) (st : Status) (dw0 : ℕ) (s : State) (p : ℕ) → AnswersElsewhere s q p → Same (a.answered q cid st dw0 s).memory s p
-answered_elsewhere q cid st dw0 s p known = go (host_queue s q) refl
+completed_elsewhere : (q cid : ℕ) (st : Status) (dw0 : ℕ) (s : State) (p : ℕ) → CompletesElsewhere s q p → Same (a.with_posted_completion q cid st dw0 s).memory s p
+completed_elsewhere q cid st dw0 s p known = go (host_queue s q) refl
   where
     go : (o : Option HostQueue) → host_queue s q ≡ o
         → Same (option_map_or (λ queue. a.on_memory (λ m. with_page_bytes m (slot_page queue.cq_pages 16 (post_slot s q)) (slot_offset 16 (post_slot s q))
@@ -334,10 +334,10 @@ answered_elsewhere q cid st dw0 s p known = go (host_queue s q) refl
     go (Some queue) e =
         let k = known queue e in
         bytes_elsewhere s.memory (slot_page queue.cq_pages 16 (post_slot s q)) p (slot_offset 16 (post_slot s q)) _
-        (index_counts queue.cq_pages (post_slot s q * 16 / 4096) p (subst (λ (n : ℕ). post_slot s q * 16 / 4096 < n) (sym k.1) (answer_inside s.entries (post_slot s q) (post_below s q queue e k.2))) k.0)
+        (index_counts queue.cq_pages (post_slot s q * 16 / 4096) p (subst (λ (n : ℕ). post_slot s q * 16 / 4096 < n) (sym k.1) (completion_inside s.entries (post_slot s q) (post_below s q queue e k.2))) k.0)
 
-answers_elsewhere : (q cid : ℕ) (st : Status) (dw0 : ℕ) (s : State) (p : ℕ) → AnswersElsewhere s q p → Same (posts_completion q cid st dw0 s).memory s p
-answers_elsewhere q cid st dw0 s p known = ap (λ (t : State). page_at t.memory p) (answers_is q cid st dw0 s) ∙ answered_elsewhere q cid st dw0 s p known
+completes_elsewhere : (q cid : ℕ) (st : Status) (dw0 : ℕ) (s : State) (p : ℕ) → CompletesElsewhere s q p → Same (posts_completion q cid st dw0 s).memory s p
+completes_elsewhere q cid st dw0 s p known = ap (λ (t : State). page_at t.memory p) (completes_is q cid st dw0 s) ∙ completed_elsewhere q cid st dw0 s p known
 
 -- What is known of a queue
 
@@ -345,8 +345,8 @@ pub posts_live : (s : State) → Grounds s → (q p : ℕ) → ((queue : HostQue
 posts_live s g q p live some queue e =
     (omega (arith, some.queues q queue e), (pair_at s g q queue e).2.sub (live_has_sq queue.state (live queue e)), (ring_in s g q queue e).tail)
 
-answers_there : (s : State) → Grounds s → (q p : ℕ) → ((queue : HostQueue) → host_queue s q ≡ Some queue → has_cq queue.state ≡ true) → IsSubmittedPage s p → AnswersElsewhere s q p
-answers_there s g q p there some queue e =
+completes_there : (s : State) → Grounds s → (q p : ℕ) → ((queue : HostQueue) → host_queue s q ≡ Some queue → has_cq queue.state ≡ true) → IsSubmittedPage s p → CompletesElsewhere s q p
+completes_there s g q p there some queue e =
     (omega (arith, some.queues q queue e), (pair_at s g q queue e).2.comp (there queue e), (ring_in s g q queue e).head)
 
 -- a queue in service has its completion half
@@ -391,14 +391,14 @@ live_queue s q h queue e = sym (ap (λ (o : Option HostQueue). option_map_or (λ
 fetch_elsewhere : (q p : ℕ) (s : State) → Grounds s → IsSubmittedPage s p → Same (a.after_fetch q s).memory s p
 fetch_elsewhere q p s g some =
     -- an entry that is fetched is one of a queue in service
-    fetch_by (λ (t : State). Same t.memory s p) s q refl (λ e n c. answers_elsewhere q e.cid COMMAND_ID_CONFLICT 0 (a.taken_off q s) p (answers_there s g q p (λ queue at. grind arith) some))
+    fetch_by (λ (t : State). Same t.memory s p) s q refl (λ e n c. completes_elsewhere q e.cid COMMAND_ID_CONFLICT 0 (a.taken_off q s) p (completes_there s g q p (λ queue at. grind arith) some))
     (λ e n c z. ap (λ (x : Pages). page_at x p) (kept_managed e (a.taken_off 0 s))) (λ e n c other. refl)
 
 complete_elsewhere : (q cid p : ℕ) (s : State) → Grounds s → IsSubmittedPage s p → Same (a.after_complete q cid s).memory s p
 complete_elsewhere q cid p s g some =
-    let known : (j : Job) → job_at s q cid ≡ Some j → AnswersElsewhere s q p = λ j at. answers_there s g q p (completed_there s g q cid j at) some in
-    complete_by (λ (t : State). Same t.memory s p) s q cid refl (λ j at c. answers_elsewhere q cid (a.final_status s j) j.dw0 (a.on_served_queue (named_queue j.entry) cleared (finished q cid j s)) p (known j at))
-    (λ j at c. answers_elsewhere q cid (a.final_status s j) j.dw0 (finished q cid j s) p (known j at))
+    let known : (j : Job) → job_at s q cid ≡ Some j → CompletesElsewhere s q p = λ j at. completes_there s g q p (completed_there s g q cid j at) some in
+    complete_by (λ (t : State). Same t.memory s p) s q cid refl (λ j at c. completes_elsewhere q cid (a.final_status s j) j.dw0 (a.on_served_queue (named_queue j.entry) cleared (finished q cid j s)) p (known j at))
+    (λ j at c. completes_elsewhere q cid (a.final_status s j) j.dw0 (finished q cid j s) p (known j at))
 
 -- a page that nobody else has is as it was, whatever happens but a walk, and the collecting of its command
 pub untouched_kept : (s : State) (e : Event) (reply : Reply) → Accepts s e reply → is_walk e ≡ false → Grounds s → (p : ℕ) → IsSubmittedPage s p
@@ -451,9 +451,9 @@ untouched_kept s e reply ok w g p some away =
       retires = λ q queue none at deleted away. refl;
       forges = λ q slot bytes queue none at away.
           let fails = unrefused s (events.Forge q slot bytes) none in
-          let k = answers_there s g q p (λ x ex. reaped_has_cq x.state (sym (ap (λ (o : Option HostQueue). option_map_or (λ queue. is_reaped queue.state) o false) ex) ∙ not-false _ fails.0)) some queue at in
+          let k = completes_there s g q p (λ x ex. reaped_has_cq x.state (sym (ap (λ (o : Option HostQueue). option_map_or (λ queue. is_reaped queue.state) o false) ex) ∙ not-false _ fails.0)) some queue at in
           bytes_elsewhere s.memory (slot_page queue.cq_pages 16 slot) p (slot_offset 16 slot) bytes
-          (index_counts queue.cq_pages (slot * 16 / 4096) p (subst (λ (n : ℕ). slot * 16 / 4096 < n) (sym k.1) (answer_inside s.entries slot (below s.entries slot fails.1.0))) k.0);
+          (index_counts queue.cq_pages (slot * 16 / 4096) p (subst (λ (n : ℕ). slot * 16 / 4096 < n) (sym k.1) (completion_inside s.entries slot (below s.entries slot fails.1.0))) k.0);
       resets = λ away.
           with-other (zeroed_pages (a.admin_pages s.host.queues)) s.memory p
           (ap (λ (ps : List ℕ). is_among ps p) (zeroed_numbers (a.admin_pages s.host.queues)) ∙ admin_elsewhere s.host.queues (λ queue e. some.queues 0 queue e));

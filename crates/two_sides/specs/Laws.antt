@@ -56,7 +56,7 @@ tails_are_heard =
     → AreSides s → slice_get s.host.host.queues q ≡ Some h → slice_get s.controller.queues q ≡ Some c
     → with_tail h.ring.tail c ≡ with_side (record c.controller { ring = hearing_tail h.ring.tail c.controller.ring }) c
 
--- Where nothing was forged, and an answer waits in the completion ring of a queue that is in use, the head behind it is heard.
+-- Where nothing was forged, and a completion waits in the completion ring of a queue that is in use, the head behind it is heard.
 abbrev pub heads_are_heard : Type 0
 heads_are_heard =
     (s : Sides) (q : ℕ) (h : HostQueue) (c : ControllerQueue)

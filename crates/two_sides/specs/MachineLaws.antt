@@ -59,7 +59,7 @@ trusted_steps_stay_allowed =
     (image : List ℕ) (made : List Made) (old new : State) (e : Event) (reply : Reply)
     → TrustedRun image made old → Step old e reply new → IsTrue (stays_allowed old reply && stays_own old e reply)
 
--- Where nothing was forged, an admin command stands at the controller once, and only where it is outstanding: not fetched, fetched, or answered
+-- Where nothing was forged, an admin command stands at the controller once, and only where it is outstanding: not fetched, fetched, or completed
 abbrev pub admin_places : State → List ℕ
 admin_places s =
     map (λ e. e.cid) (option_map_or (λ at. at.unfetched) (slice_get s.controller.queues 0) [])

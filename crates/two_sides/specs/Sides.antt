@@ -35,7 +35,7 @@ unfetched_between m ring controller = present (entries_between m controller.sq c
 abbrev pub completions_between : Memory → HostRing → ControllerSide → List ComEntry
 completions_between m ring controller = present (completions_from m controller.cq controller.entries ring.head controller.ring.tail)
 
--- a queue of the controller as the machine has it; an absent submission queue has no entries, and a completion queue that is not there no answers
+-- a queue of the controller as the machine has it; an absent submission queue has no entries, and a completion queue that is not there no completions
 abbrev pub served_queue_of : Memory → HostRing → ControllerQueue → ServedQueue
 served_queue_of m ring queue =
     record {

@@ -49,7 +49,7 @@ pub record AreSides (s : Sides) : Type 0 where
   pub queues : ShareQueues s.host.entries 0 s.host.host.queues s.controller.queues
   pub admin : SharesAdmin s.host.entries s.host.host.queues s.controller.queues
 
--- The submission heads of the answers in a completion ring follow each other from the head that the host knows to the controller's.
+-- The submission heads of the completions in a completion ring follow each other from the head that the host knows to the controller's.
 abbrev pub HeadsFollow : ℕ → ℕ → ℕ → List ComEntry → Type 0
 HeadsFollow n from to [] = IsTrue (is_in_range n from to to)
 HeadsFollow n from to (e ∷ es) = IsTrue (is_in_range n from to e.sqhd) × HeadsFollow n e.sqhd to es

@@ -6,7 +6,7 @@ ghost use Rattle.two_sides.specs.InOrder.{openings_are_in_order, steps_keep_orde
 ghost use Rattle.two_sides.specs.MachineLaws.{trusted_worlds_are_linked, live_queues_are_there, jobs_stand, jobs_keep_their_lists, admin_commands_stand_once, trusted_steps_stay_allowed, hosts_need_no_controller, chains_stand, chains_stay, rings_are_never_full};
 ghost use Rattle.two_sides.specs.Lists.{lists_keep_to_their_pages, lists_end_well, long_lists_end_well, walks_read_the_pool, walks_go_as_in_the_pool};
 ghost use Rattle.two_sides.specs.Recovering.{openings_can_recover, resets_recover, every_run_recovers, resets_leave_io_commands};
-ghost use Rattle.two_sides.specs.Slots.{entries_lie_in_pages, answers_lie_in_pages, entries_stand_in_memory, answers_stand_in_memory, entries_are_written, answers_are_written};
+ghost use Rattle.two_sides.specs.Slots.{entries_lie_in_pages, completions_lie_in_pages, entries_stand_in_memory, completions_stand_in_memory, entries_are_written, completions_are_written};
 
 /// Once an entry was forged, what the host is answered, and what its part and the memory become, depends on nothing in the
 /// controller's part.
@@ -35,7 +35,7 @@ pub fn law_of_provisions()
 
 /// Where nothing was forged, each admin command stands at the controller at most once, and only while it is outstanding.
 ///
-/// It is then not yet fetched, or a job, or answered.
+/// It is then not yet fetched, or a job, or completed.
 pub fn law_of_places()
     ensures { admin_commands_stand_once }
 {}
@@ -145,14 +145,14 @@ pub fn law_of_jobs()
 
 /// The slots of a queue, which the machine finds by the list of the queue's pages, are those that `queue_pair` finds in the memory
 /// from the first page on: their pages, their bytes, and what a post writes.
-#[tactic(auto, using(crate::proofs::PoolBytes::entry_pages, crate::proofs::PoolBytes::answer_pages, crate::proofs::PoolBytes::entries_stand, crate::proofs::PoolBytes::answers_stand))]
+#[tactic(auto, using(crate::proofs::PoolBytes::entry_pages, crate::proofs::PoolBytes::completion_pages, crate::proofs::PoolBytes::entries_stand, crate::proofs::PoolBytes::completions_stand))]
 pub fn law_of_slots()
     ensures entry_pages { entries_lie_in_pages }
-    ensures answer_pages { answers_lie_in_pages }
+    ensures completion_pages { completions_lie_in_pages }
     ensures entries { entries_stand_in_memory }
-    ensures answers { answers_stand_in_memory }
+    ensures answers { completions_stand_in_memory }
     ensures entries_written { entries_are_written }
-    ensures answers_written { answers_are_written }
+    ensures completions_written { completions_are_written }
 {}
 
 /// Where nothing was forged, no event is refused because a ring is full, or because a page of a queue is out.

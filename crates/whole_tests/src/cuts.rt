@@ -2,8 +2,8 @@
 
 use crate::expecting::{same, same_at};
 use crate::first_script::{PRINTS, SCRIPT};
-use crate::script_playing::{USUAL, zeros};
 use crate::script_runs::{Narrow, Slow};
+use crate::usual::{USUAL, zeros};
 use script_cli::{RunFault, run_steps};
 use std::alloc::Global;
 use std::io;

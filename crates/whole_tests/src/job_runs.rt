@@ -1,8 +1,8 @@
 //! Scripts of jobs in threads: one that is played many times, and readers and writers that fail.
 
 use crate::expecting::{same, same_at};
-use crate::script_playing::{USUAL, zeros};
 use crate::script_runs::{Narrow, Slow};
+use crate::usual::{USUAL, zeros};
 use driver_threads::{JobEnd, JobRefusal};
 use io_commands::Kind;
 use job_cli::{Pace, append_job_line, run_jobs};

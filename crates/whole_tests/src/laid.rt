@@ -1,6 +1,7 @@
 //! The bytes of commands in a world: the entry and the descriptors of a draft, and the same descriptors once the command has ended.
 
-use crate::worlds::{USUAL, built, opened, submitted};
+use crate::usual::USUAL;
+use crate::worlds::{built, opened, submitted};
 use controller_walk::WalkState;
 use entry_codec::SubEntry;
 use io_commands::{Draft, Finished, Piece};

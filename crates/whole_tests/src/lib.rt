@@ -45,8 +45,6 @@ mod rings;
 #[cfg(test)]
 mod same_faults;
 #[cfg(test)]
-mod script_playing;
-#[cfg(test)]
 mod script_runs;
 #[cfg(test)]
 mod sets;
@@ -58,5 +56,7 @@ mod told;
 mod touches;
 #[cfg(test)]
 mod transcript_texts;
+#[cfg(test)]
+mod usual;
 #[cfg(test)]
 mod worlds;

@@ -1,7 +1,7 @@
 //! Faults of runs and of images, with readers and writers that fail.
 
 use crate::expecting::same;
-use crate::script_playing::USUAL;
+use crate::usual::USUAL;
 use block_image::Image;
 use script_cli::{ImageFault, RunFault, read_image, run_steps};
 use std::alloc::Global;

@@ -1,8 +1,8 @@
 //! One session of the shell: cut after each byte, and over readers and writers that fail.
 
 use crate::expecting::same_at;
-use crate::script_playing::{USUAL, zeros};
 use crate::script_runs::{Narrow, Slow};
+use crate::usual::{USUAL, zeros};
 use program::shell::run_shell;
 use script_cli::RunFault;
 use std::test::Fail;

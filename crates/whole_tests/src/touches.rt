@@ -1,6 +1,7 @@
 //! How many pages each step of a small run touches, as the world counts them.
 
-use crate::worlds::{USUAL, built, opened, submitted};
+use crate::usual::USUAL;
+use crate::worlds::{built, opened, submitted};
 use controller_walk::WalkState;
 use io_commands::{Piece, Ticket};
 use std::alloc::Global;

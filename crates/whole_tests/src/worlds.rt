@@ -1,5 +1,6 @@
 //! Openings at their borders, and values that are shown to another world.
 
+use crate::usual::USUAL;
 use block_image::Image;
 use io_commands::{Draft, Kind, Piece, Pieces, Request, Ticket};
 use std::alloc::{AllocError, Global};
@@ -7,14 +8,6 @@ use std::process::Abort;
 use std::test::Fail;
 use step_core::{Config, Leftover, OpenRefusal, Refusal, Refused, World};
 use test_support::Seen;
-
-/// 16 pages and one I/O queue of 4 entries: pages 4 to 15 are free.
-pub(crate) const USUAL: Config = Config {
-    pages: 16,
-    queues: 1,
-    entries: 4,
-    segment: 256,
-};
 
 /// The smallest pool.
 const LEAST: Config = Config {

@@ -1,153 +1,111 @@
-//! A script on a bench: as its transcript says, with each of its growths refused in turn, and with no memory for the calls that take none.
+//! A script on a bench: as its transcript says, also where a growth of its steps is refused, and where there is no memory for the calls that take none.
 
-use crate::scripts::fault::{Fault, Wrong};
-use crate::scripts::refused::{AllRefused, OneRefused};
+use crate::scripts::fault::Wrong;
+use crate::scripts::player::Player;
+use crate::scripts::refused::{AllRefused, End, as_it_says, play_refused};
 use crate::scripts::standing::{BenchStanding, Heap, Stands};
 use crate::scripts::way::Way;
-use script_cli::transcripts::{Difference, OnBench, Transcript, play};
-use std::alloc::{AllocError, Global};
-use step_core::PageNo;
-use test_support::Refusing;
-
-/// More growths than any script here has.
-const MANY: u64 = 5_000;
+use script_cli::transcripts::{OnBench, Transcript, play};
+use std::alloc::Global;
 
 /// What a run on a bench leaves.
+pub type BenchEnd = End<BenchStanding>;
+
+/// Plays a script on a bench.
 #[derive(Drop)]
-pub struct BenchEnd {
-    /// How the bench stands at the end.
-    pub standing: BenchStanding,
-    /// The pages that refused steps touched.
-    touched: Vec<PageNo>,
-    /// How many growths each step had.
-    growths: Vec<u64>,
+pub struct BenchPlayer<'t> {
+    /// The script.
+    transcript: &'t Transcript,
+    /// What it must leave, where that is known.
+    wanted: Option<&'t BenchEnd>,
 }
 
-/// Nothing, where there is no difference and nothing is wrong.
-pub fn as_told(way: Way, found: Option<Difference>, wrong: Option<Wrong>) -> Result<(), Fault> {
-    if let Some(difference) = found {
-        return Err(Fault::Difference { way, difference });
-    }
-    match wrong {
-        Some(what) => Err(Fault::Left { way, what }),
-        None => Ok(()),
+impl<'t> BenchPlayer<'t> {
+    /// Plays this script, which must leave that, where it is known.
+    pub fn new(transcript: &'t Transcript, wanted: Option<&'t BenchEnd>) -> BenchPlayer<'t> {
+        BenchPlayer { transcript, wanted }
     }
 }
 
-/// What is wrong, if something is.
-pub fn wrong_if(is_wrong: bool, what: Wrong) -> Option<Wrong> {
-    if is_wrong { Some(what) } else { None }
-}
+impl<'t> Player for BenchPlayer<'t> {
+    type End = BenchEnd;
 
-/// Plays a script on a bench with one growth of its steps refused. It answers what it leaves, and whether there was such a growth.
-fn play_in<'h>(
-    alloc: Global,
-    heap: &'h Heap,
-    transcript: &Transcript,
-    known: &'h [u64],
-    growth: u64,
-) -> Result<(BenchEnd, bool), Fault> {
-    let mut bench = OnBench::open(alloc, heap, transcript.options())?;
-    let mut refused = OneRefused::new(alloc, &mut bench, growth, known);
-    let found = play(alloc, &mut refused, transcript);
-    let OneRefused {
-        alloc: _,
-        maker: _,
-        left,
-        known: _,
-        growths,
-        changed,
-        touched,
-    } = refused;
-    let standing = bench.standing(alloc);
-    bench.end();
-    as_told(
-        Way::Bench(growth),
-        found?,
-        wrong_if(changed, Wrong::Changed),
-    )?;
-    let end = BenchEnd {
-        standing: standing?,
-        touched,
-        growths,
-    };
-    Ok((end, left == 0))
-}
-
-/// Plays a script on a bench of its own with one growth refused. At the end the heap is empty.
-fn play_once(
-    alloc: Global,
-    transcript: &Transcript,
-    known: &[u64],
-    growth: u64,
-) -> Result<(BenchEnd, bool), Fault> {
-    let heap = Refusing::new(alloc);
-    let end = play_in(alloc, &heap, transcript, known, growth)?;
-    let wrong = wrong_if(heap.tally().blocks != 0, Wrong::Leaked);
-    as_told(Way::Bench(growth), None, wrong)?;
-    Ok(end)
-}
-
-/// Plays a script on a bench, and answers what it leaves.
-pub fn play_on_bench(alloc: Global, transcript: &Transcript) -> Result<BenchEnd, Fault> {
-    let (end, _) = play_once(alloc, transcript, &[], 0)?;
-    Ok(end)
-}
-
-/// Plays a script once for each growth that its steps have, and answers how many those are. Each time it leaves the same.
-pub fn refuse_each_on_bench(
-    alloc: Global,
-    transcript: &Transcript,
-    wanted: &BenchEnd,
-) -> Result<u64, Fault> {
-    for growth in 1..MANY {
-        let (end, was_there) = play_once(alloc, transcript, &wanted.growths, growth)?;
-        let way = Way::Bench(growth);
-        let is_other = end.standing != wanted.standing;
-        as_told(way, None, wrong_if(is_other, Wrong::Standing))?;
-        let is_other = end.touched.as_slice() != wanted.touched.as_slice();
-        as_told(way, None, wrong_if(is_other, Wrong::Touched))?;
-        if !was_there {
-            return Ok(growth - 1);
-        }
+    fn way(&self, growth: u64) -> Way {
+        Way::Bench(growth)
     }
-    Ok(MANY)
+
+    fn play<'h>(
+        &self,
+        alloc: Global,
+        heap: &'h Heap,
+        growth: u64,
+    ) -> Result<(BenchEnd, bool), Wrong> {
+        let BenchPlayer { transcript, wanted } = *self;
+        let mut bench = OnBench::open(alloc, heap, transcript.options())?;
+        let played = play_refused(alloc, &mut bench, transcript, growth, wanted);
+        bench.end();
+        let (end, left) = played?;
+        end.see(wanted)?;
+        Ok((end, left == 0))
+    }
 }
 
-/// Plays a script, those of its steps that take no memory over a heap that refuses each growth, and answers how many those are.
-fn play_without<'h>(
+/// Plays a script on a bench, those of its steps that take no memory over a heap that refuses each growth.
+#[derive(Drop)]
+pub struct WithoutMemory<'t> {
+    /// The script.
+    transcript: &'t Transcript,
+    /// What it must leave.
+    wanted: &'t BenchEnd,
+}
+
+impl<'t> WithoutMemory<'t> {
+    /// Plays this script, which must leave that.
+    pub fn new(transcript: &'t Transcript, wanted: &'t BenchEnd) -> WithoutMemory<'t> {
+        WithoutMemory { transcript, wanted }
+    }
+}
+
+/// Plays a script with no memory for the steps that take none, and answers how many those are.
+fn play_without<M: Stands>(
     alloc: Global,
-    heap: &'h Heap,
+    maker: &mut M,
     transcript: &Transcript,
-) -> Result<(BenchStanding, u64), Fault> {
-    let mut bench = OnBench::open(alloc, heap, transcript.options())?;
+    wanted: &End<M::Standing>,
+) -> Result<u64, Wrong> {
     let mut refused = AllRefused {
-        maker: &mut bench,
+        maker,
         calls: 0,
         asked: 0,
     };
     let found = play(alloc, &mut refused, transcript);
     let AllRefused {
-        maker: _,
+        maker,
         calls,
         asked,
     } = refused;
-    let standing: Result<BenchStanding, AllocError> = bench.standing(alloc);
-    bench.end();
-    let wrong = wrong_if(asked != 0, Wrong::Asked);
-    as_told(Way::WithoutMemory, found?, wrong)?;
-    Ok((standing?, calls))
+    as_it_says(found?)?;
+    if asked != 0 {
+        return Err(Wrong::Asked);
+    }
+    if maker.standing(alloc)? != wanted.standing {
+        return Err(Wrong::Standing);
+    }
+    Ok(calls)
 }
 
-/// Plays a script on a bench with no memory for the calls that take none, and answers how many those are.
-pub fn refuse_all_on_bench(
-    alloc: Global,
-    transcript: &Transcript,
-    wanted: &BenchEnd,
-) -> Result<u64, Fault> {
-    let heap = Refusing::new(alloc);
-    let (standing, calls) = play_without(alloc, &heap, transcript)?;
-    let wrong = wrong_if(standing != wanted.standing, Wrong::Standing);
-    as_told(Way::WithoutMemory, None, wrong)?;
-    Ok(calls)
+impl<'t> Player for WithoutMemory<'t> {
+    type End = u64;
+
+    fn way(&self, _growth: u64) -> Way {
+        Way::WithoutMemory
+    }
+
+    fn play<'h>(&self, alloc: Global, heap: &'h Heap, _growth: u64) -> Result<(u64, bool), Wrong> {
+        let WithoutMemory { transcript, wanted } = *self;
+        let mut bench = OnBench::open(alloc, heap, transcript.options())?;
+        let calls = play_without(alloc, &mut bench, transcript, wanted);
+        bench.end();
+        Ok((calls?, false))
+    }
 }

@@ -1,27 +1,107 @@
 //! Steps that are made while memory is refused.
 
+use crate::scripts::fault::Wrong;
 use crate::scripts::standing::Stands;
-use script_cli::transcripts::StepMaker;
+use script_cli::transcripts::{Difference, StepMaker, Transcript, play};
 use std::alloc::{AllocError, Global};
 use step_core::{Counts, Owner, PageNo, Reply, Step};
 use test_support::Refusal;
 
+/// What a script leaves.
+#[derive(Drop)]
+pub struct End<S> {
+    /// How what made its steps stands then.
+    pub standing: S,
+    /// The pages that refused steps touched.
+    touched: Vec<PageNo>,
+    /// How many growths each step had.
+    growths: Vec<u64>,
+}
+
+impl<S: PartialEq> End<S> {
+    /// Sees that it is what a script must leave, where that is known. A step that was made once more counts its growths twice.
+    pub fn see(&self, wanted: Option<&End<S>>) -> Result<(), Wrong> {
+        let Some(wanted) = wanted else {
+            return Ok(());
+        };
+        if self.standing != wanted.standing {
+            return Err(Wrong::Standing);
+        }
+        if self.touched.as_slice() != wanted.touched.as_slice() {
+            return Err(Wrong::Touched);
+        }
+        Ok(())
+    }
+}
+
+/// Sees that there is no difference.
+pub fn as_it_says(found: Option<Difference>) -> Result<(), Wrong> {
+    match found {
+        Some(difference) => Err(Wrong::Difference(difference)),
+        None => Ok(()),
+    }
+}
+
+/// Plays a script with one of the growths to come refused. It answers what that leaves, and how many growths are left to that one. Where it is
+/// known what the script must leave, that tells how many growths each step has.
+pub fn play_refused<M: Stands>(
+    alloc: Global,
+    maker: &mut M,
+    transcript: &Transcript,
+    left: u64,
+    wanted: Option<&End<M::Standing>>,
+) -> Result<(End<M::Standing>, u64), Wrong> {
+    let known: &[u64] = match wanted {
+        Some(end) => &end.growths,
+        None => &[],
+    };
+    let mut refused = OneRefused {
+        alloc,
+        maker,
+        left,
+        known,
+        growths: Vec::new(alloc),
+        changed: false,
+        touched: Vec::new(alloc),
+    };
+    let found = play(alloc, &mut refused, transcript);
+    let OneRefused {
+        alloc: _,
+        maker,
+        left,
+        known: _,
+        growths,
+        changed,
+        touched,
+    } = refused;
+    as_it_says(found?)?;
+    if changed {
+        return Err(Wrong::Changed);
+    }
+    let end = End {
+        standing: maker.standing(alloc)?,
+        touched,
+        growths,
+    };
+    Ok((end, left))
+}
+
 /// Makes steps with one growth refused. A step that wants memory is made once more.
-pub struct OneRefused<'m, M: Stands> {
+struct OneRefused<'m, M: Stands> {
     /// Where what is noted down stands.
-    pub alloc: Global,
+    alloc: Global,
     /// What makes them.
-    pub maker: &'m mut M,
+    maker: &'m mut M,
     /// Which of the growths to come is refused, counted from 1. At 0 none is.
-    pub left: u64,
+    left: u64,
     /// How many growths each step has where none is refused, as far as that is known.
-    pub known: &'m [u64],
+    known: &'m [u64],
     /// How many growths each step had that was made.
-    pub growths: Vec<u64>,
+    growths: Vec<u64>,
     /// Whether something had changed where a step wanted memory.
-    pub changed: bool,
+    changed: bool,
     /// The pages that steps touched before they were refused.
-    pub touched: Vec<PageNo>,
+    touched: Vec<PageNo>,
 }
 
 /// Whether a reply is want of memory.
@@ -30,19 +110,6 @@ fn is_memory(reply: &Reply) -> bool {
 }
 
 impl<'m, M: Stands> OneRefused<'m, M> {
-    /// Before any step, where the growth of this number is refused.
-    pub fn new(alloc: Global, maker: &'m mut M, left: u64, known: &'m [u64]) -> OneRefused<'m, M> {
-        OneRefused {
-            alloc,
-            maker,
-            left,
-            known,
-            growths: Vec::new(alloc),
-            changed: false,
-            touched: Vec::new(alloc),
-        }
-    }
-
     /// Whether a growth of the next step may be refused, as far as is known.
     fn is_next(&self) -> bool {
         match self.known.get(self.growths.len()) {

@@ -1,6 +1,6 @@
 //! What is printed.
 
-use crate::scripts::book::BookEnd;
+use crate::scripts::standing::DeskStanding;
 use driver_book::{CloseFault, Receipt};
 use std::io;
 
@@ -28,7 +28,12 @@ impl Scores {
 }
 
 /// Prints the line of a script: its growths, and what it leaves in the log and at the seat of a book, and whether that is then closed.
-pub fn print_line<R: Print>(rt: &R, file: &str, scores: Scores, end: &BookEnd) -> io::Result<()> {
+pub fn print_line<R: Print>(
+    rt: &R,
+    file: &str,
+    scores: Scores,
+    end: &DeskStanding,
+) -> io::Result<()> {
     let name = file.strip_suffix(".transcript").unwrap_or(file);
     let Scores {
         scripts: _,
@@ -36,12 +41,14 @@ pub fn print_line<R: Print>(rt: &R, file: &str, scores: Scores, end: &BookEnd) -
         through_book,
         without_memory,
     } = scores;
-    let entries = end.standing.entries.unwrap_or(0);
+    let entries = end.entries.unwrap_or(0);
     print!(rt;
         "{name}: growths {on_bench} on a bench, {through_book} through a book; without memory {without_memory}; log {entries}"
     )?;
-    print_closing(rt, end.closes)?;
-    for receipt in &end.standing.receipts {
+    if let Some(closes) = end.closes {
+        print_closing(rt, closes)?;
+    }
+    for receipt in &end.receipts {
         print_receipt(rt, receipt)?;
     }
     println!(rt)

@@ -1,6 +1,6 @@
 //! How things stand: on a bench, and at a desk with a book.
 
-use driver_book::{FullLogBrand, Receipt};
+use driver_book::{CloseFault, FullLogBrand, Receipt};
 use job_cli::desk::{Desk, Value};
 use script_cli::transcripts::{OnBench, StepMaker, reply_in, step_in};
 use std::alloc::{AllocError, Allocator, Global};
@@ -10,6 +10,9 @@ use test_support::{Refusal, Refusing, Tally};
 
 /// A heap that refuses on purpose.
 pub type Heap = Refusing<Global>;
+
+/// A desk with a driver in such a heap.
+pub type DeskIn<'h, L, R> = Desk<'h, L, R, &'h Heap>;
 
 /// The most pages that a pool has.
 const MOST_PAGES: u32 = 65_536;
@@ -97,8 +100,10 @@ impl<'h> Stands for OnBench<&'h Heap> {
 pub struct DeskStanding {
     /// Whose the book's pages are.
     pub holdings: Holdings,
-    /// How many entries the log has.
+    /// How many entries the log has, where it is seen: behind a lock it is as the book ends.
     pub entries: Option<usize>,
+    /// Once the book is closed how many submissions there were, or why it is not closed.
+    pub closes: Option<Result<u64, CloseFault>>,
     /// The receipts of the seat.
     pub receipts: Vec<Receipt>,
     /// The bytes of the pages that commands have, in the order of the pages.
@@ -107,7 +112,7 @@ pub struct DeskStanding {
     built: usize,
 }
 
-impl<'h, L: FullLogBrand, R: Wait> Stands for Desk<'h, L, R, &'h Heap> {
+impl<'h, L: FullLogBrand, R: Wait> Stands for DeskIn<'h, L, R> {
     type Standing = DeskStanding;
 
     fn step_without(
@@ -130,6 +135,7 @@ impl<'h, L: FullLogBrand, R: Wait> Stands for Desk<'h, L, R, &'h Heap> {
         Ok(DeskStanding {
             holdings,
             entries: self.access.entries(),
+            closes: None,
             receipts: self.receipts(alloc)?,
             bytes,
             built: self.values.iter().filter(|value| value.is_built()).count(),

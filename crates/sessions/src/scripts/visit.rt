@@ -3,24 +3,20 @@
 ghost use Rattle.std.specs.Prelude.{◌≡◌};
 ghost use Rattle.step_core.specs.Opening.{opening_of};
 
-use crate::scripts::bench::{as_told, wrong_if};
-use crate::scripts::book::{opened, zeros};
-use crate::scripts::fault::{Fault, Wrong};
-use crate::scripts::refused::OneRefused;
-use crate::scripts::standing::Heap;
+use crate::scripts::book::opened;
+use crate::scripts::fault::Wrong;
+use crate::scripts::player::Player;
+use crate::scripts::refused::play_refused;
+use crate::scripts::standing::{DeskIn, Heap};
 use crate::scripts::way::Way;
 use driver_book::{Full, FullLogBrand, LogBrand};
 use job_cli::desk::{Access, Desk};
-use script_cli::transcripts::{Options, play, read_transcript};
+use script_cli::transcripts::{Options, read_transcript};
 use std::alloc::{AllocError, Global};
 use std::marker::Brand;
 use std::sync::Wait;
 use std::sync::ledger::Blank;
 use step_core::{Config, Image};
-use test_support::Refusing;
-
-/// More growths than a visit has.
-const MANY: u64 = 5_000;
 
 /// A draft is built at its own book.
 const BUILT: &str = "reserve 1 read 0 1 0+512
@@ -42,9 +38,6 @@ const SUBMITTED: &str = "submit 1 0
 > counts free 11 queue 4 chain 0 data 1
 ";
 
-/// A desk with a book in a heap.
-type DeskIn<'h, L, R> = Desk<'h, L, R, &'h Heap>;
-
 /// Hands the youngest command of a desk to another one.
 fn hand_over<'h, L: FullLogBrand, M: FullLogBrand, R: Wait>(
     from: &mut DeskIn<'h, L, R>,
@@ -60,24 +53,11 @@ fn hand_over<'h, L: FullLogBrand, M: FullLogBrand, R: Wait>(
 fn play_part<'h, L: FullLogBrand, R: Wait>(
     desk: &mut DeskIn<'h, L, R>,
     text: &str,
-    growth: u64,
     left: u64,
-) -> Result<u64, Fault> {
+) -> Result<u64, Wrong> {
     let alloc = desk.alloc;
     let transcript = read_transcript(alloc, text)?;
-    let mut refused = OneRefused::new(alloc, desk, left, &[]);
-    let found = play(alloc, &mut refused, &transcript);
-    let OneRefused {
-        alloc: _,
-        maker: _,
-        left,
-        known: _,
-        growths: _,
-        changed,
-        touched: _,
-    } = refused;
-    let wrong = wrong_if(changed, Wrong::Changed);
-    as_told(Way::Visit(growth), found?, wrong)?;
+    let (_, left) = play_refused(alloc, desk, &transcript, left, None)?;
     Ok(left)
 }
 
@@ -86,14 +66,14 @@ fn visit<'h, L: FullLogBrand, M: FullLogBrand, R: Wait>(
     home: &mut DeskIn<'h, L, R>,
     away: &mut DeskIn<'h, M, R>,
     growth: u64,
-) -> Result<u64, Fault> {
+) -> Result<u64, Wrong> {
     home.sit()?;
     away.sit()?;
-    let left = play_part(home, BUILT, growth, growth)?;
+    let left = play_part(home, BUILT, growth)?;
     hand_over(home, away)?;
-    let left = play_part(away, STRANGER, growth, left)?;
+    let left = play_part(away, STRANGER, left)?;
     hand_over(away, home)?;
-    play_part(home, SUBMITTED, growth, left)
+    play_part(home, SUBMITTED, left)
 }
 
 /// Opens the other book, and lets a draft visit it.
@@ -104,7 +84,7 @@ fn play_away<'h, L: FullLogBrand, M: LogBrand, R: Wait>(
     image: Image<&'h Heap>,
     blank: Blank,
     growth: u64,
-) -> Result<u64, Fault>
+) -> Result<u64, Wrong>
     requires name { blank.name ≡ M.name }
     requires parts { blank.parts ≡ M.parts }
     requires number { blank.parts ≡ 65536 }
@@ -126,13 +106,13 @@ fn play_home<'h, L: LogBrand, R: Wait>(
     image: Image<&'h Heap>,
     blank: Blank,
     growth: u64,
-) -> Result<u64, Fault>
+) -> Result<u64, Wrong>
     requires name { blank.name ≡ L.name }
     requires parts { blank.parts ≡ L.parts }
     requires number { blank.parts ≡ 65536 }
     requires opening { L.opening ≡ opening_of config image }
 {
-    let other_image = zeros(heap, Options::USUAL)?;
+    let other_image = Image::zeroed(heap, Options::USUAL.blocks)?;
     let other_blank = Blank::new(65536);
     let book = opened::<Full<L>, &'h Heap>(heap, config, image, blank)?;
     let mut home = Desk::new(rt, alloc, heap, Access::Book(book));
@@ -148,31 +128,35 @@ fn play_home<'h, L: LogBrand, R: Wait>(
     left
 }
 
-/// Lets a draft visit another book with one growth refused, and answers whether there was such a growth. At the end the heap is empty.
-fn visit_once<R: Wait>(rt: &R, alloc: Global, growth: u64) -> Result<bool, Fault> {
-    let heap = Refusing::new(alloc);
-    let image = zeros(&heap, Options::USUAL)?;
+/// Lets a draft visit another book with one growth refused, and answers how many growths are left.
+fn visit_once<'h, R: Wait>(
+    rt: &'h R,
+    alloc: Global,
+    heap: &'h Heap,
+    growth: u64,
+) -> Result<u64, Wrong> {
+    let Options { config, blocks } = Options::USUAL;
+    let image = Image::zeroed(heap, blocks)?;
     let blank = Blank::new(65536);
-    let left = play_home::<Brand, R>(
-        rt,
-        alloc,
-        &heap,
-        Options::USUAL.config,
-        image,
-        blank,
-        growth,
-    )?;
-    let wrong = wrong_if(heap.tally().blocks != 0, Wrong::Leaked);
-    as_told(Way::Visit(growth), None, wrong)?;
-    Ok(left == 0)
+    play_home::<Brand, R>(rt, alloc, heap, config, image, blank, growth)
 }
 
-/// Lets a draft visit another book once for each growth that there is, and answers how many those are.
-pub fn refuse_each_of_visit<R: Wait>(rt: &R, alloc: Global) -> Result<u64, Fault> {
-    for growth in 1..MANY {
-        if !visit_once(rt, alloc, growth)? {
-            return Ok(growth - 1);
-        }
+/// Lets a draft visit another book.
+#[derive(Drop)]
+pub struct VisitPlayer<'t, R: Wait> {
+    /// What may wait for a lock.
+    pub rt: &'t R,
+}
+
+impl<'t, R: Wait> Player for VisitPlayer<'t, R> {
+    type End = ();
+
+    fn way(&self, growth: u64) -> Way {
+        Way::Visit(growth)
     }
-    Ok(MANY)
+
+    fn play<'h>(&self, alloc: Global, heap: &'h Heap, growth: u64) -> Result<((), bool), Wrong> {
+        let left = visit_once(self.rt, alloc, heap, growth)?;
+        Ok(((), left == 0))
+    }
 }

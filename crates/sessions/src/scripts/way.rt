@@ -6,6 +6,8 @@ use std::fmt::{Display, Formatter, Write};
 /// How a script is played.
 #[derive(Clone, Copy, Debug, PartialEq, Eq)]
 pub enum Way {
+    /// It was not played yet.
+    Unplayed,
     /// On a bench, with this growth of its steps refused. Growths are counted from 1; at 0 none is refused.
     Bench(u64),
     /// On a bench, with no memory for the calls that take none.
@@ -23,6 +25,7 @@ pub enum Way {
 impl Display for Way {
     fn fmt<W: Write>(&self, f: &mut Formatter<W>) -> fmt::Result {
         match self {
+            Way::Unplayed => write!(f, "before it is played"),
             Way::Bench(0) => write!(f, "on a bench"),
             Way::Bench(growth) => write!(f, "on a bench, growth {growth} refused"),
             Way::WithoutMemory => write!(f, "on a bench, without memory"),

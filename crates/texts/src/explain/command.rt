@@ -1,13 +1,13 @@
 //! A command, from its entry to its status.
 
 ghost use Rattle.std.specs.Prelude.{◌≡◌, ◌≤◌, ◌<◌, ◌*◌, [], ℕ, Bool, List, None, Some, IfOk, IfSome, false, length};
-ghost use Rattle.std.specs.Result.{result_err};
 ghost use Rattle.block_image.specs.Blocks.{block_count};
 ghost use Rattle.controller_walk.specs.Faults.{next_of};
 ghost use Rattle.controller_walk.specs.Laws.{IsApart};
 ghost use Rattle.controller_walk.specs.Units.{course_of_list};
 ghost use Rattle.controller_walk.specs.Walks.{course, direction_of, is_over, need_of};
 ghost use Rattle.texts.specs.Ending.{Ends, ends_with, list_of};
+ghost use Rattle.texts.specs.Checking.{IsCheckOf};
 ghost use Rattle.texts.specs.Taking.{AreOf, own};
 ghost use Rattle.io_commands.specs.Jobs.{kind_of_opcode, first_block as spec_first_block, block_number as spec_block_number, need_of_entry, direction_of_entry, io_fault, first_bytes as spec_first_bytes};
 ghost use Rattle.page_memory.specs.Memory.{Memory};
@@ -102,22 +102,38 @@ fn final_status(
     }
 }
 
-/// The field checks of an entry: the command, or the status that it completes with.
-pub(crate) fn checked(
-    alloc: Global,
-    entry: &SubEntry,
-    image: &Image,
-) -> Result<Result<Kind, Status>, AllocError>
-    ensures fault { IfOk result (λ r. result_err r ≡ io_fault (block_count image.now) entry.now) }
-    ensures kind { IfOk result (λ r. IfOk r (λ kind. kind_of_opcode entry.now.opcode ≡ Some kind)) }
+/// Why no list of an entry is walked.
+#[derive(Clone, Copy)]
+pub(crate) enum CheckError {
+    /// Its fields are at fault, and it completes with this status.
+    Refused(Status),
+    /// Memory was refused.
+    Memory,
+}
+
+impl From<AllocError> for CheckError {
+    ghost use Rattle.texts.specs.declared.explain.command.CheckError.{CheckError};
+    ghost use Rattle.std.specs.Prelude.{◌≡◌};
+
+    ghost from_gives = { λ _ error. error ≡ CheckError.Memory };
+
+    fn from(_refused: AllocError) -> Self {
+        CheckError::Memory
+    }
+}
+
+/// The field checks of an entry: its command.
+pub(crate) fn checked(alloc: Global, entry: &SubEntry, image: &Image) -> Result<Kind, CheckError>
+    ensures fault { IsCheckOf (io_fault (block_count image.now) entry.now) result }
+    ensures kind { IfOk result (λ kind. kind_of_opcode entry.now.opcode ≡ Some kind) }
 {
     let Some(kind) = kind_of(entry.opcode) else {
-        return Ok(Err(Status::INVALID_OPCODE));
+        return Err(CheckError::Refused(Status::INVALID_OPCODE));
     };
     let job = begin_job(alloc, entry, image)?;
     match job.verdict() {
-        Some(status) => Ok(Err(status)),
-        None => Ok(Ok(kind)),
+        Some(status) => Err(CheckError::Refused(status)),
+        None => Ok(kind),
     }
 }
 
@@ -163,9 +179,9 @@ pub fn explain<D: TouchRecord>(
     // and the status is that of the fault, or, of a command whose list was accepted, that of its bytes.
     ensures status { IfOk result (λ told. io_fault (block_count image.now) entry.now ≡ None → (bytes : List ℕ) × (told.status ≡ ends_with image.now entry.now bytes told.fault)) }
 {
-    let kind = match checked(alloc, entry, image)? {
+    let kind = match checked(alloc, entry, image) {
         Ok(kind) => kind,
-        Err(status) => {
+        Err(CheckError::Refused(status)) => {
             return Ok(Explanation {
                 need: 0,
                 taken: Vec::new(alloc),
@@ -173,6 +189,7 @@ pub fn explain<D: TouchRecord>(
                 status,
             });
         }
+        Err(CheckError::Memory) => return Err(AllocError),
     };
     let mut bytes = first_bytes(alloc, entry, kind, image)?;
     let walk = walk_of(entry, kind);

@@ -3,7 +3,7 @@
 ghost use Rattle.std.specs.Prelude.{◌≡◌, false, length};
 ghost use Rattle.controller_walk.specs.Walks.{is_over, need_of};
 
-use crate::explain::command::{checked, walk_of};
+use crate::explain::command::{CheckError, checked, walk_of};
 use crate::explain::fault::{CaseFault, Wrong};
 use crate::explain::lines::{Line, Stop};
 use crate::explain::text::rule_of;
@@ -104,19 +104,16 @@ fn largest_image(alloc: Global) -> Result<Image, AllocError> {
     }
 }
 
-/// The fault of an entry's own descriptor, if it has one, or the status of a field that is at fault, over an image.
+/// The fault of the own descriptor of an entry, if it has one, where its fields have none over an image.
 fn first_refusal(
     alloc: Global,
     entry: &SubEntry,
     image: &Image,
-) -> Result<Result<Option<WalkFault>, Status>, AllocError> {
-    let kind = match checked(alloc, entry, image)? {
-        Ok(kind) => kind,
-        Err(status) => return Ok(Err(status)),
-    };
+) -> Result<Option<WalkFault>, CheckError> {
+    let kind = checked(alloc, entry, image)?;
     let walk = walk_of(entry, kind);
     let mut staging = vec![in alloc; 0; walk.need() as usize]?;
-    Ok(Ok(first_fault(alloc, walk, staging.as_mut_slice())?))
+    Ok(first_fault(alloc, walk, staging.as_mut_slice())?)
 }
 
 /// Puts the fields of an entry, and whether it is refused before its list is read, whichever blocks the image has.
@@ -129,12 +126,13 @@ fn put_sqe(out: &mut String, alloc: Global, bytes: &[u8; 64]) -> Result<(), Allo
         ..entry
     };
     let image = largest_image(alloc)?;
-    match first_refusal(alloc, &from_zero, &image)? {
+    match first_refusal(alloc, &from_zero, &image) {
         Ok(fault) => put_first(out, fault),
-        Err(status) => {
+        Err(CheckError::Refused(status)) => {
             let (named, rule) = (Named(status), rule_of(status));
             write!(out, "refused: {named}\n{rule}\n")
         }
+        Err(CheckError::Memory) => Err(AllocError),
     }
 }
 

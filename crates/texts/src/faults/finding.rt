@@ -1,7 +1,7 @@
 //! Which word of a line is at fault.
 
-ghost use Rattle.std.specs.Prelude.{◌≡◌, ◌≤◌, ◌<◌, IfOk, IfSome, length};
-ghost use Rattle.texts.specs.Found.{IsIn, IsNextIn};
+ghost use Rattle.std.specs.Prelude.{◌≡◌, ◌≤◌, ◌<◌, IfErr, IfOk, IfSome, length};
+ghost use Rattle.texts.specs.Found.{IsErrorIn, IsIn};
 
 use crate::faults::forms::{Grammar, Slot, has_pieces, slots_of, slots_of_job};
 use crate::faults::words::{Place, word_from};
@@ -45,6 +45,37 @@ pub struct Found {
     pub wanted: Wanted,
 }
 
+/// Why no more of a line is looked at.
+#[derive(Clone, Copy)]
+pub(crate) enum FindError {
+    /// It is at fault.
+    Found(Found),
+    /// Memory was refused.
+    Memory,
+}
+
+impl From<Found> for FindError {
+    ghost use Rattle.texts.specs.declared.faults.finding.FindError.{FindError};
+    ghost use Rattle.std.specs.Prelude.{◌≡◌};
+
+    ghost from_gives = { λ found error. error ≡ FindError.Found found };
+
+    fn from(found: Found) -> Self {
+        FindError::Found(found)
+    }
+}
+
+impl From<AllocError> for FindError {
+    ghost use Rattle.texts.specs.declared.faults.finding.FindError.{FindError};
+    ghost use Rattle.std.specs.Prelude.{◌≡◌};
+
+    ghost from_gives = { λ _ error. error ≡ FindError.Memory };
+
+    fn from(_refused: AllocError) -> Self {
+        FindError::Memory
+    }
+}
+
 /// Whether something was read; an error where memory was refused.
 fn was_read<T: Drop>(read: Result<T, LineError>) -> Result<bool, AllocError> {
     match read {
@@ -81,9 +112,6 @@ fn fault_of(slot: Slot) -> LineFault {
     }
 }
 
-/// What follows a place in a line: where it ends, if it is what is wanted, else what is at fault.
-type Next = Result<usize, Found>;
-
 /// A fault at a place.
 fn at_fault(fault: LineFault, place: Place, wanted: Wanted) -> Found
     ensures start { result.start ≡ place.start }
@@ -97,41 +125,40 @@ fn at_fault(fault: LineFault, place: Place, wanted: Wanted) -> Found
     }
 }
 
-/// Looks at the word that follows a place.
-fn word_after(alloc: Global, line: &[u8], at: usize, slot: Slot) -> Result<Next, AllocError>
+/// Looks at the word that follows a place, and answers where it ends.
+fn word_after(alloc: Global, line: &[u8], at: usize, slot: Slot) -> Result<usize, FindError>
     requires { at ≤ length line.now }
-    ensures { IfOk result (IsNextIn (length line.now)) }
+    ensures next { IfOk result (λ next. next ≤ length line.now) }
+    ensures error { IfErr result (IsErrorIn (length line.now)) }
 {
     let wanted = Wanted::Slot(slot);
     let Some(place) = word_from(line, at) else {
         let end = line.len();
         let place = Place { start: end, end };
-        return Ok(Err(at_fault(LineFault::MissingWord, place, wanted)));
+        return Err(FindError::Found(at_fault(LineFault::MissingWord, place, wanted)));
     };
     let good = match words_of(&line[place.start..place.end]) {
         Ok(mut word) => is_good(alloc, slot, &mut word)?,
         Err(_) => false,
     };
     if good {
-        Ok(Ok(place.end))
+        Ok(place.end)
     } else {
-        Ok(Err(at_fault(fault_of(slot), place, wanted)))
+        Err(FindError::Found(at_fault(fault_of(slot), place, wanted)))
     }
 }
 
-/// Looks at the words that follow a place.
-fn words_after(alloc: Global, line: &[u8], at: usize, slots: &[Slot]) -> Result<Next, AllocError>
+/// Looks at the words that follow a place, and answers where the last one ends.
+fn words_after(alloc: Global, line: &[u8], at: usize, slots: &[Slot]) -> Result<usize, FindError>
     requires { at ≤ length line.now }
-    ensures { IfOk result (IsNextIn (length line.now)) }
+    ensures next { IfOk result (λ next. next ≤ length line.now) }
+    ensures error { IfErr result (IsErrorIn (length line.now)) }
 {
     let mut at = at;
     for slot in slots {
-        match word_after(alloc, line, at, *slot)? {
-            Ok(next) => at = next,
-            Err(found) => return Ok(Err(found)),
-        }
+        at = word_after(alloc, line, at, *slot)?;
     }
-    Ok(Ok(at))
+    Ok(at)
 }
 
 /// Whether a word is a piece, as the parser reads it.
@@ -143,51 +170,44 @@ pub(crate) fn is_piece(alloc: Global, word: &[u8]) -> Result<bool, AllocError> {
 }
 
 /// Looks at the pieces that follow a place, to the end of the line.
-fn pieces_after(alloc: Global, line: &[u8], at: usize) -> Result<Option<Found>, AllocError>
+fn pieces_after(alloc: Global, line: &[u8], at: usize) -> Result<(), FindError>
     requires { at ≤ length line.now }
-    ensures { IfOk result (λ found. IfSome found (IsIn (length line.now))) }
+    ensures { IfErr result (IsErrorIn (length line.now)) }
 {
     let mut at = at;
     'words: for _ in 0..line.len() {
         let Some(place) = word_from(line, at) else {
-            return Ok(None);
+            return Ok(());
         };
         if !is_piece(alloc, &line[place.start..place.end])? {
-            return Ok(Some(at_fault(LineFault::BadPiece, place, Wanted::Piece)));
+            return Err(FindError::Found(at_fault(LineFault::BadPiece, place, Wanted::Piece)));
         }
         at = place.end;
     }
-    Ok(None)
+    Ok(())
 }
 
 /// Sees that no word follows a place.
-fn end_after(line: &[u8], at: usize, verb: Verb) -> Option<Found>
+fn end_after(line: &[u8], at: usize, verb: Verb) -> Result<(), Found>
     requires { at ≤ length line.now }
-    ensures { IfSome result (IsIn (length line.now)) }
+    ensures { IfErr result (IsIn (length line.now)) }
 {
-    let place = word_from(line, at)?;
-    let wanted = Wanted::Nothing(verb);
-    Some(at_fault(LineFault::ExtraWord, place, wanted))
+    match word_from(line, at) {
+        Some(place) => Err(at_fault(LineFault::ExtraWord, place, Wanted::Nothing(verb))),
+        None => Ok(()),
+    }
 }
 
 /// Looks at what follows a verb of steps.
-fn step_after(
-    alloc: Global,
-    line: &[u8],
-    at: usize,
-    verb: Verb,
-) -> Result<Option<Found>, AllocError>
+fn step_after(alloc: Global, line: &[u8], at: usize, verb: Verb) -> Result<(), FindError>
     requires { at ≤ length line.now }
-    ensures { IfOk result (λ found. IfSome found (IsIn (length line.now))) }
+    ensures { IfErr result (IsErrorIn (length line.now)) }
 {
-    let at = match words_after(alloc, line, at, slots_of(verb))? {
-        Ok(next) => next,
-        Err(found) => return Ok(Some(found)),
-    };
+    let at = words_after(alloc, line, at, slots_of(verb))?;
     if has_pieces(verb) {
         pieces_after(alloc, line, at)
     } else {
-        Ok(end_after(line, at, verb))
+        Ok(end_after(line, at, verb)?)
     }
 }
 
@@ -204,26 +224,16 @@ fn is_read(line: &[u8], at: usize) -> bool
 }
 
 /// Looks at what follows `job`.
-fn job_after(
-    alloc: Global,
-    line: &[u8],
-    at: usize,
-    submitters: u16,
-) -> Result<Option<Found>, AllocError>
+fn job_after(alloc: Global, line: &[u8], at: usize, submitters: u16) -> Result<(), FindError>
     requires { at ≤ length line.now }
-    ensures { IfOk result (λ found. IfSome found (IsIn (length line.now))) }
+    ensures { IfErr result (IsErrorIn (length line.now)) }
 {
     let slots = slots_of_job(submitters);
     let mut next = words_after(alloc, line, at, &slots)?;
-    if let Ok(place) = next {
-        if !is_read(line, at) {
-            next = word_after(alloc, line, place, Slot::Bytes)?;
-        }
+    if !is_read(line, at) {
+        next = word_after(alloc, line, next, Slot::Bytes)?;
     }
-    match next {
-        Ok(next) => pieces_after(alloc, line, next),
-        Err(found) => Ok(Some(found)),
-    }
+    pieces_after(alloc, line, next)
 }
 
 /// Where the first byte that is not ASCII stands.
@@ -233,23 +243,47 @@ fn first_high(line: &[u8]) -> Option<usize>
     line.iter().position(|byte| *byte >= 128)
 }
 
-/// What is at fault in a line as a whole.
-fn line_fault(line: &[u8]) -> Option<Found>
-    ensures { IfSome result (IsIn (length line.now)) }
+/// Sees that a line is short enough, and has bytes of ASCII alone.
+fn whole_line(line: &[u8]) -> Result<(), Found>
+    ensures { IfErr result (IsIn (length line.now)) }
 {
     if line.len() > MAX_LINE {
         let place = Place {
             start: MAX_LINE,
             end: line.len(),
         };
-        return Some(at_fault(LineFault::LongLine, place, Wanted::ShorterLine));
+        return Err(at_fault(LineFault::LongLine, place, Wanted::ShorterLine));
     }
-    let start = first_high(line)?;
-    let place = Place {
-        start,
-        end: start + 1,
+    match first_high(line) {
+        Some(start) => {
+            let end = start + 1;
+            let place = Place { start, end };
+            Err(at_fault(LineFault::NotAscii, place, Wanted::Ascii))
+        }
+        None => Ok(()),
+    }
+}
+
+/// Looks at a line of a script.
+fn look_over_line(alloc: Global, grammar: Grammar, line: &[u8]) -> Result<(), FindError>
+    ensures { IfErr result (IsErrorIn (length line.now)) }
+{
+    whole_line(line)?;
+    let Some(place) = word_from(line, 0) else {
+        return Ok(());
     };
-    Some(at_fault(LineFault::NotAscii, place, Wanted::Ascii))
+    let first = &line[place.start..place.end];
+    if begins_comment(first) {
+        return Ok(());
+    }
+    let verb = Verb::named(first);
+    match (grammar, verb) {
+        (Grammar::Steps, Some(verb)) => step_after(alloc, line, place.end, verb),
+        (Grammar::Jobs(submitters), _) if first == JOB => {
+            job_after(alloc, line, place.end, submitters)
+        }
+        _ => Err(FindError::Found(at_fault(LineFault::UnknownVerb, place, Wanted::Verb))),
+    }
 }
 
 /// What is at fault in a line of a script, and where. Nothing is where the line has no fault.
@@ -260,22 +294,9 @@ fn line_fault(line: &[u8]) -> Option<Found>
 pub fn find(alloc: Global, grammar: Grammar, line: &[u8]) -> Result<Option<Found>, AllocError>
     ensures { IfOk result (λ found. IfSome found (IsIn (length line.now))) }
 {
-    if let Some(found) = line_fault(line) {
-        return Ok(Some(found));
-    }
-    let Some(place) = word_from(line, 0) else {
-        return Ok(None);
-    };
-    let first = &line[place.start..place.end];
-    if begins_comment(first) {
-        return Ok(None);
-    }
-    let verb = Verb::named(first);
-    match (grammar, verb) {
-        (Grammar::Steps, Some(verb)) => step_after(alloc, line, place.end, verb),
-        (Grammar::Jobs(submitters), _) if first == JOB => {
-            job_after(alloc, line, place.end, submitters)
-        }
-        _ => Ok(Some(at_fault(LineFault::UnknownVerb, place, Wanted::Verb))),
+    match look_over_line(alloc, grammar, line) {
+        Ok(()) => Ok(None),
+        Err(FindError::Found(found)) => Ok(Some(found)),
+        Err(FindError::Memory) => Err(AllocError),
     }
 }

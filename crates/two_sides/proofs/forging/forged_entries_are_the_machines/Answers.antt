@@ -1,4 +1,4 @@
-use Rattle.two_sides.proofs.Answering.{forged_stepped, slots_are_in}
+use Rattle.two_sides.proofs.CompletionPosts.{forged_stepped, slots_are_in}
 use Rattle.two_sides.proofs.forging.forged_entries_are_the_machines.Goals as goal
 
 pub returns-clause-slots : goal.returns-clause-slots

@@ -1,30 +1,11 @@
-use Rattle.std.proofs.Common.{None, refl, sym, ◌∙◌}
+use Rattle.std.proofs.Common.{None, refl}
 use Rattle.step_core.specs.Replies.{reap_reply}
-use Rattle.driver_book.{proofs.Runs.{does_in, log_has_some, keeps_jobs, no_room, takes_no_memory}, specs.Calls.IsLogFull}
+use Rattle.driver_book.proofs.Runs.{does_in, keeps_jobs}
 use Rattle.machine_model.specs.Events as events
 use Rattle.driver_book.proofs.book.Book.reap.Goals as goal
 
-pub returns-then-is_err-clause-memory : goal.returns-then-is_err-clause-memory
-returns-then-is_err-clause-memory g c = no_room c.self.view_is c.make_room.result (sym c.is_err.ensures.value ∙ c.if-is_err.true) c.make_room.ensures.full
-
-pub note-requires-clause-room : goal.note-requires-clause-room
-note-requires-clause-room g c = log_has_some _ c.make_room.result (sym c.is_err.ensures.value ∙ c.if-is_err.false) c.make_room.ensures.room
-
 pub invariant_of-self-2 : goal.invariant_of-self-2
-invariant_of-self-2 g c =
-    keeps_jobs None (events.Reap c.args.q) (reap_reply c.reap-answer.result) c.self.invariant c.reap-answer.ensures.step refl refl
-    (rw (c.note.ensures, c.make_room.ensures.same, c.reaped.ensures) refl)
+invariant_of-self-2 g c = keeps_jobs None (events.Reap c.args.q) (reap_reply c.reap-answer.result) c.self.invariant c.reap-answer.ensures.step refl refl (rw (c.note.ensures, c.make_room.ensures.same, c.reaped.ensures) refl)
 
 pub returns-clause-step : goal.returns-clause-step
-returns-clause-step g c =
-    does_in c.self.view_is c.reap-answer.new.self.state c.note.new.log.entries c.note.new.log.room _ None (events.Reap c.args.q) (reap_reply c.reap-answer.result) c.reap-answer.ensures.step (rw (c.note.ensures, c.make_room.ensures.same, c.reaped.ensures) refl)
-
-pub returns-clause-memory : goal.returns-clause-memory
-returns-clause-memory g c =
-    takes_no_memory (IsLogFull c.args.self.now) c.self.inside.world.state c.reap-answer.new.self.state (events.Reap c.args.q) (reap_reply c.reap-answer.result) refl c.reap-answer.ensures.step
-
-pub returns-then-is_err-clause-touches : goal.returns-then-is_err-clause-touches
-returns-then-is_err-clause-touches g c = rw (← c.self.view_is) refl
-
-pub returns-clause-touches : goal.returns-clause-touches
-returns-clause-touches g c = rw (← c.self.view_is) c.reap-answer.ensures.touches
+returns-clause-step g c = does_in c.self.view_is _ _ _ _ None (events.Reap c.args.q) (reap_reply c.reap-answer.result) c.reap-answer.ensures.step (rw (c.note.ensures, c.make_room.ensures.same, c.reaped.ensures) refl)

@@ -1,6 +1,6 @@
 use Rattle.std.proofs.Common.{◌≡◌, ◌++◌, vec_len, length, take, drop, Some, refl, subst, ap, sym, ◌∙◌}
 use Rattle.step_core.specs.Replies.{accept_reply}
-use Rattle.driver_book.proofs.Runs.{does_in, log_has_some, keeps_jobs, no_room, takes_no_memory, wants_room}
+use Rattle.driver_book.proofs.Runs.{does_in, keeps_jobs, takes_no_memory}
 use Rattle.driver_book.proofs.{StandsInReceipts.{length_settled, settles_in, settles_none, written_back}, book.Book.release.Goals.{then-is_ok, else-is_ok}}
 use Rattle.driver_book.specs.{Calls.IsLogFull, Seats.AreSettled, State.BookContents}
 use Rattle.machine_model.specs.Events as events
@@ -14,19 +14,12 @@ invariant_of-self-2 g c =
 pub returns-clause-step : goal.returns-clause-step
 returns-clause-step g c =
     rw (← c.seat.view_is)
-    (does_in c.self.view_is c.release-answer.new.self.state c.note.new.log.entries c.note.new.log.room _ (Some c.seat.inside.number) (events.Release c.args.finished) (accept_reply c.release-answer.result) c.release-answer.ensures.step
+    (does_in c.self.view_is _ _ _ _ (Some c.seat.inside.number) (events.Release c.args.finished) (accept_reply c.release-answer.result) c.release-answer.ensures.step
     (rw (c.note.ensures, c.make_room.ensures.same, c.q-q.ensures, c.cid-cid.ensures, c.ended.ensures) refl))
 
 pub returns-clause-memory : goal.returns-clause-memory
 returns-clause-memory g c =
     takes_no_memory (IsLogFull c.args.self.now) c.self.inside.world.state c.release-answer.new.self.state (events.Release c.args.finished) (accept_reply c.release-answer.result) refl c.release-answer.ensures.step
-
-pub returns-then-is_err-clause-memory : goal.returns-then-is_err-clause-memory
-returns-then-is_err-clause-memory g c =
-    wants_room _ _ c.unlogged.ensures.why (no_room c.self.view_is c.make_room.result (sym c.is_err.ensures.value ∙ c.if-is_err.true) c.make_room.ensures.full)
-
-pub note-requires-clause-room : goal.note-requires-clause-room
-note-requires-clause-room g c = log_has_some _ c.make_room.result (sym c.is_err.ensures.value ∙ c.if-is_err.false) c.make_room.ensures.room
 
 pub invariant_of-seat : goal.invariant_of-seat
 invariant_of-seat g c =

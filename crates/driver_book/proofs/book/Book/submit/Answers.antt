@@ -1,8 +1,8 @@
-use Rattle.std.proofs.Common.{◌⊎◌, ◌∷◌, [], inl, inr, ◌-◌, vec_capacity, vec_len, Some, length, length-append, arith, refl, ap, sym, ◌∙◌, rules}
+use Rattle.std.proofs.Common.{◌⊎◌, ◌∷◌, [], inl, ◌-◌, vec_capacity, vec_len, Some, length, length-append, arith, refl, ap, sym, ◌∙◌, rules}
 use Rattle.std.proofs.lemmas.List.Sums.{count_by-le-length}
 use Rattle.io_commands.specs.Asked.{Request}
 use Rattle.step_core.specs.Replies.{accept_reply}
-use Rattle.driver_book.proofs.Runs.{accepts_book, does_in, has_room, keeps_jobs, log_has_room, log_lacks, refused_submission, submission_entries, submission_written, lacks_as, receipts_full, takes_as, takes_no_memory, wants_room}
+use Rattle.driver_book.proofs.Runs.{accepts_book, does_in, keeps_jobs, refused_submission, submission_entries, submission_written, lacks_as, takes_no_memory, wants_room}
 use Rattle.driver_book.{proofs.StandsInReceipts.{receives_in, receives_none, settled_appended}, specs.Calls.{LacksRoomToSubmit, AreReceiptsFull}}
 use Rattle.driver_book.specs.{History.{is_accepted, entry_of}, State.BookContents}
 use Rattle.machine_model.specs.Events as events
@@ -20,29 +20,21 @@ invariant_of-self-else-is_ok g c =
 pub returns-else-is_ok-clause-step : goal.returns-else-is_ok-clause-step
 returns-else-is_ok-clause-step g c =
     rw (← c.seat.view_is)
-    (does_in c.self.view_is c.submit-answer.new.self.state c.note_refused.new.log.entries c.note_refused.new.log.room _ (Some c.seat.inside.number) (events.Submit c.args.draft) (accept_reply c.submit-answer.result) c.submit-answer.ensures.step (submission_entries (Some c.seat.inside.number) c.self.inside.world.state c.submit-answer.new.self.state c.args.draft c.submit-answer.result c.self.inside.log.entries c.push_submission.new.self c.note_refused.new.log c.submit-answer.ensures.step (rw (c.push_submission.ensures.entries, c.make_room.ensures.same) refl) c.note_refused.ensures.accepted c.note_refused.ensures.refused))
+    (does_in c.self.view_is _ _ _ _ (Some c.seat.inside.number) (events.Submit c.args.draft) (accept_reply c.submit-answer.result) c.submit-answer.ensures.step (submission_entries (Some c.seat.inside.number) c.self.inside.world.state c.submit-answer.new.self.state c.args.draft c.submit-answer.result c.self.inside.log.entries c.push_submission.new.self c.note_refused.new.log c.submit-answer.ensures.step (rw (c.push_submission.ensures.entries, c.make_room.ensures.same) refl) c.note_refused.ensures.accepted c.note_refused.ensures.refused))
 
 pub returns-else-is_ok-clause-memory : goal.returns-else-is_ok-clause-memory
 returns-else-is_ok-clause-memory g c =
     takes_no_memory (LacksRoomToSubmit c.args.self.now c.args.draft ⊎ AreReceiptsFull c.args.seat.now) c.self.inside.world.state c.submit-answer.new.self.state (events.Submit c.args.draft) (accept_reply c.submit-answer.result) refl c.submit-answer.ensures.step
 
-pub returns-then-is_err-clause-memory : goal.returns-then-is_err-clause-memory
-returns-then-is_err-clause-memory g c =
-    wants_room _ _ c.unlogged.ensures.why (inl (lacks_as c.args.self.now.room (length c.pieces-pieces.result.now) (length c.pages.result.now) _ _ (ap length c.pieces-pieces.ensures ∙ ap (λ (r : Request). length r.pieces) c.request.ensures.request) (ap length c.pages.ensures ∙ length-append c.args.draft.data_pages c.args.draft.chain_pages)
-    (log_lacks c.self.view_is (length c.pieces-pieces.result.now) (length c.pages.result.now) c.make_room.result (sym c.is_err.ensures.value ∙ c.if-is_err.true) c.make_room.ensures.full)))
-
-pub push_submission-requires : goal.push_submission-requires
-push_submission-requires g c =
-    takes_as c.make_room.new.self.room (length c.pieces-pieces.result.now) (length c.pages.result.now) _ _ (ap length c.pieces-pieces.ensures ∙ ap (λ (r : Request). length r.pieces) c.request.ensures.request) (ap length c.pages.ensures ∙ length-append c.args.draft.data_pages c.args.draft.chain_pages)
-    (log_has_room c.make_room.new.self.room (length c.pieces-pieces.result.now) (length c.pages.result.now) c.make_room.result (sym c.is_err.ensures.value ∙ c.if-is_err.false) c.make_room.ensures.room)
-
-pub push_reserved-requires : goal.push_reserved-requires
-push_reserved-requires g c = has_room _ _ c.reserve.result (sym c.is_err-2.ensures.value ∙ c.if-is_err-2.false) c.reserve.ensures.ok
+pub returns-in_default-clause-memory : goal.returns-in_default-clause-memory
+returns-in_default-clause-memory g c =
+    wants_room _ _ c.unlogged.ensures.why
+    (inl (rw (← c.self.view_is) (lacks_as c.self.inside.log.room (length c.pieces-pieces.result.now) (length c.pages.result.now) _ _ (ap length c.pieces-pieces.ensures ∙ ap (λ (r : Request). length r.pieces) c.request.ensures.request) (ap length c.pages.ensures ∙ length-append c.args.draft.data_pages c.args.draft.chain_pages) c.in_default.ensures.full)))
 
 pub returns-then-is_ok-clause-step : goal.returns-then-is_ok-clause-step
 returns-then-is_ok-clause-step g c =
     rw (← c.seat.view_is)
-    (does_in c.self.view_is c.submit-answer.new.self.state c.note_refused.new.log.entries c.note_refused.new.log.room _ (Some c.seat.inside.number) (events.Submit c.args.draft) (accept_reply c.submit-answer.result) c.submit-answer.ensures.step (submission_entries (Some c.seat.inside.number) c.self.inside.world.state c.submit-answer.new.self.state c.args.draft c.submit-answer.result c.self.inside.log.entries c.push_submission.new.self c.note_refused.new.log c.submit-answer.ensures.step (rw (c.push_submission.ensures.entries, c.make_room.ensures.same) refl) c.note_refused.ensures.accepted c.note_refused.ensures.refused))
+    (does_in c.self.view_is _ _ _ _ (Some c.seat.inside.number) (events.Submit c.args.draft) (accept_reply c.submit-answer.result) c.submit-answer.ensures.step (submission_entries (Some c.seat.inside.number) c.self.inside.world.state c.submit-answer.new.self.state c.args.draft c.submit-answer.result c.self.inside.log.entries c.push_submission.new.self c.note_refused.new.log c.submit-answer.ensures.step (rw (c.push_submission.ensures.entries, c.make_room.ensures.same) refl) c.note_refused.ensures.accepted c.note_refused.ensures.refused))
 
 pub returns-then-is_ok-clause-receipt : goal.returns-then-is_ok-clause-receipt
 returns-then-is_ok-clause-receipt g c =
@@ -64,16 +56,6 @@ overflow_add-self g c =
     let same = ap length c.make_room.ensures.same in
     let few = count_by-le-length is_accepted c.self.inside.log.entries in
     record { fits = omega (arith, longer, long, same, few, c.push_submission.ensures.few, c.self.invariant.numbered) }
-
-pub returns-else-is_ok-clause-touches : goal.returns-else-is_ok-clause-touches
-returns-else-is_ok-clause-touches g c = rw (← c.self.view_is) c.submit-answer.ensures.touches
-
-pub returns-then-is_ok-clause-touches : goal.returns-then-is_ok-clause-touches
-returns-then-is_ok-clause-touches g c = rw (← c.self.view_is) c.submit-answer.ensures.touches
-
-pub returns-then-is_err-2-clause-memory : goal.returns-then-is_err-2-clause-memory
-returns-then-is_err-2-clause-memory g c =
-    wants_room _ _ c.unlogged-then-is_err-2.ensures.why (inr (receipts_full c.seat.view_is (vec_capacity c.seat.inside.receipts) (vec_len c.seat.inside.receipts) refl c.reserve.result (sym c.is_err-2.ensures.value ∙ c.if-is_err-2.true) c.reserve.ensures.full))
 
 pub invariant_of-seat-then-is_ok : goal.invariant_of-seat-then-is_ok
 invariant_of-seat-then-is_ok g c =

@@ -1,6 +1,6 @@
 use Rattle.std.proofs.Common.{rules, ◌++◌, [], false, sym, ◌∙◌}
 use Rattle.io_commands.specs.{Drafts.DraftContents, Values.numbers_of}
-use Rattle.host_core.proofs.{Ending.{cancel_refused, cancel_made, belongs-from, belongs_brings, ended_apart, brings_apart}, Identifiers.{host_of, over_of}}
+use Rattle.host_core.proofs.{Ending.{cancel_refused, cancel_made, belongs-from, belongs_brings, ended_apart, brings_apart}, Identifiers.host_of}
 use Rattle.host_core.{proofs.Openings.{whole_at, step_at, stays_at}, specs.{Parts.tables_of, Tables.Tables, Whole.IsWhole}}
 use Rattle.machine_model.specs.Events as events
 use Rattle.machine_model.specs.declared.words.Refusal.TheVariants as refusal
@@ -50,6 +50,6 @@ returns g c =
     record {
       step = step_at t new c.args.self.now (events.Cancel d) events.Accepted c.self.view_is made.step;
       touches = search rules;
-      over = over_of new made.whole;
+      over = made.whole.over;
       back = search rules;
     }

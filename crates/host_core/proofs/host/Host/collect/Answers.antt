@@ -1,12 +1,11 @@
-use Rattle.std.proofs.Common.{◌≡◌, ◌+◌, ◌≤◌, [], ℕ, Some, length, refl, sym, ◌∙◌, subst, vec_capacity}
-use Rattle.machine_model.specs.{State.Record, Step.{Refuses, Step}, declared.words.{Phase.TheVariants.Held, Work.TheVariants.Io}}
-use Rattle.host_core.proofs.{Ending.{collect-nothing, found-at, held_fits}, Identifiers.{host_of, over_of}}
-use Rattle.host_core.{proofs.{Openings.{whole_at, step_at, stays_at}, QueueLists.host_step}, specs.{Collecting.StandsAt, Parts.{record_of, tables_of}}}
-use Rattle.host_core.specs.{Tables.{Tables, state_of}, Whole.{FitsPhase, IsWhole}}
+use Rattle.std.proofs.Common.{[], ℕ, Some, refl, ap, arith, sym, ◌∙◌, subst}
+use Rattle.machine_model.specs.{Step.{Refuses, Step}, declared.words.{Work.TheVariants.Io}}
+use Rattle.host_core.proofs.{Ending.{collect-nothing, found-at}, Identifiers.host_of}
+use Rattle.host_core.{proofs.{Openings.{whole_at, step_at, stays_at}, QueueLists.host_step}, specs.{Collecting.StandsAt, Parts.{tables_of}}}
+use Rattle.host_core.specs.{Tables.{Tables, state_of}, Whole.{IsWhole}}
 use Rattle.machine_model.specs.Events as events
 use Rattle.machine_model.specs.declared.words.Refusal.TheVariants as refusal
 use Rattle.host_core.proofs.host.Host.collect.Goals as goal
-use Rattle.page_memory.proofs.Lists.{some_is}
 
 pub returns-in-Err-clause-step : goal.returns-in-Err-clause-step
 returns-in-Err-clause-step g c =
@@ -16,15 +15,6 @@ returns-in-Err-clause-step g c =
     (subst (λ (cid : ℕ). Refuses (state_of t) (events.Collect c.q.result cid) c.in-Err.why []) c.cid.ensures (c.in-Err.ensures.refused c.args.store.now.pages w)) in
     stays_at t c.args.self.now (events.Collect c.args.ticket.q c.args.ticket.cid) (events.Refused c.in-Err.why []) c.self.view_is
     (host_step t t (events.Collect c.args.ticket.q c.args.ticket.cid) (events.Refused c.in-Err.why []) refl tt (refused, refl))
-
-pub room_for-requires : goal.room_for-requires
-room_for-requires g c =
-    let t : Tables = tables_of c.self.inside.parts c.args.store.now.pages in
-    let w : IsWhole t = whole_at (tables_of c.self.inside.parts []) c.args.self.now c.args.store.now.pages c.self.view_is c.self.invariant c.requires in
-    let stands : StandsAt t c.args.ticket.q c.args.ticket.cid =
-    subst (λ (q : ℕ). StandsAt t q c.args.ticket.cid) c.q.ensures (subst (λ (cid : ℕ). StandsAt t c.q.result cid) c.cid.ensures (c.in-Ok.ensures.stands c.args.store.now.pages w)) in
-    let here = found-at t c.args.ticket.q c.args.ticket.cid c.q.result c.cid.result (record_of c.q.result c.cid.result c.in-Ok.entry.now) c.q.ensures c.cid.ensures c.in-Ok.ensures.found in
-    subst (λ (r : Record). FitsPhase Held r.work r.status) (some_is (sym stands.was ∙ here)) (held_fits t c.args.ticket.q c.args.ticket.cid w stands)
 
 pub returns-in-Err-room_for-clause-step : goal.returns-in-Err-room_for-clause-step
 returns-in-Err-room_for-clause-step g c =
@@ -50,16 +40,17 @@ commit_collect-requires-clause-stands g c =
 pub commit_collect-requires-clause-tells : goal.commit_collect-requires-clause-tells
 commit_collect-requires-clause-tells g c = λ entry at.
     let t : Tables = tables_of c.self.inside.parts c.args.store.now.pages in
-    let here = found-at t c.apart-q.result.0 c.apart-q.result.1 c.q.result c.cid.result (record_of c.q.result c.cid.result c.in-Ok.entry.now) (c.q.ensures ∙ sym c.apart-q.ensures.queue) (c.cid.ensures ∙ sym c.apart-q.ensures.identifier) c.in-Ok.ensures.found in
-    let same : record_of c.q.result c.cid.result c.in-Ok.entry.now ≡ entry = some_is (sym here ∙ at) in
-    (subst (λ (r : Record). r.work ≡ Io c.in-Ok-room_for.room.request) same c.in-Ok-room_for.ensures.request, subst (λ (r : Record). r.status ≡ Some c.in-Ok-room_for.room.status) same c.in-Ok-room_for.ensures.status)
+    let w : IsWhole t = whole_at (tables_of c.self.inside.parts []) c.args.self.now c.args.store.now.pages c.self.view_is c.self.invariant c.requires in
+    let here = found-at t c.q.result c.cid.result c.apart-q.result.0 c.apart-q.result.1 entry (c.apart-q.ensures.queue ∙ sym c.q.ensures) (c.apart-q.ensures.identifier ∙ sym c.cid.ensures) at in
+    let told = c.in-Ok.ensures.tells c.args.store.now.pages w entry here in
+    (told.0 ∙ ap Io (sym c.in-Ok-room_for.ensures.same.0), told.1 ∙ ap Some (sym c.in-Ok-room_for.ensures.same.1))
 
 pub commit_collect-requires-clause-space : goal.commit_collect-requires-clause-space
 commit_collect-requires-clause-space g c = λ entry at.
     let t : Tables = tables_of c.self.inside.parts c.args.store.now.pages in
-    let here = found-at t c.apart-q.result.0 c.apart-q.result.1 c.q.result c.cid.result (record_of c.q.result c.cid.result c.in-Ok.entry.now) (c.q.ensures ∙ sym c.apart-q.ensures.queue) (c.cid.ensures ∙ sym c.apart-q.ensures.identifier) c.in-Ok.ensures.found in
-    let same : record_of c.q.result c.cid.result c.in-Ok.entry.now ≡ entry = some_is (sym here ∙ at) in
-    subst (λ (r : Record). length r.data_pages + length r.chain_pages ≤ vec_capacity c.in-Ok-room_for.room.pages) same c.in-Ok-room_for.ensures.room.2
+    let w : IsWhole t = whole_at (tables_of c.self.inside.parts []) c.args.self.now c.args.store.now.pages c.self.view_is c.self.invariant c.requires in
+    let here = found-at t c.q.result c.cid.result c.apart-q.result.0 c.apart-q.result.1 entry (c.apart-q.ensures.queue ∙ sym c.q.ensures) (c.apart-q.ensures.identifier ∙ sym c.cid.ensures) at in
+    omega (arith, c.in-Ok.ensures.pages c.args.store.now.pages w entry here, c.in-Ok-room_for.ensures.room.2)
 
 pub invariant_of-self : goal.invariant_of-self
 invariant_of-self g c = host_of (tables_of c.commit_collect.new.self []) c.commit_collect.new.store.pages c.commit_collect.ensures.whole
@@ -71,6 +62,3 @@ returns-clause-step g c =
     step_at t new c.args.self.now (events.Collect c.args.ticket.q c.args.ticket.cid) (events.Collects c.commit_collect.result) c.self.view_is
     (subst (λ (q : ℕ). Step (state_of t) (events.Collect q c.args.ticket.cid) (events.Collects c.commit_collect.result) (state_of new)) c.apart-q.ensures.queue
     (subst (λ (cid : ℕ). Step (state_of t) (events.Collect c.apart-q.result.0 cid) (events.Collects c.commit_collect.result) (state_of new)) c.apart-q.ensures.identifier c.commit_collect.ensures.step))
-
-pub returns-clause-over : goal.returns-clause-over
-returns-clause-over g c = over_of (tables_of c.commit_collect.new.self c.commit_collect.new.store.pages) c.commit_collect.ensures.whole

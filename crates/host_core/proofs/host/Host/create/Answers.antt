@@ -1,5 +1,5 @@
 use Rattle.std.proofs.Common.{[], subst}
-use Rattle.host_core.proofs.{Creations.{create-refused, created_made}, Granting.next-lowest, Identifiers.{host_of, over_of}}
+use Rattle.host_core.proofs.{Creations.{create-refused, created_made}, Granting.next-lowest, Identifiers.host_of}
 use Rattle.host_core.{proofs.{Openings.{whole_at, step_at, stays_at}, Told.{creating_refused, creating_sent, touches_none}}, specs.Alone.{HostView, IsLowest}}
 use Rattle.host_core.specs.{Parts.tables_of, Sending.creating, Tables.Tables, Whole.IsWhole}
 use Rattle.machine_model.specs.Events as events
@@ -38,7 +38,7 @@ returns g c =
       step = step_at t new c.args.self.now (creating c.args.half c.args.q) (events.Sent c.in-Ok.creation.cid) c.self.view_is made.step;
       touches = rw (creating_sent c.args.self.now.entries c.args.half c.args.q, ← c.self.view_is) c.commit_create.ensures.touches;
       identifier = subst (λ (v : HostView). IsLowest v.host 0 c.in-Ok.creation.cid) c.self.view_is (next-lowest t w 0 c.in-Ok.creation.cid ready.slot.queue ready.slot.at ready.slot.next);
-      over = over_of new made.whole;
+      over = made.whole.over;
     }
 
 pub returns-in-Err-clause-touches : goal.returns-in-Err-clause-touches

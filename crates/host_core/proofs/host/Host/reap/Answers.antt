@@ -1,6 +1,6 @@
 use Rattle.std.proofs.Common.{rules, ◌≡◌, ◌<◌, [], ℕ, None, Some, false, length, slice_get, arith, ap, sym, ◌∙◌, subst}
 use Rattle.page_memory.specs.Pages.{Pages}
-use Rattle.host_core.proofs.{Identifiers.{host_of, over_of}, Openings.{whole_at, step_at, stays_at, head-told}, QueueLists.{queue-at, completion-inside}}
+use Rattle.host_core.proofs.{Identifiers.host_of, Openings.{whole_at, step_at, stays_at, head-told}, QueueLists.{queue-at, completion-inside}}
 use Rattle.host_core.{proofs.Reaps.{looks, reaps-none}, specs.{Alone.{HostStep, IsOver}, Parts.tables_of, Reaping.lacks_completion, Tables.{Tables, view_of}}}
 use Rattle.host_core.specs.Whole.{IsWhole}
 use Rattle.machine_model.specs.Events as events
@@ -53,5 +53,5 @@ returns g c =
           ∙ (head-told bare c.args.q c.index.result.now (queue-at bare c.args.q c.from.result c.index.result.now inside c.from.ensures c.index.ensures)
           ∙ ap (λ (n : ℕ). Some n) (sym c.head_value-head.ensures.head)));
       touches = search rules;
-      over = subst (λ (pages : Pages). IsOver (view_of new) pages) (sym c.see.ensures.same) (over_of new made.whole);
+      over = subst (λ (pages : Pages). IsOver (view_of new) pages) (sym c.see.ensures.same) made.whole.over;
     }

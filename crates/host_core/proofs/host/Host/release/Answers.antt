@@ -2,7 +2,7 @@ use Rattle.std.proofs.Common.{rules, ◌++◌, [], sym, ◌∙◌, subst, true}
 use Rattle.io_commands.specs.{DataBytes.PagesOut, Values.{FinishedContents, numbers_of}}
 use Rattle.machine_model.specs.Proper.{ArePages}
 use Rattle.host_core.proofs.Ending.{reads_from, belongs-from, read_has, release_refused, release_made, belongs_brings, ended_apart, brings_apart}
-use Rattle.host_core.{proofs.{Identifiers.{host_of, over_of}, Openings.{whole_at, step_at, stays_at}}, specs.{Parts.tables_of, Tables.Tables, Whole.IsWhole}}
+use Rattle.host_core.{proofs.{Identifiers.host_of, Openings.{whole_at, step_at, stays_at}}, specs.{Parts.tables_of, Tables.Tables, Whole.IsWhole}}
 use Rattle.machine_model.specs.Events as events
 use Rattle.machine_model.specs.declared.words.Refusal.TheVariants as refusal
 use Rattle.host_core.proofs.host.Host.release.Goals as goal
@@ -63,6 +63,6 @@ returns g c =
     record {
       step = step_at t new c.args.self.now (events.Release d) events.Accepted c.self.view_is made.step;
       touches = search rules;
-      over = over_of new made.whole;
+      over = made.whole.over;
       back = search rules;
     }

@@ -1,6 +1,6 @@
 use Rattle.std.proofs.Common.{rules, ap, ℕ, [], refl, sym, subst, arith}
 use Rattle.io_commands.specs.{Drafts.DraftContents, Requests.FitsRequest}
-use Rattle.host_core.proofs.{Granted.{placed_pages, reserve_made}, Granting.{grant-lowest, refuses-memory}, Identifiers.{host_of, over_of}}
+use Rattle.host_core.proofs.{Granted.{placed_pages, reserve_made}, Granting.{grant-lowest, refuses-memory}, Identifiers.host_of}
 use Rattle.host_core.{proofs.{Openings.{whole_at, step_at, stays_at}, QueueLists.host_step}, specs.Alone.{HasPlacedPages, HostView, IsLowest}}
 use Rattle.host_core.specs.{Commands.Grants, Parts.tables_of, Tables.{Tables, state_of, view_of}, Whole.IsWhole}
 use Rattle.machine_model.specs.Events as events
@@ -20,7 +20,7 @@ make_room-requires g c =
     let t : Tables = tables_of c.self.inside.parts c.args.store.now.pages in
     let w : IsWhole t = whole_at (tables_of c.self.inside.parts []) c.args.self.now c.args.store.now.pages c.self.view_is c.self.invariant c.requires in
     let grants : Grants t c.args.q c.args.request c.in-Ok.grant.cid c.in-Ok.grant.front c.in-Ok.grant.back = c.in-Ok.ensures.granted c.args.store.now.pages w in
-    omega (arith, grants.enough, w.sound.counted, w.pool.few)
+    omega (arith, grants.enough, w.over.size, w.over.pool.few)
 
 pub returns-in-Err-make_room-clause-step : goal.returns-in-Err-make_room-clause-step
 returns-in-Err-make_room-clause-step g c =
@@ -65,6 +65,6 @@ returns g c =
       pages = subst (λ (v : HostView). HasPlacedPages v.host c.commit_reserve.result) c.self.view_is
           (placed_pages t c.args.q c.in-Ok.grant.cid c.args.request c.in-Ok.grant.front c.in-Ok.grant.back c.commit_reserve.result grants c.commit_reserve.ensures.draft);
       touches = search rules;
-      over = over_of new made.whole;
+      over = made.whole.over;
       back = search rules;
     }

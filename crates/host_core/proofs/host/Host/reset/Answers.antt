@@ -1,7 +1,7 @@
 use Rattle.std.proofs.Common.{rules, ◌≡◌, ◌∙◌, [], ap, subst, sym}
 use Rattle.machine_model.specs.After.{after_reset}
 use Rattle.page_memory.specs.Pages.{Pages}
-use Rattle.host_core.proofs.{Identifiers.{host_of, over_of, over_pages}, Openings.whole_at, Resets.{halves-renewed, places-renewed, view-reset, whole-reset}}
+use Rattle.host_core.proofs.{Identifiers.{host_of, over_pages}, Openings.whole_at, Resets.{halves-renewed, places-renewed, view-reset, whole-reset}}
 use Rattle.host_core.specs.{Alone.{HostView, alone}, Laws.shown, Parts.tables_of}
 use Rattle.host_core.specs.{Resetting.{tables_reset, with_io_queues_gone, with_records_reset, HasPlaces, ListHalves}, Tables.{Tables, view_of}, Whole.IsWhole}
 use Rattle.host_core.proofs.host.Host.reset.Goals as goal
@@ -41,5 +41,5 @@ returns g c =
       host = ap view_of left ∙ (view-reset t w ∙ ap (λ (v : HostView). shown (after_reset (alone v c.args.store.now.pages))) c.self.view_is);
       pages = search rules;
       touches = rw (← c.self.view_is) c.renew_admin.ensures.touches;
-      over = over_of (tables_of c.lose_queues.new.self pages) (subst IsWhole (sym left) (whole-reset t w));
+      over = (subst IsWhole (sym left) (whole-reset t w)).over;
     }

@@ -1,7 +1,7 @@
 use Rattle.std.proofs.Common.{rules, ◌≡◌, [], List, true, ap, sym, ◌∙◌, subst}
 use Rattle.machine_model.specs.Refusals.{is_deleted}
 use Rattle.page_memory.specs.Pages.{Pages}
-use Rattle.host_core.proofs.{Identifiers.{host_of, over_of}, Openings.{whole_at, step_at, stays_at}, Reaps.{retire-half, retire-made, retire-drained}}
+use Rattle.host_core.proofs.{Identifiers.host_of, Openings.{whole_at, step_at, stays_at}, Reaps.{retire-half, retire-made, retire-drained}}
 use Rattle.host_core.specs.{Alone.{HostStep, IsOver}, Commands.{passes, state_at}, Parts.tables_of, Rows.Queue, Tables.{Tables, view_of}, Whole.IsWhole}
 use Rattle.machine_model.specs.Events as events
 use Rattle.machine_model.specs.declared.words.Refusal.TheVariants as refusal
@@ -48,5 +48,5 @@ returns-in-None g c =
       step = subst (λ (pages : Pages). HostStep c.args.self.now c.args.store.now.pages (events.Retire c.args.q) events.Accepted (view_of new) pages) (sym c.see.ensures.same)
           (step_at t new c.args.self.now (events.Retire c.args.q) events.Accepted c.self.view_is made.step);
       touches = search rules;
-      over = subst (λ (pages : Pages). IsOver (view_of new) pages) (sym c.see.ensures.same) (over_of new made.whole);
+      over = subst (λ (pages : Pages). IsOver (view_of new) pages) (sym c.see.ensures.same) made.whole.over;
     }

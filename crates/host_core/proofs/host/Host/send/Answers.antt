@@ -1,5 +1,5 @@
 use Rattle.std.proofs.Common.{rules, [], subst}
-use Rattle.host_core.proofs.{Granting.next-lowest, Identifiers.{host_of, over_of}, Openings.{whole_at, step_at, stays_at}}
+use Rattle.host_core.proofs.{Granting.next-lowest, Identifiers.host_of, Openings.{whole_at, step_at, stays_at}}
 use Rattle.host_core.proofs.{Sending.{send-typed, send_made, send-refused}, Told.{sending_refused, touches_none}}
 use Rattle.host_core.specs.{Alone.{HostView, IsLowest}, Parts.tables_of, Sending.sending, Tables.Tables, Whole.IsWhole}
 use Rattle.machine_model.specs.Events as events
@@ -39,7 +39,7 @@ returns g c =
       step = step_at t new c.args.self.now (sending c.args.kind) (events.Sent c.in-Ok.cid) c.self.view_is made.step;
       touches = search rules;
       identifier = subst (λ (v : HostView). IsLowest v.host 0 c.in-Ok.cid) c.self.view_is (next-lowest t w 0 c.in-Ok.cid ready.slot.queue ready.slot.at ready.slot.next);
-      over = over_of new made.whole;
+      over = made.whole.over;
     }
 
 pub returns-in-Err-clause-touches : goal.returns-in-Err-clause-touches

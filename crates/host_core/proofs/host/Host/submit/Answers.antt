@@ -1,5 +1,5 @@
 use Rattle.std.proofs.Common.{rules, [], refl}
-use Rattle.host_core.proofs.{Identifiers.{host_of, over_of}, Openings.{whole_at, step_at, stays_at}, QueueLists.host_step, Submitted.submit_made}
+use Rattle.host_core.proofs.{Identifiers.host_of, Openings.{whole_at, step_at, stays_at}, QueueLists.host_step, Submitted.submit_made}
 use Rattle.host_core.specs.{Parts.tables_of, Tables.Tables, Whole.IsWhole}
 use Rattle.machine_model.specs.Events as events
 use Rattle.host_core.proofs.host.Host.submit.Goals as goal
@@ -36,7 +36,7 @@ returns g c =
     record {
       step = step_at t new c.args.self.now (events.Submit c.args.draft) events.Accepted c.self.view_is made.step;
       touches = search rules;
-      over = over_of new made.whole;
+      over = made.whole.over;
       back = search rules;
       ticket = search rules;
     }

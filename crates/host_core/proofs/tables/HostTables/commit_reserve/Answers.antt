@@ -65,12 +65,12 @@ add_record-requires-clause-empty g c = new-empty c.args.self.now c.args.store.no
 pub make-requires-clause-low : goal.make-requires-clause-low
 make-requires-clause-low g c =
     let segment = c.from.ensures ∙ ap (λ (u : Tables). u.segment) (c.add_record.ensures []) in
-    omega (arith, segment, c.requires.whole.least_segment)
+    omega (arith, segment, c.requires.whole.host.limits.least_segment)
 
 pub make-requires-clause-high : goal.make-requires-clause-high
 make-requires-clause-high g c =
     let segment = c.from.ensures ∙ ap (λ (u : Tables). u.segment) (c.add_record.ensures []) in
-    omega (arith, segment, c.requires.whole.most_segment)
+    omega (arith, segment, c.requires.whole.host.limits.most_segment)
 
 pub returns : goal.returns
 returns g c =

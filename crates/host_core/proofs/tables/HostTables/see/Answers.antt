@@ -13,4 +13,4 @@ returns-clause-seen g c =
 
 pub returns-clause-same : goal.returns-clause-same
 returns-clause-same g c =
-    see-same c.args.store.now.pages c.peek-seen.new.dma.pages c.clear.new.self.pages c.requires.whole.pool c.pages.ensures.whole c.peek-seen.ensures.pool c.clear.ensures.pool c.peek-seen.ensures.memory c.clear.ensures.memory
+    see-same c.args.store.now.pages c.peek-seen.new.dma.pages c.clear.new.self.pages c.requires.whole.over.pool c.pages.ensures.whole c.peek-seen.ensures.pool c.clear.ensures.pool c.peek-seen.ensures.memory c.clear.ensures.memory

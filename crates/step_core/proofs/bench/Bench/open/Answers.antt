@@ -5,10 +5,10 @@ use Rattle.step_core.specs.Opening.{opening_of}
 use Rattle.step_core.proofs.bench.Bench.open.Goals as goal
 
 pub overflow_add-config : goal.overflow_add-config
-overflow_add-config g c = let most = (limits c.args.config c.in-Ok.ensures.fits).most_queues in omega (arith, most)
+overflow_add-config g c = let most = (limits c.args.config c.in-Ok.ensures.fits).numbers.few_queues in omega (arith, most)
 
 pub open-requires-2-clause-queues : goal.open-requires-2-clause-queues
-open-requires-2-clause-queues g c = let most = (limits c.args.config c.in-Ok.ensures.fits).most_queues in omega (arith, most)
+open-requires-2-clause-queues g c = let most = (limits c.args.config c.in-Ok.ensures.fits).numbers.few_queues in omega (arith, most)
 
 pub invariant_of-result : goal.invariant_of-result
 invariant_of-result g c =

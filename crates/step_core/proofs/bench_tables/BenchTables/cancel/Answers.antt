@@ -1,5 +1,6 @@
+use Rattle.host_core.proofs.Benches.{draft_at}
 use Rattle.std.proofs.Common.{refl, ◌∙◌}
-use Rattle.step_core.proofs.Benches.{draft_at, cancels, cancel_refused}
+use Rattle.step_core.proofs.Benches.{cancels, cancel_refused}
 use Rattle.host_core.proofs.KeptRows.{is_empty}
 use Rattle.host_core.specs.declared.values.CommandValue.TheVariants as value
 use Rattle.step_core.proofs.bench_tables.BenchTables.cancel.Goals as goal

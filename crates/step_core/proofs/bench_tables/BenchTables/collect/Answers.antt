@@ -1,4 +1,5 @@
-use Rattle.step_core.{proofs.Benches.{ticket_at, collected_last, collects, collect_refused, pages_of_last}, specs.Touching.{last_pages, touches_more}}
+use Rattle.host_core.proofs.Benches.{ticket_at}
+use Rattle.step_core.{proofs.Benches.{collected_last, collects, collect_refused, pages_of_last}, specs.Touching.{last_pages, touches_more}}
 use Rattle.std.proofs.Common.{ℕ, None, refl, ap, sym, ◌∙◌}
 use Rattle.host_core.{proofs.KeptRows.{is_empty, place_there}, specs.CommandValues.table_with}
 use Rattle.host_core.specs.declared.values.CommandValue.TheVariants as value

@@ -1,5 +1,6 @@
+use Rattle.host_core.proofs.Benches.{finished_there}
 use Rattle.std.proofs.Common.{refl, ◌∙◌, sym}
-use Rattle.step_core.proofs.Benches.{finished_there, gathers, gathers_nothing}
+use Rattle.step_core.proofs.Benches.{gathers, gathers_nothing}
 use Rattle.step_core.proofs.bench_tables.BenchTables.gather.Goals as goal
 
 pub returns-in_default-clause-does : goal.returns-in_default-clause-does

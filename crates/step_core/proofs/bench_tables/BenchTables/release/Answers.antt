@@ -1,5 +1,6 @@
+use Rattle.host_core.proofs.Benches.{finished_there}
 use Rattle.std.proofs.Common.{refl, ◌∙◌}
-use Rattle.step_core.proofs.Benches.{finished_there, releases, release_refused}
+use Rattle.step_core.proofs.Benches.{releases, release_refused}
 use Rattle.host_core.proofs.KeptRows.{is_empty}
 use Rattle.host_core.specs.declared.values.CommandValue.TheVariants as value
 use Rattle.step_core.proofs.bench_tables.BenchTables.release.Goals as goal

@@ -1,4 +1,5 @@
-use Rattle.step_core.proofs.Benches.{place_of, reserves}
+use Rattle.host_core.proofs.Benches.{place_of}
+use Rattle.step_core.proofs.Benches.{reserves}
 use Rattle.step_core.proofs.bench_tables.BenchTables.reserve.Goals as goal
 
 pub put-requires-clause-place : goal.put-requires-clause-place

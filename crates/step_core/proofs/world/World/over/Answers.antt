@@ -5,13 +5,13 @@ use Rattle.step_core.proofs.Steps.{opened_as_world}
 use Rattle.step_core.proofs.world.World.over.Goals as goal
 
 pub overflow_cast-config : goal.overflow_cast-config
-overflow_cast-config g c = let most = (limits c.args.config c.requires.fits).most_queues in omega (arith, most)
+overflow_cast-config g c = let most = (limits c.args.config c.requires.fits).numbers.few_queues in omega (arith, most)
 
 pub overflow_add-config : goal.overflow_add-config
-overflow_add-config g c = let most = (limits c.args.config c.requires.fits).most_queues in omega (arith, most)
+overflow_add-config g c = let most = (limits c.args.config c.requires.fits).numbers.few_queues in omega (arith, most)
 
 pub halves-halves-requires-clause-few : goal.halves-halves-requires-clause-few
-halves-halves-requires-clause-few g c = let most = (limits c.args.config c.requires.fits).most_queues in omega (arith, most)
+halves-halves-requires-clause-few g c = let most = (limits c.args.config c.requires.fits).numbers.few_queues in omega (arith, most)
 
 pub invariant_of-result : goal.invariant_of-result
 invariant_of-result g c =

@@ -1,4 +1,4 @@
-use Rattle.std.{proofs.Common.{◌≡◌, ◌∙◌, ℕ, ap, sym, subst, Some, None, arith, length}, specs.Prelude.{OnOk, OnErr}}
+use Rattle.std.{proofs.Common.{◌≡◌, ◌∙◌, ap, sym, subst, Some, None, arith, length}, specs.Prelude.{OnOk, OnErr}}
 use Rattle.controller_walk.specs.Units.{Moves}
 use Rattle.page_memory.specs.{Memory.{Memory, bytes_at, pages_reached}, Pages.{Pages, byte_at}}
 use Rattle.two_sides.{proofs.{Serving.same_pages, Units.few_touched}, specs.{Sides.state_of, Ties.IsWorld}}

@@ -1,5 +1,5 @@
 -- The descriptor is looked at before the step, and that changes no byte.
-use Rattle.std.proofs.Common.{◌≡◌, ◌∙◌, List, sym, subst}
+use Rattle.std.proofs.Common.{◌≡◌, ◌∙◌, sym, subst}
 use Rattle.controller_walk.specs.Walks.{is_over}
 use Rattle.texts.{proofs.Telling.{tells_on, steps_on}, specs.{Ending.Goes, Taking.{TellsTaken, ToldTo, taken_next, with_next}}}
 use Rattle.page_memory.specs.Memory.{Memory}

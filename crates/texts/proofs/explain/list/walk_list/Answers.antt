@@ -1,4 +1,4 @@
-use Rattle.std.proofs.Common.{rules, ◌≡◌, ◌∙◌, List, [], None, sym, subst, true, false}
+use Rattle.std.proofs.Common.{rules, ◌≡◌, ◌∙◌, List, None, sym, subst, true, false}
 use Rattle.controller_walk.specs.Walks.{is_over}
 use Rattle.texts.proofs.Telling.{Telling, telling_first, telling_on, told_all, told_more, told_same, ends_so, stands_first, stands_on}
 use Rattle.texts.specs.declared.explain.list.Taken.{Taken}

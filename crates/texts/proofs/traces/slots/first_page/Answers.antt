@@ -1,5 +1,5 @@
 -- One page more is of another.
-use Rattle.std.proofs.{Common.{rules, arith, ◌≡◌, ◌≢◌, ◌<◌, ℕ, Bool, true, false, refl, sym, subst, nat_lt}, lemmas.Bool.Decides.nat_tests}
+use Rattle.std.proofs.{Common.{rules, arith, ◌≡◌, ◌≢◌, ℕ, Bool, true, false, refl, subst, nat_lt}, lemmas.Bool.Decides.nat_tests}
 use Rattle.page_ledger.specs.declared.owner.Owner.TheVariants.{Queue}
 use Rattle.texts.specs.Slots.{IsOfAnother}
 use Rattle.texts.proofs.traces.slots.first_page.Goals as goal

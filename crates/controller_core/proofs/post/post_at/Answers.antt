@@ -1,5 +1,5 @@
 use Rattle.controller_core.proofs.Rows.{posts_by}
-use Rattle.controller_core.proofs.answer.answer.Goals as goal
+use Rattle.controller_core.proofs.post.post_at.Goals as goal
 
 pub returns-clause-posts : goal.returns-clause-posts
 returns-clause-posts g c =

@@ -4,7 +4,7 @@ ghost use Rattle.std.specs.Prelude.{◌≡◌, ◌<◌, ◌≤◌, ◌++◌, ◌
 ghost use Rattle.std.specs.Result.{result_err};
 ghost use Rattle.entry_codec.specs.Completion.{IsComEntry};
 ghost use Rattle.queue_pair.specs.Rings.{completion_posted};
-ghost use Rattle.controller_core.specs.Answering.{answer_refusal, post_refusal, completion_by, memory_posted, page_posted, Posts};
+ghost use Rattle.controller_core.specs.Posting.{post_refusal_at, post_refusal, completion_by, memory_posted, page_posted, Posts};
 
 use crate::queue::ControllerQueue;
 use crate::refusal::Refusal;
@@ -53,7 +53,7 @@ pub(crate) fn post_completion<D: Dma>(
 }
 
 /// Posts the completion of a command of a queue. Where that is refused nothing changed.
-pub(crate) fn answer<A: Allocator, D: Dma>(
+pub(crate) fn post_at<A: Allocator, D: Dma>(
     queues: &mut Vec<ControllerQueue, A>,
     q: u16,
     cid: u16,
@@ -64,7 +64,7 @@ pub(crate) fn answer<A: Allocator, D: Dma>(
     requires there { q < length queues.old.items }
     requires fits { status.sct < 8 }
     requires room { length (D.reached dma.old) ≤ 2 }
-    ensures refusal { result_err result ≡ answer_refusal queues.old.items (D.memory dma.old) q }
+    ensures refusal { result_err result ≡ post_refusal_at queues.old.items (D.memory dma.old) q }
     ensures posts { OnOk result (Posts queues.old.items q cid status dw0 (D.memory dma.old) (D.reached dma.old) queues.new.items (D.memory dma.new) (D.reached dma.new)) }
     ensures refused { OnErr result ((queues.new.items ≡ queues.old.items) × (D.memory dma.new ≡ D.memory dma.old) × (D.reached dma.new ≡ D.reached dma.old)) }
     ensures unlisted { D.unlisted dma.new ≡ D.unlisted dma.old }

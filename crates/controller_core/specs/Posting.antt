@@ -14,8 +14,8 @@ post_refusal m controller =
     else None
 
 -- the same of a queue by its number
-abbrev pub answer_refusal : List ControllerQueue → Memory → ℕ → Option Refusal
-answer_refusal queues m q = option_map_or (λ queue. post_refusal m queue.controller) (slice_get queues q) None
+abbrev pub post_refusal_at : List ControllerQueue → Memory → ℕ → Option Refusal
+post_refusal_at queues m q = option_map_or (λ queue. post_refusal m queue.controller) (slice_get queues q) None
 
 -- the completion of a command, with the submission head and the phase of this moment
 abbrev pub completion_by : ℕ → ℕ → Status → ℕ → ControllerSide → ComEntry
@@ -28,8 +28,8 @@ memory_posted m controller e = written m (completion_place controller.cq control
 abbrev pub page_posted : ControllerSide → ℕ
 page_posted controller = completion_page controller.cq controller.ring.tail
 
-abbrev pub with_answer : ControllerQueue → ControllerQueue
-with_answer queue = with_side (record queue.controller { ring = completion_posted queue.controller.entries queue.controller.ring }) queue
+abbrev pub with_posted : ControllerQueue → ControllerQueue
+with_posted queue = with_side (record queue.controller { ring = completion_posted queue.controller.entries queue.controller.ring }) queue
 
 -- A completion is posted for a command of a queue: what is left of the queues and of the memory, with the one page that is touched. The
 -- completion's numbers are those of a value of its type, so its bytes tell it.
@@ -37,7 +37,7 @@ pub record Posts (queues : List ControllerQueue) (q cid : ℕ) (st : Status) (dw
     (queues' : List ControllerQueue) (m' : Memory) (reached' : List ℕ) : Type 0 where
   pub queue : ControllerQueue
   pub here : slice_get queues q ≡ Some queue
-  pub queues_posted : queues' ≡ change q with_answer queues
+  pub queues_posted : queues' ≡ change q with_posted queues
   pub typed : IsComEntry (completion_by q cid st dw0 queue.controller)
   pub memory : m' ≡ memory_posted m queue.controller (completion_by q cid st dw0 queue.controller)
   pub touches : reached' ≡ reached ++ page_posted queue.controller ∷ []

@@ -1,11 +1,11 @@
-//! The world of most scripts.
+//! The pool and the image of most tests.
 
 use block_image::Image;
 use std::alloc::Global;
 use std::test::Fail;
 use step_core::Config;
 
-/// The configuration of most scripts: 16 pages, one I/O queue, 4 entries, whole segments.
+/// 16 pages and one I/O queue of 4 entries, whole segments: pages 4 to 15 are free.
 pub(crate) const USUAL: Config = Config {
     pages: 16,
     queues: 1,
@@ -13,7 +13,7 @@ pub(crate) const USUAL: Config = Config {
     segment: 256,
 };
 
-/// The image of most scripts: 64 zero blocks.
+/// 64 zero blocks.
 pub(crate) fn zeros(alloc: Global) -> Result<Image, Fail> {
     match Image::zeroed(alloc, 64) {
         Ok(image) => Ok(image),

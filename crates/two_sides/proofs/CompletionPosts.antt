@@ -4,18 +4,18 @@ use Rattle.machine_model.specs.Events as events
 use Rattle.std.proofs.Common.{◌≡◌, ◌≢◌, ℕ, ◌+◌, ◌*◌, ◌/◌, ◌%◌, ◌<◌, Bool, true, false, Option, Some, None, IsSome, List, [], ◌∷◌, ◌++◌, length, map, is_none, slice_get, if◌then◌else◌, refl, ap, ap₂, sym, ◌∙◌, arith, subst, inl, inr, zero, suc, drop, is_some}
 use Rattle.std.{proofs.lemmas.Bool.{true≢false, not-false, Decides.nat_tests}, specs.{List.AllByRecursion, Option.{option_map, option_map_or}}}
 use Rattle.machine_model.proofs.{Counting.held_once, Kept.reaped_has_cq, Steps.{in_store-with_bytes, unrefused}}
-use Rattle.machine_model.specs.{After.{answered, change, after, on_memory}, Always.HasHalves, Memory.is_in}
+use Rattle.machine_model.specs.{After.{with_posted_completion, change, after, on_memory}, Always.HasHalves, Memory.is_in}
 use Rattle.machine_model.specs.Refusals.{fetch_slot, host_queue, in_service, post_slot, slot_offset, slot_page, entry_of, is_reaped, seen_entry, refusal_of}
 use Rattle.machine_model.specs.{State.{State, HostQueue, PostedCompletion, ServedQueue}, Step.{Step, host_part}}
 use Rattle.admin_commands.specs.Verdicts.{is_absent}
-use Rattle.controller_core.specs.{Answering.{completion_by, memory_posted, page_posted, post_refusal, with_answer}, Doorbells.{with_side, with_head}}
+use Rattle.controller_core.specs.{Posting.{completion_by, memory_posted, page_posted, post_refusal, with_posted}, Doorbells.{with_side, with_head}}
 use Rattle.controller_core.specs.declared.queue.ControllerQueue.{ControllerQueue}
 use Rattle.entry_codec.{proofs.CompletionLemmas.round_trip, specs.Completion.{completion_bytes, FitsCompletion, IsComEntry}}
 use Rattle.entry_codec.specs.declared.{completion.ComEntry.ComEntry, status.Status.Status, submission.SubEntry.SubEntry}
 use Rattle.two_sides.proofs.{Agreed.recovery_kept, Assembling.{ends_in_range, sides_served, into}}
 use Rattle.two_sides.proofs.Frames.{SparesQueue, SparesSubmitted, apart_from_queues, halves_apart, own_halves_apart, one_queue, one_stands, IsKnown, queue_ring, controller_at, known, reaped_ring, half_in, half_lies, tied_of, queue_page_in}
 use Rattle.two_sides.proofs.JobLaws.{length-completion_bytes}
-use Rattle.two_sides.proofs.Places.{Shows, map-append, fetch_slot_is, post_slot_is, own_page, in_ring, completion_slot_page, heads_heard, HasAnswer, answer_there, has_answer, head_below, seen_first, seen_none}
+use Rattle.two_sides.proofs.Places.{Shows, map-append, fetch_slot_is, post_slot_is, own_page, in_ring, completion_slot_page, heads_heard, HasCompletion, first_completion_there, has_completion, head_below, seen_first, seen_none}
 use Rattle.two_sides.proofs.{Provided.all_append, Shared.length-controller, Untouched.bytes_elsewhere}
 use Rattle.two_sides.specs.Sides.{Sides, posted_completion, completions_between, served_queue_of, present, state_of, served_queues_of}
 use Rattle.two_sides.specs.Stepping.{LeavesPages, completion_slots_are_in, forged, forged_entries_step, served}
@@ -32,7 +32,7 @@ use Rattle.queue_pair.specs.{Rings.{ControllerSide, hearing_head, knowing, next_
 use Rattle.slot_table.proofs.Rows.{option_is}
 use Rattle.page_memory.proofs.Lists.{all-at}
 
--- A completion that the controller posts is the machine's answer, and leaves rings that stand.
+-- A completion that the controller posts is the machine's, and leaves rings that stand.
 
 -- The pages, whatever was forged: a slot that is not missing is in, and what is written to it are those bytes of its page.
 
@@ -68,8 +68,8 @@ post_room m controller none = go (is_full controller.entries controller.ring.kno
     go x slot e = cc
 
 -- and both sides have the queue
-pub answer_shares : (n i : ℕ) (h : HostQueue) (c : ControllerQueue) → ShareQueue n i h c → ShareQueue n i h (with_answer c)
-answer_shares n i h c share =
+pub posted_shares : (n i : ℕ) (h : HostQueue) (c : ControllerQueue) → ShareQueue n i h c → ShareQueue n i h (with_posted c)
+posted_shares n i h c share =
     record {
       number = share.number;
       entries = share.entries;
@@ -86,7 +86,7 @@ answer_shares n i h c share =
 -- Where nothing was forged
 
 -- A completion can be posted in a queue: the controller has the queue, the host has it in service, and there is room.
-pub record CanAnswer (s : Sides) (q : ℕ) (h : HostQueue) (c : ControllerQueue) (e : ComEntry) : Type 0 where
+pub record CanPostCompletion (s : Sides) (q : ℕ) (h : HostQueue) (c : ControllerQueue) (e : ComEntry) : Type 0 where
   pub known : IsKnown s q h c
   pub there : is_absent c.state ≡ false
   pub served : in_service h.state ≡ true
@@ -95,7 +95,7 @@ pub record CanAnswer (s : Sides) (q : ℕ) (h : HostQueue) (c : ControllerQueue)
   pub fits : FitsCompletion e
 
 -- its rings are in use, and stand
-rings_of : (s : Sides) (q : ℕ) (h : HostQueue) (c : ControllerQueue) (e : ComEntry) → CanAnswer s q h c e → RingsStand (byte_at s.pages) q h c
+rings_of : (s : Sides) (q : ℕ) (h : HostQueue) (c : ControllerQueue) (e : ComEntry) → CanPostCompletion s q h c e → RingsStand (byte_at s.pages) q h c
 rings_of s q h c e can = can.known.rings (queue_ring s q h c can.known can.there)
 
 -- the pages behind it: the slot at the controller's tail has the completion's bytes
@@ -128,17 +128,17 @@ page_spared s q h c e p known has far =
     (λ same. true≢false (sym (page_is_own s q h c known has) ∙ (ap (is_among h.cq_pages) same ∙ far)))
 
 -- The halves of the other queues are the same, and so are the pages of the submitted commands.
-pub answer_spares_queues : (s : Sides) (q k : ℕ) (h x : HostQueue) (c : ControllerQueue) (e : ComEntry) → IsWorld s → IsKnown s q h c → has_ring h c ≡ true
+pub posted_spares_queues : (s : Sides) (q k : ℕ) (h x : HostQueue) (c : ControllerQueue) (e : ComEntry) → IsWorld s → IsKnown s q h c → has_ring h c ≡ true
     → slice_get s.host.host.queues q ≡ Some h → slice_get s.host.host.queues k ≡ Some x → k ≢ q → SparesQueue s.pages (with_completion s c e) x
-answer_spares_queues s q k h x c e world known has at there apart =
+posted_spares_queues s q k h x c e world known has at there apart =
     record {
       submission = λ p among. page_spared s q h c e p known has ((halves_apart s world k q x h p there at apart).0 among).1;
       completion = λ p among. page_spared s q h c e p known has ((halves_apart s world k q x h p there at apart).1 among).1;
     }
 
-pub answer_spares_commands : (s : Sides) (q : ℕ) (h : HostQueue) (c : ControllerQueue) (e : ComEntry) → IsWorld s → IsKnown s q h c → has_ring h c ≡ true
+pub posted_spares_commands : (s : Sides) (q : ℕ) (h : HostQueue) (c : ControllerQueue) (e : ComEntry) → IsWorld s → IsKnown s q h c → has_ring h c ≡ true
     → slice_get s.host.host.queues q ≡ Some h → SparesSubmitted s (with_completion s c e)
-answer_spares_commands s q h c e world known has at i r there submitted p among = page_spared s q h c e p known has (apart_from_queues s world q i h r p at there among).1
+posted_spares_commands s q h c e world known has at i r there submitted p among = page_spared s q h c e p known has (apart_from_queues s world q i h r p at there among).1
 
 -- The queue itself
 
@@ -147,21 +147,21 @@ present-append [] x = refl
 present-append (None ∷ xs) x = present-append xs x
 present-append (Some y ∷ xs) x = ap (λ ys. y ∷ ys) (present-append xs x)
 
-completions_grow : (s : Sides) (q : ℕ) (h : HostQueue) (c : ControllerQueue) (e : ComEntry) → IsWorld s → CanAnswer s q h c e
-    → completions_between (byte_at (with_completion s c e)) h.ring (with_answer c).controller ≡ completions_between (byte_at s.pages) h.ring c.controller ++ e ∷ []
+completions_grow : (s : Sides) (q : ℕ) (h : HostQueue) (c : ControllerQueue) (e : ComEntry) → IsWorld s → CanPostCompletion s q h c e
+    → completions_between (byte_at (with_completion s c e)) h.ring (with_posted c).controller ≡ completions_between (byte_at s.pages) h.ring c.controller ++ e ∷ []
 completions_grow s q h c e world can =
     let n = c.controller.entries in
     let tail = c.controller.ring.tail in
-    ap (λ (m : Memory). completions_between m h.ring (with_answer c).controller) (posted_shown s q h c e world can.known (queue_ring s q h c can.known can.there))
+    ap (λ (m : Memory). completions_between m h.ring (with_posted c).controller) (posted_shown s q h c e world can.known (queue_ring s q h c can.known can.there))
     ∙ ap present (completions_append (byte_at s.pages) c.controller.cq n h.ring.head tail (completion_bytes e) e (length-completion_bytes e) (round_trip e can.typed can.fits) (in_ring s q h c can.known).head can.known.placed.share.side.tail
     (subst (λ (k : ℕ). is_full n k tail ≡ false) (rings_of s q h c e can).heard can.room))
     ∙ present-append (completions_from (byte_at s.pages) c.controller.cq n h.ring.head tail) e
 
--- the machine's queue has one answer more
-pub answer_seen : (s : Sides) (q : ℕ) (h : HostQueue) (c : ControllerQueue) (e : ComEntry) → IsWorld s → slice_get s.host.host.queues q ≡ Some h → CanAnswer s q h c e
-    → served_queue_of (byte_at (with_completion s c e)) h.ring (with_answer c)
+-- the machine's queue has one completion more
+pub posted_seen : (s : Sides) (q : ℕ) (h : HostQueue) (c : ControllerQueue) (e : ComEntry) → IsWorld s → slice_get s.host.host.queues q ≡ Some h → CanPostCompletion s q h c e
+    → served_queue_of (byte_at (with_completion s c e)) h.ring (with_posted c)
     ≡ record (served_queue_of (byte_at s.pages) h.ring c) { completions = (served_queue_of (byte_at s.pages) h.ring c).completions ++ posted_completion e ∷ [] }
-answer_seen s q h c e world at can =
+posted_seen s q h c e world at can =
     ap₂ (λ (entries : List SubEntry) (answers : List PostedCompletion). record (served_queue_of (byte_at s.pages) h.ring c) { unfetched = if is_absent c.state then [] else entries; completions = answers })
     -- the entries that wait stay, and the completions are one more
     (let sq = can.known.submission can.there in
@@ -178,7 +178,7 @@ answer_seen s q h c e world at can =
     old = completions_between (byte_at s.pages) h.ring c.controller
 
     new : List ComEntry
-    new = completions_between (byte_at (with_completion s c e)) h.ring (with_answer c).controller
+    new = completions_between (byte_at (with_completion s c e)) h.ring (with_posted c).controller
 
     more : (b : Bool) → b ≡ true → (if b then map posted_completion new else []) ≡ (if b then map posted_completion old else []) ++ posted_completion e ∷ []
     more true there = ap (map posted_completion) (completions_grow s q h c e world can) ∙ map-append posted_completion old e
@@ -188,9 +188,9 @@ heads_grow : (n from to : ℕ) (e : ComEntry) (es : List ComEntry) → to < n �
 heads_grow n from to e [] l same h = (subst (λ (x : ℕ). is_in_range n from to x ≡ true) (sym same) (ends_in_range n from to l), ends_in_range n e.sqhd to l)
 heads_grow n from to e (x ∷ es) l same h = (h.0, heads_grow n x.sqhd to e es l same h.1)
 
-answer_rings : (s : Sides) (q cid : ℕ) (st : Status) (dw0 : ℕ) (h : HostQueue) (c : ControllerQueue) → IsWorld s → CanAnswer s q h c (completion_by q cid st dw0 c.controller)
-    → RingsStand (byte_at (with_completion s c (completion_by q cid st dw0 c.controller))) q h (with_answer c)
-answer_rings s q cid st dw0 h c world can =
+posted_rings : (s : Sides) (q cid : ℕ) (st : Status) (dw0 : ℕ) (h : HostQueue) (c : ControllerQueue) → IsWorld s → CanPostCompletion s q h c (completion_by q cid st dw0 c.controller)
+    → RingsStand (byte_at (with_completion s c (completion_by q cid st dw0 c.controller))) q h (with_posted c)
+posted_rings s q cid st dw0 h c world can =
     let e : ComEntry = completion_by q cid st dw0 c.controller in
     let old = rings_of s q h c e can in
     let side = can.known.placed.share.side in
@@ -202,7 +202,7 @@ answer_rings s q cid st dw0 h c world can =
       heard = old.heard;
       expected = old.expected
           ∙ sym (tie_kept_by_post n h.ring.head c.controller.ring.tail c.controller.ring.phase (in_ring s q h c can.known).head side.tail (subst (λ (k : ℕ). is_full n k c.controller.ring.tail ≡ false) old.heard can.room));
-      phases = subst (λ (m : Memory). HasPhases m (with_answer c).controller) (sym (posted_shown s q h c e world can.known (queue_ring s q h c can.known can.there)))
+      phases = subst (λ (m : Memory). HasPhases m (with_posted c).controller) (sym (posted_shown s q h c e world can.known (queue_ring s q h c can.known can.there)))
           (phases_kept (byte_at s.pages) c.controller.cq n c.controller.ring.tail c.controller.ring.phase (completion_bytes e) (length-completion_bytes e) (ap (λ (y : ComEntry). y.phase) (round_trip e can.typed can.fits)) side.tail old.phases);
       owned = subst (AllByRecursion (λ (y : ComEntry). y.sqid ≡ q)) (sym grown) (all_append (λ (y : ComEntry). y.sqid ≡ q) (completions_between (byte_at s.pages) h.ring c.controller) (e ∷ []) old.owned (refl, tt));
       follow = subst (HeadsFollow n h.ring.known_head c.controller.ring.head) (sym grown)
@@ -210,32 +210,32 @@ answer_rings s q cid st dw0 h c world can =
       drained = λ x. absurd (true≢false (sym can.served ∙ x));
     }
 
-pub answer_stands : (s : Sides) (q cid : ℕ) (st : Status) (dw0 : ℕ) (h : HostQueue) (c : ControllerQueue) → IsWorld s → CanAnswer s q h c (completion_by q cid st dw0 c.controller)
-    → QueueStands s.host.entries (byte_at (with_completion s c (completion_by q cid st dw0 c.controller))) q h (with_answer c)
-answer_stands s q cid st dw0 h c world can =
+pub posted_stands : (s : Sides) (q cid : ℕ) (st : Status) (dw0 : ℕ) (h : HostQueue) (c : ControllerQueue) → IsWorld s → CanPostCompletion s q h c (completion_by q cid st dw0 c.controller)
+    → QueueStands s.host.entries (byte_at (with_completion s c (completion_by q cid st dw0 c.controller))) q h (with_posted c)
+posted_stands s q cid st dw0 h c world can =
     record {
       halves = record { submission = can.known.submission; completion = can.known.completion };
-      rings = λ has. answer_rings s q cid st dw0 h c world can;
+      rings = λ has. posted_rings s q cid st dw0 h c world can;
       granted = λ making none. absurd (true≢false (sym (can.known.fits.half can.there) ∙ none));
     }
 
--- What was posted is the machine's answer, in each state that shows the queue and the pages as both sides have them.
-answered_as : (u : State) (q cid : ℕ) (st : Status) (dw0 : ℕ) (h : HostQueue) (head tail page : ℕ) (phase : Bool) → host_queue u q ≡ Some h → fetch_slot u q ≡ head → post_slot u q ≡ tail
+-- What was posted is the machine's completion, in each state that shows the queue and the pages as both sides have them.
+posted_as : (u : State) (q cid : ℕ) (st : Status) (dw0 : ℕ) (h : HostQueue) (head tail page : ℕ) (phase : Bool) → host_queue u q ≡ Some h → fetch_slot u q ≡ head → post_slot u q ≡ tail
     → slot_page h.cq_pages 16 tail ≡ page → expected_phase h.ring.head tail h.ring.phase ≡ phase
     → record u {
       memory = with_page_bytes u.memory page (slot_offset 16 tail) (completion_bytes (record { dw0 = dw0; sqhd = head; sqid = q; cid = cid; phase = phase; status = st }));
       controller = record u.controller { queues = change q (λ at. record at { completions = at.completions ++ record { cid = cid; status = st; dw0 = dw0; sq_head = head } ∷ [] }) u.controller.queues };
     }
-    ≡ answered q cid st dw0 u
-answered_as u q cid st dw0 h head tail page phase eh ef ep epg eph = rw (← eph, ← epg, ← ef, ← ep, eh) refl
+    ≡ with_posted_completion q cid st dw0 u
+posted_as u q cid st dw0 h head tail page phase eh ef ep epg eph = rw (← eph, ← epg, ← ef, ← ep, eh) refl
 
-pub answer_is : (u : State) (s : Sides) (q cid : ℕ) (st : Status) (dw0 : ℕ) (h : HostQueue) (c : ControllerQueue) → Shows u s q h c → u.memory ≡ s.pages → CanAnswer s q h c (completion_by q cid st dw0 c.controller)
+pub posted_is : (u : State) (s : Sides) (q cid : ℕ) (st : Status) (dw0 : ℕ) (h : HostQueue) (c : ControllerQueue) → Shows u s q h c → u.memory ≡ s.pages → CanPostCompletion s q h c (completion_by q cid st dw0 c.controller)
     → record u {
       memory = with_completion s c (completion_by q cid st dw0 c.controller);
       controller = record u.controller { queues = change q (λ at. record at { completions = at.completions ++ posted_completion (completion_by q cid st dw0 c.controller) ∷ [] }) u.controller.queues };
     }
-    ≡ answered q cid st dw0 u
-answer_is u s q cid st dw0 h c shown memory can =
+    ≡ with_posted_completion q cid st dw0 u
+posted_is u s q cid st dw0 h c shown memory can =
     let has = queue_ring s q h c can.known can.there in
     let ring = c.controller.ring in
     let e : ComEntry = completion_by q cid st dw0 c.controller in
@@ -243,7 +243,7 @@ answer_is u s q cid st dw0 h c shown memory can =
       memory = with_page_bytes m (page_posted c.controller) (slot_offset 16 ring.tail) (completion_bytes e);
       controller = record u.controller { queues = change q (λ at. record at { completions = at.completions ++ posted_completion e ∷ [] }) u.controller.queues };
     }) (sym memory)
-    ∙ answered_as u q cid st dw0 h ring.head ring.tail (page_posted c.controller) ring.phase shown.host (fetch_slot_is u s q h c shown can.known can.there) (post_slot_is u s q h c shown can.known (can.known.fits.half can.there)) (own_page s q h c can.known has)
+    ∙ posted_as u q cid st dw0 h ring.head ring.tail (page_posted c.controller) ring.phase shown.host (fetch_slot_is u s q h c shown can.known can.there) (post_slot_is u s q h c shown can.known (can.known.fits.half can.there)) (own_page s q h c can.known has)
     (ap (expected_phase h.ring.head ring.tail) (rings_of s q h c e can).expected ∙ sym (told_alike h.ring.head ring.tail ring.phase))
 
 -- A completion is taken from a ring, and its head is rung.
@@ -257,7 +257,7 @@ follow_before n from mid to (e ∷ es) lf lt hm h = (grind (arith, nat_tests), h
 
 -- What is known where the host sees an entry
 
--- the queue on both sides, and the answer at its head
+-- the queue on both sides, and the completion at its head
 pub record Sees (s : Sides) (q : ℕ) (h : HostQueue) (c : ControllerQueue) : Type 0 where
   pub at : slice_get s.host.host.queues q ≡ Some h
   pub there : slice_get s.controller.queues q ≡ Some c
@@ -265,52 +265,52 @@ pub record Sees (s : Sides) (q : ℕ) (h : HostQueue) (c : ControllerQueue) : Ty
   pub cq : c.cq_there ≡ true
   pub known : IsKnown s q h c
   pub apart : h.ring.head ≢ c.controller.ring.tail
-  pub answer : HasAnswer (byte_at s.pages) h c
+  pub completion : HasCompletion (byte_at s.pages) h c
 
--- the entries behind that answer
+-- the entries behind that completion
 abbrev pub behind : Memory → HostQueue → ControllerQueue → List ComEntry
 behind m h c = present (completions_from m c.controller.cq c.controller.entries (next_slot c.controller.entries h.ring.head) c.controller.ring.tail)
 
 pub sees : (s : Sides) → IsWorld s → s.trusted ≡ true → (q : ℕ) (h : HostQueue) (e : ComEntry) → slice_get s.host.host.queues q ≡ Some h → is_reaped h.state ≡ true → seen_entry (state_of s) q ≡ Some e
-    → (c : ControllerQueue) × (x : Sees s q h c) × (x.answer.entry.sqhd ≡ e.sqhd)
+    → (c : ControllerQueue) × (x : Sees s q h c) × (x.completion.entry.sqhd ≡ e.sqhd)
 sees s world t q h e at reaped seen =
     let c = controller_at s world q h at in
     let k = known s world t q h c.0 at c.1 in
     let has = reaped_ring h c.0 reaped in
     let apart : h.ring.head ≢ c.0.controller.ring.tail = λ same. let none : None ≡ Some e = sym (seen_none s q h c.0 t at c.1 same) ∙ seen in absurd cc in
-    let cq = answer_there s q h c.0 k has apart in
-    let answer = has_answer s q h c.0 k has apart in
-    let first : Some (entry_of q (posted_completion answer.entry)) ≡ Some e = sym (seen_first s q h c.0 t at c.1 cq answer) ∙ seen in
-    let same : entry_of q (posted_completion answer.entry) ≡ e = cc in
-    (c.0, record { at = at; there = c.1; has = has; cq = cq; known = k; apart = apart; answer = answer }, ap (λ (x : ComEntry). x.sqhd) same)
+    let cq = first_completion_there s q h c.0 k has apart in
+    let completion = has_completion s q h c.0 k has apart in
+    let first : Some (entry_of q (posted_completion completion.entry)) ≡ Some e = sym (seen_first s q h c.0 t at c.1 cq completion) ∙ seen in
+    let same : entry_of q (posted_completion completion.entry) ≡ e = cc in
+    (c.0, record { at = at; there = c.1; has = has; cq = cq; known = k; apart = apart; completion = completion }, ap (λ (x : ComEntry). x.sqhd) same)
 
--- A submission head that the host may take for the controller's: the answers that are left follow from it.
+-- A submission head that the host may take for the controller's: the completions that are left follow from it.
 pub record Follows (h : HostQueue) (c : ControllerQueue) (m : Memory) (head : ℕ) : Type 0 where
   pub fetched : is_in_range c.controller.entries head h.ring.tail c.controller.ring.head ≡ true
   pub heads : HeadsFollow c.controller.entries head c.controller.ring.head (behind m h c)
 
 first_follows : (s : Sides) (q : ℕ) (h : HostQueue) (c : ControllerQueue) → (x : Sees s q h c)
-    → HeadsFollow c.controller.entries h.ring.known_head c.controller.ring.head (x.answer.entry ∷ behind (byte_at s.pages) h c)
-first_follows s q h c x = subst (λ (es : List ComEntry). HeadsFollow c.controller.entries h.ring.known_head c.controller.ring.head es) x.answer.list (x.known.rings x.has).follow
+    → HeadsFollow c.controller.entries h.ring.known_head c.controller.ring.head (x.completion.entry ∷ behind (byte_at s.pages) h c)
+first_follows s q h c x = subst (λ (es : List ComEntry). HeadsFollow c.controller.entries h.ring.known_head c.controller.ring.head es) x.completion.list (x.known.rings x.has).follow
 
--- the head that it knows, and the one that the answer tells
+-- the head that it knows, and the one that the completion tells
 pub known_follows : (s : Sides) (q : ℕ) (h : HostQueue) (c : ControllerQueue) → Sees s q h c → Follows h c (byte_at s.pages) h.ring.known_head
 known_follows s q h c x =
     let first = first_follows s q h c x in
     let known : h.ring.known_head < c.controller.entries = subst (λ (n : ℕ). h.ring.known_head < n) (sym x.known.placed.share.entries) x.known.placed.ring.known_head in
     record {
       fetched = (x.known.rings x.has).fetched;
-      heads = follow_before c.controller.entries h.ring.known_head x.answer.entry.sqhd c.controller.ring.head (behind (byte_at s.pages) h c) known x.known.placed.share.side.head first.0 first.1;
+      heads = follow_before c.controller.entries h.ring.known_head x.completion.entry.sqhd c.controller.ring.head (behind (byte_at s.pages) h c) known x.known.placed.share.side.head first.0 first.1;
     }
 
-pub answer_follows : (s : Sides) (q : ℕ) (h : HostQueue) (c : ControllerQueue) → (x : Sees s q h c) → Follows h c (byte_at s.pages) x.answer.entry.sqhd
-answer_follows s q h c x =
+pub completion_follows : (s : Sides) (q : ℕ) (h : HostQueue) (c : ControllerQueue) → (x : Sees s q h c) → Follows h c (byte_at s.pages) x.completion.entry.sqhd
+completion_follows s q h c x =
     let n : c.controller.entries ≡ s.host.entries = x.known.placed.share.entries in
     let known : h.ring.known_head < c.controller.entries = subst (λ (n : ℕ). h.ring.known_head < n) (sym n) x.known.placed.ring.known_head in
     let tail : h.ring.tail < c.controller.entries = subst (λ (n : ℕ). h.ring.tail < n) (sym n) x.known.placed.ring.tail in
     record { fetched = grind (arith, nat_tests); heads = (first_follows s q h c x).1 }
 
--- The queue without that answer
+-- The queue without that completion
 
 abbrev pub taken : ℕ → ℕ → HostQueue → HostQueue
 taken n head h = record h { ring = knowing head (next_head n h.ring) }
@@ -333,12 +333,12 @@ taken_stands s q head h c x follows =
       expected = ap (next_phase c.controller.entries h.ring.head) rings.expected
           ∙ tie_kept_by_advance c.controller.entries h.ring.head c.controller.ring.tail c.controller.ring.phase (head_below s q h c x.known.placed) x.known.placed.share.side.tail x.apart;
       phases = rings.phases;
-      owned = (subst (λ (es : List ComEntry). AllByRecursion (λ e. e.sqid ≡ q) es) x.answer.list rings.owned).1;
+      owned = (subst (λ (es : List ComEntry). AllByRecursion (λ e. e.sqid ≡ q) es) x.completion.list rings.owned).1;
       follow = follows.heads;
       drained = λ over. absurd (x.apart (rings.drained over));
     }
 
--- All queues, once the answer is taken and its head is heard
+-- All queues, once the completion is taken and its head is heard
 
 pub record IsTaken (s : Sides) (q v : ℕ) (hs : List HostQueue) : Type 0 where
   pub controller : served_queues_of (byte_at s.pages) hs (change_members q (with_head v) s.controller.queues) ≡ change_members q one_fewer (served_queues_of (byte_at s.pages) s.host.host.queues s.controller.queues)
