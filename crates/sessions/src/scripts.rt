@@ -15,8 +15,8 @@ mod threads;
 mod visit;
 mod way;
 
-use bench::{BenchPlayer, WithoutMemory};
-use book::BookPlayer;
+use bench::{BenchEnd, BenchPlayer, WithoutMemory};
+use book::{BookEnd, BookPlayer};
 use fault::{Fault, Wrong};
 use player::{play_whole, refuse_each};
 use report::{print_line, print_runs};
@@ -28,7 +28,7 @@ use std::rt::Files;
 use std::sync::Wait;
 use std::thread::Threads;
 use std::{fs, io};
-use threads::ThreadsPlayer;
+use threads::refuse_each_in_threads;
 use visit::VisitPlayer;
 use way::Way;
 
@@ -59,28 +59,47 @@ fn read_file<R: AllocGlobal + Files>(rt: &R, file: &str) -> Result<Transcript, W
     Ok(read_transcript(rt.alloc(), &text)?)
 }
 
-/// Plays the transcript of a file on a bench, through a book and behind a lock, and with its growths refused. It answers how much was played, and
-/// how the book stood at the end.
-fn play_file<R: AllocGlobal + Files + Wait>(
-    rt: &R,
-    file: &str,
-) -> Result<(Scores, DeskStanding), Fault> {
+/// Plays a transcript on a bench and through a book, which leave the pages alike.
+fn play_unrefused<'t, R: AllocGlobal + Wait>(
+    rt: &'t R,
+    transcript: &'t Transcript,
+) -> Result<(BenchEnd, BookEnd), Fault> {
     let alloc = rt.alloc();
-    let transcript = &Fault::at(Way::Unplayed, read_file(rt, file))?;
     let on_bench = play_whole(alloc, &BenchPlayer::new(transcript, None))?;
     let through_book = play_whole(alloc, &BookPlayer::new(rt, transcript, false, None))?;
     if through_book.standing.holdings != on_bench.standing.holdings {
         let (way, wrong) = (Way::Book(0), Wrong::Standing);
         return Err(Fault { way, wrong });
     }
-    let wanted = Some(&through_book);
+    Ok((on_bench, through_book))
+}
+
+/// Plays a transcript behind a lock, and with its growths refused, which must leave what it left before. It answers how much was played.
+fn play_again<'t, R: AllocGlobal + Wait>(
+    rt: &'t R,
+    transcript: &'t Transcript,
+    on_bench: &'t BenchEnd,
+    through_book: &'t BookEnd,
+) -> Result<Scores, Fault> {
+    let alloc = rt.alloc();
+    let wanted = Some(through_book);
     play_whole(alloc, &BookPlayer::new(rt, transcript, true, wanted))?;
-    let scores = Scores {
+    Ok(Scores {
         scripts: 1,
-        on_bench: refuse_each(alloc, &BenchPlayer::new(transcript, Some(&on_bench)))?,
+        on_bench: refuse_each(alloc, &BenchPlayer::new(transcript, Some(on_bench)))?,
         through_book: refuse_each(alloc, &BookPlayer::new(rt, transcript, false, wanted))?,
-        without_memory: play_whole(alloc, &WithoutMemory::new(transcript, &on_bench))?,
-    };
+        without_memory: play_whole(alloc, &WithoutMemory::new(transcript, on_bench))?,
+    })
+}
+
+/// Plays the transcript of a file in each way. It answers how much was played, and how the book stood at the end.
+fn play_file<R: AllocGlobal + Files + Wait>(
+    rt: &R,
+    file: &str,
+) -> Result<(Scores, DeskStanding), Fault> {
+    let transcript = Fault::at(Way::Unplayed, read_file(rt, file))?;
+    let (on_bench, through_book) = play_unrefused(rt, &transcript)?;
+    let scores = play_again(rt, &transcript, &on_bench, &through_book)?;
     Ok((scores, through_book.standing))
 }
 
@@ -105,6 +124,6 @@ pub(crate) fn refuse_growths<R: AllocGlobal + Eprint + Print + Sync + Threads + 
 fn each_growth<R: AllocGlobal + Sync + Threads + Wait>(rt: &R) -> Result<(u64, u64), Fault> {
     let alloc = rt.alloc();
     let visit = refuse_each(alloc, &VisitPlayer { rt })?;
-    let threads = refuse_each(alloc, &ThreadsPlayer { rt })?;
+    let threads = refuse_each_in_threads(rt, alloc)?;
     Ok((visit, threads))
 }

@@ -22,17 +22,24 @@ use test_support::Refusal;
 /// What a run through a book leaves.
 pub type BookEnd = End<DeskStanding>;
 
-/// Plays a script through a book, or behind its lock.
+/// What is played through a book.
 #[derive(Drop)]
-pub struct BookPlayer<'t, R: Wait> {
-    /// What may wait for the lock.
-    rt: &'t R,
+struct BookRun<'t> {
     /// The script.
     transcript: &'t Transcript,
     /// Whether the book is behind its lock.
     is_locked: bool,
     /// What it must leave, where that is known.
     wanted: Option<&'t BookEnd>,
+}
+
+/// Plays a script through a book, or behind its lock.
+#[derive(Drop)]
+pub struct BookPlayer<'t, R: Wait> {
+    /// What may wait for the lock.
+    rt: &'t R,
+    /// What is played.
+    run: BookRun<'t>,
 }
 
 impl<'t, R: Wait> BookPlayer<'t, R> {
@@ -43,12 +50,12 @@ impl<'t, R: Wait> BookPlayer<'t, R> {
         is_locked: bool,
         wanted: Option<&'t BookEnd>,
     ) -> BookPlayer<'t, R> {
-        BookPlayer {
-            rt,
+        let run = BookRun {
             transcript,
             is_locked,
             wanted,
-        }
+        };
+        BookPlayer { rt, run }
     }
 }
 
@@ -127,7 +134,8 @@ fn play_at<'h, L: FullLogBrand, R: Wait>(
 
 /// Plays a script through a new book in a heap with one growth refused. It answers what that leaves, and how many growths are left.
 fn play_in<'t, 'h, L: LogBrand, R: Wait>(
-    player: &BookPlayer<'t, R>,
+    run: &BookRun<'t>,
+    rt: &'h R,
     alloc: Global,
     heap: &'h Heap,
     config: Config,
@@ -144,13 +152,13 @@ fn play_in<'t, 'h, L: LogBrand, R: Wait>(
     let book = opened::<Full<L>, &'h Heap>(heap, config, image, blank)?;
     let left = growth.saturating_sub(heap.tally().calls);
     heap.refuse(Refusal::Never);
-    let access = if player.is_locked {
+    let access = if run.is_locked {
         Access::Lock(Shared::new(book))
     } else {
         Access::Book(book)
     };
-    let mut desk = Desk::new(player.rt, alloc, heap, access);
-    let played = play_at(heap, &mut desk, player.transcript, player.wanted, left);
+    let mut desk = Desk::new(rt, alloc, heap, access);
+    let played = play_at(heap, &mut desk, run.transcript, run.wanted, left);
     let entries = desk.end();
     let (mut end, left) = played?;
     end.standing.entries = Some(entries);
@@ -159,22 +167,23 @@ fn play_in<'t, 'h, L: LogBrand, R: Wait>(
 
 /// Plays a script through a book of its own with one growth refused. It answers what that leaves, and how many growths are left.
 fn play_once<'t, 'h, R: Wait>(
-    player: &BookPlayer<'t, R>,
+    run: &BookRun<'t>,
+    rt: &'h R,
     alloc: Global,
     heap: &'h Heap,
     growth: u64,
 ) -> Result<(BookEnd, u64), Wrong> {
-    let options = player.transcript.options();
+    let options = run.transcript.options();
     let image = Image::zeroed(heap, options.blocks)?;
     let blank = Blank::new(65536);
-    play_in::<Brand, R>(player, alloc, heap, options.config, image, blank, growth)
+    play_in::<Brand, R>(run, rt, alloc, heap, options.config, image, blank, growth)
 }
 
 impl<'t, R: Wait> Player for BookPlayer<'t, R> {
     type End = BookEnd;
 
     fn way(&self, growth: u64) -> Way {
-        if self.is_locked {
+        if self.run.is_locked {
             Way::Lock
         } else {
             Way::Book(growth)
@@ -187,8 +196,8 @@ impl<'t, R: Wait> Player for BookPlayer<'t, R> {
         heap: &'h Heap,
         growth: u64,
     ) -> Result<(BookEnd, bool), Wrong> {
-        let (end, left) = play_once(self, alloc, heap, growth)?;
-        end.see(self.wanted)?;
+        let (end, left) = play_once(&self.run, self.rt, alloc, heap, growth)?;
+        end.see(self.run.wanted)?;
         Ok((end, left == 0))
     }
 }

@@ -7,7 +7,7 @@ use std::alloc::Global;
 use test_support::Refusing;
 
 /// More growths than anything here has.
-const MANY: u64 = 5_000;
+pub const MANY: u64 = 5_000;
 
 /// What is played in a heap of its own.
 pub trait Player {
@@ -30,15 +30,21 @@ pub trait Player {
     ) -> Result<(Self::End, bool), Wrong>;
 }
 
+/// Sees that nothing stands in a heap any more.
+pub fn see_empty(way: Way, heap: &Heap) -> Result<(), Fault> {
+    if heap.tally().blocks != 0 {
+        let wrong = Wrong::Leaked;
+        return Err(Fault { way, wrong });
+    }
+    Ok(())
+}
+
 /// Plays something with one growth refused. At the end the heap is empty.
 fn play_with<P: Player>(alloc: Global, player: &P, growth: u64) -> Result<(P::End, bool), Fault> {
     let heap = Refusing::new(alloc);
     let way = player.way(growth);
     let played = Fault::at(way, player.play(alloc, &heap, growth))?;
-    if heap.tally().blocks != 0 {
-        let wrong = Wrong::Leaked;
-        return Err(Fault { way, wrong });
-    }
+    see_empty(way, &heap)?;
     Ok(played)
 }
 

@@ -1,7 +1,7 @@
 //! Two submitters, a poller and a controller in threads, over a heap that refuses one growth.
 
-use crate::scripts::fault::Wrong;
-use crate::scripts::player::Player;
+use crate::scripts::fault::{Fault, Wrong};
+use crate::scripts::player::{MANY, see_empty};
 use crate::scripts::standing::Heap;
 use crate::scripts::way::Way;
 use driver_tests::runs::{Outcome, play};
@@ -11,7 +11,7 @@ use script_cli::transcripts::Options;
 use std::alloc::{Allocator, Global};
 use std::sync::Wait;
 use std::thread::Threads;
-use test_support::Refusal;
+use test_support::{Refusal, Refusing};
 
 /// Sees how a run ended: it leaves what it must, or it wants memory where that was refused.
 fn see_end<A: Allocator>(
@@ -42,21 +42,22 @@ fn run_in<'h, R: Threads + Wait + Sync>(
     Ok(was_refused)
 }
 
-/// Runs two submitters in threads.
-#[derive(Drop)]
-pub struct ThreadsPlayer<'t, R: Threads + Wait + Sync> {
-    /// What starts threads, which wait for locks.
-    pub rt: &'t R,
-}
-
-impl<'t, R: Threads + Wait + Sync> Player for ThreadsPlayer<'t, R> {
-    type End = ();
-
-    fn way(&self, growth: u64) -> Way {
-        Way::Threads(growth)
+/// Runs two submitters once for each growth that the run has, which is refused, and answers how many those are. Each time the heap is empty at the
+/// end.
+///
+/// This is no `Player`: that threads may share the runtime is a bound of a function, and is not known in a method of an `impl` of a trait.
+pub fn refuse_each_in_threads<R: Threads + Wait + Sync>(
+    rt: &R,
+    alloc: Global,
+) -> Result<u64, Fault> {
+    for growth in 1..MANY {
+        let heap = Refusing::new(alloc);
+        let way = Way::Threads(growth);
+        let was_there = Fault::at(way, run_in(rt, &heap, growth))?;
+        see_empty(way, &heap)?;
+        if !was_there {
+            return Ok(growth - 1);
+        }
     }
-
-    fn play<'h>(&self, _alloc: Global, heap: &'h Heap, growth: u64) -> Result<((), bool), Wrong> {
-        Ok(((), run_in(self.rt, heap, growth)?))
-    }
+    Ok(MANY)
 }
