@@ -114,7 +114,7 @@ all_idle : (q : ℕ) (queues : List ControllerQueue) → AllByRecursion IsIdle (
 all_idle q [] = tt
 all_idle q (queue ∷ queues) = (reset_idle q queue, all_idle (suc q) queues)
 
--- a head that is heard rings nothing
+-- a head that is taken leaves an idle queue idle
 heard_idle : (v : ℕ) (queue : ControllerQueue) → IsIdle queue → IsIdle (with_head v queue)
 heard_idle v queue is = go (is_in_range queue.controller.entries queue.controller.ring.known_head queue.controller.ring.tail v)
   where

@@ -11,7 +11,7 @@ abbrev pub with_tail : ℕ → ControllerQueue → ControllerQueue
 with_tail v queue =
     if nat_lt v queue.controller.entries then with_side (record queue.controller { ring = hearing_tail v queue.controller.ring }) queue else queue
 
--- a head lies from the one that was heard last to the tail, in ring order
+-- a head lies from the one that was taken last to the tail, in ring order
 abbrev pub with_head : ℕ → ControllerQueue → ControllerQueue
 with_head v queue =
     if is_in_range queue.controller.entries queue.controller.ring.known_head queue.controller.ring.tail v

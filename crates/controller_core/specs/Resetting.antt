@@ -27,7 +27,7 @@ pub record IsQuiet (c : Contents) : Type 0 where
   pub walks : (q cid : ℕ) → walk_refusal c q cid ≡ Some refusal.NoJob
   pub completes : (m : Memory) (q cid : ℕ) → complete_refusal c m q cid ≡ Some refusal.NoJob
 
--- So it is behind a reset, whatever the controller was, and a head that is heard then changes nothing of that.
+-- So it is behind a reset, whatever the controller was, and a write of a head doorbell then changes nothing of that.
 abbrev pub ResetIsQuiet : Type 0
 ResetIsQuiet = (c : Contents) → IsQuiet (reset c)
 

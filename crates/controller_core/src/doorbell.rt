@@ -8,7 +8,7 @@ use crate::controller::Controller;
 use crate::queue::ControllerQueue;
 use std::alloc::Allocator;
 
-/// Hears the tail of a queue, if there is such a queue.
+/// Takes the tail of a queue, if there is such a queue.
 #[tactic(auto, using(crate::proofs::Lists::change_at, crate::proofs::Lists::change_past))]
 fn hear_tail_of<A: Allocator>(queues: &mut Vec<ControllerQueue, A>, q: u16, value: u16)
     ensures { queues.new.items ≡ change q (with_tail value) queues.old.items }
@@ -18,7 +18,7 @@ fn hear_tail_of<A: Allocator>(queues: &mut Vec<ControllerQueue, A>, q: u16, valu
     }
 }
 
-/// Hears the head of a queue, if there is such a queue.
+/// Takes the head of a queue, if there is such a queue.
 #[tactic(auto, using(crate::proofs::Lists::change_at, crate::proofs::Lists::change_past))]
 fn hear_head_of<A: Allocator>(queues: &mut Vec<ControllerQueue, A>, q: u16, value: u16)
     ensures { queues.new.items ≡ change q (with_head value) queues.old.items }
@@ -39,7 +39,7 @@ impl<A: Allocator> Controller<A> {
     }
 
     /// A value is written to the head doorbell of completion queue `q` (NVM Express over PCIe Transport Specification 1.0, "Completion
-    /// Queue y Head Doorbell"). One outside the head that was heard last to the tail is ignored, as is one of a queue number above those
+    /// Queue y Head Doorbell"). One outside the head that was taken last to the tail is ignored, as is one of a queue number above those
     /// that the controller has (own).
     pub fn head_doorbell(&mut self, q: u16, value: u16)
         ensures { self.new ≡ head_rung q value self.old }

@@ -37,7 +37,7 @@ fn page_at(base: u64) -> PageNo
 }
 
 impl ControllerQueue {
-    /// Hears a tail, where it is a slot of the ring.
+    /// Takes a tail, where it is a slot of the ring.
     pub(crate) fn hear_tail(&mut self, value: u16)
         ensures { self.new ≡ with_tail value self.old }
     {
@@ -47,7 +47,7 @@ impl ControllerQueue {
         }
     }
 
-    /// Hears a head, where it lies from the head that was heard last to the tail.
+    /// Takes a head, where it lies from the head that was taken last to the tail.
     pub(crate) fn hear_head(&mut self, value: u16)
         ensures { self.new ≡ with_head value self.old }
     {

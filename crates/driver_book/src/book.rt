@@ -210,7 +210,7 @@ impl<L: LogBrand, A: Allocator + Copy> Book<L, A> {
         self.stopping
     }
 
-    /// Whose a page of the pool is. It writes nothing down.
+    /// The owner of a page of the pool. It writes nothing down.
     pub fn owner(&self, p: PageNo) -> Owner
         requires { p < length self.now.world.memory }
         ensures { Contains (claims_of self.now.world.host) (p, result) }

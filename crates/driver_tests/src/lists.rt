@@ -58,7 +58,7 @@ enum Came {
     Whole,
 }
 
-/// What a bench shows: whose each page is, how many pages each class has, and whether nothing was forged.
+/// What a bench shows: the owner of each page, how many pages each class has, and whether nothing was forged.
 #[derive(Debug, Drop, PartialEq)]
 struct Standing {
     owners: Vec<Owner>,

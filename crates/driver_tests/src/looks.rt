@@ -1,4 +1,4 @@
-//! What tests see of a driver, and what they do with a command that is about and is no step.
+//! What tests see of a driver, and what they do with an outstanding command that is no step.
 
 ghost use Rattle.std.specs.Prelude.{◌≡◌, ◌≤◌, length};
 

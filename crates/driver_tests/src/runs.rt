@@ -24,7 +24,7 @@ pub struct Outcome<A: Allocator = Global> {
     pub report: ReportIn<A>,
     /// How its jobs ended.
     pub jobs: JobEnds<A>,
-    /// Whose each page is.
+    /// The owner of each page.
     pub owners: Vec<Owner, A>,
     /// How many entries the log has.
     pub entries: usize,
@@ -32,7 +32,7 @@ pub struct Outcome<A: Allocator = Global> {
     pub refusals: usize,
 }
 
-/// Whose each page is.
+/// The owner of each page.
 fn owners_of<L: LogBrand, A: Allocator + Copy>(
     alloc: A,
     book: &Book<L, A>,

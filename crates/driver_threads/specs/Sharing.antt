@@ -81,7 +81,7 @@ pub record TellsStopping (opening : State) (answer : Bool) : Type 0 where
   pub of : IsBookOf opening book
   pub tells : answer ≡ book.stopping
 
--- some book of this opening says whose a page is, or that it has no such page
+-- some book of this opening says who owns a page, or that it has no such page
 pub record TellsOwner (opening : State) (p : ℕ) (answer : Option Owner) : Type 0 where
   pub book : BookContents
   pub of : IsBookOf opening book

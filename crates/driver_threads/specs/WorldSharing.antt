@@ -57,7 +57,7 @@ pub record Recovers : Type 0 where
   pub step : Step old events.Reset events.Accepted new
   pub agree : SidesAgree new
 
--- some sound world says whose a page is, or that it has no such page
+-- some sound world says who owns a page, or that it has no such page
 pub record TellsOwner (p : ℕ) (answer : Option Owner) : Type 0 where
   pub world : State
   pub sound : IsSound world

@@ -111,7 +111,7 @@ impl<L: LogBrand, A: Allocator + Copy> Shared<L, A> {
         self.lock(rt).book.stopping()
     }
 
-    /// Whose a page is; `None` for one that the pool does not have.
+    /// The owner of a page; `None` for one that the pool does not have.
     pub fn owner<R: Wait>(&self, rt: &R, p: PageNo) -> Option<Owner>
         ensures { TellsOwner L.opening p result }
     {

@@ -102,7 +102,7 @@ impl<A: Allocator + Copy> SharedWorld<A> {
         self.lock(rt, NONE).stopping
     }
 
-    /// Whose a page is; `None` for one that the pool does not have.
+    /// The owner of a page; `None` for one that the pool does not have.
     pub fn owner<R: Wait>(&self, rt: &R, p: PageNo) -> Option<Owner>
         ensures { TellsOwner p result }
     {

@@ -420,7 +420,7 @@ made-at t p test q cid k r count was is = elim (option_is (slice_get t.queues k)
     told : (o : Option Queue) → slice_get t.queues k ≡ o → length (filter (λ (s : Record). p k s.work) t.records) ≡ (if option_map_or (λ (queue : HostQueue). test queue.state) (option_map host_queue_of o) false then 1 else 0)
     told o at = count ∙ ap (λ (h : Option HostQueue). if option_map_or (λ (queue : HostQueue). test queue.state) h false then 1 else 0) (slice_get-map host_queue_of t.queues k ∙ ap (option_map host_queue_of) at)
 
--- a queue stands there still, in its state, once a completion was heard and a claim given up
+-- a queue stands there still, in its state, once a completion was reaped and a claim given up
 kept-change : (f : Queue → Queue) → ((y : Queue) → (f y).state ≡ y.state) → (q k : ℕ) (queues : List Queue) (x : Queue) → slice_get queues k ≡ Some x
     → (y : Queue) × (slice_get (change q f queues) k ≡ Some y) × (y.state ≡ x.state)
 kept-change f same q k [] x at = cc

@@ -143,7 +143,7 @@ pub over-tables : (t u v : Tables) (q : ℕ) (e : ComEntry) (queues : List Queue
     → record v { queues = queues } ≡ over q e.sqhd e.cid t
 over-tables t u v q e queues eu ev eq = rw (eq, ev, eu) refl
 
--- the claimed identifiers, once the completion was heard
+-- the claimed identifiers, once the completion was reaped
 pub over-claims : (q : ℕ) (e : ComEntry) (queues new : List Queue) → Claims queues q e.cid → new ≡ change q (with_completion_heard e.sqhd) queues → Claims new q e.cid
 over-claims q e queues new claims is = rw is (λ y at.
     each-change (λ (j : ℕ) (z : Queue). j ≡ q → slice_get z.host.claimed e.cid ≡ Some true) q (with_completion_heard e.sqhd) queues (λ k z far at' same. absurd (far same))

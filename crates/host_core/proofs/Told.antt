@@ -22,7 +22,7 @@ use Rattle.admin_commands.specs.declared.AdminKind.{AdminKind}
 use Rattle.io_commands.specs.{Asked.Request, DataBytes.PagesOut, Requests.data_count, Values.{data_part, chain_part}}
 use Rattle.queue_pair.specs.Memory.{half_pages}
 
--- What the table of owners tells of the machine's claims: whose each page is, and how many pages each class has.
+-- What the table of owners tells of the machine's claims: the owner of each page, and how many pages each class has.
 
 -- Each claim has its owner in the table
 
@@ -70,7 +70,7 @@ told t w =
     (told-queues t.owners t.queues 0 (λ q queue e. let same : 0 + q ≡ q = omega arith in subst (λ (j : ℕ). TellsQueue t.owners j queue) (sym same) (w.table.owners.queues_told q queue e))))
     (told-records t.owners t.records w.table.owners.commands_told)
 
--- Whose a page is
+-- The owner of a page
 
 claim-there : (owners : List Owner) (claims : List (ℕ × Owner)) (p : ℕ) (o : Owner) → owner_at owners p ≡ Some o → Told owners claims → 0 < times p (firsts claims) → Contains claims (p, o)
 claim-there owners [] p o at h some = absurd (omega arith)

@@ -1,4 +1,4 @@
--- A host over its pages and the values that are about, as a table.
+-- A host over its pages and the values that the bench keeps, as a table.
 use Rattle.std.specs.{Prelude.{◌≡◌, ℕ, None, Some, List}}
 use Rattle.io_commands.specs.{Drafts.{DraftContents, built}}
 use Rattle.machine_model.specs.{Script.{Table, fill_fault, filled_draft}, State.{State}}

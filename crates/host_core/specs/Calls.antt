@@ -1,4 +1,4 @@
--- A host over its pages, with the drafts, the tickets and the finished commands that are about. What each call may answer, and what it leaves.
+-- A host over its pages, with the drafts, the tickets and the finished commands that its bench keeps. What each call may answer, and what it leaves.
 use Rattle.host_core.specs.{Alone.{HasPlacedPages, IsLowest, alone}, CommandValues.{without_first, with_first}, Doorbells.{head_bell, tail_bell}, Laws.shown}
 use Rattle.host_core.specs.{Ringing.{head_rung, tail_of}, Values.{Call, Reply}}
 use Rattle.std.specs.{List.list_any, Option.option_map, Prelude.{◌≡◌, ℕ, Bool, true, false, Option, Some, None, List, [], ◌∷◌, ◌++◌, length}}

@@ -27,7 +27,7 @@ use slot_table::SlotTable;
 use std::alloc::{Allocator, Global};
 use std::marker::Model;
 
-/// A host with its pages, and the drafts, tickets and finished commands that are about, each named by its queue and identifier. Contracts see the
+/// A host with its pages, and the drafts, tickets and finished commands that it keeps, each named by its queue and identifier. Contracts see the
 /// machine that is this host over these pages, with no controller, and lists of these values.
 #[derive(Drop)]
 pub struct HostBench<A: Allocator = Global> {
@@ -115,7 +115,7 @@ impl<A: Allocator> HostBench<A> {
         write(&mut self.kept.store, addr, bytes)
     }
 
-    /// Whose a page of the pool is: the owner of the one claim in which it stands.
+    /// The owner of a page of the pool: that of the one claim in which it stands.
     pub fn owner(&self, p: PageNo) -> Owner
         requires { p < length self.now.world.memory }
         ensures { Contains (claims_of self.now.world.host) (p, result) }

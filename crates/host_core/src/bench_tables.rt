@@ -5,7 +5,7 @@ use crate::values::CommandValues;
 use page_memory::Store;
 use std::alloc::Allocator;
 
-/// A host with its pages, and the values that are about.
+/// A host with its pages, and the values of its outstanding commands.
 #[derive(Drop)]
 pub(crate) struct BenchTables<A: Allocator> {
     /// The host.

@@ -1,4 +1,4 @@
-//! The calls: each is one of the host over its pages, or of a value that is about.
+//! The calls: each is one of the host over its pages, or of a value that the bench keeps.
 
 ghost use Rattle.std.specs.Prelude.{◌≡◌};
 ghost use Rattle.std.specs.Option.{option_map};

@@ -65,7 +65,7 @@ impl<A: Allocator> CommandValue<A> {
     }
 }
 
-/// A bench that has ended lets go of the values that are about.
+/// A bench that has ended lets go of the values that it keeps.
 impl<A: Allocator> Drop for CommandValue<A> {
     fn drop(self) {
         match self {

@@ -1,4 +1,4 @@
-//! What a host shows: whose each page is, how many pages each class has, and that it is sound.
+//! What a host shows: the owner of each page, how many pages each class has, and that it is sound.
 
 ghost use Rattle.std.specs.Prelude.{◌≡◌, ◌==◌, ◌<◌, ◌≤◌, length};
 ghost use Rattle.std.specs.List.{Contains};
@@ -12,7 +12,7 @@ use page_memory::PageNo;
 use std::alloc::Allocator;
 
 impl<A: Allocator> Host<A> {
-    /// Whose a page of the pool is: the owner of the one claim in which it stands.
+    /// The owner of a page of the pool: that of the one claim in which it stands.
     pub fn owner(&self, p: PageNo) -> Owner
         requires { p < total (counts_of self.now.host) }
         ensures { Contains (claims_of self.now.host) (p, result) }

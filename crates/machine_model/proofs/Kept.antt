@@ -46,7 +46,7 @@ pub awaited_heard : (of : ℕ → Work → Bool) (test : HostState → Bool) (rs
 awaited_heard of test rs q e s h =
     awaited_ring of test rs (change q (λ x. record x { ring = next_head s.entries x.ring }) s.host.queues) q (knowing e.sqhd) (awaited_ring of test rs s.host.queues q (next_head s.entries) h)
 
--- A queue as the host hears of its command
+-- A queue as the host reaps the completion of its command
 
 heard_waits : (of : ℕ → Work → Bool) (test : HostState → Bool) (s : State) (q cid : ℕ) (st : Status) (e : ComEntry) (r : Record) (k : ℕ) → HoldsPart (host_part s) → Awaited of test s.host.records s.host.queues → IsHeard s q cid st e r
     → of k r.work ≡ true → (x : HostQueue) → slice_get (a.heard q e s).host.queues k ≡ Some x → test x.state ≡ true
@@ -185,7 +185,7 @@ awaited_event of test waits s e reply ok c holds h =
     ends q cid st e r k f heard others was state its after =
         awaited_ends of test s.host.records (a.heard q e s).host.queues f k q cid r heard.found (holds.once q cid) others (λ x ex. omega (arith, ap one (after x), ap one its, ap one (ap test (state x ex)))) (told q e)
 
-    -- a command that is heard of and waited for has its queue
+    -- a command whose completion is reaped, and that is waited for, has its queue
     nobody_waits : (q cid : ℕ) (st : Status) (e : ComEntry) (r : Record) (adm : AdminKind) → IsHeard s q cid st e r → r.work ≡ Management adm → ((k : ℕ) → deletes_sq_of k (Management adm) ≡ false)
         → ((k : ℕ) → (creates_cq_of k (Management adm) || creates_sq_of k (Management adm)) ≡ true → host_queue (a.heard q e s) k ≡ None) → (z : ℕ) (b : Bool) → of z r.work ≡ b → of z r.work ≡ false
     nobody_waits q cid st e r adm heard w quiet unmade z false its = its

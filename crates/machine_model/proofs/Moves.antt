@@ -246,7 +246,7 @@ run_found s half h = elim (option_is (run_for s half)) [ inl e ↦ let h = rw e 
 pub heard_of : (s : State) (q cid : ℕ) (st : Status) (what : Reaped) → ReapTells s q cid st what → (e : ComEntry) × (r : Record) × IsHeard s q cid st e r
 heard_of s q cid st what t = grind arith
 
--- Where nothing was forged, an entry that is heard is the oldest completion
+-- Where nothing was forged, an entry that is reaped is the oldest completion
 
 pub record HeardCompletion (s : State) (q cid : ℕ) (st : Status) (e : ComEntry) : Type 0 where
   pub completion : PostedCompletion

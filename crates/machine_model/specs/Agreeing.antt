@@ -100,8 +100,8 @@ pub record AdminCommandsStand (rs : List Record) (un : List SubEntry) (js : List
   pub jobs : AllByRecursion (JobKnown rs) js
   pub completions : AllByRecursion (CompletionKnown rs) ans
 
--- What is deleted and made: for each queue a token goes round, and it is nowhere twice. A submission queue stands at the controller, or was deleted and the host hears of
--- it, or the host knows it, or one is to be made and is not there yet. A completion queue in the same way. A completion that the host rejects takes its token with it.
+-- What is deleted and made: for each queue a token goes round, and it is nowhere twice. A submission queue stands at the controller, or was deleted and the host is told
+-- so, or the host knows it, or one is to be made and is not there yet. A completion queue in the same way. A completion that the host rejects takes its token with it.
 
 -- the admin command of an identifier of queue 0, if it is outstanding
 abbrev pub kind_of : Work → Option AdminKind
@@ -136,7 +136,7 @@ is_kind test rs c = option_map_or test (kind_at rs c) false
 abbrev pub succeeds : Job → Bool
 succeeds j = option_map_or is_success j.verdict false
 
--- how many such commands were not fetched or have failed, and are not heard of
+-- how many such commands were not fetched or have failed, and whose completions were not reaped
 abbrev pub unmade : (AdminKind → Bool) → List Record → List SubEntry → List Job → List PostedCompletion → ℕ
 unmade test rs un js ans =
     total (λ e. one (is_kind test rs e.cid)) un
@@ -242,7 +242,7 @@ pub record SidesAgree (s : State) : Type 0 where
   pub pairs : QueuesFit s.entries s.host.queues s.controller.queues
   pub job_queues : (q : ℕ) → 0 < total (on_queue q) s.controller.jobs → is_absent_at s.controller.queues q ≡ false
   pub job_service : (q : ℕ) → 0 < total (on_queue q) s.controller.jobs → is_out_of_service_at s.host.queues q ≡ false
-  -- admin commands stand once, and what they delete and make the host hears
+  -- admin commands stand once, and the host is told what they delete and make
   pub admin_commands : AdminCommandsStand s.host.records (waiting s.controller.queues) s.controller.jobs (admin_completions s.controller.queues)
   pub tokens : TokensGoRound s.host.records s.host.queues s.controller.queues s.controller.jobs
   -- commands stand as they were submitted, in no more places than they are, and a job's walk has a unit left

@@ -15,12 +15,12 @@ use Rattle.queue_pair.specs.Slots.{is_in_range}
 abbrev pub tail_code : List ControllerQueue → ℕ → ℕ → ℕ
 tail_code queues q v = option_map_or (λ queue. if nat_lt v queue.controller.entries then 0 else 50) (slice_get queues q) 10
 
--- whether the queue is there, and the head lies from the one that was heard last to the tail
+-- whether the queue is there, and the head lies from the one that was taken last to the tail
 abbrev pub head_code : List ControllerQueue → ℕ → ℕ → ℕ
 head_code queues q v =
     option_map_or (λ queue. if is_in_range queue.controller.entries queue.controller.ring.known_head queue.controller.ring.tail v then 0 else 50) (slice_get queues q) 10
 
--- a value that has code 0 is heard, and another one changes nothing
+-- a value that has code 0 is taken, and another one changes nothing
 abbrev pub RingsTail : Option Contents → ℕ → ℕ → ℕ → Option Contents → Type 0
 RingsTail None q v code new = (code ≡ 1) × (new ≡ None)
 RingsTail (Some c) q v code new = (code ≡ tail_code c.queues q v) × (new ≡ Some (if code == 0 then tail_rung q v c else c))

@@ -154,7 +154,7 @@ impl<A: Allocator + Copy> Driver<A> {
         &self.host
     }
 
-    /// Whose a page of the pool is.
+    /// The owner of a page of the pool.
     pub(crate) fn owner(&self, p: u32) -> Option<Owner> {
         if p < self.host.pages() {
             Some(self.host.owner(PageNo(p)))

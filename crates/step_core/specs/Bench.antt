@@ -1,4 +1,4 @@
--- A bench: a world, with the drafts, the tickets and the finished commands that are about. What each of its steps may answer, and what it leaves.
+-- A bench: a world, with the drafts, the tickets and the finished commands that it keeps. What each of its steps may answer, and what it leaves.
 use Rattle.host_core.specs.CommandValues.{without_first, with_first}
 use Rattle.std.specs.{List.list_any, Option.option_map, Prelude.{◌≡◌, ℕ, Option, Some, None, List, [], ◌∷◌, ◌++◌, length, if◌then◌else◌}}
 use Rattle.io_commands.specs.{Drafts.{DraftContents, built}, Values.{FinishedContents, gathered_from}}

@@ -1,4 +1,4 @@
-//! A bench: lists of steps are run on a world, with the drafts, tickets and finished commands that are about.
+//! A bench: lists of steps are run on a world, with the drafts, tickets and finished commands that it keeps.
 
 ghost use Rattle.std.specs.Prelude.{◌≡◌, ◌+◌, ◌<◌, ◌≤◌, [], length, vec_len, vec_capacity, Some, None, IfOk, IfErr, IfSome, OnOk, OnErr, slice_get};
 ghost use Rattle.std.specs.Bool.{OnTrue};
@@ -35,7 +35,7 @@ use slot_table::SlotTable;
 use std::alloc::{AllocError, Allocator, Global};
 use std::marker::Model;
 
-/// A world, with the drafts, tickets and finished commands that are about. Contracts see the world's state and these lists (`table`), a
+/// A world, with the drafts, tickets and finished commands that it keeps. Contracts see the world's state and these lists (`table`), a
 /// ticket as its queue and identifier, and how many pages were touched so far (`touches`).
 pub struct Bench<A: Allocator = Global> {
     kept: BenchTables<A>,
@@ -167,7 +167,7 @@ impl<A: Allocator + Copy> Bench<A> {
         self.kept.world.rings(q)
     }
 
-    /// Whose a page of the pool is: the owner of the one claim in which it stands.
+    /// The owner of a page of the pool: that of the one claim in which it stands.
     pub fn owner(&self, p: PageNo) -> Owner
         requires { p < length self.now.table.world.memory }
         ensures { Contains (claims_of self.now.table.world.host) (p, result) }
@@ -213,7 +213,7 @@ impl<A: Allocator + Copy> Bench<A> {
         self.kept.world.check();
     }
 
-    /// Ends the bench: its world, and each value that is about. It takes no memory.
+    /// Ends the bench: its world, and each value that it keeps. It takes no memory.
     pub fn end(self) -> Ended {
         let Bench { kept } = self;
         let BenchTables {

@@ -1,4 +1,4 @@
-//! The steps of a bench: each is a call of the world, or of a value that is about.
+//! The steps of a bench: each is a call of the world, or of a value that the bench keeps.
 
 ghost use Rattle.std.specs.Prelude.{◌≡◌, [], length};
 ghost use Rattle.step_core.specs.Bench.{Does};

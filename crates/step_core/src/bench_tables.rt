@@ -4,7 +4,7 @@ use crate::world::World;
 use host_core::values::CommandValues;
 use std::alloc::Allocator;
 
-/// A world, and the values that are about.
+/// A world, and the values of its outstanding commands.
 pub(crate) struct BenchTables<A: Allocator> {
     /// The world.
     pub(crate) world: World<A>,

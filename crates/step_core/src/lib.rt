@@ -9,11 +9,11 @@
 //! Commands, entries, statuses, lists and queues are those of the NVM Express Base Specification 2.0 and the NVM Command Set Specification
 //! 1.0, cut down to a profile.
 //!
-//! A [`Bench`] is a world with the drafts, tickets and finished commands that are about; it runs lists of [`Step`]s, and what it does is a
+//! A [`Bench`] is a world with the drafts, tickets and finished commands that it keeps; it runs lists of [`Step`]s, and what it does is a
 //! run of the machine ([`laws`]).
 //!
 //! A world is a [`host_core::Host`] and a [`controller_core::Controller`] over one [`page_memory::Store`]: each event but a forgery and a
-//! reset is a call of one side, with at most one doorbell that the other hears, and a reset is a call of each. That both are the
+//! reset is a call of one side, with at most one doorbell of the other rung, and a reset is a call of each. That both are the
 //! machine is what `two_sides` proves; nothing is kept twice.
 #![tactic(auto)]
 

@@ -1,4 +1,4 @@
-//! What a world shows: its image, whose each page is and how many each class has, whether it is idle, whether something was forged, and that
+//! What a world shows: its image, the owner of each page and how many each class has, whether it is idle, whether something was forged, and that
 //! it is sound.
 
 ghost use Rattle.std.specs.Prelude.{◌≡◌, ◌==◌, ◌<◌, ◌≤◌, length};
@@ -13,7 +13,7 @@ use page_memory::{PageNo, TouchRecord};
 use std::alloc::Allocator;
 
 impl<A: Allocator> World<A> {
-    /// Whose a page of the pool is: the owner of the one claim in which it stands.
+    /// The owner of a page of the pool: that of the one claim in which it stands.
     pub fn owner(&self, p: PageNo) -> Owner
         requires { p < length self.now.state.memory }
         ensures { Contains (claims_of self.now.state.host) (p, result) }

@@ -122,7 +122,7 @@ impl Session {
         }
     }
 
-    /// A ticket that is about, or rarely one that is made up.
+    /// A ticket that is kept, or rarely one that is made up.
     fn ticket(&self, course: &mut Course) -> Option<Ticket> {
         if course.random.in_sixteen(1) {
             let q = self.queue(&mut course.random);

@@ -1,4 +1,4 @@
-//! A world, its recount, and the values that are about.
+//! A world, its recount, and the values that are kept.
 
 use crate::answer::Answer;
 use crate::chance::{IMAGE_BLOCKS, config};
@@ -21,7 +21,7 @@ pub struct Course {
     pub alloc: Global,
     /// What chance decides.
     pub random: SplitMix64,
-    /// The values that are about.
+    /// The values that are kept.
     pub values: Values,
     /// What is counted.
     pub tally: Tally,

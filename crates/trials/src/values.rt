@@ -1,4 +1,4 @@
-//! The drafts, tickets and finished commands that are about. Those that a world leaves over are tried on the next one.
+//! The drafts, tickets and finished commands that are kept. Those that a world leaves over are tried on the next one.
 
 use crate::random::SplitMix64;
 use crate::recount::Recount;
@@ -6,7 +6,7 @@ use io_commands::{Draft, Finished, Ticket};
 use machine_model::words::Refusal;
 use std::alloc::{AllocError, AllocFailed, Global};
 
-/// The values that are about.
+/// The values that are kept.
 pub struct Values {
     /// The drafts.
     pub drafts: Vec<Draft>,
@@ -97,7 +97,7 @@ impl Values {
 }
 
 impl Values {
-    /// A draft that is about, mostly one that was built or was not, as is wanted.
+    /// A draft that is kept, mostly one that was built or was not, as is wanted.
     pub fn draft(&mut self, random: &mut SplitMix64, built: bool) -> Option<&mut Draft> {
         let any = random.place(self.drafts.len())?;
         let fitting = self

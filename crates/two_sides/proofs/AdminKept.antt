@@ -223,7 +223,7 @@ places_past n k g (x ∷ hs) [] other h = h
 places_past n zero g (x ∷ hs) (c ∷ cs) other h = absurd (true≢false other)
 places_past n (suc k) g (x ∷ hs) (c ∷ cs) other h = h
 
--- it hears a doorbell
+-- a doorbell is rung
 
 tail_leaves : (v : ℕ) → LeavesPlaces (with_tail v)
 tail_leaves v c =
@@ -242,7 +242,7 @@ heard_by P (events.Ring q) events.Accepted v c tails heads h = elim (option_is (
 heard_by P (events.Reap q) (events.Reaps what) v c tails heads h = elim (option_is (head_rung v q what)) [ inl e ↦ rw e h | inr (head, e) ↦ rw e (heads q head h) ]
 heard_by P e reply v c tails heads h = h
 
--- a step of the host, and what the controller hears of it
+-- a step of the host, and what the controller has of it
 pub admin_behind : (s : Sides) (e : Event) (reply : Reply) (host : HostView) (pages : Pages) → IsController e ≡ false → HostStep s.host s.pages e reply host pages → IsSound (alone s.host s.pages)
     → SharesAdmin s.host.entries s.host.host.queues s.controller.queues → SharesAdmin host.entries host.host.queues (heard e reply host s.controller).queues
 admin_behind s e reply host pages c step sound share =

@@ -338,7 +338,7 @@ taken_stands s q head h c x follows =
       drained = λ over. absurd (x.apart (rings.drained over));
     }
 
--- All queues, once the completion is taken and its head is heard
+-- All queues, once the completion and its head are taken
 
 pub record IsTaken (s : Sides) (q v : ℕ) (hs : List HostQueue) : Type 0 where
   pub controller : served_queues_of (byte_at s.pages) hs (change_members q (with_head v) s.controller.queues) ≡ change_members q one_fewer (served_queues_of (byte_at s.pages) s.host.host.queues s.controller.queues)

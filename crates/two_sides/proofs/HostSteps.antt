@@ -111,7 +111,7 @@ restated s q v k f hs same here t =
       head = head_kept k q f hs same ∙ t.head;
     }
 
--- the completion that is heard
+-- the completion that is reaped
 hears : (s : Sides) → IsWorld s → AreTied s → s.trusted ≡ true → (q : ℕ) (e : ComEntry) → refusal_of (state_of s) (events.Reap q) ≡ None → seen_entry (state_of s) q ≡ Some e
     → (v : ℕ) × IsTaken s q v (a.heard q e (state_of s)).host.queues
 hears s world tied t q e none seen =
@@ -136,7 +136,7 @@ consumes s world tied t q why none is = elim (option_is (seen_entry (state_of s)
       (next_slot n h.0.ring.head, takes s world tied q h.0.ring.known_head h.0 x.0 (λ queue. record queue { ring = next_head n queue.ring }) x.1 (known_follows s q h.0 x.0 x.1) refl)
 ]
 
--- What a completion that is heard tells of the queues behind it
+-- What a completion that is reaped tells of the queues behind it
 
 -- a queue behind it, as it was before
 record Was (s : Sides) (k : ℕ) (h : HostQueue) (c : ControllerQueue) : Type 0 where
@@ -182,7 +182,7 @@ module _ (s : Sides) (world : IsWorld s) (tied : AreTied s) (t : s.trusted ≡ t
   none_there : (h : HostQueue) (c : ControllerQueue) → (x : Was s k h c) → has_completions_at (state_of s).controller.queues k ≡ false → c.cq_there ≡ false
   none_there h c x none = x.completions ∙ completions_is s k x.host x.queue false x.at x.there none
 
-  -- a queue whose deletion is heard of is in service, and stays so
+  -- a queue whose deletion the host is told of is in service, and stays so
   noted : r.work ≡ Management (DeleteSq k) → (h : HostQueue) (c : ControllerQueue) → slice_get (a.heard q e (state_of s)).host.queues k ≡ Some h
       → QueueStands s.host.entries (byte_at s.pages) k h c → QueueStands s.host.entries (byte_at s.pages) k (record h { state = if is_success st then Deleting true else Live }) c
   noted w h c at stands = go (is_success st)
@@ -374,7 +374,7 @@ retire_ties s q host pages world t step =
     (left_bare s (events.Retire q) events.Accepted host pages world refl refl step step.1 ∙ ap bare is) (sym is)
     (retire_leads s world (OnTrue_at t world.tied) t q h.0 h.1 h.2 passed.1.0)
 
--- Each call of the host, with what the controller hears of it, is a step of the machine, and leaves both sides tied.
+-- Each call of the host, with what the controller has of it, is a step of the machine, and leaves both sides tied.
 
 pub hosts_stepped : hosts_step
 hosts_stepped s (events.Reap q) (events.Refused why touched) host pages world c f step over = reap_refused s q why touched host pages world step

@@ -344,7 +344,7 @@ is_found s world q cid k e =
     let (h, at) = host_at s world q c here in
     record { named = named; its_queue = same; fits = fits; queue = c; queue_here = here; host = h; host_here = at }
 
--- The doorbells that the host rings are heard.
+-- The controller takes the doorbells that the host rings.
 
 pub tails_heard : tails_are_heard
 tails_heard s q h c sides e f =
@@ -364,7 +364,7 @@ heads_heard s q h c sides tied e f has apart =
     let here : is_in_range c.controller.entries c.controller.ring.known_head c.controller.ring.tail (next_slot s.host.entries h.ring.head) ≡ true = rw (share.entries, (stands.rings has).heard) fits in
     rw here refl
 
--- What the host's state of a queue, and a completion that it hears, tell of the controller's queue, where nothing was forged.
+-- What the host's state of a queue, and a completion that it reaps, tell of the controller's queue, where nothing was forged.
 
 -- of the machine's queue at a number
 pub absent_is : (s : Sides) (q : ℕ) (h : HostQueue) (c : ControllerQueue) (b : Bool) → slice_get s.host.host.queues q ≡ Some h → slice_get s.controller.queues q ≡ Some c
@@ -387,7 +387,7 @@ pub known_live : (s : Sides) → IsWorld s → s.trusted ≡ true → (q : ℕ) 
     → is_live h.state ≡ true → is_absent c.state ≡ false
 known_live s world t q h c at queue-here is = absent_is s q h c false at queue-here (agreed_there (state_of s) q h (tied_of s world t).agree at is)
 
--- What a completion tells that is heard: it counts among the completions
+-- What a completion tells that is reaped: it counts among the completions
 
 pub record Carries (s : State) (adm : AdminKind) (ok : Bool) : Type 0 where
   pub completed : (test : AdminKind → Bool) → one_counting (test adm && ok) ≤ completed_well test s.host.records (admin_completions s.controller.queues)

@@ -80,7 +80,7 @@ record StaysAlike (n : ℕ) (m : Memory) (cs : List ControllerQueue) (hs hs' : L
   lists : served_queues_of m hs' cs ≡ served_queues_of m hs cs
   stands : AllQueuesStand n m zero hs cs → AllQueuesStand n m zero hs' cs
 
--- a call that posts an entry, of which the controller hears nothing
+-- a call that posts an entry, of which the controller has nothing
 ties : (s : Sides) (e : Event) (reply : Reply) (host : HostView) (pages mid : Pages) (q : ℕ) (h : HostQueue) (c : ControllerQueue) (entry : SubEntry) (hs : List HostQueue)
     → CanPost s mid q h c entry → SparesSubmitted s mid → Permits (state_of s) e reply → heard e reply host s.controller ≡ s.controller
     → LeavesByHost (alone s.host s.pages) (after (alone s.host s.pages) e reply) (alone host pages)

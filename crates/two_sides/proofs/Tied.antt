@@ -417,7 +417,7 @@ turns_not adm hs none = record {
   live = λ q. omega (arith, ap one (none q).2);
 }
 
--- An admin command is heard of, and its queue with it moves on
+-- The completion of an admin command is reaped, and its queue with it moves on
 
 pub record Hears (rs : List Record) (un : List SubEntry) (js : List Job) (ans : List PostedCompletion) (rs' : List Record) (ans' : List PostedCompletion) (adm : AdminKind) (ok : Bool) : Type 0 where
   pub unmade : (test : AdminKind → Bool) → unmade test rs' un js ans' + one (test adm && not ok) ≤ unmade test rs un js ans

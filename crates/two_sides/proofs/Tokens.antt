@@ -567,7 +567,7 @@ heard_alike : (q : ℕ) (e : ComEntry) (s : State) → Alike s.host.queues (a.he
 heard_alike q e s =
     alike_then s.host.queues (a.consumed q s).host.queues (a.heard q e s).host.queues (alike_ring q (next_head s.entries) s.host.queues) (alike_ring q (knowing e.sqhd) (a.consumed q s).host.queues)
 
--- an admin command is heard of
+-- the completion of an admin command is reaped
 heard_tokens : (q cid : ℕ) (st : Status) (e : ComEntry) (r : Record) (adm : AdminKind) (s : State) (hs : List HostQueue) → q ≡ 0 → s.trusted ≡ true → IsHeard s q cid st e r → r.work ≡ Management adm
     → PlacedIn (without_record q cid s.host.records) (record s.controller { queues = change q (λ at. record at { completions = drop 1 at.completions }) s.controller.queues }) → MovesOn (a.heard q e s).host.queues hs adm (is_success st) → TokensS s
     → TokensP (without_record q cid s.host.records) hs (record s.controller { queues = change q (λ at. record at { completions = drop 1 at.completions }) s.controller.queues })

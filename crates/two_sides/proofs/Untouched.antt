@@ -246,7 +246,7 @@ without_elsewhere (k ∷ ps) m p h =
     let both = or_parts (k == p) (is_among ps p) h in
     without_elsewhere ps (slice_set m k None) p both.1 ∙ set_elsewhere m k p None (eqb-false k p both.0)
 
--- Whose a page is
+-- The owner of a page
 
 -- how often a submitted command has a page
 abbrev pub sent_page : ℕ → Record → ℕ

@@ -49,14 +49,14 @@ hosts_refuse =
     → IsController e ≡ false → looks_at_completions e ≡ false → HostStep s.host s.pages e (events.Refused why touched) host pages
     → (behind s e (events.Refused why touched) host pages ≡ s) × Step (state_of s) e (events.Refused why touched) (state_of s)
 
--- Whatever was forged, the tail that the host rings of a queue is heard.
+-- Whatever was forged, the controller takes the tail that the host rings of a queue.
 abbrev pub tails_are_heard : Type 0
 tails_are_heard =
     (s : Sides) (q : ℕ) (h : HostQueue) (c : ControllerQueue)
     → AreSides s → slice_get s.host.host.queues q ≡ Some h → slice_get s.controller.queues q ≡ Some c
     → with_tail h.ring.tail c ≡ with_side (record c.controller { ring = hearing_tail h.ring.tail c.controller.ring }) c
 
--- Where nothing was forged, and a completion waits in the completion ring of a queue that is in use, the head behind it is heard.
+-- Where nothing was forged, and a completion waits in the completion ring of a queue that is in use, the controller takes the head behind it.
 abbrev pub heads_are_heard : Type 0
 heads_are_heard =
     (s : Sides) (q : ℕ) (h : HostQueue) (c : ControllerQueue)

@@ -84,7 +84,7 @@ abbrev pub trusted_worlds_are_linked : Type 0
 trusted_worlds_are_linked = (image : List ℕ) (made : List Made) (s : State) → TrustedRun image made s → IsLinked s
 
 -- A submission queue that is live at the host is there at the controller: only a deletion that the host asked for, or a reset, takes it
--- away, and the host hears of that deletion's success alone.
+-- away, and the host is told of that deletion's success alone.
 abbrev pub live_queues_are_there : Type 0
 live_queues_are_there =
     (image : List ℕ) (made : List Made) (s : State) (q : ℕ) (queue : HostQueue) → TrustedRun image made s → host_queue s q ≡ Some queue → is_live queue.state ≡ true → absent s q ≡ false

@@ -1,4 +1,4 @@
--- Each call of one side, with what the other hears of it, is a step of the machine, and leaves both tied as they were.
+-- Each call of one side, with what the other has of it, is a step of the machine, and leaves both tied as they were.
 use Rattle.std.specs.{Option.option_map, Prelude.{◌≡◌, ◌≢◌, ℕ, Some, None, true, false, List, [], Result, length, is_some, slice_get}}
 use Rattle.controller_core.specs.{Completing.complete_refusal, Contents.{Contents, IsController}, Fetching.{Fetches, fetch_refusal}}
 use Rattle.controller_core.specs.{Resetting.reset as controller_reset, Walking.walk_refusal}

@@ -27,7 +27,7 @@ pub fn hosts_refuse_as_the_machine()
     ensures { hosts_refuse }
 {}
 
-/// Each call of the host, with what the controller hears of it, is a step of the machine, and leaves both sides tied as a world's are.
+/// Each call of the host, with what the controller has of it, is a step of the machine, and leaves both sides tied as a world's are.
 pub fn hosts_are_the_machine()
     ensures { hosts_step }
 {}

@@ -152,7 +152,7 @@ impl<L: FullLogBrand, A: Allocator + Copy> Access<L, A> {
         }
     }
 
-    /// Whose a page is; `None` for one that the pool does not have.
+    /// The owner of a page; `None` for one that the pool does not have.
     pub(crate) fn owner<R: Wait>(&self, rt: &R, page: PageNo) -> Option<Owner> {
         match self {
             Access::Book(book) if page.0 < book.pages() => Some(book.owner(page)),

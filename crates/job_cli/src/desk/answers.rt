@@ -7,7 +7,7 @@ use step_core::{
     Completed, Fetched, Reaped, Refusal, Refused, Reply, ReplyIn, StepRefused, Touched, Walked,
 };
 
-/// A reply, or want of memory for the list of the commands that are about.
+/// A reply, or want of memory for the list of the commands that the desk keeps.
 pub type Answer<A> = Result<ReplyIn<A>, AllocError>;
 
 /// What a refused call of the host answers.

@@ -1,4 +1,4 @@
-//! A driver in one thread, with seats, and the commands that are about.
+//! A driver in one thread, with seats, and the commands that it keeps.
 
 use crate::desk::access::Access;
 use crate::desk::answers::{Answer, cancelled, collected, released, reserved, submitted};
@@ -13,7 +13,7 @@ use std::mem;
 use std::sync::Wait;
 use step_core::{Leftover, Reply, Step, StepIn};
 
-/// A driver in one thread, with seats, and the commands that are about. The last seat acts: it submits and releases.
+/// A driver in one thread, with seats, and the commands that it keeps. The last seat acts: it submits and releases.
 #[derive(Drop)]
 pub struct Desk<'r, L: FullLogBrand, R: Wait, A: Allocator = Global> {
     /// What may wait for a lock.

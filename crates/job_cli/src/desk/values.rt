@@ -1,4 +1,4 @@
-//! Commands that are about at a desk: each is a draft, a ticket or a finished command.
+//! Commands that a desk keeps: each is a draft, a ticket or a finished command.
 
 use io_commands::{Draft, Finished, Ticket};
 use page_memory::{Page, PageNo};
@@ -16,7 +16,7 @@ enum What {
     Finished,
 }
 
-/// A command that is about.
+/// A command that a desk keeps.
 pub enum Value<A: Allocator = Global> {
     /// It was reserved.
     Draft(Draft<A>),

@@ -82,7 +82,7 @@ fn find_queue(bench: &HostBench, q: u16) -> Option<CHostQueue>
     Some(queue_of(state, at))
 }
 
-/// Whose a page of a host is; none where the pool has no such page.
+/// The owner of a page of a host; none where the pool has no such page.
 fn find_owner(bench: &HostBench, page: u32) -> Option<Owner>
     ensures { FindsOwner bench.now page result }
 {

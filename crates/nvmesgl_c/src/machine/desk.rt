@@ -63,7 +63,7 @@ impl Desk {
         self.bench.trusted()
     }
 
-    /// Whose a page is; none where the pool has no such page.
+    /// The owner of a page; none where the pool has no such page.
     pub fn owner(&self, page: u32) -> Option<Owner>
         ensures { FindsOwner self.now page result }
     {

@@ -20,7 +20,7 @@ pub trait StepMaker {
     /// Where memory is refused for what stands around the step.
     fn step(&mut self, step: &Step) -> Result<Reply, AllocError>;
 
-    /// Whose a page is; `None` for one that the pool does not have.
+    /// The owner of a page; `None` for one that the pool does not have.
     fn owner(&self, page: PageNo) -> Option<Owner>;
 
     /// How many pages are free, and how many belong to queues, to chains and to data.

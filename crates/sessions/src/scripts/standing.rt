@@ -37,7 +37,7 @@ pub trait Stands: StepMaker {
     fn standing(&self, alloc: Global) -> Result<Self::Standing, AllocError>;
 }
 
-/// Whose each page is, and how many pages each class has.
+/// The owner of each page, and how many pages each class has.
 #[derive(Debug, Drop, PartialEq)]
 pub struct Holdings {
     owners: Vec<Owner>,
@@ -95,7 +95,7 @@ impl<'h> Stands for OnBench<&'h Heap> {
     }
 }
 
-/// How a desk with a book and one seat stands, with the commands that are about.
+/// How a desk with a book and one seat stands, with the commands that it keeps.
 #[derive(Debug, Drop, PartialEq)]
 pub struct DeskStanding {
     /// Whose the book's pages are.
