@@ -158,7 +158,7 @@ behind pieces n pages bytes few =
     subst (λ (k : ℕ). drop k (filled pieces (take n pages) bytes ++ drop n pages) ≡ drop n pages) count (drop-append_seam (filled pieces (take n pages) bytes) (drop n pages))
 
 -- a draft whose data pages are filled
-built_filled : (d : DraftContents) (pages : PagesOut) (entry : Option SubEntry) → numbers_of pages ≡ numbers_of d.data_pages → IsBuiltIfAny d entry → IsBuiltIfAny (record d { data_pages = pages }) entry
+pub built_filled : (d : DraftContents) (pages : PagesOut) (entry : Option SubEntry) → numbers_of pages ≡ numbers_of d.data_pages → IsBuiltIfAny d entry → IsBuiltIfAny (record d { data_pages = pages }) entry
 built_filled d pages None same h = tt
 built_filled d pages (Some e) same h = rw same (ap (λ (x : DraftContents). record x { data_pages = pages }) h)
 

@@ -1,3 +1,4 @@
 pub mod Building
 pub mod Fewest
 pub mod Padding
+pub mod Lending

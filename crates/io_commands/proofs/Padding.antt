@@ -38,10 +38,10 @@ drop_padded (suc len) more (b ∷ bytes) =
     rw whole (drop_padded len more bytes)
 
 -- a piece has what there is of the bytes, and zeros; the pieces behind it have the others
-pub piece_filled : (pieces others : List Piece) (piece : Piece) (offset len : ℕ) (pages behind left : PagesOut) (page : ℕ × List ℕ) (new bytes here rest : List ℕ)
+pub piece_filled : (pieces others : List Piece) (piece : Piece) (offset len : ℕ) (pages behind left : PagesOut) (page new : ℕ × List ℕ) (bytes here rest : List ℕ)
     → pieces ≡ piece ∷ others → piece ≡ Data offset len → pages ≡ page ∷ behind → here ≡ take len bytes → rest ≡ drop len bytes
-    → new ≡ with_bytes page.1 offset (here ++ replicate (len - length here) 0) → left ≡ filled others behind (rest ++ replicate (sum_by data_length others - length rest) 0)
-    → ◌≡◌ {A = PagesOut} ((page.0, new) ∷ left) (filled pieces pages (bytes ++ replicate (sum_by data_length pieces - length bytes) 0))
+    → new ≡ (page.0, with_bytes page.1 offset (here ++ replicate (len - length here) 0)) → left ≡ filled others behind (rest ++ replicate (sum_by data_length others - length rest) 0)
+    → ◌≡◌ {A = PagesOut} (new ∷ left) (filled pieces pages (bytes ++ replicate (sum_by data_length pieces - length bytes) 0))
 piece_filled pieces others piece offset len pages behind left page new bytes here rest are is there first last wrote filled_behind =
     let more : ℕ = sum_by data_length others in
     rw (are, is, there, sum_by-cons data_length (Data offset len) others, take_padded len more bytes, drop_padded len more bytes, wrote, filled_behind, first, last) refl

@@ -8,3 +8,4 @@ pub mod Values
 pub mod Asked
 pub mod Ends
 pub mod Least
+pub mod Lent

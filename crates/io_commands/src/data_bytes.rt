@@ -8,7 +8,7 @@ ghost use Rattle.io_commands.specs.Requests.{crosses_page, data_count};
 ghost use Rattle.io_commands.specs.DataBytes.{data_length, filled, gathered};
 
 use crate::request::Piece;
-use page_memory::{PAGE_BYTES, Page, PageNo};
+use page_memory::{PAGE_BYTES, Page};
 use std::alloc::{AllocError, Allocator};
 
 /// `count` zeros, at most as many as a page has.
@@ -37,14 +37,14 @@ fn split_within(bytes: &[u8], len: usize) -> (&[u8], &[u8])
 fn put_padded<A: Allocator>(page: &mut Page<A>, offset: usize, len: usize, bytes: &[u8])
     requires inside { offset + len ≤ 4096 }
     requires room { length bytes.now ≤ len }
-    ensures { page.new ≡ with_bytes page.old offset (bytes.now ++ replicate (len - length bytes.now) 0) }
+    ensures { page.new ≡ (page.old.0, with_bytes page.old.1 offset (bytes.now ++ replicate (len - length bytes.now) 0)) }
 {
     page.set(offset, bytes);
     page.set(offset + bytes.len(), zeros(len - bytes.len()));
 }
 
 /// Puts bytes into the data pieces, one piece after the other, and zeros behind them.
-pub(crate) fn fill<A: Allocator>(pieces: &[Piece], pages: &mut [(PageNo, Page<A>)], bytes: &[u8])
+pub(crate) fn fill<A: Allocator>(pieces: &[Piece], pages: &mut [Page<A>], bytes: &[u8])
     requires inside { list_any crosses_page pieces.now ≡ false }
     requires enough { data_count pieces.now ≤ length pages.old }
     requires length { length bytes.now ≤ sum_by data_length pieces.now }
@@ -58,7 +58,7 @@ pub(crate) fn fill<A: Allocator>(pieces: &[Piece], pages: &mut [(PageNo, Page<A>
         Piece::Data { offset, len } => {
             if let Some((page, behind)) = pages.split_first_mut() {
                 let (here, rest) = split_within(bytes, len as usize);
-                put_padded(&mut page.1, offset as usize, len as usize, here);
+                put_padded(page, offset as usize, len as usize, here);
                 fill(others, behind, rest);
             }
         }
@@ -68,7 +68,7 @@ pub(crate) fn fill<A: Allocator>(pieces: &[Piece], pages: &mut [(PageNo, Page<A>
 /// Puts bytes into the data pieces of the first pages, and zeros behind them.
 pub(crate) fn fill_first<A: Allocator>(
     pieces: &[Piece],
-    pages: &mut Vec<(PageNo, Page<A>), A>,
+    pages: &mut Vec<Page<A>, A>,
     count: usize,
     bytes: &[u8],
 )
@@ -85,7 +85,7 @@ pub(crate) fn fill_first<A: Allocator>(
 /// Appends the bytes of the data pieces, one piece after the other.
 pub(crate) fn push_data<A: Allocator, B: Allocator>(
     pieces: &[Piece],
-    pages: &[(PageNo, Page<A>)],
+    pages: &[Page<A>],
     out: &mut Vec<u8, B>,
 ) -> Result<(), AllocError>
     requires inside { list_any crosses_page pieces.now ≡ false }
@@ -103,7 +103,7 @@ pub(crate) fn push_data<A: Allocator, B: Allocator>(
                 return Ok(());
             };
             let start = offset as usize;
-            out.extend_from_slice(&page.1.bytes()[start..start + len as usize])?;
+            out.extend_from_slice(&page.bytes()[start..start + len as usize])?;
             push_data(others, behind, out)
         }
     }

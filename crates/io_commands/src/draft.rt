@@ -7,12 +7,14 @@ ghost use Rattle.io_commands.specs.DataBytes.{data_length, filled};
 ghost use Rattle.io_commands.specs.Values.{IsGood, numbers_of, data_part, chain_part};
 ghost use Rattle.io_commands.specs.Least.{pages_with};
 ghost use Rattle.io_commands.specs.Drafts.{built, IsDraft, SpellsItsParts, io_entry as spec_io_entry};
+ghost use Rattle.io_commands.specs.Lent.{lends_data, bytes_of};
+ghost use Rattle.std.specs.Borrow.{sem};
 
 use crate::data_bytes::fill_first;
 use crate::layout::{chain_of, lay_all};
 use crate::request::{Kind, Request};
 use entry_codec::SubEntry;
-use page_memory::{Page, PageNo};
+use page_memory::Page;
 use std::alloc::{AllocError, Allocator, Global};
 use std::marker::Model;
 use thiserror::Error;
@@ -23,7 +25,7 @@ pub struct Draft<A: Allocator = Global> {
     q: u16,
     cid: u16,
     request: Request<A>,
-    pages: Vec<(PageNo, Page<A>), A>,
+    pages: Vec<Page<A>, A>,
     segment: usize,
     entry: Option<SubEntry>,
 }
@@ -50,7 +52,7 @@ pub struct DraftParts<A: Allocator = Global> {
     /// What the host asks for.
     pub request: Request<A>,
     /// The pages with their bytes: one for each data piece, then those of the chain.
-    pub pages: Vec<(PageNo, Page<A>), A>,
+    pub pages: Vec<Page<A>, A>,
     /// The most descriptors of a segment.
     pub segment: usize,
 }
@@ -74,7 +76,7 @@ impl<A: Allocator> Draft<A> {
         q: u16,
         cid: u16,
         request: Request<A>,
-        pages: Vec<(PageNo, Page<A>), A>,
+        pages: Vec<Page<A>, A>,
         segment: usize,
     ) -> Self
         requires good { IsGood request }
@@ -132,10 +134,24 @@ impl<A: Allocator> Draft<A> {
     }
 
     /// The pages with their bytes: one for each data piece, then those of the chain.
-    pub fn pages(&self) -> &[(PageNo, Page<A>)]
+    pub fn pages(&self) -> &[Page<A>]
         ensures { result.now ≡ self.now.data_pages ++ self.now.chain_pages }
     {
         &self.pages
+    }
+
+    /// The pages of the data with their bytes, one for each data piece.
+    pub fn data_pages(&self) -> &[Page<A>]
+        ensures { result.now ≡ self.now.data_pages }
+    {
+        &self.pages[..self.request.data_pages()]
+    }
+
+    /// The pages of the chain with their bytes.
+    pub fn chain_pages(&self) -> &[Page<A>]
+        ensures { result.now ≡ self.now.chain_pages }
+    {
+        &self.pages[self.request.data_pages()..]
     }
 
     /// The command's entry; `None` before the draft is built.
@@ -193,6 +209,17 @@ impl<A: Allocator> Draft<A> {
         let pieces = self.request.pieces();
         fill_first(pieces, &mut self.pages, data, bytes);
         Ok(())
+    }
+
+    /// The bytes of the page of a data piece, to write in place: its own stand at its offset. The pieces are counted from 0, buckets
+    /// left aside. The draft ends with the bytes that are left there, and nothing else changes: a built draft stays built.
+    pub fn data_mut(&mut self, i: usize) -> &mut [u8]
+        requires { i < length self.old.data_pages }
+        ensures* writes_back { sem 𝓛 (lends_data A.row A.Allocator i self.entry result) }
+        ensures value { result.now ≡ bytes_of self.old.data_pages i }
+        ensures len { length result.now ≡ 4096 }
+    {
+        self.pages[i].bytes_mut()
     }
 
     /// Lays the chain of the command's parts into the draft's own pages, and makes its entry. A second build lays the same

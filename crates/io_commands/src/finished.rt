@@ -3,12 +3,13 @@
 ghost use Rattle.std.specs.Prelude.{◌≡◌, ◌<◌, ◌≤◌, ◌++◌, length, IfOk, OnErr, []};
 ghost use Rattle.io_commands.specs.Requests.{data_count};
 ghost use Rattle.io_commands.specs.DataBytes.{gathered};
+ghost use Rattle.io_commands.specs.Lent.{bytes_of};
 ghost use Rattle.io_commands.specs.Values.{IsGood, data_part, chain_part, gathered_from, gathered_length};
 
 use crate::data_bytes::push_data;
 use crate::request::{Kind, Request};
 use entry_codec::Status;
-use page_memory::{Page, PageNo};
+use page_memory::Page;
 use std::alloc::{AllocError, Allocator, Global};
 use std::marker::Model;
 
@@ -18,7 +19,7 @@ pub struct Finished<A: Allocator = Global> {
     cid: u16,
     request: Request<A>,
     status: Status,
-    pages: Vec<(PageNo, Page<A>), A>,
+    pages: Vec<Page<A>, A>,
 }
 
 impl<A: Allocator> Model for Finished<A> {
@@ -44,7 +45,7 @@ pub struct FinishedParts<A: Allocator = Global> {
     /// How it ended.
     pub status: Status,
     /// The pages with their bytes: one for each data piece, then those of the chain.
-    pub pages: Vec<(PageNo, Page<A>), A>,
+    pub pages: Vec<Page<A>, A>,
 }
 
 impl<A: Allocator> Finished<A> {
@@ -54,7 +55,7 @@ impl<A: Allocator> Finished<A> {
         cid: u16,
         request: Request<A>,
         status: Status,
-        pages: Vec<(PageNo, Page<A>), A>,
+        pages: Vec<Page<A>, A>,
     ) -> Self
         requires good { IsGood request }
         requires enough { data_count request.pieces ≤ length pages.items }
@@ -112,10 +113,19 @@ impl<A: Allocator> Finished<A> {
     }
 
     /// The pages with their bytes: one for each data piece, then those of the chain.
-    pub fn pages(&self) -> &[(PageNo, Page<A>)]
+    pub fn pages(&self) -> &[Page<A>]
         ensures { result.now ≡ self.now.data_pages ++ self.now.chain_pages }
     {
         &self.pages
+    }
+
+    /// The bytes of the page of a data piece: its own stand at its offset. The pieces are counted from 0, buckets left aside.
+    pub fn data(&self, i: usize) -> &[u8]
+        requires { i < length self.now.data_pages }
+        ensures value { result.now ≡ bytes_of self.now.data_pages i }
+        ensures len { length result.now ≡ 4096 }
+    {
+        self.pages[i].bytes()
     }
 
     /// The bytes of a Read's data pieces, one after the other, as they stand in its pages; nothing for a Write or a

@@ -40,7 +40,7 @@ impl<A: Allocator> Model for Job<A> {
 }
 
 /// The command of an opcode, if it is a Read, a Write or a Compare.
-fn kind_of(opcode: u8) -> Option<Kind>
+pub fn kind_of(opcode: u8) -> Option<Kind>
     ensures { result ≡ kind_of_opcode opcode }
 {
     match opcode {
@@ -52,14 +52,14 @@ fn kind_of(opcode: u8) -> Option<Kind>
 }
 
 /// The first block that an entry names.
-fn first_block(entry: &SubEntry) -> u64
+pub fn first_block(entry: &SubEntry) -> u64
     ensures { result ≡ spec_first_block entry.now }
 {
     u64::from(entry.cdw10) + (u64::from(entry.cdw11) << 32)
 }
 
 /// How many blocks an entry names.
-fn block_number(entry: &SubEntry) -> u32
+pub fn block_number(entry: &SubEntry) -> u32
     ensures number { result ≡ spec_block_number entry.now }
     ensures some { 0 < result }
     ensures most { result ≤ 65536 }
@@ -92,7 +92,11 @@ fn checked(entry: &SubEntry, blocks: u32) -> Result<Kind, Status>
 }
 
 /// The bytes that a command begins with: the blocks of a Read, and zeros for what a Write or a Compare fetches.
-fn first_bytes<A: Allocator, B: Allocator>(
+///
+/// # Errors
+///
+/// Where memory is refused.
+pub fn first_bytes<A: Allocator, B: Allocator>(
     alloc: A,
     entry: &SubEntry,
     kind: Kind,

@@ -27,7 +27,7 @@ pub(crate) fn data_in(page: PageNo, offset: u32, len: u32) -> Part
 /// Appends the parts of pieces, each data piece in its page.
 fn push_parts<A: Allocator, B: Allocator>(
     pieces: &[Piece],
-    pages: &[(PageNo, Page<B>)],
+    pages: &[Page<B>],
     out: &mut Vec<Part, A>,
 )
     requires inside { list_any crosses_page pieces.now ≡ false }
@@ -46,7 +46,7 @@ fn push_parts<A: Allocator, B: Allocator>(
             let Some((page, behind)) = pages.split_first() else {
                 return;
             };
-            out.push_reserved(data_in(page.0, offset, len));
+            out.push_reserved(data_in(page.number(), offset, len));
             push_parts(others, behind, out);
         }
     }
@@ -56,7 +56,7 @@ fn push_parts<A: Allocator, B: Allocator>(
 fn parts_of<A: Allocator, B: Allocator>(
     alloc: A,
     pieces: &[Piece],
-    pages: &[(PageNo, Page<B>)],
+    pages: &[Page<B>],
 ) -> Result<Vec<Part, A>, AllocError>
     requires inside { list_any crosses_page pieces.now ≡ false }
     ensures { IfOk result (λ parts. parts.items ≡ spec_parts_of pieces.now (spec_numbers_of pages.now)) }
@@ -69,24 +69,24 @@ fn parts_of<A: Allocator, B: Allocator>(
 /// The numbers of pages.
 fn numbers_of<A: Allocator, B: Allocator>(
     alloc: A,
-    pages: &[(PageNo, Page<B>)],
+    pages: &[Page<B>],
 ) -> Result<Vec<PageNo, A>, AllocError>
     ensures { IfOk result (λ numbers. numbers.items ≡ spec_numbers_of pages.now) }
 {
     let mut numbers = Vec::with_capacity(alloc, pages.len())?;
-    for (number, _) in pages {
-        numbers.push_reserved(*number);
+    for page in pages {
+        numbers.push_reserved(page.number());
     }
     Ok(numbers)
 }
 
 /// Lays a segment and those behind it in pages, one in each.
-fn lay_from<A: Allocator, B: Allocator>(segment: &Segment<A>, pages: &mut [(PageNo, Page<B>)])
+fn lay_from<A: Allocator, B: Allocator>(segment: &Segment<A>, pages: &mut [Page<B>])
     requires { length pages.old ≡ length (segments_from segment.now) }
     ensures { pages.new ≡ laid (segments_from segment.now) pages.old }
 {
     if let Some((page, behind)) = pages.split_first_mut() {
-        segment.lay(&mut page.1);
+        segment.lay(page);
         if let Some(next) = &segment.next {
             lay_from(next, behind);
         }
@@ -96,7 +96,7 @@ fn lay_from<A: Allocator, B: Allocator>(segment: &Segment<A>, pages: &mut [(Page
 /// Lays the segments of a chain in the pages from one on, one in each.
 pub(crate) fn lay_all<A: Allocator, B: Allocator>(
     chain: &Chain<A>,
-    pages: &mut Vec<(PageNo, Page<B>), B>,
+    pages: &mut Vec<Page<B>, B>,
     from: usize,
 )
     requires { length pages.old.items ≡ from + length chain.now.segments }
@@ -117,7 +117,7 @@ impl<P: Allocator> Request<P> {
     pub fn parts_in<A: Allocator + Clone, B: Allocator>(
         &self,
         alloc: A,
-        pages: &[(PageNo, Page<B>)],
+        pages: &[Page<B>],
     ) -> Result<Vec<Part, A>, AllocError>
         requires good { IsGood self.now }
         ensures { IfOk result (λ parts. parts.items ≡ joined_parts self.now.pieces (spec_numbers_of pages.now)) }
@@ -131,7 +131,7 @@ impl<P: Allocator> Request<P> {
 pub(crate) fn chain_of<A: Allocator + Clone, B: Allocator>(
     alloc: A,
     request: &Request<B>,
-    pages: &[(PageNo, Page<B>)],
+    pages: &[Page<B>],
     segment: usize,
 ) -> Result<Chain<A>, AllocError>
     requires good { IsGood request.now }

@@ -46,7 +46,7 @@ impl<A: Allocator + Clone> Ledger<A> {
         ensures free { IfOk result (λ ledger. ledger ≡ replicate pages Owner.Free) }
         ensures bad_size { (result ≡ Err OpenFault.BadSize) ↔ ((pages < 8) ⊎ (65536 < pages)) }
     {
-        if !(8..=65_536).contains(&pages) {
+        if pages < 8 || 65_536 < pages {
             return Err(OpenFault::BadSize);
         }
         let owners = Vec::from_elem(alloc.clone()?, Owner::Free, pages as usize)?;

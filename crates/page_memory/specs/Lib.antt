@@ -1,3 +1,4 @@
 pub mod Memory
 pub mod Pages
 pub mod Flat
+pub mod Lent

@@ -2,6 +2,8 @@
 
 ghost use Rattle.std.specs.Prelude.{◌≡◌, ◌+◌, ◌≤◌, IfOk, length};
 ghost use Rattle.page_memory.specs.Pages.{zero_page, with_bytes};
+ghost use Rattle.page_memory.specs.Lent.{lends_frame, lends_page};
+ghost use Rattle.std.specs.Borrow.{sem};
 
 use std::alloc::{AllocError, Allocator, Global};
 use std::marker::Model;
@@ -33,44 +35,68 @@ pub enum Half {
     Completion,
 }
 
-/// The 4,096 bytes of a page. Contracts see it as the list of its bytes.
+/// The 4,096 bytes of a page. Contracts see them as their list.
 #[derive(Drop)]
-pub struct Page<A: Allocator = Global> {
+pub(crate) struct Frame<A: Allocator> {
     bytes: Box<[u8; 4096], A>,
 }
 
-impl<A: Allocator> Model for Page<A> {
-    ghost use Rattle.std.specs.Prelude.{◌≡◌, List, ℕ, length};
+impl<A: Allocator> Model for Frame<A> {
+    ghost use Rattle.std.specs.Prelude.{List, ℕ};
 
     ghost Value = { List ℕ };
 
     ghost view = { λ p. p.bytes.value };
-
-    ghost invariant = { λ p. length p.bytes.value ≡ 4096 };
 }
 
-impl<A: Allocator> Page<A> {
-    /// A page of zeros.
+/// The bytes of an array, of which there are 4,096 by its type.
+fn whole(array: &[u8; 4096]) -> &[u8]
+    ensures value { result.now ≡ array.now }
+    ensures len { length result.now ≡ 4096 }
+{
+    array.as_slice()
+}
+
+impl<A: Allocator> Frame<A> {
+    /// Bytes that are zero.
     #[tactic(auto, unfolding(crate::specs::Pages::zero_page))]
     pub(crate) fn zeroed(alloc: A) -> Result<Self, AllocError>
-        ensures zero { IfOk result (λ page. page ≡ zero_page) }
-        ensures len { IfOk result (λ page. length page ≡ 4096) }
+        ensures zero { IfOk result (λ frame. frame ≡ zero_page) }
+        ensures len { IfOk result (λ frame. length frame ≡ 4096) }
     {
-        Ok(Page {
+        Ok(Frame {
             bytes: Box::new(alloc, [0; 4096])?,
         })
     }
 
     /// The bytes of the page, of which there are 4,096.
-    pub fn bytes(&self) -> &[u8]
+    pub(crate) fn bytes(&self) -> &[u8]
         ensures value { result.now ≡ self.now }
         ensures len { length result.now ≡ 4096 }
     {
-        self.bytes.as_slice()
+        whole(&self.bytes)
+    }
+
+    /// The 4,096 bytes, to write in place.
+    fn array(&mut self) -> &mut [u8; 4096]
+        ensures* writes_back { sem 𝓛 (lends_frame A.row A.Allocator 4096 self.entry result) }
+        ensures value { result.now ≡ self.old }
+    {
+        self.bytes.as_mut()
+    }
+
+    /// The bytes, to write in place: they end as they are left.
+    pub(crate) fn bytes_mut(&mut self) -> &mut [u8]
+        ensures* writes_back { sem 𝓛 (lends_frame A.row A.Allocator 0 self.entry result) }
+        ensures value { result.now ≡ self.old }
+        ensures len { length result.now ≡ 4096 }
+    {
+        prove!(self.bytes().len() == PAGE_BYTES);
+        self.array().as_mut_slice()
     }
 
     /// Overwrites the bytes from offset `at` on; all others stay.
-    pub fn set(&mut self, at: usize, bytes: &[u8])
+    pub(crate) fn set(&mut self, at: usize, bytes: &[u8])
         requires { at + length bytes.now ≤ 4096 }
         ensures bytes { self.new ≡ with_bytes self.old at bytes.now }
         ensures len { (length self.old ≡ 4096) × (length self.new ≡ 4096) }
@@ -80,10 +106,88 @@ impl<A: Allocator> Page<A> {
 
     /// Makes every byte zero.
     #[tactic(auto, unfolding(crate::specs::Pages::zero_page))]
-    pub fn clear(&mut self)
+    pub(crate) fn clear(&mut self)
         ensures zero { self.new ≡ zero_page }
         ensures len { length self.new ≡ 4096 }
     {
         *self.bytes = [0; 4096];
+    }
+}
+
+/// A page that is out of its store: its number and its bytes. Nobody makes one but [`Store::take`](crate::Store::take), and no
+/// call changes the number, so that the bytes go back to the very place they came from. Contracts see it as the number with the list of
+/// the bytes.
+#[derive(Drop)]
+pub struct Page<A: Allocator = Global> {
+    number: PageNo,
+    frame: Frame<A>,
+}
+
+impl<A: Allocator> Model for Page<A> {
+    ghost use Rattle.std.specs.Prelude.{List, ℕ};
+
+    ghost Value = { ℕ × List ℕ };
+
+    ghost view = { λ p. (p.number, p.frame) };
+}
+
+impl<A: Allocator> Page<A> {
+    /// The page of this number with these bytes, for the store that they came from.
+    pub(crate) fn of(number: PageNo, frame: Frame<A>) -> Self
+        ensures { result ≡ (number, frame) }
+    {
+        Page { number, frame }
+    }
+
+    /// The number and the bytes, for the store that they go back to.
+    pub(crate) fn apart(self) -> (PageNo, Frame<A>)
+        ensures number { result.0 ≡ self.0 }
+        ensures bytes { result.1 ≡ self.1 }
+        ensures len { length self.1 ≡ 4096 }
+    {
+        let Page { number, frame } = self;
+        prove!(frame.bytes().len() == PAGE_BYTES);
+        (number, frame)
+    }
+
+    /// The page's number.
+    pub fn number(&self) -> PageNo
+        ensures { result ≡ self.now.0 }
+    {
+        self.number
+    }
+
+    /// The bytes of the page, of which there are 4,096.
+    pub fn bytes(&self) -> &[u8]
+        ensures value { result.now ≡ self.now.1 }
+        ensures len { length result.now ≡ 4096 }
+    {
+        self.frame.bytes()
+    }
+
+    /// The bytes of the page, of which there are 4,096, to write in place: the page ends with those that are left there.
+    pub fn bytes_mut(&mut self) -> &mut [u8]
+        ensures* writes_back { sem 𝓛 (lends_page A.row A.Allocator self.entry result) }
+        ensures value { result.now ≡ self.old.1 }
+        ensures len { length result.now ≡ 4096 }
+    {
+        self.frame.bytes_mut()
+    }
+
+    /// Overwrites the bytes from offset `at` on; all others stay, and so does the number.
+    pub fn set(&mut self, at: usize, bytes: &[u8])
+        requires { at + length bytes.now ≤ 4096 }
+        ensures bytes { self.new ≡ (self.old.0, with_bytes self.old.1 at bytes.now) }
+        ensures len { (length self.old.1 ≡ 4096) × (length self.new.1 ≡ 4096) }
+    {
+        self.frame.set(at, bytes);
+    }
+
+    /// Makes every byte zero. The number stays.
+    pub fn clear(&mut self)
+        ensures zero { self.new ≡ (self.old.0, zero_page) }
+        ensures len { length self.new.1 ≡ 4096 }
+    {
+        self.frame.clear();
     }
 }

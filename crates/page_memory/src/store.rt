@@ -1,13 +1,13 @@
 //! The store: the pages of a pool that are in.
 
 ghost use Rattle.std.specs.Prelude.{◌≡◌, ◌+◌, ◌*◌, ◌<◌, ◌≤◌, ◌↔◌, ◌⊎◌, ◌++◌, ◌∷◌, [], length, replicate, slice_get, slice_set, is_some, if◌then◌else◌, ℕ, Err, IfOk, IsSome, IsTrue, None, Some};
-ghost use Rattle.std.specs.Option.{option_copied};
+ghost use Rattle.std.specs.Option.{option_copied, option_map};
 ghost use Rattle.page_memory.specs.Pages.{zero_page, page_at, byte_at, IsWhole, AreWhole};
 ghost use Rattle.std.specs.Bool.{OnTrue};
 ghost use Rattle.page_memory.specs.Memory.{page_of, written, counted};
 
 use crate::dma::{Dma, TouchRecord, Unreadable};
-use crate::page::{PAGE_BYTES, Page, PageNo};
+use crate::page::{Frame, PAGE_BYTES, Page, PageNo};
 use arrayvec::ArrayVec;
 use std::alloc::{AllocError, Allocator, Global};
 use std::marker::Model;
@@ -38,7 +38,7 @@ impl From<AllocError> for OpenFault {
 /// The pages of a pool, each in or out, and the list of pages touched through [`Dma`].
 #[derive(Drop)]
 pub struct Store<A: Allocator = Global> {
-    pages: Vec<Option<Page<A>>, A>,
+    pages: Vec<Option<Frame<A>>, A>,
     touched: ArrayVec<PageNo, 4>,
     unlisted: u64,
 }
@@ -58,13 +58,13 @@ impl<A: Allocator> Model for Store<A> {
 fn zeroed_pages<A: Allocator + Clone>(
     alloc: A,
     pages: u32,
-) -> Result<Vec<Option<Page<A>>, A>, AllocError>
+) -> Result<Vec<Option<Frame<A>>, A>, AllocError>
     ensures { IfOk result (λ all. all.items ≡ replicate pages (Some zero_page)) }
 {
     let mut all = Vec::with_capacity(alloc.clone()?, pages as usize)?;
     for _ in 0..pages {
-        let page = Page::zeroed(alloc.clone()?)?;
-        all.push(Some(page)).map_err(AllocError::from)?;
+        let frame = Frame::zeroed(alloc.clone()?)?;
+        all.push(Some(frame)).map_err(AllocError::from)?;
     }
     Ok(all)
 }
@@ -105,22 +105,22 @@ impl<A: Allocator> Store<A> {
     /// Moves a page out, which counts as one touch that the list does not have; `None`, with nothing changed, where it is out already or
     /// outside the pool.
     pub fn take(&mut self, p: PageNo) -> Option<Page<A>>
-        ensures page { result ≡ page_at self.old.pages p }
+        ensures page { result ≡ option_map (λ bytes. (p, bytes)) (page_at self.old.pages p) }
         ensures out { self.new ≡ record self.old { pages = slice_set self.old.pages p None; unlisted = self.new.unlisted } }
         ensures counts { self.new.unlisted ≡ (if is_some result then counted self.old.unlisted 1 else self.old.unlisted) }
     {
-        let page = self.pages.get_mut(p.0 as usize)?.take()?;
+        let frame = self.pages.get_mut(p.0 as usize)?.take()?;
         self.unlisted = self.unlisted.wrapping_add(1);
-        Some(page)
+        Some(Page::of(p, frame))
     }
 
-    /// Moves a page in that was out.
-    pub fn put(&mut self, p: PageNo, page: Page<A>)
-        requires { slice_get self.old.pages p ≡ Some None }
-        ensures { self.new ≡ record self.old { pages = slice_set self.old.pages p (Some page) } }
+    /// Moves a page in, to the place that has its number, which is out.
+    pub fn put(&mut self, page: Page<A>)
+        requires { slice_get self.old.pages page.0 ≡ Some None }
+        ensures { self.new ≡ record self.old { pages = slice_set self.old.pages page.0 (Some page.1) } }
     {
-        prove!(page.bytes().len() == PAGE_BYTES);
-        self.pages[p.0 as usize] = Some(page);
+        let (number, frame) = page.apart();
+        self.pages[number.0 as usize] = Some(frame);
     }
 
     /// Whether a page is in. False outside the pool.
@@ -143,7 +143,7 @@ impl<A: Allocator> Store<A> {
 
 impl<A: Allocator> Store<A> {
     /// The page of this number, where it is in.
-    fn page(&self, number: u64) -> Option<&Page<A>>
+    fn page(&self, number: u64) -> Option<&Frame<A>>
         ensures { option_copied result ≡ page_at self.now.pages number }
     {
         match self.pages.get(number as usize) {

@@ -228,8 +228,8 @@ impl<A: Allocator> Chain<A> {
     /// Writes the bytes of segment `i`, counted from 0, at the start of a page. The rest of the page stays.
     pub fn lay<B: Allocator>(&self, i: usize, page: &mut Page<B>)
         requires { i < length self.now.segments }
-        ensures bytes { page.new ≡ with_bytes page.old 0 (segment_bytes (segment_at self.now.segments i)) }
-        ensures len { length page.new ≡ 4096 }
+        ensures bytes { page.new ≡ (page.old.0, with_bytes page.old.1 0 (segment_bytes (segment_at self.now.segments i))) }
+        ensures len { length page.new.1 ≡ 4096 }
     {
         self.image_of(i).lay(page);
     }

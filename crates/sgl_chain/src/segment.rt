@@ -148,8 +148,8 @@ impl<A: Allocator> Segment<A> {
 
     /// Writes the bytes of this segment's descriptors at the start of a page. The rest of the page stays.
     pub fn lay<B: Allocator>(&self, page: &mut Page<B>)
-        ensures bytes { page.new ≡ with_bytes page.old 0 (segment_bytes self.now.descriptors) }
-        ensures len { length page.new ≡ 4096 }
+        ensures bytes { page.new ≡ (page.old.0, with_bytes page.old.1 0 (segment_bytes self.now.descriptors)) }
+        ensures len { length page.new.1 ≡ 4096 }
     {
         lay_descriptors(self.descs.as_slice(), page);
     }
@@ -169,8 +169,8 @@ impl<A: Allocator> Segment<A> {
 /// Writes the bytes of descriptors at the start of a page. The rest of the page stays.
 fn lay_descriptors<B: Allocator>(descriptors: &[Descriptor], page: &mut Page<B>)
     requires { length descriptors.now ≤ 256 }
-    ensures bytes { page.new ≡ with_bytes page.old 0 (segment_bytes descriptors.now) }
-    ensures len { length page.new ≡ 4096 }
+    ensures bytes { page.new ≡ (page.old.0, with_bytes page.old.1 0 (segment_bytes descriptors.now)) }
+    ensures len { length page.new.1 ≡ 4096 }
 {
     for (i, descriptor) in descriptors.iter().enumerate() {
         page.set(DESCRIPTOR_BYTES * i, &descriptor.write());
