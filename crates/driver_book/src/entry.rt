@@ -8,7 +8,7 @@ use step_core::{Reply, Step};
 
 /// An entry of a log: a step of the world, who made it, what was answered, and of a reservation that was accepted and of each submission
 /// what the draft was. The bytes of drafts and of finished commands are left out.
-#[derive(Debug, Drop)]
+#[derive(Drop)]
 pub struct Entry<R, B, P> {
     /// The number of the seat that made the step, if one did.
     pub seat: Option<u16>,

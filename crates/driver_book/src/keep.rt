@@ -30,10 +30,7 @@ fn keep_pieces<A: Allocator>(list: &mut Vec<Piece, A>, pieces: &[Piece]) -> Span
 }
 
 /// Puts the numbers of pages behind those of a list that has room for them: where they stand.
-fn keep_numbers<A: Allocator, B: Allocator>(
-    list: &mut Vec<PageNo, A>,
-    pages: &[(PageNo, Page<B>)],
-) -> Span
+fn keep_numbers<A: Allocator, B: Allocator>(list: &mut Vec<PageNo, A>, pages: &[Page<B>]) -> Span
     requires { vec_len list.old + length pages.now ≤ vec_capacity list.old }
     ensures items { list.new.items ≡ list.old.items ++ numbers_of pages.now }
     ensures len { vec_len list.new ≡ vec_len list.old + length pages.now }
@@ -42,8 +39,8 @@ fn keep_numbers<A: Allocator, B: Allocator>(
     ensures end { result.end ≡ vec_len list.new }
 {
     let start = list.len();
-    for (number, _) in pages {
-        list.push_reserved(*number);
+    for page in pages {
+        list.push_reserved(page.number());
     }
     Span {
         start,
@@ -89,9 +86,8 @@ pub(crate) fn keep_draft<A: Allocator, B: Allocator>(
     ensures fits { DraftFits (length pieces.new.items) (length pages.new.items) (Some result) }
 {
     let request = keep_request(pieces, draft.request());
-    let data = draft.request().data_pages();
-    let data_pages = keep_numbers(pages, &draft.pages()[..data]);
-    let chain_pages = keep_numbers(pages, &draft.pages()[data..]);
+    let data_pages = keep_numbers(pages, draft.data_pages());
+    let chain_pages = keep_numbers(pages, draft.chain_pages());
     KeptDraft {
         request,
         data_pages,

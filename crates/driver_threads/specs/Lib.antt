@@ -3,4 +3,3 @@ pub mod Sharing
 pub mod Ends
 pub mod Runs
 pub mod Behind
-pub mod WorldSharing

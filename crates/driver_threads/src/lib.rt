@@ -14,10 +14,6 @@
 //! [`run_threads`] opens a book, runs submitters over it with a poller and a controller, each in a thread of its own, and closes it.
 //! [`run_round`] does so over a world that is there, and gives the log and the world out: rounds that go on each over the world of the one before need no
 //! more memory than the longest of them.
-//!
-//! [`SharedWorld`] has a [`World`](step_core::World) under a lock, without a log: its memory does not grow. Whoever takes that lock finds a sound world: each page
-//! has one owner, the counts add up, and the identifiers of a queue are distinct. Four of its calls wait first: [`SharedWorld::reserve_when_free`],
-//! [`SharedWorld::collect_when_ended`], [`SharedWorld::reap_next`] and [`SharedWorld::serve_next`].
 #![tactic(auto)]
 
 mod admin;
@@ -30,16 +26,11 @@ mod host;
 mod jobs;
 mod run;
 mod shared;
-mod shared_world;
 mod waits;
 mod workers;
-mod world_steps;
-mod world_waits;
 
 pub use gate::{Gate, GateClosed, Open, Point};
 pub use jobs::{Job, JobEnd, JobEndIn, JobEnds, JobIn, JobRefusal, Ran, Round, RunFault};
 pub use run::{run_round, run_threads};
 pub use shared::Shared;
-pub use shared_world::SharedWorld;
 pub use workers::{Worked, controller, poller, submitter};
-pub use world_waits::ServedStep;

@@ -3,7 +3,7 @@
 ghost use Rattle.std.specs.Prelude.{◌<◌, IfOk};
 
 use entry_codec::{ComEntry, Status, SubEntry, io_opcode};
-use host_core::{Doorbell, HostBench, Unreadable};
+use host_bench::{Doorbell, HostBench, Unreadable};
 use sgl_descriptor::Descriptor;
 
 /// A device, as a driver sees it: its doorbell registers, and that it reads and writes the host's pages.

@@ -1,13 +1,14 @@
 //! The driver: a command from its request to its end.
 
 use crate::device::Device;
-use host_core::{
+use host_bench::{
     Bytes, Call, HostBench, Kind, Piece, Pieces, Reaped, Reply, Request, Status, Unreadable,
 };
 use std::alloc::{AllocError, Global};
+use std::fmt;
 
 /// Why a command was not carried through.
-#[derive(Debug, Drop)]
+#[derive(Drop)]
 pub(crate) enum Failure {
     /// The host did not do a call, and answered this.
     NotDone(Reply),
@@ -26,6 +27,17 @@ impl From<AllocError> for Failure {
 impl From<Unreadable> for Failure {
     fn from(why: Unreadable) -> Failure {
         Failure::Device(why)
+    }
+}
+
+impl fmt::Display for Failure {
+    fn fmt<W: fmt::Write>(&self, f: &mut fmt::Formatter<W>) -> fmt::Result {
+        match self {
+            Failure::NotDone(Reply::Refused(why)) => write!(f, "the host refused a call: {why:?}"),
+            Failure::NotDone(_) => f.write_str("the host did not do a call"),
+            Failure::Device(_) => f.write_str("the device looked for a page that is out"),
+            Failure::Memory => f.write_str("memory was refused"),
+        }
     }
 }
 

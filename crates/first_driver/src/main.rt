@@ -10,7 +10,7 @@ mod driver;
 
 use device::SmallDevice;
 use driver::{Driver, Ended, Failure};
-use host_core::{Config, HostBench};
+use host_bench::{Config, HostBench};
 use std::alloc::AllocGlobal;
 use std::io;
 use std::process::ExitCode;
@@ -48,6 +48,6 @@ fn tell<R: Print>(rt: &R, what: &str, end: Result<Ended, Failure>) -> io::Result
             let first = bytes.as_slice().get(..7).unwrap_or(&[]);
             println!(rt; "{what}: status {status}, first bytes {first:?}")
         }
-        Err(why) => println!(rt; "{what}: {why:?}"),
+        Err(why) => println!(rt; "{what}: {why}"),
     }
 }

@@ -16,6 +16,5 @@ pub mod Sending
 pub mod Creations
 pub mod Resets
 pub mod Outstanding
-pub mod KeptRows
-pub mod Benches
 pub mod Unwrapped
+pub mod Reachable

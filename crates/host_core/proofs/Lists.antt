@@ -5,7 +5,7 @@ use Rattle.machine_model.specs.{After.change, Refusals.{same_piece, same_pieces}
 use Rattle.io_commands.specs.declared.request.Piece.{Piece}
 use Rattle.slot_table.specs.Rows.{Row, first_place}
 use Rattle.host_core.specs.{Parts.{records_of}, Rows.{RecordRow, rows_on}}
-use Rattle.page_memory.proofs.Lists.{some_is}
+use Rattle.page_memory.{proofs.{Bytes.told, Lists.some_is}, specs.{Memory.Memory, Pages.{Pages, AreWhole, byte_at}}}
 use Rattle.machine_model.proofs.Cases.{none_some}
 
 -- A member of a list that is changed, by its place.
@@ -130,3 +130,7 @@ all_counted q zero [] past = refl
 all_counted q (suc n) [] past = refl
 all_counted q zero (row ∷ rows) past = absurd (omega arith)
 all_counted q (suc n) (row ∷ rows) past = all_counted q n rows (omega arith)
+
+-- pages that show the same bytes are the same
+pub same_pages : (old new : Pages) → AreWhole old → AreWhole new → length new ≡ length old → byte_at new ≡ byte_at old → new ≡ old
+same_pages old new whole whole' count same = told new old whole' whole count (λ place. ap (λ (m : Memory). m place) same)

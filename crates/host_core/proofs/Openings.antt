@@ -349,3 +349,7 @@ opens_made c owners table queues opens size granted er eq =
 
 pub fits_word : (c : Config) → refusal_of_config c ≡ None → Fits w16 c.entries × Fits w16 c.segment
 fits_word c opens = let l = limits c opens in (record { fits = omega (arith, l.numbers.most_entries) }, record { fits = omega (arith, l.numbers.most_segment) })
+
+pub length-queues_from : (page n count : ℕ) → length (queues_from page n count) ≡ count
+length-queues_from page n zero = refl
+length-queues_from page n (suc count) = ap suc (length-queues_from (page + half_pages n Submission + half_pages n Completion) n count)

@@ -9,7 +9,9 @@ use Rattle.machine_model.{proofs.{Owned.reset_length, Steps.{Accepts, part_contr
 use Rattle.machine_model.specs.{Refusals.{is_submitted, refusal_of}, State.{Record, is_at, with_record, without_record, State, HostQueue, record_at}}
 use Rattle.machine_model.specs.Step.{Step, HostPart, IsController, IsReserved, IsNewIdentifier, Permits, asked_by, finished_from, host_part, pages_with_bytes}
 use Rattle.machine_model.specs.declared.words.{Work.TheVariants.{Io, Management}}
-use Rattle.host_core.{proofs.{Identifiers.outstanding-among, Lists.length-change}, specs.CommandValues.IsOutstanding}
+use Rattle.host_core.proofs.Identifiers.{outstanding-among}
+use Rattle.host_core.proofs.Lists.{length-change}
+use Rattle.host_core.specs.Outstanding.{IsOutstanding}
 use Rattle.admin_commands.specs.declared.AdminKind.{AdminKind, TheVariants.{Abort, DeleteSq, DeleteCq, CreateCq, CreateSq}}
 use Rattle.entry_codec.specs.declared.status.{Status.Status}
 use Rattle.io_commands.specs.{Asked.Request, Drafts.DraftContents, Values.FinishedContents}

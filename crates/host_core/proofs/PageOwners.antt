@@ -521,6 +521,6 @@ out-there (z ∷ m) (suc p) h = out-there m p h
 pub taken-out : (m m' : Pages) (p : ℕ) → IsSome (page_at m p) → m' ≡ slice_set m p None → slice_get m' p ≡ Some None
 taken-out m m' p h out = ap (λ (x : Pages). slice_get x p) out ∙ out-there m p h
 
-pub put-zeroed : (m m' m'' : Pages) (p : ℕ) (page : List ℕ) → m' ≡ slice_set m p None → page ≡ zero_page → m'' ≡ slice_set m' p (Some page) → m'' ≡ slice_set m p (Some zero_page)
+pub put-zeroed : (m m' m'' : Pages) (p : ℕ) (page : ℕ × List ℕ) → m' ≡ slice_set m p None → page ≡ (p, zero_page) → m'' ≡ slice_set m' page.0 (Some page.1) → m'' ≡ slice_set m p (Some zero_page)
 put-zeroed m m' m'' p page out blank back =
-    back ∙ (ap (λ (x : List ℕ). slice_set m' p (Some x)) blank ∙ (ap (λ (x : Pages). slice_set x p (Some zero_page)) out ∙ set-set m p None (Some zero_page)))
+    back ∙ (ap (λ (x : ℕ × List ℕ). slice_set m' x.0 (Some x.1)) blank ∙ (ap (λ (x : Pages). slice_set x p (Some zero_page)) out ∙ set-set m p None (Some zero_page)))

@@ -4,7 +4,7 @@ use Rattle.host_core.specs.Rows as declared
 use Rattle.machine_model.specs.Events as events
 use Rattle.machine_model.specs.declared.words.Refusal.TheVariants as refusal
 use Rattle.admin_commands.specs.declared.AdminKind.TheVariants as kinds
-use Rattle.std.proofs.Common.{◌≡◌, ℕ, suc, ◌+◌, ◌<◌, ◌==◌, nat_lt, Bool, true, false, not, ◌||◌, Some, None, List, [], ◌∷◌, ◌++◌, length, map, flat_map, filter, sum_by, slice_get, refl, ap, ap₂, sym, ◌∙◌, arith, subst, eqb-true, eq-eqb, lt-ltb, length-append, if◌then◌else◌, ◌&&◌, MatchBool, inl, inr}
+use Rattle.std.proofs.Common.{◌≡◌, ℕ, suc, ◌+◌, ◌<◌, ◌≤◌, ◌==◌, nat_lt, le-ltb, find, option_map, Bool, true, false, not, ◌||◌, Some, None, List, [], ◌∷◌, ◌++◌, length, map, flat_map, filter, sum_by, slice_get, refl, ap, ap₂, sym, ◌∙◌, arith, subst, eqb-true, eq-eqb, lt-ltb, length-append, if◌then◌else◌, ◌&&◌, MatchBool, inl, inr}
 use Rattle.std.proofs.lemmas.{Bool.{true≢false, cases_Bool, cond_both, or_left, or_right}, List.{take-append-drop, Sums.sum_by-cons}}
 use Rattle.std.specs.{List.{AllByRecursion, Contains}, Option.option_map_or}
 use Rattle.machine_model.proofs.{Counting.{one, times-cons, times-append, times-filter, times-pages, held_once, length_of_all}, Headline.firsts}
@@ -18,6 +18,7 @@ use Rattle.page_memory.specs.{Pages.{Pages, Contents}, declared.page.Half.{Half,
 use Rattle.host_core.{specs.{Alone.{HostView, alone}, Laws.{shown, LeavesJust, LeavesOne, RefusesJust, WritesLeaveOver}}, proofs.PageOwners.free-owner}
 use Rattle.host_core.specs.{Sending.{sending, creating, grants_none}, Tables.{Tables, state_of, host_queue_of, sq_pages_of, cq_pages_of}}
 use Rattle.host_core.specs.{Touching.{TouchesBy, refused_touches, sent_touches}, Whole.{HaveOwner, TellsCommand, TellsQueue, IsHost}}
+use Rattle.host_core.specs.Rights.{owner_of}
 use Rattle.admin_commands.specs.declared.AdminKind.{AdminKind}
 use Rattle.io_commands.specs.{Asked.Request, DataBytes.PagesOut, Requests.data_count, Values.{data_part, chain_part}}
 use Rattle.queue_pair.specs.Memory.{half_pages}
@@ -88,6 +89,36 @@ claim-there owners (c ∷ claims) p o at h some = elim (cases_Bool (c.0 == p)) [
 -- The owner of a page of the pool is that of its claim.
 pub owner_claims : (t : Tables) → IsHost t → (p : ℕ) (o : Owner) → p < length t.owners → owner_at t.owners p ≡ Some o → Contains (claims_of (state_of t).host) (p, o)
 owner_claims t w p o l at = claim-there t.owners (claims_of (state_of t).host) p o at (told t w) (omega (arith, w.sound.owners p, ap one (lt-ltb p (length t.owners) l)))
+
+-- The owner of a page is found at the first claim in which it stands.
+claim-found : (owners : List Owner) (claims : List (ℕ × Owner)) (p : ℕ) (o : Owner) → owner_at owners p ≡ Some o → Told owners claims → 0 < times p (firsts claims)
+    → find (λ claim. claim.0 == p) claims ≡ Some (p, o)
+claim-found owners [] p o at h some = absurd (omega arith)
+claim-found owners (c ∷ claims) p o at h some = elim (cases_Bool (c.0 == p)) [
+  | inl e ↦
+      let same : c.0 ≡ p = eqb-true c.0 p e in
+      let is : Some c.1 ≡ Some o = sym h.0 ∙ (ap (owner_at owners) same ∙ at) in
+      let own : c.1 ≡ o = cc in
+      rw e (ap₂ (λ (x : ℕ) (y : Owner). Some (x, y)) same own)
+  | inr e ↦ rw e (claim-found owners claims p o at h.1 (omega (arith, some, times-cons p c.0 (firsts claims), ap one e)))
+]
+
+claim-gone : (claims : List (ℕ × Owner)) (p : ℕ) → times p (firsts claims) ≡ 0 → find (λ claim. claim.0 == p) claims ≡ None
+claim-gone [] p none = refl
+claim-gone (c ∷ claims) p none = elim (cases_Bool (c.0 == p)) [
+  | inl e ↦ absurd (omega (arith, none, times-cons p c.0 (firsts claims), ap one e))
+  | inr e ↦ rw e (claim-gone claims p (omega (arith, none, times-cons p c.0 (firsts claims), ap one e)))
+]
+
+pub owner-found : (t : Tables) → IsHost t → (p : ℕ) (o : Owner) → p < length t.owners → owner_at t.owners p ≡ Some o → owner_of (state_of t).host p ≡ Some o
+owner-found t w p o l at =
+    ap (option_map (λ (claim : ℕ × Owner). claim.1))
+    (claim-found t.owners (claims_of (state_of t).host) p o at (told t w) (omega (arith, w.sound.owners p, ap one (lt-ltb p (length t.owners) l))))
+
+-- no page outside the pool has one
+pub owner-gone : (t : Tables) → IsHost t → (p : ℕ) → length t.owners ≤ p → owner_of (state_of t).host p ≡ None
+owner-gone t w p l =
+    ap (option_map (λ (claim : ℕ × Owner). claim.1)) (claim-gone (claims_of (state_of t).host) p (omega (arith, w.sound.owners p, ap one (le-ltb p (length t.owners) l))))
 
 -- How many pages each class has
 

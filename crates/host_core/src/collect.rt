@@ -21,7 +21,7 @@ use crate::tables::HostTables;
 use entry_codec::Status;
 use io_commands::{Finished, Request, Ticket};
 use machine_model::words::{Phase, Refusal, Work};
-use page_memory::{Page, PageNo, Store};
+use page_memory::{Page, Store};
 use std::alloc::{AllocError, Allocator};
 
 /// What collect reads of a held command.
@@ -37,7 +37,7 @@ pub(crate) struct Held<'a, A: Allocator> {
 struct Room<A: Allocator> {
     request: Request<A>,
     status: Status,
-    pages: Vec<(PageNo, Page<A>), A>,
+    pages: Vec<Page<A>, A>,
 }
 
 /// Room for what a held command hands over.
@@ -54,11 +54,7 @@ fn room_for<A: Allocator + Copy>(alloc: A, held: &Held<'_, A>) -> Result<Room<A>
 }
 
 /// Takes a command's pages out.
-fn take_pages<A: Allocator>(
-    store: &mut Store<A>,
-    entry: &Record<A>,
-    into: &mut Vec<(PageNo, Page<A>), A>,
-)
+fn take_pages<A: Allocator>(store: &mut Store<A>, entry: &Record<A>, into: &mut Vec<Page<A>, A>)
     requires room { (into.old.items ≡ []) × (vec_len into.old ≡ 0) × (length entry.now.data_pages + length entry.now.chain_pages ≤ vec_capacity into.old) }
     requires front { CanTake entry.now.data_pages store.old.pages }
     requires back { CanTake entry.now.chain_pages (without_pages entry.now.data_pages store.old.pages) }

@@ -81,15 +81,15 @@ fn asks_for<A: Allocator>(request: &Request<A>, work: &Work<Request<A>>) -> bool
 }
 
 /// Whether pages have these numbers.
-fn same_numbers<A: Allocator>(pages: &[(PageNo, Page<A>)], numbers: &[PageNo]) -> bool
+fn same_numbers<A: Allocator>(pages: &[Page<A>], numbers: &[PageNo]) -> bool
     ensures { result ≡ pointwise nat_eq (numbers_of pages.now) numbers.now }
 {
     if pages.len() != numbers.len() {
         return false;
     }
     for (i, page) in pages.iter().enumerate() {
-        let here: PageNo = page.0;
-        let there: PageNo = numbers[i];
+        let here = page.number();
+        let there = numbers[i];
         if here.0 != there.0 {
             return false;
         }
@@ -103,8 +103,8 @@ impl<A: Allocator> Record<A> {
         &self,
         ended: bool,
         request: &Request<A>,
-        data_pages: &[(PageNo, Page<A>)],
-        chain_pages: &[(PageNo, Page<A>)],
+        data_pages: &[Page<A>],
+        chain_pages: &[Page<A>],
     ) -> bool
         ensures { (q cid : ℕ) → result ≡ is_of (phase_of_end ended) request.now (numbers_of data_pages.now) (numbers_of chain_pages.now) (record_of q cid self.now) }
     {
@@ -116,15 +116,15 @@ impl<A: Allocator> Record<A> {
 }
 
 /// Whether a page has 4,096 bytes. Each has, by its type.
-fn is_whole<A: Allocator>(page: &(PageNo, Page<A>)) -> bool
+fn is_whole<A: Allocator>(page: &Page<A>) -> bool
     ensures always { result ≡ true }
     ensures whole { length page.now.1 ≡ 4096 }
 {
-    page.1.bytes().len() == PAGE_BYTES
+    page.bytes().len() == PAGE_BYTES
 }
 
 /// Whether each page has 4,096 bytes. This is for a `prove!` to say: each has, by its type.
-pub(crate) fn are_whole<A: Allocator>(pages: &[(PageNo, Page<A>)]) -> bool
+pub(crate) fn are_whole<A: Allocator>(pages: &[Page<A>]) -> bool
     ensures always { result ≡ true }
     ensures whole { ArePages pages.now }
 {
@@ -143,8 +143,8 @@ impl<A: Allocator> HostTables<A> {
         ended: bool,
         command: (u16, u16),
         request: &Request<A>,
-        data_pages: &[(PageNo, Page<A>)],
-        chain_pages: &[(PageNo, Page<A>)],
+        data_pages: &[Page<A>],
+        chain_pages: &[Page<A>],
     ) -> bool
         ensures { result ≡ spec_has_record (records_of self.now.records.rows) ended command.0 command.1 request.now (numbers_of data_pages.now) (numbers_of chain_pages.now) }
     {

@@ -10,29 +10,20 @@
 //! machine that `machine_model` defines, with no controller in it, and [`Host::reset`] leaves exactly what a reset leaves of that machine. A refusal is
 //! the first cause that holds, and then nothing changed and every moved value is handed back; else the answer, the host and the pages are
 //! the machine's. Between calls each page has one owner, the counts add up, and identifiers are distinct ([`Host::pages`]).
-//!
-//! A [`HostBench`] is a host with its pages and with the values of its outstanding commands: each call names a command by its queue and
-//! identifier ([`Call`]). The controller is somebody else's: it reads and writes the pages between calls ([`HostBench::read`],
-//! [`HostBench::write`]), and hears the doorbells that a ring and a reap tell ([`Doorbell`]).
 #![tactic(auto)]
 
-mod bench;
-mod bench_tables;
-mod call;
-mod calls;
 mod collect;
 mod compare;
 mod config;
 mod create;
+mod data_place;
 mod doorbell;
-mod fill;
 mod host;
 pub mod laws;
 mod look;
 mod moving;
 mod open;
 mod place;
-mod pool;
 mod post;
 mod queue;
 mod queues;
@@ -44,18 +35,17 @@ mod release;
 mod reserve;
 mod reset;
 mod retire;
+mod rights;
 mod ring;
 mod rings;
 mod send;
 mod submit;
 mod tables;
-pub mod values;
 mod view;
 pub mod worked;
 
-pub use bench::HostBench;
-pub use call::{Bytes, Call, CallIn, Reply, ReplyIn};
 pub use config::Config;
+pub use data_place::DataPlace;
 pub use doorbell::Doorbell;
 pub use entry_codec::Status;
 pub use host::Host;
@@ -67,3 +57,4 @@ pub use page_memory::{Half, PageNo, Unreadable};
 pub use queue_pair::HostPositions;
 pub use reap::Reap;
 pub use refused::Refused;
+pub use rights::{QueueMemory, Right, Run, Runs};

@@ -15,7 +15,7 @@ use std::alloc::Allocator;
 /// Takes a page that is in, and makes it one of zeros.
 fn take_zeroed<A: Allocator>(store: &mut Store<A>, number: PageNo) -> Page<A>
     requires { IsSome (page_at store.old.pages number) }
-    ensures page { result ≡ zero_page }
+    ensures page { result ≡ (number, zero_page) }
     ensures out { store.new.pages ≡ slice_set store.old.pages number None }
     ensures touches { TouchesBy 1 store.old store.new }
 {
@@ -28,7 +28,7 @@ fn take_zeroed<A: Allocator>(store: &mut Store<A>, number: PageNo) -> Page<A>
 pub(crate) fn move_out_zeroed<A: Allocator>(
     store: &mut Store<A>,
     numbers: &[PageNo],
-    into: &mut Vec<(PageNo, Page<A>), A>,
+    into: &mut Vec<Page<A>, A>,
 )
     requires room { vec_len into.old + length numbers.now ≤ vec_capacity into.old }
     requires can { CanTake numbers.now store.old.pages }
@@ -38,8 +38,7 @@ pub(crate) fn move_out_zeroed<A: Allocator>(
     ensures capacity { vec_capacity into.new ≡ vec_capacity into.old }
 {
     for number in numbers {
-        let page = take_zeroed(store, *number);
-        into.push_reserved((*number, page));
+        into.push_reserved(take_zeroed(store, *number));
     }
 }
 
@@ -53,25 +52,25 @@ pub(crate) fn zero_run<A: Allocator>(store: &mut Store<A>, first: PageNo, count:
     for p in first.0..first.0 + count {
         let number = PageNo(p);
         let page = take_zeroed(store, number);
-        store.put(number, page);
+        store.put(page);
     }
 }
 
 /// Moves pages in, with their bytes.
-pub(crate) fn move_in<A: Allocator>(store: &mut Store<A>, pages: Vec<(PageNo, Page<A>), A>)
+pub(crate) fn move_in<A: Allocator>(store: &mut Store<A>, pages: Vec<Page<A>, A>)
     requires { CanPut pages.items store.old.pages }
     ensures pages { store.new.pages ≡ with_pages pages.items store.old.pages }
     ensures touches { TouchesBy 0 store.old store.new }
 {
-    for (number, page) in pages {
-        store.put(number, page);
+    for page in pages {
+        store.put(page);
     }
 }
 
 /// Takes a page that is in, with its bytes.
 fn take_page<A: Allocator>(store: &mut Store<A>, number: PageNo) -> Page<A>
     requires { IsSome (page_at store.old.pages number) }
-    ensures page { result ≡ option_map_or (λ bytes. bytes) (page_at store.old.pages number) [] }
+    ensures page { result ≡ (number, option_map_or (λ bytes. bytes) (page_at store.old.pages number) []) }
     ensures out { store.new.pages ≡ slice_set store.old.pages number None }
     ensures touches { TouchesBy 1 store.old store.new }
 {
@@ -82,7 +81,7 @@ fn take_page<A: Allocator>(store: &mut Store<A>, number: PageNo) -> Page<A>
 pub(crate) fn move_out<A: Allocator>(
     store: &mut Store<A>,
     numbers: &[PageNo],
-    into: &mut Vec<(PageNo, Page<A>), A>,
+    into: &mut Vec<Page<A>, A>,
 )
     requires room { vec_len into.old + length numbers.now ≤ vec_capacity into.old }
     requires can { CanTake numbers.now store.old.pages }
@@ -93,7 +92,6 @@ pub(crate) fn move_out<A: Allocator>(
     ensures len { vec_len into.new ≡ vec_len into.old + length numbers.now }
 {
     for number in numbers {
-        let page = take_page(store, *number);
-        into.push_reserved((*number, page));
+        into.push_reserved(take_page(store, *number));
     }
 }

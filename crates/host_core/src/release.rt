@@ -18,7 +18,7 @@ use crate::refused::Refused;
 use crate::tables::HostTables;
 use io_commands::{Draft, Finished};
 use machine_model::words::Refusal;
-use page_memory::{Page, PageNo, Store};
+use page_memory::{Page, Store};
 use queue_pair::HostPair;
 use std::alloc::Allocator;
 
@@ -41,13 +41,7 @@ pub(crate) fn unclaim<A: Allocator>(queues: &mut Vec<Queue<HostPair<A>>, A>, q: 
 
 impl<A: Allocator> HostTables<A> {
     /// Ends a command: its pages come in, and are free, and so is its identifier.
-    fn commit_end(
-        &mut self,
-        store: &mut Store<A>,
-        q: u16,
-        cid: u16,
-        pages: Vec<(PageNo, Page<A>), A>,
-    )
+    fn commit_end(&mut self, store: &mut Store<A>, q: u16, cid: u16, pages: Vec<Page<A>, A>)
         requires whole { IsWhole (tables_of self.old store.old.pages) }
         requires brings { Brings (tables_of self.old store.old.pages) q cid pages.items }
         ensures ended { tables_of self.new store.new.pages ≡ spec_ended q cid pages.items (tables_of self.old store.old.pages) }

@@ -29,7 +29,7 @@ use std::alloc::{AllocError, Allocator};
 struct Room<A: Allocator> {
     front: Vec<PageNo, A>,
     back: Vec<PageNo, A>,
-    pages: Vec<(PageNo, Page<A>), A>,
+    pages: Vec<Page<A>, A>,
     request: Request<A>,
 }
 

@@ -24,7 +24,7 @@ use queue_pair::{HostPair, half_pages};
 use std::alloc::Allocator;
 
 /// Whether the host has a half of a queue in this state.
-fn has_half(state: HostState, half: Half) -> bool
+pub(crate) fn has_half(state: HostState, half: Half) -> bool
     ensures { result ≡ spec_has_half half state }
 {
     match half {

@@ -11,7 +11,8 @@ use Rattle.machine_model.{proofs.Moves.drafted_record, specs.{Events.Event, Imag
 use Rattle.machine_model.specs.{Script.{Table, table, filled_draft}, State.{State}, Step.{IsReserved, IsNewIdentifier, HostPart, zeroed}}
 use Rattle.step_core.{proofs.Order.{bench_opens, bench_keeps}, specs.{Bench.{event_at, told, kept}, Going.IsTableInOrder, Opening.opening_of}}
 use Rattle.step_core.specs.Values.{Reply, Step}
-use Rattle.host_core.{proofs.Outstanding.{none_there, record_reserved, reserved_ok, find_last}, specs.CommandValues.{with_first, without_first}}
+use Rattle.host_core.proofs.Outstanding.{none_there, record_reserved, reserved_ok, find_last}
+use Rattle.host_core.specs.Firsts.{with_first, without_first}
 use Rattle.run_laws.proofs.Filled.{DraftMove, Rested, Stepped, Added, Filled, Built, Taken, moves, gathered_zeros, Tracked, tracked}
 use Rattle.run_laws.proofs.Standing.{any_with, few_with, Few, few_more, few_without, gone, any_without, any_of_more, Drafts, step_drafts, takes_by, none_last}
 use Rattle.run_laws.specs.Drafts.{ReservedCommand, IsReservedDraft, benches_submit_what_they_reserved_and_filled, takes_draft, fills_of, data_bytes, written_over, submitted_drafts_were_reserved}

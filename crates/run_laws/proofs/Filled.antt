@@ -18,7 +18,9 @@ use Rattle.machine_model.{proofs.Steps.{first_fails, rest_fails}, specs.{Events.
 use Rattle.machine_model.specs.Script.{Table, finished_at, fill_fault, filled_draft}
 use Rattle.step_core.{proofs.Order.{asked_at, filled_stays_proper, built_stays_proper}, specs.Bench.{Fills, Builds, Gathers, IsOwn, asked, told, kept}}
 use Rattle.step_core.specs.Values.{Reply, Step}
-use Rattle.host_core.{proofs.{Lists.all-from, Outstanding.find_more}, specs.CommandValues.{without_first, with_first}}
+use Rattle.host_core.proofs.Lists.{all-from}
+use Rattle.host_core.proofs.Outstanding.{find_more}
+use Rattle.host_core.specs.Firsts.{without_first, with_first}
 use Rattle.run_laws.proofs.{KeptValues.{StepKind, OfMachine, OfBench, kind}, Standing.{find_with, find_with_other, find_without_other}}
 use Rattle.run_laws.specs.{Drafts.{fill_by, takes_by, takes_draft, fills_of, data_bytes, written_over}, Values.{Done, Goes}}
 use Rattle.sgl_descriptor.specs.declared.Descriptor.{Descriptor}

@@ -13,7 +13,8 @@ use Rattle.machine_model.specs.{Step.{finished_from, asked_by, pages_with_bytes,
 use Rattle.step_core.proofs.Order.{asked_at, inside, OwnLeft, Same, Changed, own_left, same_forgery, none_forged, steps_from}
 use Rattle.step_core.specs.{Bench.{DoesBy, IsOwn, Makes, event_at, asked, kept, told, Gathers}, Going.forges_by, Laws.made_from, Opening.opening_of}
 use Rattle.step_core.specs.Values.{Reply, Step}
-use Rattle.host_core.{proofs.Outstanding.collected_named, specs.CommandValues.without_first}
+use Rattle.host_core.proofs.Outstanding.{collected_named}
+use Rattle.host_core.specs.Firsts.{without_first}
 use Rattle.run_laws.proofs.{DataLaws.{bytes_kept, successes_fetched, prefix_given, blocks_given}, Images.{images_are_runs, compares_told}}
 use Rattle.run_laws.proofs.Standing.{Stands, releases_by, step_stands, not_again, collected_stands, Few, none_last, few_more, few_without, gone, any_without, all_without, any_on, any_last, any_of_more, HasLast, split_last}
 use Rattle.run_laws.specs.{Blocks.{collected_of, blocks_of_request, is_read}, DraftBlocks.{benches_write_their_blocks, benches_compare_their_blocks}}

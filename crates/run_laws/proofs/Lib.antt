@@ -20,3 +20,4 @@ pub mod KeptValues
 pub mod Filled
 pub mod DraftsStand
 pub mod WorkedBench
+pub mod Reachable

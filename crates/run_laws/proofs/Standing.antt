@@ -6,7 +6,7 @@ use Rattle.std.proofs.Common.{◌≡◌, Bool, true, false, ◌||◌, List, [], 
 use Rattle.std.{proofs.lemmas.{Bool.{true≢false, or_right, not-false, or_parts}, List.Folds.list_any-append}}
 use Rattle.std.specs.{List.{AllByRecursion, list_any}, Option.{option_and_then, option_map_or}}
 use Rattle.host_core.proofs.Outstanding.{one_step, find_more, find_changed, other_than, off_name, apart, found_with, found_without}
-use Rattle.host_core.specs.CommandValues.{without_first, with_first}
+use Rattle.host_core.specs.Firsts.{without_first, with_first}
 use Rattle.io_commands.specs.{Asked.Request, Values.{FinishedContents, numbers_of}}
 use Rattle.admin_commands.specs.declared.AdminKind.TheVariants.{Abort, DeleteSq, DeleteCq}
 use Rattle.entry_codec.specs.declared.status.{TheConstants.Status.ABORTED_SQ_DELETION}

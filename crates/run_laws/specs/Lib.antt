@@ -15,3 +15,4 @@ pub mod Gathering
 pub mod DraftBlocks
 pub mod Drafts
 pub mod WorkedDrafts
+pub mod Reach

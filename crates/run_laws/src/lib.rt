@@ -2,7 +2,7 @@
 //!
 //! There is no code here: each public function has an empty body, and its clauses are what is proved. In [`ends`] stands how commands
 //! end, in [`data`] what a command's pages and list hold between its submission and its collection, in [`answers`] what steps answer and
-//! which event is accepted, in [`laws`] what runs leave: statuses with their causes, the image, what Compares and Reads find, histories. [`worked`],
+//! which event is accepted, in [`reach`] which pages a device may reach, in [`laws`] what runs leave: statuses with their causes, the image, what Compares and Reads find, histories. [`worked`],
 //! [`worked_heads`], [`worked_renewals`] and [`worked_resets`] have whole runs, computed from the definitions.
 //!
 //! `step_core` proves that what a bench does is a trusted run of the machine, by queue and identifier; in [`bench_laws`] that run has the drafts that the
@@ -20,6 +20,7 @@ pub mod bench_laws;
 pub mod data;
 pub mod ends;
 pub mod laws;
+pub mod reach;
 pub mod worked;
 pub mod worked_bench;
 pub mod worked_heads;

@@ -1,4 +1,3 @@
-pub mod Benches
 pub mod Order
 pub mod Steps
 pub mod Looks

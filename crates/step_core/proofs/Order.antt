@@ -15,7 +15,8 @@ use Rattle.io_commands.specs.{Values.{FinishedContents, numbers_of}, declared.{d
 use Rattle.machine_model.specs.{Events.Event, Image.{draft_of, is_draft, Made}, Proper.{IsProper, IsProperDraft, IsPage}}
 use Rattle.machine_model.specs.{Script.{Table, finished_at, is_ticket, is_finished, fill_fault, filled_draft, table}, State.State}
 use Rattle.machine_model.specs.{Touch.{allowed, own_pages, touched_by}, Trusted.Steps}
-use Rattle.host_core.{proofs.Lists.all-from, specs.CommandValues.{with_first, without_first}}
+use Rattle.host_core.proofs.Lists.{all-from}
+use Rattle.host_core.specs.Firsts.{with_first, without_first}
 use Rattle.step_core.specs.Bench.{event_at, asked, DoesBy, IsOwn, Fills, Builds, Gathers, told, kept, DoesAll}
 use Rattle.step_core.specs.Going.{IsTableInOrder, IsFitStep, benches_go_on, benches_open_in_order, benches_keep_order, forges_by, has_forgery, benches_touch_what_they_may, benches_make_trusted_runs}
 use Rattle.step_core.specs.{Laws.{made_from, benches_run_the_machine, made_by}, Opening.opening_of, Values.{Step, Reply}}

@@ -1,5 +1,5 @@
 -- A bench: a world, with the drafts, the tickets and the finished commands that it keeps. What each of its steps may answer, and what it leaves.
-use Rattle.host_core.specs.CommandValues.{without_first, with_first}
+use Rattle.host_core.specs.Firsts.{without_first, with_first}
 use Rattle.std.specs.{List.list_any, Option.option_map, Prelude.{◌≡◌, ℕ, Option, Some, None, List, [], ◌∷◌, ◌++◌, length, if◌then◌else◌}}
 use Rattle.io_commands.specs.{Drafts.{DraftContents, built}, Values.{FinishedContents, gathered_from}}
 use Rattle.machine_model.specs.{Events.Event, Image.{is_draft, draft_of}, Script.{Table, is_finished, finished_at, is_ticket, fill_fault, filled_draft}}

@@ -4,9 +4,7 @@ pub mod Opening
 pub mod Touching
 pub mod Replies
 pub mod Bench
-pub mod BenchTables
 pub mod Laws
 pub mod Going
 pub mod Looks
-pub mod TouchingAll
 pub mod Rings

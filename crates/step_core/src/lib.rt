@@ -9,21 +9,17 @@
 //! Commands, entries, statuses, lists and queues are those of the NVM Express Base Specification 2.0 and the NVM Command Set Specification
 //! 1.0, cut down to a profile.
 //!
-//! A [`Bench`] is a world with the drafts, tickets and finished commands that it keeps; it runs lists of [`Step`]s, and what it does is a
-//! run of the machine ([`laws`]).
+//! A bench is a world with the drafts, tickets and finished commands that it keeps, and does [`Step`]s. What it may do is said here, so that who keeps
+//! these values otherwise can say it too; and it is a run of the machine ([`laws`]).
 //!
 //! A world is a [`host_core::Host`] and a [`controller_core::Controller`] over one [`page_memory::Store`]: each event but a forgery and a
 //! reset is a call of one side, with at most one doorbell of the other rung, and a reset is a call of each. That both are the
 //! machine is what `two_sides` proves; nothing is kept twice.
 #![tactic(auto)]
 
-mod bench;
-mod bench_steps;
-mod bench_tables;
 mod commands;
 mod controller_events;
 mod ended;
-mod fill;
 mod forge;
 pub mod laws;
 mod look;
@@ -31,18 +27,18 @@ mod open;
 mod queues;
 mod refused;
 mod reset;
+mod rights;
 mod rings;
 mod step;
 mod view;
 mod world;
 
-pub use bench::Bench;
 pub use block_image::{BadLength, Image, ImageError};
 pub use controller_core::ControllerStep;
 pub use controller_walk::WalkState;
 pub use ended::{Ended, Leftover};
 pub use entry_codec::Status;
-pub use host_core::{Config, Refused};
+pub use host_core::{Config, QueueMemory, Refused, Right, Run, Runs};
 pub use io_commands::{
     Draft, FillFault, Finished, Kind, Piece, Pieces, Request, RequestFault, RequestOf, Ticket,
 };

@@ -71,7 +71,7 @@ impl<A: Allocator + Copy> World<A> {
     /// # Errors
     ///
     /// `Memory` where memory is refused. The image comes back.
-    pub(crate) fn over(
+    pub fn over(
         opened: Opened<A>,
         alloc: A,
         config: Config,

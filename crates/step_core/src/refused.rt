@@ -76,13 +76,6 @@ pub(crate) fn touched_by<A: Allocator>(store: &Store<A>) -> Touched
     listed(store.touched().as_slice())
 }
 
-/// No page.
-pub(crate) fn none_touched() -> Touched
-    ensures { result ≡ [] }
-{
-    Touched::none()
-}
-
 impl Touched {
     /// No page.
     pub fn none() -> Touched

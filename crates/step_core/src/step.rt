@@ -48,7 +48,7 @@ impl<A: Allocator> Bytes<A> {
 }
 
 /// A step of a bench. Drafts, tickets and finished commands are named by their queue and identifier.
-#[derive(Debug, Drop)]
+#[derive(Drop)]
 pub enum Step<R = Request, B = Bytes> {
     /// Reserve a command.
     Reserve {
@@ -186,7 +186,7 @@ pub enum Step<R = Request, B = Bytes> {
 pub type StepIn<A> = Step<Request<A>, Bytes<A>>;
 
 /// What a step of a bench answered.
-#[derive(Debug, Drop)]
+#[derive(Drop)]
 pub enum Reply<B = Bytes> {
     /// A command was reserved.
     Reserved {
@@ -253,7 +253,7 @@ impl<B> Reply<B> {
         ensures { result ≡ Reply.Reserved draft.now.q draft.now.cid (length draft.now.data_pages) (length draft.now.chain_pages) }
     {
         let data = draft.request().data_pages();
-        let chain = draft.pages().len() - data;
+        let chain = draft.chain_pages().len();
         Reply::Reserved {
             q: draft.q(),
             cid: draft.cid(),

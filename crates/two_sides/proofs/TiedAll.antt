@@ -23,7 +23,7 @@ use Rattle.two_sides.proofs.Tokens.{KnowingP, TokensP, tokens_fetch, tokens_walk
 use Rattle.page_memory.proofs.Lists.{all-at, found_is}
 use Rattle.page_ledger.proofs.Pages.{length-pages_from}
 use Rattle.controller_core.proofs.Lists.{length-change}
-use Rattle.host_core.proofs.KeptRows.{length-queues_from}
+use Rattle.host_core.proofs.Openings.{length-queues_from}
 
 -- Every event keeps the tie of both sides and the tokens, so it fetches and completes in what is allowed only.
 

@@ -16,7 +16,7 @@ use Rattle.page_memory.specs.Pages.{Pages, page_at, byte_at, AreWhole, IsPool}
 use Rattle.sgl_descriptor.specs.declared.Direction.{Direction, TheVariants.{Destination, Source}}
 use Rattle.controller_walk.specs.declared.progress.State as progress
 use Rattle.slot_table.proofs.Rows.{option_is}
-use Rattle.host_core.proofs.Benches.{same_pages}
+use Rattle.host_core.proofs.Lists.{same_pages}
 
 -- The first unit
 

@@ -5,9 +5,10 @@ use Rattle.host_core.proofs.moving.zero_run.Goals as goal
 
 pub put-requires : goal.put-requires
 put-requires g c =
-    taken-out c.loop-p.store.pages c.take_zeroed-page.new.store.pages c.loop-p.p
+    rw c.take_zeroed-page.ensures.page
+    (taken-out c.loop-p.store.pages c.take_zeroed-page.new.store.pages c.loop-p.p
     (first-there c.loop-p.p (c.args.first + c.args.count) c.loop-p.store.pages (omega arith) c.loop-p.invariant.can)
-    c.take_zeroed-page.ensures.out
+    c.take_zeroed-page.ensures.out)
 
 pub loop-p-preserved : goal.loop-p-preserved
 loop-p-preserved g c =

@@ -1,0 +1,3 @@
+pub mod KeptRows
+pub mod Benches
+pub mod PageBytes

@@ -1,5 +1,0 @@
-use Rattle.host_core.proofs.KeptRows.{row_gone}
-use Rattle.host_core.proofs.values.drop_row.Goals as goal
-
-pub returns-clause-gone : goal.returns-clause-gone
-returns-clause-gone g c = rw c.take.ensures.rest (row_gone c.args.values.now.rows c.args.q c.args.cid c.take.result c.take.ensures.value c.take.ensures.distinct)

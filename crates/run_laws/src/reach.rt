@@ -1,0 +1,18 @@
+//! Which pages a device may reach. Each function does nothing.
+
+ghost use Rattle.run_laws.specs.Reach.{chain_pages_have_their_right, completion_rings_are_written, data_pages_have_their_right, free_pages_have_none, lists_name_what_may_be_reached, none_outside_the_pool, submission_rings_are_read};
+
+/// In a sound state, whatever was forged, each page of the pool has the right of its owner: the pages of an outstanding command that of
+/// its phase, its kind and what they hold, those of rings theirs, and all others none.
+///
+/// So each address in the list of a submitted command, with all its bytes, lies on a page with the right that the command's direction
+/// wants.
+pub fn law_of_rights()
+    ensures data { data_pages_have_their_right }
+    ensures chains { chain_pages_have_their_right }
+    ensures submission_rings { submission_rings_are_read }
+    ensures completion_rings { completion_rings_are_written }
+    ensures free { free_pages_have_none }
+    ensures outside { none_outside_the_pool }
+    ensures lists { lists_name_what_may_be_reached }
+{}

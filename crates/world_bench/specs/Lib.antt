@@ -1,0 +1,2 @@
+pub mod BenchTables
+pub mod TouchingAll
