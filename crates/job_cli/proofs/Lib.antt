@@ -1,2 +1,1 @@
 pub mod JobRuns
-pub mod Loads

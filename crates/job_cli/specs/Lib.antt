@@ -4,12 +4,3 @@ pub mod JobLines
 pub mod JobRuns
 pub mod Jobs
 pub mod GoneOn
-pub mod Content
-pub mod Course
-pub mod Histograms
-pub mod Lines
-pub mod Picking
-pub mod Planning
-pub mod Tallies
-pub mod Loads
-pub mod Patterns

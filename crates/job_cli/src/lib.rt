@@ -5,12 +5,10 @@
 //! `specs/JobLines.antt` how a line is printed, and `specs/JobRuns.antt` what a run writes. [`worked_jobs`] computes some of these.
 #![tactic(auto)]
 
-pub mod desk;
 mod fault;
 mod job_lines;
 mod job_runs;
 mod jobs;
-pub mod load;
 mod rounds;
 pub mod worked_jobs;
 

@@ -5,12 +5,14 @@ use Rattle.script_cli.specs.declared.fault.ScriptFault.TheVariants as cause
 use Rattle.std.{proofs.Common.{◌≡◌, ◌⊎◌, Option, Some, None, List, [], ℕ, refl, sym, subst, inl, inr, ◌∙◌, ap}, specs.{Borrow.Bor, Io.KnownBytes.Keeps}}
 use Rattle.std.specs.Prelude.{IfErr, Result, Ok, Err, replicate, ◌*◌, IsErrAnd, IsSome, OnOk}
 use Rattle.clap.specs.{Words.{kind_of, Text}, declared.error.{Error.Error, kind.ErrorKind.TheVariants.OutOfMemory}}
-use Rattle.program.specs.Asked.{Asked, check, check_jobs, draw, explain, grammar, load, shell, show, steps, test, threads, traced, Given, path_of}
+use Rattle.command_line.specs.Asked.{Asked, check, check_jobs, draw, explain, grammar, load, shell, show, steps, test, threads, traced, Given, path_of}
 use Rattle.program.specs.{Checking.{AreJobs, AreNoJobs, AreNoSteps, AreSteps}, Performing.{FailsWith, IsFirstImage, IsRunFault, Performs}}
-use Rattle.program.specs.declared.{command_line.threads.Threading.Threading, fault.Fault.Fault}
+use Rattle.command_line.specs.declared.threads.Threading.{Threading}
+use Rattle.program.specs.declared.fault.Fault.{Fault}
 use Rattle.job_cli.proofs.JobRuns.{jobs_are_told, no_jobs_are_told}
-use Rattle.job_cli.specs.{JobRuns.{EndsJobsWith, EndsUnwritten, HasJobFault, HasJobs, IsCutJobsText, IsNoJobs, WritesJobs}, Jobs.jobs_of, Lines.line_text}
-use Rattle.job_cli.specs.{Tallies.no_tally, declared.jobs.JobLine.JobLine}
+use Rattle.job_cli.specs.{JobRuns.{EndsJobsWith, EndsUnwritten, HasJobFault, HasJobs, IsCutJobsText, IsNoJobs, WritesJobs}, Jobs.jobs_of}
+use Rattle.load.specs.{Lines.line_text, Tallies.no_tally}
+use Rattle.job_cli.specs.declared.jobs.JobLine.{JobLine}
 use Rattle.script_cli.{proofs.{Runs.{no_script_is_told, script_is_told}, Texts.appends_none}, specs.Inputs.AreFirstOf}
 use Rattle.script_cli.specs.{Runs.{EndsWith, HasFault, HasScript, IsCutText, IsNoScript, IsNotOpened, Writes}, Scripts.script_of}
 use Rattle.script_cli.specs.declared.{fault.{LineFault.LineFault, RunFault.RunFault}, script.Numbered.Numbered}

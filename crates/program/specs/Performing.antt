@@ -3,13 +3,16 @@ use Rattle.std.specs.Io.KnownBytes.{Appends, Keeps}
 use Rattle.std.specs.{Prelude.{◌≡◌, ◌⊎◌, ◌<◌, ◌*◌, ℕ, Bool, true, false, List, Option, Some, None, replicate, codes, IsSome, if◌then◌else◌}, Str.bytes_eq}
 use Rattle.block_image.specs.Blocks.{most_blocks}
 use Rattle.clap.specs.Words.{Text}
-use Rattle.program.specs.Asked.{Asked, Given, check, check_jobs, draw, explain, grammar, load, shell, show, steps, test, threads, traced}
+use Rattle.command_line.specs.Asked.{Asked, Given, check, check_jobs, draw, explain, grammar, load, shell, show, steps, test, threads, traced}
 use Rattle.program.specs.declared.fault.Fault.{Fault}
-use Rattle.job_cli.specs.{JobRuns.{EndsJobsWith, HasJobs, IsJobsText, IsNoJobs, WritesJobs}, Lines.{IsLineFront, line_text}, Tallies.is_good}
-use Rattle.job_cli.specs.declared.{jobs.JobLine.JobLine, load.{fault.LoadFault.LoadFault, tally.Tally.Tally, workload.Pattern.Pattern}}
+use Rattle.job_cli.specs.JobRuns.{EndsJobsWith, HasJobs, IsJobsText, IsNoJobs, WritesJobs}
+use Rattle.load.specs.{Lines.{IsLineFront, line_text}, Tallies.is_good}
+use Rattle.job_cli.specs.declared.jobs.JobLine.{JobLine}
+use Rattle.load.specs.declared.{fault.LoadFault.LoadFault, tally.Tally.Tally}
+use Rattle.script_cli.specs.declared.workload.Pattern.{Pattern}
 use Rattle.script_cli.specs.{Inputs.Gains, Runs.{EndsWith, HasScript, IsNoScript, IsRunText, Writes}, declared.fault.RunFault.RunFault}
 use Rattle.script_cli.specs.declared.{input.ImageFault.ImageFault, script.Numbered.Numbered}
-use Rattle.job_cli.specs.declared.load.fault.LoadFault.TheVariants as load_fault
+use Rattle.load.specs.declared.fault.LoadFault.TheVariants as load_fault
 use Rattle.program.specs.declared.fault.Fault.TheVariants as fault
 use Rattle.script_cli.specs.declared.fault.RunFault.TheVariants as run
 use Rattle.script_cli.specs.declared.input.ImageFault.TheVariants as image_fault

@@ -1,6 +1,6 @@
 //! What stands below the line of a fault.
 
-use crate::command_line::Options;
+use command_line::Options;
 use script_cli::{LineFault, MAX_SCRIPT, RunFault};
 use std::alloc::{AllocError, Global};
 use texts::faults::{Grammar, explain, line_at};

@@ -1,7 +1,7 @@
 //! The program's commands.
 
 ghost use Rattle.std.specs.Prelude.{◌≡◌, ◌≤◌, List, Some, IfErr, OnOk, map};
-ghost use Rattle.program.specs.Asked.{asked, draw, given_of, path_of, shell, steps, threads, traced};
+ghost use Rattle.command_line.specs.Asked.{asked, draw, given_of, path_of, shell, steps, threads, traced};
 ghost use Rattle.job_cli.specs.JobRuns.{HasJobs, IsNoJobs};
 ghost use Rattle.job_cli.specs.declared.jobs.JobLine.{JobLine};
 ghost use Rattle.program.specs.Performing.{FailsWith, IsNoGrammar, IsRunFault, IsTestFault, Performs, script_told};
@@ -11,17 +11,17 @@ ghost use Rattle.script_cli.specs.declared.script.Numbered.{Numbered};
 use crate::below::below_run;
 use crate::bytes::{explain_case, show_words};
 use crate::checking::{check_jobs, check_steps};
-use crate::command_line::{CommandLine, Options, Testing, Threading, words};
 use crate::fault::{Fault, Told};
 use crate::inputs::{open_image, script_text};
 use crate::loading::load_image;
 use crate::pipe::Pipe;
 use crate::printing::print_text;
 use crate::saving::save_image;
-use crate::shell::{run_shell, trace_steps};
+use command_line::{CommandLine, Options, Testing, Threading, words};
 use job_cli::{Pace, run_jobs};
 use script_cli::transcripts::test_files;
 use script_cli::{MAX_SCRIPT, RunFault, play_steps};
+use shell::{run_shell, trace_steps};
 use std::alloc::{AllocGlobal, Global};
 use std::convert::AsStr;
 use std::env::Env;
@@ -93,8 +93,8 @@ fn start<R: AllocGlobal + Clock + Env + Eprint + Files + Input + Print + Sync + 
     }
 }
 
-/// Does what words ask for, with the script of a reader where no file has it. What a run prints goes to the writer, a help text to
-/// standard output, and the times of a load to standard error.
+/// Does what words ask for, with the script of a reader where no file has it. What a run prints goes to the writer, a help text and a file that is
+/// named `-` to standard output, and the times of a load to standard error.
 ///
 /// # Errors
 ///
@@ -127,7 +127,7 @@ pub fn perform<
         Ok(CommandLine::CheckJobs(path, submitters)) => {
             look_at_jobs(rt, path, submitters, reader)
         }
-        Ok(CommandLine::Test(testing)) => test(rt, &testing, writer),
+        Ok(CommandLine::Test(testing)) => test(rt, &testing, reader, writer),
         Ok(CommandLine::Shell(options, traces)) => {
             talk(rt, options, traces, reader, writer, terminals.input)
         }
@@ -147,7 +147,7 @@ pub fn perform<
 }
 
 /// Plays a script of steps.
-fn play<R: AllocGlobal + Files, I: Read, W: Write>(
+fn play<R: AllocGlobal + Files + Print, I: Read, W: Write>(
     rt: &R,
     options: Options<'_>,
     reader: &mut I,
@@ -175,7 +175,7 @@ fn play<R: AllocGlobal + Files, I: Read, W: Write>(
 }
 
 /// Plays a script of steps, and tells what each moved.
-fn trace_script<R: AllocGlobal + Files, I: Read, W: Write>(
+fn trace_script<R: AllocGlobal + Files + Print, I: Read, W: Write>(
     rt: &R,
     options: Options<'_>,
     reader: &mut I,
@@ -275,9 +275,10 @@ fn look_at_jobs<R: AllocGlobal + Files, I: Read>(
 }
 
 /// Tests the transcripts of files.
-fn test<R: AllocGlobal + Files, W: Write>(
+fn test<R: AllocGlobal + Files, I: Read, W: Write>(
     rt: &R,
     testing: &Testing<'_>,
+    reader: &mut I,
     writer: &mut W,
 ) -> Result<(), Told<Fault>>
     ensures fault { IfErr result (λ told. IsTestFault told.fault) }
@@ -286,7 +287,7 @@ fn test<R: AllocGlobal + Files, W: Write>(
         config: testing.config,
         blocks: testing.blocks,
     };
-    let fault = match test_files(rt, &testing.files, usual, testing.updates, writer) {
+    let fault = match test_files(rt, &testing.files, usual, testing.updates, reader, writer) {
         Ok(tally) if tally.exit_status() == 0 => return Ok(()),
         Ok(tally) => Fault::Transcripts(tally),
         Err(fault) => Fault::Run(fault),
@@ -295,7 +296,7 @@ fn test<R: AllocGlobal + Files, W: Write>(
 }
 
 /// Answers the lines of a reader, or of a file.
-fn talk<R: AllocGlobal + Files, I: Read, W: Write>(
+fn talk<R: AllocGlobal + Files + Print, I: Read, W: Write>(
     rt: &R,
     options: Options<'_>,
     traces: bool,

@@ -6,7 +6,7 @@ ghost use Rattle.clap.specs.declared.error.kind.ErrorKind.TheVariants.{OutOfMemo
 ghost use Rattle.script_cli.specs.declared.fault.RunFault.TheVariants as run;
 
 use clap::error::ErrorKind;
-use job_cli::load::LoadFault;
+use load::LoadFault;
 use script_cli::transcripts::Tally;
 use script_cli::{ImageFault, RunFault};
 use std::alloc::{AllocGlobal, Global};
@@ -56,7 +56,7 @@ pub enum Fault {
     /// A load did not run to its end.
     Load(LoadFault),
     /// Commands of a load were refused, failed, or brought other bytes. The output told it.
-    Loaded(job_cli::load::Tally),
+    Loaded(load::Tally),
     /// All went well, but what was measured was not written.
     NoStats,
 }

@@ -1,15 +1,15 @@
 //! The image and the script of a run, and why there is none.
 
 ghost use Rattle.std.specs.Prelude.{◌≡◌, ◌⊎◌, IfOk, IfErr, None};
-ghost use Rattle.program.specs.Asked.{given_of, path_of};
+ghost use Rattle.command_line.specs.Asked.{given_of, path_of};
 ghost use Rattle.program.specs.Performing.{IsFirstImage, IsNoFirstImage, script_told};
 ghost use Rattle.script_cli.specs.Inputs.{AreFirstOf};
 ghost use Rattle.script_cli.specs.declared.fault.RunFault.TheVariants as run;
 
 use crate::below::lines_or_none;
-use crate::command_line::Options;
 use crate::fault::Told;
 use block_image::{Image, ImageError, MAX_BYTES};
+use command_line::Options;
 use script_cli::{ImageFault, MAX_SCRIPT, ReadFault, RunFault, read_first, read_image};
 use std::alloc::{AllocGlobal, Global};
 use std::fs::File;

@@ -7,7 +7,6 @@
 mod below;
 mod bytes;
 mod checking;
-pub mod command_line;
 mod commands;
 mod fault;
 mod inputs;
@@ -15,7 +14,6 @@ mod loading;
 mod pipe;
 mod printing;
 mod saving;
-pub mod shell;
 
 pub use commands::{Terminals, perform, run};
 pub use fault::{BytesFault, Fault, Told};

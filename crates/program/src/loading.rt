@@ -1,17 +1,17 @@
 //! A load, and what is told of it.
 
 ghost use Rattle.std.specs.Prelude.{◌≡◌, IfErr, IsSome, None, OnOk, Some};
-ghost use Rattle.program.specs.Asked.{given_of, load, loaded_of};
-ghost use Rattle.job_cli.specs.Loads.{FitsLoad};
+ghost use Rattle.command_line.specs.Asked.{given_of, load, loaded_of};
+ghost use Rattle.script_cli.specs.Loads.{FitsLoad};
 ghost use Rattle.program.specs.Performing.{FailsWith, fault_of_load, Performs};
 
 use crate::below::{below_run, lines_or_none};
-use crate::command_line::Options;
 use crate::fault::{Fault, Told};
 use crate::inputs::open_image;
-use job_cli::load::workload::Load;
-use job_cli::load::{Bad, LoadFault, Ran, run_load};
-use script_cli::transcripts::{not_written, replace_file};
+use command_line::Options;
+use load::{Bad, LoadFault, Ran, run_load};
+use script_cli::workload::Load;
+use script_cli::{not_written, write_out};
 use std::alloc::{AllocGlobal, Global};
 use std::io::Write;
 use std::rt::{Clock, Files};
@@ -27,7 +27,7 @@ fn tell_times<R: AllocGlobal + Eprint>(rt: &R, ran: &Ran) {
 }
 
 /// Writes what was measured into the file that is named for it, if there is one, and says why where it is not written.
-fn save_stats<R: AllocGlobal + Files>(
+fn save_stats<R: AllocGlobal + Files + Print>(
     rt: &R,
     path: Option<&str>,
     ran: &Ran,
@@ -42,7 +42,7 @@ fn save_stats<R: AllocGlobal + Files>(
     let Ok(text) = ran.stats(alloc) else {
         return Err(Told::alone(alloc, Fault::NoStats));
     };
-    match replace_file(rt, path, text.as_bytes()) {
+    match write_out(rt, path, text.as_bytes()) {
         Ok(()) => Ok(()),
         Err(why) => {
             let below = lines_or_none(alloc, not_written(alloc, path, &why));
@@ -79,7 +79,10 @@ fn not_loaded(alloc: Global, options: &Options<'_>, why: LoadFault) -> Told<Faul
 }
 
 /// Makes commands, and runs them in threads.
-pub(crate) fn load_image<R: AllocGlobal + Clock + Eprint + Files + Sync + Threads + Wait, W: Write>(
+pub(crate) fn load_image<
+    R: AllocGlobal + Clock + Eprint + Files + Print + Sync + Threads + Wait,
+    W: Write,
+>(
     rt: &R,
     options: Options<'_>,
     what: Load<'_>,

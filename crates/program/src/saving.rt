@@ -5,12 +5,12 @@ ghost use Rattle.std.specs.Prelude.{◌≡◌, IfErr, IsSome};
 use crate::below::lines_or_none;
 use crate::fault::{Fault, Told};
 use block_image::Image;
-use script_cli::transcripts::{not_written, replace_file};
+use script_cli::{not_written, write_out};
 use std::alloc::AllocGlobal;
 use std::rt::Files;
 
-/// Writes an image into the file that is named for it, if there is one. Where this fails, the file is as it was.
-pub(crate) fn save_image<R: AllocGlobal + Files>(
+/// Writes an image into what is named for it, if something is. Where this fails, a file is as it was.
+pub(crate) fn save_image<R: AllocGlobal + Files + Print>(
     rt: &R,
     path: Option<&str>,
     image: &Image,
@@ -21,7 +21,7 @@ pub(crate) fn save_image<R: AllocGlobal + Files>(
     let Some(path) = path else {
         return Ok(());
     };
-    match replace_file(rt, path, image.blocks_from(0, image.blocks())) {
+    match write_out(rt, path, image.blocks_from(0, image.blocks())) {
         Ok(()) => Ok(()),
         Err(why) => {
             let alloc = rt.alloc();

@@ -2,8 +2,10 @@ pub mod Faults
 pub mod Grammar
 pub mod Inputs
 pub mod Lines
+pub mod Loads
 pub mod Numbers
 pub mod Owners
+pub mod Patterns
 pub mod Pieces
 pub mod Replies
 pub mod Runs

@@ -19,6 +19,7 @@ mod output;
 mod owners;
 mod reply;
 mod run;
+mod saving;
 mod script;
 pub mod transcripts;
 mod values;
@@ -26,6 +27,7 @@ mod verb;
 mod words;
 pub mod worked;
 pub mod worked_replies;
+pub mod workload;
 
 pub use fault::{
     LineError, LineFault, NotClosed, RunFault, ScriptFault, not_opened, script_at_fault,
@@ -37,6 +39,7 @@ pub use output::{flush, put};
 pub use owners::{append_counts, append_owners};
 pub use reply::{append_reply, put_gathered, put_not_filled, request_fault_name};
 pub use run::{first_owners, play_step, play_steps, put_owners, run_steps};
+pub use saving::{not_written, replace_file, write_out};
 pub use script::{Line, MAX_LINES, MAX_SCRIPT, Numbered, Script, read_script};
 pub use verb::{CommandVerb, QueueVerb, VERBS, Verb};
 pub use words::Words;

@@ -24,7 +24,8 @@ use page_ledger::Owner;
 use page_memory::PageNo;
 use std::alloc::{AllocError, Global};
 use std::io::{Read, Write};
-use step_core::{Bench, Config, Reply, Step};
+use step_core::{Config, Reply, Step};
+use world_bench::Bench;
 
 /// Reads a script.
 fn load<R: Read>(alloc: Global, reader: &mut R) -> Result<Script, RunFault>

@@ -17,7 +17,7 @@ pub const MAX_SCRIPT: usize = 1_048_576;
 pub const MAX_LINES: u32 = 65_536;
 
 /// What a line of a script is.
-#[derive(Debug, Drop)]
+#[derive(Drop)]
 pub enum Line {
     /// A step.
     Step(Step),
@@ -28,7 +28,7 @@ pub enum Line {
 }
 
 /// A line of a script that does something.
-#[derive(Debug, Drop)]
+#[derive(Drop)]
 pub struct Numbered {
     /// The line's number, from 1.
     pub number: u32,
@@ -37,7 +37,7 @@ pub struct Numbered {
 }
 
 /// A script without faults. Contracts see it as the list of its lines that do something.
-#[derive(Debug, Drop)]
+#[derive(Drop)]
 pub struct Script {
     lines: Vec<Numbered>,
 }

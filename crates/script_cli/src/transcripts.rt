@@ -32,7 +32,6 @@ mod heap;
 mod options;
 mod playing;
 mod read;
-mod saving;
 mod testing;
 mod update;
 
@@ -44,5 +43,4 @@ pub use heap::{reply_in, step_in};
 pub use options::{Given, Options};
 pub use playing::{StepMaker, play, printed};
 pub use read::{Answer, Told, Transcript, read_transcript};
-pub use saving::{not_written, replace_file};
 pub use testing::{MAX_TRANSCRIPT, Outcome, test_transcript};

@@ -8,11 +8,9 @@
 //! `growths` refuses each growth of a draft that visits another book, and of a run of threads. What must be printed stands in `stdout`.
 #![tactic(auto)]
 
-mod cases;
-mod scripts;
 mod typed;
 
-use scripts::{Scores, play_script, print_sum, refuse_growths};
+use session_scripts::{Scores, play_case, play_lines, play_script, print_sum, refuse_growths};
 use std::alloc::AllocGlobal;
 use std::env::Env;
 use std::io;
@@ -50,7 +48,7 @@ fn play<R: AllocGlobal + Clock + Eprint + Files + Print + Sync + Threads + Wait>
     sum: &mut Scores,
 ) -> io::Result<bool> {
     if word == "lines" {
-        cases::play_lines(rt)?;
+        play_lines(rt)?;
         return Ok(true);
     }
     if word == "growths" {
@@ -62,7 +60,7 @@ fn play<R: AllocGlobal + Clock + Eprint + Files + Print + Sync + Threads + Wait>
         return Ok(true);
     }
     if word.ends_with(".case") {
-        return cases::play_case(rt, word);
+        return play_case(rt, word);
     }
     if word.ends_with(".transcript") {
         return play_script(rt, word, sum);

@@ -6,7 +6,8 @@ use crate::transcripts::options::Options;
 use crate::transcripts::playing::StepMaker;
 use crate::{ImageFault, not_opened};
 use std::alloc::{AllocError, Allocator, Global};
-use step_core::{Bench, Counts, Image, ImageError, Owner, PageNo, Reply, Step};
+use step_core::{Counts, Image, ImageError, Owner, PageNo, Reply, Step};
+use world_bench::Bench;
 
 /// A bench, in any heap.
 pub struct OnBench<A: Allocator = Global> {

@@ -1,15 +1,17 @@
 //! Files of transcripts.
 
 use crate::transcripts::options::Options;
-use crate::transcripts::saving::replace_file;
 use crate::transcripts::testing::{MAX_TRANSCRIPT, Outcome, test_transcript};
-use crate::{ReadFault, RunFault, flush, put, read_first};
+use crate::{ReadFault, RunFault, flush, put, read_first, replace_file};
 use std::alloc::{AllocError, AllocGlobal};
 use std::convert::AsStr;
 use std::fs::File;
 use std::io;
-use std::io::Write;
+use std::io::{Read, Write};
 use std::rt::Files;
+
+/// The name of standard input, and of standard output where that takes what came.
+const STANDARD: &str = "-";
 
 /// How many files came out in each way.
 #[derive(Clone, Copy, Debug, Default, PartialEq, Eq)]
@@ -69,26 +71,52 @@ enum Unread {
     Memory,
 }
 
-/// The bytes of a file, or one more than a transcript may have.
-fn bytes_of<R: AllocGlobal + Files>(rt: &R, path: &str) -> Result<Vec<u8>, Unread> {
-    let mut file = match File::open(rt, path) {
-        Ok(file) => file,
-        Err(why) => return Err(Unread::Refused(why)),
+/// The bytes of a file, or of the reader that is standard input; one more than a transcript may have at most.
+fn bytes_of<R: AllocGlobal + Files, I: Read>(
+    rt: &R,
+    path: &str,
+    reader: &mut I,
+) -> Result<Vec<u8>, Unread> {
+    let read = if path == STANDARD {
+        read_first(rt.alloc(), reader, MAX_TRANSCRIPT)
+    } else {
+        match File::open(rt, path) {
+            Ok(mut file) => read_first(rt.alloc(), &mut file, MAX_TRANSCRIPT),
+            Err(why) => return Err(Unread::Refused(why)),
+        }
     };
-    match read_first(rt.alloc(), &mut file, MAX_TRANSCRIPT) {
+    match read {
         Ok(bytes) => Ok(bytes),
         Err(ReadFault::Unreadable) => Err(Unread::Failed),
         Err(ReadFault::Memory) => Err(Unread::Memory),
     }
 }
 
-/// Puts what came into a file that differs, and says so.
+/// Says that what is printed is what stands there; what stands on standard input is said itself where it would be updated.
+fn agree(
+    path: &str,
+    bytes: &[u8],
+    updates: bool,
+    line: &mut String,
+) -> Result<FileEnd, AllocError> {
+    match str::from_utf8(bytes) {
+        Ok(text) if updates && path == STANDARD => line.push_str(text)?,
+        _ => write!(line, "ok {path}\n")?,
+    }
+    Ok(FileEnd::Agrees)
+}
+
+/// Puts what came into a file that differs, and says so; of standard input it says what came, and nothing else.
 fn update<R: AllocGlobal + Files>(
     rt: &R,
     path: &str,
     updated: &str,
     line: &mut String,
 ) -> Result<FileEnd, AllocError> {
+    if path == STANDARD {
+        line.push_str(updated)?;
+        return Ok(FileEnd::Agrees);
+    }
     match replace_file(rt, path, updated.as_bytes()) {
         Ok(()) => {
             write!(line, "updated {path}\n")?;
@@ -111,10 +139,7 @@ fn test_bytes<R: AllocGlobal + Files>(
     line: &mut String,
 ) -> Result<FileEnd, AllocError> {
     match test_transcript(rt.alloc(), bytes, usual)? {
-        Outcome::Agrees => {
-            write!(line, "ok {path}\n")?;
-            Ok(FileEnd::Agrees)
-        }
+        Outcome::Agrees => agree(path, bytes, updates, line),
         Outcome::Differs {
             difference: _,
             updated,
@@ -138,14 +163,15 @@ fn test_bytes<R: AllocGlobal + Files>(
 }
 
 /// Tests a file, and says how that came out.
-fn test_file<R: AllocGlobal + Files>(
+fn test_file<R: AllocGlobal + Files, I: Read>(
     rt: &R,
     path: &str,
     usual: Options,
     updates: bool,
+    reader: &mut I,
     line: &mut String,
 ) -> Result<FileEnd, AllocError> {
-    match bytes_of(rt, path) {
+    match bytes_of(rt, path, reader) {
         Ok(bytes) => test_bytes(rt, path, &bytes, usual, updates, line),
         Err(Unread::Refused(why)) => {
             write!(line, "{path}: unreadable: {why}\n")?;
@@ -160,24 +186,25 @@ fn test_file<R: AllocGlobal + Files>(
 }
 
 /// Tests the transcripts of files, one after the other, and writes a line for each: `ok` and the path, or the path and the first difference or
-/// fault. With `updates`, what came is written into each file that differs, and the line says so. An option that a transcript does not give is
-/// one of these.
+/// fault. With `updates`, what came is written into each file that differs, and the line says so. `-` is the reader; with `updates` the transcript is
+/// written in place of its line. An option that a transcript does not give is one of these.
 ///
 /// # Errors
 ///
 /// `OutputFailed` where a line is not written, and `Memory` where memory is refused. The files behind it are then not tested.
-pub fn test_files<R: AllocGlobal + Files, S: AsStr, W: Write>(
+pub fn test_files<R: AllocGlobal + Files, S: AsStr, I: Read, W: Write>(
     rt: &R,
     paths: &[S],
     usual: Options,
     updates: bool,
+    reader: &mut I,
     writer: &mut W,
 ) -> Result<Tally, RunFault> {
     let mut tally = Tally::default();
     let mut line = String::new(rt.alloc());
     for path in paths {
         line.clear();
-        tally.count(test_file(rt, path.as_str(), usual, updates, &mut line)?);
+        tally.count(test_file(rt, path.as_str(), usual, updates, reader, &mut line)?);
         put(writer, line.as_bytes())?;
         flush(writer)?;
     }

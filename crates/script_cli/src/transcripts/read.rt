@@ -18,7 +18,7 @@ pub struct Answer {
 }
 
 /// A line of the script, and what must be printed when it is played.
-#[derive(Debug, Drop)]
+#[derive(Drop)]
 pub struct Told {
     /// The number of its line in the transcript, from 1. It is 0 for what must be printed before any step.
     pub number: u32,
@@ -29,7 +29,7 @@ pub struct Told {
 }
 
 /// A transcript.
-#[derive(Debug, Drop)]
+#[derive(Drop)]
 pub struct Transcript {
     given: Given,
     told: Vec<Told>,

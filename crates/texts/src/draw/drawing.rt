@@ -13,7 +13,8 @@ use script_cli::{
 };
 use std::alloc::{AllocError, Global};
 use std::io::Write;
-use step_core::{Bench, Config, Image, Reply, Step};
+use step_core::{Config, Image, Reply, Step};
+use world_bench::Bench;
 
 /// The most pages that a picture has; of a larger pool it has the first ones.
 pub const MOST_CELLS: u32 = 1_024;

@@ -8,7 +8,8 @@ use page_ledger::Owner;
 use page_memory::PageNo;
 use script_cli::append_counts;
 use std::alloc::{AllocError, Global};
-use step_core::{Bench, Reply};
+use step_core::Reply;
+use world_bench::Bench;
 
 /// What stands over a picture.
 #[derive(Clone, Copy)]

@@ -1,7 +1,8 @@
 //! The rings of the queues: a strip of slots for each half, and where both sides stand in it.
 
 use std::alloc::AllocError;
-use step_core::{Bench, Rings};
+use step_core::Rings;
+use world_bench::Bench;
 
 /// The most slots that a strip has; of longer rings the positions are told in words alone.
 const MOST_SLOTS: u16 = 64;

@@ -146,7 +146,7 @@ impl CaseReader {
             return Err(Stop::At(key, Wrong::IsOut));
         };
         whole.set(0, &bytes);
-        self.store.put(page, whole);
+        self.store.put(whole);
         Ok(())
     }
 

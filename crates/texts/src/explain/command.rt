@@ -16,7 +16,7 @@ use crate::explain::list::{Taken, Walked, walk_list};
 use block_image::{BLOCK_SIZE, Image};
 use controller_walk::{Walk, WalkFault};
 use entry_codec::{Status, SubEntry, io_opcode};
-use io_commands::{Kind, begin_job};
+use io_commands::{Kind, begin_job, block_number, first_block, first_bytes, kind_of};
 use page_memory::TouchRecord;
 use std::alloc::{AllocError, Global};
 
@@ -31,53 +31,6 @@ pub struct Explanation {
     pub fault: Option<WalkFault>,
     /// The status that it completes with.
     pub status: Status,
-}
-
-/// The command of an opcode, if it is a Read, a Write or a Compare.
-fn kind_of(opcode: u8) -> Option<Kind>
-    ensures { result ≡ kind_of_opcode opcode }
-{
-    match opcode {
-        io_opcode::WRITE => Some(Kind::Write),
-        io_opcode::READ => Some(Kind::Read),
-        io_opcode::COMPARE => Some(Kind::Compare),
-        _ => None,
-    }
-}
-
-/// The first block that an entry names.
-fn first_block(entry: &SubEntry) -> u64
-    ensures { result ≡ spec_first_block entry.now }
-{
-    u64::from(entry.cdw10) + (u64::from(entry.cdw11) << 32)
-}
-
-/// How many blocks an entry names.
-fn block_number(entry: &SubEntry) -> u32
-    ensures number { result ≡ spec_block_number entry.now }
-    ensures some { 0 < result }
-    ensures most { result ≤ 65536 }
-{
-    entry.cdw12 % 65_536 + 1
-}
-
-/// The bytes that a command begins with: the blocks of a Read, and zeros for what a Write or a Compare fetches.
-fn first_bytes(
-    alloc: Global,
-    entry: &SubEntry,
-    kind: Kind,
-    image: &Image,
-) -> Result<Vec<u8>, AllocError>
-    requires passes { io_fault (block_count image.now) entry.now ≡ None }
-    requires kind { kind_of_opcode entry.now.opcode ≡ Some kind }
-    ensures bytes { IfOk result (λ bytes. bytes.items ≡ spec_first_bytes image.now entry.now (Some kind)) }
-    ensures length { IfOk result (λ bytes. length bytes.items ≡ need_of_entry entry.now) }
-{
-    let number = block_number(entry);
-    match kind {
-        Kind::Read => Vec::from_slice(alloc, image.blocks_from(first_block(entry), number)),
-        Kind::Write | Kind::Compare => vec![in alloc; 0; BLOCK_SIZE * number as usize],
-    }
 }
 
 /// How a command ends whose list was walked.

@@ -6,7 +6,7 @@ ghost use Rattle.page_memory.specs.Pages.{byte_at};
 ghost use Rattle.texts.specs.Slots.{byte_text, place_text, row_bytes_text, rows_text};
 
 use std::alloc::AllocError;
-use step_core::Bench;
+use world_bench::Bench;
 
 /// How many bytes stand in a line.
 const WIDTH: usize = 16;

@@ -5,7 +5,7 @@ use crate::traces::slots::{put_completion_slot, put_submission_slot};
 use entry_codec::status_names::Named;
 use entry_codec::{ComEntry, SubEntry, admin_opcode, io_opcode};
 use std::alloc::AllocError;
-use step_core::Bench;
+use world_bench::Bench;
 
 /// What an opcode asks for, on queue 0 or another one.
 fn opcode_name(q: u16, opcode: u8) -> &'static str {

@@ -3,7 +3,7 @@
 use crate::traces::bytes::{put_place, sixteen_at};
 use sgl_descriptor::Descriptor;
 use std::alloc::AllocError;
-use step_core::Bench;
+use world_bench::Bench;
 
 /// The bytes of a descriptor.
 const DESCRIPTOR: u64 = 16;

@@ -6,7 +6,8 @@ ghost use Rattle.texts.specs.Slots.{HasNoPage, IsFirstPage, IsSlot, SaysSlot, sl
 
 use crate::traces::bytes::{put_bytes, put_place, sixteen_at, sixty_four_at};
 use std::alloc::AllocError;
-use step_core::{Bench, Half, Owner, PageNo};
+use step_core::{Half, Owner, PageNo};
+use world_bench::Bench;
 
 /// The bytes of a page.
 const PAGE: u64 = 4_096;

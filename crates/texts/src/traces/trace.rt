@@ -3,7 +3,8 @@
 use crate::traces::entries::{put_completion, put_submission};
 use crate::traces::rings::{put_doorbell, slot_before};
 use std::alloc::AllocError;
-use step_core::{Bench, Half, Owner, PageNo, Reaped, Reply, Rings, Role, Step};
+use step_core::{Half, Owner, PageNo, Reaped, Reply, Rings, Role, Step};
+use world_bench::Bench;
 
 /// What of a step its trace needs, while the step itself is spent.
 #[derive(Clone, Copy, Debug, PartialEq, Eq)]

@@ -1,5 +1,7 @@
 use Rattle.std.proofs.Common.{refl, Some}
-use Rattle.program.{proofs.Telling.{ends_told, not_saved, ran_anyway, script_failed, writes_told}, specs.{Asked.{given_of, steps}, Performing.Performs}}
+use Rattle.program.proofs.Telling.{ends_told, not_saved, ran_anyway, script_failed, writes_told}
+use Rattle.command_line.specs.Asked.{given_of, steps}
+use Rattle.program.specs.Performing.{Performs}
 use Rattle.script_cli.{proofs.Runs.run_to_text, specs.Runs.IsRunText}
 use Rattle.program.proofs.commands.play.Goals as goal
 

@@ -1,4 +1,5 @@
-use Rattle.program.{proofs.Telling.{ends_jobs_told, script_failed_jobs, writes_jobs_told}, specs.Asked.given_of}
+use Rattle.program.proofs.Telling.{ends_jobs_told, script_failed_jobs, writes_jobs_told}
+use Rattle.command_line.specs.Asked.{given_of}
 use Rattle.job_cli.specs.JobRuns.{IsJobsText}
 use Rattle.program.proofs.commands.run_threads.Goals as goal
 

@@ -1,0 +1,184 @@
+-- What words ask for, by what a parse finds of them.
+use Rattle.std.proofs.Common.{◌≡◌, ◌∙◌, ◌||◌, ap, ap₂, Bool, true, false, refl, ◌&&◌, ◌<◌, ◌^◌, ℕ, List, [], ◌∷◌, Option, Some, None, sym, ◌⊎◌, ◌≤◌, subst, inl, inr, codes}
+use Rattle.std.{proofs.lemmas.{Bool.{ltb-true, lt-ltb, le-leb}, Slice.Eq.bytes_eq-Decides}, specs.{Box.box_value, Char.digit_value, List.list_all}}
+use Rattle.std.specs.{Prelude.{Result, Ok, Err, nat_lt, option_and_then, if◌then◌else◌, IfErr, IsErrAnd, option_map}, Str.bytes_eq}
+use Rattle.std.specs.Str.Parse.{AllDigits, IsNumeral, ParsesUnsigned, digits_value, without_leading_plus}
+use Rattle.clap.{proofs.{OnLiterals.clap_on_literals, WalkLemmas.both}, specs.ValueTests.is_numeral}
+use Rattle.clap.specs.Words.{AddsArg, App, Rule, app_of, rule_of, with_rule, ReadsOne, Text, HasKind, HasMatchesOf, IsAmong, Kinds, Row, fault_of, found_of, is_simple, is_simple_and_free, kind_of, rows_of, subcommand_name_of, subcommand_of, subcommand_rows_of, first_of}
+use Rattle.clap.specs.declared.{builder.{arg.Arg.Arg, command.Command.{Command, TheViews.out-Command}}, error.{Error.Error, kind.ErrorKind.ErrorKind}}
+use Rattle.clap.specs.declared.{error.kind.ErrorKind.TheVariants.OutOfMemory, parser.matches.ArgMatches.{ArgMatches, TheViews.{out-ArgMatches, out-SubCommand}}}
+use Rattle.command_line.specs.Asked.{number, Asked, are_submitters, asked, asked_by, if_submitters, unless_at_fault, Given, amount_under, are_load_numbers, blocks_in, count_in, depth_in, given_in, has_flag, load, load_by, loaded_in, log_limit_in, number_under, numjobs_in, pattern_in}
+use Rattle.command_line.specs.Commands.{nvmesgl}
+use Rattle.script_cli.specs.declared.workload.Pattern.{Pattern}
+
+-- What adding an argument makes of a command.
+
+-- a command is what adding to another made, by what a parse reads of both
+pub added_shape : (old : Command) (a : Arg) (new : Command) (x : App) (r : Rule) → AddsArg old a new
+    → a.global ≡ false → app_of old ≡ x → rule_of a ≡ r → app_of new ≡ with_rule x r
+added_shape old a new x r adds local is rule = adds.shape local ∙ ap₂ with_rule is rule
+
+or_false : (b : Bool) → (b || false) ≡ b
+or_false true = refl
+or_false false = refl
+
+-- and it has no global argument more
+pub added_local : (old : Command) (a : Arg) (new : Command) (b : Bool) → AddsArg old a new
+    → a.global ≡ false → (out-Command old).has_globals ≡ b → (out-Command new).has_globals ≡ b
+added_local old a new b adds local is = adds.globals ∙ (ap (λ (g : Bool). (out-Command old).has_globals || g) local ∙ (or_false _ ∙ is))
+
+-- The number that a text is read as.
+
+digits_tested : (ds : List ℕ) → AllDigits 10 ds → list_all (λ d. nat_lt (digit_value d) 10) ds ≡ true
+digits_tested [] h = refl
+digits_tested (d ∷ ds) h = rw (lt-ltb (digit_value d) 10 h.0) (digits_tested ds h.1)
+
+digits_found : (ds : List ℕ) → list_all (λ d. nat_lt (digit_value d) 10) ds ≡ true → AllDigits 10 ds
+digits_found [] e = tt
+digits_found (d ∷ ds) e =
+    let parts = both _ _ e in
+    (ltb-true _ _ parts.0, digits_found ds parts.1)
+
+fits_tested : (ds : List ℕ) → IsNumeral 10 ds → digits_value 10 ds < 2 ^ 32 → (is_numeral ds && nat_lt (digits_value 10 ds) (2 ^ 32)) ≡ true
+fits_tested ds h low = rw (lt-ltb _ _ h.0, digits_tested ds h.1, lt-ltb _ _ low) refl
+
+fits_found : (ds : List ℕ) → (is_numeral ds && nat_lt (digits_value 10 ds) (2 ^ 32)) ≡ true → IsNumeral 10 ds × (digits_value 10 ds < 2 ^ 32)
+fits_found ds e =
+    let parts = both _ _ e in
+    let numeral = both _ _ parts.0 in
+    ((ltb-true _ _ numeral.0, digits_found ds numeral.1), ltb-true _ _ parts.1)
+
+-- what a getter of 32 bits reads of a text is its number
+read_is : (E : Type 0) (G : List ℕ → Result ℕ E → Type 0) → ((u : List ℕ) (x : Result ℕ E) → G u x → ParsesUnsigned 32 10 u x)
+    → (t : Text) (r : Option ℕ) → ReadsOne G t r → r ≡ number t
+read_is E G only t (Some v) h =
+    let parsed = only t (Ok v) h in
+    ap Some parsed.1 ∙ sym (ap (λ (b : Bool). if b then Some (digits_value 10 (without_leading_plus t)) else None)
+    (fits_tested (without_leading_plus t) parsed.0.0 parsed.0.1))
+read_is E G only t None h = go (is_numeral (without_leading_plus t) && nat_lt (digits_value 10 (without_leading_plus t)) (2 ^ 32)) refl
+  where
+    go : (b : Bool) → (is_numeral (without_leading_plus t) && nat_lt (digits_value 10 (without_leading_plus t)) (2 ^ 32)) ≡ b
+        → None ≡ (if b then Some (digits_value 10 (without_leading_plus t)) else None)
+    go true e = absurd (only t (Err h.0) h.1 (fits_found (without_leading_plus t) e))
+    go false e = refl
+
+-- and so of a text that may not be there
+pub number_is : (E : Type 0) (G : List ℕ → Result ℕ E → Type 0) → ((u : List ℕ) (x : Result ℕ E) → G u x → ParsesUnsigned 32 10 u x)
+    → (o : Option Text) (r : Option ℕ) → (o ≡ None → r ≡ None) → ((t : List ℕ) → o ≡ Some t → ReadsOne G t r) → r ≡ option_and_then number o
+number_is E G only None r none value = none refl
+number_is E G only (Some t) r none value = read_is E G only t r (value t refl)
+
+-- What words ask for, by what a parse finds of them.
+
+simple : is_simple nvmesgl ≡ true
+unfolding clap_on_literals
+simple = refl
+
+free : is_simple_and_free nvmesgl ≡ true
+unfolding clap_on_literals
+free = refl
+
+-- words with a fault ask for nothing
+with_fault : (words : List Text) (k : ErrorKind) → IsAmong k (fault_of nvmesgl words) → asked words ≡ None
+with_fault words k among = go (fault_of nvmesgl words) among
+  where
+    go : (kinds : Kinds) → IsAmong k kinds → unless_at_fault kinds (asked_by (subcommand_of nvmesgl words)) ≡ None
+    go [] h = absurd h
+    go (x ∷ xs) h = refl
+
+-- where a parse of the words fails, they ask for nothing, or memory is wanting
+pub failed_parse : (a : App) (words : List Text) (e : Error) → a ≡ nvmesgl → (is_simple_and_free a ≡ true → HasKind (fault_of a words) e)
+    → (kind_of e ≡ OutOfMemory) ⊎ (asked words ≡ None)
+failed_parse a words e is kinds =
+    let told : HasKind (fault_of nvmesgl words) e = (rw is at kinds) free in
+    elim told [
+      | inl h ↦ inl h
+      | inr h ↦ inr (with_fault words (kind_of e) h)
+    ]
+
+-- an error that `?` passes on is the one that was
+pub passed_on : {T E : Type 0} (r : Result T E) (P : E → Type 0) (e : E) → IsErrAnd r (λ x. x ≡ e) → P e → IfErr r P
+passed_on (Ok v) P e same holds = tt
+passed_on (Err x) P e same holds = subst P (sym same) holds
+
+-- where it succeeds, they ask for what the subcommand and its rows do
+pub parsed_asks : (a : App) (words : List Text) (m : ArgMatches) → a ≡ nvmesgl → (is_simple_and_free a ≡ true → fault_of a words ≡ [])
+    → HasMatchesOf a words m → asked words ≡ asked_by (subcommand_rows_of m)
+parsed_asks a words m is kinds matches =
+    let none : fault_of nvmesgl words ≡ [] = (rw is at kinds) free in
+    let met : HasMatchesOf nvmesgl words m = rw is at matches in
+    ap (λ (ks : Kinds). unless_at_fault ks (asked_by (subcommand_of nvmesgl words))) none ∙ ap asked_by (sym (met simple).1)
+
+-- a name and rows, of an option that has both
+both_of : {B : Type 0} (name_in : B → Text) (rows_in : B → List Row) (o : Option B) (name : Text) (rows : List Row)
+    → option_map name_in o ≡ Some name → option_map (λ (p : Text × List Row). p.1) (option_map (λ b. (name_in b, rows_in b)) o) ≡ Some rows
+    → option_map {U = Text × List Row} (λ b. (name_in b, rows_in b)) o ≡ Some (name, rows)
+both_of name_in rows_in None name rows named found =
+    let bad : None ≡ Some name = named in
+    cc
+both_of name_in rows_in (Some b) name rows named found =
+    let first : Some (name_in b) ≡ Some name = named in
+    let second : Some (rows_in b) ≡ Some rows = found in
+    cc
+
+first_of_both : {B : Type 0} (name_in : B → Text) (rows_in : B → List Row) (o : Option B)
+    → option_map name_in o ≡ option_map (λ (p : Text × List Row). p.0) (option_map (λ b. (name_in b, rows_in b)) o)
+first_of_both name_in rows_in None = refl
+first_of_both name_in rows_in (Some b) = refl
+
+-- the name and the rows of the subcommand, from both alone
+named_rows : (m : ArgMatches) (name : Text) (rows : List Row) → subcommand_name_of m ≡ Some name
+    → option_map (λ p. p.1) (subcommand_rows_of m) ≡ Some rows → subcommand_rows_of m ≡ Some (name, rows)
+named_rows m name rows named found =
+    both_of (λ b. (out-SubCommand (box_value b)).name.now) (λ b. rows_of (found_of (out-SubCommand (box_value b)).matches))
+    (out-ArgMatches m).subcommand name rows named found
+
+-- and so what the words ask for
+pub named_asks : (a : App) (words : List Text) (m : ArgMatches) (name : Text) (rows : List Row) → a ≡ nvmesgl
+    → (is_simple_and_free a ≡ true → fault_of a words ≡ []) → HasMatchesOf a words m → subcommand_name_of m ≡ Some name
+    → option_map (λ p. p.1) (subcommand_rows_of m) ≡ Some rows → asked words ≡ asked_by (Some (name, rows))
+named_asks a words m name rows is kinds matches named found = parsed_asks a words m is kinds matches ∙ ap asked_by (named_rows m name rows named found)
+
+pub name_of_rows : (m : ArgMatches) → subcommand_name_of m ≡ option_map (λ p. p.0) (subcommand_rows_of m)
+name_of_rows m =
+    first_of_both (λ b. (out-SubCommand (box_value b)).name.now) (λ b. rows_of (found_of (out-SubCommand (box_value b)).matches))
+    (out-ArgMatches m).subcommand
+
+no_value : {A B : Type 0} (f : A → B) (o : Option A) → option_map f o ≡ None → o ≡ None
+no_value f None e = refl
+no_value f (Some a) e =
+    let bad : Some (f a) ≡ None = e in
+    cc
+
+-- without a name nothing is asked for
+pub unnamed_asks : (a : App) (words : List Text) (m : ArgMatches) → a ≡ nvmesgl → (is_simple_and_free a ≡ true → fault_of a words ≡ [])
+    → HasMatchesOf a words m → subcommand_name_of m ≡ None → asked words ≡ None
+unnamed_asks a words m is kinds matches none =
+    parsed_asks a words m is kinds matches ∙ ap asked_by (no_value (λ p. p.0) (subcommand_rows_of m) (sym (name_of_rows m) ∙ none))
+
+-- What `load` asks for, by what was read of its words.
+
+-- numbers in their ranges, a pattern and all else are what is asked for
+pub load_asked : (rows : List Row) (pattern : Pattern) (blocks submitters depth seed : ℕ) (limit count runtime : Option ℕ) (verify quiet : Bool) (stats : Option Text) (given : Given)
+    → blocks ≡ blocks_in rows → submitters ≡ numjobs_in rows → depth ≡ depth_in rows → limit ≡ log_limit_in rows → are_load_numbers blocks submitters depth limit ≡ true
+    → Some pattern ≡ pattern_in rows → given ≡ given_in rows → seed ≡ number_under (codes "seed") 1 rows → count ≡ count_in rows → runtime ≡ amount_under (codes "runtime") rows
+    → verify ≡ has_flag (codes "verify") rows → quiet ≡ has_flag (codes "quiet") rows → stats ≡ first_of (codes "stats") rows
+    → load_by rows ≡ Some (load given (record {
+      pattern = pattern;
+      command_blocks = blocks;
+      submitters = submitters;
+      depth = depth;
+      log_limit = limit;
+      seed = seed;
+      count = count;
+      runtime = runtime;
+      verify = verify;
+      quiet = quiet;
+      stats = stats;
+    }))
+load_asked rows pattern blocks submitters depth seed limit count runtime verify quiet stats given b s d l fits named gives seeds counts runs verifies quiets saves =
+    let numbers : are_load_numbers (blocks_in rows) (numjobs_in rows) (depth_in rows) (log_limit_in rows) ≡ true =
+    sym (ap₂ (λ (x : ℕ) (y : ℕ). are_load_numbers x y (depth_in rows) (log_limit_in rows)) b s)
+    ∙ (sym (ap₂ (λ (x : ℕ) (y : Option ℕ). are_load_numbers blocks submitters x y) d l) ∙ fits) in
+    ap (λ (t : Bool). if t then option_map (λ p. load (given_in rows) (loaded_in rows p)) (pattern_in rows) else None) numbers
+    ∙ (ap (λ (o : Option Pattern). option_map (λ p. load (given_in rows) (loaded_in rows p)) o) (sym named) ∙ rw (b, s, d, l, gives, seeds, counts, runs, verifies, quiets, saves) refl)

@@ -1,0 +1,21 @@
+use Rattle.std.proofs.{Common.refl, lemmas.Result.IfOk-weaker}
+use Rattle.command_line.proofs.Asking.{added_local, added_shape}
+use Rattle.command_line.proofs.load_options.with_checks.Goals as goal
+
+pub returns-clause-shape : goal.returns-clause-shape
+returns-clause-shape c =
+    let depth = added_shape _ _ _ _ _ c.in_ok-arg.ensures c.arg.ensures.local refl c.arg.ensures.rule in
+    let limit = added_shape _ _ _ _ _ c.in_ok-arg-2.ensures c.optional_arg.ensures.local depth c.optional_arg.ensures.rule in
+    let seed = added_shape _ _ _ _ _ c.in_ok-arg-3.ensures c.arg-4.ensures.local limit c.arg-4.ensures.rule in
+    let verify = added_shape _ _ _ _ _ c.in_ok-arg-4.ensures c.flag_arg.ensures.local seed c.flag_arg.ensures.rule in
+    let stats = added_shape _ _ _ _ _ c.in_ok-arg-5.ensures c.stats_arg.ensures.local verify c.stats_arg.ensures.rule in
+    IfOk-weaker c.arg-8.result _ _ (λ new adds. added_shape _ _ _ _ _ adds c.flag_arg-2.ensures.local stats c.flag_arg-2.ensures.rule) c.arg-8.ensures
+
+pub returns-clause-local : goal.returns-clause-local
+returns-clause-local c =
+    let depth = added_local _ _ _ _ c.in_ok-arg.ensures c.arg.ensures.local refl in
+    let limit = added_local _ _ _ _ c.in_ok-arg-2.ensures c.optional_arg.ensures.local depth in
+    let seed = added_local _ _ _ _ c.in_ok-arg-3.ensures c.arg-4.ensures.local limit in
+    let verify = added_local _ _ _ _ c.in_ok-arg-4.ensures c.flag_arg.ensures.local seed in
+    let stats = added_local _ _ _ _ c.in_ok-arg-5.ensures c.stats_arg.ensures.local verify in
+    IfOk-weaker c.arg-8.result _ _ (λ new adds. added_local _ _ _ _ adds c.flag_arg-2.ensures.local stats) c.arg-8.ensures

@@ -1,0 +1,142 @@
+//! The options of `load`.
+
+ghost use Rattle.std.specs.Prelude.{◌≡◌, IfOk, false, codes};
+ghost use Rattle.clap.specs.Words.{app_of, rule_of};
+ghost use Rattle.clap.specs.declared.builder.command.Command.TheViews.{out-Command};
+ghost use Rattle.command_line.specs.Commands.{flag_rule, load, option_rule, text_rule, with_amounts, with_checks};
+
+use crate::commands::{LOG_LIMIT, Number, image_arg, with_sizes};
+use crate::help::{LOAD_ABOUT, LOAD_AFTER};
+use clap::{Arg, ArgAction, Command};
+use std::alloc::{AllocError, Global};
+
+pub(crate) const COMMAND_BLOCKS: Number = Number {
+    name: "bs",
+    usual: 1,
+    shown: "1",
+    range: (1, 256),
+    help: "Blocks of each command: 1 to 256",
+};
+
+pub(crate) const SUBMITTERS: Number = Number {
+    name: "numjobs",
+    usual: 1,
+    shown: "1",
+    range: (1, 16),
+    help: "Submitters, each in a thread of its own: 1 to 16",
+};
+
+pub(crate) const DEPTH: Number = Number {
+    name: "iodepth",
+    usual: 1,
+    shown: "1",
+    range: (1, 256),
+    help: "Commands that each submitter keeps outstanding: 1 to 256",
+};
+
+pub(crate) const SEED: Number = Number {
+    name: "seed",
+    usual: 1,
+    shown: "1",
+    range: (0, u32::MAX),
+    help: "What the order and the bytes are made of",
+};
+
+/// It has no usual value.
+pub(crate) const COUNT: Number = Number {
+    name: "count",
+    usual: 0,
+    shown: "",
+    range: (0, u32::MAX),
+    help: "Commands in all; 10000 where there is no --runtime either",
+};
+
+/// It has no usual value.
+pub(crate) const RUNTIME: Number = Number {
+    name: "runtime",
+    usual: 0,
+    shown: "",
+    range: (0, u32::MAX),
+    help: "Seconds after which no more commands are begun",
+};
+
+/// How many commands there are where neither their number nor a time is given.
+pub(crate) const USUAL_COUNT: u32 = 10_000;
+
+/// The option that names what is done.
+fn pattern_arg<'a>(alloc: Global) -> Arg<'a>
+    ensures rule { rule_of result ≡ text_rule (codes "rw") (codes "read") }
+    ensures local { result.global ≡ false }
+{
+    Arg::new(alloc, "rw")
+        .long("rw")
+        .value_name("PATTERN")
+        .default_value("read")
+        .help("read, write, randread, randwrite or randrw")
+}
+
+/// An option without a value.
+fn flag_arg<'a>(alloc: Global, name: &'static str, help: &'static str) -> Arg<'a>
+    ensures rule { rule_of result ≡ flag_rule name.now }
+    ensures local { result.global ≡ false }
+{
+    Arg::new(alloc, name)
+        .long(name)
+        .action(ArgAction::SetTrue)
+        .help(help)
+}
+
+/// The option that names the file of the statistics.
+fn stats_arg<'a>(alloc: Global) -> Arg<'a>
+    ensures rule { rule_of result ≡ option_rule (codes "stats") }
+    ensures local { result.global ≡ false }
+{
+    Arg::new(alloc, "stats")
+        .long("stats")
+        .value_name("FILE")
+        .help("Writes what was measured into this file, as JSON; - is standard output")
+}
+
+/// A command with what is done, and how much.
+fn with_amounts<'a>(alloc: Global, command: Command<'a>) -> Result<Command<'a>, AllocError>
+    ensures shape { IfOk result (λ whole. app_of whole ≡ with_amounts (app_of command.entry)) }
+    ensures local { IfOk result (λ whole. (out-Command whole).has_globals ≡ (out-Command command.entry).has_globals) }
+{
+    command
+        .arg(pattern_arg(alloc))?
+        .arg(COMMAND_BLOCKS.arg(alloc))?
+        .arg(COUNT.optional_arg(alloc))?
+        .arg(RUNTIME.optional_arg(alloc))?
+        .arg(SUBMITTERS.arg(alloc))
+}
+
+/// A command with how deep it goes, what it checks and what it tells.
+fn with_checks<'a>(alloc: Global, command: Command<'a>) -> Result<Command<'a>, AllocError>
+    ensures shape { IfOk result (λ whole. app_of whole ≡ with_checks (app_of command.entry)) }
+    ensures local { IfOk result (λ whole. (out-Command whole).has_globals ≡ (out-Command command.entry).has_globals) }
+{
+    command
+        .arg(DEPTH.arg(alloc))?
+        .arg(LOG_LIMIT.optional_arg(alloc))?
+        .arg(SEED.arg(alloc))?
+        .arg(flag_arg(
+            alloc,
+            "verify",
+            "Compares what is read with what was written",
+        ))?
+        .arg(stats_arg(alloc))?
+        .arg(flag_arg(alloc, "quiet", "Tells no times on standard error"))
+}
+
+/// The command that makes its jobs.
+pub(crate) fn load_command<'a>(alloc: Global) -> Result<Command<'a>, AllocError>
+    ensures shape { IfOk result (λ command. app_of command ≡ load) }
+    ensures local { IfOk result (λ command. (out-Command command).has_globals ≡ false) }
+{
+    let command = Command::new(alloc, "load")
+        .about("Makes commands, runs them in threads and measures")
+        .long_about(LOAD_ABOUT)
+        .after_help(LOAD_AFTER);
+    let command = with_checks(alloc, with_amounts(alloc, command)?)?;
+    with_sizes(alloc, command)?.arg(image_arg(alloc))
+}

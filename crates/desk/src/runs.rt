@@ -1,0 +1,181 @@
+//! Runs of threads, and what they leave.
+
+ghost use Rattle.std.specs.Prelude.{◌≡◌, ◌≤◌, vec_len};
+ghost use Rattle.step_core.specs.Opening.{opening_of};
+
+use block_image::Image;
+use driver_book::{Book, LogBrand, ReportIn};
+use driver_threads::{Gate, Job, JobEnd, JobEndIn, JobEnds, JobIn, Ran, RunFault, run_threads};
+use entry_codec::Status;
+use io_commands::{Kind, Piece, Pieces, Request};
+use page_ledger::Owner;
+use page_memory::PageNo;
+use std::alloc::{AllocError, Allocator, Global};
+use std::marker::Brand;
+use std::sync::Wait;
+use std::sync::ledger::Blank;
+use std::thread::Threads;
+use step_core::{Bytes, Config, Reply};
+
+/// What a run leaves.
+#[derive(Drop)]
+pub struct Outcome<A: Allocator = Global> {
+    /// The report of its book.
+    pub report: ReportIn<A>,
+    /// How its jobs ended.
+    pub jobs: JobEnds<A>,
+    /// The owner of each page.
+    pub owners: Vec<Owner, A>,
+    /// How many entries the log has.
+    pub entries: usize,
+    /// How many of them are refusals.
+    pub refusals: usize,
+}
+
+/// The owner of each page.
+fn owners_of<L: LogBrand, A: Allocator + Copy>(
+    alloc: A,
+    book: &Book<L, A>,
+) -> Result<Vec<Owner, A>, RunFault> {
+    let mut owners = Vec::new(alloc);
+    for p in 0..book.pages() {
+        if owners.push(book.owner(PageNo(p))).is_err() {
+            return Err(RunFault::Memory);
+        }
+    }
+    Ok(owners)
+}
+
+/// How many entries of a book's log are refusals.
+fn refusals_of<L: LogBrand, A: Allocator + Copy>(book: &Book<L, A>) -> usize {
+    let log = book.log();
+    (0..log.len())
+        .filter_map(|index| log.get(index))
+        .filter(|entry| matches!(entry.answer, Reply::Refused { .. }))
+        .count()
+}
+
+/// Runs jobs over a new book.
+fn outcome_of<
+    L: LogBrand + Send + Sync,
+    A: Allocator + Copy + Send + Sync,
+    G: Gate + Sync,
+    R: Threads + Wait + Sync,
+>(
+    rt: &R,
+    alloc: A,
+    config: Config,
+    image: Image<A>,
+    jobs: Vec<Vec<JobIn<A>, A>, A>,
+    depth: usize,
+    gate: &G,
+    blank: Blank,
+) -> Result<Outcome<A>, RunFault>
+    requires name { blank.name ≡ L.name }
+    requires parts { blank.parts ≡ L.parts }
+    requires number { blank.parts ≡ 65536 }
+    requires opening { L.opening ≡ opening_of config image }
+    requires some { 1 ≤ vec_len jobs }
+    requires few { vec_len jobs ≤ 16 }
+    requires at_least_one { 1 ≤ depth }
+    requires at_most { depth ≤ 256 }
+{
+    let ran: Ran<L, A> = run_threads(rt, alloc, config, image, jobs, depth, gate, blank)?;
+    let Ran { report, jobs, book } = ran;
+    Ok(Outcome {
+        report,
+        jobs,
+        owners: owners_of(alloc, &book)?,
+        entries: book.log().len(),
+        refusals: refusals_of(&book),
+    })
+}
+
+/// Runs jobs over a new book, whose image has so many zero blocks, each submitter with so many in flight at most.
+pub fn play_at<A: Allocator + Copy + Send + Sync, G: Gate + Sync, R: Threads + Wait + Sync>(
+    rt: &R,
+    alloc: A,
+    config: Config,
+    blocks: u32,
+    jobs: Vec<Vec<JobIn<A>, A>, A>,
+    depth: usize,
+    gate: &G,
+) -> Result<Outcome<A>, RunFault>
+    requires some { 1 ≤ vec_len jobs }
+    requires few { vec_len jobs ≤ 16 }
+    requires at_least_one { 1 ≤ depth }
+    requires at_most { depth ≤ 256 }
+{
+    let Ok(image) = Image::zeroed(alloc, blocks) else {
+        return Err(RunFault::Memory);
+    };
+    outcome_of::<Brand, A, G, R>(
+        rt,
+        alloc,
+        config,
+        image,
+        jobs,
+        depth,
+        gate,
+        Blank::new(65536),
+    )
+}
+
+/// Runs jobs one after the other for each submitter, over a new book, whose image has so many zero blocks.
+pub fn play<A: Allocator + Copy + Send + Sync, G: Gate + Sync, R: Threads + Wait + Sync>(
+    rt: &R,
+    alloc: A,
+    config: Config,
+    blocks: u32,
+    jobs: Vec<Vec<JobIn<A>, A>, A>,
+    gate: &G,
+) -> Result<Outcome<A>, RunFault>
+    requires some { 1 ≤ vec_len jobs }
+    requires few { vec_len jobs ≤ 16 }
+{
+    play_at(rt, alloc, config, blocks, jobs, 1, gate)
+}
+
+/// So many pieces of one block each.
+fn pieces<A: Allocator + Copy>(alloc: A, blocks: u32) -> Result<Pieces<A>, AllocError> {
+    let mut pieces = Pieces::new(alloc);
+    for _ in 0..blocks {
+        pieces.push(Piece::Data {
+            offset: 0,
+            len: 512,
+        })?;
+    }
+    Ok(pieces)
+}
+
+/// A job of so many blocks, each in a piece of its own.
+pub fn job<A: Allocator + Copy>(
+    alloc: A,
+    q: u16,
+    kind: Kind,
+    slba: u64,
+    blocks: u32,
+    bytes: &[u8],
+) -> Result<JobIn<A>, AllocError> {
+    Ok(Job {
+        q,
+        request: Request {
+            kind,
+            slba,
+            blocks,
+            pieces: pieces(alloc, blocks)?,
+        },
+        bytes: Bytes::from_vec(Vec::from_slice(alloc, bytes)?),
+    })
+}
+
+/// Whether a job was carried through, with this status and these bytes.
+pub fn is_done<A: Allocator>(end: &JobEndIn<A>, status: Status, bytes: &[u8]) -> bool {
+    match end {
+        JobEnd::Done {
+            status: told,
+            bytes: gathered,
+        } => *told == status && gathered.as_slice() == bytes,
+        JobEnd::Refused(_) => false,
+    }
+}

@@ -1,7 +1,0 @@
--- the numbers so far are those below the next one
-use Rattle.std.proofs.Common.{◌-◌}
-use Rattle.job_cli.specs.Picking.{AreCounted}
-use Rattle.job_cli.proofs.load.picks.in_turn.Given as goal
-
-abbrev pub invariant-loop-slot : goal.invariant-loop-slot
-invariant-loop-slot l = AreCounted l.from (l.slot - l.from) l.slots.items

@@ -1,7 +1,0 @@
-use Rattle.std.proofs.Common.{arith}
-use Rattle.job_cli.proofs.Loads.{page_pushed}
-use Rattle.job_cli.proofs.load.plan.pieces_of.Goals as goal
-
-pub loop-rest-preserved : goal.loop-rest-preserved
-loop-rest-preserved c =
-    page_pushed c.loop-rest.pieces c.push.new.self c.loop-rest.rest c.args.blocks c.in_ok-push.ensures.pushed (omega arith) c.loop-rest.invariant

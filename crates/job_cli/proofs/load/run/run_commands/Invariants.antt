@@ -1,7 +1,0 @@
-use Rattle.job_cli.proofs.load.run.run_commands.Given as goal
-
-abbrev pub invariant-loop : goal.invariant-loop
-invariant-loop g l = record {
-  next : (goal.iterator-loop g).can_next l.iterator';
-  finite : (goal.iterator-loop g).is_finite l.iterator';
-}

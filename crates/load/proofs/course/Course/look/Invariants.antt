@@ -1,0 +1,16 @@
+-- the submitters that are left are counted behind those that came; the slots and what they held at first stay
+use Rattle.std.{proofs.Common.{◌≡◌, map}, specs.{Iterator.Adapters.{zip_first, zip_second}, Slice.Iter.iter_rest}}
+use Rattle.load.specs.Tallies.{no_tally, tallies_from, wanted_of}
+use Rattle.load.proofs.course.Course.look.Given as goal
+
+abbrev pub invariant-loop-plan : goal.invariant-loop-plan
+invariant-loop-plan l = record {
+  next : (goal.iterator-loop-plan).can_next l.plan-iterator;
+  finite : (goal.iterator-loop-plan).is_finite l.plan-iterator;
+  layout : l.self.layout ≡ l.layout;
+  content : l.self.content ≡ l.fn.self.content;
+  told :
+      tallies_from (wanted_of l.layout l.fn.self.content) l.tally (map (λ plan. plan.items) (iter_rest (zip_first l.plan-iterator)))
+      (map (λ list. list.items) (iter_rest (zip_second l.plan-iterator)))
+      ≡ tallies_from (wanted_of l.layout l.fn.self.content) no_tally (map (λ plan. plan.items) l.plans) l.ends;
+}

@@ -1,0 +1,16 @@
+-- The line of a load.
+use Rattle.std.specs.Prelude.{ℕ, List, [], ◌∷◌, ◌++◌, codes, decimal}
+use Rattle.script_cli.specs.Patterns.{pattern_name}
+use Rattle.load.specs.declared.tally.Tally.{Tally}
+use Rattle.script_cli.specs.declared.workload.Pattern.{Pattern}
+use Rattle.script_cli.specs.Inputs.{IsFront}
+
+-- the line of a load, with its line feed
+abbrev pub line_text : Pattern → Tally → List ℕ
+line_text pattern tally =
+    codes "load " ++ (pattern_name pattern ++ (codes " done " ++ (decimal tally.done ++ (codes " refused " ++ (decimal tally.refused ++ (codes " failed " ++ (decimal tally.failed
+    ++ (codes " verified " ++ (decimal tally.verified ++ (codes " differ " ++ (decimal tally.differ ++ (10 ∷ []))))))))))))
+
+-- the front of such a line
+abbrev pub IsLineFront : Pattern → List ℕ → Type 0
+IsLineFront pattern front = (tally : Tally) × IsFront front (line_text pattern tally)

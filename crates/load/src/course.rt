@@ -1,0 +1,236 @@
+//! What goes on from round to round.
+
+ghost use Rattle.load.specs.Planning.{IsInside};
+ghost use Rattle.std.specs.Prelude.{◌≡◌, ◌≤◌, ◌<◌, ◌*◌, All, IfOk, IfSome, length, map, min, vec_len};
+ghost use Rattle.std.proofs.Props.{props};
+ghost use Rattle.load.specs.Course.{AreJobs, ArePlans, commands_for as spec_commands_for, share_of as spec_share_of};
+ghost use Rattle.load.specs.Tallies.{both, counted, no_tally, tallies_from, wanted_of};
+ghost use Rattle.script_cli.specs.Loads.{FitsLoad};
+
+use crate::bad::Bad;
+use crate::content::Content;
+use crate::layout::Layout;
+use crate::look::{look_at, note_writes};
+use crate::measured::Measured;
+use crate::picks::Picks;
+use crate::plan::{Planned, jobs_of, plan_one, plan_some};
+use crate::tally::Tally;
+use driver_threads::{Job, JobEnds};
+use io_commands::Kind;
+use script_cli::workload::Load;
+use std::alloc::{AllocError, Global};
+
+/// The most commands of a round whose log is not limited: so many leave a log of some thousand entries.
+const USUAL_ROUND: u64 = 800;
+
+/// What goes on from round to round, beside the world.
+#[derive(Drop)]
+pub(crate) struct Course {
+    layout: Layout,
+    seed: u32,
+    /// How many I/O queues there are.
+    queues: u16,
+    /// The most commands of a round.
+    round: u64,
+    picks: Vec<Picks>,
+    /// How often each slot was written.
+    generations: Vec<u32>,
+    /// What the slots hold, where that is compared.
+    content: Option<Content>,
+    tally: Tally,
+    bad: Option<Bad>,
+    measured: Measured,
+    ghost some_queues: { 1 ≤ queues },
+    ghost all_picks: { vec_len picks ≡ layout.submitters },
+    ghost all_slots: { vec_len generations ≡ layout.submitters * layout.slots },
+    ghost whole: { IfSome content (λ c. vec_len c.first ≡ 512 * layout.blocks) } by { Prim.hlevel props },
+}
+
+/// The most commands of a round, each of so many blocks: so many that its log has no more entries than it may have, and one at least.
+fn commands_for(command_blocks: u32, log_limit: Option<u32>) -> u64
+    requires { command_blocks ≤ 256 }
+    ensures { result ≡ spec_commands_for command_blocks log_limit }
+{
+    let Some(entries) = log_limit else {
+        return USUAL_ROUND;
+    };
+    let pages = u64::from(command_blocks).div_ceil(8);
+    (u64::from(entries) / (8 + 3 * pages)).max(1)
+}
+
+/// How many of so many commands a submitter does.
+fn share_of(commands: u64, submitters: u16, submitter: u16) -> u64
+    requires { submitter < submitters }
+    ensures { result ≡ spec_share_of commands submitters submitter }
+{
+    let all = u64::from(submitters);
+    let more = if u64::from(submitter) < commands % all {
+        1
+    } else {
+        0
+    };
+    commands / all + more
+}
+
+impl Course {
+    /// Before the first round, over an image of these bytes where reads are compared.
+    pub(crate) fn new(
+        alloc: Global,
+        load: &Load<'_>,
+        layout: Layout,
+        queues: u16,
+        content: Option<Content>,
+    ) -> Result<Course, AllocError>
+        requires fits { FitsLoad load.now }
+        requires queues { 1 ≤ queues }
+        requires whole { IfSome content (λ c. vec_len c.first ≡ 512 * layout.blocks) }
+    {
+        let mut picks = Vec::with_capacity(alloc, usize::from(layout.submitters))?;
+        for submitter in 0..layout.submitters {
+            picks.push(Picks::new(load.pattern, load.seed, submitter))?;
+        }
+        Ok(Course {
+            layout,
+            seed: load.seed,
+            queues,
+            round: commands_for(load.command_blocks, load.log_limit),
+            picks,
+            generations: vec![in alloc; 0; layout.all_slots()]?,
+            content,
+            tally: Tally::NONE,
+            bad: None,
+            measured: Measured::new(alloc)?,
+        })
+    }
+
+    /// How many commands ended how.
+    pub(crate) fn tally(&self) -> Tally
+        ensures { result ≡ self.now.tally }
+    {
+        self.tally
+    }
+
+    /// The next commands of the load, so many at most.
+    pub(crate) fn plan(&mut self, alloc: Global, most: u64) -> Result<Vec<Vec<Planned>>, AllocError>
+        ensures all { IfOk result (λ plans. vec_len plans ≡ self.new.layout.submitters) }
+        ensures inside { IfOk result (λ plans. All (λ plan. All (IsInside self.new.layout) plan.items) plans.items) }
+        ensures planned { IfOk result (λ plans. ArePlans self.old.layout self.old.generations.items (min most self.old.round) (map (λ plan. plan.items) plans.items)) }
+        ensures layout { self.new.layout ≡ self.old.layout }
+        ensures generations { self.new.generations ≡ self.old.generations }
+    {
+        let commands = most.min(self.round);
+        let layout = self.layout;
+        let mut plans = Vec::with_capacity(alloc, usize::from(layout.submitters))?;
+        for submitter in 0..layout.submitters {
+            let share = share_of(commands, layout.submitters, submitter) as usize;
+            let picks = &mut self.picks[usize::from(submitter)];
+            let plan = plan_some(alloc, layout, submitter, picks, &self.generations, share)?;
+            plans.push(plan)?;
+        }
+        Ok(plans)
+    }
+
+    /// Reads of slots that were written, of each submitter those from a slot on, and the slot that is next.
+    pub(crate) fn plan_reads(
+        &self,
+        alloc: Global,
+        from: usize,
+    ) -> Result<Vec<Vec<Planned>>, AllocError>
+        ensures all { IfOk result (λ plans. vec_len plans ≡ self.now.layout.submitters) }
+        ensures inside { IfOk result (λ plans. All (λ plan. All (IsInside self.now.layout) plan.items) plans.items) }
+    {
+        let layout = self.layout;
+        let mut plans = Vec::with_capacity(alloc, usize::from(layout.submitters))?;
+        for submitter in 0..layout.submitters {
+            let first = layout.first_slot(submitter);
+            let to = layout.slots.min(from.saturating_add(self.round_slots()));
+            let mut plan = Vec::new(alloc);
+            for slot in first + from.min(to)..first + to {
+                let read = plan_one(&self.generations, slot, Kind::Read);
+                if read.generation > 0 {
+                    plan.push(read)?;
+                }
+            }
+            plans.push(plan)?;
+        }
+        Ok(plans)
+    }
+
+    /// How many slots each submitter has.
+    pub(crate) fn slots(&self) -> usize {
+        self.layout.slots
+    }
+
+    /// How many slots of each submitter are read once more in a round.
+    pub(crate) fn round_slots(&self) -> usize
+        ensures { 1 ≤ result }
+    {
+        let many = self.round / u64::from(self.layout.submitters);
+        many.max(1) as usize
+    }
+
+    /// The jobs of a round. A submitter has one queue, and submitters share queues where there are fewer.
+    pub(crate) fn jobs(
+        &self,
+        alloc: Global,
+        plans: &[Vec<Planned>],
+    ) -> Result<Vec<Vec<Job>>, AllocError>
+        requires all { length plans.now ≡ self.now.layout.submitters }
+        requires inside { All (λ plan. All (IsInside self.now.layout) plan.items) plans.now }
+        ensures jobs { IfOk result (λ lists. AreJobs self.now.layout self.now.seed self.now.queues (map (λ plan. plan.items) plans.now) (map (λ list. list.items) lists.items)) }
+        ensures some { IfOk result (λ lists. 1 ≤ vec_len lists) }
+        ensures few { IfOk result (λ lists. vec_len lists ≤ 16) }
+    {
+        let mut lists = Vec::with_capacity(alloc, plans.len())?;
+        for submitter in 0..self.layout.submitters {
+            let plan = plans[usize::from(submitter)].as_slice();
+            let q = 1 + submitter % self.queues;
+            lists.push(jobs_of(alloc, self.layout, self.seed, q, plan)?)?;
+        }
+        Ok(lists)
+    }
+
+    /// Looks at how the commands of a round ended, and notes what they wrote.
+    pub(crate) fn look(
+        &mut self,
+        alloc: Global,
+        plans: &[Vec<Planned>],
+        ends: &JobEnds,
+    ) -> Result<Tally, AllocError>
+        requires inside { All (λ plan. All (IsInside self.old.layout) plan.items) plans.now }
+        ensures told { IfOk result (λ tally. tally ≡ tallies_from (wanted_of self.old.layout self.old.content) no_tally (map (λ plan. plan.items) plans.now) ends.now) }
+        ensures layout { self.new.layout ≡ self.old.layout }
+    {
+        let layout = self.layout;
+        let mut tally = Tally::NONE;
+        for (plan, list) in plans.iter().zip(ends.as_slice()) {
+            let looked = look_at(alloc, layout, &self.content, plan, list)?;
+            tally = tally.and(looked.tally);
+            self.bad = self.bad.or(looked.bad);
+            note_writes(&mut self.generations, plan, list);
+        }
+        Ok(tally)
+    }
+
+    /// Counts commands of the load, or reads behind them.
+    pub(crate) fn count(&mut self, tally: Tally, of_load: bool)
+        ensures counted { self.new.tally ≡ both self.old.tally (counted of_load tally) }
+        ensures layout { self.new.layout ≡ self.old.layout }
+    {
+        self.tally = self.tally.and(tally.counted(of_load));
+    }
+
+    /// Counts how long the commands of a round took.
+    pub(crate) fn measure(&mut self, plans: &[Vec<Planned>], ends: &JobEnds, times: &[Vec<u64>])
+        ensures layout { self.new.layout ≡ self.old.layout }
+    {
+        for ((plan, list), took) in plans.iter().zip(ends.as_slice()).zip(times) {
+            self.measured.add(plan, list, took);
+        }
+    }
+
+    /// What is left at the end: the first command that did not end well, and how long commands took.
+    pub(crate) fn end(self) -> (Option<Bad>, Measured) {
+        (self.bad, self.measured)
+    }
+}

@@ -1,0 +1,58 @@
+//! Why a load did not run to its end.
+
+use script_cli::RunFault;
+use std::alloc::AllocError;
+use thiserror::Error;
+
+/// Why a load did not run to its end.
+#[derive(Clone, Copy, Debug, Error)]
+pub enum LoadFault {
+    /// There is not a slot for each submitter.
+    #[error("load: {need} blocks are needed, a slot for each submitter, and the image has {blocks}")]
+    TooFewBlocks {
+        /// How many are needed.
+        need: u32,
+        /// How many there are.
+        blocks: u32,
+    },
+    /// The opening is refused, memory was refused, or the output failed.
+    #[error("{0}")]
+    Run(RunFault),
+    /// A round did not run to its end.
+    #[error("load: {0}")]
+    Round(driver_threads::RunFault),
+}
+
+impl LoadFault {
+    /// The exit status that a program ends with.
+    pub fn exit_status(self) -> u8 {
+        match self {
+            LoadFault::TooFewBlocks { .. } => 2,
+            LoadFault::Run(fault) => fault.exit_status(),
+            LoadFault::Round(_) => 3,
+        }
+    }
+}
+
+impl From<AllocError> for LoadFault {
+    ghost use Rattle.load.specs.declared.fault.LoadFault.{LoadFault};
+    ghost use Rattle.script_cli.specs.declared.fault.RunFault.TheVariants as run;
+    ghost use Rattle.std.specs.Prelude.{◌≡◌};
+
+    ghost from_gives = { λ _ fault. fault ≡ LoadFault.Run run.Memory };
+
+    fn from(_fault: AllocError) -> Self {
+        LoadFault::Run(RunFault::Memory)
+    }
+}
+
+impl From<RunFault> for LoadFault {
+    ghost use Rattle.load.specs.declared.fault.LoadFault.{LoadFault};
+    ghost use Rattle.std.specs.Prelude.{◌≡◌};
+
+    ghost from_gives = { λ why fault. fault ≡ LoadFault.Run why };
+
+    fn from(why: RunFault) -> Self {
+        LoadFault::Run(why)
+    }
+}

@@ -1,0 +1,140 @@
+//! How long commands took, in buckets.
+
+ghost use Rattle.std.specs.Prelude.{◌≡◌, ◌≤◌, ◌<◌, IfOk, length, replicate, vec_len};
+ghost use Rattle.load.specs.Histograms.{bucket_at, Counts, IsBucketOf, high_of as spec_high_of, rank_of as spec_rank_of};
+
+use std::alloc::{AllocError, Global};
+use std::marker::Model;
+
+/// How many buckets there are: one for each number below 32, and then 16 for each power of two.
+const BUCKETS: usize = 976;
+
+/// How often numbers came, each in a bucket whose ends lie a sixteenth apart at most.
+#[derive(Drop)]
+pub(crate) struct Histogram {
+    counts: Vec<u64>,
+    many: u64,
+    sum: u64,
+    least: u64,
+    most: u64,
+}
+
+impl Model for Histogram {
+    ghost use Rattle.std.specs.Prelude.{List, ℕ, ◌≡◌, vec_len};
+
+    ghost Value = { List ℕ };
+
+    ghost view = { λ h. h.counts.items };
+
+    ghost invariant = { λ h. vec_len h.counts ≡ 976 };
+}
+
+/// The bucket of a number.
+fn bucket_of(value: u64) -> usize
+    ensures bucket { IsBucketOf result value }
+    ensures few { result < 976 }
+{
+    let mut shift = 0usize;
+    let mut top = value;
+    while top >= 32 {
+        top /= 2;
+        shift += 1;
+    }
+    16 * shift + top as usize
+}
+
+/// The last number of a bucket.
+fn high_of(bucket: usize) -> u64
+    requires { bucket < 976 }
+    ensures { result ≡ spec_high_of bucket }
+{
+    if bucket < 32 {
+        return bucket as u64;
+    }
+    let shift = bucket / 16 - 1;
+    let past = 17 + bucket as u64 % 16;
+    past.saturating_mul(1 << shift) - 1
+}
+
+/// Which number, in their order, has so many thousandths of them up to it.
+fn rank_of(many: u64, permille: u64) -> u64
+    requires { permille ≤ 1000 }
+    ensures { result ≡ spec_rank_of many permille }
+{
+    many / 1000 * permille + (many % 1000 * permille + 999) / 1000
+}
+
+impl Histogram {
+    /// No number.
+    pub(crate) fn new(alloc: Global) -> Result<Histogram, AllocError>
+        ensures { IfOk result (λ histogram. histogram ≡ replicate 976 0) }
+    {
+        Ok(Histogram {
+            counts: vec![in alloc; 0; BUCKETS]?,
+            many: 0,
+            sum: 0,
+            least: u64::MAX,
+            most: 0,
+        })
+    }
+
+    /// Counts a number.
+    pub(crate) fn add(&mut self, value: u64)
+        ensures { Counts self.old value self.new }
+    {
+        let bucket = bucket_of(value);
+        let counts = &mut self.counts;
+        counts[bucket] = counts[bucket].saturating_add(1);
+        self.many = self.many.saturating_add(1);
+        self.sum = self.sum.saturating_add(value);
+        self.least = self.least.min(value);
+        self.most = self.most.max(value);
+    }
+
+    /// How many numbers there are.
+    pub(crate) fn len(&self) -> u64 {
+        self.many
+    }
+
+    /// The least number; 0 of none.
+    pub(crate) fn least(&self) -> u64 {
+        if self.many == 0 { 0 } else { self.least }
+    }
+
+    /// The greatest number; 0 of none.
+    pub(crate) fn most(&self) -> u64 {
+        self.most
+    }
+
+    /// The mean; 0 of none.
+    pub(crate) fn mean(&self) -> u64 {
+        self.sum / self.many.max(1)
+    }
+
+    /// The bucket of the number of this rank, counted from 1 in the numbers' order; one more than the last where there are fewer.
+    fn bucket_at(&self, rank: u64) -> usize
+        ensures at { result ≡ bucket_at 0 self.now rank }
+        ensures few { result ≤ 976 }
+    {
+        let mut left = rank;
+        for (bucket, count) in self.counts.iter().enumerate() {
+            if left <= *count {
+                return bucket;
+            }
+            left -= *count;
+        }
+        BUCKETS
+    }
+
+    /// The number up to which so many thousandths lie, to a sixteenth.
+    pub(crate) fn percentile(&self, permille: u64) -> u64
+        requires { permille ≤ 1000 }
+    {
+        let bucket = self.bucket_at(rank_of(self.many, permille));
+        if bucket < BUCKETS {
+            high_of(bucket).min(self.most)
+        } else {
+            self.most
+        }
+    }
+}

@@ -1,0 +1,32 @@
+//! The command `load` of the program `nvmesgl`: commands that are made, run in threads, compared and measured.
+//!
+//! Each submitter has a part of the blocks, cut into slots, and its commands read or write one slot each. They run in rounds
+//! ([`driver_threads::run_round`]): a round's commands are planned, run to their end and looked at, and nothing of them is kept but counts. In a
+//! round no slot is used twice, so that it does not matter in which order its commands are served. What is written is made of the seed, the
+//! block and how often it was written, so that what a read must bring is made again.
+#![tactic(auto)]
+
+mod bad;
+mod content;
+mod course;
+mod fault;
+mod histogram;
+mod layout;
+mod line;
+mod look;
+mod measured;
+mod picks;
+mod plan;
+mod progress;
+mod ran;
+mod run;
+mod stats;
+mod tally;
+mod timing;
+
+pub use bad::{Bad, Why};
+pub use fault::LoadFault;
+pub use line::append_line;
+pub use ran::Ran;
+pub use run::run_load;
+pub use tally::Tally;

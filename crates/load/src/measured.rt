@@ -1,0 +1,46 @@
+//! How long commands took.
+
+use crate::histogram::Histogram;
+use crate::look::is_success;
+use crate::plan::Planned;
+use driver_threads::JobEnd;
+use io_commands::Kind;
+use std::alloc::{AllocError, Global};
+
+/// How long commands with status 0:00 took, in nanoseconds.
+#[derive(Drop)]
+pub(crate) struct Measured {
+    pub(crate) reads: Histogram,
+    pub(crate) writes: Histogram,
+}
+
+impl Measured {
+    /// Nothing.
+    pub(crate) fn new(alloc: Global) -> Result<Measured, AllocError> {
+        Ok(Measured {
+            reads: Histogram::new(alloc)?,
+            writes: Histogram::new(alloc)?,
+        })
+    }
+
+    /// Counts how long the commands of a submitter took, of which those that were not refused are told, in their order.
+    pub(crate) fn add(&mut self, plan: &[Planned], ends: &[JobEnd], took: &[u64]) {
+        let mut rest = took;
+        for (planned, end) in plan.iter().zip(ends) {
+            let JobEnd::Done { status, .. } = end else {
+                continue;
+            };
+            let Some((nanos, behind)) = rest.split_first() else {
+                return;
+            };
+            rest = behind;
+            if !is_success(*status) {
+                continue;
+            }
+            match planned.kind {
+                Kind::Read => self.reads.add(*nanos),
+                Kind::Write | Kind::Compare => self.writes.add(*nanos),
+            }
+        }
+    }
+}

@@ -1,0 +1,129 @@
+//! The commands of a round.
+
+ghost use Rattle.std.specs.Prelude.{◌≡◌, ◌≤◌, ◌<◌, ◌+◌, ◌*◌, All, IfOk, length, map};
+ghost use Rattle.load.specs.Planning.{IsInside, IsPlanOf, job_for, pieces_of, planned_at};
+
+use crate::content::written_slot;
+use crate::layout::Layout;
+use crate::picks::Picks;
+use driver_threads::Job;
+use io_commands::{Kind, Piece, Pieces, Request};
+use std::alloc::{AllocError, Global};
+use step_core::Bytes;
+
+/// A command of a round.
+#[derive(Clone, Copy)]
+pub(crate) struct Planned {
+    /// The slot that it reads or writes.
+    pub(crate) slot: usize,
+    pub(crate) kind: Kind,
+    /// How often the slot was written once it has ended.
+    pub(crate) generation: u32,
+}
+
+/// A command for a slot.
+pub(crate) fn plan_one(generations: &[u32], slot: usize, kind: Kind) -> Planned
+    requires { slot < length generations.now }
+    ensures { result ≡ planned_at generations.now slot kind }
+{
+    let before = generations[slot];
+    let generation = match kind {
+        Kind::Write => before.saturating_add(1),
+        Kind::Read | Kind::Compare => before,
+    };
+    Planned {
+        slot,
+        kind,
+        generation,
+    }
+}
+
+/// The next commands of a submitter, so many at most, each for a slot of its own.
+pub(crate) fn plan_some(
+    alloc: Global,
+    layout: Layout,
+    submitter: u16,
+    picks: &mut Picks,
+    generations: &[u32],
+    most: usize,
+) -> Result<Vec<Planned>, AllocError>
+    requires submitter { submitter < layout.submitters }
+    requires slots { length generations.now ≡ layout.submitters * layout.slots }
+    ensures planned { IfOk result (λ plan. IsPlanOf layout generations.now submitter most plan.items) }
+    ensures inside { IfOk result (λ plan. All (IsInside layout) plan.items) }
+{
+    let first = layout.first_slot(submitter);
+    let picked = picks.slots(alloc, layout.slots, most)?;
+    let mut plan = Vec::with_capacity(alloc, picked.len())?;
+    for slot in &picked {
+        let kind = picks.kind();
+        plan.push(plan_one(generations, first + slot, kind))?;
+    }
+    Ok(plan)
+}
+
+/// The pieces of a command, whose pages are full but for the last.
+fn pieces_of(alloc: Global, blocks: u32) -> Result<Pieces, AllocError>
+    requires { blocks ≤ 256 }
+    ensures { IfOk result (λ pieces. pieces ≡ pieces_of blocks) }
+{
+    let mut pieces = Pieces::new(alloc);
+    let mut rest = blocks;
+    while rest > 8 {
+        pieces.push(Piece::Data {
+            offset: 0,
+            len: 4096,
+        })?;
+        rest -= 8;
+    }
+    pieces.push(Piece::Data {
+        offset: 0,
+        len: 512 * rest,
+    })?;
+    Ok(pieces)
+}
+
+/// The job of a command.
+fn job_of(
+    alloc: Global,
+    layout: Layout,
+    seed: u32,
+    q: u16,
+    planned: Planned,
+) -> Result<Job, AllocError>
+    requires { IsInside layout planned }
+    ensures { IfOk result (λ job. job ≡ job_for layout seed q planned) }
+{
+    let bytes = match planned.kind {
+        Kind::Write => written_slot(alloc, layout, seed, planned.slot, planned.generation)?,
+        Kind::Read | Kind::Compare => Vec::new(alloc),
+    };
+    Ok(Job {
+        q,
+        request: Request {
+            kind: planned.kind,
+            slba: u64::from(layout.first_block(planned.slot)),
+            blocks: layout.slot_blocks,
+            pieces: pieces_of(alloc, layout.slot_blocks)?,
+        },
+        bytes: Bytes::from_vec(bytes),
+    })
+}
+
+/// The jobs of a submitter's commands.
+pub(crate) fn jobs_of(
+    alloc: Global,
+    layout: Layout,
+    seed: u32,
+    q: u16,
+    plan: &[Planned],
+) -> Result<Vec<Job>, AllocError>
+    requires { All (IsInside layout) plan.now }
+    ensures { IfOk result (λ jobs. jobs.items ≡ map (job_for layout seed q) plan.now) }
+{
+    let mut jobs = Vec::with_capacity(alloc, plan.len())?;
+    for planned in plan {
+        jobs.push(job_of(alloc, layout, seed, q, *planned)?)?;
+    }
+    Ok(jobs)
+}

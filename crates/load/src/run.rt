@@ -1,0 +1,290 @@
+//! A load, from its opening to its line.
+
+ghost use Rattle.std.specs.Prelude.{◌≡◌, ◌≤◌, All, IfOk, OnErr, OnOk, length, vec_len};
+ghost use Rattle.std.specs.Io.KnownBytes.{Appends};
+ghost use Rattle.script_cli.specs.Loads.{FitsLoad};
+ghost use Rattle.load.specs.Course.{commands_left as spec_commands_left};
+ghost use Rattle.load.specs.Lines.{IsLineFront, line_text};
+ghost use Rattle.load.specs.Planning.{IsInside};
+ghost use Rattle.script_cli.specs.Inputs.{Gains, IsFront};
+
+use crate::content::Content;
+use crate::course::Course;
+use crate::fault::LoadFault;
+use crate::layout::Layout;
+use crate::line::append_line;
+use crate::plan::Planned;
+use crate::progress::{Progress, Standing, Stopwatch};
+use crate::ran::Ran;
+use crate::tally::Tally;
+use crate::timing::Timing;
+use block_image::Image;
+use driver_threads::{Gate, Job, JobEnds, Open, Round, run_round};
+use script_cli::workload::{Load, Pattern};
+use script_cli::{RunFault, flush, not_opened, put};
+use std::alloc::{AllocError, AllocGlobal, Global};
+use std::io::Write;
+use std::marker::Brand;
+use std::rt::Clock;
+use std::sync::Wait;
+use std::sync::ledger::Blank;
+use std::thread::Threads;
+use step_core::{Config, World};
+
+/// Runs jobs over a world, by a book of their own.
+fn play<G: Gate + Sync, R: Threads + Wait + Sync>(
+    rt: &R,
+    alloc: Global,
+    world: World,
+    jobs: Vec<Vec<Job>>,
+    depth: usize,
+    gate: &G,
+    blank: Blank,
+) -> Result<Round, LoadFault>
+    requires number { blank.parts ≡ 65536 }
+    requires some { 1 ≤ vec_len jobs }
+    requires few { vec_len jobs ≤ 16 }
+    requires some_depth { 1 ≤ depth }
+    requires little_depth { depth ≤ 256 }
+{
+    match run_round::<Brand, Global, G, R>(rt, alloc, world, jobs, depth, gate, blank) {
+        Ok(round) => Ok(round),
+        Err(why) => Err(LoadFault::Round(why)),
+    }
+}
+
+/// What the commands of a round left.
+#[derive(Drop)]
+struct Left {
+    world: World,
+    ends: JobEnds,
+    /// How many ended how.
+    tally: Tally,
+}
+
+/// Runs the commands of a round, and looks at how they ended.
+fn run_plans<G: Gate + Sync, R: Threads + Wait + Sync>(
+    rt: &R,
+    alloc: Global,
+    world: World,
+    course: &mut Course,
+    depth: usize,
+    gate: &G,
+    plans: &[Vec<Planned>],
+) -> Result<Left, LoadFault>
+    requires all { length plans.now ≡ course.old.layout.submitters }
+    requires inside { All (λ plan. All (IsInside course.old.layout) plan.items) plans.now }
+    requires some_depth { 1 ≤ depth }
+    requires little_depth { depth ≤ 256 }
+{
+    let jobs = course.jobs(alloc, plans)?;
+    let blank = Blank::new(65536);
+    let Round {
+        world,
+        jobs: ends,
+        ..
+    } = play(rt, alloc, world, jobs, depth, gate, blank)?;
+    let tally = course.look(alloc, plans, &ends)?;
+    Ok(Left { world, ends, tally })
+}
+
+/// How many commands plans have.
+fn commands_of(plans: &[Vec<Planned>]) -> u64 {
+    let mut many = 0u64;
+    for plan in plans {
+        many = many.saturating_add(plan.len() as u64);
+    }
+    many
+}
+
+/// How many more commands may be begun, after so many and so long; time ends it too where the clock cannot be read.
+fn commands_left(load: &Load<'_>, begun: u64, nanos: Option<u64>) -> u64
+    ensures { result ≡ spec_commands_left load.now begun nanos }
+{
+    if let Some(seconds) = load.runtime {
+        let until = u64::from(seconds) * 1_000_000_000;
+        match nanos {
+            Some(nanos) if nanos < until => {}
+            _ => return 0,
+        }
+    }
+    match load.count {
+        Some(count) => u64::from(count).saturating_sub(begun),
+        None => u64::MAX,
+    }
+}
+
+/// How far a load is, after so many commands and so long.
+fn standing_of(load: &Load<'_>, done: u64, nanos: Option<u64>) -> Standing {
+    Standing {
+        done,
+        all: load.count.map(u64::from),
+        in_flight: u64::from(load.submitters) * u64::from(load.depth),
+        nanos: nanos.unwrap_or(0),
+        until: load
+            .runtime
+            .map(|seconds| u64::from(seconds) * 1_000_000_000),
+    }
+}
+
+/// Makes the next commands of a load, so many at most, and runs, counts and measures them: the world that they leave, and how many they were.
+fn run_some<R: Clock + Threads + Wait + Sync>(
+    rt: &R,
+    alloc: Global,
+    world: World,
+    course: &mut Course,
+    depth: u16,
+    timing: &Timing<'_, R>,
+    most: u64,
+) -> Result<(World, u64), LoadFault>
+    requires some_depth { 1 ≤ depth }
+    requires little_depth { depth ≤ 256 }
+{
+    let plans = course.plan(alloc, most)?;
+    let left = run_plans(rt, alloc, world, course, usize::from(depth), timing, &plans)?;
+    course.count(left.tally, true);
+    course.measure(&plans, &left.ends, &timing.take(alloc)?);
+    Ok((left.world, commands_of(&plans)))
+}
+
+/// Runs the commands of a load, in rounds.
+fn run_commands<R: Clock + Eprint + Threads + Wait + Sync>(
+    rt: &R,
+    alloc: Global,
+    world: World,
+    course: &mut Course,
+    load: &Load<'_>,
+    watch: Stopwatch,
+    shows: bool,
+) -> Result<World, LoadFault>
+    requires { FitsLoad load.now }
+{
+    let timing = Timing::new(rt, alloc, load.submitters)?;
+    let mut progress = Progress::new(shows);
+    let mut begun = 0u64;
+    let mut world = world;
+    for _ in rt.forever() {
+        let nanos = watch.nanos(rt);
+        let more = commands_left(load, begun, nanos);
+        if more == 0 {
+            break;
+        }
+        progress.tell(rt, alloc, standing_of(load, begun, nanos))?;
+        let (after, many) = run_some(rt, alloc, world, course, load.depth, &timing, more)?;
+        world = after;
+        begun = begun.saturating_add(many);
+    }
+    progress.end(rt);
+    Ok(world)
+}
+
+/// Reads each slot that was written once more, in rounds.
+fn read_again<R: Threads + Wait + Sync>(
+    rt: &R,
+    alloc: Global,
+    world: World,
+    course: &mut Course,
+    depth: usize,
+) -> Result<World, LoadFault>
+    requires some_depth { 1 ≤ depth }
+    requires little_depth { depth ≤ 256 }
+{
+    let mut world = world;
+    let step = course.round_slots();
+    for from in (0..course.slots()).step_by(step) {
+        let plans = course.plan_reads(alloc, from)?;
+        let left = run_plans(rt, alloc, world, course, depth, &Open, &plans)?;
+        course.count(left.tally, false);
+        world = left.world;
+    }
+    Ok(world)
+}
+
+/// Opens a world over an image, and what goes on over it.
+fn open(
+    alloc: Global,
+    config: Config,
+    image: Image,
+    load: &Load<'_>,
+) -> Result<(World, Course), LoadFault>
+    requires { FitsLoad load.now }
+{
+    let blocks = image.blocks();
+    let Some(layout) = Layout::of(blocks, load.submitters, load.command_blocks) else {
+        let need = u32::from(load.submitters) * load.command_blocks;
+        return Err(LoadFault::TooFewBlocks { need, blocks });
+    };
+    let content = if load.verify {
+        let first = Vec::from_slice(alloc, image.blocks_from(0, blocks))?;
+        Some(Content {
+            seed: load.seed,
+            first,
+        })
+    } else {
+        None
+    };
+    let world = match World::open(alloc, config, image) {
+        Ok(world) => world,
+        Err(refused) => return Err(LoadFault::Run(not_opened(refused.why))),
+    };
+    let course = Course::new(alloc, load, layout, config.queues as u16, content)?;
+    Ok((world, course))
+}
+
+/// Writes the line that says how a load went.
+fn write_line<W: Write>(
+    alloc: Global,
+    pattern: Pattern,
+    tally: Tally,
+    writer: &mut W,
+) -> Result<(), RunFault>
+    ensures written { OnOk result (Appends (W.contents writer.old) (W.contents writer.new) (line_text pattern tally)) }
+    ensures cut { OnErr result (Gains (W.contents writer.old) (W.contents writer.new) (λ front. IsFront front (line_text pattern tally))) }
+{
+    let mut line = String::new(alloc);
+    append_line(&mut line, pattern, tally)?;
+    put(writer, line.as_bytes())?;
+    flush(writer)
+}
+
+/// Opens a world over an image, runs the commands of a load over it, reads what they wrote once more where that is asked for, and writes the line
+/// that says how it went. Where it shows, standard error says how far it is.
+///
+/// # Errors
+///
+/// [`LoadFault::TooFewBlocks`]; then why the opening is refused; then why a round did not run to its end. Nothing is written then. `Memory` where memory is refused, and
+/// `OutputFailed` where a write or the flush fails: the front of the line may then be written.
+#[tactic(auto, using(crate::proofs::Loads::nothing_written, crate::proofs::Loads::front_written))]
+pub fn run_load<R: AllocGlobal + Clock + Eprint + Threads + Wait + Sync, W: Write>(
+    rt: &R,
+    config: Config,
+    image: Image,
+    load: &Load<'_>,
+    shows: bool,
+    writer: &mut W,
+) -> Result<Ran, LoadFault>
+    requires fits { FitsLoad load.now }
+    ensures told { IfOk result (λ ran. Appends (W.contents writer.old) (W.contents writer.new) (line_text load.now.pattern ran.tally)) }
+    ensures cut { OnErr result (Gains (W.contents writer.old) (W.contents writer.new) (λ front. IsLineFront load.now.pattern front)) }
+{
+    let alloc = rt.alloc();
+    let (world, mut course) = open(alloc, config, image, load)?;
+    let depth = usize::from(load.depth);
+    let watch = Stopwatch::new(rt);
+    let mut world = run_commands(rt, alloc, world, &mut course, load, watch, shows)?;
+    let nanos = watch.nanos(rt).unwrap_or(0);
+    if load.verify {
+        world = read_again(rt, alloc, world, &mut course, depth)?;
+    }
+    let _ended = world.end();
+    let tally = course.tally();
+    write_line(alloc, load.pattern, tally, writer)?;
+    let (bad, measured) = course.end();
+    Ok(Ran {
+        tally,
+        bad,
+        measured,
+        command_bytes: 512 * u64::from(load.command_blocks),
+        nanos,
+    })
+}

@@ -1,6 +1,0 @@
-use Rattle.std.proofs.Common.{◌∙◌, codes}
-use Rattle.clap.{proofs.WalkLemmas.first_value-rows, specs.Words.found_of}
-use Rattle.program.proofs.command_line.arguments.script.Goals as goal
-
-pub returns : goal.returns
-returns c = c.get_str.ensures ∙ first_value-rows (found_of c.args.given.now) (codes "script")

@@ -1,5 +1,0 @@
-use Rattle.std.proofs.{Common.{rules, true}, lemmas.Fmt.hex_byte}
-use Rattle.program.proofs.shell.pages.say_byte.Goals as goal
-
-pub returns : goal.returns
-returns c = search (rules, hex_byte true c.args.byte)

@@ -1,0 +1,21 @@
+-- The names of patterns.
+use Rattle.std.specs.{Prelude.{ℕ, List, Option, Some, None, codes, if◌then◌else◌}, Str.bytes_eq}
+use Rattle.script_cli.specs.declared.workload.Pattern.{Pattern}
+use Rattle.script_cli.specs.declared.workload.Pattern.TheVariants as pattern
+
+abbrev pub pattern_name : Pattern → List ℕ
+pattern_name pattern.Read = codes "read"
+pattern_name pattern.Write = codes "write"
+pattern_name pattern.RandRead = codes "randread"
+pattern_name pattern.RandWrite = codes "randwrite"
+pattern_name pattern.RandRw = codes "randrw"
+
+-- the pattern of a name
+abbrev pub pattern_named : List ℕ → Option Pattern
+pattern_named text =
+    if bytes_eq text (codes "read") then Some pattern.Read
+    else if bytes_eq text (codes "write") then Some pattern.Write
+    else if bytes_eq text (codes "randread") then Some pattern.RandRead
+    else if bytes_eq text (codes "randwrite") then Some pattern.RandWrite
+    else if bytes_eq text (codes "randrw") then Some pattern.RandRw
+    else None

@@ -1,0 +1,9 @@
+use Rattle.std.specs.Prelude.{false}
+use Rattle.step_core.specs.Opening.{opening_of}
+use Rattle.session_scripts.proofs.scripts.book.play_once.Given as goal
+
+abbrev pub ghosts-play_in-L-Ledger : goal.ghosts-play_in-L-Ledger
+ghosts-play_in-L-Ledger g a = record { name = a.blank.name; parts = a.blank.parts }
+
+abbrev pub ghosts-play_in-L-LogBrand : goal.ghosts-play_in-L-LogBrand
+ghosts-play_in-L-LogBrand g a = record { opening = opening_of a.config a.image; jobs_alone = false }

@@ -1,0 +1,9 @@
+use Rattle.std.specs.Prelude.{false}
+use Rattle.step_core.specs.Opening.{opening_of}
+use Rattle.session_scripts.proofs.scripts.visit.play_home.Given as goal
+
+abbrev pub ghosts-play_away-M-Ledger : goal.ghosts-play_away-M-Ledger
+ghosts-play_away-M-Ledger g a = record { name = a.blank.name; parts = a.blank.parts }
+
+abbrev pub ghosts-play_away-M-LogBrand : goal.ghosts-play_away-M-LogBrand
+ghosts-play_away-M-LogBrand g a = record { opening = opening_of a.config a.image; jobs_alone = false }

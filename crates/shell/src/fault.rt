@@ -1,0 +1,96 @@
+//! What is wrong with a line.
+
+use crate::dot_word::{DOT_WORDS, DotWord};
+use script_cli::LineFault;
+use std::alloc::{AllocError, Global};
+use texts::faults::{Grammar, explain, nearest};
+
+/// What is wrong with a line.
+#[derive(Clone, Copy, Debug, PartialEq, Eq)]
+pub(crate) enum Fault<'a> {
+    /// It is too long or not ASCII, or it begins with no dot and is no line of a script.
+    Line(LineFault),
+    /// Its first word begins with a dot, and is none of the shell's.
+    UnknownWord(&'a str),
+    /// An argument is missing.
+    Missing(DotWord),
+    /// A word is not what stands there in the form.
+    Bad(&'a str, DotWord),
+    /// A word is left over.
+    Extra(&'a str, DotWord),
+}
+
+impl Fault<'_> {
+    /// Its name, as a script's faults have one.
+    fn name(&self) -> &'static str {
+        match self {
+            Fault::Line(_) => "Line",
+            Fault::UnknownWord(_) => "UnknownWord",
+            Fault::Missing(_) => "MissingWord",
+            Fault::Bad(..) => "BadWord",
+            Fault::Extra(..) => "ExtraWord",
+        }
+    }
+
+    /// Puts a sentence.
+    fn put_sentence(&self, alloc: Global, out: &mut String) -> Result<(), AllocError> {
+        match self {
+            Fault::Line(_) => Ok(()),
+            Fault::UnknownWord(word) => put_unknown(alloc, out, word),
+            Fault::Missing(dot) => {
+                let form = dot.form();
+                write!(out, "a word is missing; the form is: {form}\n")
+            }
+            Fault::Bad(word, dot) => {
+                let form = dot.form();
+                write!(out, "'{word}' does not fit; the form is: {form}\n")
+            }
+            Fault::Extra(word, dot) => {
+                let form = dot.form();
+                write!(out, "'{word}' is left over; the form is: {form}\n")
+            }
+        }
+    }
+
+    /// Puts what is wrong with the line of this number: its name, and a sentence.
+    pub(crate) fn put(
+        &self,
+        alloc: Global,
+        out: &mut String,
+        number: u32,
+        line: &[u8],
+    ) -> Result<(), AllocError> {
+        if let Fault::Line(fault) = self {
+            return put_line_fault(alloc, out, number, line, *fault);
+        }
+        let name = self.name();
+        write!(out, "line {number}: {name}\n")?;
+        self.put_sentence(alloc, out)
+    }
+}
+
+/// Puts what is wrong with a line of a script. Of one that is too long, its front alone was kept.
+fn put_line_fault(
+    alloc: Global,
+    out: &mut String,
+    number: u32,
+    line: &[u8],
+    fault: LineFault,
+) -> Result<(), AllocError> {
+    write!(out, "line {number}: {fault}\n")?;
+    if fault == LineFault::LongLine {
+        return out.push_str("a line has 16384 bytes at most.\n");
+    }
+    let below = explain(alloc, Grammar::Steps, line, fault)?;
+    out.push_str(&below)
+}
+
+/// Puts that a word is none, and which one is near it.
+pub(crate) fn put_unknown(alloc: Global, out: &mut String, word: &str) -> Result<(), AllocError> {
+    write!(out, "'{word}' is no word of the shell")?;
+    let names = DOT_WORDS.map(|dot| dot.name());
+    match nearest(alloc, word.as_bytes(), &names)? {
+        Some(name) => write!(out, "; did you mean '{name}'?\n"),
+        None => out.push_str("; '.help' lists them.\n"),
+    }
+}

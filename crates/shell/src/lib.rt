@@ -1,0 +1,25 @@
+//! A shell over one world: a line at a time, each answered at once.
+//!
+//! [`run_shell`] reads lines and answers each before it reads the next. A line is a step of a script (`script_cli`), which prints what
+//! `nvmesgl steps` prints for it, or a [`DotWord`] with its arguments. A line that is at fault says so and changes nothing; the session goes on.
+//! [`trace_steps`] plays a whole script so, with what each step moved.
+//!
+//! What a step, `owners`, `.counts`, `.page` and `.rings` say of the world is the world's: `specs/`, and the clauses of a script's run.
+#![tactic(auto)]
+
+mod asked;
+mod dot_word;
+mod fault;
+mod hand;
+mod help;
+mod lines;
+mod looks;
+mod moves;
+mod pages;
+mod script;
+mod serve;
+mod session;
+
+pub use dot_word::{DOT_WORDS, DotWord};
+pub use script::trace_steps;
+pub use session::run_shell;
