@@ -213,57 +213,6 @@ fn a_seat_is_out(rt: HostRuntime) {
     run(&rt, rt.alloc(), LOST_SEAT, None);
 }
 
-/// A command that was collected, and not released.
-const HELD_COMMAND: &[Part] = &[
-    Part::Sit,
-    Part::Plays(
-        "reserve 1 read 0 1 0+512
-> reserve q 1 cid 0 data 1 chain 0
-build 1 0
-> build ok
-submit 1 0
-> submit ok
-ring 1
-> ring ok
-fetch 1
-> fetch cid 0 touched 2
-walk 1 0
-> walk more touched -
-walk 1 0
-> walk end touched 4
-complete 1 0
-> complete ok touched 3
-reap 1
-> reap done cid 0 status 0:00
-collect 1 0
-> collect status 0:00
-> counts free 11 queue 4 chain 0 data 1
-",
-    ),
-    Part::StayOpen(CloseFault::StillOut, 1),
-];
-
-#[test]
-fn a_command_is_not_released(rt: HostRuntime) {
-    run(&rt, rt.alloc(), HELD_COMMAND, None);
-}
-
-/// An admin command that was sent, and not reaped.
-const AWAITED_ANSWER: &[Part] = &[
-    Part::Plays(
-        "delete_sq 1
-> delete_sq cid 0
-> counts free 12 queue 4 chain 0 data 0
-",
-    ),
-    Part::StayOpen(CloseFault::StillOut, 0),
-];
-
-#[test]
-fn an_admin_command_is_outstanding(rt: HostRuntime) {
-    run(&rt, rt.alloc(), AWAITED_ANSWER, None);
-}
-
 /// A book of which nobody has a seat.
 const NO_SEATS: &[Part] = &[Part::Close(&[])];
 

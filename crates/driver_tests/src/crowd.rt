@@ -1,7 +1,7 @@
 //! Sixteen submitters over a pool so small that they wait for pages and for identifiers.
 
 use crate::looks::{counts, see};
-use crate::runs::{Outcome, is_done, job, play};
+use desk::runs::{Outcome, is_done, job, play};
 use driver_threads::{Job, JobEnd, Open};
 use entry_codec::Status;
 use io_commands::Kind;

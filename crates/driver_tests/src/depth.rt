@@ -4,7 +4,7 @@ ghost use Rattle.std.specs.Prelude.{◌≤◌};
 
 use crate::looks::{counts, see};
 use crate::part::USUAL;
-use crate::runs::{Outcome, is_done, job, play_at};
+use desk::runs::{Outcome, is_done, job, play_at};
 use driver_threads::{Job, JobEnd, JobRefusal, Open};
 use entry_codec::Status;
 use io_commands::Kind;

@@ -2,8 +2,9 @@
 
 use std::alloc::{Allocator, Global};
 use std::test::Fail;
-use step_core::{Bench, Image};
+use step_core::Image;
 use test_support::Refusing;
+use world_bench::Bench;
 
 /// A heap that refuses on purpose.
 pub(crate) type Heap = Refusing<Global>;

@@ -5,8 +5,8 @@ ghost use Rattle.std.specs.Prelude.{◌≡◌, ◌≤◌, vec_len, IfOk};
 
 use crate::looks::{counts, see};
 use crate::part::USUAL;
-use crate::runs::{Outcome, is_done, job, play};
-use crate::two_submitters::{ON_ONE_QUEUE, are_ended, is_as_wanted, two_lists, writes_and_reads};
+use desk::runs::{Outcome, is_done, job, play};
+use desk::two_submitters::{ON_ONE_QUEUE, are_ended, is_as_wanted, two_lists, writes_and_reads};
 use driver_threads::{Gate, GateClosed, Job, JobEnd, JobRefusal, Open, Point, RunFault};
 use entry_codec::Status;
 use io_commands::{Kind, RequestFault};

@@ -1,5 +1,5 @@
 //! Books, also behind a lock, and runs of threads: what they must answer and leave, and what benches, worlds and lists of steps do where memory is
-//! refused. It has tests alone, so that they do not prove the book once more, but for [`runs`] and [`two_submitters`], which `sessions` plays as well.
+//! refused. It has tests alone, so that they do not prove the book once more.
 #![tactic(auto)]
 
 #[cfg(test)]
@@ -30,13 +30,11 @@ mod openings;
 mod part;
 #[cfg(test)]
 mod resets;
-pub mod runs;
 #[cfg(test)]
 mod shared_worlds;
 #[cfg(test)]
 mod strangers;
 #[cfg(test)]
 mod turned_away;
-pub mod two_submitters;
 #[cfg(test)]
 mod wakes;

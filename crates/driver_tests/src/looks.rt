@@ -2,10 +2,10 @@
 
 ghost use Rattle.std.specs.Prelude.{◌≡◌, ◌≤◌, length};
 
+use desk::Value;
 use driver_book::{FullLogBrand, Receipt, Seat};
 use entry_codec::Status;
 use io_commands::Finished;
-use job_cli::desk::Value;
 use page_ledger::Counts;
 use std::fmt::Debug;
 use std::process::Abort;

@@ -6,8 +6,9 @@ use crate::part::USUAL;
 use std::alloc::Global;
 use std::process::Abort;
 use std::test::Fail;
-use step_core::{Bench, Config, Image, OpenRefusal};
+use step_core::{Config, Image, OpenRefusal};
 use test_support::{Refusal, Refusing};
+use world_bench::Bench;
 
 /// Two I/O queues of four entries over 24 pages, and segments of four descriptors.
 const TWO_QUEUES: Config = Config {

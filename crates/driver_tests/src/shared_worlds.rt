@@ -1,11 +1,11 @@
 //! What no clause says: readers in threads that wait for each other, the memory that steps ask for, and each call once.
 
 use block_image::Image;
-use driver_threads::{ServedStep, SharedWorld};
 use entry_codec::Status;
 use io_commands::{Draft, Finished, Kind, Piece, Pieces, Request, Ticket};
 use page_ledger::{Counts, Owner};
 use page_memory::PageNo;
+use shared_world::{ServedStep, SharedWorld};
 use std::alloc::{AllocError, Allocator, Global};
 use std::fmt::Debug;
 use std::process::Abort;

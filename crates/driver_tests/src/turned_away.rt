@@ -6,8 +6,8 @@ ghost use Rattle.step_core.specs.Opening.{opening_of};
 use crate::looks::{counts, see};
 use crate::opening::end;
 use crate::part::{USUAL, opened};
-use crate::runs::job;
 use block_image::Image;
+use desk::runs::job;
 use driver_book::{Full, FullLogBrand, LogBrand};
 use driver_threads::{
     Job, JobEnd, JobRefusal, Open, Shared, Worked, controller, poller, submitter,

@@ -11,15 +11,6 @@ pub(crate) const BLOCK: Piece = Piece::Data {
     len: 512,
 };
 
-/// A whole page.
-pub(crate) const PAGE: Piece = Piece::Data {
-    offset: 0,
-    len: 4_096,
-};
-
-/// A block that a Read discards.
-pub(crate) const BUCKET: Piece = Piece::Bucket { len: 512 };
-
 /// What is asked for, from the first block on: each piece so many times.
 #[derive(Clone, Copy)]
 pub(crate) struct Asked {
@@ -47,12 +38,12 @@ impl Asked {
 }
 
 /// So many pages of a fresh pool, from page 4 on.
-pub(crate) fn taken(rt: &impl Abort, alloc: Global, count: u32) -> Vec<(PageNo, Page)> {
+pub(crate) fn taken(rt: &impl Abort, alloc: Global, count: u32) -> Vec<Page> {
     let mut store = Store::open(alloc, 16).expect(rt, "it opens");
     let mut pages = Vec::new(alloc);
     for number in 4..count.saturating_add(4) {
         let page = store.take(PageNo(number)).expect(rt, "it is in");
-        assert!(rt; pages.push((PageNo(number), page)).is_ok());
+        assert!(rt; pages.push(page).is_ok());
     }
     pages
 }

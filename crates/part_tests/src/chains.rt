@@ -1,7 +1,7 @@
-//! Chains through their calls: known bytes, and round trips of up to 1,024 parts.
+//! Chains through their calls: round trips of up to 1,024 parts.
 
-use crate::expecting::{same, same_at};
-use page_memory::{PageNo, Store};
+use crate::expecting::same_at;
+use page_memory::PageNo;
 use sgl_chain::{Chain, Part, pages_needed};
 use std::alloc::Global;
 use std::process::Abort;
@@ -57,28 +57,4 @@ fn chains_of_known_sizes_come_back(rt: HostRuntime) {
     for (count, segment, segments) in &SIZES {
         see_round_trip(&rt, rt.alloc(), *count, *segment, *segments);
     }
-}
-
-#[test]
-fn data_and_bucket_stand_on_one_page(rt: HostRuntime) {
-    let parts = [
-        Part::Data {
-            addr: 0x4000,
-            len: 512,
-        },
-        Part::Bucket { len: 512 },
-    ];
-    let chain = Chain::build(rt.alloc(), &parts, &[PageNo(5)], 256).expect(&rt, "a chain");
-    let sgl1 = [0x00, 0x50, 0, 0, 0, 0, 0, 0, 0x20, 0, 0, 0, 0, 0, 0, 0x30];
-    same(&rt, chain.first().write(), sgl1);
-    let mut store = Store::open(rt.alloc(), 16).expect(&rt, "it opens");
-    let mut page = store.take(PageNo(5)).expect(&rt, "page 5 is in");
-    assert!(rt; chain.segments() == 1);
-    chain.lay(0, &mut page);
-    let laid = [
-        0x00, 0x40, 0, 0, 0, 0, 0, 0, 0, 2, 0, 0, 0, 0, 0, 0, 0, 0, 0, 0, 0, 0, 0, 0, 0, 2, 0, 0,
-        0, 0, 0, 0x10, 0, 0,
-    ];
-    assert!(rt; page.bytes().starts_with(&laid));
-    drop(store);
 }

@@ -10,11 +10,12 @@ use admin_commands::AdminKind;
 use host_core::{Config, Host, Opened, Reap, Refused};
 use io_commands::{Draft, Finished, Kind, Request, Ticket};
 use machine_model::words::{OpenRefusal, Refusal};
-use page_ledger::{Counts, Owner, Role};
+use page_ledger::Owner;
 use page_memory::{Half, PageNo, Store};
 use std::alloc::{Allocator, Global};
 use std::marker::Model;
 use std::process::Abort;
+use test_support::recount::{NO_PAGES, counted};
 
 /// A draft that may be dropped, and its pages with it.
 pub(crate) struct HeldDraft<A: Allocator = Global> {
@@ -110,29 +111,7 @@ fn overwrite<A: Allocator>(store: &mut Store<A>, p: PageNo, at: usize, bytes: &[
     }
     if let Some(mut page) = store.take(p) {
         page.set(at, bytes);
-        store.put(p, page);
-    }
-}
-
-/// Counts a page of an owner.
-fn count_page(counts: &mut Counts, owner: Owner) {
-    let Counts {
-        free_pages,
-        queue_pages,
-        chain_pages,
-        data_pages,
-    } = *counts;
-    match owner {
-        Owner::Free => counts.free_pages = free_pages.wrapping_add(1),
-        Owner::Queue { .. } => counts.queue_pages = queue_pages.wrapping_add(1),
-        Owner::Command {
-            role: Role::Chain,
-            ..
-        } => counts.chain_pages = chain_pages.wrapping_add(1),
-        Owner::Command {
-            role: Role::Data,
-            ..
-        } => counts.data_pages = data_pages.wrapping_add(1),
+        store.put(page);
     }
 }
 
@@ -183,15 +162,10 @@ impl<A: Allocator + Copy> Driver<A> {
 
     /// Takes the owners again, and compares them with the counts, with the pages that are in, and with the commands that are outstanding.
     pub(crate) fn recount(&self, rt: &impl Abort) {
-        let mut counted = Counts {
-            free_pages: 0,
-            queue_pages: 0,
-            chain_pages: 0,
-            data_pages: 0,
-        };
+        let mut counts = NO_PAGES;
         for p in 0..self.host.pages() {
             let owner = self.host.owner(PageNo(p));
-            count_page(&mut counted, owner);
+            counts = counted(counts, owner);
             let wanted = match owner {
                 Owner::Command { q, cid, .. } => self.notes.of(q, cid),
                 Owner::Free | Owner::Queue { .. } => Whereabouts::In,
@@ -203,7 +177,7 @@ impl<A: Allocator + Copy> Driver<A> {
             };
             same_at(rt, p, found, wanted);
         }
-        same(rt, counted, self.host.counts());
+        same(rt, counts, self.host.counts());
     }
 
     /// Reserves.

@@ -37,8 +37,6 @@ mod host_turns;
 #[cfg(test)]
 mod hostile_memory;
 #[cfg(test)]
-mod images;
-#[cfg(test)]
 mod jobs;
 #[cfg(test)]
 mod ledger;
@@ -52,8 +50,6 @@ mod memory_refused;
 mod openings;
 #[cfg(test)]
 mod refused;
-#[cfg(test)]
-mod requests;
 #[cfg(test)]
 mod rings;
 #[cfg(test)]

@@ -12,7 +12,7 @@ use test_support::Numbers;
 pub(crate) struct Watched {
     store: Store,
     /// A page that is out.
-    out: Option<(PageNo, Page)>,
+    out: Option<Page>,
     /// How many calls there were in this step.
     pub(crate) calls: u32,
     /// The range of the last call that was not refused in this step.
@@ -67,16 +67,16 @@ impl Watched {
 
     /// Takes a page out, or puts the one in again that is out, sometimes with other bytes.
     pub(crate) fn stir(&mut self, numbers: &mut Numbers) {
-        let Some((number, mut page)) = self.out.take() else {
-            let number = PageNo(numbers.below(8));
-            self.out = self.store.take(number).map(|page| (number, page));
+        let Some(mut page) = self.out.take() else {
+            self.out = self.store.take(PageNo(numbers.below(8)));
             return;
         };
         if numbers.below(4) == 0 {
             page.set(8 * numbers.below(512) as usize, &numbers.bytes::<8>());
         }
+        let number = page.number();
         if number.0 < self.store.pages() && !self.store.is_in(number) {
-            self.store.put(number, page);
+            self.store.put(page);
         }
     }
 }

@@ -6,11 +6,12 @@
 //! a `&` to it, and threads may share it. A clause can name no value of an atomic word, so a contract says which calls a refusal names, and
 //! tests say that the allocator keeps to it.
 //!
-//! A [`Seen`] compares. An `assert_eq!` is proved anew at each of its places, in five times the time of a call.
+//! A [`Seen`] compares. An `assert_eq!` is proved anew at each of its places, in five times the time of a call. [`recount`] counts the pages of a pool by their owners.
 #![tactic(auto)]
 
 pub mod allocator;
 pub mod numbers;
+pub mod recount;
 pub mod refusal;
 pub mod seen;
 pub mod tally;

@@ -8,7 +8,8 @@ use crate::stage::STAGES;
 use io_commands::{Kind, Piece, Pieces, RequestOf};
 use linked_list_allocator::LocalHeap;
 use std::alloc::AllocError;
-use step_core::{Bench, Reply, Step, StepIn};
+use step_core::{Reply, Step, StepIn};
+use world_bench::Bench;
 
 /// Reserves a Read of one block.
 fn reserve<'a>(heap: &'a LocalHeap, block: u16) -> Result<StepIn<&'a LocalHeap>, AllocError> {

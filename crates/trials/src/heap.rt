@@ -8,7 +8,7 @@ use crate::pools::{IMAGE_BLOCKS, Pool};
 use block_image::Image;
 use linked_list_allocator::LocalHeap;
 use std::alloc::Global;
-use step_core::Bench;
+use world_bench::Bench;
 
 /// How many bytes of a heap were used.
 #[derive(Clone, Copy)]

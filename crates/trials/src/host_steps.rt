@@ -16,8 +16,8 @@ impl Session {
         match self.world.reserve(q, request) {
             Ok(draft) => {
                 let (q, cid) = (draft.q(), draft.cid());
-                for (page, _) in draft.pages() {
-                    course.digest.put_page(*page);
+                for page in draft.pages() {
+                    course.digest.put_page(page.number());
                 }
                 let noted = self.recount.reserved(&draft);
                 course.values.keep_draft(draft)?;

@@ -7,7 +7,7 @@ use entry_codec::Status;
 use io_commands::Draft;
 use machine_model::words::{HostState, Phase, Reaped};
 use page_ledger::{Owner, Role};
-use page_memory::Half;
+use page_memory::{Half, Page};
 use std::alloc::{AllocError, Global};
 use step_core::Config;
 
@@ -188,20 +188,20 @@ impl Recount {
 }
 
 impl Recount {
-    /// A command was reserved.
-    pub fn reserved(&mut self, draft: &Draft) -> Result<(), AllocError> {
-        let (q, cid) = (draft.q(), draft.cid());
-        let data = draft.request().data_pages();
-        for (place, (page, _)) in draft.pages().iter().enumerate() {
-            let role = if place < data {
-                Role::Data
-            } else {
-                Role::Chain
-            };
-            if let Some(owner) = self.owners.get_mut(page.0 as usize) {
+    /// The pages are a command's.
+    fn own(&mut self, pages: &[Page], q: u16, cid: u16, role: Role) {
+        for page in pages {
+            if let Some(owner) = self.owners.get_mut(page.number().0 as usize) {
                 *owner = Owner::Command { q, cid, role };
             }
         }
+    }
+
+    /// A command was reserved.
+    pub fn reserved(&mut self, draft: &Draft) -> Result<(), AllocError> {
+        let (q, cid) = (draft.q(), draft.cid());
+        self.own(draft.data_pages(), q, cid, Role::Data);
+        self.own(draft.chain_pages(), q, cid, Role::Chain);
         let phase = Phase::Drafted;
         self.commands.push(Command { q, cid, phase })?;
         Ok(())

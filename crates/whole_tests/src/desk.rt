@@ -3,12 +3,14 @@
 use crate::notes::{Noted, Notes, Tally};
 use crate::told::Told;
 use block_image::Image;
-use page_ledger::{Counts, Owner, Role};
+use page_ledger::{Counts, Owner};
 use page_memory::{Half, PageNo};
 use std::alloc::Global;
 use std::process::Abort;
-use step_core::{Bench, Config, Reply, Step};
+use step_core::{Config, Reply, Step};
+use test_support::recount::{NO_PAGES, counted};
 use test_support::{Difference, Seen};
+use world_bench::Bench;
 
 /// A pool of more pages is not recounted, since that takes too long.
 const MOST_RECOUNTED: u32 = 16;
@@ -19,25 +21,6 @@ pub(crate) struct Desk {
     pub(crate) alloc: Global,
     pub(crate) notes: Notes,
     pub(crate) seen: Seen,
-}
-
-/// The counts with a page of this owner more.
-fn counted(counts: Counts, owner: Owner) -> Counts {
-    let mut counts = counts;
-    let number = match owner {
-        Owner::Free => &mut counts.free_pages,
-        Owner::Queue { .. } => &mut counts.queue_pages,
-        Owner::Command {
-            role: Role::Chain,
-            ..
-        } => &mut counts.chain_pages,
-        Owner::Command {
-            role: Role::Data,
-            ..
-        } => &mut counts.data_pages,
-    };
-    *number = number.wrapping_add(1);
-    counts
 }
 
 /// So many pages of queues, where all others of so many pages are free.
@@ -71,7 +54,7 @@ impl Desk {
         if pages > MOST_RECOUNTED {
             return;
         }
-        let mut counts = at_rest(0, 0);
+        let mut counts = NO_PAGES;
         for p in 0..pages {
             counts = counted(counts, self.bench.owner(PageNo(p)));
         }

@@ -23,8 +23,6 @@ mod first_script;
 #[cfg(test)]
 mod job_runs;
 #[cfg(test)]
-mod laid;
-#[cfg(test)]
 mod largest;
 #[cfg(test)]
 mod missing;

@@ -3,8 +3,8 @@
 use crate::expecting::same_at;
 use crate::script_runs::{Narrow, Slow};
 use crate::usual::{USUAL, zeros};
-use program::shell::run_shell;
 use script_cli::RunFault;
+use shell::run_shell;
 use std::test::Fail;
 
 /// One block is read step by step; the controller works by one word.
