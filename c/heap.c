@@ -1,6 +1,7 @@
-/* The library's memory: over an array, where nvmesgl_heap_array gave one, else over malloc, where the program has it. */
+/* The library's memory: over an array, where nvmesgl_heap_array gave one, else over malloc, where the program has it; the pages of a pool over memory of
+ * the caller's, where nvmehost_open_at gave some. */
 #include "heap.h"
-#include "nvmesgl.h"
+#include "nvmehost.h"
 
 #include <string.h>
 
@@ -86,7 +87,54 @@ static void array_dealloc(void *p) {
     }
 }
 
+/* Memories of open hosts, and the one of a host that is being opened. The store asks for its pages in the order of their numbers, 4,096 bytes of alignment 1 each,
+ * and for nothing else of that size and alignment while it opens. */
+static nvmehost_memory *memories, *opening;
+
+static bool in_memory(const void *p) {
+    for (const nvmehost_memory *m = memories; m != NULL; m = m->next)
+        if ((uintptr_t)p - (uintptr_t)m->at < (uintptr_t)4096 * m->pages) return true;
+    return false;
+}
+
+static void unlink_memory(nvmehost_memory *memory) {
+    for (nvmehost_memory **at = &memories; *at != NULL; at = &(*at)->next)
+        if (*at == memory) {
+            *at = memory->next;
+            return;
+        }
+}
+
+uint32_t nvmehost_open_at(nvmehost *host, const nvmehost_options *options, nvmehost_memory *memory, nvmesgl_answer *answer) {
+    if (memory->pages != options->pages) {
+        memset(answer, 0, sizeof *answer);
+        return NVMESGL_BAD_OPTION;
+    }
+    /* Refused: what is open stays where it is. */
+    if (host->full) return nvmehost_open(host, options, answer);
+    unlink_memory(memory);
+    memory->next = memories;
+    memory->used = 0;
+    memories = opening = memory;
+    uint32_t code = nvmehost_open(host, options, answer);
+    opening = NULL;
+    /* It does not come: each page is asked for as said above. A library that asked otherwise would not be over this memory. */
+    if (code == NVMESGL_DONE && memory->used != memory->pages) {
+        nvmehost_close(host);
+        code = NVMESGL_MEMORY;
+    }
+    if (code != NVMESGL_DONE) unlink_memory(memory);
+    return code;
+}
+
+void nvmehost_close_at(nvmehost *host, nvmehost_memory *memory) {
+    nvmehost_close(host);
+    unlink_memory(memory);
+}
+
 struct tried rattle_alloc(size_t n, size_t align) {
+    if (opening != NULL && n == 4096 && align == 1 && opening->used < opening->pages)
+        return (struct tried){true, (unsigned char *)opening->at + (size_t)4096 * opening->used++};
     if (array_from != NULL) return array_alloc(n);
     if (malloc == NULL) return (struct tried){false, nothing};
     void *p = malloc(n == 0 ? align : n);
@@ -107,6 +155,7 @@ struct tried rattle_realloc(void *p, size_t kept, size_t n, size_t align) {
 }
 
 void rattle_dealloc(void *p) {
+    if (in_memory(p)) return;
     if (in_array(p)) array_dealloc(p);
     else if (free != NULL) free(p);
 }

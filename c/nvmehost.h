@@ -67,7 +67,28 @@ typedef struct nvmehost_queue {
     uint16_t submission_head; /* of the controller, as a completion told it last */
     uint16_t completion_head; /* the slot where the next completion is looked for */
     bool phase;               /* the phase tag of a new completion there */
+    uint32_t submission_page; /* the first page of the submission ring, and of the completion ring; 0 where the host has none */
+    uint32_t completion_page;
+    size_t submission_pages; /* how many pages each has */
+    size_t completion_pages;
 } nvmehost_queue;
+
+/* What a device may do with a page now. */
+enum nvmehost_right { NVMEHOST_NOTHING = 0, NVMEHOST_READ = 1, NVMEHOST_WRITE = 2 };
+
+/* Consecutive pages with one right. */
+typedef struct nvmehost_run {
+    uint32_t first; /* the first page */
+    uint32_t right; /* enum nvmehost_right, of each */
+    size_t count;   /* how many pages there are */
+} nvmehost_run;
+
+/* Where the bytes of a data piece lie: at address 4,096 * page + offset. */
+typedef struct nvmehost_place {
+    uint32_t page;
+    uint32_t offset;
+    uint32_t len;
+} nvmehost_place;
 
 typedef struct nvmehost_pages {
     uint32_t pages; /* of the pool: the sum of the next four */
@@ -88,6 +109,41 @@ uint32_t nvmehost_open(nvmehost *, const nvmehost_options *, nvmesgl_answer *);
 /* Closes a handle: what is open is let go, whatever is outstanding. One that is closed stays so. */
 void nvmehost_close(nvmehost *);
 
+/* Memory of the caller's in which a pool stands, as it is mapped for a device: at is a multiple of 4,096, with 4,096 * pages bytes. The last two are the library's. */
+typedef struct nvmehost_memory {
+    void *at;
+    uint32_t pages;
+    uint32_t used;
+    struct nvmehost_memory *next;
+} nvmehost_memory;
+
+/* Opens as nvmehost_open does, over the caller's memory: page p of the pool stands at memory->at + 4,096 p until the handle is closed, whether the page is in or out. Such a handle is
+ * closed by nvmehost_close_at; until then the struct stays where it is. One opening at a time in a program.
+ * Refused before all else: BAD_OPTION where memory->pages is not options->pages. */
+uint32_t nvmehost_open_at(nvmehost *, const nvmehost_options *, nvmehost_memory *, nvmesgl_answer *);
+void nvmehost_close_at(nvmehost *, nvmehost_memory *);
+
+/* Over such memory (rule 7 of docs/C.md) the caller may write the data of a draft in place, from reserve to submit, as nvmehost_fill would, and read that of a finished command, from collect to
+ * release; the device reads and writes what is in the pool, as nvmehost_read and nvmehost_write would. While a call runs nobody writes what it reads. So a completion is reaped once it is ready: */
+
+/* Whether the completion that nvmehost_reap would take stands in the queue's ring: its phase tag is read, and all that is read later is read after it (acquire). */
+static inline bool nvmehost_ready(const nvmehost_memory *memory, const nvmehost_queue *queue) {
+    const char *ring = (const char *)memory->at + (size_t)4096 * queue->completion_page;
+    const uint16_t *tag = (const uint16_t *)(const void *)(ring + (size_t)16 * queue->completion_head + 14);
+    return (__atomic_load_n(tag, __ATOMIC_ACQUIRE) & 1) == (queue->phase ? 1 : 0);
+}
+
+/* Writes a doorbell register, after all that was written to memory before. registers: the device's first one (BAR0); stride: CAP.DSTRD. Nothing is written where the doorbell does not ring. */
+static inline void nvmehost_write_doorbell(volatile void *registers, unsigned stride, nvmehost_doorbell bell) {
+    if (!bell.rings) return;
+#if defined(__aarch64__)
+    __asm__ volatile("dmb oshst" ::: "memory");
+#else
+    __atomic_thread_fence(__ATOMIC_SEQ_CST);
+#endif
+    *(volatile uint32_t *)((volatile char *)registers + 4096 + ((bell.offset - 4096) << stride)) = bell.value;
+}
+
 /* A command, named by its queue and identifier ---------------------------------------------------------------------- */
 
 /* Below, "Refused" names the codes of a handle that is open, in the order in which they are looked for. MEMORY may also come first. */
@@ -97,7 +153,7 @@ void nvmehost_close(nvmehost *);
  * Refused: NO_KIND, NO_QUEUE, DELETING, a fault of the request (TOO_MANY_PIECES to LENGTH_MISMATCH), NO_IDENTIFIER, NO_PAGES, MEMORY. */
 uint32_t nvmehost_reserve(nvmehost *, uint16_t q, uint32_t kind, uint64_t slba, uint32_t blocks, const nvmesgl_piece *pieces, size_t piece_count,
                           nvmesgl_answer *);
-/* Fills the draft of a Write or a Compare with the bytes, and zeros behind them. Refused: NO_VALUE, NOT_A_SOURCE, WRONG_LENGTH, MEMORY. */
+/* Fills the draft of a Write or a Compare with the bytes, and zeros behind them. Refused: NO_VALUE, NOT_A_SOURCE, WRONG_LENGTH. */
 uint32_t nvmehost_fill(nvmehost *, uint16_t q, uint16_t cid, const uint8_t *bytes, size_t byte_count, nvmesgl_answer *);
 /* Lays the draft's chain. Refused: NO_VALUE, MEMORY. */
 uint32_t nvmehost_build(nvmehost *, uint16_t q, uint16_t cid, nvmesgl_answer *);
@@ -149,6 +205,14 @@ uint32_t nvmehost_counts(nvmehost *, nvmehost_pages *);
 uint32_t nvmehost_owner(nvmehost *, uint32_t page, nvmesgl_page_owner *);
 /* What the host knows of a queue. Refused: NO_QUEUE. */
 uint32_t nvmehost_look(nvmehost *, uint16_t q, nvmehost_queue *);
+/* What a device may do with a page now (enum nvmehost_right), whatever it wrote: it reads submission rings, and the chain and the data of each Write and Compare that is submitted and not yet
+ * reaped; it writes completion rings, and the data of each Read that is; and nothing else. Of a page outside the pool: NVMEHOST_NOTHING. */
+uint32_t nvmehost_may(nvmehost *, uint32_t page, uint32_t *right);
+/* The pages of a command as runs, first of its data and then of its chain, with what a device may do with them now; none where no such command is outstanding. How many runs were laid into the
+ * front of the buffer is told. TOO_SHORT: there are more, and the buffer is full. */
+uint32_t nvmehost_runs(nvmehost *, uint16_t q, uint16_t cid, nvmehost_run *buffer, size_t buffer_len, size_t *count);
+/* Where data piece i of an outstanding command lies; pieces are counted from 0, and buckets are left aside. Refused: NO_PIECE. */
+uint32_t nvmehost_data_place(nvmehost *, uint16_t q, uint16_t cid, uint32_t piece, nvmehost_place *);
 
 #ifdef __cplusplus
 }

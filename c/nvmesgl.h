@@ -123,7 +123,9 @@ enum nvmesgl_code {
     /* Of nvmehost.h: no bytes, or more than 4,096. */
     NVMESGL_BAD_LENGTH = 53,
     /* A byte is outside the pool, or on a page that is out of it. */
-    NVMESGL_PAGE_OUT = 54
+    NVMESGL_PAGE_OUT = 54,
+    /* No such command is outstanding, or it has no such data piece. */
+    NVMESGL_NO_PIECE = 55
 };
 
 /* The code as a sentence for people; "no such code" for other numbers. */

@@ -50,6 +50,7 @@ const char *nvmesgl_text(uint32_t code) {
     case NVMESGL_NO_BLOCKS: return "the image has not so many blocks there, or the buffer is not whole blocks";
     case NVMESGL_BAD_LENGTH: return "a call moves 1 to 4,096 bytes";
     case NVMESGL_PAGE_OUT: return "a byte is outside the pool or on a page that is out";
+    case NVMESGL_NO_PIECE: return "no such command is outstanding, or it has no such data piece";
     default: return "no such code";
     }
 }

@@ -13,6 +13,14 @@
 Each method is one call of c/nvmehost.h and returns what the call tells. A call that is not done raises `nvmesgl.Refused`, which has its
 code, and changes nothing. The shared library is that of the module nvmesgl. A host is used by one thread at a time, and by the
 one that opened it.
+
+A pool that a device reaches by itself stands in memory of the caller's, as an anonymous `mmap`, which begins at a multiple of 4,096:
+
+    memory = mmap.mmap(-1, 64 * PAGE_BYTES)
+    with Host(memory=memory, entries=16) as host:
+        ...                          # page p is memory[4096 * p : 4096 * p + 4096]
+
+Rule 7 of docs/C.md says who may read and write there, and when.
 """
 
 from __future__ import annotations
@@ -25,7 +33,7 @@ from typing import Iterable, List, NamedTuple, Optional, Union
 import nvmesgl
 from nvmesgl import Code, Kind, Owner, OwnerKind, Piece, Refused, Reserved, State, Status
 
-__all__ = ["Counts", "Doorbell", "Host", "PAGE_BYTES", "Queue", "QueueState", "Reaped", "Rings"]
+__all__ = ["Counts", "Doorbell", "Host", "PAGE_BYTES", "Place", "Queue", "QueueState", "Reaped", "Right", "Rings", "Run"]
 
 PAGE_BYTES = 4096
 
@@ -41,6 +49,14 @@ class QueueState(enum.IntEnum):
     MAKING_CQ = 5
     HALF_MADE = 6
     MAKING_SQ = 7
+
+
+class Right(enum.IntEnum):
+    """What a device may do with a page now."""
+
+    NOTHING = 0
+    READ = 1
+    WRITE = 2
 
 
 class Doorbell(NamedTuple):
@@ -64,13 +80,30 @@ class Reaped(NamedTuple):
 
 class Queue(NamedTuple):
     """Where the host stands in the rings of a queue, in slots: its submission tail, the controller's submission head as a completion told it last,
-    its completion head, and the phase tag of a new completion there."""
+    its completion head, and the phase tag of a new completion there. The pages of its two rings; none of a half that the queue has not."""
 
     state: QueueState
     submission_tail: int
     submission_head: int
     completion_head: int
     phase: bool
+    submission: range
+    completion: range
+
+
+class Run(NamedTuple):
+    """Consecutive pages with one right."""
+
+    pages: range
+    right: Right
+
+
+class Place(NamedTuple):
+    """Where the bytes of a data piece lie: at address 4,096 * page + offset."""
+
+    page: int
+    offset: int
+    len: int
 
 
 class Rings(NamedTuple):
@@ -95,6 +128,10 @@ class _Handle(Structure):
     _fields_ = [("at", c_void_p), ("full", c_bool)]
 
 
+class _Memory(Structure):
+    _fields_ = [("at", c_void_p), ("pages", c_uint32), ("used", c_uint32), ("next", c_void_p)]
+
+
 class _Options(Structure):
     _fields_ = [
         ("size", c_uint32),
@@ -117,7 +154,19 @@ class _Queue(Structure):
         ("submission_head", c_uint16),
         ("completion_head", c_uint16),
         ("phase", c_bool),
+        ("submission_page", c_uint32),
+        ("completion_page", c_uint32),
+        ("submission_pages", c_size_t),
+        ("completion_pages", c_size_t),
     ]
+
+
+class _Run(Structure):
+    _fields_ = [("first", c_uint32), ("right", c_uint32), ("count", c_size_t)]
+
+
+class _Place(Structure):
+    _fields_ = [("page", c_uint32), ("offset", c_uint32), ("len", c_uint32)]
 
 
 class _Pages(Structure):
@@ -139,6 +188,7 @@ def _library() -> ctypes.CDLL:
         u16, u32, u64 = nvmesgl._U16, nvmesgl._U32, nvmesgl._U64
         words = {
             "open": [handle, POINTER(_Options), answer],
+            "open_at": [handle, POINTER(_Options), POINTER(_Memory), answer],
             "reserve": [handle, u16, u32, u64, u32, POINTER(nvmesgl._Piece), c_size_t, answer],
             "fill": [handle, u16, u16, c_char_p, c_size_t, answer],
             "gather": [handle, u16, u16, POINTER(c_uint8), c_size_t, answer],
@@ -150,6 +200,9 @@ def _library() -> ctypes.CDLL:
             "counts": [handle, POINTER(_Pages)],
             "owner": [handle, u32, POINTER(nvmesgl._PageOwner)],
             "look": [handle, u16, POINTER(_Queue)],
+            "may": [handle, u32, POINTER(c_uint32)],
+            "runs": [handle, u16, u16, POINTER(_Run), c_size_t, POINTER(c_size_t)],
+            "data_place": [handle, u16, u16, u32, POINTER(_Place)],
             **{name: [handle, u16, answer] for name in _QUEUE_CALLS},
             **{name: [handle, u16, u16, answer] for name in _COMMAND_CALLS},
         }
@@ -158,25 +211,49 @@ def _library() -> ctypes.CDLL:
             function.argtypes = types
             function.restype = c_uint32
         lib.nvmehost_close.argtypes = [handle]
-        lib.nvmehost_close.restype = None
+        lib.nvmehost_close_at.argtypes = [handle, POINTER(_Memory)]
+        lib.nvmehost_close.restype = lib.nvmehost_close_at.restype = None
         _declared = True
     return lib
+
+
+def _lend(memory: object) -> ctypes.Array:
+    """The bytes of a writable buffer in which a pool can stand."""
+    lent = (c_uint8 * memoryview(memory).nbytes).from_buffer(memory)
+    if len(lent) % PAGE_BYTES != 0 or ctypes.addressof(lent) % PAGE_BYTES != 0:
+        raise ValueError("the memory is not whole pages of 4,096 bytes, or does not begin at a multiple of 4,096: mmap.mmap(-1, 4096 * pages) does")
+    return lent
 
 
 class Host:
     """The host alone, with its pool. Used by `with`, or closed by `close`."""
 
-    def __init__(self, *, pages: int = 16, queues: int = 1, entries: int = 4, segment: int = 256) -> None:
-        """Opens a host: `pages` pages (8 to 65,536), all zero; `queues` I/O queues (1 to 64) beside the admin queue 0; `entries` entries of each
-        ring (2 to 1,024); segments of `segment` descriptors at most (2 to 256).
+    def __init__(
+        self, *, pages: Optional[int] = None, queues: int = 1, entries: int = 4, segment: int = 256, memory: Optional[object] = None
+    ) -> None:
+        """Opens a host: `pages` pages (8 to 65,536; 16 where nothing says how many), all zero; `queues` I/O queues (1 to 64) beside the admin queue 0;
+        `entries` entries of each ring (2 to 1,024); segments of `segment` descriptors at most (2 to 256).
+
+        `memory`: a writable buffer of 4,096 bytes for each page, which begins at a multiple of 4,096, as an anonymous `mmap.mmap` does. Page p of the
+        pool stands at its byte 4,096 p until the host is closed, and the buffer cannot be closed nor resized before. BAD_OPTION where `pages` says
+        another number. One such opening at a time in a program.
 
         Every queue is live with empty rings. Where the I/O queues are to be made at the device (Create I/O CQ and SQ), call `reset` next."""
         self._lib = _library()
         self._handle = _Handle()
+        self._memory = self._lent = None
         self._answer = nvmesgl._Answer()
         self._bell = _Doorbell()
+        lent = None if memory is None else _lend(memory)
+        if pages is None:
+            pages = 16 if lent is None else len(lent) // PAGE_BYTES
         options = _Options(ctypes.sizeof(_Options), *(nvmesgl._fits(n, 32) for n in (pages, queues, entries, segment)))
-        self._call("open", byref(options))
+        if lent is None:
+            self._call("open", byref(options))
+        else:
+            at = _Memory(ctypes.addressof(lent), len(lent) // PAGE_BYTES, 0, None)
+            self._call("open_at", byref(options), byref(at))
+            self._memory, self._lent = at, lent
         self.pages = pages
         self.queues = queues
         self.entries = entries
@@ -193,7 +270,11 @@ class Host:
 
     def close(self) -> None:
         """Lets all go, whatever is outstanding. A host that is closed refuses each call with CLOSED_HANDLE."""
-        self._lib.nvmehost_close(byref(self._handle))
+        if self._memory is None:
+            self._lib.nvmehost_close(byref(self._handle))
+        else:
+            self._lib.nvmehost_close_at(byref(self._handle), byref(self._memory))
+            self._memory = self._lent = None
 
     def _call(self, name: str, *arguments: object) -> nvmesgl._Answer:
         code = getattr(self._lib, "nvmehost_" + name)(byref(self._handle), *arguments, byref(self._answer))
@@ -330,15 +411,47 @@ class Host:
         """What the host knows of a queue, and where it stands in its rings."""
         queue = _Queue()
         self._look("look", q, byref(queue))
-        return Queue(QueueState(queue.state), queue.submission_tail, queue.submission_head, queue.completion_head, queue.phase)
+        submission = range(queue.submission_page, queue.submission_page + queue.submission_pages)
+        completion = range(queue.completion_page, queue.completion_page + queue.completion_pages)
+        at = (queue.submission_tail, queue.submission_head, queue.completion_head, queue.phase)
+        return Queue(QueueState(queue.state), *at, submission, completion)
 
     def rings(self, q: int) -> Rings:
-        """Where the rings of a queue begin. A ring lies in consecutive pages: it begins at the lowest page that its half owns. This looks at each page
-        of the pool."""
-        first: List[Optional[int]] = [None, None]
-        for page in range(self.pages):
-            owner = self.owner(page)
-            half = owner.kind - OwnerKind.SUBMISSION_QUEUE
-            if half in (0, 1) and owner.q == q and first[half] is None:
-                first[half] = page * PAGE_BYTES
-        return Rings(first[0], first[1])
+        """Where the rings of a queue begin."""
+        queue = self.queue(q)
+        return Rings(*(pages[0] * PAGE_BYTES if pages else None for pages in (queue.submission, queue.completion)))
+
+    def ready(self, q: int) -> bool:
+        """Whether the completion that `reap` would take stands in the queue's ring, by its phase tag. Over memory that a device writes by itself, `reap`
+        is called where this is so."""
+        queue = self.queue(q)
+        if not queue.completion:
+            return False
+        return self.read(queue.completion[0] * PAGE_BYTES + 16 * queue.completion_head + 14, 1)[0] & 1 == queue.phase
+
+    def may(self, page: int) -> Right:
+        """What a device may do with a page now, whatever it wrote; nothing of a page outside the pool."""
+        right = c_uint32()
+        self._look("may", page, byref(right))
+        return Right(right.value)
+
+    def runs(self, q: int, cid: int) -> List[Run]:
+        """The pages of a command as runs, first of its data and then of its chain, with what a device may do with them now; none where no such
+        command is outstanding."""
+        count, room = c_size_t(), 16
+        while True:
+            buffer = (_Run * room)()
+            try:
+                self._look("runs", q, cid, buffer, room, byref(count))
+            except Refused as refused:
+                if refused.code != Code.TOO_SHORT:
+                    raise
+                room *= 4
+            else:
+                return [Run(range(run.first, run.first + run.count), Right(run.right)) for run in buffer[: count.value]]
+
+    def data_place(self, q: int, cid: int, piece: int) -> Place:
+        """Where data piece `piece` of an outstanding command lies, counted from 0 without the buckets. NO_PIECE where there is none."""
+        place = _Place()
+        self._look("data_place", q, cid, piece, byref(place))
+        return Place(place.page, place.offset, place.len)

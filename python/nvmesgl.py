@@ -72,6 +72,7 @@ class Code(enum.IntEnum):
     WRONG_LENGTH = 46
     BAD_LENGTH = 53
     PAGE_OUT = 54
+    NO_PIECE = 55
 
 
 class Kind(enum.IntEnum):

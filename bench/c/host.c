@@ -1,5 +1,6 @@
-/* Arbitrary calls of a host whose device writes arbitrary bytes: host SEED CALLS. A call that is refused changes neither a byte of the pool nor a page's owner, nor what the
- * host knows of its queues; whatever the device writes, the classes of pages add up to the pool, and each page has the owner that they count. */
+/* Arbitrary calls of a host whose device writes arbitrary bytes: host SEED CALLS. A call that is refused changes neither a byte of the pool nor a page's owner, nor what a device may do
+ * with it, nor what the host knows of its queues; whatever the device writes, the classes of pages add up to the pool, each page has the owner that they count and the right that its owner
+ * asks for, and the runs of a command and the rings of a queue are the pages that it owns. */
 #include "arbitrary.h"
 #include "nvmehost.h"
 
@@ -14,6 +15,7 @@ typedef struct seen {
     uint8_t bytes[PAGES][PAGE];
     uint32_t codes[PAGES];
     nvmesgl_page_owner owners[PAGES];
+    uint32_t rights[PAGES];
     nvmehost_pages pages;
     nvmehost_queue queues[QUEUES];
 } seen;
@@ -36,6 +38,8 @@ static void see(seen *s) {
         if (s->codes[p] != NVMESGL_DONE && s->codes[p] != NVMESGL_PAGE_OUT) fail("a page is read", s->codes[p]);
         uint32_t code = nvmehost_owner(&host, p, &s->owners[p]);
         if (code != NVMESGL_DONE) fail("an owner", code);
+        code = nvmehost_may(&host, p, &s->rights[p]);
+        if (code != NVMESGL_DONE) fail("a right", code);
     }
     uint32_t code = nvmehost_counts(&host, &s->pages);
     if (code != NVMESGL_DONE) fail("counts", code);
@@ -48,6 +52,10 @@ static void see(seen *s) {
         s->queues[q].submission_head = found.submission_head;
         s->queues[q].completion_head = found.completion_head;
         s->queues[q].phase = found.phase;
+        s->queues[q].submission_page = found.submission_page;
+        s->queues[q].completion_page = found.completion_page;
+        s->queues[q].submission_pages = found.submission_pages;
+        s->queues[q].completion_pages = found.completion_pages;
     }
 }
 
@@ -66,6 +74,40 @@ static void recount(const seen *s) {
         fail("the classes do not add up", 0);
 }
 
+/* Of each page the device may do what its owner asks for: read a submission ring, write a completion ring, and of a page that is out, or nobody's, nothing. */
+static void rights(const seen *s) {
+    for (uint32_t p = 0; p < PAGES; p++) {
+        uint32_t right = s->rights[p], kind = s->owners[p].kind;
+        if (right > NVMEHOST_WRITE) fail("a right of no kind", right);
+        if ((kind == NVMESGL_FREE || s->codes[p] == NVMESGL_PAGE_OUT) && right != NVMEHOST_NOTHING) fail("a page that nobody lent", p);
+        if (kind == NVMESGL_SUBMISSION_QUEUE && right != NVMEHOST_READ) fail("a submission ring that is not read", p);
+        if (kind == NVMESGL_COMPLETION_QUEUE && right != NVMEHOST_WRITE) fail("a completion ring that is not written", p);
+        if (kind == NVMESGL_CHAIN && right == NVMEHOST_WRITE) fail("a list that is written", p);
+    }
+}
+
+/* The rings of each queue, and the runs of each command, are the pages that it owns, and no others. */
+static void belongings(const seen *s) {
+    uint32_t left = s->pages.pages - s->pages.free_pages;
+    for (uint16_t q = 0; q < QUEUES; q++) {
+        const nvmehost_queue *queue = &s->queues[q];
+        for (uint32_t i = 0; i < queue->submission_pages; i++, left--)
+            if (s->owners[queue->submission_page + i].kind != NVMESGL_SUBMISSION_QUEUE || s->owners[queue->submission_page + i].q != q) fail("a ring of another's", q);
+        for (uint32_t i = 0; i < queue->completion_pages; i++, left--)
+            if (s->owners[queue->completion_page + i].kind != NVMESGL_COMPLETION_QUEUE || s->owners[queue->completion_page + i].q != q) fail("a ring of another's", q);
+        for (uint16_t cid = 0; cid < ENTRIES; cid++) {
+            nvmehost_run runs[PAGES];
+            size_t count;
+            uint32_t code = nvmehost_runs(&host, q, cid, runs, PAGES, &count);
+            if (code != NVMESGL_DONE) fail("runs", code);
+            for (size_t i = 0; i < count; i++)
+                for (uint32_t p = runs[i].first; p < runs[i].first + runs[i].count; p++, left--)
+                    if (s->owners[p].kind < NVMESGL_DATA || s->owners[p].q != q || s->owners[p].cid != cid || s->rights[p] != runs[i].right) fail("a run of another's", p);
+        }
+    }
+    if (left != 0) fail("a page that is owned, and in no ring and no run", left);
+}
+
 /* The device writes: any bytes anywhere, or a completion that fits now and then. */
 static void device(void) {
     uint8_t bytes[PAGE];
@@ -79,24 +121,19 @@ static void device(void) {
     uint16_t q = (uint16_t)below(QUEUES);
     nvmehost_queue queue;
     if (nvmehost_look(&host, q, &queue) != NVMESGL_DONE) fail("a queue", 0);
-    uint32_t page = 0;
-    for (uint32_t p = PAGES; p-- > 0;) {
-        nvmesgl_page_owner owner;
-        if (nvmehost_owner(&host, p, &owner) == NVMESGL_DONE && owner.kind == NVMESGL_COMPLETION_QUEUE && owner.q == q) page = p;
-    }
     memset(bytes, 0, 16);
     bytes[8] = (uint8_t)(below(8) == 0 ? below(ENTRIES) : queue.submission_tail);
     bytes[10] = (uint8_t)(below(16) == 0 ? below(QUEUES) : q);
     bytes[12] = (uint8_t)below(ENTRIES);
     bytes[14] = (uint8_t)((queue.phase ? 1 : 0) ^ (below(32) == 0));
     if (below(6) == 0) bytes[14] = (uint8_t)(bytes[14] | below(128) << 1);
-    counts[nvmehost_write(&host, (uint64_t)page * PAGE + 16u * queue.completion_head, bytes, 16)]++;
+    counts[nvmehost_write(&host, (uint64_t)queue.completion_page * PAGE + 16u * queue.completion_head, bytes, 16)]++;
 }
 
 static uint32_t arbitrary(void) {
     uint16_t q = (uint16_t)below(QUEUES + 1), cid = (uint16_t)below(ENTRIES);
     uint8_t bytes[2 * PAGE] = {0};
-    switch (below(22)) {
+    switch (below(23)) {
     case 0:
     case 1: {
         nvmesgl_piece pieces[4];
@@ -130,15 +167,23 @@ static uint32_t arbitrary(void) {
     case 18: return below(3) == 0 ? nvmehost_delete_sq(&host, q, &answer) : nvmehost_create_cq(&host, q, &answer);
     case 19: return below(3) == 0 ? nvmehost_delete_cq(&host, q, &answer) : nvmehost_create_sq(&host, q, &answer);
     case 20: return nvmehost_retire(&host, q, &answer);
+    case 21: {
+        nvmehost_place place;
+        nvmehost_run run;
+        size_t count;
+        return below(2) == 0 ? nvmehost_data_place(&host, q, cid, below(4), &place) : nvmehost_runs(&host, q, cid, &run, below(2), &count);
+    }
     default: return below(40) == 0 ? nvmehost_reset(&host, &answer) : nvmehost_write(&host, below(PAGES) * PAGE, bytes, below(2) == 0 ? 0 : PAGE + 1);
     }
 }
 
 static void refuses_bad_use(const nvmehost_options *options) {
     uint8_t byte;
+    uint32_t right;
     nvmehost_options wrong = *options;
     if (nvmehost_ring(&host, 1, &bell, &answer) != NVMESGL_CLOSED_HANDLE || bell.rings) fail("a closed handle", 0);
     if (nvmehost_read(&host, 0, &byte, 1) != NVMESGL_CLOSED_HANDLE) fail("a closed handle", 0);
+    if (nvmehost_may(&host, 0, &right) != NVMESGL_CLOSED_HANDLE) fail("a closed handle", 0);
     wrong.size = 8;
     if (nvmehost_open(&host, &wrong, &answer) != NVMESGL_BAD_SIZE) fail("another size", 0);
     wrong = *options;
@@ -174,6 +219,8 @@ int main(int argc, char **argv) {
         if (!looks) continue;
         see(&after);
         recount(&after);
+        rights(&after);
+        belongings(&after);
         if (code != NVMESGL_DONE && memcmp(&before, &after, sizeof before) != 0) fail("a refused call changed what is seen", code);
     }
     nvmehost_close(&host);

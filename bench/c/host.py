@@ -1,9 +1,11 @@
-"""A host against a device that Python plays: what its calls tell, how its queues are made behind a reset, and what Python makes of refusals."""
+"""A host against a device that Python plays: what its calls tell, how its queues are made behind a reset, what the device may do with which page, a pool
+in memory of one's own, and what Python makes of refusals."""
 
 import ctypes
+import mmap
 import struct
 
-from nvmehost import Doorbell, Host, QueueState, Rings
+from nvmehost import PAGE_BYTES, Doorbell, Host, Place, QueueState, Right, Rings, Run
 from nvmesgl import Code, Kind, OwnerKind, Piece, State
 from refusals import refused
 
@@ -56,22 +58,35 @@ with Host(pages=32, queues=2, entries=8) as host:
         assert (told.state, told.cid, told.doorbell.offset) == (State.REAP_ADMIN_DONE, cid, 0x1004), told
         assert host.queue(1).state == state
     assert host.rings(1) == device.rings[1]
+    rings = host.queue(1)
+    assert [len(pages) for pages in (rings.submission, rings.completion)] == [1, 1]
+    assert (host.may(rings.submission[0]), host.may(rings.completion[0])) == (Right.READ, Right.WRITE)
+    assert host.queue(2).submission == host.queue(2).completion == range(0)
 
     cid = host.reserve(1, Kind.READ, 0, 1, [Piece(8, 512)]).cid
     data = [p for p in range(32) if host.owner(p).kind == OwnerKind.DATA]
+    assert host.data_place(1, cid, 0) == Place(data[0], 8, 512)
+    refused(Code.NO_PIECE, host.data_place, 1, cid, 1)
+    assert host.runs(1, cid) == [Run(range(data[0], data[0] + 1), Right.NOTHING)] and host.may(data[0]) == Right.NOTHING
     refused(Code.PAGE_OUT, host.read, 4096 * data[0], 1)
     refused(Code.NOT_BUILT, host.submit, 1, cid)
     host.build(1, cid)
     host.submit(1, cid)
     assert host.read(4096 * data[0], 4096) == bytes(4096)
+    assert host.runs(1, cid) == [Run(range(data[0], data[0] + 1), Right.WRITE)] and host.may(data[0]) == Right.WRITE
+    assert not host.ready(1)
     refused(Code.NOT_YET, host.collect, 1, cid)
     device.ring(host.ring(1))
+    assert host.ready(1)
     told = host.reap(1)
+    assert host.may(data[0]) == Right.NOTHING and not host.ready(1)
     assert (told.state, told.cid, told.doorbell) == (State.REAP_DONE, cid, Doorbell(0x100C, 1)), told
     assert host.reap(1).state == State.REAP_EMPTY and host.reap(1).doorbell is None
     assert host.collect(1, cid) == (0, 0)
     assert host.gather(1, cid) == bytes([0x5A]) * 512
     host.release(1, cid)
+    assert host.runs(1, cid) == [] and host.may(32) == Right.NOTHING
+    refused(Code.NO_PIECE, host.data_place, 1, cid, 0)
     assert host.counts().data_pages == 0 and sum(host.counts()[1:]) == 32
 
     for count in (0, 4097):
@@ -93,5 +108,45 @@ refused(Code.CLOSED_HANDLE, host.ring, 1)
 refused(Code.BAD_CONFIG, lambda: Host(pages=7))
 why = refused(Code.NO_PAGES, lambda: Host(pages=8, queues=64))
 assert (why.need, why.free) == (130, 8)
+
+# A pool in memory of one's own: what the device writes there stands there, and what is filled there is what is sent.
+memory = mmap.mmap(-1, 64 * PAGE_BYTES)
+for _ in range(2):
+    with Host(memory=memory, queues=2, entries=70) as host:
+        assert host.pages == 64 and bytes(memory) == bytes(64 * PAGE_BYTES)
+        for page in range(64):
+            host.write(PAGE_BYTES * page + 4000, struct.pack("<I", page + 1))
+        assert [struct.unpack_from("<I", memory, PAGE_BYTES * page + 4000)[0] for page in range(64)] == list(range(1, 65))
+        pieces = [Piece(64 * piece, 512) for piece in range(20)]
+        cid = host.reserve(1, Kind.WRITE, 0, 20, pieces).cid
+        for piece in range(20):
+            place = host.data_place(1, cid, piece)
+            assert (place.offset, place.len) == (64 * piece, 512)
+            at = PAGE_BYTES * place.page + place.offset
+            memory[at : at + 512] = bytes([piece]) * 512
+        host.build(1, cid)
+        host.submit(1, cid)
+        assert [run.right for run in host.runs(1, cid)] == [Right.READ] * len(host.runs(1, cid))
+        assert sum(len(run.pages) for run in host.runs(1, cid)) == 21
+        for piece in range(20):
+            place = host.data_place(1, cid, piece)
+            assert host.read(PAGE_BYTES * place.page + place.offset, 512) == bytes([piece]) * 512
+        try:
+            memory.close()
+        except BufferError:
+            pass
+        else:
+            raise AssertionError("memory was closed under a pool")
+refused(Code.BAD_OPTION, lambda: Host(pages=63, memory=memory))
+refused(Code.NO_PAGES, lambda: Host(memory=memory, queues=64))
+for wrong in (memoryview(memory)[1 : 1 + 8 * PAGE_BYTES], bytearray(8 * PAGE_BYTES + 1)):
+    try:
+        Host(memory=wrong)
+    except ValueError:
+        pass
+    else:
+        raise AssertionError("a pool in memory that is not whole pages")
+del wrong
+memory.close()
 
 print("done")

@@ -4,3 +4,4 @@ pub mod Slices
 mod Lending
 mod Seen
 mod Told
+mod Laying

@@ -2,9 +2,10 @@
 use Rattle.std.specs.Prelude.{true, false, Option, Some, None, [], length}
 use Rattle.nvmesgl_c.specs.{Answers.{nothing, ended, reaped, refused}, declared.host.{answer.CDoorbell.CDoorbell, options.NotOpened.NotOpened}}
 use Rattle.nvmesgl_c.specs.declared.words.answer.Answer.{Answer}
-use Rattle.host_core.specs.{Values.Reply, declared.doorbell.Doorbell.Doorbell}
+use Rattle.host_core.specs.declared.doorbell.Doorbell.{Doorbell}
+use Rattle.host_bench.specs.Values.{Reply}
 use Rattle.nvmesgl_c.specs.Answers as words
-use Rattle.host_core.specs.declared.call.Reply.TheVariants as reply
+use Rattle.host_bench.specs.declared.call.Reply.TheVariants as reply
 use Rattle.nvmesgl_c.specs.declared.host.options.NotOpened.TheVariants as not_opened
 
 abbrev pub told_of : Reply → Answer

@@ -4,9 +4,9 @@ use Rattle.io_commands.specs.declared.request.Kind.{Kind}
 use Rattle.machine_model.specs.Script.{Table}
 use Rattle.nvmesgl_c.specs.{Answers.nothing, HostAnswers.{bell_of, told}, HostCodes.code_of_reply, Requests.{kind_of, piece_of}}
 use Rattle.nvmesgl_c.specs.declared.{host.answer.CDoorbell.CDoorbell, words.{answer.Answer.Answer, piece.CPiece.CPiece}}
-use Rattle.host_core.specs.{Calls.Does, Values.{Call, Reply}}
-use Rattle.host_core.specs.declared.call.Reply.TheVariants as reply
-use Rattle.host_core.specs.declared.call.Call.TheVariants as call
+use Rattle.host_bench.specs.{Calls.Does, Values.{Call, Reply}}
+use Rattle.host_bench.specs.declared.call.Reply.TheVariants as reply
+use Rattle.host_bench.specs.declared.call.Call.TheVariants as call
 
 -- a call of the host that a handle keeps, if it keeps one
 abbrev pub DoesKept : Option Table → Call → Option Reply → Option Table → Type 0

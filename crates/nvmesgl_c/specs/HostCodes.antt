@@ -1,9 +1,9 @@
 -- The code of each answer.
 use Rattle.std.specs.Prelude.{ℕ, Option, Some, None}
 use Rattle.nvmesgl_c.specs.{Codes.{code_of_refusal, code_of_fill_fault, code_of_open_refusal}, declared.host.options.NotOpened.NotOpened}
-use Rattle.host_core.specs.Values.{Reply}
+use Rattle.host_bench.specs.Values.{Reply}
 use Rattle.nvmesgl_c.specs.declared.host.options.NotOpened.TheVariants as not_opened
-use Rattle.host_core.specs.declared.call.Reply.TheVariants as reply
+use Rattle.host_bench.specs.declared.call.Reply.TheVariants as reply
 
 -- of a call whose handle was closed there is no reply
 abbrev pub code_of_reply : Option Reply → ℕ

@@ -3,6 +3,7 @@ use Rattle.std.specs.{List.Contains, Option.option_map, Prelude.{◌≡◌, ◌�
 use Rattle.nvmesgl_c.specs.{Owners.owner_of, declared.{host.looks.{CHostQueue.CHostQueue, CPages.CPages}, words.owner.COwner.COwner}}
 use Rattle.machine_model.specs.{Claims.claims_of, Script.Table, declared.words.HostState.HostState}
 use Rattle.page_ledger.specs.declared.owner.Owner.{Owner}
+use Rattle.host_core.specs.{Rights.memory_of_queue, declared.rights.{QueueMemory.QueueMemory, Run.Run}}
 use Rattle.queue_pair.specs.{Positions.host_positions, declared.positions.HostPositions.HostPositions}
 use Rattle.machine_model.specs.Claims as claims
 use Rattle.machine_model.specs.declared.words.HostState.TheVariants as host_state
@@ -48,19 +49,28 @@ number_of host_state.MakingCq = 5
 number_of host_state.HalfMade = 6
 number_of host_state.MakingSq = 7
 
-abbrev pub queue_of : HostState → HostPositions → CHostQueue
-queue_of state at =
+-- the first page of a ring, and how many there are
+abbrev pub ring_of : Option Run → ℕ × ℕ
+ring_of None = (0, 0)
+ring_of (Some run) = (run.first, run.count)
+
+abbrev pub queue_of : HostState → HostPositions → QueueMemory → CHostQueue
+queue_of state at memory =
     record {
       state = number_of state;
       submission_tail = at.submission_tail;
       submission_head = at.submission_head;
       completion_head = at.completion_head;
       phase = at.phase;
+      submission_page = (ring_of memory.submission).0;
+      completion_page = (ring_of memory.completion).0;
+      submission_pages = (ring_of memory.submission).1;
+      completion_pages = (ring_of memory.completion).1;
     }
 
 -- the queue of this number is told, if there is one
 abbrev pub FindsQueue : Table → ℕ → Option CHostQueue → Type 0
-FindsQueue t q found = found ≡ option_map (λ queue. queue_of queue.state (host_positions queue.ring)) (slice_get t.world.host.queues q)
+FindsQueue t q found = found ≡ option_map (λ queue. queue_of queue.state (host_positions queue.ring) (memory_of_queue queue)) (slice_get t.world.host.queues q)
 
 abbrev pub ShowsQueue : Option CHostQueue → ℕ → CHostQueue → CHostQueue → Type 0
 ShowsQueue None code old new = (code ≡ 10) × (new ≡ old)

@@ -1,6 +1,8 @@
 -- What the options of an opening say, and when a handle is not opened.
 use Rattle.std.specs.{List.list_any, Prelude.{◌≡◌, ◌==◌, ℕ, Option, Some, None, if◌then◌else◌}}
-use Rattle.host_core.specs.{BenchTables.opened_alone, Opening.{refusal_of_config, RefusesOpening}, declared.config.Config.Config}
+use Rattle.host_core.specs.Opening.{refusal_of_config, RefusesOpening}
+use Rattle.host_core.specs.declared.config.Config.{Config}
+use Rattle.host_bench.specs.BenchTables.{opened_alone}
 use Rattle.machine_model.specs.Script.{Table, table}
 use Rattle.nvmesgl_c.specs.{Answers.nothing, HostAnswers.told_not_opened, HostCodes.code_of_not_opened, Requests.is_set}
 use Rattle.nvmesgl_c.specs.declared.{host.options.{NotOpened.NotOpened, Options.Options}, words.answer.Answer.Answer}

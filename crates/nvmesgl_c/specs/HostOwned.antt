@@ -5,7 +5,7 @@ use denote.{RattleType.RattleType, RawPtr.Ptr}
 use Rattle.machine_model.specs.Script.{Table}
 use Rattle.nvmesgl_c.specs.HeldOwned.{held_owns}
 use Rattle.std.specs.contracts.alloc.Global as heap
-use Rattle.host_core.specs.contracts.bench.HostBench as bench
+use Rattle.host_bench.specs.contracts.bench.HostBench as bench
 
 abbrev pub Row : RattleType
 Row = bench.the_row heap.the_row ghosts

@@ -1,6 +1,6 @@
 -- What a device's reads and writes answer, and what they leave of the host that a handle keeps.
 use Rattle.std.specs.Prelude.{◌≡◌, ◌&&◌, ℕ, nat_lt, nat_le, Bool, true, false, Option, Some, None, List, length}
-use Rattle.host_core.specs.Pool.{IsWritten}
+use Rattle.host_bench.specs.Pool.{IsWritten}
 use Rattle.machine_model.specs.Script.{Table}
 use Rattle.page_memory.specs.{Memory.bytes_at, Pages.byte_at}
 

@@ -24,3 +24,4 @@ pub mod HostCodes
 pub mod HostCalls
 pub mod HostPool
 pub mod HostLooks
+pub mod HostReach

@@ -5,7 +5,7 @@ ghost use Rattle.nvmesgl_c.specs.HostAnswers as answers;
 
 use crate::host::options::NotOpened;
 use crate::words::{Answer, ended, not_opened, nothing, reaped, refused};
-use host_core::{Doorbell, Reply};
+use host_bench::{Doorbell, Reply};
 
 /// A value for a doorbell register, where there is one.
 #[repr(C)]

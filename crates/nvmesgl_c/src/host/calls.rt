@@ -8,7 +8,7 @@ use crate::host::code::code_of_reply;
 use crate::host::handle::Handle;
 use crate::words::code::CLOSED;
 use crate::words::{Answer, nothing};
-use host_core::{Call, Reply};
+use host_bench::{Call, Reply};
 use std::alloc::Global;
 
 /// Makes a call of the host that is kept, if one is.

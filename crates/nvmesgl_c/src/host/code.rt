@@ -8,7 +8,7 @@ use crate::words::code::{
     BAD_OPTION, BAD_SIZE, CLOSED, DONE, MEMORY, NO_VALUE, code_of_fill_fault, code_of_open_refusal,
     code_of_refusal,
 };
-use host_core::Reply;
+use host_bench::Reply;
 
 /// No queue of this number is there.
 pub(crate) const NO_QUEUE: u32 = 10;
@@ -16,6 +16,8 @@ pub(crate) const NO_QUEUE: u32 = 10;
 pub(crate) const BAD_LENGTH: u32 = 53;
 /// A byte is outside the pool, or on a page that is out.
 pub(crate) const PAGE_OUT: u32 = 54;
+/// No such command is outstanding, or it has no such data piece.
+pub(crate) const NO_PIECE: u32 = 55;
 
 /// The code of what a call answered, of a handle that was open or not.
 pub(crate) fn code_of_reply(reply: &Option<Reply>) -> u32

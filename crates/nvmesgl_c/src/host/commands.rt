@@ -1,8 +1,8 @@
 //! The calls of a command, named by its queue and identifier.
 
 ghost use Rattle.std.specs.Prelude.{◌≡◌, IfSome};
-ghost use Rattle.nvmesgl_c.specs.HostCalls.{Says, SaysOrWants, Reserves, Gathers};
-ghost use Rattle.host_core.specs.declared.call.Call.TheVariants as call;
+ghost use Rattle.nvmesgl_c.specs.HostCalls.{DoesKept, Says, Reserves, Gathers};
+ghost use Rattle.host_bench.specs.declared.call.Call.TheVariants as call;
 
 use crate::host::answer::told;
 use crate::host::calls::{make, refuse, say};
@@ -10,7 +10,7 @@ use crate::host::code::code_of_reply;
 use crate::host::handle::Handle;
 use crate::words::code::{MEMORY, NO_KIND, TOO_SHORT};
 use crate::words::{Answer, CPiece, kind_of, pieces_of};
-use host_core::{Bytes, Call, Reply, Request};
+use host_bench::{Call, Reply, Request};
 use std::alloc::Global;
 
 /// Reserves a command. Its identifier and how many pages it has are told.
@@ -42,6 +42,18 @@ pub extern "C" fn nvmehost_reserve(
     say(alloc, handle, Call::Reserve { q, request }, answer)
 }
 
+/// Fills a draft of the host that is kept, if one is, with bytes that are lent.
+fn fill(alloc: Global, handle: &mut Handle, q: u16, cid: u16, bytes: &[u8]) -> Option<Reply>
+    ensures { DoesKept handle.old.bench (call.Fill q cid bytes.now) result handle.new.bench }
+{
+    let Some(mut bench) = handle.take(alloc) else {
+        return None;
+    };
+    let answer = bench.fill(q, cid, bytes);
+    handle.put(bench);
+    Some(answer)
+}
+
 /// Fills a draft with the bytes, padded with zeros to its Data length.
 #[unsafe(no_mangle)]
 pub extern "C" fn nvmehost_fill(
@@ -52,13 +64,11 @@ pub extern "C" fn nvmehost_fill(
     bytes: &[u8],
     answer: &mut Answer,
 ) -> u32
-    ensures { SaysOrWants handle.old.bench (call.Fill q cid bytes.now) result answer.new handle.new.bench }
+    ensures { Says handle.old.bench (call.Fill q cid bytes.now) result answer.new handle.new.bench }
 {
-    let Ok(copied) = Vec::from_slice(alloc, bytes) else {
-        return refuse(alloc, handle, MEMORY, answer);
-    };
-    let bytes = Bytes::from_vec(copied);
-    say(alloc, handle, Call::Fill { q, cid, bytes }, answer)
+    let reply = fill(alloc, handle, q, cid, bytes);
+    *answer = told(&reply);
+    code_of_reply(&reply)
 }
 
 /// Gathers a Read's bytes into the front of a buffer.

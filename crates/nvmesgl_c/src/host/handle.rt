@@ -6,7 +6,7 @@ ghost use Rattle.machine_model.specs.Script.{Table};
 ghost use Rattle.nvmesgl_c.specs.HostOwned.{bench_coded, handle_owns};
 
 use crate::held::Held;
-use host_core::HostBench;
+use host_bench::HostBench;
 use std::alloc::Global;
 use std::marker::Model;
 use std::mem::replace;

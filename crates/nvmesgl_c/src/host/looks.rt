@@ -8,7 +8,7 @@ use crate::host::code::NO_QUEUE;
 use crate::host::handle::Handle;
 use crate::words::code::{CLOSED, DONE, NO_PAGE};
 use crate::words::{COwner, owner_of};
-use host_core::{HostBench, HostPositions, HostState, Owner, PageNo};
+use host_bench::{HostBench, HostPositions, HostState, Owner, PageNo, QueueMemory, Run};
 use std::alloc::Global;
 
 /// How many pages a pool has and each class of them.
@@ -42,6 +42,14 @@ pub struct CHostQueue {
     pub completion_head: u16,
     /// The phase tag that a new completion has there.
     pub phase: bool,
+    /// The first page of its submission ring, and 0 where the host has none.
+    pub submission_page: u32,
+    /// The first page of its completion ring, and 0 where the host has none.
+    pub completion_page: u32,
+    /// How many pages its submission ring has.
+    pub submission_pages: usize,
+    /// How many pages its completion ring has.
+    pub completion_pages: usize,
 }
 
 /// The number of a queue's state.
@@ -60,16 +68,32 @@ fn number_of(state: HostState) -> u32
     }
 }
 
-/// A queue, as C sees it.
-fn queue_of(state: HostState, at: HostPositions) -> CHostQueue
-    ensures { result ≡ looks.queue_of state at }
+/// The first page of a ring, and how many there are.
+fn ring_of(ring: Option<Run>) -> (u32, usize)
+    ensures { result ≡ looks.ring_of ring }
 {
+    match ring {
+        Some(run) => (run.first.0, run.count),
+        None => (0, 0),
+    }
+}
+
+/// A queue, as C sees it.
+fn queue_of(state: HostState, at: HostPositions, memory: QueueMemory) -> CHostQueue
+    ensures { result ≡ looks.queue_of state at memory }
+{
+    let (submission_page, submission_pages) = ring_of(memory.submission);
+    let (completion_page, completion_pages) = ring_of(memory.completion);
     CHostQueue {
         state: number_of(state),
         submission_tail: at.submission_tail,
         submission_head: at.submission_head,
         completion_head: at.completion_head,
         phase: at.phase,
+        submission_page,
+        completion_page,
+        submission_pages,
+        completion_pages,
     }
 }
 
@@ -79,7 +103,10 @@ fn find_queue(bench: &HostBench, q: u16) -> Option<CHostQueue>
 {
     let state = bench.queue_state(q)?;
     let at = bench.positions(q)?;
-    Some(queue_of(state, at))
+    match bench.queue_memory(q) {
+        Some(memory) => Some(queue_of(state, at, memory)),
+        None => None,
+    }
 }
 
 /// The owner of a page of a host; none where the pool has no such page.

@@ -9,7 +9,7 @@ use crate::host::handle::Handle;
 use crate::host::options::{NotOpened, Options, config_of, fault_of};
 use crate::words::code::{DONE, OPEN};
 use crate::words::{Answer, nothing};
-use host_core::HostBench;
+use host_bench::HostBench;
 use std::alloc::Global;
 
 /// A host in a box.

@@ -6,7 +6,7 @@ ghost use Rattle.nvmesgl_c.specs.HostPool.{fits as spec_fits, Reads, ReadsFrom, 
 use crate::host::code::{BAD_LENGTH, PAGE_OUT};
 use crate::host::handle::Handle;
 use crate::words::code::{CLOSED, DONE};
-use host_core::HostBench;
+use host_bench::HostBench;
 use std::alloc::Global;
 
 /// Whether so many bytes are moved by one call: 1 to 4,096.

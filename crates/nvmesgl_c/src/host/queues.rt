@@ -1,13 +1,13 @@
 //! The calls of a queue.
 
 ghost use Rattle.nvmesgl_c.specs.HostCalls.{Says, SaysBell};
-ghost use Rattle.host_core.specs.declared.call.Call.TheVariants as call;
+ghost use Rattle.host_bench.specs.declared.call.Call.TheVariants as call;
 
 use crate::host::answer::CDoorbell;
 use crate::host::calls::{say, say_bell};
 use crate::host::handle::Handle;
 use crate::words::Answer;
-use host_core::Call;
+use host_bench::Call;
 use std::alloc::Global;
 
 /// Tells the value for the tail doorbell of a queue.

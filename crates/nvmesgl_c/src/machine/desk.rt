@@ -10,7 +10,8 @@ ghost use Rattle.step_core.specs.Opening.{opening_of};
 
 use std::alloc::Global;
 use std::marker::Model;
-use step_core::{Bench, Config, Counts, Image, OpenRefused, Owner, PageNo, Reply, Step};
+use step_core::{Config, Counts, Image, OpenRefused, Owner, PageNo, Reply, Step};
+use world_bench::Bench;
 
 /// A bench that ends where it is dropped. Contracts see the bench's table.
 pub struct Desk {

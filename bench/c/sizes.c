@@ -1,0 +1,31 @@
+/* Prints each struct that Python calls with: its name, its size, and where each of its fields begins. */
+#include "nvmehost.h"
+
+#include <stdio.h>
+
+#define STRUCT(name) printf("%s %zu", #name, sizeof(name))
+#define FIELD(name, field) printf(" %zu", offsetof(name, field))
+#define END putchar('\n')
+
+int main(void) {
+    STRUCT(nvmesgl_options), FIELD(nvmesgl_options, size), FIELD(nvmesgl_options, pages), FIELD(nvmesgl_options, queues), FIELD(nvmesgl_options, entries);
+    FIELD(nvmesgl_options, segment), FIELD(nvmesgl_options, blocks), FIELD(nvmesgl_options, reserved), END;
+    STRUCT(nvmesgl_piece), FIELD(nvmesgl_piece, offset), FIELD(nvmesgl_piece, len), FIELD(nvmesgl_piece, bucket), END;
+    STRUCT(nvmesgl_answer), FIELD(nvmesgl_answer, state), FIELD(nvmesgl_answer, dw0), FIELD(nvmesgl_answer, need), FIELD(nvmesgl_answer, free);
+    FIELD(nvmesgl_answer, data_pages), FIELD(nvmesgl_answer, chain_pages), FIELD(nvmesgl_answer, bytes), FIELD(nvmesgl_answer, touched);
+    FIELD(nvmesgl_answer, touched_count), FIELD(nvmesgl_answer, cid), FIELD(nvmesgl_answer, sct), FIELD(nvmesgl_answer, sc), END;
+    STRUCT(nvmesgl_page_owner), FIELD(nvmesgl_page_owner, kind), FIELD(nvmesgl_page_owner, q), FIELD(nvmesgl_page_owner, cid), END;
+    STRUCT(nvmehost), FIELD(nvmehost, at), FIELD(nvmehost, full), END;
+    STRUCT(nvmehost_options), FIELD(nvmehost_options, size), FIELD(nvmehost_options, pages), FIELD(nvmehost_options, queues);
+    FIELD(nvmehost_options, entries), FIELD(nvmehost_options, segment), FIELD(nvmehost_options, reserved), END;
+    STRUCT(nvmehost_doorbell), FIELD(nvmehost_doorbell, offset), FIELD(nvmehost_doorbell, value), FIELD(nvmehost_doorbell, rings), END;
+    STRUCT(nvmehost_queue), FIELD(nvmehost_queue, state), FIELD(nvmehost_queue, submission_tail), FIELD(nvmehost_queue, submission_head);
+    FIELD(nvmehost_queue, completion_head), FIELD(nvmehost_queue, phase), FIELD(nvmehost_queue, submission_page), FIELD(nvmehost_queue, completion_page);
+    FIELD(nvmehost_queue, submission_pages), FIELD(nvmehost_queue, completion_pages), END;
+    STRUCT(nvmehost_run), FIELD(nvmehost_run, first), FIELD(nvmehost_run, right), FIELD(nvmehost_run, count), END;
+    STRUCT(nvmehost_place), FIELD(nvmehost_place, page), FIELD(nvmehost_place, offset), FIELD(nvmehost_place, len), END;
+    STRUCT(nvmehost_pages), FIELD(nvmehost_pages, pages), FIELD(nvmehost_pages, free_pages), FIELD(nvmehost_pages, queue_pages);
+    FIELD(nvmehost_pages, chain_pages), FIELD(nvmehost_pages, data_pages), END;
+    STRUCT(nvmehost_memory), FIELD(nvmehost_memory, at), FIELD(nvmehost_memory, pages), FIELD(nvmehost_memory, used), FIELD(nvmehost_memory, next), END;
+    return 0;
+}

@@ -1,0 +1,149 @@
+//! What a device may do with which page now, and where the data of commands lies.
+
+ghost use Rattle.std.specs.Prelude.{◌≡◌};
+ghost use Rattle.nvmesgl_c.specs.HostReach as reach;
+ghost use Rattle.nvmesgl_c.specs.HostReach.{LaysRuns, TellsPlace, TellsRight, TellsRuns};
+
+use crate::host::code::NO_PIECE;
+use crate::host::handle::Handle;
+use crate::words::code::{CLOSED, DONE, TOO_SHORT};
+use host_bench::{DataPlace, PageNo, Right, Run, Runs};
+use std::alloc::Global;
+
+/// Consecutive pages with one right.
+#[repr(C)]
+#[derive(Clone, Copy)]
+pub struct CRun {
+    /// The first page.
+    pub first: u32,
+    /// What a device may do with each: 0 nothing, 1 read it, 2 write it.
+    pub right: u32,
+    /// How many pages there are.
+    pub count: usize,
+}
+
+/// Where the bytes of a data piece lie.
+#[repr(C)]
+#[derive(Clone, Copy)]
+pub struct CPlace {
+    /// The page.
+    pub page: u32,
+    /// Where in the page the bytes begin.
+    pub offset: u32,
+    /// How many bytes there are.
+    pub len: u32,
+}
+
+/// The number of a right.
+fn number_of(right: Right) -> u32
+    ensures { result ≡ reach.number_of right }
+{
+    match right {
+        Right::Nothing => 0,
+        Right::Read => 1,
+        Right::Write => 2,
+    }
+}
+
+/// A run, as C sees it.
+pub(crate) fn run_of(run: Run) -> CRun
+    ensures { result ≡ reach.run_of run }
+{
+    CRun {
+        first: run.first.0,
+        right: number_of(run.right),
+        count: run.count,
+    }
+}
+
+/// A place, as C sees it.
+fn place_of(place: DataPlace) -> CPlace
+    ensures { result ≡ reach.place_of place }
+{
+    CPlace {
+        page: place.page.0,
+        offset: place.offset,
+        len: place.len,
+    }
+}
+
+/// Lays runs into the front of a buffer, as many as it holds: how many were laid, and whether they are all.
+fn lay(runs: Runs<'_>, into: &mut [CRun]) -> (usize, bool)
+    ensures { LaysRuns runs.entry into.old into.new result.0 result.1 }
+{
+    let mut left = runs;
+    let mut count = 0;
+    while let Some(run) = left.next() {
+        if count == into.len() {
+            return (count, false);
+        }
+        into[count] = run_of(run);
+        count += 1;
+    }
+    (count, true)
+}
+
+/// Tells what a device may do with a page now.
+#[unsafe(no_mangle)]
+pub extern "C" fn nvmehost_may(
+    alloc: Global,
+    handle: &mut Handle,
+    page: u32,
+    right: &mut u32,
+) -> u32
+    ensures { TellsRight handle.old.bench page result right.old right.new handle.new.bench }
+{
+    let Some(bench) = handle.take(alloc) else {
+        return CLOSED;
+    };
+    *right = number_of(bench.may(PageNo(page)));
+    handle.put(bench);
+    DONE
+}
+
+/// Lays the pages of a command as runs, with what a device may do with them now, into the front of a buffer. How many were laid is told.
+#[unsafe(no_mangle)]
+pub extern "C" fn nvmehost_runs(
+    alloc: Global,
+    handle: &mut Handle,
+    q: u16,
+    cid: u16,
+    buffer: &mut [CRun],
+    count: &mut usize,
+) -> u32
+    ensures { TellsRuns handle.old.bench q cid result buffer.old buffer.new count.old count.new handle.new.bench }
+{
+    let Some(bench) = handle.take(alloc) else {
+        return CLOSED;
+    };
+    let (laid, all) = lay(bench.runs(q, cid), buffer);
+    *count = laid;
+    handle.put(bench);
+    if all { DONE } else { TOO_SHORT }
+}
+
+/// Tells where a data piece of an outstanding command lies.
+#[unsafe(no_mangle)]
+pub extern "C" fn nvmehost_data_place(
+    alloc: Global,
+    handle: &mut Handle,
+    q: u16,
+    cid: u16,
+    piece: u32,
+    place: &mut CPlace,
+) -> u32
+    ensures { TellsPlace handle.old.bench q cid piece result place.old place.new handle.new.bench }
+{
+    let Some(bench) = handle.take(alloc) else {
+        return CLOSED;
+    };
+    let found = bench.place(q, cid, piece as usize);
+    handle.put(bench);
+    match found {
+        Some(found) => {
+            *place = place_of(found);
+            DONE
+        }
+        None => NO_PIECE,
+    }
+}

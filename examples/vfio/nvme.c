@@ -1,0 +1,388 @@
+#include "nvme.h"
+
+#include <stdio.h>
+#include <stdlib.h>
+#include <string.h>
+#include <sys/mman.h>
+
+/* The controller's registers (NVM Express Base Specification 2.0, section 3.1.3). */
+enum { CAP = 0x00, CC = 0x14, CSTS = 0x1c, AQA = 0x24, ASQ = 0x28, ACQ = 0x30 };
+enum { CC_ENABLE = 1, CC_ENTRY_SIZES = 6 << 16 | 4 << 20, CSTS_READY = 1, CSTS_FATAL = 2 };
+enum { OPCODE_IDENTIFY = 0x06, OPCODE_SET_FEATURES = 0x09, IDENTIFY_NAMESPACE = 0, IDENTIFY_CONTROLLER = 1, FEATURE_QUEUES = 0x07 };
+enum { ENTRY_BYTES = 64, COMPLETION_BYTES = 16, HOST_BLOCK = 512, MOST_BYTES = 1 << 20, PATIENCE = 20 };
+
+void nvme_done(uint32_t code, const char *call) {
+    if (code == NVMESGL_DONE) return;
+    fflush(stdout);
+    fprintf(stderr, "%s is refused: %s\n", call, nvmesgl_text(code));
+    exit(2);
+}
+
+/* Registers ------------------------------------------------------------------------------------------------------------------------------------------------ */
+
+static uint32_t get32(const struct nvme *nvme, int at) {
+    return *(volatile uint32_t *)(nvme->vfio.bar + at);
+}
+
+static void set32(const struct nvme *nvme, int at, uint32_t value) {
+    *(volatile uint32_t *)(nvme->vfio.bar + at) = value;
+}
+
+static uint64_t get64(const struct nvme *nvme, int at) {
+    return get32(nvme, at) | (uint64_t)get32(nvme, at + 4) << 32;
+}
+
+static void set64(const struct nvme *nvme, int at, uint64_t value) {
+    set32(nvme, at, (uint32_t)value);
+    set32(nvme, at + 4, (uint32_t)(value >> 32));
+}
+
+static void wait_ready(const struct nvme *nvme, bool ready) {
+    double until = seconds() + nvme->patience;
+    while (((get32(nvme, CSTS) & CSTS_READY) != 0) != ready) {
+        need(!(ready && get32(nvme, CSTS) & CSTS_FATAL), "the controller says that it failed");
+        need(seconds() < until, ready ? "the controller does not start" : "the controller does not stop");
+    }
+}
+
+/* What the device reaches ---------------------------------------------------------------------------------------------------------------------------------- */
+
+static uint8_t *page_at(const struct nvme *nvme, uint32_t page) {
+    return (uint8_t *)nvme->memory.at + (size_t)NVME_PAGE * page;
+}
+
+/* Where the device finds the page for Identify. */
+static uint64_t identify_at(const struct nvme *nvme) {
+    return (uint64_t)NVME_PAGE * nvme->options.pages;
+}
+
+static void copy_out(struct nvme *nvme, uint32_t first, size_t count) {
+    for (uint32_t page = first; page < first + count; page++)
+        nvme_done(nvmehost_read(&nvme->host, (uint64_t)NVME_PAGE * page, page_at(nvme, page), NVME_PAGE), "read");
+}
+
+static void copy_in(struct nvme *nvme, uint32_t first, size_t count) {
+    for (uint32_t page = first; page < first + count; page++)
+        nvme_done(nvmehost_write(&nvme->host, (uint64_t)NVME_PAGE * page, page_at(nvme, page), NVME_PAGE), "write");
+}
+
+static void grant(struct nvme *nvme, uint32_t first, size_t count, uint32_t right) {
+    if (nvme->options.mirror) copy_out(nvme, first, count);
+    if (nvme->options.open) return;
+    uint32_t rights = right == NVMEHOST_WRITE ? VFIO_WRITES : VFIO_READS;
+    vfio_map(&nvme->vfio, (uint64_t)NVME_PAGE * first, page_at(nvme, first), NVME_PAGE * count, rights);
+}
+
+static void take_back(struct nvme *nvme, uint32_t first, size_t count) {
+    uint64_t size = (uint64_t)NVME_PAGE * count;
+    if (!nvme->options.open) need(vfio_unmap(&nvme->vfio, (uint64_t)NVME_PAGE * first, size) == size, "pages that are taken back were not all given");
+    if (nvme->options.mirror) copy_in(nvme, first, count);
+}
+
+/* The pages of a command, into nvme->runs: how many runs there are. None where the device works in the pool and reaches all of it. */
+static size_t look_at_runs(struct nvme *nvme, uint16_t q, uint16_t cid) {
+    size_t count;
+    if (nvme->options.open && !nvme->options.mirror) return 0;
+    nvme_done(nvmehost_runs(&nvme->host, q, cid, nvme->runs, NVME_MOST_RUNS, &count), "runs");
+    return count;
+}
+
+static void grant_command(struct nvme *nvme, uint16_t q, uint16_t cid) {
+    size_t count = look_at_runs(nvme, q, cid);
+    for (size_t i = 0; i < count; i++) grant(nvme, nvme->runs[i].first, nvme->runs[i].count, nvme->runs[i].right);
+}
+
+static void take_back_command(struct nvme *nvme, uint16_t q, uint16_t cid) {
+    size_t count = look_at_runs(nvme, q, cid);
+    for (size_t i = 0; i < count; i++) take_back(nvme, nvme->runs[i].first, nvme->runs[i].count);
+}
+
+/* Queues ---------------------------------------------------------------------------------------------------------------------------------------------------- */
+
+nvmehost_queue nvme_look(struct nvme *nvme, uint16_t q) {
+    nvmehost_queue queue;
+    nvme_done(nvmehost_look(&nvme->host, q, &queue), "look");
+    return queue;
+}
+
+static void grant_completions(struct nvme *nvme, uint16_t q) {
+    nvmehost_queue queue = nvme_look(nvme, q);
+    grant(nvme, queue.completion_page, queue.completion_pages, NVMEHOST_WRITE);
+}
+
+static void grant_submissions(struct nvme *nvme, uint16_t q) {
+    nvmehost_queue queue = nvme_look(nvme, q);
+    grant(nvme, queue.submission_page, queue.submission_pages, NVMEHOST_READ);
+}
+
+/* The address of the entry that was submitted last. */
+static uint64_t last_entry_at(struct nvme *nvme, uint16_t q) {
+    nvmehost_queue queue = nvme_look(nvme, q);
+    uint32_t entries = nvme->options.entries;
+    return (uint64_t)NVME_PAGE * queue.submission_page + ENTRY_BYTES * ((queue.submission_tail + entries - 1) % entries);
+}
+
+void nvme_read_entry(struct nvme *nvme, uint16_t q, uint32_t entry[16]) {
+    nvme_done(nvmehost_read(&nvme->host, last_entry_at(nvme, q), (uint8_t *)entry, ENTRY_BYTES), "read");
+}
+
+void nvme_write_entry(struct nvme *nvme, uint16_t q, const uint32_t entry[16]) {
+    nvme_done(nvmehost_write(&nvme->host, last_entry_at(nvme, q), (const uint8_t *)entry, ENTRY_BYTES), "write");
+}
+
+void nvme_ring(struct nvme *nvme, uint16_t q) {
+    nvmehost_doorbell bell;
+    nvmesgl_answer answer;
+    nvmehost_queue queue = nvme_look(nvme, q);
+    if (nvme->options.mirror) copy_out(nvme, queue.submission_page, queue.submission_pages);
+    nvme_done(nvmehost_ring(&nvme->host, q, &bell, &answer), "ring");
+    nvmehost_write_doorbell(nvme->vfio.bar, nvme->stride, bell);
+}
+
+bool nvme_reap(struct nvme *nvme, uint16_t q, nvmesgl_answer *answer) {
+    nvmehost_queue queue = nvme_look(nvme, q);
+    if (!nvmehost_ready(&nvme->memory, &queue)) return false;
+    uint64_t at = (uint64_t)NVME_PAGE * queue.completion_page + COMPLETION_BYTES * queue.completion_head;
+    const uint8_t *completion = (const uint8_t *)nvme->memory.at + at;
+    if (nvme->options.mirror) nvme_done(nvmehost_write(&nvme->host, at, completion, COMPLETION_BYTES), "write");
+    nvmehost_doorbell bell;
+    nvme_done(nvmehost_reap(&nvme->host, q, &bell, answer), "reap");
+    nvmehost_write_doorbell(nvme->vfio.bar, nvme->stride, bell);
+    if (answer->state == NVMESGL_REAP_DONE) take_back_command(nvme, q, answer->cid);
+    return true;
+}
+
+/* Rings a queue, and waits for a completion of it. */
+static nvmesgl_answer ring_and_reap(struct nvme *nvme, uint16_t q) {
+    nvmesgl_answer answer;
+    nvme_ring(nvme, q);
+    double until = seconds() + PATIENCE;
+    while (!nvme_reap(nvme, q, &answer)) {
+        need(seconds() < until, "a command is not done");
+    }
+    return answer;
+}
+
+void nvme_wait(struct nvme *nvme, uint16_t q, uint16_t cid) {
+    nvmesgl_answer answer = ring_and_reap(nvme, q);
+    need(answer.state == NVMESGL_REAP_DONE && answer.cid == cid, "another command ended");
+}
+
+/* Admin commands -------------------------------------------------------------------------------------------------------------------------------------------- */
+
+static nvmesgl_answer admin(struct nvme *nvme, const char *failure) {
+    nvmesgl_answer answer = ring_and_reap(nvme, 0);
+    nvme->admin_commands++;
+    need(answer.state == NVMESGL_REAP_ADMIN_DONE && answer.sct == 0 && answer.sc == 0, failure);
+    return answer;
+}
+
+/* Does an admin command that the host does not know. It goes in the place of a Create or a Delete I/O CQ of a queue that the device never has: its entry is overwritten. */
+static nvmesgl_answer carry(struct nvme *nvme, uint32_t opcode, uint32_t nsid, uint32_t cdw10, uint32_t cdw11, const char *failure) {
+    nvmesgl_answer answer;
+    uint16_t carrier = (uint16_t)(nvme->options.queues + 1);
+    if (nvme->carrier_made) nvme_done(nvmehost_delete_cq(&nvme->host, carrier, &answer), "delete_cq");
+    else nvme_done(nvmehost_create_cq(&nvme->host, carrier, &answer), "create_cq");
+    nvme->carrier_made = !nvme->carrier_made;
+    uint32_t entry[16];
+    uint64_t data = identify_at(nvme);
+    nvme_read_entry(nvme, 0, entry);
+    uint32_t command[16] = {[0] = opcode | (entry[0] & 0xffff0000), [1] = nsid, [6] = (uint32_t)data, [7] = (uint32_t)(data >> 32), [10] = cdw10, [11] = cdw11};
+    nvme_write_entry(nvme, 0, command);
+    return admin(nvme, failure);
+}
+
+static void identify_controller(struct nvme *nvme) {
+    carry(nvme, OPCODE_IDENTIFY, 0, IDENTIFY_CONTROLLER, 0, "Identify of the controller fails");
+    const uint8_t *data = nvme->identify;
+    memcpy(nvme->model, data + 24, 40);
+    memcpy(nvme->firmware, data + 64, 8);
+    uint8_t mdts = data[77];
+    nvme->most = mdts == 0 || mdts >= 8 ? MOST_BYTES : (uint32_t)NVME_PAGE << mdts;
+    nvme->compares = (data[520] & 1) != 0;
+    nvme->grain = (data[536] & 3) == 2 ? 4 : 1;
+    need((data[536] & 3) != 0, "the controller takes no lists (SGLs)");
+}
+
+static void identify_namespace(struct nvme *nvme) {
+    carry(nvme, OPCODE_IDENTIFY, nvme->options.nsid, IDENTIFY_NAMESPACE, 0, "Identify of the namespace fails");
+    const uint8_t *data = nvme->identify;
+    const uint8_t *format = data + 128 + 4 * (data[26] & 15);
+    memcpy(&nvme->blocks, data, sizeof nvme->blocks);
+    need(nvme->blocks != 0, "there is no such namespace");
+    need(format[0] == 0 && format[1] == 0, "the namespace has metadata");
+    need(format[2] >= 9 && format[2] <= 12, "the namespace has blocks of another size than 512 to 4,096 bytes");
+    nvme->block = 1u << format[2];
+}
+
+static void make_queue(struct nvme *nvme, uint16_t q) {
+    nvmesgl_answer answer;
+    uint32_t entry[16];
+    nvme_done(nvmehost_create_cq(&nvme->host, q, &answer), "create_cq");
+    grant_completions(nvme, q);
+    if (nvme->options.interrupts) {
+        nvme_read_entry(nvme, 0, entry);
+        entry[11] |= 2u | (uint32_t)q << 16; /* IEN, which the host leaves 0, and the vector */
+        nvme_write_entry(nvme, 0, entry);
+    }
+    admin(nvme, "Create I/O Completion Queue fails");
+    nvme_done(nvmehost_create_sq(&nvme->host, q, &answer), "create_sq");
+    grant_submissions(nvme, q);
+    admin(nvme, "Create I/O Submission Queue fails");
+}
+
+static void make_queues(struct nvme *nvme) {
+    uint32_t last = nvme->options.queues - 1;
+    nvmesgl_answer answer = carry(nvme, OPCODE_SET_FEATURES, 0, FEATURE_QUEUES, last << 16 | last, "Set Features, Number of Queues, fails");
+    need((answer.dw0 & 0xffff) >= last && answer.dw0 >> 16 >= last, "the controller gives too few queues");
+    for (uint16_t q = 1; q <= nvme->options.queues; q++) make_queue(nvme, q);
+}
+
+/* Starting and stopping ---------------------------------------------------------------------------------------------------------------------------------- */
+
+static void enable(struct nvme *nvme) {
+    nvmehost_queue queue = nvme_look(nvme, 0);
+    uint32_t last = nvme->options.entries - 1;
+    nvme->carrier_made = false;
+    grant_submissions(nvme, 0);
+    grant_completions(nvme, 0);
+    set32(nvme, AQA, last << 16 | last);
+    set64(nvme, ASQ, (uint64_t)NVME_PAGE * queue.submission_page);
+    set64(nvme, ACQ, (uint64_t)NVME_PAGE * queue.completion_page);
+    set32(nvme, CC, CC_ENTRY_SIZES | CC_ENABLE);
+    wait_ready(nvme, true);
+}
+
+/* How many bytes of the pool the device reached until then. */
+static uint64_t disable(struct nvme *nvme) {
+    set32(nvme, CC, 0);
+    wait_ready(nvme, false);
+    return nvme->options.open ? identify_at(nvme) : vfio_unmap(&nvme->vfio, 0, identify_at(nvme));
+}
+
+static void open_registers(struct nvme *nvme) {
+    uint64_t capabilities = get64(nvme, CAP);
+    nvme->stride = capabilities >> 32 & 15;
+    nvme->patience = PATIENCE + (double)(capabilities >> 24 & 0xff) / 2; /* CAP.TO: half seconds */
+    need((capabilities & 0xffff) >= nvme->options.entries - 1, "the controller's rings are shorter");
+    need((capabilities >> 48 & 15) == 0, "the controller's pages are longer than 4,096 bytes");
+}
+
+static void open_host(struct nvme *nvme) {
+    const struct nvme_options *o = &nvme->options;
+    nvmehost_options options = {sizeof options, o->pages, o->queues + 1, o->entries, o->segment, {0}};
+    nvmesgl_answer answer;
+    size_t pool = (size_t)NVME_PAGE * o->pages;
+    void *at = mmap(NULL, pool + NVME_PAGE, PROT_READ | PROT_WRITE, MAP_PRIVATE | MAP_ANONYMOUS, -1, 0);
+    need_system(at != MAP_FAILED, "there is no memory for the pool");
+    nvme->memory = (nvmehost_memory){.at = at, .pages = o->pages};
+    nvme->identify = (uint8_t *)at + pool;
+    if (o->mirror) nvme_done(nvmehost_open(&nvme->host, &options, &answer), "open");
+    else nvme_done(nvmehost_open_at(&nvme->host, &options, &nvme->memory, &answer), "open_at");
+    nvme_done(nvmehost_reset(&nvme->host, &answer), "reset");
+    vfio_map(&nvme->vfio, identify_at(nvme), nvme->identify, NVME_PAGE, VFIO_WRITES);
+    if (o->open) vfio_map(&nvme->vfio, 0, at, pool, VFIO_READS | VFIO_WRITES);
+}
+
+void nvme_start(struct nvme *nvme, const struct nvme_options *options) {
+    *nvme = (struct nvme){.options = *options};
+    vfio_open(&nvme->vfio, options->address);
+    open_registers(nvme);
+    set32(nvme, CC, 0);
+    wait_ready(nvme, false);
+    open_host(nvme);
+    if (options->interrupts) vfio_interrupts(&nvme->vfio, options->queues + 1);
+    enable(nvme);
+    identify_controller(nvme);
+    identify_namespace(nvme);
+    make_queues(nvme);
+}
+
+void nvme_stop(struct nvme *nvme) {
+    disable(nvme);
+    vfio_unmap(&nvme->vfio, 0, identify_at(nvme) + NVME_PAGE);
+    if (nvme->options.mirror) nvmehost_close(&nvme->host);
+    else nvmehost_close_at(&nvme->host, &nvme->memory);
+}
+
+uint64_t nvme_halt(struct nvme *nvme) {
+    nvmesgl_answer answer;
+    uint64_t reached = disable(nvme);
+    nvme_done(nvmehost_reset(&nvme->host, &answer), "reset");
+    return reached;
+}
+
+void nvme_resume(struct nvme *nvme) {
+    enable(nvme);
+    make_queues(nvme);
+}
+
+/* Commands -------------------------------------------------------------------------------------------------------------------------------------------------- */
+
+uint32_t nvme_reserve(struct nvme *nvme, uint16_t q, uint32_t kind, uint64_t slba, uint32_t blocks, const nvmesgl_piece *pieces, size_t count, uint16_t *cid) {
+    nvmesgl_answer answer;
+    uint32_t code = nvmehost_reserve(&nvme->host, q, kind, slba, blocks * (nvme->block / HOST_BLOCK), pieces, count, &answer);
+    *cid = answer.cid;
+    return code;
+}
+
+uint8_t *nvme_piece(struct nvme *nvme, uint16_t q, uint16_t cid, uint32_t piece, uint32_t *len) {
+    nvmehost_place place;
+    nvme_done(nvmehost_data_place(&nvme->host, q, cid, piece, &place), "data_place");
+    *len = place.len;
+    return page_at(nvme, place.page) + place.offset;
+}
+
+void nvme_put(struct nvme *nvme, uint16_t q, uint16_t cid, const uint8_t *bytes, uint32_t size) {
+    nvmesgl_answer answer;
+    if (nvme->options.mirror) {
+        nvme_done(nvmehost_fill(&nvme->host, q, cid, bytes, size, &answer), "fill");
+        return;
+    }
+    for (uint32_t piece = 0, done = 0, len; done < size; piece++, done += len) {
+        uint8_t *there = nvme_piece(nvme, q, cid, piece, &len);
+        memcpy(there, bytes + done, len);
+    }
+}
+
+void nvme_get(struct nvme *nvme, uint16_t q, uint16_t cid, uint8_t *bytes, uint32_t size) {
+    nvmesgl_answer answer;
+    if (nvme->options.mirror) {
+        nvme_done(nvmehost_gather(&nvme->host, q, cid, bytes, size, &answer), "gather");
+        return;
+    }
+    for (uint32_t piece = 0, done = 0, len; done < size; piece++, done += len) {
+        const uint8_t *there = nvme_piece(nvme, q, cid, piece, &len);
+        memcpy(bytes + done, there, len);
+    }
+}
+
+/* Builds and submits: the entry that the host laid, for namespace 1. */
+static void lay_entry(struct nvme *nvme, uint16_t q, uint16_t cid, uint32_t entry[16]) {
+    nvmesgl_answer answer;
+    nvme_done(nvmehost_build(&nvme->host, q, cid, &answer), "build");
+    nvme_done(nvmehost_submit(&nvme->host, q, cid, &answer), "submit");
+    nvme_read_entry(nvme, q, entry);
+}
+
+void nvme_submit(struct nvme *nvme, uint16_t q, uint16_t cid) {
+    uint32_t entry[16];
+    lay_entry(nvme, q, cid, entry);
+    uint32_t blocks = ((entry[12] & 0xffff) + 1) / (nvme->block / HOST_BLOCK);
+    entry[1] = nvme->options.nsid;
+    entry[12] = (entry[12] & 0xffff0000) | (blocks - 1);
+    nvme_write_entry(nvme, q, entry);
+    grant_command(nvme, q, cid);
+}
+
+/* A Read that discards its bytes has no page: its entry is overwritten. */
+uint16_t nvme_submit_flush(struct nvme *nvme, uint16_t q) {
+    nvmesgl_piece bucket = {0, nvme->block, true};
+    uint32_t entry[16];
+    uint16_t cid;
+    nvme_done(nvme_reserve(nvme, q, NVMESGL_READ, 0, 1, &bucket, 1, &cid), "reserve");
+    lay_entry(nvme, q, cid, entry);
+    uint32_t flush[16] = {[0] = entry[0] & 0xffff0000, [1] = nvme->options.nsid};
+    nvme_write_entry(nvme, q, flush);
+    return cid;
+}
