@@ -1,8 +1,9 @@
 -- The right of a page is that of the owner in whose claim it stands.
-use Rattle.std.proofs.Common.{◌≡◌, ℕ, zero, suc, ◌+◌, ◌*◌, ◌/◌, ◌<◌, ◌==◌, ◌⊎◌, inl, inr, nat_lt, Bool, true, false, Option, Some, None, List, [], ◌∷◌, ◌++◌, length, flat_map, find, slice_get, refl, ap, ap₂, sym, ◌∙◌, arith, subst, eqb-true, eq-eqb, le-ltb, if◌then◌else◌, option_map, ◌||◌}
-use Rattle.std.proofs.lemmas.Bool.{cases_Bool, and_parts, true≢false}
+use Rattle.std.proofs.Common.{◌≡◌, ℕ, zero, suc, ◌+◌, ◌*◌, ◌/◌, ◌<◌, ◌≤◌, ◌-◌, ◌^◌, ◌==◌, ◌⊎◌, inl, inr, nat_lt, Bool, true, false, Option, Some, None, List, [], ◌∷◌, ◌++◌, length, map, take, drop, flat_map, find, slice_get, refl, ap, ap₂, sym, ◌∙◌, arith, subst, eqb-true, eq-eqb, le-ltb, if◌then◌else◌, option_map, ◌||◌}
+use Rattle.std.proofs.lemmas.Bool.{cases_Bool, cases_lt, and_parts, leb-true, true≢false}
+use Rattle.std.specs.Prelude.{nat_le}
 use Rattle.std.specs.{List.AllByRecursion, Option.option_map_or}
-use Rattle.io_commands.specs.{Requests.parts_of, declared.request.Piece.{Piece, TheVariants.{Data, Bucket}}}
+use Rattle.io_commands.specs.{Requests.{parts_of, joined_parts}, declared.request.Piece.{Piece, TheVariants.{Data, Bucket}}}
 use Rattle.machine_model.proofs.{Counting.{one, times-cons}, Headline.firsts}
 use Rattle.machine_model.specs.{Claims.{IsSound, claimed, claims_of, claims_of_queues, claims_of_record}, Step.times}
 use Rattle.machine_model.specs.{State.{State, Host, HostQueue, Record, is_at}}
@@ -12,8 +13,12 @@ use Rattle.page_memory.specs.declared.page.Half.TheVariants.{Submission, Complet
 use Rattle.host_core.specs.Rights.{right_at, right_of_data, right_of_owner, right_of_role}
 use Rattle.host_core.specs.declared.rights.Right.{Right}
 use Rattle.host_core.specs.declared.rights.Right.TheVariants as right
+use Rattle.sgl_chain.specs.{Chains.{first_of, link, link_to, segments_on}, Joining.{both, first_joined, joined_within, joins, left_behind}}
+use Rattle.sgl_descriptor.specs.{Targets.descriptor_of_part, declared.{Descriptor.Descriptor, Part.Part}}
+use Rattle.sgl_descriptor.specs.declared.Part.TheVariants as part
+use Rattle.two_sides.proofs.Provided.{all_append}
 use Rattle.run_laws.specs.Reach as reach
-use Rattle.run_laws.specs.Reach.{HaveRight, IsInOnePage, LiesIn}
+use Rattle.run_laws.specs.Reach.{HaveRight, IsInOnePage, LiesIn, Reaches}
 
 -- Claims in a list
 
@@ -174,22 +179,113 @@ outside_the_pool s p w l =
 
 -- Lists
 
+first-among : (p : ℕ) (rest : List ℕ) → is_among (p ∷ rest) p ≡ true
+first-among p rest = rw (eq-eqb p p refl) refl
+
+rest-among : (x : ℕ) (rest : List ℕ) (p : ℕ) → is_among rest p ≡ true → is_among (x ∷ rest) p ≡ true
+rest-among x rest p e = elim (cases_Bool (x == p)) [ inl f ↦ rw f refl | inr f ↦ rw (f, e) refl ]
+
 parts-lie : (h : Host) (may : Right) (pieces : List Piece) (pages : List ℕ) → HaveRight h may pages → AllByRecursion IsInOnePage pieces → AllByRecursion (LiesIn h may) (parts_of pieces pages)
 parts-lie h may [] pages have fit = tt
 parts-lie h may (Bucket len ∷ pieces) pages have fit = (tt, parts-lie h may pieces pages have fit.1)
 parts-lie h may (Data offset len ∷ pieces) [] have fit = tt
 parts-lie h may (Data offset len ∷ pieces) (page ∷ pages) have fit = (
-  λ k l. let there : (4096 * page + offset + k) / 4096 ≡ page = omega (arith, fit.0, l) in subst (λ (n : ℕ). right_at h n ≡ may) (sym there) (have page (among-first page pages)),
-  parts-lie h may pieces pages (λ p e. have p (among-rest page pages p e)) fit.1,
+  λ k l. let there : (4096 * page + offset + k) / 4096 ≡ page = omega (arith, fit.0, l) in subst (λ (n : ℕ). right_at h n ≡ may) (sym there) (have page (first-among page pages)),
+  parts-lie h may pieces pages (λ p e. have p (rest-among page pages p e)) fit.1,
 )
-  where
-    among-first : (p : ℕ) (rest : List ℕ) → is_among (p ∷ rest) p ≡ true
-    among-first p rest = rw (eq-eqb p p refl) refl
 
-    among-rest : (x : ℕ) (rest : List ℕ) (p : ℕ) → is_among rest p ≡ true → is_among (x ∷ rest) p ≡ true
-    among-rest x rest p e = elim (cases_Bool (x == p)) [ inl f ↦ rw f refl | inr f ↦ rw (f, e) refl ]
+-- neighbours that join lie as both did
+both-lie : (h : Host) (may : Right) (x y : Part) → joins x y ≡ true → LiesIn h may x → LiesIn h may y → LiesIn h may (both x y)
+both-lie h may (part.Data addr len) (part.Data next more) e a b =
+    let ends : addr + len ≡ next = eqb-true (addr + len) next (and_parts (addr + len == next) (nat_lt (len + more) (2 ^ 32)) e).0 in
+    λ k l. elim (cases_lt k len) [
+      | inl below ↦ a k below
+      | inr above ↦
+          let place : next + (k - len) ≡ addr + k = omega (arith, ends, above) in
+          subst (λ (place : ℕ). right_at h (place / 4096) ≡ may) place (b (k - len) (omega (arith, l, above)))
+    ]
+both-lie h may (part.Data addr len) (part.Bucket more) e a b = a
+both-lie h may (part.Bucket len) y e a b = tt
+
+first-lies : (h : Host) (may : Right) (x : Part) (parts : List Part) → LiesIn h may x → AllByRecursion (LiesIn h may) parts → LiesIn h may (first_joined x parts)
+first-lies h may x [] a all = a
+first-lies h may x (y ∷ parts) a all = elim (cases_Bool (joins x y)) [
+  | inl e ↦ rw e (first-lies h may (both x y) parts (both-lie h may x y e a all.0) all.1)
+  | inr e ↦ rw e a
+]
+
+left-lie : (h : Host) (may : Right) (x : Part) (parts : List Part) → AllByRecursion (LiesIn h may) parts → AllByRecursion (LiesIn h may) (left_behind x parts)
+left-lie h may x [] all = tt
+left-lie h may x (y ∷ parts) all = elim (cases_Bool (joins x y)) [ inl e ↦ rw e (left-lie h may (both x y) parts all.1) | inr e ↦ rw e all ]
+
+joined-lie : (h : Host) (may : Right) (bound : ℕ) (parts : List Part) → AllByRecursion (LiesIn h may) parts → AllByRecursion (LiesIn h may) (joined_within bound parts)
+joined-lie h may zero parts all = tt
+joined-lie h may (suc bound) [] all = tt
+joined-lie h may (suc bound) (x ∷ parts) all =
+    (first-lies h may x parts all.0 all.1, joined-lie h may bound (left_behind x parts) (left-lie h may x parts all.1))
+
+taken-lie : (h : Host) (may : Right) (n : ℕ) (parts : List Part) → AllByRecursion (LiesIn h may) parts → AllByRecursion (LiesIn h may) (take n parts)
+taken-lie h may zero parts all = tt
+taken-lie h may (suc n) [] all = tt
+taken-lie h may (suc n) (x ∷ parts) all = (all.0, taken-lie h may n parts all.1)
+
+dropped-lie : (h : Host) (may : Right) (n : ℕ) (parts : List Part) → AllByRecursion (LiesIn h may) parts → AllByRecursion (LiesIn h may) (drop n parts)
+dropped-lie h may zero parts all = all
+dropped-lie h may (suc n) [] all = tt
+dropped-lie h may (suc n) (x ∷ parts) all = dropped-lie h may n parts all.1
+
+-- Descriptors
+
+part-reaches : (h : Host) (may : Right) (x : Part) → LiesIn h may x → Reaches h may (descriptor_of_part x)
+part-reaches h may (part.Data addr len) lies = lies
+part-reaches h may (part.Bucket len) lies = tt
+
+parts-reach : (h : Host) (may : Right) (parts : List Part) → AllByRecursion (LiesIn h may) parts → AllByRecursion (Reaches h may) (map descriptor_of_part parts)
+parts-reach h may [] all = tt
+parts-reach h may (x ∷ parts) all = (part-reaches h may x all.0, parts-reach h may parts all.1)
+
+in-page : (h : Host) (page k : ℕ) → k < 4096 → right_at h page ≡ right.Read → right_at h ((4096 * page + k) / 4096) ≡ right.Read
+in-page h page k l have = let there : (4096 * page + k) / 4096 ≡ page = omega (arith, l) in subst (λ (n : ℕ). right_at h n ≡ right.Read) (sym there) have
+
+link-reaches : (h : Host) (may : Right) (n page count : ℕ) → n ≤ 256 → right_at h page ≡ right.Read → Reaches h may (link n page count)
+link-reaches h may n page count few have = elim (cases_Bool (nat_le count n)) [
+  | inl e ↦ rw e (λ k l. in-page h page k (omega (arith, l, few, leb-true count n e)) have)
+  | inr e ↦ rw e (λ k l. in-page h page k (omega (arith, l, few)) have)
+]
+
+next-reaches : (h : Host) (may : Right) (n : ℕ) (pages : List ℕ) (count : ℕ) → n ≤ 256 → HaveRight h right.Read pages → AllByRecursion (Reaches h may) (link_to n pages count)
+next-reaches h may n [] count few have = tt
+next-reaches h may n (page ∷ pages) count few have = (link-reaches h may n page count few (have page (first-among page pages)), tt)
+
+segments-reach : (h : Host) (may : Right) (n : ℕ) (pages : List ℕ) (parts : List Part) → n ≤ 256 → HaveRight h right.Read pages → AllByRecursion (LiesIn h may) parts
+    → AllByRecursion (Reaches h may) (flat_map (λ segment. segment) (segments_on n pages parts))
+segments-reach h may n [] parts few have all = tt
+segments-reach h may n (page ∷ pages) parts few have all = elim (cases_Bool (nat_le (length parts) n)) [
+  | inl e ↦ rw e (all_append (Reaches h may) (map descriptor_of_part parts) [] (parts-reach h may parts all) tt)
+  | inr e ↦
+      rw e
+      (all_append (Reaches h may) (map descriptor_of_part (take (n - 1) parts) ++ link_to n pages (length parts - (n - 1)))
+      (flat_map (λ (segment : List Descriptor). segment) (segments_on n pages (drop (n - 1) parts)))
+      (all_append (Reaches h may) (map descriptor_of_part (take (n - 1) parts)) (link_to n pages (length parts - (n - 1)))
+      (parts-reach h may (take (n - 1) parts) (taken-lie h may (n - 1) parts all)) (next-reaches h may n pages (length parts - (n - 1)) few rest))
+      (segments-reach h may n pages (drop (n - 1) parts) few rest (dropped-lie h may (n - 1) parts all)))
+]
+  where
+    rest : HaveRight h right.Read pages
+    rest p e = have p (rest-among page pages p e)
+
+first-reaches : (h : Host) (may : Right) (n : ℕ) (pages : List ℕ) (parts : List Part) → n ≤ 256 → HaveRight h right.Read pages → AllByRecursion (LiesIn h may) parts
+    → Reaches h may (first_of n pages parts)
+first-reaches h may n (page ∷ pages) parts few have all = link-reaches h may n page (length parts) few (have page (first-among page pages))
+first-reaches h may n [] (x ∷ parts) few have all = part-reaches h may x all.0
+first-reaches h may n [] [] few have all = tt
 
 pub lists : reach.lists_name_what_may_be_reached
-lists s q cid r request w at work phase fit =
-    parts-lie s.host (right_of_data request.kind) request.pieces r.data_pages
-    (λ p h. data_of_commands s q cid r w at p h ∙ rw (phase, work) refl) fit
+lists s q cid n r request w at work phase few fit =
+    let may = right_of_data request.kind in
+    let data_pages : HaveRight s.host may r.data_pages = λ p h. data_of_commands s q cid r w at p h ∙ rw (phase, work) refl in
+    let chain_pages : HaveRight s.host right.Read r.chain_pages = λ p h. chains_of_commands s q cid r w at p h ∙ rw (phase, work) refl in
+    let lie = joined-lie s.host may (length (parts_of request.pieces r.data_pages)) (parts_of request.pieces r.data_pages) (parts-lie s.host may request.pieces r.data_pages data_pages fit) in (
+      first-reaches s.host may n r.chain_pages (joined_parts request.pieces r.data_pages) few chain_pages lie,
+      segments-reach s.host may n r.chain_pages (joined_parts request.pieces r.data_pages) few chain_pages lie,
+    )

@@ -1,6 +1,6 @@
 -- Which pages a device may reach where each page has one owner, whatever was forged: those of rings, and those of what is submitted, each with its right.
-use Rattle.std.specs.{List.AllByRecursion, Prelude.{◌≡◌, ℕ, ◌+◌, ◌/◌, ◌<◌, ◌≤◌, true, Some, List, length, slice_get}}
-use Rattle.io_commands.specs.{Asked.Request, Requests.parts_of, declared.request.Piece.{Piece, TheVariants.{Data, Bucket}}}
+use Rattle.std.specs.{List.{AllByRecursion, flat_map}, Prelude.{◌≡◌, ℕ, ◌+◌, ◌/◌, ◌<◌, ◌≤◌, true, Some, List, ◌∷◌, length, slice_get}}
+use Rattle.io_commands.specs.{Asked.Request, Requests.joined_parts, declared.request.Piece.{Piece, TheVariants.{Data, Bucket}}}
 use Rattle.machine_model.specs.{Claims.IsSound, Refusals.is_submitted, State.{State, Host, HostQueue, Record, record_at}}
 use Rattle.machine_model.specs.declared.words.Work.TheVariants.{Io}
 use Rattle.page_ledger.specs.Owners.{is_among}
@@ -8,7 +8,8 @@ use Rattle.page_ledger.specs.declared.owner.Role.TheVariants as role
 use Rattle.host_core.specs.Rights.{right_at, right_of_data, right_of_role}
 use Rattle.host_core.specs.declared.rights.Right.{Right}
 use Rattle.host_core.specs.declared.rights.Right.TheVariants as right
-use Rattle.sgl_descriptor.specs.declared.Part.{Part}
+use Rattle.sgl_chain.specs.Chains.{first_of, segments_on}
+use Rattle.sgl_descriptor.specs.declared.{Descriptor.{Descriptor, TheVariants.{DataBlock, BitBucket, Segment, LastSegment}}, Part.Part}
 use Rattle.sgl_descriptor.specs.declared.Part.TheVariants as part
 
 -- these pages have this right
@@ -50,8 +51,20 @@ abbrev pub LiesIn : Host → Right → Part → Type 0
 LiesIn h may (part.Data addr len) = (k : ℕ) → k < len → right_at h ((addr + k) / 4096) ≡ may
 LiesIn h may (part.Bucket len) = Unit {0}
 
--- So each address that the list of a submitted command names lies, with all its bytes, on a page with the right that its direction wants.
+-- each byte at the addresses of a descriptor is on a page with the right that it wants: data with this one, and further segments are read
+abbrev pub Reaches : Host → Right → Descriptor → Type 0
+Reaches h may (DataBlock addr len) = (k : ℕ) → k < len → right_at h ((addr + k) / 4096) ≡ may
+Reaches h may (BitBucket len) = Unit {0}
+Reaches h may (Segment addr len) = (k : ℕ) → k < len → right_at h ((addr + k) / 4096) ≡ right.Read
+Reaches h may (LastSegment addr len) = (k : ℕ) → k < len → right_at h ((addr + k) / 4096) ≡ right.Read
+
+-- the descriptor in an entry, and then those of the segments of its list
+abbrev pub descriptors_of : ℕ → List ℕ → List Part → List Descriptor
+descriptors_of n pages parts = first_of n pages parts ∷ flat_map (λ segment. segment) (segments_on n pages parts)
+
+-- So each address that the entry and the list of a submitted command name lies, with all its bytes, on a page with the right that its direction wants.
 abbrev pub lists_name_what_may_be_reached : Type 0
 lists_name_what_may_be_reached =
-    (s : State) (q cid : ℕ) (r : Record) (request : Request) → IsSound s → record_at s.host q cid ≡ Some r → r.work ≡ Io request → is_submitted r.phase ≡ true
-    → AllByRecursion IsInOnePage request.pieces → AllByRecursion (LiesIn s.host (right_of_data request.kind)) (parts_of request.pieces r.data_pages)
+    (s : State) (q cid n : ℕ) (r : Record) (request : Request) → IsSound s → record_at s.host q cid ≡ Some r → r.work ≡ Io request → is_submitted r.phase ≡ true
+    → n ≤ 256 → AllByRecursion IsInOnePage request.pieces
+    → AllByRecursion (Reaches s.host (right_of_data request.kind)) (descriptors_of n r.chain_pages (joined_parts request.pieces r.data_pages))

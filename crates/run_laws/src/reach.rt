@@ -5,8 +5,8 @@ ghost use Rattle.run_laws.specs.Reach.{chain_pages_have_their_right, completion_
 /// In a sound state, whatever was forged, each page of the pool has the right of its owner: the pages of an outstanding command that of
 /// its phase, its kind and what they hold, those of rings theirs, and all others none.
 ///
-/// So each address in the list of a submitted command, with all its bytes, lies on a page with the right that the command's direction
-/// wants.
+/// So each address in the entry and in the list of a submitted command, with all its bytes, lies on a page with the right that it wants:
+/// that of the command's direction where it is data, and to be read where it is a further segment.
 pub fn law_of_rights()
     ensures data { data_pages_have_their_right }
     ensures chains { chain_pages_have_their_right }
