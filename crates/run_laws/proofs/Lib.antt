@@ -21,3 +21,4 @@ pub mod Filled
 pub mod DraftsStand
 pub mod WorkedBench
 pub mod Reachable
+pub mod NamedRights

@@ -16,3 +16,4 @@ pub mod DraftBlocks
 pub mod Drafts
 pub mod WorkedDrafts
 pub mod Reach
+pub mod Named

@@ -1,3 +1,4 @@
+use Rattle.run_laws.proofs.NamedRights.{others_keep, rings_keep}
 use Rattle.run_laws.proofs.Reachable.{data_of_commands, chains_of_commands, submission_rings, completion_rings, free_pages, outside_the_pool, lists}
 use Rattle.run_laws.proofs.reach.law_of_rights.Goals as goal
 
@@ -21,3 +22,9 @@ returns-clause-outside c = outside_the_pool
 
 pub returns-clause-lists : goal.returns-clause-lists
 returns-clause-lists c = lists
+
+pub returns-clause-others : goal.returns-clause-others
+returns-clause-others c = others_keep
+
+pub returns-clause-other_rings : goal.returns-clause-other_rings
+returns-clause-other_rings c = rings_keep
