@@ -1,9 +1,9 @@
 -- The right of a page is that of the owner in whose claim it stands.
 use Rattle.std.proofs.Common.{◌≡◌, ℕ, zero, suc, ◌+◌, ◌*◌, ◌/◌, ◌<◌, ◌≤◌, ◌-◌, ◌^◌, ◌==◌, ◌⊎◌, inl, inr, nat_lt, Bool, true, false, Option, Some, None, List, [], ◌∷◌, ◌++◌, length, map, take, drop, flat_map, find, slice_get, refl, ap, ap₂, sym, ◌∙◌, arith, subst, eqb-true, eq-eqb, le-ltb, if◌then◌else◌, option_map, ◌||◌}
-use Rattle.std.proofs.lemmas.Bool.{cases_Bool, cases_lt, and_parts, leb-true, true≢false}
+use Rattle.std.proofs.lemmas.Bool.{cases_Bool, cases_lt, and_parts, leb-true, ltb-false, or_parts, true≢false}
 use Rattle.std.specs.Prelude.{nat_le}
-use Rattle.std.specs.{List.AllByRecursion, Option.option_map_or}
-use Rattle.io_commands.specs.{Requests.{parts_of, joined_parts}, declared.request.Piece.{Piece, TheVariants.{Data, Bucket}}}
+use Rattle.std.specs.{List.{AllByRecursion, list_any}, Option.option_map_or}
+use Rattle.io_commands.specs.{Requests.{crosses_page, parts_of, joined_parts}, declared.request.Piece.{Piece, TheVariants.{Data, Bucket}}}
 use Rattle.machine_model.proofs.{Counting.{one, times-cons}, Headline.firsts}
 use Rattle.machine_model.specs.{Claims.{IsSound, claimed, claims_of, claims_of_queues, claims_of_record}, Step.times}
 use Rattle.machine_model.specs.{State.{State, Host, HostQueue, Record, is_at}}
@@ -16,9 +16,9 @@ use Rattle.host_core.specs.declared.rights.Right.TheVariants as right
 use Rattle.sgl_chain.specs.{Chains.{first_of, link, link_to, segments_on}, Joining.{both, first_joined, joined_within, joins, left_behind}}
 use Rattle.sgl_descriptor.specs.{Targets.descriptor_of_part, declared.{Descriptor.Descriptor, Part.Part}}
 use Rattle.sgl_descriptor.specs.declared.Part.TheVariants as part
-use Rattle.two_sides.proofs.Provided.{all_append}
+use Rattle.two_sides.proofs.{Provided.all_append, Served.good_is}
 use Rattle.run_laws.specs.Reach as reach
-use Rattle.run_laws.specs.Reach.{HaveRight, IsInOnePage, LiesIn, Reaches}
+use Rattle.run_laws.specs.Reach.{HaveRight, Reaches}
 
 -- Claims in a list
 
@@ -179,6 +179,23 @@ outside_the_pool s p w l =
 
 -- Lists
 
+-- each piece of data lies in one page
+abbrev IsInOnePage : Piece → Type 0
+IsInOnePage (Data offset len) = offset + len ≤ 4096
+IsInOnePage (Bucket len) = Unit {0}
+
+-- each byte at the addresses of a part is on a page with this right
+abbrev LiesIn : Host → Right → Part → Type 0
+LiesIn h may (part.Data addr len) = (k : ℕ) → k < len → right_at h ((addr + k) / 4096) ≡ may
+LiesIn h may (part.Bucket len) = Unit {0}
+
+in-one-page : (pieces : List Piece) → list_any crosses_page pieces ≡ false → AllByRecursion IsInOnePage pieces
+in-one-page [] e = tt
+in-one-page (Bucket len ∷ pieces) e = (tt, in-one-page pieces (or_parts false (list_any crosses_page pieces) e).1)
+in-one-page (Data offset len ∷ pieces) e =
+    let both = or_parts (nat_lt 4096 (offset + len)) (list_any crosses_page pieces) e in
+    (ltb-false 4096 (offset + len) both.0, in-one-page pieces both.1)
+
 first-among : (p : ℕ) (rest : List ℕ) → is_among (p ∷ rest) p ≡ true
 first-among p rest = rw (eq-eqb p p refl) refl
 
@@ -281,11 +298,11 @@ first-reaches h may n [] (x ∷ parts) few have all = part-reaches h may x all.0
 first-reaches h may n [] [] few have all = tt
 
 pub lists : reach.lists_name_what_may_be_reached
-lists s q cid n r request w at work phase few fit =
+lists s q cid n r request w at work phase few good =
     let may = right_of_data request.kind in
     let data_pages : HaveRight s.host may r.data_pages = λ p h. data_of_commands s q cid r w at p h ∙ rw (phase, work) refl in
     let chain_pages : HaveRight s.host right.Read r.chain_pages = λ p h. chains_of_commands s q cid r w at p h ∙ rw (phase, work) refl in
-    let lie = joined-lie s.host may (length (parts_of request.pieces r.data_pages)) (parts_of request.pieces r.data_pages) (parts-lie s.host may request.pieces r.data_pages data_pages fit) in (
+    let lie = joined-lie s.host may (length (parts_of request.pieces r.data_pages)) (parts_of request.pieces r.data_pages) (parts-lie s.host may request.pieces r.data_pages data_pages (in-one-page request.pieces (good_is request good).crosses)) in (
       first-reaches s.host may n r.chain_pages (joined_parts request.pieces r.data_pages) few chain_pages lie,
       segments-reach s.host may n r.chain_pages (joined_parts request.pieces r.data_pages) few chain_pages lie,
     )

@@ -1,6 +1,6 @@
 -- Which pages a device may reach where each page has one owner, whatever was forged: those of rings, and those of what is submitted, each with its right.
 use Rattle.std.specs.{List.{AllByRecursion, flat_map}, Prelude.{◌≡◌, ℕ, ◌+◌, ◌/◌, ◌<◌, ◌≤◌, true, Some, List, ◌∷◌, length, slice_get}}
-use Rattle.io_commands.specs.{Asked.Request, Requests.joined_parts, declared.request.Piece.{Piece, TheVariants.{Data, Bucket}}}
+use Rattle.io_commands.specs.{Asked.Request, Requests.joined_parts, Values.IsGood}
 use Rattle.machine_model.specs.{Claims.IsSound, Refusals.is_submitted, State.{State, Host, HostQueue, Record, record_at}}
 use Rattle.machine_model.specs.declared.words.Work.TheVariants.{Io}
 use Rattle.page_ledger.specs.Owners.{is_among}
@@ -10,7 +10,6 @@ use Rattle.host_core.specs.declared.rights.Right.{Right}
 use Rattle.host_core.specs.declared.rights.Right.TheVariants as right
 use Rattle.sgl_chain.specs.Chains.{first_of, segments_on}
 use Rattle.sgl_descriptor.specs.declared.{Descriptor.{Descriptor, TheVariants.{DataBlock, BitBucket, Segment, LastSegment}}, Part.Part}
-use Rattle.sgl_descriptor.specs.declared.Part.TheVariants as part
 
 -- these pages have this right
 abbrev pub HaveRight : Host → Right → List ℕ → Type 0
@@ -41,15 +40,7 @@ free_pages_have_none = (s : State) → IsSound s → HaveRight s.host right.Noth
 abbrev pub none_outside_the_pool : Type 0
 none_outside_the_pool = (s : State) (p : ℕ) → IsSound s → length s.memory ≤ p → right_at s.host p ≡ right.Nothing
 
--- Addresses in lists. Each piece of data lies in one page.
-abbrev pub IsInOnePage : Piece → Type 0
-IsInOnePage (Data offset len) = offset + len ≤ 4096
-IsInOnePage (Bucket len) = Unit {0}
-
--- each byte at the addresses of a part is on a page with this right
-abbrev pub LiesIn : Host → Right → Part → Type 0
-LiesIn h may (part.Data addr len) = (k : ℕ) → k < len → right_at h ((addr + k) / 4096) ≡ may
-LiesIn h may (part.Bucket len) = Unit {0}
+-- Addresses in lists
 
 -- each byte at the addresses of a descriptor is on a page with the right that it wants: data with this one, and further segments are read
 abbrev pub Reaches : Host → Right → Descriptor → Type 0
@@ -62,9 +53,10 @@ Reaches h may (LastSegment addr len) = (k : ℕ) → k < len → right_at h ((ad
 abbrev pub descriptors_of : ℕ → List ℕ → List Part → List Descriptor
 descriptors_of n pages parts = first_of n pages parts ∷ flat_map (λ segment. segment) (segments_on n pages parts)
 
--- So each address that the entry and the list of a submitted command name lies, with all its bytes, on a page with the right that its direction wants.
+-- So each address that the entry and the list of a submitted command name, whose request passed its check, lies with all its bytes on a page with the right that
+-- its direction wants.
 abbrev pub lists_name_what_may_be_reached : Type 0
 lists_name_what_may_be_reached =
     (s : State) (q cid n : ℕ) (r : Record) (request : Request) → IsSound s → record_at s.host q cid ≡ Some r → r.work ≡ Io request → is_submitted r.phase ≡ true
-    → n ≤ 256 → AllByRecursion IsInOnePage request.pieces
+    → n ≤ 256 → IsGood request
     → AllByRecursion (Reaches s.host (right_of_data request.kind)) (descriptors_of n r.chain_pages (joined_parts request.pieces r.data_pages))

@@ -1,4 +1,4 @@
-use Rattle.run_laws.proofs.NamedRights.{others_keep, rings_keep}
+use Rattle.run_laws.proofs.NamedRights.{others_stay, others_keep, rings_keep}
 use Rattle.run_laws.proofs.Reachable.{data_of_commands, chains_of_commands, submission_rings, completion_rings, free_pages, outside_the_pool, lists}
 use Rattle.run_laws.proofs.reach.law_of_rights.Goals as goal
 
@@ -28,3 +28,6 @@ returns-clause-others c = others_keep
 
 pub returns-clause-other_rings : goal.returns-clause-other_rings
 returns-clause-other_rings c = rings_keep
+
+pub returns-clause-records : goal.returns-clause-records
+returns-clause-records c = others_stay
