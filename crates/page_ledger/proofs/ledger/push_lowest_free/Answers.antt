@@ -23,3 +23,12 @@ pub returns-clause-pages : goal.returns-clause-pages
 returns-clause-pages g c =
     c.loop.invariant.pages ∙ ap (λ l. c.args.into.now.items ++ l)
     (sym (front_taken (is_true_at c.args.free.now) c.loop.from (length c.args.free.now) c.args.k c.loop.invariant.inside (omega (arith, c.loop.invariant.count))))
+
+pub returns-in_default-clause-capacity : goal.returns-in_default-clause-capacity
+returns-in_default-clause-capacity g c = c.loop.invariant.room
+
+pub loop-smaller : goal.loop-smaller
+loop-smaller g c = omega arith
+
+pub returns-clause-capacity : goal.returns-clause-capacity
+returns-clause-capacity g c = cc

@@ -14,3 +14,9 @@ invariant_of-result g c =
 
 pub returns-clause-free : goal.returns-clause-free
 returns-clause-free g c = c.in_ok-owners.ensures.items_if_clones_equal (λ _ same. same)
+
+pub overflow_cast-pages : goal.overflow_cast-pages
+overflow_cast-pages g c = omega arith
+
+pub open-requires : goal.open-requires
+open-requires g c = omega arith
