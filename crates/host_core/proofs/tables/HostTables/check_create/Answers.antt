@@ -1,4 +1,4 @@
-use Rattle.std.proofs.Common.{sym}
+use Rattle.std.proofs.Common.{arith, sym}
 use Rattle.host_core.{proofs.Creations.{create-full, create-no_identifier, create-no_run, create-ready}, specs.{Parts.tables_of, Tables.Tables}}
 use Rattle.host_core.proofs.tables.HostTables.check_create.Goals as goal
 
@@ -20,3 +20,9 @@ pub returns-clause-ready : goal.returns-clause-ready
 returns-clause-ready g c = λ pages w.
     let t : Tables = tables_of c.args.self.now pages in
     create-ready t c.args.half c.args.q c.half_pages-need.result c.deref.result.now c.in-Some.cid c.in-Some-lowest_run.first w (c.in-Ok.ensures.free pages) c.deref.ensures.value c.in-Some.ensures c.half_pages-need.ensures (sym c.in-Some-lowest_run.ensures.lowest) (sym (c.if-is_queue_full.ensures pages))
+
+pub next_identifier-requires : goal.next_identifier-requires
+next_identifier-requires g c = omega arith
+
+pub is_queue_full-requires-clause-there : goal.is_queue_full-requires-clause-there
+is_queue_full-requires-clause-there g c = omega arith

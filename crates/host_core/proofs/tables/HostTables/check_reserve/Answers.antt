@@ -1,4 +1,4 @@
-use Rattle.std.proofs.Common.{◌≡◌, ℕ, List, false, ap, sym, ◌∙◌, slice_get}
+use Rattle.std.proofs.Common.{arith, ◌≡◌, ℕ, List, false, ap, sym, ◌∙◌, slice_get}
 use Rattle.machine_model.specs.Refusals.{no_io_queue, in_state, is_deleting}
 use Rattle.host_core.proofs.Granting.{in_state-is, no_io-is, refuses-no_identifier, refuses-too_few, none-left, next-left, granted, Asked}
 use Rattle.host_core.{specs.{Commands.{state_at, passes, takes_no_io}, Parts.tables_of, Rows.Queue, Tables.{Tables, state_of}}, proofs.Granted.queue_there}
@@ -39,3 +39,9 @@ returns-in-Ok-pages_wanted-clause-granted g c = λ pages w.
     let asked : Asked t q c.args.request.now = record { queue = there.0; at = there.1; takes = takes; stays = stays; good = sym c.in-Ok.ensures } in
     granted t q c.args.request.now c.in-Some.cid c.in-Ok-pages_wanted.front c.in-Ok-pages_wanted.back w asked (sym next)
     c.in-Ok-pages_wanted.ensures.front c.in-Ok-pages_wanted.ensures.back c.in-Ok-pages_wanted.ensures.enough
+
+pub pages_wanted-requires-clause-low : goal.pages_wanted-requires-clause-low
+pages_wanted-requires-clause-low g c = omega arith
+
+pub pages_wanted-requires-clause-high : goal.pages_wanted-requires-clause-high
+pages_wanted-requires-clause-high g c = omega arith
