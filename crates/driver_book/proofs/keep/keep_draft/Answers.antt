@@ -1,4 +1,4 @@
-use Rattle.std.proofs.{Common.{List, ℕ, ◌≡◌, ◌++◌, ap, ◌∙◌}}
+use Rattle.std.proofs.Common.{◌≡◌, ◌++◌, ap, ◌∙◌}
 use Rattle.io_commands.specs.{DataBytes.PagesOut, Values.numbers_of}
 use Rattle.driver_book.proofs.Runs.{kept_draft}
 use Rattle.driver_book.proofs.keep.keep_draft.Goals as goal
