@@ -155,7 +155,7 @@ impl CaseReader {
         let page = PageNo(line.number(0, self.store.pages().saturating_sub(1))?);
         line.done()?;
         self.pool_told = true;
-        let _page = self.store.take(page);
+        drop(self.store.take(page));
         Ok(())
     }
 

@@ -94,7 +94,7 @@ fn step<D: TouchRecord>(
     dma.clear();
     let next = next_taken(walk, sgl1, dma);
     let before = walk.counted();
-    let _answer = walk.step(dma, staging);
+    walk.step(dma, staging);
     counting(next, walk.counted() - before)
 }
 

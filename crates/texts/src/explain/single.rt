@@ -75,7 +75,7 @@ fn first_fault(
         Err(OpenFault::BadSize | OpenFault::Memory) => return Err(AllocError),
     };
     let mut walk = walk;
-    let _answer = walk.step(&mut store, staging);
+    walk.step(&mut store, staging);
     Ok(walk.fault())
 }
 

@@ -218,8 +218,9 @@ fn is_read(line: &[u8], at: usize) -> bool
     let Ok(mut words) = words_of(&line[at..]) else {
         return false;
     };
-    let _submitter = words.take_first();
-    let _queue = words.take_first();
+    // the submitter and the queue
+    words.take_first();
+    words.take_first();
     words.kind() == Ok(Kind::Read)
 }
 

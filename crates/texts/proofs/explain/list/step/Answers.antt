@@ -10,14 +10,14 @@ returns-clause-walked g c at m list apart goes =
     let same : g.D.Dma.memory c.next_taken-next.new.dma ≡ g.D.Dma.memory c.args.dma.now = c.next_taken-next.ensures.memory ∙ c.clear.ensures.memory in
     let goes' : Goes at m list c.args.walk.now (g.D.Dma.memory c.next_taken-next.new.dma) =
     subst (λ (x : Memory). Goes at m list c.args.walk.now x) (sym same) goes in
-    steps_on at m list c.args.walk.now c.step-answer.new.self c.step-answer.result _ _ _ _ _ _ apart goes' c.step-answer.ensures.does c.step-answer.ensures.leaves
-    c.step-answer.ensures.over c.step-answer.ensures.fault c.step-answer.ensures.status
+    steps_on at m list c.args.walk.now c.step.new.self c.step.result _ _ _ _ _ _ apart goes' c.step.ensures.does c.step.ensures.leaves
+    c.step.ensures.over c.step.ensures.fault c.step.ensures.status
 
 pub returns-clause-tells : goal.returns-clause-tells
 returns-clause-tells g c at m list told apart tells =
     let same : g.D.Dma.memory c.next_taken-next.new.dma ≡ g.D.Dma.memory c.args.dma.now = c.next_taken-next.ensures.memory ∙ c.clear.ensures.memory in
     let tells' : TellsTaken at m c.args.sgl1.now list told c.args.walk.now (g.D.Dma.memory c.next_taken-next.new.dma) =
     subst (λ (x : Memory). TellsTaken at m c.args.sgl1.now list told c.args.walk.now x) (sym same) tells in
-    subst (λ (x : Memory). ToldTo (is_over c.step-answer.new.self) at m c.args.sgl1.now list (with_next told (taken_next x c.args.sgl1.now c.args.walk.now)) c.step-answer.new.self (g.D.Dma.memory c.step-answer.new.dma)) same
-    (tells_on at m c.args.sgl1.now list told c.args.walk.now c.step-answer.new.self c.step-answer.result _ _ _ _ _ _ c.next_taken-next.ensures.reads apart tells' c.step-answer.ensures.does
-    c.step-answer.ensures.leaves c.step-answer.ensures.over)
+    subst (λ (x : Memory). ToldTo (is_over c.step.new.self) at m c.args.sgl1.now list (with_next told (taken_next x c.args.sgl1.now c.args.walk.now)) c.step.new.self (g.D.Dma.memory c.step.new.dma)) same
+    (tells_on at m c.args.sgl1.now list told c.args.walk.now c.step.new.self c.step.result _ _ _ _ _ _ c.next_taken-next.ensures.reads apart tells' c.step.ensures.does
+    c.step.ensures.leaves c.step.ensures.over)
