@@ -1,17 +1,12 @@
-/* The library's memory: over an array, where nvmesgl_heap_array gave one, else over malloc, where the program has it; the pages of a pool over memory of
- * the caller's, where nvmehost_open_at gave some. */
+/* The library's memory: over an array, where nvmesgl_heap_array gave one, else over malloc; the pages of a pool over memory of the caller's, where
+ * nvmehost_open_at gave some. With NVMESGL_ARRAY_ALONE there is no malloc: libnvmesgl_array.a is for programs without one. */
 #include "heap.h"
 #include "nvmehost.h"
 
 #include <string.h>
-
-/* A program without malloc links all the same, and is refused memory before it gives an array. */
-#pragma weak malloc
-#pragma weak realloc
-#pragma weak free
-extern void *malloc(size_t);
-extern void *realloc(void *, size_t);
-extern void free(void *);
+#ifndef NVMESGL_ARRAY_ALONE
+#include <stdlib.h>
+#endif
 
 /* A free run. All runs stand in the order of their addresses, and no two touch. Each block, free or not, has a head of 16 bytes, and a size
  * that is a multiple of 16 and counts the head. */
@@ -136,16 +131,21 @@ struct tried rattle_alloc(size_t n, size_t align) {
     if (opening != NULL && n == 4096 && align == 1 && opening->used < opening->pages)
         return (struct tried){true, (unsigned char *)opening->at + (size_t)4096 * opening->used++};
     if (array_from != NULL) return array_alloc(n);
-    if (malloc == NULL) return (struct tried){false, nothing};
+#ifdef NVMESGL_ARRAY_ALONE
+    return (struct tried){false, nothing};
+#else
     void *p = malloc(n == 0 ? align : n);
     return p == NULL ? (struct tried){false, nothing} : (struct tried){true, p};
+#endif
 }
 
 struct tried rattle_realloc(void *p, size_t kept, size_t n, size_t align) {
-    if (array_from == NULL && realloc != NULL) {
+#ifndef NVMESGL_ARRAY_ALONE
+    if (array_from == NULL) {
         void *moved = realloc(p, n == 0 ? align : n);
         return moved == NULL ? (struct tried){false, nothing} : (struct tried){true, moved};
     }
+#endif
     struct tried got = rattle_alloc(n, align);
     if (got.ok) {
         memcpy(got.p, p, kept < n ? kept : n);
@@ -156,6 +156,11 @@ struct tried rattle_realloc(void *p, size_t kept, size_t n, size_t align) {
 
 void rattle_dealloc(void *p) {
     if (in_memory(p)) return;
-    if (in_array(p)) array_dealloc(p);
-    else if (free != NULL) free(p);
+    if (in_array(p)) {
+        array_dealloc(p);
+        return;
+    }
+#ifndef NVMESGL_ARRAY_ALONE
+    free(p);
+#endif
 }

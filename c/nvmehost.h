@@ -9,7 +9,7 @@
  * owner, no identifier of a queue is outstanding twice, and a completion that fits no submitted command is rejected. What is proved of each call stands in
  * crates/nvmesgl_c: a call that is not done changes nothing but the answer.
  *
- * Of C nothing more is asked than nvmesgl.h asks (1 to 5 there): a handle is all zero bytes before its opening (NVMEHOST_CLOSED), it is never copied, and one
+ * Of C nothing more is asked than nvmesgl.h asks (1 to 4 there): a handle is all zero bytes before its opening (NVMEHOST_CLOSED), it is never copied, and one
  * call at a time is made on it. Codes, kinds, pieces, answers and owners are those of nvmesgl.h.
  */
 #ifndef NVMEHOST_H
@@ -123,7 +123,7 @@ typedef struct nvmehost_memory {
 uint32_t nvmehost_open_at(nvmehost *, const nvmehost_options *, nvmehost_memory *, nvmesgl_answer *);
 void nvmehost_close_at(nvmehost *, nvmehost_memory *);
 
-/* Over such memory (rule 7 of docs/C.md) the caller may write the data of a draft in place, from reserve to submit, as nvmehost_fill would, and read that of a finished command, from collect to
+/* Over such memory (rule 6 of docs/C.md) the caller may write the data of a draft in place, from reserve to submit, as nvmehost_fill would, and read that of a finished command, from collect to
  * release; the device reads and writes what is in the pool, as nvmehost_read and nvmehost_write would. While a call runs nobody writes what it reads. So a completion is reaped once it is ready: */
 
 /* Whether the completion that nvmehost_reap would take stands in the queue's ring: its phase tag is read, and all that is read later is read after it (acquire). */

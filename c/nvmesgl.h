@@ -7,11 +7,12 @@
  *
  * What C must keep, and nothing here checks:
  *  1. A handle is all zero bytes before its opening (NVMESGL_CLOSED). It is never copied and never written while it is open.
- *  2. One call at a time on a handle, from the thread that opened it; no call from a signal handler, and none from a forked child.
+ *  2. One call at a time on a handle. It may go from thread to thread, where calls are ordered by a lock, or by the start or the end of a thread. No call from a signal handler, and
+ *     none from a forked child.
  *  3. A pointer to a handle, an answer, options or another struct is not null. A pointer that goes with a length may be null where the
  *     length is 0. Else it points to so many elements. What a call writes overlaps nothing else that it is given.
- *  4. A `bool` is 0 or 1.
- *  5. malloc, realloc and free come from one allocator and align to 16; or nvmesgl_heap_array was called before the first opening.
+ *  4. malloc, realloc and free come from one allocator and align to 16; or nvmesgl_heap_array was called before the first opening.
+ *  5. The array of nvmesgl_heap_array has one user at a time: with handles in several threads, malloc serves, and the array does not.
  *
  * What is proved of each call stands in crates/nvmesgl_c: a call that is not done changes nothing but the answer. A wrong queue, identifier, kind,
  * page or length, a closed handle and a second opening each have a code. So has want of memory: nothing is lost then, and no call
@@ -27,6 +28,15 @@
 #ifdef __cplusplus
 extern "C" {
 #endif
+
+/* Version --------------------------------------------------------------------------------------------------------- */
+
+/* The version of this header, and of the library that is linked. Versions 0.N may differ in any call and struct. */
+#define NVMESGL_VERSION "0.2.0"
+#define NVMESGL_VERSION_MAJOR 0
+#define NVMESGL_VERSION_MINOR 2
+#define NVMESGL_VERSION_PATCH 0
+const char *nvmesgl_version(void);
 
 /* Codes ----------------------------------------------------------------------------------------------------------- */
 
@@ -112,7 +122,7 @@ enum nvmesgl_code {
     NVMESGL_LENGTH_MISMATCH = 44,
     /* A Read is not filled. */
     NVMESGL_NOT_A_SOURCE = 45,
-    /* The bytes are not as many as the data pieces take. */
+    /* There are more bytes than the data pieces take. */
     NVMESGL_WRONG_LENGTH = 46,
     /* Of nvmectl.h: the doorbell does not hear the value. */
     NVMESGL_BAD_DOORBELL = 50,
@@ -125,7 +135,9 @@ enum nvmesgl_code {
     /* A byte is outside the pool, or on a page that is out of it. */
     NVMESGL_PAGE_OUT = 54,
     /* No such command is outstanding, or it has no such data piece. */
-    NVMESGL_NO_PIECE = 55
+    NVMESGL_NO_PIECE = 55,
+    /* The kind of a piece is neither NVMESGL_PIECE nor NVMESGL_BUCKET. */
+    NVMESGL_BAD_PIECE = 56
 };
 
 /* The code as a sentence for people; "no such code" for other numbers. */
@@ -149,7 +161,7 @@ typedef struct nvmesgl_options {
     uint32_t size;    /* sizeof(nvmesgl_options) */
     uint32_t pages;   /* of the pool, 8 to 65,536 */
     uint32_t queues;  /* I/O queues, 1 to 64 */
-    uint32_t entries; /* of each ring, 2 to 1,024 */
+    uint32_t entries; /* of each ring, 2 to 1,024; a queue of n entries has n - 1 identifiers, 0 to n - 2 */
     uint32_t segment; /* the most descriptors of a segment, 2 to 256 */
     uint32_t blocks;  /* of an image of zeros, 1 to 65,536; looked at only where no image is given */
     uint32_t reserved[10];
@@ -159,11 +171,13 @@ typedef struct nvmesgl_options {
 
 enum nvmesgl_kind { NVMESGL_READ = 0, NVMESGL_WRITE = 1, NVMESGL_COMPARE = 2 };
 
+enum nvmesgl_piece_kind { NVMESGL_PIECE = 0, NVMESGL_BUCKET = 1 };
+
 /* A piece of a command's data: `len` bytes from `offset` on in a page of its own, or so many that a Read discards. */
 typedef struct nvmesgl_piece {
     uint32_t offset;
     uint32_t len;
-    bool bucket;
+    uint32_t kind; /* enum nvmesgl_piece_kind */
 } nvmesgl_piece;
 
 enum nvmesgl_state {
@@ -175,23 +189,27 @@ enum nvmesgl_state {
     NVMESGL_REAP_ADMIN_DONE = 6, /* a command of queue 0 has ended: cid, sct, sc and dw0 */
     NVMESGL_REAP_WRONG_QUEUE = 7, /* a completion of no command was consumed: its queue is another's, */
     NVMESGL_REAP_BAD_HEAD = 8,    /* its head is outside the known head to the tail, */
-    NVMESGL_REAP_UNKNOWN_ID = 9   /* no submitted command has its identifier */
+    NVMESGL_REAP_UNKNOWN_ID = 9,  /* no submitted command has its identifier */
+    NVMESGL_SERVE_MORE = 10,      /* the controller has more to do: nvmesgl_serve again */
+    NVMESGL_LEFT = 11             /* a whole command was not carried to its end, and is outstanding: cid */
 };
 
 /* What a call tells besides its code. Each call writes all of it; a field that it has nothing to say in is 0. */
 typedef struct nvmesgl_answer {
-    uint32_t state;         /* of a walk and a reap: enum nvmesgl_state */
+    uint32_t state;         /* of a walk, a reap, a serve and a whole command: enum nvmesgl_state */
     uint32_t dw0;           /* of a reap of queue 0 */
     uint32_t need;          /* pages needed: NVMESGL_NO_PAGES, NVMESGL_NO_RUN */
     uint32_t free;          /* pages free: NVMESGL_NO_PAGES */
     uint32_t data_pages;    /* of a reservation */
     uint32_t chain_pages;   /* of a reservation */
-    size_t bytes;           /* of a gather: how many bytes the Read brought */
+    size_t bytes;           /* of a gather and a whole Read: how many bytes the Read brought */
     uint32_t touched[4];    /* the pages that fetch, walk or complete touched, in order, also where it was refused */
     uint32_t touched_count; /* how many of them there are, 0 to 4 */
     uint16_t cid;           /* reserved, fetched, sent on queue 0, or reaped */
-    uint8_t sct;            /* status code type: of a walk's fault, a reap and a collect */
+    uint8_t sct;            /* status code type: of a walk's fault, a reap, a collect and a whole command */
     uint8_t sc;             /* status code */
+    uint32_t count;         /* of a serve: commands that it completed */
+    uint32_t reserved[5];   /* 0 */
 } nvmesgl_answer;
 
 typedef struct nvmesgl_pages {
@@ -219,8 +237,8 @@ typedef struct nvmesgl_page_owner {
 
 /* Memory ---------------------------------------------------------------------------------------------------------- */
 
-/* All memory from now on comes from this array, and none from malloc, which need not be there. What came from malloc before goes back there.
- * A second call takes a new array: only where nothing of the first is in use. */
+/* All memory from now on comes from this array, and none from malloc. What came from malloc before goes back there. A second call takes a new array: only
+ * where nothing of the first is in use. It has one user at a time (rule 5). A program without malloc links libnvmesgl_array.a, which has this memory alone. */
 void nvmesgl_heap_array(void *array, size_t bytes);
 
 /* Opening and closing --------------------------------------------------------------------------------------------- */
@@ -238,10 +256,11 @@ void nvmesgl_close(nvmesgl *);
 /* Below, "Refused" names the codes of a handle that is open, in the order in which they are looked for. MEMORY may also come first. */
 
 /* Reserves a command of blocks of 512 bytes from slba on: an identifier (answer.cid) and pages (data_pages, chain_pages), as a draft.
- * Refused: NO_KIND, NO_QUEUE, DELETING, a fault of the request (TOO_MANY_PIECES to LENGTH_MISMATCH), NO_IDENTIFIER, NO_PAGES, MEMORY. */
+ * Refused: NO_KIND, BAD_PIECE, NO_QUEUE, DELETING, a fault of the request (TOO_MANY_PIECES to LENGTH_MISMATCH), NO_IDENTIFIER, NO_PAGES, MEMORY. */
 uint32_t nvmesgl_reserve(nvmesgl *, uint16_t q, uint32_t kind, uint64_t slba, uint32_t blocks, const nvmesgl_piece *pieces, size_t piece_count,
                          nvmesgl_answer *);
-/* Fills the draft of a Write or a Compare with the bytes, and zeros behind them. Refused: NO_VALUE, NOT_A_SOURCE, WRONG_LENGTH, MEMORY. */
+/* Fills the draft of a Write or a Compare with the bytes, and zeros behind them; a draft that was built may be filled again.
+ * Refused: NO_VALUE, NOT_A_SOURCE, WRONG_LENGTH, MEMORY. */
 uint32_t nvmesgl_fill(nvmesgl *, uint16_t q, uint16_t cid, const uint8_t *bytes, size_t byte_count, nvmesgl_answer *);
 /* Lays the draft's chain. Refused: NO_VALUE, MEMORY. */
 uint32_t nvmesgl_build(nvmesgl *, uint16_t q, uint16_t cid, nvmesgl_answer *);
@@ -251,7 +270,7 @@ uint32_t nvmesgl_submit(nvmesgl *, uint16_t q, uint16_t cid, nvmesgl_answer *);
 uint32_t nvmesgl_cancel(nvmesgl *, uint16_t q, uint16_t cid, nvmesgl_answer *);
 /* Collects a command that has ended, by its ticket: answer.sct and answer.sc. Refused: NO_VALUE, NOT_YET, MEMORY. */
 uint32_t nvmesgl_collect(nvmesgl *, uint16_t q, uint16_t cid, nvmesgl_answer *);
-/* Gathers the bytes of a finished Read into the front of a buffer: answer.bytes; none of a Write or a Compare.
+/* Gathers the bytes of a finished Read into the front of a buffer: answer.bytes; none of a Write or a Compare. What a Read that failed did not bring is zeros.
  * Refused: NO_VALUE, TOO_SHORT (the buffer stays as it was), MEMORY. */
 uint32_t nvmesgl_gather(nvmesgl *, uint16_t q, uint16_t cid, uint8_t *buffer, size_t buffer_len, nvmesgl_answer *);
 /* Releases a finished command: its pages and its identifier are free. Refused: NO_VALUE. */
@@ -281,12 +300,29 @@ uint32_t nvmesgl_forge(nvmesgl *, uint16_t q, uint16_t slot, const uint8_t bytes
 
 /* Fetches an entry that was rung: answer.cid. Refused: IDLE, SLOT_OUT, FULL, SLOT_OUT, MEMORY. */
 uint32_t nvmesgl_fetch(nvmesgl *, uint16_t q, nvmesgl_answer *);
-/* Does one unit of a fetched command's list: answer.state. Refused: NO_JOB, NOTHING. */
+/* Does one unit of a fetched command's list: answer.state. Refused: NO_JOB, NOTHING (its verdict stands already, as that of a command which the fetch itself
+ * found at fault: it is completed at once). */
 uint32_t nvmesgl_walk(nvmesgl *, uint16_t q, uint16_t cid, nvmesgl_answer *);
 /* Posts a completion. Refused: NO_JOB, WALKING, WAITS, FULL, SLOT_OUT. */
 uint32_t nvmesgl_complete(nvmesgl *, uint16_t q, uint16_t cid, nvmesgl_answer *);
 /* Resets the controller: every command that was submitted has ended, aborted. It is done always. */
 uint32_t nvmesgl_reset(nvmesgl *, nvmesgl_answer *);
+/* Does all that the controller can do, of every queue, each step as one of the three calls above would: answer.count says how many commands it completed, and
+ * answer.state is NVMESGL_SERVE_MORE where it stopped behind 65,536 steps with more to do. Refused: MEMORY, and behind a forgery what a step is refused for;
+ * answer.count says what was done before. */
+uint32_t nvmesgl_serve(nvmesgl *, nvmesgl_answer *);
+
+/* Whole commands -------------------------------------------------------------------------------------------------- */
+
+/* Each carries a command of the whole blocks of a buffer, from block slba on, through all its steps: it reserves, fills, builds, submits and rings; has the controller
+ * serve every queue; reaps the queue until the command has ended (other commands of the queue that end meanwhile are collected as always); collects, gathers and
+ * releases. NVMESGL_DONE says that it ended: answer.sct and answer.sc tell how. The buffer has 1 to 2,048 blocks of 512 bytes.
+ * Refused: what nvmesgl_reserve, nvmesgl_fill, nvmesgl_build and nvmesgl_submit are refused for, and nothing of the command is left; BAD_COUNT for more than 1,048,576 bytes,
+ * LENGTH_MISMATCH where the last block is cut short. Or answer.state is NVMESGL_LEFT: the command answer.cid is outstanding, and the code is that of the step that could not be
+ * made (NOT_YET: it has not ended, as where another command's completion was forged; MEMORY); go on by single calls. */
+uint32_t nvmesgl_read(nvmesgl *, uint16_t q, uint64_t slba, uint8_t *buffer, size_t buffer_len, nvmesgl_answer *);
+uint32_t nvmesgl_write(nvmesgl *, uint16_t q, uint64_t slba, const uint8_t *bytes, size_t byte_count, nvmesgl_answer *);
+uint32_t nvmesgl_compare(nvmesgl *, uint16_t q, uint64_t slba, const uint8_t *bytes, size_t byte_count, nvmesgl_answer *);
 
 /* Looks: they change nothing -------------------------------------------------------------------------------------- */
 

@@ -1,5 +1,7 @@
-/* Codes and statuses for people. */
+/* The version, and codes and statuses for people. */
 #include "nvmesgl.h"
+
+const char *nvmesgl_version(void) { return NVMESGL_VERSION; }
 
 const char *nvmesgl_text(uint32_t code) {
     switch (code) {
@@ -44,7 +46,8 @@ const char *nvmesgl_text(uint32_t code) {
     case NVMESGL_BAD_COUNT: return "a command moves 1 to 2,048 blocks";
     case NVMESGL_LENGTH_MISMATCH: return "the lengths of the pieces are not 512 bytes a block";
     case NVMESGL_NOT_A_SOURCE: return "a Read is not filled";
-    case NVMESGL_WRONG_LENGTH: return "the bytes are not as many as the data pieces take";
+    case NVMESGL_WRONG_LENGTH: return "there are more bytes than the data pieces take";
+    case NVMESGL_BAD_PIECE: return "the kind of a piece is neither data nor a bucket";
     case NVMESGL_BAD_DOORBELL: return "the doorbell does not hear the value";
     case NVMESGL_POOL_TOO_LONG: return "a pool has at most 65,536 pages";
     case NVMESGL_NO_BLOCKS: return "the image has not so many blocks there, or the buffer is not whole blocks";

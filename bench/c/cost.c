@@ -99,7 +99,7 @@ int main(int argc, char **argv) {
     uint32_t count = (uint32_t)strtoul(argv[4], NULL, 10);
     copies = strcmp(argv[6], "copies") == 0;
     if (count > MOST) return 2;
-    for (uint32_t i = 0; i < count; i++) pieces[i] = (nvmesgl_piece){0, PAGE, false};
+    for (uint32_t i = 0; i < count; i++) pieces[i] = (nvmesgl_piece){0, PAGE, NVMESGL_PIECE};
     memory = (nvmehost_memory){aligned_alloc(PAGE, (size_t)PAGE * options.pages), options.pages, 0, NULL};
     if (memory.at == NULL) return 1;
     want("open", nvmehost_open_at(&host, &options, &memory, &answer));

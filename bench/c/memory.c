@@ -104,7 +104,7 @@ static void place(uint16_t q, uint16_t cid, bool fills) {
     uint32_t data = 0;
     for (uint32_t i = 0, at = 0; i < c->count; at += c->pieces[i++].len) {
         nvmehost_place p;
-        if (c->pieces[i].bucket) continue;
+        if (c->pieces[i].kind == NVMESGL_BUCKET) continue;
         want("a place", nvmehost_data_place(&host, q, cid, data++, &p));
         if (p.offset != c->pieces[i].offset || p.len != c->pieces[i].len) fail("a place is not the piece's", i);
         uint8_t *there = pool + (size_t)PAGE * p.page + p.offset;
@@ -143,7 +143,7 @@ static uint32_t cut(nvmesgl_piece *pieces, uint32_t left, bool buckets) {
         uint32_t offset = len > PAGE ? 0 : below(PAGE - len + 1);
         if (len > PAGE) len = PAGE;
         bool bucket = buckets && len < left && below(6) == 0;
-        pieces[count++] = (nvmesgl_piece){bucket ? 0 : offset, len, bucket};
+        pieces[count++] = (nvmesgl_piece){bucket ? 0 : offset, len, bucket ? NVMESGL_BUCKET : NVMESGL_PIECE};
         left -= len;
     }
     return count;

@@ -99,7 +99,7 @@ static uint32_t reserve(uint16_t q) {
     size_t n = 0;
     for (char *w; (w = word()) != NULL;) {
         nvmesgl_piece piece = {0, 0, w[0] == 'x'};
-        if (piece.bucket) {
+        if (piece.kind == NVMESGL_BUCKET) {
             piece.len = (uint32_t)strtoul(w + 1, NULL, 10);
         } else {
             char *plus;

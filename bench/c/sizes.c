@@ -1,4 +1,5 @@
 /* Prints each struct that Python calls with: its name, its size, and where each of its fields begins. */
+#include "nvmectl.h"
 #include "nvmehost.h"
 
 #include <stdio.h>
@@ -10,11 +11,18 @@
 int main(void) {
     STRUCT(nvmesgl_options), FIELD(nvmesgl_options, size), FIELD(nvmesgl_options, pages), FIELD(nvmesgl_options, queues), FIELD(nvmesgl_options, entries);
     FIELD(nvmesgl_options, segment), FIELD(nvmesgl_options, blocks), FIELD(nvmesgl_options, reserved), END;
-    STRUCT(nvmesgl_piece), FIELD(nvmesgl_piece, offset), FIELD(nvmesgl_piece, len), FIELD(nvmesgl_piece, bucket), END;
+    STRUCT(nvmesgl_piece), FIELD(nvmesgl_piece, offset), FIELD(nvmesgl_piece, len), FIELD(nvmesgl_piece, kind), END;
     STRUCT(nvmesgl_answer), FIELD(nvmesgl_answer, state), FIELD(nvmesgl_answer, dw0), FIELD(nvmesgl_answer, need), FIELD(nvmesgl_answer, free);
     FIELD(nvmesgl_answer, data_pages), FIELD(nvmesgl_answer, chain_pages), FIELD(nvmesgl_answer, bytes), FIELD(nvmesgl_answer, touched);
-    FIELD(nvmesgl_answer, touched_count), FIELD(nvmesgl_answer, cid), FIELD(nvmesgl_answer, sct), FIELD(nvmesgl_answer, sc), END;
+    FIELD(nvmesgl_answer, touched_count), FIELD(nvmesgl_answer, cid), FIELD(nvmesgl_answer, sct), FIELD(nvmesgl_answer, sc);
+    FIELD(nvmesgl_answer, count), FIELD(nvmesgl_answer, reserved), END;
+    STRUCT(nvmesgl_pages), FIELD(nvmesgl_pages, pages), FIELD(nvmesgl_pages, free_pages), FIELD(nvmesgl_pages, queue_pages);
+    FIELD(nvmesgl_pages, chain_pages), FIELD(nvmesgl_pages, data_pages), FIELD(nvmesgl_pages, trusted), END;
     STRUCT(nvmesgl_page_owner), FIELD(nvmesgl_page_owner, kind), FIELD(nvmesgl_page_owner, q), FIELD(nvmesgl_page_owner, cid), END;
+    STRUCT(nvmectl_options), FIELD(nvmectl_options, size), FIELD(nvmectl_options, entries), FIELD(nvmectl_options, blocks), FIELD(nvmectl_options, reserved), END;
+    STRUCT(nvmectl_queue), FIELD(nvmectl_queue, sq), FIELD(nvmectl_queue, cq), END;
+    STRUCT(nvmectl_job), FIELD(nvmectl_job, units), FIELD(nvmectl_job, ended), FIELD(nvmectl_job, sct), FIELD(nvmectl_job, sc), END;
+    STRUCT(nvmectl_step), FIELD(nvmectl_step, kind), FIELD(nvmectl_step, q), FIELD(nvmectl_step, cid), END;
     STRUCT(nvmehost), FIELD(nvmehost, at), FIELD(nvmehost, full), END;
     STRUCT(nvmehost_options), FIELD(nvmehost_options, size), FIELD(nvmehost_options, pages), FIELD(nvmehost_options, queues);
     FIELD(nvmehost_options, entries), FIELD(nvmehost_options, segment), FIELD(nvmehost_options, reserved), END;

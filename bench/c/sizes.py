@@ -4,22 +4,26 @@ import ctypes
 import subprocess
 import sys
 
-import nvmehost
-import nvmesgl
+from nvmesgl import _library, controller, host, machine
 
 STRUCTS = {
-    "nvmesgl_options": nvmesgl._Options,
-    "nvmesgl_piece": nvmesgl._Piece,
-    "nvmesgl_answer": nvmesgl._Answer,
-    "nvmesgl_page_owner": nvmesgl._PageOwner,
-    "nvmehost": nvmehost._Handle,
-    "nvmehost_options": nvmehost._Options,
-    "nvmehost_doorbell": nvmehost._Doorbell,
-    "nvmehost_queue": nvmehost._Queue,
-    "nvmehost_run": nvmehost._Run,
-    "nvmehost_place": nvmehost._Place,
-    "nvmehost_pages": nvmehost._Pages,
-    "nvmehost_memory": nvmehost._Memory,
+    "nvmesgl_options": machine.Options,
+    "nvmesgl_pages": machine.Pages,
+    "nvmesgl_piece": _library.CPiece,
+    "nvmesgl_answer": _library.Answer,
+    "nvmesgl_page_owner": _library.PageOwner,
+    "nvmectl_options": controller.COptions,
+    "nvmectl_queue": controller.CQueue,
+    "nvmectl_job": controller.CJob,
+    "nvmectl_step": controller.CStep,
+    "nvmehost": _library.Handle,
+    "nvmehost_options": host.COptions,
+    "nvmehost_doorbell": host.CDoorbell,
+    "nvmehost_queue": host.CQueue,
+    "nvmehost_run": host.CRun,
+    "nvmehost_place": host.CPlace,
+    "nvmehost_pages": host.CPages,
+    "nvmehost_memory": host.CMemory,
 }
 
 ran = subprocess.run([sys.argv[1]], capture_output=True, text=True, check=True)

@@ -1,4 +1,5 @@
-"""A Write of one block and a Read of it, step by step. Run it by: PYTHONPATH=python python3 examples/python/first.py"""
+"""A Write of one block and a Read of it, step by step; a Read behind the end of the image; and whole commands in one call. Run it by:
+PYTHONPATH=python python3 examples/python/first.py"""
 
 from nvmesgl import Code, Kind, Machine, Piece, Refused, State
 
@@ -9,8 +10,12 @@ def carry(machine: Machine, cid: int) -> None:
     machine.submit(1, cid)
     machine.ring(1)
     machine.fetch(1)
-    while machine.walk(1, cid).state == State.WALK_MORE:
-        pass
+    try:
+        while machine.walk(1, cid).state == State.WALK_MORE:
+            pass
+    except Refused as refused:
+        if refused.code != Code.NOTHING:  # the fetch found the command at fault: nothing of it is walked
+            raise
     machine.complete(1, cid)
     print("reaped   ", machine.reap(1).status)
     print("collected", machine.collect(1, cid))
@@ -27,6 +32,14 @@ with Machine(pages=16, blocks=8) as machine:
     carry(machine, reserved.cid)
     print("bytes    ", machine.gather(1, reserved.cid))
     machine.release(1, reserved.cid)
+
+    beyond = machine.reserve(1, Kind.READ, 8, 1, [Piece(0, 512)])
+    carry(machine, beyond.cid)
+    machine.release(1, beyond.cid)
+
+    block = bytearray(512)
+    print("whole    ", machine.write(1, 4, b"second".ljust(512)), "|", machine.read(1, 4, block), "|", machine.compare(1, 3, block))
+    print("bytes    ", block.rstrip())
     print(machine.counts())
     try:
         machine.fetch(1)

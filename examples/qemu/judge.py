@@ -10,7 +10,7 @@ Section titles are those of the Intel Virtualization Technology for Directed I/O
 import struct
 from typing import NamedTuple
 
-from nvmehost import Right
+from nvmesgl.host import Right
 
 # What QEMU's command line says for a machine with an IOMMU.
 MACHINE = "q35,kernel-irqchip=split"

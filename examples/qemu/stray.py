@@ -6,7 +6,7 @@ With the judge each must be stopped, and nothing is changed. Without, each must 
 import struct
 from typing import NamedTuple
 
-from nvmehost import PAGE_BYTES
+from nvmesgl.host import PAGE_BYTES
 from nvmesgl import Kind, Piece
 
 # What stands in a page that nobody owns any more: nobody's business, and not the device's.

@@ -377,7 +377,7 @@ void nvme_submit(struct nvme *nvme, uint16_t q, uint16_t cid) {
 
 /* A Read that discards its bytes has no page: its entry is overwritten. */
 uint16_t nvme_submit_flush(struct nvme *nvme, uint16_t q) {
-    nvmesgl_piece bucket = {0, nvme->block, true};
+    nvmesgl_piece bucket = {0, nvme->block, NVMESGL_BUCKET};
     uint32_t entry[16];
     uint16_t cid;
     nvme_done(nvme_reserve(nvme, q, NVMESGL_READ, 0, 1, &bucket, 1, &cid), "reserve");

@@ -22,7 +22,7 @@ static volatile sig_atomic_t is_over;
 /* Whole pages, as many as the bytes take. */
 static void lay_pieces(void) {
     for (uint32_t left = bytes; left > 0; left -= pieces[piece_count++].len)
-        pieces[piece_count] = (nvmesgl_piece){0, left < NVME_PAGE ? left : NVME_PAGE, false};
+        pieces[piece_count] = (nvmesgl_piece){0, left < NVME_PAGE ? left : NVME_PAGE, NVMESGL_PIECE};
 }
 
 static void submit(void) {

@@ -1,7 +1,9 @@
 pub mod HeldValues
+mod HeldSends
 pub mod Named
 pub mod Slices
 mod Lending
 mod Seen
 mod Told
 mod Laying
+mod Serving

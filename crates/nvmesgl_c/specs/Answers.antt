@@ -25,6 +25,8 @@ nothing =
       cid = 0;
       sct = 0;
       sc = 0;
+      count = 0;
+      reserved = 0 ∷ 0 ∷ 0 ∷ 0 ∷ 0 ∷ [];
     }
 
 -- the first four pages, with 0 behind them

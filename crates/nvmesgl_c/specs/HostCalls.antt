@@ -1,8 +1,9 @@
 -- What each call answers, and what it leaves of the host that a handle keeps.
-use Rattle.std.specs.Prelude.{◌≡◌, ◌⊎◌, ◌<◌, ◌++◌, ℕ, Option, Some, None, List, length, drop, map}
+use Rattle.std.specs.List.{list_any}
+use Rattle.std.specs.Prelude.{◌≡◌, ◌⊎◌, ◌<◌, ◌++◌, ℕ, Bool, true, false, Option, Some, None, List, length, drop, map}
 use Rattle.io_commands.specs.declared.request.Kind.{Kind}
 use Rattle.machine_model.specs.Script.{Table}
-use Rattle.nvmesgl_c.specs.{Answers.nothing, HostAnswers.{bell_of, told}, HostCodes.code_of_reply, Requests.{kind_of, piece_of}}
+use Rattle.nvmesgl_c.specs.{Answers.nothing, HostAnswers.{bell_of, told}, HostCodes.code_of_reply, Requests.{is_no_piece, kind_of, looked_at, piece_of}}
 use Rattle.nvmesgl_c.specs.declared.{host.answer.CDoorbell.CDoorbell, words.{answer.Answer.Answer, piece.CPiece.CPiece}}
 use Rattle.host_bench.specs.{Calls.Does, Values.{Call, Reply}}
 use Rattle.host_bench.specs.declared.call.Reply.TheVariants as reply
@@ -38,14 +39,19 @@ Refuses (Some t) cause code answer new = (code ≡ cause) × (answer ≡ nothing
 abbrev pub SaysOrWants : Option Table → Call → ℕ → Answer → Option Table → Type 0
 SaysOrWants t what code answer new = Says t what code answer new ⊎ Refuses t 15 code answer new
 
+-- a reservation of a kind of command, where some piece is of no kind, and where each is of one
+abbrev pub ReservesPieces : Bool → Kind → Option Table → ℕ → ℕ → ℕ → List CPiece → ℕ → Answer → Option Table → Type 0
+ReservesPieces true k t q slba blocks pieces code answer new = Refuses t 56 code answer new
+ReservesPieces false k t q slba blocks pieces code answer new =
+    SaysOrWants t (call.Reserve q (record { kind = k; slba = slba; blocks = blocks; pieces = map piece_of pieces })) code answer new
+
 -- a reservation of a kind of command
 abbrev pub ReservesKind : Option Kind → Option Table → ℕ → ℕ → ℕ → List CPiece → ℕ → Answer → Option Table → Type 0
 ReservesKind None t q slba blocks pieces code answer new = Refuses t 4 code answer new
-ReservesKind (Some k) t q slba blocks pieces code answer new =
-    SaysOrWants t (call.Reserve q (record { kind = k; slba = slba; blocks = blocks; pieces = map piece_of pieces })) code answer new
+ReservesKind (Some k) t q slba blocks pieces code answer new = ReservesPieces (list_any is_no_piece pieces) k t q slba blocks pieces code answer new
 
 abbrev pub Reserves : Option Table → ℕ → ℕ → ℕ → ℕ → List CPiece → ℕ → Answer → Option Table → Type 0
-Reserves t q number slba blocks pieces code answer new = ReservesKind (kind_of number) t q slba blocks pieces code answer new
+Reserves t q number slba blocks pieces code answer new = ReservesKind (kind_of number) t q slba blocks (looked_at pieces) code answer new
 
 -- a Read's bytes at the front of a buffer, where they fit
 abbrev pub Laid : Option Reply → ℕ → List ℕ → List ℕ → Type 0

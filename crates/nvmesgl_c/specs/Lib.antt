@@ -11,6 +11,8 @@ pub mod MachineCodes
 pub mod MachineLooks
 pub mod MachineOptions
 pub mod MachineOwned
+pub mod MachineServing
+pub mod MachineWhole
 pub mod ControllerCalls
 pub mod ControllerCodes
 pub mod ControllerLooks

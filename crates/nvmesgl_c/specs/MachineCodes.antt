@@ -5,13 +5,16 @@ use Rattle.step_core.specs.Values.{Reply}
 use Rattle.nvmesgl_c.specs.declared.machine.options.NotOpened.TheVariants as not_opened
 use Rattle.step_core.specs.declared.step.Reply.TheVariants as reply
 
+abbrev pub code_of_answer : Reply → ℕ
+code_of_answer (reply.Refused why touched) = code_of_refusal why
+code_of_answer reply.NoValue = 3
+code_of_answer (reply.NotFilled why) = code_of_fill_fault why
+code_of_answer answer = 0
+
 -- of a step whose handle was closed there is no reply
 abbrev pub code_of_reply : Option Reply → ℕ
 code_of_reply None = 1
-code_of_reply (Some (reply.Refused why touched)) = code_of_refusal why
-code_of_reply (Some reply.NoValue) = 3
-code_of_reply (Some (reply.NotFilled why)) = code_of_fill_fault why
-code_of_reply (Some answer) = 0
+code_of_reply (Some answer) = code_of_answer answer
 
 abbrev pub code_of_not_opened : NotOpened → ℕ
 code_of_not_opened not_opened.BadSize = 7

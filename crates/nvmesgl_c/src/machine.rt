@@ -4,6 +4,7 @@
 //! its contract says so in one relation: what stands in the handle before and after, the code, and the [`crate::words::Answer`] that is written. A call that is not done changes nothing.
 
 mod answer;
+mod carrying;
 mod code;
 mod commands;
 mod controller;
@@ -13,8 +14,12 @@ mod looks;
 mod opening;
 mod options;
 mod queues;
+mod serve;
 mod steps;
+mod whole;
 
+pub use carrying::Carried;
 pub use handle::Handle;
 pub use looks::CCounts;
 pub use options::{NotOpened, Options};
+pub use serve::{ServeEnd, Served};

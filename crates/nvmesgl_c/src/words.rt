@@ -15,5 +15,5 @@ pub use image::image_for;
 pub use lent::{LentMemory, MOST_BYTES};
 pub use lent_record::LentRecord;
 pub use owner::{COwner, owner_of};
-pub use piece::{CPiece, kind_of, pieces_of};
+pub use piece::{CPiece, NoPieces, kind_of, pieces_of};
 pub use reserved::has_set_word;

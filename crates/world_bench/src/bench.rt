@@ -1,6 +1,6 @@
 //! A bench: lists of steps are run on a world, with the drafts, tickets and finished commands that it keeps.
 
-ghost use Rattle.std.specs.Prelude.{◌≡◌, ◌+◌, ◌<◌, ◌≤◌, [], length, vec_len, vec_capacity, Some, None, IfOk, IfErr, IfSome, OnOk, OnErr, slice_get};
+ghost use Rattle.std.specs.Prelude.{◌≡◌, ◌+◌, ◌*◌, ◌<◌, ◌≤◌, [], length, vec_len, vec_capacity, Some, None, IfOk, IfErr, IfNone, IfSome, IsTrue, OnOk, OnErr, slice_get};
 ghost use Rattle.std.specs.Bool.{OnTrue};
 ghost use Rattle.std.specs.List.{Contains};
 ghost use Rattle.std.specs.Option.{option_map};
@@ -11,7 +11,9 @@ ghost use Rattle.page_memory.specs.Memory.{bytes_at};
 ghost use Rattle.page_memory.specs.Pages.{byte_at};
 ghost use Rattle.queue_pair.specs.Positions.{host_positions};
 ghost use Rattle.page_ledger.specs.Counting.{total};
+ghost use Rattle.machine_model.specs.Refusals.{refusal_of};
 ghost use Rattle.step_core.specs.Bench.{Does, DoesAll};
+ghost use Rattle.step_core.specs.Looks.{IsAtRest, event_of};
 ghost use Rattle.world_bench.specs.BenchTables.{table_of, contents_of};
 ghost use Rattle.host_bench.specs.CommandValues.{IsBench};
 ghost use Rattle.step_core.specs.Rings.{ShowsHalves, TellsRung, TellsFetching, TellsPosting};
@@ -29,7 +31,7 @@ use page_memory::{PageNo, Unreadable};
 use slot_table::SlotTable;
 use std::alloc::{AllocError, Allocator, Global};
 use std::marker::Model;
-use step_core::{Ended, OpenRefused, ReplyIn, Rings, StepIn, World};
+use step_core::{ControllerStep, Ended, OpenRefused, ReplyIn, Rings, StepIn, World};
 
 /// A world, with the drafts, tickets and finished commands that it keeps. Contracts see the world's state and these lists (`table`), a
 /// ticket as its queue and identifier, and how many pages were touched so far (`touches`).
@@ -200,6 +202,16 @@ impl<A: Allocator + Copy> Bench<A> {
         ensures { result ≡ self.now.touches }
     {
         self.kept.world.touches()
+    }
+
+    /// A step that the controller can do, as [`World::next_step`] tells it. It makes no step.
+    pub fn next_step(&mut self) -> Option<ControllerStep>
+        ensures possible { IfSome result (λ step. IsTrue self.old.table.world.trusted → refusal_of self.old.table.world (event_of step) ≡ None) }
+        ensures rest { IfNone result (IsTrue self.old.table.world.trusted → IsAtRest self.old.table.world) }
+        ensures same { self.new.table ≡ self.old.table }
+        ensures looks { LooksAtMost (2 * length self.old.table.world.host.queues + 1) self.old.touches self.new.touches }
+    {
+        self.kept.world.next_step()
     }
 
     /// Shows that the bench's world is sound, whatever was forged, as [`World::check`] does. It does nothing.

@@ -8,8 +8,8 @@ use crate::host::answer::told;
 use crate::host::calls::{make, refuse, say};
 use crate::host::code::code_of_reply;
 use crate::host::handle::Handle;
-use crate::words::code::{MEMORY, NO_KIND, TOO_SHORT};
-use crate::words::{Answer, CPiece, kind_of, pieces_of};
+use crate::words::code::{BAD_PIECE, MEMORY, NO_KIND, TOO_SHORT};
+use crate::words::{Answer, CPiece, NoPieces, kind_of, pieces_of};
 use host_bench::{Call, Reply, Request};
 use std::alloc::Global;
 
@@ -30,8 +30,10 @@ pub extern "C" fn nvmehost_reserve(
     let Some(kind) = kind_of(kind) else {
         return refuse(alloc, handle, NO_KIND, answer);
     };
-    let Ok(pieces) = pieces_of(alloc, pieces) else {
-        return refuse(alloc, handle, MEMORY, answer);
+    let pieces = match pieces_of(alloc, pieces) {
+        Ok(pieces) => pieces,
+        Err(NoPieces::BadPiece) => return refuse(alloc, handle, BAD_PIECE, answer),
+        Err(NoPieces::Memory) => return refuse(alloc, handle, MEMORY, answer),
     };
     let request = Request {
         kind,

@@ -8,7 +8,7 @@ use crate::words::{Answer, ended, not_opened, nothing, reaped, refused, touching
 use step_core::Reply;
 
 /// What a reply tells.
-fn told_of(reply: &Reply) -> Answer
+pub(crate) fn told_of(reply: &Reply) -> Answer
     ensures { result ≡ answers.told_of reply.now }
 {
     match reply {

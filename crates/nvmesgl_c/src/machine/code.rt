@@ -10,16 +10,25 @@ use crate::words::code::{
 };
 use step_core::Reply;
 
+/// The code of what a step answered.
+pub(crate) fn code_of_answer(reply: &Reply) -> u32
+    ensures { result ≡ codes.code_of_answer reply.now }
+{
+    match reply {
+        Reply::Refused { why, .. } => code_of_refusal(*why),
+        Reply::NoValue => NO_VALUE,
+        Reply::NotFilled(why) => code_of_fill_fault(*why),
+        _ => DONE,
+    }
+}
+
 /// The code of what a step answered, of a handle that was open or not.
 pub(crate) fn code_of_reply(reply: &Option<Reply>) -> u32
     ensures { result ≡ codes.code_of_reply reply.now }
 {
     match reply {
         None => CLOSED,
-        Some(Reply::Refused { why, .. }) => code_of_refusal(*why),
-        Some(Reply::NoValue) => NO_VALUE,
-        Some(Reply::NotFilled(why)) => code_of_fill_fault(*why),
-        Some(_) => DONE,
+        Some(reply) => code_of_answer(reply),
     }
 }
 

@@ -1,15 +1,15 @@
 //! The driver's calls of a command, named by its queue and identifier.
 
 ghost use Rattle.std.specs.Prelude.{◌≡◌, IfSome};
-ghost use Rattle.nvmesgl_c.specs.MachineCalls.{Says, SaysOrWants, Reserves, Gathers};
+ghost use Rattle.nvmesgl_c.specs.MachineCalls.{Says, SaysOrWants, Reserves, Gathers, looked_at};
 ghost use Rattle.step_core.specs.declared.step.Step.TheVariants as step;
 
 use crate::machine::answer::told;
 use crate::machine::code::code_of_reply;
 use crate::machine::handle::Handle;
 use crate::machine::steps::{do_step, refuse, say};
-use crate::words::code::{MEMORY, NO_KIND, TOO_SHORT};
-use crate::words::{Answer, CPiece, kind_of, pieces_of};
+use crate::words::code::{BAD_PIECE, MEMORY, NO_KIND, TOO_SHORT};
+use crate::words::{Answer, CPiece, NoPieces, kind_of, pieces_of};
 use std::alloc::Global;
 use step_core::{Bytes, Reply, Request, Step};
 
@@ -30,8 +30,10 @@ pub extern "C" fn nvmesgl_reserve(
     let Some(kind) = kind_of(kind) else {
         return refuse(alloc, handle, NO_KIND, answer);
     };
-    let Ok(pieces) = pieces_of(alloc, pieces) else {
-        return refuse(alloc, handle, MEMORY, answer);
+    let pieces = match pieces_of(alloc, pieces) {
+        Ok(pieces) => pieces,
+        Err(NoPieces::BadPiece) => return refuse(alloc, handle, BAD_PIECE, answer),
+        Err(NoPieces::Memory) => return refuse(alloc, handle, MEMORY, answer),
     };
     let request = Request {
         kind,
@@ -42,7 +44,21 @@ pub extern "C" fn nvmesgl_reserve(
     say(alloc, handle, Step::Reserve { q, request }, answer)
 }
 
-/// Fills a draft with the bytes, padded with zeros to its Data length.
+/// The most bytes that are looked at: one more than a command moves.
+const MOST_SEEN: usize = 1_048_577;
+
+/// The bytes that are looked at.
+fn seen(bytes: &[u8]) -> &[u8]
+    ensures { result.now ≡ looked_at bytes.now }
+{
+    if bytes.len() > MOST_SEEN {
+        &bytes[..MOST_SEEN]
+    } else {
+        bytes
+    }
+}
+
+/// Fills a draft with the bytes, padded with zeros to its Data length. Of more bytes than a command moves, one more than that is looked at.
 #[unsafe(no_mangle)]
 pub extern "C" fn nvmesgl_fill(
     alloc: Global,
@@ -52,9 +68,9 @@ pub extern "C" fn nvmesgl_fill(
     bytes: &[u8],
     answer: &mut Answer,
 ) -> u32
-    ensures { SaysOrWants handle.old.bench (step.Fill q cid bytes.now) result answer.new handle.new.bench }
+    ensures { SaysOrWants handle.old.bench (step.Fill q cid (looked_at bytes.now)) result answer.new handle.new.bench }
 {
-    let Ok(copied) = Vec::from_slice(alloc, bytes) else {
+    let Ok(copied) = Vec::from_slice(alloc, seen(bytes)) else {
         return refuse(alloc, handle, MEMORY, answer);
     };
     let bytes = Bytes::from_vec(copied);

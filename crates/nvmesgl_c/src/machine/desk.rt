@@ -1,16 +1,17 @@
 //! A bench that ends where it is dropped.
 
-ghost use Rattle.std.specs.Prelude.{◌≡◌, IfOk, IfErr, None, length};
+ghost use Rattle.std.specs.Prelude.{◌≡◌, IfOk, IfErr, IfNone, IsTrue, None, length};
 ghost use Rattle.machine_model.specs.Claims.{counts_of};
 ghost use Rattle.machine_model.specs.Script.{table};
 ghost use Rattle.nvmesgl_c.specs.MachineLooks.{FindsOwner};
 ghost use Rattle.step_core.specs.Bench.{Does};
+ghost use Rattle.step_core.specs.Looks.{IsAtRest};
 ghost use Rattle.host_core.specs.Opening.{refusal_of_config, RefusesOpening};
 ghost use Rattle.step_core.specs.Opening.{opening_of};
 
 use std::alloc::Global;
 use std::marker::Model;
-use step_core::{Config, Counts, Image, OpenRefused, Owner, PageNo, Reply, Step};
+use step_core::{Config, ControllerStep, Counts, Image, OpenRefused, Owner, PageNo, Reply, Step};
 use world_bench::Bench;
 
 /// A bench that ends where it is dropped. Contracts see the bench's table.
@@ -73,6 +74,14 @@ impl Desk {
         } else {
             None
         }
+    }
+
+    /// A step that the controller can do, as `Bench::next_step` tells it.
+    pub fn next_step(&mut self) -> Option<ControllerStep>
+        ensures rest { IfNone result (IsTrue self.old.world.trusted → IsAtRest self.old.world) }
+        ensures same { self.new ≡ self.old }
+    {
+        self.bench.next_step()
     }
 
     /// Does one step.

@@ -24,6 +24,9 @@ impl Model for Handle {
     ghost also_owns = { λ h. handle_owns h.alloc h.full h.at h.bench };
 }
 
+// What frees the bench names no thread: a handle may go from thread to thread, where one call at a time is made on it.
+unsafe impl Send for Handle {}
+
 impl Handle {
     /// The handle of what is held.
     pub fn of_held(held: Held<Desk, Global>) -> Handle

@@ -13,7 +13,8 @@ use page_memory::PageNo;
 #[derive(Clone, Copy)]
 pub struct Answer {
     /// Of a walk how the list stands: 1 it goes on, 2 its end, 3 a fault, whose status is told. Of a reap what was found: 4 nothing, 5 a
-    /// command of an I/O queue has ended, 6 one of queue 0 has, 7 to 9 a completion that was rejected for its queue, its head or its identifier.
+    /// command of an I/O queue has ended, 6 one of queue 0 has, 7 to 9 a completion that was rejected for its queue, its head or its identifier. Of a
+    /// call that serves: 10 there is more to do. Of a whole command that was not carried to its end: 11 it is outstanding.
     pub state: u32,
     /// The command specific double word of a completion of queue 0.
     pub dw0: u32,
@@ -37,6 +38,10 @@ pub struct Answer {
     pub sct: u8,
     /// The status code.
     pub sc: u8,
+    /// How many commands a call that serves completed.
+    pub count: u32,
+    /// Zeros.
+    pub reserved: [u32; 5],
 }
 
 /// Nothing.
@@ -56,6 +61,8 @@ pub fn nothing() -> Answer
         cid: 0,
         sct: 0,
         sc: 0,
+        count: 0,
+        reserved: [0; 5],
     }
 }
 

@@ -28,6 +28,10 @@ pub const BAD_OPTION: u32 = 8;
 pub const BAD_IMAGE: u32 = 9;
 /// Memory was refused.
 pub const MEMORY: u32 = 15;
+/// The kind of a piece is neither data nor a bucket.
+pub const BAD_PIECE: u32 = 56;
+/// No blocks, or more than a command moves.
+pub const BAD_COUNT: u32 = 43;
 
 /// The code of a fault of a request.
 fn code_of_request_fault(why: RequestFault) -> u32
@@ -37,7 +41,7 @@ fn code_of_request_fault(why: RequestFault) -> u32
         RequestFault::TooManyPieces => 40,
         RequestFault::EmptyPiece => 41,
         RequestFault::CrossesPage => 42,
-        RequestFault::BadCount => 43,
+        RequestFault::BadCount => BAD_COUNT,
         RequestFault::LengthMismatch => 44,
     }
 }

@@ -6,6 +6,9 @@ ghost use Rattle.nvmesgl_c.specs.Images.{image_of, IsNoImage};
 use block_image::{Image, ImageError};
 use std::alloc::Global;
 
+/// The bytes of the longest image.
+const MOST_BYTES: usize = 33_554_432;
+
 /// The image of the bytes, or of so many blocks of zeros where no byte is given.
 ///
 /// # Errors
@@ -17,6 +20,9 @@ pub fn image_for(alloc: Global, blocks: u32, bytes: &[u8]) -> Result<Image, Imag
 {
     if bytes.is_empty() {
         return Image::zeroed(alloc, blocks);
+    }
+    if bytes.len() > MOST_BYTES {
+        return Err(ImageError::BadLength);
     }
     let Ok(copied) = Vec::from_slice(alloc, bytes) else {
         return Err(ImageError::Memory);

@@ -1,7 +1,7 @@
-"""nvmehost for Python: the NVMe host driver alone, over a pool of 4,096-byte pages that any device may read and write.
+"""The driver alone, over a pool of 4,096-byte pages that any device may read and write: `Host`, whose methods are the calls of c/nvmehost.h.
 
-    from nvmehost import Host
     from nvmesgl import Kind, Piece
+    from nvmesgl.host import Host
 
     with Host(pages=64, entries=16) as host:
         cid = host.reserve(1, Kind.READ, 0, 1, [Piece(0, 512)]).cid
@@ -10,28 +10,25 @@
         bell = host.ring(1)          # write bell.value to the device's register at bell.offset
         page = host.read(0, 4096)    # as the device reads its memory
 
-Each method is one call of c/nvmehost.h and returns what the call tells. A call that is not done raises `nvmesgl.Refused`, which has its
-code, and changes nothing. The shared library is that of the module nvmesgl. A host is used by one thread at a time, and by the
-one that opened it.
-
 A pool that a device reaches by itself stands in memory of the caller's, as an anonymous `mmap`, which begins at a multiple of 4,096:
 
     memory = mmap.mmap(-1, 64 * PAGE_BYTES)
     with Host(memory=memory, entries=16) as host:
         ...                          # page p is memory[4096 * p : 4096 * p + 4096]
 
-Rule 7 of docs/C.md says who may read and write there, and when.
+Rule 6 of docs/C.md says who may read and write there, and when.
 """
 
 from __future__ import annotations
 
 import ctypes
 import enum
-from ctypes import POINTER, Structure, byref, c_bool, c_char_p, c_size_t, c_uint8, c_uint16, c_uint32, c_void_p
-from typing import Iterable, List, NamedTuple, Optional, Union
+from ctypes import POINTER, Structure, byref, c_bool, c_size_t, c_uint8, c_uint16, c_uint32, c_void_p
+from typing import Any, Dict, List, NamedTuple, Optional
 
-import nvmesgl
-from nvmesgl import Code, Kind, Owner, OwnerKind, Piece, Refused, Reserved, State, Status
+from ._driver import Driver
+from ._library import COMMAND_CALLS, U16, U32, U64, Answer, Handle, PageOwner, declare, fits, lent
+from .words import Code, Refused, State, Status
 
 __all__ = ["Counts", "Doorbell", "Host", "PAGE_BYTES", "Place", "Queue", "QueueState", "Reaped", "Right", "Rings", "Run"]
 
@@ -124,15 +121,11 @@ class Counts(NamedTuple):
     data_pages: int
 
 
-class _Handle(Structure):
-    _fields_ = [("at", c_void_p), ("full", c_bool)]
-
-
-class _Memory(Structure):
+class CMemory(Structure):
     _fields_ = [("at", c_void_p), ("pages", c_uint32), ("used", c_uint32), ("next", c_void_p)]
 
 
-class _Options(Structure):
+class COptions(Structure):
     _fields_ = [
         ("size", c_uint32),
         ("pages", c_uint32),
@@ -143,11 +136,11 @@ class _Options(Structure):
     ]
 
 
-class _Doorbell(Structure):
+class CDoorbell(Structure):
     _fields_ = [("offset", c_uint32), ("value", c_uint32), ("rings", c_bool)]
 
 
-class _Queue(Structure):
+class CQueue(Structure):
     _fields_ = [
         ("state", c_uint32),
         ("submission_tail", c_uint16),
@@ -161,63 +154,41 @@ class _Queue(Structure):
     ]
 
 
-class _Run(Structure):
+class CRun(Structure):
     _fields_ = [("first", c_uint32), ("right", c_uint32), ("count", c_size_t)]
 
 
-class _Place(Structure):
+class CPlace(Structure):
     _fields_ = [("page", c_uint32), ("offset", c_uint32), ("len", c_uint32)]
 
 
-class _Pages(Structure):
+class CPages(Structure):
     _fields_ = [(name, c_uint32) for name in Counts._fields]
 
 
-_declared = False
-
-_QUEUE_CALLS = ("delete_sq", "delete_cq", "create_cq", "create_sq", "retire")
-_COMMAND_CALLS = ("build", "submit", "cancel", "collect", "release", "abort")
-
-
-def _library() -> ctypes.CDLL:
-    """The shared library, with the types of the functions that are called here."""
-    global _declared
-    lib = nvmesgl._library()
-    if not _declared:
-        handle, answer, doorbell = POINTER(_Handle), POINTER(nvmesgl._Answer), POINTER(_Doorbell)
-        u16, u32, u64 = nvmesgl._U16, nvmesgl._U32, nvmesgl._U64
-        words = {
-            "open": [handle, POINTER(_Options), answer],
-            "open_at": [handle, POINTER(_Options), POINTER(_Memory), answer],
-            "reserve": [handle, u16, u32, u64, u32, POINTER(nvmesgl._Piece), c_size_t, answer],
-            "fill": [handle, u16, u16, c_char_p, c_size_t, answer],
-            "gather": [handle, u16, u16, POINTER(c_uint8), c_size_t, answer],
-            "ring": [handle, u16, doorbell, answer],
-            "reap": [handle, u16, doorbell, answer],
-            "reset": [handle, answer],
-            "read": [handle, u64, POINTER(c_uint8), c_size_t],
-            "write": [handle, u64, c_char_p, c_size_t],
-            "counts": [handle, POINTER(_Pages)],
-            "owner": [handle, u32, POINTER(nvmesgl._PageOwner)],
-            "look": [handle, u16, POINTER(_Queue)],
-            "may": [handle, u32, POINTER(c_uint32)],
-            "runs": [handle, u16, u16, POINTER(_Run), c_size_t, POINTER(c_size_t)],
-            "data_place": [handle, u16, u16, u32, POINTER(_Place)],
-            **{name: [handle, u16, answer] for name in _QUEUE_CALLS},
-            **{name: [handle, u16, u16, answer] for name in _COMMAND_CALLS},
-        }
-        for name, types in words.items():
-            function = getattr(lib, "nvmehost_" + name)
-            function.argtypes = types
-            function.restype = c_uint32
-        lib.nvmehost_close.argtypes = [handle]
-        lib.nvmehost_close_at.argtypes = [handle, POINTER(_Memory)]
-        lib.nvmehost_close.restype = lib.nvmehost_close_at.restype = None
-        _declared = True
-    return lib
+_HANDLE, _ANSWER, _BELL = POINTER(Handle), POINTER(Answer), POINTER(CDoorbell)
+_CALLS: Dict[str, List[Any]] = {
+    "open": [_HANDLE, POINTER(COptions), _ANSWER],
+    "open_at": [_HANDLE, POINTER(COptions), POINTER(CMemory), _ANSWER],
+    "close": [_HANDLE],
+    "close_at": [_HANDLE, POINTER(CMemory)],
+    **COMMAND_CALLS,
+    "ring": [_HANDLE, U16, _BELL, _ANSWER],
+    "reap": [_HANDLE, U16, _BELL, _ANSWER],
+    "reset": [_HANDLE, _ANSWER],
+    "read": [_HANDLE, U64, POINTER(c_uint8), c_size_t],
+    "write": [_HANDLE, U64, c_void_p, c_size_t],
+    "counts": [_HANDLE, POINTER(CPages)],
+    "owner": [_HANDLE, U32, POINTER(PageOwner)],
+    "look": [_HANDLE, U16, POINTER(CQueue)],
+    "may": [_HANDLE, U32, POINTER(c_uint32)],
+    "runs": [_HANDLE, U16, U16, POINTER(CRun), c_size_t, POINTER(c_size_t)],
+    "data_place": [_HANDLE, U16, U16, U32, POINTER(CPlace)],
+    **{name: [_HANDLE, U16, _ANSWER] for name in ("delete_sq", "delete_cq", "create_cq", "create_sq", "retire")},
+}
 
 
-def _lend(memory: object) -> ctypes.Array:
+def _lend(memory: Any) -> "ctypes.Array[c_uint8]":
     """The bytes of a writable buffer in which a pool can stand."""
     lent = (c_uint8 * memoryview(memory).nbytes).from_buffer(memory)
     if len(lent) % PAGE_BYTES != 0 or ctypes.addressof(lent) % PAGE_BYTES != 0:
@@ -225,11 +196,11 @@ def _lend(memory: object) -> ctypes.Array:
     return lent
 
 
-class Host:
+class Host(Driver):
     """The host alone, with its pool. Used by `with`, or closed by `close`."""
 
     def __init__(
-        self, *, pages: Optional[int] = None, queues: int = 1, entries: int = 4, segment: int = 256, memory: Optional[object] = None
+        self, *, pages: Optional[int] = None, queues: int = 1, entries: int = 4, segment: int = 256, memory: Optional[Any] = None
     ) -> None:
         """Opens a host: `pages` pages (8 to 65,536; 16 where nothing says how many), all zero; `queues` I/O queues (1 to 64) beside the admin queue 0;
         `entries` entries of each ring (2 to 1,024); segments of `segment` descriptors at most (2 to 256).
@@ -239,104 +210,32 @@ class Host:
         another number. One such opening at a time in a program.
 
         Every queue is live with empty rings. Where the I/O queues are to be made at the device (Create I/O CQ and SQ), call `reset` next."""
-        self._lib = _library()
-        self._handle = _Handle()
-        self._memory = self._lent = None
-        self._answer = nvmesgl._Answer()
-        self._bell = _Doorbell()
-        lent = None if memory is None else _lend(memory)
+        super().__init__(declare("nvmehost_", _CALLS, ("close", "close_at")))
+        self._memory: Optional[CMemory] = None
+        self._lent: "Optional[ctypes.Array[c_uint8]]" = None
+        self._bell = CDoorbell()
+        lent_memory = None if memory is None else _lend(memory)
         if pages is None:
-            pages = 16 if lent is None else len(lent) // PAGE_BYTES
-        options = _Options(ctypes.sizeof(_Options), *(nvmesgl._fits(n, 32) for n in (pages, queues, entries, segment)))
-        if lent is None:
+            pages = 16 if lent_memory is None else len(lent_memory) // PAGE_BYTES
+        options = COptions(ctypes.sizeof(COptions), *(fits(n, 32) for n in (pages, queues, entries, segment)))
+        if lent_memory is None:
             self._call("open", byref(options))
         else:
-            at = _Memory(ctypes.addressof(lent), len(lent) // PAGE_BYTES, 0, None)
+            at = CMemory(ctypes.addressof(lent_memory), len(lent_memory) // PAGE_BYTES, 0, None)
             self._call("open_at", byref(options), byref(at))
-            self._memory, self._lent = at, lent
+            self._memory, self._lent = at, lent_memory
         self.pages = pages
         self.queues = queues
         self.entries = entries
 
-    def __enter__(self) -> "Host":
-        return self
-
-    def __exit__(self, *_: object) -> None:
-        self.close()
-
-    def __del__(self) -> None:
-        if getattr(self, "_handle", None) is not None:
-            self.close()
-
     def close(self) -> None:
         """Lets all go, whatever is outstanding. A host that is closed refuses each call with CLOSED_HANDLE."""
-        if self._memory is None:
-            self._lib.nvmehost_close(byref(self._handle))
+        memory: Optional[CMemory] = getattr(self, "_memory", None)
+        if memory is None:
+            super().close()
         else:
-            self._lib.nvmehost_close_at(byref(self._handle), byref(self._memory))
+            self._functions["close_at"](self._at, byref(memory))
             self._memory = self._lent = None
-
-    def _call(self, name: str, *arguments: object) -> nvmesgl._Answer:
-        code = getattr(self._lib, "nvmehost_" + name)(byref(self._handle), *arguments, byref(self._answer))
-        if code != Code.DONE:
-            raise Refused(code, self._answer.need, self._answer.free)
-        return self._answer
-
-    def _look(self, name: str, *arguments: object) -> None:
-        code = getattr(self._lib, "nvmehost_" + name)(byref(self._handle), *arguments)
-        if code != Code.DONE:
-            raise Refused(code)
-
-    # A command
-
-    def reserve(self, q: int, kind: Kind, slba: int, blocks: int, pieces: Iterable[Piece]) -> Reserved:
-        """Reserves a command of `blocks` blocks of 512 bytes from `slba` on, as a draft: `cid`, `data_pages`, `chain_pages`. Its pages are out of the
-        pool until it is submitted."""
-        items = [nvmesgl._Piece(nvmesgl._fits(p.offset, 32), nvmesgl._fits(p.len, 32), p.bucket) for p in pieces]
-        array = (nvmesgl._Piece * len(items))(*items)
-        told = self._call("reserve", q, kind, slba, blocks, array, len(items))
-        return Reserved(told.cid, told.data_pages, told.chain_pages)
-
-    def fill(self, q: int, cid: int, content: Union[bytes, bytearray]) -> None:
-        """Fills the draft of a Write or a Compare with the bytes, and zeros behind them."""
-        self._call("fill", q, cid, bytes(content), len(content))
-
-    def build(self, q: int, cid: int) -> None:
-        """Lays the draft's chain."""
-        self._call("build", q, cid)
-
-    def submit(self, q: int, cid: int) -> None:
-        """Submits a draft that is built: its pages are in the pool, and its entry stands behind the tail. It is not rung."""
-        self._call("submit", q, cid)
-
-    def cancel(self, q: int, cid: int) -> None:
-        """Cancels a draft: its pages and its identifier are free."""
-        self._call("cancel", q, cid)
-
-    def collect(self, q: int, cid: int) -> Status:
-        """Collects a command that has ended. Its pages are out of the pool."""
-        self._call("collect", q, cid)
-        return Status(self._answer.sct, self._answer.sc)
-
-    def gather(self, q: int, cid: int) -> bytes:
-        """The bytes of a finished Read; none of a Write or a Compare."""
-        try:
-            size = self._call("gather", q, cid, (c_uint8 * 0)(), 0).bytes
-        except Refused as refused:
-            if refused.code != Code.TOO_SHORT:
-                raise
-            size = self._answer.bytes
-        buffer = (c_uint8 * size)()
-        self._call("gather", q, cid, buffer, size)
-        return bytes(buffer)
-
-    def release(self, q: int, cid: int) -> None:
-        """Releases a finished command: its pages and its identifier are free."""
-        self._call("release", q, cid)
-
-    def abort(self, q: int, cid: int) -> int:
-        """Sends an Abort of a submitted command. The identifier on queue 0; it is not rung."""
-        return self._call("abort", q, cid).cid
 
     # A queue
 
@@ -355,26 +254,6 @@ class Host:
         status = Status(told.sct, told.sc)
         return Reaped(state, told.cid, status, told.dw0 if state == State.REAP_ADMIN_DONE else None, doorbell)
 
-    def delete_sq(self, q: int) -> int:
-        """Sends the deletion of a submission queue. The identifier on queue 0; it is not rung."""
-        return self._call("delete_sq", q).cid
-
-    def delete_cq(self, q: int) -> int:
-        """Sends the deletion of a completion queue. The identifier on queue 0; it is not rung."""
-        return self._call("delete_cq", q).cid
-
-    def create_cq(self, q: int) -> int:
-        """Sends the creation of a completion queue. The identifier on queue 0; it is not rung."""
-        return self._call("create_cq", q).cid
-
-    def create_sq(self, q: int) -> int:
-        """Sends the creation of a submission queue. The identifier on queue 0; it is not rung."""
-        return self._call("create_sq", q).cid
-
-    def retire(self, q: int) -> None:
-        """Gives back the submission ring of a queue whose deletion was reaped."""
-        self._call("retire", q)
-
     def reset(self) -> None:
         """Begins again, where the device is reset: queue 0 is as it opened, the I/O queues are gone, and every command that was submitted has ended,
         aborted."""
@@ -389,27 +268,21 @@ class Host:
         self._look("read", addr, buffer, count)
         return bytes(buffer)
 
-    def write(self, addr: int, content: Union[bytes, bytearray]) -> None:
-        """Writes 1 to 4,096 bytes into the pool from an address on, as the device writes them. Refused as `read`; then no byte changed."""
-        self._look("write", addr, bytes(content), len(content))
+    def write(self, addr: int, content: Any) -> None:
+        """Writes the 1 to 4,096 bytes of any buffer into the pool from an address on, as the device writes them. Refused as `read`; then no byte changed."""
+        self._look("write", addr, *lent(content))
 
     # Looks
 
     def counts(self) -> Counts:
         """How many pages there are, and of each class."""
-        pages = _Pages()
+        pages = CPages()
         self._look("counts", byref(pages))
         return Counts(*(getattr(pages, name) for name in Counts._fields))
 
-    def owner(self, page: int) -> Owner:
-        """Who owns a page."""
-        owner = nvmesgl._PageOwner()
-        self._look("owner", page, byref(owner))
-        return Owner(OwnerKind(owner.kind), owner.q, owner.cid)
-
     def queue(self, q: int) -> Queue:
         """What the host knows of a queue, and where it stands in its rings."""
-        queue = _Queue()
+        queue = CQueue()
         self._look("look", q, byref(queue))
         submission = range(queue.submission_page, queue.submission_page + queue.submission_pages)
         completion = range(queue.completion_page, queue.completion_page + queue.completion_pages)
@@ -440,7 +313,7 @@ class Host:
         command is outstanding."""
         count, room = c_size_t(), 16
         while True:
-            buffer = (_Run * room)()
+            buffer = (CRun * room)()
             try:
                 self._look("runs", q, cid, buffer, room, byref(count))
             except Refused as refused:
@@ -452,6 +325,6 @@ class Host:
 
     def data_place(self, q: int, cid: int, piece: int) -> Place:
         """Where data piece `piece` of an outstanding command lies, counted from 0 without the buckets. NO_PIECE where there is none."""
-        place = _Place()
+        place = CPlace()
         self._look("data_place", q, cid, piece, byref(place))
         return Place(place.page, place.offset, place.len)

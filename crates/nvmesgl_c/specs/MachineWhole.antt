@@ -1,0 +1,210 @@
+-- A whole command in one call: the steps that carry it from its reservation to its release.
+use Rattle.std.specs.List.{AllByRecursion}
+use Rattle.std.specs.Prelude.{◌≡◌, ◌⊎◌, ◌++◌, ◌==◌, ◌/◌, ◌%◌, ◌<◌, ◌≤◌, ℕ, Bool, true, false, Option, Some, None, List, [], ◌∷◌, drop, if◌then◌else◌, length, map, replicate}
+use Rattle.io_commands.specs.{Asked.Request, declared.request.{Kind.Kind, Piece.Piece}}
+use Rattle.entry_codec.specs.declared.status.Status.{Status}
+use Rattle.machine_model.specs.Script.{Table}
+use Rattle.step_core.specs.{Bench.{Does, DoesAll}, Values.{Step, Reply}}
+use Rattle.nvmesgl_c.specs.{Answers.{nothing, ended}, MachineAnswers.told_of, MachineCalls.Refuses, MachineCodes.code_of_answer, MachineServing.Serves, declared.words.answer.Answer.Answer}
+use Rattle.nvmesgl_c.specs.declared.machine.{carrying.Carried.{Carried, TheVariants.{Ended, NotReserved, GivenUp, Left}}, serve.Served.Served}
+use Rattle.io_commands.specs.declared.request.Kind.TheVariants as kind
+use Rattle.io_commands.specs.declared.request.Piece.TheVariants as piece
+use Rattle.machine_model.specs.declared.words.Reaped.TheVariants as reaps
+use Rattle.step_core.specs.declared.step.Reply.TheVariants as reply
+use Rattle.step_core.specs.declared.step.Step.TheVariants as step
+
+-- The request of so many bytes in a row
+
+-- a piece for each page that they fill, and one for what is left
+abbrev pub pieces_of_length : ℕ → List Piece
+pieces_of_length n =
+    replicate (n / 4096) (piece.Data 0 4096) ++ (if n % 4096 == 0 then [] else (piece.Data 0 (n % 4096) ∷ []))
+
+abbrev pub request_of : Kind → ℕ → ℕ → Request
+request_of kind slba n = record { kind = kind; slba = slba; blocks = n / 512; pieces = pieces_of_length n }
+
+-- The steps of a command that is reserved
+
+abbrev pub submit_steps : ℕ → ℕ → List Step
+submit_steps q cid = step.Build q cid ∷ step.Submit q cid ∷ []
+
+-- it is filled, where there are bytes, built and submitted
+abbrev pub begin_steps : ℕ → ℕ → Option (List ℕ) → List Step
+begin_steps q cid None = submit_steps q cid
+begin_steps q cid (Some bytes) = step.Fill q cid bytes ∷ submit_steps q cid
+
+abbrev pub end_steps : ℕ → ℕ → List Step
+end_steps q cid = step.Collect q cid ∷ step.Gather q cid ∷ step.Release q cid ∷ []
+
+-- whether a reply says that the step was done
+
+abbrev pub is_accepted : Reply → Bool
+is_accepted reply.Accepted = true
+is_accepted r = false
+
+abbrev pub is_collected : Reply → Bool
+is_collected (reply.Collected status) = true
+is_collected r = false
+
+abbrev pub is_gathered : Reply → Bool
+is_gathered (reply.Gathered bytes) = true
+is_gathered r = false
+
+abbrev pub is_done : Step → Reply → Bool
+is_done (step.Collect q cid) r = is_collected r
+is_done (step.Gather q cid) r = is_gathered r
+is_done what r = is_accepted r
+
+-- each of these steps was done
+abbrev pub AllDone : Table → List Step → Table → Type 0
+AllDone t [] new = new ≡ t
+AllDone t (what ∷ steps) new = (r : Reply) × (mid : Table) × Does t what r mid × (is_done what r ≡ true) × AllDone mid steps new
+
+-- the first of these steps that was not done has this reply, and those behind it were not made
+abbrev pub FirstFails : Table → List Step → Reply → Table → Type 0
+FirstFails t [] why new = ⊥
+FirstFails t (what ∷ steps) why new =
+    (Does t what why new × (is_done what why ≡ false))
+    ⊎ ((r : Reply) × (mid : Table) × Does t what r mid × (is_done what r ≡ true) × FirstFails mid steps why new)
+
+-- what a submitted command waits for: its queue is rung, the controller serves, and the queue is reaped until the command has ended
+
+-- whether nothing more is reaped for a command: it has ended, there is no completion, or a reap was refused
+abbrev pub stops : ℕ → Reply → Bool
+stops cid (reply.Reaps (reaps.Done ended status)) = ended == cid
+stops cid (reply.Reaps (reaps.AdminDone ended status dw0)) = false
+stops cid (reply.Reaps (reaps.Rejected why)) = false
+stops cid r = true
+
+-- the most completions that are reaped for a command
+abbrev pub most_reaps : ℕ
+most_reaps = 1024
+
+-- the last one stops, and none before it does; or they are as many as are reaped at most
+abbrev pub StopsWith : ℕ → List Reply → Type 0
+StopsWith cid replies =
+    ((before : List Reply) × (last : Reply) × (replies ≡ before ++ last ∷ []) × (stops cid last ≡ true) × AllByRecursion (λ r. stops cid r ≡ false) before)
+    ⊎ ((length replies ≡ most_reaps) × AllByRecursion (λ r. stops cid r ≡ false) replies)
+
+pub record ReapsUntil (q cid : ℕ) (t new : Table) : Type 0 where
+  pub replies : List Reply
+  pub does : DoesAll t (map (λ r. step.Reap q) replies) replies new
+  pub stop : StopsWith cid replies
+
+pub record Goes (q cid : ℕ) (t new : Table) : Type 0 where
+  pub answer : Reply
+  pub rung : Table
+  pub served : Served
+  pub behind : Table
+  pub rings : Does t (step.Ring q) answer rung
+  pub serves : Serves rung served behind
+  pub reaps : ReapsUntil q cid behind new
+
+-- A whole command
+
+-- the reply says that a command was reserved under this identifier
+abbrev pub Names : ℕ → Reply → Type 0
+Names cid (reply.Reserved of named front back) = named ≡ cid
+Names cid r = ⊥
+
+-- a command was reserved
+pub record IsReserved (t : Table) (q : ℕ) (request : Request) (cid : ℕ) (new : Table) : Type 0 where
+  pub answer : Reply
+  pub does : Does t (step.Reserve q request) answer new
+  pub named : Names cid answer
+
+-- a reserved command was submitted, and its end was waited for
+pub record Runs (t : Table) (q cid : ℕ) (bytes : Option (List ℕ)) (new : Table) : Type 0 where
+  pub begun : Table
+  pub begins : AllDone t (begin_steps q cid bytes) begun
+  pub goes : Goes q cid begun new
+
+-- its end was collected, its bytes were gathered, and it was released
+pub record Finishes (t : Table) (q cid : ℕ) (status : Status) (gathered : List ℕ) (new : Table) : Type 0 where
+  pub does : DoesAll t (end_steps q cid) (reply.Collected status ∷ reply.Gathered gathered ∷ reply.Accepted ∷ []) new
+
+-- it could not be submitted, and was cancelled
+pub record GivesUp (t : Table) (q cid : ℕ) (bytes : Option (List ℕ)) (why : Reply) (new : Table) : Type 0 where
+  pub stopped : Table
+  pub answer : Reply
+  pub fails : FirstFails t (begin_steps q cid bytes) why stopped
+  pub cancels : Does stopped (step.Cancel q cid) answer new
+
+-- how a reserved command came out
+abbrev pub ComesOut : Table → ℕ → ℕ → Option (List ℕ) → Carried → Table → Type 0
+ComesOut t q cid bytes (Ended status gathered) new = (gone : Table) × Runs t q cid bytes gone × Finishes gone q cid status gathered new
+ComesOut t q cid bytes (NotReserved why) new = ⊥
+ComesOut t q cid bytes (GivenUp why) new = GivesUp t q cid bytes why new
+ComesOut t q cid bytes (Left of why) new = (of ≡ cid) × (gone : Table) × Runs t q cid bytes gone × FirstFails gone (end_steps q cid) why new
+
+abbrev pub is_reserved : Reply → Bool
+is_reserved (reply.Reserved q cid front back) = true
+is_reserved r = false
+
+pub record CarriesOn (t : Table) (q : ℕ) (request : Request) (bytes : Option (List ℕ)) (carried : Carried) (new : Table) : Type 0 where
+  pub cid : ℕ
+  pub reserved : Table
+  pub reserves : IsReserved t q request cid reserved
+  pub comes : ComesOut reserved q cid bytes carried new
+
+abbrev pub Carries : Table → ℕ → Request → Option (List ℕ) → Carried → Table → Type 0
+Carries t q request bytes (NotReserved why) new = Does t (step.Reserve q request) why new × (is_reserved why ≡ false)
+Carries t q request bytes carried new = CarriesOn t q request bytes carried new
+
+-- What C is told
+
+abbrev pub code_of_carried : Carried → ℕ
+code_of_carried (Ended status gathered) = 0
+code_of_carried (NotReserved why) = code_of_answer why
+code_of_carried (GivenUp why) = code_of_answer why
+code_of_carried (Left cid why) = code_of_answer why
+
+abbrev pub told_carried : Carried → Answer
+told_carried (Ended status gathered) = record (ended status) { bytes = length gathered }
+told_carried (NotReserved why) = told_of why
+told_carried (GivenUp why) = told_of why
+told_carried (Left cid why) = record nothing { state = 11; cid = cid }
+
+-- a command of a handle that keeps a bench or none
+abbrev pub CarriesKept : Option Table → ℕ → Request → Option (List ℕ) → Option Carried → Option Table → Type 0
+CarriesKept None q request bytes None new = new ≡ None
+CarriesKept (Some t) q request bytes (Some carried) (Some new) = Carries t q request bytes carried new
+CarriesKept t q request bytes carried new = ⊥
+
+abbrev pub code_of : Option Carried → ℕ
+code_of None = 1
+code_of (Some carried) = code_of_carried carried
+
+abbrev pub told_of_kept : Option Carried → Answer
+told_of_kept None = nothing
+told_of_kept (Some carried) = told_carried carried
+
+-- what is not carried: more bytes than a command moves, or memory is refused for what it takes along
+abbrev pub IsTurnedAway : Option Table → ℕ → ℕ → Answer → Option Table → Type 0
+IsTurnedAway t n code answer new = ((1048576 < n) × Refuses t 43 code answer new) ⊎ ((n ≤ 1048576) × Refuses t 15 code answer new)
+
+-- a Write or a Compare of these bytes
+pub record Sends (t : Option Table) (q : ℕ) (kind : Kind) (slba : ℕ) (bytes : List ℕ) (code : ℕ) (answer : Answer) (new : Option Table) : Type 0 where
+  pub carried : Option Carried
+  pub few : length bytes ≤ 1048576
+  pub carries : CarriesKept t q (request_of kind slba (length bytes)) (Some bytes) carried new
+  pub code_is : code ≡ code_of carried
+  pub answer_is : answer ≡ told_of_kept carried
+
+-- a Read's bytes at the front of a buffer, where they fit
+abbrev pub LaidOf : Option Carried → ℕ → List ℕ → List ℕ → Type 0
+LaidOf (Some (Ended status gathered)) code old new =
+    ((length old < length gathered) × (code ≡ 5) × (new ≡ old)) ⊎ ((code ≡ 0) × (new ≡ gathered ++ drop (length gathered) old))
+LaidOf carried code old new = (code ≡ code_of carried) × (new ≡ old)
+
+-- a Read into a buffer
+pub record Brings (t : Option Table) (q slba : ℕ) (old buffer : List ℕ) (code : ℕ) (answer : Answer) (new : Option Table) : Type 0 where
+  pub carried : Option Carried
+  pub few : length old ≤ 1048576
+  pub carries : CarriesKept t q (request_of kind.Read slba (length old)) None carried new
+  pub laid : LaidOf carried code old buffer
+  pub answer_is : answer ≡ told_of_kept carried
+
+-- a Read that is not carried: the buffer stays as it was
+abbrev pub IsTurnedAwayFrom : List ℕ → List ℕ → Option Table → ℕ → Answer → Option Table → Type 0
+IsTurnedAwayFrom old buffer t code answer new = (buffer ≡ old) × IsTurnedAway t (length old) code answer new

@@ -1,0 +1,194 @@
+//! A whole command, from its reservation to its release.
+
+ghost use Rattle.std.specs.Prelude.{◌≡◌, false, IfOk, IfErr, IfSome, IfNone};
+ghost use Rattle.nvmesgl_c.specs.MachineWhole as whole;
+ghost use Rattle.nvmesgl_c.specs.MachineWhole.{AllDone, FirstFails, Finishes, Goes, ReapsUntil, ComesOut, Carries, begin_steps, end_steps, submit_steps};
+ghost use Rattle.step_core.specs.declared.step.Reply.TheVariants as reply;
+
+use crate::machine::desk::Desk;
+use crate::machine::serve::serve;
+use machine_model::words::Reaped;
+use step_core::{Bytes, Reply, Request, Status, Step};
+
+/// The most completions that are reaped for a command: as many as a ring has.
+const MOST_REAPS: u32 = 1_024;
+
+/// How a whole command came out.
+#[derive(Drop)]
+pub enum Carried {
+    /// It ended, and was released.
+    Ended {
+        /// Its status.
+        status: Status,
+        /// What a Read brought.
+        bytes: Bytes,
+    },
+    /// It was not reserved: what the reservation answered.
+    NotReserved(Reply),
+    /// It could not be submitted, and was cancelled: what the step answered that was not done.
+    GivenUp(Reply),
+    /// It was submitted and could not be finished, and is outstanding.
+    Left {
+        /// Its identifier.
+        cid: u16,
+        /// What the step answered that was not done.
+        why: Reply,
+    },
+}
+
+/// Whether a step was done that has nothing to tell.
+fn is_accepted(reply: &Reply) -> bool
+    ensures { result ≡ whole.is_accepted reply.now }
+{
+    matches!(reply, Reply::Accepted)
+}
+
+/// The status of a command that was collected.
+fn collected(answer: Reply) -> Result<Status, Reply>
+    ensures status { IfOk result (λ status. answer ≡ reply.Collected status) }
+    ensures back { IfErr result (λ why. why ≡ answer) }
+    ensures other { IfErr result (λ why. whole.is_collected why ≡ false) }
+{
+    match answer {
+        Reply::Collected(status) => Ok(status),
+        other => Err(other),
+    }
+}
+
+/// The bytes that were gathered.
+fn gathered(answer: Reply) -> Result<Bytes, Reply>
+    ensures bytes { IfOk result (λ bytes. answer ≡ reply.Gathered bytes) }
+    ensures back { IfErr result (λ why. why ≡ answer) }
+    ensures other { IfErr result (λ why. whole.is_gathered why ≡ false) }
+{
+    match answer {
+        Reply::Gathered(bytes) => Ok(bytes),
+        other => Err(other),
+    }
+}
+
+/// The identifier of a command that was reserved.
+fn reserved(answer: Reply) -> Result<u16, Reply>
+    ensures identifier { IfOk result (λ cid. whole.Names cid answer) }
+    ensures back { IfErr result (λ why. why ≡ answer) }
+    ensures other { IfErr result (λ why. whole.is_reserved why ≡ false) }
+{
+    match answer {
+        Reply::Reserved { cid, .. } => Ok(cid),
+        other => Err(other),
+    }
+}
+
+/// Builds a draft and submits it. What the step answered that was not done, if one was not.
+fn submit(desk: &mut Desk, q: u16, cid: u16) -> Option<Reply>
+    ensures done { IfNone result (AllDone desk.old (submit_steps q cid) desk.new) }
+    ensures failed { IfSome result (λ why. FirstFails desk.old (submit_steps q cid) why desk.new) }
+{
+    let built = desk.step(Step::Build { q, cid });
+    if !is_accepted(&built) {
+        return Some(built);
+    }
+    let submitted = desk.step(Step::Submit { q, cid });
+    if !is_accepted(&submitted) {
+        return Some(submitted);
+    }
+    None
+}
+
+/// Fills a draft, where there are bytes, builds it and submits it. What the step answered that was not done, if one was not.
+fn begin(desk: &mut Desk, q: u16, cid: u16, bytes: Option<Bytes>) -> Option<Reply>
+    ensures done { IfNone result (AllDone desk.old (begin_steps q cid bytes) desk.new) }
+    ensures failed { IfSome result (λ why. FirstFails desk.old (begin_steps q cid bytes) why desk.new) }
+{
+    match bytes {
+        Some(bytes) => {
+            let filled = desk.step(Step::Fill { q, cid, bytes });
+            if !is_accepted(&filled) {
+                return Some(filled);
+            }
+            submit(desk, q, cid)
+        }
+        None => submit(desk, q, cid),
+    }
+}
+
+/// Whether nothing more is reaped for a command.
+fn stops(cid: u16, reply: &Reply) -> bool
+    ensures { result ≡ whole.stops cid reply.now }
+{
+    match reply {
+        Reply::Reaps(Reaped::Done { cid: ended, .. }) => *ended == cid,
+        Reply::Reaps(Reaped::AdminDone { .. } | Reaped::Rejected(_)) => false,
+        _ => true,
+    }
+}
+
+/// Reaps a queue until a command has ended, or there is no completion.
+fn reap_until(desk: &mut Desk, q: u16, cid: u16)
+    ensures { ReapsUntil q cid desk.old desk.new }
+{
+    for taken in 0..MOST_REAPS {
+        let reply = desk.step(Step::Reap { q });
+        if stops(cid, &reply) {
+            return;
+        }
+    }
+}
+
+/// Rings the queue of a submitted command, has the controller serve, and reaps until the command has ended.
+fn wait(desk: &mut Desk, q: u16, cid: u16)
+    ensures { Goes q cid desk.old desk.new }
+{
+    drop(desk.step(Step::Ring { q }));
+    serve(desk);
+    reap_until(desk, q, cid);
+}
+
+/// Collects a command that has ended, gathers its bytes, and releases it.
+///
+/// # Errors
+///
+/// What the first step answered that was not done.
+fn finish(desk: &mut Desk, q: u16, cid: u16) -> Result<(Status, Bytes), Reply>
+    ensures finished { IfOk result (λ end. Finishes desk.old q cid end.0 end.1 desk.new) }
+    ensures failed { IfErr result (λ why. FirstFails desk.old (end_steps q cid) why desk.new) }
+{
+    let status = match collected(desk.step(Step::Collect { q, cid })) {
+        Ok(status) => status,
+        Err(why) => return Err(why),
+    };
+    let bytes = match gathered(desk.step(Step::Gather { q, cid })) {
+        Ok(bytes) => bytes,
+        Err(why) => return Err(why),
+    };
+    let released = desk.step(Step::Release { q, cid });
+    if !is_accepted(&released) {
+        return Err(released);
+    }
+    Ok((status, bytes))
+}
+
+/// Carries a reserved command on to its release.
+fn carry_reserved(desk: &mut Desk, q: u16, cid: u16, bytes: Option<Bytes>) -> Carried
+    ensures { ComesOut desk.old q cid bytes result desk.new }
+{
+    if let Some(why) = begin(desk, q, cid, bytes) {
+        drop(desk.step(Step::Cancel { q, cid }));
+        return Carried::GivenUp(why);
+    }
+    wait(desk, q, cid);
+    match finish(desk, q, cid) {
+        Ok((status, bytes)) => Carried::Ended { status, bytes },
+        Err(why) => Carried::Left { cid, why },
+    }
+}
+
+/// Carries a command from its reservation to its release.
+pub(crate) fn carry(desk: &mut Desk, q: u16, request: Request, bytes: Option<Bytes>) -> Carried
+    ensures { Carries desk.old q request bytes result desk.new }
+{
+    match reserved(desk.step(Step::Reserve { q, request })) {
+        Ok(cid) => carry_reserved(desk, q, cid, bytes),
+        Err(why) => Carried::NotReserved(why),
+    }
+}

@@ -1,0 +1,127 @@
+//! All that the controller can do, in one call.
+
+ghost use Rattle.std.specs.Prelude.{◌≡◌};
+ghost use Rattle.nvmesgl_c.specs.MachineServing as serving;
+ghost use Rattle.nvmesgl_c.specs.MachineServing.{Serves, ServesKept};
+
+use crate::machine::desk::Desk;
+use crate::machine::handle::Handle;
+use crate::words::code::{CLOSED, DONE, code_of_refusal};
+use crate::words::{Answer, nothing};
+use machine_model::words::Refusal;
+use std::alloc::Global;
+use step_core::{ControllerStep, Reply, Step};
+
+/// The most steps of one call.
+const MOST_STEPS: u32 = 65_536;
+
+/// How a call that serves ended.
+#[derive(Clone, Copy)]
+pub enum ServeEnd {
+    /// The controller is at rest.
+    Rest,
+    /// There is more to do: as many steps were made as one call makes.
+    More,
+    /// A step was refused.
+    Refused(Refusal),
+}
+
+/// What a call that serves did.
+#[derive(Clone, Copy)]
+pub struct Served {
+    /// How many commands it completed.
+    pub completed: u32,
+    /// How it ended.
+    pub end: ServeEnd,
+}
+
+/// The step that the controller can do.
+fn step_of(step: ControllerStep) -> Step
+    ensures { serving.IsOwn result }
+{
+    match step {
+        ControllerStep::Fetch { q } => Step::Fetch { q },
+        ControllerStep::Walk { q, cid } => Step::Walk { q, cid },
+        ControllerStep::Complete { q, cid } => Step::Complete { q, cid },
+    }
+}
+
+/// Whether a step completed a command.
+fn is_completed(reply: &Reply) -> bool
+    ensures { result ≡ serving.is_completed reply.now }
+{
+    matches!(reply, Reply::Completed { .. })
+}
+
+/// Why a step was refused, if it was.
+fn refusal_in(reply: &Reply) -> Option<Refusal>
+    ensures { result ≡ serving.refusal_in reply.now }
+{
+    match reply {
+        Reply::Refused { why, .. } => Some(*why),
+        _ => None,
+    }
+}
+
+/// Does what the controller can do, step by step, until it is at rest, a step is refused, or as many steps were made as one call makes.
+pub(crate) fn serve(desk: &mut Desk) -> Served
+    ensures { Serves desk.old result desk.new }
+{
+    let mut completed = 0;
+    for made in 0..MOST_STEPS {
+        let Some(step) = desk.next_step() else {
+            let end = ServeEnd::Rest;
+            return Served { completed, end };
+        };
+        let reply = desk.step(step_of(step));
+        if let Some(why) = refusal_in(&reply) {
+            let end = ServeEnd::Refused(why);
+            return Served { completed, end };
+        }
+        if is_completed(&reply) {
+            completed += 1;
+        }
+    }
+    let end = ServeEnd::More;
+    Served { completed, end }
+}
+
+/// The code of how serving ended.
+fn code_of_end(end: ServeEnd) -> u32
+    ensures { result ≡ serving.code_of_end end }
+{
+    match end {
+        ServeEnd::Rest | ServeEnd::More => DONE,
+        ServeEnd::Refused(why) => code_of_refusal(why),
+    }
+}
+
+/// What C is told of it.
+fn told_serving(served: Served) -> Answer
+    ensures { result ≡ serving.told_serving served }
+{
+    let state = match served.end {
+        ServeEnd::More => 10,
+        ServeEnd::Rest | ServeEnd::Refused(_) => 0,
+    };
+    Answer {
+        state,
+        count: served.completed,
+        ..nothing()
+    }
+}
+
+/// The controller does all that it can, of every queue. How many commands it completed is told, and whether there is more to do.
+#[unsafe(no_mangle)]
+pub extern "C" fn nvmesgl_serve(alloc: Global, handle: &mut Handle, answer: &mut Answer) -> u32
+    ensures { ServesKept handle.old.bench result answer.new handle.new.bench }
+{
+    *answer = nothing();
+    let Some(mut desk) = handle.take(alloc) else {
+        return CLOSED;
+    };
+    let served = serve(&mut desk);
+    handle.put(desk);
+    *answer = told_serving(served);
+    code_of_end(served.end)
+}

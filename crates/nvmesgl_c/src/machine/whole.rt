@@ -1,0 +1,228 @@
+//! Whole commands, each in one call.
+
+ghost use Rattle.std.specs.Prelude.{◌≡◌, ◌≤◌, ◌⊎◌, IfOk, length};
+ghost use Rattle.io_commands.specs.declared.request.Kind.TheVariants as kind;
+ghost use Rattle.nvmesgl_c.specs.MachineWhole as whole;
+ghost use Rattle.nvmesgl_c.specs.MachineWhole.{Brings, CarriesKept, IsTurnedAway, Sends};
+
+use crate::machine::answer::told_of;
+use crate::machine::carrying::{Carried, carry};
+use crate::machine::code::code_of_answer;
+use crate::machine::handle::Handle;
+use crate::machine::steps::refuse;
+use crate::words::code::{BAD_COUNT, CLOSED, DONE, MEMORY, TOO_SHORT};
+use crate::words::{Answer, ended, nothing};
+use std::alloc::{AllocError, Global};
+use step_core::{Bytes, Kind, Piece, Pieces, Request};
+
+/// The most bytes that a command moves.
+const MOST_BYTES: usize = 1_048_576;
+
+/// How many bytes a page has.
+const PAGE: usize = 4_096;
+
+/// A piece for each page that so many bytes fill, and one for what is left.
+///
+/// # Errors
+///
+/// Where memory is refused.
+fn pieces_for(alloc: Global, len: usize) -> Result<Pieces, AllocError>
+    ensures { IfOk result (λ made. made ≡ whole.pieces_of_length len) }
+{
+    let mut pieces = Pieces::new(alloc);
+    for _ in 0..len / PAGE {
+        pieces.push(Piece::Data {
+            offset: 0,
+            len: 4_096,
+        })?;
+    }
+    let rest = (len % PAGE) as u32;
+    if rest != 0 {
+        pieces.push(Piece::Data {
+            offset: 0,
+            len: rest,
+        })?;
+    }
+    Ok(pieces)
+}
+
+/// The request of so many bytes in a row.
+///
+/// # Errors
+///
+/// Where memory is refused.
+fn request_for(alloc: Global, kind: Kind, slba: u64, len: usize) -> Result<Request, AllocError>
+    requires { len ≤ 1048576 }
+    ensures { IfOk result (λ request. request ≡ whole.request_of kind slba len) }
+{
+    let pieces = pieces_for(alloc, len)?;
+    Ok(Request {
+        kind,
+        slba,
+        blocks: (len / 512) as u32,
+        pieces,
+    })
+}
+
+/// Carries a command of the bench that a handle keeps, if one is.
+fn carry_kept(
+    alloc: Global,
+    handle: &mut Handle,
+    q: u16,
+    request: Request,
+    bytes: Option<Bytes>,
+) -> Option<Carried>
+    ensures { CarriesKept handle.old.bench q request bytes result handle.new.bench }
+{
+    let Some(mut desk) = handle.take(alloc) else {
+        drop(request);
+        drop(bytes);
+        return None;
+    };
+    let carried = carry(&mut desk, q, request, bytes);
+    handle.put(desk);
+    Some(carried)
+}
+
+/// What a whole command tells.
+fn told_carried(carried: &Carried) -> Answer
+    ensures { result ≡ whole.told_carried carried.now }
+{
+    match carried {
+        Carried::Ended { status, bytes } => Answer {
+            bytes: bytes.as_slice().len(),
+            ..ended(*status)
+        },
+        Carried::NotReserved(why) | Carried::GivenUp(why) => told_of(why),
+        Carried::Left { cid, .. } => Answer {
+            state: 11,
+            cid: *cid,
+            ..nothing()
+        },
+    }
+}
+
+/// The code of a whole command.
+fn code_of_carried(carried: &Carried) -> u32
+    ensures { result ≡ whole.code_of_carried carried.now }
+{
+    match carried {
+        Carried::Ended { .. } => DONE,
+        Carried::NotReserved(why) | Carried::GivenUp(why) | Carried::Left { why, .. } =>
+            code_of_answer(why),
+    }
+}
+
+/// What a whole command of a handle tells, which was open or not.
+fn told_of_kept(carried: &Option<Carried>) -> Answer
+    ensures { result ≡ whole.told_of_kept carried.now }
+{
+    match carried {
+        Some(carried) => told_carried(carried),
+        None => nothing(),
+    }
+}
+
+/// The code of a whole command of a handle, which was open or not.
+fn code_of(carried: &Option<Carried>) -> u32
+    ensures { result ≡ whole.code_of carried.now }
+{
+    match carried {
+        Some(carried) => code_of_carried(carried),
+        None => CLOSED,
+    }
+}
+
+/// Carries a Write or a Compare of these bytes.
+fn send(
+    alloc: Global,
+    handle: &mut Handle,
+    q: u16,
+    kind: Kind,
+    slba: u64,
+    bytes: &[u8],
+    answer: &mut Answer,
+) -> u32
+    ensures { Sends handle.old.bench q kind slba bytes.now result answer.new handle.new.bench ⊎ IsTurnedAway handle.old.bench (length bytes.now) result answer.new handle.new.bench }
+{
+    if bytes.len() > MOST_BYTES {
+        return refuse(alloc, handle, BAD_COUNT, answer);
+    }
+    let Ok(request) = request_for(alloc, kind, slba, bytes.len()) else {
+        return refuse(alloc, handle, MEMORY, answer);
+    };
+    let Ok(copied) = Vec::from_slice(alloc, bytes) else {
+        drop(request);
+        return refuse(alloc, handle, MEMORY, answer);
+    };
+    let carried = carry_kept(alloc, handle, q, request, Some(Bytes::from_vec(copied)));
+    *answer = told_of_kept(&carried);
+    code_of(&carried)
+}
+
+/// Lays what a Read brought at the front of a buffer. The code of the command; or that the buffer is too short.
+fn lay(carried: &Option<Carried>, buffer: &mut [u8]) -> u32
+    ensures { whole.LaidOf carried.now result buffer.old buffer.new }
+{
+    if let Some(Carried::Ended { bytes, .. }) = carried {
+        let bytes = bytes.as_slice();
+        if buffer.len() < bytes.len() {
+            return TOO_SHORT;
+        }
+        buffer[..bytes.len()].copy_from_slice(bytes);
+    }
+    code_of(carried)
+}
+
+/// Carries a Read from its reservation to its release: its bytes are in the buffer, and its status is told.
+#[unsafe(no_mangle)]
+pub extern "C" fn nvmesgl_read(
+    alloc: Global,
+    handle: &mut Handle,
+    q: u16,
+    slba: u64,
+    buffer: &mut [u8],
+    answer: &mut Answer,
+) -> u32
+    ensures { Brings handle.old.bench q slba buffer.old buffer.new result answer.new handle.new.bench ⊎ whole.IsTurnedAwayFrom buffer.old buffer.new handle.old.bench result answer.new handle.new.bench }
+{
+    if buffer.len() > MOST_BYTES {
+        return refuse(alloc, handle, BAD_COUNT, answer);
+    }
+    let Ok(request) = request_for(alloc, Kind::Read, slba, buffer.len()) else {
+        return refuse(alloc, handle, MEMORY, answer);
+    };
+    let carried = carry_kept(alloc, handle, q, request, None);
+    *answer = told_of_kept(&carried);
+    lay(&carried, buffer)
+}
+
+/// Carries a Write from its reservation to its release. Its status is told.
+#[unsafe(no_mangle)]
+pub extern "C" fn nvmesgl_write(
+    alloc: Global,
+    handle: &mut Handle,
+    q: u16,
+    slba: u64,
+    bytes: &[u8],
+    answer: &mut Answer,
+) -> u32
+    ensures { Sends handle.old.bench q kind.Write slba bytes.now result answer.new handle.new.bench ⊎ IsTurnedAway handle.old.bench (length bytes.now) result answer.new handle.new.bench }
+{
+    send(alloc, handle, q, Kind::Write, slba, bytes, answer)
+}
+
+/// Carries a Compare from its reservation to its release. Its status is told.
+#[unsafe(no_mangle)]
+pub extern "C" fn nvmesgl_compare(
+    alloc: Global,
+    handle: &mut Handle,
+    q: u16,
+    slba: u64,
+    bytes: &[u8],
+    answer: &mut Answer,
+) -> u32
+    ensures { Sends handle.old.bench q kind.Compare slba bytes.now result answer.new handle.new.bench ⊎ IsTurnedAway handle.old.bench (length bytes.now) result answer.new handle.new.bench }
+{
+    send(alloc, handle, q, Kind::Compare, slba, bytes, answer)
+}

@@ -1,0 +1,140 @@
+"""What a machine and a host have in common: an open handle, and the calls of a command and of a queue that the driver makes."""
+
+from __future__ import annotations
+
+import ctypes
+from ctypes import byref, c_uint8
+from types import TracebackType
+from typing import Any, Dict, Iterable, List, Optional, Type, TypeVar
+
+from ._library import Answer, CPiece, Handle, PageOwner, fits, lent, lent_to_write
+from .words import Code, Kind, Owner, OwnerKind, Piece, Refused, Reserved, Status
+
+Self = TypeVar("Self", bound="Driver")
+
+
+class Driver:
+    """An open handle. Used by `with`, or closed by `close`."""
+
+    def __init__(self, functions: Dict[str, Any]) -> None:
+        self._functions = functions
+        self._handle = Handle()
+        self._answer = Answer()
+        self._at, self._told = byref(self._handle), byref(self._answer)
+        self._gathered: "ctypes.Array[c_uint8]" = (c_uint8 * 4096)()
+
+    def __enter__(self: Self) -> Self:
+        return self
+
+    def __exit__(self, kind: Optional[Type[BaseException]], why: Optional[BaseException], trace: Optional[TracebackType]) -> None:
+        self.close()
+
+    def __del__(self) -> None:
+        if getattr(self, "_handle", None) is not None:
+            self.close()
+
+    def close(self) -> None:
+        """Lets all go, whatever is outstanding. A handle that is closed refuses each call with CLOSED_HANDLE."""
+        self._functions["close"](self._at)
+
+    def _code(self, name: str, *arguments: object) -> int:
+        return int(self._functions[name](self._at, *arguments, self._told))
+
+    def _call(self, name: str, *arguments: object) -> Answer:
+        code = self._code(name, *arguments)
+        if code != Code.DONE:
+            raise Refused(name, code, self._answer.need, self._answer.free, self._touched())
+        return self._answer
+
+    def _look(self, name: str, *arguments: object) -> None:
+        code = self._functions[name](self._at, *arguments)
+        if code != Code.DONE:
+            raise Refused(name, code)
+
+    def _touched(self) -> List[int]:
+        return list(self._answer.touched[: self._answer.touched_count])
+
+    def _status(self) -> Status:
+        return Status(self._answer.sct, self._answer.sc)
+
+    # A command
+
+    def reserve(self, q: int, kind: Kind, slba: int, blocks: int, pieces: Iterable[Piece]) -> Reserved:
+        """Reserves a command of `blocks` blocks of 512 bytes from `slba` on, as a draft: `cid`, `data_pages`, `chain_pages`. Its pages are out of the
+        pool until it is submitted."""
+        items = [CPiece(fits(p.offset, 32), fits(p.len, 32), int(p.bucket)) for p in pieces]
+        told = self._call("reserve", q, kind, slba, blocks, (CPiece * len(items))(*items), len(items))
+        return Reserved(told.cid, told.data_pages, told.chain_pages)
+
+    def fill(self, q: int, cid: int, content: Any) -> None:
+        """Fills the draft of a Write or a Compare with the bytes of any buffer, and zeros behind them."""
+        self._call("fill", q, cid, *lent(content))
+
+    def build(self, q: int, cid: int) -> None:
+        """Lays the draft's chain."""
+        self._call("build", q, cid)
+
+    def submit(self, q: int, cid: int) -> None:
+        """Submits a draft that is built: its pages are in the pool, and its entry stands behind the tail. It is not rung."""
+        self._call("submit", q, cid)
+
+    def cancel(self, q: int, cid: int) -> None:
+        """Cancels a draft: its pages and its identifier are free."""
+        self._call("cancel", q, cid)
+
+    def collect(self, q: int, cid: int) -> Status:
+        """Collects a command that has ended. Its pages are out of the pool."""
+        self._call("collect", q, cid)
+        return self._status()
+
+    def gather(self, q: int, cid: int) -> bytes:
+        """The bytes of a finished Read; none of a Write or a Compare."""
+        code = self._code("gather", q, cid, self._gathered, len(self._gathered))
+        if code == Code.TOO_SHORT:
+            self._gathered = (c_uint8 * self._answer.bytes)()
+            code = self._code("gather", q, cid, self._gathered, len(self._gathered))
+        if code != Code.DONE:
+            raise Refused("gather", code)
+        return ctypes.string_at(self._gathered, self._answer.bytes)
+
+    def gather_into(self, q: int, cid: int, buffer: Any) -> int:
+        """Gathers the bytes of a finished Read into the front of a writable buffer, and returns how many there are. TOO_SHORT where it has not so many."""
+        return int(self._call("gather", q, cid, *lent_to_write(buffer)).bytes)
+
+    def release(self, q: int, cid: int) -> None:
+        """Releases a finished command: its pages and its identifier are free."""
+        self._call("release", q, cid)
+
+    def abort(self, q: int, cid: int) -> int:
+        """Sends an Abort of a submitted command. The identifier on queue 0; it is not rung."""
+        return int(self._call("abort", q, cid).cid)
+
+    # A queue
+
+    def delete_sq(self, q: int) -> int:
+        """Sends the deletion of a submission queue. The identifier on queue 0; it is not rung."""
+        return int(self._call("delete_sq", q).cid)
+
+    def delete_cq(self, q: int) -> int:
+        """Sends the deletion of a completion queue. The identifier on queue 0; it is not rung."""
+        return int(self._call("delete_cq", q).cid)
+
+    def create_cq(self, q: int) -> int:
+        """Sends the creation of a completion queue. The identifier on queue 0; it is not rung."""
+        return int(self._call("create_cq", q).cid)
+
+    def create_sq(self, q: int) -> int:
+        """Sends the creation of a submission queue. The identifier on queue 0; it is not rung."""
+        return int(self._call("create_sq", q).cid)
+
+    def retire(self, q: int) -> None:
+        """Gives back the submission ring of a queue whose deletion was reaped."""
+        self._call("retire", q)
+
+    # A look
+
+    def owner(self, page: int) -> Owner:
+        """Who owns a page."""
+        owner = PageOwner()
+        self._look("owner", page, byref(owner))
+        return Owner(OwnerKind(owner.kind), owner.q, owner.cid)

@@ -1,0 +1,168 @@
+"""The words of the library: codes, kinds, pieces, statuses, and a call that was refused."""
+
+from __future__ import annotations
+
+import enum
+from typing import Any, List, NamedTuple, Sequence, Tuple
+
+from ._library import library
+
+__all__ = ["Code", "Kind", "Owner", "OwnerKind", "Piece", "Refused", "Reserved", "State", "Status", "Step", "Walk"]
+
+
+class Code(enum.IntEnum):
+    """The codes of c/nvmesgl.h."""
+
+    DONE = 0
+    CLOSED_HANDLE = 1
+    OPEN_HANDLE = 2
+    NO_VALUE = 3
+    NO_KIND = 4
+    TOO_SHORT = 5
+    NO_PAGE = 6
+    BAD_SIZE = 7
+    BAD_OPTION = 8
+    BAD_IMAGE = 9
+    NO_QUEUE = 10
+    DELETING = 11
+    BAD_CONFIG = 12
+    NO_IDENTIFIER = 13
+    NO_PAGES = 14
+    MEMORY = 15
+    STRANGER = 16
+    NOT_BUILT = 17
+    QUEUE_GONE = 18
+    QUEUE_FULL = 19
+    NOT_YET = 20
+    WRONG_STATE = 21
+    NO_SUCH_COMMAND = 22
+    NOT_DELETED = 23
+    NOT_DRAINED = 24
+    OUTSTANDING = 25
+    NO_RUN = 26
+    NO_SLOT = 27
+    IDLE = 28
+    SLOT_OUT = 29
+    FULL = 30
+    NO_JOB = 31
+    NOTHING = 32
+    WALKING = 33
+    WAITS = 34
+    TOO_MANY_PIECES = 40
+    EMPTY_PIECE = 41
+    CROSSES_PAGE = 42
+    BAD_COUNT = 43
+    LENGTH_MISMATCH = 44
+    NOT_A_SOURCE = 45
+    WRONG_LENGTH = 46
+    BAD_DOORBELL = 50
+    POOL_TOO_LONG = 51
+    NO_BLOCKS = 52
+    BAD_LENGTH = 53
+    PAGE_OUT = 54
+    NO_PIECE = 55
+    BAD_PIECE = 56
+
+
+class Kind(enum.IntEnum):
+    """Which I/O command."""
+
+    READ = 0
+    WRITE = 1
+    COMPARE = 2
+
+
+class State(enum.IntEnum):
+    """How a walk stands, what a reap found, or that there is more to serve."""
+
+    WALK_MORE = 1
+    WALK_END = 2
+    WALK_FAULT = 3
+    REAP_EMPTY = 4
+    REAP_DONE = 5
+    REAP_ADMIN_DONE = 6
+    REAP_WRONG_QUEUE = 7
+    REAP_BAD_HEAD = 8
+    REAP_UNKNOWN_ID = 9
+    SERVE_MORE = 10
+
+
+class OwnerKind(enum.IntEnum):
+    """Who owns a page."""
+
+    FREE = 0
+    SUBMISSION_QUEUE = 1
+    COMPLETION_QUEUE = 2
+    DATA = 3
+    CHAIN = 4
+
+
+class Piece(NamedTuple):
+    """`len` bytes from `offset` on in a page of their own; with `bucket`, so many bytes that a Read discards."""
+
+    offset: int
+    len: int
+    bucket: bool = False
+
+
+class Status(NamedTuple):
+    """How a command ended: a status code type and a status code."""
+
+    sct: int
+    sc: int
+
+    @property
+    def name(self) -> str:
+        """The name that the specification gives it."""
+        return str(library().nvmesgl_status_text(self.sct, self.sc).decode())
+
+    def __str__(self) -> str:
+        return f"{self.sct}:{self.sc:02X} {self.name}"
+
+
+class Reserved(NamedTuple):
+    """A command that was reserved."""
+
+    cid: int
+    data_pages: int
+    chain_pages: int
+
+
+class Owner(NamedTuple):
+    """Who owns a page."""
+
+    kind: OwnerKind
+    q: int
+    cid: int
+
+
+class Step(NamedTuple):
+    """A step of the controller: the command, and the pages that it touched, in order."""
+
+    cid: int
+    touched: List[int]
+
+
+class Walk(NamedTuple):
+    """A unit of a list: how the walk stands, the fault's status where there is one, and the pages touched."""
+
+    state: State
+    status: "Status | None"
+    touched: List[int]
+
+
+class Refused(Exception):
+    """A call that was not done. Nothing changed. `call` is its name; `need` and `free` count pages, where too few are free; `touched` are the pages
+    that a step of the controller touched before it was refused."""
+
+    def __init__(self, call: str, code: int, need: int = 0, free: int = 0, touched: Sequence[int] = ()) -> None:
+        self.call = call
+        self.code = Code(code)
+        self.need = need
+        self.free = free
+        self.touched = list(touched)
+        numbers = {Code.NO_PAGES: f" (need {need}, free {free})", Code.NO_RUN: f" (need {need})"}.get(self.code, "")
+        super().__init__(f"{call}: {self.code.name}: {library().nvmesgl_text(code).decode()}{numbers}")
+
+    def __reduce__(self) -> Tuple[Any, ...]:
+        return type(self), (self.call, int(self.code), self.need, self.free, tuple(self.touched))

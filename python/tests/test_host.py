@@ -1,0 +1,144 @@
+"""A host against a device that Python plays: what its calls tell, how its queues are made behind a reset, what the device may do with which page, and a pool
+in memory of one's own."""
+
+import ctypes
+import mmap
+import struct
+
+import pytest
+
+from nvmesgl import Code, Kind, OwnerKind, Piece, State
+from nvmesgl.host import PAGE_BYTES, Doorbell, Host, Place, QueueState, Right, Rings, Run
+from refusals import refused
+
+
+class Device:
+    """A device that answers each entry with success, and a Read with bytes of one value at its first page."""
+
+    def __init__(self, host):
+        self.host = host
+        self.rings = {0: host.rings(0)}
+        self.heads = {0: 0}
+        self.tails = {0: (0, 1)}
+
+    def ring(self, bell):
+        """Hears a doorbell: takes each new entry, and posts its completion."""
+        q, half = divmod((bell.offset - 0x1000) // 4, 2)
+        while half == 0 and self.heads[q] != bell.value:
+            entry = self.host.read(self.rings[q].submission + 64 * self.heads[q], 64)
+            self.heads[q] = (self.heads[q] + 1) % self.host.entries
+            self.take(q, entry)
+
+    def take(self, q, entry):
+        """Does a command, and posts its completion."""
+        opcode, cid = entry[0], struct.unpack_from("<H", entry, 2)[0]
+        base, named = struct.unpack_from("<Q", entry, 24)[0], struct.unpack_from("<H", entry, 40)[0]
+        if q == 0 and opcode == 5:
+            self.rings[named] = Rings(None, base)
+        elif q == 0 and opcode == 1:
+            self.rings[named] = Rings(base, self.rings[named].completion)
+            self.heads[named], self.tails[named] = 0, (0, 1)
+        elif q != 0 and opcode == 2:
+            self.host.write(base, bytes([0x5A]) * 512)
+        slot, phase = self.tails[q]
+        answer = struct.pack("<IIHHHH", 0, 0, self.heads[q], q, cid, phase)
+        self.host.write(self.rings[q].completion + 16 * slot, answer)
+        self.tails[q] = (slot + 1, phase) if slot + 1 < self.host.entries else (0, phase ^ 1)
+
+
+def test_calls():
+    with Host(pages=32, queues=2, entries=8) as host:
+        assert host.rings(0) == Rings(0, 4096)
+        assert host.ring(1) == Doorbell(0x1000 + 8, 0)
+        host.reset()
+        assert host.queue(1).state == QueueState.GONE
+        refused(Code.NO_QUEUE, host.ring, 1)
+        device = Device(host)
+        for make, state in ((host.create_cq, QueueState.HALF_MADE), (host.create_sq, QueueState.LIVE)):
+            cid = make(1)
+            device.ring(host.ring(0))
+            told = host.reap(0)
+            assert (told.state, told.cid, told.doorbell.offset) == (State.REAP_ADMIN_DONE, cid, 0x1004), told
+            assert host.queue(1).state == state
+        assert host.rings(1) == device.rings[1]
+        rings = host.queue(1)
+        assert [len(pages) for pages in (rings.submission, rings.completion)] == [1, 1]
+        assert (host.may(rings.submission[0]), host.may(rings.completion[0])) == (Right.READ, Right.WRITE)
+        assert host.queue(2).submission == host.queue(2).completion == range(0)
+
+        cid = host.reserve(1, Kind.READ, 0, 1, [Piece(8, 512)]).cid
+        data = [p for p in range(32) if host.owner(p).kind == OwnerKind.DATA]
+        assert host.data_place(1, cid, 0) == Place(data[0], 8, 512)
+        refused(Code.NO_PIECE, host.data_place, 1, cid, 1)
+        assert host.runs(1, cid) == [Run(range(data[0], data[0] + 1), Right.NOTHING)] and host.may(data[0]) == Right.NOTHING
+        refused(Code.PAGE_OUT, host.read, 4096 * data[0], 1)
+        refused(Code.NOT_BUILT, host.submit, 1, cid)
+        host.build(1, cid)
+        host.submit(1, cid)
+        assert host.read(4096 * data[0], 4096) == bytes(4096)
+        assert host.runs(1, cid) == [Run(range(data[0], data[0] + 1), Right.WRITE)] and host.may(data[0]) == Right.WRITE
+        assert not host.ready(1)
+        refused(Code.NOT_YET, host.collect, 1, cid)
+        device.ring(host.ring(1))
+        assert host.ready(1)
+        told = host.reap(1)
+        assert host.may(data[0]) == Right.NOTHING and not host.ready(1)
+        assert (told.state, told.cid, told.doorbell) == (State.REAP_DONE, cid, Doorbell(0x100C, 1)), told
+        assert host.reap(1).state == State.REAP_EMPTY and host.reap(1).doorbell is None
+        assert host.collect(1, cid) == (0, 0)
+        assert host.gather(1, cid) == bytes([0x5A]) * 512
+        host.release(1, cid)
+        assert host.runs(1, cid) == [] and host.may(32) == Right.NOTHING
+        refused(Code.NO_PIECE, host.data_place, 1, cid, 0)
+        assert host.counts().data_pages == 0 and sum(host.counts()[1:]) == 32
+
+        for count in (0, 4097):
+            refused(Code.BAD_LENGTH, host.read, 0, count)
+            refused(Code.BAD_LENGTH, host.write, 0, bytes(count))
+        refused(Code.PAGE_OUT, host.read, 32 * 4096 - 1, 2)
+        refused(Code.NO_PAGE, host.owner, 32)
+        refused(Code.NO_QUEUE, host.queue, 3)
+        refused(Code.NO_VALUE, host.cancel, 1, cid)
+        host.write(host.rings(1).completion + 16 * host.queue(1).completion_head, struct.pack("<IIHHHH", 0, 0, 0, 1, 7, 1))
+        assert host.reap(1).state == State.REAP_BAD_HEAD
+        with pytest.raises(ctypes.ArgumentError):
+            host.ring(70000)
+    refused(Code.CLOSED_HANDLE, host.ring, 1)
+
+
+def test_openings_that_are_refused():
+    refused(Code.BAD_CONFIG, lambda: Host(pages=7))
+    why = refused(Code.NO_PAGES, lambda: Host(pages=8, queues=64))
+    assert (why.need, why.free) == (130, 8)
+
+
+def test_a_pool_in_memory_of_ones_own():
+    """What the device writes there stands there, and what is filled there is what is sent."""
+    memory = mmap.mmap(-1, 64 * PAGE_BYTES)
+    for _ in range(2):
+        with Host(memory=memory, queues=2, entries=70) as host:
+            assert host.pages == 64 and bytes(memory) == bytes(64 * PAGE_BYTES)
+            for page in range(64):
+                host.write(PAGE_BYTES * page + 4000, struct.pack("<I", page + 1))
+            assert [struct.unpack_from("<I", memory, PAGE_BYTES * page + 4000)[0] for page in range(64)] == list(range(1, 65))
+            pieces = [Piece(64 * piece, 512) for piece in range(20)]
+            cid = host.reserve(1, Kind.WRITE, 0, 20, pieces).cid
+            for piece in range(20):
+                place = host.data_place(1, cid, piece)
+                assert (place.offset, place.len) == (64 * piece, 512)
+                at = PAGE_BYTES * place.page + place.offset
+                memory[at : at + 512] = bytes([piece]) * 512
+            host.build(1, cid)
+            host.submit(1, cid)
+            assert [run.right for run in host.runs(1, cid)] == [Right.READ] * len(host.runs(1, cid))
+            assert sum(len(run.pages) for run in host.runs(1, cid)) == 21
+            for piece in range(20):
+                place = host.data_place(1, cid, piece)
+                assert host.read(PAGE_BYTES * place.page + place.offset, 512) == bytes([piece]) * 512
+            with pytest.raises(BufferError):
+                memory.close()
+    refused(Code.BAD_OPTION, lambda: Host(pages=63, memory=memory))
+    refused(Code.NO_PAGES, lambda: Host(memory=memory, queues=64))
+    for wrong in (memoryview(memory)[1 : 1 + 8 * PAGE_BYTES], bytearray(8 * PAGE_BYTES + 1)):
+        with pytest.raises(ValueError):
+            Host(memory=wrong)

@@ -1,0 +1,143 @@
+"""A machine: refusals, numbers that do not fit, buffers of any kind, and whole commands step by step."""
+
+import array
+import ctypes
+import pickle
+
+import pytest
+
+from nvmesgl import Code, Kind, Machine, OwnerKind, Piece, Refused, State
+from refusals import refused
+
+
+def carry(machine, q, cid):
+    """Carries a draft to its end, and returns its status."""
+    machine.build(q, cid)
+    machine.submit(q, cid)
+    machine.ring(q)
+    assert machine.serve() == 1
+    assert machine.reap(q).cid == cid
+    return machine.collect(q, cid)
+
+
+def test_refusals():
+    with Machine(image=bytes(range(256)) * 4) as machine:
+        why = refused(Code.NO_PAGES, machine.reserve, 1, Kind.READ, 0, 13, [Piece(8 * k, 512) for k in range(13)])
+        assert (why.need, why.free) == (14, 12)
+        assert str(why) == "reserve: NO_PAGES: too few pages are free (need 14, free 12)"
+        refused(Code.NO_QUEUE, machine.ring, 9)
+        refused(Code.NO_VALUE, machine.submit, 1, 0)
+        refused(Code.NO_PAGE, machine.owner, 16)
+        refused(Code.NOT_A_SOURCE, machine.fill, 1, machine.reserve(1, Kind.READ, 0, 1, [Piece(0, 512)]).cid, b"x")
+        assert machine.owner(0).kind == OwnerKind.SUBMISSION_QUEUE
+        assert sum(machine.counts()[1:5]) == machine.counts().pages
+        with pytest.raises(ctypes.ArgumentError):
+            machine.ring(70000)
+        machine.forge(1, 0, bytes(14) + b"\x01\x00")
+        assert not machine.counts().trusted
+        machine.reset()
+        assert machine.counts().trusted
+    refused(Code.CLOSED_HANDLE, machine.ring, 1)
+    refused(Code.BAD_CONFIG, lambda: Machine(pages=7))
+    refused(Code.BAD_IMAGE, lambda: Machine(image=b"short"))
+    refused(Code.NO_PAGES, lambda: Machine(pages=8, queues=64))
+
+
+def test_a_refusal_goes_from_process_to_process():
+    with Machine() as machine:
+        why = refused(Code.NO_PAGES, machine.reserve, 1, Kind.READ, 0, 13, [Piece(0, 512)] * 13)
+    again = pickle.loads(pickle.dumps(why))
+    assert (type(again), str(again), again.call, again.code, again.need, again.free) == (Refused, str(why), "reserve", Code.NO_PAGES, why.need, why.free)
+
+
+BUFFERS = {
+    "bytes": bytes(range(256)) * 2,
+    "bytearray": bytearray(range(256)) * 2,
+    "words": array.array("I", range(128)),
+    "read-only words": memoryview(bytes(range(256)) * 2).cast("I"),
+    "two dimensions": memoryview(bytes(range(256)) * 2).cast("B", (8, 64)),
+    "each second byte": memoryview(bytes(range(256)) * 4)[::2],
+}
+
+
+@pytest.mark.parametrize("content", BUFFERS.values(), ids=BUFFERS)
+def test_all_bytes_of_a_buffer_are_written(content):
+    with Machine(image=bytes(512)) as machine:
+        cid = machine.reserve(1, Kind.WRITE, 0, 1, [Piece(0, 512)]).cid
+        machine.fill(1, cid, content)
+        assert carry(machine, 1, cid) == (0, 0)
+        machine.release(1, cid)
+        cid = machine.reserve(1, Kind.READ, 0, 1, [Piece(0, 512)]).cid
+        assert carry(machine, 1, cid) == (0, 0)
+        assert machine.gather(1, cid) == memoryview(content).tobytes()
+    with Machine(image=content) as machine:
+        cid = machine.reserve(1, Kind.READ, 0, 1, [Piece(0, 512)]).cid
+        carry(machine, 1, cid)
+        assert machine.gather(1, cid) == memoryview(content).tobytes()
+
+
+def test_what_is_no_buffer_is_not_written():
+    with Machine() as machine:
+        cid = machine.reserve(1, Kind.WRITE, 0, 1, [Piece(0, 512)]).cid
+        for wrong in (5, [1, 2, 3], "text"):
+            with pytest.raises(TypeError):
+                machine.fill(1, cid, wrong)
+
+
+def test_gather_into_a_buffer():
+    with Machine(image=bytes(range(256)) * 32) as machine:
+        cid = machine.reserve(1, Kind.READ, 0, 16, [Piece(0, 4096), Piece(0, 4096)]).cid
+        assert carry(machine, 1, cid) == (0, 0)
+        assert machine.gather(1, cid) == bytes(range(256)) * 32
+        short = bytearray(8191)
+        refused(Code.TOO_SHORT, machine.gather_into, 1, cid, short)
+        assert short == bytes(8191)
+        words = array.array("I", [7] * 2050)
+        assert machine.gather_into(1, cid, words) == 8192
+        assert words.tobytes() == bytes(range(256)) * 32 + array.array("I", [7, 7]).tobytes()
+        with pytest.raises(BufferError):
+            machine.gather_into(1, cid, memoryview(bytearray(20000))[::2])
+
+
+def test_a_command_that_the_fetch_refuses():
+    with Machine(blocks=8) as machine:
+        cid = machine.reserve(1, Kind.READ, 8, 1, [Piece(0, 512)]).cid
+        machine.build(1, cid)
+        machine.submit(1, cid)
+        machine.ring(1)
+        assert machine.fetch(1).cid == cid
+        refused(Code.NOTHING, machine.walk, 1, cid)
+        machine.complete(1, cid)
+        assert str(machine.reap(1).status) == "0:80 LBA Out of Range"
+
+
+def test_steps_one_by_one():
+    with Machine(image=bytes(range(256)) * 2) as machine:
+        cid = machine.reserve(1, Kind.READ, 0, 1, [Piece(0, 512)]).cid
+        machine.build(1, cid)
+        machine.submit(1, cid)
+        machine.ring(1)
+        assert machine.fetch(1).touched == [2]
+        states = [machine.walk(1, cid).state]
+        while states[-1] == State.WALK_MORE:
+            states.append(machine.walk(1, cid).state)
+        assert states[-1] == State.WALK_END
+        assert machine.complete(1, cid).touched == [3]
+        assert machine.reap(1).state == State.REAP_DONE
+        assert machine.reap(1).state == State.REAP_EMPTY
+
+
+def test_whole_commands():
+    with Machine(pages=300, blocks=4096, segment=64) as machine:
+        content = bytes(range(256)) * 4096
+        assert machine.write(1, 0, content) == (0, 0)
+        buffer = bytearray(len(content))
+        assert machine.read(1, 0, buffer) == (0, 0)
+        assert buffer == content
+        assert machine.compare(1, 0, content) == (0, 0)
+        assert str(machine.compare(1, 1, content[:512][::-1])) == "2:85 Compare Failure"
+        assert str(machine.read(1, 4096, bytearray(512))) == "0:80 LBA Out of Range"
+        refused(Code.BAD_COUNT, machine.read, 1, 0, bytearray(0))
+        refused(Code.LENGTH_MISMATCH, machine.read, 1, 0, bytearray(513))
+        refused(Code.NO_QUEUE, machine.read, 2, 0, bytearray(512))
+        assert machine.counts().free_pages == 300 - machine.counts().queue_pages
