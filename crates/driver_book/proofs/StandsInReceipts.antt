@@ -283,7 +283,7 @@ known_here log seats p x here known so_far =
     subst (λ (y : Entry). is_known seats y.seat ≡ true) same (known (ap is_accepted same ∙ is)))
 
 -- the submission of a seat that was not handed in stands in no receipt
-stands_nowhere : (seat : Option ℕ) (place number q cid : ℕ) (told : Option Status) (seats : List SeatContents) → is_known seats seat ≡ false
+pub stands_nowhere : (seat : Option ℕ) (place number q cid : ℕ) (told : Option Status) (seats : List SeatContents) → is_known seats seat ≡ false
     → list_any (has seat place number q cid told) seats ≡ false
 stands_nowhere seat place number q cid told [] none = refl
 stands_nowhere seat place number q cid told (s ∷ seats) none = go (same_seat (Some s.number) seat) refl (stands_nowhere seat place number q cid told seats)
@@ -346,7 +346,7 @@ all_before log seats i end all so_far p below e get is =
     let seat : Some s.number ≡ e.seat = same_seat_is (Some s.number) e.seat same in
     so_far.stand k (omega arith) s there p below e get is (rw seat (same_itself e.seat))
 
-seat_named : (seat : Option ℕ) (accepts : Bool) → accepts ≡ true → (is_some seat || not accepts) ≡ true → seat ≡ Some (unwrap_or seat 0)
+pub seat_named : (seat : Option ℕ) (accepts : Bool) → accepts ≡ true → (is_some seat || not accepts) ≡ true → seat ≡ Some (unwrap_or seat 0)
 seat_named (Some n) accepts it is = refl
 seat_named None accepts it is = absurd (true≢false (sym is ∙ ap not it))
 

@@ -3,6 +3,8 @@ pub mod Calls
 pub mod Close
 pub mod Laws
 pub mod Passes
+pub mod Submissions
+pub mod Table
 pub mod Reports
 pub mod Seats
 pub mod Entries

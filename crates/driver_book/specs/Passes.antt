@@ -1,5 +1,5 @@
--- How the first submission is found that stands in no receipt: apart from the search for statuses, the log is gone through once for the seats' numbers, and
--- then once for each seat.
+-- How the first submission is found that stands in no receipt where there is no memory for tables: apart from the search for statuses, the log is gone through once
+-- for the seats' numbers, and then once for each seat.
 use Rattle.std.specs.{List.list_any, Prelude.{◌≡◌, ℕ, ◌<◌, Bool, true, false, Option, Some, List, slice_get}}
 use Rattle.driver_book.specs.{Close.{same_seat, stands}, Entries.Entry, History.is_accepted, State.SeatContents}
 

@@ -13,6 +13,7 @@ ghost use Rattle.driver_book.specs.declared.report.Receipt.{Receipt as AReceipt}
 use crate::book::{Book, LogBrand};
 use crate::report::{CloseFault, Receipt, Receipts, Report, ReportIn};
 use crate::seat::Seat;
+use crate::two_passes::first_missing;
 use crate::{Log, NoBytes, ShownEntry, ShownStep};
 use entry_codec::Status;
 use machine_model::words::Reaped;
@@ -179,7 +180,7 @@ fn has_receipt<L: Ledger, A: Allocator>(
 }
 
 /// Whether some seat has this number, and at this place the receipt that is wanted.
-fn any_has<L: Ledger, A: Allocator>(
+pub(crate) fn any_has<L: Ledger, A: Allocator>(
     seats: &[Seat<L, A>],
     seat: Option<u16>,
     place: usize,
@@ -272,8 +273,11 @@ fn known_until<L: Ledger, A: Allocator>(log: &Log<A>, seats: &[Seat<L, A>]) -> u
 }
 
 /// The first accepted submission that stands in no receipt: its seat and its number. Apart from the search for statuses, the log is gone
-/// through once for the seats' numbers, and then once for each seat, up to the first that is missing so far.
-fn missing<L: Ledger, A: Allocator>(log: &Log<A>, seats: &[Seat<L, A>]) -> Option<(u16, u64)>
+/// through once for the seats' numbers, and then once for each seat, up to the first that is missing so far. It takes no memory.
+pub(crate) fn missing<L: Ledger, A: Allocator>(
+    log: &Log<A>,
+    seats: &[Seat<L, A>],
+) -> Option<(u16, u64)>
     requires { AreSeated log.now.entries }
     ensures { MatchOption result (AllStand log.now.entries seats.now) (λ m. IsMissing log.now.entries seats.now m.0 m.1) }
 {
@@ -332,7 +336,8 @@ fn take_in<L: Ledger, A: Allocator>(
 }
 
 impl<L: LogBrand, A: Allocator + Copy> Book<L, A> {
-    /// Compares the log with the receipts of the seats, and takes the seats. `Ok` says that each accepted submission of the log
+    /// Compares the log with the receipts of the seats, and takes the seats. It goes through the log twice, and once for each seat where there
+    /// is no memory for tables. `Ok` says that each accepted submission of the log
     /// stands in the receipts, as the j-th of its seat in that seat's j-th receipt, with its number, queue and identifier and the
     /// status that the log gave it; that there is no further receipt; that each seat out was handed in; and that no receipt is
     /// without a status and no command outstanding. Whatever is answered, the log tells of a run of the machine that leads from the
@@ -362,7 +367,7 @@ impl<L: LogBrand, A: Allocator + Copy> Book<L, A> {
         ensures back { IfErr result (λ refused. refused.seats.items ≡ seats.items) }
         ensures same { OnErr result (self.new ≡ self.old) }
     {
-        if let Some((seat, number)) = missing(&self.log, seats.as_slice()) {
+        if let Some((seat, number)) = first_missing(self.alloc, &self.log, seats.as_slice()) {
             let why = CloseFault::Missing { seat, number };
             return Err(CloseRefused { why, seats });
         }

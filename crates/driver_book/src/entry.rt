@@ -2,6 +2,7 @@
 
 ghost use Rattle.std.specs.Prelude.{◌≡◌, []};
 
+use entry_codec::Status;
 use io_commands::RequestOf;
 use std::marker::Model;
 use step_core::{Reply, Step};
@@ -63,3 +64,37 @@ pub(crate) type KeptEntry = Entry<KeptRequest, NoBytes, Span>;
 
 /// A step as a log keeps it.
 pub type KeptStep = Step<RequestOf<Span>, NoBytes>;
+
+/// A submission that was accepted.
+#[derive(Clone, Copy)]
+pub(crate) struct Submission {
+    /// The number of the seat that made it, if one did.
+    pub(crate) seat: Option<u16>,
+    /// The command's queue.
+    pub(crate) q: u16,
+    /// Its identifier.
+    pub(crate) cid: u16,
+}
+
+/// Which submitted commands a step ended.
+#[derive(Clone, Copy)]
+pub(crate) enum EndAt {
+    /// None.
+    Nothing,
+    /// One, whose completion was reaped.
+    One {
+        /// Its queue.
+        q: u16,
+        /// Its identifier.
+        cid: u16,
+        /// How it ended.
+        status: Status,
+    },
+    /// Those of a queue, which was retired.
+    Queue {
+        /// The queue.
+        q: u16,
+    },
+    /// All: the controller was reset.
+    All,
+}

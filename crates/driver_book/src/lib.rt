@@ -26,6 +26,7 @@ mod book;
 mod carry;
 mod close;
 mod controller;
+mod ends;
 mod entry;
 mod full;
 mod host;
@@ -37,6 +38,7 @@ mod note;
 mod report;
 mod seat;
 mod shown;
+mod two_passes;
 
 pub use book::{Book, BookRefused, FullLogBrand, LogBrand};
 pub use carry::{CarryRefused, ClosedLog};

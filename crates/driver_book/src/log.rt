@@ -5,13 +5,15 @@ ghost use Rattle.std.specs.Option.{option_map};
 ghost use Rattle.driver_book.specs.Entries.{Entry as AnEntry};
 ghost use Rattle.machine_model.specs.Events as events;
 ghost use Rattle.driver_book.specs.History.{entry, entry_of};
+ghost use Rattle.driver_book.specs.Submissions.{submitted_by, submission_of, ended_by, end_of};
 ghost use Rattle.driver_book.specs.Keeping.{HasNoRequest, bare_step, may_end as may_end_step};
 ghost use Rattle.driver_book.specs.Entries.{IsNoLess, Takes, Lacks, left, answered};
 
-use crate::entry::{Entry, KeptEntry, KeptStep, NoBytes};
+use crate::entry::{EndAt, Entry, KeptEntry, KeptStep, NoBytes, Submission};
 use crate::keep::{keep_draft, keep_request, same_request};
 use crate::shown::{ShownEntry, shown_entry};
 use io_commands::{Draft, Piece, Request};
+use machine_model::words::Reaped;
 use page_memory::PageNo;
 use std::alloc::{AllocError, Allocator, Global};
 use std::marker::Model;
@@ -56,6 +58,48 @@ fn may_end(step: &KeptStep) -> bool
     ensures { result ≡ may_end_step step.now }
 {
     matches!(step, Step::Reap { .. } | Step::Retire { .. } | Step::Reset)
+}
+
+/// The submission that a step is, where it was accepted.
+fn submission_in(seat: Option<u16>, step: &KeptStep, answer: &Reply<NoBytes>) -> Option<Submission>
+    ensures { result ≡ submitted_by seat step.now answer.now }
+{
+    match step {
+        Step::Submit { q, cid } => match answer {
+            Reply::Accepted => Some(Submission {
+                seat,
+                q: *q,
+                cid: *cid,
+            }),
+            _ => None,
+        },
+        _ => None,
+    }
+}
+
+/// Which submitted commands a step ended.
+fn end_in(step: &KeptStep, answer: &Reply<NoBytes>) -> EndAt
+    ensures { result ≡ ended_by step.now answer.now }
+{
+    match step {
+        Step::Reap { q } => match answer {
+            Reply::Reaps(Reaped::Done { cid, status }) => EndAt::One {
+                q: *q,
+                cid: *cid,
+                status: *status,
+            },
+            _ => EndAt::Nothing,
+        },
+        Step::Retire { q } => match answer {
+            Reply::Accepted => EndAt::Queue { q: *q },
+            _ => EndAt::Nothing,
+        },
+        Step::Reset => match answer {
+            Reply::Accepted => EndAt::All,
+            _ => EndAt::Nothing,
+        },
+        _ => EndAt::Nothing,
+    }
 }
 
 impl<A: Allocator> Log<A> {
@@ -193,6 +237,24 @@ impl<A: Allocator> Log<A> {
         } else {
             None
         }
+    }
+
+    /// The submission that the entry at a place tells of, counted from 0, where it was accepted.
+    pub(crate) fn submission_at(&self, index: usize) -> Option<Submission>
+        requires { index < length self.now.entries }
+        ensures { option_map submission_of (slice_get self.now.entries index) ≡ Some result }
+    {
+        let entry = &self.kept[index];
+        submission_in(entry.seat, &entry.step, &entry.answer)
+    }
+
+    /// Which submitted commands the step of the entry at a place ended, counted from 0.
+    pub(crate) fn end_at(&self, index: usize) -> EndAt
+        requires { index < length self.now.entries }
+        ensures { option_map end_of (slice_get self.now.entries index) ≡ Some result }
+    {
+        let entry = &self.kept[index];
+        end_in(&entry.step, &entry.answer)
     }
 
     /// The entry at a place, counted from 0, if there is one.
