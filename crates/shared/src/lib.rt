@@ -1,0 +1,26 @@
+//! One lock over whatever makes steps: a world, or a host with its pages. It knows no steps: who has the lock passes a closure.
+//!
+//! [`Shared`] has a [`Machine`] under one lock. [`Shared::with`] does something with it, and [`Shared::when`] waits first. Whoever takes the
+//! lock finds a sound machine. Of a world or a host: each page has one owner, the counts add up, and the identifiers of a queue are distinct.
+//! A call says of its closure all that the closure says of itself.
+//!
+//! ```text
+//! let ticket = shared.with(rt, Changes::NONE, draft, |world, draft| world.submit(draft));
+//! ```
+//!
+//! Who waits sleeps until a change is told ([`Change`]). So a call names the changes that its closure may make ([`Changes`]). Of completions and of
+//! what the controller can do the lock itself sees whether there are any. Nothing is written down: the memory does not grow.
+#![tactic(auto)]
+
+pub mod calls;
+mod changes;
+mod host;
+mod lock;
+mod machine;
+mod serving;
+mod world;
+
+pub use changes::{Change, Changes};
+pub use lock::Shared;
+pub use machine::Machine;
+pub use serving::ServedStep;

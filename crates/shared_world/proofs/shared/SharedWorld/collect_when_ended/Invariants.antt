@@ -1,7 +1,0 @@
--- each time round, the world under the lock is sound
-use Rattle.std.specs.Sync.Mutex.{mutex_guard_value}
-use Rattle.machine_model.specs.Claims.{IsSound}
-use Rattle.shared_world.proofs.shared.SharedWorld.collect_when_ended.Given as goal
-
-abbrev pub invariant-loop : goal.invariant-loop
-invariant-loop g l = IsSound (mutex_guard_value l.locked).world.state
