@@ -7,8 +7,9 @@ use Rattle.clap.{proofs.{OnLiterals.clap_on_literals, WalkLemmas.both}, specs.Va
 use Rattle.clap.specs.Words.{AddsArg, App, Rule, app_of, rule_of, with_rule, ReadsOne, Text, HasKind, HasMatchesOf, IsAmong, Kinds, Row, fault_of, found_of, is_simple, is_simple_and_free, kind_of, rows_of, subcommand_name_of, subcommand_of, subcommand_rows_of, first_of}
 use Rattle.clap.specs.declared.{builder.{arg.Arg.Arg, command.Command.{Command, TheViews.out-Command}}, error.{Error.Error, kind.ErrorKind.ErrorKind}}
 use Rattle.clap.specs.declared.{error.kind.ErrorKind.TheVariants.OutOfMemory, parser.matches.ArgMatches.{ArgMatches, TheViews.{out-ArgMatches, out-SubCommand}}}
-use Rattle.command_line.specs.Asked.{number, Asked, are_submitters, asked, asked_by, if_submitters, unless_at_fault, Given, amount_under, are_load_numbers, blocks_in, count_in, depth_in, given_in, has_flag, load, load_by, loaded_in, log_limit_in, number_under, numjobs_in, pattern_in}
+use Rattle.command_line.specs.Asked.{number, Asked, are_submitters, asked, asked_by, if_submitters, unless_at_fault, Given, amount_under, are_load_numbers, blocks_in, count_in, depth_in, given_in, has_flag, load, load_by, loaded_in, log_limit_in, number_under, numjobs_in, pattern_in, serving_in}
 use Rattle.command_line.specs.Commands.{nvmesgl}
+use Rattle.command_line.specs.declared.serving.Serving.{Serving}
 use Rattle.script_cli.specs.declared.workload.Pattern.{Pattern}
 
 -- What adding an argument makes of a command.
@@ -158,10 +159,10 @@ unnamed_asks a words m is kinds matches none =
 
 -- What `load` asks for, by what was read of its words.
 
--- numbers in their ranges, a pattern and all else are what is asked for
-pub load_asked : (rows : List Row) (pattern : Pattern) (blocks submitters depth seed : ℕ) (limit count runtime : Option ℕ) (verify quiet : Bool) (stats : Option Text) (given : Given)
+-- numbers in their ranges, a pattern, who serves and all else are what is asked for
+pub load_asked : (rows : List Row) (pattern : Pattern) (blocks submitters depth seed : ℕ) (limit count runtime : Option ℕ) (verify quiet : Bool) (stats : Option Text) (given : Given) (who : Serving)
     → blocks ≡ blocks_in rows → submitters ≡ numjobs_in rows → depth ≡ depth_in rows → limit ≡ log_limit_in rows → are_load_numbers blocks submitters depth limit ≡ true
-    → Some pattern ≡ pattern_in rows → given ≡ given_in rows → seed ≡ number_under (codes "seed") 1 rows → count ≡ count_in rows → runtime ≡ amount_under (codes "runtime") rows
+    → Some pattern ≡ pattern_in rows → Some who ≡ serving_in rows → given ≡ given_in rows → seed ≡ number_under (codes "seed") 1 rows → count ≡ count_in rows → runtime ≡ amount_under (codes "runtime") rows
     → verify ≡ has_flag (codes "verify") rows → quiet ≡ has_flag (codes "quiet") rows → stats ≡ first_of (codes "stats") rows
     → load_by rows ≡ Some (load given (record {
       pattern = pattern;
@@ -175,10 +176,10 @@ pub load_asked : (rows : List Row) (pattern : Pattern) (blocks submitters depth 
       verify = verify;
       quiet = quiet;
       stats = stats;
-    }))
-load_asked rows pattern blocks submitters depth seed limit count runtime verify quiet stats given b s d l fits named gives seeds counts runs verifies quiets saves =
+    }) who)
+load_asked rows pattern blocks submitters depth seed limit count runtime verify quiet stats given who b s d l fits named serves gives seeds counts runs verifies quiets saves =
     let numbers : are_load_numbers (blocks_in rows) (numjobs_in rows) (depth_in rows) (log_limit_in rows) ≡ true =
     sym (ap₂ (λ (x : ℕ) (y : ℕ). are_load_numbers x y (depth_in rows) (log_limit_in rows)) b s)
     ∙ (sym (ap₂ (λ (x : ℕ) (y : Option ℕ). are_load_numbers blocks submitters x y) d l) ∙ fits) in
-    ap (λ (t : Bool). if t then option_map (λ p. load (given_in rows) (loaded_in rows p)) (pattern_in rows) else None) numbers
-    ∙ (ap (λ (o : Option Pattern). option_map (λ p. load (given_in rows) (loaded_in rows p)) o) (sym named) ∙ rw (b, s, d, l, gives, seeds, counts, runs, verifies, quiets, saves) refl)
+    ap (λ (t : Bool). if t then option_and_then (λ p. option_map (load (given_in rows) (loaded_in rows p)) (serving_in rows)) (pattern_in rows) else None) numbers
+    ∙ (ap₂ (λ (o : Option Pattern) (s : Option Serving). option_and_then (λ p. option_map (load (given_in rows) (loaded_in rows p)) s) o) (sym named) (sym serves) ∙ rw (b, s, d, l, gives, seeds, counts, runs, verifies, quiets, saves) refl)

@@ -3,10 +3,11 @@ use Rattle.std.specs.{Borrow.Bor, Option.option_map_or}
 use Rattle.std.specs.Prelude.{◌^◌, ◌≤◌, ◌&&◌, ⊤, ℕ, Bool, List, [], ◌∷◌, Option, Some, None, codes, option_map, option_and_then, unwrap_or, map, true, false, nat_lt, nat_le, if◌then◌else◌}
 use Rattle.std.specs.Str.{bytes_eq, Parse.{digits_value, without_leading_plus}}
 use Rattle.clap.specs.{ValueTests.is_numeral, Words.{Kinds, Row, Text, all_of, fault_of, first_of, one_of, subcommand_of}}
-use Rattle.command_line.specs.{Commands.nvmesgl, declared.{arguments.{CommandLine.CommandLine, Options.Options, Testing.Testing}, threads.Threading.Threading}}
+use Rattle.command_line.specs.{Commands.nvmesgl, declared.{arguments.{CommandLine.CommandLine, Options.Options, Testing.Testing}, serving.Serving.Serving, threads.Threading.Threading}}
 use Rattle.host_core.specs.declared.config.Config.{Config}
 use Rattle.script_cli.specs.{Loads.FitsLoad, Patterns.pattern_named, declared.workload.{Load.Load, Pattern.Pattern}}
 use Rattle.command_line.specs.declared.arguments.CommandLine.TheVariants as line
+use Rattle.command_line.specs.declared.serving.Serving.TheVariants as serving
 
 -- The options of a command, by what was found for each: a row of the words' values, or of the usual value
 
@@ -108,6 +109,17 @@ is_limit (Some entries) = nat_le 1 entries
 abbrev pub is_threading : Threading → Bool
 is_threading what = is_within 1 16 what.submitters && (is_within 1 256 what.depth && is_limit what.log_limit)
 
+-- who has a word
+abbrev pub serving_named : Text → Option Serving
+serving_named text =
+    if bytes_eq text (codes "ringer") then Some serving.Ringer
+    else if bytes_eq text (codes "controller") then Some serving.Controller
+    else None
+
+-- who is asked to serve
+abbrev pub serving_in : List Row → Option Serving
+serving_in rows = option_and_then serving_named (first_of (codes "serve") rows)
+
 -- What is loaded
 
 -- what a load is made of, beside its world
@@ -170,8 +182,8 @@ loaded_in rows pattern = record {
 pub data Asked : Type 0 where
   steps : Given → Asked
   traced : Given → Asked
-  threads : Given → Threading → Asked
-  load : Given → Loaded → Asked
+  threads : Given → Threading → Serving → Asked
+  load : Given → Loaded → Serving → Asked
   check : Option Text → Asked
   check_jobs : Option Text → ℕ → Asked
   test : Tested → Asked
@@ -203,7 +215,7 @@ if_submitters n wanted = if are_submitters n then Some (wanted n) else None
 
 -- what `threads` with these rows asks for
 abbrev pub threads_by : List Row → Option Asked
-threads_by rows = if is_threading (threading_in rows) then Some (threads (given_in rows) (threading_in rows)) else None
+threads_by rows = if is_threading (threading_in rows) then option_map (threads (given_in rows) (threading_in rows)) (serving_in rows) else None
 
 -- what `check` with these rows asks for
 abbrev pub check_by : List Row → Option Asked
@@ -213,7 +225,8 @@ check_by rows =
 -- what `load` with these rows asks for
 abbrev pub load_by : List Row → Option Asked
 load_by rows =
-    if are_load_numbers (blocks_in rows) (numjobs_in rows) (depth_in rows) (log_limit_in rows) then option_map (λ pattern. load (given_in rows) (loaded_in rows pattern)) (pattern_in rows)
+    if are_load_numbers (blocks_in rows) (numjobs_in rows) (depth_in rows) (log_limit_in rows) then
+    option_and_then (λ pattern. option_map (load (given_in rows) (loaded_in rows pattern)) (serving_in rows)) (pattern_in rows)
     else None
 
 -- what a named command with these rows asks for
@@ -272,8 +285,8 @@ loaded_of what = record {
 abbrev pub asked_of : CommandLine → Asked
 asked_of (line.Steps options) = steps (given_of options)
 asked_of (line.Traced options) = traced (given_of options)
-asked_of (line.Threads options what) = threads (given_of options) what
-asked_of (line.Load options what) = load (given_of options) (loaded_of what)
+asked_of (line.Threads options what who) = threads (given_of options) what who
+asked_of (line.Load options what who) = load (given_of options) (loaded_of what) who
 asked_of (line.Check script) = check (path_of script)
 asked_of (line.CheckJobs script submitters) = check_jobs (path_of script) submitters
 asked_of (line.Test testing) = test (tested_of testing)
@@ -294,8 +307,8 @@ pub record FitsThreading (what : Threading) : Type 0 where
 abbrev pub FitsLine : CommandLine → Type 0
 FitsLine (line.Steps options) = ⊤
 FitsLine (line.Traced options) = ⊤
-FitsLine (line.Threads options what) = FitsThreading what
-FitsLine (line.Load options what) = FitsLoad what
+FitsLine (line.Threads options what who) = FitsThreading what
+FitsLine (line.Load options what who) = FitsLoad what
 FitsLine (line.Check script) = ⊤
 FitsLine (line.CheckJobs script submitters) = (1 ≤ submitters) × (submitters ≤ 16)
 FitsLine (line.Test testing) = ⊤

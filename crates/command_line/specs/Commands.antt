@@ -54,20 +54,22 @@ steps = with_options (with_rule
 abbrev pub optional_number_rule : Text → Rule
 optional_number_rule name = record (option_rule name) { parser = Some (Signed (pos 0) (pos 4294967295)) }
 
+-- an option with a value, with its usual value as a text
+abbrev pub text_rule : Text → Text → Rule
+text_rule name usual = record (option_rule name) { defaults = usual ∷ [] }
+
 -- how jobs are run
 abbrev pub with_threading : App → App
 with_threading command = with_rule
     (with_rule
+    (with_rule
     (with_rule command (number_rule (codes "submitters") (codes "2")))
     (number_rule (codes "depth") (codes "1")))
-    (optional_number_rule (codes "log-limit"))
+    (optional_number_rule (codes "log-limit")))
+    (text_rule (codes "serve") (codes "ringer"))
 
 abbrev pub threads : App
 threads = with_options (with_threading (new_app (codes "threads")))
-
--- an option with a value, with its usual value as a text
-abbrev pub text_rule : Text → Text → Rule
-text_rule name usual = record (option_rule name) { defaults = usual ∷ [] }
 
 -- what is loaded, in the order of the help text
 abbrev pub with_amounts : App → App
@@ -87,8 +89,10 @@ with_checks command = with_rule
     (with_rule
     (with_rule
     (with_rule
+    (with_rule
     (with_rule command (number_rule (codes "iodepth") (codes "1")))
     (optional_number_rule (codes "log-limit")))
+    (text_rule (codes "serve") (codes "ringer")))
     (number_rule (codes "seed") (codes "1")))
     (flag_rule (codes "verify")))
     (option_rule (codes "stats")))

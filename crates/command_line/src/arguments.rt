@@ -9,6 +9,7 @@ use crate::commands::{
     BLOCKS, ENTRIES, Number, PAGES, QUEUES, SEGMENT, SUBMITTERS, check_command, command,
 };
 use crate::load::load_line;
+use crate::serving::Serving;
 use crate::threads::{Threading, threads_line};
 use clap::error::ErrorKind;
 use clap::{ArgMatches, Command, Error};
@@ -61,9 +62,9 @@ pub enum CommandLine<'a> {
     /// To play a script of steps, and to tell what each moved.
     Traced(Options<'a>),
     /// To run the jobs of submitters in threads.
-    Threads(Options<'a>, Threading),
+    Threads(Options<'a>, Threading, Serving),
     /// To make jobs, and to run them in threads.
-    Load(Options<'a>, Load<'a>),
+    Load(Options<'a>, Load<'a>, Serving),
     /// To tell the faults of a script of steps, by its path as in [`Options`].
     Check(Option<&'a str>),
     /// To tell the faults of a script of jobs, by its path, for so many submitters, 1 to 16.

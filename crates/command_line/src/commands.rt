@@ -12,6 +12,7 @@ use crate::help::{
     TEST_AFTER, THREADS_ABOUT, THREADS_AFTER,
 };
 use crate::load_options::load_command;
+use crate::serving::serve_arg;
 use clap::{Arg, ArgAction, ArgMatches, Command, value_parser};
 use std::alloc::{AllocError, Global};
 
@@ -279,7 +280,8 @@ fn with_threading<'a>(alloc: Global, command: Command<'a>) -> Result<Command<'a>
     command
         .arg(SUBMITTERS.arg(alloc))?
         .arg(DEPTH.arg(alloc))?
-        .arg(LOG_LIMIT.optional_arg(alloc))
+        .arg(LOG_LIMIT.optional_arg(alloc))?
+        .arg(serve_arg(alloc))
 }
 
 /// The command that runs jobs in threads.

@@ -73,8 +73,9 @@ lines; all share one pool. With --depth it has several of them in flight, and ta
 that order; those that are in flight together have no order, so a Read may bring what stood there
 before a Write that stands above it. With --log-limit the jobs are done in rounds, of each submitter
 one job at least, and what is kept of a round to check it by is dropped at its end; what is printed is
-the same. The script is read and checked whole before its first job. A refused job is an answer too:
-the run goes on, and its exit status is 0.";
+the same. A submitter that rings serves what it can at once, and a controller in a thread of its own
+what is left; with --serve controller that thread serves alone. The script is read and checked whole
+before its first job. A refused job is an answer too: the run goes on, and its exit status is 0.";
 
 /// What `nvmesgl threads --help` says last.
 pub const THREADS_AFTER: &str = "A script has one job on each line; `#` begins a comment.
@@ -111,7 +112,8 @@ and how often it was written. A refused command, or one whose status is not 0:00
 the run goes on.
 
 The commands are made and done in rounds, and of a round nothing is kept but counts. What is kept to
-check a round by is dropped at its end: --log-limit says how many entries of it there may be.";
+check a round by is dropped at its end: --log-limit says how many entries of it there may be. --serve
+says who serves, as in `nvmesgl threads`; the line is the same.";
 
 /// What `nvmesgl load --help` says last.
 pub const LOAD_AFTER: &str =
@@ -121,8 +123,8 @@ each slot that was written is read once more at the end. One line says how it we
 Without --runtime it is the same for the same words. `done` are commands with status 0:00, and
 `verified` reads that brought what stands there. The reads at the end are none of those `done`.
 
-Times go to standard error: commands and MiB a second, and the latencies, from the submission of a
-command until its pages are free again. --stats writes them as JSON, with the words of fio.
+Times go to standard error: commands and MiB a second, and the latencies, from when a command has
+its pages until these are free again. --stats writes them as JSON, with the words of fio.
 
 Example:
   nvmesgl load --rw randrw --bs 8 --count 100000 --numjobs 4 --iodepth 8 --verify --pages 256 --entries 16 --blocks 4096

@@ -10,10 +10,12 @@ mod help;
 mod load;
 mod load_options;
 mod ranges;
+mod serving;
 mod threads;
 pub mod worked;
 
 pub use arguments::{CommandLine, Options, Testing, words};
 pub use commands::VERSION;
 pub use ranges::Ranged;
+pub use serving::Serving;
 pub use threads::Threading;

@@ -8,6 +8,7 @@ ghost use Rattle.command_line.specs.Asked.{are_load_numbers, asked_of, count_in,
 use crate::arguments::{CommandLine, Options, amount, flag, out_of_range};
 use crate::commands::{LOG_LIMIT, Number};
 use crate::load_options::{COMMAND_BLOCKS, DEPTH, SEED, SUBMITTERS, USUAL_COUNT, load_command};
+use crate::serving::{nobody, who_serves};
 use clap::error::ErrorKind;
 use clap::{ArgMatches, Error};
 use script_cli::workload::{Load, Pattern};
@@ -85,6 +86,10 @@ pub(crate) fn load_line<'a>(alloc: Global, given: &ArgMatches<'a>) -> Result<Com
     let Some(pattern) = pattern_of(given) else {
         return Err(no_pattern(alloc, given)?);
     };
+    let Some(serving) = who_serves(given) else {
+        let command = load_command(alloc)?.bin_name("nvmesgl load")?;
+        return Err(nobody(alloc, given, command)?);
+    };
     let load = Load {
         pattern,
         command_blocks: blocks,
@@ -98,5 +103,5 @@ pub(crate) fn load_line<'a>(alloc: Global, given: &ArgMatches<'a>) -> Result<Com
         quiet: flag(given, "quiet"),
         stats: given.get_str("stats"),
     };
-    Ok(CommandLine::Load(Options::of(given), load))
+    Ok(CommandLine::Load(Options::of(given), load, serving))
 }

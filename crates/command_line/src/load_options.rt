@@ -7,6 +7,7 @@ ghost use Rattle.command_line.specs.Commands.{flag_rule, load, option_rule, text
 
 use crate::commands::{LOG_LIMIT, Number, image_arg, with_sizes};
 use crate::help::{LOAD_ABOUT, LOAD_AFTER};
+use crate::serving::serve_arg;
 use clap::{Arg, ArgAction, Command};
 use std::alloc::{AllocError, Global};
 
@@ -110,7 +111,7 @@ fn with_amounts<'a>(alloc: Global, command: Command<'a>) -> Result<Command<'a>, 
         .arg(SUBMITTERS.arg(alloc))
 }
 
-/// A command with how deep it goes, what it checks and what it tells.
+/// A command with how it is run, what it checks and what it tells.
 fn with_checks<'a>(alloc: Global, command: Command<'a>) -> Result<Command<'a>, AllocError>
     ensures shape { IfOk result (λ whole. app_of whole ≡ with_checks (app_of command.entry)) }
     ensures local { IfOk result (λ whole. (out-Command whole).has_globals ≡ (out-Command command.entry).has_globals) }
@@ -118,6 +119,7 @@ fn with_checks<'a>(alloc: Global, command: Command<'a>) -> Result<Command<'a>, A
     command
         .arg(DEPTH.arg(alloc))?
         .arg(LOG_LIMIT.optional_arg(alloc))?
+        .arg(serve_arg(alloc))?
         .arg(SEED.arg(alloc))?
         .arg(flag_arg(
             alloc,

@@ -7,6 +7,7 @@ ghost use Rattle.command_line.specs.Asked.{asked_of, FitsLine, is_threading, thr
 
 use crate::arguments::{CommandLine, Options, amount, out_of_range};
 use crate::commands::{DEPTH, LOG_LIMIT, Number, SUBMITTERS, threads_command};
+use crate::serving::{nobody, who_serves};
 use clap::{ArgMatches, Error};
 use std::alloc::Global;
 
@@ -54,10 +55,14 @@ pub(crate) fn threads_line<'a>(
         let command = threads_command(alloc)?.bin_name("nvmesgl threads")?;
         return Err(out_of_range(alloc, &number, value, command)?);
     }
+    let Some(serving) = who_serves(given) else {
+        let command = threads_command(alloc)?.bin_name("nvmesgl threads")?;
+        return Err(nobody(alloc, given, command)?);
+    };
     let threading = Threading {
         submitters: submitters as u16,
         depth: depth as u16,
         log_limit,
     };
-    Ok(CommandLine::Threads(Options::of(given), threading))
+    Ok(CommandLine::Threads(Options::of(given), threading, serving))
 }

@@ -2,24 +2,25 @@
 
 ghost use Rattle.std.specs.Prelude.{◌≡◌, ℕ, List, None, Some, [], ◌∷◌, ◌++◌, false, true, codes};
 ghost use Rattle.command_line.specs.Asked.{asked, check, check_jobs, draw, explain, grammar, shell, show, steps, test, threads, traced};
+ghost use Rattle.command_line.specs.declared.serving.Serving.TheVariants.{Controller, Ringer};
 ghost use Rattle.command_line.specs.Worked.{alone, check_with, extreme, extreme_words, mixed, mixed_words, one_file, steps_with, test_with, threads_with, usual};
 
 /// Each option is what its words say, and its usual value where there are none.
 #[tactic(auto, unfolding(clap::proofs::OnLiterals::clap_on_literals))]
 pub fn options_are_taken()
     ensures usual_steps { asked (steps_with []) ≡ Some (steps usual) }
-    ensures usual_threads { asked (threads_with []) ≡ Some (threads usual (alone 2)) }
+    ensures usual_threads { asked (threads_with []) ≡ Some (threads usual (alone 2) Ringer) }
     ensures extreme_steps { asked (steps_with extreme_words) ≡ Some (steps extreme) }
-    ensures extreme_threads { asked (threads_with (codes "--submitters" ∷ codes "16" ∷ extreme_words)) ≡ Some (threads extreme (alone 16)) }
+    ensures extreme_threads { asked (threads_with (codes "--submitters" ∷ codes "16" ∷ extreme_words)) ≡ Some (threads extreme (alone 16) Ringer) }
     ensures mixed_steps { asked (steps_with mixed_words) ≡ Some (steps mixed) }
-    ensures mixed_threads { asked (threads_with (mixed_words ++ codes "--submitters=1" ∷ [])) ≡ Some (threads mixed (alone 1)) }
+    ensures mixed_threads { asked (threads_with (mixed_words ++ codes "--submitters=1" ∷ [])) ≡ Some (threads mixed (alone 1) Ringer) }
 {}
 
 /// A script is a word that belongs to no option, before, behind or between them.
 #[tactic(auto, unfolding(clap::proofs::OnLiterals::clap_on_literals))]
 pub fn scripts_are_words()
     ensures alone { asked (steps_with (codes "read.script" ∷ [])) ≡ Some (steps (record usual { script = Some (codes "read.script") })) }
-    ensures dash { asked (threads_with (codes "-" ∷ [])) ≡ Some (threads (record usual { script = Some (codes "-") }) (alone 2)) }
+    ensures dash { asked (threads_with (codes "-" ∷ [])) ≡ Some (threads (record usual { script = Some (codes "-") }) (alone 2) Ringer) }
     ensures before { asked (steps_with (codes "a" ∷ codes "--blocks=64" ∷ [])) ≡ Some (steps (record usual { script = Some (codes "a") })) }
     ensures behind { asked (steps_with (codes "--blocks" ∷ codes "64" ∷ codes "--" ∷ codes "--a" ∷ [])) ≡ Some (steps (record usual { script = Some (codes "--a") })) }
 {}
@@ -105,10 +106,20 @@ pub fn numbers_are_read()
     ensures hexadecimal { asked (steps_with (codes "--queues" ∷ codes "0x2" ∷ [])) ≡ None }
     ensures too_large { asked (steps_with (codes "--queues" ∷ codes "4294967296" ∷ [])) ≡ None }
     ensures largest { asked (steps_with (codes "--blocks" ∷ codes "4294967295" ∷ [])) ≡ Some (steps (record usual { blocks = 4294967295 })) }
-    ensures deep { asked (threads_with (codes "--depth=256" ∷ codes "--log-limit" ∷ codes "1" ∷ [])) ≡ Some (threads usual (record { submitters = 2; depth = 256; log_limit = Some 1 })) }
+    ensures deep { asked (threads_with (codes "--depth=256" ∷ codes "--log-limit" ∷ codes "1" ∷ [])) ≡ Some (threads usual (record { submitters = 2; depth = 256; log_limit = Some 1 }) Ringer) }
     ensures no_depth { asked (threads_with (codes "--depth" ∷ codes "0" ∷ [])) ≡ None }
     ensures too_deep { asked (threads_with (codes "--depth" ∷ codes "257" ∷ [])) ≡ None }
     ensures no_entries { asked (threads_with (codes "--log-limit" ∷ codes "0" ∷ [])) ≡ None }
     ensures no_submitters { asked (threads_with (codes "--submitters" ∷ codes "0" ∷ [])) ≡ None }
     ensures many_submitters { asked (threads_with (codes "--submitters" ∷ codes "17" ∷ [])) ≡ None }
+{}
+
+/// Who rings serves, or the controller's thread where that is asked for.
+#[tactic(auto, unfolding(clap::proofs::OnLiterals::clap_on_literals))]
+pub fn servers_are_named()
+    ensures ringer { asked (threads_with (codes "--serve=ringer" ∷ [])) ≡ Some (threads usual (alone 2) Ringer) }
+    ensures controller { asked (threads_with (codes "--serve" ∷ codes "controller" ∷ [])) ≡ Some (threads usual (alone 2) Controller) }
+    ensures nobody { asked (threads_with (codes "--serve" ∷ codes "poller" ∷ [])) ≡ None }
+    ensures no_word { asked (threads_with (codes "--serve" ∷ [])) ≡ None }
+    ensures steps { asked (steps_with (codes "--serve=ringer" ∷ [])) ≡ None }
 {}

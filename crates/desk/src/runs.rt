@@ -5,7 +5,9 @@ ghost use Rattle.step_core.specs.Opening.{opening_of};
 
 use block_image::Image;
 use driver_book::{Book, LogBrand, ReportIn};
-use driver_threads::{Gate, Job, JobEnd, JobEndIn, JobEnds, JobIn, Ran, RunFault, run_threads};
+use driver_threads::{
+    Gate, Job, JobEnd, JobEndIn, JobEnds, JobIn, Ran, RunFault, Server, run_threads,
+};
 use entry_codec::Status;
 use io_commands::{Kind, Piece, Pieces, Request};
 use page_ledger::Owner;
@@ -68,6 +70,7 @@ fn outcome_of<
     image: Image<A>,
     jobs: Vec<Vec<JobIn<A>, A>, A>,
     depth: usize,
+    server: Server,
     gate: &G,
     blank: Blank,
 ) -> Result<Outcome<A>, RunFault>
@@ -80,7 +83,7 @@ fn outcome_of<
     requires at_least_one { 1 ≤ depth }
     requires at_most { depth ≤ 256 }
 {
-    let ran: Ran<L, A> = run_threads(rt, alloc, config, image, jobs, depth, gate, blank)?;
+    let ran: Ran<L, A> = run_threads(rt, alloc, config, image, jobs, depth, server, gate, blank)?;
     let Ran { report, jobs, book } = ran;
     Ok(Outcome {
         report,
@@ -91,7 +94,7 @@ fn outcome_of<
     })
 }
 
-/// Runs jobs over a new book, whose image has so many zero blocks, each submitter with so many in flight at most.
+/// Runs jobs over a new book, whose image has so many zero blocks, each submitter with so many in flight at most, where this one serves.
 pub fn play_at<A: Allocator + Copy + Send + Sync, G: Gate + Sync, R: Threads + Wait + Sync>(
     rt: &R,
     alloc: A,
@@ -99,6 +102,7 @@ pub fn play_at<A: Allocator + Copy + Send + Sync, G: Gate + Sync, R: Threads + W
     blocks: u32,
     jobs: Vec<Vec<JobIn<A>, A>, A>,
     depth: usize,
+    server: Server,
     gate: &G,
 ) -> Result<Outcome<A>, RunFault>
     requires some { 1 ≤ vec_len jobs }
@@ -116,12 +120,13 @@ pub fn play_at<A: Allocator + Copy + Send + Sync, G: Gate + Sync, R: Threads + W
         image,
         jobs,
         depth,
+        server,
         gate,
         Blank::new(65536),
     )
 }
 
-/// Runs jobs one after the other for each submitter, over a new book, whose image has so many zero blocks.
+/// Runs jobs one after the other for each submitter, over a new book, whose image has so many zero blocks. Who rings serves.
 pub fn play<A: Allocator + Copy + Send + Sync, G: Gate + Sync, R: Threads + Wait + Sync>(
     rt: &R,
     alloc: A,
@@ -133,7 +138,7 @@ pub fn play<A: Allocator + Copy + Send + Sync, G: Gate + Sync, R: Threads + Wait
     requires some { 1 ≤ vec_len jobs }
     requires few { vec_len jobs ≤ 16 }
 {
-    play_at(rt, alloc, config, blocks, jobs, 1, gate)
+    play_at(rt, alloc, config, blocks, jobs, 1, Server::Ringer, gate)
 }
 
 /// So many pieces of one block each.

@@ -6,7 +6,6 @@ ghost use Rattle.std.specs.Sync.Mutex.{mutex_guard_value};
 ghost use Rattle.driver_book.specs.Calls.{is_open_for};
 ghost use Rattle.driver_threads.specs.Ends.{status_of as spec_status_of, Awaits, EndsWith, refuses};
 
-use crate::changes::Changes;
 use crate::gate::{Gate, Point};
 use crate::jobs::{JobEnd, JobEndIn, JobRefusal};
 use crate::shared::Shared;
@@ -106,7 +105,7 @@ fn halt_of(why: Refusal) -> Halt {
     }
 }
 
-/// Submits a draft for a seat and rings its queue, while the lock is held once.
+/// Submits a draft for a seat and rings its queue, while the lock is held once. Where who rings serves, it does so in the same hold.
 pub(crate) fn submitted<L: LogBrand, A: Allocator + Copy, R: Wait>(
     rt: &R,
     shared: &Shared<L, A>,
@@ -130,7 +129,10 @@ pub(crate) fn submitted<L: LogBrand, A: Allocator + Copy, R: Wait>(
         drop(ticket.apart());
         return Err(Halt::Memory);
     }
-    shared.leave(locked, Changes::RUNG);
+    if shared.leave_rung(locked).is_err() {
+        drop(ticket.apart());
+        return Err(Halt::Memory);
+    }
     Ok(ticket)
 }
 

@@ -22,7 +22,7 @@ impl<L: LogBrand, A: Allocator + Copy> Shared<L, A> {
     {
         let mut locked = self.lock(rt);
         let answer = locked.book.fetch(q);
-        self.leave(locked, Changes::RUNG);
+        self.leave(locked, Changes::WRITTEN);
         answer
     }
 

@@ -8,8 +8,8 @@ ghost use Rattle.machine_model.specs.Events as events;
 ghost use Rattle.step_core.specs.Replies.{reserve_reply, accept_reply, collect_reply, ring_reply, reap_reply};
 
 use crate::changes::Changes;
+use crate::serving::changed_by;
 use crate::shared::Shared;
-use crate::waits::changed_by;
 use driver_book::{LogBrand, Seat};
 use io_commands::{Draft, Finished, Request, Ticket};
 use std::alloc::Allocator;

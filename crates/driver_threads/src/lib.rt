@@ -11,6 +11,8 @@
 //! All of it stands in the memory of the allocator with which the book was opened, from which threads take memory side by side: it is
 //! `Send` and `Sync` where threads are started, and [`Global`](std::alloc::Global) where none is named.
 //!
+//! Who rings serves, or the controller alone does: a [`Server`] says so of a run.
+//!
 //! [`run_threads`] opens a book, runs submitters over it with a poller and a controller, each in a thread of its own, and closes it.
 //! [`run_round`] does so over a world that is there, and gives the log and the world out: rounds that go on each over the world of the one before need no
 //! more memory than the longest of them.
@@ -25,6 +27,7 @@ mod gate;
 mod host;
 mod jobs;
 mod run;
+mod serving;
 mod shared;
 mod waits;
 mod workers;
@@ -32,5 +35,6 @@ mod workers;
 pub use gate::{Gate, GateClosed, Open, Point};
 pub use jobs::{Job, JobEnd, JobEndIn, JobEnds, JobIn, JobRefusal, Ran, Round, RunFault};
 pub use run::{run_round, run_threads};
+pub use serving::Server;
 pub use shared::Shared;
 pub use workers::{Worked, controller, poller, submitter};

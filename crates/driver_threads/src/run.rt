@@ -10,6 +10,7 @@ ghost use Rattle.step_core.specs.Opening.{opening_of};
 
 use crate::gate::Gate;
 use crate::jobs::{JobEndIn, JobEnds, JobIn, Ran, Round, RunFault};
+use crate::serving::Server;
 use crate::shared::Shared;
 use crate::workers::{Worked, controller, poller, submitter};
 use block_image::Image;
@@ -317,7 +318,7 @@ fn carry_on<L: LogBrand, A: Allocator + Copy>(
     }
 }
 
-/// Runs submitters, a poller and a controller over a book: the book, and what the submitters hand in.
+/// Runs submitters, a poller and a controller over a shared book: the book, and what the submitters hand in.
 fn work_over<
     L: LogBrand + Send + Sync,
     A: Allocator + Copy + Send + Sync,
@@ -326,7 +327,7 @@ fn work_over<
 >(
     rt: &R,
     alloc: A,
-    book: Book<L, A>,
+    shared: Shared<L, A>,
     gate: &G,
     jobs: Vec<Vec<JobIn<A>, A>, A>,
     depth: Depth,
@@ -337,7 +338,6 @@ fn work_over<
     let Ok(many) = lengths(alloc, &jobs) else {
         return Err(Failure::Memory);
     };
-    let shared = Shared::new(book);
     let work = run_workers(rt, alloc, &shared, gate, jobs, depth)?;
     if let Some(worker) = first_closed(&work.workers) {
         return Err(Failure::GateClosed { worker });
@@ -346,7 +346,7 @@ fn work_over<
     Ok((shared.end(), hand))
 }
 
-/// Runs submitters, a poller and a controller over a book, and closes it.
+/// Runs submitters, a poller and a controller over a shared book, and closes it.
 fn run_over<
     L: LogBrand + Send + Sync,
     A: Allocator + Copy + Send + Sync,
@@ -355,7 +355,7 @@ fn run_over<
 >(
     rt: &R,
     alloc: A,
-    book: Book<L, A>,
+    shared: Shared<L, A>,
     gate: &G,
     jobs: Vec<Vec<JobIn<A>, A>, A>,
     depth: Depth,
@@ -365,11 +365,11 @@ fn run_over<
     ensures agree { IfOk result (λ ran. AllAgree ran.report.receipts ran.jobs) }
     ensures jobs { IfOk result (λ ran. OnTrue L.jobs_alone (AreOfJobs ran.book.log)) }
 {
-    let (book, hand) = work_over(rt, alloc, book, gate, jobs, depth)?;
+    let (book, hand) = work_over(rt, alloc, shared, gate, jobs, depth)?;
     close(book, hand)
 }
 
-/// Runs submitters, a poller and a controller over a book, closes it, and gives its log and its world.
+/// Runs submitters, a poller and a controller over a shared book, closes it, and gives its log and its world.
 fn round_over<
     L: LogBrand + Send + Sync,
     A: Allocator + Copy + Send + Sync,
@@ -378,7 +378,7 @@ fn round_over<
 >(
     rt: &R,
     alloc: A,
-    book: Book<L, A>,
+    shared: Shared<L, A>,
     gate: &G,
     jobs: Vec<Vec<JobIn<A>, A>, A>,
     depth: Depth,
@@ -388,13 +388,13 @@ fn round_over<
     ensures agree { IfOk result (λ round. AllAgree round.report.receipts round.jobs) }
     ensures jobs { IfOk result (λ round. OnTrue L.jobs_alone (AreOfJobs round.log.entries)) }
 {
-    let (book, hand) = work_over(rt, alloc, book, gate, jobs, depth)?;
+    let (book, hand) = work_over(rt, alloc, shared, gate, jobs, depth)?;
     carry_on(book, hand)
 }
 
 /// Opens a book, runs a submitter for each list of jobs, a poller and a controller over it in threads of their own, and closes it with the
 /// submitters' seats. A list's place, from 0, is the worker of its submitter. Each submitter has at most `depth` jobs, 1 to 256, in flight at a
-/// time.
+/// time. `server` says who serves as the submitters ring.
 ///
 /// A job's command ended as its receipt in the report says, and so as the log does. Where the driver takes the steps of jobs alone, the log
 /// has no others: so the run is trusted from its opening to its end, and the laws of trusted runs speak of its Reads, Writes and Compares.
@@ -416,6 +416,7 @@ pub fn run_threads<
     image: Image<A>,
     jobs: Vec<Vec<JobIn<A>, A>, A>,
     depth: usize,
+    server: Server,
     gate: &G,
     blank: Blank,
 ) -> Result<Ran<L, A>, RunFault>
@@ -447,8 +448,9 @@ pub fn run_threads<
             };
         }
     };
+    let shared = Shared::served_by(server, book);
     let depth = Depth { jobs: depth };
-    match run_over(rt, alloc, book, gate, jobs, depth) {
+    match run_over(rt, alloc, shared, gate, jobs, depth) {
         Ok(ran) => Ok(ran),
         Err(failure) => Err(fault_of(failure)),
     }
@@ -476,6 +478,7 @@ pub fn run_round<
     world: World<A>,
     jobs: Vec<Vec<JobIn<A>, A>, A>,
     depth: usize,
+    server: Server,
     gate: &G,
     blank: Blank,
 ) -> Result<Round<A>, RunFault>
@@ -494,8 +497,9 @@ pub fn run_round<
     ensures refused { IfErr result IsAfterOpening }
 {
     let book = Book::<L, A>::over(alloc, world, blank);
+    let shared = Shared::served_by(server, book);
     let depth = Depth { jobs: depth };
-    match round_over(rt, alloc, book, gate, jobs, depth) {
+    match round_over(rt, alloc, shared, gate, jobs, depth) {
         Ok(round) => Ok(round),
         Err(failure) => Err(fault_of(failure)),
     }

@@ -6,6 +6,7 @@ ghost use Rattle.driver_book.specs.State.{BookContents};
 ghost use Rattle.driver_threads.specs.Sharing.{IsBookOf, Seated, GivesNoSeat, Stops, TellsStopping, TellsOwner, Counted, Closes, StaysOpen};
 
 use crate::changes::{Change, Changes, Condvars};
+use crate::serving::Server;
 use driver_book::{Book, CloseRefused, LogBrand, NoSeat, ReportIn, Seat};
 use page_ledger::{Counts, Owner};
 use page_memory::PageNo;
@@ -29,17 +30,25 @@ pub(crate) struct Locked<L: LogBrand, A: Allocator> {
 pub struct Shared<L: LogBrand, A: Allocator = Global> {
     locked: Mutex<Locked<L, A>>,
     condvars: Condvars,
+    /// Who serves behind the ring of a submitter.
+    pub(crate) server: Server,
 }
 
 impl<L: LogBrand, A: Allocator + Copy> Shared<L, A> {
-    /// Puts a book under a lock.
+    /// Puts a book under a lock. A controller and a poller alone serve and reap there.
     pub fn new(book: Book<L, A>) -> Self {
+        Shared::served_by(Server::Controller, book)
+    }
+
+    /// Puts a book under a lock, where this one serves.
+    pub(crate) fn served_by(server: Server, book: Book<L, A>) -> Self {
         Shared {
             locked: Mutex::new(Locked {
                 book,
                 awaited: Changes::NONE,
             }),
             condvars: Condvars::new(),
+            server,
         }
     }
 
@@ -152,6 +161,7 @@ impl<L: LogBrand, A: Allocator + Copy> Shared<L, A> {
         let Shared {
             locked,
             condvars: _,
+            server: _,
         } = self;
         let Locked { book, awaited: _ } = locked.into_inner();
         book

@@ -4,14 +4,15 @@
 ghost use Rattle.std.specs.Prelude.{◌≡◌, true, false, IfOk, IfErr};
 ghost use Rattle.driver_threads.specs.Ends.{refuses};
 
-use crate::changes::{Change, Changes};
+use crate::changes::Change;
 use crate::jobs::JobRefusal;
-use crate::shared::{Locked, Shared};
+use crate::serving::{MOST_OF_A_WORKER, reap_some, serve_some};
+use crate::shared::Shared;
 use driver_book::{Book, LogBrand};
 use io_commands::{Draft, Finished, Request, Ticket};
 use std::alloc::{AllocError, Allocator};
 use std::sync::Wait;
-use step_core::{ControllerStep, Reaped, Refusal};
+use step_core::Refusal;
 
 /// Why a submitter does not go on with a job.
 #[derive(Clone, Copy, Debug, PartialEq, Eq)]
@@ -116,126 +117,6 @@ fn collected<L: LogBrand, A: Allocator + Copy>(
     }
 }
 
-/// The most steps that a poller or a controller makes while it holds the lock once.
-const MOST_STEPS: u32 = 16;
-
-/// Steps that were made while the lock was held once.
-#[derive(Clone, Copy)]
-struct Steps {
-    /// Whether there was any.
-    any: bool,
-    /// What they may have changed.
-    changes: Changes,
-    /// Whether memory was refused to the last one.
-    short: bool,
-}
-
-/// No step.
-const NO_STEPS: Steps = Steps {
-    any: false,
-    changes: Changes::NONE,
-    short: false,
-};
-
-impl Steps {
-    /// These, and one more that came to this end.
-    fn with(self, end: Result<Changes, Refusal>) -> Steps {
-        match end {
-            Ok(changes) => Steps {
-                any: true,
-                changes: self.changes.and(changes),
-                short: false,
-            },
-            Err(why) => Steps {
-                any: true,
-                changes: self.changes,
-                short: matches!(why, Refusal::Memory),
-            },
-        }
-    }
-}
-
-/// What a reap may have changed: its command ended, and there may be room in its queue for a completion. An admin command that ended may have
-/// changed a queue.
-pub(crate) fn changed_by(q: u16, what: &Reaped) -> Changes {
-    match what {
-        Reaped::Done { cid, .. } => { Changes::of(Change::end_of(q, *cid)).and(Changes::RUNG) }
-        Reaped::AdminDone { .. } => Changes::ALL,
-        Reaped::Rejected(_) => Changes::RUNG,
-        Reaped::Empty => Changes::NONE,
-    }
-}
-
-/// Reaps the completions that are there, as many as may be reaped at once.
-fn reap_some<L: LogBrand, A: Allocator + Copy>(book: &mut Book<L, A>) -> Steps {
-    let mut steps = NO_STEPS;
-    for _ in 0..MOST_STEPS {
-        let Some(q) = book.next_completion() else {
-            break;
-        };
-        let end = match book.reap(q) {
-            Ok(what) => Ok(changed_by(q, &what)),
-            Err(why) => Err(why),
-        };
-        steps = steps.with(end);
-        if steps.short {
-            break;
-        }
-    }
-    steps
-}
-
-/// Does a step of the controller. What it may have changed: once something was forged, a unit of a list too may write where completions stand.
-fn serve<L: LogBrand, A: Allocator + Copy>(
-    book: &mut Book<L, A>,
-    step: ControllerStep,
-) -> Result<Changes, Refusal> {
-    match step {
-        ControllerStep::Fetch { q } => match book.fetch(q) {
-            Ok(_) => Ok(Changes::NONE),
-            Err(refused) => Err(refused.why),
-        },
-        ControllerStep::Walk { q, cid } => match book.walk(q, cid) {
-            Ok(_) => Ok(Changes::POSTED),
-            Err(refused) => Err(refused.why),
-        },
-        ControllerStep::Complete { q, cid } => match book.complete(q, cid) {
-            Ok(_) => Ok(Changes::POSTED),
-            Err(refused) => Err(refused.why),
-        },
-    }
-}
-
-/// Does what the controller can do, as many steps as it may make at once.
-fn serve_some<L: LogBrand, A: Allocator + Copy>(book: &mut Book<L, A>) -> Steps {
-    let mut steps = NO_STEPS;
-    for _ in 0..MOST_STEPS {
-        let Some(step) = book.next_step() else {
-            break;
-        };
-        steps = steps.with(serve(book, step));
-        if steps.short {
-            break;
-        }
-    }
-    steps
-}
-
-/// Leaves out what the poller or the controller would be told in vain, since there is nothing to reap, or nothing that can be done.
-fn of_use<L: LogBrand, A: Allocator + Copy>(
-    locked: &mut Locked<L, A>,
-    changes: Changes,
-) -> Changes {
-    let mut changes = changes;
-    if locked.awaited.has(Change::Posted) && locked.book.next_completion().is_none() {
-        changes = changes.without(Changes::POSTED);
-    }
-    if locked.awaited.has(Change::Rung) && locked.book.next_step().is_none() {
-        changes = changes.without(Changes::RUNG);
-    }
-    changes
-}
-
 impl<L: LogBrand, A: Allocator + Copy> Shared<L, A> {
     /// Reserves for a request where that need not wait, and hands it back where it has to.
     ///
@@ -318,15 +199,10 @@ impl<L: LogBrand, A: Allocator + Copy> Shared<L, A> {
             if locked.book.stopping() {
                 break;
             }
-            let steps = reap_some(&mut locked.book);
+            let steps = reap_some(&mut locked.book, MOST_OF_A_WORKER);
             if steps.any {
-                let changes = of_use(&mut locked, steps.changes);
-                self.leave(locked, changes);
-                return if steps.short {
-                    Err(AllocError)
-                } else {
-                    Ok(true)
-                };
+                self.leave_behind(locked, steps)?;
+                return Ok(true);
             }
             locked = self.wait(rt, locked, Change::Posted);
         }
@@ -344,15 +220,10 @@ impl<L: LogBrand, A: Allocator + Copy> Shared<L, A> {
             if locked.book.stopping() {
                 break;
             }
-            let steps = serve_some(&mut locked.book);
+            let steps = serve_some(&mut locked.book, MOST_OF_A_WORKER);
             if steps.any {
-                let changes = of_use(&mut locked, steps.changes);
-                self.leave(locked, changes);
-                return if steps.short {
-                    Err(AllocError)
-                } else {
-                    Ok(true)
-                };
+                self.leave_behind(locked, steps)?;
+                return Ok(true);
             }
             locked = self.wait(rt, locked, Change::Rung);
         }

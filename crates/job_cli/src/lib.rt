@@ -12,6 +12,7 @@ mod jobs;
 mod rounds;
 pub mod worked_jobs;
 
+pub use driver_threads::Server;
 pub use job_lines::append_job_line;
 pub use job_runs::run_jobs;
 pub use jobs::{JobLine, JobScript, read_jobs};

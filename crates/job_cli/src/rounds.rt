@@ -7,7 +7,7 @@ ghost use Rattle.job_cli.specs.JobRuns.{IsWanting};
 ghost use Rattle.job_cli.specs.GoneOn.{Fit, HasGoneOn, entries_for};
 
 use crate::fault::not_run;
-use driver_threads::{Job, JobEnds, Open, Round, run_round};
+use driver_threads::{Job, JobEnds, Open, Round, Server, run_round};
 use script_cli::RunFault;
 use std::alloc::{AllocError, Global};
 use std::collections::VecDeque;
@@ -22,6 +22,8 @@ use step_core::World;
 pub struct Pace {
     /// How many jobs each submitter may have in flight at a time, 1 to 256.
     pub depth: u16,
+    /// Who serves as the submitters ring.
+    pub server: Server,
     /// How many entries the log of a round of jobs may have, as far as that is known before: the jobs are done in rounds, of each submitter
     /// one job at least, and the log of a round is dropped at its end. `None`: all jobs are one round.
     pub log_limit: Option<u32>,
@@ -150,7 +152,14 @@ pub(crate) fn do_jobs<R: Threads + Wait + Sync>(
         let round = next_round(alloc, &mut left, share)?;
         let blank = Blank::new(65536);
         let round: Round = match run_round::<Brand, Global, Open, R>(
-            rt, alloc, world, round, depth, &Open, blank,
+            rt,
+            alloc,
+            world,
+            round,
+            depth,
+            pace.server,
+            &Open,
+            blank,
         ) {
             Ok(round) => round,
             Err(why) => return Err(not_run(why)),

@@ -15,7 +15,7 @@ use crate::measured::Measured;
 use crate::picks::Picks;
 use crate::plan::{Planned, jobs_of, plan_one, plan_some};
 use crate::tally::Tally;
-use driver_threads::{Job, JobEnds};
+use driver_threads::{Job, JobEnds, Server};
 use io_commands::Kind;
 use script_cli::workload::Load;
 use std::alloc::{AllocError, Global};
@@ -30,6 +30,8 @@ pub(crate) struct Course {
     seed: u32,
     /// How many I/O queues there are.
     queues: u16,
+    /// Who serves as the submitters ring.
+    server: Server,
     /// The most commands of a round.
     round: u64,
     picks: Vec<Picks>,
@@ -79,6 +81,7 @@ impl Course {
         load: &Load<'_>,
         layout: Layout,
         queues: u16,
+        server: Server,
         content: Option<Content>,
     ) -> Result<Course, AllocError>
         requires fits { FitsLoad load.now }
@@ -93,6 +96,7 @@ impl Course {
             layout,
             seed: load.seed,
             queues,
+            server,
             round: commands_for(load.command_blocks, load.log_limit),
             picks,
             generations: vec![in alloc; 0; layout.all_slots()]?,
@@ -101,6 +105,11 @@ impl Course {
             bad: None,
             measured: Measured::new(alloc)?,
         })
+    }
+
+    /// Who serves as the submitters ring.
+    pub(crate) fn server(&self) -> Server {
+        self.server
     }
 
     /// How many commands ended how.

@@ -25,6 +25,7 @@ mod tally;
 mod timing;
 
 pub use bad::{Bad, Why};
+pub use driver_threads::Server;
 pub use fault::LoadFault;
 pub use line::append_line;
 pub use ran::Ran;

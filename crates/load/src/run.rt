@@ -19,7 +19,7 @@ use crate::ran::Ran;
 use crate::tally::Tally;
 use crate::timing::Timing;
 use block_image::Image;
-use driver_threads::{Gate, Job, JobEnds, Open, Round, run_round};
+use driver_threads::{Gate, Job, JobEnds, Open, Round, Server, run_round};
 use script_cli::workload::{Load, Pattern};
 use script_cli::{RunFault, flush, not_opened, put};
 use std::alloc::{AllocError, AllocGlobal, Global};
@@ -38,6 +38,7 @@ fn play<G: Gate + Sync, R: Threads + Wait + Sync>(
     world: World,
     jobs: Vec<Vec<Job>>,
     depth: usize,
+    server: Server,
     gate: &G,
     blank: Blank,
 ) -> Result<Round, LoadFault>
@@ -47,7 +48,7 @@ fn play<G: Gate + Sync, R: Threads + Wait + Sync>(
     requires some_depth { 1 ≤ depth }
     requires little_depth { depth ≤ 256 }
 {
-    match run_round::<Brand, Global, G, R>(rt, alloc, world, jobs, depth, gate, blank) {
+    match run_round::<Brand, Global, G, R>(rt, alloc, world, jobs, depth, server, gate, blank) {
         Ok(round) => Ok(round),
         Err(why) => Err(LoadFault::Round(why)),
     }
@@ -78,12 +79,13 @@ fn run_plans<G: Gate + Sync, R: Threads + Wait + Sync>(
     requires little_depth { depth ≤ 256 }
 {
     let jobs = course.jobs(alloc, plans)?;
+    let server = course.server();
     let blank = Blank::new(65536);
     let Round {
         world,
         jobs: ends,
         ..
-    } = play(rt, alloc, world, jobs, depth, gate, blank)?;
+    } = play(rt, alloc, world, jobs, depth, server, gate, blank)?;
     let tally = course.look(alloc, plans, &ends)?;
     Ok(Left { world, ends, tally })
 }
@@ -206,6 +208,7 @@ fn open(
     config: Config,
     image: Image,
     load: &Load<'_>,
+    server: Server,
 ) -> Result<(World, Course), LoadFault>
     requires { FitsLoad load.now }
 {
@@ -227,7 +230,8 @@ fn open(
         Ok(world) => world,
         Err(refused) => return Err(LoadFault::Run(not_opened(refused.why))),
     };
-    let course = Course::new(alloc, load, layout, config.queues as u16, content)?;
+    let queues = config.queues as u16;
+    let course = Course::new(alloc, load, layout, queues, server, content)?;
     Ok((world, course))
 }
 
@@ -248,7 +252,7 @@ fn write_line<W: Write>(
 }
 
 /// Opens a world over an image, runs the commands of a load over it, reads what they wrote once more where that is asked for, and writes the line
-/// that says how it went. Where it shows, standard error says how far it is.
+/// that says how it went. Where it shows, standard error says how far it is. `server` says who serves as the submitters ring.
 ///
 /// # Errors
 ///
@@ -260,6 +264,7 @@ pub fn run_load<R: AllocGlobal + Clock + Eprint + Threads + Wait + Sync, W: Writ
     config: Config,
     image: Image,
     load: &Load<'_>,
+    server: Server,
     shows: bool,
     writer: &mut W,
 ) -> Result<Ran, LoadFault>
@@ -268,7 +273,7 @@ pub fn run_load<R: AllocGlobal + Clock + Eprint + Threads + Wait + Sync, W: Writ
     ensures cut { OnErr result (Gains (W.contents writer.old) (W.contents writer.new) (λ front. IsLineFront load.now.pattern front)) }
 {
     let alloc = rt.alloc();
-    let (world, mut course) = open(alloc, config, image, load)?;
+    let (world, mut course) = open(alloc, config, image, load, server)?;
     let depth = usize::from(load.depth);
     let watch = Stopwatch::new(rt);
     let mut world = run_commands(rt, alloc, world, &mut course, load, watch, shows)?;

@@ -1,4 +1,4 @@
-//! When commands were submitted and released.
+//! When commands got their pages and gave them back.
 
 use driver_threads::{Gate, GateClosed, Point};
 use std::alloc::{AllocError, Global};
@@ -18,14 +18,16 @@ pub(crate) fn nanos_of(duration: Duration) -> u64 {
 /// The commands of a submitter in a round.
 #[derive(Drop)]
 struct Times {
-    /// When each was submitted that is not released yet; the oldest first.
+    /// When the last one got its pages, where it is not submitted yet.
+    reserved: Option<Instant>,
+    /// When each got its pages that is submitted and not released yet; the oldest first.
     submitted: VecDeque<Instant>,
     /// How long each took that was released, in nanoseconds.
     took: Vec<u64>,
 }
 
-/// A gate that holds nobody, and measures how long each command takes from its submission until its pages are free again. Where the clock cannot be read, a
-/// submitter has no times.
+/// A gate that holds nobody, and measures how long each command has its pages: from its reservation until they are free again. Who rings may serve before the
+/// submission is told, so that is no beginning. Where the clock cannot be read, a submitter has no times.
 #[derive(Drop)]
 pub(crate) struct Timing<'a, R: Clock + Wait> {
     rt: &'a R,
@@ -42,6 +44,7 @@ impl<'a, R: Clock + Wait> Timing<'a, R> {
         let mut all = Vec::with_capacity(alloc, usize::from(submitters))?;
         for _ in 0..submitters {
             all.push(Mutex::new(Times {
+                reserved: None,
                 submitted: VecDeque::new(alloc),
                 took: Vec::new(alloc),
             }))?;
@@ -59,16 +62,19 @@ impl<'a, R: Clock + Wait> Timing<'a, R> {
             let mut times = times.lock(self.rt);
             all.push(Vec::from_slice(alloc, &times.took)?)?;
             times.took.clear();
+            times.reserved = None;
             times.submitted.clear();
         }
         Ok(all)
     }
 }
 
-/// Notes when a command was submitted.
-fn note_submitted(times: &mut Times, now: Instant) {
-    // Without memory for it the command has no time.
-    let _ = times.submitted.push_back(now);
+/// Notes that the command that got its pages last was submitted. One that was refused in between has no time.
+fn note_submitted(times: &mut Times) {
+    if let Some(then) = times.reserved.take() {
+        // Without memory for it the command has no time.
+        let _ = times.submitted.push_back(then);
+    }
 }
 
 /// Notes when the oldest command was released.
@@ -88,8 +94,8 @@ impl<R: Clock + Wait> Gate for Timing<'_, R> {
         };
         let mut times = times.lock(self.rt);
         match point {
-            Point::Reserved => {}
-            Point::Submitted => note_submitted(&mut times, now),
+            Point::Reserved => times.reserved = Some(now),
+            Point::Submitted => note_submitted(&mut times),
             Point::Released => note_released(&mut times, now),
         }
         Ok(())

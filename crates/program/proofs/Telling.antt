@@ -7,6 +7,7 @@ use Rattle.std.specs.Prelude.{IfErr, Result, Ok, Err, replicate, ◌*◌, IsErrA
 use Rattle.clap.specs.{Words.{kind_of, Text}, declared.error.{Error.Error, kind.ErrorKind.TheVariants.OutOfMemory}}
 use Rattle.command_line.specs.Asked.{Asked, check, check_jobs, draw, explain, grammar, load, shell, show, steps, test, threads, traced, Given, path_of}
 use Rattle.program.specs.{Checking.{AreJobs, AreNoJobs, AreNoSteps, AreSteps}, Performing.{FailsWith, IsFirstImage, IsRunFault, Performs}}
+use Rattle.command_line.specs.declared.serving.Serving.{Serving}
 use Rattle.command_line.specs.declared.threads.Threading.{Threading}
 use Rattle.program.specs.declared.fault.Fault.{Fault}
 use Rattle.job_cli.proofs.JobRuns.{jobs_are_told, no_jobs_are_told}
@@ -28,8 +29,8 @@ kept (Some bytes) = refl
 -- want of memory, before anything is written
 wanting : (told : Option (List ℕ)) (what : Asked) (bytes : Option (List ℕ)) → FailsWith told (Some what) bytes bytes (fault.Run run.Memory)
 wanting told (steps given) bytes = (replicate (512 * given.blocks) 0, λ none. refl, inl (kept bytes))
-wanting told (threads given what) bytes = (replicate (512 * given.blocks) 0, λ none. refl, inl (kept bytes))
-wanting told (load given what) bytes = ([], (no_tally, (line_text what.pattern no_tally, refl)), appends_none bytes)
+wanting told (threads given what who) bytes = (replicate (512 * given.blocks) 0, λ none. refl, inl (kept bytes))
+wanting told (load given what who) bytes = ([], (no_tally, (line_text what.pattern no_tally, refl)), appends_none bytes)
 wanting told (check path) bytes = (tt, kept bytes)
 wanting told (check_jobs path submitters) bytes = (tt, kept bytes)
 wanting told (test tested) bytes = tt
@@ -143,10 +144,10 @@ unread_ends_jobs : (told : Option (List ℕ)) (submitters : ℕ) (config : Confi
 unread_ends_jobs told submitters config image a why (inl unreadable) = subst (λ (f : RunFault). EndsJobsWith told submitters config image a a f) (sym unreadable) (kept a)
 unread_ends_jobs told submitters config image a why (inr memory) = subst (λ (f : RunFault). EndsJobsWith told submitters config image a a f) (sym memory) (inl (kept a))
 
-script_fails_jobs : (told : Option (List ℕ)) (given : Given) (what : Threading) (image : List ℕ) (a : Option (List ℕ)) (why : RunFault) (f : Fault)
-    → f ≡ fault.Run why → IsFirstImage given image → (why ≡ run.Unreadable) ⊎ (why ≡ run.Memory) → FailsWith told (Some (threads given what)) a a f
-script_fails_jobs told given what image a why f same first unread =
-    subst (λ (g : Fault). FailsWith told (Some (threads given what)) a a g) (sym same) (image, first, unread_ends_jobs _ what.submitters given.config image a why unread)
+script_fails_jobs : (told : Option (List ℕ)) (given : Given) (what : Threading) (who : Serving) (image : List ℕ) (a : Option (List ℕ)) (why : RunFault) (f : Fault)
+    → f ≡ fault.Run why → IsFirstImage given image → (why ≡ run.Unreadable) ⊎ (why ≡ run.Memory) → FailsWith told (Some (threads given what who)) a a f
+script_fails_jobs told given what who image a why f same first unread =
+    subst (λ (g : Fault). FailsWith told (Some (threads given what who)) a a g) (sym same) (image, first, unread_ends_jobs _ what.submitters given.config image a why unread)
 
 unread_ends : (told : Option (List ℕ)) (config : Config) (image : List ℕ) (a : Option (List ℕ)) (why : RunFault) → (why ≡ run.Unreadable) ⊎ (why ≡ run.Memory) → EndsWith told config image a a why
 unread_ends told config image a why (inl unreadable) = subst (λ (f : RunFault). EndsWith told config image a a f) (sym unreadable) (kept a)
@@ -164,11 +165,11 @@ pub run_fault_told : {T U : Type 0} (r : Result T U) (fault_of : U → Fault) (w
 run_fault_told (Ok x) fault_of why Holds same holds = tt
 run_fault_told (Err x) fault_of why Holds same holds = subst (λ (f : Fault). IsRunFault f Holds) (sym same) holds
 
-pub script_failed_jobs : {T U : Type 0} (r : Result T U) (fault_of : U → Fault) (told : Option (List ℕ)) (given : Given) (what : Threading) (image : List ℕ)
+pub script_failed_jobs : {T U : Type 0} (r : Result T U) (fault_of : U → Fault) (told : Option (List ℕ)) (given : Given) (what : Threading) (who : Serving) (image : List ℕ)
     (a : Option (List ℕ)) (why : RunFault) → IsErrAnd r (λ x. fault_of x ≡ fault.Run why) → IsFirstImage given image → (why ≡ run.Unreadable) ⊎ (why ≡ run.Memory)
-    → IfErr r (λ x. FailsWith told (Some (threads given what)) a a (fault_of x))
-script_failed_jobs (Ok x) fault_of told given what image a why same first unread = tt
-script_failed_jobs (Err x) fault_of told given what image a why same first unread = script_fails_jobs told given what image a why (fault_of x) same first unread
+    → IfErr r (λ x. FailsWith told (Some (threads given what who)) a a (fault_of x))
+script_failed_jobs (Ok x) fault_of told given what who image a why same first unread = tt
+script_failed_jobs (Err x) fault_of told given what who image a why same first unread = script_fails_jobs told given what who image a why (fault_of x) same first unread
 
 pub script_failed : {T U : Type 0} (r : Result T U) (fault_of : U → Fault) (told : Option (List ℕ)) (given : Given) (image : List ℕ) (a : Option (List ℕ)) (why : RunFault)
     → IsErrAnd r (λ x. fault_of x ≡ fault.Run why) → IsFirstImage given image → (why ≡ run.Unreadable) ⊎ (why ≡ run.Memory) → IfErr r (λ x. FailsWith told (Some (steps given)) a a (fault_of x))

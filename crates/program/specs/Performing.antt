@@ -47,9 +47,9 @@ abbrev pub Performs : Option (List ℕ) → Option Asked → Option (List ℕ) �
 Performs told None before after = Keeps before after
 Performs told (Some (steps given)) before after =
     (image : List ℕ) × IsFirstImage given image × Writes (script_told given.script told) given.config image before after IsRunText
-Performs told (Some (threads given what)) before after =
+Performs told (Some (threads given what who)) before after =
     (image : List ℕ) × IsFirstImage given image × WritesJobs (script_told given.script told) what.submitters given.config image before after IsJobsText
-Performs told (Some (load given what)) before after = WritesLine what.pattern true before after
+Performs told (Some (load given what who)) before after = WritesLine what.pattern true before after
 Performs told (Some (check path)) before after = ((script : List Numbered) × HasScript (script_told path told) script) × Keeps before after
 Performs told (Some (check_jobs path submitters)) before after = ((lines : List JobLine) × HasJobs (script_told path told) submitters lines) × Keeps before after
 Performs told (Some (test tested)) before after = Unit {0}
@@ -108,19 +108,19 @@ abbrev pub FailsWith : Option (List ℕ) → Option Asked → Option (List ℕ) 
 FailsWith told None before after why = Keeps before after
 FailsWith told (Some what) before after (fault.Arguments why) = ⊥
 FailsWith told (Some what) before after fault.PipeClosed = ⊥
-FailsWith told (Some (load given what)) before after (fault.Load why) = Gains before after (IsLineFront what.pattern)
+FailsWith told (Some (load given what who)) before after (fault.Load why) = Gains before after (IsLineFront what.pattern)
 FailsWith told (Some other) before after (fault.Load why) = ⊥
-FailsWith told (Some (load given what)) before after (fault.Loaded tally) = (is_good tally ≡ false) × Appends before after (line_text what.pattern tally)
+FailsWith told (Some (load given what who)) before after (fault.Loaded tally) = (is_good tally ≡ false) × Appends before after (line_text what.pattern tally)
 FailsWith told (Some other) before after (fault.Loaded tally) = ⊥
-FailsWith told (Some (load given what)) before after fault.NoStats = WritesLine what.pattern true before after × IsSome what.stats
+FailsWith told (Some (load given what who)) before after fault.NoStats = WritesLine what.pattern true before after × IsSome what.stats
 FailsWith told (Some other) before after fault.NoStats = ⊥
-FailsWith told (Some (load given what)) before after fault.NotSaved = ⊥
-FailsWith told (Some (load given what)) before after (fault.Transcripts tally) = ⊥
-FailsWith told (Some (load given what)) before after (fault.Bytes why) = ⊥
-FailsWith told (Some (load given what)) before after (fault.Image why) = IsNoFirstImage given why × Keeps before after
-FailsWith told (Some (load given what)) before after (fault.Run why) = Gains before after (IsLineFront what.pattern)
+FailsWith told (Some (load given what who)) before after fault.NotSaved = ⊥
+FailsWith told (Some (load given what who)) before after (fault.Transcripts tally) = ⊥
+FailsWith told (Some (load given what who)) before after (fault.Bytes why) = ⊥
+FailsWith told (Some (load given what who)) before after (fault.Image why) = IsNoFirstImage given why × Keeps before after
+FailsWith told (Some (load given what who)) before after (fault.Run why) = Gains before after (IsLineFront what.pattern)
 FailsWith told (Some (steps given)) before after fault.NotSaved = Performs told (Some (steps given)) before after × IsSome given.save
-FailsWith told (Some (threads given what)) before after fault.NotSaved = ⊥
+FailsWith told (Some (threads given what who)) before after fault.NotSaved = ⊥
 FailsWith told (Some (check path)) before after fault.NotSaved = ⊥
 FailsWith told (Some (check_jobs path submitters)) before after fault.NotSaved = ⊥
 FailsWith told (Some (test tested)) before after fault.NotSaved = ⊥
@@ -131,7 +131,7 @@ FailsWith told (Some (explain path objects)) before after fault.NotSaved = ⊥
 FailsWith told (Some (show words)) before after fault.NotSaved = ⊥
 FailsWith told (Some grammar) before after fault.NotSaved = ⊥
 FailsWith told (Some (steps given)) before after (fault.Transcripts tally) = ⊥
-FailsWith told (Some (threads given what)) before after (fault.Transcripts tally) = ⊥
+FailsWith told (Some (threads given what who)) before after (fault.Transcripts tally) = ⊥
 FailsWith told (Some (check path)) before after (fault.Transcripts tally) = ⊥
 FailsWith told (Some (check_jobs path submitters)) before after (fault.Transcripts tally) = ⊥
 FailsWith told (Some (test tested)) before after (fault.Transcripts tally) = Unit {0}
@@ -142,7 +142,7 @@ FailsWith told (Some (explain path objects)) before after (fault.Transcripts tal
 FailsWith told (Some (show words)) before after (fault.Transcripts tally) = ⊥
 FailsWith told (Some grammar) before after (fault.Transcripts tally) = ⊥
 FailsWith told (Some (steps given)) before after (fault.Bytes why) = ⊥
-FailsWith told (Some (threads given what)) before after (fault.Bytes why) = ⊥
+FailsWith told (Some (threads given what who)) before after (fault.Bytes why) = ⊥
 FailsWith told (Some (check path)) before after (fault.Bytes why) = ⊥
 FailsWith told (Some (check_jobs path submitters)) before after (fault.Bytes why) = ⊥
 FailsWith told (Some (test tested)) before after (fault.Bytes why) = ⊥
@@ -153,7 +153,7 @@ FailsWith told (Some (explain path objects)) before after (fault.Bytes why) = Un
 FailsWith told (Some (show words)) before after (fault.Bytes why) = Unit {0}
 FailsWith told (Some grammar) before after (fault.Bytes why) = ⊥
 FailsWith told (Some (steps given)) before after (fault.Image why) = IsNoFirstImage given why × Keeps before after
-FailsWith told (Some (threads given what)) before after (fault.Image why) = IsNoFirstImage given why × Keeps before after
+FailsWith told (Some (threads given what who)) before after (fault.Image why) = IsNoFirstImage given why × Keeps before after
 FailsWith told (Some (check path)) before after (fault.Image why) = ⊥
 FailsWith told (Some (check_jobs path submitters)) before after (fault.Image why) = ⊥
 FailsWith told (Some (test tested)) before after (fault.Image why) = ⊥
@@ -165,7 +165,7 @@ FailsWith told (Some (show words)) before after (fault.Image why) = ⊥
 FailsWith told (Some grammar) before after (fault.Image why) = ⊥
 FailsWith told (Some (steps given)) before after (fault.Run why) =
     (image : List ℕ) × IsFirstImage given image × EndsWith (script_told given.script told) given.config image before after why
-FailsWith told (Some (threads given what)) before after (fault.Run why) =
+FailsWith told (Some (threads given what who)) before after (fault.Run why) =
     (image : List ℕ) × IsFirstImage given image × EndsJobsWith (script_told given.script told) what.submitters given.config image before after why
 FailsWith told (Some (check path)) before after (fault.Run why) = IsNoScript (script_told path told) why × Keeps before after
 FailsWith told (Some (check_jobs path submitters)) before after (fault.Run why) = IsNoJobs (script_told path told) submitters why × Keeps before after

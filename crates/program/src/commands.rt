@@ -17,7 +17,8 @@ use crate::loading::load_image;
 use crate::pipe::Pipe;
 use crate::printing::print_text;
 use crate::saving::save_image;
-use command_line::{CommandLine, Options, Testing, Threading, words};
+use crate::serving::server_of;
+use command_line::{CommandLine, Options, Serving, Testing, Threading, words};
 use job_cli::{Pace, run_jobs};
 use script_cli::transcripts::test_files;
 use script_cli::{MAX_SCRIPT, RunFault, play_steps};
@@ -117,11 +118,11 @@ pub fn perform<
     match CommandLine::parse(rt.alloc(), words) {
         Ok(CommandLine::Steps(options)) => play(rt, options, reader, writer),
         Ok(CommandLine::Traced(options)) => trace_script(rt, options, reader, writer),
-        Ok(CommandLine::Threads(options, threading)) => {
-            run_threads(rt, options, threading, reader, writer)
+        Ok(CommandLine::Threads(options, threading, serving)) => {
+            run_threads(rt, options, threading, serving, reader, writer)
         }
-        Ok(CommandLine::Load(options, load)) => {
-            load_image(rt, options, load, writer, terminals.error)
+        Ok(CommandLine::Load(options, load, serving)) => {
+            load_image(rt, options, load, serving, writer, terminals.error)
         }
         Ok(CommandLine::Check(path)) => look_at_steps(rt, path, reader),
         Ok(CommandLine::CheckJobs(path, submitters)) => {
@@ -205,6 +206,7 @@ fn run_threads<R: AllocGlobal + Files + Sync + Threads + Wait, I: Read, W: Write
     rt: &R,
     options: Options<'_>,
     threading: Threading,
+    serving: Serving,
     reader: &mut I,
     writer: &mut W,
 ) -> Result<(), Told<Fault>>
@@ -212,8 +214,8 @@ fn run_threads<R: AllocGlobal + Files + Sync + Threads + Wait, I: Read, W: Write
     requires few { threading.submitters ≤ 16 }
     requires at_least_one { 1 ≤ threading.depth }
     requires at_most { threading.depth ≤ 256 }
-    ensures ran { OnOk result (Performs (I.remaining reader.old) (Some (threads (given_of options.entry) threading)) (W.contents writer.old) (W.contents writer.new)) }
-    ensures failed { IfErr result (λ told. FailsWith (I.remaining reader.old) (Some (threads (given_of options.entry) threading)) (W.contents writer.old) (W.contents writer.new) told.fault) }
+    ensures ran { OnOk result (Performs (I.remaining reader.old) (Some (threads (given_of options.entry) threading serving)) (W.contents writer.old) (W.contents writer.new)) }
+    ensures failed { IfErr result (λ told. FailsWith (I.remaining reader.old) (Some (threads (given_of options.entry) threading serving)) (W.contents writer.old) (W.contents writer.new) told.fault) }
 {
     let alloc = rt.alloc();
     let image = open_image(rt, &options)?;
@@ -224,7 +226,11 @@ fn run_threads<R: AllocGlobal + Files + Sync + Threads + Wait, I: Read, W: Write
         depth,
         log_limit,
     } = threading;
-    let pace = Pace { depth, log_limit };
+    let pace = Pace {
+        depth,
+        server: server_of(serving),
+        log_limit,
+    };
     match run_jobs(
         rt,
         alloc,

@@ -14,6 +14,7 @@ mod loading;
 mod pipe;
 mod printing;
 mod saving;
+mod serving;
 
 pub use commands::{Terminals, perform, run};
 pub use fault::{BytesFault, Fault, Told};

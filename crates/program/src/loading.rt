@@ -8,7 +8,8 @@ ghost use Rattle.program.specs.Performing.{FailsWith, fault_of_load, Performs};
 use crate::below::{below_run, lines_or_none};
 use crate::fault::{Fault, Told};
 use crate::inputs::open_image;
-use command_line::Options;
+use crate::serving::server_of;
+use command_line::{Options, Serving};
 use load::{Bad, LoadFault, Ran, run_load};
 use script_cli::workload::Load;
 use script_cli::{not_written, write_out};
@@ -86,17 +87,19 @@ pub(crate) fn load_image<
     rt: &R,
     options: Options<'_>,
     what: Load<'_>,
+    serving: Serving,
     writer: &mut W,
     is_terminal: bool,
 ) -> Result<(), Told<Fault>>
     requires fits { FitsLoad what }
-    ensures ran { OnOk result (Performs None (Some (load (given_of options.entry) (loaded_of what.entry))) (W.contents writer.old) (W.contents writer.new)) }
-    ensures failed { IfErr result (λ told. FailsWith None (Some (load (given_of options.entry) (loaded_of what.entry))) (W.contents writer.old) (W.contents writer.new) told.fault) }
+    ensures ran { OnOk result (Performs None (Some (load (given_of options.entry) (loaded_of what.entry) serving)) (W.contents writer.old) (W.contents writer.new)) }
+    ensures failed { IfErr result (λ told. FailsWith None (Some (load (given_of options.entry) (loaded_of what.entry) serving)) (W.contents writer.old) (W.contents writer.new) told.fault) }
 {
     let alloc = rt.alloc();
     let image = open_image(rt, &options)?;
     let shows = is_terminal && !what.quiet;
-    let ran = match run_load(rt, options.config, image, &what, shows, writer) {
+    let server = server_of(serving);
+    let ran = match run_load(rt, options.config, image, &what, server, shows, writer) {
         Ok(ran) => ran,
         Err(why) => return Err(not_loaded(alloc, &options, why)),
     };

@@ -7,7 +7,7 @@ use crate::fault::Fault;
 use crate::reads::{Done, MOST_DEPTH, Shape, request};
 use block_image::Image;
 use driver_book::LogBrand;
-use driver_threads::{Job, JobEnd, JobEnds, Open, Ran, run_threads};
+use driver_threads::{Job, JobEnd, JobEnds, Open, Ran, Server, run_threads};
 use entry_codec::Status;
 use std::alloc::{AllocError, Global};
 use std::sync::Wait;
@@ -53,7 +53,7 @@ fn bytes_of(jobs: &JobEnds) -> Option<u64> {
     Some(all)
 }
 
-/// Carries the Reads through in threads, over a new world. Each submitter has at most so many in flight at a time.
+/// Carries the Reads through in threads, over a new world. Each submitter has at most so many in flight at a time, and serves as it rings.
 ///
 /// # Errors
 ///
@@ -78,7 +78,10 @@ pub fn read_in_threads<L: LogBrand + Send + Sync, R: Threads + Wait + Sync>(
         return Err(Fault::Usage);
     }
     let depth = depth as usize;
-    let ran: Ran<L> = match run_threads(rt, alloc, config, image, jobs, depth, &Open, blank) {
+    let server = Server::Ringer;
+    let ran: Ran<L> = match run_threads(
+        rt, alloc, config, image, jobs, depth, server, &Open, blank,
+    ) {
         Ok(ran) => ran,
         Err(_) => return Err(Fault::Refused),
     };

@@ -6,10 +6,12 @@ pub returns-clause-shape : goal.returns-clause-shape
 returns-clause-shape c =
     let submitters = added_shape _ _ _ _ _ c.in_ok-arg.ensures c.arg.ensures.local refl c.arg.ensures.rule in
     let depth = added_shape _ _ _ _ _ c.in_ok-arg-2.ensures c.arg-3.ensures.local submitters c.arg-3.ensures.rule in
-    IfOk-weaker c.arg-5.result _ _ (λ new adds. added_shape _ _ _ _ _ adds c.optional_arg.ensures.local depth c.optional_arg.ensures.rule) c.arg-5.ensures
+    let limit = added_shape _ _ _ _ _ c.in_ok-arg-3.ensures c.optional_arg.ensures.local depth c.optional_arg.ensures.rule in
+    IfOk-weaker c.arg-6.result _ _ (λ new adds. added_shape _ _ _ _ _ adds c.serve_arg.ensures.local limit c.serve_arg.ensures.rule) c.arg-6.ensures
 
 pub returns-clause-local : goal.returns-clause-local
 returns-clause-local c =
     let submitters = added_local _ _ _ _ c.in_ok-arg.ensures c.arg.ensures.local refl in
     let depth = added_local _ _ _ _ c.in_ok-arg-2.ensures c.arg-3.ensures.local submitters in
-    IfOk-weaker c.arg-5.result _ _ (λ new adds. added_local _ _ _ _ adds c.optional_arg.ensures.local depth) c.arg-5.ensures
+    let limit = added_local _ _ _ _ c.in_ok-arg-3.ensures c.optional_arg.ensures.local depth in
+    IfOk-weaker c.arg-6.result _ _ (λ new adds. added_local _ _ _ _ adds c.serve_arg.ensures.local limit) c.arg-6.ensures

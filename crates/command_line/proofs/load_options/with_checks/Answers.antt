@@ -6,16 +6,18 @@ pub returns-clause-shape : goal.returns-clause-shape
 returns-clause-shape c =
     let depth = added_shape _ _ _ _ _ c.in_ok-arg.ensures c.arg.ensures.local refl c.arg.ensures.rule in
     let limit = added_shape _ _ _ _ _ c.in_ok-arg-2.ensures c.optional_arg.ensures.local depth c.optional_arg.ensures.rule in
-    let seed = added_shape _ _ _ _ _ c.in_ok-arg-3.ensures c.arg-4.ensures.local limit c.arg-4.ensures.rule in
-    let verify = added_shape _ _ _ _ _ c.in_ok-arg-4.ensures c.flag_arg.ensures.local seed c.flag_arg.ensures.rule in
-    let stats = added_shape _ _ _ _ _ c.in_ok-arg-5.ensures c.stats_arg.ensures.local verify c.stats_arg.ensures.rule in
-    IfOk-weaker c.arg-8.result _ _ (λ new adds. added_shape _ _ _ _ _ adds c.flag_arg-2.ensures.local stats c.flag_arg-2.ensures.rule) c.arg-8.ensures
+    let serve = added_shape _ _ _ _ _ c.in_ok-arg-3.ensures c.serve_arg.ensures.local limit c.serve_arg.ensures.rule in
+    let seed = added_shape _ _ _ _ _ c.in_ok-arg-4.ensures c.arg-5.ensures.local serve c.arg-5.ensures.rule in
+    let verify = added_shape _ _ _ _ _ c.in_ok-arg-5.ensures c.flag_arg.ensures.local seed c.flag_arg.ensures.rule in
+    let stats = added_shape _ _ _ _ _ c.in_ok-arg-6.ensures c.stats_arg.ensures.local verify c.stats_arg.ensures.rule in
+    IfOk-weaker c.arg-9.result _ _ (λ new adds. added_shape _ _ _ _ _ adds c.flag_arg-2.ensures.local stats c.flag_arg-2.ensures.rule) c.arg-9.ensures
 
 pub returns-clause-local : goal.returns-clause-local
 returns-clause-local c =
     let depth = added_local _ _ _ _ c.in_ok-arg.ensures c.arg.ensures.local refl in
     let limit = added_local _ _ _ _ c.in_ok-arg-2.ensures c.optional_arg.ensures.local depth in
-    let seed = added_local _ _ _ _ c.in_ok-arg-3.ensures c.arg-4.ensures.local limit in
-    let verify = added_local _ _ _ _ c.in_ok-arg-4.ensures c.flag_arg.ensures.local seed in
-    let stats = added_local _ _ _ _ c.in_ok-arg-5.ensures c.stats_arg.ensures.local verify in
-    IfOk-weaker c.arg-8.result _ _ (λ new adds. added_local _ _ _ _ adds c.flag_arg-2.ensures.local stats) c.arg-8.ensures
+    let serve = added_local _ _ _ _ c.in_ok-arg-3.ensures c.serve_arg.ensures.local limit in
+    let seed = added_local _ _ _ _ c.in_ok-arg-4.ensures c.arg-5.ensures.local serve in
+    let verify = added_local _ _ _ _ c.in_ok-arg-5.ensures c.flag_arg.ensures.local seed in
+    let stats = added_local _ _ _ _ c.in_ok-arg-6.ensures c.stats_arg.ensures.local verify in
+    IfOk-weaker c.arg-9.result _ _ (λ new adds. added_local _ _ _ _ adds c.flag_arg-2.ensures.local stats) c.arg-9.ensures

@@ -1,0 +1,70 @@
+//! Who is asked to serve.
+
+ghost use Rattle.std.specs.Prelude.{◌≡◌, false, codes};
+ghost use Rattle.clap.specs.Words.{found_of, rows_of, rule_of};
+ghost use Rattle.command_line.specs.Asked.{serving_in, serving_named};
+ghost use Rattle.command_line.specs.Commands.{text_rule};
+
+use clap::error::ErrorKind;
+use clap::{Arg, ArgMatches, Command, Error};
+use std::alloc::{AllocError, Global};
+
+/// Who is asked to serve while threads run.
+#[derive(Clone, Copy, Debug, PartialEq, Eq)]
+pub enum Serving {
+    /// Each submitter, as it rings.
+    Ringer,
+    /// The controller, in a thread of its own.
+    Controller,
+}
+
+impl Serving {
+    /// Who has this word.
+    fn named(text: &str) -> Option<Serving>
+        ensures { result ≡ serving_named text.now }
+    {
+        if text == "ringer" {
+            Some(Serving::Ringer)
+        } else if text == "controller" {
+            Some(Serving::Controller)
+        } else {
+            None
+        }
+    }
+}
+
+/// The option that names who serves.
+pub(crate) fn serve_arg<'a>(alloc: Global) -> Arg<'a>
+    ensures rule { rule_of result ≡ text_rule (codes "serve") (codes "ringer") }
+    ensures local { result.global ≡ false }
+{
+    Arg::new(alloc, "serve")
+        .long("serve")
+        .value_name("WHO")
+        .default_value("ringer")
+        .help("Who serves: ringer, each submitter as it rings, or controller, its thread alone")
+}
+
+/// Who was named.
+pub(crate) fn who_serves(given: &ArgMatches<'_>) -> Option<Serving>
+    ensures { result ≡ serving_in (rows_of (found_of given.now)) }
+{
+    match given.get_str("serve") {
+        Some(text) => Serving::named(text),
+        None => None,
+    }
+}
+
+/// Says of a command that nobody has the word that was given.
+pub(crate) fn nobody(
+    alloc: Global,
+    given: &ArgMatches<'_>,
+    command: Command<'_>,
+) -> Result<Error, AllocError> {
+    let name = given.get_str("serve").unwrap_or("");
+    let text = format!(in alloc;
+        "invalid value '{name}' for '--serve <WHO>'\n  [possible values: ringer, controller]"
+    )?;
+    let mut command = command;
+    command.error(ErrorKind::InvalidValue, text.as_str())
+}
