@@ -58,6 +58,17 @@ pub(crate) fn close_each<L: FullLogBrand, R: Abort + Wait>(
     }
 }
 
+/// All seats are handed in, and the book is closed: there were so many submissions.
+pub(crate) fn close_all<L: FullLogBrand, R: Abort + Wait>(
+    rt: &R,
+    desk: &mut Desk<'_, L, R>,
+    submissions: u64,
+) {
+    let report = report_of(rt, desk);
+    see(rt, &report.submissions, &submissions);
+    see(rt, &report.counts, &counts(12, 4, 0));
+}
+
 /// All seats are handed in, and come back, so many of them, as the book is not closed.
 pub(crate) fn stay_open<L: FullLogBrand, R: Abort + Wait>(
     rt: &R,

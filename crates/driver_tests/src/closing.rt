@@ -123,11 +123,8 @@ fn a_status_is_kept(rt: HostRuntime) {
     run(&rt, rt.alloc(), RELEASED_ANEW, None);
 }
 
-/// A Read of a new seat, from its reservation to its release.
-const CARRIED_THROUGH: &[Part] = &[
-    Part::Sit,
-    Part::Plays(
-        "reserve 1 read 0 1 0+512
+/// A Read of the seat that acts, from its reservation to its release: ten entries of the log.
+pub(crate) const READ: &str = "reserve 1 read 0 1 0+512
 > reserve q 1 cid 0 data 1 chain 0
 build 1 0
 > build ok
@@ -150,9 +147,10 @@ collect 1 0
 release 1 0
 > release ok
 > counts free 12 queue 4 chain 0 data 0
-",
-    ),
-];
+";
+
+/// A Read of a new seat.
+const CARRIED_THROUGH: &[Part] = &[Part::Sit, Part::Plays(READ)];
 
 /// Forty seats, each with a command, handed in as they were made.
 #[test]
@@ -163,6 +161,20 @@ fn many_seats(rt: HostRuntime) {
     }
     assert!(rt; parts.push(Part::CloseEach(40)).is_ok());
     run(&rt, rt.alloc(), &parts, None);
+}
+
+/// Sixteen seats with 125 commands each: a log of 20,000 entries is compared with their receipts.
+#[test]
+fn a_long_log(rt: HostRuntime) {
+    let mut parts = Vec::new(rt.alloc());
+    for _ in 0..16 {
+        assert!(rt; parts.push(Part::Sit).is_ok());
+        for _ in 0..125 {
+            assert!(rt; parts.push(Part::Plays(READ)).is_ok());
+        }
+    }
+    assert!(rt; parts.push(Part::CloseAll(2_000)).is_ok());
+    run(&rt, rt.alloc(), &parts, Some(20_000));
 }
 
 /// Two seats with a submitted command each, the second of which is lost: that comes before the commands that are outstanding.

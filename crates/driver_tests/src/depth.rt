@@ -5,7 +5,7 @@ ghost use Rattle.std.specs.Prelude.{◌≤◌};
 use crate::looks::{counts, see};
 use crate::part::USUAL;
 use desk::runs::{Outcome, is_done, job, play_at};
-use driver_threads::{Job, JobEnd, JobRefusal, Open};
+use driver_threads::{Job, JobEnd, JobRefusal, Open, Server};
 use entry_codec::Status;
 use io_commands::Kind;
 use std::alloc::{AllocError, Global};
@@ -192,7 +192,7 @@ fn see_ends<R: Abort>(rt: &R, outcome: &Outcome, submitters: usize, times: usize
     }
 }
 
-/// So many submitters do the jobs so many times, each with so many in flight at most.
+/// So many submitters do the jobs so many times, each with so many in flight at most, where this one serves.
 fn run_mixed<R: Abort + Threads + Wait + Sync>(
     rt: &R,
     alloc: Global,
@@ -200,6 +200,7 @@ fn run_mixed<R: Abort + Threads + Wait + Sync>(
     submitters: usize,
     times: usize,
     depth: usize,
+    server: Server,
 ) -> Result<(), Fail>
     requires at_least_one { 1 ≤ depth }
     requires at_most { depth ≤ 256 }
@@ -209,7 +210,7 @@ fn run_mixed<R: Abort + Threads + Wait + Sync>(
         lists.push(jobs_of(alloc, &MIXED, times)?)?;
     }
     assert!(rt; !lists.is_empty() && lists.len() <= 16);
-    let outcome = play_at(rt, alloc, config, 64, lists, depth, &Open)?;
+    let outcome = play_at(rt, alloc, config, 64, lists, depth, server, &Open)?;
     see_ends(rt, &outcome, submitters, times);
     let rounds = submitters.saturating_mul(times);
     see(
@@ -230,7 +231,8 @@ fn run_mixed<R: Abort + Threads + Wait + Sync>(
 #[test]
 fn refused_jobs_end_in_their_place(rt: HostRuntime) -> Result<(), Fail> {
     for depth in [1usize, 2, 3, 4, 16, 256] {
-        run_mixed(&rt, rt.alloc(), USUAL, 1, 4, depth)?;
+        run_mixed(&rt, rt.alloc(), USUAL, 1, 4, depth, Server::Ringer)?;
+        run_mixed(&rt, rt.alloc(), USUAL, 1, 4, depth, Server::Controller)?;
     }
     Ok(())
 }
@@ -245,7 +247,9 @@ const SMALL: Config = Config {
 
 #[test]
 fn submitters_wait_for_room_with_nothing_in_flight(rt: HostRuntime) -> Result<(), Fail> {
-    run_mixed(&rt, rt.alloc(), SMALL, 8, 20, 4)?;
-    run_mixed(&rt, rt.alloc(), SMALL, 16, 10, 16)?;
+    for server in [Server::Ringer, Server::Controller] {
+        run_mixed(&rt, rt.alloc(), SMALL, 8, 10, 4, server)?;
+        run_mixed(&rt, rt.alloc(), SMALL, 16, 5, 16, server)?;
+    }
     Ok(())
 }

@@ -31,9 +31,17 @@ mod part;
 #[cfg(test)]
 mod resets;
 #[cfg(test)]
+mod serving;
+#[cfg(test)]
+mod shared_hosts;
+#[cfg(test)]
+mod shared_sleepers;
+#[cfg(test)]
 mod shared_worlds;
 #[cfg(test)]
 mod strangers;
+#[cfg(test)]
+mod tables;
 #[cfg(test)]
 mod turned_away;
 #[cfg(test)]

@@ -3,7 +3,7 @@
 ghost use Rattle.std.specs.Prelude.{◌≡◌};
 ghost use Rattle.step_core.specs.Opening.{opening_of};
 
-use crate::closes::{close, close_each, keep_back, stay_open};
+use crate::closes::{close, close_all, close_each, keep_back, stay_open};
 use crate::looks::{Told, alter, has_receipts, see};
 use block_image::Image;
 use desk::{Access, Desk};
@@ -11,7 +11,7 @@ use driver_book::{Book, CloseFault, Full, FullLogBrand, LogBrand};
 use driver_threads::Shared;
 use entry_codec::Status;
 use script_cli::transcripts::read_transcript;
-use std::alloc::Global;
+use std::alloc::{Allocator, Global};
 use std::marker::Brand;
 use std::process::Abort;
 use std::sync::Wait;
@@ -37,6 +37,8 @@ pub(crate) enum Part {
     Close(&'static [&'static [Told]]),
     /// All seats are handed in, and the book is closed: each of so many has one receipt, of the command of its number, which ended well.
     CloseEach(u64),
+    /// All seats are handed in, and the book is closed: there were so many submissions.
+    CloseAll(u64),
     /// All seats are handed in, and come back, so many of them, as the book is not closed.
     StayOpen(CloseFault, usize),
     /// The last seat is kept back and the others are handed in: they come back, so many of them, as the book is not closed.
@@ -44,9 +46,9 @@ pub(crate) enum Part {
 }
 
 /// Plays a transcript, as it says.
-pub(crate) fn play_text<L: FullLogBrand, R: Abort + Wait>(
+pub(crate) fn play_text<L: FullLogBrand, R: Abort + Wait, A: Allocator + Copy>(
     rt: &R,
-    desk: &mut Desk<'_, L, R>,
+    desk: &mut Desk<'_, L, R, A>,
     text: &str,
 ) {
     let Ok(transcript) = read_transcript(desk.alloc, text) else {
@@ -70,6 +72,7 @@ fn play_part<L: FullLogBrand, R: Abort + Wait>(rt: &R, desk: &mut Desk<'_, L, R>
         Part::HasReceipts(number, told) => has_receipts(rt, &desk.seats, number, told),
         Part::Close(told) => close(rt, desk, told),
         Part::CloseEach(seats) => close_each(rt, desk, seats),
+        Part::CloseAll(submissions) => close_all(rt, desk, submissions),
         Part::StayOpen(why, seats) => stay_open(rt, desk, why, seats),
         Part::KeepBack(why, seats) => keep_back(rt, desk, why, seats),
     }

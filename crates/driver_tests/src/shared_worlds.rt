@@ -1,11 +1,11 @@
-//! What no clause says: readers in threads that wait for each other, the memory that steps ask for, and each call once.
+//! A shared world, and what no clause says of it: readers in threads that wait for each other, the memory that steps ask for, and each call once.
 
 use block_image::Image;
 use entry_codec::Status;
 use io_commands::{Draft, Finished, Kind, Piece, Pieces, Request, Ticket};
 use page_ledger::{Counts, Owner};
 use page_memory::PageNo;
-use shared_world::{ServedStep, SharedWorld};
+use shared::{Change, Changes, ServedStep, Shared, calls};
 use std::alloc::{AllocError, Allocator, Global};
 use std::fmt::Debug;
 use std::process::Abort;
@@ -31,12 +31,12 @@ const READERS: usize = 6;
 const READS: usize = 50;
 
 /// Sees that an answer is the one that is wanted.
-fn see<T: PartialEq + Debug, R: Abort>(rt: &R, answer: &T, want: &T) {
+pub(crate) fn see<T: PartialEq + Debug, R: Abort>(rt: &R, answer: &T, want: &T) {
     assert!(rt; answer == want, "{answer:?} in place of {want:?}");
 }
 
 /// What a call answers that must not be refused.
-fn done<T, V, R: Abort>(rt: &R, answer: Result<T, Refused<V>>) -> T {
+pub(crate) fn done<T, V, R: Abort>(rt: &R, answer: Result<T, Refused<V>>) -> T {
     match answer {
         Ok(value) => value,
         Err(_) => panic!(rt; "it was refused"),
@@ -44,7 +44,7 @@ fn done<T, V, R: Abort>(rt: &R, answer: Result<T, Refused<V>>) -> T {
 }
 
 /// A Read of so many of the first blocks, each in a piece of its own.
-fn read_of<A: Allocator>(alloc: A, blocks: u32) -> Result<Request<A>, AllocError> {
+pub(crate) fn read_of<A: Allocator>(alloc: A, blocks: u32) -> Result<Request<A>, AllocError> {
     let mut pieces = Pieces::new(alloc);
     for _ in 0..blocks {
         pieces.push(Piece::Data {
@@ -61,7 +61,7 @@ fn read_of<A: Allocator>(alloc: A, blocks: u32) -> Result<Request<A>, AllocError
 }
 
 /// The small world, over an image of four blocks of sevens.
-fn opened<A: Allocator + Copy, R: Abort>(rt: &R, alloc: A) -> World<A> {
+pub(crate) fn opened<A: Allocator + Copy, R: Abort>(rt: &R, alloc: A) -> World<A> {
     let mut bytes = Vec::new(alloc);
     assert!(rt; bytes.resize(4 * 512, 7).is_ok());
     let Ok(image) = Image::from_bytes(bytes) else {
@@ -98,44 +98,67 @@ fn see_sevens<A: Allocator + Copy, R: Abort>(
 }
 
 /// Submits a Read of so many blocks, once there is room for it, and rings.
-fn submitted<A: Allocator + Copy, R: Abort + Wait>(
+pub(crate) fn submitted<A: Allocator + Copy, R: Abort + Wait>(
     rt: &R,
     alloc: A,
-    shared: &SharedWorld<A>,
+    shared: &Shared<World<A>>,
     blocks: u32,
 ) -> Ticket {
     let Ok(request) = read_of(alloc, blocks) else {
         panic!(rt; "no memory");
     };
     let draft = done(rt, shared.reserve_when_free(rt, 1, request));
-    let ticket = done(rt, shared.submit(rt, built(rt, alloc, draft)));
-    see(rt, &shared.ring(rt, 1), &Ok(()));
+    let ticket = done(rt, calls::submit(shared, rt, built(rt, alloc, draft)));
+    see(rt, &calls::ring(shared, rt, 1), &Ok(()));
     ticket
+}
+
+/// Cancels a draft.
+pub(crate) fn cancelled<A: Allocator + Copy, R: Abort + Wait>(
+    rt: &R,
+    shared: &Shared<World<A>>,
+    draft: Draft<A>,
+) {
+    let cancelled = shared.with(rt, Changes::ROOM, draft, |world, draft| world.cancel(draft));
+    done(rt, cancelled);
+}
+
+/// Reserves a Read of three blocks, once there is room for it, and cancels it.
+fn taken_back<A: Allocator + Copy, R: Abort + Wait>(rt: &R, alloc: A, shared: &Shared<World<A>>) {
+    let Ok(request) = read_of(alloc, 3) else {
+        panic!(rt; "no memory");
+    };
+    let draft = done(rt, shared.reserve_when_free(rt, 1, request));
+    cancelled(rt, shared, draft);
 }
 
 /// Collects a Read of so many bytes, once it has ended, and releases it.
 fn released<A: Allocator + Copy, R: Abort + Wait>(
     rt: &R,
     alloc: A,
-    shared: &SharedWorld<A>,
+    shared: &Shared<World<A>>,
     ticket: Ticket,
     length: usize,
 ) {
     let finished = done(rt, shared.collect_when_ended(rt, ticket));
     see_sevens(rt, alloc, &finished, length);
-    done(rt, shared.release(rt, finished));
+    let released = shared.with(rt, Changes::ROOM, finished, |world, finished| {
+        world.release(finished)
+    });
+    done(rt, released);
 }
 
-/// Reads three blocks, time after time.
-fn read_often<R: Abort + Wait>(rt: &R, alloc: Global, shared: &SharedWorld) {
+/// Reads three blocks, time after time, and takes a Read back before each.
+fn read_often<R: Abort + Wait>(rt: &R, alloc: Global, shared: &Shared<World>) {
     for _ in 0..READS {
+        taken_back(rt, alloc, shared);
         let ticket = submitted(rt, alloc, shared, 3);
         released(rt, alloc, shared, ticket, 1536);
     }
 }
 
 /// Reaps until the workers are told to stop. It answers how many commands ended.
-fn poll<R: Abort + Wait>(rt: &R, shared: &SharedWorld) -> usize {
+fn poll<R: Abort + Wait>(rt: &R, shared: &Shared<World>) -> usize {
     let mut ended: usize = 0;
     for _ in rt.forever() {
         match shared.reap_next(rt) {
@@ -151,7 +174,7 @@ fn poll<R: Abort + Wait>(rt: &R, shared: &SharedWorld) -> usize {
 }
 
 /// Serves until the workers are told to stop. It answers how many commands were completed.
-fn serve<R: Wait>(rt: &R, shared: &SharedWorld) -> usize {
+fn serve<R: Wait>(rt: &R, shared: &Shared<World>) -> usize {
     let mut completed: usize = 0;
     for _ in rt.forever() {
         match shared.serve_next(rt) {
@@ -169,7 +192,7 @@ fn serve<R: Wait>(rt: &R, shared: &SharedWorld) -> usize {
 fn read_in_threads<R: Abort + Threads + Wait + Sync>(
     rt: &R,
     alloc: Global,
-    shared: &SharedWorld,
+    shared: &Shared<World>,
 ) -> Result<(), AllocError> {
     let mut readers = Vec::new(alloc);
     thread::scope(thread::scope_env(), rt, |scope| {
@@ -196,25 +219,25 @@ fn read_in_threads<R: Abort + Threads + Wait + Sync>(
 }
 
 /// Sees that each page is free or of a queue.
-fn see_at_rest<A: Allocator + Copy, R: Abort + Wait>(rt: &R, shared: &SharedWorld<A>) {
+fn see_at_rest<A: Allocator + Copy, R: Abort + Wait>(rt: &R, shared: &Shared<World<A>>) {
     let counts = Counts {
         free_pages: 8,
         queue_pages: 4,
         chain_pages: 0,
         data_pages: 0,
     };
-    see(rt, &shared.counts(rt), &counts);
+    see(rt, &calls::counts(shared, rt), &counts);
     for p in 0..SMALL.pages {
-        let owner = shared.owner(rt, PageNo(p));
+        let owner = calls::owner(shared, rt, PageNo(p));
         assert!(rt; matches!(owner, Some(Owner::Free | Owner::Queue { .. })));
     }
-    see(rt, &shared.owner(rt, PageNo(SMALL.pages)), &None);
+    see(rt, &calls::owner(shared, rt, PageNo(SMALL.pages)), &None);
 }
 
 #[test]
 fn readers_in_threads_wait_for_each_other(rt: HostRuntime) -> Result<(), Fail> {
     let alloc = rt.alloc();
-    let shared = SharedWorld::new(opened(&rt, alloc));
+    let shared = Shared::new(opened(&rt, alloc));
     read_in_threads(&rt, alloc, &shared)?;
     see_at_rest(&rt, &shared);
     assert!(rt; shared.end().is_idle());
@@ -224,7 +247,7 @@ fn readers_in_threads_wait_for_each_other(rt: HostRuntime) -> Result<(), Fail> {
 /// Sees that a command has not ended. Its ticket is spent.
 fn see_unended<A: Allocator + Copy, R: Abort + Wait>(
     rt: &R,
-    shared: &SharedWorld<A>,
+    shared: &Shared<World<A>>,
     ticket: Ticket,
 ) {
     match shared.collect_when_ended(rt, ticket) {
@@ -240,7 +263,7 @@ fn see_unended<A: Allocator + Copy, R: Abort + Wait>(
 fn who_waits_goes_on_once_told_to_stop(rt: HostRuntime) -> Result<(), Fail> {
     let alloc = rt.alloc();
     let request = read_of(alloc, 3)?;
-    let shared = SharedWorld::new(opened(&rt, alloc));
+    let shared = Shared::new(opened(&rt, alloc));
     let ticket = submitted(&rt, alloc, &shared, 3);
     let other = submitted(&rt, alloc, &shared, 3);
     see(&rt, &shared.stopping(&rt), &false);
@@ -256,11 +279,20 @@ fn who_waits_goes_on_once_told_to_stop(rt: HostRuntime) -> Result<(), Fail> {
     see_unended(&rt, &shared, other);
     assert!(rt; shared.reap_next(&rt).is_none());
     assert!(rt; shared.serve_next(&rt).is_none());
+    let free = shared.when(
+        &rt,
+        Change::Room,
+        |world, least| world.counts().free_pages >= *least,
+        Changes::NONE,
+        8,
+        |world, _| world.counts().free_pages,
+    );
+    see(&rt, &free, &0);
     Ok(())
 }
 
 /// Serves and reaps a Read of one block: its entry is fetched, two units of its list are done, and it is completed.
-fn carried<A: Allocator + Copy, R: Abort + Wait>(rt: &R, shared: &SharedWorld<A>) {
+fn carried<A: Allocator + Copy, R: Abort + Wait>(rt: &R, shared: &Shared<World<A>>) {
     assert!(rt;
         matches!(
             shared.serve_next(rt),
@@ -331,7 +363,7 @@ fn asked_alone<R: Abort>(rt: &R, alloc: Global) -> Tally {
 /// What they ask of one in a shared world.
 fn asked_shared<R: Abort + Wait>(rt: &R, alloc: Global) -> Tally {
     let heap = Refusing::new(alloc);
-    let shared = SharedWorld::new(opened(rt, &heap));
+    let shared = Shared::new(opened(rt, &heap));
     for _ in 0..100 {
         let ticket = submitted(rt, &heap, &shared, 1);
         carried(rt, &shared);
@@ -350,14 +382,15 @@ fn a_shared_world_asks_for_the_memory_of_the_world(rt: HostRuntime) {
 }
 
 /// Carries an admin command through that was sent.
-fn managed<R: Abort + Wait>(rt: &R, shared: &SharedWorld, sent: Result<u16, Refusal>) {
+fn managed<R: Abort + Wait>(rt: &R, shared: &Shared<World>, sent: Result<u16, Refusal>) {
     see(rt, &sent, &Ok(0));
-    see(rt, &shared.ring(rt, 0), &Ok(()));
-    assert!(rt; shared.fetch(rt, 0).is_ok());
-    assert!(rt; shared.complete(rt, 0, 0).is_ok());
+    see(rt, &calls::ring(shared, rt, 0), &Ok(()));
+    assert!(rt; calls::fetch(shared, rt, 0).is_ok());
+    let completed = shared.with(rt, Changes::NONE, (), |world, ()| world.complete(0, 0));
+    assert!(rt; completed.is_ok());
     assert!(rt;
         matches!(
-            shared.reap(rt, 0),
+            calls::reap(shared, rt, 0),
             Ok(Reaped::AdminDone {
                 cid: 0,
                 status: Status::SUCCESS,
@@ -367,26 +400,51 @@ fn managed<R: Abort + Wait>(rt: &R, shared: &SharedWorld, sent: Result<u16, Refu
     );
 }
 
+/// Takes queue 1 away, with a Read that its deletion ends, and makes it again.
+fn remade<R: Abort + Wait>(rt: &R, alloc: Global, shared: &Shared<World>) {
+    let ticket = submitted(rt, alloc, shared, 1);
+    let abort = shared.with(rt, Changes::NONE, (), |world, ()| world.abort(1, 0));
+    managed(rt, shared, abort);
+    let walked = shared.with(rt, Changes::NONE, (), |world, ()| world.walk(1, 0));
+    assert!(rt; walked.is_err());
+    let delete = shared.with(rt, Changes::ROOM, 1, |world, q| world.delete_sq(q));
+    managed(rt, shared, delete);
+    let retired = shared.with(rt, Changes::ALL, 1, |world, q| world.retire(q));
+    see(rt, &retired, &Ok(()));
+    let finished = done(
+        rt,
+        shared.with(rt, Changes::NONE, ticket, |world, ticket| {
+            world.collect(ticket)
+        }),
+    );
+    see(rt, &finished.status(), &Status::ABORTED_SQ_DELETION);
+    let released = shared.with(rt, Changes::ROOM, finished, |world, finished| {
+        world.release(finished)
+    });
+    done(rt, released);
+    let delete = shared.with(rt, Changes::NONE, 1, |world, q| world.delete_cq(q));
+    managed(rt, shared, delete);
+    let create = shared.with(rt, Changes::ROOM, 1, |world, q| world.create_cq(q));
+    managed(rt, shared, create);
+    let create = shared.with(rt, Changes::ROOM, 1, |world, q| world.create_sq(q));
+    managed(rt, shared, create);
+}
+
 #[test]
 fn a_queue_goes_and_comes_back(rt: HostRuntime) -> Result<(), Fail> {
     let alloc = rt.alloc();
-    let shared = SharedWorld::new(opened(&rt, alloc));
-    let ticket = submitted(&rt, alloc, &shared, 1);
-    managed(&rt, &shared, shared.abort(&rt, 1, 0));
-    assert!(rt; shared.walk(&rt, 1, 0).is_err());
-    managed(&rt, &shared, shared.delete_sq(&rt, 1));
-    see(&rt, &shared.retire(&rt, 1), &Ok(()));
-    let finished = done(&rt, shared.collect(&rt, ticket));
-    see(&rt, &finished.status(), &Status::ABORTED_SQ_DELETION);
-    done(&rt, shared.release(&rt, finished));
-    managed(&rt, &shared, shared.delete_cq(&rt, 1));
-    managed(&rt, &shared, shared.create_cq(&rt, 1));
-    managed(&rt, &shared, shared.create_sq(&rt, 1));
-    let draft = done(&rt, shared.reserve(&rt, 1, read_of(alloc, 1)?));
-    done(&rt, shared.cancel(&rt, draft));
-    see(&rt, &shared.forge(&rt, 1, 0, [0; 16]), &Ok(()));
+    let shared = Shared::new(opened(&rt, alloc));
+    remade(&rt, alloc, &shared);
+    let reserved = shared.with(&rt, Changes::NONE, read_of(alloc, 1)?, |world, request| {
+        world.reserve(1, request)
+    });
+    cancelled(&rt, &shared, done(&rt, reserved));
+    let forged = shared.with(&rt, Changes::NONE, [0; 16], |world, bytes| {
+        world.forge(1, 0, bytes)
+    });
+    see(&rt, &forged, &Ok(()));
     see_at_rest(&rt, &shared);
-    shared.reset(&rt);
-    see(&rt, &shared.counts(&rt).queue_pages, &2);
+    calls::reset(&shared, &rt);
+    see(&rt, &calls::counts(&shared, &rt).queue_pages, &2);
     Ok(())
 }

@@ -227,6 +227,57 @@ const COMPLETION_IS_FORGED: Waking = Waking {
     entries: 7,
 };
 
+/// The controller has a command with identifier 0 of queue 1 that the host was told of as ended, by a forged completion in place of that of
+/// identifier 1.
+const FORGED_END: &str = "reserve 1 read 0 1 0+512
+> reserve q 1 cid 0 data 1 chain 0
+build 1 0
+> build ok
+submit 1 0
+> submit ok
+ring 1
+> ring ok
+fetch 1
+> fetch cid 0 touched 2
+reserve 1 read 0 1 0+512
+> reserve q 1 cid 1 data 1 chain 0
+build 1 1
+> build ok
+submit 1 1
+> submit ok
+ring 1
+> ring ok
+fetch 1
+> fetch cid 1 touched 2
+walk 1 1
+> walk more touched -
+walk 1 1
+> walk end touched 7
+complete 1 1
+> complete ok touched 3
+forge 1 0 00000000000000000200010000000100
+> forge ok
+reap 1
+> reap done cid 0 status 0:00
+collect 1 0
+> collect status 0:00
+release 1 0
+> release ok
+> counts free 9 queue 6 chain 0 data 1
+";
+
+/// It waits for the end of its Read, whose identifier is that of the command which the controller still has: the fetch itself posts that. The
+/// poller waits for a completion.
+const IDENTIFIER_CONFLICTS: Waking = Waking {
+    before: &[FORGED_END],
+    jobs: &[(Kind::Read, 1, &[])],
+    submits: true,
+    polls: true,
+    calls: &[Call::Ring(1), Call::Fetch(1)],
+    ends: &[End::Read(Status::COMMAND_ID_CONFLICT)],
+    entries: 23,
+};
+
 /// It waits for a page, as a draft has all ten. It gets its own draft then, and ends of itself, since it brings a byte too many.
 const PAGES_COME_BACK: Waking = Waking {
     before: &[
@@ -525,6 +576,7 @@ fn wake<L: LogBrand + Send + Sync, R: Abort + Threads + Wait + Clock + Sync>(
 {
     let shared = Shared::new(opened::<Full<L>, R>(rt, alloc, config, image, blank));
     let mut desk = Desk::new(rt, alloc, alloc, Access::Lock(shared));
+    assert!(rt; desk.sit() == Ok(true));
     for text in waking.before {
         play_text(rt, &mut desk, text);
     }
@@ -573,6 +625,11 @@ fn a_completion_wakes_the_poller(rt: HostRuntime) {
 #[test]
 fn a_forged_completion_wakes_the_poller(rt: HostRuntime) {
     run(&rt, rt.alloc(), &COMPLETION_IS_FORGED);
+}
+
+#[test]
+fn a_fetch_wakes_the_poller(rt: HostRuntime) {
+    run(&rt, rt.alloc(), &IDENTIFIER_CONFLICTS);
 }
 
 #[test]

@@ -5,7 +5,7 @@ use crate::script_runs::{Narrow, Slow};
 use crate::usual::{USUAL, zeros};
 use driver_threads::{JobEnd, JobRefusal};
 use io_commands::Kind;
-use job_cli::{Pace, append_job_line, run_jobs};
+use job_cli::{Pace, Server, append_job_line, run_jobs};
 use script_cli::RunFault;
 use std::alloc::AllocGlobal;
 use std::io;
@@ -21,9 +21,10 @@ struct Run {
     prints: &'static str,
 }
 
-/// One job in flight for each submitter, and one round.
+/// One job in flight for each submitter, which serves as it rings, and one round.
 const ONE: Pace = Pace {
     depth: 1,
+    server: Server::Ringer,
     log_limit: None,
 };
 
