@@ -6,4 +6,4 @@
 mod range;
 mod sparse;
 
-pub use sparse::{GivenPage, SparseMemory};
+pub use sparse::{ALL_PAGES, GivenPage, SparseMemory};
