@@ -198,8 +198,8 @@ impl CaseReader {
             Some(address) if self.memory.is_of_pool(address / PAGE) => Ok(address),
             _ => {
                 let first = self.memory.first().saturating_mul(PAGE);
-                let size = self.memory.count().saturating_mul(PAGE);
-                let last = first.saturating_add(size.saturating_sub(1));
+                let more = self.memory.count().saturating_sub(1).saturating_mul(PAGE);
+                let last = first.saturating_add(more).saturating_add(PAGE - 1);
                 Err(Stop::At(place, Wrong::NoAddress { first, last }))
             }
         }
@@ -250,12 +250,13 @@ impl CaseReader {
             return Err(Stop::At(place, Wrong::Given(other)));
         }
         self.pool_told = true;
-        self.addresses.push(Claim {
-            first,
-            count: PAGE,
-            number,
-        })
-        .map_err(AllocError::from)?;
+        self.addresses
+            .push(Claim {
+                first,
+                count: PAGE,
+                number,
+            })
+            .map_err(AllocError::from)?;
         self.begin_bytes(alloc, Target::Memory(first), PAGE_BYTES, number, key);
         Ok(())
     }
@@ -276,12 +277,13 @@ impl CaseReader {
             .saturating_sub(first % PAGE)
             .min(MOST_BYTES);
         self.pool_told = true;
-        self.addresses.push(Claim {
-            first,
-            count: 0,
-            number,
-        })
-        .map_err(AllocError::from)?;
+        self.addresses
+            .push(Claim {
+                first,
+                count: 0,
+                number,
+            })
+            .map_err(AllocError::from)?;
         self.begin_bytes(alloc, Target::Memory(first), most as usize, number, key);
         Ok(())
     }
@@ -300,17 +302,20 @@ impl CaseReader {
             return Err(Stop::At(place, Wrong::Given(other)));
         }
         self.blocks_told = true;
-        self.blocks.push(Claim {
-            first,
-            count: 1,
-            number,
-        })
-        .map_err(AllocError::from)?;
-        self.namespace.given.push(GivenBlock {
-            number: first,
-            bytes: [0; 512],
-        })
-        .map_err(AllocError::from)?;
+        self.blocks
+            .push(Claim {
+                first,
+                count: 1,
+                number,
+            })
+            .map_err(AllocError::from)?;
+        self.namespace
+            .given
+            .push(GivenBlock {
+                number: first,
+                bytes: [0; 512],
+            })
+            .map_err(AllocError::from)?;
         self.begin_bytes(alloc, Target::Block, BLOCK_SIZE, number, key);
         Ok(())
     }

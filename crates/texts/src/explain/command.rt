@@ -113,8 +113,13 @@ pub fn explain(
     let stored = stored(alloc, entry, namespace)?;
     let mut bytes = first_bytes(alloc, kind, stored.as_slice())?;
     let walk = walk_of(entry, kind);
-    let Walked { taken, fault } =
-        walk_list(alloc, walk, &entry.sgl1, memory, bytes.as_mut_slice())?;
+    let Walked { taken, fault } = walk_list(
+        alloc,
+        walk,
+        &entry.sgl1,
+        memory,
+        bytes.as_mut_slice(),
+    )?;
     Ok(Explanation {
         need: walk.need(),
         taken,

@@ -94,7 +94,10 @@ fn put_wanted<W: fmt::Write>(f: &mut fmt::Formatter<W>, wrong: Wrong) -> fmt::Re
             write!(f, "a decimal number is wanted here, {least} to {most}.")
         }
         Wrong::NoSize { least, most } => {
-            write!(f, "a decimal number is wanted here, {least} to {most}, or any.")
+            write!(
+                f,
+                "a decimal number is wanted here, {least} to {most}, or any."
+            )
         }
         Wrong::NoAddress { first, last } => write!(
             f,
@@ -122,7 +125,10 @@ impl fmt::Display for Wrong {
                 "bytes are wanted here: two hexadecimal digits for each, or a byte so often, as 00*16, or a file, as @FILE.",
             ),
             Wrong::NoOffset(wanted) => {
-                write!(f, "a dump goes on where the line before ended: the offset {wanted:X} is wanted here.")
+                write!(
+                    f,
+                    "a dump goes on where the line before ended: the offset {wanted:X} is wanted here."
+                )
             }
             Wrong::NoEnd => f.write_str("behind a line * an offset is wanted."),
             Wrong::NoFile(Some(kind)) => write!(f, "this file cannot be read: {kind}."),

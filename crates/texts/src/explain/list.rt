@@ -71,12 +71,7 @@ fn counting(next: Option<Taken>, counted: u32) -> Option<Taken>
 }
 
 /// Does a step over a memory of which nothing is touched, and tells the descriptor that it took, if it took one.
-fn step<D: Dma>(
-    walk: &mut Walk,
-    sgl1: &[u8; 16],
-    dma: &mut D,
-    staging: &mut [u8],
-) -> Option<Taken>
+fn step<D: Dma>(walk: &mut Walk, sgl1: &[u8; 16], dma: &mut D, staging: &mut [u8]) -> Option<Taken>
     requires open { is_over walk.old ≡ false }
     requires staging { length staging.old ≡ need_of walk.old }
     requires room { D.reached dma.old ≡ [] }

@@ -136,11 +136,7 @@ fn put_sgl(out: &mut String, alloc: Global, bytes: [u8; 16]) -> Result<(), Alloc
 }
 
 /// The fault of the own descriptor of an entry, if it has one.
-fn own_fault(
-    alloc: Global,
-    entry: &SubEntry,
-    kind: Kind,
-) -> Result<Option<WalkFault>, AllocError>
+fn own_fault(alloc: Global, entry: &SubEntry, kind: Kind) -> Result<Option<WalkFault>, AllocError>
     requires kind { kind_of_opcode entry.now.opcode ≡ Some kind }
     requires few { block_number entry.now ≤ 2048 }
 {
