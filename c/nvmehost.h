@@ -150,7 +150,7 @@ static inline void nvmehost_write_doorbell(volatile void *registers, unsigned st
 
 /* Reserves a command of blocks of 512 bytes from slba on: the lowest free identifier (answer.cid) and pages (data_pages, chain_pages), as a draft. The pages are out of the
  * pool until the draft is submitted or cancelled.
- * Refused: NO_KIND, NO_QUEUE, DELETING, a fault of the request (TOO_MANY_PIECES to LENGTH_MISMATCH), NO_IDENTIFIER, NO_PAGES, MEMORY. */
+ * Refused: NO_KIND, BAD_PIECE, NO_QUEUE, DELETING, a fault of the request (TOO_MANY_PIECES to LENGTH_MISMATCH), NO_IDENTIFIER, NO_PAGES, MEMORY. */
 uint32_t nvmehost_reserve(nvmehost *, uint16_t q, uint32_t kind, uint64_t slba, uint32_t blocks, const nvmesgl_piece *pieces, size_t piece_count,
                           nvmesgl_answer *);
 /* Fills the draft of a Write or a Compare with the bytes, and zeros behind them. Refused: NO_VALUE, NOT_A_SOURCE, WRONG_LENGTH. */

@@ -317,8 +317,8 @@ uint32_t nvmesgl_serve(nvmesgl *, nvmesgl_answer *);
 /* Each carries a command of the whole blocks of a buffer, from block slba on, through all its steps: it reserves, fills, builds, submits and rings; has the controller
  * serve every queue; reaps the queue until the command has ended (other commands of the queue that end meanwhile are collected as always); collects, gathers and
  * releases. NVMESGL_DONE says that it ended: answer.sct and answer.sc tell how. The buffer has 1 to 2,048 blocks of 512 bytes.
- * Refused: what nvmesgl_reserve, nvmesgl_fill, nvmesgl_build and nvmesgl_submit are refused for, and nothing of the command is left; BAD_COUNT for more than 1,048,576 bytes,
- * LENGTH_MISMATCH where the last block is cut short. Or answer.state is NVMESGL_LEFT: the command answer.cid is outstanding, and the code is that of the step that could not be
+ * Refused: what nvmesgl_reserve, nvmesgl_fill, nvmesgl_build and nvmesgl_submit are refused for, and nothing of the command is left; BAD_COUNT for fewer than 512 bytes and for
+ * more than 1,048,576, LENGTH_MISMATCH where the last block is cut short. Or answer.state is NVMESGL_LEFT: the command answer.cid is outstanding, and the code is that of the step that could not be
  * made (NOT_YET: it has not ended, as where another command's completion was forged; MEMORY); go on by single calls. */
 uint32_t nvmesgl_read(nvmesgl *, uint16_t q, uint64_t slba, uint8_t *buffer, size_t buffer_len, nvmesgl_answer *);
 uint32_t nvmesgl_write(nvmesgl *, uint16_t q, uint64_t slba, const uint8_t *bytes, size_t byte_count, nvmesgl_answer *);

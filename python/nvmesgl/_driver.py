@@ -1,61 +1,22 @@
-"""What a machine and a host have in common: an open handle, and the calls of a command and of a queue that the driver makes."""
+"""What a machine and a host have in common: the calls of a command and of a queue that the driver makes."""
 
 from __future__ import annotations
 
 import ctypes
 from ctypes import byref, c_uint8
-from types import TracebackType
-from typing import Any, Dict, Iterable, List, Optional, Type, TypeVar
+from typing import Any, Dict, Iterable
 
-from ._library import Answer, CPiece, Handle, PageOwner, fits, lent, lent_to_write
+from ._library import CPiece, PageOwner, fits, lent, lent_to_write
+from ._opened import Opened
 from .words import Code, Kind, Owner, OwnerKind, Piece, Refused, Reserved, Status
 
-Self = TypeVar("Self", bound="Driver")
 
-
-class Driver:
-    """An open handle. Used by `with`, or closed by `close`."""
+class Driver(Opened):
+    """An open handle of a driver. Used by `with`, or closed by `close`."""
 
     def __init__(self, functions: Dict[str, Any]) -> None:
-        self._functions = functions
-        self._handle = Handle()
-        self._answer = Answer()
-        self._at, self._told = byref(self._handle), byref(self._answer)
+        super().__init__(functions)
         self._gathered: "ctypes.Array[c_uint8]" = (c_uint8 * 4096)()
-
-    def __enter__(self: Self) -> Self:
-        return self
-
-    def __exit__(self, kind: Optional[Type[BaseException]], why: Optional[BaseException], trace: Optional[TracebackType]) -> None:
-        self.close()
-
-    def __del__(self) -> None:
-        if getattr(self, "_handle", None) is not None:
-            self.close()
-
-    def close(self) -> None:
-        """Lets all go, whatever is outstanding. A handle that is closed refuses each call with CLOSED_HANDLE."""
-        self._functions["close"](self._at)
-
-    def _code(self, name: str, *arguments: object) -> int:
-        return int(self._functions[name](self._at, *arguments, self._told))
-
-    def _call(self, name: str, *arguments: object) -> Answer:
-        code = self._code(name, *arguments)
-        if code != Code.DONE:
-            raise Refused(name, code, self._answer.need, self._answer.free, self._touched())
-        return self._answer
-
-    def _look(self, name: str, *arguments: object) -> None:
-        code = self._functions[name](self._at, *arguments)
-        if code != Code.DONE:
-            raise Refused(name, code)
-
-    def _touched(self) -> List[int]:
-        return list(self._answer.touched[: self._answer.touched_count])
-
-    def _status(self) -> Status:
-        return Status(self._answer.sct, self._answer.sc)
 
     # A command
 

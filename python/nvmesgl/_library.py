@@ -86,6 +86,11 @@ def lent_to_write(buffer: Any) -> Tuple[Any, int]:
     return (c_uint8 * view.nbytes).from_buffer(view), view.nbytes
 
 
+# The words with which the options of a machine and of a host begin, and the counts of pages with which both answer.
+OPTION_WORDS = [(name, c_uint32) for name in ("size", "pages", "queues", "entries", "segment")]
+PAGE_COUNTS = [(name, c_uint32) for name in ("pages", "free_pages", "queue_pages", "chain_pages", "data_pages")]
+
+
 class Handle(Structure):
     _fields_ = [("at", c_void_p), ("full", c_bool)]
 

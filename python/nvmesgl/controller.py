@@ -16,11 +16,11 @@ from __future__ import annotations
 import ctypes
 import enum
 from ctypes import POINTER, Structure, byref, c_bool, c_size_t, c_uint8, c_uint16, c_uint32, c_void_p
-from types import TracebackType
-from typing import Any, Dict, Iterable, List, NamedTuple, Optional, Tuple, Type, Union
+from typing import Any, Dict, Iterable, List, NamedTuple, Optional, Tuple, Union
 
-from ._library import U16, U32, U64, Answer, Handle, declare, fits, lent, lent_to_write
-from .words import Code, Refused, State, Status, Step, Walk
+from ._library import U16, U64, Answer, Handle, declare, fits, lent, lent_to_write
+from ._opened import Opened
+from .words import State, Status, Step, Walk
 
 __all__ = ["Controller", "Job", "Next", "StepKind"]
 
@@ -81,76 +81,46 @@ _CALLS: Dict[str, List[Any]] = {
 }
 
 
-class Controller:
+class Controller(Opened):
     """The controller alone. Used by `with`, or closed by `close`."""
 
     def __init__(self, queues: Iterable[Tuple[int, int]], *, entries: int = 4, blocks: int = 64, image: Any = b"") -> None:
         """Opens a controller over the bytes of an image, in any buffer, or with none over so many blocks of zeros. `queues`: the pages of the pool where the
         submission and the completion ring of each queue begin, the admin queue first; each is live with empty rings."""
-        self._functions = declare("nvmectl_", _CALLS, ("close",))
-        self._handle = Handle()
-        self._answer = Answer()
+        super().__init__(declare("nvmectl_", _CALLS, ("close",)))
         options = COptions(ctypes.sizeof(COptions), fits(entries, 32), fits(blocks, 32))
         pages = [CQueue(fits(sq, 32), fits(cq, 32)) for sq, cq in queues]
-        self._call("open", byref(options), (CQueue * len(pages))(*pages), len(pages), *lent(image))
-
-    def __enter__(self) -> "Controller":
-        return self
-
-    def __exit__(self, kind: Optional[Type[BaseException]], why: Optional[BaseException], trace: Optional[TracebackType]) -> None:
-        self.close()
-
-    def __del__(self) -> None:
-        if getattr(self, "_handle", None) is not None:
-            self.close()
-
-    def close(self) -> None:
-        """Lets all go, whatever was fetched. A controller that is closed refuses each call with CLOSED_HANDLE."""
-        self._functions["close"](byref(self._handle))
-
-    def _call(self, name: str, *arguments: object) -> None:
-        code = self._functions[name](byref(self._handle), *arguments)
-        if code != Code.DONE:
-            raise Refused(name, code)
-
-    def _over(self, name: str, *arguments: object) -> Answer:
-        code = self._functions[name](byref(self._handle), *arguments, byref(self._answer))
-        if code != Code.DONE:
-            raise Refused(name, code, touched=self._touched())
-        return self._answer
-
-    def _touched(self) -> List[int]:
-        return list(self._answer.touched[: self._answer.touched_count])
+        self._look("open", byref(options), (CQueue * len(pages))(*pages), len(pages), *lent(image))
 
     def reset(self) -> None:
         """A Controller Level Reset: no command is left, the I/O queues are gone, and queue 0 stays with empty rings. The image is as it was."""
-        self._call("reset")
+        self._look("reset")
 
     # The doorbells
 
     def tail(self, q: int, value: int) -> None:
         """A value is written to the tail doorbell of submission queue q. BAD_DOORBELL where it is no slot of the ring."""
-        self._call("tail", q, value)
+        self._look("tail", q, value)
 
     def head(self, q: int, value: int) -> None:
         """A value is written to the head doorbell of completion queue q. BAD_DOORBELL where it is outside the last head to the tail."""
-        self._call("head", q, value)
+        self._look("head", q, value)
 
     # Steps over a pool, which is any writable buffer
 
     def fetch(self, q: int, pool: Any) -> Step:
         """Fetches an entry that was rung. One of queue 0 is decided and carried out here."""
-        return Step(self._over("fetch", q, *lent_to_write(pool)).cid, self._touched())
+        return Step(self._call("fetch", q, *lent_to_write(pool)).cid, self._touched())
 
     def walk(self, q: int, cid: int, pool: Any) -> Walk:
         """Does one unit of a fetched command's list. NOTHING of a command that has its verdict from the fetch: it is completed at once."""
-        told = self._over("walk", q, cid, *lent_to_write(pool))
+        told = self._call("walk", q, cid, *lent_to_write(pool))
         state = State(told.state)
-        return Walk(state, Status(told.sct, told.sc) if state == State.WALK_FAULT else None, self._touched())
+        return Walk(state, self._status() if state == State.WALK_FAULT else None, self._touched())
 
     def complete(self, q: int, cid: int, pool: Any) -> Step:
         """Posts a completion; a Write that ends well changes the image here."""
-        self._over("complete", q, cid, *lent_to_write(pool))
+        self._call("complete", q, cid, *lent_to_write(pool))
         return Step(cid, self._touched())
 
     def do(self, step: Next, pool: Any) -> Union[Step, Walk, None]:
@@ -168,18 +138,18 @@ class Controller:
     def next(self, pool: Any) -> Next:
         """A call that would be done now, or that the controller is at rest."""
         step = CStep()
-        self._call("next", *lent_to_write(pool), byref(step))
+        self._look("next", *lent_to_write(pool), byref(step))
         kind = StepKind(step.kind)
         return Next(kind, step.q, step.cid if kind in (StepKind.WALK, StepKind.COMPLETE) else None)
 
     def command(self, q: int, cid: int) -> Job:
         """A command that was fetched and not completed."""
         job = CJob()
-        self._call("command", q, cid, byref(job))
+        self._look("command", q, cid, byref(job))
         return Job(job.units, Status(job.sct, job.sc) if job.ended else None)
 
     def blocks(self, slba: int, count: int) -> bytes:
         """The bytes of so many blocks of the image from `slba` on."""
         buffer = (c_uint8 * (512 * fits(count, 32)))()
-        self._call("blocks", slba, buffer, len(buffer))
+        self._look("blocks", slba, buffer, len(buffer))
         return bytes(buffer)

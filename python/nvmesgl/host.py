@@ -27,7 +27,7 @@ from ctypes import POINTER, Structure, byref, c_bool, c_size_t, c_uint8, c_uint1
 from typing import Any, Dict, List, NamedTuple, Optional
 
 from ._driver import Driver
-from ._library import COMMAND_CALLS, U16, U32, U64, Answer, Handle, PageOwner, declare, fits, lent
+from ._library import COMMAND_CALLS, OPTION_WORDS, PAGE_COUNTS, U16, U32, U64, Answer, Handle, PageOwner, declare, fits, lent
 from .words import Code, Refused, State, Status
 
 __all__ = ["Counts", "Doorbell", "Host", "PAGE_BYTES", "Place", "Queue", "QueueState", "Reaped", "Right", "Rings", "Run"]
@@ -126,14 +126,7 @@ class CMemory(Structure):
 
 
 class COptions(Structure):
-    _fields_ = [
-        ("size", c_uint32),
-        ("pages", c_uint32),
-        ("queues", c_uint32),
-        ("entries", c_uint32),
-        ("segment", c_uint32),
-        ("reserved", c_uint32 * 3),
-    ]
+    _fields_ = [*OPTION_WORDS, ("reserved", c_uint32 * 3)]
 
 
 class CDoorbell(Structure):
@@ -163,7 +156,7 @@ class CPlace(Structure):
 
 
 class CPages(Structure):
-    _fields_ = [(name, c_uint32) for name in Counts._fields]
+    _fields_ = PAGE_COUNTS
 
 
 _HANDLE, _ANSWER, _BELL = POINTER(Handle), POINTER(Answer), POINTER(CDoorbell)

@@ -7,7 +7,7 @@ from ctypes import POINTER, Structure, byref, c_bool, c_size_t, c_uint8, c_uint3
 from typing import Any, Dict, List, NamedTuple, Optional
 
 from ._driver import Driver
-from ._library import COMMAND_CALLS, U16, U32, U64, Answer, Handle, PageOwner, declare, fits, lent, lent_to_write
+from ._library import COMMAND_CALLS, OPTION_WORDS, PAGE_COUNTS, U16, U32, U64, Answer, Handle, PageOwner, declare, fits, lent, lent_to_write
 from .words import State, Status, Step, Walk
 
 __all__ = ["Completion", "Counts", "Machine"]
@@ -34,26 +34,11 @@ class Counts(NamedTuple):
 
 
 class Options(Structure):
-    _fields_ = [
-        ("size", c_uint32),
-        ("pages", c_uint32),
-        ("queues", c_uint32),
-        ("entries", c_uint32),
-        ("segment", c_uint32),
-        ("blocks", c_uint32),
-        ("reserved", c_uint32 * 10),
-    ]
+    _fields_ = [*OPTION_WORDS, ("blocks", c_uint32), ("reserved", c_uint32 * 10)]
 
 
 class Pages(Structure):
-    _fields_ = [
-        ("pages", c_uint32),
-        ("free_pages", c_uint32),
-        ("queue_pages", c_uint32),
-        ("chain_pages", c_uint32),
-        ("data_pages", c_uint32),
-        ("trusted", c_bool),
-    ]
+    _fields_ = [*PAGE_COUNTS, ("trusted", c_bool)]
 
 
 _HANDLE, _ANSWER = POINTER(Handle), POINTER(Answer)
