@@ -34,7 +34,7 @@ pub(crate) fn explain_case<R: AllocGlobal + Files, I: Read, W: Write>(
 {
     let alloc = rt.alloc();
     let case = script_text(rt, path, reader)?;
-    match explain_text(rt, &case, layout) {
+    match explain_text(rt, path, &case, layout) {
         Ok(Answer { text, status }) => {
             print_text(alloc, Ok(text), writer)?;
             if status == Status::SUCCESS {

@@ -2,9 +2,10 @@
 use Rattle.std.specs.Prelude.{◌≡◌, ◌≤◌, ℕ, suc, Bool, true, false, List, Option, Some, None, length}
 use Rattle.controller_walk.specs.{Faults.{fault_met, fault_of, fault_status, answered_status}, Laws.{Agree, StandsAfter}}
 use Rattle.controller_walk.specs.{Units.{Course, cause_status, course_of_list, units, verdict}, declared.{cause.WalkFault.WalkFault, walk.Walk.Walk}}
-use Rattle.entry_codec.specs.declared.{status.{Status.Status, TheConstants.Status.SUCCESS}, submission.SubEntry.SubEntry}
-use Rattle.io_commands.specs.Jobs.{direction_of_entry, need_of_entry, status_after}
+use Rattle.entry_codec.specs.declared.{status.Status.Status, submission.SubEntry.SubEntry}
+use Rattle.io_commands.specs.Jobs.{direction_of_entry, kind_of_opcode, need_of_entry}
 use Rattle.page_memory.specs.Memory.{Memory}
+use Rattle.texts.specs.Stored.{status_by}
 
 -- the list of an entry
 abbrev pub list_of : Memory → SubEntry → Course
@@ -29,7 +30,7 @@ abbrev pub WalkedTo : Bool → (ℕ → Bool) → Memory → Course → Walk →
 WalkedTo true at m c w now = Ends at m c (fault_of w)
 WalkedTo false at m c w now = Goes at m c w now
 
--- how a command ends whose list was walked, with the bytes that it then has
+-- how a command ends whose list was walked, by what stands in its blocks, with the bytes that it then has
 abbrev pub ends_with : List ℕ → SubEntry → List ℕ → Option WalkFault → Status
-ends_with image e bytes (Some fault) = cause_status fault.cause
-ends_with image e bytes None = status_after image e bytes (Some SUCCESS)
+ends_with stored e bytes (Some fault) = cause_status fault.cause
+ends_with stored e bytes None = status_by stored bytes (kind_of_opcode e.opcode)

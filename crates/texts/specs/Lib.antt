@@ -1,5 +1,6 @@
-pub mod Checking
 pub mod Found
 pub mod Slots
+pub mod Stored
 pub mod Ending
 pub mod Taking
+pub mod Sparse

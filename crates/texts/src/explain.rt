@@ -1,17 +1,21 @@
 //! What the modelled controller makes of bytes that somebody pastes in, told for people who write firmware.
 //!
-//! [`read_case`] reads pages, blocks and a submission entry from lines. [`explain`] walks the entry's list over these with the walk of
+//! [`read_case`] reads pages, blocks and a submission entry from lines, and from dumps among them. [`explain`] walks the entry's list over these with the walk of
 //! `controller_walk` and keeps each descriptor that it takes; [`put_explanation`] writes a line for each, and then how the command ends and by
 //! which rule; [`put_objects`] writes the same as JSON. [`explain_text`] does all three. [`show`] decodes a single entry or descriptor. The lines are this project's own.
 
 mod answer;
 mod case;
 mod command;
+mod dump;
 mod fault;
+mod files;
 mod json;
+mod key;
 pub mod laws;
 mod lines;
 mod list;
+mod namespace;
 mod round;
 mod single;
 mod text;
@@ -23,5 +27,6 @@ pub use fault::{CaseFault, Wrong};
 pub use json::put_objects;
 pub use lines::Stop;
 pub use list::Taken;
+pub use namespace::{GivenBlock, Namespace};
 pub use single::{Shown, show};
 pub use text::{fault_lines, put_explanation};

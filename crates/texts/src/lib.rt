@@ -5,4 +5,5 @@ pub mod byte_runs;
 pub mod draw;
 pub mod explain;
 pub mod faults;
+pub mod sparse_memory;
 pub mod traces;

@@ -37,7 +37,7 @@ const WORDS: [&[u8]; 28] = [
     b"0",
     b"\xC3\xA9",
     b"\t",
-    b"@cases/list.bytes",
+    b"@list.bytes",
     b"@",
 ];
 
@@ -74,15 +74,15 @@ fn shown_as(numbers: &mut Numbers) -> Shown {
 fn read_lines<R: AllocGlobal + Files>(rt: &R) -> Result<String, AllocError> {
     let alloc = rt.alloc();
     let mut numbers = Numbers::new(1);
-    let mut reader = CaseReader::begin(alloc)?;
+    let mut reader = CaseReader::begin(alloc, "cases/")?;
     let mut taken = 0u32;
     let mut decoded = 0u32;
-    for _ in 0..LINES {
+    for number in 1..=LINES {
         let line = line(alloc, &mut numbers)?;
-        match reader.line(rt, &line) {
+        match reader.line(rt, number, &line) {
             Ok(()) => taken = taken.saturating_add(1),
             Err(Stop::Memory) => return Err(AllocError),
-            Err(Stop::At(..)) => {}
+            Err(Stop::At(..) | Stop::Before(..)) => {}
         }
         if show(rt, shown_as(&mut numbers), &line).is_ok() {
             decoded = decoded.saturating_add(1);

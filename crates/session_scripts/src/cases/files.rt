@@ -36,9 +36,9 @@ fn read_played(alloc: Global, text: &str) -> Result<Played, AllocError> {
 }
 
 /// What is printed for a case, also of one that is at fault.
-fn printed<R: AllocGlobal + Files>(rt: &R, case: &[u8]) -> Result<String, AllocError> {
+fn printed<R: AllocGlobal + Files>(rt: &R, file: &str, case: &[u8]) -> Result<String, AllocError> {
     let alloc = rt.alloc();
-    match explain_text(rt, case, Layout::Lines) {
+    match explain_text(rt, Some(file), case, Layout::Lines) {
         Ok(answer) => Ok(answer.text),
         Err(fault) => {
             let below = fault_lines(alloc, case, fault)?;
@@ -57,8 +57,8 @@ struct Ends {
 
 impl Ends {
     /// Counts the end of a case.
-    fn count<R: AllocGlobal + Files>(&mut self, rt: &R, case: &[u8]) {
-        match explain_text(rt, case, Layout::Objects) {
+    fn count<R: AllocGlobal + Files>(&mut self, rt: &R, file: &str, case: &[u8]) {
+        match explain_text(rt, Some(file), case, Layout::Objects) {
             Ok(answer) if answer.status == Status::SUCCESS => {
                 self.accepted = self.accepted.saturating_add(1);
             }
@@ -69,10 +69,10 @@ impl Ends {
 }
 
 /// Cuts a case after each byte.
-fn cut<R: AllocGlobal + Files>(rt: &R, case: &[u8]) -> Ends {
+fn cut<R: AllocGlobal + Files>(rt: &R, file: &str, case: &[u8]) -> Ends {
     let mut ends = Ends::default();
     for len in 0..case.len() {
-        ends.count(rt, case.get(..len).unwrap_or(&[]));
+        ends.count(rt, file, case.get(..len).unwrap_or(&[]));
     }
     ends
 }
@@ -82,7 +82,7 @@ pub fn play_case<R: AllocGlobal + Files + Print>(rt: &R, file: &str) -> io::Resu
     let alloc = rt.alloc();
     let text = fs::read_to_string(rt, file)?;
     let Played { case, wanted } = read_played(alloc, text.as_str())?;
-    let came = printed(rt, case.as_bytes())?;
+    let came = printed(rt, file, case.as_bytes())?;
     if came != wanted {
         println!(rt; "{file} differs: there came")?;
         print!(rt; "{came}")?;
@@ -92,7 +92,7 @@ pub fn play_case<R: AllocGlobal + Files + Print>(rt: &R, file: &str) -> io::Resu
         accepted,
         refused,
         at_fault,
-    } = cut(rt, case.as_bytes());
+    } = cut(rt, file, case.as_bytes());
     println!(rt; "{file} ok; cut: {accepted} accepted, {refused} refused, {at_fault} at fault")?;
     Ok(true)
 }

@@ -3,6 +3,7 @@
 use crate::explain::case::{Case, read_case};
 use crate::explain::command::explain;
 use crate::explain::fault::CaseFault;
+use crate::explain::files::folder_of;
 use crate::explain::json::put_objects;
 use crate::explain::text::put_explanation;
 use entry_codec::{Status, SubEntry};
@@ -31,7 +32,7 @@ pub struct Answer {
 fn answer_of(alloc: Global, case: Case, layout: Layout) -> Result<Answer, AllocError> {
     let mut case = case;
     let entry = SubEntry::read(&case.entry);
-    let explanation = explain(alloc, &entry, &case.image, &mut case.store)?;
+    let explanation = explain(alloc, &entry, &case.namespace, &mut case.memory)?;
     let mut text = String::new(alloc);
     match layout {
         Layout::Lines => put_explanation(&mut text, &case, &explanation)?,
@@ -43,17 +44,19 @@ fn answer_of(alloc: Global, case: Case, layout: Layout) -> Result<Answer, AllocE
     })
 }
 
-/// Reads a case from lines, and explains it.
+/// Reads a case from lines, and explains it. Files that lines name are relative to the folder of the path that the lines stand in, or, without a path, to the
+/// working folder.
 ///
 /// # Errors
 ///
 /// Those of [`read_case`].
 pub fn explain_text<R: AllocGlobal + Files>(
     rt: &R,
+    path: Option<&str>,
     text: &[u8],
     layout: Layout,
 ) -> Result<Answer, CaseFault> {
-    let case = read_case(rt, text)?;
+    let case = read_case(rt, folder_of(path.unwrap_or("")), text)?;
     match answer_of(rt.alloc(), case, layout) {
         Ok(answer) => Ok(answer),
         Err(_) => Err(CaseFault::Memory),

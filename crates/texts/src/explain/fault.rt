@@ -12,14 +12,36 @@ pub enum Wrong {
     /// A decimal number is wanted, of these.
     NoNumber {
         /// The least.
+        least: u64,
+        /// The most.
+        most: u64,
+    },
+    /// A decimal number is wanted, of these, or that there are as many as may be.
+    NoSize {
+        /// The least.
         least: u32,
         /// The most.
         most: u32,
     },
+    /// An address of the pool is wanted.
+    NoAddress {
+        /// The pool's first address.
+        first: u64,
+        /// Its last address.
+        last: u64,
+    },
+    /// A multiple of 4,096 is wanted, with which the pool ends at 2^64.
+    NoMultiple,
     /// Bytes are wanted.
     NoHex,
+    /// An offset is wanted that goes on where the line before ended.
+    NoOffset(u64),
+    /// Behind a line that stands for others an offset is wanted.
+    NoEnd,
     /// A file that is named cannot be read; why it was not opened, if that was it.
     NoFile(Option<io::ErrorKind>),
+    /// A line of a file that is named is no line of a dump.
+    NoDump(u32),
     /// There are more bytes than so many.
     TooManyBytes(usize),
     /// There are so many bytes, and others are wanted.
@@ -35,8 +57,12 @@ pub enum Wrong {
     Late,
     /// Bytes for a page that is out.
     IsOut,
+    /// The line of this number has such bytes already.
+    Given(u32),
     /// The entry stands there already.
     Twice,
+    /// The namespace stands there already.
+    SecondNamespace,
 }
 
 impl Wrong {
@@ -45,15 +71,41 @@ impl Wrong {
         match self {
             Wrong::NoText => "BadLine",
             Wrong::NoKey => "UnknownWord",
-            Wrong::NoNumber { .. } => "BadNumber",
+            Wrong::NoNumber { .. } | Wrong::NoSize { .. } => "BadNumber",
+            Wrong::NoAddress { .. } | Wrong::NoMultiple => "BadAddress",
             Wrong::NoHex => "BadHex",
-            Wrong::NoFile(_) => "BadFile",
+            Wrong::NoOffset(_) | Wrong::NoEnd => "BadOffset",
+            Wrong::NoFile(_) | Wrong::NoDump(_) => "BadFile",
             Wrong::TooManyBytes(_) | Wrong::NotSoMany { .. } => "BadLength",
             Wrong::Extra => "ExtraWord",
             Wrong::Late => "LateSize",
             Wrong::IsOut => "PageOut",
+            Wrong::Given(_) => "SecondBytes",
             Wrong::Twice => "SecondEntry",
+            Wrong::SecondNamespace => "SecondNamespace",
         }
+    }
+}
+
+/// The sentence for a word that is no number or no address.
+fn put_wanted<W: fmt::Write>(f: &mut fmt::Formatter<W>, wrong: Wrong) -> fmt::Result {
+    match wrong {
+        Wrong::NoNumber { least, most } => {
+            write!(f, "a decimal number is wanted here, {least} to {most}.")
+        }
+        Wrong::NoSize { least, most } => {
+            write!(
+                f,
+                "a decimal number is wanted here, {least} to {most}, or any."
+            )
+        }
+        Wrong::NoAddress { first, last } => write!(
+            f,
+            "an address of the pool is wanted here, hexadecimal, as 0x1000 or 1000h: {first:X}h to {last:X}h."
+        ),
+        _ => f.write_str(
+            "a multiple of 1000h is wanted here, hexadecimal, as 0x1000 or 1000h; a pool has a page or more, and ends at 2^64.",
+        ),
     }
 }
 
@@ -62,17 +114,26 @@ impl fmt::Display for Wrong {
     fn fmt<W: fmt::Write>(&self, f: &mut fmt::Formatter<W>) -> fmt::Result {
         match self {
             Wrong::NoText => f.write_str("a line is ASCII text of 16384 bytes at most."),
-            Wrong::NoKey => {
-                f.write_str("a line begins with pages, page, out, blocks, block or sqe.")
-            }
-            Wrong::NoNumber { least, most } => {
-                write!(f, "a decimal number is wanted here, {least} to {most}.")
-            }
+            Wrong::NoKey => f.write_str(
+                "a line begins with pages, memory, page, at, out, blocks, block, nsid or sqe, or goes on with bytes.",
+            ),
+            Wrong::NoNumber { .. }
+            | Wrong::NoSize { .. }
+            | Wrong::NoAddress { .. }
+            | Wrong::NoMultiple => put_wanted(f, *self),
             Wrong::NoHex => f.write_str(
                 "bytes are wanted here: two hexadecimal digits for each, or a byte so often, as 00*16, or a file, as @FILE.",
             ),
+            Wrong::NoOffset(wanted) => {
+                write!(
+                    f,
+                    "a dump goes on where the line before ended: the offset {wanted:X} is wanted here."
+                )
+            }
+            Wrong::NoEnd => f.write_str("behind a line * an offset is wanted."),
             Wrong::NoFile(Some(kind)) => write!(f, "this file cannot be read: {kind}."),
             Wrong::NoFile(None) => f.write_str("this file cannot be read."),
+            Wrong::NoDump(line) => write!(f, "line {line} of this file is no line of a dump."),
             Wrong::TooManyBytes(most) => write!(f, "there are {most} bytes at most."),
             Wrong::NotSoMany { found, wanted } => {
                 write!(f, "there are {found} bytes here, and {wanted} are wanted.")
@@ -80,7 +141,9 @@ impl fmt::Display for Wrong {
             Wrong::Extra => f.write_str("this word is one too many."),
             Wrong::Late => f.write_str("a size stands once, before the lines that it is for."),
             Wrong::IsOut => f.write_str("this page is out, and has no bytes."),
+            Wrong::Given(line) => write!(f, "line {line} has bytes for this place already."),
             Wrong::Twice => f.write_str("an entry stands there already, and one is explained."),
+            Wrong::SecondNamespace => f.write_str("a namespace stands there already."),
         }
     }
 }

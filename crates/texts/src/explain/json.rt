@@ -4,7 +4,7 @@ use crate::explain::case::Case;
 use crate::explain::command::Explanation;
 use crate::explain::list::Taken;
 use crate::explain::round::{Round, round_of};
-use crate::explain::text::{put_more, put_rest, rule_of};
+use crate::explain::text::{put_more, put_rest, put_rule};
 use controller_walk::DescriptorAt;
 use entry_codec::Status;
 use entry_codec::status_names::name_of;
@@ -101,7 +101,7 @@ fn end_object(
     let mut more = String::new(alloc);
     let (at, rule) = match explanation.fault {
         Some(fault) => {
-            put_more(&mut more, &case.store, explanation, fault)?;
+            put_more(&mut more, &case.memory, explanation, fault)?;
             let cause = fault.cause;
             (Some(fault.at), Some(format!(in alloc; "{cause}")?))
         }
@@ -109,7 +109,11 @@ fn end_object(
             put_rest(&mut more, explanation)?;
             (None, None)
         }
-        None => (None, Some(String::from_str(alloc, rule_of(status))?)),
+        None => {
+            let mut rule = String::new(alloc);
+            put_rule(&mut rule, case.namespace.number, status)?;
+            (None, Some(rule))
+        }
     };
     Ok(EndObject {
         accepted: status == Status::SUCCESS,

@@ -1,11 +1,22 @@
-//! A law of the definitions that the contracts cite. The function does nothing, and its clause is the law.
+//! Laws of the definitions that the contracts cite. The functions do nothing, and their clauses are the laws.
 
-ghost use Rattle.std.specs.Prelude.{true};
+ghost use Rattle.std.specs.Prelude.{◌≡◌, ℕ, List, Some, true};
+ghost use Rattle.block_image.specs.Blocks.{blocks_at};
 ghost use Rattle.controller_walk.specs.Laws.{IsApart};
 ghost use Rattle.controller_walk.specs.Units.{Course};
+ghost use Rattle.entry_codec.specs.declared.status.TheConstants.Status.{SUCCESS};
+ghost use Rattle.entry_codec.specs.declared.submission.SubEntry.{SubEntry};
+ghost use Rattle.io_commands.specs.Jobs.{block_number, first_block, io_fault, kind_of_opcode, status_after};
 ghost use Rattle.sgl_descriptor.specs.declared.Direction.TheVariants.{Source};
+ghost use Rattle.texts.specs.Stored.{field_fault, status_by};
 
 /// A list whose bytes are fetched writes none of its descriptors, wherever they stand.
 pub fn fetched_lists_stand_apart()
     ensures { (c : Course) → IsApart (λ _. true) Source c }
+{}
+
+/// For the controller's own namespace the field checks are the controller's, and so is how a command ends by its blocks.
+pub fn own_namespace_is_the_controllers()
+    ensures checks { (blocks : ℕ) (e : SubEntry) → field_fault 1 blocks e ≡ io_fault blocks e }
+    ensures ends { (image : List ℕ) (e : SubEntry) (bytes : List ℕ) → status_by (blocks_at image (first_block e) (block_number e)) bytes (kind_of_opcode e.opcode) ≡ status_after image e bytes (Some SUCCESS) }
 {}

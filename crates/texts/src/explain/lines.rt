@@ -2,23 +2,45 @@
 
 ghost use Rattle.std.specs.Prelude.{◌≤◌, IfOk, length};
 
-use crate::byte_runs::{RunsFault, bytes_of};
-use crate::explain::fault::Wrong;
+use crate::explain::fault::{CaseFault, Wrong};
 use crate::faults::{Place, word_from};
-use page_memory::PAGE_BYTES;
-use script_cli::{ReadFault, read_first, words_of};
-use std::alloc::{AllocError, AllocGlobal};
-use std::fs::File;
-use std::rt::Files;
-use std::str;
+use script_cli::words_of;
+use std::alloc::AllocError;
 
 /// Why a line is not read.
 #[derive(Clone, Copy, Debug, PartialEq, Eq)]
 pub enum Stop {
-    /// Something is wrong at this place.
+    /// Something is wrong at this place of the line.
     At(Place, Wrong),
+    /// Something is wrong at this place of an earlier line, that of the number.
+    Before(u32, Place, Wrong),
     /// Memory was refused.
     Memory,
+}
+
+impl Stop {
+    /// Why the line of a number is not read.
+    pub(crate) fn in_line(self, number: u32) -> Stop {
+        match self {
+            Stop::At(place, wrong) => Stop::Before(number, place, wrong),
+            Stop::Before(..) | Stop::Memory => self,
+        }
+    }
+
+    /// The fault that it is of the line of this number, or of an earlier one.
+    pub(crate) fn fault(self, line: u32) -> CaseFault {
+        let (number, Place { start, end }, wrong) = match self {
+            Stop::Memory => return CaseFault::Memory,
+            Stop::At(place, wrong) => (line, place, wrong),
+            Stop::Before(number, place, wrong) => (number, place, wrong),
+        };
+        CaseFault::Line {
+            number,
+            start,
+            end,
+            wrong,
+        }
+    }
 }
 
 impl From<AllocError> for Stop {
@@ -28,7 +50,7 @@ impl From<AllocError> for Stop {
 }
 
 /// A line, and what of it is not read yet.
-#[derive(Drop)]
+#[derive(Clone, Copy)]
 pub(crate) struct Line<'a> {
     bytes: &'a [u8],
     at: usize,
@@ -41,6 +63,16 @@ impl<'a> Line<'a> {
         Line { bytes, at: 0 }
     }
 
+    /// How many bytes it has.
+    pub(crate) fn len(&self) -> usize {
+        self.bytes.len()
+    }
+
+    /// Where the next word stands; nothing where there is none.
+    pub(crate) fn peek(&self) -> Option<Place> {
+        word_from(self.bytes, self.at)
+    }
+
     /// Takes the next word; nothing where there is none.
     pub(crate) fn next(&mut self) -> Option<Place> {
         let place = word_from(self.bytes, self.at)?;
@@ -48,54 +80,32 @@ impl<'a> Line<'a> {
         Some(place)
     }
 
+    /// Leaves all words that are left.
+    pub(crate) fn leave(&mut self) {
+        self.at = self.bytes.len();
+    }
+
     /// The bytes of a word.
     pub(crate) fn word(&self, place: Place) -> &'a [u8] {
         self.bytes.get(place.start..place.end).unwrap_or(&[])
     }
 
-    /// Where the line ends.
-    fn end(&self) -> Place {
+    /// Where a next word stands, or where the line ends.
+    pub(crate) fn wanted(&mut self) -> Place {
         let end = self.bytes.len();
-        Place { start: end, end }
+        self.next().unwrap_or(Place { start: end, end })
     }
 
     /// Takes a decimal number.
-    pub(crate) fn number(&mut self, least: u32, most: u32) -> Result<u32, Stop>
+    pub(crate) fn number(&mut self, least: u64, most: u64) -> Result<u64, Stop>
         ensures least { IfOk result (λ n. least ≤ n) }
         ensures most { IfOk result (λ n. n ≤ most) }
     {
-        let place = self.next().unwrap_or(self.end());
+        let place = self.wanted();
         match number_of(self.word(place)) {
             Some(number) if least <= number && number <= most => Ok(number),
             _ => Err(Stop::At(place, Wrong::NoNumber { least, most })),
         }
-    }
-
-    /// Takes all words that are left as bytes, puts these to the front of a buffer, and answers how many they are.
-    pub(crate) fn fill<R: AllocGlobal + Files>(
-        &mut self,
-        rt: &R,
-        into: &mut [u8],
-    ) -> Result<usize, Stop> {
-        let most = into.len();
-        let mut filled = 0usize;
-        for _ in 0..self.bytes.len() {
-            let Some(place) = self.next() else {
-                break;
-            };
-            let room = most.saturating_sub(filled);
-            let more = match word_bytes(rt, self.word(place), room) {
-                Ok(more) => more,
-                Err(NoBytes::TooMany) => return Err(Stop::At(place, Wrong::TooManyBytes(most))),
-                Err(NoBytes::Wrong(wrong)) => return Err(Stop::At(place, wrong)),
-                Err(NoBytes::Memory) => return Err(Stop::Memory),
-            };
-            for (slot, byte) in into.iter_mut().skip(filled).zip(more.as_slice()) {
-                *slot = *byte;
-            }
-            filled = filled.saturating_add(more.len());
-        }
-        Ok(filled)
     }
 
     /// Sees that no word is left.
@@ -107,60 +117,66 @@ impl<'a> Line<'a> {
     }
 }
 
-/// What names a file in place of bytes.
-const FILE: u8 = b'@';
-
-/// Why a word gives no bytes.
-#[derive(Clone, Copy, Debug, PartialEq, Eq)]
-enum NoBytes {
-    /// It has more than there may be.
-    TooMany,
-    /// Something else is wrong with it.
-    Wrong(Wrong),
-    /// Memory was refused.
-    Memory,
+/// The number that a word is, if it is a decimal one below 2^64.
+pub(crate) fn number_of(word: &[u8]) -> Option<u64> {
+    words_of(word).ok()?.number64().ok()
 }
 
-/// The bytes of a file, so many at most, and no more than a page has.
-fn file_bytes<R: AllocGlobal + Files>(
-    rt: &R,
-    path: &[u8],
-    most: usize,
-) -> Result<Vec<u8>, NoBytes> {
-    let Ok(path) = str::from_utf8(path) else {
-        return Err(NoBytes::Wrong(Wrong::NoFile(None)));
-    };
-    let mut file = match File::open(rt, path) {
-        Ok(file) => file,
-        Err(why) => return Err(NoBytes::Wrong(Wrong::NoFile(Some(why.kind())))),
-    };
-    let most = most.min(PAGE_BYTES);
-    match read_first(rt.alloc(), &mut file, most) {
-        Ok(bytes) if bytes.len() <= most => Ok(bytes),
-        Ok(_) => Err(NoBytes::TooMany),
-        Err(ReadFault::Unreadable) => Err(NoBytes::Wrong(Wrong::NoFile(None))),
-        Err(ReadFault::Memory) => Err(NoBytes::Memory),
+/// What a digit stands for, of the decimal and the hexadecimal ones.
+pub(crate) fn digit_of(byte: u8) -> Option<u8> {
+    match byte {
+        b'0'..=b'9' => Some(byte - b'0'),
+        b'a'..=b'f' => Some(byte - b'a' + 10),
+        b'A'..=b'F' => Some(byte - b'A' + 10),
+        _ => None,
     }
 }
 
-/// The bytes that a word is, or that are in the file which it names, so many at most.
-fn word_bytes<R: AllocGlobal + Files>(
-    rt: &R,
-    word: &[u8],
-    most: usize,
-) -> Result<Vec<u8>, NoBytes> {
-    if let Some((&FILE, path)) = word.split_first() {
-        return file_bytes(rt, path, most);
+/// Whether a word is hexadecimal digits alone.
+pub(crate) fn is_hex(word: &[u8]) -> bool {
+    !word.is_empty() && word.iter().all(|byte| digit_of(*byte).is_some())
+}
+
+/// The number that digits are, if it is below 2^64.
+pub(crate) fn value_of(digits: &[u8], radix: u8) -> Option<u64> {
+    if digits.is_empty() {
+        return None;
     }
-    match bytes_of(rt.alloc(), word, most) {
-        Ok(bytes) => Ok(bytes),
-        Err(RunsFault::NoRuns) => Err(NoBytes::Wrong(Wrong::NoHex)),
-        Err(RunsFault::TooMany) => Err(NoBytes::TooMany),
-        Err(RunsFault::Memory) => Err(NoBytes::Memory),
+    let mut value = 0u64;
+    for byte in digits {
+        let digit = digit_of(*byte)?;
+        if digit >= radix {
+            return None;
+        }
+        value = value
+            .checked_mul(u64::from(radix))?
+            .checked_add(u64::from(digit))?;
+    }
+    Some(value)
+}
+
+/// What stands behind `0x`.
+pub(crate) fn behind_prefix(word: &[u8]) -> Option<&[u8]> {
+    match word {
+        [b'0', b'x' | b'X', digits @ ..] => Some(digits),
+        _ => None,
     }
 }
 
-/// The number that a word is, if it is one below 2^32.
-fn number_of(word: &[u8]) -> Option<u32> {
-    words_of(word).ok()?.number32().ok()
+/// The address that a word is: hexadecimal digits behind `0x`, or before an h.
+pub(crate) fn address_of(word: &[u8]) -> Option<u64> {
+    if let Some(digits) = behind_prefix(word) {
+        return value_of(digits, 16);
+    }
+    match word {
+        [digits @ .., b'h' | b'H'] => value_of(digits, 16),
+        _ => None,
+    }
+}
+
+/// Puts bytes over others, from a place on.
+pub(crate) fn put_in(into: &mut [u8], from: usize, bytes: &[u8]) {
+    for (slot, byte) in into.iter_mut().skip(from).zip(bytes) {
+        *slot = *byte;
+    }
 }

@@ -10,9 +10,11 @@ ghost use Rattle.texts.specs.Ending.{Ends, Goes, WalkedTo};
 ghost use Rattle.texts.specs.Taking.{AreOf, TellsTaken, ToldTo, taken_at, taken_next, with_next};
 ghost use Rattle.texts.specs.declared.explain.list.Taken.{Taken};
 ghost use Rattle.page_memory.specs.Memory.{Memory};
+ghost use Rattle.texts.specs.Sparse.{byte_in};
 
+use crate::sparse_memory::SparseMemory;
 use controller_walk::{DescriptorAt, Walk, WalkFault};
-use page_memory::{Dma, TouchRecord};
+use page_memory::Dma;
 use std::alloc::{AllocError, Global};
 
 /// A descriptor that a walk took.
@@ -68,15 +70,11 @@ fn counting(next: Option<Taken>, counted: u32) -> Option<Taken>
     Some(Taken { counted, ..next? })
 }
 
-/// Does a step, and tells the descriptor that it took, if it took one.
-fn step<D: TouchRecord>(
-    walk: &mut Walk,
-    sgl1: &[u8; 16],
-    dma: &mut D,
-    staging: &mut [u8],
-) -> Option<Taken>
+/// Does a step over a memory of which nothing is touched, and tells the descriptor that it took, if it took one.
+fn step<D: Dma>(walk: &mut Walk, sgl1: &[u8; 16], dma: &mut D, staging: &mut [u8]) -> Option<Taken>
     requires open { is_over walk.old ≡ false }
     requires staging { length staging.old ≡ need_of walk.old }
+    requires room { D.reached dma.old ≡ [] }
     ensures walked { (at : ℕ → Bool) (m : Memory) (c : Course) → IsApart at (direction_of walk.old) c → Goes at m c walk.old (D.memory dma.old)
         → WalkedTo (is_over walk.new) at m c walk.new (D.memory dma.new) }
 
@@ -91,7 +89,6 @@ fn step<D: TouchRecord>(
     ensures need { need_of walk.new ≡ need_of walk.old }
     ensures fewer { left_of walk.new < left_of walk.old }
 {
-    dma.clear();
     let next = next_taken(walk, sgl1, dma);
     let before = walk.counted();
     walk.step(dma, staging);
@@ -99,25 +96,26 @@ fn step<D: TouchRecord>(
 }
 
 /// Walks a list to its end. The walk is one that begins with this descriptor, and `staging` has as many bytes as the command moves.
-pub(crate) fn walk_list<D: TouchRecord>(
+pub(crate) fn walk_list(
     alloc: Global,
     begun: Walk,
     sgl1: &[u8; 16],
-    dma: &mut D,
+    memory: &mut SparseMemory,
     staging: &mut [u8],
 ) -> Result<Walked, AllocError>
     requires open { is_over begun ≡ false }
     requires staging { length staging.old ≡ need_of begun }
-    ensures ends { IfOk result (λ walked. (at : ℕ → Bool) (m : Memory) (c : Course) → IsApart at (direction_of begun) c → Goes at m c begun (D.memory dma.old)
+    ensures ends { IfOk result (λ walked. (at : ℕ → Bool) (m : Memory) (c : Course) → IsApart at (direction_of begun) c → Goes at m c begun (byte_in memory.old.pool)
         → Ends at m c walked.fault) }
     ensures told { IfOk result (λ walked. (at : ℕ → Bool) (m : Memory) (c : Course) → IsApart at (direction_of begun) c
-        → TellsTaken at m sgl1.now c [] begun (D.memory dma.old) → AreOf m sgl1.now c walked.taken.items) }
+        → TellsTaken at m sgl1.now c [] begun (byte_in memory.old.pool) → AreOf m sgl1.now c walked.taken.items) }
     ensures staging { length staging.new ≡ length staging.old }
 {
     let mut walk = begun;
     let mut taken = Vec::new(alloc);
     'walk: while !walk.is_over() {
-        if let Some(descriptor) = step(&mut walk, sgl1, dma, staging) {
+        memory.make_room()?;
+        if let Some(descriptor) = step(&mut walk, sgl1, memory, staging) {
             taken.push(descriptor)?;
         }
     }

@@ -1,21 +1,24 @@
 //! Single entries and descriptors.
 
-ghost use Rattle.std.specs.Prelude.{◌≡◌, false, length};
+ghost use Rattle.std.specs.Prelude.{◌≡◌, ◌≤◌, Some, false, length};
 ghost use Rattle.controller_walk.specs.Walks.{is_over, need_of};
+ghost use Rattle.io_commands.specs.Jobs.{block_number, kind_of_opcode};
 
-use crate::explain::command::{CheckError, checked, walk_of};
+use crate::explain::command::walk_of;
+use crate::explain::dump::{Dump, FILE};
 use crate::explain::fault::{CaseFault, Wrong};
-use crate::explain::lines::{Line, Stop};
-use crate::explain::text::rule_of;
+use crate::explain::files::file_bytes;
+use crate::explain::lines::{Line, Stop, put_in};
+use crate::explain::namespace::{Namespace, checked};
+use crate::explain::text::put_rule;
 use crate::faults::Place;
+use crate::sparse_memory::SparseMemory;
 use crate::traces::{put_completion_fields, put_descriptor, put_submission_fields};
-use block_image::{Image, ImageError};
 use controller_walk::{Direction, Walk, WalkFault};
 use entry_codec::status_names::Named;
-use entry_codec::{ComEntry, Status, SubEntry};
-use io_commands::MAX_BLOCKS;
-use page_memory::{OpenFault, Store};
-use script_cli::words_of;
+use entry_codec::{ComEntry, SubEntry};
+use io_commands::Kind;
+use script_cli::{MAX_LINES, split_line, words_of};
 use std::alloc::{AllocError, AllocGlobal, Global};
 use std::rt::Files;
 
@@ -45,15 +48,54 @@ impl Shown {
     }
 }
 
-/// So many bytes, of words; the place of a fault is that of the word, or of them all.
-fn array<R: AllocGlobal + Files, const N: usize>(rt: &R, words: &[u8]) -> Result<[u8; N], Stop> {
-    let (start, end) = (0, words.len());
-    if words_of(words).is_err() {
+/// Puts the bytes of a line behind those of the lines before it.
+fn put_line<R: AllocGlobal + Files>(
+    rt: &R,
+    dump: &mut Dump,
+    into: &mut [u8],
+    text: &[u8],
+) -> Result<(), Stop> {
+    let mut line = Line::of(text);
+    if words_of(text).is_err() {
+        let (start, end) = (0, text.len());
         return Err(Stop::At(Place { start, end }, Wrong::NoText));
     }
+    for _ in 0..line.len() {
+        let Some(place) = line.peek() else {
+            break;
+        };
+        let word = line.word(place);
+        let bytes = if matches!(word, [FILE, ..]) {
+            line.next();
+            let bytes = file_bytes(rt, "", place, word, dump.room())?;
+            dump.add(bytes.len());
+            bytes
+        } else {
+            dump.line(rt.alloc(), &mut line)?
+        };
+        let from = dump.filled().saturating_sub(bytes.len());
+        put_in(into, from, bytes.as_slice());
+    }
+    Ok(())
+}
+
+/// So many bytes, of lines.
+fn array<R: AllocGlobal + Files, const N: usize>(rt: &R, text: &[u8]) -> Result<[u8; N], Stop> {
+    let alloc = rt.alloc();
+    let mut dump = Dump::begin(alloc, N);
     let mut array = [0; N];
-    let found = Line::of(words).fill(rt, &mut array)?;
+    let mut rest = text;
+    for number in 1..=MAX_LINES {
+        if rest.is_empty() {
+            break;
+        }
+        let (first, after) = split_line(rest);
+        put_line(rt, &mut dump, &mut array, first).map_err(|stop| stop.in_line(number))?;
+        rest = after;
+    }
+    let found = dump.filled();
     if found != N {
+        let (start, end) = (0, split_line(text).0.len());
         let wanted = N;
         let wrong = Wrong::NotSoMany { found, wanted };
         return Err(Stop::At(Place { start, end }, wrong));
@@ -70,12 +112,9 @@ fn first_fault(
     requires open { is_over walk ≡ false }
     requires staging { length staging.old ≡ need_of walk }
 {
-    let mut store = match Store::open(alloc, 8) {
-        Ok(store) => store,
-        Err(OpenFault::BadSize | OpenFault::Memory) => return Err(AllocError),
-    };
+    let mut memory = SparseMemory::open(alloc, 0, 0)?;
     let mut walk = walk;
-    walk.step(&mut store, staging);
+    walk.step(&mut memory, staging);
     Ok(walk.fault())
 }
 
@@ -96,24 +135,14 @@ fn put_sgl(out: &mut String, alloc: Global, bytes: [u8; 16]) -> Result<(), Alloc
     put_first(out, first_fault(alloc, walk, &mut [0])?)
 }
 
-/// An image of as many blocks as the largest has, so that no entry is refused for where its blocks end.
-fn largest_image(alloc: Global) -> Result<Image, AllocError> {
-    match Image::zeroed(alloc, MAX_BLOCKS) {
-        Ok(image) => Ok(image),
-        Err(ImageError::BadLength | ImageError::Memory) => Err(AllocError),
-    }
-}
-
-/// The fault of the own descriptor of an entry, if it has one, where its fields have none over an image.
-fn first_refusal(
-    alloc: Global,
-    entry: &SubEntry,
-    image: &Image,
-) -> Result<Option<WalkFault>, CheckError> {
-    let kind = checked(alloc, entry, image)?;
+/// The fault of the own descriptor of an entry, if it has one.
+fn own_fault(alloc: Global, entry: &SubEntry, kind: Kind) -> Result<Option<WalkFault>, AllocError>
+    requires kind { kind_of_opcode entry.now.opcode ≡ Some kind }
+    requires few { block_number entry.now ≤ 2048 }
+{
     let walk = walk_of(entry, kind);
     let mut staging = vec![in alloc; 0; walk.need() as usize]?;
-    Ok(first_fault(alloc, walk, staging.as_mut_slice())?)
+    first_fault(alloc, walk, staging.as_mut_slice())
 }
 
 /// Puts the fields of an entry, and whether it is refused before its list is read, whichever blocks the image has.
@@ -125,14 +154,19 @@ fn put_sqe(out: &mut String, alloc: Global, bytes: &[u8; 64]) -> Result<(), Allo
         cdw11: 0,
         ..entry
     };
-    let image = largest_image(alloc)?;
-    match first_refusal(alloc, &from_zero, &image) {
-        Ok(fault) => put_first(out, fault),
-        Err(CheckError::Refused(status)) => {
-            let (named, rule) = (Named(status), rule_of(status));
-            write!(out, "refused: {named}\n{rule}\n")
+    let namespace = Namespace {
+        number: 1,
+        blocks: u64::MAX,
+        given: Vec::new(alloc),
+    };
+    match checked(&from_zero, &namespace) {
+        Ok(kind) => put_first(out, own_fault(alloc, &from_zero, kind)?),
+        Err(status) => {
+            let named = Named(status);
+            write!(out, "refused: {named}\n")?;
+            put_rule(out, 1, status)?;
+            out.push('\n')
         }
-        Err(CheckError::Memory) => Err(AllocError),
     }
 }
 
@@ -161,12 +195,6 @@ pub fn show<R: AllocGlobal + Files>(
 ) -> Result<String, CaseFault> {
     match text_of(rt, what, words) {
         Ok(text) => Ok(text),
-        Err(Stop::Memory) => Err(CaseFault::Memory),
-        Err(Stop::At(Place { start, end }, wrong)) => Err(CaseFault::Line {
-            number: 1,
-            start,
-            end,
-            wrong,
-        }),
+        Err(stop) => Err(stop.fault(1)),
     }
 }

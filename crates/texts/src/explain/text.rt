@@ -6,16 +6,19 @@ use crate::explain::fault::CaseFault;
 use crate::explain::list::Taken;
 use crate::explain::round::round_of;
 use crate::faults::{line_at, put_line};
+use crate::sparse_memory::SparseMemory;
 use crate::traces::put_descriptor;
 use controller_walk::{DescriptorAt, FaultCause, WalkFault};
 use entry_codec::Status;
 use entry_codec::status_names::Named;
-use page_memory::Store;
 use sgl_descriptor::Descriptor;
 use std::alloc::{AllocError, Global};
 
 /// The bytes of a page.
 const PAGE: u64 = 4_096;
+
+/// The most pages that a pool of the profile has.
+const PROFILE_PAGES: u64 = 65_536;
 
 /// The bytes of a descriptor.
 const DESCRIPTOR: u64 = 16;
@@ -79,11 +82,11 @@ fn put_malformed(out: &mut String, addr: u64, len: u32) -> Result<(), AllocError
 }
 
 /// The first page of a range of bytes that is past the pool, or out; the range's last page where none is.
-fn missing_page(store: &Store, addr: u64, len: u64) -> u64 {
+fn missing_page(memory: &SparseMemory, addr: u64, len: u64) -> u64 {
     let mut page = addr / PAGE;
     let last = addr.saturating_add(len.saturating_sub(1)) / PAGE;
     for _ in 0..len {
-        if page >= last || !store.is_reachable(page.saturating_mul(PAGE)) {
+        if page >= last || !memory.is_there(page) {
             break;
         }
         page = page.saturating_add(1);
@@ -91,23 +94,39 @@ fn missing_page(store: &Store, addr: u64, len: u64) -> u64 {
     page
 }
 
-/// Puts why bytes of a range are unreadable.
-fn put_missing(out: &mut String, store: &Store, addr: u64, len: u64) -> Result<(), AllocError> {
-    let (page, pages) = (missing_page(store, addr, len), store.pages());
-    if page < u64::from(pages) {
-        write!(out, "page {page} is out\n")
-    } else {
-        write!(
+/// Puts why bytes of a range are unreadable. A pool of the profile has pages by their numbers; of others addresses are told.
+fn put_missing(
+    out: &mut String,
+    memory: &SparseMemory,
+    addr: u64,
+    len: u64,
+) -> Result<(), AllocError> {
+    let page = missing_page(memory, addr, len);
+    let (first, pages) = (memory.first(), memory.count());
+    let at = page.saturating_mul(PAGE);
+    if first == 0 && pages <= PROFILE_PAGES {
+        if page < pages {
+            return write!(out, "page {page} is out\n");
+        }
+        return write!(
             out,
             "page {page} is past the pool, which has {pages} pages\n"
-        )
+        );
     }
+    if memory.is_of_pool(page) {
+        return write!(out, "the page at {at:X}h is out\n");
+    }
+    let (base, size) = (first.saturating_mul(PAGE), pages.saturating_mul(PAGE));
+    write!(
+        out,
+        "the page at {at:X}h is outside of the pool, which has {size:X}h bytes from {base:X}h on\n"
+    )
 }
 
 /// Puts more of a fault, where its sentence does not have all.
 pub(crate) fn put_more(
     out: &mut String,
-    store: &Store,
+    memory: &SparseMemory,
     explanation: &Explanation,
     fault: WalkFault,
 ) -> Result<(), AllocError> {
@@ -130,12 +149,12 @@ pub(crate) fn put_more(
             _ => Ok(()),
         },
         (FaultCause::UnreadableDescriptor, _) => match fault.at.place {
-            Some(place) => put_missing(out, store, place, DESCRIPTOR),
+            Some(place) => put_missing(out, memory, place, DESCRIPTOR),
             None => Ok(()),
         },
         (FaultCause::UnreadableData, Some(taken)) => match Descriptor::read(&taken.bytes) {
             Ok(Descriptor::DataBlock { addr, .. }) => {
-                put_missing(out, store, addr, u64::from(taken.counted))
+                put_missing(out, memory, addr, u64::from(taken.counted))
             }
             _ => Ok(()),
         },
@@ -143,17 +162,18 @@ pub(crate) fn put_more(
     }
 }
 
-/// Which rule an entry breaks whose command has this status, where its list is not at fault.
-pub(crate) fn rule_of(status: Status) -> &'static str {
-    match status {
+/// Puts which rule an entry breaks whose command has this status, where its list is not at fault. The entry must name the namespace of this number.
+pub(crate) fn put_rule(out: &mut String, namespace: u32, status: Status) -> Result<(), AllocError> {
+    out.push_str(match status {
+        Status::INVALID_NAMESPACE => return write!(out, "NSID is not {namespace}"),
         Status::INVALID_OPCODE => "OPC is none of Read, Write and Compare",
-        Status::INVALID_NAMESPACE => "NSID is not 1",
-        Status::INVALID_FIELD =>
-            "FUSE is not 0, or PSDT is not 1, or there are more than 2048 blocks",
+        Status::INVALID_FIELD => {
+            "FUSE is not 0, or PSDT is not 1, or there are more than 2048 blocks"
+        }
         Status::LBA_OUT_OF_RANGE => "its blocks do not all lie in the image",
         Status::COMPARE_FAILURE => "its bytes are not those of the image's blocks",
         _ => "it is refused",
-    }
+    })
 }
 
 /// Puts whether the list has more than was wanted of it.
@@ -198,11 +218,11 @@ pub fn put_explanation(
             put_number(out, fault.at)?;
             let cause = fault.cause;
             write!(out, "{cause}\n")?;
-            put_more(out, &case.store, explanation, fault)
+            put_more(out, &case.memory, explanation, fault)
         }
         None => {
-            let rule = rule_of(status);
-            write!(out, "{rule}\n")
+            put_rule(out, case.namespace.number, status)?;
+            out.push('\n')
         }
     }
 }

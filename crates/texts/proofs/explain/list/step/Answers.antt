@@ -1,5 +1,5 @@
 -- The descriptor is looked at before the step, and that changes no byte.
-use Rattle.std.proofs.Common.{◌≡◌, ◌∙◌, sym, subst}
+use Rattle.std.proofs.Common.{◌≡◌, sym, subst}
 use Rattle.controller_walk.specs.Walks.{is_over}
 use Rattle.texts.{proofs.Telling.{tells_on, steps_on}, specs.{Ending.Goes, Taking.{TellsTaken, ToldTo, taken_next, with_next}}}
 use Rattle.page_memory.specs.Memory.{Memory}
@@ -7,7 +7,7 @@ use Rattle.texts.proofs.explain.list.step.Goals as goal
 
 pub returns-clause-walked : goal.returns-clause-walked
 returns-clause-walked g c at m list apart goes =
-    let same : g.D.Dma.memory c.next_taken-next.new.dma ≡ g.D.Dma.memory c.args.dma.now = c.next_taken-next.ensures.memory ∙ c.clear.ensures.memory in
+    let same : g.D.Dma.memory c.next_taken-next.new.dma ≡ g.D.Dma.memory c.args.dma.now = c.next_taken-next.ensures.memory in
     let goes' : Goes at m list c.args.walk.now (g.D.Dma.memory c.next_taken-next.new.dma) =
     subst (λ (x : Memory). Goes at m list c.args.walk.now x) (sym same) goes in
     steps_on at m list c.args.walk.now c.step.new.self c.step.result _ _ _ _ _ _ apart goes' c.step.ensures.does c.step.ensures.leaves
@@ -15,7 +15,7 @@ returns-clause-walked g c at m list apart goes =
 
 pub returns-clause-tells : goal.returns-clause-tells
 returns-clause-tells g c at m list told apart tells =
-    let same : g.D.Dma.memory c.next_taken-next.new.dma ≡ g.D.Dma.memory c.args.dma.now = c.next_taken-next.ensures.memory ∙ c.clear.ensures.memory in
+    let same : g.D.Dma.memory c.next_taken-next.new.dma ≡ g.D.Dma.memory c.args.dma.now = c.next_taken-next.ensures.memory in
     let tells' : TellsTaken at m c.args.sgl1.now list told c.args.walk.now (g.D.Dma.memory c.next_taken-next.new.dma) =
     subst (λ (x : Memory). TellsTaken at m c.args.sgl1.now list told c.args.walk.now x) (sym same) tells in
     subst (λ (x : Memory). ToldTo (is_over c.step.new.self) at m c.args.sgl1.now list (with_next told (taken_next x c.args.sgl1.now c.args.walk.now)) c.step.new.self (g.D.Dma.memory c.step.new.dma)) same

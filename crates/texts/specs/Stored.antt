@@ -1,0 +1,47 @@
+-- The blocks of a namespace of which only some are given, and the field checks of an entry over it.
+use Rattle.std.specs.Prelude.{◌==◌, ◌+◌, ◌||◌, ◌++◌, ℕ, zero, suc, not, nat_lt, is_none, List, [], ◌∷◌, Option, Some, None, replicate, find, if◌then◌else◌}
+use Rattle.std.specs.Str.{bytes_eq}
+use Rattle.controller_walk.specs.Units.{first_passing}
+use Rattle.entry_codec.specs.declared.{status.Status.Status, submission.SubEntry.SubEntry}
+use Rattle.entry_codec.specs.declared.status.TheConstants.Status.{SUCCESS, INVALID_OPCODE, INVALID_FIELD, INVALID_NAMESPACE, LBA_OUT_OF_RANGE, COMPARE_FAILURE}
+use Rattle.io_commands.specs.{Jobs.{kind_of_opcode, first_block, block_number}, declared.request.Kind.{Kind, TheVariants.{Read, Write, Compare}}}
+use Rattle.texts.specs.declared.explain.namespace.GivenBlock.{GivenBlock}
+
+-- the first failed field check of an entry, for a namespace of this number with so many blocks
+abbrev pub field_fault : ℕ → ℕ → SubEntry → Option Status
+field_fault namespace blocks e =
+    first_passing (
+    (is_none (kind_of_opcode e.opcode), INVALID_OPCODE)
+    ∷ (not (e.nsid == namespace), INVALID_NAMESPACE)
+    ∷ (not (e.fuse == 0) || not (e.psdt == 1), INVALID_FIELD)
+    ∷ (nat_lt 2048 (block_number e), INVALID_FIELD)
+    ∷ (nat_lt blocks (first_block e + block_number e), LBA_OUT_OF_RANGE)
+    ∷ [])
+
+-- a block of zeros
+unfoldable pub zero_block : List ℕ
+zero_block = replicate 512 0
+
+abbrev pub bytes_by : Option GivenBlock → List ℕ
+bytes_by None = zero_block
+bytes_by (Some block) = block.bytes
+
+-- the bytes of a block: those that it was given, or zeros
+abbrev pub bytes_of_block : List GivenBlock → ℕ → List ℕ
+bytes_of_block given n = bytes_by (find (λ block. block.number == n) given)
+
+-- the bytes of so many blocks from a first one on
+abbrev pub blocks_from : List GivenBlock → ℕ → ℕ → List ℕ
+blocks_from given first zero = []
+blocks_from given first (suc n) = blocks_from given first n ++ bytes_of_block given (first + n)
+
+-- the bytes that stand in the blocks of an entry
+abbrev pub stored_of : List GivenBlock → SubEntry → List ℕ
+stored_of given e = blocks_from given (first_block e) (block_number e)
+
+-- how a command ends whose list was accepted: a Compare fails where a byte differs from what stands in its blocks
+abbrev pub status_by : List ℕ → List ℕ → Option Kind → Status
+status_by stored bytes None = SUCCESS
+status_by stored bytes (Some Read) = SUCCESS
+status_by stored bytes (Some Write) = SUCCESS
+status_by stored bytes (Some Compare) = if bytes_eq stored bytes then SUCCESS else COMPARE_FAILURE
