@@ -4,3 +4,4 @@ pub mod Stored
 pub mod Ending
 pub mod Taking
 pub mod Sparse
+pub mod Rules

@@ -2,12 +2,13 @@
 //!
 //! [`read_case`] reads pages, blocks and a submission entry from lines, and from dumps among them. [`explain`] walks the entry's list over these with the walk of
 //! `controller_walk` and keeps each descriptor that it takes; [`put_explanation`] writes a line for each, and then how the command ends and by
-//! which rule; [`put_objects`] writes the same as JSON. [`explain_text`] does all three. [`show`] decodes a single entry or descriptor. The lines are this project's own.
+//! which rule; [`put_objects`] writes the same as JSON. [`explain_text`] does all three. [`show`] decodes a single entry, descriptor or status. The lines are this project's own.
 
 mod answer;
 mod case;
 mod command;
 mod dump;
+mod entry;
 mod fault;
 mod files;
 mod json;
@@ -17,7 +18,10 @@ mod lines;
 mod list;
 mod namespace;
 mod round;
+mod rule;
 mod single;
+mod status;
+mod status_words;
 mod text;
 
 pub use answer::{Answer, Layout, explain_text};

@@ -6,12 +6,14 @@
 //! hexadecimal. The layout is this project's own.
 
 mod bytes;
+mod descriptors;
 mod entries;
 mod lists;
 mod rings;
 mod slots;
 mod trace;
 
+pub use descriptors::put_descriptor;
+pub(crate) use descriptors::{subtype_name, type_name, type_of};
 pub use entries::{put_completion_fields, put_submission_fields};
-pub use lists::put_descriptor;
 pub use trace::{Traced, put_trace};

@@ -34,6 +34,8 @@ pub enum Wrong {
     NoMultiple,
     /// Bytes are wanted.
     NoHex,
+    /// A status is wanted.
+    NoStatus,
     /// An offset is wanted that goes on where the line before ended.
     NoOffset(u64),
     /// Behind a line that stands for others an offset is wanted.
@@ -74,6 +76,7 @@ impl Wrong {
             Wrong::NoNumber { .. } | Wrong::NoSize { .. } => "BadNumber",
             Wrong::NoAddress { .. } | Wrong::NoMultiple => "BadAddress",
             Wrong::NoHex => "BadHex",
+            Wrong::NoStatus => "BadStatus",
             Wrong::NoOffset(_) | Wrong::NoEnd => "BadOffset",
             Wrong::NoFile(_) | Wrong::NoDump(_) => "BadFile",
             Wrong::TooManyBytes(_) | Wrong::NotSoMany { .. } => "BadLength",
@@ -123,6 +126,9 @@ impl fmt::Display for Wrong {
             | Wrong::NoMultiple => put_wanted(f, *self),
             Wrong::NoHex => f.write_str(
                 "bytes are wanted here: two hexadecimal digits for each, or a byte so often, as 00*16, or a file, as @FILE.",
+            ),
+            Wrong::NoStatus => f.write_str(
+                "a status is wanted here: type and code, as 0:0D, or the 15 bits of its field, hexadecimal, as 0x400D.",
             ),
             Wrong::NoOffset(wanted) => {
                 write!(

@@ -4,10 +4,13 @@ use crate::explain::case::Case;
 use crate::explain::command::Explanation;
 use crate::explain::list::Taken;
 use crate::explain::round::{Round, round_of};
-use crate::explain::text::{put_more, put_rest, put_rule};
+use crate::explain::rule::{broken_rule, put_rule};
+use crate::explain::text::{put_more, put_rest};
+use crate::traces::{type_name, type_of};
 use controller_walk::DescriptorAt;
-use entry_codec::Status;
 use entry_codec::status_names::name_of;
+use entry_codec::{Status, SubEntry};
+use io_commands::{block_number, first_block};
 use serde::Serialize;
 use sgl_descriptor::Descriptor;
 use std::alloc::{AllocError, Global};
@@ -16,11 +19,11 @@ use std::alloc::{AllocError, Global};
 #[derive(Drop, Serialize)]
 struct TakenObject {
     descriptor: u32,
-    at: Option<u64>,
+    at: Option<String>,
     #[serde(rename = "type")]
     kind: &'static str,
     #[serde(skip_serializing_if = "Option::is_none")]
-    address: Option<u64>,
+    address: Option<String>,
     #[serde(skip_serializing_if = "Option::is_none")]
     length: Option<u32>,
     #[serde(skip_serializing_if = "Option::is_none")]
@@ -43,7 +46,7 @@ struct EndObject {
     #[serde(skip_serializing_if = "Option::is_none")]
     descriptor: Option<u32>,
     #[serde(skip_serializing_if = "Option::is_none")]
-    at: Option<u64>,
+    at: Option<String>,
     #[serde(skip_serializing_if = "Option::is_none")]
     rule: Option<String>,
     #[serde(skip_serializing_if = "Option::is_none")]
@@ -61,8 +64,42 @@ fn put_line<T: Serialize>(alloc: Global, out: &mut String, object: &T) -> Result
     }
 }
 
+/// The fields of an entry that breaks a rule for them.
+#[derive(Drop, Serialize)]
+struct EntryObject {
+    opcode: u8,
+    fuse: u8,
+    psdt: u8,
+    cid: u16,
+    nsid: u32,
+    slba: String,
+    nlb: u32,
+}
+
+/// A number of 64 bits as a hexadecimal text: a number of JSON is read as one of 53 bits.
+fn hex(alloc: Global, number: Option<u64>) -> Result<Option<String>, AllocError> {
+    Ok(match number {
+        Some(number) => Some(format!(in alloc; "0x{number:X}")?),
+        None => None,
+    })
+}
+
+/// The object of an entry.
+fn entry_object(alloc: Global, entry: &SubEntry) -> Result<EntryObject, AllocError> {
+    let first = first_block(entry);
+    Ok(EntryObject {
+        opcode: entry.opcode,
+        fuse: entry.fuse,
+        psdt: entry.psdt,
+        cid: entry.cid,
+        nsid: entry.nsid,
+        slba: format!(in alloc; "0x{first:X}")?,
+        nlb: block_number(entry).saturating_sub(1),
+    })
+}
+
 /// The object of a descriptor.
-fn taken_object(taken: &Taken) -> TakenObject {
+fn taken_object(alloc: Global, taken: &Taken) -> Result<TakenObject, AllocError> {
     let DescriptorAt { number, place } = taken.at;
     let counted = Some(taken.counted);
     let (kind, address, length, bytes) = match Descriptor::read(&taken.bytes) {
@@ -70,16 +107,16 @@ fn taken_object(taken: &Taken) -> TakenObject {
         Ok(Descriptor::BitBucket { len }) => ("Bit Bucket", None, Some(len), counted),
         Ok(Descriptor::Segment { addr, len }) => ("Segment", Some(addr), Some(len), None),
         Ok(Descriptor::LastSegment { addr, len }) => ("Last Segment", Some(addr), Some(len), None),
-        Err(_) => ("unknown", None, None, None),
+        Err(_) => (type_name(type_of(&taken.bytes).0), None, None, None),
     };
-    TakenObject {
+    Ok(TakenObject {
         descriptor: number,
-        at: place,
+        at: hex(alloc, place)?,
         kind,
-        address,
+        address: hex(alloc, address)?,
         length,
         bytes,
-    }
+    })
 }
 
 /// A text that is put, without its line feed; none where nothing is put.
@@ -111,7 +148,12 @@ fn end_object(
         }
         None => {
             let mut rule = String::new(alloc);
-            put_rule(&mut rule, case.namespace.number, status)?;
+            put_rule(
+                &mut rule,
+                &SubEntry::read(&case.entry),
+                &case.namespace,
+                status,
+            )?;
             (None, Some(rule))
         }
     };
@@ -120,14 +162,14 @@ fn end_object(
         status: format!(in alloc; "{status}")?,
         name: name_of(status),
         descriptor: at.map(|at| at.number),
-        at: at.and_then(|at| at.place),
+        at: hex(alloc, at.and_then(|at| at.place))?,
         rule,
         more: sentence(more),
     })
 }
 
-/// Puts what [`crate::explain::put_explanation`] puts as JSON: an object for each descriptor that was taken, and one for the command's end. Addresses are numbers of bytes;
-/// `at` is null for a descriptor that stands in the entry.
+/// Puts what [`crate::explain::put_explanation`] puts as JSON: an object for each descriptor that was taken, and one for the command's end. Numbers of 64 bits are hexadecimal texts;
+/// `at` is null for a descriptor that stands in the entry. An entry that breaks a rule for its fields has an object too.
 ///
 /// # Errors
 ///
@@ -138,6 +180,10 @@ pub fn put_objects(
     case: &Case,
     explanation: &Explanation,
 ) -> Result<(), AllocError> {
+    let entry = SubEntry::read(&case.entry);
+    if broken_rule(&entry, &case.namespace).is_some() {
+        put_line(alloc, out, &entry_object(alloc, &entry)?)?;
+    }
     let round = round_of(explanation);
     let all = explanation.taken.as_slice();
     let shown = match round {
@@ -145,7 +191,7 @@ pub fn put_objects(
         None => all.len(),
     };
     for taken in all.iter().take(shown) {
-        put_line(alloc, out, &taken_object(taken))?;
+        put_line(alloc, out, &taken_object(alloc, taken)?)?;
     }
     if let Some(
         Round {

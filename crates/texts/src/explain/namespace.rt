@@ -1,6 +1,6 @@
 //! The namespace that a command is for.
 
-ghost use Rattle.std.specs.Prelude.{◌≡◌, ◌+◌, ◌<◌, ◌≤◌, ◌++◌, ◌==◌, IfOk, OnOk, length, vec_len, find};
+ghost use Rattle.std.specs.Prelude.{◌≡◌, ◌+◌, ◌<◌, ◌≤◌, ◌++◌, ◌==◌, IfOk, OnOk, length, vec_len, find, nat_lt};
 ghost use Rattle.std.specs.Option.{option_copied};
 ghost use Rattle.std.specs.Result.{result_err};
 ghost use Rattle.io_commands.specs.Jobs.{kind_of_opcode, first_block as spec_first_block, block_number as spec_block_number, need_of_entry};
@@ -31,6 +31,13 @@ pub struct Namespace {
     pub given: Vec<GivenBlock>,
 }
 
+/// Whether so many blocks from a first one on do not all lie in a namespace of so many.
+pub(crate) fn is_outside(first: u64, number: u64, blocks: u64) -> bool
+    ensures { result ≡ nat_lt blocks (first + number) }
+{
+    number > blocks || first > blocks - number
+}
+
 /// The field checks of an entry, in their order: the command, or the fault.
 pub(crate) fn checked(entry: &SubEntry, namespace: &Namespace) -> Result<Kind, Status>
     ensures fault { result_err result ≡ field_fault namespace.now.number namespace.now.blocks entry.now }
@@ -51,8 +58,7 @@ pub(crate) fn checked(entry: &SubEntry, namespace: &Namespace) -> Result<Kind, S
     if number > MAX_BLOCKS {
         return Err(Status::INVALID_FIELD);
     }
-    let (blocks, number) = (namespace.blocks, u64::from(number));
-    if number > blocks || first_block(entry) > blocks - number {
+    if is_outside(first_block(entry), u64::from(number), namespace.blocks) {
         return Err(Status::LBA_OUT_OF_RANGE);
     }
     Ok(kind)

@@ -6,45 +6,56 @@ ghost use Rattle.io_commands.specs.Jobs.{block_number, kind_of_opcode};
 
 use crate::explain::command::walk_of;
 use crate::explain::dump::{Dump, FILE};
+use crate::explain::entry::{put_admin, put_entry, put_whole_completion};
 use crate::explain::fault::{CaseFault, Wrong};
 use crate::explain::files::file_bytes;
 use crate::explain::lines::{Line, Stop, put_in};
 use crate::explain::namespace::{Namespace, checked};
-use crate::explain::text::put_rule;
+use crate::explain::rule::put_rule;
+use crate::explain::status::put_status;
+use crate::explain::text::put_type;
 use crate::faults::Place;
 use crate::sparse_memory::SparseMemory;
-use crate::traces::{put_completion_fields, put_descriptor, put_submission_fields};
-use controller_walk::{Direction, Walk, WalkFault};
+use crate::traces::put_descriptor;
+use controller_walk::{Direction, FaultCause, Walk, WalkFault};
+use entry_codec::SubEntry;
 use entry_codec::status_names::Named;
-use entry_codec::{ComEntry, SubEntry};
 use io_commands::Kind;
 use script_cli::{MAX_LINES, split_line, words_of};
 use std::alloc::{AllocError, AllocGlobal, Global};
 use std::rt::Files;
 
-/// What bytes are to be.
+/// What words are to be.
 #[derive(Clone, Copy, Debug, PartialEq, Eq)]
 pub enum Shown {
     /// A submission queue entry of an I/O queue.
     Submission,
+    /// A submission queue entry of the admin queue.
+    Admin,
     /// A completion queue entry.
     Completion,
     /// A scatter-gather list descriptor.
     Descriptor,
+    /// A status: `0:0D`, or the 15 bits of its field, hexadecimal.
+    Status,
 }
 
 impl Shown {
-    /// What a word names: `sqe`, `cqe` or `sgl`.
+    /// What a word names: `sqe`, `admin`, `cqe`, `sgl` or `status`.
     pub fn named(word: &str) -> Option<Shown> {
-        if word == "sqe" {
-            Some(Shown::Submission)
-        } else if word == "cqe" {
-            Some(Shown::Completion)
-        } else if word == "sgl" {
-            Some(Shown::Descriptor)
-        } else {
-            None
+        let words = [
+            ("sqe", Shown::Submission),
+            ("admin", Shown::Admin),
+            ("cqe", Shown::Completion),
+            ("sgl", Shown::Descriptor),
+            ("status", Shown::Status),
+        ];
+        for (name, shown) in words {
+            if word == name {
+                return Some(shown);
+            }
         }
+        None
     }
 }
 
@@ -119,12 +130,20 @@ fn first_fault(
 }
 
 /// Puts whether a descriptor is refused where it stands in an entry.
-fn put_first(out: &mut String, fault: Option<WalkFault>) -> Result<(), AllocError> {
+fn put_first(
+    out: &mut String,
+    bytes: &[u8; 16],
+    fault: Option<WalkFault>,
+) -> Result<(), AllocError> {
     let Some(fault) = fault else {
         return out.push_str("SGL1 is not refused by itself\n");
     };
     let (cause, named) = (fault.cause, Named(fault.cause.status()));
-    write!(out, "SGL1 is refused: {named}\n{cause}\n")
+    write!(out, "SGL1 is refused: {named}\n{cause}\n")?;
+    match cause {
+        FaultCause::UnknownType => put_type(out, bytes),
+        _ => Ok(()),
+    }
 }
 
 /// Puts a descriptor, and whether it is refused as SGL1 of an entry, for any number of bytes.
@@ -132,7 +151,7 @@ fn put_sgl(out: &mut String, alloc: Global, bytes: [u8; 16]) -> Result<(), Alloc
     put_descriptor(out, &bytes)?;
     out.push('\n')?;
     let walk = Walk::begin(bytes, Direction::Destination, 1);
-    put_first(out, first_fault(alloc, walk, &mut [0])?)
+    put_first(out, &bytes, first_fault(alloc, walk, &mut [0])?)
 }
 
 /// The fault of the own descriptor of an entry, if it has one.
@@ -148,7 +167,7 @@ fn own_fault(alloc: Global, entry: &SubEntry, kind: Kind) -> Result<Option<WalkF
 /// Puts the fields of an entry, and whether it is refused before its list is read, whichever blocks the image has.
 fn put_sqe(out: &mut String, alloc: Global, bytes: &[u8; 64]) -> Result<(), AllocError> {
     let entry = SubEntry::read(bytes);
-    put_submission_fields(out, 1, &entry)?;
+    put_entry(out, &entry)?;
     let from_zero = SubEntry {
         cdw10: 0,
         cdw11: 0,
@@ -160,29 +179,31 @@ fn put_sqe(out: &mut String, alloc: Global, bytes: &[u8; 64]) -> Result<(), Allo
         given: Vec::new(alloc),
     };
     match checked(&from_zero, &namespace) {
-        Ok(kind) => put_first(out, own_fault(alloc, &from_zero, kind)?),
+        Ok(kind) => put_first(out, &entry.sgl1, own_fault(alloc, &from_zero, kind)?),
         Err(status) => {
             let named = Named(status);
             write!(out, "refused: {named}\n")?;
-            put_rule(out, 1, status)?;
+            put_rule(out, &from_zero, &namespace, status)?;
             out.push('\n')
         }
     }
 }
 
-/// What bytes are, by their fields.
+/// What words are, by their fields.
 fn text_of<R: AllocGlobal + Files>(rt: &R, what: Shown, words: &[u8]) -> Result<String, Stop> {
     let alloc = rt.alloc();
     let mut out = String::new(alloc);
     match what {
         Shown::Submission => put_sqe(&mut out, alloc, &array(rt, words)?)?,
-        Shown::Completion => put_completion_fields(&mut out, &ComEntry::read(&array(rt, words)?))?,
+        Shown::Admin => put_admin(&mut out, &SubEntry::read(&array(rt, words)?))?,
+        Shown::Completion => put_whole_completion(&mut out, &array(rt, words)?)?,
         Shown::Descriptor => put_sgl(&mut out, alloc, array(rt, words)?)?,
+        Shown::Status => put_status(&mut out, words)?,
     }
     Ok(out)
 }
 
-/// Decodes an entry or a descriptor that is typed as hexadecimal digits, or stands in a file: each field by its name, and what of it the controller refuses whatever
+/// Decodes an entry, a descriptor or a status that is typed, or stands in a file: each field by its name, and what of it the controller refuses whatever
 /// memory holds.
 ///
 /// # Errors

@@ -2,15 +2,17 @@
 
 use crate::explain::case::Case;
 use crate::explain::command::Explanation;
+use crate::explain::entry::put_entry;
 use crate::explain::fault::CaseFault;
 use crate::explain::list::Taken;
 use crate::explain::round::round_of;
+use crate::explain::rule::{broken_rule, put_rule};
 use crate::faults::{line_at, put_line};
 use crate::sparse_memory::SparseMemory;
-use crate::traces::put_descriptor;
+use crate::traces::{put_descriptor, subtype_name, type_name, type_of};
 use controller_walk::{DescriptorAt, FaultCause, WalkFault};
-use entry_codec::Status;
 use entry_codec::status_names::Named;
+use entry_codec::{Status, SubEntry};
 use sgl_descriptor::Descriptor;
 use std::alloc::{AllocError, Global};
 
@@ -19,6 +21,9 @@ const PAGE: u64 = 4_096;
 
 /// The most pages that a pool of the profile has.
 const PROFILE_PAGES: u64 = 65_536;
+
+/// The highest type of a descriptor that is known, Last Segment.
+const LAST_TYPE: u8 = 3;
 
 /// The bytes of a descriptor.
 const DESCRIPTOR: u64 = 16;
@@ -79,6 +84,17 @@ fn put_malformed(out: &mut String, addr: u64, len: u32) -> Result<(), AllocError
     } else {
         write!(out, "the address is {addr:X}h\n")
     }
+}
+
+/// Puts what of a descriptor's type is not known.
+pub(crate) fn put_type(out: &mut String, bytes: &[u8; 16]) -> Result<(), AllocError> {
+    let (kind, subtype) = type_of(bytes);
+    if kind > LAST_TYPE {
+        let name = type_name(kind);
+        return write!(out, "the type is {kind:X}h, {name}\n");
+    }
+    let name = subtype_name(subtype);
+    write!(out, "the subtype is {subtype:X}h, {name}\n")
 }
 
 /// The first page of a range of bytes that is past the pool, or out; the range's last page where none is.
@@ -148,6 +164,7 @@ pub(crate) fn put_more(
             }
             _ => Ok(()),
         },
+        (FaultCause::UnknownType, Some(taken)) => put_type(out, &taken.bytes),
         (FaultCause::UnreadableDescriptor, _) => match fault.at.place {
             Some(place) => put_missing(out, memory, place, DESCRIPTOR),
             None => Ok(()),
@@ -162,25 +179,36 @@ pub(crate) fn put_more(
     }
 }
 
-/// Puts which rule an entry breaks whose command has this status, where its list is not at fault. The entry must name the namespace of this number.
-pub(crate) fn put_rule(out: &mut String, namespace: u32, status: Status) -> Result<(), AllocError> {
-    out.push_str(match status {
-        Status::INVALID_NAMESPACE => return write!(out, "NSID is not {namespace}"),
-        Status::INVALID_OPCODE => "OPC is none of Read, Write and Compare",
-        Status::INVALID_FIELD => {
-            "FUSE is not 0, or PSDT is not 1, or there are more than 2048 blocks"
+/// How many descriptors of its segment stand after the last one that was taken.
+fn left_in_segment(taken: &[Taken]) -> u64 {
+    let Some(place) = taken.last().and_then(|last| last.at.place) else {
+        return 0;
+    };
+    for link in taken.iter().rev() {
+        if let Ok(
+            Descriptor::Segment { addr, len } | Descriptor::LastSegment { addr, len },
+        ) = Descriptor::read(&link.bytes)
+        {
+            let next = place.saturating_sub(addr).saturating_add(DESCRIPTOR);
+            return u64::from(len).saturating_sub(next) / DESCRIPTOR;
         }
-        Status::LBA_OUT_OF_RANGE => "its blocks do not all lie in the image",
-        Status::COMPARE_FAILURE => "its bytes are not those of the image's blocks",
-        _ => "it is refused",
-    })
+    }
+    0
 }
 
-/// Puts whether the list has more than was wanted of it.
+/// Puts what of the list was not wanted: bytes of the descriptor that was taken last, and descriptors after it.
 pub(crate) fn put_rest(out: &mut String, explanation: &Explanation) -> Result<(), AllocError> {
     let Some(taken) = explanation.taken.last() else {
         return Ok(());
     };
+    match left_in_segment(explanation.taken.as_slice()) {
+        0 => {}
+        1 => out.push_str("1 descriptor after it in its segment is not looked at\n")?,
+        left => write!(
+            out,
+            "{left} descriptors after it in its segment are not looked at\n"
+        )?,
+    }
     match Descriptor::read(&taken.bytes) {
         Ok(Descriptor::DataBlock { len, .. } | Descriptor::BitBucket { len })
             if len > taken.counted => {
@@ -195,7 +223,7 @@ pub(crate) fn put_rest(out: &mut String, explanation: &Explanation) -> Result<()
 }
 
 /// Puts a line for each descriptor of a list that was taken, in order: its number, its address, its fields, and how many of the command's
-/// bytes it is for. Then it puts how the command ends: `accepted`, or `refused` with the status, and which descriptor breaks which rule.
+/// bytes it is for; of an entry that breaks a rule for its fields it puts these. Then it puts how the command ends: `accepted`, or `refused` with the status, and which descriptor breaks which rule.
 ///
 /// # Errors
 ///
@@ -205,6 +233,10 @@ pub fn put_explanation(
     case: &Case,
     explanation: &Explanation,
 ) -> Result<(), AllocError> {
+    let entry = SubEntry::read(&case.entry);
+    if broken_rule(&entry, &case.namespace).is_some() {
+        put_entry(out, &entry)?;
+    }
     put_all(out, explanation)?;
     let status = explanation.status;
     let named = Named(status);
@@ -221,7 +253,7 @@ pub fn put_explanation(
             put_more(out, &case.memory, explanation, fault)
         }
         None => {
-            put_rule(out, case.namespace.number, status)?;
+            put_rule(out, &entry, &case.namespace, status)?;
             out.push('\n')
         }
     }

@@ -1,6 +1,7 @@
 //! Entries of queues, field by field.
 
-use crate::traces::lists::{put_descriptor, put_list};
+use crate::traces::descriptors::put_descriptor;
+use crate::traces::lists::put_list;
 use crate::traces::slots::{put_completion_slot, put_submission_slot};
 use entry_codec::status_names::Named;
 use entry_codec::{ComEntry, SubEntry, admin_opcode, io_opcode};

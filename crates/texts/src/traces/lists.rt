@@ -1,6 +1,7 @@
 //! Scatter-gather lists.
 
 use crate::traces::bytes::{put_place, sixteen_at};
+use crate::traces::descriptors::put_descriptor;
 use sgl_descriptor::Descriptor;
 use std::alloc::AllocError;
 use world_bench::Bench;
@@ -25,26 +26,6 @@ fn segment_of(bytes: &[u8; 16]) -> Option<Segment> {
             Some(Segment { addr, len })
         }
         _ => None,
-    }
-}
-
-/// Puts a kind of descriptor, an address and a length.
-fn put_at(out: &mut String, name: &str, addr: u64, len: u32) -> Result<(), AllocError> {
-    write!(out, "{name}, address {addr:X}h, length {len}")
-}
-
-/// Puts a descriptor, by its fields.
-///
-/// # Errors
-///
-/// Where memory is refused.
-pub fn put_descriptor(out: &mut String, bytes: &[u8; 16]) -> Result<(), AllocError> {
-    match Descriptor::read(bytes) {
-        Ok(Descriptor::DataBlock { addr, len }) => put_at(out, "Data Block", addr, len),
-        Ok(Descriptor::BitBucket { len }) => write!(out, "Bit Bucket, length {len}"),
-        Ok(Descriptor::Segment { addr, len }) => put_at(out, "Segment", addr, len),
-        Ok(Descriptor::LastSegment { addr, len }) => put_at(out, "Last Segment", addr, len),
-        Err(_) => out.push_str("a descriptor of no type that is known"),
     }
 }
 

@@ -1,0 +1,115 @@
+//! Entries whose queue is known, and what of them only people ask for.
+
+use crate::traces::{put_completion_fields, put_submission_fields};
+use entry_codec::{ComEntry, SubEntry, admin_opcode};
+use io_commands::{block_number, first_block, kind_of};
+use std::alloc::AllocError;
+
+/// Puts the fields of an entry of an I/O queue, and its blocks where its opcode has some.
+pub(crate) fn put_entry(out: &mut String, entry: &SubEntry) -> Result<(), AllocError> {
+    put_submission_fields(out, 1, entry)?;
+    if kind_of(entry.opcode).is_none() {
+        return Ok(());
+    }
+    let (first, number) = (first_block(entry), block_number(entry));
+    let blocks = number.saturating_sub(1);
+    write!(out, "    SLBA {first}, NLB {blocks}: {number} blocks\n")
+}
+
+/// Puts the bits above a status: Command Retry Delay, More and Do Not Retry (NVM Express Base Specification 2.0, "Status Field Definition"), 14:11 of a status field.
+pub(crate) fn put_retry(out: &mut String, field: u16) -> Result<(), AllocError> {
+    let (retry, more, delay) = (field / 16_384 % 2, field / 8_192 % 2, field / 2_048 % 4);
+    write!(out, "    DNR {retry}, More {more}, CRD {delay}\n")
+}
+
+/// Puts the fields of a completion entry, those among them that no entry of this controller has.
+pub(crate) fn put_whole_completion(out: &mut String, bytes: &[u8; 16]) -> Result<(), AllocError> {
+    put_completion_fields(out, &ComEntry::read(bytes))?;
+    put_retry(out, u16::from_le_bytes([bytes[14], bytes[15]]) / 2)
+}
+
+/// What an opcode of the admin queue asks for (the same specification, "Admin Command Set").
+fn admin_name(opcode: u8) -> &'static str {
+    match opcode {
+        admin_opcode::DELETE_IO_SQ => "Delete I/O Submission Queue",
+        admin_opcode::CREATE_IO_SQ => "Create I/O Submission Queue",
+        0x02 => "Get Log Page",
+        admin_opcode::DELETE_IO_CQ => "Delete I/O Completion Queue",
+        admin_opcode::CREATE_IO_CQ => "Create I/O Completion Queue",
+        0x06 => "Identify",
+        admin_opcode::ABORT => "Abort",
+        0x09 => "Set Features",
+        0x0A => "Get Features",
+        0x0C => "Asynchronous Event Request",
+        0x0D => "Namespace Management",
+        0x10 => "Firmware Commit",
+        0x11 => "Firmware Image Download",
+        0x14 => "Device Self-test",
+        0x15 => "Namespace Attachment",
+        0x18 => "Keep Alive",
+        0x80 => "Format NVM",
+        0x81 => "Security Send",
+        0x82 => "Security Receive",
+        0x84 => "Sanitize",
+        _ => "no name here",
+    }
+}
+
+/// The halves of a word: bits 15:0, and 31:16.
+fn halves(word: u32) -> (u32, u32) {
+    (word % 65_536, word / 65_536)
+}
+
+/// Puts the fields of CDW10 and CDW11 that an opcode of the admin queue has.
+fn put_admin_words(out: &mut String, entry: &SubEntry) -> Result<(), AllocError> {
+    let (low, high) = halves(entry.cdw10);
+    let (flags, other) = halves(entry.cdw11);
+    let (contiguous, enabled, priority) = (flags % 2, flags / 2 % 2, flags / 2 % 4);
+    let entries = high.saturating_add(1);
+    match entry.opcode {
+        admin_opcode::CREATE_IO_CQ => write!(
+            out,
+            "    QID {low}, QSIZE {high}: {entries} entries, PC {contiguous}, IEN {enabled}, IV {other}\n"
+        ),
+        admin_opcode::CREATE_IO_SQ => write!(
+            out,
+            "    QID {low}, QSIZE {high}: {entries} entries, PC {contiguous}, QPRIO {priority}, CQID {other}\n"
+        ),
+        admin_opcode::DELETE_IO_SQ | admin_opcode::DELETE_IO_CQ => write!(out, "    QID {low}\n"),
+        admin_opcode::ABORT => write!(out, "    SQID {low}, CID {high}\n"),
+        _ => Ok(()),
+    }
+}
+
+/// Puts the fields of an entry of the admin queue, whose data pointer is two PRP entries.
+pub(crate) fn put_admin(out: &mut String, entry: &SubEntry) -> Result<(), AllocError> {
+    let SubEntry {
+        opcode,
+        fuse,
+        psdt,
+        cid,
+        nsid,
+        mptr,
+        sgl1,
+        cdw10,
+        cdw11,
+        cdw12,
+        cdw13,
+        cdw14,
+        cdw15,
+    } = *entry;
+    let name = admin_name(opcode);
+    write!(
+        out,
+        "    OPC {opcode:02X}h {name}, FUSE {fuse}, PSDT {psdt}, CID {cid}, NSID {nsid}, MPTR {mptr:X}h\n"
+    )?;
+    let [a, b, c, d, e, f, g, h, i, j, k, l, m, n, o, p] = sgl1;
+    let first = u64::from_le_bytes([a, b, c, d, e, f, g, h]);
+    let second = u64::from_le_bytes([i, j, k, l, m, n, o, p]);
+    write!(out, "    PRP1 {first:X}h, PRP2 {second:X}h\n")?;
+    write!(
+        out,
+        "    CDW10 {cdw10:X}h, CDW11 {cdw11:X}h, CDW12 {cdw12:X}h, CDW13 {cdw13:X}h, CDW14 {cdw14:X}h, CDW15 {cdw15:X}h\n"
+    )?;
+    put_admin_words(out, entry)
+}
