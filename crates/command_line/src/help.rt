@@ -220,9 +220,10 @@ output. docs/FIRMWARE.md in the repository has more.";
 pub const SHOW_ABOUT: &str =
     "Decodes an entry or a descriptor: each field by its name, and what of it the controller refuses.
 
-The first word says what the bytes are: `sqe` a submission entry of an I/O queue, 64 bytes, `cqe`
-a completion entry, 16, `sgl` a scatter-gather list descriptor, 16. All others are the bytes, or
-@FILE for those of a file.";
+The first word says what the bytes are: `sqe` a submission entry of an I/O queue, 64 bytes, `admin`
+one of the admin queue, 64, `cqe` a completion entry, 16, `sgl` a scatter-gather list descriptor,
+16. All others are the bytes, or @FILE for those of a file. Behind `status` stands a status, as 0:0D
+or as the 15 bits of its field, 0x400D.";
 
 /// What `nvmesgl show --help` says last.
 pub const SHOW_AFTER: &str = "Example:
@@ -230,7 +231,7 @@ pub const SHOW_AFTER: &str = "Example:
 prints
   Last Segment, address 7000h, length 24
   SGL1 is refused: 0:0D Invalid SGL Segment Descriptor
-  it is a link whose length is zero or no multiple of 16, or whose address is no multiple of 8
+  it is a link whose length is 24, no multiple of 16
 
 Exit status: 0 decoded, 1 the bytes are at fault, 2 the arguments, 3 memory or the output.
 docs/FIRMWARE.md in the repository has more.";

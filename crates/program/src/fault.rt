@@ -142,7 +142,7 @@ impl fmt::Display for Told<Fault> {
             Fault::Load(fault) => write!(f, "{fault}\n")?,
             Fault::Bytes(BytesFault::Case(fault)) => write!(f, "{fault}\n")?,
             Fault::Bytes(BytesFault::UnknownKind) => {
-                f.write_str("show: the first word is sqe, cqe or sgl\n")?
+                f.write_str("show: the first word is sqe, admin, cqe, sgl or status\n")?
             }
             Fault::PipeClosed
             | Fault::Transcripts(_)

@@ -6,6 +6,7 @@
 
 mod answer;
 mod case;
+mod cause;
 mod command;
 mod dump;
 mod entry;

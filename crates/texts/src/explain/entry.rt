@@ -5,6 +5,11 @@ use entry_codec::{ComEntry, SubEntry, admin_opcode};
 use io_commands::{block_number, first_block, kind_of};
 use std::alloc::AllocError;
 
+/// What stands behind the name of a thing of which there are so many.
+fn plural(number: u32) -> &'static str {
+    if number == 1 { "" } else { "s" }
+}
+
 /// Puts the fields of an entry of an I/O queue, and its blocks where its opcode has some.
 pub(crate) fn put_entry(out: &mut String, entry: &SubEntry) -> Result<(), AllocError> {
     put_submission_fields(out, 1, entry)?;
@@ -12,8 +17,11 @@ pub(crate) fn put_entry(out: &mut String, entry: &SubEntry) -> Result<(), AllocE
         return Ok(());
     }
     let (first, number) = (first_block(entry), block_number(entry));
-    let blocks = number.saturating_sub(1);
-    write!(out, "    SLBA {first}, NLB {blocks}: {number} blocks\n")
+    let (last, blocks) = (number.saturating_sub(1), plural(number));
+    write!(
+        out,
+        "    SLBA {first}, NLB {last}: {number} block{blocks}\n"
+    )
 }
 
 /// Puts the bits above a status: Command Retry Delay, More and Do Not Retry (NVM Express Base Specification 2.0, "Status Field Definition"), 14:11 of a status field.

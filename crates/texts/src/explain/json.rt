@@ -1,6 +1,7 @@
 //! An explanation as JSON, one object on each line.
 
 use crate::explain::case::Case;
+use crate::explain::cause::put_cause;
 use crate::explain::command::Explanation;
 use crate::explain::list::Taken;
 use crate::explain::round::{Round, round_of};
@@ -139,8 +140,9 @@ fn end_object(
     let (at, rule) = match explanation.fault {
         Some(fault) => {
             put_more(&mut more, &case.memory, explanation, fault)?;
-            let cause = fault.cause;
-            (Some(fault.at), Some(format!(in alloc; "{cause}")?))
+            let mut rule = String::new(alloc);
+            put_cause(&mut rule, fault.cause, explanation.taken.last())?;
+            (Some(fault.at), Some(rule))
         }
         None if status == Status::SUCCESS => {
             put_rest(&mut more, explanation)?;

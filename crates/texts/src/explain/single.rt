@@ -4,20 +4,21 @@ ghost use Rattle.std.specs.Prelude.{◌≡◌, ◌≤◌, Some, false, length};
 ghost use Rattle.controller_walk.specs.Walks.{is_over, need_of};
 ghost use Rattle.io_commands.specs.Jobs.{block_number, kind_of_opcode};
 
+use crate::explain::cause::put_cause;
 use crate::explain::command::walk_of;
 use crate::explain::dump::{Dump, FILE};
 use crate::explain::entry::{put_admin, put_entry, put_whole_completion};
 use crate::explain::fault::{CaseFault, Wrong};
 use crate::explain::files::file_bytes;
 use crate::explain::lines::{Line, Stop, put_in};
+use crate::explain::list::Taken;
 use crate::explain::namespace::{Namespace, checked};
 use crate::explain::rule::put_rule;
 use crate::explain::status::put_status;
-use crate::explain::text::put_type;
 use crate::faults::Place;
 use crate::sparse_memory::SparseMemory;
 use crate::traces::put_descriptor;
-use controller_walk::{Direction, FaultCause, Walk, WalkFault};
+use controller_walk::{Direction, Walk, WalkFault};
 use entry_codec::SubEntry;
 use entry_codec::status_names::Named;
 use io_commands::Kind;
@@ -135,15 +136,18 @@ fn put_first(
     bytes: &[u8; 16],
     fault: Option<WalkFault>,
 ) -> Result<(), AllocError> {
-    let Some(fault) = fault else {
+    let Some(WalkFault { cause, at }) = fault else {
         return out.push_str("SGL1 is not refused by itself\n");
     };
-    let (cause, named) = (fault.cause, Named(fault.cause.status()));
-    write!(out, "SGL1 is refused: {named}\n{cause}\n")?;
-    match cause {
-        FaultCause::UnknownType => put_type(out, bytes),
-        _ => Ok(()),
-    }
+    let named = Named(cause.status());
+    write!(out, "SGL1 is refused: {named}\n")?;
+    let taken = Taken {
+        at,
+        bytes: *bytes,
+        counted: 0,
+    };
+    put_cause(out, cause, Some(&taken))?;
+    out.push('\n')
 }
 
 /// Puts a descriptor, and whether it is refused as SGL1 of an entry, for any number of bytes.

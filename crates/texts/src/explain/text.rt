@@ -1,6 +1,7 @@
 //! The lines of an explanation.
 
 use crate::explain::case::Case;
+use crate::explain::cause::put_cause;
 use crate::explain::command::Explanation;
 use crate::explain::entry::put_entry;
 use crate::explain::fault::CaseFault;
@@ -9,7 +10,7 @@ use crate::explain::round::round_of;
 use crate::explain::rule::{broken_rule, put_rule};
 use crate::faults::{line_at, put_line};
 use crate::sparse_memory::SparseMemory;
-use crate::traces::{put_descriptor, subtype_name, type_name, type_of};
+use crate::traces::put_descriptor;
 use controller_walk::{DescriptorAt, FaultCause, WalkFault};
 use entry_codec::status_names::Named;
 use entry_codec::{Status, SubEntry};
@@ -21,9 +22,6 @@ const PAGE: u64 = 4_096;
 
 /// The most pages that a pool of the profile has.
 const PROFILE_PAGES: u64 = 65_536;
-
-/// The highest type of a descriptor that is known, Last Segment.
-const LAST_TYPE: u8 = 3;
 
 /// The bytes of a descriptor.
 const DESCRIPTOR: u64 = 16;
@@ -75,26 +73,6 @@ fn put_all(out: &mut String, explanation: &Explanation) -> Result<(), AllocError
         out,
         "the list goes round: descriptor {number} is next again, and so on, {left_out} more\n"
     )
-}
-
-/// Puts what makes a link malformed.
-fn put_malformed(out: &mut String, addr: u64, len: u32) -> Result<(), AllocError> {
-    if len == 0 || len % 16 != 0 {
-        write!(out, "the length is {len}\n")
-    } else {
-        write!(out, "the address is {addr:X}h\n")
-    }
-}
-
-/// Puts what of a descriptor's type is not known.
-pub(crate) fn put_type(out: &mut String, bytes: &[u8; 16]) -> Result<(), AllocError> {
-    let (kind, subtype) = type_of(bytes);
-    if kind > LAST_TYPE {
-        let name = type_name(kind);
-        return write!(out, "the type is {kind:X}h, {name}\n");
-    }
-    let name = subtype_name(subtype);
-    write!(out, "the subtype is {subtype:X}h, {name}\n")
 }
 
 /// The first page of a range of bytes that is past the pool, or out; the range's last page where none is.
@@ -158,13 +136,6 @@ pub(crate) fn put_more(
                 "the command moves {need} bytes, and its list has {counted}\n"
             )
         }
-        (FaultCause::MalformedLink, Some(taken)) => match Descriptor::read(&taken.bytes) {
-            Ok(Descriptor::Segment { addr, len } | Descriptor::LastSegment { addr, len }) => {
-                put_malformed(out, addr, len)
-            }
-            _ => Ok(()),
-        },
-        (FaultCause::UnknownType, Some(taken)) => put_type(out, &taken.bytes),
         (FaultCause::UnreadableDescriptor, _) => match fault.at.place {
             Some(place) => put_missing(out, memory, place, DESCRIPTOR),
             None => Ok(()),
@@ -248,8 +219,8 @@ pub fn put_explanation(
     match explanation.fault {
         Some(fault) => {
             put_number(out, fault.at)?;
-            let cause = fault.cause;
-            write!(out, "{cause}\n")?;
+            put_cause(out, fault.cause, explanation.taken.last())?;
+            out.push('\n')?;
             put_more(out, &case.memory, explanation, fault)
         }
         None => {
