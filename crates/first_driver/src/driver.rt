@@ -142,11 +142,17 @@ impl<D: Device> Driver<D> {
         self.collect(cid)
     }
 
-    /// Writes a block; zeros stand behind the bytes.
+    /// Writes a block, whose bytes are laid where the device reads them; zeros stand behind the bytes.
     pub(crate) fn write(&mut self, block: u64, bytes: &[u8]) -> Result<Ended, Failure> {
         let cid = self.reserve(Kind::Write, block)?;
-        let bytes = Bytes::from_vec(Vec::from_slice(self.alloc, bytes)?);
-        self.done(Call::Fill { q: 1, cid, bytes })?;
+        let laid = self.host.write_data(1, cid, 0, |page| {
+            for (slot, byte) in page.iter_mut().zip(bytes) {
+                *slot = *byte;
+            }
+        });
+        if laid.is_none() {
+            return Err(Failure::NotDone(Reply::NoValue));
+        }
         self.submit(cid)?;
         self.wait()?;
         self.collect(cid)

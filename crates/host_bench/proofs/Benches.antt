@@ -5,7 +5,7 @@ use Rattle.machine_model.specs.declared.words.Refusal.TheVariants as refusal
 use Rattle.host_bench.specs.declared.values.CommandValue.TheVariants as value
 use Rattle.host_bench.specs.declared.call.Reply.TheVariants as reply
 use Rattle.host_bench.specs.declared.call.Call.TheVariants as call
-use Rattle.std.proofs.Common.{◌≡◌, ◌+◌, ◌-◌, Option, [], refl, ap, ap₂, sym, subst, ℕ, true, false, Some, None, List, ◌∷◌, ◌++◌, length, ◌==◌, ◌&&◌, ◌∙◌, ◌≢◌, ◌*◌, ◌<◌, ◌≤◌, inl, inr, is_some, arith, Result, Ok, Err, OnOk, OnErr}
+use Rattle.std.proofs.Common.{◌≡◌, ◌+◌, ◌-◌, Option, [], refl, ap, ap₂, sym, subst, ℕ, true, false, Some, None, List, ◌∷◌, ◌++◌, length, ◌==◌, ◌&&◌, ◌∙◌, ◌≢◌, ◌*◌, ◌<◌, ◌≤◌, inl, inr, is_some, arith, Result, Ok, Err, OnOk, OnErr, slice_get, option_map}
 use Rattle.std.proofs.lemmas.{Bool.{cases_lt, true_from_ne_false}, List.{append-nil, Elements.filter_map-append}, Option.slice_get-get_or}
 use Rattle.std.specs.{Option.option_and_then, List.list_any}
 use Rattle.host_bench.proofs.KeptRows.{goes_on, opens_tied, drafts_named, tickets_named, finished_named, named_there, place_free, put_back, put_same, put_next, reserved, row_dropped, renewed, followed, ended, found_at, changed_at, changed_other, taken_at, taken_other}
@@ -18,6 +18,7 @@ use Rattle.host_core.specs.Opening.{opened_pages, opened_view}
 use Rattle.host_core.specs.Resetting.{host_reset, pages_reset}
 use Rattle.host_bench.specs.BenchTables.{FillsDraft, BuildsDraft, opened_alone}
 use Rattle.host_bench.specs.Pool.{Keeps}
+use Rattle.host_bench.specs.Reach.{WritesData, WritesDraft, draft_data_at, with_data}
 use Rattle.host_bench.specs.Values.{Reply}
 use Rattle.host_core.specs.declared.config.Config.{Config}
 use Rattle.host_bench.specs.declared.values.CommandValue.{CommandValue}
@@ -162,6 +163,24 @@ module _ {A : Type 0} where
     fills_kept bytes reply.Accepted d' new is left = kept_name d' new (ap (λ (x : DraftContents). x.q) is.1) (ap (λ (x : DraftContents). x.cid) is.1) left
     fills_kept bytes (reply.NotFilled why) d' new is left = kept_name d' new (ap (λ (x : DraftContents). x.q) is.1) (ap (λ (x : DraftContents). x.cid) is.1) left
     fills_kept bytes answer d' new is left = absurd is
+
+    pub writes : {T : Type 0} (leaves : List ℕ → T → List ℕ → Type 0) (i : ℕ) (answer : Option T) (d' : DraftContents) (new : Values A) → WritesDraft leaves d i (option_map (λ (page : ℕ × List ℕ). page.1) (slice_get d.data_pages i)) answer d'
+        → new ≡ record mid { rows = with_value mid.rows q cid (Some (value.Draft d')) }
+        → WritesData leaves (table_with s old) q cid i (draft_data_at (table_with s old) q cid i) answer (table_with s new)
+    writes {T} leaves i answer d' new is left = rw found_draft (go (option_map (λ (page : ℕ × List ℕ). page.1) (slice_get d.data_pages i)) answer is)
+      where
+        go : (bytes : Option (List ℕ)) (answer : Option T) → WritesDraft leaves d i bytes answer d' → WritesData leaves (table_with s old) q cid i bytes answer (table_with s new)
+        go None None is = left_same d' new is left
+        go (Some bytes) (Some r) is = (is.0, is.1, left_changed (with_data i is.0) d' new is.2 left)
+        go None (Some r) is = absurd is
+        go (Some bytes) None is = absurd is
+
+    pub writes_kept : {T : Type 0} (leaves : List ℕ → T → List ℕ → Type 0) (i : ℕ) (bytes : Option (List ℕ)) (answer : Option T) (d' : DraftContents) (new : Values A) → WritesDraft leaves d i bytes answer d'
+        → new ≡ record mid { rows = with_value mid.rows q cid (Some (value.Draft d')) } → IsBench s new
+    writes_kept leaves i None None d' new is left = kept_name d' new (ap (λ (x : DraftContents). x.q) is) (ap (λ (x : DraftContents). x.cid) is) left
+    writes_kept leaves i (Some bytes) (Some r) d' new is left = kept_name d' new (ap (λ (x : DraftContents). x.q) is.2) (ap (λ (x : DraftContents). x.cid) is.2) left
+    writes_kept leaves i None (Some r) d' new is left = absurd is
+    writes_kept leaves i (Some bytes) None d' new is left = absurd is
 
     pub builds_kept : (answer : Reply) (d' : DraftContents) (new : Values A) → BuildsDraft d answer d' → new ≡ record mid { rows = with_value mid.rows q cid (Some (value.Draft d')) } → IsBench s new
     builds_kept reply.Accepted d' new is left = kept_name d' new (ap (λ (x : DraftContents). x.q) is) (ap (λ (x : DraftContents). x.cid) is) left

@@ -7,10 +7,12 @@ ghost use Rattle.host_bench.specs.Calls.{Does};
 ghost use Rattle.host_core.specs.Doorbells as doorbells;
 ghost use Rattle.host_bench.specs.BenchTables.{state_of, table_of};
 ghost use Rattle.host_bench.specs.CommandValues.{IsBench};
+ghost use Rattle.host_bench.specs.Reach.{WritesData, draft_data_at};
+ghost use Rattle.std.specs.Fn.{FnOnceReturnsAtMut};
 
 use crate::bench_tables::BenchTables;
 use crate::call::{Bytes, Call, CallIn, Reply, ReplyIn};
-use crate::fill::{build_draft, fill_draft, no_memory};
+use crate::fill::{build_draft, fill_draft, no_memory, write_draft};
 use crate::values::{
     CommandValue, drop_row, finished_in, put_back, put_next, take_draft, take_finished, take_ticket,
 };
@@ -70,6 +72,27 @@ impl<A: Allocator + Copy> BenchTables<A> {
         let reply = fill_draft(&mut draft, bytes);
         put_back(&mut self.values, q, cid, CommandValue::Draft(draft));
         reply
+    }
+
+    /// Gives the bytes of a page of a draft's data to a closure.
+    pub(crate) fn write_data<T, F: FnOnce(&mut [u8]) -> T>(
+        &mut self,
+        q: u16,
+        cid: u16,
+        i: usize,
+        write: F,
+    ) -> Option<T>
+        requires over { IsOver self.old.host self.old.store.pages }
+        requires bench { IsBench (state_of self.old) self.old.values }
+        requires callable { F.IsAlwaysCallable write }
+        ensures written { WritesData (λ old answer left. FnOnceReturnsAtMut F.FnOnce write old answer left) (table_of self.old) q cid i (draft_data_at (table_of self.old) q cid i) result (table_of self.new) }
+        ensures over { IsOver self.new.host self.new.store.pages }
+        ensures kept { IsBench (state_of self.new) self.new.values }
+    {
+        let mut draft = take_draft(&mut self.values, q, cid)?;
+        let answer = write_draft(&mut draft, i, write);
+        put_back(&mut self.values, q, cid, CommandValue::Draft(draft));
+        answer
     }
 
     /// Builds a draft.

@@ -1,6 +1,9 @@
-//! A draft is filled and built.
+//! A draft is filled, written and built.
 
-ghost use Rattle.std.specs.Prelude.{◌≡◌};
+ghost use Rattle.std.specs.Prelude.{◌≡◌, List, slice_get};
+ghost use Rattle.std.specs.Fn.{FnOnceReturnsAtMut};
+ghost use Rattle.std.specs.Option.{option_map};
+ghost use Rattle.host_bench.specs.Reach.{WritesDraft};
 ghost use Rattle.host_bench.specs.BenchTables.{BuildsDraft, FillsDraft};
 
 use crate::call::{Reply, ReplyIn};
@@ -23,6 +26,21 @@ pub(crate) fn fill_draft<A: Allocator>(draft: &mut Draft<A>, bytes: &[u8]) -> Re
         Ok(()) => Reply::Accepted,
         Err(fault) => Reply::NotFilled(fault),
     }
+}
+
+/// Gives the bytes of the page of a data piece to a closure, if the draft has such a piece.
+pub(crate) fn write_draft<A: Allocator, T, F: FnOnce(&mut [u8]) -> T>(
+    draft: &mut Draft<A>,
+    i: usize,
+    write: F,
+) -> Option<T>
+    requires { F.IsAlwaysCallable write }
+    ensures { WritesDraft (λ old answer left. FnOnceReturnsAtMut F.FnOnce write old answer left) draft.old i (option_map (λ page. page.1) (slice_get draft.old.data_pages i)) result draft.new }
+{
+    if i >= draft.data_pages().len() {
+        return None;
+    }
+    Some(write(draft.data_mut(i)))
 }
 
 /// Builds a draft.

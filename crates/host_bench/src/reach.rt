@@ -5,7 +5,8 @@ ghost use Rattle.std.specs.Option.{option_copied};
 ghost use Rattle.host_core.specs.DataPlaces.{place_at};
 ghost use Rattle.host_core.specs.Rights.{queue_memory_at, right_at, runs_of_command};
 ghost use Rattle.host_bench.specs.Calls.{Does};
-ghost use Rattle.host_bench.specs.Reach.{data_at};
+ghost use Rattle.host_bench.specs.Reach.{WritesData, data_at, draft_data_at};
+ghost use Rattle.std.specs.Fn.{FnOnceReturnsAtMut};
 
 use crate::bench::HostBench;
 use crate::call::{Call, ReplyIn};
@@ -64,5 +65,21 @@ impl<A: Allocator + Copy> HostBench<A> {
         ensures { Does self.old (Call.Fill q cid bytes.now) result self.new }
     {
         self.kept.fill(q, cid, bytes)
+    }
+
+    /// Gives the 4,096 bytes of the page of data piece `i` of a draft to a closure, to be written where they lie, and answers what it answers; the
+    /// piece's own bytes stand at its offset, pieces are counted from 0, and buckets are left aside. A draft that is built stays built. None, and
+    /// nothing is called, where there is no such draft, or it has no such piece.
+    pub fn write_data<T, F: FnOnce(&mut [u8]) -> T>(
+        &mut self,
+        q: u16,
+        cid: u16,
+        i: usize,
+        write: F,
+    ) -> Option<T>
+        requires { F.IsAlwaysCallable write }
+        ensures { WritesData (λ old answer left. FnOnceReturnsAtMut F.FnOnce write old answer left) self.old q cid i (draft_data_at self.old q cid i) result self.new }
+    {
+        self.kept.write_data(q, cid, i, write)
     }
 }
