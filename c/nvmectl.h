@@ -63,38 +63,38 @@ typedef struct nvmectl_step {
 /* Opens over the bytes of an image, whole blocks of 512, or over options.blocks blocks of zeros where image_len is 0. Queue i has the i-th
  * of the pages, and queue 0 is the admin queue; at most 65,536. Each queue is live, with empty rings. A reset behind the opening leaves queue 0 alone, and the
  * others to Create I/O CQ and SQ. Refused: OPEN_HANDLE, BAD_SIZE, BAD_OPTION, BAD_CONFIG, BAD_IMAGE, MEMORY. */
-uint32_t nvmectl_open(nvmectl *, const nvmectl_options *, const nvmectl_queue *queues, size_t queue_count, const uint8_t *image, size_t image_len);
-/* Closes a handle; one that is closed stays so. */
+uint32_t nvmectl_open(nvmectl *, const nvmectl_options *, const nvmectl_queue *queues, size_t queue_count, const uint8_t *image, size_t image_len) NVMESGL_CALL(1, 2);
+/* Closes a handle; one that is closed stays so, and of a null pointer nothing is done. */
 void nvmectl_close(nvmectl *);
 /* A Controller Level Reset: no command is left, the I/O queues are gone, and queue 0 stays with empty rings. The image is as it was. */
-uint32_t nvmectl_reset(nvmectl *);
+uint32_t nvmectl_reset(nvmectl *) NVMESGL_CALL(1);
 
 /* The doorbells --------------------------------------------------------------------------------------------------- */
 
 /* A value is written to the tail doorbell of submission queue q. Refused: NO_QUEUE, BAD_DOORBELL (it is no slot of the ring). */
-uint32_t nvmectl_tail(nvmectl *, uint16_t q, uint16_t value);
+uint32_t nvmectl_tail(nvmectl *, uint16_t q, uint16_t value) NVMESGL_CALL(1);
 /* A value is written to the head doorbell of completion queue q. Refused: NO_QUEUE, BAD_DOORBELL (it is outside the last head to the tail). */
-uint32_t nvmectl_head(nvmectl *, uint16_t q, uint16_t value);
+uint32_t nvmectl_head(nvmectl *, uint16_t q, uint16_t value) NVMESGL_CALL(1);
 
 /* Steps over a pool: of at most 268,435,456 bytes, else POOL_TOO_LONG. Each tells the pages that it touched ---------- */
 
 /* Fetches an entry that was rung: answer.cid. One of queue 0 is decided and carried out here. An identifier that is outstanding is answered at once, with Command
  * ID Conflict. Refused: IDLE, SLOT_OUT, FULL, SLOT_OUT, MEMORY. */
-uint32_t nvmectl_fetch(nvmectl *, uint16_t q, uint8_t *pool, size_t pool_len, nvmesgl_answer *);
+uint32_t nvmectl_fetch(nvmectl *, uint16_t q, uint8_t *pool, size_t pool_len, nvmesgl_answer *) NVMESGL_CALL(1, 5);
 /* Does one unit of a fetched command's list, one descriptor or the bytes of one page: answer.state, one of NVMESGL_WALK_MORE, NVMESGL_WALK_END and NVMESGL_WALK_FAULT.
  * Refused: NO_JOB, NOTHING. */
-uint32_t nvmectl_walk(nvmectl *, uint16_t q, uint16_t cid, uint8_t *pool, size_t pool_len, nvmesgl_answer *);
+uint32_t nvmectl_walk(nvmectl *, uint16_t q, uint16_t cid, uint8_t *pool, size_t pool_len, nvmesgl_answer *) NVMESGL_CALL(1, 6);
 /* Posts a completion; a Write that ends well changes the image here. Refused: NO_JOB, WALKING, WAITS, FULL, SLOT_OUT. */
-uint32_t nvmectl_complete(nvmectl *, uint16_t q, uint16_t cid, uint8_t *pool, size_t pool_len, nvmesgl_answer *);
+uint32_t nvmectl_complete(nvmectl *, uint16_t q, uint16_t cid, uint8_t *pool, size_t pool_len, nvmesgl_answer *) NVMESGL_CALL(1, 6);
 
 /* Looks: they change nothing -------------------------------------------------------------------------------------- */
 
 /* A step that would be done now (want of memory left aside), or NVMECTL_REST where each would be refused. It goes over the queues and then over the commands. */
-uint32_t nvmectl_next(nvmectl *, uint8_t *pool, size_t pool_len, nvmectl_step *);
+uint32_t nvmectl_next(nvmectl *, uint8_t *pool, size_t pool_len, nvmectl_step *) NVMESGL_CALL(1, 4);
 /* A command that was fetched and not completed. Refused: NO_JOB. */
-uint32_t nvmectl_command(nvmectl *, uint16_t q, uint16_t cid, nvmectl_job *);
+uint32_t nvmectl_command(nvmectl *, uint16_t q, uint16_t cid, nvmectl_job *) NVMESGL_CALL(1, 4);
 /* Blocks of the image from slba on, as many as the buffer has. Refused: NO_BLOCKS (the image has not so many, or the buffer is not whole blocks of 512). */
-uint32_t nvmectl_blocks(nvmectl *, uint64_t slba, uint8_t *buffer, size_t buffer_len);
+uint32_t nvmectl_blocks(nvmectl *, uint64_t slba, uint8_t *buffer, size_t buffer_len) NVMESGL_CALL(1);
 
 #ifdef __cplusplus
 }

@@ -104,9 +104,9 @@ typedef struct nvmehost_pages {
  * S = ceil(entries / 64) pages, from page q (S + C) on, and then its completion ring of C = ceil(entries / 256) pages, from page q (S + C) + S on. A device whose I/O
  * queues are to be made by Create I/O CQ and SQ is met by nvmehost_reset first: then queue 0 alone is live, at the same pages.
  * Refused, the first that holds: OPEN_HANDLE, BAD_SIZE, BAD_OPTION, BAD_CONFIG, NO_PAGES; or MEMORY. */
-uint32_t nvmehost_open(nvmehost *, const nvmehost_options *, nvmesgl_answer *);
+uint32_t nvmehost_open(nvmehost *, const nvmehost_options *, nvmesgl_answer *) NVMESGL_CALL(1, 2, 3);
 
-/* Closes a handle: what is open is let go, whatever is outstanding. One that is closed stays so. */
+/* Closes a handle: what is open is let go, whatever is outstanding. One that is closed stays so; of a null pointer nothing is done. */
 void nvmehost_close(nvmehost *);
 
 /* Memory of the caller's in which a pool stands, as it is mapped for a device: at is a multiple of 4,096, with 4,096 * pages bytes. The last two are the library's. */
@@ -120,7 +120,7 @@ typedef struct nvmehost_memory {
 /* Opens as nvmehost_open does, over the caller's memory: page p of the pool stands at memory->at + 4,096 p until the handle is closed, whether the page is in or out. Such a handle is
  * closed by nvmehost_close_at; until then the struct stays where it is. One opening at a time in a program.
  * Refused before all else: BAD_OPTION where memory->pages is not options->pages. */
-uint32_t nvmehost_open_at(nvmehost *, const nvmehost_options *, nvmehost_memory *, nvmesgl_answer *);
+uint32_t nvmehost_open_at(nvmehost *, const nvmehost_options *, nvmehost_memory *, nvmesgl_answer *) NVMESGL_CALL(1, 2, 3, 4);
 void nvmehost_close_at(nvmehost *, nvmehost_memory *);
 
 /* Over such memory (rule 6 of docs/C.md) the caller may write the data of a draft in place, from reserve to submit, as nvmehost_fill would, and read that of a finished command, from collect to
@@ -152,67 +152,67 @@ static inline void nvmehost_write_doorbell(volatile void *registers, unsigned st
  * pool until the draft is submitted or cancelled.
  * Refused: NO_KIND, BAD_PIECE, NO_QUEUE, DELETING, a fault of the request (TOO_MANY_PIECES to LENGTH_MISMATCH), NO_IDENTIFIER, NO_PAGES, MEMORY. */
 uint32_t nvmehost_reserve(nvmehost *, uint16_t q, uint32_t kind, uint64_t slba, uint32_t blocks, const nvmesgl_piece *pieces, size_t piece_count,
-                          nvmesgl_answer *);
+                          nvmesgl_answer *) NVMESGL_CALL(1, 8);
 /* Fills the draft of a Write or a Compare with the bytes, and zeros behind them. Refused: NO_VALUE, NOT_A_SOURCE, WRONG_LENGTH. */
-uint32_t nvmehost_fill(nvmehost *, uint16_t q, uint16_t cid, const uint8_t *bytes, size_t byte_count, nvmesgl_answer *);
+uint32_t nvmehost_fill(nvmehost *, uint16_t q, uint16_t cid, const uint8_t *bytes, size_t byte_count, nvmesgl_answer *) NVMESGL_CALL(1, 6);
 /* Lays the draft's chain. Refused: NO_VALUE, MEMORY. */
-uint32_t nvmehost_build(nvmehost *, uint16_t q, uint16_t cid, nvmesgl_answer *);
+uint32_t nvmehost_build(nvmehost *, uint16_t q, uint16_t cid, nvmesgl_answer *) NVMESGL_CALL(1, 4);
 /* Submits a draft that is built: its pages are in the pool, and its entry stands behind the tail. A ticket takes its place. Refused: NO_VALUE, NOT_BUILT, QUEUE_GONE, QUEUE_FULL. */
-uint32_t nvmehost_submit(nvmehost *, uint16_t q, uint16_t cid, nvmesgl_answer *);
+uint32_t nvmehost_submit(nvmehost *, uint16_t q, uint16_t cid, nvmesgl_answer *) NVMESGL_CALL(1, 4);
 /* Cancels a draft: its pages and its identifier are free. Refused: NO_VALUE. */
-uint32_t nvmehost_cancel(nvmehost *, uint16_t q, uint16_t cid, nvmesgl_answer *);
+uint32_t nvmehost_cancel(nvmehost *, uint16_t q, uint16_t cid, nvmesgl_answer *) NVMESGL_CALL(1, 4);
 /* Collects a command that has ended, by its ticket: answer.sct and answer.sc. Its pages are out of the pool. Refused: NO_VALUE, NOT_YET, MEMORY. */
-uint32_t nvmehost_collect(nvmehost *, uint16_t q, uint16_t cid, nvmesgl_answer *);
+uint32_t nvmehost_collect(nvmehost *, uint16_t q, uint16_t cid, nvmesgl_answer *) NVMESGL_CALL(1, 4);
 /* Gathers the bytes of a finished Read into the front of a buffer: answer.bytes; none of a Write or a Compare.
  * Refused: NO_VALUE, TOO_SHORT (the buffer stays as it was), MEMORY. */
-uint32_t nvmehost_gather(nvmehost *, uint16_t q, uint16_t cid, uint8_t *buffer, size_t buffer_len, nvmesgl_answer *);
+uint32_t nvmehost_gather(nvmehost *, uint16_t q, uint16_t cid, uint8_t *buffer, size_t buffer_len, nvmesgl_answer *) NVMESGL_CALL(1, 6);
 /* Releases a finished command: its pages and its identifier are free. Refused: NO_VALUE. */
-uint32_t nvmehost_release(nvmehost *, uint16_t q, uint16_t cid, nvmesgl_answer *);
+uint32_t nvmehost_release(nvmehost *, uint16_t q, uint16_t cid, nvmesgl_answer *) NVMESGL_CALL(1, 4);
 /* Sends an Abort of a submitted command on queue 0: answer.cid. It is not rung.
  * Refused: NO_QUEUE, WRONG_STATE, NO_SUCH_COMMAND, NO_IDENTIFIER, QUEUE_FULL. */
-uint32_t nvmehost_abort(nvmehost *, uint16_t q, uint16_t cid, nvmesgl_answer *);
+uint32_t nvmehost_abort(nvmehost *, uint16_t q, uint16_t cid, nvmesgl_answer *) NVMESGL_CALL(1, 4);
 
 /* A queue ----------------------------------------------------------------------------------------------------------- */
 
 /* Tells the value for the queue's tail doorbell, with which the device hears all that was submitted. Refused: NO_QUEUE. */
-uint32_t nvmehost_ring(nvmehost *, uint16_t q, nvmehost_doorbell *, nvmesgl_answer *);
+uint32_t nvmehost_ring(nvmehost *, uint16_t q, nvmehost_doorbell *, nvmesgl_answer *) NVMESGL_CALL(1, 3, 4);
 /* Takes one completion: answer.state says what was found (NVMESGL_REAP_EMPTY to NVMESGL_REAP_UNKNOWN_ID). Where one was taken, the value for the completion queue's head doorbell is told.
  * Refused: NO_QUEUE. */
-uint32_t nvmehost_reap(nvmehost *, uint16_t q, nvmehost_doorbell *, nvmesgl_answer *);
+uint32_t nvmehost_reap(nvmehost *, uint16_t q, nvmehost_doorbell *, nvmesgl_answer *) NVMESGL_CALL(1, 3, 4);
 /* Each sends an admin command on queue 0 (answer.cid), which is not rung. Refused: NO_QUEUE, WRONG_STATE, OUTSTANDING (create_cq alone),
  * NO_IDENTIFIER, NO_RUN (create_cq and create_sq), QUEUE_FULL. */
-uint32_t nvmehost_delete_sq(nvmehost *, uint16_t q, nvmesgl_answer *);
-uint32_t nvmehost_delete_cq(nvmehost *, uint16_t q, nvmesgl_answer *);
-uint32_t nvmehost_create_cq(nvmehost *, uint16_t q, nvmesgl_answer *);
-uint32_t nvmehost_create_sq(nvmehost *, uint16_t q, nvmesgl_answer *);
+uint32_t nvmehost_delete_sq(nvmehost *, uint16_t q, nvmesgl_answer *) NVMESGL_CALL(1, 3);
+uint32_t nvmehost_delete_cq(nvmehost *, uint16_t q, nvmesgl_answer *) NVMESGL_CALL(1, 3);
+uint32_t nvmehost_create_cq(nvmehost *, uint16_t q, nvmesgl_answer *) NVMESGL_CALL(1, 3);
+uint32_t nvmehost_create_sq(nvmehost *, uint16_t q, nvmesgl_answer *) NVMESGL_CALL(1, 3);
 /* Gives back the submission ring of a queue whose deletion was reaped. Refused: NOT_DELETED, NOT_DRAINED. */
-uint32_t nvmehost_retire(nvmehost *, uint16_t q, nvmesgl_answer *);
+uint32_t nvmehost_retire(nvmehost *, uint16_t q, nvmesgl_answer *) NVMESGL_CALL(1, 3);
 /* Begins again, where the device is reset: queue 0 is as it opened, the I/O queues are gone, and every command that was submitted has ended, aborted. It is done always. */
-uint32_t nvmehost_reset(nvmehost *, nvmesgl_answer *);
+uint32_t nvmehost_reset(nvmehost *, nvmesgl_answer *) NVMESGL_CALL(1, 2);
 
 /* The device's side of the pool: 1 to 4,096 bytes from an address on -------------------------------------------------- */
 
 /* Copies bytes of the pool into a buffer. Refused, and the buffer stays as it was: BAD_LENGTH (the buffer has 0 or more than 4,096 bytes), PAGE_OUT (a byte is outside the pool, or on a page that
  * is out: one of a draft or of a finished command). */
-uint32_t nvmehost_read(nvmehost *, uint64_t addr, uint8_t *buffer, size_t buffer_len);
+uint32_t nvmehost_read(nvmehost *, uint64_t addr, uint8_t *buffer, size_t buffer_len) NVMESGL_CALL(1);
 /* Writes bytes into the pool. Refused, and no byte changed: BAD_LENGTH, PAGE_OUT. */
-uint32_t nvmehost_write(nvmehost *, uint64_t addr, const uint8_t *bytes, size_t byte_count);
+uint32_t nvmehost_write(nvmehost *, uint64_t addr, const uint8_t *bytes, size_t byte_count) NVMESGL_CALL(1);
 
 /* Looks: they change nothing -------------------------------------------------------------------------------------- */
 
-uint32_t nvmehost_counts(nvmehost *, nvmehost_pages *);
+uint32_t nvmehost_counts(nvmehost *, nvmehost_pages *) NVMESGL_CALL(1, 2);
 /* Refused: NO_PAGE. */
-uint32_t nvmehost_owner(nvmehost *, uint32_t page, nvmesgl_page_owner *);
+uint32_t nvmehost_owner(nvmehost *, uint32_t page, nvmesgl_page_owner *) NVMESGL_CALL(1, 3);
 /* What the host knows of a queue. Refused: NO_QUEUE. */
-uint32_t nvmehost_look(nvmehost *, uint16_t q, nvmehost_queue *);
+uint32_t nvmehost_look(nvmehost *, uint16_t q, nvmehost_queue *) NVMESGL_CALL(1, 3);
 /* What a device may do with a page now (enum nvmehost_right), whatever it wrote: it reads submission rings, and the chain and the data of each Write and Compare that is submitted and not yet
  * reaped; it writes completion rings, and the data of each Read that is; and nothing else. Of a page outside the pool: NVMEHOST_NOTHING. */
-uint32_t nvmehost_may(nvmehost *, uint32_t page, uint32_t *right);
+uint32_t nvmehost_may(nvmehost *, uint32_t page, uint32_t *right) NVMESGL_CALL(1, 3);
 /* The pages of a command as runs, first of its data and then of its chain, with what a device may do with them now; none where no such command is outstanding. How many runs were laid into the
  * front of the buffer is told. TOO_SHORT: there are more, and the buffer is full. */
-uint32_t nvmehost_runs(nvmehost *, uint16_t q, uint16_t cid, nvmehost_run *buffer, size_t buffer_len, size_t *count);
+uint32_t nvmehost_runs(nvmehost *, uint16_t q, uint16_t cid, nvmehost_run *buffer, size_t buffer_len, size_t *count) NVMESGL_CALL(1, 6);
 /* Where data piece i of an outstanding command lies; pieces are counted from 0, and buckets are left aside. Refused: NO_PIECE. */
-uint32_t nvmehost_data_place(nvmehost *, uint16_t q, uint16_t cid, uint32_t piece, nvmehost_place *);
+uint32_t nvmehost_data_place(nvmehost *, uint16_t q, uint16_t cid, uint32_t piece, nvmehost_place *) NVMESGL_CALL(1, 5);
 
 #ifdef __cplusplus
 }

@@ -9,7 +9,7 @@
  *  1. A handle is all zero bytes before its opening (NVMESGL_CLOSED). It is never copied and never written while it is open.
  *  2. One call at a time on a handle. It may go from thread to thread, where calls are ordered by a lock, or by the start or the end of a thread. No call from a signal handler, and
  *     none from a forked child.
- *  3. A pointer to a handle, an answer, options or another struct is not null. A pointer that goes with a length may be null where the
+ *  3. A pointer to a handle (but of a closing), an answer, options or another struct is not null. A pointer that goes with a length may be null where the
  *     length is 0. Else it points to so many elements. What a call writes overlaps nothing else that it is given.
  *  4. malloc, realloc and free come from one allocator and align to 16; or nvmesgl_heap_array was called before the first opening.
  *  5. The array of nvmesgl_heap_array has one user at a time: with handles in several threads, malloc serves, and the array does not.
@@ -37,6 +37,13 @@ extern "C" {
 #define NVMESGL_VERSION_MINOR 2
 #define NVMESGL_VERSION_PATCH 0
 const char *nvmesgl_version(void);
+
+/* Of a call: its code is looked at, and the pointers at these places are not null (rule 3). */
+#if defined(__GNUC__)
+#define NVMESGL_CALL(...) __attribute__((warn_unused_result, nonnull(__VA_ARGS__)))
+#else
+#define NVMESGL_CALL(...)
+#endif
 
 /* Codes ----------------------------------------------------------------------------------------------------------- */
 
@@ -246,9 +253,9 @@ void nvmesgl_heap_array(void *array, size_t bytes);
 /* Opens a closed handle over the bytes of an image, which are copied; with image_len 0 over options->blocks blocks of zeros.
  * Refused, the first that holds: OPEN_HANDLE, BAD_SIZE, BAD_OPTION, BAD_IMAGE, BAD_CONFIG, NO_PAGES (the queues' rings need more pages than
  * there are); or MEMORY. */
-uint32_t nvmesgl_open(nvmesgl *, const nvmesgl_options *, const uint8_t *image, size_t image_len, nvmesgl_answer *);
+uint32_t nvmesgl_open(nvmesgl *, const nvmesgl_options *, const uint8_t *image, size_t image_len, nvmesgl_answer *) NVMESGL_CALL(1, 2, 5);
 
-/* Closes a handle. One that is closed stays so. */
+/* Closes a handle. One that is closed stays so; of a null pointer nothing is done. */
 void nvmesgl_close(nvmesgl *);
 
 /* The driver: a command, named by its queue and identifier -------------------------------------------------------- */
@@ -258,59 +265,59 @@ void nvmesgl_close(nvmesgl *);
 /* Reserves a command of blocks of 512 bytes from slba on: an identifier (answer.cid) and pages (data_pages, chain_pages), as a draft.
  * Refused: NO_KIND, BAD_PIECE, NO_QUEUE, DELETING, a fault of the request (TOO_MANY_PIECES to LENGTH_MISMATCH), NO_IDENTIFIER, NO_PAGES, MEMORY. */
 uint32_t nvmesgl_reserve(nvmesgl *, uint16_t q, uint32_t kind, uint64_t slba, uint32_t blocks, const nvmesgl_piece *pieces, size_t piece_count,
-                         nvmesgl_answer *);
+                         nvmesgl_answer *) NVMESGL_CALL(1, 8);
 /* Fills the draft of a Write or a Compare with the bytes, and zeros behind them; a draft that was built may be filled again.
  * Refused: NO_VALUE, NOT_A_SOURCE, WRONG_LENGTH, MEMORY. */
-uint32_t nvmesgl_fill(nvmesgl *, uint16_t q, uint16_t cid, const uint8_t *bytes, size_t byte_count, nvmesgl_answer *);
+uint32_t nvmesgl_fill(nvmesgl *, uint16_t q, uint16_t cid, const uint8_t *bytes, size_t byte_count, nvmesgl_answer *) NVMESGL_CALL(1, 6);
 /* Lays the draft's chain. Refused: NO_VALUE, MEMORY. */
-uint32_t nvmesgl_build(nvmesgl *, uint16_t q, uint16_t cid, nvmesgl_answer *);
+uint32_t nvmesgl_build(nvmesgl *, uint16_t q, uint16_t cid, nvmesgl_answer *) NVMESGL_CALL(1, 4);
 /* Submits a draft that is built; a ticket takes its place. Refused: NO_VALUE, NOT_BUILT, QUEUE_GONE, QUEUE_FULL. */
-uint32_t nvmesgl_submit(nvmesgl *, uint16_t q, uint16_t cid, nvmesgl_answer *);
+uint32_t nvmesgl_submit(nvmesgl *, uint16_t q, uint16_t cid, nvmesgl_answer *) NVMESGL_CALL(1, 4);
 /* Cancels a draft: its pages and its identifier are free. Refused: NO_VALUE. */
-uint32_t nvmesgl_cancel(nvmesgl *, uint16_t q, uint16_t cid, nvmesgl_answer *);
+uint32_t nvmesgl_cancel(nvmesgl *, uint16_t q, uint16_t cid, nvmesgl_answer *) NVMESGL_CALL(1, 4);
 /* Collects a command that has ended, by its ticket: answer.sct and answer.sc. Refused: NO_VALUE, NOT_YET, MEMORY. */
-uint32_t nvmesgl_collect(nvmesgl *, uint16_t q, uint16_t cid, nvmesgl_answer *);
+uint32_t nvmesgl_collect(nvmesgl *, uint16_t q, uint16_t cid, nvmesgl_answer *) NVMESGL_CALL(1, 4);
 /* Gathers the bytes of a finished Read into the front of a buffer: answer.bytes; none of a Write or a Compare. What a Read that failed did not bring is zeros.
  * Refused: NO_VALUE, TOO_SHORT (the buffer stays as it was), MEMORY. */
-uint32_t nvmesgl_gather(nvmesgl *, uint16_t q, uint16_t cid, uint8_t *buffer, size_t buffer_len, nvmesgl_answer *);
+uint32_t nvmesgl_gather(nvmesgl *, uint16_t q, uint16_t cid, uint8_t *buffer, size_t buffer_len, nvmesgl_answer *) NVMESGL_CALL(1, 6);
 /* Releases a finished command: its pages and its identifier are free. Refused: NO_VALUE. */
-uint32_t nvmesgl_release(nvmesgl *, uint16_t q, uint16_t cid, nvmesgl_answer *);
+uint32_t nvmesgl_release(nvmesgl *, uint16_t q, uint16_t cid, nvmesgl_answer *) NVMESGL_CALL(1, 4);
 /* Sends an Abort of a submitted command on queue 0: answer.cid. It is not rung.
  * Refused: NO_QUEUE, WRONG_STATE, NO_SUCH_COMMAND, NO_IDENTIFIER, QUEUE_FULL. */
-uint32_t nvmesgl_abort(nvmesgl *, uint16_t q, uint16_t cid, nvmesgl_answer *);
+uint32_t nvmesgl_abort(nvmesgl *, uint16_t q, uint16_t cid, nvmesgl_answer *) NVMESGL_CALL(1, 4);
 
 /* The driver: a queue --------------------------------------------------------------------------------------------- */
 
 /* Rings the tail doorbell. Refused: NO_QUEUE. */
-uint32_t nvmesgl_ring(nvmesgl *, uint16_t q, nvmesgl_answer *);
+uint32_t nvmesgl_ring(nvmesgl *, uint16_t q, nvmesgl_answer *) NVMESGL_CALL(1, 3);
 /* Takes one completion: answer.state says what was found. Refused: NO_QUEUE. */
-uint32_t nvmesgl_reap(nvmesgl *, uint16_t q, nvmesgl_answer *);
+uint32_t nvmesgl_reap(nvmesgl *, uint16_t q, nvmesgl_answer *) NVMESGL_CALL(1, 3);
 /* Each sends an admin command on queue 0 (answer.cid), which is not rung. Refused: NO_QUEUE, WRONG_STATE, OUTSTANDING (create_cq alone),
  * NO_IDENTIFIER, NO_RUN (create_cq and create_sq), QUEUE_FULL. */
-uint32_t nvmesgl_delete_sq(nvmesgl *, uint16_t q, nvmesgl_answer *);
-uint32_t nvmesgl_delete_cq(nvmesgl *, uint16_t q, nvmesgl_answer *);
-uint32_t nvmesgl_create_cq(nvmesgl *, uint16_t q, nvmesgl_answer *);
-uint32_t nvmesgl_create_sq(nvmesgl *, uint16_t q, nvmesgl_answer *);
+uint32_t nvmesgl_delete_sq(nvmesgl *, uint16_t q, nvmesgl_answer *) NVMESGL_CALL(1, 3);
+uint32_t nvmesgl_delete_cq(nvmesgl *, uint16_t q, nvmesgl_answer *) NVMESGL_CALL(1, 3);
+uint32_t nvmesgl_create_cq(nvmesgl *, uint16_t q, nvmesgl_answer *) NVMESGL_CALL(1, 3);
+uint32_t nvmesgl_create_sq(nvmesgl *, uint16_t q, nvmesgl_answer *) NVMESGL_CALL(1, 3);
 /* Gives back the submission ring of a queue whose deletion was reaped. Refused: NOT_DELETED, NOT_DRAINED. */
-uint32_t nvmesgl_retire(nvmesgl *, uint16_t q, nvmesgl_answer *);
+uint32_t nvmesgl_retire(nvmesgl *, uint16_t q, nvmesgl_answer *) NVMESGL_CALL(1, 3);
 /* Overwrites the 16 bytes of a completion slot, as a bad controller may. Refused: NO_QUEUE, NO_SLOT. */
-uint32_t nvmesgl_forge(nvmesgl *, uint16_t q, uint16_t slot, const uint8_t bytes[16], nvmesgl_answer *);
+uint32_t nvmesgl_forge(nvmesgl *, uint16_t q, uint16_t slot, const uint8_t bytes[16], nvmesgl_answer *) NVMESGL_CALL(1, 4, 5);
 
 /* The controller -------------------------------------------------------------------------------------------------- */
 
 /* Fetches an entry that was rung: answer.cid. Refused: IDLE, SLOT_OUT, FULL, SLOT_OUT, MEMORY. */
-uint32_t nvmesgl_fetch(nvmesgl *, uint16_t q, nvmesgl_answer *);
+uint32_t nvmesgl_fetch(nvmesgl *, uint16_t q, nvmesgl_answer *) NVMESGL_CALL(1, 3);
 /* Does one unit of a fetched command's list: answer.state. Refused: NO_JOB, NOTHING (its verdict stands already, as that of a command which the fetch itself
  * found at fault: it is completed at once). */
-uint32_t nvmesgl_walk(nvmesgl *, uint16_t q, uint16_t cid, nvmesgl_answer *);
+uint32_t nvmesgl_walk(nvmesgl *, uint16_t q, uint16_t cid, nvmesgl_answer *) NVMESGL_CALL(1, 4);
 /* Posts a completion. Refused: NO_JOB, WALKING, WAITS, FULL, SLOT_OUT. */
-uint32_t nvmesgl_complete(nvmesgl *, uint16_t q, uint16_t cid, nvmesgl_answer *);
+uint32_t nvmesgl_complete(nvmesgl *, uint16_t q, uint16_t cid, nvmesgl_answer *) NVMESGL_CALL(1, 4);
 /* Resets the controller: every command that was submitted has ended, aborted. It is done always. */
-uint32_t nvmesgl_reset(nvmesgl *, nvmesgl_answer *);
+uint32_t nvmesgl_reset(nvmesgl *, nvmesgl_answer *) NVMESGL_CALL(1, 2);
 /* Does all that the controller can do, of every queue, each step as one of the three calls above would: answer.count says how many commands it completed, and
  * answer.state is NVMESGL_SERVE_MORE where it stopped behind 65,536 steps with more to do. Refused: MEMORY, and behind a forgery what a step is refused for;
  * answer.count says what was done before. */
-uint32_t nvmesgl_serve(nvmesgl *, nvmesgl_answer *);
+uint32_t nvmesgl_serve(nvmesgl *, nvmesgl_answer *) NVMESGL_CALL(1, 2);
 
 /* Whole commands -------------------------------------------------------------------------------------------------- */
 
@@ -320,15 +327,15 @@ uint32_t nvmesgl_serve(nvmesgl *, nvmesgl_answer *);
  * Refused: what nvmesgl_reserve, nvmesgl_fill, nvmesgl_build and nvmesgl_submit are refused for, and nothing of the command is left; BAD_COUNT for fewer than 512 bytes and for
  * more than 1,048,576, LENGTH_MISMATCH where the last block is cut short. Or answer.state is NVMESGL_LEFT: the command answer.cid is outstanding, and the code is that of the step that could not be
  * made (NOT_YET: it has not ended, as where another command's completion was forged; MEMORY); go on by single calls. */
-uint32_t nvmesgl_read(nvmesgl *, uint16_t q, uint64_t slba, uint8_t *buffer, size_t buffer_len, nvmesgl_answer *);
-uint32_t nvmesgl_write(nvmesgl *, uint16_t q, uint64_t slba, const uint8_t *bytes, size_t byte_count, nvmesgl_answer *);
-uint32_t nvmesgl_compare(nvmesgl *, uint16_t q, uint64_t slba, const uint8_t *bytes, size_t byte_count, nvmesgl_answer *);
+uint32_t nvmesgl_read(nvmesgl *, uint16_t q, uint64_t slba, uint8_t *buffer, size_t buffer_len, nvmesgl_answer *) NVMESGL_CALL(1, 6);
+uint32_t nvmesgl_write(nvmesgl *, uint16_t q, uint64_t slba, const uint8_t *bytes, size_t byte_count, nvmesgl_answer *) NVMESGL_CALL(1, 6);
+uint32_t nvmesgl_compare(nvmesgl *, uint16_t q, uint64_t slba, const uint8_t *bytes, size_t byte_count, nvmesgl_answer *) NVMESGL_CALL(1, 6);
 
 /* Looks: they change nothing -------------------------------------------------------------------------------------- */
 
-uint32_t nvmesgl_counts(nvmesgl *, nvmesgl_pages *);
+uint32_t nvmesgl_counts(nvmesgl *, nvmesgl_pages *) NVMESGL_CALL(1, 2);
 /* Refused: NO_PAGE. */
-uint32_t nvmesgl_owner(nvmesgl *, uint32_t page, nvmesgl_page_owner *);
+uint32_t nvmesgl_owner(nvmesgl *, uint32_t page, nvmesgl_page_owner *) NVMESGL_CALL(1, 3);
 
 #ifdef __cplusplus
 }

@@ -58,7 +58,7 @@ static void owners(void) {
     nvmesgl_pages all;
     nvmesgl_page_owner was = {0, 0, 0}, is = {0, 0, 0};
     uint32_t from = 0;
-    nvmesgl_counts(&machine, &all);
+    if (nvmesgl_counts(&machine, &all) != NVMESGL_DONE) exit(3);
     for (uint32_t p = 0; p <= all.pages; p++) {
         uint32_t code = nvmesgl_owner(&machine, p, &is);
         if (code != (p < all.pages ? NVMESGL_DONE : NVMESGL_NO_PAGE)) exit(3);
@@ -220,7 +220,7 @@ int main(int argc, char **argv) {
         char *verb = strtok(line, " \t\r\n");
         if (verb != NULL && verb[0] != '#') step(at, verb);
     }
-    nvmesgl_counts(&machine, &all);
+    if (nvmesgl_counts(&machine, &all) != NVMESGL_DONE) exit(3);
     printf("counts free %u queue %u chain %u data %u\n", all.free_pages, all.queue_pages, all.chain_pages, all.data_pages);
     nvmesgl_close(&machine);
     return 0;
