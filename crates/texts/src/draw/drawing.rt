@@ -123,6 +123,20 @@ impl Drawing<'_> {
     }
 }
 
+/// Puts how many lines of a script are not drawn, and the end of the page.
+fn put_end<W: Write>(alloc: Global, left_out: usize, writer: &mut W) -> Result<(), RunFault> {
+    if left_out > 0 {
+        let told = format!(in alloc;
+            "<p class=\"key\">{left_out} lines behind these are not drawn</p>\n"
+        );
+        let Ok(told) = told else {
+            return Err(RunFault::Memory);
+        };
+        put(writer, told.as_bytes())?;
+    }
+    put(writer, FOOT.as_bytes())
+}
+
 /// Draws the steps of a script.
 fn draw_all<W: Write>(
     drawing: &mut Drawing<'_>,
@@ -136,14 +150,15 @@ fn draw_all<W: Write>(
         rest: text,
         number: 1,
     };
-    let steps = script.into_lines().into_iter().take(MOST_PICTURES);
-    for Numbered { number, line } in steps {
+    let all = script.into_lines();
+    let left_out = all.len().saturating_sub(MOST_PICTURES);
+    for Numbered { number, line } in all.into_iter().take(MOST_PICTURES) {
         if let Line::Step(step) = line {
             drawing.step(number, lines.take(number), step)?;
             put(writer, drawing.out.as_bytes())?;
         }
     }
-    put(writer, FOOT.as_bytes())?;
+    put_end(drawing.alloc, left_out, writer)?;
     flush(writer)
 }
 

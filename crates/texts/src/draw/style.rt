@@ -37,6 +37,7 @@ th { color: var(--dim); font-weight: 600; }
 td i { display: inline-block; width: .8em; height: .8em; margin-right: .4em; border-radius: 2px; background: hsl(var(--h) 75% 72%); }
 @media (max-width: 48rem) { .pool { grid-template-columns: repeat(8, minmax(2.6rem, 1fr)); } }
 .key { color: var(--dim); font-size: 13px; margin: .4rem 0 0; }
+@media print { nav { display: none; } section[hidden] { display: block; } section { break-after: page; } * { print-color-adjust: exact; } }
 </style>
 </head>
 <body>
