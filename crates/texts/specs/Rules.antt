@@ -1,5 +1,5 @@
 -- The rules for the fields of an entry.
-use Rattle.entry_codec.specs.declared.status.Status.Status
+use Rattle.entry_codec.specs.declared.status.Status.{Status}
 use Rattle.entry_codec.specs.declared.status.TheConstants.Status.{INVALID_OPCODE, INVALID_FIELD, INVALID_NAMESPACE, LBA_OUT_OF_RANGE}
 use Rattle.texts.specs.declared.explain.rule.FieldRule.{FieldRule, TheVariants.{Opcode, Namespace, Fuse, Psdt, Blocks, Range}}
 

@@ -6,7 +6,7 @@ use io_commands::{block_number, first_block, kind_of};
 use std::alloc::AllocError;
 
 /// What stands behind the name of a thing of which there are so many.
-fn plural(number: u32) -> &'static str {
+pub(crate) fn plural(number: u32) -> &'static str {
     if number == 1 { "" } else { "s" }
 }
 

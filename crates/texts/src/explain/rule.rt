@@ -5,6 +5,7 @@ ghost use Rattle.std.specs.Option.{option_map};
 ghost use Rattle.texts.specs.Rules.{status_of_rule};
 ghost use Rattle.texts.specs.Stored.{field_fault};
 
+use crate::explain::entry::plural;
 use crate::explain::namespace::{Namespace, is_outside};
 use entry_codec::{Status, SubEntry};
 use io_commands::{MAX_BLOCKS, block_number, first_block, kind_of};
@@ -80,9 +81,10 @@ fn put_broken(
         }
         FieldRule::Range => {
             let (first, blocks) = (first_block(entry), namespace.blocks);
+            let more = plural(number);
             write!(
                 out,
-                "SLBA is {first}, for {number} blocks, and the namespace has {blocks}"
+                "SLBA is {first}, for {number} block{more}, and the namespace has {blocks}"
             )
         }
     }

@@ -174,10 +174,10 @@ pub(crate) fn put_rest(out: &mut String, explanation: &Explanation) -> Result<()
     };
     match left_in_segment(explanation.taken.as_slice()) {
         0 => {}
-        1 => out.push_str("1 descriptor after it in its segment is not looked at\n")?,
+        1 => out.push_str("the list goes on: 1 descriptor of this segment is not looked at\n")?,
         left => write!(
             out,
-            "{left} descriptors after it in its segment are not looked at\n"
+            "the list goes on: {left} descriptors of this segment are not looked at\n"
         )?,
     }
     match Descriptor::read(&taken.bytes) {
