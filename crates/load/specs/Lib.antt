@@ -2,8 +2,6 @@ pub mod Content
 pub mod Course
 pub mod Histograms
 pub mod Lines
-pub mod Loaded
 pub mod Picking
 pub mod Planning
-pub mod Rounds
 pub mod Tallies
