@@ -1,9 +1,10 @@
 //! What stands below the line of a fault.
 
 use command_line::Options;
-use script_cli::{LineFault, MAX_SCRIPT, RunFault};
+use script_cli::transcripts::{BadOption, out_of_range};
+use script_cli::{LineFault, MAX_SCRIPT, RunFault, split_line, transcripts};
 use std::alloc::{AllocError, Global};
-use texts::faults::{Grammar, explain, line_at};
+use texts::faults::{Grammar, explain, line_at, put_line};
 
 /// The lines of a text; none where memory is refused.
 pub(crate) fn lines_or_none(alloc: Global, text: Result<String, AllocError>) -> String {
@@ -27,15 +28,32 @@ fn faulty_line(
     }
 }
 
+/// What a world is opened with, of the options of a command.
+pub(crate) fn world_of(options: &Options<'_>) -> transcripts::Options {
+    transcripts::Options {
+        config: options.config,
+        blocks: options.blocks,
+    }
+}
+
 /// The options that lie outside of their ranges.
 fn bad_sizes(alloc: Global, options: &Options<'_>) -> Result<String, AllocError> {
-    let mut text = String::new(alloc);
-    for size in options.sizes() {
-        if !size.is_good() {
-            write!(text, "{size}\n")?;
-        }
-    }
-    Ok(text)
+    out_of_range(alloc, &world_of(options).sizes())
+}
+
+/// What is told of a word of the first line that says no option: the line, a caret under the word, and a sentence.
+fn bad_option(alloc: Global, text: &[u8], bad: BadOption<'_>) -> Result<String, AllocError> {
+    let BadOption { word, start, why } = bad;
+    let (line, _) = split_line(text);
+    let mut out = String::new(alloc);
+    put_line(&mut out, line, start, start.saturating_add(word.len()))?;
+    write!(out, "'{word}' does not fit: {why}\n")?;
+    Ok(out)
+}
+
+/// What more is told where the first line of a script says options that are none.
+pub(crate) fn below_options(alloc: Global, text: &[u8], bad: BadOption<'_>) -> String {
+    lines_or_none(alloc, bad_option(alloc, text, bad))
 }
 
 /// What more is told of a script that is at fault.

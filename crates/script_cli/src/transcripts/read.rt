@@ -1,12 +1,9 @@
 //! How a transcript is read.
 
 use crate::transcripts::fault::TranscriptFault;
-use crate::transcripts::options::{Given, Options};
+use crate::transcripts::options::{Given, OPTIONS, Options};
 use crate::{Line, LineFault, ScriptFault, read_script};
 use std::alloc::{AllocError, Global};
-
-/// What the first line begins with where it says the options.
-const OPTIONS: &str = "# options:";
 
 /// A line that must be printed.
 #[derive(Debug, Drop)]
@@ -36,12 +33,12 @@ pub struct Transcript {
 }
 
 impl Transcript {
-    /// What it is played over, where an option that it does not give is the usual one.
+    /// What it is played over, where an option that it does not say is the usual one.
     pub fn options(&self) -> Options {
         self.options_over(Options::USUAL)
     }
 
-    /// What it is played over, where an option that it does not give is one of these.
+    /// What it is played over, where an option that it does not say is one of these.
     pub fn options_over(&self, usual: Options) -> Options {
         self.given.over(usual)
     }
@@ -52,10 +49,18 @@ impl Transcript {
     }
 }
 
-/// The text of an answer, if a line is one: what stands behind the sign and a blank.
+/// Whether a character stands between words.
+fn is_blank(character: char) -> bool {
+    character == ' ' || character == '\t'
+}
+
+/// The text of an answer, if a line is one, whose first word is the sign: what stands behind that and a blank.
 pub(crate) fn answer_of(line: &str) -> Option<&str> {
-    let behind = line.strip_prefix('>')?;
-    Some(behind.strip_prefix(' ').unwrap_or(behind))
+    let behind = line.trim_start_matches(is_blank).strip_prefix('>')?;
+    if behind.is_empty() {
+        return Some(behind);
+    }
+    behind.strip_prefix(is_blank)
 }
 
 /// What a line of the script is.
@@ -132,8 +137,8 @@ pub fn read_transcript(alloc: Global, text: &str) -> Result<Transcript, Transcri
         number = number.saturating_add(1);
         if let Some(answer) = answer_of(line) {
             push_answer(alloc, &mut told, number, answer)?;
-        } else if let Some(words) = line.strip_prefix(OPTIONS) {
-            match Given::of_words(words) {
+        } else if line.starts_with(OPTIONS) {
+            match Given::of_line(line.as_bytes()) {
                 Ok(options) if number == 1 => given = options,
                 _ => return Err(TranscriptFault::BadOptions { number }),
             }
