@@ -1,10 +1,10 @@
 //! What stands below the line of a fault.
 
 use command_line::Options;
-use script_cli::transcripts::{BadOption, out_of_range};
+use script_cli::transcripts::{BadOption, OPTIONS, out_of_range};
 use script_cli::{LineFault, MAX_SCRIPT, RunFault, split_line, transcripts};
 use std::alloc::{AllocError, Global};
-use texts::faults::{Grammar, explain, line_at, put_line};
+use texts::faults::{Grammar, Place, explain, line_at, put_line, word_from};
 
 /// The lines of a text; none where memory is refused.
 pub(crate) fn lines_or_none(alloc: Global, text: Result<String, AllocError>) -> String {
@@ -41,12 +41,31 @@ fn bad_sizes(alloc: Global, options: &Options<'_>) -> Result<String, AllocError>
     out_of_range(alloc, &world_of(options).sizes())
 }
 
+/// Where a word of options stands in the first line of a text.
+pub(crate) fn place_of_option(text: &[u8], bad: BadOption<'_>) -> Place {
+    let (line, _) = split_line(text);
+    let end = line.len();
+    let mut place = Place { start: 0, end: 0 };
+    let mut at = OPTIONS.len().min(end);
+    for _ in 0..=bad.before {
+        match word_from(line, at) {
+            Some(next) => {
+                at = next.end;
+                place = next;
+            }
+            None => return Place { start: end, end },
+        }
+    }
+    place
+}
+
 /// What is told of a word of the first line that says no option: the line, a caret under the word, and a sentence.
 fn bad_option(alloc: Global, text: &[u8], bad: BadOption<'_>) -> Result<String, AllocError> {
-    let BadOption { word, start, why } = bad;
     let (line, _) = split_line(text);
+    let Place { start, end } = place_of_option(text, bad);
     let mut out = String::new(alloc);
-    put_line(&mut out, line, start, start.saturating_add(word.len()))?;
+    put_line(&mut out, line, start, end)?;
+    let (word, why) = (bad.word, bad.why);
     write!(out, "'{word}' does not fit: {why}\n")?;
     Ok(out)
 }

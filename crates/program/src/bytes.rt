@@ -12,8 +12,8 @@ use script_cli::RunFault;
 use std::alloc::{AllocError, AllocGlobal, Global};
 use std::io::{Read, Write};
 use std::rt::Files;
-use texts::faults::nearest;
 use texts::explain::{Answer, CaseFault, Layout, Shown, explain_text, fault_lines, show};
+use texts::faults::nearest;
 
 /// What is told of a text that is no case.
 fn at_fault(alloc: Global, text: &[u8], fault: CaseFault) -> Told<Fault>
@@ -34,11 +34,13 @@ fn case_text<R: AllocGlobal + Files, I: Read>(
 {
     match script_text(rt, path, reader) {
         Ok(text) => Ok(text),
-        Err(Told {
-            fault: RunFault::Unreadable,
-            place: _,
-            below,
-        }) => Err(Told::of(Fault::Bytes(BytesFault::Unreadable), below)),
+        Err(
+            Told {
+                fault: RunFault::Unreadable,
+                place: _,
+                below,
+            },
+        ) => Err(Told::of(Fault::Bytes(BytesFault::Unreadable), below)),
         Err(told) => Err(Told::alone(rt.alloc(), Fault::Run(told.fault))),
     }
 }
@@ -51,9 +53,7 @@ fn unknown_kind(alloc: Global, word: &str) -> Told<Fault>
     ensures { IsBytesFault result.fault }
 {
     let below = match nearest(alloc, word.as_bytes(), &KINDS) {
-        Ok(Some(kind)) => {
-            lines_or_none(alloc, format!(in alloc; "did you mean '{kind}'?\n"))
-        }
+        Ok(Some(kind)) => { lines_or_none(alloc, format!(in alloc; "did you mean '{kind}'?\n")) }
         _ => String::new(alloc),
     };
     Told::of(Fault::Bytes(BytesFault::UnknownKind), below)

@@ -4,7 +4,7 @@ ghost use Rattle.std.specs.Prelude.{◌≡◌, OnOk, IfErr, true};
 ghost use Rattle.program.specs.Checking.{AreJobs, AreNoJobs, AreNoSteps, AreSteps};
 ghost use Rattle.script_cli.specs.Options.{says_options};
 
-use crate::below::{below_options, below_script, lines_or_none};
+use crate::below::{below_options, below_script, lines_or_none, place_of_option};
 use crate::fault::{Fault, Told};
 use crate::places::{column_of, place, put_head};
 use job_cli::read_jobs;
@@ -133,7 +133,10 @@ fn told_of_options(
     bad: BadOption<'_>,
 ) -> Result<(Option<String>, String), AllocError> {
     let head = match path {
-        Some(path) => Some(place(alloc, path, 1, bad.start.saturating_add(1))?),
+        Some(path) => {
+            let column = place_of_option(script, bad).start.saturating_add(1);
+            Some(place(alloc, path, 1, column)?)
+        }
         None => None,
     };
     let mut below = below_options(alloc, script, bad);
@@ -154,8 +157,10 @@ pub(crate) fn check_options(
     match Options::USUAL.said_in(script) {
         Ok(_) => Ok(()),
         Err(bad) => {
-            let (place, below) = told_of_options(alloc, grammar, path, script, bad)
-                .unwrap_or((None, String::new(alloc)));
+            let (place, below) = told_of_options(alloc, grammar, path, script, bad).unwrap_or((
+                None,
+                String::new(alloc),
+            ));
             Err(Told {
                 fault: Fault::BadOptions,
                 place,

@@ -4,7 +4,7 @@ ghost use Rattle.std.specs.Prelude.{◌≡◌, ◌<◌, ◌≤◌, List, Some, I
 ghost use Rattle.command_line.specs.Asked.{asked, draw, given_of, path_of, shell, steps, threads, traced};
 ghost use Rattle.job_cli.specs.JobRuns.{HasJobs, IsNoJobs};
 ghost use Rattle.job_cli.specs.declared.jobs.JobLine.{JobLine};
-ghost use Rattle.program.specs.Performing.{FailsWith, IsNoGrammar, IsRunFault, IsTestFault, Performs, script_told};
+ghost use Rattle.program.specs.Performing.{FailsWith, IsCheckFault, IsNoGrammar, IsRunFault, IsTestFault, Performs, script_told};
 ghost use Rattle.script_cli.specs.Runs.{HasScript, IsNoScript};
 ghost use Rattle.script_cli.specs.declared.script.Numbered.{Numbered};
 
@@ -291,7 +291,7 @@ fn look_at_steps<R: AllocGlobal + Files, I: Read>(
     reader: &mut I,
 ) -> Result<(), Told<Fault>>
     ensures steps { OnOk result ((script : List Numbered) × HasScript (script_told (path_of path.entry) (I.remaining reader.old)) script) }
-    ensures fault { IfErr result (λ told. IsRunFault told.fault (IsNoScript (script_told (path_of path.entry) (I.remaining reader.old)))) }
+    ensures fault { IfErr result (λ told. IsCheckFault told.fault (script_told (path_of path.entry) (I.remaining reader.old)) (IsNoScript (script_told (path_of path.entry) (I.remaining reader.old)))) }
 {
     let text = script_text(rt, path, reader)?;
     let file = file_of(path);
@@ -308,7 +308,7 @@ fn look_at_jobs<R: AllocGlobal + Files, I: Read>(
     reader: &mut I,
 ) -> Result<(), Told<Fault>>
     ensures jobs { OnOk result ((lines : List JobLine) × HasJobs (script_told (path_of path.entry) (I.remaining reader.old)) submitters lines) }
-    ensures fault { IfErr result (λ told. IsRunFault told.fault (IsNoJobs (script_told (path_of path.entry) (I.remaining reader.old)) submitters)) }
+    ensures fault { IfErr result (λ told. IsCheckFault told.fault (script_told (path_of path.entry) (I.remaining reader.old)) (IsNoJobs (script_told (path_of path.entry) (I.remaining reader.old)) submitters)) }
 {
     let text = script_text(rt, path, reader)?;
     let file = file_of(path);

@@ -9,9 +9,9 @@ ghost use Rattle.script_cli.specs.declared.fault.RunFault.TheVariants as run;
 
 use crate::below::{below_options, lines_or_none, world_of};
 use crate::fault::{Fault, Told};
+use crate::places::STANDARD;
 use block_image::{Image, ImageError, MAX_BYTES};
 use command_line::Options;
-use crate::places::STANDARD;
 use script_cli::transcripts::MAX_TRANSCRIPT;
 use script_cli::{ImageFault, MAX_SCRIPT, ReadFault, RunFault, read_first, read_image};
 use std::alloc::{AllocGlobal, Global};

@@ -104,8 +104,5 @@ pub(crate) fn load_image<
     if ran.tally.is_good() {
         return saved;
     }
-    Err(Told::of(
-        Fault::Loaded(ran.tally),
-        first_bad(alloc, ran.bad),
-    ))
+    Err(Told::of(Fault::Loaded(ran.tally), first_bad(alloc, ran.bad)))
 }

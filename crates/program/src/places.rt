@@ -9,7 +9,10 @@ pub(crate) const STANDARD: &str = "-";
 
 /// The path of a script that is no standard input.
 pub(crate) fn file_of(path: Option<&str>) -> Option<&str> {
-    path.filter(|path| *path != STANDARD)
+    match path {
+        Some(path) if path != STANDARD => Some(path),
+        _ => None,
+    }
 }
 
 /// The column of the word of a line that is at fault, from 1.

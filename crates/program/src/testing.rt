@@ -1,6 +1,6 @@
 //! Files of transcripts.
 
-use crate::below::{below_options, below_script, lines_or_none};
+use crate::below::{below_options, below_script, lines_or_none, place_of_option};
 use crate::inputs::{Unread, transcript_bytes};
 use crate::places::{STANDARD, column_of, put_head};
 use script_cli::transcripts::{
@@ -137,7 +137,7 @@ fn say_options(
 ) -> Result<(), AllocError> {
     match Options::USUAL.said_in(bytes) {
         Err(bad) if number == 1 => {
-            let column = bad.start.saturating_add(1);
+            let column = place_of_option(bytes, bad).start.saturating_add(1);
             write!(line, "{path}:1:{column}: BadOptions\n")?;
             line.push_str(&below_options(alloc, bytes, bad))
         }

@@ -39,7 +39,7 @@ pub use bench::OnBench;
 pub use difference::Difference;
 pub use fault::{OpeningFault, TranscriptFault};
 pub use heap::{reply_in, step_in};
-pub use options::{BadOption, Given, Options, WhyBad};
+pub use options::{BadOption, Given, OPTIONS, Options, WhyBad};
 pub use playing::{StepMaker, play, printed};
 pub use ranges::{Ranged, out_of_range};
 pub use read::{Answer, Told, Transcript, read_transcript};

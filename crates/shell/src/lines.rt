@@ -56,12 +56,10 @@ impl Played {
         };
         let (_, after) = split_line(rest);
         let length = rest.len().saturating_sub(after.len());
-        for byte in rest.iter().take(length) {
-            line.push(*byte)?;
-        }
         if length == 0 {
             return Ok(None);
         }
+        line.extend_from_slice(&rest[..length])?;
         self.at = self.at.saturating_add(length);
         self.number = self.number.saturating_add(1);
         Ok(Some(self.number))
@@ -118,10 +116,12 @@ impl Lines {
 
     /// Reads the lines of a text next.
     pub(crate) fn push(&mut self, text: Vec<u8>) -> Result<(), RunFault> {
-        Ok(self.files.push(Played {
-            text,
-            at: 0,
-            number: 0,
-        })?)
+        Ok(
+            self.files.push(Played {
+                text,
+                at: 0,
+                number: 0,
+            })?,
+        )
     }
 }

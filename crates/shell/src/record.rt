@@ -97,11 +97,7 @@ pub(crate) struct Record {
 
 impl Record {
     /// The record of a world that was opened with these, and whether over zero blocks.
-    pub(crate) fn open(
-        alloc: Global,
-        options: Options,
-        zeros: bool,
-    ) -> Result<Record, AllocError> {
+    pub(crate) fn open(alloc: Global, options: Options, zeros: bool) -> Result<Record, AllocError> {
         let mut text = String::new(alloc);
         if options != Options::USUAL {
             text.push_str(&options.line(alloc)?)?;

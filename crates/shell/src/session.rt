@@ -20,8 +20,8 @@ use script_cli::{
 use std::alloc::{AllocError, AllocGlobal, Global};
 use std::fs::File;
 use std::io::{BufRead, BufReader, Read, Write};
-use std::{io, mem};
 use std::rt::Files;
+use std::{io, mem};
 use step_core::{Config, Image, ImageError, Step};
 use texts::traces::Traced;
 use world_bench::Bench;
@@ -428,16 +428,17 @@ impl Session {
         let mut lines = Lines::new(self.alloc);
         let mut line = Vec::new(self.alloc);
         let mut out = String::new(self.alloc);
-        let mut sink: Sink<W, R> = Sink::new(writer);
+        let mut sink = Sink::new(writer);
         for _ in 0..u64::MAX {
             let number = match lines.of_file(&mut line)? {
                 Some(number) => number,
                 None => {
-                    sink.prompt(prompt)?;
+                    sink.say(prompt)?;
+                    sink.flush()?;
                     match lines.of_reader(reader, &mut line)? {
                         Some(number) => number,
                         None => {
-                            sink.prompt(end)?;
+                            sink.say(end)?;
                             break;
                         }
                     }
@@ -445,16 +446,16 @@ impl Session {
             };
             out.clear();
             let going = self.answer(rt, number, &line, &mut out)?;
-            sink.put(&out)?;
+            sink.put(rt, &out)?;
             match going {
                 Going::On => {}
                 Going::Into(text) if lines.has_room() => lines.push(text)?,
-                Going::Into(_) => sink.put("files are read 16 deep at most\n")?,
+                Going::Into(_) => sink.put(rt, "files are read 16 deep at most\n")?,
                 Going::To(path) => sink.turn(rt, path)?,
                 Going::Out => break,
             }
         }
-        sink.end()
+        sink.flush()
     }
 }
 

@@ -1,66 +1,88 @@
 //! Where what is answered goes.
 
-use script_cli::{RunFault, flush, put};
+use script_cli::{RunFault, flush, not_written, put};
 use std::alloc::AllocGlobal;
 use std::fs::OpenOptions;
+use std::io;
 use std::io::Write;
 use std::rt::Files;
 
-/// A writer, and the file that takes what is answered in its place, if there is one.
-pub(crate) struct Sink<'a, W, R: Files> {
+/// A writer, and the path of the file that takes what is answered in its place, if there is one.
+pub(crate) struct Sink<'a, W> {
     writer: &'a mut W,
-    file: Option<R::File>,
+    path: Option<String>,
 }
 
-impl<'a, W: Write, R: AllocGlobal + Files> Sink<'a, W, R> {
+/// Makes a file, or cuts it.
+fn begin_file<R: Files>(rt: &R, path: &str) -> io::Result<()> {
+    let mut options = OpenOptions::new();
+    options.write(true).create(true).truncate(true);
+    options.open(rt, path)?;
+    Ok(())
+}
+
+/// Puts a text behind what a file has.
+fn append<R: Files>(rt: &R, path: &str, text: &str) -> io::Result<()> {
+    OpenOptions::new()
+        .append(true)
+        .open(rt, path)?
+        .write_all(text.as_bytes())
+}
+
+impl<'a, W: Write> Sink<'a, W> {
     /// What is answered goes to a writer.
-    pub(crate) fn new(writer: &'a mut W) -> Sink<'a, W, R> {
-        Sink { writer, file: None }
+    pub(crate) fn new(writer: &'a mut W) -> Sink<'a, W> {
+        Sink { writer, path: None }
     }
 
-    /// Puts a prompt, and hands on all that was put.
-    pub(crate) fn prompt(&mut self, prompt: &str) -> Result<(), RunFault> {
-        put(self.writer, prompt.as_bytes())?;
+    /// Says something on the writer, wherever what is answered goes.
+    pub(crate) fn say(&mut self, text: &str) -> Result<(), RunFault> {
+        put(self.writer, text.as_bytes())
+    }
+
+    /// Hands on all that was put.
+    pub(crate) fn flush(&mut self) -> Result<(), RunFault> {
         flush(self.writer)
     }
 
     /// Puts what is answered. A file that does not take it is left, and that is said.
-    pub(crate) fn put(&mut self, text: &str) -> Result<(), RunFault> {
-        if let Some(file) = self.file.as_mut() {
-            if file.write_all(text.as_bytes()).is_ok() {
-                return Ok(());
-            }
-            self.file = None;
-            put(
-                self.writer,
-                "the file of .output was not written, and is left\n".as_bytes(),
-            )?;
-        }
-        put(self.writer, text.as_bytes())
+    pub(crate) fn put<R: AllocGlobal + Files>(
+        &mut self,
+        rt: &R,
+        text: &str,
+    ) -> Result<(), RunFault> {
+        let left = match &self.path {
+            Some(path) => match append(rt, path, text) {
+                Ok(()) => return Ok(()),
+                Err(why) => not_written(rt.alloc(), path, &why)?,
+            },
+            None => return self.say(text),
+        };
+        self.path = None;
+        self.say(&left)?;
+        self.say(text)
     }
 
     /// Lets what is answered go to a file, which is made or cut, or where none is named to the writer again.
-    pub(crate) fn turn(&mut self, rt: &R, path: Option<String>) -> Result<(), RunFault> {
-        self.file = None;
-        let Some(path) = path.filter(|path| path.as_str() != "-") else {
-            return put(self.writer, "ok\n".as_bytes());
+    pub(crate) fn turn<R: AllocGlobal + Files>(
+        &mut self,
+        rt: &R,
+        path: Option<String>,
+    ) -> Result<(), RunFault> {
+        self.path = None;
+        let path = match path {
+            Some(path) if path.as_str() != "-" => path,
+            _ => return self.say("ok\n"),
         };
-        let mut options = OpenOptions::new();
-        options.write(true).create(true).truncate(true);
-        match options.open(rt, path.as_str()) {
-            Ok(file) => {
-                self.file = Some(file);
-                put(self.writer, "ok\n".as_bytes())
+        match begin_file(rt, &path) {
+            Ok(()) => {
+                self.path = Some(path);
+                self.say("ok\n")
             }
             Err(why) => {
-                let text = format!(in rt.alloc(); "'{path}': {why}\n")?;
-                put(self.writer, text.as_bytes())
+                let text = not_written(rt.alloc(), &path, &why)?;
+                self.say(&text)
             }
         }
-    }
-
-    /// Hands on all that was put.
-    pub(crate) fn end(&mut self) -> Result<(), RunFault> {
-        flush(self.writer)
     }
 }

@@ -9,7 +9,7 @@ use step_core::Config;
 use thiserror::Error;
 
 /// What the first line begins with where it says the options.
-pub(crate) const OPTIONS: &str = "# options:";
+pub const OPTIONS: &str = "# options:";
 
 /// What a script or a transcript is played over.
 #[derive(Clone, Copy, Debug, PartialEq, Eq)]
@@ -108,8 +108,8 @@ pub enum WhyBad {
 pub struct BadOption<'a> {
     /// The word.
     pub word: &'a str,
-    /// Where it begins, in bytes from the left.
-    pub start: usize,
+    /// How many words of options stand before it.
+    pub before: usize,
     /// Why it says none.
     pub why: WhyBad,
 }
@@ -124,31 +124,26 @@ pub struct Given {
     blocks: Option<u32>,
 }
 
-/// A word and the text behind it, and how many blanks stand before it.
-fn next_word(text: &str) -> Option<(usize, &str, &str)> {
-    let word = text.trim_start();
-    let blanks = text.len().saturating_sub(word.len());
-    if word.is_empty() {
-        return None;
-    }
-    match word.split_once(char::is_whitespace) {
-        Some((word, behind)) => Some((blanks, word, behind)),
-        None => Some((blanks, word, "")),
+/// The name of an option and its number: `--NAME=N`, `NAME=N`, or `--NAME` and the next word.
+fn named<'a>(word: &'a str, next: Option<&'a str>) -> (&'a str, Option<&'a str>) {
+    match word.split_once('=') {
+        Some((name, number)) => (name.strip_prefix("--").unwrap_or(name), Some(number)),
+        None => (word.strip_prefix("--").unwrap_or(""), next),
     }
 }
 
 /// The path of an image, if a word is `image=PATH` or `--image=PATH`.
 fn path_of(word: &str) -> Option<&str> {
     match word.split_once('=') {
-        Some(("image" | "--image", path)) => Some(path),
+        Some((name, path)) if name == "image" || name == "--image" => Some(path),
         _ => None,
     }
 }
 
-/// What stands behind a word that was not said before.
-fn once<'a>(before: Option<&str>, behind: &'a str) -> Result<&'a str, WhyBad> {
+/// Whether nothing was said before.
+fn once(before: Option<(usize, &str)>) -> Result<(), WhyBad> {
     match before {
-        None => Ok(behind),
+        None => Ok(()),
         Some(_) => Err(WhyBad::Twice),
     }
 }
@@ -180,56 +175,51 @@ impl Given {
         }
     }
 
-    /// Takes the option that a word begins, as `--NAME N`, `--NAME=N` or `NAME=N`, and answers what stands behind it.
-    fn take_word<'a>(&mut self, word: &'a str, behind: &'a str) -> Result<&'a str, WhyBad> {
-        if let Some((name, number)) = word.split_once('=') {
-            self.take(name.strip_prefix("--").unwrap_or(name), Some(number))?;
-            return Ok(behind);
-        }
-        let name = word.strip_prefix("--").unwrap_or("");
-        match next_word(behind) {
-            Some((_, number, behind)) => {
-                self.take(name, Some(number))?;
-                Ok(behind)
+    /// The options that words give, and the path of an image with how many words stand before it.
+    fn read(text: &str) -> Result<(Given, Option<(usize, &str)>), BadOption<'_>> {
+        let mut given = Given::default();
+        let mut image = None;
+        let mut before = 0usize;
+        let mut words = text.split_whitespace();
+        while let Some(word) = words.next() {
+            let (next, count) = if word.contains('=') {
+                (None, 1)
+            } else {
+                (words.next(), 2)
+            };
+            let taken = match path_of(word) {
+                Some(path) => once(image.replace((before, path))),
+                None => {
+                    let (name, number) = named(word, next);
+                    given.take(name, number)
+                }
+            };
+            if let Err(why) = taken {
+                return Err(BadOption { word, before, why });
             }
-            None => {
-                self.take(name, None)?;
-                Ok("")
-            }
+            before = before.saturating_add(count);
         }
+        Ok((given, image))
     }
 
     /// The options that words give, each as `--NAME N`, `--NAME=N` or `NAME=N`, and the path of an image, as `image=PATH`.
     ///
     /// # Errors
     ///
-    /// The first word that gives none, and where it begins in the text.
+    /// The first word that gives none.
     pub fn of_words(text: &str) -> Result<(Given, Option<&str>), BadOption<'_>> {
-        let mut given = Given::default();
-        let mut image = None;
-        let mut rest = text;
-        for _ in 0..text.len() {
-            let Some((blanks, word, behind)) = next_word(rest) else {
-                break;
-            };
-            let start = text.len().saturating_sub(rest.len()).saturating_add(blanks);
-            let taken = match path_of(word) {
-                Some(path) => once(image.replace(path), behind),
-                None => given.take_word(word, behind),
-            };
-            match taken {
-                Ok(behind) => rest = behind,
-                Err(why) => return Err(BadOption { word, start, why }),
-            }
+        match Given::read(text) {
+            Ok((given, Some((_, path)))) => Ok((given, Some(path))),
+            Ok((given, None)) => Ok((given, None)),
+            Err(bad) => Err(bad),
         }
-        Ok((given, image))
     }
 
     /// The options that a line gives; none where it says nothing of options, or is no text.
     ///
     /// # Errors
     ///
-    /// The first word that gives none, and where it begins in the line.
+    /// The first word that gives none.
     pub(crate) fn of_line(line: &[u8]) -> Result<Given, BadOption<'_>> {
         let Ok(line) = std::str::from_utf8(line) else {
             return Ok(Given::default());
@@ -237,17 +227,14 @@ impl Given {
         let Some(words) = line.strip_prefix(OPTIONS) else {
             return Ok(Given::default());
         };
-        match Given::of_words(words) {
+        match Given::read(words) {
             Ok((given, None)) => Ok(given),
-            Ok((_, Some(path))) => Err(BadOption {
+            Ok((_, Some((before, path)))) => Err(BadOption {
                 word: path,
-                start: OPTIONS.len(),
+                before,
                 why: WhyBad::Image,
             }),
-            Err(bad) => Err(BadOption {
-                start: bad.start.saturating_add(OPTIONS.len()),
-                ..bad
-            }),
+            Err(bad) => Err(bad),
         }
     }
 

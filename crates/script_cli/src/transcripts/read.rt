@@ -49,18 +49,34 @@ impl Transcript {
     }
 }
 
-/// Whether a character stands between words.
-fn is_blank(character: char) -> bool {
-    character == ' ' || character == '\t'
+/// What stands behind a blank.
+fn behind_blank(text: &str) -> Option<&str> {
+    match text.strip_prefix(' ') {
+        Some(behind) => Some(behind),
+        None => text.strip_prefix('\t'),
+    }
+}
+
+/// A text without the blanks at its front.
+fn unindented(text: &str) -> &str {
+    let mut rest = text;
+    for _ in 0..text.len() {
+        match behind_blank(rest) {
+            Some(behind) => rest = behind,
+            None => break,
+        }
+    }
+    rest
 }
 
 /// The text of an answer, if a line is one, whose first word is the sign: what stands behind that and a blank.
 pub(crate) fn answer_of(line: &str) -> Option<&str> {
-    let behind = line.trim_start_matches(is_blank).strip_prefix('>')?;
+    let behind = unindented(line).strip_prefix('>')?;
     if behind.is_empty() {
-        return Some(behind);
+        Some(behind)
+    } else {
+        behind_blank(behind)
     }
-    behind.strip_prefix(is_blank)
 }
 
 /// What a line of the script is.
