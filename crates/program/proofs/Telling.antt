@@ -6,7 +6,7 @@ use Rattle.std.{proofs.Common.{◌≡◌, ◌⊎◌, Option, Some, None, List, [
 use Rattle.std.specs.Prelude.{IfErr, Result, Ok, Err, replicate, take, ◌+◌, ◌*◌, false, true, IsErrAnd, IsSome, OnOk}
 use Rattle.clap.specs.{Words.{kind_of, Text}, declared.error.{Error.Error, kind.ErrorKind.TheVariants.OutOfMemory}}
 use Rattle.command_line.specs.Asked.{Asked, check, check_jobs, draw, explain, grammar, load, shell, show, steps, test, threads, traced, Given, path_of}
-use Rattle.program.specs.{Checking.{AreJobs, AreNoJobs, AreNoSteps, AreSteps}, Performing.{FailsWith, IsFirstImage, IsNoFirstImage, IsRunFault, IsSaid, Performs, script_told}}
+use Rattle.program.specs.{Checking.{AreJobs, AreNoJobs, AreNoSteps, AreSteps}, Performing.{FailsWith, IsCheckFault, IsFirstImage, IsNoFirstImage, IsSaid, Performs, script_told}}
 use Rattle.command_line.specs.declared.serving.Serving.{Serving}
 use Rattle.command_line.specs.declared.threads.Threading.{Threading}
 use Rattle.program.specs.declared.fault.Fault.{Fault}
@@ -172,10 +172,10 @@ script_fails told given a why f same unread =
 
 -- Faults that `?` makes of those of a run
 
-pub run_fault_told : {T U : Type 0} (r : Result T U) (fault_of : U → Fault) (why : RunFault) (Holds : RunFault → Type 0)
-    → IsErrAnd r (λ x. fault_of x ≡ fault.Run why) → Holds why → IfErr r (λ x. IsRunFault (fault_of x) Holds)
-run_fault_told (Ok x) fault_of why Holds same holds = tt
-run_fault_told (Err x) fault_of why Holds same holds = subst (λ (f : Fault). IsRunFault f Holds) (sym same) holds
+pub check_fault_told : {T U : Type 0} (r : Result T U) (fault_of : U → Fault) (told : Option (List ℕ)) (why : RunFault) (Holds : RunFault → Type 0)
+    → IsErrAnd r (λ x. fault_of x ≡ fault.Run why) → Holds why → IfErr r (λ x. IsCheckFault (fault_of x) told Holds)
+check_fault_told (Ok x) fault_of told why Holds same holds = tt
+check_fault_told (Err x) fault_of told why Holds same holds = subst (λ (f : Fault). IsCheckFault f told Holds) (sym same) holds
 
 pub script_failed_jobs : {T U : Type 0} (r : Result T U) (fault_of : U → Fault) (told : Option (List ℕ)) (given : Given) (what : Threading) (who : Serving)
     (a : Option (List ℕ)) (why : RunFault) → IsErrAnd r (λ x. fault_of x ≡ fault.Run why) → (why ≡ run.Unreadable) ⊎ (why ≡ run.Memory)

@@ -6,6 +6,9 @@ use script_cli::{LineFault, MAX_SCRIPT, RunFault, split_line, transcripts};
 use std::alloc::{AllocError, Global};
 use texts::faults::{Grammar, Place, explain, line_at, put_line, word_from};
 
+/// The bytes of a byte order mark.
+const MARK: [u8; 3] = [0xEF, 0xBB, 0xBF];
+
 /// The lines of a text; none where memory is refused.
 pub(crate) fn lines_or_none(alloc: Global, text: Result<String, AllocError>) -> String {
     match text {
@@ -23,9 +26,26 @@ fn faulty_line(
     fault: LineFault,
 ) -> Result<String, AllocError> {
     match line_at(script, number) {
-        Some(line) => explain(alloc, grammar, line, fault),
+        Some(line) => {
+            let mut text = explain(alloc, grammar, line, fault)?;
+            put_mark(&mut text, script, number, fault)?;
+            Ok(text)
+        }
         None => Ok(String::new(alloc)),
     }
+}
+
+/// Puts that a text begins with a byte order mark, where that is why its first line is at fault.
+pub(crate) fn put_mark(
+    out: &mut String,
+    script: &[u8],
+    number: u32,
+    fault: LineFault,
+) -> Result<(), AllocError> {
+    if number == 1 && fault == LineFault::NotAscii && script.starts_with(&MARK) {
+        out.push_str("these three bytes are a byte order mark; save the text without it\n")?;
+    }
+    Ok(())
 }
 
 /// What a world is opened with, of the options of a command.

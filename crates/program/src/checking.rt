@@ -4,7 +4,7 @@ ghost use Rattle.std.specs.Prelude.{◌≡◌, OnOk, IfErr, true};
 ghost use Rattle.program.specs.Checking.{AreJobs, AreNoJobs, AreNoSteps, AreSteps};
 ghost use Rattle.script_cli.specs.Options.{says_options};
 
-use crate::below::{below_options, below_script, lines_or_none, place_of_option};
+use crate::below::{below_options, below_script, lines_or_none, place_of_option, put_mark};
 use crate::fault::{Fault, Told};
 use crate::places::{column_of, place, put_head};
 use job_cli::read_jobs;
@@ -74,6 +74,7 @@ fn all_faults(
         }
         let lines = explain(alloc, grammar, line, fault)?;
         text.push_str(lines.as_str())?;
+        put_mark(&mut text, script, number, fault)?;
         told = told.saturating_add(1);
     }
     if more > 0 {
