@@ -24,11 +24,22 @@ pub(crate) enum Fault<'a> {
 }
 
 /// What is typed in the place of a word of other shells.
-fn typed_for(word: &[u8]) -> Option<&'static str> {
-    match std::str::from_utf8(word) {
-        Ok("quit" | "exit" | ".exit" | ".q" | "q") => Some(".quit"),
-        Ok("help" | "?" | ".?" | ".h" | "h") => Some(".help"),
+fn typed_for(word: &str) -> Option<&'static str> {
+    match word {
+        "quit" | "exit" | ".exit" | ".q" | "q" => Some(".quit"),
+        "help" | "?" | ".?" | ".h" | "h" => Some(".help"),
         _ => None,
+    }
+}
+
+/// What is typed in the place of the first word of a line, if that is one of other shells.
+fn typed_for_line(line: &[u8]) -> Option<&'static str> {
+    match word_from(line, 0) {
+        Some(place) => match std::str::from_utf8(&line[place.start..place.end]) {
+            Ok(word) => typed_for(word),
+            Err(_) => None,
+        },
+        None => None,
     }
 }
 
@@ -93,10 +104,10 @@ fn put_line_fault(
     fault: LineFault,
 ) -> Result<(), AllocError> {
     write!(out, "line {number}: {fault}\n")?;
-    let first = word_from(line, 0).map(|place| &line[place.start..place.end]);
-    let typed = first.and_then(typed_for);
-    if let (LineFault::UnknownVerb, Some(typed)) = (fault, typed) {
-        return write!(out, "type '{typed}'\n");
+    if fault == LineFault::UnknownVerb {
+        if let Some(typed) = typed_for_line(line) {
+            return write!(out, "type '{typed}'\n");
+        }
     }
     if fault == LineFault::LongLine {
         return out.push_str("a line has 16384 bytes at most.\n");
@@ -108,7 +119,7 @@ fn put_line_fault(
 /// Puts that a word is none, and which one is near it.
 pub(crate) fn put_unknown(alloc: Global, out: &mut String, word: &str) -> Result<(), AllocError> {
     write!(out, "'{word}' is no word of the shell")?;
-    if let Some(typed) = typed_for(word.as_bytes()) {
+    if let Some(typed) = typed_for(word) {
         return write!(out, "; type '{typed}'\n");
     }
     let names = DOT_WORDS.map(|dot| dot.name());

@@ -51,9 +51,10 @@ impl Played {
     /// Puts the next line of the file, with its line feed, in the place of a line. None where there is none.
     fn next(&mut self, line: &mut Vec<u8>) -> Result<Option<u32>, RunFault> {
         line.clear();
-        let Some(rest) = self.text.get(self.at..) else {
+        if self.at >= self.text.len() {
             return Ok(None);
-        };
+        }
+        let rest = &self.text[self.at..];
         let (_, after) = split_line(rest);
         let length = rest.len().saturating_sub(after.len());
         if length == 0 {
@@ -86,7 +87,10 @@ impl Lines {
 
     /// Puts the next line of the file that is read in the place of a line, and answers its number. None where no file is read.
     pub(crate) fn of_file(&mut self, line: &mut Vec<u8>) -> Result<Option<u32>, RunFault> {
-        while let Some(file) = self.files.last_mut() {
+        for _ in 0..=MOST_FILES {
+            let Some(file) = self.files.last_mut() else {
+                return Ok(None);
+            };
             if let Some(number) = file.next(line)? {
                 return Ok(Some(number));
             }
@@ -116,12 +120,14 @@ impl Lines {
 
     /// Reads the lines of a text next.
     pub(crate) fn push(&mut self, text: Vec<u8>) -> Result<(), RunFault> {
-        Ok(
-            self.files.push(Played {
-                text,
-                at: 0,
-                number: 0,
-            })?,
-        )
+        let file = Played {
+            text,
+            at: 0,
+            number: 0,
+        };
+        match self.files.push(file) {
+            Ok(()) => Ok(()),
+            Err(_) => Err(RunFault::Memory),
+        }
     }
 }

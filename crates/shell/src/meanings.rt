@@ -252,26 +252,49 @@ pub const STATUSES: [(Status, &str); 18] = [
     ),
 ];
 
-/// The sentence of a name.
-fn meaning_of(name: &str) -> Option<(&'static str, &'static str)> {
-    for table in [&REFUSALS[..], &REASONS[..], &FAULTS[..]] {
-        for (known, sentence) in table {
-            if *known == name {
-                return Some((*known, *sentence));
-            }
+/// A name of a table, with its sentence.
+fn find_in(
+    table: &[(&'static str, &'static str)],
+    name: &str,
+) -> Option<(&'static str, &'static str)> {
+    for entry in table {
+        let (known, sentence) = *entry;
+        if known == name {
+            return Some((known, sentence));
         }
     }
     None
 }
 
+/// A name, with its sentence.
+fn meaning_of(name: &str) -> Option<(&'static str, &'static str)> {
+    if let Some(found) = find_in(&REFUSALS, name) {
+        return Some(found);
+    }
+    if let Some(found) = find_in(&REASONS, name) {
+        return Some(found);
+    }
+    find_in(&FAULTS, name)
+}
+
+/// Puts the names of a table behind others.
+fn push_names(
+    names: &mut Vec<&'static str>,
+    table: &[(&'static str, &'static str)],
+) -> Result<(), AllocError> {
+    for entry in table {
+        let (known, _) = *entry;
+        names.push(known)?;
+    }
+    Ok(())
+}
+
 /// The name that a word is nearest to.
 fn nearest_name(alloc: Global, word: &str) -> Result<Option<&'static str>, AllocError> {
     let mut names = Vec::new(alloc);
-    for table in [&REFUSALS[..], &REASONS[..], &FAULTS[..]] {
-        for (known, _) in table {
-            names.push(*known)?;
-        }
-    }
+    push_names(&mut names, &REFUSALS)?;
+    push_names(&mut names, &REASONS)?;
+    push_names(&mut names, &FAULTS)?;
     nearest(alloc, word.as_bytes(), &names)
 }
 
@@ -310,7 +333,8 @@ fn put_table(
     table: &[(&'static str, &'static str)],
 ) -> Result<(), AllocError> {
     write!(out, "\n{head}\n")?;
-    for (name, sentence) in table {
+    for entry in table {
+        let (name, sentence) = *entry;
         write!(out, "  {name:<15} {sentence}\n")?;
     }
     Ok(())

@@ -141,13 +141,13 @@ impl Hand<'_> {
         let verb = Verb::OnQueue(QueueVerb::Reap);
         for _ in 0..=self.entries {
             let reply = self.on_queue(QueueVerb::Reap, q)?;
-            match reply {
-                Reply::Reaps(Reaped::Done { cid: done, .. }) if done == cid => {
+            match &reply {
+                Reply::Reaps(Reaped::Done { cid: done, .. }) if *done == cid => {
                     self.tell_on_queue(verb, q, Traced::Reap(q), &reply)?;
                     return Ok(true);
                 }
                 Reply::Reaps(Reaped::Empty) => return Ok(false),
-                other => self.say_on_queue(verb, q, &other)?,
+                other => self.say_on_queue(verb, q, other)?,
             }
         }
         Ok(false)
@@ -209,14 +209,15 @@ impl Hand<'_> {
     /// Says the bytes of a Read, once its pages are given back.
     fn say_bytes(&mut self, command: (u16, u16)) -> Result<(), AllocError> {
         let reply = self.on_command(CommandVerb::Gather, command)?;
-        let Reply::Gathered(bytes) = reply else {
-            self.say_on_command(Verb::OnCommand(CommandVerb::Gather), command, &reply)?;
-            self.host_step(CommandVerb::Release, command)?;
-            return Ok(());
-        };
+        if let Reply::Gathered(_) = &reply {
+            self.tell_on_command(CommandVerb::Gather, command, &reply)?;
+        }
         self.host_step(CommandVerb::Release, command)?;
-        put_gathered(self.out, bytes.as_slice())?;
-        self.out.push('\n')
+        if let Reply::Gathered(bytes) = reply {
+            put_gathered(self.out, bytes.as_slice())?;
+            return self.out.push('\n');
+        }
+        self.say_on_command(Verb::OnCommand(CommandVerb::Gather), command, &reply)
     }
 
     /// Says how a command ended.

@@ -103,7 +103,10 @@ enum NotRead {
 /// The image that a file is.
 fn file_image<R: AllocGlobal + Files>(rt: &R, path: &str) -> Result<Image, NotRead> {
     match File::open(rt, path) {
-        Ok(mut file) => read_image(rt.alloc(), &mut file).map_err(NotRead::Fault),
+        Ok(mut file) => match read_image(rt.alloc(), &mut file) {
+            Ok(image) => Ok(image),
+            Err(why) => Err(NotRead::Fault(why)),
+        },
         Err(why) => Err(NotRead::Because(why)),
     }
 }
@@ -351,8 +354,14 @@ impl Session {
             }
             Asked::Help(word) => say_help(self.alloc, out, word)?,
             Asked::Serve(q) => self.serve(q, out)?,
-            Asked::Read(extent) => self.hand(out, self.traces).read(extent)?,
-            Asked::Write(extent, bytes) => self.hand(out, self.traces).write(extent, bytes)?,
+            Asked::Read(extent) => {
+                let says = self.traces;
+                self.hand(out, says).read(extent)?;
+            }
+            Asked::Write(extent, bytes) => {
+                let says = self.traces;
+                self.hand(out, says).write(extent, bytes)?;
+            }
             Asked::Play(path) => return read_lines(rt, path, out),
             Asked::Save(path) => self.save(rt, path, out)?,
             Asked::Dump(path) => self.dump(rt, path, out)?,

@@ -1,7 +1,7 @@
 //! Where what is answered goes.
 
 use script_cli::{RunFault, flush, not_written, put};
-use std::alloc::AllocGlobal;
+use std::alloc::{AllocError, AllocGlobal};
 use std::fs::OpenOptions;
 use std::io;
 use std::io::Write;
@@ -22,11 +22,23 @@ fn begin_file<R: Files>(rt: &R, path: &str) -> io::Result<()> {
 }
 
 /// Puts a text behind what a file has.
-fn append<R: Files>(rt: &R, path: &str, text: &str) -> io::Result<()> {
+fn put_behind<R: Files>(rt: &R, path: &str, text: &str) -> io::Result<()> {
     OpenOptions::new()
         .append(true)
         .open(rt, path)?
         .write_all(text.as_bytes())
+}
+
+/// Puts a text behind what a file has, and answers a sentence where that fails.
+fn append<R: AllocGlobal + Files>(
+    rt: &R,
+    path: &str,
+    text: &str,
+) -> Result<Option<String>, AllocError> {
+    match put_behind(rt, path, text) {
+        Ok(()) => Ok(None),
+        Err(why) => Ok(Some(not_written(rt.alloc(), path, &why)?)),
+    }
 }
 
 impl<'a, W: Write> Sink<'a, W> {
@@ -51,16 +63,19 @@ impl<'a, W: Write> Sink<'a, W> {
         rt: &R,
         text: &str,
     ) -> Result<(), RunFault> {
-        let left = match &self.path {
-            Some(path) => match append(rt, path, text) {
-                Ok(()) => return Ok(()),
-                Err(why) => not_written(rt.alloc(), path, &why)?,
-            },
-            None => return self.say(text),
+        let end = match &self.path {
+            Some(path) => Some(append(rt, path, text)?),
+            None => None,
         };
-        self.path = None;
-        self.say(&left)?;
-        self.say(text)
+        match end {
+            None => self.say(text),
+            Some(None) => Ok(()),
+            Some(Some(why)) => {
+                self.path = None;
+                self.say(&why)?;
+                self.say(text)
+            }
+        }
     }
 
     /// Lets what is answered go to a file, which is made or cut, or where none is named to the writer again.

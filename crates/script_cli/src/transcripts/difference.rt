@@ -27,7 +27,10 @@ impl Difference {
 
     /// The column of its line where it begins, from 1; an answer stands behind `> `.
     pub fn column(&self) -> usize {
-        let (Some(wanted), Some(came)) = (&self.wanted, &self.came) else {
+        let Some(wanted) = &self.wanted else {
+            return 1;
+        };
+        let Some(came) = &self.came else {
             return 1;
         };
         let mut column = 3usize;

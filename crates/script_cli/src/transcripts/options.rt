@@ -50,9 +50,11 @@ impl Options {
     /// Where memory is refused.
     pub fn line(&self, alloc: Global) -> Result<String, AllocError> {
         let mut line = String::from_str(alloc, OPTIONS)?;
+        let numbers = self.numbers();
         let usual = Options::USUAL.numbers();
-        for ((name, number), (_, usual)) in self.numbers().iter().zip(usual.iter()) {
-            if *number != *usual {
+        for (mine, other) in numbers.iter().zip(usual.iter()) {
+            let (name, number) = *mine;
+            if number != other.1 {
                 write!(line, " --{name} {number}")?;
             }
         }
