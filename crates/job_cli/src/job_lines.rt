@@ -103,7 +103,7 @@ fn is_well_end(end: &JobEnd) -> bool
 pub(crate) fn unwell_jobs(ends: &JobEnds) -> u64 {
     let mut unwell = 0u64;
     for list in ends.as_slice() {
-        for end in list {
+        for end in list.as_slice() {
             if !is_well_end(end) {
                 unwell = unwell.saturating_add(1);
             }
