@@ -5,8 +5,8 @@ use script_cli::{Verb, append_counts, append_reply};
 use std::alloc::{AllocError, Global};
 use step_core::{Counts, Kind, Piece, Reply, Request, Step};
 
-/// The most bytes that a line of a script can fill a draft with.
-const MOST_FILLED: usize = 8_000;
+/// The most bytes that a line of a script can fill any draft with: two digits each, behind `fill 65535 65535 `.
+const MOST_FILLED: usize = 8_183;
 
 /// The name of a kind of command.
 fn kind_name(kind: Kind) -> &'static str {
@@ -112,9 +112,12 @@ impl Record {
         })
     }
 
-    /// Whether more can be kept.
+    /// Whether more can be kept; if not, nothing is.
     fn has_room(&mut self) -> bool {
         self.is_whole = self.is_whole && self.text.len() < MAX_TRANSCRIPT;
+        if !self.is_whole {
+            self.text.clear();
+        }
         self.is_whole
     }
 
