@@ -21,17 +21,23 @@ number text =
 abbrev pub number_under : Text → ℕ → List Row → ℕ
 number_under name usual rows = unwrap_or (option_and_then number (one_of name rows)) usual
 
--- what these commands are given; where no file is named, standard input has the script. `steps` alone may be given a file to save the image into
+-- what these commands are given; where no file is named, standard input has the script. `steps` alone may be given a file to save the image into, and
+-- `steps` and `threads` that a refusal, or another status than 0:00, is a fault
 pub record Given : Type 0 where
   pub config : Config
   pub blocks : ℕ
   pub image : Option Text
   pub script : Option Text
   pub save : Option Text
+  pub strict : Bool
 
 -- the file of a script
 abbrev pub script_in : List Row → Option Text
 script_in rows = first_of (codes "script") rows
+
+-- a flag was typed
+abbrev pub has_flag : Text → List Row → Bool
+has_flag name rows = option_map_or (λ text. bytes_eq text (codes "true")) (first_of name rows) false
 
 abbrev pub given_in : List Row → Given
 given_in rows = record {
@@ -45,6 +51,7 @@ given_in rows = record {
   image = first_of (codes "image") rows;
   script = script_in rows;
   save = first_of (codes "save") rows;
+  strict = has_flag (codes "strict") rows;
 }
 
 -- what the transcripts of files are tested with
@@ -61,10 +68,6 @@ all_under name rows = unwrap_or (all_of name rows) []
 -- the files that are named
 abbrev pub files_in : List Row → List Text
 files_in rows = all_under (codes "files") rows
-
--- a flag was typed
-abbrev pub has_flag : Text → List Row → Bool
-has_flag name rows = option_map_or (λ text. bytes_eq text (codes "true")) (first_of name rows) false
 
 abbrev pub tested_in : List Row → Tested
 tested_in rows = record {
@@ -262,7 +265,7 @@ abbrev pub path_of : Option (Bor Text) → Option Text
 path_of path = option_map (λ p. p.now) path
 
 abbrev pub given_of : Options → Given
-given_of options = record { config = options.config; blocks = options.blocks; image = path_of options.image; script = path_of options.script; save = path_of options.save }
+given_of options = record { config = options.config; blocks = options.blocks; image = path_of options.image; script = path_of options.script; save = path_of options.save; strict = options.strict }
 
 abbrev pub tested_of : Testing → Tested
 tested_of testing = record { sizes = testing.config; zeros = testing.blocks; updates = testing.updates; files = map (λ f. f.now) testing.files.items }

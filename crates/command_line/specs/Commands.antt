@@ -47,8 +47,10 @@ with_options command = with_rule
 
 abbrev pub steps : App
 steps = with_options (with_rule
+    (with_rule
     (with_rule (new_app (codes "steps")) (option_rule (codes "save")))
     (flag_rule (codes "trace")))
+    (flag_rule (codes "strict")))
 
 -- an option that is a number below 2^32, without a usual value
 abbrev pub optional_number_rule : Text → Rule
@@ -69,7 +71,7 @@ with_threading command = with_rule
     (text_rule (codes "serve") (codes "ringer"))
 
 abbrev pub threads : App
-threads = with_options (with_threading (new_app (codes "threads")))
+threads = with_options (with_threading (with_rule (new_app (codes "threads")) (flag_rule (codes "strict"))))
 
 -- what is loaded, in the order of the help text
 abbrev pub with_amounts : App → App

@@ -11,6 +11,7 @@ usual = record {
   image = None;
   script = None;
   save = None;
+  strict = false;
 }
 
 -- so many submitters, one job in flight each, all jobs at once
@@ -47,6 +48,7 @@ extreme = record {
   image = None;
   script = None;
   save = None;
+  strict = false;
 }
 
 -- other values, in another order and other forms
@@ -60,4 +62,5 @@ mixed = record {
   image = Some (codes "disk");
   script = Some (codes "some.script");
   save = None;
+  strict = false;
 }

@@ -39,6 +39,8 @@ pub struct Options<'a> {
     pub script: Option<&'a str>,
     /// The path of the file which the image is written into, once a run of `steps` has ended.
     pub save: Option<&'a str>,
+    /// Whether a run of `steps` or `threads` in which something was refused, or ended with a status other than 0:00, is a fault.
+    pub strict: bool,
 }
 
 /// What transcripts are tested with.
@@ -99,6 +101,7 @@ impl<'a> Options<'a> {
             image: given.get_str("image"),
             script: script(given),
             save: given.get_str("save"),
+            strict: flag(given, "strict"),
         }
     }
 }

@@ -201,6 +201,17 @@ fn trace_arg<'a>(alloc: Global) -> Arg<'a>
         .help("Tells below each answer what the step moved, in bytes and decoded")
 }
 
+/// The option that says that a refusal, or another status than 0:00, is a fault.
+fn strict_arg<'a>(alloc: Global) -> Arg<'a>
+    ensures rule { rule_of result ≡ flag_rule (codes "strict") }
+    ensures local { result.global ≡ false }
+{
+    Arg::new(alloc, "strict")
+        .long("strict")
+        .action(ArgAction::SetTrue)
+        .help("Ends with status 4 where something is refused, or a status is not 0:00")
+}
+
 /// The option that says that an explanation is written as JSON.
 fn json_arg<'a>(alloc: Global) -> Arg<'a>
     ensures rule { rule_of result ≡ flag_rule (codes "json") }
@@ -268,7 +279,8 @@ fn steps_command<'a>(alloc: Global) -> Result<Command<'a>, AllocError>
         .long_about(STEPS_ABOUT)
         .after_help(STEPS_AFTER)
         .arg(save_arg(alloc))?
-        .arg(trace_arg(alloc))?;
+        .arg(trace_arg(alloc))?
+        .arg(strict_arg(alloc))?;
     with_options(alloc, command)
 }
 
@@ -292,7 +304,8 @@ pub(crate) fn threads_command<'a>(alloc: Global) -> Result<Command<'a>, AllocErr
     let command = Command::new(alloc, "threads")
         .about("Runs the jobs of a script in threads")
         .long_about(THREADS_ABOUT)
-        .after_help(THREADS_AFTER);
+        .after_help(THREADS_AFTER)
+        .arg(strict_arg(alloc))?;
     with_options(alloc, with_threading(alloc, command)?)
 }
 

@@ -24,8 +24,10 @@ docs/PROFILE.md says what the steps mean, and examples/ has scripts with their o
 pub const STEPS_ABOUT: &str = "Plays a script, step by step, and prints what each step answered.
 
 The script is read and checked whole before its first step. A refused step is an answer too:
-the run goes on, and its exit status is 0. With --save the image is written into a file behind
-the last step, so that a later run can begin with it (--image).";
+the run goes on, and its exit status is 0, or 4 with --strict. With --save the image is written
+into a file behind the last step, so that a later run can begin with it (--image). A first line
+as `# options: --segment 2` says options of the script's own, which go before those typed. Lines
+behind `>` are passed over: they are the answers of a transcript.";
 
 /// What `nvmesgl steps --help` says last.
 pub const STEPS_AFTER: &str = "A script has one step on each line; `#` begins a comment.
@@ -63,7 +65,8 @@ prints
   counts free 12 queue 4 chain 0 data 0
 
 Exit status: 0 done, 1 the script is at fault, 2 the arguments, the image or the opening,
-3 memory, the output or the saved image. docs/SCRIPT.md in the repository has all of this in full.";
+3 memory, the output or the saved image, 4 with --strict: a step was refused or a status is
+not 0:00. docs/SCRIPT.md in the repository has all of this in full.";
 
 /// What `nvmesgl threads --help` says first.
 pub const THREADS_ABOUT: &str = "Runs the jobs of a script, and prints how each ended.
@@ -75,7 +78,8 @@ before a Write that stands above it. With --log-limit the jobs are done in round
 one job at least, and what is kept of a round to check it by is dropped at its end; what is printed is
 the same. A submitter that rings serves what it can at once, and a controller in a thread of its own
 what is left; with --serve controller that thread serves alone. The script is read and checked whole
-before its first job. A refused job is an answer too: the run goes on, and its exit status is 0.";
+before its first job. A refused job is an answer too: the run goes on, and its exit status is 0, or
+4 with --strict. A first line as `# options: --queues 2` says options of the script's own.";
 
 /// What `nvmesgl threads --help` says last.
 pub const THREADS_AFTER: &str = "A script has one job on each line; `#` begins a comment.
@@ -99,7 +103,8 @@ prints
   counts free 12 queue 4 chain 0 data 0
 
 Exit status: 0 done, 1 the script is at fault, 2 the arguments, the image or the opening,
-3 memory, a thread or the output. docs/SCRIPT.md in the repository has all of this in full.";
+3 memory, a thread or the output, 4 with --strict: a job was refused or a status is not 0:00.
+docs/SCRIPT.md in the repository has all of this in full.";
 
 /// What `nvmesgl load --help` says first.
 pub const LOAD_ABOUT: &str =
@@ -136,7 +141,7 @@ the file of the statistics, 4 commands were refused or failed, or bytes differ."
 pub const CHECK_ABOUT: &str =
     "Tells all faults of a script, and not the first alone. Nothing is run and nothing is printed
 but the faults: each line that has one, its first word that is wrong, and what is wanted there,
-20 lines at most.";
+20 lines at most. Of a FILE each begins with FILE:LINE:COLUMN.";
 
 /// What `nvmesgl check --help` says last.
 pub const CHECK_AFTER: &str =
@@ -160,7 +165,8 @@ a file that is not written, 4 one differs. docs/SCRIPT.md in the repository has 
 pub const SHELL_ABOUT: &str = "Answers one line after the other, each at once, over one world.
 
 A line is a step of a script, or a word with a dot: `.help` lists them. A line that is at fault
-says so, and the session goes on. On a terminal a prompt stands before each line.";
+says so, and the session goes on. On a terminal a prompt stands before each line; `rlwrap nvmesgl
+shell` brings back what was typed.";
 
 /// What `nvmesgl shell --help` says last.
 pub const SHELL_AFTER: &str = "Example:

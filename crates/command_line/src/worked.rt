@@ -43,6 +43,14 @@ pub fn steps_are_traced()
     ensures threads { asked (threads_with (codes "--trace" ∷ [])) ≡ None }
 {}
 
+/// A refusal is a fault where that is asked for.
+#[tactic(auto, unfolding(clap::proofs::OnLiterals::clap_on_literals))]
+pub fn runs_are_strict()
+    ensures steps { asked (steps_with (codes "--strict" ∷ [])) ≡ Some (steps (record usual { strict = true })) }
+    ensures threads { asked (threads_with (codes "--strict" ∷ [])) ≡ Some (threads (record usual { strict = true }) (alone 2) Ringer) }
+    ensures draw { asked (codes "nvmesgl" ∷ codes "draw" ∷ codes "--strict" ∷ []) ≡ None }
+{}
+
 /// What `check` and `grammar` ask for.
 #[tactic(auto, unfolding(clap::proofs::OnLiterals::clap_on_literals))]
 pub fn nothing_is_run()

@@ -11,7 +11,7 @@ ghost use Rattle.script_cli.specs.Runs.{AreOwners};
 ghost use Rattle.script_cli.specs.declared.fault.RunFault.TheVariants as run;
 ghost use Rattle.step_core.specs.Opening.{opening_of};
 
-use crate::job_lines::append_job_line;
+use crate::job_lines::{append_job_line, unwell_jobs};
 use crate::jobs::{JobLine, JobScript, read_jobs};
 use crate::rounds::{Pace, do_jobs};
 use block_image::Image;
@@ -225,7 +225,8 @@ fn write_run<W: Write>(
 /// Runs a script of jobs: each submitter does its jobs in a thread of its own, one after the other in the order of their lines, over a
 /// world that is opened for them. When all have ended, it writes the line of each job, in the order of the script's lines, then the
 /// owners of all pages and the counts: the command `threads`. There are 1 to 16 submitters. Where the pace has a limit for logs, the jobs are done in rounds: each goes on over the
-/// world that the one before left, and its log is dropped at its end. What is written is the same.
+/// world that the one before left, and its log is dropped at its end. What is written is the same. `unwell` grows by the jobs that were refused or whose status is
+/// not 0:00.
 ///
 /// # Errors
 ///
@@ -241,6 +242,7 @@ pub fn run_jobs<R: Threads + Wait + Sync, I: Read, W: Write>(
     pace: Pace,
     reader: &mut I,
     writer: &mut W,
+    unwell: &mut u64,
 ) -> Result<(), RunFault>
     requires some { 1 ≤ submitters }
     requires few { submitters ≤ 16 }
@@ -252,5 +254,6 @@ pub fn run_jobs<R: Threads + Wait + Sync, I: Read, W: Write>(
     let script = load_jobs(alloc, submitters, reader)?;
     let orders = hand_out(alloc, submitters, script.into_jobs())?;
     let (ends, closing) = run_world(rt, alloc, config, image, orders.lists, pace)?;
+    *unwell = unwell.saturating_add(unwell_jobs(&ends));
     write_run(alloc, orders.headings, &ends, &closing, writer)
 }

@@ -3,10 +3,10 @@ use Rattle.program.specs.declared.fault.Fault.TheVariants as fault
 use Rattle.script_cli.specs.declared.fault.RunFault.TheVariants as run
 use Rattle.script_cli.specs.declared.fault.ScriptFault.TheVariants as cause
 use Rattle.std.{proofs.Common.{◌≡◌, ◌⊎◌, Option, Some, None, List, [], ℕ, refl, sym, subst, inl, inr, ◌∙◌, ap}, specs.{Borrow.Bor, Io.KnownBytes.Keeps}}
-use Rattle.std.specs.Prelude.{IfErr, Result, Ok, Err, replicate, ◌*◌, IsErrAnd, IsSome, OnOk}
+use Rattle.std.specs.Prelude.{IfErr, Result, Ok, Err, replicate, take, ◌+◌, ◌*◌, false, true, IsErrAnd, IsSome, OnOk}
 use Rattle.clap.specs.{Words.{kind_of, Text}, declared.error.{Error.Error, kind.ErrorKind.TheVariants.OutOfMemory}}
 use Rattle.command_line.specs.Asked.{Asked, check, check_jobs, draw, explain, grammar, load, shell, show, steps, test, threads, traced, Given, path_of}
-use Rattle.program.specs.{Checking.{AreJobs, AreNoJobs, AreNoSteps, AreSteps}, Performing.{FailsWith, IsFirstImage, IsRunFault, Performs}}
+use Rattle.program.specs.{Checking.{AreJobs, AreNoJobs, AreNoSteps, AreSteps}, Performing.{FailsWith, IsCheckFault, IsFirstImage, IsNoFirstImage, IsSaid, Performs, script_told}}
 use Rattle.command_line.specs.declared.serving.Serving.{Serving}
 use Rattle.command_line.specs.declared.threads.Threading.{Threading}
 use Rattle.program.specs.declared.fault.Fault.{Fault}
@@ -14,7 +14,8 @@ use Rattle.job_cli.proofs.JobRuns.{jobs_are_told, no_jobs_are_told}
 use Rattle.job_cli.specs.{JobRuns.{EndsJobsWith, EndsUnwritten, HasJobFault, HasJobs, IsCutJobsText, IsNoJobs, WritesJobs}, Jobs.jobs_of}
 use Rattle.load.specs.{Lines.line_text, Tallies.no_tally}
 use Rattle.job_cli.specs.declared.jobs.JobLine.{JobLine}
-use Rattle.script_cli.{proofs.{Runs.{no_script_is_told, script_is_told}, Texts.appends_none}, specs.Inputs.AreFirstOf}
+use Rattle.script_cli.{proofs.{Runs.{no_script_is_told, script_is_told}, Texts.appends_none}, specs.{Inputs.AreFirstOf, Options.says_options}}
+use Rattle.script_cli.specs.declared.input.ImageFault.{ImageFault}
 use Rattle.script_cli.specs.{Runs.{EndsWith, HasFault, HasScript, IsCutText, IsNoScript, IsNotOpened, Writes}, Scripts.script_of}
 use Rattle.script_cli.specs.declared.{fault.{LineFault.LineFault, RunFault.RunFault}, script.Numbered.Numbered}
 use Rattle.host_core.specs.declared.config.Config.{Config}
@@ -26,10 +27,19 @@ pub kept : (bytes : Option (List ℕ)) → Keeps bytes bytes
 kept None = tt
 kept (Some bytes) = refl
 
+-- what is given may be what is said, whatever the script is
+pub itself : (told : Option (List ℕ)) (given : Given) → IsSaid told given given
+itself None given = (take (1048576 + 1) [], ([], tt, refl), λ none. refl, refl)
+itself (Some bytes) given = (take (1048576 + 1) bytes, (bytes, refl, refl), λ none. refl, refl)
+
+-- what the first line of a script that was read says
+pub said_of : (told : Option (List ℕ)) (text : List ℕ) (given said : Given) → AreFirstOf 1048576 told text → (says_options text ≡ false → said ≡ given) → said.image ≡ given.image → IsSaid told given said
+said_of told text given said first unless image = (text, first, unless, image)
+
 -- want of memory, before anything is written
 wanting : (told : Option (List ℕ)) (what : Asked) (bytes : Option (List ℕ)) → FailsWith told (Some what) bytes bytes (fault.Run run.Memory)
-wanting told (steps given) bytes = (replicate (512 * given.blocks) 0, λ none. refl, inl (kept bytes))
-wanting told (threads given what who) bytes = (replicate (512 * given.blocks) 0, λ none. refl, inl (kept bytes))
+wanting told (steps given) bytes = (given, itself _ given, replicate (512 * given.blocks) 0, λ none. refl, inl (kept bytes))
+wanting told (threads given what who) bytes = (given, itself _ given, replicate (512 * given.blocks) 0, λ none. refl, inl (kept bytes))
 wanting told (load given what who) bytes = ([], (no_tally, (line_text what.pattern no_tally, refl)), appends_none bytes)
 wanting told (check path) bytes = (tt, kept bytes)
 wanting told (check_jobs path submitters) bytes = (tt, kept bytes)
@@ -144,37 +154,57 @@ unread_ends_jobs : (told : Option (List ℕ)) (submitters : ℕ) (config : Confi
 unread_ends_jobs told submitters config image a why (inl unreadable) = subst (λ (f : RunFault). EndsJobsWith told submitters config image a a f) (sym unreadable) (kept a)
 unread_ends_jobs told submitters config image a why (inr memory) = subst (λ (f : RunFault). EndsJobsWith told submitters config image a a f) (sym memory) (inl (kept a))
 
-script_fails_jobs : (told : Option (List ℕ)) (given : Given) (what : Threading) (who : Serving) (image : List ℕ) (a : Option (List ℕ)) (why : RunFault) (f : Fault)
-    → f ≡ fault.Run why → IsFirstImage given image → (why ≡ run.Unreadable) ⊎ (why ≡ run.Memory) → FailsWith told (Some (threads given what who)) a a f
-script_fails_jobs told given what who image a why f same first unread =
-    subst (λ (g : Fault). FailsWith told (Some (threads given what who)) a a g) (sym same) (image, first, unread_ends_jobs _ what.submitters given.config image a why unread)
+script_fails_jobs : (told : Option (List ℕ)) (given : Given) (what : Threading) (who : Serving) (a : Option (List ℕ)) (why : RunFault) (f : Fault)
+    → f ≡ fault.Run why → (why ≡ run.Unreadable) ⊎ (why ≡ run.Memory) → FailsWith told (Some (threads given what who)) a a f
+script_fails_jobs told given what who a why f same unread =
+    subst (λ (g : Fault). FailsWith told (Some (threads given what who)) a a g) (sym same)
+    (given, itself _ given, replicate (512 * given.blocks) 0, λ none. refl, unread_ends_jobs _ what.submitters given.config (replicate (512 * given.blocks) 0) a why unread)
 
 unread_ends : (told : Option (List ℕ)) (config : Config) (image : List ℕ) (a : Option (List ℕ)) (why : RunFault) → (why ≡ run.Unreadable) ⊎ (why ≡ run.Memory) → EndsWith told config image a a why
 unread_ends told config image a why (inl unreadable) = subst (λ (f : RunFault). EndsWith told config image a a f) (sym unreadable) (kept a)
 unread_ends told config image a why (inr memory) = subst (λ (f : RunFault). EndsWith told config image a a f) (sym memory) (inl (kept a))
 
-script_fails : (told : Option (List ℕ)) (given : Given) (image : List ℕ) (a : Option (List ℕ)) (why : RunFault) (f : Fault)
-    → f ≡ fault.Run why → IsFirstImage given image → (why ≡ run.Unreadable) ⊎ (why ≡ run.Memory) → FailsWith told (Some (steps given)) a a f
-script_fails told given image a why f same first unread =
-    subst (λ (g : Fault). FailsWith told (Some (steps given)) a a g) (sym same) (image, first, unread_ends _ given.config image a why unread)
+script_fails : (told : Option (List ℕ)) (given : Given) (a : Option (List ℕ)) (why : RunFault) (f : Fault)
+    → f ≡ fault.Run why → (why ≡ run.Unreadable) ⊎ (why ≡ run.Memory) → FailsWith told (Some (steps given)) a a f
+script_fails told given a why f same unread =
+    subst (λ (g : Fault). FailsWith told (Some (steps given)) a a g) (sym same)
+    (given, itself _ given, replicate (512 * given.blocks) 0, λ none. refl, unread_ends _ given.config (replicate (512 * given.blocks) 0) a why unread)
 
 -- Faults that `?` makes of those of a run
 
-pub run_fault_told : {T U : Type 0} (r : Result T U) (fault_of : U → Fault) (why : RunFault) (Holds : RunFault → Type 0)
-    → IsErrAnd r (λ x. fault_of x ≡ fault.Run why) → Holds why → IfErr r (λ x. IsRunFault (fault_of x) Holds)
-run_fault_told (Ok x) fault_of why Holds same holds = tt
-run_fault_told (Err x) fault_of why Holds same holds = subst (λ (f : Fault). IsRunFault f Holds) (sym same) holds
+pub check_fault_told : {T U : Type 0} (r : Result T U) (fault_of : U → Fault) (told : Option (List ℕ)) (why : RunFault) (Holds : RunFault → Type 0)
+    → IsErrAnd r (λ x. fault_of x ≡ fault.Run why) → Holds why → IfErr r (λ x. IsCheckFault (fault_of x) told Holds)
+check_fault_told (Ok x) fault_of told why Holds same holds = tt
+check_fault_told (Err x) fault_of told why Holds same holds = subst (λ (f : Fault). IsCheckFault f told Holds) (sym same) holds
 
-pub script_failed_jobs : {T U : Type 0} (r : Result T U) (fault_of : U → Fault) (told : Option (List ℕ)) (given : Given) (what : Threading) (who : Serving) (image : List ℕ)
-    (a : Option (List ℕ)) (why : RunFault) → IsErrAnd r (λ x. fault_of x ≡ fault.Run why) → IsFirstImage given image → (why ≡ run.Unreadable) ⊎ (why ≡ run.Memory)
+pub script_failed_jobs : {T U : Type 0} (r : Result T U) (fault_of : U → Fault) (told : Option (List ℕ)) (given : Given) (what : Threading) (who : Serving)
+    (a : Option (List ℕ)) (why : RunFault) → IsErrAnd r (λ x. fault_of x ≡ fault.Run why) → (why ≡ run.Unreadable) ⊎ (why ≡ run.Memory)
     → IfErr r (λ x. FailsWith told (Some (threads given what who)) a a (fault_of x))
-script_failed_jobs (Ok x) fault_of told given what who image a why same first unread = tt
-script_failed_jobs (Err x) fault_of told given what who image a why same first unread = script_fails_jobs told given what who image a why (fault_of x) same first unread
+script_failed_jobs (Ok x) fault_of told given what who a why same unread = tt
+script_failed_jobs (Err x) fault_of told given what who a why same unread = script_fails_jobs told given what who a why (fault_of x) same unread
 
-pub script_failed : {T U : Type 0} (r : Result T U) (fault_of : U → Fault) (told : Option (List ℕ)) (given : Given) (image : List ℕ) (a : Option (List ℕ)) (why : RunFault)
-    → IsErrAnd r (λ x. fault_of x ≡ fault.Run why) → IsFirstImage given image → (why ≡ run.Unreadable) ⊎ (why ≡ run.Memory) → IfErr r (λ x. FailsWith told (Some (steps given)) a a (fault_of x))
-script_failed (Ok x) fault_of told given image a why same first unread = tt
-script_failed (Err x) fault_of told given image a why same first unread = script_fails told given image a why (fault_of x) same first unread
+pub script_failed : {T U : Type 0} (r : Result T U) (fault_of : U → Fault) (told : Option (List ℕ)) (given : Given) (a : Option (List ℕ)) (why : RunFault)
+    → IsErrAnd r (λ x. fault_of x ≡ fault.Run why) → (why ≡ run.Unreadable) ⊎ (why ≡ run.Memory) → IfErr r (λ x. FailsWith told (Some (steps given)) a a (fault_of x))
+script_failed (Ok x) fault_of told given a why same unread = tt
+script_failed (Err x) fault_of told given a why same unread = script_fails told given a why (fault_of x) same unread
+
+-- Options that are none, and images that there are not, once the script was read
+
+pub unread_options : (told : Option (List ℕ)) (given : Given) (text : List ℕ) (a : Option (List ℕ)) (f : Fault)
+    → f ≡ fault.BadOptions → AreFirstOf 1048576 (script_told given.script told) text → says_options text ≡ true → FailsWith told (Some (steps given)) a a f
+unread_options told given text a f same first says = subst (λ (g : Fault). FailsWith told (Some (steps given)) a a g) (sym same) ((text, first, says), kept a)
+
+pub unread_options_jobs : (told : Option (List ℕ)) (given : Given) (what : Threading) (who : Serving) (text : List ℕ) (a : Option (List ℕ)) (f : Fault)
+    → f ≡ fault.BadOptions → AreFirstOf 1048576 (script_told given.script told) text → says_options text ≡ true → FailsWith told (Some (threads given what who)) a a f
+unread_options_jobs told given what who text a f same first says = subst (λ (g : Fault). FailsWith told (Some (threads given what who)) a a g) (sym same) ((text, first, says), kept a)
+
+pub no_image : (told : Option (List ℕ)) (given said : Given) (a : Option (List ℕ)) (why : ImageFault) (f : Fault)
+    → f ≡ fault.Image why → IsSaid (script_told given.script told) given said → IsNoFirstImage said why → FailsWith told (Some (steps given)) a a f
+no_image told given said a why f same is none = subst (λ (g : Fault). FailsWith told (Some (steps given)) a a g) (sym same) (said, is, none, kept a)
+
+pub no_image_jobs : (told : Option (List ℕ)) (given said : Given) (what : Threading) (who : Serving) (a : Option (List ℕ)) (why : ImageFault) (f : Fault)
+    → f ≡ fault.Image why → IsSaid (script_told given.script told) given said → IsNoFirstImage said why → FailsWith told (Some (threads given what who)) a a f
+no_image_jobs told given said what who a why f same is none = subst (λ (g : Fault). FailsWith told (Some (threads given what who)) a a g) (sym same) (said, is, none, kept a)
 
 -- Images that were not saved
 

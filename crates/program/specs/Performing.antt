@@ -10,7 +10,7 @@ use Rattle.load.specs.{Lines.{IsLineFront, line_text}, Tallies.is_good}
 use Rattle.job_cli.specs.declared.jobs.JobLine.{JobLine}
 use Rattle.load.specs.declared.{fault.LoadFault.LoadFault, tally.Tally.Tally}
 use Rattle.script_cli.specs.declared.workload.Pattern.{Pattern}
-use Rattle.script_cli.specs.{Inputs.Gains, Runs.{EndsWith, HasScript, IsNoScript, IsRunText, Writes}, declared.fault.RunFault.RunFault}
+use Rattle.script_cli.specs.{Inputs.{AreFirstOf, Gains}, Options.says_options, Runs.{EndsWith, HasScript, IsNoScript, IsRunText, Writes}, declared.fault.RunFault.RunFault}
 use Rattle.script_cli.specs.declared.{input.ImageFault.ImageFault, script.Numbered.Numbered}
 use Rattle.load.specs.declared.fault.LoadFault.TheVariants as load_fault
 use Rattle.program.specs.declared.fault.Fault.TheVariants as fault
@@ -31,6 +31,15 @@ abbrev pub script_told : Option Text → Option (List ℕ) → Option (List ℕ)
 script_told None told = told
 script_told (Some path) told = if bytes_eq path (codes "-") then told else None
 
+-- What is played: what words ask for, but that the first line of the script that is read may say the pool, its queues and the zero blocks. What its words mean is
+-- not said here, and a script whose first line says none is played over what is given
+abbrev pub IsSaid : Option (List ℕ) → Given → Given → Type 0
+IsSaid told given said = (text : List ℕ) × AreFirstOf 1048576 told text × (says_options text ≡ false → said ≡ given) × (said.image ≡ given.image)
+
+-- the first line of the script that is read says options
+abbrev pub SaysOptions : Option (List ℕ) → Type 0
+SaysOptions told = (text : List ℕ) × AreFirstOf 1048576 told text × (says_options text ≡ true)
+
 -- the line of a load is written, in which no command was refused or failed and none brought other bytes, or else some
 abbrev pub WritesLine : Pattern → Bool → Option (List ℕ) → Option (List ℕ) → Type 0
 WritesLine pattern good before after = (tally : Tally) × (is_good tally ≡ good) × Appends before after (line_text pattern tally)
@@ -41,14 +50,16 @@ fault_of_load (load_fault.Run why) = fault.Run why
 fault_of_load (load_fault.TooFewBlocks need blocks) = fault.Load (load_fault.TooFewBlocks need blocks)
 fault_of_load (load_fault.Round why) = fault.Load (load_fault.Round why)
 
--- What is written where all goes well: the text of a run of the script, over the configuration and the image that are given; nothing where help is asked for, and
+-- What is written where all goes well: the text of a run of the script, over the configuration and the image that are given, or said in its first line; nothing where help is asked for, and
 -- nothing of a script that is checked and has no fault. Of what `test`, `shell`, `draw`, `explain`, `show` and `steps --trace` write and of the text of the grammar nothing is said.
 abbrev pub Performs : Option (List ℕ) → Option Asked → Option (List ℕ) → Option (List ℕ) → Type 0
 Performs told None before after = Keeps before after
 Performs told (Some (steps given)) before after =
-    (image : List ℕ) × IsFirstImage given image × Writes (script_told given.script told) given.config image before after IsRunText
+    (said : Given) × IsSaid (script_told given.script told) given said
+    × (image : List ℕ) × IsFirstImage said image × Writes (script_told given.script told) said.config image before after IsRunText
 Performs told (Some (threads given what who)) before after =
-    (image : List ℕ) × IsFirstImage given image × WritesJobs (script_told given.script told) what.submitters given.config image before after IsJobsText
+    (said : Given) × IsSaid (script_told given.script told) given said
+    × (image : List ℕ) × IsFirstImage said image × WritesJobs (script_told given.script told) what.submitters said.config image before after IsJobsText
 Performs told (Some (load given what who)) before after = WritesLine what.pattern true before after
 Performs told (Some (check path)) before after = ((script : List Numbered) × HasScript (script_told path told) script) × Keeps before after
 Performs told (Some (check_jobs path submitters)) before after = ((lines : List JobLine) × HasJobs (script_told path told) submitters lines) × Keeps before after
@@ -76,6 +87,23 @@ IsRunFault (fault.Bytes why) Holds = ⊥
 IsRunFault (fault.Load why) Holds = ⊥
 IsRunFault (fault.Loaded tally) Holds = ⊥
 IsRunFault fault.NoStats Holds = ⊥
+IsRunFault fault.BadOptions Holds = ⊥
+IsRunFault fault.Unwell Holds = ⊥
+
+-- a script that is checked says options that are none, or has a fault of a run, of which something holds
+abbrev pub IsCheckFault : Fault → Option (List ℕ) → (RunFault → Type 0) → Type 0
+IsCheckFault (fault.Run why) told Holds = Holds why
+IsCheckFault fault.BadOptions told Holds = SaysOptions told
+IsCheckFault (fault.Arguments why) told Holds = ⊥
+IsCheckFault (fault.Image why) told Holds = ⊥
+IsCheckFault fault.PipeClosed told Holds = ⊥
+IsCheckFault fault.NotSaved told Holds = ⊥
+IsCheckFault (fault.Transcripts tally) told Holds = ⊥
+IsCheckFault (fault.Bytes why) told Holds = ⊥
+IsCheckFault (fault.Load why) told Holds = ⊥
+IsCheckFault (fault.Loaded tally) told Holds = ⊥
+IsCheckFault fault.NoStats told Holds = ⊥
+IsCheckFault fault.Unwell told Holds = ⊥
 
 -- why transcripts were not all good, or not all tested
 abbrev pub IsTestFault : Fault → Type 0
@@ -89,6 +117,8 @@ IsTestFault (fault.Bytes why) = ⊥
 IsTestFault (fault.Load why) = ⊥
 IsTestFault (fault.Loaded tally) = ⊥
 IsTestFault fault.NoStats = ⊥
+IsTestFault fault.BadOptions = ⊥
+IsTestFault fault.Unwell = ⊥
 
 -- why bytes were not accepted, or not decoded
 abbrev pub IsBytesFault : Fault → Type 0
@@ -102,8 +132,11 @@ IsBytesFault (fault.Bytes why) = Unit {0}
 IsBytesFault (fault.Load why) = ⊥
 IsBytesFault (fault.Loaded tally) = ⊥
 IsBytesFault fault.NoStats = ⊥
+IsBytesFault fault.BadOptions = ⊥
+IsBytesFault fault.Unwell = ⊥
 
--- What a fault says, and what was then written: where the image was not saved all that goes before went well, and a file was named for it. Only words that ask for no command are at fault themselves
+-- What a fault says, and what was then written: where the image was not saved all that goes before went well, and a file was named for it; where a run was not well and all
+-- else went well, that was asked for. Only words that ask for no command are at fault themselves
 abbrev pub FailsWith : Option (List ℕ) → Option Asked → Option (List ℕ) → Option (List ℕ) → Fault → Type 0
 FailsWith told None before after why = Keeps before after
 FailsWith told (Some what) before after (fault.Arguments why) = ⊥
@@ -115,6 +148,8 @@ FailsWith told (Some other) before after (fault.Loaded tally) = ⊥
 FailsWith told (Some (load given what who)) before after fault.NoStats = WritesLine what.pattern true before after × IsSome what.stats
 FailsWith told (Some other) before after fault.NoStats = ⊥
 FailsWith told (Some (load given what who)) before after fault.NotSaved = ⊥
+FailsWith told (Some (load given what who)) before after fault.BadOptions = ⊥
+FailsWith told (Some (load given what who)) before after fault.Unwell = ⊥
 FailsWith told (Some (load given what who)) before after (fault.Transcripts tally) = ⊥
 FailsWith told (Some (load given what who)) before after (fault.Bytes why) = ⊥
 FailsWith told (Some (load given what who)) before after (fault.Image why) = IsNoFirstImage given why × Keeps before after
@@ -130,6 +165,28 @@ FailsWith told (Some (traced given)) before after fault.NotSaved = IsSome given.
 FailsWith told (Some (explain path objects)) before after fault.NotSaved = ⊥
 FailsWith told (Some (show words)) before after fault.NotSaved = ⊥
 FailsWith told (Some grammar) before after fault.NotSaved = ⊥
+FailsWith told (Some (steps given)) before after fault.BadOptions = SaysOptions (script_told given.script told) × Keeps before after
+FailsWith told (Some (threads given what who)) before after fault.BadOptions = SaysOptions (script_told given.script told) × Keeps before after
+FailsWith told (Some (check path)) before after fault.BadOptions = SaysOptions (script_told path told) × Keeps before after
+FailsWith told (Some (check_jobs path submitters)) before after fault.BadOptions = SaysOptions (script_told path told) × Keeps before after
+FailsWith told (Some (test tested)) before after fault.BadOptions = ⊥
+FailsWith told (Some (shell given traces)) before after fault.BadOptions = SaysOptions (script_told given.script told) × Keeps before after
+FailsWith told (Some (draw given)) before after fault.BadOptions = SaysOptions (script_told given.script told) × Keeps before after
+FailsWith told (Some (traced given)) before after fault.BadOptions = SaysOptions (script_told given.script told) × Keeps before after
+FailsWith told (Some (explain path objects)) before after fault.BadOptions = ⊥
+FailsWith told (Some (show words)) before after fault.BadOptions = ⊥
+FailsWith told (Some grammar) before after fault.BadOptions = ⊥
+FailsWith told (Some (steps given)) before after fault.Unwell = Performs told (Some (steps given)) before after × (given.strict ≡ true)
+FailsWith told (Some (threads given what who)) before after fault.Unwell = Performs told (Some (threads given what who)) before after × (given.strict ≡ true)
+FailsWith told (Some (check path)) before after fault.Unwell = ⊥
+FailsWith told (Some (check_jobs path submitters)) before after fault.Unwell = ⊥
+FailsWith told (Some (test tested)) before after fault.Unwell = ⊥
+FailsWith told (Some (shell given traces)) before after fault.Unwell = ⊥
+FailsWith told (Some (draw given)) before after fault.Unwell = ⊥
+FailsWith told (Some (traced given)) before after fault.Unwell = given.strict ≡ true
+FailsWith told (Some (explain path objects)) before after fault.Unwell = ⊥
+FailsWith told (Some (show words)) before after fault.Unwell = ⊥
+FailsWith told (Some grammar) before after fault.Unwell = ⊥
 FailsWith told (Some (steps given)) before after (fault.Transcripts tally) = ⊥
 FailsWith told (Some (threads given what who)) before after (fault.Transcripts tally) = ⊥
 FailsWith told (Some (check path)) before after (fault.Transcripts tally) = ⊥
@@ -152,21 +209,28 @@ FailsWith told (Some (traced given)) before after (fault.Bytes why) = ⊥
 FailsWith told (Some (explain path objects)) before after (fault.Bytes why) = Unit {0}
 FailsWith told (Some (show words)) before after (fault.Bytes why) = Unit {0}
 FailsWith told (Some grammar) before after (fault.Bytes why) = ⊥
-FailsWith told (Some (steps given)) before after (fault.Image why) = IsNoFirstImage given why × Keeps before after
-FailsWith told (Some (threads given what who)) before after (fault.Image why) = IsNoFirstImage given why × Keeps before after
+FailsWith told (Some (steps given)) before after (fault.Image why) =
+    (said : Given) × IsSaid (script_told given.script told) given said × IsNoFirstImage said why × Keeps before after
+FailsWith told (Some (threads given what who)) before after (fault.Image why) =
+    (said : Given) × IsSaid (script_told given.script told) given said × IsNoFirstImage said why × Keeps before after
 FailsWith told (Some (check path)) before after (fault.Image why) = ⊥
 FailsWith told (Some (check_jobs path submitters)) before after (fault.Image why) = ⊥
 FailsWith told (Some (test tested)) before after (fault.Image why) = ⊥
-FailsWith told (Some (shell given traces)) before after (fault.Image why) = IsNoFirstImage given why × Keeps before after
-FailsWith told (Some (draw given)) before after (fault.Image why) = IsNoFirstImage given why × Keeps before after
-FailsWith told (Some (traced given)) before after (fault.Image why) = IsNoFirstImage given why × Keeps before after
+FailsWith told (Some (shell given traces)) before after (fault.Image why) =
+    (said : Given) × IsSaid (script_told given.script told) given said × IsNoFirstImage said why × Keeps before after
+FailsWith told (Some (draw given)) before after (fault.Image why) =
+    (said : Given) × IsSaid (script_told given.script told) given said × IsNoFirstImage said why × Keeps before after
+FailsWith told (Some (traced given)) before after (fault.Image why) =
+    (said : Given) × IsSaid (script_told given.script told) given said × IsNoFirstImage said why × Keeps before after
 FailsWith told (Some (explain path objects)) before after (fault.Image why) = ⊥
 FailsWith told (Some (show words)) before after (fault.Image why) = ⊥
 FailsWith told (Some grammar) before after (fault.Image why) = ⊥
 FailsWith told (Some (steps given)) before after (fault.Run why) =
-    (image : List ℕ) × IsFirstImage given image × EndsWith (script_told given.script told) given.config image before after why
+    (said : Given) × IsSaid (script_told given.script told) given said
+    × (image : List ℕ) × IsFirstImage said image × EndsWith (script_told given.script told) said.config image before after why
 FailsWith told (Some (threads given what who)) before after (fault.Run why) =
-    (image : List ℕ) × IsFirstImage given image × EndsJobsWith (script_told given.script told) what.submitters given.config image before after why
+    (said : Given) × IsSaid (script_told given.script told) given said
+    × (image : List ℕ) × IsFirstImage said image × EndsJobsWith (script_told given.script told) what.submitters said.config image before after why
 FailsWith told (Some (check path)) before after (fault.Run why) = IsNoScript (script_told path told) why × Keeps before after
 FailsWith told (Some (check_jobs path submitters)) before after (fault.Run why) = IsNoJobs (script_told path told) submitters why × Keeps before after
 FailsWith told (Some (test tested)) before after (fault.Run why) = Unit {0}

@@ -1,29 +1,30 @@
 //! The program's commands.
 
-ghost use Rattle.std.specs.Prelude.{◌≡◌, ◌≤◌, List, Some, IfErr, OnOk, map};
+ghost use Rattle.std.specs.Prelude.{◌≡◌, ◌<◌, ◌≤◌, List, Some, IfErr, OnErr, OnOk, map, true};
 ghost use Rattle.command_line.specs.Asked.{asked, draw, given_of, path_of, shell, steps, threads, traced};
 ghost use Rattle.job_cli.specs.JobRuns.{HasJobs, IsNoJobs};
 ghost use Rattle.job_cli.specs.declared.jobs.JobLine.{JobLine};
-ghost use Rattle.program.specs.Performing.{FailsWith, IsNoGrammar, IsRunFault, IsTestFault, Performs, script_told};
+ghost use Rattle.program.specs.Performing.{FailsWith, IsCheckFault, IsNoGrammar, IsRunFault, IsTestFault, Performs, script_told};
 ghost use Rattle.script_cli.specs.Runs.{HasScript, IsNoScript};
 ghost use Rattle.script_cli.specs.declared.script.Numbered.{Numbered};
 
 use crate::below::below_run;
 use crate::bytes::{explain_case, show_words};
-use crate::checking::{check_jobs, check_steps};
+use crate::checking::{check_jobs, check_options, check_steps};
 use crate::fault::{Fault, Told};
-use crate::inputs::{open_image, script_text};
+use crate::inputs::{open_image, options_said, script_text};
 use crate::loading::load_image;
 use crate::pipe::Pipe;
+use crate::places::file_of;
 use crate::printing::print_text;
 use crate::saving::save_image;
 use crate::serving::server_of;
+use crate::testing::test_files;
 use command_line::{CommandLine, Options, Serving, Testing, Threading, words};
 use job_cli::{Pace, run_jobs};
-use script_cli::transcripts::test_files;
-use script_cli::{MAX_SCRIPT, RunFault, play_steps};
-use shell::{run_shell, trace_steps};
-use std::alloc::{AllocGlobal, Global};
+use script_cli::{MAX_SCRIPT, RunFault, play_steps, transcripts};
+use shell::{meanings_text, run_shell, trace_steps};
+use std::alloc::{AllocError, AllocGlobal, Global};
 use std::convert::AsStr;
 use std::env::Env;
 use std::io;
@@ -84,12 +85,10 @@ fn start<R: AllocGlobal + Clock + Env + Eprint + Files + Input + Print + Sync + 
         Err(
             Told {
                 fault: Fault::Run(RunFault::OutputFailed),
+                place: _,
                 below,
             },
-        ) if writer.is_closed() => Err(Told {
-            fault: Fault::PipeClosed,
-            below,
-        }),
+        ) if writer.is_closed() => Err(Told::of(Fault::PipeClosed, below)),
         end => end,
     }
 }
@@ -147,6 +146,19 @@ pub fn perform<
     }
 }
 
+/// The end of a run in which so many answers were not well: a fault, where that is asked for.
+fn end_strictly(alloc: Global, strict: bool, unwell: u64) -> Result<(), Told<Fault>>
+    ensures fault { IfErr result (λ told. told.fault ≡ Fault.Unwell) }
+    ensures asked { IfErr result (λ told. strict ≡ true) }
+    ensures unwell { OnErr result (0 < unwell) }
+    ensures well { OnOk result (strict ≡ true → unwell ≡ 0) }
+{
+    if strict && unwell > 0 {
+        return Err(Told::alone(alloc, Fault::Unwell));
+    }
+    Ok(())
+}
+
 /// Plays a script of steps.
 fn play<R: AllocGlobal + Files + Print, I: Read, W: Write>(
     rt: &R,
@@ -158,19 +170,26 @@ fn play<R: AllocGlobal + Files + Print, I: Read, W: Write>(
     ensures failed { IfErr result (λ told. FailsWith (I.remaining reader.old) (Some (steps (given_of options.entry))) (W.contents writer.old) (W.contents writer.new) told.fault) }
 {
     let alloc = rt.alloc();
-    let image = open_image(rt, &options)?;
     let text = script_text(rt, options.script, reader)?;
+    let said = options_said(alloc, options, &text)?;
+    let image = open_image(rt, &said)?;
     let mut script = text.as_slice();
-    match play_steps(alloc, options.config, image, &mut script, writer) {
+    let mut unwell = 0;
+    match play_steps(alloc, said.config, image, &mut script, writer, &mut unwell) {
         Ok(bench) => {
             let saved = save_image(rt, options.save, bench.image());
             let _ended = bench.end();
-            saved
+            saved?;
+            end_strictly(alloc, options.strict, unwell)
         }
         Err(fault) => {
-            let below = below_run(alloc, Grammar::Steps, &text, &options, fault);
+            let below = below_run(alloc, Grammar::Steps, &text, &said, fault);
             let fault = Fault::Run(fault);
-            Err(Told { fault, below })
+            Err(Told {
+                fault,
+                place: None,
+                below,
+            })
         }
     }
 }
@@ -185,18 +204,25 @@ fn trace_script<R: AllocGlobal + Files + Print, I: Read, W: Write>(
     ensures failed { IfErr result (λ told. FailsWith (I.remaining reader.old) (Some (traced (given_of options.entry))) (W.contents writer.old) (W.contents writer.new) told.fault) }
 {
     let alloc = rt.alloc();
-    let image = open_image(rt, &options)?;
     let text = script_text(rt, options.script, reader)?;
-    match trace_steps(alloc, options.config, image, &text, writer) {
+    let said = options_said(alloc, options, &text)?;
+    let image = open_image(rt, &said)?;
+    let mut unwell = 0;
+    match trace_steps(alloc, said.config, image, &text, writer, &mut unwell) {
         Ok(bench) => {
             let saved = save_image(rt, options.save, bench.image());
             let _ended = bench.end();
-            saved
+            saved?;
+            end_strictly(alloc, options.strict, unwell)
         }
         Err(fault) => {
-            let below = below_run(alloc, Grammar::Steps, &text, &options, fault);
+            let below = below_run(alloc, Grammar::Steps, &text, &said, fault);
             let fault = Fault::Run(fault);
-            Err(Told { fault, below })
+            Err(Told {
+                fault,
+                place: None,
+                below,
+            })
         }
     }
 }
@@ -218,8 +244,9 @@ fn run_threads<R: AllocGlobal + Files + Sync + Threads + Wait, I: Read, W: Write
     ensures failed { IfErr result (λ told. FailsWith (I.remaining reader.old) (Some (threads (given_of options.entry) threading serving)) (W.contents writer.old) (W.contents writer.new) told.fault) }
 {
     let alloc = rt.alloc();
-    let image = open_image(rt, &options)?;
     let text = script_text(rt, options.script, reader)?;
+    let said = options_said(alloc, options, &text)?;
+    let image = open_image(rt, &said)?;
     let mut script = text.as_slice();
     let Threading {
         submitters,
@@ -231,22 +258,28 @@ fn run_threads<R: AllocGlobal + Files + Sync + Threads + Wait, I: Read, W: Write
         server: server_of(serving),
         log_limit,
     };
+    let mut unwell = 0;
     match run_jobs(
         rt,
         alloc,
-        options.config,
+        said.config,
         image,
         submitters,
         pace,
         &mut script,
         writer,
+        &mut unwell,
     ) {
-        Ok(()) => Ok(()),
+        Ok(()) => end_strictly(alloc, options.strict, unwell),
         Err(fault) => {
             let grammar = Grammar::Jobs(submitters);
-            let below = below_run(alloc, grammar, &text, &options, fault);
+            let below = below_run(alloc, grammar, &text, &said, fault);
             let fault = Fault::Run(fault);
-            Err(Told { fault, below })
+            Err(Told {
+                fault,
+                place: None,
+                below,
+            })
         }
     }
 }
@@ -258,10 +291,12 @@ fn look_at_steps<R: AllocGlobal + Files, I: Read>(
     reader: &mut I,
 ) -> Result<(), Told<Fault>>
     ensures steps { OnOk result ((script : List Numbered) × HasScript (script_told (path_of path.entry) (I.remaining reader.old)) script) }
-    ensures fault { IfErr result (λ told. IsRunFault told.fault (IsNoScript (script_told (path_of path.entry) (I.remaining reader.old)))) }
+    ensures fault { IfErr result (λ told. IsCheckFault told.fault (script_told (path_of path.entry) (I.remaining reader.old)) (IsNoScript (script_told (path_of path.entry) (I.remaining reader.old)))) }
 {
     let text = script_text(rt, path, reader)?;
-    check_steps(rt.alloc(), &text)?;
+    let file = file_of(path);
+    check_options(rt.alloc(), Grammar::Steps, file, &text)?;
+    check_steps(rt.alloc(), file, &text)?;
     Ok(())
 }
 
@@ -273,10 +308,12 @@ fn look_at_jobs<R: AllocGlobal + Files, I: Read>(
     reader: &mut I,
 ) -> Result<(), Told<Fault>>
     ensures jobs { OnOk result ((lines : List JobLine) × HasJobs (script_told (path_of path.entry) (I.remaining reader.old)) submitters lines) }
-    ensures fault { IfErr result (λ told. IsRunFault told.fault (IsNoJobs (script_told (path_of path.entry) (I.remaining reader.old)) submitters)) }
+    ensures fault { IfErr result (λ told. IsCheckFault told.fault (script_told (path_of path.entry) (I.remaining reader.old)) (IsNoJobs (script_told (path_of path.entry) (I.remaining reader.old)) submitters)) }
 {
     let text = script_text(rt, path, reader)?;
-    check_jobs(rt.alloc(), &text, submitters)?;
+    let file = file_of(path);
+    check_options(rt.alloc(), Grammar::Jobs(submitters), file, &text)?;
+    check_jobs(rt.alloc(), file, &text, submitters)?;
     Ok(())
 }
 
@@ -289,7 +326,7 @@ fn test<R: AllocGlobal + Files, I: Read, W: Write>(
 ) -> Result<(), Told<Fault>>
     ensures fault { IfErr result (λ told. IsTestFault told.fault) }
 {
-    let usual = script_cli::transcripts::Options {
+    let usual = transcripts::Options {
         config: testing.config,
         blocks: testing.blocks,
     };
@@ -299,6 +336,40 @@ fn test<R: AllocGlobal + Files, I: Read, W: Write>(
         Err(fault) => Fault::Run(fault),
     };
     Err(Told::alone(rt.alloc(), fault))
+}
+
+/// Answers the lines of a file, whose first may say the options.
+fn answer_file<R: AllocGlobal + Files + Print, I: Read, W: Write>(
+    rt: &R,
+    options: Options<'_>,
+    traces: bool,
+    reader: &mut I,
+    writer: &mut W,
+) -> Result<(), Told<Fault>>
+    ensures failed { IfErr result (λ told. FailsWith (I.remaining reader.old) (Some (shell (given_of options.entry) traces)) (W.contents writer.old) (W.contents writer.new) told.fault) }
+{
+    let alloc = rt.alloc();
+    let text = script_text(rt, options.script, reader)?;
+    let said = options_said(alloc, options, &text)?;
+    let image = open_image(rt, &said)?;
+    let end = if text.len() > MAX_SCRIPT {
+        Err(RunFault::TooLong)
+    } else {
+        let mut lines = text.as_slice();
+        run_shell(rt, said.config, image, traces, &mut lines, writer, false)
+    };
+    match end {
+        Ok(()) => Ok(()),
+        Err(fault) => {
+            let below = below_run(alloc, Grammar::Steps, &[], &said, fault);
+            let fault = Fault::Run(fault);
+            Err(Told {
+                fault,
+                place: None,
+                below,
+            })
+        }
+    }
 }
 
 /// Answers the lines of a reader, or of a file.
@@ -312,27 +383,28 @@ fn talk<R: AllocGlobal + Files + Print, I: Read, W: Write>(
 ) -> Result<(), Told<Fault>>
     ensures failed { IfErr result (λ told. FailsWith (I.remaining reader.old) (Some (shell (given_of options.entry) traces)) (W.contents writer.old) (W.contents writer.new) told.fault) }
 {
-    let alloc = rt.alloc();
+    if file_of(options.script).is_some() {
+        return answer_file(rt, options, traces, reader, writer);
+    }
     let image = open_image(rt, &options)?;
-    let config = options.config;
-    let end = match options.script {
-        Some(path) if path != "-" => {
-            let text = script_text(rt, options.script, reader)?;
-            if text.len() > MAX_SCRIPT {
-                Err(RunFault::TooLong)
-            } else {
-                let mut lines = text.as_slice();
-                run_shell(rt, config, image, traces, &mut lines, writer, false)
-            }
-        }
-        _ => run_shell(rt, config, image, traces, reader, writer, is_terminal),
-    };
-    match end {
+    match run_shell(
+        rt,
+        options.config,
+        image,
+        traces,
+        reader,
+        writer,
+        is_terminal,
+    ) {
         Ok(()) => Ok(()),
         Err(fault) => {
-            let below = below_run(alloc, Grammar::Steps, &[], &options, fault);
+            let below = below_run(rt.alloc(), Grammar::Steps, &[], &options, fault);
             let fault = Fault::Run(fault);
-            Err(Told { fault, below })
+            Err(Told {
+                fault,
+                place: None,
+                below,
+            })
         }
     }
 }
@@ -347,21 +419,33 @@ fn draw_script<R: AllocGlobal + Files, I: Read, W: Write>(
     ensures failed { IfErr result (λ told. FailsWith (I.remaining reader.old) (Some (draw (given_of options.entry))) (W.contents writer.old) (W.contents writer.new) told.fault) }
 {
     let alloc = rt.alloc();
-    let image = open_image(rt, &options)?;
     let text = script_text(rt, options.script, reader)?;
-    match draw_steps(alloc, options.config, image, &text, writer) {
+    let said = options_said(alloc, options, &text)?;
+    let image = open_image(rt, &said)?;
+    match draw_steps(alloc, said.config, image, &text, writer) {
         Ok(()) => Ok(()),
         Err(fault) => {
-            let below = below_run(alloc, Grammar::Steps, &text, &options, fault);
+            let below = below_run(alloc, Grammar::Steps, &text, &said, fault);
             let fault = Fault::Run(fault);
-            Err(Told { fault, below })
+            Err(Told {
+                fault,
+                place: None,
+                below,
+            })
         }
     }
+}
+
+/// What a script may say, and what its steps and faults are called.
+fn all_of_grammar(alloc: Global) -> Result<String, AllocError> {
+    let mut text = grammar_text(alloc)?;
+    text.push_str(&meanings_text(alloc)?)?;
+    Ok(text)
 }
 
 /// Prints what a script may say.
 fn print_grammar<W: Write>(alloc: Global, writer: &mut W) -> Result<(), Told<Fault>>
     ensures fault { IfErr result (λ told. IsRunFault told.fault IsNoGrammar) }
 {
-    print_text(alloc, grammar_text(alloc), writer)
+    print_text(alloc, all_of_grammar(alloc), writer)
 }

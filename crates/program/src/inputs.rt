@@ -1,15 +1,18 @@
 //! The image and the script of a run, and why there is none.
 
-ghost use Rattle.std.specs.Prelude.{◌≡◌, ◌⊎◌, IfOk, IfErr, None};
+ghost use Rattle.std.specs.Prelude.{◌≡◌, ◌⊎◌, IfOk, IfErr, None, false, true};
 ghost use Rattle.command_line.specs.Asked.{given_of, path_of};
 ghost use Rattle.program.specs.Performing.{IsFirstImage, IsNoFirstImage, script_told};
 ghost use Rattle.script_cli.specs.Inputs.{AreFirstOf};
+ghost use Rattle.script_cli.specs.Options.{says_options};
 ghost use Rattle.script_cli.specs.declared.fault.RunFault.TheVariants as run;
 
-use crate::below::lines_or_none;
-use crate::fault::Told;
+use crate::below::{below_options, lines_or_none, world_of};
+use crate::fault::{Fault, Told};
+use crate::places::STANDARD;
 use block_image::{Image, ImageError, MAX_BYTES};
 use command_line::Options;
+use script_cli::transcripts::MAX_TRANSCRIPT;
 use script_cli::{ImageFault, MAX_SCRIPT, ReadFault, RunFault, read_first, read_image};
 use std::alloc::{AllocGlobal, Global};
 use std::fs::File;
@@ -70,6 +73,50 @@ fn bad_length(alloc: Global, path: &str, count: usize) -> String {
     lines_or_none(alloc, text)
 }
 
+/// Why a file has no bytes.
+pub(crate) enum Unread {
+    /// The system's reason.
+    Because(io::Error),
+    /// A read failed, and the system gave no reason.
+    Unknown,
+    /// Memory was refused.
+    Memory,
+}
+
+/// Why a read gave no bytes, with the system's reason, if there is one.
+fn unread(fault: ReadFault, why: Option<io::Error>) -> Unread {
+    match fault {
+        ReadFault::Memory => Unread::Memory,
+        ReadFault::Unreadable => match why {
+            Some(why) => Unread::Because(why),
+            None => Unread::Unknown,
+        },
+    }
+}
+
+/// The bytes of a file, or of the reader that is standard input; one more than a transcript may have at most.
+pub(crate) fn transcript_bytes<R: AllocGlobal + Files, I: Read>(
+    rt: &R,
+    path: &str,
+    reader: &mut I,
+) -> Result<Vec<u8>, Unread> {
+    let alloc = rt.alloc();
+    if path == STANDARD {
+        return match read_first(alloc, reader, MAX_TRANSCRIPT) {
+            Ok(bytes) => Ok(bytes),
+            Err(fault) => Err(unread(fault, None)),
+        };
+    }
+    let mut file = match File::open(rt, path) {
+        Ok(file) => Noted::over(file),
+        Err(why) => return Err(Unread::Because(why)),
+    };
+    match read_first(alloc, &mut file, MAX_TRANSCRIPT) {
+        Ok(bytes) => Ok(bytes),
+        Err(fault) => Err(unread(fault, file.why)),
+    }
+}
+
 /// The image that a file is.
 fn file_image<R: AllocGlobal + Files>(rt: &R, path: &str) -> Result<Image, Told<ImageFault>> {
     let alloc = rt.alloc();
@@ -78,7 +125,7 @@ fn file_image<R: AllocGlobal + Files>(rt: &R, path: &str) -> Result<Image, Told<
         Err(why) => {
             let below = unreadable(alloc, path, Some(why));
             let fault = ImageFault::Unreadable;
-            return Err(Told { fault, below });
+            return Err(Told::of(fault, below));
         }
     };
     match read_image(alloc, &mut file) {
@@ -89,7 +136,7 @@ fn file_image<R: AllocGlobal + Files>(rt: &R, path: &str) -> Result<Image, Told<
                 ImageFault::BadLength => bad_length(alloc, path, file.count),
                 ImageFault::Memory => String::new(alloc),
             };
-            Err(Told { fault, below })
+            Err(Told::of(fault, below))
         }
     }
 }
@@ -102,10 +149,10 @@ fn zero_image(alloc: Global, options: &Options<'_>) -> Result<Image, Told<ImageF
     match Image::zeroed(alloc, options.blocks) {
         Ok(image) => Ok(image),
         Err(ImageError::BadLength) => {
-            let blocks = options.zero_blocks();
+            let blocks = world_of(options).zero_blocks();
             let below = lines_or_none(alloc, format!(in alloc; "{blocks}\n"));
             let fault = ImageFault::BadLength;
-            Err(Told { fault, below })
+            Err(Told::of(fault, below))
         }
         Err(ImageError::Memory) => Err(Told::alone(alloc, ImageFault::Memory)),
     }
@@ -148,7 +195,7 @@ fn file_script<R: AllocGlobal + Files>(rt: &R, path: &str) -> Result<Vec<u8>, To
         Err(why) => {
             let below = unreadable(alloc, path, Some(why));
             let fault = RunFault::Unreadable;
-            return Err(Told { fault, below });
+            return Err(Told::of(fault, below));
         }
     };
     match first_bytes(alloc, &mut file) {
@@ -156,7 +203,7 @@ fn file_script<R: AllocGlobal + Files>(rt: &R, path: &str) -> Result<Vec<u8>, To
         Err(RunFault::Unreadable) => {
             let below = unreadable(alloc, path, file.why);
             let fault = RunFault::Unreadable;
-            Err(Told { fault, below })
+            Err(Told::of(fault, below))
         }
         Err(fault) => Err(Told::alone(alloc, fault)),
     }
@@ -190,6 +237,30 @@ pub(crate) fn script_text<R: AllocGlobal + Files, I: Read>(
             } else {
                 file_script(rt, path)
             }
+        }
+    }
+}
+
+/// The options of a run whose script this is: its first line's, and these where it says nothing of them.
+pub(crate) fn options_said<'a>(
+    alloc: Global,
+    options: Options<'a>,
+    text: &[u8],
+) -> Result<Options<'a>, Told<Fault>>
+    ensures unless { IfOk result (λ said. says_options text.now ≡ false → given_of said ≡ given_of options) }
+    ensures image { IfOk result (λ said. path_of said.image ≡ path_of options.image) }
+    ensures fault { IfErr result (λ told. told.fault ≡ Fault.BadOptions) }
+    ensures said { IfErr result (λ told. says_options text.now ≡ true) }
+{
+    match world_of(&options).said_in(text) {
+        Ok(said) => Ok(Options {
+            config: said.config,
+            blocks: said.blocks,
+            ..options
+        }),
+        Err(bad) => {
+            let below = below_options(alloc, text, bad);
+            Err(Told::of(Fault::BadOptions, below))
         }
     }
 }

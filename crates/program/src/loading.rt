@@ -47,10 +47,7 @@ fn save_stats<R: AllocGlobal + Files + Print>(
         Ok(()) => Ok(()),
         Err(why) => {
             let below = lines_or_none(alloc, not_written(alloc, path, &why));
-            Err(Told {
-                fault: Fault::NoStats,
-                below,
-            })
+            Err(Told::of(Fault::NoStats, below))
         }
     }
 }
@@ -70,10 +67,7 @@ fn not_loaded(alloc: Global, options: &Options<'_>, why: LoadFault) -> Told<Faul
     match why {
         LoadFault::Run(fault) => {
             let below = below_run(alloc, Grammar::Steps, &[], options, fault);
-            Told {
-                fault: Fault::Run(fault),
-                below,
-            }
+            Told::of(Fault::Run(fault), below)
         }
         why => Told::alone(alloc, Fault::Load(why)),
     }
@@ -110,8 +104,5 @@ pub(crate) fn load_image<
     if ran.tally.is_good() {
         return saved;
     }
-    Err(Told {
-        fault: Fault::Loaded(ran.tally),
-        below: first_bad(alloc, ran.bad),
-    })
+    Err(Told::of(Fault::Loaded(ran.tally), first_bad(alloc, ran.bad)))
 }

@@ -14,12 +14,16 @@ mod hand;
 mod help;
 mod lines;
 mod looks;
+mod meanings;
 mod moves;
 mod pages;
+mod record;
 mod script;
 mod serve;
 mod session;
+mod sink;
 
 pub use dot_word::{DOT_WORDS, DotWord};
+pub use meanings::{FAULTS, REASONS, REFUSALS, STATUSES, meanings_text};
 pub use script::trace_steps;
 pub use session::run_shell;

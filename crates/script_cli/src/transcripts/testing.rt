@@ -18,11 +18,16 @@ pub const MAX_TRANSCRIPT: usize = 16_777_216;
 pub enum Outcome {
     /// What is printed is what stands there.
     Agrees,
+    /// What is printed is what stands there, but over options that it does not say.
+    Unsaid {
+        /// The text, with the options.
+        updated: String,
+    },
     /// Something else is printed.
     Differs {
         /// The first difference.
         difference: Difference,
-        /// The text, with what was printed in place of what stands there.
+        /// The text, with what was printed in place of what stands there, and with the options.
         updated: String,
     },
     /// It is no transcript.
@@ -66,28 +71,59 @@ fn placed(difference: Difference, text: &str) -> Difference {
     }
 }
 
-/// Compares what each line printed with what stands there.
+/// The line that says options, if a transcript does not say them.
+fn options_line(
+    alloc: Global,
+    transcript: &Transcript,
+    options: Options,
+) -> Result<Option<String>, AllocError> {
+    if transcript.options() == options {
+        return Ok(None);
+    }
+    Ok(Some(options.line(alloc)?))
+}
+
+/// The first difference between what the lines printed and what stands there.
+fn first_of_all(
+    alloc: Global,
+    transcript: &Transcript,
+    printed: &[String],
+) -> Result<Option<Difference>, AllocError> {
+    for (told, came) in transcript.told().iter().zip(printed.iter()) {
+        let found = first_difference(alloc, told, came)?;
+        if found.is_some() {
+            return Ok(found);
+        }
+    }
+    Ok(None)
+}
+
+/// Compares what each line printed over these options with what stands there.
 fn compared(
     alloc: Global,
     text: &str,
     transcript: &Transcript,
+    options: Options,
     printed: &[String],
 ) -> Result<Outcome, AllocError> {
-    let told = transcript.told();
-    for (told, came) in told.iter().zip(printed.iter()) {
-        if let Some(difference) = first_difference(alloc, told, came)? {
-            let updated = updated_text(alloc, text, transcript.told(), printed)?;
-            return Ok(Outcome::Differs {
-                difference: placed(difference, text),
-                updated,
-            });
-        }
+    let line = options_line(alloc, transcript, options)?;
+    let difference = first_of_all(alloc, transcript, printed)?;
+    if difference.is_none() && line.is_none() {
+        return Ok(Outcome::Agrees);
     }
-    Ok(Outcome::Agrees)
+    let line = line.as_ref().map(|line| line.as_str());
+    let updated = updated_text(alloc, text, line, transcript.told(), printed)?;
+    Ok(match difference {
+        Some(difference) => Outcome::Differs {
+            difference: placed(difference, text),
+            updated,
+        },
+        None => Outcome::Unsaid { updated },
+    })
 }
 
 /// Plays the text of a transcript over a bench of its own, to its end, and compares what is printed with what stands there. An option that the
-/// transcript does not give is one of these.
+/// transcript does not say is one of these.
 ///
 /// # Errors
 ///
@@ -101,11 +137,12 @@ pub fn test_transcript(alloc: Global, bytes: &[u8], usual: Options) -> Result<Ou
         Ok(transcript) => transcript,
         Err(fault) => return Ok(Outcome::Fault(fault)),
     };
-    let mut bench = match OnBench::open(alloc, alloc, transcript.options_over(usual)) {
+    let options = transcript.options_over(usual);
+    let mut bench = match OnBench::open(alloc, alloc, options) {
         Ok(bench) => bench,
         Err(why) => return Ok(Outcome::NotOpened(why)),
     };
     let printed = printed(alloc, &mut bench, &transcript);
     bench.end();
-    compared(alloc, text, &transcript, &printed?)
+    compared(alloc, text, &transcript, options, &printed?)
 }

@@ -33,5 +33,5 @@ returns-clause-failed g c = (
 
 pub returns-in_err-text-clause-failed : goal.returns-in_err-text-clause-failed
 returns-in_err-text-clause-failed g c =
-    script_failed c.from_residual-in_err-text.result (λ told. told.fault) (g.I.Read.remaining c.args.reader.now) (given_of c.args.options) c.in_ok-image.image _ c.in_err-text.field-0.0.fault
-    c.from_residual-in_err-text.ensures.1 c.in_ok-image.ensures.image c.in_err-text.ensures.fault
+    script_failed c.from_residual-in_err-text.result (λ told. told.fault) (g.I.Read.remaining c.args.reader.now) (given_of c.args.options) _ c.in_err-text.field-0.0.fault
+    c.from_residual-in_err-text.ensures.1 c.in_err-text.ensures.fault

@@ -5,8 +5,8 @@ use Rattle.program.proofs.commands.run_threads.Goals as goal
 
 pub returns-in_err-text-clause-failed : goal.returns-in_err-text-clause-failed
 returns-in_err-text-clause-failed g c =
-    script_failed_jobs c.from_residual-in_err-text.result (λ told. told.fault) (g.I.Read.remaining c.args.reader.now) (given_of c.args.options) c.args.threading c.args.serving c.in_ok-image.image _ c.in_err-text.field-0.0.fault
-    c.from_residual-in_err-text.ensures.1 c.in_ok-image.ensures.image c.in_err-text.ensures.fault
+    script_failed_jobs c.from_residual-in_err-text.result (λ told. told.fault) (g.I.Read.remaining c.args.reader.now) (given_of c.args.options) c.args.threading c.args.serving _ c.in_err-text.field-0.0.fault
+    c.from_residual-in_err-text.ensures.1 c.in_err-text.ensures.fault
 
 pub returns-in-Ok-clause-ran : goal.returns-in-Ok-clause-ran
 returns-in-Ok-clause-ran g c = (

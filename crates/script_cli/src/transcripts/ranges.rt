@@ -1,7 +1,7 @@
 //! Which options lie outside of their ranges.
 
-use crate::arguments::Options;
-use crate::commands::{BLOCKS, ENTRIES, Number, PAGES, QUEUES, SEGMENT};
+use crate::transcripts::options::Options;
+use std::alloc::{AllocError, Global};
 use std::fmt;
 
 /// A number that was given, and the range that it may lie in.
@@ -19,10 +19,9 @@ pub struct Ranged {
 
 impl Ranged {
     /// A number that was given for an option.
-    fn of(number: &Number, value: u32) -> Ranged {
-        let (least, most) = number.range;
+    fn of(name: &'static str, value: u32, least: u32, most: u32) -> Ranged {
         Ranged {
-            name: number.name(),
+            name,
             value,
             least,
             most,
@@ -47,19 +46,35 @@ impl fmt::Display for Ranged {
     }
 }
 
-impl Options<'_> {
+impl Options {
     /// The numbers that a world is opened with.
     pub fn sizes(&self) -> [Ranged; 4] {
+        let config = self.config;
         [
-            Ranged::of(&PAGES, self.config.pages),
-            Ranged::of(&QUEUES, self.config.queues),
-            Ranged::of(&ENTRIES, self.config.entries),
-            Ranged::of(&SEGMENT, self.config.segment),
+            Ranged::of("pages", config.pages, 8, 65_536),
+            Ranged::of("queues", config.queues, 1, 64),
+            Ranged::of("entries", config.entries, 2, 1_024),
+            Ranged::of("segment", config.segment, 2, 256),
         ]
     }
 
     /// How many blocks an image of zeros has.
     pub fn zero_blocks(&self) -> Ranged {
-        Ranged::of(&BLOCKS, self.blocks)
+        Ranged::of("blocks", self.blocks, 1, 65_536)
     }
+}
+
+/// A line for each number that lies outside of its range.
+///
+/// # Errors
+///
+/// Where memory is refused.
+pub fn out_of_range(alloc: Global, numbers: &[Ranged]) -> Result<String, AllocError> {
+    let mut text = String::new(alloc);
+    for number in numbers {
+        if !number.is_good() {
+            write!(text, "{number}\n")?;
+        }
+    }
+    Ok(text)
 }
