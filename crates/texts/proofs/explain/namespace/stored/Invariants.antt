@@ -1,5 +1,4 @@
 use Rattle.std.proofs.Common.{◌≡◌, ◌*◌, length}
-use Rattle.io_commands.specs.Jobs.{first_block}
 use Rattle.texts.specs.Stored.{blocks_from}
 use Rattle.texts.proofs.explain.namespace.stored.Given as goal
 
