@@ -84,7 +84,7 @@ pub(crate) enum Unread {
 }
 
 /// Why a read gave no bytes, with the system's reason, if there is one.
-fn unread(fault: ReadFault, why: Option<io::Error>) -> Unread {
+fn why_unread(fault: ReadFault, why: Option<io::Error>) -> Unread {
     match fault {
         ReadFault::Memory => Unread::Memory,
         ReadFault::Unreadable => match why {
@@ -104,7 +104,7 @@ pub(crate) fn transcript_bytes<R: AllocGlobal + Files, I: Read>(
     if path == STANDARD {
         return match read_first(alloc, reader, MAX_TRANSCRIPT) {
             Ok(bytes) => Ok(bytes),
-            Err(fault) => Err(unread(fault, None)),
+            Err(fault) => Err(why_unread(fault, None)),
         };
     }
     let mut file = match File::open(rt, path) {
@@ -113,7 +113,7 @@ pub(crate) fn transcript_bytes<R: AllocGlobal + Files, I: Read>(
     };
     match read_first(alloc, &mut file, MAX_TRANSCRIPT) {
         Ok(bytes) => Ok(bytes),
-        Err(fault) => Err(unread(fault, file.why)),
+        Err(fault) => Err(why_unread(fault, file.why)),
     }
 }
 

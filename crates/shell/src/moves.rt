@@ -89,7 +89,7 @@ impl Hand<'_> {
                 let most = u64::from(blocks) * u64::from(BLOCK);
                 write!(
                     self.out,
-                    "{count} bytes came, and {blocks} blocks have {most}\n"
+                    "{count} bytes came, and the command moves {most}\n"
                 )?;
             }
             Reply::NotFilled(why) => write!(self.out, "{why}\n")?,

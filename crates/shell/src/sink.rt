@@ -8,6 +8,7 @@ use std::io::Write;
 use std::rt::Files;
 
 /// A writer, and the path of the file that takes what is answered in its place, if there is one.
+#[derive(Drop)]
 pub(crate) struct Sink<'a, W> {
     writer: &'a mut W,
     path: Option<String>,

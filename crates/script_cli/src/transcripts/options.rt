@@ -142,8 +142,19 @@ fn path_of(word: &str) -> Option<&str> {
     }
 }
 
+/// An image that is named.
+#[derive(Clone, Copy)]
+struct ImageWord<'a> {
+    /// The path of its file.
+    path: &'a str,
+    /// The word.
+    word: &'a str,
+    /// How many words stand before it.
+    before: usize,
+}
+
 /// Whether nothing was said before.
-fn once(before: Option<(usize, &str)>) -> Result<(), WhyBad> {
+fn once(before: Option<ImageWord<'_>>) -> Result<(), WhyBad> {
     match before {
         None => Ok(()),
         Some(_) => Err(WhyBad::Twice),
@@ -177,8 +188,8 @@ impl Given {
         }
     }
 
-    /// The options that words give, and the path of an image with how many words stand before it.
-    fn read(text: &str) -> Result<(Given, Option<(usize, &str)>), BadOption<'_>> {
+    /// The options that words give, and an image.
+    fn read(text: &str) -> Result<(Given, Option<ImageWord<'_>>), BadOption<'_>> {
         let mut given = Given::default();
         let mut image = None;
         let mut before = 0usize;
@@ -190,7 +201,7 @@ impl Given {
                 (words.next(), 2)
             };
             let taken = match path_of(word) {
-                Some(path) => once(image.replace((before, path))),
+                Some(path) => once(image.replace(ImageWord { path, word, before })),
                 None => {
                     let (name, number) = named(word, next);
                     given.take(name, number)
@@ -211,7 +222,7 @@ impl Given {
     /// The first word that gives none.
     pub fn of_words(text: &str) -> Result<(Given, Option<&str>), BadOption<'_>> {
         match Given::read(text) {
-            Ok((given, Some((_, path)))) => Ok((given, Some(path))),
+            Ok((given, Some(image))) => Ok((given, Some(image.path))),
             Ok((given, None)) => Ok((given, None)),
             Err(bad) => Err(bad),
         }
@@ -231,9 +242,9 @@ impl Given {
         };
         match Given::read(words) {
             Ok((given, None)) => Ok(given),
-            Ok((_, Some((before, path)))) => Err(BadOption {
-                word: path,
-                before,
+            Ok((_, Some(image))) => Err(BadOption {
+                word: image.word,
+                before: image.before,
                 why: WhyBad::Image,
             }),
             Err(bad) => Err(bad),
