@@ -1,10 +1,10 @@
 -- What words ask for, by what a parse finds of them.
 use Rattle.std.proofs.Common.{◌≡◌, ◌∙◌, ◌||◌, ap, ap₂, Bool, true, false, refl, ◌&&◌, ◌<◌, ◌^◌, ℕ, List, [], ◌∷◌, Option, Some, None, sym, ◌⊎◌, ◌≤◌, subst, inl, inr, codes}
 use Rattle.std.{proofs.lemmas.{Bool.{ltb-true, lt-ltb, le-leb}, Slice.Eq.bytes_eq-Decides}, specs.{Box.box_value, Char.digit_value, List.list_all}}
-use Rattle.std.specs.{Prelude.{Result, Ok, Err, nat_lt, option_and_then, if◌then◌else◌, IfErr, IsErrAnd, option_map}, Str.bytes_eq}
+use Rattle.std.specs.{Prelude.{Result, Ok, Err, nat_lt, option_and_then, if◌then◌else◌, IfErr, IfOk, IsErrAnd, IsOkAnd, option_map}, Str.bytes_eq}
 use Rattle.std.specs.Str.Parse.{AllDigits, IsNumeral, ParsesUnsigned, digits_value, without_leading_plus}
 use Rattle.clap.{proofs.{OnLiterals.clap_on_literals, WalkLemmas.both}, specs.ValueTests.is_numeral}
-use Rattle.clap.specs.Words.{AddsArg, App, Rule, app_of, rule_of, with_rule, ReadsOne, Text, HasKind, HasMatchesOf, IsAmong, Kinds, Row, fault_of, found_of, is_simple, is_simple_and_free, kind_of, rows_of, subcommand_name_of, subcommand_of, subcommand_rows_of, first_of}
+use Rattle.clap.specs.Words.{AddsArg, AddsSubcommand, App, Rule, app_of, rule_of, with_rule, with_subcommand, ReadsOne, Text, HasKind, HasMatchesOf, IsAmong, Kinds, Row, fault_of, found_of, is_simple, is_simple_and_free, kind_of, rows_of, subcommand_name_of, subcommand_of, subcommand_rows_of, first_of}
 use Rattle.clap.specs.declared.{builder.{arg.Arg.Arg, command.Command.{Command, TheViews.out-Command}}, error.{Error.Error, kind.ErrorKind.ErrorKind}}
 use Rattle.clap.specs.declared.{error.kind.ErrorKind.TheVariants.OutOfMemory, parser.matches.ArgMatches.{ArgMatches, TheViews.{out-ArgMatches, out-SubCommand}}}
 use Rattle.command_line.specs.Asked.{number, Asked, are_submitters, asked, asked_by, if_submitters, unless_at_fault, Given, amount_under, are_load_numbers, blocks_in, count_in, depth_in, given_in, has_flag, load, load_by, loaded_in, log_limit_in, number_under, numjobs_in, pattern_in, serving_in}
@@ -27,6 +27,13 @@ or_false false = refl
 pub added_local : (old : Command) (a : Arg) (new : Command) (b : Bool) → AddsArg old a new
     → a.global ≡ false → (out-Command old).has_globals ≡ b → (out-Command new).has_globals ≡ b
 added_local old a new b adds local is = adds.globals ∙ (ap (λ (g : Bool). (out-Command old).has_globals || g) local ∙ (or_false _ ∙ is))
+
+-- what adding a command made, where that command was made, by what a parse reads of both
+pub added_command : {E : Type 0} (made : Result Command E) (old new : Command) (x y : App) → IfOk made (λ command. app_of command ≡ y)
+    → IfOk made (λ command. (out-Command command).has_globals ≡ false) → IsOkAnd made (λ command. AddsSubcommand old command new) → app_of old ≡ x
+    → app_of new ≡ with_subcommand x y.top
+added_command (Ok command) old new x y shape local adds is = adds.shape local ∙ ap₂ with_subcommand is (ap (λ (a : App). a.top) shape)
+added_command (Err e) old new x y shape local adds is = absurd adds
 
 -- The number that a text is read as.
 
@@ -128,19 +135,13 @@ first_of_both name_in rows_in None = refl
 first_of_both name_in rows_in (Some b) = refl
 
 -- the name and the rows of the subcommand, from both alone
-named_rows : (m : ArgMatches) (name : Text) (rows : List Row) → subcommand_name_of m ≡ Some name
+pub named_rows : (m : ArgMatches) (name : Text) (rows : List Row) → subcommand_name_of m ≡ Some name
     → option_map (λ p. p.1) (subcommand_rows_of m) ≡ Some rows → subcommand_rows_of m ≡ Some (name, rows)
 named_rows m name rows named found =
     both_of (λ b. (out-SubCommand (box_value b)).name.now) (λ b. rows_of (found_of (out-SubCommand (box_value b)).matches))
     (out-ArgMatches m).subcommand name rows named found
 
--- and so what the words ask for
-pub named_asks : (a : App) (words : List Text) (m : ArgMatches) (name : Text) (rows : List Row) → a ≡ nvmesgl
-    → (is_simple_and_free a ≡ true → fault_of a words ≡ []) → HasMatchesOf a words m → subcommand_name_of m ≡ Some name
-    → option_map (λ p. p.1) (subcommand_rows_of m) ≡ Some rows → asked words ≡ asked_by (Some (name, rows))
-named_asks a words m name rows is kinds matches named found = parsed_asks a words m is kinds matches ∙ ap asked_by (named_rows m name rows named found)
-
-pub name_of_rows : (m : ArgMatches) → subcommand_name_of m ≡ option_map (λ p. p.0) (subcommand_rows_of m)
+name_of_rows : (m : ArgMatches) → subcommand_name_of m ≡ option_map (λ p. p.0) (subcommand_rows_of m)
 name_of_rows m =
     first_of_both (λ b. (out-SubCommand (box_value b)).name.now) (λ b. rows_of (found_of (out-SubCommand (box_value b)).matches))
     (out-ArgMatches m).subcommand
@@ -151,11 +152,9 @@ no_value f (Some a) e =
     let bad : Some (f a) ≡ None = e in
     cc
 
--- without a name nothing is asked for
-pub unnamed_asks : (a : App) (words : List Text) (m : ArgMatches) → a ≡ nvmesgl → (is_simple_and_free a ≡ true → fault_of a words ≡ [])
-    → HasMatchesOf a words m → subcommand_name_of m ≡ None → asked words ≡ None
-unnamed_asks a words m is kinds matches none =
-    parsed_asks a words m is kinds matches ∙ ap asked_by (no_value (λ p. p.0) (subcommand_rows_of m) (sym (name_of_rows m) ∙ none))
+-- without a name there are no rows
+pub unnamed_rows : (m : ArgMatches) → subcommand_name_of m ≡ None → subcommand_rows_of m ≡ None
+unnamed_rows m none = no_value (λ p. p.0) (subcommand_rows_of m) (sym (name_of_rows m) ∙ none)
 
 -- What `load` asks for, by what was read of its words.
 

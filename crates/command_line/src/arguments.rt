@@ -1,18 +1,18 @@
 //! What the words of a command line ask for.
 
 ghost use Rattle.std.specs.Prelude.{◌≡◌, ◌≤◌, ◌⊎◌, Some, None, IfOk, IfErr, IfSome, IsNone, map, codes, false, true, length};
-ghost use Rattle.clap.specs.Words.{found_of, kind_of, rows_of};
-ghost use Rattle.command_line.specs.Asked.{asked, asked_of, asked_of_name, check_by, given_in, given_of, FitsLine, all_under, amount_under, are_submitters, has_flag, has_jobs, has_trace, if_submitters, path_of, script_in, steps_by, submitters_in, tested_in, tested_of, threads};
+ghost use Rattle.clap.specs.Words.{found_of, kind_of, rows_of, subcommand_rows_of};
+ghost use Rattle.command_line.specs.Asked.{asked, asked_by, asked_of, asked_of_name, check_by, given_in, given_of, FitsLine, all_under, amount_under, are_submitters, has_flag, has_jobs, has_trace, if_submitters, path_of, script_in, steps_by, submitters_in, tested_in, tested_of, threads};
 ghost use Rattle.clap.specs.declared.error.kind.ErrorKind.TheVariants.{OutOfMemory};
 
 use crate::commands::{
-    BLOCKS, ENTRIES, Number, PAGES, QUEUES, SEGMENT, SUBMITTERS, check_command, command,
+    BLOCKS, ENTRIES, Number, PAGES, QUEUES, SEGMENT, SUBMITTERS, check_command, command, told,
 };
 use crate::load::load_line;
 use crate::serving::Serving;
 use crate::threads::{Threading, threads_line};
 use clap::error::ErrorKind;
-use clap::{ArgMatches, Command, Error};
+use clap::{ArgMatches, Error};
 use host_core::Config;
 use script_cli::workload::Load;
 use std::alloc::{AllocError, AllocGlobal, Global};
@@ -44,7 +44,7 @@ pub struct Options<'a> {
 }
 
 /// What transcripts are tested with.
-#[derive(Debug, Drop, PartialEq, Eq)]
+#[derive(Drop)]
 pub struct Testing<'a> {
     /// What a world is opened with, where a transcript does not say otherwise.
     pub config: Config,
@@ -57,7 +57,7 @@ pub struct Testing<'a> {
 }
 
 /// What a command line asks for.
-#[derive(Debug, Drop, PartialEq, Eq)]
+#[derive(Drop)]
 pub enum CommandLine<'a> {
     /// To play a script of steps.
     Steps(Options<'a>),
@@ -194,20 +194,24 @@ fn submitters(given: &ArgMatches<'_>) -> Option<u16>
     }
 }
 
-/// Says of a command that the number of an option lies outside of its range.
+/// What is said where the number of an option lies outside of its range.
 pub(crate) fn out_of_range(
     alloc: Global,
     number: &Number,
     value: u32,
-    command: Command<'_>,
-) -> Result<Error, AllocError> {
+) -> Result<String, AllocError> {
     let name = number.name();
     let (least, most) = number.range;
-    let text = format!(in alloc;
+    format!(in alloc;
         "invalid value '{value}' for '--{name} <N>': {value} is not in {least}..={most}"
-    )?;
-    let mut command = command;
-    command.error(ErrorKind::ValueValidation, text.as_str())
+    )
+}
+
+/// Says of `check` that there are too few submitters, or too many.
+fn unfit_submitters(alloc: Global, given: &ArgMatches<'_>) -> Result<Error, AllocError> {
+    let text = out_of_range(alloc, &SUBMITTERS, SUBMITTERS.value(given))?;
+    let command = check_command(alloc)?.bin_name("nvmesgl check")?;
+    told(command, ErrorKind::ValueValidation, text.as_str())
 }
 
 /// What `check` with these words asks for.
@@ -222,11 +226,18 @@ fn check_line<'a>(alloc: Global, given: &ArgMatches<'a>) -> Result<CommandLine<'
     }
     match submitters(given) {
         Some(n) => Ok(CommandLine::CheckJobs(path, n)),
-        None => {
-            let command = check_command(alloc)?.bin_name("nvmesgl check")?;
-            Err(out_of_range(alloc, &SUBMITTERS, SUBMITTERS.value(given), command)?)
-        }
+        None => Err(unfit_submitters(alloc, given)?),
     }
+}
+
+/// Says of the program what is wrong with its words.
+fn fault(alloc: Global, kind: ErrorKind, text: &str) -> Result<Error, AllocError> {
+    told(command(alloc)?, kind, text)
+}
+
+/// Says that no command is named.
+fn no_command(alloc: Global) -> Result<Error, AllocError> {
+    fault(alloc, ErrorKind::MissingSubcommand, NO_COMMAND)
 }
 
 /// What a command with these words asks for.
@@ -265,7 +276,19 @@ fn line_of<'a>(alloc: Global, name: &str, given: &ArgMatches<'a>) -> Result<Comm
     if name == "grammar" {
         return Ok(CommandLine::Grammar);
     }
-    Err(command(alloc)?.error(ErrorKind::MissingSubcommand, NO_COMMAND)?)
+    Err(no_command(alloc)?)
+}
+
+/// What was found of words asks for.
+fn line_found<'a>(alloc: Global, matches: &ArgMatches<'a>) -> Result<CommandLine<'a>, Error>
+    ensures asked { IfOk result (λ line. asked_by (subcommand_rows_of matches.now) ≡ Some (asked_of line)) }
+    ensures fits { IfOk result FitsLine }
+    ensures refused { IfErr result (λ e. (kind_of e ≡ OutOfMemory) ⊎ (asked_by (subcommand_rows_of matches.now) ≡ None)) }
+{
+    match matches.subcommand() {
+        Some((name, given)) => line_of(alloc, name, given),
+        None => Err(no_command(alloc)?),
+    }
 }
 
 impl<'a> CommandLine<'a> {
@@ -281,10 +304,7 @@ impl<'a> CommandLine<'a> {
         ensures refused { IfErr result (λ e. (kind_of e ≡ OutOfMemory) ⊎ (asked (map S.text words.now) ≡ None)) }
     {
         let matches = command(alloc)?.try_get_matches_from(words)?;
-        match matches.subcommand() {
-            Some((name, given)) => line_of(alloc, name, given),
-            None => Err(command(alloc)?.error(ErrorKind::MissingSubcommand, NO_COMMAND)?),
-        }
+        line_found(alloc, &matches)
     }
 }
 
@@ -298,7 +318,7 @@ pub fn words<R: Env + AllocGlobal>(rt: &R) -> Result<Vec<String>, Error> {
     match std::env::args(rt) {
         Ok(words) => Ok(words.collect(alloc)?),
         Err(why) if why.kind() == io::ErrorKind::InvalidData => {
-            Err(command(alloc)?.error(ErrorKind::InvalidValue, NOT_TEXT)?)
+            Err(fault(alloc, ErrorKind::InvalidValue, NOT_TEXT)?)
         }
         Err(_) => Err(Error::from(AllocError)),
     }

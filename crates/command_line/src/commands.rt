@@ -1,7 +1,7 @@
 //! The commands and their options.
 
-ghost use Rattle.std.specs.Prelude.{◌≡◌, IfOk, false, codes};
-ghost use Rattle.clap.specs.Words.{app_of, found_of, rows_of, rule_of};
+ghost use Rattle.std.specs.Prelude.{◌≡◌, IfOk, IsOkAnd, false, codes};
+ghost use Rattle.clap.specs.Words.{AddsSubcommand, app_of, found_of, rows_of, rule_of};
 ghost use Rattle.clap.specs.declared.builder.command.Command.TheViews.{out-Command};
 ghost use Rattle.command_line.specs.Commands.{check, draw, explain, flag_rule, grammar, number_rule, named, nvmesgl, option_rule, optional_number_rule, running, shell, show, steps, test, threads, with_options, with_sizes, with_threading, word_rule, words_rule};
 ghost use Rattle.command_line.specs.Asked.{number_under};
@@ -13,7 +13,8 @@ use crate::help::{
 };
 use crate::load_options::load_command;
 use crate::serving::serve_arg;
-use clap::{Arg, ArgAction, ArgMatches, Command, value_parser};
+use clap::error::ErrorKind;
+use clap::{Arg, ArgAction, ArgMatches, Command, Error, value_parser};
 use std::alloc::{AllocError, Global};
 
 /// What `nvmesgl --version` says behind the program's name.
@@ -412,35 +413,41 @@ fn program<'a>(alloc: Global) -> Result<Command<'a>, AllocError>
     )
 }
 
+/// A command with one more below it, if that was made.
+fn with_command<'a>(
+    whole: Command<'a>,
+    added: Result<Command<'a>, AllocError>,
+) -> Result<Command<'a>, AllocError>
+    ensures { IfOk result (λ new. IsOkAnd added.entry (λ command. AddsSubcommand whole.entry command new)) }
+{
+    let added = added?;
+    whole.subcommand(added)
+}
+
 /// The program with the commands that play a script or a load.
 fn running<'a>(alloc: Global) -> Result<Command<'a>, AllocError>
     ensures { IfOk result (λ command. app_of command ≡ running) }
 {
-    let steps = steps_command(alloc)?;
-    let threads = threads_command(alloc)?;
-    let load = load_command(alloc)?;
-    program(alloc)?
-        .subcommand(steps)?
-        .subcommand(threads)?
-        .subcommand(load)
+    let whole = with_command(program(alloc)?, steps_command(alloc))?;
+    let whole = with_command(whole, threads_command(alloc))?;
+    with_command(whole, load_command(alloc))
 }
 
 /// The commands and their options.
 pub(crate) fn command<'a>(alloc: Global) -> Result<Command<'a>, AllocError>
     ensures { IfOk result (λ command. app_of command ≡ nvmesgl) }
 {
-    let check = check_command(alloc)?;
-    let test = test_command(alloc)?;
-    let shell = shell_command(alloc)?;
-    let draw = draw_command(alloc)?;
-    let explain = explain_command(alloc)?;
-    let show = show_command(alloc)?;
-    running(alloc)?
-        .subcommand(check)?
-        .subcommand(test)?
-        .subcommand(shell)?
-        .subcommand(draw)?
-        .subcommand(explain)?
-        .subcommand(show)?
-        .subcommand(grammar_command(alloc))
+    let whole = with_command(running(alloc)?, check_command(alloc))?;
+    let whole = with_command(whole, test_command(alloc))?;
+    let whole = with_command(whole, shell_command(alloc))?;
+    let whole = with_command(whole, draw_command(alloc))?;
+    let whole = with_command(whole, explain_command(alloc))?;
+    let whole = with_command(whole, show_command(alloc))?;
+    whole.subcommand(grammar_command(alloc))
+}
+
+/// Says of a command what is wrong with its words.
+pub(crate) fn told(command: Command<'_>, kind: ErrorKind, text: &str) -> Result<Error, AllocError> {
+    let mut command = command;
+    command.error(kind, text)
 }

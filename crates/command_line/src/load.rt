@@ -6,7 +6,7 @@ ghost use Rattle.clap.specs.declared.error.kind.ErrorKind.TheVariants.{OutOfMemo
 ghost use Rattle.command_line.specs.Asked.{are_load_numbers, asked_of, count_in, FitsLine, load_by, pattern_in};
 
 use crate::arguments::{CommandLine, Options, amount, flag, out_of_range};
-use crate::commands::{LOG_LIMIT, Number};
+use crate::commands::{LOG_LIMIT, Number, told};
 use crate::load_options::{COMMAND_BLOCKS, DEPTH, SEED, SUBMITTERS, USUAL_COUNT, load_command};
 use crate::serving::{nobody, who_serves};
 use clap::error::ErrorKind;
@@ -59,14 +59,30 @@ fn pattern_of(given: &ArgMatches<'_>) -> Option<Pattern>
     }
 }
 
+/// Says of `load` what is wrong with its words.
+fn fault(alloc: Global, kind: ErrorKind, text: &str) -> Result<Error, AllocError> {
+    told(load_command(alloc)?.bin_name("nvmesgl load")?, kind, text)
+}
+
+/// Says that a number lies outside of its range.
+fn unfit(alloc: Global, number: &Number, value: u32) -> Result<Error, AllocError> {
+    let text = out_of_range(alloc, number, value)?;
+    fault(alloc, ErrorKind::ValueValidation, text.as_str())
+}
+
+/// Says that nobody has the word that was given for who serves.
+fn unserved(alloc: Global, given: &ArgMatches<'_>) -> Result<Error, AllocError> {
+    let text = nobody(alloc, given)?;
+    fault(alloc, ErrorKind::InvalidValue, text.as_str())
+}
+
 /// Says that no pattern has the name that was given.
 fn no_pattern(alloc: Global, given: &ArgMatches<'_>) -> Result<Error, AllocError> {
     let name = given.get_str("rw").unwrap_or("");
     let text = format!(in alloc;
         "invalid value '{name}' for '--rw <PATTERN>'\n  [possible values: read, write, randread, randwrite, randrw]"
     )?;
-    let mut command = load_command(alloc)?.bin_name("nvmesgl load")?;
-    command.error(ErrorKind::InvalidValue, text.as_str())
+    fault(alloc, ErrorKind::InvalidValue, text.as_str())
 }
 
 /// What `load` with these words asks for.
@@ -80,15 +96,13 @@ pub(crate) fn load_line<'a>(alloc: Global, given: &ArgMatches<'a>) -> Result<Com
     let depth = DEPTH.value(given);
     let log_limit = amount(given, "log-limit");
     if let Some((number, value)) = first_unfit(blocks, submitters, depth, log_limit) {
-        let command = load_command(alloc)?.bin_name("nvmesgl load")?;
-        return Err(out_of_range(alloc, &number, value, command)?);
+        return Err(unfit(alloc, &number, value)?);
     }
     let Some(pattern) = pattern_of(given) else {
         return Err(no_pattern(alloc, given)?);
     };
     let Some(serving) = who_serves(given) else {
-        let command = load_command(alloc)?.bin_name("nvmesgl load")?;
-        return Err(nobody(alloc, given, command)?);
+        return Err(unserved(alloc, given)?);
     };
     let load = Load {
         pattern,

@@ -5,8 +5,7 @@ ghost use Rattle.clap.specs.Words.{found_of, rows_of, rule_of};
 ghost use Rattle.command_line.specs.Asked.{serving_in, serving_named};
 ghost use Rattle.command_line.specs.Commands.{text_rule};
 
-use clap::error::ErrorKind;
-use clap::{Arg, ArgMatches, Command, Error};
+use clap::{Arg, ArgMatches};
 use std::alloc::{AllocError, Global};
 
 /// Who is asked to serve while threads run.
@@ -55,16 +54,10 @@ pub(crate) fn who_serves(given: &ArgMatches<'_>) -> Option<Serving>
     }
 }
 
-/// Says of a command that nobody has the word that was given.
-pub(crate) fn nobody(
-    alloc: Global,
-    given: &ArgMatches<'_>,
-    command: Command<'_>,
-) -> Result<Error, AllocError> {
+/// What is said where nobody has the word that was given.
+pub(crate) fn nobody(alloc: Global, given: &ArgMatches<'_>) -> Result<String, AllocError> {
     let name = given.get_str("serve").unwrap_or("");
-    let text = format!(in alloc;
+    format!(in alloc;
         "invalid value '{name}' for '--serve <WHO>'\n  [possible values: ringer, controller]"
-    )?;
-    let mut command = command;
-    command.error(ErrorKind::InvalidValue, text.as_str())
+    )
 }

@@ -6,10 +6,11 @@ ghost use Rattle.clap.specs.declared.error.kind.ErrorKind.TheVariants.{OutOfMemo
 ghost use Rattle.command_line.specs.Asked.{asked_of, FitsLine, is_threading, threads_by};
 
 use crate::arguments::{CommandLine, Options, amount, out_of_range};
-use crate::commands::{DEPTH, LOG_LIMIT, Number, SUBMITTERS, threads_command};
+use crate::commands::{DEPTH, LOG_LIMIT, Number, SUBMITTERS, threads_command, told};
 use crate::serving::{nobody, who_serves};
+use clap::error::ErrorKind;
 use clap::{ArgMatches, Error};
-use std::alloc::Global;
+use std::alloc::{AllocError, Global};
 
 /// How jobs are run.
 #[derive(Clone, Copy, Debug, PartialEq, Eq)]
@@ -39,6 +40,27 @@ fn first_unfit(submitters: u32, depth: u32, log_limit: Option<u32>) -> Option<(N
     }
 }
 
+/// Says of `threads` what is wrong with its words.
+fn fault(alloc: Global, kind: ErrorKind, text: &str) -> Result<Error, AllocError> {
+    told(
+        threads_command(alloc)?.bin_name("nvmesgl threads")?,
+        kind,
+        text,
+    )
+}
+
+/// Says that a number lies outside of its range.
+fn unfit(alloc: Global, number: &Number, value: u32) -> Result<Error, AllocError> {
+    let text = out_of_range(alloc, number, value)?;
+    fault(alloc, ErrorKind::ValueValidation, text.as_str())
+}
+
+/// Says that nobody has the word that was given for who serves.
+fn unserved(alloc: Global, given: &ArgMatches<'_>) -> Result<Error, AllocError> {
+    let text = nobody(alloc, given)?;
+    fault(alloc, ErrorKind::InvalidValue, text.as_str())
+}
+
 /// What `threads` with these words asks for.
 pub(crate) fn threads_line<'a>(
     alloc: Global,
@@ -52,12 +74,10 @@ pub(crate) fn threads_line<'a>(
     let depth = DEPTH.value(given);
     let log_limit = amount(given, "log-limit");
     if let Some((number, value)) = first_unfit(submitters, depth, log_limit) {
-        let command = threads_command(alloc)?.bin_name("nvmesgl threads")?;
-        return Err(out_of_range(alloc, &number, value, command)?);
+        return Err(unfit(alloc, &number, value)?);
     }
     let Some(serving) = who_serves(given) else {
-        let command = threads_command(alloc)?.bin_name("nvmesgl threads")?;
-        return Err(nobody(alloc, given, command)?);
+        return Err(unserved(alloc, given)?);
     };
     let threading = Threading {
         submitters: submitters as u16,
