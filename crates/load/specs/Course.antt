@@ -1,6 +1,6 @@
 -- From round to round.
 use Rattle.std.specs.Int.{div_ceil}
-use Rattle.std.specs.Prelude.{◌≡◌, ℕ, ◌+◌, ◌-◌, ◌*◌, ◌/◌, ◌%◌, ◌^◌, ◌<◌, Option, Some, None, List, length, map, max, nat_lt, slice_index_or, if◌then◌else◌}
+use Rattle.std.specs.Prelude.{◌≡◌, ℕ, ◌+◌, ◌-◌, ◌*◌, ◌/◌, ◌%◌, ◌^◌, ◌<◌, Option, Some, None, List, length, map, max, min, nat_lt, slice_index_or, if◌then◌else◌}
 use Rattle.load.specs.{Planning.{IsPlanOf, job_for}, declared.{layout.Layout.Layout, plan.Planned.Planned}}
 use Rattle.script_cli.specs.declared.workload.Load.{Load}
 use Rattle.driver_threads.specs.Values.{Job}
@@ -27,10 +27,10 @@ pub record AreJobs (layout : Layout) (seed queues : ℕ) (plans : List (List Pla
 abbrev pub entries_for : ℕ → ℕ
 entries_for blocks = 8 + 3 * div_ceil blocks 8
 
--- the most commands of a round: so many that its log has no more entries, one at least; 800 where no log is limited
-abbrev pub commands_for : ℕ → Option ℕ → ℕ
-commands_for blocks None = 800
-commands_for blocks (Some entries) = max (entries / entries_for blocks) 1
+-- The most commands of a round: so many that its log has no more entries, one at least. Where no log is limited, 800 of each submitter, and of 204,800 blocks in all
+abbrev pub commands_for : ℕ → ℕ → Option ℕ → ℕ
+commands_for blocks submitters None = min (204800 / blocks) (800 * submitters)
+commands_for blocks submitters (Some entries) = max (entries / entries_for blocks) 1
 
 -- how many commands may be begun after so many: as many as there are numbers of 64 bits where their number does not bound them
 abbrev pub by_count : Option ℕ → ℕ → ℕ

@@ -20,8 +20,11 @@ use io_commands::Kind;
 use script_cli::workload::Load;
 use std::alloc::{AllocError, Global};
 
-/// The most commands of a round whose log is not limited: so many leave a log of some thousand entries.
-const USUAL_ROUND: u64 = 800;
+/// The most commands of a submitter in a round whose log is not limited: so many that it hardly counts that each round starts its threads.
+const USUAL_SHARE: u64 = 800;
+
+/// The most blocks that the commands of such a round read or write in all: 100 MiB.
+const MOST_BLOCKS: u64 = 204_800;
 
 /// What goes on from round to round, beside the world.
 #[derive(Drop)]
@@ -49,12 +52,14 @@ pub(crate) struct Course {
 }
 
 /// The most commands of a round, each of so many blocks: so many that its log has no more entries than it may have, and one at least.
-fn commands_for(command_blocks: u32, log_limit: Option<u32>) -> u64
-    requires { command_blocks ≤ 256 }
-    ensures { result ≡ spec_commands_for command_blocks log_limit }
+fn commands_for(command_blocks: u32, submitters: u16, log_limit: Option<u32>) -> u64
+    requires some { 1 ≤ command_blocks }
+    requires few { command_blocks ≤ 256 }
+    ensures { result ≡ spec_commands_for command_blocks submitters log_limit }
 {
     let Some(entries) = log_limit else {
-        return USUAL_ROUND;
+        let most = MOST_BLOCKS / u64::from(command_blocks);
+        return most.min(USUAL_SHARE * u64::from(submitters));
     };
     let pages = u64::from(command_blocks).div_ceil(8);
     (u64::from(entries) / (8 + 3 * pages)).max(1)
@@ -97,7 +102,7 @@ impl Course {
             seed: load.seed,
             queues,
             server,
-            round: commands_for(load.command_blocks, load.log_limit),
+            round: commands_for(load.command_blocks, layout.submitters, load.log_limit),
             picks,
             generations: vec![in alloc; 0; layout.all_slots()]?,
             content,
