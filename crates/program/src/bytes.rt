@@ -46,7 +46,7 @@ fn case_text<R: AllocGlobal + Files, I: Read>(
 }
 
 /// The kinds of bytes that are decoded.
-const KINDS: [&str; 3] = ["sqe", "cqe", "sgl"];
+const KINDS: [&str; 5] = ["sqe", "admin", "cqe", "sgl", "status"];
 
 /// What is told of a word that names no kind of bytes.
 fn unknown_kind(alloc: Global, word: &str) -> Told<Fault>
