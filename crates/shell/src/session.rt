@@ -338,6 +338,7 @@ impl Session {
     ) -> Result<Going, AllocError>
         requires empty { string_bytes out.old ≡ [] }
     {
+        let says = self.traces;
         match asked {
             Asked::Nothing => {}
             Asked::Step(step) => self.step(number, step, out)?,
@@ -354,14 +355,8 @@ impl Session {
             }
             Asked::Help(word) => say_help(self.alloc, out, word)?,
             Asked::Serve(q) => self.serve(q, out)?,
-            Asked::Read(extent) => {
-                let says = self.traces;
-                self.hand(out, says).read(extent)?;
-            }
-            Asked::Write(extent, bytes) => {
-                let says = self.traces;
-                self.hand(out, says).write(extent, bytes)?;
-            }
+            Asked::Read(extent) => self.hand(out, says).read(extent)?,
+            Asked::Write(extent, bytes) => self.hand(out, says).write(extent, bytes)?,
             Asked::Play(path) => return read_lines(rt, path, out),
             Asked::Save(path) => self.save(rt, path, out)?,
             Asked::Dump(path) => self.dump(rt, path, out)?,
