@@ -27,9 +27,9 @@ pub record AreJobs (layout : Layout) (seed queues : ℕ) (plans : List (List Pla
 abbrev pub entries_for : ℕ → ℕ
 entries_for blocks = 8 + 3 * div_ceil blocks 8
 
--- The most commands of a round: so many that its log has no more entries, one at least. Where no log is limited, 800 of each submitter, and of 204,800 blocks in all
+-- The most commands of a round: so many that its log has no more entries, one at least. Where no log is limited, 800, or 200 of each submitter where these are more, and of 204,800 blocks in all
 abbrev pub commands_for : ℕ → ℕ → Option ℕ → ℕ
-commands_for blocks submitters None = min (204800 / blocks) (800 * submitters)
+commands_for blocks submitters None = min (max 800 (200 * submitters)) (204800 / blocks)
 commands_for blocks submitters (Some entries) = max (entries / entries_for blocks) 1
 
 -- how many commands may be begun after so many: as many as there are numbers of 64 bits where their number does not bound them

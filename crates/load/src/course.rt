@@ -20,8 +20,11 @@ use io_commands::Kind;
 use script_cli::workload::Load;
 use std::alloc::{AllocError, Global};
 
-/// The most commands of a submitter in a round whose log is not limited: so many that it hardly counts that each round starts its threads.
-const USUAL_SHARE: u64 = 800;
+/// The most commands of a round whose log is not limited and which has few submitters: so many leave a log of some thousand entries.
+const USUAL_ROUND: u64 = 800;
+
+/// The most commands of each submitter in such a round where there are more: each round starts their threads.
+const USUAL_SHARE: u64 = 200;
 
 /// The most blocks that the commands of such a round read or write in all: 100 MiB.
 const MOST_BLOCKS: u64 = 204_800;
@@ -58,8 +61,8 @@ fn commands_for(command_blocks: u32, submitters: u16, log_limit: Option<u32>) ->
     ensures { result ≡ spec_commands_for command_blocks submitters log_limit }
 {
     let Some(entries) = log_limit else {
-        let most = MOST_BLOCKS / u64::from(command_blocks);
-        return most.min(USUAL_SHARE * u64::from(submitters));
+        let usual = USUAL_ROUND.max(USUAL_SHARE * u64::from(submitters));
+        return usual.min(MOST_BLOCKS / u64::from(command_blocks));
     };
     let pages = u64::from(command_blocks).div_ceil(8);
     (u64::from(entries) / (8 + 3 * pages)).max(1)
