@@ -400,51 +400,11 @@ fn managed<R: Abort + Wait>(rt: &R, shared: &Shared<World>, sent: Result<u16, Re
     );
 }
 
-/// Takes queue 1 away, with a Read that its deletion ends, and makes it again.
-fn remade<R: Abort + Wait>(rt: &R, alloc: Global, shared: &Shared<World>) {
-    let ticket = submitted(rt, alloc, shared, 1);
-    let abort = shared.with(rt, Changes::NONE, (), |world, ()| world.abort(1, 0));
-    managed(rt, shared, abort);
-    let walked = shared.with(rt, Changes::NONE, (), |world, ()| world.walk(1, 0));
-    assert!(rt; walked.is_err());
-    let delete = shared.with(rt, Changes::ROOM, 1, |world, q| world.delete_sq(q));
-    managed(rt, shared, delete);
-    let retired = shared.with(rt, Changes::ALL, 1, |world, q| world.retire(q));
-    see(rt, &retired, &Ok(()));
-    let finished = done(
-        rt,
-        shared.with(rt, Changes::NONE, ticket, |world, ticket| {
-            world.collect(ticket)
-        }),
-    );
-    see(rt, &finished.status(), &Status::ABORTED_SQ_DELETION);
-    let released = shared.with(rt, Changes::ROOM, finished, |world, finished| {
-        world.release(finished)
-    });
-    done(rt, released);
-    let delete = shared.with(rt, Changes::NONE, 1, |world, q| world.delete_cq(q));
-    managed(rt, shared, delete);
-    let create = shared.with(rt, Changes::ROOM, 1, |world, q| world.create_cq(q));
-    managed(rt, shared, create);
-    let create = shared.with(rt, Changes::ROOM, 1, |world, q| world.create_sq(q));
-    managed(rt, shared, create);
-}
-
 #[test]
-fn a_queue_goes_and_comes_back(rt: HostRuntime) -> Result<(), Fail> {
-    let alloc = rt.alloc();
-    let shared = Shared::new(opened(&rt, alloc));
-    remade(&rt, alloc, &shared);
-    let reserved = shared.with(&rt, Changes::NONE, read_of(alloc, 1)?, |world, request| {
-        world.reserve(1, request)
-    });
-    cancelled(&rt, &shared, done(&rt, reserved));
-    let forged = shared.with(&rt, Changes::NONE, [0; 16], |world, bytes| {
-        world.forge(1, 0, bytes)
-    });
-    see(&rt, &forged, &Ok(()));
-    see_at_rest(&rt, &shared);
+fn each_call_is_made_behind_the_lock(rt: HostRuntime) {
+    let shared = Shared::new(opened(&rt, rt.alloc()));
+    let sent = shared.with(&rt, Changes::ROOM, 1, |world, q| world.delete_sq(q));
+    managed(&rt, &shared, sent);
     calls::reset(&shared, &rt);
     see(&rt, &calls::counts(&shared, &rt).queue_pages, &2);
-    Ok(())
 }

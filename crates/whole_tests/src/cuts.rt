@@ -47,6 +47,16 @@ struct Ends {
 }
 
 impl Ends {
+    /// Counts a run, where it is one that a cut can have.
+    fn count_run(&mut self, text: &str) -> bool {
+        if PRINTS.starts_with(without_counts(text)) {
+            self.runs = self.runs.saturating_add(1);
+            return true;
+        }
+        self.mismatches = self.mismatches.saturating_add(1);
+        text.starts_with("1 reserve refused Bad LengthMismatch\ncounts free 12 ")
+    }
+
     /// Counts a cut that ends in a fault, where it is one that a cut can have.
     fn count_fault(&mut self, said: &str) -> bool {
         if said.ends_with("UnknownVerb") {
@@ -70,42 +80,42 @@ fn without_counts(text: &str) -> &str {
     }
 }
 
+/// Counts how a cut ends. False where that is no end that a cut can have.
+fn is_counted(
+    alloc: Global,
+    ends: &mut Ends,
+    end: Result<(), RunFault>,
+    written: Vec<u8>,
+) -> Result<bool, Fail> {
+    let Ok(text) = String::from_utf8(written) else {
+        return Err(Fail::from("text that is not ASCII"));
+    };
+    match end {
+        Ok(()) => Ok(ends.count_run(text.as_str())),
+        Err(fault) => {
+            let said = format!(in alloc; "{fault}")?;
+            Ok(text.is_empty() && ends.count_fault(said.as_str()))
+        }
+    }
+}
+
 #[test]
 fn a_script_is_cut_after_each_byte(rt: HostRuntime) -> Result<(), Fail> {
     let mut ends = Ends::default();
     let script = SCRIPT.as_bytes();
     for cut in 0..=script.len() {
         let (end, written) = ended(rt.alloc(), &script[..cut], false, 10_000)?;
-        let Ok(text) = String::from_utf8(written) else {
-            panic!(rt; "text that is not ASCII");
-        };
-        let Err(fault) = end else {
-            if PRINTS.starts_with(without_counts(&text)) {
-                ends.runs = ends.runs.saturating_add(1);
-            } else {
-                assert!(rt;
-                    text.starts_with("1 reserve refused Bad LengthMismatch\ncounts free 12 ")
-                );
-                ends.mismatches = ends.mismatches.saturating_add(1);
-            }
-            continue;
-        };
-        assert!(rt; text.is_empty(), "cut {cut}");
-        let said = format!(in rt.alloc(); "{fault}")?;
-        let is_known = ends.count_fault(&said);
-        assert!(rt; is_known, "cut {cut}");
+        let counted = is_counted(rt.alloc(), &mut ends, end, written)?;
+        assert!(rt; counted, "cut {cut}");
     }
-    same(
-        &rt,
-        ends,
-        Ends {
-            runs: 27,
-            mismatches: 4,
-            verbs: 60,
-            words: 46,
-            values: 5,
-        },
-    );
+    let wanted = Ends {
+        runs: 27,
+        mismatches: 4,
+        verbs: 60,
+        words: 46,
+        values: 5,
+    };
+    same(&rt, ends, wanted);
     Ok(())
 }
 

@@ -1,6 +1,6 @@
 //! What no clause says of the core and of the program above it.
 //!
-//! Of the core: openings at their borders and what lies in pages, resets behind arbitrary and forged steps and in each
+//! Of the core: resets behind arbitrary and forged steps and in each
 //! phase of a command, queues that are made again, and the largest cases; each step on a desk is followed by a recount of all pages. Of the program: scripts, jobs
 //! and a session that are cut, and over readers and writers that fail; lines that are changed word by word; words that are no text. There are tests alone,
 //! so that they do not prove the core once more.
@@ -51,10 +51,6 @@ mod shell_sessions;
 #[cfg(test)]
 mod told;
 #[cfg(test)]
-mod touches;
-#[cfg(test)]
 mod transcript_texts;
 #[cfg(test)]
 mod usual;
-#[cfg(test)]
-mod worlds;
