@@ -276,15 +276,17 @@ impl Session {
 
     /// What makes the steps of a line.
     fn hand<'a>(&'a mut self, out: &'a mut String, says: bool) -> Hand<'a> {
+        let (alloc, config, traces) = (self.alloc, self.config, self.traces);
+        let Session { bench, record, .. } = self;
         Hand {
-            alloc: self.alloc,
-            bench: &mut self.bench,
+            alloc,
+            bench,
             out,
-            record: &mut self.record,
-            entries: u16::try_from(self.config.entries).unwrap_or(u16::MAX),
+            record,
+            entries: u16::try_from(config.entries).unwrap_or(u16::MAX),
             left: MOST_STEPS,
             says,
-            traces: self.traces,
+            traces,
         }
     }
 
