@@ -105,8 +105,8 @@ uint32_t nvmehost_open_at(nvmehost *host, const nvmehost_options *options, nvmeh
         memset(answer, 0, sizeof *answer);
         return NVMESGL_BAD_OPTION;
     }
-    /* Refused: what is open stays where it is. */
-    if (host->full) return nvmehost_open(host, options, answer);
+    /* Refused: what is open stays where it is, and so does what is no handle of a host. */
+    if (host->mark != 0) return nvmehost_open(host, options, answer);
     unlink_memory(memory);
     memory->next = memories;
     memory->used = 0;

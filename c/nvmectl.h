@@ -20,10 +20,10 @@ extern "C" {
 /* A controller that is open, or none. Opaque: C gives it room. */
 typedef struct nvmectl {
     void *at;
-    bool full;
+    uint32_t mark; /* 0 where it is closed, and the mark of its kind where it is open */
 } nvmectl;
 
-#define NVMECTL_CLOSED {NULL, false}
+#define NVMECTL_CLOSED {NULL, 0}
 
 /* What a controller is opened with. The reserved words are 0; a later version may give one a meaning. */
 typedef struct nvmectl_options {
@@ -47,6 +47,7 @@ typedef struct nvmectl_job {
     bool ended;     /* it has its verdict: nothing is left to walk */
     uint8_t sct;    /* status code type of the verdict */
     uint8_t sc;     /* status code of the verdict */
+    uint32_t reserved[4]; /* 0 */
 } nvmectl_job;
 
 enum nvmectl_step_kind { NVMECTL_REST = 0, NVMECTL_FETCH = 1, NVMECTL_WALK = 2, NVMECTL_COMPLETE = 3 };
@@ -56,15 +57,17 @@ typedef struct nvmectl_step {
     uint32_t kind; /* enum nvmectl_step_kind */
     uint16_t q;
     uint16_t cid; /* of a walk and a completion */
+    uint32_t reserved[4]; /* 0 */
 } nvmectl_step;
 
 /* Opening and closing --------------------------------------------------------------------------------------------- */
 
 /* Opens over the bytes of an image, whole blocks of 512, or over options.blocks blocks of zeros where image_len is 0. Queue i has the i-th
  * of the pages, and queue 0 is the admin queue; at most 65,536. Each queue is live, with empty rings. A reset behind the opening leaves queue 0 alone, and the
- * others to Create I/O CQ and SQ. Refused: OPEN_HANDLE, BAD_SIZE, BAD_OPTION, BAD_CONFIG, BAD_IMAGE, MEMORY. */
+ * others to Create I/O CQ and SQ. Refused, the first that holds: OPEN_HANDLE or NO_HANDLE, BAD_SIZE, BAD_OPTION,
+ * BAD_CONFIG, BAD_IMAGE, MEMORY. */
 uint32_t nvmectl_open(nvmectl *, const nvmectl_options *, const nvmectl_queue *queues, size_t queue_count, const uint8_t *image, size_t image_len) NVMESGL_CALL(1, 2);
-/* Closes a handle; one that is closed stays so, and of a null pointer nothing is done. */
+/* Closes a handle; one that is closed stays so, and of a null pointer, and of a handle of another kind, nothing is done. */
 void nvmectl_close(nvmectl *);
 /* A Controller Level Reset: no command is left, the I/O queues are gone, and queue 0 stays with empty rings. The image is as it was. */
 uint32_t nvmectl_reset(nvmectl *) NVMESGL_CALL(1);

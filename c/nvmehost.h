@@ -24,10 +24,10 @@ extern "C" {
 /* A host that is open, or none. Opaque: C gives it room. */
 typedef struct nvmehost {
     void *at;
-    bool full;
+    uint32_t mark; /* 0 where it is closed, and the mark of its kind where it is open */
 } nvmehost;
 
-#define NVMEHOST_CLOSED {NULL, false}
+#define NVMEHOST_CLOSED {NULL, 0}
 
 /* What a host is opened with. The reserved words are 0; a later version may give one a meaning. */
 typedef struct nvmehost_options {
@@ -47,6 +47,7 @@ typedef struct nvmehost_doorbell {
                       * 4,096 + 4 * (2 q + 1) of a head. Another stride: 4,096 + ((offset - 4,096) << CAP.DSTRD) */
     uint32_t value;  /* to write there */
     bool rings;      /* whether there is one; else the others are 0 */
+    uint32_t reserved[4]; /* 0 */
 } nvmehost_doorbell;
 
 enum nvmehost_queue_state {
@@ -71,6 +72,7 @@ typedef struct nvmehost_queue {
     uint32_t completion_page;
     size_t submission_pages; /* how many pages each has */
     size_t completion_pages;
+    uint32_t reserved[4]; /* 0 */
 } nvmehost_queue;
 
 /* What a device may do with a page now. */
@@ -81,6 +83,7 @@ typedef struct nvmehost_run {
     uint32_t first; /* the first page */
     uint32_t right; /* enum nvmehost_right, of each */
     size_t count;   /* how many pages there are */
+    uint32_t reserved[4]; /* 0 */
 } nvmehost_run;
 
 /* Where the bytes of a data piece lie: at address 4,096 * page + offset. */
@@ -88,6 +91,7 @@ typedef struct nvmehost_place {
     uint32_t page;
     uint32_t offset;
     uint32_t len;
+    uint32_t reserved[4]; /* 0 */
 } nvmehost_place;
 
 typedef struct nvmehost_pages {
@@ -96,6 +100,7 @@ typedef struct nvmehost_pages {
     uint32_t queue_pages;
     uint32_t chain_pages;
     uint32_t data_pages;
+    uint32_t reserved[4]; /* 0 */
 } nvmehost_pages;
 
 /* Opening and closing --------------------------------------------------------------------------------------------- */
@@ -103,10 +108,10 @@ typedef struct nvmehost_pages {
 /* Opens a closed handle: every page is zero and every queue is live with empty rings. Queue q, from the admin queue 0 on, has the lowest pages: first its submission ring of
  * S = ceil(entries / 64) pages, from page q (S + C) on, and then its completion ring of C = ceil(entries / 256) pages, from page q (S + C) + S on. A device whose I/O
  * queues are to be made by Create I/O CQ and SQ is met by nvmehost_reset first: then queue 0 alone is live, at the same pages.
- * Refused, the first that holds: OPEN_HANDLE, BAD_SIZE, BAD_OPTION, BAD_CONFIG, NO_PAGES; or MEMORY. */
+ * Refused, the first that holds: OPEN_HANDLE or NO_HANDLE, BAD_SIZE, BAD_OPTION, BAD_CONFIG, NO_PAGES, MEMORY. */
 uint32_t nvmehost_open(nvmehost *, const nvmehost_options *, nvmesgl_answer *) NVMESGL_CALL(1, 2, 3);
 
-/* Closes a handle: what is open is let go, whatever is outstanding. One that is closed stays so; of a null pointer nothing is done. */
+/* Closes a handle: what is open is let go, whatever is outstanding. One that is closed stays so; of a null pointer, and of a handle of another kind, nothing is done. */
 void nvmehost_close(nvmehost *);
 
 /* Memory of the caller's in which a pool stands, as it is mapped for a device: at is a multiple of 4,096, with 4,096 * pages bytes. The last two are the library's. */
@@ -146,7 +151,8 @@ static inline void nvmehost_write_doorbell(volatile void *registers, unsigned st
 
 /* A command, named by its queue and identifier ---------------------------------------------------------------------- */
 
-/* Below, "Refused" names the codes of a handle that is open, in the order in which they are looked for. MEMORY may also come first. */
+/* Below, "Refused" names the codes of a handle that is open, in the order in which they are looked for. But where memory is refused for the copy
+ * of pieces (nvmehost_reserve, behind BAD_PIECE), MEMORY comes before what would be looked for next. */
 
 /* Reserves a command of blocks of 512 bytes from slba on: the lowest free identifier (answer.cid) and pages (data_pages, chain_pages), as a draft. The pages are out of the
  * pool until the draft is submitted or cancelled.

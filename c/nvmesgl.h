@@ -6,7 +6,8 @@
  * nvmehost_* the driver alone over a pool that any device may read and write: nvmehost.h.
  *
  * What C must keep, and nothing here checks:
- *  1. A handle is all zero bytes before its opening (NVMESGL_CLOSED). It is never copied and never written while it is open.
+ *  1. A handle is all zero bytes before its opening (NVMESGL_CLOSED). It is never copied and never written while it is open. A handle of another kind, and one that was never zeroed or
+ *     was overwritten, is told by its mark, and left alone (NVMESGL_NO_HANDLE); but one in 2^32 bytes of chance is the mark.
  *  2. One call at a time on a handle. It may go from thread to thread, where calls are ordered by a lock, or by the start or the end of a thread. No call from a signal handler, and
  *     none from a forked child.
  *  3. A pointer to a handle (but of a closing), an answer, options or another struct is not null. A pointer that goes with a length may be null where the
@@ -15,7 +16,7 @@
  *  5. The array of nvmesgl_heap_array has one user at a time: with handles in several threads, malloc serves, and the array does not.
  *
  * What is proved of each call stands in crates/nvmesgl_c: a call that is not done changes nothing but the answer. A wrong queue, identifier, kind,
- * page or length, a closed handle and a second opening each have a code. So has want of memory: nothing is lost then, and no call
+ * page or length, a closed or strange handle and a second opening each have a code. So has want of memory: nothing is lost then, and no call
  * leaks. What is open at nvmesgl_close is let go, whatever is outstanding.
  */
 #ifndef NVMESGL_H
@@ -32,9 +33,9 @@ extern "C" {
 /* Version --------------------------------------------------------------------------------------------------------- */
 
 /* The version of this header, and of the library that is linked. Versions 0.N may differ in any call and struct. */
-#define NVMESGL_VERSION "0.2.0"
+#define NVMESGL_VERSION "0.3.0"
 #define NVMESGL_VERSION_MAJOR 0
-#define NVMESGL_VERSION_MINOR 2
+#define NVMESGL_VERSION_MINOR 3
 #define NVMESGL_VERSION_PATCH 0
 const char *nvmesgl_version(void);
 
@@ -144,7 +145,9 @@ enum nvmesgl_code {
     /* No such command is outstanding, or it has no such data piece. */
     NVMESGL_NO_PIECE = 55,
     /* The kind of a piece is neither NVMESGL_PIECE nor NVMESGL_BUCKET. */
-    NVMESGL_BAD_PIECE = 56
+    NVMESGL_BAD_PIECE = 56,
+    /* The handle is none of the kind that the call takes: another kind's, never zeroed, or overwritten. Before every other code; the handle is left as it is. */
+    NVMESGL_NO_HANDLE = 57
 };
 
 /* The code as a sentence for people; "no such code" for other numbers. */
@@ -158,10 +161,10 @@ const char *nvmesgl_status_text(uint8_t sct, uint8_t sc);
 /* A machine that is open, or none. Opaque: C gives it room. */
 typedef struct nvmesgl {
     void *at;
-    bool full;
+    uint32_t mark; /* 0 where it is closed, and the mark of its kind where it is open */
 } nvmesgl;
 
-#define NVMESGL_CLOSED {NULL, false}
+#define NVMESGL_CLOSED {NULL, 0}
 
 /* What a handle is opened with. The reserved words are 0; a later version may give one a meaning. */
 typedef struct nvmesgl_options {
@@ -226,6 +229,7 @@ typedef struct nvmesgl_pages {
     uint32_t chain_pages;
     uint32_t data_pages;
     bool trusted;         /* nothing was forged since the opening or the last reset */
+    uint32_t reserved[4]; /* 0 */
 } nvmesgl_pages;
 
 enum nvmesgl_owner_kind {
@@ -240,6 +244,7 @@ typedef struct nvmesgl_page_owner {
     uint32_t kind; /* enum nvmesgl_owner_kind */
     uint16_t q;        /* the queue, or the command's queue */
     uint16_t cid;      /* the command's identifier */
+    uint32_t reserved[4]; /* 0 */
 } nvmesgl_page_owner;
 
 /* Memory ---------------------------------------------------------------------------------------------------------- */
@@ -251,16 +256,17 @@ void nvmesgl_heap_array(void *array, size_t bytes);
 /* Opening and closing --------------------------------------------------------------------------------------------- */
 
 /* Opens a closed handle over the bytes of an image, which are copied; with image_len 0 over options->blocks blocks of zeros.
- * Refused, the first that holds: OPEN_HANDLE, BAD_SIZE, BAD_OPTION, BAD_IMAGE, BAD_CONFIG, NO_PAGES (the queues' rings need more pages than
- * there are); or MEMORY. */
+ * Refused, the first that holds: OPEN_HANDLE or NO_HANDLE, BAD_SIZE, BAD_OPTION, BAD_IMAGE, BAD_CONFIG, NO_PAGES (the queues' rings need more pages than
+ * there are), MEMORY. */
 uint32_t nvmesgl_open(nvmesgl *, const nvmesgl_options *, const uint8_t *image, size_t image_len, nvmesgl_answer *) NVMESGL_CALL(1, 2, 5);
 
-/* Closes a handle. One that is closed stays so; of a null pointer nothing is done. */
+/* Closes a handle. One that is closed stays so; of a null pointer, and of a handle of another kind, nothing is done. */
 void nvmesgl_close(nvmesgl *);
 
 /* The driver: a command, named by its queue and identifier -------------------------------------------------------- */
 
-/* Below, "Refused" names the codes of a handle that is open, in the order in which they are looked for. MEMORY may also come first. */
+/* Below, "Refused" names the codes of a handle that is open, in the order in which they are looked for. But where memory is refused for the copy
+ * of pieces or bytes (nvmesgl_reserve, behind BAD_PIECE; nvmesgl_fill), MEMORY comes before what would be looked for next. */
 
 /* Reserves a command of blocks of 512 bytes from slba on: an identifier (answer.cid) and pages (data_pages, chain_pages), as a draft.
  * Refused: NO_KIND, BAD_PIECE, NO_QUEUE, DELETING, a fault of the request (TOO_MANY_PIECES to LENGTH_MISMATCH), NO_IDENTIFIER, NO_PAGES, MEMORY. */

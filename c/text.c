@@ -54,6 +54,7 @@ const char *nvmesgl_text(uint32_t code) {
     case NVMESGL_BAD_LENGTH: return "a call moves 1 to 4,096 bytes";
     case NVMESGL_PAGE_OUT: return "a byte is outside the pool or on a page that is out";
     case NVMESGL_NO_PIECE: return "no such command is outstanding, or it has no such data piece";
+    case NVMESGL_NO_HANDLE: return "the handle is none of the kind that the call takes";
     default: return "no such code";
     }
 }

@@ -73,7 +73,7 @@ static uint32_t call(const nvmectl_step *step) {
 }
 
 static void step(void) {
-    nvmectl_step found, tried = {1 + below(3), (uint16_t)below(QUEUES), (uint16_t)below(4)};
+    nvmectl_step found, tried = {1 + below(3), (uint16_t)below(QUEUES), (uint16_t)below(4), {0}};
     uint32_t code = nvmectl_next(&controller, pool, sizeof pool, &found);
     if (code != NVMESGL_DONE) fail("next", code);
     if (below(8) == 0 || found.kind == NVMECTL_REST) {

@@ -56,7 +56,7 @@ static void refused(uint32_t code) {
 
 static void owners(void) {
     nvmesgl_pages all;
-    nvmesgl_page_owner was = {0, 0, 0}, is = {0, 0, 0};
+    nvmesgl_page_owner was = {0, 0, 0, {0}}, is = {0, 0, 0, {0}};
     uint32_t from = 0;
     if (nvmesgl_counts(&machine, &all) != NVMESGL_DONE) exit(3);
     for (uint32_t p = 0; p <= all.pages; p++) {

@@ -6,7 +6,7 @@ import ctypes
 import functools
 import os
 import pathlib
-from ctypes import POINTER, Structure, c_bool, c_char_p, c_size_t, c_uint8, c_uint16, c_uint32, c_uint64, c_void_p
+from ctypes import POINTER, Structure, c_char_p, c_size_t, c_uint8, c_uint16, c_uint32, c_uint64, c_void_p
 from typing import Any, Dict, List, Tuple
 
 
@@ -86,13 +86,16 @@ def lent_to_write(buffer: Any) -> Tuple[Any, int]:
     return (c_uint8 * view.nbytes).from_buffer(view), view.nbytes
 
 
+# The words with which a struct ends that a call fills: 0, until a later version gives one a meaning.
+RESERVED = ("reserved", c_uint32 * 4)
+
 # The words with which the options of a machine and of a host begin, and the counts of pages with which both answer.
 OPTION_WORDS = [(name, c_uint32) for name in ("size", "pages", "queues", "entries", "segment")]
 PAGE_COUNTS = [(name, c_uint32) for name in ("pages", "free_pages", "queue_pages", "chain_pages", "data_pages")]
 
 
 class Handle(Structure):
-    _fields_ = [("at", c_void_p), ("full", c_bool)]
+    _fields_ = [("at", c_void_p), ("mark", c_uint32)]
 
 
 class CPiece(Structure):
@@ -119,7 +122,7 @@ class Answer(Structure):
 
 
 class PageOwner(Structure):
-    _fields_ = [("kind", c_uint32), ("q", c_uint16), ("cid", c_uint16)]
+    _fields_ = [("kind", c_uint32), ("q", c_uint16), ("cid", c_uint16), RESERVED]
 
 
 # What the calls of a command take, of a machine and of a host alike.

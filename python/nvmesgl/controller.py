@@ -18,7 +18,7 @@ import enum
 from ctypes import POINTER, Structure, byref, c_bool, c_size_t, c_uint8, c_uint16, c_uint32, c_void_p
 from typing import Any, Dict, Iterable, List, NamedTuple, Optional, Tuple, Union
 
-from ._library import U16, U64, Answer, Handle, declare, fits, lent, lent_to_write
+from ._library import RESERVED, U16, U64, Answer, Handle, declare, fits, lent, lent_to_write
 from ._opened import Opened
 from .words import State, Status, Step, Walk
 
@@ -58,11 +58,11 @@ class CQueue(Structure):
 
 
 class CJob(Structure):
-    _fields_ = [("units", c_uint32), ("ended", c_bool), ("sct", c_uint8), ("sc", c_uint8)]
+    _fields_ = [("units", c_uint32), ("ended", c_bool), ("sct", c_uint8), ("sc", c_uint8), RESERVED]
 
 
 class CStep(Structure):
-    _fields_ = [("kind", c_uint32), ("q", c_uint16), ("cid", c_uint16)]
+    _fields_ = [("kind", c_uint32), ("q", c_uint16), ("cid", c_uint16), RESERVED]
 
 
 _HANDLE, _ANSWER = POINTER(Handle), POINTER(Answer)

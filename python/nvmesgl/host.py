@@ -27,7 +27,7 @@ from ctypes import POINTER, Structure, byref, c_bool, c_size_t, c_uint8, c_uint1
 from typing import Any, Dict, List, NamedTuple, Optional
 
 from ._driver import Driver
-from ._library import COMMAND_CALLS, OPTION_WORDS, PAGE_COUNTS, U16, U32, U64, Answer, Handle, PageOwner, declare, fits, lent
+from ._library import COMMAND_CALLS, OPTION_WORDS, PAGE_COUNTS, RESERVED, U16, U32, U64, Answer, Handle, PageOwner, declare, fits, lent
 from .words import Code, Refused, State, Status
 
 __all__ = ["Counts", "Doorbell", "Host", "PAGE_BYTES", "Place", "Queue", "QueueState", "Reaped", "Right", "Rings", "Run"]
@@ -130,7 +130,7 @@ class COptions(Structure):
 
 
 class CDoorbell(Structure):
-    _fields_ = [("offset", c_uint32), ("value", c_uint32), ("rings", c_bool)]
+    _fields_ = [("offset", c_uint32), ("value", c_uint32), ("rings", c_bool), RESERVED]
 
 
 class CQueue(Structure):
@@ -144,19 +144,20 @@ class CQueue(Structure):
         ("completion_page", c_uint32),
         ("submission_pages", c_size_t),
         ("completion_pages", c_size_t),
+        RESERVED,
     ]
 
 
 class CRun(Structure):
-    _fields_ = [("first", c_uint32), ("right", c_uint32), ("count", c_size_t)]
+    _fields_ = [("first", c_uint32), ("right", c_uint32), ("count", c_size_t), RESERVED]
 
 
 class CPlace(Structure):
-    _fields_ = [("page", c_uint32), ("offset", c_uint32), ("len", c_uint32)]
+    _fields_ = [("page", c_uint32), ("offset", c_uint32), ("len", c_uint32), RESERVED]
 
 
 class CPages(Structure):
-    _fields_ = PAGE_COUNTS
+    _fields_ = [*PAGE_COUNTS, RESERVED]
 
 
 _HANDLE, _ANSWER, _BELL = POINTER(Handle), POINTER(Answer), POINTER(CDoorbell)

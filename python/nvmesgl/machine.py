@@ -7,7 +7,7 @@ from ctypes import POINTER, Structure, byref, c_bool, c_size_t, c_uint8, c_uint3
 from typing import Any, Dict, List, NamedTuple, Optional
 
 from ._driver import Driver
-from ._library import COMMAND_CALLS, OPTION_WORDS, PAGE_COUNTS, U16, U32, U64, Answer, Handle, PageOwner, declare, fits, lent, lent_to_write
+from ._library import COMMAND_CALLS, OPTION_WORDS, PAGE_COUNTS, RESERVED, U16, U32, U64, Answer, Handle, PageOwner, declare, fits, lent, lent_to_write
 from .words import State, Status, Step, Walk
 
 __all__ = ["Completion", "Counts", "Machine"]
@@ -38,7 +38,7 @@ class Options(Structure):
 
 
 class Pages(Structure):
-    _fields_ = [*PAGE_COUNTS, ("trusted", c_bool)]
+    _fields_ = [*PAGE_COUNTS, ("trusted", c_bool), RESERVED]
 
 
 _HANDLE, _ANSWER = POINTER(Handle), POINTER(Answer)

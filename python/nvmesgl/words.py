@@ -62,6 +62,7 @@ class Code(enum.IntEnum):
     PAGE_OUT = 54
     NO_PIECE = 55
     BAD_PIECE = 56
+    NO_HANDLE = 57
 
 
 class Kind(enum.IntEnum):

@@ -7,6 +7,7 @@ import pickle
 import pytest
 
 from nvmesgl import Code, Kind, Machine, OwnerKind, Piece, Refused, State
+from nvmesgl.host import Host
 from refusals import refused
 
 
@@ -41,6 +42,16 @@ def test_refusals():
     refused(Code.BAD_CONFIG, lambda: Machine(pages=7))
     refused(Code.BAD_IMAGE, lambda: Machine(image=b"short"))
     refused(Code.NO_PAGES, lambda: Machine(pages=8, queues=64))
+
+
+def test_a_handle_of_another_kind_is_told():
+    with Machine() as machine, Host() as host:
+        own, machine._at = machine._at, host._at
+        refused(Code.NO_HANDLE, machine.ring, 1)
+        machine.close()
+        machine._at = own
+        host.ring(1)
+        machine.ring(1)
 
 
 def test_a_refusal_goes_from_process_to_process():

@@ -1,18 +1,18 @@
 -- A call that was made over a pool, and a look over one, as what their exports say. The controller that is called stands in a box.
-use Rattle.std.{proofs.Common.{◌≡◌, ℕ, ◌≤◌, ◌/◌, List, Option, Some, length, sym, inl, subst, refl}, specs.List.slice_get}
-use Rattle.nvmesgl_c.specs.{ControllerCalls.Lent, ControllerNext.{Sees, TellsNext, step_of}, declared.{controller.next.CStep.CStep, words.answer.Answer.Answer}}
+use Rattle.std.{proofs.Common.{◌≡◌, ℕ, ◌≤◌, ◌/◌, List, Option, Ok, length, sym, inl, subst, refl}, specs.List.slice_get}
+use Rattle.nvmesgl_c.specs.{ControllerCalls.Lent, ControllerKept.Kept, ControllerNext.{Sees, TellsNext, step_of}, declared.{controller.next.CStep.CStep, words.answer.Answer.Answer}}
 use Rattle.controller_core.specs.{Contents.Contents, declared.look.ControllerStep.ControllerStep}
 use Rattle.page_memory.specs.Memory.{Memory}
 
-pub lent_called : (Calls : Contents → ℕ → Memory → ℕ → Answer → Contents → Memory → Type 0) (old new : Option Contents) (k held k' : Contents) (pool pool' : List ℕ) (code : ℕ) (answer : Answer) →
-    old ≡ Some k → held ≡ k → new ≡ Some k' → length pool ≤ 268435456 → Calls held (length pool / 4096) (slice_get pool) code answer k' (slice_get pool') → Lent Calls old pool code answer new pool'
+pub lent_called : (Calls : Contents → ℕ → Memory → ℕ → Answer → Contents → Memory → Type 0) (old new : Kept) (k held k' : Contents) (pool pool' : List ℕ) (code : ℕ) (answer : Answer) →
+    old ≡ Ok k → held ≡ k → new ≡ Ok k' → length pool ≤ 268435456 → Calls held (length pool / 4096) (slice_get pool) code answer k' (slice_get pool') → Lent Calls old pool code answer new pool'
 lent_called Calls old new k held k' pool pool' code answer was same is fits called =
-    subst (λ (o : Option Contents). Lent Calls o pool code answer new pool') (sym was)
-    (subst (λ (o : Option Contents). Lent Calls (Some k) pool code answer o pool') (sym is)
+    subst (λ (o : Kept). Lent Calls o pool code answer new pool') (sym was)
+    (subst (λ (o : Kept). Lent Calls (Ok k) pool code answer o pool') (sym is)
     (inl (fits, subst (λ (h : Contents). Calls h (length pool / 4096) (slice_get pool) code answer k' (slice_get pool')) same called)))
 
-pub looked_over : (old new : Option Contents) (k held : Contents) (pool pool' : List ℕ) (step : Option ControllerStep) (before told : CStep) →
-    old ≡ Some k → held ≡ k → new ≡ Some k → length pool ≤ 268435456 → slice_get pool' ≡ slice_get pool → Sees held (slice_get pool) step → told ≡ step_of step → TellsNext old pool 0 before told new pool'
+pub looked_over : (old new : Kept) (k held : Contents) (pool pool' : List ℕ) (step : Option ControllerStep) (before told : CStep) →
+    old ≡ Ok k → held ≡ k → new ≡ Ok k → length pool ≤ 268435456 → slice_get pool' ≡ slice_get pool → Sees held (slice_get pool) step → told ≡ step_of step → TellsNext old pool 0 before told new pool'
 looked_over old new k held pool pool' step before told was same is fits kept sees tells =
-    subst (λ (o : Option Contents). TellsNext o pool 0 before told new pool') (sym was)
+    subst (λ (o : Kept). TellsNext o pool 0 before told new pool') (sym was)
     (inl (fits, refl, is, kept, step, subst (λ (h : Contents). Sees h (slice_get pool) step) same sees, tells))

@@ -1,5 +1,5 @@
 -- The controller's steps in one call, and the reaps that wait for a command: one more at a time.
-use Rattle.std.proofs.Common.{◌≡◌, ◌+◌, ◌≤◌, ℕ, Bool, true, false, List, [], ◌∷◌, ◌++◌, Option, Some, None, length, map, refl, sym, subst, ap, ◌∙◌, inl, arith, length-append, cond}
+use Rattle.std.proofs.Common.{◌≡◌, ◌+◌, ◌≤◌, ℕ, Bool, true, false, List, [], ◌∷◌, ◌++◌, Option, Some, length, map, refl, sym, subst, ap, inl, arith, length-append, cond}
 use Rattle.std.proofs.lemmas.Option.{none-some}
 use Rattle.std.proofs.lemmas.List.{map-append, Sums.{sum_by-append, sum_by-cons}}
 use Rattle.std.specs.{List.AllByRecursion, Prelude.{count_by, sum_by}}
@@ -8,9 +8,9 @@ use Rattle.machine_model.specs.declared.words.Refusal.{Refusal}
 use Rattle.page_memory.proofs.Lists.{all-append}
 use Rattle.step_core.specs.{Bench.{Does, DoesAll}, Values.{Step, Reply}}
 use Rattle.world_bench.proofs.Benches.{does_more}
-use Rattle.nvmesgl_c.specs.MachineServing.{EndsBy, IsOwn, Serves, is_completed, refusal_in}
+use Rattle.nvmesgl_c.specs.MachineServing.{IsOwn, Serves, is_completed, refusal_in}
 use Rattle.nvmesgl_c.specs.MachineWhole.{Carries, ComesOut, Names, ReapsUntil, stops}
-use Rattle.nvmesgl_c.specs.declared.machine.{carrying.Carried.{Carried, TheVariants.{Ended, NotReserved, GivenUp, Left}}, serve.ServeEnd.ServeEnd}
+use Rattle.nvmesgl_c.specs.declared.machine.{carrying.Carried.{Carried, TheVariants.{Ended, NotReserved, GivenUp, Left}}}
 use Rattle.io_commands.specs.Asked.{Request}
 use Rattle.step_core.specs.declared.step.Reply.TheVariants as reply
 use Rattle.step_core.specs.declared.step.Step.TheVariants as step

@@ -2,7 +2,7 @@
 use Rattle.std.specs.Option.{option_map_or}
 use Rattle.std.specs.Prelude.{◌≡◌, ◌⊎◌, ◌/◌, ◌<◌, ◌≤◌, ◌==◌, ℕ, nat_lt, Option, Some, None, Result, Ok, Err, List, [], length, slice_get, if◌then◌else◌}
 use Rattle.std.specs.Result.{result_err}
-use Rattle.nvmesgl_c.specs.{Answers.{nothing, touching, walked}, ControllerCodes.code_of_refusal, declared.words.answer.Answer.Answer}
+use Rattle.nvmesgl_c.specs.{Answers.{nothing, touching, walked}, ControllerKept.Kept, Keeping.code_of_mark, ControllerCodes.code_of_refusal, declared.words.answer.Answer.Answer}
 use Rattle.controller_core.specs.{Completing.{complete_refusal, CompletesTo}, Contents.Contents, Doorbells.{tail_rung, head_rung}, Fetching.Fetches}
 use Rattle.controller_core.specs.{Resetting.reset, Walking.{walk_refusal, WalksTo}, declared.{queue.ControllerQueue.ControllerQueue, refusal.Refusal.Refusal}}
 use Rattle.controller_walk.specs.declared.walk.WalkState.{WalkState}
@@ -21,19 +21,19 @@ head_code queues q v =
     option_map_or (λ queue. if is_in_range queue.controller.entries queue.controller.ring.known_head queue.controller.ring.tail v then 0 else 50) (slice_get queues q) 10
 
 -- a value that has code 0 is taken, and another one changes nothing
-abbrev pub RingsTail : Option Contents → ℕ → ℕ → ℕ → Option Contents → Type 0
-RingsTail None q v code new = (code ≡ 1) × (new ≡ None)
-RingsTail (Some c) q v code new = (code ≡ tail_code c.queues q v) × (new ≡ Some (if code == 0 then tail_rung q v c else c))
+abbrev pub RingsTail : Kept → ℕ → ℕ → ℕ → Kept → Type 0
+RingsTail (Err h) q v code new = (code ≡ code_of_mark h.mark) × (new ≡ Err h)
+RingsTail (Ok c) q v code new = (code ≡ tail_code c.queues q v) × (new ≡ Ok (if code == 0 then tail_rung q v c else c))
 
-abbrev pub RingsHead : Option Contents → ℕ → ℕ → ℕ → Option Contents → Type 0
-RingsHead None q v code new = (code ≡ 1) × (new ≡ None)
-RingsHead (Some c) q v code new = (code ≡ head_code c.queues q v) × (new ≡ Some (if code == 0 then head_rung q v c else c))
+abbrev pub RingsHead : Kept → ℕ → ℕ → ℕ → Kept → Type 0
+RingsHead (Err h) q v code new = (code ≡ code_of_mark h.mark) × (new ≡ Err h)
+RingsHead (Ok c) q v code new = (code ≡ head_code c.queues q v) × (new ≡ Ok (if code == 0 then head_rung q v c else c))
 
 -- A reset
 
-abbrev pub Resets : Option Contents → ℕ → Option Contents → Type 0
-Resets None code new = (code ≡ 1) × (new ≡ None)
-Resets (Some c) code new = (code ≡ 0) × (new ≡ Some (reset c))
+abbrev pub Resets : Kept → ℕ → Kept → Type 0
+Resets (Err h) code new = (code ≡ code_of_mark h.mark) × (new ≡ Err h)
+Resets (Ok c) code new = (code ≡ 0) × (new ≡ Ok (reset c))
 
 -- The calls over a pool
 
@@ -80,16 +80,16 @@ pub record CompletesBy (q cid : ℕ) (c : Contents) (pages : ℕ) (m : Memory) (
   pub answer_is : answer ≡ touching touched
 
 -- no call is made, with its cause: no controller is kept, or the pool has more than 65,536 pages
-abbrev pub LendsNone : Option Contents → ℕ → ℕ → Option Contents → Type 0
-LendsNone None bytes code new = (code ≡ 1) × (new ≡ None)
-LendsNone (Some c) bytes code new = (268435456 < bytes) × (code ≡ 51) × (new ≡ Some c)
+abbrev pub LendsNone : Kept → ℕ → ℕ → Kept → Type 0
+LendsNone (Err h) bytes code new = (code ≡ code_of_mark h.mark) × (new ≡ Err h)
+LendsNone (Ok c) bytes code new = (268435456 < bytes) × (code ≡ 51) × (new ≡ Ok c)
 
 -- a call that is lent a pool: it is made over the bytes of the pool, or it is not made, and nothing changes
-abbrev pub IsCalled : (Contents → ℕ → Memory → ℕ → Answer → Contents → Memory → Type 0) → Option Contents → List ℕ → ℕ → Answer → Option Contents → List ℕ → Type 0
-IsCalled Calls (Some c) pool code answer (Some c') pool' =
+abbrev pub IsCalled : (Contents → ℕ → Memory → ℕ → Answer → Contents → Memory → Type 0) → Kept → List ℕ → ℕ → Answer → Kept → List ℕ → Type 0
+IsCalled Calls (Ok c) pool code answer (Ok c') pool' =
     (length pool ≤ 268435456) × Calls c (length pool / 4096) (slice_get pool) code answer c' (slice_get pool')
 IsCalled Calls c pool code answer c' pool' = ⊥
 
-abbrev pub Lent : (Contents → ℕ → Memory → ℕ → Answer → Contents → Memory → Type 0) → Option Contents → List ℕ → ℕ → Answer → Option Contents → List ℕ → Type 0
+abbrev pub Lent : (Contents → ℕ → Memory → ℕ → Answer → Contents → Memory → Type 0) → Kept → List ℕ → ℕ → Answer → Kept → List ℕ → Type 0
 Lent Calls c pool code answer c' pool' =
     IsCalled Calls c pool code answer c' pool' ⊎ (LendsNone c (length pool) code c' × (answer ≡ nothing) × (pool' ≡ pool))

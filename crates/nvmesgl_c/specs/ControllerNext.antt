@@ -1,15 +1,18 @@
 -- What a look for something to do tells.
-use Rattle.std.specs.Prelude.{◌≡◌, ◌⊎◌, ◌^◌, ◌<◌, ◌≤◌, ℕ, Option, Some, None, List, length, slice_get}
+use Rattle.std.specs.Prelude.{◌≡◌, ◌⊎◌, ◌^◌, ◌<◌, ◌≤◌, ℕ, Option, Some, None, Ok, Err, List, [], ◌∷◌, length, slice_get}
 use Rattle.controller_core.specs.{Contents.Contents, Looks.{refusal_by, IsAtRest}, declared.look.ControllerStep.ControllerStep}
 use Rattle.controller_core.specs.declared.look.ControllerStep.TheVariants.{Fetch, Walk, Complete}
 use Rattle.page_memory.specs.Memory.{Memory}
-use Rattle.nvmesgl_c.specs.{ControllerCalls.LendsNone, declared.controller.next.CStep.CStep}
+use Rattle.nvmesgl_c.specs.{ControllerCalls.LendsNone, ControllerKept.Kept, declared.controller.next.CStep.CStep}
+
+abbrev pub step_with : ℕ → ℕ → ℕ → CStep
+step_with kind q cid = record { kind = kind; q = q; cid = cid; reserved = 0 ∷ 0 ∷ 0 ∷ 0 ∷ [] }
 
 abbrev pub step_of : Option ControllerStep → CStep
-step_of None = record { kind = 0; q = 0; cid = 0 }
-step_of (Some (Fetch q)) = record { kind = 1; q = q; cid = 0 }
-step_of (Some (Walk q cid)) = record { kind = 2; q = q; cid = cid }
-step_of (Some (Complete q cid)) = record { kind = 3; q = q; cid = cid }
+step_of None = step_with 0 0 0
+step_of (Some (Fetch q)) = step_with 1 q 0
+step_of (Some (Walk q cid)) = step_with 2 q cid
+step_of (Some (Complete q cid)) = step_with 3 q cid
 
 -- the step is refused for want of memory at most; where there is none, each call is refused
 abbrev pub Can : Contents → Memory → Option ControllerStep → Type 0
@@ -23,12 +26,12 @@ pub record Sees (c : Contents) (m : Memory) (step : Option ControllerStep) : Typ
   pub can : Can c seen step
 
 -- a look over the bytes of a pool: nothing changes
-abbrev pub LooksOver : Option Contents → List ℕ → ℕ → CStep → Option Contents → List ℕ → Type 0
-LooksOver None pool code new left pool' = ⊥
-LooksOver (Some c) pool code new left pool' =
-    (length pool ≤ 268435456) × (code ≡ 0) × (left ≡ Some c) × (slice_get pool' ≡ slice_get pool)
+abbrev pub LooksOver : Kept → List ℕ → ℕ → CStep → Kept → List ℕ → Type 0
+LooksOver (Err h) pool code new left pool' = ⊥
+LooksOver (Ok c) pool code new left pool' =
+    (length pool ≤ 268435456) × (code ≡ 0) × (left ≡ Ok c) × (slice_get pool' ≡ slice_get pool)
     × (step : Option ControllerStep) × Sees c (slice_get pool) step × (new ≡ step_of step)
 
-abbrev pub TellsNext : Option Contents → List ℕ → ℕ → CStep → CStep → Option Contents → List ℕ → Type 0
+abbrev pub TellsNext : Kept → List ℕ → ℕ → CStep → CStep → Kept → List ℕ → Type 0
 TellsNext c pool code old new left pool' =
     LooksOver c pool code new left pool' ⊎ (LendsNone c (length pool) code left × (new ≡ old) × (pool' ≡ pool))

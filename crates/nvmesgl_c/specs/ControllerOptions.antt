@@ -1,6 +1,6 @@
 -- What the options of an opening say, and when a controller is not opened.
-use Rattle.std.specs.{List.list_any, Prelude.{◌≡◌, ◌==◌, ◌||◌, ℕ, nat_lt, Bool, Option, Some, None, List, length, map, if◌then◌else◌}}
-use Rattle.nvmesgl_c.specs.{ControllerCodes.code_of_not_opened, Images.{image_of, IsBadImage}, Requests.is_set, declared.controller.options.CQueue.CQueue}
+use Rattle.std.specs.{List.list_any, Prelude.{◌≡◌, ◌==◌, ◌||◌, ℕ, nat_lt, Bool, Option, Some, None, Ok, Err, List, length, map, if◌then◌else◌}}
+use Rattle.nvmesgl_c.specs.{ControllerCodes.code_of_not_opened, ControllerKept.{Kept, cause_in}, Images.{image_of, IsBadImage, IsGoodImage}, Requests.is_set, declared.controller.options.CQueue.CQueue}
 use Rattle.nvmesgl_c.specs.declared.controller.options.{NotOpened.NotOpened, Options.Options}
 use Rattle.controller_core.specs.{Contents.Contents, Opening.opened, declared.queue.QueuePages.QueuePages}
 use Rattle.nvmesgl_c.specs.declared.controller.options.NotOpened.TheVariants as not_opened
@@ -22,10 +22,10 @@ fault_of o queues =
     else None)
     else Some not_opened.BadSize
 
--- when a controller is not opened for a cause
+-- when a controller is not opened for a cause: the first that holds; memory is refused only where there is no other
 abbrev pub IsWhy : Options → ℕ → List ℕ → NotOpened → Type 0
 IsWhy o queues bytes not_opened.BadImage = (fault_of o queues ≡ None) × IsBadImage o.blocks bytes
-IsWhy o queues bytes not_opened.Memory = fault_of o queues ≡ None
+IsWhy o queues bytes not_opened.Memory = (fault_of o queues ≡ None) × IsGoodImage o.blocks bytes
 IsWhy o queues bytes why = fault_of o queues ≡ Some why
 
 -- what an opening makes
@@ -33,8 +33,12 @@ pub record IsOpened (o : Options) (queues : List CQueue) (bytes : List ℕ) (new
   pub form : fault_of o (length queues) ≡ None
   pub opened : new ≡ opened o.entries (map pages_of_queue queues) (image_of o.blocks bytes)
 
--- an opening: a handle that is open stays as it is; one that is closed opens, or stays closed for a cause that is told
-abbrev pub Opens : Option Contents → Options → List CQueue → List ℕ → ℕ → Option Contents → Type 0
-Opens (Some c) o queues bytes code new = (code ≡ 2) × (new ≡ Some c)
-Opens None o queues bytes code (Some new) = (code ≡ 0) × IsOpened o queues bytes new
-Opens None o queues bytes code None = (why : NotOpened) × IsWhy o (length queues) bytes why × (code ≡ code_of_not_opened why)
+-- an opening that nothing about the handle stands against, or one that its handle is refused for
+abbrev pub OpensBy : Option ℕ → Kept → Options → List CQueue → List ℕ → ℕ → Kept → Type 0
+OpensBy (Some cause) t o queues bytes code new = (code ≡ cause) × (new ≡ t)
+OpensBy None t o queues bytes code (Ok new) = (code ≡ 0) × IsOpened o queues bytes new
+OpensBy None t o queues bytes code (Err h) = (why : NotOpened) × IsWhy o (length queues) bytes why × (code ≡ code_of_not_opened why) × (t ≡ Err h)
+
+-- an opening: a handle that is open, or is none of this kind, stays as it is; one that is closed opens, or stays closed for a cause that is told
+abbrev pub Opens : Kept → Options → List CQueue → List ℕ → ℕ → Kept → Type 0
+Opens t o queues bytes code new = OpensBy (cause_in t) t o queues bytes code new

@@ -1,5 +1,5 @@
 -- What C is told of each reply besides its code.
-use Rattle.std.specs.Prelude.{true, false, Option, Some, None, [], length}
+use Rattle.std.specs.Prelude.{ℕ, true, false, Option, Some, None, Result, Ok, Err, [], ◌∷◌, length}
 use Rattle.nvmesgl_c.specs.{Answers.{nothing, ended, reaped, refused}, declared.host.{answer.CDoorbell.CDoorbell, options.NotOpened.NotOpened}}
 use Rattle.nvmesgl_c.specs.declared.words.answer.Answer.{Answer}
 use Rattle.host_core.specs.declared.doorbell.Doorbell.{Doorbell}
@@ -20,19 +20,19 @@ told_of (reply.Rung bell) = nothing
 told_of reply.NoValue = nothing
 told_of (reply.NotFilled why) = nothing
 
--- of a call whose handle was closed there is no reply
-abbrev pub told : Option Reply → Answer
-told (Some answer) = told_of answer
-told None = nothing
+-- of a call on a handle that keeps nothing there is no reply
+abbrev pub told : Result Reply ℕ → Answer
+told (Ok answer) = told_of answer
+told (Err code) = nothing
 
 -- the value for a doorbell, where there is one
 abbrev pub shown_bell : Option Doorbell → CDoorbell
-shown_bell (Some bell) = record { offset = bell.offset; value = bell.value; rings = true }
-shown_bell None = record { offset = 0; value = 0; rings = false }
+shown_bell (Some bell) = record { offset = bell.offset; value = bell.value; rings = true; reserved = 0 ∷ 0 ∷ 0 ∷ 0 ∷ [] }
+shown_bell None = record { offset = 0; value = 0; rings = false; reserved = 0 ∷ 0 ∷ 0 ∷ 0 ∷ [] }
 
-abbrev pub bell_of : Option Reply → CDoorbell
-bell_of (Some (reply.Rung bell)) = shown_bell (Some bell)
-bell_of (Some (reply.Reaps what bell)) = shown_bell bell
+abbrev pub bell_of : Result Reply ℕ → CDoorbell
+bell_of (Ok (reply.Rung bell)) = shown_bell (Some bell)
+bell_of (Ok (reply.Reaps what bell)) = shown_bell bell
 bell_of answer = shown_bell None
 
 abbrev pub told_not_opened : NotOpened → Answer

@@ -1,17 +1,17 @@
 -- The code of each answer.
-use Rattle.std.specs.Prelude.{ℕ, Option, Some, None}
+use Rattle.std.specs.Prelude.{ℕ, Result, Ok, Err}
 use Rattle.nvmesgl_c.specs.{Codes.{code_of_refusal, code_of_fill_fault, code_of_open_refusal}, declared.host.options.NotOpened.NotOpened}
 use Rattle.host_bench.specs.Values.{Reply}
 use Rattle.nvmesgl_c.specs.declared.host.options.NotOpened.TheVariants as not_opened
 use Rattle.host_bench.specs.declared.call.Reply.TheVariants as reply
 
--- of a call whose handle was closed there is no reply
-abbrev pub code_of_reply : Option Reply → ℕ
-code_of_reply None = 1
-code_of_reply (Some (reply.Refused why)) = code_of_refusal why
-code_of_reply (Some reply.NoValue) = 3
-code_of_reply (Some (reply.NotFilled why)) = code_of_fill_fault why
-code_of_reply (Some answer) = 0
+-- of a call on a handle that keeps nothing there is no reply, but its code
+abbrev pub code_of_reply : Result Reply ℕ → ℕ
+code_of_reply (Err code) = code
+code_of_reply (Ok (reply.Refused why)) = code_of_refusal why
+code_of_reply (Ok reply.NoValue) = 3
+code_of_reply (Ok (reply.NotFilled why)) = code_of_fill_fault why
+code_of_reply (Ok answer) = 0
 
 abbrev pub code_of_not_opened : NotOpened → ℕ
 code_of_not_opened not_opened.BadSize = 7

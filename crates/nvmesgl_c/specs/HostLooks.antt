@@ -1,6 +1,6 @@
 -- What a handle shows of its host.
-use Rattle.std.specs.{List.Contains, Option.option_map, Prelude.{◌≡◌, ◌≤◌, ℕ, true, false, Option, Some, None, length, slice_get}}
-use Rattle.nvmesgl_c.specs.{Owners.owner_of, declared.{host.looks.{CHostQueue.CHostQueue, CPages.CPages}, words.owner.COwner.COwner}}
+use Rattle.std.specs.{List.Contains, Option.option_map, Prelude.{◌≡◌, ◌≤◌, ℕ, true, false, Option, Some, None, Ok, Err, [], ◌∷◌, length, slice_get}}
+use Rattle.nvmesgl_c.specs.{HostKept.Kept, Keeping.code_of_mark, Owners.owner_of, declared.{host.looks.{CHostQueue.CHostQueue, CPages.CPages}, words.owner.COwner.COwner}}
 use Rattle.machine_model.specs.{Claims.claims_of, Script.Table, declared.words.HostState.HostState}
 use Rattle.page_ledger.specs.declared.owner.Owner.{Owner}
 use Rattle.host_core.specs.{Rights.memory_of_queue, declared.rights.{QueueMemory.QueueMemory, Run.Run}}
@@ -17,12 +17,13 @@ pages_of t =
       queue_pages = counts.queue_pages;
       chain_pages = counts.chain_pages;
       data_pages = counts.data_pages;
+      reserved = 0 ∷ 0 ∷ 0 ∷ 0 ∷ [];
     }
 
 -- the counts, of a handle that is open
-abbrev pub TellsCounts : Option Table → ℕ → CPages → CPages → Option Table → Type 0
-TellsCounts None code old new left = (code ≡ 1) × (new ≡ old) × (left ≡ None)
-TellsCounts (Some t) code old new left = (code ≡ 0) × (new ≡ pages_of t) × (left ≡ Some t)
+abbrev pub TellsCounts : Kept → ℕ → CPages → CPages → Kept → Type 0
+TellsCounts (Err h) code old new left = (code ≡ code_of_mark h.mark) × (new ≡ old) × (left ≡ Err h)
+TellsCounts (Ok t) code old new left = (code ≡ 0) × (new ≡ pages_of t) × (left ≡ Ok t)
 
 -- a page is looked for: its owner is that of the one claim in which it stands; there is none outside the pool
 abbrev pub FindsOwner : Table → ℕ → Option Owner → Type 0
@@ -34,9 +35,9 @@ ShowsOwner None code old new = (code ≡ 6) × (new ≡ old)
 ShowsOwner (Some owner) code old new = (code ≡ 0) × (new ≡ owner_of owner)
 
 -- the owner of a page, of a handle that is open
-abbrev pub TellsOwner : Option Table → ℕ → ℕ → COwner → COwner → Option Table → Type 0
-TellsOwner None page code old new left = (code ≡ 1) × (new ≡ old) × (left ≡ None)
-TellsOwner (Some t) page code old new left = (found : Option Owner) × FindsOwner t page found × ShowsOwner found code old new × (left ≡ Some t)
+abbrev pub TellsOwner : Kept → ℕ → ℕ → COwner → COwner → Kept → Type 0
+TellsOwner (Err h) page code old new left = (code ≡ code_of_mark h.mark) × (new ≡ old) × (left ≡ Err h)
+TellsOwner (Ok t) page code old new left = (found : Option Owner) × FindsOwner t page found × ShowsOwner found code old new × (left ≡ Ok t)
 
 -- a queue's state as a number, and a queue as C sees it
 abbrev pub number_of : HostState → ℕ
@@ -66,6 +67,7 @@ queue_of state at memory =
       completion_page = (ring_of memory.completion).0;
       submission_pages = (ring_of memory.submission).1;
       completion_pages = (ring_of memory.completion).1;
+      reserved = 0 ∷ 0 ∷ 0 ∷ 0 ∷ [];
     }
 
 -- the queue of this number is told, if there is one
@@ -76,6 +78,6 @@ abbrev pub ShowsQueue : Option CHostQueue → ℕ → CHostQueue → CHostQueue 
 ShowsQueue None code old new = (code ≡ 10) × (new ≡ old)
 ShowsQueue (Some queue) code old new = (code ≡ 0) × (new ≡ queue)
 
-abbrev pub TellsQueue : Option Table → ℕ → ℕ → CHostQueue → CHostQueue → Option Table → Type 0
-TellsQueue None q code old new left = (code ≡ 1) × (new ≡ old) × (left ≡ None)
-TellsQueue (Some t) q code old new left = (found : Option CHostQueue) × FindsQueue t q found × ShowsQueue found code old new × (left ≡ Some t)
+abbrev pub TellsQueue : Kept → ℕ → ℕ → CHostQueue → CHostQueue → Kept → Type 0
+TellsQueue (Err h) q code old new left = (code ≡ code_of_mark h.mark) × (new ≡ old) × (left ≡ Err h)
+TellsQueue (Ok t) q code old new left = (found : Option CHostQueue) × FindsQueue t q found × ShowsQueue found code old new × (left ≡ Ok t)

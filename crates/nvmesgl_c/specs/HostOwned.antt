@@ -1,5 +1,5 @@
 -- What a handle owns: what the host that is held by its pointer owns.
-use Rattle.std.specs.{Coded.coded_option, Global.Global, Prelude.{Bool, Option}, contracts.impls.GlobalAllocator.TheImpl.ghosts}
+use Rattle.std.specs.{Coded.coded_option, Global.Global, Prelude.{ℕ, Option}, contracts.impls.GlobalAllocator.TheImpl.ghosts}
 use base.{Fml.Fml, Stored.Coded}
 use denote.{RattleType.RattleType, RawPtr.Ptr}
 use Rattle.machine_model.specs.Script.{Table}
@@ -13,5 +13,9 @@ Row = bench.the_row heap.the_row ghosts
 abbrev pub bench_coded : Coded (Option Table)
 bench_coded = coded_option Row.coded
 
-abbrev pub handle_owns : Global → Bool → Ptr → Option Table → Fml
-handle_owns alloc full at bench = held_owns (ghosts.dealloc_token alloc) Row full at bench
+abbrev pub kept_owns : Global → Ptr → Option Table → Fml
+kept_owns alloc at bench = held_owns (ghosts.dealloc_token alloc) Row at bench
+
+-- the mark of a handle that keeps one
+abbrev pub own_mark : ℕ
+own_mark = 0x7473_6F68

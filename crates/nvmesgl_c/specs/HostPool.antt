@@ -1,7 +1,8 @@
 -- What a device's reads and writes answer, and what they leave of the host that a handle keeps.
-use Rattle.std.specs.Prelude.{◌≡◌, ◌&&◌, ℕ, nat_lt, nat_le, Bool, true, false, Option, Some, None, List, length}
+use Rattle.std.specs.Prelude.{◌≡◌, ◌&&◌, ℕ, nat_lt, nat_le, Bool, true, false, Option, Some, None, Ok, Err, List, length}
 use Rattle.host_bench.specs.Pool.{IsWritten}
 use Rattle.machine_model.specs.Script.{Table}
+use Rattle.nvmesgl_c.specs.{HostKept.Kept, Keeping.code_of_mark}
 use Rattle.page_memory.specs.{Memory.bytes_at, Pages.byte_at}
 
 -- whether so many bytes are moved by one call
@@ -21,10 +22,10 @@ Shows true None code old new = (code ≡ 54) × (new ≡ old)
 abbrev pub ReadsFrom : Table → ℕ → ℕ → List ℕ → List ℕ → Table → Type 0
 ReadsFrom t addr code old buffer new = Shows (fits (length old)) (bytes_from t addr (length old)) code old buffer × (new ≡ t)
 
-abbrev pub Reads : Option Table → ℕ → ℕ → List ℕ → List ℕ → Option Table → Type 0
-Reads None addr code old buffer new = (code ≡ 1) × (buffer ≡ old) × (new ≡ None)
-Reads (Some t) addr code old buffer (Some new) = ReadsFrom t addr code old buffer new
-Reads (Some t) addr code old buffer None = ⊥
+abbrev pub Reads : Kept → ℕ → ℕ → List ℕ → List ℕ → Kept → Type 0
+Reads (Err h) addr code old buffer new = (code ≡ code_of_mark h.mark) × (buffer ≡ old) × (new ≡ Err h)
+Reads (Ok t) addr code old buffer (Ok new) = ReadsFrom t addr code old buffer new
+Reads (Ok t) addr code old buffer (Err h) = ⊥
 
 -- bytes are written where bytes stand, or nothing changes
 abbrev pub Puts : Bool → Option (List ℕ) → Table → ℕ → List ℕ → ℕ → Table → Type 0
@@ -35,7 +36,7 @@ Puts true None t addr bytes code new = (code ≡ 54) × (new ≡ t)
 abbrev pub WritesInto : Table → ℕ → List ℕ → ℕ → Table → Type 0
 WritesInto t addr bytes code new = Puts (fits (length bytes)) (bytes_from t addr (length bytes)) t addr bytes code new
 
-abbrev pub Writes : Option Table → ℕ → List ℕ → ℕ → Option Table → Type 0
-Writes None addr bytes code new = (code ≡ 1) × (new ≡ None)
-Writes (Some t) addr bytes code (Some new) = WritesInto t addr bytes code new
-Writes (Some t) addr bytes code None = ⊥
+abbrev pub Writes : Kept → ℕ → List ℕ → ℕ → Kept → Type 0
+Writes (Err h) addr bytes code new = (code ≡ code_of_mark h.mark) × (new ≡ Err h)
+Writes (Ok t) addr bytes code (Ok new) = WritesInto t addr bytes code new
+Writes (Ok t) addr bytes code (Err h) = ⊥

@@ -13,7 +13,11 @@ abbrev pub IsBadImage : ℕ → List ℕ → Type 0
 IsBadImage blocks [] = (blocks ≡ 0) ⊎ (most_blocks < blocks)
 IsBadImage blocks (byte ∷ bytes) = IsImage (byte ∷ bytes) → ⊥
 
--- when no image is made for a cause
+-- they have a length that an image has
+abbrev pub IsGoodImage : ℕ → List ℕ → Type 0
+IsGoodImage blocks bytes = IsBadImage blocks bytes → ⊥
+
+-- when no image is made for a cause: memory is refused only where the length is an image's
 abbrev pub IsNoImage : ℕ → List ℕ → ImageError → Type 0
 IsNoImage blocks bytes image_error.BadLength = IsBadImage blocks bytes
-IsNoImage blocks bytes image_error.Memory = Unit {0}
+IsNoImage blocks bytes image_error.Memory = IsGoodImage blocks bytes

@@ -1,4 +1,5 @@
 pub mod HeldOwned
+pub mod Keeping
 pub mod Answers
 pub mod Codes
 pub mod Images
@@ -11,6 +12,7 @@ pub mod MachineCodes
 pub mod MachineLooks
 pub mod MachineOptions
 pub mod MachineOwned
+pub mod MachineKept
 pub mod MachineServing
 pub mod MachineWhole
 pub mod ControllerCalls
@@ -19,7 +21,9 @@ pub mod ControllerLooks
 pub mod ControllerNext
 pub mod ControllerOptions
 pub mod ControllerOwned
+pub mod ControllerKept
 pub mod HostOwned
+pub mod HostKept
 pub mod HostOptions
 pub mod HostAnswers
 pub mod HostCodes

@@ -1,5 +1,5 @@
 -- What C is told of each reply besides its code.
-use Rattle.std.specs.Prelude.{ℕ, Option, Some, None, length}
+use Rattle.std.specs.Prelude.{ℕ, Result, Ok, Err, length}
 use Rattle.nvmesgl_c.specs.{Answers.{nothing, touching, ended, walked, reaped, refused}, declared.machine.options.NotOpened.NotOpened}
 use Rattle.nvmesgl_c.specs.declared.words.answer.Answer.{Answer}
 use Rattle.step_core.specs.Values.{Reply}
@@ -21,10 +21,10 @@ told_of reply.Accepted = nothing
 told_of reply.NoValue = nothing
 told_of (reply.NotFilled why) = nothing
 
--- of a step whose handle was closed there is no reply
-abbrev pub told : Option Reply → Answer
-told (Some answer) = told_of answer
-told None = nothing
+-- of a step on a handle that keeps nothing there is no reply
+abbrev pub told : Result Reply ℕ → Answer
+told (Ok answer) = told_of answer
+told (Err code) = nothing
 
 abbrev pub told_not_opened : NotOpened → Answer
 told_not_opened (not_opened.Refused why) = words.not_opened why

@@ -1,35 +1,34 @@
 -- What each call answers, and what it leaves of the bench that a handle keeps.
 use Rattle.std.specs.List.{list_any}
-use Rattle.std.specs.Prelude.{◌≡◌, ◌⊎◌, ◌<◌, ◌++◌, ℕ, Bool, true, false, Option, Some, None, List, length, drop, map, take}
-use Rattle.io_commands.specs.{Asked.Request, declared.request.Kind.Kind}
-use Rattle.machine_model.specs.Script.{Table}
-use Rattle.nvmesgl_c.specs.{Answers.nothing, MachineAnswers.told, MachineCodes.code_of_reply, Requests.{is_no_piece, kind_of, piece_of}, declared.words.answer.Answer.Answer}
+use Rattle.std.specs.Prelude.{◌≡◌, ◌⊎◌, ◌<◌, ◌++◌, ℕ, Bool, true, false, Option, Some, None, Result, Ok, Err, List, length, drop, map, take}
+use Rattle.io_commands.specs.{declared.request.Kind.Kind}
+use Rattle.nvmesgl_c.specs.{Answers.nothing, MachineAnswers.told, MachineCodes.code_of_reply, MachineKept.Kept, Keeping.code_of_mark, Requests.{is_no_piece, kind_of, piece_of}, declared.words.answer.Answer.Answer}
 use Rattle.nvmesgl_c.specs.declared.words.piece.CPiece.{CPiece}
 use Rattle.step_core.specs.{Bench.Does, Values.{Step, Reply}}
 use Rattle.nvmesgl_c.specs.Requests as requests
 use Rattle.step_core.specs.declared.step.Reply.TheVariants as reply
 use Rattle.step_core.specs.declared.step.Step.TheVariants as step
 
--- a step of the bench that a handle keeps, if it keeps one
-abbrev pub DoesKept : Option Table → Step → Option Reply → Option Table → Type 0
-DoesKept None what None new = new ≡ None
-DoesKept (Some t) what (Some answer) (Some new) = Does t what answer new
+-- a step of the bench that a handle keeps; one that keeps none stays as it is, and has its code
+abbrev pub DoesKept : Kept → Step → Result Reply ℕ → Kept → Type 0
+DoesKept (Err h) what (Err code) new = (code ≡ code_of_mark h.mark) × (new ≡ Err h)
+DoesKept (Ok t) what (Ok answer) (Ok new) = Does t what answer new
 DoesKept t what answer new = ⊥
 
 -- a call that is a step
-pub record Says (t : Option Table) (what : Step) (code : ℕ) (answer : Answer) (new : Option Table) : Type 0 where
-  pub reply : Option Reply
+pub record Says (t : Kept) (what : Step) (code : ℕ) (answer : Answer) (new : Kept) : Type 0 where
+  pub reply : Result Reply ℕ
   pub does : DoesKept t what reply new
   pub code_is : code ≡ code_of_reply reply
   pub answer_is : answer ≡ told reply
 
 -- a call that makes no step, for a cause; nothing changes
-abbrev pub Refuses : Option Table → ℕ → ℕ → Answer → Option Table → Type 0
-Refuses None cause code answer new = (code ≡ 1) × (answer ≡ nothing) × (new ≡ None)
-Refuses (Some t) cause code answer new = (code ≡ cause) × (answer ≡ nothing) × (new ≡ Some t)
+abbrev pub Refuses : Kept → ℕ → ℕ → Answer → Kept → Type 0
+Refuses (Err h) cause code answer new = (code ≡ code_of_mark h.mark) × (answer ≡ nothing) × (new ≡ Err h)
+Refuses (Ok t) cause code answer new = (code ≡ cause) × (answer ≡ nothing) × (new ≡ Ok t)
 
 -- a call that is a step, or is refused memory for what the step takes along
-abbrev pub SaysOrWants : Option Table → Step → ℕ → Answer → Option Table → Type 0
+abbrev pub SaysOrWants : Kept → Step → ℕ → Answer → Kept → Type 0
 SaysOrWants t what code answer new = Says t what code answer new ⊎ Refuses t 15 code answer new
 
 -- of more bytes than a command moves, one more than that is looked at
@@ -37,27 +36,27 @@ abbrev pub looked_at : List ℕ → List ℕ
 looked_at bytes = take 1048577 bytes
 
 -- a reservation of a kind of command, where some piece is of no kind, and where each is of one
-abbrev pub ReservesPieces : Bool → Kind → Option Table → ℕ → ℕ → ℕ → List CPiece → ℕ → Answer → Option Table → Type 0
+abbrev pub ReservesPieces : Bool → Kind → Kept → ℕ → ℕ → ℕ → List CPiece → ℕ → Answer → Kept → Type 0
 ReservesPieces true k t q slba blocks pieces code answer new = Refuses t 56 code answer new
 ReservesPieces false k t q slba blocks pieces code answer new =
     SaysOrWants t (step.Reserve q (record { kind = k; slba = slba; blocks = blocks; pieces = map piece_of pieces })) code answer new
 
 -- a reservation of a kind of command
-abbrev pub ReservesKind : Option Kind → Option Table → ℕ → ℕ → ℕ → List CPiece → ℕ → Answer → Option Table → Type 0
+abbrev pub ReservesKind : Option Kind → Kept → ℕ → ℕ → ℕ → List CPiece → ℕ → Answer → Kept → Type 0
 ReservesKind None t q slba blocks pieces code answer new = Refuses t 4 code answer new
 ReservesKind (Some k) t q slba blocks pieces code answer new = ReservesPieces (list_any is_no_piece pieces) k t q slba blocks pieces code answer new
 
-abbrev pub Reserves : Option Table → ℕ → ℕ → ℕ → ℕ → List CPiece → ℕ → Answer → Option Table → Type 0
+abbrev pub Reserves : Kept → ℕ → ℕ → ℕ → ℕ → List CPiece → ℕ → Answer → Kept → Type 0
 Reserves t q number slba blocks pieces code answer new = ReservesKind (kind_of number) t q slba blocks (requests.looked_at pieces) code answer new
 
 -- a Read's bytes at the front of a buffer, where they fit
-abbrev pub Laid : Option Reply → ℕ → List ℕ → List ℕ → Type 0
-Laid (Some (reply.Gathered bytes)) code old new =
+abbrev pub Laid : Result Reply ℕ → ℕ → List ℕ → List ℕ → Type 0
+Laid (Ok (reply.Gathered bytes)) code old new =
     ((length old < length bytes) × (code ≡ 5) × (new ≡ old)) ⊎ ((code ≡ 0) × (new ≡ bytes ++ drop (length bytes) old))
 Laid answer code old new = (code ≡ code_of_reply answer) × (new ≡ old)
 
-pub record Gathers (t : Option Table) (q cid code : ℕ) (old buffer : List ℕ) (answer : Answer) (new : Option Table) : Type 0 where
-  pub reply : Option Reply
+pub record Gathers (t : Kept) (q cid code : ℕ) (old buffer : List ℕ) (answer : Answer) (new : Kept) : Type 0 where
+  pub reply : Result Reply ℕ
   pub does : DoesKept t (step.Gather q cid) reply new
   pub laid : Laid reply code old buffer
   pub answer_is : answer ≡ told reply

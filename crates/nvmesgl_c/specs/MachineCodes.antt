@@ -1,5 +1,5 @@
 -- The code of each answer.
-use Rattle.std.specs.Prelude.{ℕ, Option, Some, None}
+use Rattle.std.specs.Prelude.{ℕ, Result, Ok, Err}
 use Rattle.nvmesgl_c.specs.{Codes.{code_of_refusal, code_of_fill_fault, code_of_open_refusal}, declared.machine.options.NotOpened.NotOpened}
 use Rattle.step_core.specs.Values.{Reply}
 use Rattle.nvmesgl_c.specs.declared.machine.options.NotOpened.TheVariants as not_opened
@@ -11,10 +11,10 @@ code_of_answer reply.NoValue = 3
 code_of_answer (reply.NotFilled why) = code_of_fill_fault why
 code_of_answer answer = 0
 
--- of a step whose handle was closed there is no reply
-abbrev pub code_of_reply : Option Reply → ℕ
-code_of_reply None = 1
-code_of_reply (Some answer) = code_of_answer answer
+-- of a step on a handle that keeps nothing there is no reply, but its code
+abbrev pub code_of_reply : Result Reply ℕ → ℕ
+code_of_reply (Err code) = code
+code_of_reply (Ok answer) = code_of_answer answer
 
 abbrev pub code_of_not_opened : NotOpened → ℕ
 code_of_not_opened not_opened.BadSize = 7

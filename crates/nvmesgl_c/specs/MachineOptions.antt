@@ -1,8 +1,8 @@
 -- What the options of an opening say, and when a handle is not opened.
-use Rattle.std.specs.{List.list_any, Prelude.{◌≡◌, ◌==◌, ℕ, Option, Some, None, List, if◌then◌else◌}}
+use Rattle.std.specs.{List.list_any, Prelude.{◌≡◌, ◌==◌, ℕ, Option, Some, None, Ok, Err, List, if◌then◌else◌}}
 use Rattle.host_core.specs.{Opening.{refusal_of_config, RefusesOpening}, declared.config.Config.Config}
 use Rattle.machine_model.specs.Script.{Table, table}
-use Rattle.nvmesgl_c.specs.{Answers.nothing, Images.{image_of, IsBadImage}, MachineAnswers.told_not_opened, MachineCodes.code_of_not_opened, Requests.is_set}
+use Rattle.nvmesgl_c.specs.{Answers.nothing, Images.{image_of, IsBadImage, IsGoodImage}, MachineAnswers.told_not_opened, MachineCodes.code_of_not_opened, MachineKept.{Kept, cause_in}, Requests.is_set}
 use Rattle.nvmesgl_c.specs.declared.{machine.options.{NotOpened.NotOpened, Options.Options}, words.answer.Answer.Answer}
 use Rattle.step_core.specs.Opening.{opening_of}
 use Rattle.nvmesgl_c.specs.declared.machine.options.NotOpened.TheVariants as not_opened
@@ -18,11 +18,11 @@ fault_of o =
     then (if list_any is_set o.reserved then Some not_opened.BadOption else None)
     else Some not_opened.BadSize
 
--- when a handle is not opened for a cause
+-- when a handle is not opened for a cause: the first that holds; memory is refused only where there is no other
 abbrev pub IsWhy : Options → List ℕ → NotOpened → Type 0
-IsWhy o bytes (not_opened.Refused why) = (fault_of o ≡ None) × RefusesOpening (config_of o) why
+IsWhy o bytes (not_opened.Refused why) = (fault_of o ≡ None) × IsGoodImage o.blocks bytes × RefusesOpening (config_of o) why
 IsWhy o bytes not_opened.BadImage = (fault_of o ≡ None) × IsBadImage o.blocks bytes
-IsWhy o bytes not_opened.Memory = fault_of o ≡ None
+IsWhy o bytes not_opened.Memory = (fault_of o ≡ None) × IsGoodImage o.blocks bytes × (refusal_of_config (config_of o) ≡ None)
 IsWhy o bytes why = fault_of o ≡ Some why
 
 -- what an opening makes
@@ -31,8 +31,12 @@ pub record IsOpened (o : Options) (bytes : List ℕ) (new : Table) : Type 0 wher
   pub config : refusal_of_config (config_of o) ≡ None
   pub opened : new ≡ table (opening_of (config_of o) (image_of o.blocks bytes))
 
--- an opening: a handle that is open stays as it is; one that is closed opens, or stays closed for a cause that is told
-abbrev pub Opens : Option Table → Options → List ℕ → ℕ → Answer → Option Table → Type 0
-Opens (Some t) o bytes code answer new = (code ≡ 2) × (answer ≡ nothing) × (new ≡ Some t)
-Opens None o bytes code answer (Some new) = (code ≡ 0) × (answer ≡ nothing) × IsOpened o bytes new
-Opens None o bytes code answer None = (why : NotOpened) × IsWhy o bytes why × (code ≡ code_of_not_opened why) × (answer ≡ told_not_opened why)
+-- an opening that nothing about the handle stands against, or one that its handle is refused for
+abbrev pub OpensBy : Option ℕ → Kept → Options → List ℕ → ℕ → Answer → Kept → Type 0
+OpensBy (Some cause) t o bytes code answer new = (code ≡ cause) × (answer ≡ nothing) × (new ≡ t)
+OpensBy None t o bytes code answer (Ok new) = (code ≡ 0) × (answer ≡ nothing) × IsOpened o bytes new
+OpensBy None t o bytes code answer (Err h) = (why : NotOpened) × IsWhy o bytes why × (code ≡ code_of_not_opened why) × (answer ≡ told_not_opened why) × (t ≡ Err h)
+
+-- an opening: a handle that is open, or is none of this kind, stays as it is; one that is closed opens, or stays closed for a cause that is told
+abbrev pub Opens : Kept → Options → List ℕ → ℕ → Answer → Kept → Type 0
+Opens t o bytes code answer new = OpensBy (cause_in t) t o bytes code answer new

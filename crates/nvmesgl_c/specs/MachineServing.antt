@@ -1,9 +1,9 @@
 -- What the controller does in one call: steps of its own, one after the other.
 use Rattle.std.specs.List.{AllByRecursion}
-use Rattle.std.specs.Prelude.{◌≡◌, ◌++◌, ℕ, Bool, true, false, IsTrue, Option, Some, None, List, [], ◌∷◌, count_by, length}
+use Rattle.std.specs.Prelude.{◌≡◌, ◌++◌, ℕ, Bool, true, false, IsTrue, Option, Some, None, Ok, Err, List, [], ◌∷◌, count_by, length}
 use Rattle.machine_model.specs.{Script.Table, declared.words.Refusal.Refusal}
 use Rattle.step_core.specs.{Bench.DoesAll, Looks.IsAtRest, Values.{Step, Reply}}
-use Rattle.nvmesgl_c.specs.{Answers.nothing, Codes.code_of_refusal, declared.{machine.serve.{ServeEnd.ServeEnd, Served.Served}, words.answer.Answer.Answer}}
+use Rattle.nvmesgl_c.specs.{Answers.nothing, Codes.code_of_refusal, MachineKept.Kept, Keeping.code_of_mark, declared.{machine.serve.{ServeEnd.ServeEnd, Served.Served}, words.answer.Answer.Answer}}
 use Rattle.nvmesgl_c.specs.declared.machine.serve.ServeEnd.TheVariants as serve_end
 use Rattle.step_core.specs.declared.step.Reply.TheVariants as reply
 use Rattle.step_core.specs.declared.step.Step.TheVariants as step
@@ -57,7 +57,7 @@ abbrev pub told_serving : Served → Answer
 told_serving served = record nothing { state = state_of_end served.end; count = served.completed }
 
 -- the call, of a handle that keeps a bench or none
-abbrev pub ServesKept : Option Table → ℕ → Answer → Option Table → Type 0
-ServesKept None code answer new = (code ≡ 1) × (answer ≡ nothing) × (new ≡ None)
-ServesKept (Some t) code answer None = ⊥
-ServesKept (Some t) code answer (Some new) = (served : Served) × Serves t served new × (code ≡ code_of_end served.end) × (answer ≡ told_serving served)
+abbrev pub ServesKept : Kept → ℕ → Answer → Kept → Type 0
+ServesKept (Err h) code answer new = (code ≡ code_of_mark h.mark) × (answer ≡ nothing) × (new ≡ Err h)
+ServesKept (Ok t) code answer (Err h) = ⊥
+ServesKept (Ok t) code answer (Ok new) = (served : Served) × Serves t served new × (code ≡ code_of_end served.end) × (answer ≡ told_serving served)

@@ -1,11 +1,11 @@
 -- A whole command in one call: the steps that carry it from its reservation to its release.
 use Rattle.std.specs.List.{AllByRecursion}
-use Rattle.std.specs.Prelude.{◌≡◌, ◌⊎◌, ◌++◌, ◌==◌, ◌/◌, ◌%◌, ◌<◌, ◌≤◌, ℕ, Bool, true, false, Option, Some, None, List, [], ◌∷◌, drop, if◌then◌else◌, length, map, replicate}
+use Rattle.std.specs.Prelude.{◌≡◌, ◌⊎◌, ◌++◌, ◌==◌, ◌/◌, ◌%◌, ◌<◌, ◌≤◌, ℕ, Bool, true, false, Option, Some, None, Result, Ok, Err, List, [], ◌∷◌, drop, if◌then◌else◌, length, map, replicate}
 use Rattle.io_commands.specs.{Asked.Request, declared.request.{Kind.Kind, Piece.Piece}}
 use Rattle.entry_codec.specs.declared.status.Status.{Status}
 use Rattle.machine_model.specs.Script.{Table}
 use Rattle.step_core.specs.{Bench.{Does, DoesAll}, Values.{Step, Reply}}
-use Rattle.nvmesgl_c.specs.{Answers.{nothing, ended}, MachineAnswers.told_of, MachineCalls.Refuses, MachineCodes.code_of_answer, MachineServing.Serves, declared.words.answer.Answer.Answer}
+use Rattle.nvmesgl_c.specs.{Answers.{nothing, ended}, MachineAnswers.told_of, MachineCalls.Refuses, MachineCodes.code_of_answer, MachineKept.Kept, Keeping.code_of_mark, MachineServing.Serves, declared.words.answer.Answer.Answer}
 use Rattle.nvmesgl_c.specs.declared.machine.{carrying.Carried.{Carried, TheVariants.{Ended, NotReserved, GivenUp, Left}}, serve.Served.Served}
 use Rattle.io_commands.specs.declared.request.Kind.TheVariants as kind
 use Rattle.io_commands.specs.declared.request.Piece.TheVariants as piece
@@ -166,45 +166,45 @@ told_carried (GivenUp why) = told_of why
 told_carried (Left cid why) = record nothing { state = 11; cid = cid }
 
 -- a command of a handle that keeps a bench or none
-abbrev pub CarriesKept : Option Table → ℕ → Request → Option (List ℕ) → Option Carried → Option Table → Type 0
-CarriesKept None q request bytes None new = new ≡ None
-CarriesKept (Some t) q request bytes (Some carried) (Some new) = Carries t q request bytes carried new
+abbrev pub CarriesKept : Kept → ℕ → Request → Option (List ℕ) → Result Carried ℕ → Kept → Type 0
+CarriesKept (Err h) q request bytes (Err code) new = (code ≡ code_of_mark h.mark) × (new ≡ Err h)
+CarriesKept (Ok t) q request bytes (Ok carried) (Ok new) = Carries t q request bytes carried new
 CarriesKept t q request bytes carried new = ⊥
 
-abbrev pub code_of : Option Carried → ℕ
-code_of None = 1
-code_of (Some carried) = code_of_carried carried
+abbrev pub code_of : Result Carried ℕ → ℕ
+code_of (Err code) = code
+code_of (Ok carried) = code_of_carried carried
 
-abbrev pub told_of_kept : Option Carried → Answer
-told_of_kept None = nothing
-told_of_kept (Some carried) = told_carried carried
+abbrev pub told_of_kept : Result Carried ℕ → Answer
+told_of_kept (Err code) = nothing
+told_of_kept (Ok carried) = told_carried carried
 
 -- what is not carried: more bytes than a command moves, or memory is refused for what it takes along
-abbrev pub IsTurnedAway : Option Table → ℕ → ℕ → Answer → Option Table → Type 0
+abbrev pub IsTurnedAway : Kept → ℕ → ℕ → Answer → Kept → Type 0
 IsTurnedAway t n code answer new = ((1048576 < n) × Refuses t 43 code answer new) ⊎ ((n ≤ 1048576) × Refuses t 15 code answer new)
 
 -- a Write or a Compare of these bytes
-pub record Sends (t : Option Table) (q : ℕ) (kind : Kind) (slba : ℕ) (bytes : List ℕ) (code : ℕ) (answer : Answer) (new : Option Table) : Type 0 where
-  pub carried : Option Carried
+pub record Sends (t : Kept) (q : ℕ) (kind : Kind) (slba : ℕ) (bytes : List ℕ) (code : ℕ) (answer : Answer) (new : Kept) : Type 0 where
+  pub carried : Result Carried ℕ
   pub few : length bytes ≤ 1048576
   pub carries : CarriesKept t q (request_of kind slba (length bytes)) (Some bytes) carried new
   pub code_is : code ≡ code_of carried
   pub answer_is : answer ≡ told_of_kept carried
 
 -- a Read's bytes at the front of a buffer, where they fit
-abbrev pub LaidOf : Option Carried → ℕ → List ℕ → List ℕ → Type 0
-LaidOf (Some (Ended status gathered)) code old new =
+abbrev pub LaidOf : Result Carried ℕ → ℕ → List ℕ → List ℕ → Type 0
+LaidOf (Ok (Ended status gathered)) code old new =
     ((length old < length gathered) × (code ≡ 5) × (new ≡ old)) ⊎ ((code ≡ 0) × (new ≡ gathered ++ drop (length gathered) old))
 LaidOf carried code old new = (code ≡ code_of carried) × (new ≡ old)
 
 -- a Read into a buffer
-pub record Brings (t : Option Table) (q slba : ℕ) (old buffer : List ℕ) (code : ℕ) (answer : Answer) (new : Option Table) : Type 0 where
-  pub carried : Option Carried
+pub record Brings (t : Kept) (q slba : ℕ) (old buffer : List ℕ) (code : ℕ) (answer : Answer) (new : Kept) : Type 0 where
+  pub carried : Result Carried ℕ
   pub few : length old ≤ 1048576
   pub carries : CarriesKept t q (request_of kind.Read slba (length old)) None carried new
   pub laid : LaidOf carried code old buffer
   pub answer_is : answer ≡ told_of_kept carried
 
 -- a Read that is not carried: the buffer stays as it was
-abbrev pub IsTurnedAwayFrom : List ℕ → List ℕ → Option Table → ℕ → Answer → Option Table → Type 0
+abbrev pub IsTurnedAwayFrom : List ℕ → List ℕ → Kept → ℕ → Answer → Kept → Type 0
 IsTurnedAwayFrom old buffer t code answer new = (buffer ≡ old) × IsTurnedAway t (length old) code answer new

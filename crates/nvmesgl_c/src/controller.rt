@@ -8,6 +8,7 @@ mod calls;
 mod code;
 mod doorbells;
 mod handle;
+mod keeping;
 mod looks;
 mod next;
 mod opening;

@@ -1,6 +1,6 @@
-//! A box, or none, as a pointer and a flag: what a value that C keeps stands on.
+//! A box by its pointer, or none: what a value that C keeps stands on.
 
-ghost use Rattle.std.specs.Prelude.{◌≡◌, Option, None, Some, IfOk, IfErr};
+ghost use Rattle.std.specs.Prelude.{◌≡◌, Option, None, Some, is_some, true};
 ghost use Rattle.nvmesgl_c.specs.HeldOwned.{held_owns};
 
 use std::alloc::Allocator;
@@ -9,17 +9,15 @@ use std::ptr::null_mut;
 
 /// A box by its pointer, or none. Contracts see the value in the box.
 pub struct Held<T, A: Allocator> {
-    /// Where the value is.
+    /// Where the value is, if there is one.
     pub at: *mut T,
-    /// Whether there is one.
-    pub full: bool,
     /// By what the box is freed.
     pub alloc: A,
     pub ghost value: { Option T },
 }
 
 impl<T, A: Allocator> Model for Held<T, A> {
-    ghost also_owns = { λ h. held_owns (A.dealloc_token h.alloc) T.row h.full h.at h.value };
+    ghost also_owns = { λ h. held_owns (A.dealloc_token h.alloc) T.row h.at h.value };
 }
 
 impl<T, A: Allocator> Held<T, A> {
@@ -29,7 +27,6 @@ impl<T, A: Allocator> Held<T, A> {
     {
         Held {
             at: null_mut(),
-            full: false,
             alloc,
         }
     }
@@ -41,23 +38,15 @@ impl<T, A: Allocator> Held<T, A> {
         ensures { result.value ≡ Some value.value }
     {
         let (at, alloc) = Box::into_raw_with_allocator(value);
-        Held {
-            at,
-            full: true,
-            alloc,
-        }
+        Held { at, alloc }
     }
 
-    /// The box, if there is one. The allocator is let go with none.
-    pub fn into_box(self) -> Result<Box<T, A>, A>
-        ensures some { IfOk result (λ b. self.value ≡ Some b.value) }
-        ensures none { IfErr result (λ _. self.value ≡ None) }
+    /// The box that there is.
+    pub fn into_box(self) -> Box<T, A>
+        requires { is_some self.value ≡ true }
+        ensures { Some result.value ≡ self.value }
     {
-        let Held { at, full, alloc } = self;
-        if full {
-            Ok(unsafe { Box::from_raw(alloc, at) })
-        } else {
-            Err(alloc)
-        }
+        let Held { at, alloc } = self;
+        unsafe { Box::from_raw(alloc, at) }
     }
 }

@@ -8,6 +8,7 @@ mod calls;
 mod code;
 mod commands;
 mod handle;
+mod keeping;
 mod looks;
 mod opening;
 mod options;

@@ -10,6 +10,7 @@ mod commands;
 mod controller;
 mod desk;
 mod handle;
+mod keeping;
 mod looks;
 mod opening;
 mod options;

@@ -1,12 +1,12 @@
 //! The calls that are lent a pool.
 
-ghost use Rattle.std.specs.Prelude.{◌≡◌, ◌≤◌, IfOk, IfErr, OnOk, Some, None, length};
+ghost use Rattle.std.specs.Prelude.{◌≡◌, ◌≤◌, IfOk, IfErr, OnOk, Ok, length};
+ghost use Rattle.nvmesgl_c.specs.ControllerKept.{kept_in};
 ghost use Rattle.nvmesgl_c.specs.ControllerCalls.{FetchesBy, WalksBy, CompletesBy, Lent, LendsNone};
 
 use crate::controller::code::POOL_TOO_LONG;
 use crate::controller::handle::Handle;
 use crate::controller::over::{complete, fetch, walk};
-use crate::words::code::CLOSED;
 use crate::words::{Answer, MOST_BYTES, nothing};
 use controller_core::Controller;
 use std::alloc::Global;
@@ -21,14 +21,11 @@ pub(crate) fn take_for(
     handle: &mut Handle,
     len: usize,
 ) -> Result<Box<Controller, Global>, u32>
-    ensures taken { IfOk result (λ controller. handle.old.controller ≡ Some controller.value) }
-    ensures left { OnOk result (handle.new.controller ≡ None) }
+    ensures taken { IfOk result (λ controller. kept_in handle.old ≡ Ok controller.value) }
     ensures fits { OnOk result (len ≤ 268435456) }
-    ensures refused { IfErr result (λ code. LendsNone handle.old.controller len code handle.new.controller) }
+    ensures refused { IfErr result (λ code. LendsNone (kept_in handle.old) len code (kept_in handle.new)) }
 {
-    let Some(controller) = handle.take(alloc) else {
-        return Err(CLOSED);
-    };
+    let controller = handle.take(alloc)?;
     if len > MOST_BYTES {
         handle.put(controller);
         return Err(POOL_TOO_LONG);
@@ -45,7 +42,7 @@ pub extern "C" fn nvmectl_fetch(
     pool: &mut [u8],
     answer: &mut Answer,
 ) -> u32
-    ensures { Lent (FetchesBy q) handle.old.controller pool.old result answer.new handle.new.controller pool.new }
+    ensures { Lent (FetchesBy q) (kept_in handle.old) pool.old result answer.new (kept_in handle.new) pool.new }
 {
     *answer = nothing();
     let mut controller = match take_for(alloc, handle, pool.len()) {
@@ -67,7 +64,7 @@ pub extern "C" fn nvmectl_walk(
     pool: &mut [u8],
     answer: &mut Answer,
 ) -> u32
-    ensures { Lent (WalksBy q cid) handle.old.controller pool.old result answer.new handle.new.controller pool.new }
+    ensures { Lent (WalksBy q cid) (kept_in handle.old) pool.old result answer.new (kept_in handle.new) pool.new }
 {
     *answer = nothing();
     let mut controller = match take_for(alloc, handle, pool.len()) {
@@ -89,7 +86,7 @@ pub extern "C" fn nvmectl_complete(
     pool: &mut [u8],
     answer: &mut Answer,
 ) -> u32
-    ensures { Lent (CompletesBy q cid) handle.old.controller pool.old result answer.new handle.new.controller pool.new }
+    ensures { Lent (CompletesBy q cid) (kept_in handle.old) pool.old result answer.new (kept_in handle.new) pool.new }
 {
     *answer = nothing();
     let mut controller = match take_for(alloc, handle, pool.len()) {

@@ -1,11 +1,12 @@
 //! The two doorbells of a queue.
 
 ghost use Rattle.std.specs.Prelude.{◌≡◌};
+ghost use Rattle.nvmesgl_c.specs.ControllerKept.{kept_in};
 ghost use Rattle.nvmesgl_c.specs.ControllerCalls.{tail_code, head_code, RingsTail, RingsHead};
 
 use crate::controller::code::{BAD_DOORBELL, NO_QUEUE};
 use crate::controller::handle::Handle;
-use crate::words::code::{CLOSED, DONE};
+use crate::words::code::DONE;
 use controller_core::ControllerQueue;
 use std::alloc::Global;
 
@@ -44,10 +45,11 @@ fn code_of_head(queues: &[ControllerQueue], q: u16, value: u16) -> u32
 /// A value is written to the tail doorbell of a submission queue.
 #[unsafe(no_mangle)]
 pub extern "C" fn nvmectl_tail(alloc: Global, handle: &mut Handle, q: u16, value: u16) -> u32
-    ensures { RingsTail handle.old.controller q value result handle.new.controller }
+    ensures { RingsTail (kept_in handle.old) q value result (kept_in handle.new) }
 {
-    let Some(mut controller) = handle.take(alloc) else {
-        return CLOSED;
+    let mut controller = match handle.take(alloc) {
+        Ok(controller) => controller,
+        Err(code) => return code,
     };
     let code = code_of_tail(controller.queues(), q, value);
     if code == DONE {
@@ -60,10 +62,11 @@ pub extern "C" fn nvmectl_tail(alloc: Global, handle: &mut Handle, q: u16, value
 /// A value is written to the head doorbell of a completion queue.
 #[unsafe(no_mangle)]
 pub extern "C" fn nvmectl_head(alloc: Global, handle: &mut Handle, q: u16, value: u16) -> u32
-    ensures { RingsHead handle.old.controller q value result handle.new.controller }
+    ensures { RingsHead (kept_in handle.old) q value result (kept_in handle.new) }
 {
-    let Some(mut controller) = handle.take(alloc) else {
-        return CLOSED;
+    let mut controller = match handle.take(alloc) {
+        Ok(controller) => controller,
+        Err(code) => return code,
     };
     let code = code_of_head(controller.queues(), q, value);
     if code == DONE {

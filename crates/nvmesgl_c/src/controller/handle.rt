@@ -1,41 +1,39 @@
 //! A controller that C keeps between its calls.
 
 ghost use Rattle.std.specs.Prelude.{◌≡◌, Option, None, Some};
-ghost use Rattle.std.specs.Option.{option_map};
 ghost use Rattle.controller_core.specs.Contents.{Contents};
-ghost use Rattle.nvmesgl_c.specs.ControllerOwned.{controller_coded, handle_owns};
+ghost use Rattle.nvmesgl_c.specs.Keeping.{IsMarked};
+ghost use Rattle.nvmesgl_c.specs.ControllerOwned.{controller_coded, kept_owns, own_mark};
 
 use crate::held::Held;
 use controller_core::Controller;
 use std::alloc::Global;
 use std::marker::Model;
-use std::mem::replace;
 
-/// A controller that C keeps, or none. C holds the bytes of this, all zero before the opening, and never looks inside.
+/// A controller by its pointer, or none. It frees nothing by itself: a [`Handle`] does.
 #[repr(C)]
-pub struct Handle {
+#[derive(Drop)]
+pub struct Kept {
     at: *mut u8,
-    full: bool,
     alloc: Global,
     pub ghost controller: { Option Contents } by { controller_coded },
 }
 
-impl Model for Handle {
-    ghost also_owns = { λ h. handle_owns h.alloc h.full h.at h.controller };
+impl Model for Kept {
+    ghost also_owns = { λ h. kept_owns h.alloc h.at h.controller };
 }
 
 // What frees the controller names no thread: a handle may go from thread to thread, where one call at a time is made on it.
-unsafe impl Send for Handle {}
+unsafe impl Send for Kept {}
 
-impl Handle {
-    /// The handle of what is held.
-    pub fn of_held(held: Held<Controller, Global>) -> Handle
+impl Kept {
+    /// What is held.
+    pub fn of_held(held: Held<Controller, Global>) -> Kept
         ensures { result.controller ≡ held.value }
     {
-        let Held { at, full, alloc } = held;
-        Handle {
+        let Held { at, alloc } = held;
+        Kept {
             at: at as *mut u8,
-            full,
             alloc,
         }
     }
@@ -44,55 +42,65 @@ impl Handle {
     pub fn into_held(self) -> Held<Controller, Global>
         ensures { result.value ≡ self.controller }
     {
-        let Handle { at, full, alloc } = self;
+        let Kept { at, alloc } = self;
         Held {
             at: at as *mut Controller,
-            full,
             alloc,
         }
     }
 }
 
+/// The mark of a handle that keeps a controller.
+pub const OWN_MARK: u32 = 0x6C74_6363;
+
+/// A controller that C keeps, or none. C holds the bytes of this, all zero before the opening, and never looks inside.
+#[repr(C)]
+pub struct Handle {
+    /// What is kept.
+    pub kept: Kept,
+    /// [`OWN_MARK`] where there is one, and 0 in a handle that is closed. A handle with another mark is none of this kind.
+    pub mark: u32,
+    pub ghost marked: { IsMarked own_mark mark kept.controller },
+}
+
 impl Handle {
     /// A handle that keeps a controller.
     pub fn of(controller: Box<Controller, Global>) -> Handle
-        ensures { result.controller ≡ Some controller.value }
+        ensures { result.kept.controller ≡ Some controller.value }
     {
-        Handle::of_held(Held::of(controller))
-    }
-
-    /// A handle that keeps none.
-    pub fn closed(alloc: Global) -> Handle
-        ensures { result.controller ≡ None }
-    {
-        Handle::of_held(Held::none(alloc))
-    }
-
-    /// Takes the controller out, if there is one.
-    pub fn take(&mut self, alloc: Global) -> Option<Box<Controller, Global>>
-        ensures taken { option_map (λ b. b.value) result ≡ self.old.controller }
-        ensures left { self.new.controller ≡ None }
-    {
-        let kept = replace(self, Handle::closed(alloc));
-        match kept.into_held().into_box() {
-            Ok(controller) => Some(controller),
-            Err(_) => None,
+        Handle {
+            kept: Kept::of_held(Held::of(controller)),
+            mark: OWN_MARK,
         }
     }
 
-    /// Keeps a controller, in the place of what was there.
-    pub fn put(&mut self, controller: Box<Controller, Global>)
-        ensures { self.new.controller ≡ Some controller.value }
+    /// A handle that is closed.
+    pub fn closed(alloc: Global) -> Handle
+        ensures none { result.kept.controller ≡ None }
+        ensures closed { result.mark ≡ 0 }
     {
-        *self = Handle::of(controller);
+        Handle {
+            kept: Kept::of_held(Held::none(alloc)),
+            mark: 0,
+        }
+    }
+
+    /// What is kept.
+    pub fn into_kept(self) -> Kept
+        ensures { result.controller ≡ self.kept.controller }
+    {
+        let Handle { kept, mark: _ } = self;
+        kept
     }
 }
 
 impl Drop for Handle {
     fn drop(self) {
-        match self.into_held().into_box() {
-            Ok(controller) => drop(controller),
-            Err(_) => {}
+        let Handle { kept, mark } = self;
+        if mark == OWN_MARK {
+            drop(kept.into_held().into_box());
+        } else {
+            drop(kept);
         }
     }
 }

@@ -1,12 +1,13 @@
 //! What a handle shows of its controller.
 
 ghost use Rattle.std.specs.Prelude.{◌≡◌};
+ghost use Rattle.nvmesgl_c.specs.ControllerKept.{kept_in};
 ghost use Rattle.nvmesgl_c.specs.ControllerLooks as looks;
 ghost use Rattle.nvmesgl_c.specs.ControllerLooks.{TellsCommand, TellsBlocks};
 
 use crate::controller::code::{NO_BLOCKS, NO_JOB};
 use crate::controller::handle::Handle;
-use crate::words::code::{CLOSED, DONE};
+use crate::words::code::DONE;
 use block_image::Image;
 use controller_core::FetchedCommand;
 use std::alloc::Global;
@@ -23,6 +24,8 @@ pub struct CCommand {
     pub sct: u8,
     /// The status code of its verdict, or 0.
     pub sc: u8,
+    /// Zeros.
+    pub reserved: [u32; 4],
 }
 
 /// A command, as C sees it.
@@ -36,12 +39,14 @@ fn command_of(command: &FetchedCommand) -> CCommand
             ended: true,
             sct: status.sct,
             sc: status.sc,
+            reserved: [0; 4],
         },
         None => CCommand {
             units,
             ended: false,
             sct: 0,
             sc: 0,
+            reserved: [0; 4],
         },
     }
 }
@@ -71,10 +76,11 @@ pub extern "C" fn nvmectl_command(
     cid: u16,
     command: &mut CCommand,
 ) -> u32
-    ensures { TellsCommand handle.old.controller q cid result command.old command.new handle.new.controller }
+    ensures { TellsCommand (kept_in handle.old) q cid result command.old command.new (kept_in handle.new) }
 {
-    let Some(controller) = handle.take(alloc) else {
-        return CLOSED;
+    let controller = match handle.take(alloc) {
+        Ok(controller) => controller,
+        Err(code) => return code,
     };
     let code = match controller.command(q, cid) {
         Some(found) => {
@@ -95,10 +101,11 @@ pub extern "C" fn nvmectl_blocks(
     slba: u64,
     buffer: &mut [u8],
 ) -> u32
-    ensures { TellsBlocks handle.old.controller slba result buffer.old buffer.new handle.new.controller }
+    ensures { TellsBlocks (kept_in handle.old) slba result buffer.old buffer.new (kept_in handle.new) }
 {
-    let Some(controller) = handle.take(alloc) else {
-        return CLOSED;
+    let controller = match handle.take(alloc) {
+        Ok(controller) => controller,
+        Err(code) => return code,
     };
     let code = copy_blocks(controller.image(), slba, buffer);
     handle.put(controller);

@@ -1,6 +1,7 @@
 //! What the controller can do next.
 
 ghost use Rattle.std.specs.Prelude.{◌≡◌, ◌≤◌, length, slice_get};
+ghost use Rattle.nvmesgl_c.specs.ControllerKept.{kept_in};
 ghost use Rattle.nvmesgl_c.specs.ControllerNext as next;
 ghost use Rattle.nvmesgl_c.specs.ControllerNext.{Sees, TellsNext};
 
@@ -22,21 +23,25 @@ pub struct CStep {
     pub q: u16,
     /// The command's identifier.
     pub cid: u16,
+    /// Zeros.
+    pub reserved: [u32; 4],
 }
 
 /// A step, as C sees it.
 fn step_of(step: Option<ControllerStep>) -> CStep
     ensures { result ≡ next.step_of step }
 {
-    match step {
-        None => CStep {
-            kind: 0,
-            q: 0,
-            cid: 0,
-        },
-        Some(ControllerStep::Fetch { q }) => CStep { kind: 1, q, cid: 0 },
-        Some(ControllerStep::Walk { q, cid }) => CStep { kind: 2, q, cid },
-        Some(ControllerStep::Complete { q, cid }) => CStep { kind: 3, q, cid },
+    let (kind, q, cid) = match step {
+        None => (0, 0, 0),
+        Some(ControllerStep::Fetch { q }) => (1, q, 0),
+        Some(ControllerStep::Walk { q, cid }) => (2, q, cid),
+        Some(ControllerStep::Complete { q, cid }) => (3, q, cid),
+    };
+    CStep {
+        kind,
+        q,
+        cid,
+        reserved: [0; 4],
     }
 }
 
@@ -71,7 +76,7 @@ pub extern "C" fn nvmectl_next(
     pool: &mut [u8],
     step: &mut CStep,
 ) -> u32
-    ensures { TellsNext handle.old.controller pool.old result step.old step.new handle.new.controller pool.new }
+    ensures { TellsNext (kept_in handle.old) pool.old result step.old step.new (kept_in handle.new) pool.new }
 {
     let controller = match take_for(alloc, handle, pool.len()) {
         Ok(controller) => controller,

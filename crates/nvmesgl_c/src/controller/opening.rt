@@ -1,13 +1,14 @@
 //! The opening and the closing of a handle, and the reset.
 
-ghost use Rattle.std.specs.Prelude.{◌≡◌, ◌≤◌, None, IfOk, IfErr, length};
+ghost use Rattle.std.specs.Prelude.{◌≡◌, ◌≤◌, IfOk, IfErr, length};
+ghost use Rattle.nvmesgl_c.specs.ControllerKept.{Closes, kept_in};
 ghost use Rattle.nvmesgl_c.specs.ControllerCalls.{Resets};
 ghost use Rattle.nvmesgl_c.specs.ControllerOptions.{Opens, IsOpened, IsWhy};
 
 use crate::controller::code::code_of_not_opened;
 use crate::controller::handle::Handle;
 use crate::controller::options::{CQueue, NotOpened, Options, entries_of, pages_of};
-use crate::words::code::{CLOSED, DONE, OPEN};
+use crate::words::code::DONE;
 use crate::words::image_for;
 use block_image::ImageError;
 use controller_core::Controller;
@@ -50,11 +51,10 @@ pub extern "C" fn nvmectl_open(
     queues: &[CQueue],
     image: &[u8],
 ) -> u32
-    ensures { Opens handle.old.controller given.now queues.now image.now result handle.new.controller }
+    ensures { Opens (kept_in handle.old) given.now queues.now image.now result (kept_in handle.new) }
 {
-    if let Some(controller) = handle.take(alloc) {
-        handle.put(controller);
-        return OPEN;
+    if let Some(code) = handle.cause() {
+        return code;
     }
     match open_controller(alloc, given, queues, image) {
         Ok(controller) => {
@@ -65,12 +65,12 @@ pub extern "C" fn nvmectl_open(
     }
 }
 
-/// Closes a handle, if it is open: all that it holds is let go, whatever is fetched.
+/// Closes a handle, if it is open, and else leaves it: all that it holds is let go, whatever is fetched.
 #[unsafe(no_mangle)]
 pub extern "C" fn nvmectl_close(alloc: Global, handle: &mut Handle)
-    ensures { handle.new.controller ≡ None }
+    ensures { Closes (kept_in handle.old) (kept_in handle.new) }
 {
-    if let Some(controller) = handle.take(alloc) {
+    if let Ok(controller) = handle.take(alloc) {
         drop(controller);
     }
 }
@@ -78,10 +78,11 @@ pub extern "C" fn nvmectl_close(alloc: Global, handle: &mut Handle)
 /// Resets the controller: no command is left, and only queue 0 is there.
 #[unsafe(no_mangle)]
 pub extern "C" fn nvmectl_reset(alloc: Global, handle: &mut Handle) -> u32
-    ensures { Resets handle.old.controller result handle.new.controller }
+    ensures { Resets (kept_in handle.old) result (kept_in handle.new) }
 {
-    let Some(mut controller) = handle.take(alloc) else {
-        return CLOSED;
+    let mut controller = match handle.take(alloc) {
+        Ok(controller) => controller,
+        Err(code) => return code,
     };
     controller.reset();
     handle.put(controller);

@@ -17,6 +17,8 @@ pub struct CDoorbell {
     pub value: u32,
     /// Whether there is one.
     pub rings: bool,
+    /// Zeros.
+    pub reserved: [u32; 4],
 }
 
 /// What a reply tells.
@@ -50,13 +52,13 @@ fn told_of(reply: &Reply) -> Answer
     }
 }
 
-/// What a call's reply tells, of a handle that was open or not.
-pub(crate) fn told(reply: &Option<Reply>) -> Answer
+/// What a call tells, of a handle that was open or not.
+pub(crate) fn told(reply: &Result<Reply, u32>) -> Answer
     ensures { result ≡ answers.told reply.now }
 {
     match reply {
-        Some(reply) => told_of(reply),
-        None => nothing(),
+        Ok(reply) => told_of(reply),
+        Err(_) => nothing(),
     }
 }
 
@@ -69,23 +71,25 @@ fn shown_bell(bell: Option<Doorbell>) -> CDoorbell
             offset: bell.offset,
             value: bell.value,
             rings: true,
+            reserved: [0; 4],
         },
         None => CDoorbell {
             offset: 0,
             value: 0,
             rings: false,
+            reserved: [0; 4],
         },
     }
 }
 
-/// The doorbell that a call's reply tells, of a handle that was open or not.
-pub(crate) fn bell_of(reply: &Option<Reply>) -> CDoorbell
+/// The doorbell that a call tells, of a handle that was open or not.
+pub(crate) fn bell_of(reply: &Result<Reply, u32>) -> CDoorbell
     ensures { result ≡ answers.bell_of reply.now }
 {
     match reply {
-        Some(Reply::Rung(bell)) => shown_bell(Some(*bell)),
-        Some(Reply::Reaps { found: _, bell }) => shown_bell(*bell),
-        Some(_) | None => shown_bell(None),
+        Ok(Reply::Rung(bell)) => shown_bell(Some(*bell)),
+        Ok(Reply::Reaps { found: _, bell }) => shown_bell(*bell),
+        Ok(_) | Err(_) => shown_bell(None),
     }
 }
 

@@ -1,32 +1,39 @@
 //! Calls of the host that a handle keeps.
 
 ghost use Rattle.std.specs.Prelude.{◌≡◌};
+ghost use Rattle.nvmesgl_c.specs.HostKept.{kept_in};
 ghost use Rattle.nvmesgl_c.specs.HostCalls.{DoesKept, Says, SaysBell, Refuses};
 
 use crate::host::answer::{CDoorbell, bell_of, told};
 use crate::host::code::code_of_reply;
 use crate::host::handle::Handle;
-use crate::words::code::CLOSED;
 use crate::words::{Answer, nothing};
 use host_bench::{Call, Reply};
 use std::alloc::Global;
 
-/// Makes a call of the host that is kept, if one is.
-pub(crate) fn make(alloc: Global, handle: &mut Handle, what: Call) -> Option<Reply>
-    ensures { DoesKept handle.old.bench what result handle.new.bench }
+/// Makes a call of the host that is kept.
+///
+/// # Errors
+///
+/// The code, where none is kept.
+pub(crate) fn make(alloc: Global, handle: &mut Handle, what: Call) -> Result<Reply, u32>
+    ensures { DoesKept (kept_in handle.old) what result (kept_in handle.new) }
 {
-    let Some(mut bench) = handle.take(alloc) else {
-        drop(what);
-        return None;
+    let mut bench = match handle.take(alloc) {
+        Ok(bench) => bench,
+        Err(code) => {
+            drop(what);
+            return Err(code);
+        }
     };
     let answer = bench.call(what);
     handle.put(bench);
-    Some(answer)
+    Ok(answer)
 }
 
 /// Makes a call, and tells what it answered.
 pub(crate) fn say(alloc: Global, handle: &mut Handle, what: Call, answer: &mut Answer) -> u32
-    ensures { Says handle.old.bench what result answer.new handle.new.bench }
+    ensures { Says (kept_in handle.old) what result answer.new (kept_in handle.new) }
 {
     let reply = make(alloc, handle, what);
     *answer = told(&reply);
@@ -41,7 +48,7 @@ pub(crate) fn say_bell(
     bell: &mut CDoorbell,
     answer: &mut Answer,
 ) -> u32
-    ensures { SaysBell handle.old.bench what result bell.new answer.new handle.new.bench }
+    ensures { SaysBell (kept_in handle.old) what result bell.new answer.new (kept_in handle.new) }
 {
     let reply = make(alloc, handle, what);
     *bell = bell_of(&reply);
@@ -49,13 +56,14 @@ pub(crate) fn say_bell(
     code_of_reply(&reply)
 }
 
-/// Makes no call, for a cause; a handle that is closed is told first.
+/// Makes no call, for a cause; a handle that keeps no host is told first.
 pub(crate) fn refuse(alloc: Global, handle: &mut Handle, code: u32, answer: &mut Answer) -> u32
-    ensures { Refuses handle.old.bench code result answer.new handle.new.bench }
+    ensures { Refuses (kept_in handle.old) code result answer.new (kept_in handle.new) }
 {
     *answer = nothing();
-    let Some(bench) = handle.take(alloc) else {
-        return CLOSED;
+    let bench = match handle.take(alloc) {
+        Ok(bench) => bench,
+        Err(code) => return code,
     };
     handle.put(bench);
     code

@@ -5,7 +5,7 @@ ghost use Rattle.nvmesgl_c.specs.HostCodes as codes;
 
 use crate::host::options::NotOpened;
 use crate::words::code::{
-    BAD_OPTION, BAD_SIZE, CLOSED, DONE, MEMORY, NO_VALUE, code_of_fill_fault, code_of_open_refusal,
+    BAD_OPTION, BAD_SIZE, DONE, MEMORY, NO_VALUE, code_of_fill_fault, code_of_open_refusal,
     code_of_refusal,
 };
 use host_bench::Reply;
@@ -19,16 +19,16 @@ pub(crate) const PAGE_OUT: u32 = 54;
 /// No such command is outstanding, or it has no such data piece.
 pub(crate) const NO_PIECE: u32 = 55;
 
-/// The code of what a call answered, of a handle that was open or not.
-pub(crate) fn code_of_reply(reply: &Option<Reply>) -> u32
+/// The code of what a call answered, or of the handle that it was made on.
+pub(crate) fn code_of_reply(reply: &Result<Reply, u32>) -> u32
     ensures { result ≡ codes.code_of_reply reply.now }
 {
     match reply {
-        None => CLOSED,
-        Some(Reply::Refused(why)) => code_of_refusal(*why),
-        Some(Reply::NoValue) => NO_VALUE,
-        Some(Reply::NotFilled(why)) => code_of_fill_fault(*why),
-        Some(_) => DONE,
+        Err(code) => *code,
+        Ok(Reply::Refused(why)) => code_of_refusal(*why),
+        Ok(Reply::NoValue) => NO_VALUE,
+        Ok(Reply::NotFilled(why)) => code_of_fill_fault(*why),
+        Ok(_) => DONE,
     }
 }
 

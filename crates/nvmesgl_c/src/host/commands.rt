@@ -1,6 +1,7 @@
 //! The calls of a command, named by its queue and identifier.
 
 ghost use Rattle.std.specs.Prelude.{◌≡◌, IfSome};
+ghost use Rattle.nvmesgl_c.specs.HostKept.{kept_in};
 ghost use Rattle.nvmesgl_c.specs.HostCalls.{DoesKept, Says, Reserves, Gathers};
 ghost use Rattle.host_bench.specs.declared.call.Call.TheVariants as call;
 
@@ -25,7 +26,7 @@ pub extern "C" fn nvmehost_reserve(
     pieces: &[CPiece],
     answer: &mut Answer,
 ) -> u32
-    ensures { Reserves handle.old.bench q kind slba blocks pieces.now result answer.new handle.new.bench }
+    ensures { Reserves (kept_in handle.old) q kind slba blocks pieces.now result answer.new (kept_in handle.new) }
 {
     let Some(kind) = kind_of(kind) else {
         return refuse(alloc, handle, NO_KIND, answer);
@@ -44,16 +45,18 @@ pub extern "C" fn nvmehost_reserve(
     say(alloc, handle, Call::Reserve { q, request }, answer)
 }
 
-/// Fills a draft of the host that is kept, if one is, with bytes that are lent.
-fn fill(alloc: Global, handle: &mut Handle, q: u16, cid: u16, bytes: &[u8]) -> Option<Reply>
-    ensures { DoesKept handle.old.bench (call.Fill q cid bytes.now) result handle.new.bench }
+/// Fills a draft of the host that is kept with bytes that are lent.
+///
+/// # Errors
+///
+/// The code, where none is kept.
+fn fill(alloc: Global, handle: &mut Handle, q: u16, cid: u16, bytes: &[u8]) -> Result<Reply, u32>
+    ensures { DoesKept (kept_in handle.old) (call.Fill q cid bytes.now) result (kept_in handle.new) }
 {
-    let Some(mut bench) = handle.take(alloc) else {
-        return None;
-    };
+    let mut bench = handle.take(alloc)?;
     let answer = bench.fill(q, cid, bytes);
     handle.put(bench);
-    Some(answer)
+    Ok(answer)
 }
 
 /// Fills a draft with the bytes, padded with zeros to its Data length.
@@ -66,7 +69,7 @@ pub extern "C" fn nvmehost_fill(
     bytes: &[u8],
     answer: &mut Answer,
 ) -> u32
-    ensures { Says handle.old.bench (call.Fill q cid bytes.now) result answer.new handle.new.bench }
+    ensures { Says (kept_in handle.old) (call.Fill q cid bytes.now) result answer.new (kept_in handle.new) }
 {
     let reply = fill(alloc, handle, q, cid, bytes);
     *answer = told(&reply);
@@ -83,11 +86,11 @@ pub extern "C" fn nvmehost_gather(
     buffer: &mut [u8],
     answer: &mut Answer,
 ) -> u32
-    ensures { Gathers handle.old.bench q cid result buffer.old buffer.new answer.new handle.new.bench }
+    ensures { Gathers (kept_in handle.old) q cid result buffer.old buffer.new answer.new (kept_in handle.new) }
 {
     let reply = make(alloc, handle, Call::Gather { q, cid });
     *answer = told(&reply);
-    if let Some(Reply::Gathered(bytes)) = &reply {
+    if let Ok(Reply::Gathered(bytes)) = &reply {
         let bytes = bytes.as_slice();
         if buffer.len() < bytes.len() {
             return TOO_SHORT;
@@ -106,7 +109,7 @@ pub extern "C" fn nvmehost_build(
     cid: u16,
     answer: &mut Answer,
 ) -> u32
-    ensures { Says handle.old.bench (call.Build q cid) result answer.new handle.new.bench }
+    ensures { Says (kept_in handle.old) (call.Build q cid) result answer.new (kept_in handle.new) }
 {
     say(alloc, handle, Call::Build { q, cid }, answer)
 }
@@ -120,7 +123,7 @@ pub extern "C" fn nvmehost_submit(
     cid: u16,
     answer: &mut Answer,
 ) -> u32
-    ensures { Says handle.old.bench (call.Submit q cid) result answer.new handle.new.bench }
+    ensures { Says (kept_in handle.old) (call.Submit q cid) result answer.new (kept_in handle.new) }
 {
     say(alloc, handle, Call::Submit { q, cid }, answer)
 }
@@ -134,7 +137,7 @@ pub extern "C" fn nvmehost_cancel(
     cid: u16,
     answer: &mut Answer,
 ) -> u32
-    ensures { Says handle.old.bench (call.Cancel q cid) result answer.new handle.new.bench }
+    ensures { Says (kept_in handle.old) (call.Cancel q cid) result answer.new (kept_in handle.new) }
 {
     say(alloc, handle, Call::Cancel { q, cid }, answer)
 }
@@ -148,7 +151,7 @@ pub extern "C" fn nvmehost_collect(
     cid: u16,
     answer: &mut Answer,
 ) -> u32
-    ensures { Says handle.old.bench (call.Collect q cid) result answer.new handle.new.bench }
+    ensures { Says (kept_in handle.old) (call.Collect q cid) result answer.new (kept_in handle.new) }
 {
     say(alloc, handle, Call::Collect { q, cid }, answer)
 }
@@ -162,7 +165,7 @@ pub extern "C" fn nvmehost_release(
     cid: u16,
     answer: &mut Answer,
 ) -> u32
-    ensures { Says handle.old.bench (call.Release q cid) result answer.new handle.new.bench }
+    ensures { Says (kept_in handle.old) (call.Release q cid) result answer.new (kept_in handle.new) }
 {
     say(alloc, handle, Call::Release { q, cid }, answer)
 }
@@ -176,7 +179,7 @@ pub extern "C" fn nvmehost_abort(
     cid: u16,
     answer: &mut Answer,
 ) -> u32
-    ensures { Says handle.old.bench (call.Abort q cid) result answer.new handle.new.bench }
+    ensures { Says (kept_in handle.old) (call.Abort q cid) result answer.new (kept_in handle.new) }
 {
     say(alloc, handle, Call::Abort { q, cid }, answer)
 }

@@ -1,12 +1,13 @@
 //! What a handle shows of its host.
 
 ghost use Rattle.std.specs.Prelude.{◌≡◌, slice_get};
+ghost use Rattle.nvmesgl_c.specs.HostKept.{kept_in};
 ghost use Rattle.nvmesgl_c.specs.HostLooks as looks;
 ghost use Rattle.nvmesgl_c.specs.HostLooks.{FindsOwner, FindsQueue, TellsCounts, TellsOwner, TellsQueue};
 
 use crate::host::code::NO_QUEUE;
 use crate::host::handle::Handle;
-use crate::words::code::{CLOSED, DONE, NO_PAGE};
+use crate::words::code::{DONE, NO_PAGE};
 use crate::words::{COwner, owner_of};
 use host_bench::{HostBench, HostPositions, HostState, Owner, PageNo, QueueMemory, Run};
 use std::alloc::Global;
@@ -25,6 +26,8 @@ pub struct CPages {
     pub chain_pages: u32,
     /// The pages that hold commands' data.
     pub data_pages: u32,
+    /// Zeros.
+    pub reserved: [u32; 4],
 }
 
 /// What a host knows of a queue, and where it stands in its rings.
@@ -50,6 +53,8 @@ pub struct CHostQueue {
     pub submission_pages: usize,
     /// How many pages its completion ring has.
     pub completion_pages: usize,
+    /// Zeros.
+    pub reserved: [u32; 4],
 }
 
 /// The number of a queue's state.
@@ -94,6 +99,7 @@ fn queue_of(state: HostState, at: HostPositions, memory: QueueMemory) -> CHostQu
         completion_page,
         submission_pages,
         completion_pages,
+        reserved: [0; 4],
     }
 }
 
@@ -131,16 +137,18 @@ fn pages_of(bench: &HostBench) -> CPages
         queue_pages: counts.queue_pages,
         chain_pages: counts.chain_pages,
         data_pages: counts.data_pages,
+        reserved: [0; 4],
     }
 }
 
 /// Tells how many pages the pool has and each class of them.
 #[unsafe(no_mangle)]
 pub extern "C" fn nvmehost_counts(alloc: Global, handle: &mut Handle, pages: &mut CPages) -> u32
-    ensures { TellsCounts handle.old.bench result pages.old pages.new handle.new.bench }
+    ensures { TellsCounts (kept_in handle.old) result pages.old pages.new (kept_in handle.new) }
 {
-    let Some(bench) = handle.take(alloc) else {
-        return CLOSED;
+    let bench = match handle.take(alloc) {
+        Ok(bench) => bench,
+        Err(code) => return code,
     };
     *pages = pages_of(&bench);
     handle.put(bench);
@@ -155,10 +163,11 @@ pub extern "C" fn nvmehost_owner(
     page: u32,
     owner: &mut COwner,
 ) -> u32
-    ensures { TellsOwner handle.old.bench page result owner.old owner.new handle.new.bench }
+    ensures { TellsOwner (kept_in handle.old) page result owner.old owner.new (kept_in handle.new) }
 {
-    let Some(bench) = handle.take(alloc) else {
-        return CLOSED;
+    let bench = match handle.take(alloc) {
+        Ok(bench) => bench,
+        Err(code) => return code,
     };
     let found = find_owner(&bench, page);
     handle.put(bench);
@@ -179,10 +188,11 @@ pub extern "C" fn nvmehost_look(
     q: u16,
     queue: &mut CHostQueue,
 ) -> u32
-    ensures { TellsQueue handle.old.bench q result queue.old queue.new handle.new.bench }
+    ensures { TellsQueue (kept_in handle.old) q result queue.old queue.new (kept_in handle.new) }
 {
-    let Some(bench) = handle.take(alloc) else {
-        return CLOSED;
+    let bench = match handle.take(alloc) {
+        Ok(bench) => bench,
+        Err(code) => return code,
     };
     let found = find_queue(&bench, q);
     handle.put(bench);

@@ -1,13 +1,14 @@
 //! The opening and the closing of a handle.
 
-ghost use Rattle.std.specs.Prelude.{◌≡◌, None, IfOk, IfErr};
+ghost use Rattle.std.specs.Prelude.{◌≡◌, IfOk, IfErr};
+ghost use Rattle.nvmesgl_c.specs.HostKept.{Closes, kept_in};
 ghost use Rattle.nvmesgl_c.specs.HostOptions.{Opens, IsOpened, IsWhy};
 
 use crate::host::answer::told_not_opened;
 use crate::host::code::code_of_not_opened;
 use crate::host::handle::Handle;
 use crate::host::options::{NotOpened, Options, config_of, fault_of};
-use crate::words::code::{DONE, OPEN};
+use crate::words::code::DONE;
 use crate::words::{Answer, nothing};
 use host_bench::HostBench;
 use std::alloc::Global;
@@ -37,12 +38,11 @@ pub extern "C" fn nvmehost_open(
     given: &Options,
     answer: &mut Answer,
 ) -> u32
-    ensures { Opens handle.old.bench given.now result answer.new handle.new.bench }
+    ensures { Opens (kept_in handle.old) given.now result answer.new (kept_in handle.new) }
 {
     *answer = nothing();
-    if let Some(bench) = handle.take(alloc) {
-        handle.put(bench);
-        return OPEN;
+    if let Some(code) = handle.cause() {
+        return code;
     }
     match open_bench(alloc, given) {
         Ok(bench) => {
@@ -56,12 +56,12 @@ pub extern "C" fn nvmehost_open(
     }
 }
 
-/// Closes a handle, if it is open: all that it holds is let go, whatever is outstanding.
+/// Closes a handle, if it is open, and else leaves it: all that it holds is let go, whatever is outstanding.
 #[unsafe(no_mangle)]
 pub extern "C" fn nvmehost_close(alloc: Global, handle: &mut Handle)
-    ensures { handle.new.bench ≡ None }
+    ensures { Closes (kept_in handle.old) (kept_in handle.new) }
 {
-    if let Some(bench) = handle.take(alloc) {
+    if let Ok(bench) = handle.take(alloc) {
         drop(bench);
     }
 }

@@ -1,11 +1,12 @@
 //! The pages of the host that a handle keeps, as a device reads and writes them.
 
 ghost use Rattle.std.specs.Prelude.{◌≡◌, length};
+ghost use Rattle.nvmesgl_c.specs.HostKept.{kept_in};
 ghost use Rattle.nvmesgl_c.specs.HostPool.{fits as spec_fits, Reads, ReadsFrom, Writes, WritesInto};
 
 use crate::host::code::{BAD_LENGTH, PAGE_OUT};
 use crate::host::handle::Handle;
-use crate::words::code::{CLOSED, DONE};
+use crate::words::code::DONE;
 use host_bench::HostBench;
 use std::alloc::Global;
 
@@ -50,10 +51,11 @@ pub extern "C" fn nvmehost_read(
     addr: u64,
     buffer: &mut [u8],
 ) -> u32
-    ensures { Reads handle.old.bench addr result buffer.old buffer.new handle.new.bench }
+    ensures { Reads (kept_in handle.old) addr result buffer.old buffer.new (kept_in handle.new) }
 {
-    let Some(mut bench) = handle.take(alloc) else {
-        return CLOSED;
+    let mut bench = match handle.take(alloc) {
+        Ok(bench) => bench,
+        Err(code) => return code,
     };
     let code = read_from(&mut bench, addr, buffer);
     handle.put(bench);
@@ -63,10 +65,11 @@ pub extern "C" fn nvmehost_read(
 /// Copies bytes into the pool, from an address on.
 #[unsafe(no_mangle)]
 pub extern "C" fn nvmehost_write(alloc: Global, handle: &mut Handle, addr: u64, bytes: &[u8]) -> u32
-    ensures { Writes handle.old.bench addr bytes.now result handle.new.bench }
+    ensures { Writes (kept_in handle.old) addr bytes.now result (kept_in handle.new) }
 {
-    let Some(mut bench) = handle.take(alloc) else {
-        return CLOSED;
+    let mut bench = match handle.take(alloc) {
+        Ok(bench) => bench,
+        Err(code) => return code,
     };
     let code = write_into(&mut bench, addr, bytes);
     handle.put(bench);

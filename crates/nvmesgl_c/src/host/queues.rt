@@ -1,5 +1,6 @@
 //! The calls of a queue.
 
+ghost use Rattle.nvmesgl_c.specs.HostKept.{kept_in};
 ghost use Rattle.nvmesgl_c.specs.HostCalls.{Says, SaysBell};
 ghost use Rattle.host_bench.specs.declared.call.Call.TheVariants as call;
 
@@ -19,7 +20,7 @@ pub extern "C" fn nvmehost_ring(
     bell: &mut CDoorbell,
     answer: &mut Answer,
 ) -> u32
-    ensures { SaysBell handle.old.bench (call.Ring q) result bell.new answer.new handle.new.bench }
+    ensures { SaysBell (kept_in handle.old) (call.Ring q) result bell.new answer.new (kept_in handle.new) }
 {
     say_bell(alloc, handle, Call::Ring { q }, bell, answer)
 }
@@ -33,7 +34,7 @@ pub extern "C" fn nvmehost_reap(
     bell: &mut CDoorbell,
     answer: &mut Answer,
 ) -> u32
-    ensures { SaysBell handle.old.bench (call.Reap q) result bell.new answer.new handle.new.bench }
+    ensures { SaysBell (kept_in handle.old) (call.Reap q) result bell.new answer.new (kept_in handle.new) }
 {
     say_bell(alloc, handle, Call::Reap { q }, bell, answer)
 }
@@ -46,7 +47,7 @@ pub extern "C" fn nvmehost_delete_sq(
     q: u16,
     answer: &mut Answer,
 ) -> u32
-    ensures { Says handle.old.bench (call.DeleteSq q) result answer.new handle.new.bench }
+    ensures { Says (kept_in handle.old) (call.DeleteSq q) result answer.new (kept_in handle.new) }
 {
     say(alloc, handle, Call::DeleteSq { q }, answer)
 }
@@ -59,7 +60,7 @@ pub extern "C" fn nvmehost_delete_cq(
     q: u16,
     answer: &mut Answer,
 ) -> u32
-    ensures { Says handle.old.bench (call.DeleteCq q) result answer.new handle.new.bench }
+    ensures { Says (kept_in handle.old) (call.DeleteCq q) result answer.new (kept_in handle.new) }
 {
     say(alloc, handle, Call::DeleteCq { q }, answer)
 }
@@ -72,7 +73,7 @@ pub extern "C" fn nvmehost_create_cq(
     q: u16,
     answer: &mut Answer,
 ) -> u32
-    ensures { Says handle.old.bench (call.CreateCq q) result answer.new handle.new.bench }
+    ensures { Says (kept_in handle.old) (call.CreateCq q) result answer.new (kept_in handle.new) }
 {
     say(alloc, handle, Call::CreateCq { q }, answer)
 }
@@ -85,7 +86,7 @@ pub extern "C" fn nvmehost_create_sq(
     q: u16,
     answer: &mut Answer,
 ) -> u32
-    ensures { Says handle.old.bench (call.CreateSq q) result answer.new handle.new.bench }
+    ensures { Says (kept_in handle.old) (call.CreateSq q) result answer.new (kept_in handle.new) }
 {
     say(alloc, handle, Call::CreateSq { q }, answer)
 }
@@ -98,7 +99,7 @@ pub extern "C" fn nvmehost_retire(
     q: u16,
     answer: &mut Answer,
 ) -> u32
-    ensures { Says handle.old.bench (call.Retire q) result answer.new handle.new.bench }
+    ensures { Says (kept_in handle.old) (call.Retire q) result answer.new (kept_in handle.new) }
 {
     say(alloc, handle, Call::Retire { q }, answer)
 }
@@ -106,7 +107,7 @@ pub extern "C" fn nvmehost_retire(
 /// Begins again, where the controller is reset.
 #[unsafe(no_mangle)]
 pub extern "C" fn nvmehost_reset(alloc: Global, handle: &mut Handle, answer: &mut Answer) -> u32
-    ensures { Says handle.old.bench call.Reset result answer.new handle.new.bench }
+    ensures { Says (kept_in handle.old) call.Reset result answer.new (kept_in handle.new) }
 {
     say(alloc, handle, Call::Reset, answer)
 }

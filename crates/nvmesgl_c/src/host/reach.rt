@@ -1,12 +1,13 @@
 //! What a device may do with which page now, and where the data of commands lies.
 
 ghost use Rattle.std.specs.Prelude.{◌≡◌};
+ghost use Rattle.nvmesgl_c.specs.HostKept.{kept_in};
 ghost use Rattle.nvmesgl_c.specs.HostReach as reach;
 ghost use Rattle.nvmesgl_c.specs.HostReach.{LaysRuns, TellsPlace, TellsRight, TellsRuns};
 
 use crate::host::code::NO_PIECE;
 use crate::host::handle::Handle;
-use crate::words::code::{CLOSED, DONE, TOO_SHORT};
+use crate::words::code::{DONE, TOO_SHORT};
 use host_bench::{DataPlace, PageNo, Right, Run, Runs};
 use std::alloc::Global;
 
@@ -20,6 +21,8 @@ pub struct CRun {
     pub right: u32,
     /// How many pages there are.
     pub count: usize,
+    /// Zeros.
+    pub reserved: [u32; 4],
 }
 
 /// Where the bytes of a data piece lie.
@@ -32,6 +35,8 @@ pub struct CPlace {
     pub offset: u32,
     /// How many bytes there are.
     pub len: u32,
+    /// Zeros.
+    pub reserved: [u32; 4],
 }
 
 /// The number of a right.
@@ -53,6 +58,7 @@ pub(crate) fn run_of(run: Run) -> CRun
         first: run.first.0,
         right: number_of(run.right),
         count: run.count,
+        reserved: [0; 4],
     }
 }
 
@@ -64,6 +70,7 @@ fn place_of(place: DataPlace) -> CPlace
         page: place.page.0,
         offset: place.offset,
         len: place.len,
+        reserved: [0; 4],
     }
 }
 
@@ -91,10 +98,11 @@ pub extern "C" fn nvmehost_may(
     page: u32,
     right: &mut u32,
 ) -> u32
-    ensures { TellsRight handle.old.bench page result right.old right.new handle.new.bench }
+    ensures { TellsRight (kept_in handle.old) page result right.old right.new (kept_in handle.new) }
 {
-    let Some(bench) = handle.take(alloc) else {
-        return CLOSED;
+    let bench = match handle.take(alloc) {
+        Ok(bench) => bench,
+        Err(code) => return code,
     };
     *right = number_of(bench.may(PageNo(page)));
     handle.put(bench);
@@ -111,10 +119,11 @@ pub extern "C" fn nvmehost_runs(
     buffer: &mut [CRun],
     count: &mut usize,
 ) -> u32
-    ensures { TellsRuns handle.old.bench q cid result buffer.old buffer.new count.old count.new handle.new.bench }
+    ensures { TellsRuns (kept_in handle.old) q cid result buffer.old buffer.new count.old count.new (kept_in handle.new) }
 {
-    let Some(bench) = handle.take(alloc) else {
-        return CLOSED;
+    let bench = match handle.take(alloc) {
+        Ok(bench) => bench,
+        Err(code) => return code,
     };
     let (laid, all) = lay(bench.runs(q, cid), buffer);
     *count = laid;
@@ -132,10 +141,11 @@ pub extern "C" fn nvmehost_data_place(
     piece: u32,
     place: &mut CPlace,
 ) -> u32
-    ensures { TellsPlace handle.old.bench q cid piece result place.old place.new handle.new.bench }
+    ensures { TellsPlace (kept_in handle.old) q cid piece result place.old place.new (kept_in handle.new) }
 {
-    let Some(bench) = handle.take(alloc) else {
-        return CLOSED;
+    let bench = match handle.take(alloc) {
+        Ok(bench) => bench,
+        Err(code) => return code,
     };
     let found = bench.place(q, cid, piece as usize);
     handle.put(bench);

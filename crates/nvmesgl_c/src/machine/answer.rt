@@ -45,12 +45,12 @@ pub(crate) fn told_of(reply: &Reply) -> Answer
 }
 
 /// What a step's reply tells, of a handle that was open or not.
-pub(crate) fn told(reply: &Option<Reply>) -> Answer
+pub(crate) fn told(reply: &Result<Reply, u32>) -> Answer
     ensures { result ≡ answers.told reply.now }
 {
     match reply {
-        Some(reply) => told_of(reply),
-        None => nothing(),
+        Ok(reply) => told_of(reply),
+        Err(_) => nothing(),
     }
 }
 

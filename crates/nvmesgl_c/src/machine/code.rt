@@ -5,7 +5,7 @@ ghost use Rattle.nvmesgl_c.specs.MachineCodes as codes;
 
 use crate::machine::options::NotOpened;
 use crate::words::code::{
-    BAD_IMAGE, BAD_OPTION, BAD_SIZE, CLOSED, DONE, MEMORY, NO_VALUE, code_of_fill_fault,
+    BAD_IMAGE, BAD_OPTION, BAD_SIZE, DONE, MEMORY, NO_VALUE, code_of_fill_fault,
     code_of_open_refusal, code_of_refusal,
 };
 use step_core::Reply;
@@ -22,13 +22,13 @@ pub(crate) fn code_of_answer(reply: &Reply) -> u32
     }
 }
 
-/// The code of what a step answered, of a handle that was open or not.
-pub(crate) fn code_of_reply(reply: &Option<Reply>) -> u32
+/// The code of what a step answered, or of the handle that it was made on.
+pub(crate) fn code_of_reply(reply: &Result<Reply, u32>) -> u32
     ensures { result ≡ codes.code_of_reply reply.now }
 {
     match reply {
-        None => CLOSED,
-        Some(reply) => code_of_answer(reply),
+        Ok(reply) => code_of_answer(reply),
+        Err(code) => *code,
     }
 }
 

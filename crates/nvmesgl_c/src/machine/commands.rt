@@ -1,6 +1,7 @@
 //! The driver's calls of a command, named by its queue and identifier.
 
 ghost use Rattle.std.specs.Prelude.{◌≡◌, IfSome};
+ghost use Rattle.nvmesgl_c.specs.MachineKept.{kept_in};
 ghost use Rattle.nvmesgl_c.specs.MachineCalls.{Says, SaysOrWants, Reserves, Gathers, looked_at};
 ghost use Rattle.step_core.specs.declared.step.Step.TheVariants as step;
 
@@ -25,7 +26,7 @@ pub extern "C" fn nvmesgl_reserve(
     pieces: &[CPiece],
     answer: &mut Answer,
 ) -> u32
-    ensures { Reserves handle.old.bench q kind slba blocks pieces.now result answer.new handle.new.bench }
+    ensures { Reserves (kept_in handle.old) q kind slba blocks pieces.now result answer.new (kept_in handle.new) }
 {
     let Some(kind) = kind_of(kind) else {
         return refuse(alloc, handle, NO_KIND, answer);
@@ -68,7 +69,7 @@ pub extern "C" fn nvmesgl_fill(
     bytes: &[u8],
     answer: &mut Answer,
 ) -> u32
-    ensures { SaysOrWants handle.old.bench (step.Fill q cid (looked_at bytes.now)) result answer.new handle.new.bench }
+    ensures { SaysOrWants (kept_in handle.old) (step.Fill q cid (looked_at bytes.now)) result answer.new (kept_in handle.new) }
 {
     let Ok(copied) = Vec::from_slice(alloc, seen(bytes)) else {
         return refuse(alloc, handle, MEMORY, answer);
@@ -87,11 +88,11 @@ pub extern "C" fn nvmesgl_gather(
     buffer: &mut [u8],
     answer: &mut Answer,
 ) -> u32
-    ensures { Gathers handle.old.bench q cid result buffer.old buffer.new answer.new handle.new.bench }
+    ensures { Gathers (kept_in handle.old) q cid result buffer.old buffer.new answer.new (kept_in handle.new) }
 {
     let reply = do_step(alloc, handle, Step::Gather { q, cid });
     *answer = told(&reply);
-    if let Some(Reply::Gathered(bytes)) = &reply {
+    if let Ok(Reply::Gathered(bytes)) = &reply {
         let bytes = bytes.as_slice();
         if buffer.len() < bytes.len() {
             return TOO_SHORT;
@@ -110,7 +111,7 @@ pub extern "C" fn nvmesgl_build(
     cid: u16,
     answer: &mut Answer,
 ) -> u32
-    ensures { Says handle.old.bench (step.Build q cid) result answer.new handle.new.bench }
+    ensures { Says (kept_in handle.old) (step.Build q cid) result answer.new (kept_in handle.new) }
 {
     say(alloc, handle, Step::Build { q, cid }, answer)
 }
@@ -124,7 +125,7 @@ pub extern "C" fn nvmesgl_submit(
     cid: u16,
     answer: &mut Answer,
 ) -> u32
-    ensures { Says handle.old.bench (step.Submit q cid) result answer.new handle.new.bench }
+    ensures { Says (kept_in handle.old) (step.Submit q cid) result answer.new (kept_in handle.new) }
 {
     say(alloc, handle, Step::Submit { q, cid }, answer)
 }
@@ -138,7 +139,7 @@ pub extern "C" fn nvmesgl_cancel(
     cid: u16,
     answer: &mut Answer,
 ) -> u32
-    ensures { Says handle.old.bench (step.Cancel q cid) result answer.new handle.new.bench }
+    ensures { Says (kept_in handle.old) (step.Cancel q cid) result answer.new (kept_in handle.new) }
 {
     say(alloc, handle, Step::Cancel { q, cid }, answer)
 }
@@ -152,7 +153,7 @@ pub extern "C" fn nvmesgl_collect(
     cid: u16,
     answer: &mut Answer,
 ) -> u32
-    ensures { Says handle.old.bench (step.Collect q cid) result answer.new handle.new.bench }
+    ensures { Says (kept_in handle.old) (step.Collect q cid) result answer.new (kept_in handle.new) }
 {
     say(alloc, handle, Step::Collect { q, cid }, answer)
 }
@@ -166,7 +167,7 @@ pub extern "C" fn nvmesgl_release(
     cid: u16,
     answer: &mut Answer,
 ) -> u32
-    ensures { Says handle.old.bench (step.Release q cid) result answer.new handle.new.bench }
+    ensures { Says (kept_in handle.old) (step.Release q cid) result answer.new (kept_in handle.new) }
 {
     say(alloc, handle, Step::Release { q, cid }, answer)
 }
@@ -180,7 +181,7 @@ pub extern "C" fn nvmesgl_abort(
     cid: u16,
     answer: &mut Answer,
 ) -> u32
-    ensures { Says handle.old.bench (step.Abort q cid) result answer.new handle.new.bench }
+    ensures { Says (kept_in handle.old) (step.Abort q cid) result answer.new (kept_in handle.new) }
 {
     say(alloc, handle, Step::Abort { q, cid }, answer)
 }

@@ -1,5 +1,6 @@
 //! The controller's calls.
 
+ghost use Rattle.nvmesgl_c.specs.MachineKept.{kept_in};
 ghost use Rattle.nvmesgl_c.specs.MachineCalls.{Says};
 ghost use Rattle.step_core.specs.declared.step.Step.TheVariants as step;
 
@@ -17,7 +18,7 @@ pub extern "C" fn nvmesgl_fetch(
     q: u16,
     answer: &mut Answer,
 ) -> u32
-    ensures { Says handle.old.bench (step.Fetch q) result answer.new handle.new.bench }
+    ensures { Says (kept_in handle.old) (step.Fetch q) result answer.new (kept_in handle.new) }
 {
     say(alloc, handle, Step::Fetch { q }, answer)
 }
@@ -31,7 +32,7 @@ pub extern "C" fn nvmesgl_walk(
     cid: u16,
     answer: &mut Answer,
 ) -> u32
-    ensures { Says handle.old.bench (step.Walk q cid) result answer.new handle.new.bench }
+    ensures { Says (kept_in handle.old) (step.Walk q cid) result answer.new (kept_in handle.new) }
 {
     say(alloc, handle, Step::Walk { q, cid }, answer)
 }
@@ -45,7 +46,7 @@ pub extern "C" fn nvmesgl_complete(
     cid: u16,
     answer: &mut Answer,
 ) -> u32
-    ensures { Says handle.old.bench (step.Complete q cid) result answer.new handle.new.bench }
+    ensures { Says (kept_in handle.old) (step.Complete q cid) result answer.new (kept_in handle.new) }
 {
     say(alloc, handle, Step::Complete { q, cid }, answer)
 }
@@ -53,7 +54,7 @@ pub extern "C" fn nvmesgl_complete(
 /// Resets the controller.
 #[unsafe(no_mangle)]
 pub extern "C" fn nvmesgl_reset(alloc: Global, handle: &mut Handle, answer: &mut Answer) -> u32
-    ensures { Says handle.old.bench step.Reset result answer.new handle.new.bench }
+    ensures { Says (kept_in handle.old) step.Reset result answer.new (kept_in handle.new) }
 {
     say(alloc, handle, Step::Reset, answer)
 }

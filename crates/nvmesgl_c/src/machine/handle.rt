@@ -1,41 +1,39 @@
 //! A bench that C keeps between its calls.
 
 ghost use Rattle.std.specs.Prelude.{◌≡◌, Option, None, Some};
-ghost use Rattle.std.specs.Option.{option_map};
 ghost use Rattle.machine_model.specs.Script.{Table};
-ghost use Rattle.nvmesgl_c.specs.MachineOwned.{bench_coded, handle_owns};
+ghost use Rattle.nvmesgl_c.specs.Keeping.{IsMarked};
+ghost use Rattle.nvmesgl_c.specs.MachineOwned.{bench_coded, kept_owns, own_mark};
 
 use crate::held::Held;
 use crate::machine::desk::Desk;
 use std::alloc::Global;
 use std::marker::Model;
-use std::mem::replace;
 
-/// A bench that C keeps, or none. C holds the bytes of this, all zero before the opening, and never looks inside.
+/// A bench by its pointer, or none. It frees nothing by itself: a [`Handle`] does.
 #[repr(C)]
-pub struct Handle {
+#[derive(Drop)]
+pub struct Kept {
     at: *mut u8,
-    full: bool,
     alloc: Global,
     pub ghost bench: { Option Table } by { bench_coded },
 }
 
-impl Model for Handle {
-    ghost also_owns = { λ h. handle_owns h.alloc h.full h.at h.bench };
+impl Model for Kept {
+    ghost also_owns = { λ h. kept_owns h.alloc h.at h.bench };
 }
 
 // What frees the bench names no thread: a handle may go from thread to thread, where one call at a time is made on it.
-unsafe impl Send for Handle {}
+unsafe impl Send for Kept {}
 
-impl Handle {
-    /// The handle of what is held.
-    pub fn of_held(held: Held<Desk, Global>) -> Handle
+impl Kept {
+    /// What is held.
+    pub fn of_held(held: Held<Desk, Global>) -> Kept
         ensures { result.bench ≡ held.value }
     {
-        let Held { at, full, alloc } = held;
-        Handle {
+        let Held { at, alloc } = held;
+        Kept {
             at: at as *mut u8,
-            full,
             alloc,
         }
     }
@@ -44,55 +42,65 @@ impl Handle {
     pub fn into_held(self) -> Held<Desk, Global>
         ensures { result.value ≡ self.bench }
     {
-        let Handle { at, full, alloc } = self;
+        let Kept { at, alloc } = self;
         Held {
             at: at as *mut Desk,
-            full,
             alloc,
         }
     }
 }
 
+/// The mark of a handle that keeps a bench.
+pub const OWN_MARK: u32 = 0x6863_616D;
+
+/// A bench that C keeps, or none. C holds the bytes of this, all zero before the opening, and never looks inside.
+#[repr(C)]
+pub struct Handle {
+    /// What is kept.
+    pub kept: Kept,
+    /// [`OWN_MARK`] where there is one, and 0 in a handle that is closed. A handle with another mark is none of this kind.
+    pub mark: u32,
+    pub ghost marked: { IsMarked own_mark mark kept.bench },
+}
+
 impl Handle {
     /// A handle that keeps a bench.
     pub fn of(bench: Box<Desk, Global>) -> Handle
-        ensures { result.bench ≡ Some bench.value }
+        ensures { result.kept.bench ≡ Some bench.value }
     {
-        Handle::of_held(Held::of(bench))
-    }
-
-    /// A handle that keeps none.
-    pub fn closed(alloc: Global) -> Handle
-        ensures { result.bench ≡ None }
-    {
-        Handle::of_held(Held::none(alloc))
-    }
-
-    /// Takes the bench out, if there is one.
-    pub fn take(&mut self, alloc: Global) -> Option<Box<Desk, Global>>
-        ensures taken { option_map (λ b. b.value) result ≡ self.old.bench }
-        ensures left { self.new.bench ≡ None }
-    {
-        let kept = replace(self, Handle::closed(alloc));
-        match kept.into_held().into_box() {
-            Ok(bench) => Some(bench),
-            Err(_) => None,
+        Handle {
+            kept: Kept::of_held(Held::of(bench)),
+            mark: OWN_MARK,
         }
     }
 
-    /// Keeps a bench, in the place of what was there.
-    pub fn put(&mut self, bench: Box<Desk, Global>)
-        ensures { self.new.bench ≡ Some bench.value }
+    /// A handle that is closed.
+    pub fn closed(alloc: Global) -> Handle
+        ensures none { result.kept.bench ≡ None }
+        ensures closed { result.mark ≡ 0 }
     {
-        *self = Handle::of(bench);
+        Handle {
+            kept: Kept::of_held(Held::none(alloc)),
+            mark: 0,
+        }
+    }
+
+    /// What is kept.
+    pub fn into_kept(self) -> Kept
+        ensures { result.bench ≡ self.kept.bench }
+    {
+        let Handle { kept, mark: _ } = self;
+        kept
     }
 }
 
 impl Drop for Handle {
     fn drop(self) {
-        match self.into_held().into_box() {
-            Ok(bench) => drop(bench),
-            Err(_) => {}
+        let Handle { kept, mark } = self;
+        if mark == OWN_MARK {
+            drop(kept.into_held().into_box());
+        } else {
+            drop(kept);
         }
     }
 }

@@ -1,12 +1,13 @@
 //! What a handle shows of the pool.
 
 ghost use Rattle.std.specs.Prelude.{◌≡◌, ◌<◌, length};
+ghost use Rattle.nvmesgl_c.specs.MachineKept.{kept_in};
 ghost use Rattle.nvmesgl_c.specs.MachineLooks as looks;
 ghost use Rattle.nvmesgl_c.specs.MachineLooks.{TellsCounts, TellsOwner};
 
 use crate::machine::desk::Desk;
 use crate::machine::handle::Handle;
-use crate::words::code::{CLOSED, DONE, NO_PAGE};
+use crate::words::code::{DONE, NO_PAGE};
 use crate::words::{COwner, owner_of};
 use std::alloc::Global;
 
@@ -26,6 +27,8 @@ pub struct CCounts {
     pub data_pages: u32,
     /// Whether nothing was forged.
     pub trusted: bool,
+    /// Zeros.
+    pub reserved: [u32; 4],
 }
 
 /// What a desk counts.
@@ -40,16 +43,18 @@ fn counts_of(desk: &Desk) -> CCounts
         chain_pages: counts.chain_pages,
         data_pages: counts.data_pages,
         trusted: desk.trusted(),
+        reserved: [0; 4],
     }
 }
 
 /// Tells how many pages the pool has and each class of them.
 #[unsafe(no_mangle)]
 pub extern "C" fn nvmesgl_counts(alloc: Global, handle: &mut Handle, counts: &mut CCounts) -> u32
-    ensures { TellsCounts handle.old.bench result counts.old counts.new handle.new.bench }
+    ensures { TellsCounts (kept_in handle.old) result counts.old counts.new (kept_in handle.new) }
 {
-    let Some(desk) = handle.take(alloc) else {
-        return CLOSED;
+    let desk = match handle.take(alloc) {
+        Ok(desk) => desk,
+        Err(code) => return code,
     };
     *counts = counts_of(&desk);
     handle.put(desk);
@@ -64,10 +69,11 @@ pub extern "C" fn nvmesgl_owner(
     page: u32,
     owner: &mut COwner,
 ) -> u32
-    ensures { TellsOwner handle.old.bench page result owner.old owner.new handle.new.bench }
+    ensures { TellsOwner (kept_in handle.old) page result owner.old owner.new (kept_in handle.new) }
 {
-    let Some(desk) = handle.take(alloc) else {
-        return CLOSED;
+    let desk = match handle.take(alloc) {
+        Ok(desk) => desk,
+        Err(code) => return code,
     };
     let found = desk.owner(page);
     handle.put(desk);

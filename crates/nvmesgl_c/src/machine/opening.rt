@@ -1,6 +1,8 @@
 //! The opening and the closing of a handle.
 
-ghost use Rattle.std.specs.Prelude.{◌≡◌, None, IfOk, IfErr};
+ghost use Rattle.std.specs.Prelude.{◌≡◌, IfOk, IfErr};
+ghost use Rattle.host_core.specs.Opening.{RefusesOpening};
+ghost use Rattle.nvmesgl_c.specs.MachineKept.{Closes, kept_in};
 ghost use Rattle.nvmesgl_c.specs.MachineOptions.{Opens, IsOpened, IsWhy};
 
 use crate::machine::answer::told_not_opened;
@@ -8,10 +10,24 @@ use crate::machine::code::code_of_not_opened;
 use crate::machine::desk::Desk;
 use crate::machine::handle::Handle;
 use crate::machine::options::{NotOpened, Options, config_of, fault_of};
-use crate::words::code::{DONE, OPEN};
+use crate::words::code::DONE;
 use crate::words::{Answer, image_for, nothing};
+use host_core::Host;
 use std::alloc::Global;
-use step_core::ImageError;
+use step_core::{Config, ImageError, OpenRefusal};
+
+/// Why nothing opens where memory is refused for the image: what the configuration is refused for, if it is, comes first.
+fn why_without_image(alloc: Global, config: Config) -> OpenRefusal
+    ensures { RefusesOpening config result }
+{
+    match Host::open(alloc, config) {
+        Ok(opened) => {
+            drop(opened);
+            OpenRefusal::Memory
+        }
+        Err(why) => why,
+    }
+}
 
 /// A desk in a box.
 fn open_desk(alloc: Global, given: &Options, bytes: &[u8]) -> Result<Box<Desk, Global>, NotOpened>
@@ -21,12 +37,15 @@ fn open_desk(alloc: Global, given: &Options, bytes: &[u8]) -> Result<Box<Desk, G
     if let Some(why) = fault_of(given) {
         return Err(why);
     }
+    let config = config_of(given);
     let image = match image_for(alloc, given.blocks, bytes) {
         Ok(image) => image,
         Err(ImageError::BadLength) => return Err(NotOpened::BadImage),
-        Err(ImageError::Memory) => return Err(NotOpened::Memory),
+        Err(ImageError::Memory) => {
+            return Err(NotOpened::Refused(why_without_image(alloc, config)));
+        }
     };
-    match Desk::open(alloc, config_of(given), image) {
+    match Desk::open(alloc, config, image) {
         Ok(desk) => match Box::new(alloc, desk) {
             Ok(desk) => Ok(desk),
             Err(_) => Err(NotOpened::Memory),
@@ -44,12 +63,11 @@ pub extern "C" fn nvmesgl_open(
     image: &[u8],
     answer: &mut Answer,
 ) -> u32
-    ensures { Opens handle.old.bench given.now image.now result answer.new handle.new.bench }
+    ensures { Opens (kept_in handle.old) given.now image.now result answer.new (kept_in handle.new) }
 {
     *answer = nothing();
-    if let Some(desk) = handle.take(alloc) {
-        handle.put(desk);
-        return OPEN;
+    if let Some(code) = handle.cause() {
+        return code;
     }
     match open_desk(alloc, given, image) {
         Ok(desk) => {
@@ -63,12 +81,12 @@ pub extern "C" fn nvmesgl_open(
     }
 }
 
-/// Closes a handle, if it is open: all that it holds is let go, whatever is outstanding.
+/// Closes a handle, if it is open, and else leaves it: all that it holds is let go, whatever is outstanding.
 #[unsafe(no_mangle)]
 pub extern "C" fn nvmesgl_close(alloc: Global, handle: &mut Handle)
-    ensures { handle.new.bench ≡ None }
+    ensures { Closes (kept_in handle.old) (kept_in handle.new) }
 {
-    if let Some(desk) = handle.take(alloc) {
+    if let Ok(desk) = handle.take(alloc) {
         drop(desk);
     }
 }

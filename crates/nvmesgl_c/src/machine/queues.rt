@@ -1,5 +1,6 @@
 //! The driver's calls of a queue.
 
+ghost use Rattle.nvmesgl_c.specs.MachineKept.{kept_in};
 ghost use Rattle.nvmesgl_c.specs.MachineCalls.{Says};
 ghost use Rattle.step_core.specs.declared.step.Step.TheVariants as step;
 
@@ -17,7 +18,7 @@ pub extern "C" fn nvmesgl_ring(
     q: u16,
     answer: &mut Answer,
 ) -> u32
-    ensures { Says handle.old.bench (step.Ring q) result answer.new handle.new.bench }
+    ensures { Says (kept_in handle.old) (step.Ring q) result answer.new (kept_in handle.new) }
 {
     say(alloc, handle, Step::Ring { q }, answer)
 }
@@ -30,7 +31,7 @@ pub extern "C" fn nvmesgl_reap(
     q: u16,
     answer: &mut Answer,
 ) -> u32
-    ensures { Says handle.old.bench (step.Reap q) result answer.new handle.new.bench }
+    ensures { Says (kept_in handle.old) (step.Reap q) result answer.new (kept_in handle.new) }
 {
     say(alloc, handle, Step::Reap { q }, answer)
 }
@@ -43,7 +44,7 @@ pub extern "C" fn nvmesgl_delete_sq(
     q: u16,
     answer: &mut Answer,
 ) -> u32
-    ensures { Says handle.old.bench (step.DeleteSq q) result answer.new handle.new.bench }
+    ensures { Says (kept_in handle.old) (step.DeleteSq q) result answer.new (kept_in handle.new) }
 {
     say(alloc, handle, Step::DeleteSq { q }, answer)
 }
@@ -56,7 +57,7 @@ pub extern "C" fn nvmesgl_delete_cq(
     q: u16,
     answer: &mut Answer,
 ) -> u32
-    ensures { Says handle.old.bench (step.DeleteCq q) result answer.new handle.new.bench }
+    ensures { Says (kept_in handle.old) (step.DeleteCq q) result answer.new (kept_in handle.new) }
 {
     say(alloc, handle, Step::DeleteCq { q }, answer)
 }
@@ -69,7 +70,7 @@ pub extern "C" fn nvmesgl_create_cq(
     q: u16,
     answer: &mut Answer,
 ) -> u32
-    ensures { Says handle.old.bench (step.CreateCq q) result answer.new handle.new.bench }
+    ensures { Says (kept_in handle.old) (step.CreateCq q) result answer.new (kept_in handle.new) }
 {
     say(alloc, handle, Step::CreateCq { q }, answer)
 }
@@ -82,7 +83,7 @@ pub extern "C" fn nvmesgl_create_sq(
     q: u16,
     answer: &mut Answer,
 ) -> u32
-    ensures { Says handle.old.bench (step.CreateSq q) result answer.new handle.new.bench }
+    ensures { Says (kept_in handle.old) (step.CreateSq q) result answer.new (kept_in handle.new) }
 {
     say(alloc, handle, Step::CreateSq { q }, answer)
 }
@@ -95,7 +96,7 @@ pub extern "C" fn nvmesgl_retire(
     q: u16,
     answer: &mut Answer,
 ) -> u32
-    ensures { Says handle.old.bench (step.Retire q) result answer.new handle.new.bench }
+    ensures { Says (kept_in handle.old) (step.Retire q) result answer.new (kept_in handle.new) }
 {
     say(alloc, handle, Step::Retire { q }, answer)
 }
@@ -110,7 +111,7 @@ pub extern "C" fn nvmesgl_forge(
     bytes: &[u8; 16],
     answer: &mut Answer,
 ) -> u32
-    ensures { Says handle.old.bench (step.Forge q slot bytes.now) result answer.new handle.new.bench }
+    ensures { Says (kept_in handle.old) (step.Forge q slot bytes.now) result answer.new (kept_in handle.new) }
 {
     say(
         alloc,

@@ -1,12 +1,13 @@
 //! All that the controller can do, in one call.
 
 ghost use Rattle.std.specs.Prelude.{◌≡◌};
+ghost use Rattle.nvmesgl_c.specs.MachineKept.{kept_in};
 ghost use Rattle.nvmesgl_c.specs.MachineServing as serving;
 ghost use Rattle.nvmesgl_c.specs.MachineServing.{Serves, ServesKept};
 
 use crate::machine::desk::Desk;
 use crate::machine::handle::Handle;
-use crate::words::code::{CLOSED, DONE, code_of_refusal};
+use crate::words::code::{DONE, code_of_refusal};
 use crate::words::{Answer, nothing};
 use machine_model::words::Refusal;
 use std::alloc::Global;
@@ -114,11 +115,12 @@ fn told_serving(served: Served) -> Answer
 /// The controller does all that it can, of every queue. How many commands it completed is told, and whether there is more to do.
 #[unsafe(no_mangle)]
 pub extern "C" fn nvmesgl_serve(alloc: Global, handle: &mut Handle, answer: &mut Answer) -> u32
-    ensures { ServesKept handle.old.bench result answer.new handle.new.bench }
+    ensures { ServesKept (kept_in handle.old) result answer.new (kept_in handle.new) }
 {
     *answer = nothing();
-    let Some(mut desk) = handle.take(alloc) else {
-        return CLOSED;
+    let mut desk = match handle.take(alloc) {
+        Ok(desk) => desk,
+        Err(code) => return code,
     };
     let served = serve(&mut desk);
     handle.put(desk);

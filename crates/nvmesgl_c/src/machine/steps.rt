@@ -1,45 +1,53 @@
 //! Steps of the bench that a handle keeps.
 
 ghost use Rattle.std.specs.Prelude.{◌≡◌};
+ghost use Rattle.nvmesgl_c.specs.MachineKept.{kept_in};
 ghost use Rattle.nvmesgl_c.specs.MachineCalls.{DoesKept, Says, Refuses};
 
 use crate::machine::answer::told;
 use crate::machine::code::code_of_reply;
 use crate::machine::handle::Handle;
-use crate::words::code::CLOSED;
 use crate::words::{Answer, nothing};
 use std::alloc::Global;
 use step_core::{Reply, Step};
 
-/// Does a step of the bench that is kept, if one is.
-pub(crate) fn do_step(alloc: Global, handle: &mut Handle, what: Step) -> Option<Reply>
-    ensures { DoesKept handle.old.bench what result handle.new.bench }
+/// Does a step of the bench that is kept.
+///
+/// # Errors
+///
+/// The code, where none is kept.
+pub(crate) fn do_step(alloc: Global, handle: &mut Handle, what: Step) -> Result<Reply, u32>
+    ensures { DoesKept (kept_in handle.old) what result (kept_in handle.new) }
 {
-    let Some(mut desk) = handle.take(alloc) else {
-        drop(what);
-        return None;
+    let mut desk = match handle.take(alloc) {
+        Ok(desk) => desk,
+        Err(code) => {
+            drop(what);
+            return Err(code);
+        }
     };
     let answer = desk.step(what);
     handle.put(desk);
-    Some(answer)
+    Ok(answer)
 }
 
 /// Does a step, and tells what it answered.
 pub(crate) fn say(alloc: Global, handle: &mut Handle, what: Step, answer: &mut Answer) -> u32
-    ensures { Says handle.old.bench what result answer.new handle.new.bench }
+    ensures { Says (kept_in handle.old) what result answer.new (kept_in handle.new) }
 {
     let reply = do_step(alloc, handle, what);
     *answer = told(&reply);
     code_of_reply(&reply)
 }
 
-/// Does no step, for a cause; a handle that is closed is told first.
+/// Does no step, for a cause; a handle that keeps no bench is told first.
 pub(crate) fn refuse(alloc: Global, handle: &mut Handle, code: u32, answer: &mut Answer) -> u32
-    ensures { Refuses handle.old.bench code result answer.new handle.new.bench }
+    ensures { Refuses (kept_in handle.old) code result answer.new (kept_in handle.new) }
 {
     *answer = nothing();
-    let Some(desk) = handle.take(alloc) else {
-        return CLOSED;
+    let desk = match handle.take(alloc) {
+        Ok(desk) => desk,
+        Err(code) => return code,
     };
     handle.put(desk);
     code

@@ -2,6 +2,7 @@
 
 ghost use Rattle.std.specs.Prelude.{◌≡◌, ◌≤◌, ◌⊎◌, IfOk, length};
 ghost use Rattle.io_commands.specs.declared.request.Kind.TheVariants as kind;
+ghost use Rattle.nvmesgl_c.specs.MachineKept.{kept_in};
 ghost use Rattle.nvmesgl_c.specs.MachineWhole as whole;
 ghost use Rattle.nvmesgl_c.specs.MachineWhole.{Brings, CarriesKept, IsTurnedAway, Sends};
 
@@ -10,7 +11,7 @@ use crate::machine::carrying::{Carried, carry};
 use crate::machine::code::code_of_answer;
 use crate::machine::handle::Handle;
 use crate::machine::steps::refuse;
-use crate::words::code::{BAD_COUNT, CLOSED, DONE, MEMORY, TOO_SHORT};
+use crate::words::code::{BAD_COUNT, DONE, MEMORY, TOO_SHORT};
 use crate::words::{Answer, ended, nothing};
 use std::alloc::{AllocError, Global};
 use step_core::{Bytes, Kind, Piece, Pieces, Request};
@@ -64,24 +65,31 @@ fn request_for(alloc: Global, kind: Kind, slba: u64, len: usize) -> Result<Reque
     })
 }
 
-/// Carries a command of the bench that a handle keeps, if one is.
+/// Carries a command of the bench that a handle keeps.
+///
+/// # Errors
+///
+/// The code, where none is kept.
 fn carry_kept(
     alloc: Global,
     handle: &mut Handle,
     q: u16,
     request: Request,
     bytes: Option<Bytes>,
-) -> Option<Carried>
-    ensures { CarriesKept handle.old.bench q request bytes result handle.new.bench }
+) -> Result<Carried, u32>
+    ensures { CarriesKept (kept_in handle.old) q request bytes result (kept_in handle.new) }
 {
-    let Some(mut desk) = handle.take(alloc) else {
-        drop(request);
-        drop(bytes);
-        return None;
+    let mut desk = match handle.take(alloc) {
+        Ok(desk) => desk,
+        Err(code) => {
+            drop(request);
+            drop(bytes);
+            return Err(code);
+        }
     };
     let carried = carry(&mut desk, q, request, bytes);
     handle.put(desk);
-    Some(carried)
+    Ok(carried)
 }
 
 /// What a whole command tells.
@@ -114,22 +122,22 @@ fn code_of_carried(carried: &Carried) -> u32
 }
 
 /// What a whole command of a handle tells, which was open or not.
-fn told_of_kept(carried: &Option<Carried>) -> Answer
+fn told_of_kept(carried: &Result<Carried, u32>) -> Answer
     ensures { result ≡ whole.told_of_kept carried.now }
 {
     match carried {
-        Some(carried) => told_carried(carried),
-        None => nothing(),
+        Ok(carried) => told_carried(carried),
+        Err(_) => nothing(),
     }
 }
 
-/// The code of a whole command of a handle, which was open or not.
-fn code_of(carried: &Option<Carried>) -> u32
+/// The code of a whole command, or of the handle that it was made on.
+fn code_of(carried: &Result<Carried, u32>) -> u32
     ensures { result ≡ whole.code_of carried.now }
 {
     match carried {
-        Some(carried) => code_of_carried(carried),
-        None => CLOSED,
+        Ok(carried) => code_of_carried(carried),
+        Err(code) => *code,
     }
 }
 
@@ -143,7 +151,7 @@ fn send(
     bytes: &[u8],
     answer: &mut Answer,
 ) -> u32
-    ensures { Sends handle.old.bench q kind slba bytes.now result answer.new handle.new.bench ⊎ IsTurnedAway handle.old.bench (length bytes.now) result answer.new handle.new.bench }
+    ensures { Sends (kept_in handle.old) q kind slba bytes.now result answer.new (kept_in handle.new) ⊎ IsTurnedAway (kept_in handle.old) (length bytes.now) result answer.new (kept_in handle.new) }
 {
     if bytes.len() > MOST_BYTES {
         return refuse(alloc, handle, BAD_COUNT, answer);
@@ -161,10 +169,10 @@ fn send(
 }
 
 /// Lays what a Read brought at the front of a buffer. The code of the command; or that the buffer is too short.
-fn lay(carried: &Option<Carried>, buffer: &mut [u8]) -> u32
+fn lay(carried: &Result<Carried, u32>, buffer: &mut [u8]) -> u32
     ensures { whole.LaidOf carried.now result buffer.old buffer.new }
 {
-    if let Some(Carried::Ended { bytes, .. }) = carried {
+    if let Ok(Carried::Ended { bytes, .. }) = carried {
         let bytes = bytes.as_slice();
         if buffer.len() < bytes.len() {
             return TOO_SHORT;
@@ -184,7 +192,7 @@ pub extern "C" fn nvmesgl_read(
     buffer: &mut [u8],
     answer: &mut Answer,
 ) -> u32
-    ensures { Brings handle.old.bench q slba buffer.old buffer.new result answer.new handle.new.bench ⊎ whole.IsTurnedAwayFrom buffer.old buffer.new handle.old.bench result answer.new handle.new.bench }
+    ensures { Brings (kept_in handle.old) q slba buffer.old buffer.new result answer.new (kept_in handle.new) ⊎ whole.IsTurnedAwayFrom buffer.old buffer.new (kept_in handle.old) result answer.new (kept_in handle.new) }
 {
     if buffer.len() > MOST_BYTES {
         return refuse(alloc, handle, BAD_COUNT, answer);
@@ -207,7 +215,7 @@ pub extern "C" fn nvmesgl_write(
     bytes: &[u8],
     answer: &mut Answer,
 ) -> u32
-    ensures { Sends handle.old.bench q kind.Write slba bytes.now result answer.new handle.new.bench ⊎ IsTurnedAway handle.old.bench (length bytes.now) result answer.new handle.new.bench }
+    ensures { Sends (kept_in handle.old) q kind.Write slba bytes.now result answer.new (kept_in handle.new) ⊎ IsTurnedAway (kept_in handle.old) (length bytes.now) result answer.new (kept_in handle.new) }
 {
     send(alloc, handle, q, Kind::Write, slba, bytes, answer)
 }
@@ -222,7 +230,7 @@ pub extern "C" fn nvmesgl_compare(
     bytes: &[u8],
     answer: &mut Answer,
 ) -> u32
-    ensures { Sends handle.old.bench q kind.Compare slba bytes.now result answer.new handle.new.bench ⊎ IsTurnedAway handle.old.bench (length bytes.now) result answer.new handle.new.bench }
+    ensures { Sends (kept_in handle.old) q kind.Compare slba bytes.now result answer.new (kept_in handle.new) ⊎ IsTurnedAway (kept_in handle.old) (length bytes.now) result answer.new (kept_in handle.new) }
 {
     send(alloc, handle, q, Kind::Compare, slba, bytes, answer)
 }

@@ -2,6 +2,7 @@
 
 ghost use Rattle.std.specs.Prelude.{◌≡◌};
 ghost use Rattle.nvmesgl_c.specs.Codes as codes;
+ghost use Rattle.nvmesgl_c.specs.Keeping as keeping;
 
 use io_commands::{FillFault, RequestFault};
 use machine_model::words::{OpenRefusal, Refusal};
@@ -32,6 +33,16 @@ pub const MEMORY: u32 = 15;
 pub const BAD_PIECE: u32 = 56;
 /// No blocks, or more than a command moves.
 pub const BAD_COUNT: u32 = 43;
+
+/// No handle of the kind that the call takes.
+pub const NO_HANDLE: u32 = 57;
+
+/// The code of a handle that keeps nothing, by its mark: it is closed, or none of this kind.
+pub fn code_of_mark(mark: u32) -> u32
+    ensures { result ≡ keeping.code_of_mark mark }
+{
+    if mark == 0 { CLOSED } else { NO_HANDLE }
+}
 
 /// The code of a fault of a request.
 fn code_of_request_fault(why: RequestFault) -> u32

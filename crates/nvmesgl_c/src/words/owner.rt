@@ -16,6 +16,20 @@ pub struct COwner {
     pub q: u16,
     /// The command's identifier.
     pub cid: u16,
+    /// Zeros.
+    pub reserved: [u32; 4],
+}
+
+/// An owner of a class, a queue and an identifier.
+fn owner_with(class: u32, q: u16, cid: u16) -> COwner
+    ensures { result ≡ owners.owner_with class q cid }
+{
+    COwner {
+        class,
+        q,
+        cid,
+        reserved: [0; 4],
+    }
 }
 
 /// The owner that C sees.
@@ -23,36 +37,24 @@ pub fn owner_of(owner: Owner) -> COwner
     ensures { result ≡ owners.owner_of owner }
 {
     match owner {
-        Owner::Free => COwner {
-            class: 0,
-            q: 0,
-            cid: 0,
-        },
+        Owner::Free => owner_with(0, 0, 0),
         Owner::Queue {
             q,
             half: Half::Submission,
-        } => COwner {
-            class: 1,
-            q,
-            cid: 0,
-        },
+        } => owner_with(1, q, 0),
         Owner::Queue {
             q,
             half: Half::Completion,
-        } => COwner {
-            class: 2,
-            q,
-            cid: 0,
-        },
+        } => owner_with(2, q, 0),
         Owner::Command {
             q,
             cid,
             role: Role::Data,
-        } => COwner { class: 3, q, cid },
+        } => owner_with(3, q, cid),
         Owner::Command {
             q,
             cid,
             role: Role::Chain,
-        } => COwner { class: 4, q, cid },
+        } => owner_with(4, q, cid),
     }
 }

@@ -1,12 +1,11 @@
 -- `none` owns nothing but its allocator.
 use Rattle.std.{proofs.{Common.{◌≡◌, List, [], ◌∷◌, ◌++◌, refl, sym, subst}, raw_atomic.Walks.{proved_at, leaves}}, specs.Prelude.None}
-use mathlib.Core.Bool.{false}
 use mir.{MapTy.inst_fn, Syntax.{a_type, dcons, dnil}, Val.Val}
 use base.{Fml.{ftrue, flft}, Logic.{SProp, ent, emp, id⊢}}
 use prog.Wp.{WpFn}
 use types.ByLocal.{alloc_all, pass_all, free_all, look_at, get, sets}
 use types.{Kit.{‵, raw, ◌⊛◌, ◌$◌, ◌∵◌, !, qed, by, move, keep, split, fsplit, fjoin, suffices, use0}, Part.agg}
-use types.Run.{lit, false_lit, of_opd, no_more, and_then, returns, enter}
+use types.Run.{lit, of_opd, no_more, and_then, returns, enter}
 use contract.{Monad.{fact, fact_i}, Running.tables}
 use denote.{Exit.no, Param.{param, bounded, Laws.param_laws}, RattleType.{RattleType, owns}, RawPtr.null_ptr, Signature.{types_at, plain}, Steps.nothing}
 use denote.Triple.Walked.{Stays, stay_dropped, walk_of}
@@ -24,10 +23,10 @@ none_spec 𝓤 𝓛 𝓜 𝓡 wired T A L LA g d dd allocator md =
     let κs = z.0.0 in let qs = z.0.1 in let a = z.0.3.0 in let Post : Val → SProp 𝓤 = (walk_of 𝓛 En hs c).post z in let Run : List Val → SProp 𝓤 = λ ws. WpFn 𝓤 H 𝓣.C 𝓣.Λ fn ws Post in
     let toks = ‵ (flft κs.0 qs.0) ⊛ ‵ (flft κs.1.0 qs.1.0) ⊛ ‵ ftrue in
     qed 𝓛 ((toks ⊛ ‵ (owns (types_at En.signature.params κs) z.0.3 z.0.4)) ∷ raw ((c κs z.0.3).requires z.1) ∷ []) ∵ split ! $ move ! (1 ∷ []) $ fsplit ! $ handle_tells al ! a z.0.4.0 (λ h ws fits.
-    let good = held_good R Z LZ g null_ptr false h fits in let w : Val = held_val null_ptr false h in
+    let good = held_good R Z LZ g null_ptr h fits in let w : Val = held_val null_ptr h in
     suffices ! (Run (h ∷ [])) (subst (λ (us : List Val). ent 𝓤 (Run (h ∷ [])) (Run us)) (sym (λ i. ws i ++ [])) (id⊢ 𝓤 (Run (h ∷ [])))) $
     enter ! 𝓣.C 𝓣.Λ fn (h ∷ []) Post $ alloc_all ! (λ l. pass_all ! refl (fits, tt) $
-    sets ! (of_opd ! (get ! refl)) refl fits $ sets ! (agg ! (and_then ! (lit ! tt) (and_then ! (false_lit !) (and_then ! (get ! refl) (no_more !))))) refl good $
-    nothing ! $ move ! (0 ∷ 1 ∷ []) $ held_in R Z LZ g ! null_ptr false h a None $
+    sets ! (of_opd ! (get ! refl)) refl fits $ sets ! (agg ! (and_then ! (lit ! tt) (and_then ! (get ! refl) (no_more !)))) refl good $
+    nothing ! $ move ! (0 ∷ 1 ∷ []) $ held_in R Z LZ g ! null_ptr h a None $
     use0 𝓛 (raw (fact 𝓤 (None ≡ None))) (fact_i 𝓤 (None ≡ None) (emp 𝓤) refl) $ nothing ! $ nothing ! $ fjoin ! $
-    returns ! (look_at ! 0 refl) $ free_all ! refl $ keep ! (4 ∷ 0 ∷ 2 ∷ 1 ∷ []) $ by ! (leaves 𝓛 En hs c z w (record { at = null_ptr; full = false; alloc = a; value = None }) (tt, tt) (tt, tt)))))
+    returns ! (look_at ! 0 refl) $ free_all ! refl $ keep ! (4 ∷ 0 ∷ 2 ∷ 1 ∷ []) $ by ! (leaves 𝓛 En hs c z w (record { at = null_ptr; alloc = a; value = None }) (tt, tt) (tt, tt)))))

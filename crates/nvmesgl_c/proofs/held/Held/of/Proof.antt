@@ -1,12 +1,11 @@
 -- `of` takes the box apart.
 use Rattle.std.{proofs.{Common.{◌≡◌, List, [], ◌∷◌, ◌++◌, refl, sym, ap, ◌∙◌, subst}, raw_atomic.Walks.{proved_at, leaves}}, specs.Prelude.Some}
-use mathlib.Core.Bool.{true}
 use mir.{MapTy.inst_fn, Raw.raw as bare, Syntax.{a_type, dcons, dnil}, Val.{Val, vstruct, of_list}}
 use base.{Fml.{ftrue, fsep, flft}, Logic.{SProp, ent, emp, never, id⊢, fst∗}}
 use prog.Wp.{WpFn}
 use types.ByLocal.{alloc_all, pass_all, free_all, look_at, get, get_in, sets, lands_as}
 use types.Kit.{‵, raw, ◌⊛◌, some, later, ◌$◌, ◌∵◌, !, qed, by, move, keep, drop, split, split3, join, fsplit, fjoin, fpick, pick, suffices, use0, use1, await, rewrite, feq_l}
-use types.{Logic.sem, Part.{agg, sub, whole}, Run.{stop, fld, true_lit, of_opd, no_more, and_then, returns, enter}}
+use types.{Logic.sem, Part.{agg, sub, whole}, Run.{stop, fld, of_opd, no_more, and_then, returns, enter}}
 use contract.{Monad.{fact, fact_i}, Running.tables}
 use denote.{Builtin.RawPtr, Exit.no, Param.{param, layout, bounded, Laws.param_laws}, RattleType.{RattleType, owns}}
 use denote.{RawPtr.{Ptr, block_ptr, null_ptr, ptr_val, in_a_block}, Signature.{types_at, plain}, Steps.{nothing, only, heard}, Struct.Tuple.Tuple}
@@ -38,9 +37,9 @@ of_spec 𝓤 𝓛 𝓜 𝓡 wired T A L LA g d dd dx allocator md glue =
     await ! tt $ pick ! (λ r. split ! $ move ! (1 ∷ []) $ pick ! (λ _. split3 ! $ drop ! $ heard ! (r.1 ≡ a) (λ ea.
     in_a_block ! r.0 (λ p. box_owns (g.dealloc_token a) R p v.value) (fst∗ 𝓤 (never 𝓤) (sem 𝓛 (g.dealloc_token a (bare (layout T)) null_ptr))) (λ b' o' e'.
     move ! (1 ∷ []) $ split ! $ move ! (1 ∷ []) $ fpick ! (λ vss. fsplit ! $ feq_l ! (λ eu. fsplit ! $ feq_l ! (λ ep. fsplit ! $ rewrite ! 0 (λ (s : A.Denot). ‵ (A.own_val s vss.1.0)) ea refl $ handle_tells E.al ! a vss.1.0 (λ h' eh fits'.
-    let w' : Val = box.word E h' b' o' in let made = held_good R Z LZ g (block_ptr b' o') true h' fits' in
+    let w' : Val = box.word E h' b' o' in let made = held_good R Z LZ g (block_ptr b' o') h' fits' in
     lands_as ! (ap only (eu ∙ (λ j. vstruct (of_list ((ep ∙ ap (λ (p : Ptr). ptr_val p ∷ []) e') j ++ (eh j ++ []))) ∷ []))) refl (box.box_typed E h' b' o' fits') $ sets ! (of_opd ! (get_in ! (fld ! refl (stop !)) (sub ! 0 refl (whole !)))) refl (tt, tt) $ sets ! (of_opd ! (get_in ! (fld ! refl (stop !)) (sub ! 1 refl (whole !)))) refl fits' $
-    sets ! (of_opd ! (get ! refl)) refl fits' $ sets ! (agg ! (and_then ! (get ! refl) (and_then ! (true_lit !) (and_then ! (get ! refl) (no_more !))))) refl made $ move ! (3 ∷ 0 ∷ []) $
-    use1 𝓛 (‵ (held_owns (g.dealloc_token a) R true (block_ptr b' o') (Some v.value))) (id⊢ 𝓤 _) $ held_in R Z LZ g ! (block_ptr b' o') true h' a (Some v.value) $
+    sets ! (of_opd ! (get ! refl)) refl fits' $ sets ! (agg ! (and_then ! (get ! refl) (and_then ! (get ! refl) (no_more !)))) refl made $ move ! (3 ∷ 0 ∷ []) $
+    use1 𝓛 (‵ (held_owns (g.dealloc_token a) R (block_ptr b' o') (Some v.value))) (id⊢ 𝓤 _) $ held_in R Z LZ g ! (block_ptr b' o') h' a (Some v.value) $
     use0 𝓛 (raw (fact 𝓤 (Some v.value ≡ Some v.value))) (fact_i 𝓤 (Some v.value ≡ Some v.value) (emp 𝓤) refl) $ nothing ! $ nothing ! $ fjoin ! $
-    returns ! (look_at ! 0 refl) $ free_all ! refl $ keep ! (4 ∷ 0 ∷ 2 ∷ 1 ∷ []) $ by ! (leaves 𝓛 En hs c z (held_val (block_ptr b' o') true h') (record { at = block_ptr b' o'; full = true; alloc = a; value = Some v.value }) ((tt, (tt, tt)), tt) (tt, tt))))))))))))))
+    returns ! (look_at ! 0 refl) $ free_all ! refl $ keep ! (4 ∷ 0 ∷ 2 ∷ 1 ∷ []) $ by ! (leaves 𝓛 En hs c z (held_val (block_ptr b' o') h') (record { at = block_ptr b' o'; alloc = a; value = Some v.value }) ((tt, (tt, tt)), tt) (tt, tt))))))))))))))

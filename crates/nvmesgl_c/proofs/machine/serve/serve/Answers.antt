@@ -1,4 +1,4 @@
-use Rattle.std.proofs.Common.{true, false, sym, subst, ◌∙◌, arith}
+use Rattle.std.proofs.Common.{true, sym, subst, ◌∙◌}
 use Rattle.machine_model.specs.Script.{Table}
 use Rattle.step_core.specs.Bench.{Does}
 use Rattle.nvmesgl_c.proofs.Serving.{none_served, served_more, served_other, refused_last}
