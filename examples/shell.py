@@ -39,8 +39,8 @@ class Shell:
         return self.process.wait()
 
 
-def main():
-    shell = Shell(sys.argv[1:] or ["nvmesgl", "shell"])
+def drive(shell):
+    """Types the lesson, and answers the exit status of the shell."""
     # One line each.
     print(*shell.ask(".write 1 5 1 ABCD"))
     print(*shell.ask(".read 1 5 1"))
@@ -55,6 +55,15 @@ def main():
     print(shell.ask("raed 1")[0])
     print(*shell.ask(".counts"))
     return shell.close()
+
+
+def main():
+    command = sys.argv[1:] or ["nvmesgl", "shell"]
+    try:
+        return drive(Shell(command))
+    except (OSError, EOFError) as why:
+        print(f"'{' '.join(command)}' does not answer as a shell does: {why}", __doc__, sep="\n\n", file=sys.stderr)
+        return 1
 
 
 if __name__ == "__main__":

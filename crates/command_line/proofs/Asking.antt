@@ -1,16 +1,14 @@
 -- What words ask for, by what a parse finds of them.
-use Rattle.std.proofs.Common.{◌≡◌, ◌∙◌, ◌||◌, ap, ap₂, Bool, true, false, refl, ◌&&◌, ◌<◌, ◌^◌, ℕ, List, [], ◌∷◌, Option, Some, None, sym, ◌⊎◌, ◌≤◌, subst, inl, inr, codes}
-use Rattle.std.{proofs.lemmas.{Bool.{ltb-true, lt-ltb, le-leb}, Slice.Eq.bytes_eq-Decides}, specs.{Box.box_value, Char.digit_value, List.list_all}}
-use Rattle.std.specs.{Prelude.{Result, Ok, Err, nat_lt, option_and_then, if◌then◌else◌, IfErr, IfOk, IsErrAnd, IsOkAnd, option_map}, Str.bytes_eq}
+use Rattle.std.proofs.Common.{◌≡◌, ◌∙◌, ◌||◌, ap, ap₂, Bool, true, false, refl, ◌&&◌, ◌<◌, ◌^◌, ℕ, List, [], ◌∷◌, Option, Some, None, sym, ◌⊎◌, subst, inl, inr}
+use Rattle.std.{proofs.lemmas.{Bool.{ltb-true, lt-ltb}}, specs.{Box.box_value, Char.digit_value, List.list_all}}
+use Rattle.std.specs.{Prelude.{Result, Ok, Err, nat_lt, option_and_then, if◌then◌else◌, IfErr, IfOk, IsErrAnd, IsOkAnd, option_map}}
 use Rattle.std.specs.Str.Parse.{AllDigits, IsNumeral, ParsesUnsigned, digits_value, without_leading_plus}
 use Rattle.clap.{proofs.{OnLiterals.clap_on_literals, WalkLemmas.both}, specs.ValueTests.is_numeral}
-use Rattle.clap.specs.Words.{AddsArg, AddsSubcommand, App, Rule, app_of, rule_of, with_rule, with_subcommand, ReadsOne, Text, HasKind, HasMatchesOf, IsAmong, Kinds, Row, fault_of, found_of, is_simple, is_simple_and_free, kind_of, rows_of, subcommand_name_of, subcommand_of, subcommand_rows_of, first_of}
+use Rattle.clap.specs.Words.{AddsArg, AddsSubcommand, App, Rule, app_of, rule_of, with_rule, with_subcommand, ReadsOne, Text, HasKind, HasMatchesOf, IsAmong, Kinds, Row, fault_of, found_of, is_simple, is_simple_and_free, kind_of, rows_of, subcommand_name_of, subcommand_of, subcommand_rows_of}
 use Rattle.clap.specs.declared.{builder.{arg.Arg.Arg, command.Command.{Command, TheViews.out-Command}}, error.{Error.Error, kind.ErrorKind.ErrorKind}}
 use Rattle.clap.specs.declared.{error.kind.ErrorKind.TheVariants.OutOfMemory, parser.matches.ArgMatches.{ArgMatches, TheViews.{out-ArgMatches, out-SubCommand}}}
-use Rattle.command_line.specs.Asked.{number, Asked, are_submitters, asked, asked_by, if_submitters, unless_at_fault, Given, amount_under, are_load_numbers, blocks_in, count_in, depth_in, given_in, has_flag, load, load_by, loaded_in, log_limit_in, number_under, numjobs_in, pattern_in, serving_in}
+use Rattle.command_line.specs.{Asked.{asked, asked_by, unless_at_fault}, Units.number}
 use Rattle.command_line.specs.Commands.{nvmesgl}
-use Rattle.command_line.specs.declared.serving.Serving.{Serving}
-use Rattle.script_cli.specs.declared.workload.Pattern.{Pattern}
 
 -- What adding an argument makes of a command.
 
@@ -56,19 +54,27 @@ fits_found ds e =
     let numeral = both _ _ parts.0 in
     ((ltb-true _ _ numeral.0, digits_found ds numeral.1), ltb-true _ _ parts.1)
 
--- what a getter of 32 bits reads of a text is its number
-read_is : (E : Type 0) (G : List ℕ → Result ℕ E → Type 0) → ((u : List ℕ) (x : Result ℕ E) → G u x → ParsesUnsigned 32 10 u x)
-    → (t : Text) (r : Option ℕ) → ReadsOne G t r → r ≡ number t
-read_is E G only t (Some v) h =
-    let parsed = only t (Ok v) h in
+-- a value that 32 bits are read as is the text's number
+pub number_read : (t : Text) (v : ℕ) → (IsNumeral 10 (without_leading_plus t) × (digits_value 10 (without_leading_plus t) < 2 ^ 32)) × (v ≡ digits_value 10 (without_leading_plus t))
+    → Some v ≡ number t
+number_read t v parsed =
     ap Some parsed.1 ∙ sym (ap (λ (b : Bool). if b then Some (digits_value 10 (without_leading_plus t)) else None)
     (fits_tested (without_leading_plus t) parsed.0.0 parsed.0.1))
-read_is E G only t None h = go (is_numeral (without_leading_plus t) && nat_lt (digits_value 10 (without_leading_plus t)) (2 ^ 32)) refl
+
+-- and where they cannot be read, it is none
+pub no_number_read : (t : Text) → ¬ (IsNumeral 10 (without_leading_plus t) × (digits_value 10 (without_leading_plus t) < 2 ^ 32)) → None ≡ number t
+no_number_read t unread = go (is_numeral (without_leading_plus t) && nat_lt (digits_value 10 (without_leading_plus t)) (2 ^ 32)) refl
   where
     go : (b : Bool) → (is_numeral (without_leading_plus t) && nat_lt (digits_value 10 (without_leading_plus t)) (2 ^ 32)) ≡ b
         → None ≡ (if b then Some (digits_value 10 (without_leading_plus t)) else None)
-    go true e = absurd (only t (Err h.0) h.1 (fits_found (without_leading_plus t) e))
+    go true e = absurd (unread (fits_found (without_leading_plus t) e))
     go false e = refl
+
+-- and so what a getter of 32 bits reads
+read_is : (E : Type 0) (G : List ℕ → Result ℕ E → Type 0) → ((u : List ℕ) (x : Result ℕ E) → G u x → ParsesUnsigned 32 10 u x)
+    → (t : Text) (r : Option ℕ) → ReadsOne G t r → r ≡ number t
+read_is E G only t (Some v) h = number_read t v (only t (Ok v) h)
+read_is E G only t None h = no_number_read t (only t (Err h.0) h.1)
 
 -- and so of a text that may not be there
 pub number_is : (E : Type 0) (G : List ℕ → Result ℕ E → Type 0) → ((u : List ℕ) (x : Result ℕ E) → G u x → ParsesUnsigned 32 10 u x)
@@ -155,30 +161,3 @@ no_value f (Some a) e =
 -- without a name there are no rows
 pub unnamed_rows : (m : ArgMatches) → subcommand_name_of m ≡ None → subcommand_rows_of m ≡ None
 unnamed_rows m none = no_value (λ p. p.0) (subcommand_rows_of m) (sym (name_of_rows m) ∙ none)
-
--- What `load` asks for, by what was read of its words.
-
--- numbers in their ranges, a pattern, who serves and all else are what is asked for
-pub load_asked : (rows : List Row) (pattern : Pattern) (blocks submitters depth seed : ℕ) (limit count runtime : Option ℕ) (verify quiet : Bool) (stats : Option Text) (given : Given) (who : Serving)
-    → blocks ≡ blocks_in rows → submitters ≡ numjobs_in rows → depth ≡ depth_in rows → limit ≡ log_limit_in rows → are_load_numbers blocks submitters depth limit ≡ true
-    → Some pattern ≡ pattern_in rows → Some who ≡ serving_in rows → given ≡ given_in rows → seed ≡ number_under (codes "seed") 1 rows → count ≡ count_in rows → runtime ≡ amount_under (codes "runtime") rows
-    → verify ≡ has_flag (codes "verify") rows → quiet ≡ has_flag (codes "quiet") rows → stats ≡ first_of (codes "stats") rows
-    → load_by rows ≡ Some (load given (record {
-      pattern = pattern;
-      command_blocks = blocks;
-      submitters = submitters;
-      depth = depth;
-      log_limit = limit;
-      seed = seed;
-      count = count;
-      runtime = runtime;
-      verify = verify;
-      quiet = quiet;
-      stats = stats;
-    }) who)
-load_asked rows pattern blocks submitters depth seed limit count runtime verify quiet stats given who b s d l fits named serves gives seeds counts runs verifies quiets saves =
-    let numbers : are_load_numbers (blocks_in rows) (numjobs_in rows) (depth_in rows) (log_limit_in rows) ≡ true =
-    sym (ap₂ (λ (x : ℕ) (y : ℕ). are_load_numbers x y (depth_in rows) (log_limit_in rows)) b s)
-    ∙ (sym (ap₂ (λ (x : ℕ) (y : Option ℕ). are_load_numbers blocks submitters x y) d l) ∙ fits) in
-    ap (λ (t : Bool). if t then option_and_then (λ p. option_map (load (given_in rows) (loaded_in rows p)) (serving_in rows)) (pattern_in rows) else None) numbers
-    ∙ (ap₂ (λ (o : Option Pattern) (s : Option Serving). option_and_then (λ p. option_map (load (given_in rows) (loaded_in rows p)) s) o) (sym named) (sym serves) ∙ rw (b, s, d, l, gives, seeds, counts, runs, verifies, quiets, saves) refl)

@@ -1,37 +1,37 @@
 -- What the words of a command line ask for.
 use Rattle.std.specs.{Borrow.Bor, Option.option_map_or}
-use Rattle.std.specs.Prelude.{◌^◌, ◌≤◌, ◌&&◌, ⊤, ℕ, Bool, List, [], ◌∷◌, Option, Some, None, codes, option_map, option_and_then, unwrap_or, map, true, false, nat_lt, nat_le, if◌then◌else◌}
-use Rattle.std.specs.Str.{bytes_eq, Parse.{digits_value, without_leading_plus}}
-use Rattle.clap.specs.{ValueTests.is_numeral, Words.{Kinds, Row, Text, all_of, fault_of, first_of, one_of, subcommand_of}}
-use Rattle.command_line.specs.{Commands.nvmesgl, declared.{arguments.{CommandLine.CommandLine, Options.Options, Testing.Testing}, serving.Serving.Serving, threads.Threading.Threading}}
+use Rattle.std.specs.Prelude.{◌≤◌, ◌&&◌, ⊤, ℕ, Bool, List, [], ◌∷◌, Option, Some, None, codes, is_some, option_map, option_and_then, unwrap_or, map, not, true, false, nat_le, if◌then◌else◌}
+use Rattle.std.specs.Str.{bytes_eq}
+use Rattle.clap.specs.Words.{Kinds, Row, Text, all_of, fault_of, first_of, one_of, subcommand_of}
+use Rattle.command_line.specs.{Commands.nvmesgl, Units.{number, seconds_within, size_within}, declared.{arguments.{CommandLine.CommandLine, Options.Options, Testing.Testing}, load.{Amounts.Amounts, Names.Names}, serving.Serving.Serving, threads.Threading.Threading}}
 use Rattle.host_core.specs.declared.config.Config.{Config}
-use Rattle.script_cli.specs.{Loads.FitsLoad, Patterns.pattern_named, declared.workload.{Load.Load, Pattern.Pattern}}
+use Rattle.script_cli.specs.{Loads.FitsLoad, Patterns.{format_named, pattern_named}, declared.workload.{Load.Load, OutputFormat.OutputFormat, Pattern.Pattern}}
 use Rattle.command_line.specs.declared.arguments.CommandLine.TheVariants as line
 use Rattle.command_line.specs.declared.serving.Serving.TheVariants as serving
 
 -- The options of a command, by what was found for each: a row of the words' values, or of the usual value
 
--- a number below 2^32 in decimal digits, before which a plus may stand
-abbrev pub number : Text → Option ℕ
-number text =
-    let digits = without_leading_plus text in
-    if is_numeral digits && nat_lt (digits_value 10 digits) (2 ^ 32) then Some (digits_value 10 digits) else None
-
 -- the number that is found under a name, else the usual one
 abbrev pub number_under : Text → ℕ → List Row → ℕ
 number_under name usual rows = unwrap_or (option_and_then number (one_of name rows)) usual
 
--- what these commands are given; where no file is named, standard input has the script. `steps` alone may be given a file to save the image into
+-- what these commands are given; where no file is named, standard input has the script. `steps` alone may be given a file to save the image into, and
+-- `steps` and `threads` that a refusal, or another status than 0:00, is a fault
 pub record Given : Type 0 where
   pub config : Config
   pub blocks : ℕ
   pub image : Option Text
   pub script : Option Text
   pub save : Option Text
+  pub strict : Bool
 
 -- the file of a script
 abbrev pub script_in : List Row → Option Text
 script_in rows = first_of (codes "script") rows
+
+-- a flag was typed
+abbrev pub has_flag : Text → List Row → Bool
+has_flag name rows = option_map_or (λ text. bytes_eq text (codes "true")) (first_of name rows) false
 
 abbrev pub given_in : List Row → Given
 given_in rows = record {
@@ -45,6 +45,7 @@ given_in rows = record {
   image = first_of (codes "image") rows;
   script = script_in rows;
   save = first_of (codes "save") rows;
+  strict = has_flag (codes "strict") rows;
 }
 
 -- what the transcripts of files are tested with
@@ -61,10 +62,6 @@ all_under name rows = unwrap_or (all_of name rows) []
 -- the files that are named
 abbrev pub files_in : List Row → List Text
 files_in rows = all_under (codes "files") rows
-
--- a flag was typed
-abbrev pub has_flag : Text → List Row → Bool
-has_flag name rows = option_map_or (λ text. bytes_eq text (codes "true")) (first_of name rows) false
 
 abbrev pub tested_in : List Row → Tested
 tested_in rows = record {
@@ -125,7 +122,9 @@ serving_in rows = option_and_then serving_named (first_of (codes "serve") rows)
 -- what a load is made of, beside its world
 pub record Loaded : Type 0 where
   pub pattern : Pattern
+  pub reads : ℕ
   pub command_blocks : ℕ
+  pub size : Option ℕ
   pub submitters : ℕ
   pub depth : ℕ
   pub log_limit : Option ℕ
@@ -135,6 +134,41 @@ pub record Loaded : Type 0 where
   pub verify : Bool
   pub quiet : Bool
   pub stats : Option Text
+  pub interval : Option ℕ
+  pub format : OutputFormat
+
+-- what a word is read as: no value where there is no word, and nothing where the word cannot be read
+abbrev pub read_if_said : (Text → Option ℕ) → Option Text → Option (Option ℕ)
+read_if_said read None = Some None
+read_if_said read (Some word) = option_map (λ n. Some n) (read word)
+
+-- the blocks of each command: 1 where nothing is said
+abbrev pub blocks_in : List Row → Option ℕ
+blocks_in rows = option_map (λ said. unwrap_or said 1) (read_if_said (size_within 256) (first_of (codes "bs") rows))
+
+abbrev pub size_in : List Row → Option (Option ℕ)
+size_in rows = read_if_said (size_within 65536) (first_of (codes "size") rows)
+
+abbrev pub runtime_in : List Row → Option (Option ℕ)
+runtime_in rows = read_if_said (seconds_within 0) (first_of (codes "runtime") rows)
+
+-- an interval needs a file of statistics
+abbrev pub interval_in : List Row → Option (Option ℕ)
+interval_in rows =
+    if is_some (first_of (codes "status-interval") rows) && not (is_some (first_of (codes "stats") rows)) then None
+    else read_if_said (seconds_within 1) (first_of (codes "status-interval") rows)
+
+-- what is said with units
+abbrev pub amounts_in : List Row → Option Amounts
+amounts_in rows =
+    option_and_then (λ blocks.
+    option_and_then (λ size.
+    option_and_then (λ runtime.
+    option_map (λ interval. record { command_blocks = blocks; size = size; runtime = runtime; interval = interval })
+    (interval_in rows))
+    (runtime_in rows))
+    (size_in rows))
+    (blocks_in rows)
 
 -- commands in all: 10,000 where there is neither a number nor a time
 abbrev pub count_of : Option ℕ → Option ℕ → Option ℕ
@@ -142,19 +176,27 @@ count_of None None = Some 10000
 count_of None (Some seconds) = None
 count_of (Some count) runtime = Some count
 
-abbrev pub count_in : List Row → Option ℕ
-count_in rows = count_of (amount_under (codes "count") rows) (amount_under (codes "runtime") rows)
-
 -- the pattern that is named
 abbrev pub pattern_in : List Row → Option Pattern
 pattern_in rows = option_and_then pattern_named (first_of (codes "rw") rows)
 
--- blocks, submitters, depth and log lie in their ranges
-abbrev pub are_load_numbers : ℕ → ℕ → ℕ → Option ℕ → Bool
-are_load_numbers blocks submitters depth limit = is_within 1 256 blocks && (is_within 1 16 submitters && (is_within 1 256 depth && is_limit limit))
+-- the format that is named
+abbrev pub format_in : List Row → Option OutputFormat
+format_in rows = option_and_then format_named (first_of (codes "output-format") rows)
 
-abbrev pub blocks_in : List Row → ℕ
-blocks_in rows = number_under (codes "bs") 1 rows
+-- what is said by names
+abbrev pub names_in : List Row → Option Names
+names_in rows =
+    option_and_then (λ pattern.
+    option_and_then (λ format.
+    option_map (λ serving. record { pattern = pattern; format = format; serving = serving })
+    (serving_in rows))
+    (format_in rows))
+    (pattern_in rows)
+
+-- submitters, depth, the part of the reads and the log lie in their ranges
+abbrev pub are_load_numbers : ℕ → ℕ → ℕ → Option ℕ → Bool
+are_load_numbers submitters depth reads limit = is_within 1 16 submitters && (is_within 1 256 depth && (nat_le reads 100 && is_limit limit))
 
 abbrev pub numjobs_in : List Row → ℕ
 numjobs_in rows = number_under (codes "numjobs") 1 rows
@@ -162,27 +204,42 @@ numjobs_in rows = number_under (codes "numjobs") 1 rows
 abbrev pub depth_in : List Row → ℕ
 depth_in rows = number_under (codes "iodepth") 1 rows
 
-abbrev pub loaded_in : List Row → Pattern → Loaded
-loaded_in rows pattern = record {
-  pattern = pattern;
-  command_blocks = blocks_in rows;
+abbrev pub reads_in : List Row → ℕ
+reads_in rows = number_under (codes "rwmixread") 50 rows
+
+abbrev pub loaded_in : List Row → Amounts → Names → Loaded
+loaded_in rows amounts names = record {
+  pattern = names.pattern;
+  reads = reads_in rows;
+  command_blocks = amounts.command_blocks;
+  size = amounts.size;
   submitters = numjobs_in rows;
   depth = depth_in rows;
   log_limit = log_limit_in rows;
   seed = number_under (codes "seed") 1 rows;
-  count = count_in rows;
-  runtime = amount_under (codes "runtime") rows;
+  count = count_of (amount_under (codes "count") rows) amounts.runtime;
+  runtime = amounts.runtime;
   verify = has_flag (codes "verify") rows;
   quiet = has_flag (codes "quiet") rows;
   stats = first_of (codes "stats") rows;
+  interval = amounts.interval;
+  format = names.format;
 }
+
+-- what `load` is asked for, and who serves
+abbrev pub load_in : List Row → Option (Loaded × Serving)
+load_in rows =
+    if are_load_numbers (numjobs_in rows) (depth_in rows) (reads_in rows) (log_limit_in rows) then
+    option_and_then (λ amounts. option_map (λ names. (loaded_in rows amounts names, names.serving)) (names_in rows)) (amounts_in rows)
+    else None
 
 -- What is asked for
 
 pub data Asked : Type 0 where
   steps : Given → Asked
-  traced : Given → Asked
+  traced : Given → Bool → Asked
   threads : Given → Threading → Serving → Asked
+  thread_objects : Given → Threading → Serving → Asked
   load : Given → Loaded → Serving → Asked
   check : Option Text → Asked
   check_jobs : Option Text → ℕ → Asked
@@ -190,7 +247,7 @@ pub data Asked : Type 0 where
   shell : Given → Bool → Asked
   draw : Given → Asked
   explain : Option Text → Bool → Asked
-  show : List Text → Asked
+  show : List Text → Bool → Asked
   grammar : Asked
 
 -- `--trace` was typed
@@ -203,7 +260,7 @@ has_json rows = has_flag (codes "json") rows
 
 -- what `steps` with these rows asks for
 abbrev pub steps_by : List Row → Asked
-steps_by rows = if has_trace rows then traced (given_in rows) else steps (given_in rows)
+steps_by rows = if has_json rows then traced (given_in rows) true else if has_trace rows then traced (given_in rows) false else steps (given_in rows)
 
 -- there are as many submitters as there may be
 abbrev pub are_submitters : ℕ → Bool
@@ -213,9 +270,13 @@ are_submitters n = nat_le 1 n && nat_le n 16
 abbrev pub if_submitters : ℕ → (ℕ → Asked) → Option Asked
 if_submitters n wanted = if are_submitters n then Some (wanted n) else None
 
+-- jobs that are run so, and told by lines or as objects
+abbrev pub jobs_by : List Row → Threading → Serving → Asked
+jobs_by rows what who = if has_json rows then thread_objects (given_in rows) what who else threads (given_in rows) what who
+
 -- what `threads` with these rows asks for
 abbrev pub threads_by : List Row → Option Asked
-threads_by rows = if is_threading (threading_in rows) then option_map (threads (given_in rows) (threading_in rows)) (serving_in rows) else None
+threads_by rows = if is_threading (threading_in rows) then option_map (jobs_by rows (threading_in rows)) (serving_in rows) else None
 
 -- what `check` with these rows asks for
 abbrev pub check_by : List Row → Option Asked
@@ -224,10 +285,7 @@ check_by rows =
 
 -- what `load` with these rows asks for
 abbrev pub load_by : List Row → Option Asked
-load_by rows =
-    if are_load_numbers (blocks_in rows) (numjobs_in rows) (depth_in rows) (log_limit_in rows) then
-    option_and_then (λ pattern. option_map (load (given_in rows) (loaded_in rows pattern)) (serving_in rows)) (pattern_in rows)
-    else None
+load_by rows = option_map (λ said. load (given_in rows) said.0 said.1) (load_in rows)
 
 -- what a named command with these rows asks for
 abbrev pub asked_of_name : Text → List Row → Option Asked
@@ -240,7 +298,7 @@ asked_of_name name rows =
     else if bytes_eq name (codes "shell") then Some (shell (given_in rows) (has_trace rows))
     else if bytes_eq name (codes "draw") then Some (draw (given_in rows))
     else if bytes_eq name (codes "explain") then Some (explain (script_in rows) (has_json rows))
-    else if bytes_eq name (codes "show") then Some (show (all_under (codes "words") rows))
+    else if bytes_eq name (codes "show") then Some (show (all_under (codes "words") rows) (has_json rows))
     else if bytes_eq name (codes "grammar") then Some grammar
     else None
 
@@ -262,7 +320,7 @@ abbrev pub path_of : Option (Bor Text) → Option Text
 path_of path = option_map (λ p. p.now) path
 
 abbrev pub given_of : Options → Given
-given_of options = record { config = options.config; blocks = options.blocks; image = path_of options.image; script = path_of options.script; save = path_of options.save }
+given_of options = record { config = options.config; blocks = options.blocks; image = path_of options.image; script = path_of options.script; save = path_of options.save; strict = options.strict }
 
 abbrev pub tested_of : Testing → Tested
 tested_of testing = record { sizes = testing.config; zeros = testing.blocks; updates = testing.updates; files = map (λ f. f.now) testing.files.items }
@@ -270,7 +328,9 @@ tested_of testing = record { sizes = testing.config; zeros = testing.blocks; upd
 abbrev pub loaded_of : Load → Loaded
 loaded_of what = record {
   pattern = what.pattern;
+  reads = what.reads;
   command_blocks = what.command_blocks;
+  size = what.size;
   submitters = what.submitters;
   depth = what.depth;
   log_limit = what.log_limit;
@@ -280,12 +340,15 @@ loaded_of what = record {
   verify = what.verify;
   quiet = what.quiet;
   stats = path_of what.stats;
+  interval = what.interval;
+  format = what.format;
 }
 
 abbrev pub asked_of : CommandLine → Asked
 asked_of (line.Steps options) = steps (given_of options)
-asked_of (line.Traced options) = traced (given_of options)
+asked_of (line.Traced options objects) = traced (given_of options) objects
 asked_of (line.Threads options what who) = threads (given_of options) what who
+asked_of (line.ThreadObjects options what who) = thread_objects (given_of options) what who
 asked_of (line.Load options what who) = load (given_of options) (loaded_of what) who
 asked_of (line.Check script) = check (path_of script)
 asked_of (line.CheckJobs script submitters) = check_jobs (path_of script) submitters
@@ -293,7 +356,7 @@ asked_of (line.Test testing) = test (tested_of testing)
 asked_of (line.Shell options traces) = shell (given_of options) traces
 asked_of (line.Draw options) = draw (given_of options)
 asked_of (line.Explain script objects) = explain (path_of script) objects
-asked_of (line.Show words) = show (map (λ w. w.now) words.items)
+asked_of (line.Show words objects) = show (map (λ w. w.now) words.items) objects
 asked_of line.Grammar = grammar
 
 -- submitters and depth lie in their ranges
@@ -306,8 +369,9 @@ pub record FitsThreading (what : Threading) : Type 0 where
 -- a command line has as many submitters as there may be, a depth in its range, and a load that lies in its ranges
 abbrev pub FitsLine : CommandLine → Type 0
 FitsLine (line.Steps options) = ⊤
-FitsLine (line.Traced options) = ⊤
+FitsLine (line.Traced options objects) = ⊤
 FitsLine (line.Threads options what who) = FitsThreading what
+FitsLine (line.ThreadObjects options what who) = FitsThreading what
 FitsLine (line.Load options what who) = FitsLoad what
 FitsLine (line.Check script) = ⊤
 FitsLine (line.CheckJobs script submitters) = (1 ≤ submitters) × (submitters ≤ 16)
@@ -315,5 +379,5 @@ FitsLine (line.Test testing) = ⊤
 FitsLine (line.Shell options traces) = ⊤
 FitsLine (line.Draw options) = ⊤
 FitsLine (line.Explain script objects) = ⊤
-FitsLine (line.Show words) = ⊤
+FitsLine (line.Show words objects) = ⊤
 FitsLine line.Grammar = ⊤

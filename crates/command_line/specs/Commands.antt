@@ -45,10 +45,14 @@ with_options command = with_rule
     (option_rule (codes "image")))
     (word_rule (codes "script"))
 
+-- a command that may tell objects in place of lines, and of which a refusal may be a fault
+abbrev pub with_telling : App → App
+with_telling command = with_rule (with_rule command (flag_rule (codes "json"))) (flag_rule (codes "strict"))
+
 abbrev pub steps : App
-steps = with_options (with_rule
+steps = with_options (with_telling (with_rule
     (with_rule (new_app (codes "steps")) (option_rule (codes "save")))
-    (flag_rule (codes "trace")))
+    (flag_rule (codes "trace"))))
 
 -- an option that is a number below 2^32, without a usual value
 abbrev pub optional_number_rule : Text → Rule
@@ -69,7 +73,7 @@ with_threading command = with_rule
     (text_rule (codes "serve") (codes "ringer"))
 
 abbrev pub threads : App
-threads = with_options (with_threading (new_app (codes "threads")))
+threads = with_options (with_threading (with_telling (new_app (codes "threads"))))
 
 -- what is loaded, in the order of the help text
 abbrev pub with_amounts : App → App
@@ -77,14 +81,20 @@ with_amounts command = with_rule
     (with_rule
     (with_rule
     (with_rule
+    (with_rule
+    (with_rule
     (with_rule command (text_rule (codes "rw") (codes "read")))
-    (number_rule (codes "bs") (codes "1")))
+    (number_rule (codes "rwmixread") (codes "50")))
+    (text_rule (codes "bs") (codes "1")))
+    (option_rule (codes "size")))
     (optional_number_rule (codes "count")))
-    (optional_number_rule (codes "runtime")))
+    (option_rule (codes "runtime")))
     (number_rule (codes "numjobs") (codes "1"))
 
 abbrev pub with_checks : App → App
 with_checks command = with_rule
+    (with_rule
+    (with_rule
     (with_rule
     (with_rule
     (with_rule
@@ -96,6 +106,8 @@ with_checks command = with_rule
     (number_rule (codes "seed") (codes "1")))
     (flag_rule (codes "verify")))
     (option_rule (codes "stats")))
+    (option_rule (codes "status-interval")))
+    (text_rule (codes "output-format") (codes "normal")))
     (flag_rule (codes "quiet"))
 
 abbrev pub load : App
@@ -123,7 +135,7 @@ abbrev pub explain : App
 explain = with_rule (with_rule (new_app (codes "explain")) (flag_rule (codes "json"))) (word_rule (codes "script"))
 
 abbrev pub show : App
-show = with_rule (new_app (codes "show")) (words_rule (codes "words"))
+show = with_rule (with_rule (new_app (codes "show")) (flag_rule (codes "json"))) (words_rule (codes "words"))
 
 abbrev pub grammar : App
 grammar = new_app (codes "grammar")

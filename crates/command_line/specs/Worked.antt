@@ -1,7 +1,8 @@
 -- Worked command lines.
 use Rattle.std.specs.Prelude.{ℕ, List, [], ◌∷◌, None, Some, false, codes}
 use Rattle.clap.specs.Words.{Text}
-use Rattle.command_line.specs.{Asked.{Given, Tested}, declared.threads.Threading.Threading}
+use Rattle.command_line.specs.{Asked.{Given, Loaded, Tested}, declared.threads.Threading.Threading}
+use Rattle.script_cli.specs.declared.workload.{OutputFormat.TheVariants.Normal, Pattern.TheVariants.Read}
 
 -- what is given where nothing is
 abbrev pub usual : Given
@@ -11,11 +12,32 @@ usual = record {
   image = None;
   script = None;
   save = None;
+  strict = false;
 }
 
 -- so many submitters, one job in flight each, all jobs at once
 abbrev pub alone : ℕ → Threading
 alone n = record { submitters = n; depth = 1; log_limit = None }
+
+-- a load of which nothing is said
+abbrev pub usual_load : Loaded
+usual_load = record {
+  pattern = Read;
+  reads = 50;
+  command_blocks = 1;
+  size = None;
+  submitters = 1;
+  depth = 1;
+  log_limit = None;
+  seed = 1;
+  count = Some 10000;
+  runtime = None;
+  verify = false;
+  quiet = false;
+  stats = None;
+  interval = None;
+  format = Normal;
+}
 
 -- the words of a command
 abbrev pub steps_with : List Text → List Text
@@ -23,6 +45,9 @@ steps_with options = codes "nvmesgl" ∷ codes "steps" ∷ options
 
 abbrev pub threads_with : List Text → List Text
 threads_with options = codes "nvmesgl" ∷ codes "threads" ∷ options
+
+abbrev pub load_with : List Text → List Text
+load_with options = codes "nvmesgl" ∷ codes "load" ∷ options
 
 abbrev pub check_with : List Text → List Text
 check_with options = codes "nvmesgl" ∷ codes "check" ∷ options
@@ -47,6 +72,7 @@ extreme = record {
   image = None;
   script = None;
   save = None;
+  strict = false;
 }
 
 -- other values, in another order and other forms
@@ -60,4 +86,5 @@ mixed = record {
   image = Some (codes "disk");
   script = Some (codes "some.script");
   save = None;
+  strict = false;
 }

@@ -39,6 +39,8 @@ pub struct Options<'a> {
     pub script: Option<&'a str>,
     /// The path of the file which the image is written into, once a run of `steps` has ended.
     pub save: Option<&'a str>,
+    /// Whether a run of `steps` or `threads` in which something was refused, or ended with a status other than 0:00, is a fault.
+    pub strict: bool,
 }
 
 /// What transcripts are tested with.
@@ -59,10 +61,12 @@ pub struct Testing<'a> {
 pub enum CommandLine<'a> {
     /// To play a script of steps.
     Steps(Options<'a>),
-    /// To play a script of steps, and to tell what each moved.
-    Traced(Options<'a>),
+    /// To play a script of steps, and to tell what each moved, and whether as JSON.
+    Traced(Options<'a>, bool),
     /// To run the jobs of submitters in threads.
     Threads(Options<'a>, Threading, Serving),
+    /// The same, and to tell how each job ended as JSON.
+    ThreadObjects(Options<'a>, Threading, Serving),
     /// To make jobs, and to run them in threads.
     Load(Options<'a>, Load<'a>, Serving),
     /// To tell the faults of a script of steps, by its path as in [`Options`].
@@ -77,8 +81,8 @@ pub enum CommandLine<'a> {
     Draw(Options<'a>),
     /// To explain a command, by the path of its case as in [`Options`], and whether as JSON.
     Explain(Option<&'a str>, bool),
-    /// To decode bytes: what they are to be, and their digits.
-    Show(Vec<&'a str>),
+    /// To decode bytes: what they are to be, and their digits; and whether as JSON.
+    Show(Vec<&'a str>, bool),
     /// To print every verb with its form.
     Grammar,
 }
@@ -99,6 +103,7 @@ impl<'a> Options<'a> {
             image: given.get_str("image"),
             script: script(given),
             save: given.get_str("save"),
+            strict: flag(given, "strict"),
         }
     }
 }
@@ -147,8 +152,10 @@ fn steps_line<'a>(given: &ArgMatches<'a>) -> CommandLine<'a>
     ensures fits { FitsLine result }
 {
     let options = Options::of(given);
-    if flag(given, "trace") {
-        CommandLine::Traced(options)
+    if flag(given, "json") {
+        CommandLine::Traced(options, true)
+    } else if flag(given, "trace") {
+        CommandLine::Traced(options, false)
     } else {
         CommandLine::Steps(options)
     }
@@ -175,7 +182,8 @@ fn show_line<'a>(alloc: Global, given: &ArgMatches<'a>) -> Result<CommandLine<'a
     ensures fits { IfOk result FitsLine }
     ensures refused { IfErr result (λ e. kind_of e ≡ OutOfMemory) }
 {
-    Ok(CommandLine::Show(words_under(alloc, given, "words")?))
+    let words = words_under(alloc, given, "words")?;
+    Ok(CommandLine::Show(words, flag(given, "json")))
 }
 
 /// How many submitters there are, if they are 1 to 16.

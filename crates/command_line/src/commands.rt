@@ -3,7 +3,7 @@
 ghost use Rattle.std.specs.Prelude.{◌≡◌, IfOk, IsOkAnd, false, codes};
 ghost use Rattle.clap.specs.Words.{AddsSubcommand, app_of, found_of, rows_of, rule_of};
 ghost use Rattle.clap.specs.declared.builder.command.Command.TheViews.{out-Command};
-ghost use Rattle.command_line.specs.Commands.{check, draw, explain, flag_rule, grammar, number_rule, named, nvmesgl, option_rule, optional_number_rule, running, shell, show, steps, test, threads, with_options, with_sizes, with_threading, word_rule, words_rule};
+ghost use Rattle.command_line.specs.Commands.{check, draw, explain, flag_rule, grammar, number_rule, named, nvmesgl, option_rule, optional_number_rule, running, shell, show, steps, test, threads, with_options, with_sizes, with_telling, with_threading, word_rule, words_rule};
 ghost use Rattle.command_line.specs.Asked.{number_under};
 
 use crate::help::{
@@ -135,6 +135,15 @@ impl Number {
     }
 }
 
+const STEPS_JSON: &str =
+    "Prints a JSON object for each step, with what it moved, and one with the counts at the end";
+
+const THREADS_JSON: &str = "Prints a JSON object for each job, and one with the counts at the end";
+
+const EXPLAIN_JSON: &str = "Writes JSON, one object on each line";
+
+const SHOW_JSON: &str = "Prints a JSON object in place of lines";
+
 /// The option that names the file of an image.
 pub(crate) fn image_arg<'a>(alloc: Global) -> Arg<'a>
     ensures rule { rule_of result ≡ option_rule (codes "image") }
@@ -202,15 +211,26 @@ fn trace_arg<'a>(alloc: Global) -> Arg<'a>
         .help("Tells below each answer what the step moved, in bytes and decoded")
 }
 
-/// The option that says that an explanation is written as JSON.
-fn json_arg<'a>(alloc: Global) -> Arg<'a>
+/// The option that says that a refusal, or another status than 0:00, is a fault.
+fn strict_arg<'a>(alloc: Global) -> Arg<'a>
+    ensures rule { rule_of result ≡ flag_rule (codes "strict") }
+    ensures local { result.global ≡ false }
+{
+    Arg::new(alloc, "strict")
+        .long("strict")
+        .action(ArgAction::SetTrue)
+        .help("Ends with status 4 where something is refused, or a status is not 0:00")
+}
+
+/// The option that says that objects are written in place of lines.
+fn json_arg<'a>(alloc: Global, help: &'static str) -> Arg<'a>
     ensures rule { rule_of result ≡ flag_rule (codes "json") }
     ensures local { result.global ≡ false }
 {
     Arg::new(alloc, "json")
         .long("json")
         .action(ArgAction::SetTrue)
-        .help("Writes JSON, one object on each line")
+        .help(help)
 }
 
 /// The words that are decoded.
@@ -259,6 +279,18 @@ fn with_options<'a>(alloc: Global, command: Command<'a>) -> Result<Command<'a>, 
         .arg(script_arg(alloc))
 }
 
+/// A command that may tell objects in place of lines, and of which a refusal may be a fault.
+fn with_telling<'a>(
+    alloc: Global,
+    command: Command<'a>,
+    json: &'static str,
+) -> Result<Command<'a>, AllocError>
+    ensures shape { IfOk result (λ whole. app_of whole ≡ with_telling (app_of command.entry)) }
+    ensures local { IfOk result (λ whole. (out-Command whole).has_globals ≡ (out-Command command.entry).has_globals) }
+{
+    command.arg(json_arg(alloc, json))?.arg(strict_arg(alloc))
+}
+
 /// The command that plays a script of steps.
 fn steps_command<'a>(alloc: Global) -> Result<Command<'a>, AllocError>
     ensures shape { IfOk result (λ command. app_of command ≡ steps) }
@@ -270,7 +302,7 @@ fn steps_command<'a>(alloc: Global) -> Result<Command<'a>, AllocError>
         .after_help(STEPS_AFTER)
         .arg(save_arg(alloc))?
         .arg(trace_arg(alloc))?;
-    with_options(alloc, command)
+    with_options(alloc, with_telling(alloc, command, STEPS_JSON)?)
 }
 
 /// A command with how jobs are run.
@@ -294,6 +326,7 @@ pub(crate) fn threads_command<'a>(alloc: Global) -> Result<Command<'a>, AllocErr
         .about("Runs the jobs of a script in threads")
         .long_about(THREADS_ABOUT)
         .after_help(THREADS_AFTER);
+    let command = with_telling(alloc, command, THREADS_JSON)?;
     with_options(alloc, with_threading(alloc, command)?)
 }
 
@@ -359,7 +392,7 @@ fn explain_command<'a>(alloc: Global) -> Result<Command<'a>, AllocError>
         .about("Tells what the controller makes of an entry and its list")
         .long_about(EXPLAIN_ABOUT)
         .after_help(EXPLAIN_AFTER)
-        .arg(json_arg(alloc))?
+        .arg(json_arg(alloc, EXPLAIN_JSON))?
         .arg(script_arg(alloc))
 }
 
@@ -372,6 +405,7 @@ fn show_command<'a>(alloc: Global) -> Result<Command<'a>, AllocError>
         .about("Decodes an entry or a descriptor")
         .long_about(SHOW_ABOUT)
         .after_help(SHOW_AFTER)
+        .arg(json_arg(alloc, SHOW_JSON))?
         .arg(words_arg(alloc))
 }
 

@@ -24,8 +24,10 @@ docs/PROFILE.md says what the steps mean, and examples/ has scripts with their o
 pub const STEPS_ABOUT: &str = "Plays a script, step by step, and prints what each step answered.
 
 The script is read and checked whole before its first step. A refused step is an answer too:
-the run goes on, and its exit status is 0. With --save the image is written into a file behind
-the last step, so that a later run can begin with it (--image).";
+the run goes on, and its exit status is 0, or 4 with --strict. With --save the image is written
+into a file behind the last step, so that a later run can begin with it (--image). A first line
+as `# options: --segment 2` says options of the script's own, which go before those typed. Lines
+behind `>` are passed over: they are the answers of a transcript.";
 
 /// What `nvmesgl steps --help` says last.
 pub const STEPS_AFTER: &str = "A script has one step on each line; `#` begins a comment.
@@ -63,7 +65,8 @@ prints
   counts free 12 queue 4 chain 0 data 0
 
 Exit status: 0 done, 1 the script is at fault, 2 the arguments, the image or the opening,
-3 memory, the output or the saved image. docs/SCRIPT.md in the repository has all of this in full.";
+3 memory, the output or the saved image, 4 with --strict: a step was refused or a status is
+not 0:00. docs/SCRIPT.md in the repository has all of this in full.";
 
 /// What `nvmesgl threads --help` says first.
 pub const THREADS_ABOUT: &str = "Runs the jobs of a script, and prints how each ended.
@@ -75,7 +78,8 @@ before a Write that stands above it. With --log-limit the jobs are done in round
 one job at least, and what is kept of a round to check it by is dropped at its end; what is printed is
 the same. A submitter that rings serves what it can at once, and a controller in a thread of its own
 what is left; with --serve controller that thread serves alone. The script is read and checked whole
-before its first job. A refused job is an answer too: the run goes on, and its exit status is 0.";
+before its first job. A refused job is an answer too: the run goes on, and its exit status is 0, or
+4 with --strict. A first line as `# options: --queues 2` says options of the script's own.";
 
 /// What `nvmesgl threads --help` says last.
 pub const THREADS_AFTER: &str = "A script has one job on each line; `#` begins a comment.
@@ -99,17 +103,19 @@ prints
   counts free 12 queue 4 chain 0 data 0
 
 Exit status: 0 done, 1 the script is at fault, 2 the arguments, the image or the opening,
-3 memory, a thread or the output. docs/SCRIPT.md in the repository has all of this in full.";
+3 memory, a thread or the output, 4 with --strict: a job was refused or a status is not 0:00.
+docs/SCRIPT.md in the repository has all of this in full.";
 
 /// What `nvmesgl load --help` says first.
 pub const LOAD_ABOUT: &str =
     "Makes commands and lets submitters do them in threads, as many as are asked for.
 
 Each submitter has a part of the blocks, cut into slots of --bs blocks; a command reads or writes
-one slot. `read` and `write` go through the slots in turn, the others pick slots at random, and
-`randrw` reads and writes, each half of the time. What is written is made of the seed, the block
-and how often it was written. A refused command, or one whose status is not 0:00, is counted and
-the run goes on.
+one slot. `read`, `write` and `rw` go through the slots in turn, the others pick slots at random;
+`rw` and `randrw` read and write, and --rwmixread says how many of a hundred commands read. With
+--size only so many blocks are used, from block 0. Both are blocks, or bytes with a unit, b, k or m.
+What is written is made of the seed, the block and how often it was written. A refused command, or
+one whose status is not 0:00, is counted and the run goes on.
 
 The commands are made and done in rounds, and of a round nothing is kept but counts. What is kept to
 check a round by is dropped at its end: --log-limit says how many entries of it there may be. --serve
@@ -124,7 +130,9 @@ Without --runtime it is the same for the same words. `done` are commands with st
 `verified` reads that brought what stands there. The reads at the end are none of those `done`.
 
 Times go to standard error: commands and MiB a second, and the latencies, from when a command has
-its pages until these are free again. --stats writes them as JSON, with the words of fio.
+its pages until these are free again. --stats writes them as JSON in the form of fio, anew after each
+--status-interval too, and --output-format json prints that JSON in place of the line:
+  nvmesgl load --rw randrw --runtime 10s --output-format json | jq .jobs[0].read.iops
 
 Example:
   nvmesgl load --rw randrw --bs 8 --count 100000 --numjobs 4 --iodepth 8 --verify --pages 256 --entries 16 --blocks 4096
@@ -136,7 +144,7 @@ the file of the statistics, 4 commands were refused or failed, or bytes differ."
 pub const CHECK_ABOUT: &str =
     "Tells all faults of a script, and not the first alone. Nothing is run and nothing is printed
 but the faults: each line that has one, its first word that is wrong, and what is wanted there,
-20 lines at most.";
+20 lines at most. Of a FILE each begins with FILE:LINE:COLUMN.";
 
 /// What `nvmesgl check --help` says last.
 pub const CHECK_AFTER: &str =
@@ -160,7 +168,8 @@ a file that is not written, 4 one differs. docs/SCRIPT.md in the repository has 
 pub const SHELL_ABOUT: &str = "Answers one line after the other, each at once, over one world.
 
 A line is a step of a script, or a word with a dot: `.help` lists them. A line that is at fault
-says so, and the session goes on. On a terminal a prompt stands before each line.";
+says so, and the session goes on. On a terminal a prompt stands before each line; `rlwrap nvmesgl
+shell` brings back what was typed.";
 
 /// What `nvmesgl shell --help` says last.
 pub const SHELL_AFTER: &str = "Example:

@@ -1,7 +1,6 @@
 //! The command line of `nvmesgl`: its commands and options, what its words ask for, and its help texts.
 //!
-//! [`words`] has the words that were typed, and [`CommandLine::parse`] says what they ask for. [`Ranged`] is a number that was given, beside
-//! its range. `specs/Commands.antt` has the commands and options, `specs/Asked.antt` what words ask for, and [`worked`] computes some command lines.
+//! [`words`] has the words that were typed, and [`CommandLine::parse`] says what they ask for. `specs/Commands.antt` has the commands and options, `specs/Asked.antt` what words ask for, and [`worked`] computes some command lines.
 #![tactic(auto)]
 
 mod arguments;
@@ -9,13 +8,14 @@ mod commands;
 mod help;
 mod load;
 mod load_options;
-mod ranges;
+mod sentences;
 mod serving;
 mod threads;
+mod units;
 pub mod worked;
 
 pub use arguments::{CommandLine, Options, Testing, words};
 pub use commands::VERSION;
-pub use ranges::Ranged;
+pub use sentences::sentence;
 pub use serving::Serving;
 pub use threads::Threading;

@@ -11,14 +11,6 @@ use crate::serving::serve_arg;
 use clap::{Arg, ArgAction, Command};
 use std::alloc::{AllocError, Global};
 
-pub(crate) const COMMAND_BLOCKS: Number = Number {
-    name: "bs",
-    usual: 1,
-    shown: "1",
-    range: (1, 256),
-    help: "Blocks of each command: 1 to 256",
-};
-
 pub(crate) const SUBMITTERS: Number = Number {
     name: "numjobs",
     usual: 1,
@@ -33,6 +25,14 @@ pub(crate) const DEPTH: Number = Number {
     shown: "1",
     range: (1, 256),
     help: "Commands that each submitter keeps outstanding: 1 to 256",
+};
+
+pub(crate) const READS: Number = Number {
+    name: "rwmixread",
+    usual: 50,
+    shown: "50",
+    range: (0, 100),
+    help: "How many of a hundred commands of rw and randrw are reads",
 };
 
 pub(crate) const SEED: Number = Number {
@@ -52,28 +52,58 @@ pub(crate) const COUNT: Number = Number {
     help: "Commands in all; 10000 where there is no --runtime either",
 };
 
-/// It has no usual value.
-pub(crate) const RUNTIME: Number = Number {
-    name: "runtime",
-    usual: 0,
-    shown: "",
-    range: (0, u32::MAX),
-    help: "Seconds after which no more commands are begun",
-};
-
 /// How many commands there are where neither their number nor a time is given.
 pub(crate) const USUAL_COUNT: u32 = 10_000;
 
-/// The option that names what is done.
-fn pattern_arg<'a>(alloc: Global) -> Arg<'a>
-    ensures rule { rule_of result ≡ text_rule (codes "rw") (codes "read") }
+const PATTERN_HELP: &str = "read, write, rw (readwrite), randread, randwrite or randrw";
+
+const BLOCKS_HELP: &str = "Blocks of each command, 1 to 256, or bytes: 512b, 4k";
+
+const SIZE_HELP: &str =
+    "Blocks that are used, from block 0, or bytes: 64k, 1m; else the whole image";
+
+const RUNTIME_HELP: &str = "Seconds after which no more commands are begun; also 90s, 10m, 2h";
+
+const VERIFY_HELP: &str = "Compares what is read with what was written";
+
+const STATS_HELP: &str = "Writes what was measured into this file, as JSON; - is standard output";
+
+const INTERVAL_HELP: &str = "Writes that file anew after so many seconds, again and again";
+
+const FORMAT_HELP: &str = "What standard output gets: normal, a line, or json";
+
+/// An option with a value, which has a usual one.
+fn text_arg<'a>(
+    alloc: Global,
+    name: &'static str,
+    shape: &'static str,
+    usual: &'static str,
+    help: &'static str,
+) -> Arg<'a>
+    ensures rule { rule_of result ≡ text_rule name.now usual.now }
     ensures local { result.global ≡ false }
 {
-    Arg::new(alloc, "rw")
-        .long("rw")
-        .value_name("PATTERN")
-        .default_value("read")
-        .help("read, write, randread, randwrite or randrw")
+    Arg::new(alloc, name)
+        .long(name)
+        .value_name(shape)
+        .default_value(usual)
+        .help(help)
+}
+
+/// An option with a value.
+fn option_arg<'a>(
+    alloc: Global,
+    name: &'static str,
+    shape: &'static str,
+    help: &'static str,
+) -> Arg<'a>
+    ensures rule { rule_of result ≡ option_rule name.now }
+    ensures local { result.global ≡ false }
+{
+    Arg::new(alloc, name)
+        .long(name)
+        .value_name(shape)
+        .help(help)
 }
 
 /// An option without a value.
@@ -87,27 +117,18 @@ fn flag_arg<'a>(alloc: Global, name: &'static str, help: &'static str) -> Arg<'a
         .help(help)
 }
 
-/// The option that names the file of the statistics.
-fn stats_arg<'a>(alloc: Global) -> Arg<'a>
-    ensures rule { rule_of result ≡ option_rule (codes "stats") }
-    ensures local { result.global ≡ false }
-{
-    Arg::new(alloc, "stats")
-        .long("stats")
-        .value_name("FILE")
-        .help("Writes what was measured into this file, as JSON; - is standard output")
-}
-
 /// A command with what is done, and how much.
 fn with_amounts<'a>(alloc: Global, command: Command<'a>) -> Result<Command<'a>, AllocError>
     ensures shape { IfOk result (λ whole. app_of whole ≡ with_amounts (app_of command.entry)) }
     ensures local { IfOk result (λ whole. (out-Command whole).has_globals ≡ (out-Command command.entry).has_globals) }
 {
     command
-        .arg(pattern_arg(alloc))?
-        .arg(COMMAND_BLOCKS.arg(alloc))?
+        .arg(text_arg(alloc, "rw", "PATTERN", "read", PATTERN_HELP))?
+        .arg(READS.arg(alloc))?
+        .arg(text_arg(alloc, "bs", "SIZE", "1", BLOCKS_HELP))?
+        .arg(option_arg(alloc, "size", "SIZE", SIZE_HELP))?
         .arg(COUNT.optional_arg(alloc))?
-        .arg(RUNTIME.optional_arg(alloc))?
+        .arg(option_arg(alloc, "runtime", "TIME", RUNTIME_HELP))?
         .arg(SUBMITTERS.arg(alloc))
 }
 
@@ -121,12 +142,10 @@ fn with_checks<'a>(alloc: Global, command: Command<'a>) -> Result<Command<'a>, A
         .arg(LOG_LIMIT.optional_arg(alloc))?
         .arg(serve_arg(alloc))?
         .arg(SEED.arg(alloc))?
-        .arg(flag_arg(
-            alloc,
-            "verify",
-            "Compares what is read with what was written",
-        ))?
-        .arg(stats_arg(alloc))?
+        .arg(flag_arg(alloc, "verify", VERIFY_HELP))?
+        .arg(option_arg(alloc, "stats", "FILE", STATS_HELP))?
+        .arg(option_arg(alloc, "status-interval", "TIME", INTERVAL_HELP))?
+        .arg(text_arg(alloc, "output-format", "FORMAT", "normal", FORMAT_HELP))?
         .arg(flag_arg(alloc, "quiet", "Tells no times on standard error"))
 }
 

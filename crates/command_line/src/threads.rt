@@ -3,11 +3,11 @@
 ghost use Rattle.std.specs.Prelude.{◌≡◌, ◌⊎◌, Some, None, IfOk, IfErr, IsNone, IsSome, true, false};
 ghost use Rattle.clap.specs.Words.{found_of, kind_of, rows_of};
 ghost use Rattle.clap.specs.declared.error.kind.ErrorKind.TheVariants.{OutOfMemory};
-ghost use Rattle.command_line.specs.Asked.{asked_of, FitsLine, is_threading, threads_by};
+ghost use Rattle.command_line.specs.Asked.{asked_of, FitsLine, FitsThreading, is_threading, jobs_by, threads_by};
 
-use crate::arguments::{CommandLine, Options, amount, out_of_range};
+use crate::arguments::{CommandLine, Options, amount, flag, out_of_range};
 use crate::commands::{DEPTH, LOG_LIMIT, Number, SUBMITTERS, threads_command, told};
-use crate::serving::{nobody, who_serves};
+use crate::serving::{Serving, nobody, who_serves};
 use clap::error::ErrorKind;
 use clap::{ArgMatches, Error};
 use std::alloc::{AllocError, Global};
@@ -61,6 +61,20 @@ fn unserved(alloc: Global, given: &ArgMatches<'_>) -> Result<Error, AllocError> 
     fault(alloc, ErrorKind::InvalidValue, text.as_str())
 }
 
+/// The jobs that are run so, and how they are told.
+fn jobs_line<'a>(given: &ArgMatches<'a>, threading: Threading, serving: Serving) -> CommandLine<'a>
+    requires { FitsThreading threading }
+    ensures asked { asked_of result ≡ jobs_by (rows_of (found_of given.now)) threading serving }
+    ensures fits { FitsLine result }
+{
+    let options = Options::of(given);
+    if flag(given, "json") {
+        CommandLine::ThreadObjects(options, threading, serving)
+    } else {
+        CommandLine::Threads(options, threading, serving)
+    }
+}
+
 /// What `threads` with these words asks for.
 pub(crate) fn threads_line<'a>(
     alloc: Global,
@@ -84,5 +98,5 @@ pub(crate) fn threads_line<'a>(
         depth: depth as u16,
         log_limit,
     };
-    Ok(CommandLine::Threads(Options::of(given), threading, serving))
+    Ok(jobs_line(given, threading, serving))
 }

@@ -1,9 +1,11 @@
 //! Worked command lines. Each function computes some.
 
 ghost use Rattle.std.specs.Prelude.{◌≡◌, ℕ, List, None, Some, [], ◌∷◌, ◌++◌, false, true, codes};
-ghost use Rattle.command_line.specs.Asked.{asked, check, check_jobs, draw, explain, grammar, shell, show, steps, test, threads, traced};
+ghost use Rattle.command_line.specs.Asked.{asked, check, check_jobs, draw, explain, grammar, load, shell, show, steps, test, thread_objects, threads, traced};
 ghost use Rattle.command_line.specs.declared.serving.Serving.TheVariants.{Controller, Ringer};
-ghost use Rattle.command_line.specs.Worked.{alone, check_with, extreme, extreme_words, mixed, mixed_words, one_file, steps_with, test_with, threads_with, usual};
+ghost use Rattle.command_line.specs.Worked.{alone, check_with, extreme, extreme_words, load_with, mixed, mixed_words, one_file, steps_with, test_with, threads_with, usual, usual_load};
+ghost use Rattle.script_cli.specs.declared.workload.OutputFormat.TheVariants.{Json};
+ghost use Rattle.script_cli.specs.declared.workload.Pattern.TheVariants.{Rw};
 
 /// Each option is what its words say, and its usual value where there are none.
 #[tactic(auto, unfolding(clap::proofs::OnLiterals::clap_on_literals))]
@@ -37,10 +39,19 @@ pub fn images_are_saved()
 /// Steps tell what they moved where that is asked for.
 #[tactic(auto, unfolding(clap::proofs::OnLiterals::clap_on_literals))]
 pub fn steps_are_traced()
-    ensures steps { asked (steps_with (codes "--trace" ∷ [])) ≡ Some (traced usual) }
-    ensures saved { asked (steps_with (codes "a" ∷ codes "--trace" ∷ codes "--save=disk" ∷ [])) ≡ Some (traced (record usual { script = Some (codes "a"); save = Some (codes "disk") })) }
+    ensures steps { asked (steps_with (codes "--trace" ∷ [])) ≡ Some (traced usual false) }
+    ensures saved { asked (steps_with (codes "a" ∷ codes "--trace" ∷ codes "--save=disk" ∷ [])) ≡ Some (traced (record usual { script = Some (codes "a"); save = Some (codes "disk") }) false) }
+    ensures objects { asked (steps_with (codes "--trace" ∷ codes "--json" ∷ [])) ≡ Some (traced usual true) }
     ensures shell { asked (codes "nvmesgl" ∷ codes "shell" ∷ codes "--trace" ∷ []) ≡ Some (shell usual true) }
     ensures threads { asked (threads_with (codes "--trace" ∷ [])) ≡ None }
+{}
+
+/// A refusal is a fault where that is asked for.
+#[tactic(auto, unfolding(clap::proofs::OnLiterals::clap_on_literals))]
+pub fn runs_are_strict()
+    ensures steps { asked (steps_with (codes "--strict" ∷ [])) ≡ Some (steps (record usual { strict = true })) }
+    ensures threads { asked (threads_with (codes "--strict" ∷ [])) ≡ Some (threads (record usual { strict = true }) (alone 2) Ringer) }
+    ensures draw { asked (codes "nvmesgl" ∷ codes "draw" ∷ codes "--strict" ∷ []) ≡ None }
 {}
 
 /// What `check` and `grammar` ask for.
@@ -77,7 +88,8 @@ pub fn bytes_are_looked_at()
     ensures explain { asked (codes "nvmesgl" ∷ codes "explain" ∷ []) ≡ Some (explain None false) }
     ensures file { asked (codes "nvmesgl" ∷ codes "explain" ∷ codes "a" ∷ []) ≡ Some (explain (Some (codes "a")) false) }
     ensures json { asked (codes "nvmesgl" ∷ codes "explain" ∷ codes "--json" ∷ codes "a" ∷ []) ≡ Some (explain (Some (codes "a")) true) }
-    ensures show { asked (codes "nvmesgl" ∷ codes "show" ∷ codes "sgl" ∷ codes "00*16" ∷ []) ≡ Some (show (codes "sgl" ∷ codes "00*16" ∷ [])) }
+    ensures show { asked (codes "nvmesgl" ∷ codes "show" ∷ codes "sgl" ∷ codes "00*16" ∷ []) ≡ Some (show (codes "sgl" ∷ codes "00*16" ∷ []) false) }
+    ensures shown_json { asked (codes "nvmesgl" ∷ codes "show" ∷ codes "--json" ∷ codes "sgl" ∷ []) ≡ Some (show (codes "sgl" ∷ []) true) }
     ensures no_word { asked (codes "nvmesgl" ∷ codes "show" ∷ []) ≡ None }
 {}
 
@@ -119,7 +131,24 @@ pub fn numbers_are_read()
 pub fn servers_are_named()
     ensures ringer { asked (threads_with (codes "--serve=ringer" ∷ [])) ≡ Some (threads usual (alone 2) Ringer) }
     ensures controller { asked (threads_with (codes "--serve" ∷ codes "controller" ∷ [])) ≡ Some (threads usual (alone 2) Controller) }
+    ensures objects { asked (threads_with (codes "--json" ∷ [])) ≡ Some (thread_objects usual (alone 2) Ringer) }
     ensures nobody { asked (threads_with (codes "--serve" ∷ codes "poller" ∷ [])) ≡ None }
     ensures no_word { asked (threads_with (codes "--serve" ∷ [])) ≡ None }
     ensures steps { asked (steps_with (codes "--serve=ringer" ∷ [])) ≡ None }
+{}
+
+/// What `load` asks for: sizes are blocks, or bytes with a unit, and times seconds, or a number with a unit.
+#[tactic(auto, unfolding(clap::proofs::OnLiterals::clap_on_literals))]
+pub fn loads_are_read()
+    ensures usual { asked (load_with []) ≡ Some (load usual usual_load Ringer) }
+    ensures units { asked (load_with (codes "--bs" ∷ codes "4k" ∷ codes "--size=64K" ∷ codes "--runtime" ∷ codes "10m" ∷ [])) ≡ Some (load usual (record usual_load { command_blocks = 8; size = Some 128; count = None; runtime = Some 600 }) Ringer) }
+    ensures mixed { asked (load_with (codes "--rw=readwrite" ∷ codes "--rwmixread" ∷ codes "70" ∷ codes "--bs=256" ∷ [])) ≡ Some (load usual (record usual_load { pattern = Rw; reads = 70; command_blocks = 256 }) Ringer) }
+    ensures reported { asked (load_with (codes "--stats=s" ∷ codes "--status-interval" ∷ codes "5s" ∷ codes "--output-format=json" ∷ [])) ≡ Some (load usual (record usual_load { stats = Some (codes "s"); interval = Some 5; format = Json }) Ringer) }
+    ensures no_file { asked (load_with (codes "--status-interval" ∷ codes "5" ∷ [])) ≡ None }
+    ensures no_time { asked (load_with (codes "--stats=s" ∷ codes "--status-interval=0" ∷ [])) ≡ None }
+    ensures half_a_block { asked (load_with (codes "--bs=256b" ∷ [])) ≡ None }
+    ensures many_blocks { asked (load_with (codes "--bs=1m" ∷ [])) ≡ None }
+    ensures no_block { asked (load_with (codes "--size=0" ∷ [])) ≡ None }
+    ensures many_reads { asked (load_with (codes "--rwmixread=101" ∷ [])) ≡ None }
+    ensures no_format { asked (load_with (codes "--output-format=xml" ∷ [])) ≡ None }
 {}

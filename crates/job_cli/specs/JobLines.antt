@@ -1,9 +1,9 @@
 -- The text of how jobs ended.
-use Rattle.std.specs.{Fmt.decimal, Prelude.{ℕ, List, [], ◌∷◌, ◌++◌, codes}}
+use Rattle.std.specs.{Fmt.decimal, Prelude.{ℕ, Bool, false, List, [], ◌∷◌, ◌++◌, codes}}
 use Rattle.driver_threads.specs.{Values.JobEnd, declared.jobs.JobRefusal.JobRefusal}
 use Rattle.entry_codec.specs.Status.{status_text}
 use Rattle.io_commands.specs.declared.{draft.FillFault.TheVariants.WrongLength, request.Kind.{Kind, TheVariants.{Read, Write, Compare}}}
-use Rattle.script_cli.specs.Replies.{gathered_text, request_fault_name, fill_fault_name}
+use Rattle.script_cli.specs.Replies.{gathered_text, is_success, request_fault_name, fill_fault_name}
 use Rattle.driver_threads.specs.declared.jobs.JobEnd.TheVariants as end
 use Rattle.driver_threads.specs.declared.jobs.JobRefusal.TheVariants as refusal
 
@@ -30,3 +30,8 @@ job_end_text (end.Refused why) = job_refusal_text why
 abbrev pub job_text : ℕ → ℕ → Kind → JobEnd → List ℕ
 job_text number seat kind what =
     decimal number ++ (codes " seat " ++ (decimal seat ++ (codes " " ++ (kind_text kind ++ (codes " " ++ (job_end_text what ++ (10 ∷ [])))))))
+
+-- it was not refused, and its status is 0:00
+abbrev pub is_well_end : JobEnd → Bool
+is_well_end (end.Done status bytes) = is_success status
+is_well_end (end.Refused why) = false

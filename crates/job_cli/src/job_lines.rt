@@ -2,18 +2,18 @@
 
 ghost use Rattle.std.specs.Prelude.{◌≡◌, ◌++◌, OnOk, string_bytes, codes};
 ghost use Rattle.entry_codec.specs.Status.{status_text};
-ghost use Rattle.job_cli.specs.JobLines.{kind_text, too_few_text, job_refusal_text, job_end_text, job_text};
+ghost use Rattle.job_cli.specs.JobLines.{kind_text, too_few_text, job_refusal_text, job_end_text, job_text, is_well_end as spec_is_well_end};
 ghost use Rattle.script_cli.specs.Replies.{gathered_text, request_fault_name as spec_request_fault_name};
 
-use driver_threads::{JobEnd, JobRefusal};
+use driver_threads::{JobEnd, JobEnds, JobRefusal};
 use entry_codec::Status;
 use io_commands::{FillFault, Kind, RequestFault};
-use script_cli::{put_gathered, put_not_filled, request_fault_name};
+use script_cli::{is_success, put_gathered, put_not_filled, request_fault_name};
 use std::alloc::AllocError;
 use step_core::Bytes;
 
 /// The word of a kind of command.
-fn kind_name(kind: Kind) -> &'static str
+pub(crate) fn kind_name(kind: Kind) -> &'static str
     ensures { result.now ≡ kind_text kind }
 {
     match kind {
@@ -87,4 +87,27 @@ pub fn append_job_line(
     write!(out, "{number} seat {seat} {name} ")?;
     put_job_end(out, end)?;
     out.push_str("\n")
+}
+
+/// Whether a job was not refused, and its status is 0:00.
+pub(crate) fn is_well_end(end: &JobEnd) -> bool
+    ensures { result ≡ spec_is_well_end end.now }
+{
+    match end {
+        JobEnd::Done { status, .. } => is_success(*status),
+        JobEnd::Refused(_) => false,
+    }
+}
+
+/// How many jobs were refused, or have a status other than 0:00.
+pub(crate) fn unwell_jobs(ends: &JobEnds) -> u64 {
+    let mut unwell = 0u64;
+    for list in ends.as_slice() {
+        for end in list.as_slice() {
+            if !is_well_end(end) {
+                unwell = unwell.saturating_add(1);
+            }
+        }
+    }
+    unwell
 }

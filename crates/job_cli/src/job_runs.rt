@@ -11,7 +11,7 @@ ghost use Rattle.script_cli.specs.Runs.{AreOwners};
 ghost use Rattle.script_cli.specs.declared.fault.RunFault.TheVariants as run;
 ghost use Rattle.step_core.specs.Opening.{opening_of};
 
-use crate::job_lines::append_job_line;
+use crate::job_lines::{append_job_line, unwell_jobs};
 use crate::jobs::{JobLine, JobScript, read_jobs};
 use crate::rounds::{Pace, do_jobs};
 use block_image::Image;
@@ -32,21 +32,21 @@ use step_core::{Config, World};
 
 /// What the line of a job begins with, and which of its submitter's jobs it is.
 #[derive(Clone, Copy, Debug)]
-struct Heading {
-    number: u32,
-    submitter: u16,
-    kind: Kind,
+pub(crate) struct Heading {
+    pub(crate) number: u32,
+    pub(crate) submitter: u16,
+    pub(crate) kind: Kind,
     /// How many jobs the submitter does before it.
-    place: usize,
+    pub(crate) place: usize,
 }
 
 /// The jobs of a script, as they are handed out.
 #[derive(Drop)]
-struct Orders {
+pub(crate) struct Orders {
     /// One for each job, in the order of the lines.
-    headings: Vec<Heading>,
+    pub(crate) headings: Vec<Heading>,
     /// One list for each submitter, in the order of the lines.
-    lists: Vec<VecDeque<Job>>,
+    pub(crate) lists: Vec<VecDeque<Job>>,
 }
 
 /// Reads a script of jobs.
@@ -94,7 +94,11 @@ fn give(lists: &mut Vec<VecDeque<Job>>, submitter: u16, job: Job) -> Result<usiz
 }
 
 /// Hands each job to its submitter.
-fn hand_out(alloc: Global, submitters: u16, lines: Vec<JobLine>) -> Result<Orders, AllocError>
+pub(crate) fn hand_out(
+    alloc: Global,
+    submitters: u16,
+    lines: Vec<JobLine>,
+) -> Result<Orders, AllocError>
     requires { All (λ line. line.submitter < submitters) lines.items }
     ensures headings { IfOk result (λ orders. orders.headings.items ≡ headings_of lines.items) }
     ensures lists { IfOk result (λ orders. AreListsOf submitters lines.items (map (λ list. list.items) orders.lists.items)) }
@@ -178,7 +182,7 @@ fn run_world<R: Threads + Wait + Sync>(
 }
 
 /// How the job of a heading ended.
-fn end_of<'a>(ends: &'a JobEnds, heading: Heading) -> Option<&'a JobEnd>
+pub(crate) fn end_of<'a>(ends: &'a JobEnds, heading: Heading) -> Option<&'a JobEnd>
     ensures { MatchOption result (end_at ends.now heading ≡ None) (λ end. end_at ends.now heading ≡ Some end.now) }
 {
     let list = ends.as_slice().get(usize::from(heading.submitter))?;
@@ -186,7 +190,7 @@ fn end_of<'a>(ends: &'a JobEnds, heading: Heading) -> Option<&'a JobEnd>
 }
 
 /// The line of a job; nothing where it has no end.
-fn line_of(alloc: Global, heading: Heading, ends: &JobEnds) -> Result<String, AllocError>
+pub(crate) fn line_of(alloc: Global, heading: Heading, ends: &JobEnds) -> Result<String, AllocError>
     ensures { IfOk result (λ text. string_bytes text ≡ headed_text heading (end_at ends.now heading)) }
 {
     let mut text = String::new(alloc);
@@ -225,7 +229,8 @@ fn write_run<W: Write>(
 /// Runs a script of jobs: each submitter does its jobs in a thread of its own, one after the other in the order of their lines, over a
 /// world that is opened for them. When all have ended, it writes the line of each job, in the order of the script's lines, then the
 /// owners of all pages and the counts: the command `threads`. There are 1 to 16 submitters. Where the pace has a limit for logs, the jobs are done in rounds: each goes on over the
-/// world that the one before left, and its log is dropped at its end. What is written is the same.
+/// world that the one before left, and its log is dropped at its end. What is written is the same. `unwell` grows by the jobs that were refused or whose status is
+/// not 0:00.
 ///
 /// # Errors
 ///
@@ -241,6 +246,7 @@ pub fn run_jobs<R: Threads + Wait + Sync, I: Read, W: Write>(
     pace: Pace,
     reader: &mut I,
     writer: &mut W,
+    unwell: &mut u64,
 ) -> Result<(), RunFault>
     requires some { 1 ≤ submitters }
     requires few { submitters ≤ 16 }
@@ -252,5 +258,6 @@ pub fn run_jobs<R: Threads + Wait + Sync, I: Read, W: Write>(
     let script = load_jobs(alloc, submitters, reader)?;
     let orders = hand_out(alloc, submitters, script.into_jobs())?;
     let (ends, closing) = run_world(rt, alloc, config, image, orders.lists, pace)?;
+    *unwell = unwell.saturating_add(unwell_jobs(&ends));
     write_run(alloc, orders.headings, &ends, &closing, writer)
 }

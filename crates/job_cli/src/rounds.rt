@@ -2,7 +2,10 @@
 
 ghost use Rattle.std.specs.Prelude.{◌≡◌, ◌≤◌, ◌==◌, ◌++◌, [], not, map, length, take, vec_len, IfOk, IfErr, IfSome, IfNone};
 ghost use Rattle.std.specs.List.{list_any};
+ghost use Rattle.driver_book.specs.State.{AreOfJobs};
 ghost use Rattle.driver_threads.specs.Behind.{behind};
+ghost use Rattle.driver_threads.specs.Ends.{AllAgree};
+ghost use Rattle.driver_threads.specs.Runs.{EndsRound};
 ghost use Rattle.job_cli.specs.JobRuns.{IsWanting};
 ghost use Rattle.job_cli.specs.GoneOn.{Fit, HasGoneOn, entries_for};
 
@@ -27,6 +30,19 @@ pub struct Pace {
     /// How many entries the log of a round of jobs may have, as far as that is known before: the jobs are done in rounds, of each submitter
     /// one job at least, and the log of a round is dropped at its end. `None`: all jobs are one round.
     pub log_limit: Option<u32>,
+}
+
+impl Pace {
+    /// How many entries of the log of a round each of so many submitters may write.
+    pub(crate) fn share(self, submitters: usize) -> Option<u32>
+        requires some { 1 ≤ submitters }
+        requires few { submitters ≤ 16 }
+    {
+        match self.log_limit {
+            None => None,
+            Some(limit) => Some(limit / submitters as u32),
+        }
+    }
 }
 
 /// The most pieces of a request that is not refused.
@@ -90,7 +106,7 @@ fn next_jobs(
 }
 
 /// Takes the jobs of the next round, of each submitter its own.
-fn next_round(
+pub(crate) fn next_round(
     alloc: Global,
     left: &mut Vec<VecDeque<Job>>,
     share: Option<u32>,
@@ -109,7 +125,7 @@ fn next_round(
 }
 
 /// Whether some submitter has jobs left.
-fn some_has_jobs(left: &[VecDeque<Job>]) -> bool
+pub(crate) fn some_has_jobs(left: &[VecDeque<Job>]) -> bool
     ensures { result ≡ list_any (λ queue. not (length queue.items == 0)) left.now }
 {
     left.iter().any(|queue| !queue.is_empty())
@@ -122,6 +138,40 @@ pub(crate) struct Done {
     pub(crate) ends: JobEnds,
     /// The world to which the last round led.
     pub(crate) world: World,
+}
+
+/// Does a round of jobs over a world.
+pub(crate) fn one_round<R: Threads + Wait + Sync>(
+    rt: &R,
+    alloc: Global,
+    world: World,
+    jobs: Vec<Vec<Job>>,
+    pace: Pace,
+) -> Result<Round, RunFault>
+    requires some { 1 ≤ vec_len jobs }
+    requires few { vec_len jobs ≤ 16 }
+    requires at_least_one { 1 ≤ pace.depth }
+    requires at_most { pace.depth ≤ 256 }
+    ensures ended { IfOk result (λ round. EndsRound world.state round.log round.report round.world) }
+    ensures all_jobs { IfOk result (λ round. map length round.jobs ≡ map (λ list. length list.items) jobs.items) }
+    ensures agree { IfOk result (λ round. AllAgree round.report.receipts round.jobs) }
+    ensures jobs { IfOk result (λ round. AreOfJobs round.log.entries) }
+    ensures fault { IfErr result IsWanting }
+{
+    let blank = Blank::new(65536);
+    match run_round::<Brand, Global, Open, R>(
+        rt,
+        alloc,
+        world,
+        jobs,
+        usize::from(pace.depth),
+        pace.server,
+        &Open,
+        blank,
+    ) {
+        Ok(round) => Ok(round),
+        Err(why) => Err(not_run(why)),
+    }
 }
 
 /// Does the jobs of submitters over a world, in rounds.
@@ -140,29 +190,15 @@ pub(crate) fn do_jobs<R: Threads + Wait + Sync>(
     ensures ended { IfOk result (λ done. map length done.ends ≡ map (λ queue. length queue.items) jobs.items) }
     ensures fault { IfErr result IsWanting }
 {
-    let share = match pace.log_limit {
-        None => None,
-        Some(limit) => Some(limit / jobs.len() as u32),
-    };
-    let depth = usize::from(pace.depth);
+    let share = pace.share(jobs.len());
     let mut left = jobs;
     let mut world = world;
     let mut ends = JobEnds::none(alloc);
     for _ in rt.forever() {
         let round = next_round(alloc, &mut left, share)?;
-        let blank = Blank::new(65536);
-        let round: Round = match run_round::<Brand, Global, Open, R>(
-            rt,
-            alloc,
-            world,
-            round,
-            depth,
-            pace.server,
-            &Open,
-            blank,
-        ) {
+        let round = match one_round(rt, alloc, world, round, pace) {
             Ok(round) => round,
-            Err(why) => return Err(not_run(why)),
+            Err(why) => return Err(why),
         };
         world = round.world;
         ends.append(round.jobs)?;

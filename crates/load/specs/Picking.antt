@@ -1,7 +1,9 @@
 -- Which slots a submitter's commands go to, counted from its first.
-use Rattle.std.specs.Prelude.{◌≡◌, ℕ, ◌+◌, ◌-◌, ◌<◌, ◌≤◌, Bool, true, false, List, length, min, nat_lt, slice_index_or, if◌then◌else◌}
+use Rattle.std.specs.Prelude.{◌≡◌, ℕ, ◌+◌, ◌-◌, ◌%◌, ◌<◌, ◌≤◌, Bool, true, false, List, length, min, nat_lt, Option, Some, None, slice_index_or, unwrap_or, if◌then◌else◌}
 use Rattle.io_commands.specs.declared.request.Kind.{Kind}
 use Rattle.rand.specs.Sample.{IsSampleOf}
+use Rattle.rand_core.specs.{Steps.{steps_u32, stream_of}, Stream.next_u32}
+use Rattle.rand_pcg.specs.{Lcg.Lcg, Pcg.pcg32}
 use Rattle.script_cli.specs.declared.workload.Pattern.{Pattern}
 use Rattle.io_commands.specs.declared.request.Kind.TheVariants as kind
 use Rattle.script_cli.specs.declared.workload.Pattern.TheVariants as pattern
@@ -10,6 +12,7 @@ use Rattle.script_cli.specs.declared.workload.Pattern.TheVariants as pattern
 abbrev pub is_random : Pattern → Bool
 is_random pattern.Read = false
 is_random pattern.Write = false
+is_random pattern.Rw = false
 is_random pattern.RandRead = true
 is_random pattern.RandWrite = true
 is_random pattern.RandRw = true
@@ -32,12 +35,19 @@ AreNext next slots most picked after =
     let many = min most (slots - from) in
     AreCounted from many picked × (after ≡ (if nat_lt (from + many) slots then from + many else 0))
 
--- a pattern has commands of this kind
-abbrev pub fits_kind : Pattern → Kind → Bool
-fits_kind pattern.Read kind.Read = true
-fits_kind pattern.Write kind.Write = true
-fits_kind pattern.RandRead kind.Read = true
-fits_kind pattern.RandWrite kind.Write = true
-fits_kind pattern.RandRw kind.Read = true
-fits_kind pattern.RandRw kind.Write = true
-fits_kind other what = false
+-- the one kind of a pattern that is not mixed
+abbrev pub only_kind : Pattern → Option Kind
+only_kind pattern.Read = Some kind.Read
+only_kind pattern.Write = Some kind.Write
+only_kind pattern.Rw = None
+only_kind pattern.RandRead = Some kind.Read
+only_kind pattern.RandWrite = Some kind.Write
+only_kind pattern.RandRw = None
+
+-- so many of a hundred words say that a command reads
+abbrev pub kind_of_word : ℕ → ℕ → Kind
+kind_of_word reads word = if nat_lt (word % 100) reads then kind.Read else kind.Write
+
+-- the next command's kind: where both kinds are mixed, the next word of the generator says it
+abbrev pub kind_by : Pattern → ℕ → Lcg → Kind
+kind_by pattern reads words = unwrap_or (only_kind pattern) (kind_of_word reads (next_u32 (stream_of (steps_u32 pcg32) words)).0)

@@ -9,6 +9,7 @@ ghost use Rattle.script_cli.specs.Loads.{FitsLoad};
 
 use crate::bad::Bad;
 use crate::content::Content;
+use crate::figures::Figures;
 use crate::layout::Layout;
 use crate::look::{look_at, note_writes};
 use crate::measured::Measured;
@@ -98,7 +99,7 @@ impl Course {
     {
         let mut picks = Vec::with_capacity(alloc, usize::from(layout.submitters))?;
         for submitter in 0..layout.submitters {
-            picks.push(Picks::new(load.pattern, load.seed, submitter))?;
+            picks.push(Picks::new(load.pattern, load.reads, load.seed, submitter))?;
         }
         Ok(Course {
             layout,
@@ -243,6 +244,16 @@ impl Course {
     {
         for ((plan, list), took) in plans.iter().zip(ends.as_slice()).zip(times) {
             self.measured.add(plan, list, took);
+        }
+    }
+
+    /// What it came to so far, in so many nanoseconds, of commands of so many bytes.
+    pub(crate) fn figures(&self, command_bytes: u64, nanos: u64) -> Figures<'_> {
+        Figures {
+            tally: self.tally,
+            measured: &self.measured,
+            command_bytes,
+            nanos,
         }
     }
 

@@ -7,8 +7,8 @@ use thiserror::Error;
 /// Why a load did not run to its end.
 #[derive(Clone, Copy, Debug, Error)]
 pub enum LoadFault {
-    /// There is not a slot for each submitter.
-    #[error("load: {need} blocks are needed, a slot for each submitter, and the image has {blocks}")]
+    /// There are fewer blocks than are to be used, or there is not a slot for each submitter in those that are.
+    #[error("load: {need} blocks are needed, for --size or for a slot of each submitter, and there are {blocks}")]
     TooFewBlocks {
         /// How many are needed.
         need: u32,

@@ -15,6 +15,8 @@ pub(crate) struct Histogram {
     counts: Vec<u64>,
     many: u64,
     sum: u64,
+    /// The sum of their squares.
+    squares: u128,
     least: u64,
     most: u64,
 }
@@ -73,6 +75,7 @@ impl Histogram {
             counts: vec![in alloc; 0; BUCKETS]?,
             many: 0,
             sum: 0,
+            squares: 0,
             least: u64::MAX,
             most: 0,
         })
@@ -87,6 +90,8 @@ impl Histogram {
         counts[bucket] = counts[bucket].saturating_add(1);
         self.many = self.many.saturating_add(1);
         self.sum = self.sum.saturating_add(value);
+        let wide = u128::from(value);
+        self.squares = self.squares.saturating_add(wide.saturating_mul(wide));
         self.least = self.least.min(value);
         self.most = self.most.max(value);
     }
@@ -109,6 +114,17 @@ impl Histogram {
     /// The mean; 0 of none.
     pub(crate) fn mean(&self) -> u64 {
         self.sum / self.many.max(1)
+    }
+
+    /// The standard deviation of a sample; 0 of fewer than two.
+    pub(crate) fn deviation(&self) -> u64 {
+        if self.many < 2 {
+            return 0;
+        }
+        let sum = u128::from(self.sum);
+        let many = u128::from(self.many);
+        let apart = self.squares.saturating_sub(sum.saturating_mul(sum) / many);
+        (apart / (many - 1)).isqrt() as u64
     }
 
     /// The bucket of the number of this rank, counted from 1 in the numbers' order; one more than the last where there are fewer.

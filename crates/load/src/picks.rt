@@ -1,7 +1,7 @@
 //! Which slots come next.
 
 ghost use Rattle.std.specs.Prelude.{◌≡◌, ◌≤◌, ◌-◌, IfOk, false, true};
-ghost use Rattle.load.specs.Picking.{AreCounted, AreNext, ArePicked, fits_kind, is_random as spec_is_random};
+ghost use Rattle.load.specs.Picking.{AreCounted, AreNext, ArePicked, is_random as spec_is_random, kind_by as spec_kind_by, only_kind as spec_only_kind};
 
 use io_commands::Kind;
 use rand::seq::index;
@@ -14,6 +14,8 @@ use std::alloc::{AllocError, Global};
 #[derive(Drop)]
 pub(crate) struct Picks {
     pattern: Pattern,
+    /// How many of a hundred commands of a mixed pattern are Reads.
+    reads: u32,
     /// The slot that is next in turn.
     next: usize,
     words: Pcg32,
@@ -24,8 +26,19 @@ fn is_random(pattern: Pattern) -> bool
     ensures { result ≡ spec_is_random pattern }
 {
     match pattern {
-        Pattern::Read | Pattern::Write => false,
+        Pattern::Read | Pattern::Write | Pattern::Rw => false,
         Pattern::RandRead | Pattern::RandWrite | Pattern::RandRw => true,
+    }
+}
+
+/// The one kind of a pattern that is not mixed.
+fn only_kind(pattern: Pattern) -> Option<Kind>
+    ensures { result ≡ spec_only_kind pattern }
+{
+    match pattern {
+        Pattern::Read | Pattern::RandRead => Some(Kind::Read),
+        Pattern::Write | Pattern::RandWrite => Some(Kind::Write),
+        Pattern::Rw | Pattern::RandRw => None,
     }
 }
 
@@ -43,9 +56,10 @@ fn in_turn(alloc: Global, from: usize, to: usize) -> Result<Vec<usize>, AllocErr
 
 impl Picks {
     /// What a submitter draws from at first.
-    pub(crate) fn new(pattern: Pattern, seed: u32, submitter: u16) -> Picks {
+    pub(crate) fn new(pattern: Pattern, reads: u32, seed: u32, submitter: u16) -> Picks {
         Picks {
             pattern,
+            reads,
             next: 0,
             words: Pcg32::new(u64::from(seed), u64::from(submitter)),
         }
@@ -74,18 +88,15 @@ impl Picks {
 
     /// Whether the next command reads or writes.
     pub(crate) fn kind(&mut self) -> Kind
-        ensures { fits_kind self.old.pattern result ≡ true }
+        ensures { result ≡ spec_kind_by self.old.pattern self.old.reads self.old.words }
     {
-        match self.pattern {
-            Pattern::Read | Pattern::RandRead => Kind::Read,
-            Pattern::Write | Pattern::RandWrite => Kind::Write,
-            Pattern::RandRw => {
-                if self.words.next_u32() % 2 == 0 {
-                    Kind::Read
-                } else {
-                    Kind::Write
-                }
-            }
+        if let Some(kind) = only_kind(self.pattern) {
+            return kind;
+        }
+        if self.words.next_u32() % 100 < self.reads {
+            Kind::Read
+        } else {
+            Kind::Write
         }
     }
 }

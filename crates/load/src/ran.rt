@@ -1,6 +1,7 @@
 //! What a load came to.
 
 use crate::bad::Bad;
+use crate::figures::Figures;
 use crate::histogram::Histogram;
 use crate::measured::Measured;
 use crate::tally::Tally;
@@ -56,6 +57,16 @@ fn put_latencies(out: &mut String, name: &str, took: &Histogram) -> Result<(), A
 }
 
 impl Ran {
+    /// What it came to, for a report.
+    pub fn figures(&self) -> Figures<'_> {
+        Figures {
+            tally: self.tally,
+            measured: &self.measured,
+            command_bytes: self.command_bytes,
+            nanos: self.nanos,
+        }
+    }
+
     /// What was measured, for people: two or three lines.
     ///
     /// # Errors

@@ -1,26 +1,29 @@
 //! A load, from its opening to its line.
 
-ghost use Rattle.std.specs.Prelude.{◌≡◌, ◌≤◌, All, IfOk, OnErr, OnOk, length, vec_len};
+ghost use Rattle.std.specs.Prelude.{◌≡◌, ◌≤◌, All, IfErr, IfOk, OnErr, OnOk, Some, length, option_map, vec_len};
 ghost use Rattle.std.specs.Io.KnownBytes.{Appends};
 ghost use Rattle.script_cli.specs.Loads.{FitsLoad};
 ghost use Rattle.load.specs.Course.{commands_left as spec_commands_left};
-ghost use Rattle.load.specs.Lines.{IsLineFront, line_text};
+ghost use Rattle.load.specs.Layouts.{IsLayoutFor, too_few};
+ghost use Rattle.load.specs.declared.fault.LoadFault.TheVariants.{TooFewBlocks};
+ghost use Rattle.load.specs.Lines.{IsLineFront, Tells, line_text};
 ghost use Rattle.load.specs.Planning.{IsInside};
 ghost use Rattle.script_cli.specs.Inputs.{Gains, IsFront};
 
 use crate::content::Content;
 use crate::course::Course;
 use crate::fault::LoadFault;
+use crate::figures::Report;
 use crate::layout::Layout;
 use crate::line::append_line;
 use crate::plan::Planned;
-use crate::progress::{Progress, Standing, Stopwatch};
+use crate::progress::{Interval, Progress, Standing, Stopwatch};
 use crate::ran::Ran;
 use crate::tally::Tally;
 use crate::timing::Timing;
 use block_image::Image;
 use driver_threads::{Gate, Job, JobEnds, Open, Round, Server, run_round};
-use script_cli::workload::{Load, Pattern};
+use script_cli::workload::{Load, OutputFormat, Pattern};
 use script_cli::{RunFault, flush, not_opened, put};
 use std::alloc::{AllocError, AllocGlobal, Global};
 use std::io::Write;
@@ -149,8 +152,15 @@ fn run_some<R: Clock + Threads + Wait + Sync>(
     Ok((left.world, commands_of(&plans)))
 }
 
-/// Runs the commands of a load, in rounds.
-fn run_commands<R: Clock + Eprint + Threads + Wait + Sync>(
+/// The bytes of each command.
+fn command_bytes(load: &Load<'_>) -> u64
+    requires { FitsLoad load.now }
+{
+    512 * u64::from(load.command_blocks)
+}
+
+/// Runs the commands of a load, in rounds. Between rounds it tells how far it is, and what it came to so far.
+fn run_commands<R: Clock + Eprint + Threads + Wait + Sync, P: Report>(
     rt: &R,
     alloc: Global,
     world: World,
@@ -158,11 +168,13 @@ fn run_commands<R: Clock + Eprint + Threads + Wait + Sync>(
     load: &Load<'_>,
     watch: Stopwatch,
     shows: bool,
+    report: &mut P,
 ) -> Result<World, LoadFault>
     requires { FitsLoad load.now }
 {
     let timing = Timing::new(rt, alloc, load.submitters)?;
     let mut progress = Progress::new(shows);
+    let mut interval = Interval::new(load.interval);
     let mut begun = 0u64;
     let mut world = world;
     for _ in rt.forever() {
@@ -172,6 +184,10 @@ fn run_commands<R: Clock + Eprint + Threads + Wait + Sync>(
             break;
         }
         progress.tell(rt, alloc, standing_of(load, begun, nanos))?;
+        let gone = nanos.unwrap_or(0);
+        if interval.is_due(gone) {
+            report.take(&course.figures(command_bytes(load), gone));
+        }
         let (after, many) = run_some(rt, alloc, world, course, load.depth, &timing, more)?;
         world = after;
         begun = begun.saturating_add(many);
@@ -202,6 +218,26 @@ fn read_again<R: Threads + Wait + Sync>(
     Ok(world)
 }
 
+/// How a load shares out the blocks of an image that it uses.
+fn share_out(blocks: u32, load: &Load<'_>) -> Result<Layout, LoadFault>
+    requires few { blocks ≤ 65536 }
+    requires fits { FitsLoad load.now }
+    ensures shared { IfOk result (IsLayoutFor load.now blocks) }
+    ensures refused { IfErr result (λ why. option_map (λ few. TooFewBlocks few.0 few.1) (too_few load.now blocks) ≡ Some why) }
+{
+    let used = load.size.unwrap_or(blocks);
+    if used > blocks {
+        return Err(LoadFault::TooFewBlocks { need: used, blocks });
+    }
+    match Layout::of(used, load.submitters, load.command_blocks) {
+        Some(layout) => Ok(layout),
+        None => Err(LoadFault::TooFewBlocks {
+            need: u32::from(load.submitters) * load.command_blocks,
+            blocks: used,
+        }),
+    }
+}
+
 /// Opens a world over an image, and what goes on over it.
 fn open(
     alloc: Global,
@@ -212,13 +248,9 @@ fn open(
 ) -> Result<(World, Course), LoadFault>
     requires { FitsLoad load.now }
 {
-    let blocks = image.blocks();
-    let Some(layout) = Layout::of(blocks, load.submitters, load.command_blocks) else {
-        let need = u32::from(load.submitters) * load.command_blocks;
-        return Err(LoadFault::TooFewBlocks { need, blocks });
-    };
+    let layout = share_out(image.blocks(), load)?;
     let content = if load.verify {
-        let first = Vec::from_slice(alloc, image.blocks_from(0, blocks))?;
+        let first = Vec::from_slice(alloc, image.blocks_from(0, layout.blocks))?;
         Some(Content {
             seed: load.seed,
             first,
@@ -251,45 +283,63 @@ fn write_line<W: Write>(
     flush(writer)
 }
 
+/// Tells standard output how a load went: by its line, or not at all where JSON is wanted.
+fn tell_end<W: Write>(
+    alloc: Global,
+    load: &Load<'_>,
+    tally: Tally,
+    writer: &mut W,
+) -> Result<(), RunFault>
+    ensures told { OnOk result (Tells load.now.format load.now.pattern tally (W.contents writer.old) (W.contents writer.new)) }
+    ensures cut { OnErr result (Gains (W.contents writer.old) (W.contents writer.new) (λ front. IsFront front (line_text load.now.pattern tally))) }
+{
+    match load.format {
+        OutputFormat::Normal => write_line(alloc, load.pattern, tally, writer),
+        OutputFormat::Json => Ok(()),
+    }
+}
+
 /// Opens a world over an image, runs the commands of a load over it, reads what they wrote once more where that is asked for, and writes the line
-/// that says how it went. Where it shows, standard error says how far it is. `server` says who serves as the submitters ring.
+/// that says how it went, unless standard output gets JSON: then nothing is written. Where it shows, standard error says how far it is. `server` says who serves as
+/// the submitters ring, and `report` is told what it came to so far, between rounds, each time that the load's interval has gone by.
 ///
 /// # Errors
 ///
 /// [`LoadFault::TooFewBlocks`]; then why the opening is refused; then why a round did not run to its end. Nothing is written then. `Memory` where memory is refused, and
 /// `OutputFailed` where a write or the flush fails: the front of the line may then be written.
 #[tactic(auto, using(crate::proofs::Loads::nothing_written, crate::proofs::Loads::front_written))]
-pub fn run_load<R: AllocGlobal + Clock + Eprint + Threads + Wait + Sync, W: Write>(
+pub fn run_load<R: AllocGlobal + Clock + Eprint + Threads + Wait + Sync, P: Report, W: Write>(
     rt: &R,
     config: Config,
     image: Image,
     load: &Load<'_>,
     server: Server,
     shows: bool,
+    report: &mut P,
     writer: &mut W,
 ) -> Result<Ran, LoadFault>
     requires fits { FitsLoad load.now }
-    ensures told { IfOk result (λ ran. Appends (W.contents writer.old) (W.contents writer.new) (line_text load.now.pattern ran.tally)) }
+    ensures told { IfOk result (λ ran. Tells load.now.format load.now.pattern ran.tally (W.contents writer.old) (W.contents writer.new)) }
     ensures cut { OnErr result (Gains (W.contents writer.old) (W.contents writer.new) (λ front. IsLineFront load.now.pattern front)) }
 {
     let alloc = rt.alloc();
     let (world, mut course) = open(alloc, config, image, load, server)?;
     let depth = usize::from(load.depth);
     let watch = Stopwatch::new(rt);
-    let mut world = run_commands(rt, alloc, world, &mut course, load, watch, shows)?;
+    let mut world = run_commands(rt, alloc, world, &mut course, load, watch, shows, report)?;
     let nanos = watch.nanos(rt).unwrap_or(0);
     if load.verify {
         world = read_again(rt, alloc, world, &mut course, depth)?;
     }
     let _ended = world.end();
     let tally = course.tally();
-    write_line(alloc, load.pattern, tally, writer)?;
+    tell_end(alloc, load, tally, writer)?;
     let (bad, measured) = course.end();
     Ok(Ran {
         tally,
         bad,
         measured,
-        command_bytes: 512 * u64::from(load.command_blocks),
+        command_bytes: command_bytes(load),
         nanos,
     })
 }

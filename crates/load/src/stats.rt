@@ -1,10 +1,14 @@
 //! What was measured, as JSON.
 
+use crate::figures::Figures;
 use crate::histogram::Histogram;
-use crate::ran::{Ran, each_second};
+use crate::ran::each_second;
 use crate::tally::Tally;
 use serde::Serialize;
 use std::alloc::{AllocError, Global};
+
+/// What the one job of a load is called.
+const NAME: &str = "load";
 
 /// The numbers up to which so many of a hundred lie.
 #[derive(Drop, Serialize)]
@@ -25,63 +29,92 @@ struct Latencies {
     min: u64,
     max: u64,
     mean: u64,
+    stddev: u64,
+    #[serde(rename = "N")]
+    many: u64,
     percentile: Percentiles,
 }
 
 /// The commands of one direction.
 #[derive(Drop, Serialize)]
 struct Direction {
-    total_ios: u64,
     io_bytes: u64,
-    iops: u64,
     bw_bytes: u64,
-    lat_ns: Latencies,
+    iops: u64,
+    /// In milliseconds.
+    runtime: u64,
+    total_ios: u64,
+    clat_ns: Latencies,
 }
 
-/// What a load came to.
+/// What its job came to.
 #[derive(Drop, Serialize)]
-struct Stats {
-    runtime_ns: u64,
-    commands: Tally,
+struct Measures<'a> {
+    jobname: &'a str,
     read: Direction,
     write: Direction,
 }
 
-/// The commands of one direction.
-fn direction_of(ran: &Ran, took: &Histogram) -> Direction {
-    let total_ios = took.len();
-    let io_bytes = total_ios.saturating_mul(ran.command_bytes);
-    Direction {
-        total_ios,
-        io_bytes,
-        iops: each_second(total_ios, ran.nanos),
-        bw_bytes: each_second(io_bytes, ran.nanos),
-        lat_ns: Latencies {
-            min: took.least(),
-            max: took.most(),
-            mean: took.mean(),
-            percentile: Percentiles {
-                half: took.percentile(500),
-                nine_tenths: took.percentile(900),
-                all_but_a_hundredth: took.percentile(990),
-                all_but_a_thousandth: took.percentile(999),
-            },
+/// What a load came to.
+#[derive(Drop, Serialize)]
+struct Stats<'a> {
+    #[serde(rename = "nvmesgl version")]
+    version: &'a str,
+    runtime_ns: u64,
+    commands: Tally,
+    jobs: Vec<Measures<'a>>,
+}
+
+/// The latencies that were counted.
+fn latencies_of(took: &Histogram) -> Latencies {
+    Latencies {
+        min: took.least(),
+        max: took.most(),
+        mean: took.mean(),
+        stddev: took.deviation(),
+        many: took.len(),
+        percentile: Percentiles {
+            half: took.percentile(500),
+            nine_tenths: took.percentile(900),
+            all_but_a_hundredth: took.percentile(990),
+            all_but_a_thousandth: took.percentile(999),
         },
     }
 }
 
-impl Ran {
-    /// What was measured, as JSON with the words of fio: of `read` and `write` each `total_ios`, `io_bytes`, `iops`, `bw_bytes` and `lat_ns`.
+/// The commands of one direction.
+fn direction_of(figures: &Figures<'_>, took: &Histogram) -> Direction {
+    let total_ios = took.len();
+    let io_bytes = total_ios.saturating_mul(figures.command_bytes);
+    Direction {
+        io_bytes,
+        bw_bytes: each_second(io_bytes, figures.nanos),
+        iops: each_second(total_ios, figures.nanos),
+        runtime: figures.nanos / 1_000_000,
+        total_ios,
+        clat_ns: latencies_of(took),
+    }
+}
+
+impl Figures<'_> {
+    /// What was measured, as JSON in the form of fio: one job, of whose `read` and `write` each has `io_bytes`, `bw_bytes`, `iops`, `runtime`, `total_ios` and
+    /// `clat_ns`; beside it the program's version, `runtime_ns` and how many commands ended how.
     ///
     /// # Errors
     ///
     /// Where memory is refused.
-    pub fn stats(&self, alloc: Global) -> Result<String, AllocError> {
-        let stats = Stats {
-            runtime_ns: self.nanos,
-            commands: self.tally,
+    pub fn json(&self, alloc: Global, version: &str) -> Result<String, AllocError> {
+        let mut jobs = Vec::new(alloc);
+        jobs.push(Measures {
+            jobname: NAME,
             read: direction_of(self, &self.measured.reads),
             write: direction_of(self, &self.measured.writes),
+        })?;
+        let stats = Stats {
+            version,
+            runtime_ns: self.nanos,
+            commands: self.tally,
+            jobs,
         };
         let mut text = match serde_json::to_string_pretty(alloc, &stats) {
             Ok(text) => text,

@@ -11,7 +11,7 @@ use std::process::ExitCode;
 
 fn main(rt: HostRuntime) -> ExitCode {
     let terminals = Terminals {
-        input: rt.stdin().is_terminal(),
+        input: rt.stdin().is_terminal() && rt.stdout().is_terminal(),
         error: rt.stderr().is_terminal(),
     };
     run(&rt, terminals)

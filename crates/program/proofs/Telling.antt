@@ -2,21 +2,22 @@
 use Rattle.program.specs.declared.fault.Fault.TheVariants as fault
 use Rattle.script_cli.specs.declared.fault.RunFault.TheVariants as run
 use Rattle.script_cli.specs.declared.fault.ScriptFault.TheVariants as cause
-use Rattle.std.{proofs.Common.{◌≡◌, ◌⊎◌, Option, Some, None, List, [], ℕ, refl, sym, subst, inl, inr, ◌∙◌, ap}, specs.{Borrow.Bor, Io.KnownBytes.Keeps}}
-use Rattle.std.specs.Prelude.{IfErr, Result, Ok, Err, replicate, ◌*◌, IsErrAnd, IsSome, OnOk}
-use Rattle.clap.specs.{Words.{kind_of, Text}, declared.error.{Error.Error, kind.ErrorKind.TheVariants.OutOfMemory}}
-use Rattle.command_line.specs.Asked.{Asked, check, check_jobs, draw, explain, grammar, load, shell, show, steps, test, threads, traced, Given, path_of}
-use Rattle.program.specs.{Checking.{AreJobs, AreNoJobs, AreNoSteps, AreSteps}, Performing.{FailsWith, IsFirstImage, IsRunFault, Performs}}
-use Rattle.command_line.specs.declared.serving.Serving.{Serving}
-use Rattle.command_line.specs.declared.threads.Threading.{Threading}
+use Rattle.std.{proofs.Common.{◌≡◌, ◌⊎◌, Bool, false, Option, Some, None, List, [], ℕ, refl, sym, subst, inl, inr, ◌∙◌, ap}, specs.{Borrow.Bor, Io.KnownBytes.Keeps}}
+use Rattle.std.specs.Prelude.{IfErr, Result, Ok, Err, IsErrAnd, OnOk}
+use Rattle.clap.specs.{Words.kind_of, declared.error.{Error.Error, kind.ErrorKind.TheVariants.OutOfMemory}}
+use Rattle.command_line.specs.Asked.{Asked, check, check_jobs, draw, explain, grammar, load, shell, show, steps, test, thread_objects, threads, traced, Given}
+use Rattle.program.specs.{Checking.{AreJobs, AreNoJobs, AreNoSteps, AreSteps}, Loading.LeavesLoad, Performing.{FailsWith, IsCheckFault, IsEndFault, IsFirstImage, IsNoFirstImage, IsNotBegun, is_file, IsUnread, IsUnwell, jobs_said, line_said, Performs, Plays, PlaysSteps, RunsJobs, SaysNone, script_told, steps_said}}
 use Rattle.program.specs.declared.fault.Fault.{Fault}
+use Rattle.command_line.specs.declared.{serving.Serving.Serving, threads.Threading.Threading}
 use Rattle.job_cli.proofs.JobRuns.{jobs_are_told, no_jobs_are_told}
-use Rattle.job_cli.specs.{JobRuns.{EndsJobsWith, EndsUnwritten, HasJobFault, HasJobs, IsCutJobsText, IsNoJobs, WritesJobs}, Jobs.jobs_of}
+use Rattle.job_cli.specs.{JobRuns.{EndsJobsWith, EndsUnwritten, HasJobFault, HasJobs, IsCutJobsText, IsJobsText, IsNoJobs, WritesJobs}, Jobs.jobs_of}
 use Rattle.load.specs.{Lines.line_text, Tallies.no_tally}
 use Rattle.job_cli.specs.declared.jobs.JobLine.{JobLine}
-use Rattle.script_cli.{proofs.{Runs.{no_script_is_told, script_is_told}, Texts.appends_none}, specs.Inputs.AreFirstOf}
-use Rattle.script_cli.specs.{Runs.{EndsWith, HasFault, HasScript, IsCutText, IsNoScript, IsNotOpened, Writes}, Scripts.script_of}
+use Rattle.script_cli.{proofs.{Runs.{no_script_is_told, run_to_text, script_is_told}, Texts.appends_none}, specs.Inputs.AreFirstOf}
+use Rattle.script_cli.specs.declared.{input.ImageFault.ImageFault, workload.{OutputFormat.{OutputFormat, TheVariants.{Json, Normal}}, Pattern.Pattern}}
+use Rattle.script_cli.specs.{Runs.{EndsWith, HasFault, HasScript, IsCutText, IsNoScript, IsNotOpened, IsRunText, IsRunTo, Writes}, Scripts.script_of}
 use Rattle.script_cli.specs.declared.{fault.{LineFault.LineFault, RunFault.RunFault}, script.Numbered.Numbered}
+use Rattle.script_cli.specs.declared.transcripts.options.{SaidOptions.SaidOptions, ScriptKind.ScriptKind}
 use Rattle.host_core.specs.declared.config.Config.{Config}
 use Rattle.machine_model.specs.{Script.Table, State.State, declared.words.OpenRefusal.OpenRefusal}
 
@@ -26,19 +27,25 @@ pub kept : (bytes : Option (List ℕ)) → Keeps bytes bytes
 kept None = tt
 kept (Some bytes) = refl
 
+-- nothing is written of a load
+nothing_left : (format : OutputFormat) (pattern : Pattern) (bytes : Option (List ℕ)) → LeavesLoad format pattern bytes bytes
+nothing_left Normal pattern bytes = ([], (no_tally, (line_text pattern no_tally, refl)), appends_none bytes)
+nothing_left Json pattern bytes = ([], tt, appends_none bytes)
+
 -- want of memory, before anything is written
 wanting : (told : Option (List ℕ)) (what : Asked) (bytes : Option (List ℕ)) → FailsWith told (Some what) bytes bytes (fault.Run run.Memory)
-wanting told (steps given) bytes = (replicate (512 * given.blocks) 0, λ none. refl, inl (kept bytes))
-wanting told (threads given what who) bytes = (replicate (512 * given.blocks) 0, λ none. refl, inl (kept bytes))
-wanting told (load given what who) bytes = ([], (no_tally, (line_text what.pattern no_tally, refl)), appends_none bytes)
-wanting told (check path) bytes = (tt, kept bytes)
-wanting told (check_jobs path submitters) bytes = (tt, kept bytes)
+wanting told (steps given) bytes = inl (inr refl, kept bytes)
+wanting told (traced given objects) bytes = inl (inr refl, kept bytes)
+wanting told (threads given what who) bytes = inl (inr refl, kept bytes)
+wanting told (thread_objects given what who) bytes = inl (inr refl, kept bytes)
+wanting told (load given what who) bytes = nothing_left what.format what.pattern bytes
+wanting told (check path) bytes = (inl (inr refl), kept bytes)
+wanting told (check_jobs path submitters) bytes = (inl (inr refl), kept bytes)
 wanting told (test tested) bytes = tt
-wanting told (shell given traces) bytes = tt
-wanting told (draw given) bytes = tt
-wanting told (traced given) bytes = tt
+wanting told (shell given traces) bytes = inr (inr tt)
+wanting told (draw given) bytes = inr tt
 wanting told (explain path objects) bytes = tt
-wanting told (show words) bytes = tt
+wanting told (show words objects) bytes = tt
 wanting told grammar bytes = inl refl
 
 refused : (told : Option (List ℕ)) (what : Option Asked) (bytes : Option (List ℕ)) (e : Error) (why : Fault) → (kind_of e ≡ OutOfMemory) ⊎ (what ≡ None)
@@ -137,57 +144,154 @@ jobs_told told submitters text first (lines, good) = (lines, jobs_are_told told 
 pub no_jobs_told : (told : Option (List ℕ)) (submitters : ℕ) (text : List ℕ) (why : RunFault) → AreFirstOf 1048576 told text → AreNoJobs submitters text why → IsNoJobs told submitters why
 no_jobs_told told submitters text why first (script, same, bad) = subst (λ (f : RunFault). IsNoJobs told submitters f) (sym same) (no_jobs_are_told told submitters text script first bad)
 
--- Scripts that were not read
+-- What a script says that was read
 
-unread_ends_jobs : (told : Option (List ℕ)) (submitters : ℕ) (config : Config) (image : List ℕ) (a : Option (List ℕ)) (why : RunFault)
-    → (why ≡ run.Unreadable) ⊎ (why ≡ run.Memory) → EndsJobsWith told submitters config image a a why
-unread_ends_jobs told submitters config image a why (inl unreadable) = subst (λ (f : RunFault). EndsJobsWith told submitters config image a a f) (sym unreadable) (kept a)
-unread_ends_jobs told submitters config image a why (inr memory) = subst (λ (f : RunFault). EndsJobsWith told submitters config image a a f) (sym memory) (inl (kept a))
+-- a script was read that says so, and what holds of each script of which those are the first bytes holds of it
+pub played : {S : Type 0} (told : Option (List ℕ)) (text : List ℕ) (said_in : List ℕ → Option S) (said : S) (Holds : List ℕ → S → Type 0)
+    → AreFirstOf 1048576 told text → said_in text ≡ Some said → ((all : List ℕ) → AreFirstOf 1048576 (Some all) text → Holds all said) → Plays told said_in Holds
+played {S} told text said_in said Holds (all, is, same) says holds =
+    (all, is, said, subst (λ (t : List ℕ). said_in t ≡ Some said) same says, holds all (all, refl, same))
 
-script_fails_jobs : (told : Option (List ℕ)) (given : Given) (what : Threading) (who : Serving) (image : List ℕ) (a : Option (List ℕ)) (why : RunFault) (f : Fault)
-    → f ≡ fault.Run why → IsFirstImage given image → (why ≡ run.Unreadable) ⊎ (why ≡ run.Memory) → FailsWith told (Some (threads given what who)) a a f
-script_fails_jobs told given what who image a why f same first unread =
-    subst (λ (g : Fault). FailsWith told (Some (threads given what who)) a a g) (sym same) (image, first, unread_ends_jobs _ what.submitters given.config image a why unread)
+says_none : {S : Type 0} (told : Option (List ℕ)) (text : List ℕ) (said_in : List ℕ → Option S) → AreFirstOf 1048576 told text → said_in text ≡ None → SaysNone told said_in
+says_none {S} told text said_in (all, is, same) none = (all, is, subst (λ (t : List ℕ). said_in t ≡ None) same none)
 
-unread_ends : (told : Option (List ℕ)) (config : Config) (image : List ℕ) (a : Option (List ℕ)) (why : RunFault) → (why ≡ run.Unreadable) ⊎ (why ≡ run.Memory) → EndsWith told config image a a why
-unread_ends told config image a why (inl unreadable) = subst (λ (f : RunFault). EndsWith told config image a a f) (sym unreadable) (kept a)
-unread_ends told config image a why (inr memory) = subst (λ (f : RunFault). EndsWith told config image a a f) (sym memory) (inl (kept a))
+-- Why nothing was played, by the faults that `?` makes
 
-script_fails : (told : Option (List ℕ)) (given : Given) (image : List ℕ) (a : Option (List ℕ)) (why : RunFault) (f : Fault)
-    → f ≡ fault.Run why → IsFirstImage given image → (why ≡ run.Unreadable) ⊎ (why ≡ run.Memory) → FailsWith told (Some (steps given)) a a f
-script_fails told given image a why f same first unread =
-    subst (λ (g : Fault). FailsWith told (Some (steps given)) a a g) (sym same) (image, first, unread_ends _ given.config image a why unread)
+pub unread : {S T U : Type 0} (r : Result T U) (fault_of : U → Fault) (told : Option (List ℕ)) (said_in : List ℕ → Option S) (given_in : S → Given) (why : RunFault)
+    → IsErrAnd r (λ x. fault_of x ≡ fault.Run why) → IsUnread why → IfErr r (λ x. IsNotBegun told said_in given_in (fault_of x))
+unread {S} (Ok x) fault_of told said_in given_in why same is = tt
+unread {S} (Err x) fault_of told said_in given_in why same is = subst (λ (f : Fault). IsNotBegun told said_in given_in f) (sym same) is
 
--- Faults that `?` makes of those of a run
+pub unsaid : {S T U : Type 0} (r : Result T U) (fault_of : U → Fault) (told : Option (List ℕ)) (text : List ℕ) (said_in : List ℕ → Option S) (given_in : S → Given) (e : U)
+    → IsErrAnd r (λ x. x ≡ e) → fault_of e ≡ fault.BadOptions → AreFirstOf 1048576 told text → said_in text ≡ None → IfErr r (λ x. IsNotBegun told said_in given_in (fault_of x))
+unsaid {S} (Ok x) fault_of told text said_in given_in e same bad first none = tt
+unsaid {S} (Err x) fault_of told text said_in given_in e same bad first none =
+    subst (λ (f : Fault). IsNotBegun told said_in given_in f) (sym (ap fault_of same ∙ bad)) (says_none told text said_in first none)
 
-pub run_fault_told : {T U : Type 0} (r : Result T U) (fault_of : U → Fault) (why : RunFault) (Holds : RunFault → Type 0)
-    → IsErrAnd r (λ x. fault_of x ≡ fault.Run why) → Holds why → IfErr r (λ x. IsRunFault (fault_of x) Holds)
-run_fault_told (Ok x) fault_of why Holds same holds = tt
-run_fault_told (Err x) fault_of why Holds same holds = subst (λ (f : Fault). IsRunFault f Holds) (sym same) holds
+pub no_image : {S T U : Type 0} (r : Result T U) (fault_of : U → Fault) (told : Option (List ℕ)) (text : List ℕ) (said_in : List ℕ → Option S) (given_in : S → Given) (said : S) (why : ImageFault)
+    → IsErrAnd r (λ x. fault_of x ≡ fault.Image why) → AreFirstOf 1048576 told text → said_in text ≡ Some said → IsNoFirstImage (given_in said) why
+    → IfErr r (λ x. IsNotBegun told said_in given_in (fault_of x))
+no_image {S} (Ok x) fault_of told text said_in given_in said why same first says none = tt
+no_image {S} (Err x) fault_of told text said_in given_in said why same first says none =
+    subst (λ (f : Fault). IsNotBegun told said_in given_in f) (sym same)
+    (played told text said_in said (λ script s. IsNoFirstImage (given_in s) why) first says (λ all read. none))
 
-pub script_failed_jobs : {T U : Type 0} (r : Result T U) (fault_of : U → Fault) (told : Option (List ℕ)) (given : Given) (what : Threading) (who : Serving) (image : List ℕ)
-    (a : Option (List ℕ)) (why : RunFault) → IsErrAnd r (λ x. fault_of x ≡ fault.Run why) → IsFirstImage given image → (why ≡ run.Unreadable) ⊎ (why ≡ run.Memory)
-    → IfErr r (λ x. FailsWith told (Some (threads given what who)) a a (fault_of x))
-script_failed_jobs (Ok x) fault_of told given what who image a why same first unread = tt
-script_failed_jobs (Err x) fault_of told given what who image a why same first unread = script_fails_jobs told given what who image a why (fault_of x) same first unread
-
-pub script_failed : {T U : Type 0} (r : Result T U) (fault_of : U → Fault) (told : Option (List ℕ)) (given : Given) (image : List ℕ) (a : Option (List ℕ)) (why : RunFault)
-    → IsErrAnd r (λ x. fault_of x ≡ fault.Run why) → IsFirstImage given image → (why ≡ run.Unreadable) ⊎ (why ≡ run.Memory) → IfErr r (λ x. FailsWith told (Some (steps given)) a a (fault_of x))
-script_failed (Ok x) fault_of told given image a why same first unread = tt
-script_failed (Err x) fault_of told given image a why same first unread = script_fails told given image a why (fault_of x) same first unread
-
--- Images that were not saved
-
-some_path : (path : Option (Bor Text)) → IsSome path → IsSome (path_of path)
-some_path None some = some
-some_path (Some path) some = refl
-
-pub not_saved : {T X : Type 0} (r : Result T X) (fault_in : X → Fault) (told : Option (List ℕ)) (given : Given) (path : Option (Bor Text)) (a b : Option (List ℕ)) → path_of path ≡ given.save
-    → Performs told (Some (steps given)) a b → IfErr r (λ x. fault_in x ≡ fault.NotSaved) → IfErr r (λ x. IsSome path) → IfErr r (λ x. FailsWith told (Some (steps given)) a b (fault_in x))
-not_saved (Ok done) fault_in told given path a b same ran is some = tt
-not_saved (Err x) fault_in told given path a b same ran is some =
-    subst (λ (f : Fault). FailsWith told (Some (steps given)) a b f) (sym is) (ran, subst IsSome same (some_path path some))
+-- How a run ends that went well
 
 pub ran_anyway : {T X : Type 0} (r : Result T X) (P : Type 0) → P → OnOk r P
 ran_anyway (Ok done) P ran = ran
 ran_anyway (Err x) P ran = tt
+
+-- A script of steps
+
+-- it is played, and what holds of each script of which those are the first bytes holds of it
+steps_played : (told : Option (List ℕ)) (given said : Given) (text image : List ℕ) (Holds : List ℕ → Given → List ℕ → Type 0)
+    → AreFirstOf 1048576 (script_told given.script told) text → steps_said given text ≡ Some said → IsFirstImage said image
+    → ((all : List ℕ) → AreFirstOf 1048576 (Some all) text → Holds all said image) → PlaysSteps told given Holds
+steps_played told given said text image Holds first says is holds =
+    played (script_told given.script told) text (steps_said given) said (λ script s. (im : List ℕ) × IsFirstImage s im × Holds script s im) first says (λ all read. (image, is, holds all read))
+
+pub steps_ran : (told : Option (List ℕ)) (given said : Given) (text image : List ℕ) (a b : Option (List ℕ)) (last : Table)
+    → AreFirstOf 1048576 (script_told given.script told) text → steps_said given text ≡ Some said → IsFirstImage said image
+    → Writes (Some text) said.config image a b (IsRunTo last) → Performs told (Some (steps given)) a b
+steps_ran told given said text image a b last first says is writes =
+    steps_played told given said text image (λ script s im. Writes (Some script) s.config im a b IsRunText) first says is
+    (λ all read. writes_told (Some all) text said.config image a b IsRunText read (run_to_text (Some text) said.config image last a b writes))
+
+pub steps_ended : (told : Option (List ℕ)) (given said : Given) (text image : List ℕ) (a b : Option (List ℕ)) (why : RunFault) (f : Fault)
+    → f ≡ fault.Run why → AreFirstOf 1048576 (script_told given.script told) text → steps_said given text ≡ Some said → IsFirstImage said image
+    → EndsWith (Some text) said.config image a b why → FailsWith told (Some (steps given)) a b f
+steps_ended told given said text image a b why f same first says is ends =
+    subst (λ (g : Fault). FailsWith told (Some (steps given)) a b g) (sym same)
+    (inr (inl (steps_played told given said text image (λ script s im. EndsWith (Some script) s.config im a b why) first says is
+    (λ all read. ends_told (Some all) text said.config image a b why read ends))))
+
+-- a fault at the end of a run that went well
+pub steps_end : {T U : Type 0} (r : Result T U) (fault_of : U → Fault) (told : Option (List ℕ)) (given : Given) (a b : Option (List ℕ))
+    → Performs told (Some (steps given)) a b → IfErr r (λ x. IsEndFault given (fault_of x)) → IfErr r (λ x. FailsWith told (Some (steps given)) a b (fault_of x))
+steps_end (Ok done) fault_of told given a b ran end = tt
+steps_end (Err x) fault_of told given a b ran end = inr (inr (ran, end))
+
+-- Scripts that are looked at, by the faults that `?` makes
+
+pub unread_check : {T U : Type 0} (r : Result T U) (fault_of : U → Fault) (told : Option (List ℕ)) (kind : ScriptKind) (Holds : List ℕ → SaidOptions → RunFault → Type 0) (why : RunFault)
+    → IsErrAnd r (λ x. fault_of x ≡ fault.Run why) → IsUnread why → IfErr r (λ x. IsCheckFault told kind Holds (fault_of x))
+unread_check (Ok x) fault_of told kind Holds why same is = tt
+unread_check (Err x) fault_of told kind Holds why same is = subst (λ (f : Fault). IsCheckFault told kind Holds f) (sym same) (inl is)
+
+pub unsaid_check : {T U : Type 0} (r : Result T U) (fault_of : U → Fault) (told : Option (List ℕ)) (text : List ℕ) (kind : ScriptKind) (Holds : List ℕ → SaidOptions → RunFault → Type 0) (e : U)
+    → IsErrAnd r (λ x. x ≡ e) → fault_of e ≡ fault.BadOptions → AreFirstOf 1048576 told text → line_said kind text ≡ None → IfErr r (λ x. IsCheckFault told kind Holds (fault_of x))
+unsaid_check (Ok x) fault_of told text kind Holds e same bad first none = tt
+unsaid_check (Err x) fault_of told text kind Holds e same bad first none =
+    subst (λ (f : Fault). IsCheckFault told kind Holds f) (sym (ap fault_of same ∙ bad)) (says_none told text (line_said kind) first none)
+
+pub bad_check : {T U : Type 0} (r : Result T U) (fault_of : U → Fault) (told : Option (List ℕ)) (text : List ℕ) (kind : ScriptKind) (Holds : List ℕ → SaidOptions → RunFault → Type 0)
+    (said : SaidOptions) (why : RunFault) → IsErrAnd r (λ x. fault_of x ≡ fault.Run why) → AreFirstOf 1048576 told text → line_said kind text ≡ Some said
+    → ((all : List ℕ) → AreFirstOf 1048576 (Some all) text → Holds all said why) → IfErr r (λ x. IsCheckFault told kind Holds (fault_of x))
+bad_check (Ok x) fault_of told text kind Holds said why same first says bad = tt
+bad_check (Err x) fault_of told text kind Holds said why same first says bad =
+    subst (λ (f : Fault). IsCheckFault told kind Holds f) (sym same) (inr (played told text (line_said kind) said (λ script s. Holds script s why) first says bad))
+
+-- A script of jobs
+
+jobs_played : (told : Option (List ℕ)) (given said : Given) (submitters n : ℕ) (text image : List ℕ) (Holds : List ℕ → Given → ℕ → List ℕ → Type 0)
+    → AreFirstOf 1048576 (script_told given.script told) text → jobs_said given submitters text ≡ Some (said, n) → IsFirstImage said image
+    → ((all : List ℕ) → AreFirstOf 1048576 (Some all) text → Holds all said n image) → RunsJobs told given submitters Holds
+jobs_played told given said submitters n text image Holds first says is holds =
+    played (script_told given.script told) text (jobs_said given submitters) (said, n) (λ script s. (im : List ℕ) × IsFirstImage s.0 im × Holds script s.0 s.1 im) first says (λ all read. (image, is, holds all read))
+
+pub jobs_ran : (told : Option (List ℕ)) (given said : Given) (what : Threading) (who : Serving) (n : ℕ) (text image : List ℕ) (a b : Option (List ℕ))
+    → AreFirstOf 1048576 (script_told given.script told) text → jobs_said given what.submitters text ≡ Some (said, n) → IsFirstImage said image
+    → WritesJobs (Some text) n said.config image a b IsJobsText → Performs told (Some (threads given what who)) a b
+jobs_ran told given said what who n text image a b first says is writes =
+    jobs_played told given said what.submitters n text image (λ script s m im. WritesJobs (Some script) m s.config im a b IsJobsText) first says is
+    (λ all read. writes_jobs_told (Some all) n text said.config image a b IsJobsText read writes)
+
+pub jobs_ended : (told : Option (List ℕ)) (given said : Given) (what : Threading) (who : Serving) (n : ℕ) (text image : List ℕ) (a b : Option (List ℕ)) (why : RunFault) (f : Fault)
+    → f ≡ fault.Run why → AreFirstOf 1048576 (script_told given.script told) text → jobs_said given what.submitters text ≡ Some (said, n) → IsFirstImage said image
+    → EndsJobsWith (Some text) n said.config image a b why → FailsWith told (Some (threads given what who)) a b f
+jobs_ended told given said what who n text image a b why f same first says is ends =
+    subst (λ (g : Fault). FailsWith told (Some (threads given what who)) a b g) (sym same)
+    (inr (inl (jobs_played told given said what.submitters n text image (λ script s m im. EndsJobsWith (Some script) m s.config im a b why) first says is
+    (λ all read. ends_jobs_told (Some all) n text said.config image a b why read ends))))
+
+-- a fault at the end of a run that went well
+pub jobs_end : {T U : Type 0} (r : Result T U) (fault_of : U → Fault) (told : Option (List ℕ)) (given : Given) (what : Threading) (who : Serving) (a b : Option (List ℕ))
+    → Performs told (Some (threads given what who)) a b → IfErr r (λ x. IsUnwell given (fault_of x)) → IfErr r (λ x. FailsWith told (Some (threads given what who)) a b (fault_of x))
+jobs_end (Ok done) fault_of told given what who a b ran end = tt
+jobs_end (Err x) fault_of told given what who a b ran end = inr (inr (ran, end))
+
+-- jobs told as objects: a fault of the run, and one at its end
+pub objects_failed : (told : Option (List ℕ)) (given : Given) (what : Threading) (who : Serving) (a b : Option (List ℕ)) (why : RunFault) (f : Fault)
+    → f ≡ fault.Run why → FailsWith told (Some (thread_objects given what who)) a b f
+objects_failed told given what who a b why f same = subst (λ (g : Fault). FailsWith told (Some (thread_objects given what who)) a b g) (sym same) (inr (inl tt))
+
+pub objects_end : {T U : Type 0} (r : Result T U) (fault_of : U → Fault) (told : Option (List ℕ)) (given : Given) (what : Threading) (who : Serving) (a b : Option (List ℕ))
+    → IfErr r (λ x. IsUnwell given (fault_of x)) → IfErr r (λ x. FailsWith told (Some (thread_objects given what who)) a b (fault_of x))
+objects_end (Ok done) fault_of told given what who a b end = tt
+objects_end (Err x) fault_of told given what who a b end = inr (inr end)
+
+-- Runs of which nothing more is said
+
+-- a trace: a fault of the run, and one at its end
+pub trace_failed : (told : Option (List ℕ)) (given : Given) (objects : Bool) (a b : Option (List ℕ)) (why : RunFault) (f : Fault) → f ≡ fault.Run why → FailsWith told (Some (traced given objects)) a b f
+trace_failed told given objects a b why f same = subst (λ (g : Fault). FailsWith told (Some (traced given objects)) a b g) (sym same) (inr (inl tt))
+
+pub trace_end : {T U : Type 0} (r : Result T U) (fault_of : U → Fault) (told : Option (List ℕ)) (given : Given) (objects : Bool) (a b : Option (List ℕ))
+    → IfErr r (λ x. IsEndFault given (fault_of x)) → IfErr r (λ x. FailsWith told (Some (traced given objects)) a b (fault_of x))
+trace_end (Ok done) fault_of told given objects a b end = tt
+trace_end (Err x) fault_of told given objects a b end = inr (inr end)
+
+-- a session: why it was not begun, and a fault of its run
+pub shell_unbegun : {T U : Type 0} (r : Result T U) (fault_of : U → Fault) (told : Option (List ℕ)) (given : Given) (traces : Bool) (a : Option (List ℕ)) (why : ImageFault)
+    → IsErrAnd r (λ x. fault_of x ≡ fault.Image why) → is_file given.script ≡ false → IsNoFirstImage given why → IfErr r (λ x. FailsWith told (Some (shell given traces)) a a (fault_of x))
+shell_unbegun (Ok x) fault_of told given traces a why same file none = tt
+shell_unbegun (Err x) fault_of told given traces a why same file none =
+    subst (λ (f : Fault). FailsWith told (Some (shell given traces)) a a f) (sym same) (inr (inl (file, none, kept a)))
+
+pub shell_failed : (told : Option (List ℕ)) (given : Given) (traces : Bool) (a b : Option (List ℕ)) (why : RunFault) (f : Fault) → f ≡ fault.Run why → FailsWith told (Some (shell given traces)) a b f
+shell_failed told given traces a b why f same = subst (λ (g : Fault). FailsWith told (Some (shell given traces)) a b g) (sym same) (inr (inr tt))
+
+-- a picture: a fault of its run
+pub draw_failed : (told : Option (List ℕ)) (given : Given) (a b : Option (List ℕ)) (why : RunFault) (f : Fault) → f ≡ fault.Run why → FailsWith told (Some (draw given)) a b f
+draw_failed told given a b why f same = subst (λ (g : Fault). FailsWith told (Some (draw given)) a b g) (sym same) (inr tt)

@@ -1,2 +1,3 @@
 pub mod Checking
+pub mod Loading
 pub mod Performing

@@ -8,18 +8,76 @@ use crate::fault::{BytesFault, Fault, Told};
 use crate::inputs::script_text;
 use crate::printing::print_text;
 use entry_codec::Status;
+use script_cli::RunFault;
 use std::alloc::{AllocError, AllocGlobal, Global};
 use std::io::{Read, Write};
 use std::rt::Files;
-use texts::explain::{Answer, CaseFault, Layout, Shown, explain_text, fault_lines, show};
+use texts::explain::{
+    Answer, CaseFault, Layout, Shown, explain_text, fault_lines, put_fault_object, show,
+};
+use texts::faults::nearest;
 
-/// What is told of a text that is no case.
-fn at_fault(alloc: Global, text: &[u8], fault: CaseFault) -> Told<Fault>
+/// An object, if there was memory for it.
+fn fault_object(alloc: Global, fault: CaseFault) -> Result<String, AllocError> {
+    let mut text = String::new(alloc);
+    put_fault_object(alloc, &mut text, fault)?;
+    Ok(text)
+}
+
+/// What is told of a text that is no case: lines below the fault, or an object in the output, and nothing else.
+fn at_fault<W: Write>(
+    alloc: Global,
+    text: &[u8],
+    fault: CaseFault,
+    layout: Layout,
+    writer: &mut W,
+) -> Told<Fault>
     ensures { IsBytesFault result.fault }
 {
-    let below = lines_or_none(alloc, fault_lines(alloc, text, fault));
-    let fault = Fault::Bytes(BytesFault::Case(fault));
-    Told { fault, below }
+    if layout == Layout::Lines {
+        let below = lines_or_none(alloc, fault_lines(alloc, text, fault));
+        let fault = Fault::Bytes(BytesFault::Case(fault));
+        return Told::of(fault, below);
+    }
+    match print_text(alloc, fault_object(alloc, fault), writer) {
+        Ok(()) => Told::alone(alloc, Fault::Bytes(BytesFault::Answered(fault))),
+        Err(told) => told,
+    }
+}
+
+/// The text of a case.
+fn case_text<R: AllocGlobal + Files, I: Read>(
+    rt: &R,
+    path: Option<&str>,
+    reader: &mut I,
+) -> Result<Vec<u8>, Told<Fault>>
+    ensures fault { IfErr result (λ told. IsBytesFault told.fault) }
+{
+    match script_text(rt, path, reader) {
+        Ok(text) => Ok(text),
+        Err(
+            Told {
+                fault: RunFault::Unreadable,
+                place: _,
+                below,
+            },
+        ) => Err(Told::of(Fault::Bytes(BytesFault::Unreadable), below)),
+        Err(told) => Err(Told::alone(rt.alloc(), Fault::Run(told.fault))),
+    }
+}
+
+/// The kinds of bytes that are decoded.
+const KINDS: [&str; 5] = ["sqe", "admin", "cqe", "sgl", "status"];
+
+/// What is told of a word that names no kind of bytes.
+fn unknown_kind(alloc: Global, word: &str) -> Told<Fault>
+    ensures { IsBytesFault result.fault }
+{
+    let below = match nearest(alloc, word.as_bytes(), &KINDS) {
+        Ok(Some(kind)) => { lines_or_none(alloc, format!(in alloc; "did you mean '{kind}'?\n")) }
+        _ => String::new(alloc),
+    };
+    Told::of(Fault::Bytes(BytesFault::UnknownKind), below)
 }
 
 /// Explains the command of a case.
@@ -33,7 +91,7 @@ pub(crate) fn explain_case<R: AllocGlobal + Files, I: Read, W: Write>(
     ensures fault { IfErr result (λ told. IsBytesFault told.fault) }
 {
     let alloc = rt.alloc();
-    let case = script_text(rt, path, reader)?;
+    let case = case_text(rt, path, reader)?;
     match explain_text(rt, path, &case, layout) {
         Ok(Answer { text, status }) => {
             print_text(alloc, Ok(text), writer)?;
@@ -43,7 +101,7 @@ pub(crate) fn explain_case<R: AllocGlobal + Files, I: Read, W: Write>(
                 Err(Told::alone(alloc, Fault::Bytes(BytesFault::Refused)))
             }
         }
-        Err(fault) => Err(at_fault(alloc, &case, fault)),
+        Err(fault) => Err(at_fault(alloc, &case, fault, layout, writer)),
     }
 }
 
@@ -61,6 +119,7 @@ fn joined(alloc: Global, words: &[&str]) -> Result<String, AllocError> {
 pub(crate) fn show_words<R: AllocGlobal + Files, W: Write>(
     rt: &R,
     words: &[&str],
+    layout: Layout,
     writer: &mut W,
 ) -> Result<(), Told<Fault>>
     ensures fault { IfErr result (λ told. IsBytesFault told.fault) }
@@ -70,13 +129,13 @@ pub(crate) fn show_words<R: AllocGlobal + Files, W: Write>(
         return Err(Told::alone(alloc, Fault::Bytes(BytesFault::UnknownKind)));
     };
     let Some(what) = Shown::named(first) else {
-        return Err(Told::alone(alloc, Fault::Bytes(BytesFault::UnknownKind)));
+        return Err(unknown_kind(alloc, first));
     };
     let Ok(bytes) = joined(alloc, others) else {
-        return Err(at_fault(alloc, &[], CaseFault::Memory));
+        return Err(at_fault(alloc, &[], CaseFault::Memory, layout, writer));
     };
-    match show(rt, what, bytes.as_bytes()) {
+    match show(rt, what, bytes.as_bytes(), layout) {
         Ok(text) => print_text(alloc, Ok(text), writer),
-        Err(fault) => Err(at_fault(alloc, bytes.as_bytes(), fault)),
+        Err(fault) => Err(at_fault(alloc, bytes.as_bytes(), fault, layout, writer)),
     }
 }

@@ -1,29 +1,27 @@
 //! The program's commands.
 
-ghost use Rattle.std.specs.Prelude.{◌≡◌, ◌≤◌, List, Some, IfErr, OnOk, map};
-ghost use Rattle.command_line.specs.Asked.{asked, draw, given_of, path_of, shell, steps, threads, traced};
-ghost use Rattle.job_cli.specs.JobRuns.{HasJobs, IsNoJobs};
-ghost use Rattle.job_cli.specs.declared.jobs.JobLine.{JobLine};
-ghost use Rattle.program.specs.Performing.{FailsWith, IsNoGrammar, IsRunFault, IsTestFault, Performs, script_told};
-ghost use Rattle.script_cli.specs.Runs.{HasScript, IsNoScript};
-ghost use Rattle.script_cli.specs.declared.script.Numbered.{Numbered};
+ghost use Rattle.std.specs.Prelude.{◌≡◌, ◌≤◌, Some, IfErr, OnErr, OnOk, false, map, true};
+ghost use Rattle.command_line.specs.Asked.{asked, draw, given_of, path_of, shell, steps, thread_objects, threads, traced};
+ghost use Rattle.program.specs.Performing.{FailsWith, is_file, IsEndFault, IsNoGrammar, IsNoJobScript, IsNoSteps, IsRunFault, IsTestFault, IsUnwell, LooksAtJobs, LooksAtSteps, Performs, script_told};
 
 use crate::below::below_run;
 use crate::bytes::{explain_case, show_words};
-use crate::checking::{check_jobs, check_steps};
+use crate::checking::{check_jobs, check_steps, read_options};
 use crate::fault::{Fault, Told};
-use crate::inputs::{open_image, script_text};
+use crate::inputs::{Begun, begin_jobs, begin_steps, open_image, script_text};
 use crate::loading::load_image;
 use crate::pipe::Pipe;
+use crate::places::file_of;
 use crate::printing::print_text;
 use crate::saving::save_image;
 use crate::serving::server_of;
+use crate::testing::test_files;
 use command_line::{CommandLine, Options, Serving, Testing, Threading, words};
-use job_cli::{Pace, run_jobs};
-use script_cli::transcripts::test_files;
-use script_cli::{MAX_SCRIPT, RunFault, play_steps};
-use shell::{run_shell, trace_steps};
-use std::alloc::{AllocGlobal, Global};
+use job_cli::{Pace, run_jobs, tell_jobs};
+use script_cli::transcripts::ScriptKind;
+use script_cli::{MAX_SCRIPT, RunFault, play_steps, transcripts};
+use shell::{meanings_text, run_shell, tell_steps, trace_steps};
+use std::alloc::{AllocError, AllocGlobal, Global};
 use std::convert::AsStr;
 use std::env::Env;
 use std::io;
@@ -35,11 +33,12 @@ use std::thread::Threads;
 use texts::draw::draw_steps;
 use texts::explain::Layout;
 use texts::faults::{Grammar, grammar_text};
+use world_bench::Bench;
 
 /// Which of the standard files are terminals.
 #[derive(Clone, Copy)]
 pub struct Terminals {
-    /// Standard input: the shell prompts.
+    /// Standard input, and standard output too: the shell prompts.
     pub input: bool,
     /// Standard error: a load says how far it is.
     pub error: bool,
@@ -84,12 +83,10 @@ fn start<R: AllocGlobal + Clock + Env + Eprint + Files + Input + Print + Sync + 
         Err(
             Told {
                 fault: Fault::Run(RunFault::OutputFailed),
+                place: _,
                 below,
             },
-        ) if writer.is_closed() => Err(Told {
-            fault: Fault::PipeClosed,
-            below,
-        }),
+        ) if writer.is_closed() => Err(Told::of(Fault::PipeClosed, below)),
         end => end,
     }
 }
@@ -117,9 +114,14 @@ pub fn perform<
 {
     match CommandLine::parse(rt.alloc(), words) {
         Ok(CommandLine::Steps(options)) => play(rt, options, reader, writer),
-        Ok(CommandLine::Traced(options)) => trace_script(rt, options, reader, writer),
+        Ok(CommandLine::Traced(options, objects)) => {
+            trace_script(rt, options, objects, reader, writer)
+        }
         Ok(CommandLine::Threads(options, threading, serving)) => {
             run_threads(rt, options, threading, serving, reader, writer)
+        }
+        Ok(CommandLine::ThreadObjects(options, threading, serving)) => {
+            tell_threads(rt, options, threading, serving, reader, writer)
         }
         Ok(CommandLine::Load(options, load, serving)) => {
             load_image(rt, options, load, serving, writer, terminals.error)
@@ -134,17 +136,65 @@ pub fn perform<
         }
         Ok(CommandLine::Draw(options)) => draw_script(rt, options, reader, writer),
         Ok(CommandLine::Explain(path, objects)) => {
-            let layout = if objects {
-                Layout::Objects
-            } else {
-                Layout::Lines
-            };
-            explain_case(rt, path, layout, reader, writer)
+            explain_case(rt, path, layout_of(objects), reader, writer)
         }
-        Ok(CommandLine::Show(words)) => show_words(rt, &words, writer),
+        Ok(CommandLine::Show(words, objects)) => {
+            show_words(rt, &words, layout_of(objects), writer)
+        }
         Ok(CommandLine::Grammar) => print_grammar(rt.alloc(), writer),
         Err(why) => Fault::shown(rt, why),
     }
+}
+
+/// How bytes are told, where that is asked for as objects or not.
+fn layout_of(objects: bool) -> Layout {
+    if objects {
+        Layout::Objects
+    } else {
+        Layout::Lines
+    }
+}
+
+/// The end of a run in which so many answers were not well: a fault, where that is asked for.
+fn end_strictly(alloc: Global, options: Options<'_>, unwell: u64) -> Result<(), Told<Fault>>
+    ensures unwell { IfErr result (λ told. IsUnwell (given_of options.entry) told.fault) }
+    ensures well { OnOk result ((given_of options.entry).strict ≡ true → unwell ≡ 0) }
+{
+    if options.strict && unwell > 0 {
+        return Err(Told::alone(alloc, Fault::Unwell));
+    }
+    Ok(())
+}
+
+/// The end of a run that left a bench, and in which so many answers were not well: its image is saved.
+fn end_steps<R: AllocGlobal + Files + Print>(
+    rt: &R,
+    options: Options<'_>,
+    bench: Bench,
+    unwell: u64,
+) -> Result<(), Told<Fault>>
+    ensures end { IfErr result (λ told. IsEndFault (given_of options.entry) told.fault) }
+{
+    let saved = save_image(rt, options.save, bench.image());
+    let _ended = bench.end();
+    match saved {
+        Ok(()) => end_strictly(rt.alloc(), options, unwell),
+        Err(told) => Err(told),
+    }
+}
+
+/// What is told of a run of a script that ended with a fault.
+fn told_of_run(
+    alloc: Global,
+    grammar: Grammar,
+    text: &[u8],
+    options: &Options<'_>,
+    fault: RunFault,
+) -> Told<Fault>
+    ensures { result.fault ≡ Fault.Run fault }
+{
+    let below = below_run(alloc, grammar, text, options, fault);
+    Told::of(Fault::Run(fault), below)
 }
 
 /// Plays a script of steps.
@@ -157,47 +207,54 @@ fn play<R: AllocGlobal + Files + Print, I: Read, W: Write>(
     ensures ran { OnOk result (Performs (I.remaining reader.old) (Some (steps (given_of options.entry))) (W.contents writer.old) (W.contents writer.new)) }
     ensures failed { IfErr result (λ told. FailsWith (I.remaining reader.old) (Some (steps (given_of options.entry))) (W.contents writer.old) (W.contents writer.new) told.fault) }
 {
+    let Begun { text, said, image } = match begin_steps(rt, options, reader) {
+        Ok(begun) => begun,
+        Err(told) => return Err(told),
+    };
     let alloc = rt.alloc();
-    let image = open_image(rt, &options)?;
-    let text = script_text(rt, options.script, reader)?;
     let mut script = text.as_slice();
-    match play_steps(alloc, options.config, image, &mut script, writer) {
-        Ok(bench) => {
-            let saved = save_image(rt, options.save, bench.image());
-            let _ended = bench.end();
-            saved
-        }
-        Err(fault) => {
-            let below = below_run(alloc, Grammar::Steps, &text, &options, fault);
-            let fault = Fault::Run(fault);
-            Err(Told { fault, below })
-        }
+    let mut unwell = 0;
+    match play_steps(alloc, said.config, image, &mut script, writer, &mut unwell) {
+        Ok(bench) => end_steps(rt, options, bench, unwell),
+        Err(fault) => Err(told_of_run(alloc, Grammar::Steps, &text, &said, fault)),
     }
 }
 
-/// Plays a script of steps, and tells what each moved.
+/// Plays a script of steps, and tells what each moved, in lines or as objects.
 fn trace_script<R: AllocGlobal + Files + Print, I: Read, W: Write>(
     rt: &R,
     options: Options<'_>,
+    objects: bool,
     reader: &mut I,
     writer: &mut W,
 ) -> Result<(), Told<Fault>>
-    ensures failed { IfErr result (λ told. FailsWith (I.remaining reader.old) (Some (traced (given_of options.entry))) (W.contents writer.old) (W.contents writer.new) told.fault) }
+    ensures failed { IfErr result (λ told. FailsWith (I.remaining reader.old) (Some (traced (given_of options.entry) objects)) (W.contents writer.old) (W.contents writer.new) told.fault) }
 {
+    let Begun { text, said, image } = match begin_steps(rt, options, reader) {
+        Ok(begun) => begun,
+        Err(told) => return Err(told),
+    };
     let alloc = rt.alloc();
-    let image = open_image(rt, &options)?;
-    let text = script_text(rt, options.script, reader)?;
-    match trace_steps(alloc, options.config, image, &text, writer) {
-        Ok(bench) => {
-            let saved = save_image(rt, options.save, bench.image());
-            let _ended = bench.end();
-            saved
-        }
-        Err(fault) => {
-            let below = below_run(alloc, Grammar::Steps, &text, &options, fault);
-            let fault = Fault::Run(fault);
-            Err(Told { fault, below })
-        }
+    let mut unwell = 0;
+    let played = if objects {
+        tell_steps(alloc, said.config, image, &text, writer, &mut unwell)
+    } else {
+        trace_steps(alloc, said.config, image, &text, writer, &mut unwell)
+    };
+    match played {
+        Ok(bench) => end_steps(rt, options, bench, unwell),
+        Err(fault) => Err(told_of_run(alloc, Grammar::Steps, &text, &said, fault)),
+    }
+}
+
+/// How the jobs of submitters are run.
+fn pace_of(threading: Threading, serving: Serving) -> Pace
+    ensures { result.depth ≡ threading.depth }
+{
+    Pace {
+        depth: threading.depth,
+        server: server_of(serving),
+        log_limit: threading.log_limit,
     }
 }
 
@@ -217,36 +274,72 @@ fn run_threads<R: AllocGlobal + Files + Sync + Threads + Wait, I: Read, W: Write
     ensures ran { OnOk result (Performs (I.remaining reader.old) (Some (threads (given_of options.entry) threading serving)) (W.contents writer.old) (W.contents writer.new)) }
     ensures failed { IfErr result (λ told. FailsWith (I.remaining reader.old) (Some (threads (given_of options.entry) threading serving)) (W.contents writer.old) (W.contents writer.new) told.fault) }
 {
-    let alloc = rt.alloc();
-    let image = open_image(rt, &options)?;
-    let text = script_text(rt, options.script, reader)?;
-    let mut script = text.as_slice();
-    let Threading {
-        submitters,
-        depth,
-        log_limit,
-    } = threading;
-    let pace = Pace {
-        depth,
-        server: server_of(serving),
-        log_limit,
+    let (begun, submitters) = match begin_jobs(rt, options, threading.submitters, reader) {
+        Ok(begun) => begun,
+        Err(told) => return Err(told),
     };
+    let Begun { text, said, image } = begun;
+    let alloc = rt.alloc();
+    let mut script = text.as_slice();
+    let pace = pace_of(threading, serving);
+    let mut unwell = 0;
     match run_jobs(
         rt,
         alloc,
-        options.config,
+        said.config,
         image,
         submitters,
         pace,
         &mut script,
         writer,
+        &mut unwell,
     ) {
-        Ok(()) => Ok(()),
+        Ok(()) => end_strictly(alloc, options, unwell),
         Err(fault) => {
             let grammar = Grammar::Jobs(submitters);
-            let below = below_run(alloc, grammar, &text, &options, fault);
-            let fault = Fault::Run(fault);
-            Err(Told { fault, below })
+            Err(told_of_run(alloc, grammar, &text, &said, fault))
+        }
+    }
+}
+
+/// Runs a script of jobs, and tells how each ended as objects.
+fn tell_threads<R: AllocGlobal + Files + Sync + Threads + Wait, I: Read, W: Write>(
+    rt: &R,
+    options: Options<'_>,
+    threading: Threading,
+    serving: Serving,
+    reader: &mut I,
+    writer: &mut W,
+) -> Result<(), Told<Fault>>
+    requires some { 1 ≤ threading.submitters }
+    requires few { threading.submitters ≤ 16 }
+    requires at_least_one { 1 ≤ threading.depth }
+    requires at_most { threading.depth ≤ 256 }
+    ensures failed { IfErr result (λ told. FailsWith (I.remaining reader.old) (Some (thread_objects (given_of options.entry) threading serving)) (W.contents writer.old) (W.contents writer.new) told.fault) }
+{
+    let (begun, submitters) = match begin_jobs(rt, options, threading.submitters, reader) {
+        Ok(begun) => begun,
+        Err(told) => return Err(told),
+    };
+    let Begun { text, said, image } = begun;
+    let alloc = rt.alloc();
+    let pace = pace_of(threading, serving);
+    let mut unwell = 0;
+    match tell_jobs(
+        rt,
+        alloc,
+        said.config,
+        image,
+        submitters,
+        pace,
+        &text,
+        writer,
+        &mut unwell,
+    ) {
+        Ok(()) => end_strictly(alloc, options, unwell),
+        Err(fault) => {
+            let grammar = Grammar::Jobs(submitters);
+            Err(told_of_run(alloc, grammar, &text, &said, fault))
         }
     }
 }
@@ -257,11 +350,13 @@ fn look_at_steps<R: AllocGlobal + Files, I: Read>(
     path: Option<&str>,
     reader: &mut I,
 ) -> Result<(), Told<Fault>>
-    ensures steps { OnOk result ((script : List Numbered) × HasScript (script_told (path_of path.entry) (I.remaining reader.old)) script) }
-    ensures fault { IfErr result (λ told. IsRunFault told.fault (IsNoScript (script_told (path_of path.entry) (I.remaining reader.old)))) }
+    ensures steps { OnOk result (LooksAtSteps (script_told (path_of path.entry) (I.remaining reader.old))) }
+    ensures fault { IfErr result (λ told. IsNoSteps (script_told (path_of path.entry) (I.remaining reader.old)) told.fault) }
 {
     let text = script_text(rt, path, reader)?;
-    check_steps(rt.alloc(), &text)?;
+    let (alloc, file) = (rt.alloc(), file_of(path));
+    let _said = read_options(alloc, ScriptKind::Steps, Grammar::Steps, file, &text)?;
+    check_steps(alloc, file, &text)?;
     Ok(())
 }
 
@@ -272,16 +367,19 @@ fn look_at_jobs<R: AllocGlobal + Files, I: Read>(
     submitters: u16,
     reader: &mut I,
 ) -> Result<(), Told<Fault>>
-    ensures jobs { OnOk result ((lines : List JobLine) × HasJobs (script_told (path_of path.entry) (I.remaining reader.old)) submitters lines) }
-    ensures fault { IfErr result (λ told. IsRunFault told.fault (IsNoJobs (script_told (path_of path.entry) (I.remaining reader.old)) submitters)) }
+    ensures jobs { OnOk result (LooksAtJobs (script_told (path_of path.entry) (I.remaining reader.old)) submitters) }
+    ensures fault { IfErr result (λ told. IsNoJobScript (script_told (path_of path.entry) (I.remaining reader.old)) submitters told.fault) }
 {
     let text = script_text(rt, path, reader)?;
-    check_jobs(rt.alloc(), &text, submitters)?;
+    let (alloc, file) = (rt.alloc(), file_of(path));
+    let grammar = Grammar::Jobs(submitters);
+    let said = read_options(alloc, ScriptKind::Jobs, grammar, file, &text)?;
+    check_jobs(alloc, file, &text, said.submitters_or(submitters))?;
     Ok(())
 }
 
 /// Tests the transcripts of files.
-fn test<R: AllocGlobal + Files, I: Read, W: Write>(
+fn test<R: AllocGlobal + Files + Sync + Threads + Wait, I: Read, W: Write>(
     rt: &R,
     testing: &Testing<'_>,
     reader: &mut I,
@@ -289,7 +387,7 @@ fn test<R: AllocGlobal + Files, I: Read, W: Write>(
 ) -> Result<(), Told<Fault>>
     ensures fault { IfErr result (λ told. IsTestFault told.fault) }
 {
-    let usual = script_cli::transcripts::Options {
+    let usual = transcripts::Options {
         config: testing.config,
         blocks: testing.blocks,
     };
@@ -301,8 +399,62 @@ fn test<R: AllocGlobal + Files, I: Read, W: Write>(
     Err(Told::alone(rt.alloc(), fault))
 }
 
-/// Answers the lines of a reader, or of a file.
-fn talk<R: AllocGlobal + Files + Print, I: Read, W: Write>(
+/// Answers the lines of a file, whose first may say the options.
+fn answer_file<R: AllocGlobal + Files + Print, I: Read, W: Write>(
+    rt: &R,
+    options: Options<'_>,
+    traces: bool,
+    reader: &mut I,
+    writer: &mut W,
+) -> Result<(), Told<Fault>>
+    requires file { is_file (path_of options.script) ≡ true }
+    ensures failed { IfErr result (λ told. FailsWith (I.remaining reader.old) (Some (shell (given_of options.entry) traces)) (W.contents writer.old) (W.contents writer.new) told.fault) }
+{
+    let Begun { text, said, image } = match begin_steps(rt, options, reader) {
+        Ok(begun) => begun,
+        Err(told) => return Err(told),
+    };
+    let end = if text.len() > MAX_SCRIPT {
+        Err(RunFault::TooLong)
+    } else {
+        let mut lines = text.as_slice();
+        run_shell(rt, said.config, image, traces, &mut lines, writer, false)
+    };
+    match end {
+        Ok(()) => Ok(()),
+        Err(fault) => Err(told_of_run(rt.alloc(), Grammar::Steps, &[], &said, fault)),
+    }
+}
+
+/// Answers the lines of a reader.
+fn answer_reader<R: AllocGlobal + Files + Print, I: Read, W: Write>(
+    rt: &R,
+    options: Options<'_>,
+    traces: bool,
+    reader: &mut I,
+    writer: &mut W,
+    is_terminal: bool,
+) -> Result<(), Told<Fault>>
+    requires reader { is_file (path_of options.script) ≡ false }
+    ensures failed { IfErr result (λ told. FailsWith (I.remaining reader.old) (Some (shell (given_of options.entry) traces)) (W.contents writer.old) (W.contents writer.new) told.fault) }
+{
+    let image = open_image(rt, &options)?;
+    match run_shell(
+        rt,
+        options.config,
+        image,
+        traces,
+        reader,
+        writer,
+        is_terminal,
+    ) {
+        Ok(()) => Ok(()),
+        Err(fault) => Err(told_of_run(rt.alloc(), Grammar::Steps, &[], &options, fault)),
+    }
+}
+
+/// Answers the lines of a file, or of a reader where none is named.
+pub(crate) fn talk<R: AllocGlobal + Files + Print, I: Read, W: Write>(
     rt: &R,
     options: Options<'_>,
     traces: bool,
@@ -312,28 +464,9 @@ fn talk<R: AllocGlobal + Files + Print, I: Read, W: Write>(
 ) -> Result<(), Told<Fault>>
     ensures failed { IfErr result (λ told. FailsWith (I.remaining reader.old) (Some (shell (given_of options.entry) traces)) (W.contents writer.old) (W.contents writer.new) told.fault) }
 {
-    let alloc = rt.alloc();
-    let image = open_image(rt, &options)?;
-    let config = options.config;
-    let end = match options.script {
-        Some(path) if path != "-" => {
-            let text = script_text(rt, options.script, reader)?;
-            if text.len() > MAX_SCRIPT {
-                Err(RunFault::TooLong)
-            } else {
-                let mut lines = text.as_slice();
-                run_shell(rt, config, image, traces, &mut lines, writer, false)
-            }
-        }
-        _ => run_shell(rt, config, image, traces, reader, writer, is_terminal),
-    };
-    match end {
-        Ok(()) => Ok(()),
-        Err(fault) => {
-            let below = below_run(alloc, Grammar::Steps, &[], &options, fault);
-            let fault = Fault::Run(fault);
-            Err(Told { fault, below })
-        }
+    match file_of(options.script) {
+        Some(_) => answer_file(rt, options, traces, reader, writer),
+        None => answer_reader(rt, options, traces, reader, writer, is_terminal),
     }
 }
 
@@ -346,22 +479,27 @@ fn draw_script<R: AllocGlobal + Files, I: Read, W: Write>(
 ) -> Result<(), Told<Fault>>
     ensures failed { IfErr result (λ told. FailsWith (I.remaining reader.old) (Some (draw (given_of options.entry))) (W.contents writer.old) (W.contents writer.new) told.fault) }
 {
+    let Begun { text, said, image } = match begin_steps(rt, options, reader) {
+        Ok(begun) => begun,
+        Err(told) => return Err(told),
+    };
     let alloc = rt.alloc();
-    let image = open_image(rt, &options)?;
-    let text = script_text(rt, options.script, reader)?;
-    match draw_steps(alloc, options.config, image, &text, writer) {
+    match draw_steps(alloc, said.config, image, &text, writer) {
         Ok(()) => Ok(()),
-        Err(fault) => {
-            let below = below_run(alloc, Grammar::Steps, &text, &options, fault);
-            let fault = Fault::Run(fault);
-            Err(Told { fault, below })
-        }
+        Err(fault) => Err(told_of_run(alloc, Grammar::Steps, &text, &said, fault)),
     }
+}
+
+/// What a script may say, and what its steps and faults are called.
+fn all_of_grammar(alloc: Global) -> Result<String, AllocError> {
+    let mut text = grammar_text(alloc)?;
+    text.push_str(&meanings_text(alloc)?)?;
+    Ok(text)
 }
 
 /// Prints what a script may say.
 fn print_grammar<W: Write>(alloc: Global, writer: &mut W) -> Result<(), Told<Fault>>
     ensures fault { IfErr result (λ told. IsRunFault told.fault IsNoGrammar) }
 {
-    print_text(alloc, grammar_text(alloc), writer)
+    print_text(alloc, all_of_grammar(alloc), writer)
 }

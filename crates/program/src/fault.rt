@@ -5,9 +5,11 @@ ghost use Rattle.clap.specs.Words.{kind_of};
 ghost use Rattle.clap.specs.declared.error.kind.ErrorKind.TheVariants.{OutOfMemory};
 ghost use Rattle.script_cli.specs.declared.fault.RunFault.TheVariants as run;
 
+use crate::below::lines_or_none;
+use crate::testing::Tally;
 use clap::error::ErrorKind;
+use command_line::sentence;
 use load::LoadFault;
-use script_cli::transcripts::Tally;
 use script_cli::{ImageFault, RunFault};
 use std::alloc::{AllocGlobal, Global};
 use std::{fmt, io};
@@ -20,8 +22,12 @@ pub enum BytesFault {
     Refused,
     /// They are no case, or no entry.
     Case(CaseFault),
+    /// They are no case, or no entry, and the output told it.
+    Answered(CaseFault),
     /// The word before them is not `sqe`, `cqe` or `sgl`.
     UnknownKind,
+    /// The input that has them could not be read.
+    Unreadable,
 }
 
 impl BytesFault {
@@ -29,8 +35,8 @@ impl BytesFault {
     fn exit_status(self) -> u8 {
         match self {
             BytesFault::Refused => 4,
-            BytesFault::Case(CaseFault::Memory) => 3,
-            BytesFault::Case(_) => 1,
+            BytesFault::Case(CaseFault::Memory) | BytesFault::Answered(CaseFault::Memory) => 3,
+            BytesFault::Case(_) | BytesFault::Answered(_) | BytesFault::Unreadable => 1,
             BytesFault::UnknownKind => 2,
         }
     }
@@ -59,6 +65,10 @@ pub enum Fault {
     Loaded(load::Tally),
     /// All went well, but what was measured was not written.
     NoStats,
+    /// The first line of a script says options that are none.
+    BadOptions,
+    /// All went well, but with `--strict` a step was refused, or a status is not 0:00. The output told it.
+    Unwell,
 }
 
 /// A fault, and the lines that stand below its own on standard error.
@@ -66,19 +76,29 @@ pub enum Fault {
 pub struct Told<F> {
     /// The fault.
     pub fault: F,
+    /// Where it stands, as `FILE:LINE:COLUMN`, if that is told in place of the line's number.
+    pub place: Option<String>,
     /// Whole lines; none where there is no more to say, or no memory to say it.
     pub below: String,
 }
 
 impl<F> Told<F> {
-    /// A fault with nothing below its line.
-    pub(crate) fn alone(alloc: Global, fault: F) -> Told<F>
+    /// A fault with these lines below its own.
+    pub(crate) fn of(fault: F, below: String) -> Told<F>
         ensures { result.fault ≡ fault }
     {
         Told {
             fault,
-            below: String::new(alloc),
+            place: None,
+            below,
         }
+    }
+
+    /// A fault with nothing below its line.
+    pub(crate) fn alone(alloc: Global, fault: F) -> Told<F>
+        ensures { result.fault ≡ fault }
+    {
+        Told::of(fault, String::new(alloc))
     }
 }
 
@@ -96,7 +116,8 @@ impl Fault {
             return Err(Told::alone(alloc, Fault::Run(RunFault::Memory)));
         }
         if why.use_stderr() {
-            return Err(Told::alone(alloc, Fault::Arguments(why)));
+            let below = lines_or_none(alloc, sentence(alloc, &why));
+            return Err(Told::of(Fault::Arguments(why), below));
         }
         match why.print(rt) {
             Ok(()) => Ok(()),
@@ -116,7 +137,8 @@ impl Fault {
             Fault::Transcripts(tally) => tally.exit_status(),
             Fault::Bytes(fault) => fault.exit_status(),
             Fault::Load(fault) => fault.exit_status(),
-            Fault::Loaded(_) => 4,
+            Fault::BadOptions => 1,
+            Fault::Loaded(_) | Fault::Unwell => 4,
         }
     }
 }
@@ -130,12 +152,29 @@ fn not_written(why: &io::Error) -> Fault {
     }
 }
 
+/// Puts the line of a fault of a script: its place, or the number of its line, and its name.
+fn put_head<W: fmt::Write, N: fmt::Display>(
+    f: &mut fmt::Formatter<W>,
+    place: Option<&String>,
+    number: u32,
+    name: &N,
+) -> fmt::Result {
+    match place {
+        Some(place) => write!(f, "{place}: {name}\n"),
+        None => write!(f, "line {number}: {name}\n"),
+    }
+}
+
 impl fmt::Display for Told<Fault> {
     /// The fault's line and those below it, whole lines; nothing of what the output told, nor of an output that its reader closed.
     fn fmt<W: fmt::Write>(&self, f: &mut fmt::Formatter<W>) -> fmt::Result {
         match &self.fault {
-            Fault::Arguments(why) => write!(f, "{why}")?,
+            Fault::Arguments(why) if self.below.is_empty() => write!(f, "{why}")?,
             Fault::Image(fault) => write!(f, "{fault}\n")?,
+            Fault::Run(RunFault::Line { number, fault }) => {
+                put_head(f, self.place.as_ref(), *number, fault)?;
+            }
+            Fault::BadOptions => put_head(f, self.place.as_ref(), 1, &"BadOptions")?,
             Fault::Run(fault) => write!(f, "{fault}\n")?,
             Fault::NotSaved => f.write_str("image: not saved\n")?,
             Fault::NoStats => f.write_str("stats: not written\n")?,
@@ -144,10 +183,13 @@ impl fmt::Display for Told<Fault> {
             Fault::Bytes(BytesFault::UnknownKind) => {
                 f.write_str("show: the first word is sqe, admin, cqe, sgl or status\n")?
             }
-            Fault::PipeClosed
+            Fault::Bytes(BytesFault::Unreadable) => f.write_str("input: unreadable\n")?,
+            Fault::Arguments(_)
+            | Fault::PipeClosed
             | Fault::Transcripts(_)
             | Fault::Loaded(_)
-            | Fault::Bytes(BytesFault::Refused) => {}
+            | Fault::Unwell
+            | Fault::Bytes(BytesFault::Refused | BytesFault::Answered(_)) => {}
         }
         f.write_str(self.below.as_str())
     }
@@ -162,6 +204,7 @@ impl From<Told<ImageFault>> for Told<Fault> {
     fn from(why: Told<ImageFault>) -> Self {
         Told {
             fault: Fault::Image(why.fault),
+            place: why.place,
             below: why.below,
         }
     }
@@ -176,6 +219,7 @@ impl From<Told<RunFault>> for Told<Fault> {
     fn from(why: Told<RunFault>) -> Self {
         Told {
             fault: Fault::Run(why.fault),
+            place: why.place,
             below: why.below,
         }
     }

@@ -12,9 +12,12 @@ mod fault;
 mod inputs;
 mod loading;
 mod pipe;
+mod places;
 mod printing;
 mod saving;
 mod serving;
+mod testing;
 
 pub use commands::{Terminals, perform, run};
 pub use fault::{BytesFault, Fault, Told};
+pub use testing::Tally;

@@ -3,16 +3,17 @@
 ghost use Rattle.std.specs.Prelude.{◌≡◌, IfErr, IsSome, None, OnOk, Some};
 ghost use Rattle.command_line.specs.Asked.{given_of, load, loaded_of};
 ghost use Rattle.script_cli.specs.Loads.{FitsLoad};
+ghost use Rattle.program.specs.Loading.{Adds};
 ghost use Rattle.program.specs.Performing.{FailsWith, fault_of_load, Performs};
 
 use crate::below::{below_run, lines_or_none};
 use crate::fault::{Fault, Told};
 use crate::inputs::open_image;
 use crate::serving::server_of;
-use command_line::{Options, Serving};
-use load::{Bad, LoadFault, Ran, run_load};
-use script_cli::workload::Load;
-use script_cli::{not_written, write_out};
+use command_line::{Options, Serving, VERSION};
+use load::{Bad, Figures, LoadFault, Ran, Report, run_load};
+use script_cli::workload::{Load, OutputFormat};
+use script_cli::{RunFault, flush, not_written, put, write_out};
 use std::alloc::{AllocGlobal, Global};
 use std::io::Write;
 use std::rt::{Clock, Files};
@@ -27,30 +28,69 @@ fn tell_times<R: AllocGlobal + Eprint>(rt: &R, ran: &Ran) {
     let _ = eprint!(rt; "{text}");
 }
 
-/// Writes what was measured into the file that is named for it, if there is one, and says why where it is not written.
-fn save_stats<R: AllocGlobal + Files + Print>(
+/// The file of the statistics, if one is named, and what is told of it where it was not written.
+#[derive(Drop)]
+struct StatsFile<'a, R: AllocGlobal + Files + Print> {
+    rt: &'a R,
+    path: Option<&'a str>,
+    /// Whole lines, of the first time that it was not written.
+    lost: Option<String>,
+}
+
+impl<R: AllocGlobal + Files + Print> Report for StatsFile<'_, R> {
+    fn take(&mut self, so_far: &Figures<'_>) {
+        let Some(path) = self.path else {
+            return;
+        };
+        let lost = not_saved(self.rt, path, so_far);
+        if self.lost.is_none() {
+            self.lost = lost;
+        }
+    }
+}
+
+/// Writes what was measured into a file, and says why where it is not written.
+fn not_saved<R: AllocGlobal + Files + Print>(
     rt: &R,
-    path: Option<&str>,
-    ran: &Ran,
-) -> Result<(), Told<Fault>>
+    path: &str,
+    figures: &Figures<'_>,
+) -> Option<String> {
+    let alloc = rt.alloc();
+    let Ok(text) = figures.json(alloc, VERSION) else {
+        return Some(String::new(alloc));
+    };
+    match write_out(rt, path, text.as_bytes()) {
+        Ok(()) => None,
+        Err(why) => Some(lines_or_none(alloc, not_written(alloc, path, &why))),
+    }
+}
+
+/// The fault of a file that is named and was not written once, with what is told of it.
+fn stats_end(path: Option<&str>, lost: Option<String>) -> Result<(), Told<Fault>>
     ensures fault { IfErr result (λ told. told.fault ≡ Fault.NoStats) }
     ensures asked { IfErr result (λ told. IsSome path.entry) }
 {
-    let Some(path) = path else {
-        return Ok(());
-    };
-    let alloc = rt.alloc();
-    let Ok(text) = ran.stats(alloc) else {
-        return Err(Told::alone(alloc, Fault::NoStats));
-    };
-    match write_out(rt, path, text.as_bytes()) {
-        Ok(()) => Ok(()),
-        Err(why) => {
-            let below = lines_or_none(alloc, not_written(alloc, path, &why));
-            Err(Told {
-                fault: Fault::NoStats,
-                below,
-            })
+    match (path, lost) {
+        (Some(_), Some(below)) => Err(Told::of(Fault::NoStats, below)),
+        _ => Ok(()),
+    }
+}
+
+/// Writes what was measured on standard output, where that gets JSON.
+fn write_json<W: Write>(
+    alloc: Global,
+    format: OutputFormat,
+    ran: &Ran,
+    writer: &mut W,
+) -> Result<(), RunFault>
+    ensures { Adds format (W.contents writer.old) (W.contents writer.new) }
+{
+    match format {
+        OutputFormat::Normal => Ok(()),
+        OutputFormat::Json => {
+            let text = ran.figures().json(alloc, VERSION)?;
+            put(writer, text.as_bytes())?;
+            flush(writer)
         }
     }
 }
@@ -70,10 +110,7 @@ fn not_loaded(alloc: Global, options: &Options<'_>, why: LoadFault) -> Told<Faul
     match why {
         LoadFault::Run(fault) => {
             let below = below_run(alloc, Grammar::Steps, &[], options, fault);
-            Told {
-                fault: Fault::Run(fault),
-                below,
-            }
+            Told::of(Fault::Run(fault), below)
         }
         why => Told::alone(alloc, Fault::Load(why)),
     }
@@ -99,19 +136,34 @@ pub(crate) fn load_image<
     let image = open_image(rt, &options)?;
     let shows = is_terminal && !what.quiet;
     let server = server_of(serving);
-    let ran = match run_load(rt, options.config, image, &what, server, shows, writer) {
+    let mut file = StatsFile {
+        rt,
+        path: what.stats,
+        lost: None,
+    };
+    let ran = match run_load(
+        rt,
+        options.config,
+        image,
+        &what,
+        server,
+        shows,
+        &mut file,
+        writer,
+    ) {
         Ok(ran) => ran,
         Err(why) => return Err(not_loaded(alloc, &options, why)),
     };
+    file.take(&ran.figures());
     if !what.quiet {
         tell_times(rt, &ran);
     }
-    let saved = save_stats(rt, what.stats, &ran);
+    if let Err(fault) = write_json(alloc, what.format, &ran, writer) {
+        return Err(not_loaded(alloc, &options, LoadFault::Run(fault)));
+    }
+    let saved = stats_end(what.stats, file.lost);
     if ran.tally.is_good() {
         return saved;
     }
-    Err(Told {
-        fault: Fault::Loaded(ran.tally),
-        below: first_bad(alloc, ran.bad),
-    })
+    Err(Told::of(Fault::Loaded(ran.tally), first_bad(alloc, ran.bad)))
 }

@@ -27,7 +27,7 @@ pub(crate) fn save_image<R: AllocGlobal + Files + Print>(
             let alloc = rt.alloc();
             let below = lines_or_none(alloc, not_written(alloc, path, &why));
             let fault = Fault::NotSaved;
-            Err(Told { fault, below })
+            Err(Told::of(fault, below))
         }
     }
 }

@@ -1,7 +1,7 @@
 -- What a line of a script is, or its first fault. A word that is wanted is taken from the words that are left; what a definition of such
 -- a word gives is the word's value, and the words after it.
-use Rattle.std.specs.List.{list_any}
-use Rattle.std.specs.Prelude.{ℕ, ◌≡◌, ◌^◌, ◌==◌, nat_lt, nat_le, Bool, false, Option, Some, None, Result, Ok, Err, List, [], ◌∷◌, ◌++◌, length, if◌then◌else◌}
+use Rattle.std.specs.{List.list_any, Str.bytes_eq}
+use Rattle.std.specs.Prelude.{ℕ, ◌≡◌, ◌^◌, ◌==◌, ◌||◌, nat_lt, nat_le, codes, Bool, false, Option, Some, None, Result, Ok, Err, List, [], ◌∷◌, ◌++◌, length, if◌then◌else◌}
 use Rattle.io_commands.specs.{Asked.Request, declared.request.{Kind.Kind, Piece.Piece}}
 use Rattle.script_cli.specs.{Lines.words, Numbers.{number, hex, sixteen_bytes, kind}, Pieces.piece, Verbs.{verb_named, queue_step, command_step}}
 use Rattle.script_cli.specs.declared.fault.{LineError.LineError, LineFault.LineFault}
@@ -103,9 +103,13 @@ verb_line ws Owners = nothing_more ws line.Owners
 verb_line ws (OnQueue verb) = queue_line verb ws
 verb_line ws (OnCommand verb) = command_line verb ws
 
+abbrev pub begins_with_hash : List ℕ → Bool
+begins_with_hash [] = false
+begins_with_hash (b ∷ bs) = b == 35
+
+-- a line that begins with this word does nothing: a comment, or an answer, as one stands in a transcript
 abbrev pub begins_comment : List ℕ → Bool
-begins_comment [] = false
-begins_comment (b ∷ bs) = b == 35
+begins_comment word = begins_with_hash word || bytes_eq word (codes ">")
 
 abbrev pub known_verb_line : Words → Option Verb → Result Line LineFault
 known_verb_line ws None = Err UnknownVerb

@@ -4,6 +4,7 @@ pub mod Inputs
 pub mod Lines
 pub mod Loads
 pub mod Numbers
+pub mod Options
 pub mod Owners
 pub mod Patterns
 pub mod Pieces

@@ -1,7 +1,7 @@
 -- The text of what a step answered.
-use Rattle.std.specs.{Fmt.{decimal, digit_glyph}, Prelude.{ℕ, ◌+◌, ◌/◌, ◌%◌, ◌==◌, true, List, [], ◌∷◌, ◌++◌, codes, if◌then◌else◌}}
+use Rattle.std.specs.{Fmt.{decimal, digit_glyph}, Prelude.{ℕ, ◌+◌, ◌/◌, ◌%◌, ◌==◌, ◌&&◌, Bool, true, false, List, [], ◌∷◌, ◌++◌, codes, if◌then◌else◌}}
 use Rattle.controller_walk.specs.declared.walk.WalkState.{WalkState, TheVariants.{More, End, Fault}}
-use Rattle.entry_codec.specs.Status.{status_text}
+use Rattle.entry_codec.specs.{Status.status_text, declared.status.Status.Status}
 use Rattle.io_commands.specs.declared.{draft.FillFault.{FillFault, TheVariants.{NotASource, WrongLength}}, request.RequestFault.RequestFault}
 use Rattle.io_commands.specs.declared.request.RequestFault.TheVariants.{TooManyPieces, EmptyPiece, CrossesPage, BadCount, LengthMismatch}
 use Rattle.machine_model.specs.declared.words.{Reaped.{Reaped, TheVariants.{Empty, Done, AdminDone, Rejected}}, Refusal.Refusal, RejectedFor.RejectedFor}
@@ -126,3 +126,36 @@ answer_text (reply.Refused why touched) = refusal_text why
 -- the line of a step, with its line feed
 abbrev pub reply_line : ℕ → Verb → Reply → List ℕ
 reply_line number verb what = decimal number ++ (codes " " ++ (verb_text verb ++ (codes " " ++ (answer_text what ++ (10 ∷ [])))))
+
+-- Which answers are well
+
+-- the status 0:00
+abbrev pub is_success : Status → Bool
+is_success status = (status.sct == 0) && (status.sc == 0)
+
+-- no completion was rejected, and none has another status
+abbrev pub is_well_reaped : Reaped → Bool
+is_well_reaped Empty = true
+is_well_reaped (Done cid status) = is_success status
+is_well_reaped (AdminDone cid status dw0) = is_success status
+is_well_reaped (Rejected why) = false
+
+abbrev pub is_well_walk : WalkState → Bool
+is_well_walk More = true
+is_well_walk End = true
+is_well_walk (Fault status) = is_success status
+
+-- nothing was refused, and no status is another than 0:00
+abbrev pub is_well : Reply → Bool
+is_well (reply.Reserved q cid pages chain) = true
+is_well reply.Accepted = true
+is_well (reply.Fetched cid touched) = true
+is_well (reply.Walked state touched) = is_well_walk state
+is_well (reply.Completed touched) = true
+is_well (reply.Reaps what) = is_well_reaped what
+is_well (reply.Collected status) = is_success status
+is_well (reply.Gathered bytes) = true
+is_well (reply.Sent cid) = true
+is_well reply.NoValue = false
+is_well (reply.NotFilled why) = false
+is_well (reply.Refused why touched) = false

@@ -3,7 +3,7 @@
 ghost use Rattle.std.specs.Prelude.{◌≡◌, []};
 ghost use Rattle.std.specs.List.{list_any};
 ghost use Rattle.script_cli.specs.declared.verb.Verb.TheVariants.{Owners, Reset};
-ghost use Rattle.script_cli.specs.Grammar.{pieces_from, reserve_line as spec_reserve_line, fill_line as spec_fill_line, forge_line as spec_forge_line, queue_line as spec_queue_line, command_line as spec_command_line, verb_line as spec_verb_line, line_of_words, begins_comment as spec_begins_comment, is_high, words_of as spec_words_of, line_of, IsReadFrom};
+ghost use Rattle.script_cli.specs.Grammar.{pieces_from, reserve_line as spec_reserve_line, fill_line as spec_fill_line, forge_line as spec_forge_line, queue_line as spec_queue_line, command_line as spec_command_line, verb_line as spec_verb_line, line_of_words, begins_comment as spec_begins_comment, begins_with_hash as spec_begins_with_hash, is_high, words_of as spec_words_of, line_of, IsReadFrom};
 
 use crate::fault::{LineError, LineFault};
 use crate::script::Line;
@@ -16,6 +16,9 @@ use step_core::Step;
 
 /// The most bytes of a line.
 const MAX_LINE: usize = 16_384;
+
+/// What an answer stands behind.
+const ANSWER: &str = ">";
 
 /// The pieces that all words left are.
 #[tactic(auto, unfolding(crate::specs::Grammar::pieces_from))]
@@ -122,14 +125,21 @@ fn verb_line(alloc: Global, verb: Verb, words: &mut Words<'_>) -> Result<Line, L
     }
 }
 
-/// Whether a word begins a comment.
-pub fn begins_comment(word: &[u8]) -> bool
-    ensures { result ≡ spec_begins_comment word.now }
+/// Whether a word begins with `#`.
+fn begins_with_hash(word: &[u8]) -> bool
+    ensures { result ≡ spec_begins_with_hash word.now }
 {
     match word.split_first() {
         Some((first, _)) => *first == b'#',
         None => false,
     }
+}
+
+/// Whether a line that begins with this word does nothing: a comment, or `>`, behind which an answer stands in a transcript.
+pub fn begins_comment(word: &[u8]) -> bool
+    ensures { result ≡ spec_begins_comment word.now }
+{
+    begins_with_hash(word) || word == ANSWER.as_bytes()
 }
 
 /// A line, by its words.

@@ -24,6 +24,7 @@ mod script;
 pub mod transcripts;
 mod values;
 mod verb;
+mod well;
 mod words;
 pub mod worked;
 pub mod worked_replies;
@@ -37,9 +38,13 @@ pub use input::{ImageFault, ReadFault, read_first, read_image};
 pub use lines::split_line;
 pub use output::{flush, put};
 pub use owners::{append_counts, append_owners};
-pub use reply::{append_reply, put_gathered, put_not_filled, request_fault_name};
+pub use reply::{
+    append_reply, fill_fault_name, put_gathered, put_not_filled, refusal_name, rejected_name,
+    request_fault_name,
+};
 pub use run::{first_owners, play_step, play_steps, put_owners, run_steps};
 pub use saving::{not_written, replace_file, write_out};
 pub use script::{Line, MAX_LINES, MAX_SCRIPT, Numbered, Script, read_script};
 pub use verb::{CommandVerb, QueueVerb, VERBS, Verb};
+pub use well::{is_success, is_well};
 pub use words::Words;

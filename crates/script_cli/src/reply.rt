@@ -107,7 +107,7 @@ pub fn request_fault_name(why: RequestFault) -> &'static str
 }
 
 /// The name of why a draft was not filled.
-fn fill_fault_name(why: FillFault) -> &'static str
+pub fn fill_fault_name(why: FillFault) -> &'static str
     ensures { result.now ≡ spec_fill_fault_name why }
 {
     match why {
@@ -117,7 +117,7 @@ fn fill_fault_name(why: FillFault) -> &'static str
 }
 
 /// The name of why a completion was rejected.
-fn rejected_name(why: RejectedFor) -> &'static str
+pub fn rejected_name(why: RejectedFor) -> &'static str
     ensures { result.now ≡ spec_rejected_name why }
 {
     match why {
@@ -128,7 +128,7 @@ fn rejected_name(why: RejectedFor) -> &'static str
 }
 
 /// The name of a refusal.
-fn refusal_name(why: Refusal) -> &'static str
+pub fn refusal_name(why: Refusal) -> &'static str
     ensures { result.now ≡ spec_refusal_name why }
 {
     match why {

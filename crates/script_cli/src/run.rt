@@ -19,6 +19,7 @@ use crate::owners::{append_counts, append_owners};
 use crate::reply::append_reply;
 use crate::script::{Line, MAX_SCRIPT, Numbered, Script, read_script};
 use crate::verb::Verb;
+use crate::well::is_well;
 use block_image::Image;
 use page_ledger::Owner;
 use page_memory::PageNo;
@@ -95,12 +96,13 @@ pub fn put_owners(alloc: Global, bench: &Bench, text: &mut String) -> Result<(),
     append_owners(text, &owners)
 }
 
-/// Does what a line says, and leaves what it prints in an empty text.
+/// Does what a line says, and leaves what it prints in an empty text. An answer that is not well is counted.
 fn play_line(
     alloc: Global,
     bench: &mut Bench,
     numbered: Numbered,
     text: &mut String,
+    unwell: &mut u64,
 ) -> Result<(), AllocError>
     requires empty { string_bytes text.old ≡ [] }
     ensures { OnOk result (PrintsLine bench.old.table numbered.number numbered.line (string_bytes text.new) bench.new.table) }
@@ -108,7 +110,10 @@ fn play_line(
     let number = numbered.number;
     match numbered.line {
         Line::Step(step) => {
-            play_step(bench, number, step, text)?;
+            let reply = play_step(bench, number, step, text)?;
+            if !is_well(&reply) {
+                *unwell = unwell.saturating_add(1);
+            }
             Ok(())
         }
         Line::Owners => { put_owners(alloc, bench, text) }
@@ -116,12 +121,13 @@ fn play_line(
     }
 }
 
-/// Plays a script, and writes what it prints.
+/// Plays a script, and writes what it prints. Answers that are not well are counted.
 fn play<W: Write>(
     alloc: Global,
     bench: &mut Bench,
     script: Script,
     writer: &mut W,
+    unwell: &mut u64,
 ) -> Result<(), RunFault>
     ensures ran { OnOk result (Gains (W.contents writer.old) (W.contents writer.new) (IsRunTo bench.new.table bench.old.table script)) }
     ensures cut { OnErr result (Gains (W.contents writer.old) (W.contents writer.new) (IsFrontOfFirst bench.old.table script)) }
@@ -130,7 +136,7 @@ fn play<W: Write>(
     let mut text = String::new(alloc);
     for numbered in script.into_lines() {
         text.clear();
-        play_line(alloc, bench, numbered, &mut text)?;
+        play_line(alloc, bench, numbered, &mut text, unwell)?;
         put(writer, text.as_bytes())?;
     }
     text.clear();
@@ -139,7 +145,8 @@ fn play<W: Write>(
     flush(writer)
 }
 
-/// Plays a script, line after line, over a world that it opens, and writes what each step answered. The bench is as the last step left it.
+/// Plays a script, line after line, over a world that it opens, and writes what each step answered. The bench is as the last step left it. `unwell` grows
+/// by the steps whose answer is not well ([`is_well`]).
 ///
 /// # Errors
 ///
@@ -151,13 +158,14 @@ pub fn play_steps<R: Read, W: Write>(
     image: Image,
     reader: &mut R,
     writer: &mut W,
+    unwell: &mut u64,
 ) -> Result<Bench, RunFault>
     ensures ran { IfOk result (λ bench. Writes (R.remaining reader.old) config image (W.contents writer.old) (W.contents writer.new) (IsRunTo bench.table)) }
     ensures failed { IfErr result (λ fault. EndsWith (R.remaining reader.old) config image (W.contents writer.old) (W.contents writer.new) fault) }
 {
     let script = load(alloc, reader)?;
     let mut bench = open(alloc, config, image)?;
-    match play(alloc, &mut bench, script, writer) {
+    match play(alloc, &mut bench, script, writer, unwell) {
         Ok(()) => Ok(bench),
         Err(fault) => {
             let _ended = bench.end();
@@ -181,7 +189,8 @@ pub fn run_steps<R: Read, W: Write>(
     ensures ran { OnOk result (Writes (R.remaining reader.old) config image (W.contents writer.old) (W.contents writer.new) IsRunText) }
     ensures failed { IfErr result (λ fault. EndsWith (R.remaining reader.old) config image (W.contents writer.old) (W.contents writer.new) fault) }
 {
-    let bench = play_steps(alloc, config, image, reader, writer)?;
+    let mut unwell = 0;
+    let bench = play_steps(alloc, config, image, reader, writer, &mut unwell)?;
     let _ended = bench.end();
     Ok(())
 }

@@ -9,7 +9,7 @@
 //! > 0-0 queue 0 sq
 //! ```
 //!
-//! A line that begins with `>` is an answer, one line of what the step above it prints: `>`, a blank, and the text. What `nvmesgl steps` prints for a
+//! A line whose first word is `>` is an answer, one line of what the step above it prints: `>`, a blank, and the text. What `nvmesgl steps` prints for a
 //! step begins with the number of the step's line; a transcript leaves that number out, since the step stands just above. The lines of `owners`, and
 //! the counts with which each run ends, have none. The counts stand as the last answer, below what the last step answers. An answer stands
 //! exactly as it is printed, each on a line of its own, and none may be left away: what is printed and does not stand there is a difference.
@@ -22,15 +22,15 @@
 //! [`Difference`] between what is printed and what stands there. [`OnBench`] makes steps on a bench.
 //!
 //! [`test_transcript`] plays the text of one on a bench of its own, and answers an [`Outcome`]; where something else is printed than stands there,
-//! that has the text as it would have to be. [`test_files`] does so with files.
+//! that has the text as it would have to be.
 
 mod bench;
 mod difference;
 mod fault;
-mod files;
 mod heap;
 mod options;
 mod playing;
+mod ranges;
 mod read;
 mod testing;
 mod update;
@@ -38,9 +38,9 @@ mod update;
 pub use bench::OnBench;
 pub use difference::Difference;
 pub use fault::{OpeningFault, TranscriptFault};
-pub use files::{Tally, test_files};
 pub use heap::{reply_in, step_in};
-pub use options::{Given, Options};
+pub use options::{BadOption, OPTIONS, Options, SaidOptions, ScriptKind, WhyBad};
 pub use playing::{StepMaker, play, printed};
-pub use read::{Answer, Told, Transcript, read_transcript};
-pub use testing::{MAX_TRANSCRIPT, Outcome, test_transcript};
+pub use ranges::{Ranged, out_of_range};
+pub use read::{Answer, Told, Transcript, answer_of, read_transcript};
+pub use testing::{MAX_TRANSCRIPT, Outcome, compared, test_transcript, text_of};

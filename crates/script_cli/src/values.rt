@@ -1,6 +1,6 @@
 //! What single words stand for.
 
-ghost use Rattle.std.specs.Prelude.{◌≡◌, ◌≤◌, ◌<◌, ◌^◌, ◌+◌, ◌*◌, Some, [], length, IfOk, IfSome};
+ghost use Rattle.std.specs.Prelude.{◌≡◌, ◌≤◌, ◌<◌, ◌^◌, ◌+◌, ◌*◌, ◌==◌, Some, [], length, IfOk, IfSome};
 ghost use Rattle.std.specs.List.{position_or_len};
 ghost use Rattle.script_cli.specs.Numbers.{number, digits_from, if_below, hex_digit as spec_hex_digit, hex_byte as spec_hex_byte, bytes_from, hex, if_sixteen, sixteen_bytes as spec_sixteen_bytes, kind as spec_kind};
 ghost use Rattle.script_cli.specs.Pieces.{number32 as spec_number32, is_plus, piece as spec_piece, data_of, data_piece as spec_data_piece};
@@ -136,13 +136,13 @@ pub(crate) fn kind(word: &[u8]) -> Option<Kind>
     }
 }
 
-/// Where the first plus sign stands; the length of the word if there is none.
-fn first_plus(text: &[u8]) -> usize
-    ensures place { result ≡ position_or_len is_plus text.now }
+/// Where the first byte of this value stands; the length of the text if there is none.
+pub(crate) fn first_place(text: &[u8], byte: u8) -> usize
+    ensures place { result ≡ position_or_len (λ b. b == byte) text.now }
     ensures most { result ≤ length text.now }
 {
-    for (i, byte) in text.iter().enumerate() {
-        if *byte == b'+' {
+    for (i, other) in text.iter().enumerate() {
+        if *other == byte {
             return i;
         }
     }
@@ -162,7 +162,7 @@ fn data_piece(offset: &[u8], len: &[u8]) -> Option<Piece>
 fn data(word: &[u8]) -> Option<Piece>
     ensures { result ≡ spec_data_piece (before is_plus word.now) (onward is_plus word.now) }
 {
-    let (offset, rest) = word.split_at(first_plus(word));
+    let (offset, rest) = word.split_at(first_place(word, b'+'));
     let (_, len) = rest.split_first()?;
     data_piece(offset, len)
 }

@@ -58,6 +58,9 @@ pub fn lines_have_first_faults()
     ensures jobs { line_of (codes "job 0 1 read 0 1 0+512") ≡ Err fault.UnknownVerb }
     ensures no_piece { line_of (codes "reserve 1 read 0 1") ≡ Ok (line.Step (step.Reserve 1 (request_of kind.Read 0 1 []))) }
     ensures comment { line_of (codes "  # ring") ≡ Ok line.Nothing }
+    ensures answer { line_of (codes " > ring ok") ≡ Ok line.Nothing }
+    ensures empty_answer { line_of (codes ">") ≡ Ok line.Nothing }
+    ensures no_answer { line_of (codes ">ring ok") ≡ Err fault.UnknownVerb }
     ensures empty { line_of [] ≡ Ok line.Nothing }
     ensures owners { line_of (codes "owners") ≡ Ok line.Owners }
 {}

@@ -2,7 +2,7 @@
 
 use crate::dot_word::DotWord;
 use crate::fault::Fault;
-use script_cli::transcripts::Given;
+use script_cli::transcripts::SaidOptions;
 use script_cli::{Line, LineFault, ScriptFault, Words, read_script, split_line, words_of};
 use std::alloc::Global;
 use step_core::{Bytes, PageNo, Step};
@@ -45,12 +45,20 @@ pub(crate) enum Asked<'a> {
     Serve(Option<u16>),
     /// That blocks are read.
     Read(Extent),
+    /// That the lines of a file are answered.
+    Play(&'a str),
     /// That blocks are written.
     Write(Extent, Bytes),
     /// That the image is written into a file.
     Save(&'a str),
-    /// A new world.
-    Open(Given),
+    /// What was done in this world, as a transcript, into a file if one is named.
+    Dump(Option<&'a str>),
+    /// That what is answered goes into a file, or to standard output.
+    Output(Option<&'a str>),
+    /// What a name means.
+    Explain(&'a str),
+    /// A new world, over an image if a file is named.
+    Open(SaidOptions, Option<&'a str>),
     /// That a text is printed.
     Print(&'a str),
     /// That the session ends.
@@ -116,16 +124,9 @@ impl<'a> Arguments<'a> {
         self.next().ok_or(Fault::Missing(self.dot))
     }
 
-    /// Takes the number of a queue.
-    fn queue(&mut self) -> Result<u16, Fault<'a>> {
-        let word = self.wanted()?;
-        number16(word.as_bytes()).map_err(|_| Fault::Bad(word, self.dot))
-    }
-
-    /// Takes a queue, a first block and a number of blocks.
-    fn extent(&mut self) -> Result<Extent, Fault<'a>> {
-        let q = self.queue()?;
-        let first = self.wanted()?;
+    /// A queue, a first block and a number of blocks; the queue is this word.
+    fn extent(&mut self, queue: &'a str, first: &'a str) -> Result<Extent, Fault<'a>> {
+        let q = number16(queue.as_bytes()).map_err(|_| Fault::Bad(queue, self.dot))?;
         let slba = number64(first.as_bytes()).map_err(|_| Fault::Bad(first, self.dot))?;
         let count = self.wanted()?;
         let blocks = number32(count.as_bytes()).map_err(|_| Fault::Bad(count, self.dot))?;
@@ -147,11 +148,11 @@ fn alone<'a>(asked: Asked<'a>, mut arguments: Arguments<'a>) -> Result<Asked<'a>
     Ok(asked)
 }
 
-/// What follows `.help`.
-fn help(mut arguments: Arguments<'_>) -> Result<Asked<'_>, Fault<'_>> {
-    let verb = arguments.next();
+/// One word that may follow.
+fn perhaps<'a>(mut arguments: Arguments<'a>) -> Result<Option<&'a str>, Fault<'a>> {
+    let word = arguments.next();
     arguments.end()?;
-    Ok(Asked::Help(verb))
+    Ok(word)
 }
 
 /// The queue that follows, if one is named.
@@ -187,23 +188,32 @@ fn trace(mut arguments: Arguments<'_>) -> Result<Asked<'_>, Fault<'_>> {
     Ok(Asked::Trace(traces))
 }
 
-/// What follows `.save`.
-fn save(mut arguments: Arguments<'_>) -> Result<Asked<'_>, Fault<'_>> {
-    let path = arguments.wanted()?;
+/// One word that follows.
+fn one<'a>(mut arguments: Arguments<'a>) -> Result<&'a str, Fault<'a>> {
+    let word = arguments.wanted()?;
     arguments.end()?;
-    Ok(Asked::Save(path))
+    Ok(word)
 }
 
-/// What follows `.read`.
+/// What follows `.read`: a path, which is no number, or blocks.
 fn read(mut arguments: Arguments<'_>) -> Result<Asked<'_>, Fault<'_>> {
-    let extent = arguments.extent()?;
-    arguments.end()?;
-    Ok(Asked::Read(extent))
+    let first = arguments.wanted()?;
+    match arguments.next() {
+        Some(second) => {
+            let extent = arguments.extent(first, second)?;
+            arguments.end()?;
+            Ok(Asked::Read(extent))
+        }
+        None if number64(first.as_bytes()).is_ok() => Err(Fault::Missing(arguments.dot)),
+        None => Ok(Asked::Play(first)),
+    }
 }
 
 /// What follows `.write`.
 fn write(alloc: Global, mut arguments: Arguments<'_>) -> Reading<'_> {
-    let extent = arguments.extent()?;
+    let queue = arguments.wanted()?;
+    let first = arguments.wanted()?;
+    let extent = arguments.extent(queue, first)?;
     let word = arguments.wanted()?;
     arguments.end()?;
     match bytes_of(alloc, word.as_bytes(), MOST) {
@@ -217,9 +227,9 @@ fn write(alloc: Global, mut arguments: Arguments<'_>) -> Reading<'_> {
 
 /// What follows `.open` in the text of a line.
 fn open(behind: &str) -> Result<Asked<'_>, Fault<'_>> {
-    match Given::of_words(behind) {
-        Ok(given) => Ok(Asked::Open(given)),
-        Err(word) => Err(Fault::Bad(word, DotWord::Open)),
+    match SaidOptions::of_words(behind) {
+        Ok((said, image)) => Ok(Asked::Open(said, image)),
+        Err(bad) => Err(Fault::BadOption(bad)),
     }
 }
 
@@ -227,7 +237,8 @@ fn open(behind: &str) -> Result<Asked<'_>, Fault<'_>> {
 fn asked_of_dot<'a>(alloc: Global, dot: DotWord, words: Words<'a>, behind: &'a str) -> Reading<'a> {
     let arguments = Arguments { words, dot };
     match dot {
-        DotWord::Help => Ok(help(arguments)?),
+        DotWord::Help => Ok(Asked::Help(perhaps(arguments)?)),
+        DotWord::Explain => Ok(Asked::Explain(one(arguments)?)),
         DotWord::Owners => Ok(alone(Asked::Owners, arguments)?),
         DotWord::Counts => Ok(alone(Asked::Counts, arguments)?),
         DotWord::Rings => Ok(Asked::Rings(of_queues(arguments)?)),
@@ -236,7 +247,9 @@ fn asked_of_dot<'a>(alloc: Global, dot: DotWord, words: Words<'a>, behind: &'a s
         DotWord::Serve => Ok(Asked::Serve(of_queues(arguments)?)),
         DotWord::Read => Ok(read(arguments)?),
         DotWord::Write => write(alloc, arguments),
-        DotWord::Save => Ok(save(arguments)?),
+        DotWord::Save => Ok(Asked::Save(one(arguments)?)),
+        DotWord::Dump => Ok(Asked::Dump(perhaps(arguments)?)),
+        DotWord::Output => Ok(Asked::Output(perhaps(arguments)?)),
         DotWord::Open => Ok(open(behind)?),
         DotWord::Print => Ok(Asked::Print(behind.strip_prefix(' ').unwrap_or(behind))),
         DotWord::Quit => Ok(alone(Asked::Quit, arguments)?),

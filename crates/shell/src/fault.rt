@@ -2,8 +2,9 @@
 
 use crate::dot_word::{DOT_WORDS, DotWord};
 use script_cli::LineFault;
+use script_cli::transcripts::BadOption;
 use std::alloc::{AllocError, Global};
-use texts::faults::{Grammar, explain, nearest};
+use texts::faults::{Grammar, explain, nearest, word_from};
 
 /// What is wrong with a line.
 #[derive(Clone, Copy, Debug, PartialEq, Eq)]
@@ -18,6 +19,28 @@ pub(crate) enum Fault<'a> {
     Bad(&'a str, DotWord),
     /// A word is left over.
     Extra(&'a str, DotWord),
+    /// A word is no option of a world.
+    BadOption(BadOption<'a>),
+}
+
+/// What is typed in the place of a word of other shells.
+fn typed_for(word: &str) -> Option<&'static str> {
+    match word {
+        "quit" | "exit" | ".exit" | ".q" | "q" => Some(".quit"),
+        "help" | "?" | ".?" | ".h" | "h" => Some(".help"),
+        _ => None,
+    }
+}
+
+/// What is typed in the place of the first word of a line, if that is one of other shells.
+fn typed_for_line(line: &[u8]) -> Option<&'static str> {
+    match word_from(line, 0) {
+        Some(place) => match std::str::from_utf8(&line[place.start..place.end]) {
+            Ok(word) => typed_for(word),
+            Err(_) => None,
+        },
+        None => None,
+    }
 }
 
 impl Fault<'_> {
@@ -27,7 +50,7 @@ impl Fault<'_> {
             Fault::Line(_) => "Line",
             Fault::UnknownWord(_) => "UnknownWord",
             Fault::Missing(_) => "MissingWord",
-            Fault::Bad(..) => "BadWord",
+            Fault::Bad(..) | Fault::BadOption(_) => "BadWord",
             Fault::Extra(..) => "ExtraWord",
         }
     }
@@ -48,6 +71,10 @@ impl Fault<'_> {
             Fault::Extra(word, dot) => {
                 let form = dot.form();
                 write!(out, "'{word}' is left over; the form is: {form}\n")
+            }
+            Fault::BadOption(BadOption { word, why, .. }) => {
+                let word = word.escape_ascii();
+                write!(out, "'{word}' does not fit: {why}\n")
             }
         }
     }
@@ -78,6 +105,11 @@ fn put_line_fault(
     fault: LineFault,
 ) -> Result<(), AllocError> {
     write!(out, "line {number}: {fault}\n")?;
+    if fault == LineFault::UnknownVerb {
+        if let Some(typed) = typed_for_line(line) {
+            return write!(out, "type '{typed}'\n");
+        }
+    }
     if fault == LineFault::LongLine {
         return out.push_str("a line has 16384 bytes at most.\n");
     }
@@ -88,6 +120,9 @@ fn put_line_fault(
 /// Puts that a word is none, and which one is near it.
 pub(crate) fn put_unknown(alloc: Global, out: &mut String, word: &str) -> Result<(), AllocError> {
     write!(out, "'{word}' is no word of the shell")?;
+    if let Some(typed) = typed_for(word) {
+        return write!(out, "; type '{typed}'\n");
+    }
     let names = DOT_WORDS.map(|dot| dot.name());
     match nearest(alloc, word.as_bytes(), &names)? {
         Some(name) => write!(out, "; did you mean '{name}'?\n"),

@@ -11,11 +11,15 @@ const STEPS: &str =
     "Each other line is a step of a script, and answers what `nvmesgl steps` prints for it:
 ";
 
+/// What stands behind all.
+const KEYS: &str = "Lines that were typed come back with the arrow keys in: rlwrap nvmesgl shell
+";
+
 /// Says what there is to say.
 fn put_all(alloc: Global, out: &mut String) -> Result<(), AllocError> {
     for dot in DOT_WORDS {
         let (form, about) = (dot.form(), dot.about());
-        write!(out, "{form:<26}  {about}\n")?;
+        write!(out, "{form:<34}  {about}\n")?;
     }
     out.push_str(STEPS)?;
     for verb in VERBS {
@@ -23,7 +27,7 @@ fn put_all(alloc: Global, out: &mut String) -> Result<(), AllocError> {
         let form = form.as_str();
         write!(out, "{form}\n")?;
     }
-    Ok(())
+    out.push_str(KEYS)
 }
 
 /// Says the form of a word or of a step.

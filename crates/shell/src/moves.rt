@@ -5,7 +5,10 @@ use crate::hand::Hand;
 use entry_codec::status_names::Named;
 use script_cli::{CommandVerb, QueueVerb, Verb, put_gathered};
 use std::alloc::{AllocError, Global};
-use step_core::{Bytes, Kind, Piece, Pieces, Reaped, Refusal, Reply, Request, Status, Step};
+use step_core::{
+    Bytes, FillFault, Kind, Piece, Pieces, Reaped, Refusal, Reply, Request, Status, Step,
+};
+use texts::traces::Traced;
 
 /// The bytes of a page.
 const PAGE: u32 = 4_096;
@@ -49,8 +52,9 @@ impl Hand<'_> {
             blocks,
             pieces,
         };
-        let reply = self.bench.step(Step::Reserve { q, request });
+        let reply = self.make(Step::Reserve { q, request })?;
         if let Reply::Reserved { cid, .. } = reply {
+            self.tell_on_queue(Verb::Reserve, q, Traced::Other, &reply)?;
             return Ok(Some(cid));
         }
         self.say_on_queue(Verb::Reserve, q, &reply)?;
@@ -64,40 +68,56 @@ impl Hand<'_> {
         Ok(None)
     }
 
-    /// Whether a step was done. Where it was not that is said.
-    fn was_done(
+    /// Fills a draft of so many blocks. Where it is refused that is said, and why.
+    fn fill(
         &mut self,
-        verb: Verb,
-        command: (u16, u16),
-        reply: &Reply,
+        (q, cid): (u16, u16),
+        blocks: u32,
+        bytes: Bytes,
     ) -> Result<bool, AllocError> {
+        let count = bytes.as_slice().len();
+        let reply = self.make(Step::Fill { q, cid, bytes })?;
         if let Reply::Accepted = reply {
+            if self.says {
+                self.say_on_command(Verb::Fill, (q, cid), &reply)?;
+            }
             return Ok(true);
         }
-        self.say_on_command(verb, command, reply)?;
-        Ok(false)
-    }
-
-    /// Fills a draft. Where it is refused that is said, and why.
-    fn fill(&mut self, (q, cid): (u16, u16), bytes: Bytes) -> Result<bool, AllocError> {
-        let reply = self.bench.step(Step::Fill { q, cid, bytes });
-        let done = self.was_done(Verb::Fill, (q, cid), &reply)?;
-        if let Reply::NotFilled(why) = reply {
-            write!(self.out, "{why}\n")?;
+        self.say_on_command(Verb::Fill, (q, cid), &reply)?;
+        match reply {
+            Reply::NotFilled(FillFault::WrongLength) => {
+                let most = u64::from(blocks) * u64::from(BLOCK);
+                write!(
+                    self.out,
+                    "{count} bytes came, and the command moves {most}\n"
+                )?;
+            }
+            Reply::NotFilled(why) => write!(self.out, "{why}\n")?,
+            _ => {}
         }
-        Ok(done)
+        Ok(false)
     }
 
     /// Makes a step of the host on a command. Where it is refused that is said.
     fn host_step(&mut self, verb: CommandVerb, command: (u16, u16)) -> Result<bool, AllocError> {
-        let reply = self.on_command(verb, command);
-        self.was_done(Verb::OnCommand(verb), command, &reply)
+        let reply = self.on_command(verb, command)?;
+        if let Reply::Accepted = reply {
+            self.tell_on_command(verb, command, &reply)?;
+            return Ok(true);
+        }
+        self.say_on_command(Verb::OnCommand(verb), command, &reply)?;
+        Ok(false)
     }
 
-    /// Fills a draft, builds and submits it.
-    fn send(&mut self, command: (u16, u16), bytes: Option<Bytes>) -> Result<bool, AllocError> {
+    /// Fills a draft of so many blocks, builds and submits it.
+    fn send(
+        &mut self,
+        command: (u16, u16),
+        blocks: u32,
+        bytes: Option<Bytes>,
+    ) -> Result<bool, AllocError> {
         if let Some(bytes) = bytes {
-            if !self.fill(command, bytes)? {
+            if !self.fill(command, blocks, bytes)? {
                 return Ok(false);
             }
         }
@@ -109,20 +129,25 @@ impl Hand<'_> {
 
     /// Rings the tail doorbell of a queue. Where that is refused it is said.
     fn ring(&mut self, q: u16) -> Result<(), AllocError> {
-        match self.on_queue(QueueVerb::Ring, q) {
-            Reply::Accepted => Ok(()),
-            other => self.say_on_queue(Verb::OnQueue(QueueVerb::Ring), q, &other),
+        let verb = Verb::OnQueue(QueueVerb::Ring);
+        match self.on_queue(QueueVerb::Ring, q)? {
+            Reply::Accepted => self.tell_on_queue(verb, q, Traced::Ring(q), &Reply::Accepted),
+            other => self.say_on_queue(verb, q, &other),
         }
     }
 
     /// Takes completions until it is that of a command, or there is none. What else there is is said.
     fn reap_own(&mut self, (q, cid): (u16, u16)) -> Result<bool, AllocError> {
+        let verb = Verb::OnQueue(QueueVerb::Reap);
         for _ in 0..=self.entries {
-            let reply = self.on_queue(QueueVerb::Reap, q);
-            match reply {
-                Reply::Reaps(Reaped::Done { cid: done, .. }) if done == cid => return Ok(true),
+            let reply = self.on_queue(QueueVerb::Reap, q)?;
+            match &reply {
+                Reply::Reaps(Reaped::Done { cid: done, .. }) if *done == cid => {
+                    self.tell_on_queue(verb, q, Traced::Reap(q), &reply)?;
+                    return Ok(true);
+                }
                 Reply::Reaps(Reaped::Empty) => return Ok(false),
-                other => self.say_on_queue(Verb::OnQueue(QueueVerb::Reap), q, &other)?,
+                other => self.say_on_queue(verb, q, other)?,
             }
         }
         Ok(false)
@@ -146,8 +171,9 @@ impl Hand<'_> {
 
     /// Collects a command, and answers how it ended. Where it is refused that is said.
     fn collect(&mut self, command: (u16, u16)) -> Result<Option<Status>, AllocError> {
-        let reply = self.on_command(CommandVerb::Collect, command);
+        let reply = self.on_command(CommandVerb::Collect, command)?;
         if let Reply::Collected(status) = reply {
+            self.tell_on_command(CommandVerb::Collect, command, &reply)?;
             return Ok(Some(status));
         }
         self.say_on_command(Verb::OnCommand(CommandVerb::Collect), command, &reply)?;
@@ -166,7 +192,7 @@ impl Hand<'_> {
             return Ok(None);
         };
         let command = (extent.q, cid);
-        if !self.send(command, bytes)? {
+        if !self.send(command, extent.blocks, bytes)? {
             self.host_step(CommandVerb::Cancel, command)?;
             return Ok(None);
         }
@@ -180,9 +206,13 @@ impl Hand<'_> {
         }
     }
 
-    /// Says the bytes of a Read.
+    /// Says the bytes of a Read, once its pages are given back.
     fn say_bytes(&mut self, command: (u16, u16)) -> Result<(), AllocError> {
-        let reply = self.on_command(CommandVerb::Gather, command);
+        let reply = self.on_command(CommandVerb::Gather, command)?;
+        if let Reply::Gathered(_) = &reply {
+            self.tell_on_command(CommandVerb::Gather, command, &reply)?;
+        }
+        self.host_step(CommandVerb::Release, command)?;
         if let Reply::Gathered(bytes) = reply {
             put_gathered(self.out, bytes.as_slice())?;
             return self.out.push('\n');
@@ -202,12 +232,10 @@ impl Hand<'_> {
             return Ok(());
         };
         if status == Status::SUCCESS {
-            self.say_bytes(command)?;
-        } else {
-            self.say_status(status)?;
+            return self.say_bytes(command);
         }
         self.host_step(CommandVerb::Release, command)?;
-        Ok(())
+        self.say_status(status)
     }
 
     /// Writes blocks, and says how that ended.
@@ -215,8 +243,7 @@ impl Hand<'_> {
         let Some((command, status)) = self.run(Kind::Write, extent, Some(bytes))? else {
             return Ok(());
         };
-        self.say_status(status)?;
         self.host_step(CommandVerb::Release, command)?;
-        Ok(())
+        self.say_status(status)
     }
 }

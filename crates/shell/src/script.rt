@@ -8,7 +8,7 @@ use step_core::{Config, Image};
 use world_bench::Bench;
 
 /// Plays a script over a world that it opens, and writes what each step answered, as `steps` does, and below it what it moved: `steps --trace`. The
-/// bench is as the last step left it.
+/// bench is as the last step left it. `unwell` grows by the steps whose answer is not well.
 ///
 /// # Errors
 ///
@@ -20,13 +20,16 @@ pub fn trace_steps<W: Write>(
     image: Image,
     text: &[u8],
     writer: &mut W,
+    unwell: &mut u64,
 ) -> Result<Bench, RunFault> {
     let script = match read_script(alloc, text) {
         Ok(script) => script,
         Err(why) => return Err(script_at_fault(why)),
     };
     let mut session = Session::open(alloc, config, image, true)?;
-    match session.play(script, writer) {
+    let played = session.play(script, writer);
+    *unwell = unwell.saturating_add(session.unwell());
+    match played {
         Ok(()) => Ok(session.into_bench()),
         Err(fault) => {
             let _ended = session.into_bench().end();

@@ -12,7 +12,7 @@ impl Hand<'_> {
         if self.left == 0 {
             return Ok(false);
         }
-        let reply = self.on_command(verb, command);
+        let reply = self.on_command(verb, command)?;
         if let Reply::Refused { .. } = reply {
             return Ok(false);
         }
@@ -44,7 +44,7 @@ impl Hand<'_> {
         if self.left == 0 {
             return Ok(None);
         }
-        let reply = self.on_queue(QueueVerb::Fetch, q);
+        let reply = self.on_queue(QueueVerb::Fetch, q)?;
         let (fetched, said) = match reply {
             Reply::Fetched { cid, .. } => (Some(cid), self.says),
             Reply::Refused { why, .. } => (None, why == Refusal::Memory),

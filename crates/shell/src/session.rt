@@ -3,15 +3,20 @@
 ghost use Rattle.std.specs.Prelude.{◌≡◌, [], string_bytes};
 
 use crate::asked::{Asked, NotAsked, asked_of};
+use crate::files::{file_image, open_file, put_not_read, unread};
 use crate::hand::{Hand, MOST_STEPS};
 use crate::help::say_help;
-use crate::lines::read_line;
+use crate::lines::Lines;
 use crate::looks::say_rings;
+use crate::meanings::say_meaning;
 use crate::pages::say_page;
-use script_cli::transcripts::{Given, OpeningFault, Options};
+use crate::record::Record;
+use crate::sink::Sink;
+use script_cli::transcripts::{OpeningFault, Options, SaidOptions, out_of_range};
 use script_cli::{
-    ImageFault, Line, Numbered, RunFault, Script, append_counts, flush, not_opened, not_written,
-    play_step, put, put_owners, split_line, write_out,
+    ImageFault, Line, MAX_SCRIPT, Numbered, ReadFault, RunFault, Script, Verb, append_counts,
+    flush, is_well, not_opened, not_written, play_step, put, put_owners, read_first, split_line,
+    write_out,
 };
 use std::alloc::{AllocError, AllocGlobal, Global};
 use std::io::{BufRead, BufReader, Read, Write};
@@ -24,10 +29,16 @@ use world_bench::Bench;
 /// What stands before a line on a terminal.
 const PROMPT: &str = "nvmesgl> ";
 
-/// Whether a session goes on.
-#[derive(Clone, Copy, Debug, PartialEq, Eq)]
+/// How a session goes on.
+#[derive(Drop)]
 enum Going {
+    /// With the next line.
     On,
+    /// With the lines of a file.
+    Into(Vec<u8>),
+    /// With a file for what is answered, or standard output.
+    To(Option<String>),
+    /// Not at all.
     Out,
 }
 
@@ -39,20 +50,75 @@ pub(crate) struct Session {
     /// What this one was opened with.
     config: Config,
     bench: Bench,
+    /// What was done since it was opened.
+    record: Record,
     /// Whether each step says what it moved.
     traces: bool,
+    /// How many steps of a script did not go well.
+    unwell: u64,
 }
 
-/// Opens a world over zero blocks.
-fn open_zeros(alloc: Global, options: Options) -> Result<Bench, OpeningFault> {
-    let image = match Image::zeroed(alloc, options.blocks) {
-        Ok(image) => image,
-        Err(ImageError::BadLength) => return Err(OpeningFault::Image(ImageFault::BadLength)),
-        Err(ImageError::Memory) => return Err(OpeningFault::Image(ImageFault::Memory)),
+/// Zero blocks.
+fn zeros(alloc: Global, blocks: u32) -> Result<Image, OpeningFault> {
+    match Image::zeroed(alloc, blocks) {
+        Ok(image) => Ok(image),
+        Err(ImageError::BadLength) => Err(OpeningFault::Image(ImageFault::BadLength)),
+        Err(ImageError::Memory) => Err(OpeningFault::Image(ImageFault::Memory)),
+    }
+}
+
+/// Whether an image has zeros alone.
+fn is_zeros(image: &Image) -> bool {
+    image
+        .blocks_from(0, image.blocks())
+        .iter()
+        .all(|byte| *byte == 0)
+}
+
+/// Puts the options that lie outside of their ranges, where that is why nothing was opened.
+fn put_ranges(
+    alloc: Global,
+    out: &mut String,
+    options: Options,
+    why: OpeningFault,
+) -> Result<(), AllocError> {
+    let lines = match why {
+        OpeningFault::World(RunFault::BadConfig) => out_of_range(alloc, &options.sizes())?,
+        OpeningFault::Image(ImageFault::BadLength) => {
+            out_of_range(alloc, &[options.zero_blocks()])?
+        }
+        _ => return Ok(()),
     };
-    match Bench::open(alloc, options.config, image) {
-        Ok(bench) => Ok(bench),
-        Err(refused) => Err(OpeningFault::World(not_opened(refused.why))),
+    out.push_str(&lines)
+}
+
+/// Reads the lines of a file, to be answered next. Where it is not read that is said.
+fn read_lines<R: AllocGlobal + Files>(
+    rt: &R,
+    path: &str,
+    out: &mut String,
+) -> Result<Going, AllocError> {
+    let mut file = match open_file(rt, path) {
+        Ok(file) => file,
+        Err(why) => {
+            put_not_read(out, path, &why)?;
+            return Ok(Going::On);
+        }
+    };
+    match read_first(rt.alloc(), &mut file, MAX_SCRIPT) {
+        Ok(text) if text.len() <= MAX_SCRIPT => return Ok(Going::Into(text)),
+        Ok(_) => write!(out, "'{path}': a script has {MAX_SCRIPT} bytes at most\n")?,
+        Err(ReadFault::Unreadable) => put_not_read(out, path, &unread(file.code()))?,
+        Err(ReadFault::Memory) => return Err(AllocError),
+    }
+    Ok(Going::On)
+}
+
+/// That what is answered goes to a file, or to standard output.
+fn going_to(alloc: Global, path: Option<&str>) -> Result<Going, AllocError> {
+    match path {
+        Some(path) => Ok(Going::To(Some(String::from_str(alloc, path)?))),
+        None => Ok(Going::To(None)),
     }
 }
 
@@ -65,13 +131,17 @@ impl Session {
         traces: bool,
     ) -> Result<Session, RunFault> {
         let blocks = image.blocks();
+        let usual = Options { config, blocks };
+        let record = Record::open(alloc, usual, is_zeros(&image))?;
         match Bench::open(alloc, config, image) {
             Ok(bench) => Ok(Session {
                 alloc,
-                usual: Options { config, blocks },
+                usual,
                 config,
                 bench,
+                record,
                 traces,
+                unwell: 0,
             }),
             Err(refused) => Err(not_opened(refused.why)),
         }
@@ -84,34 +154,119 @@ impl Session {
             usual: _,
             config: _,
             bench,
+            record: _,
             traces: _,
+            unwell: _,
         } = self;
         bench
     }
 
-    /// Opens a new world in place of the old one. Where that is refused the old one stays.
-    fn reopen(&mut self, given: Given, out: &mut String) -> Result<(), AllocError> {
-        let options = given.over(self.usual);
-        match open_zeros(self.alloc, options) {
+    /// How many steps of a script did not go well.
+    pub(crate) fn unwell(&self) -> u64 {
+        self.unwell
+    }
+
+    /// Opens a new world over an image in place of the old one. Where that is refused the old one stays.
+    fn reopen(
+        &mut self,
+        options: Options,
+        image: Image,
+        out: &mut String,
+    ) -> Result<(), AllocError> {
+        let record = Record::open(self.alloc, options, is_zeros(&image))?;
+        match Bench::open(self.alloc, options.config, image) {
             Ok(bench) => {
                 self.config = options.config;
+                self.record = record;
                 let _ended = mem::replace(&mut self.bench, bench).end();
                 out.push_str("ok\n")
             }
-            Err(why) => write!(out, "{why}\n"),
+            Err(refused) => {
+                let why = OpeningFault::World(not_opened(refused.why));
+                write!(out, "{why}\n")?;
+                put_ranges(self.alloc, out, options, why)
+            }
+        }
+    }
+
+    /// Opens a new world over zeros, or over the image that a file is.
+    fn open_anew<R: AllocGlobal + Files>(
+        &mut self,
+        rt: &R,
+        said: SaidOptions,
+        path: Option<&str>,
+        out: &mut String,
+    ) -> Result<(), AllocError> {
+        let options = said.over(self.usual);
+        let Some(path) = path else {
+            return match zeros(self.alloc, options.blocks) {
+                Ok(image) => self.reopen(options, image, out),
+                Err(why) => {
+                    write!(out, "{why}\n")?;
+                    put_ranges(self.alloc, out, options, why)
+                }
+            };
+        };
+        match file_image(rt, path) {
+            Ok(image) => {
+                let blocks = image.blocks();
+                self.reopen(Options { blocks, ..options }, image, out)
+            }
+            Err(why) => put_not_read(out, path, &why),
+        }
+    }
+
+    /// Says the owners of all pages in an empty text.
+    fn owners(&mut self, out: &mut String) -> Result<(), AllocError>
+        requires empty { string_bytes out.old ≡ [] }
+    {
+        put_owners(self.alloc, &self.bench, out)?;
+        self.record.keep_owners(out)
+    }
+
+    /// Says what was done in this world, as a transcript, or writes it into a file.
+    fn dump<R: AllocGlobal + Files + Print>(
+        &self,
+        rt: &R,
+        path: Option<&str>,
+        out: &mut String,
+    ) -> Result<(), AllocError> {
+        let Some(text) = self.record.transcript(self.alloc, self.bench.counts())? else {
+            return out.push_str("what was done is too long for a transcript\n");
+        };
+        match path {
+            None => out.push_str(&text),
+            Some(path) => self.write_file(rt, path, text.as_bytes(), out),
+        }
+    }
+
+    /// Writes bytes into a file, and says whether that was done.
+    fn write_file<R: AllocGlobal + Files + Print>(
+        &self,
+        rt: &R,
+        path: &str,
+        bytes: &[u8],
+        out: &mut String,
+    ) -> Result<(), AllocError> {
+        match write_out(rt, path, bytes) {
+            Ok(()) => out.push_str("ok\n"),
+            Err(why) => out.push_str(&not_written(self.alloc, path, &why)?),
         }
     }
 
     /// What makes the steps of a line.
     fn hand<'a>(&'a mut self, out: &'a mut String, says: bool) -> Hand<'a> {
+        let (alloc, config, traces) = (self.alloc, self.config, self.traces);
+        let Session { bench, record, .. } = self;
         Hand {
-            alloc: self.alloc,
-            bench: &mut self.bench,
+            alloc,
+            bench,
             out,
-            entries: u16::try_from(self.config.entries).unwrap_or(u16::MAX),
+            record,
+            entries: u16::try_from(config.entries).unwrap_or(u16::MAX),
             left: MOST_STEPS,
             says,
-            traces: self.traces,
+            traces,
         }
     }
 
@@ -120,7 +275,13 @@ impl Session {
         requires empty { string_bytes out.old ≡ [] }
     {
         let traced = Traced::of(&step);
+        let verb = Verb::of(&step);
+        self.record.begin(&step)?;
         let reply = play_step(&mut self.bench, number, step, out)?;
+        self.record.end(self.alloc, verb, &reply)?;
+        if !is_well(&reply) {
+            self.unwell = self.unwell.saturating_add(1);
+        }
         self.hand(out, true).trace(traced, &reply)
     }
 
@@ -146,10 +307,7 @@ impl Session {
         out: &mut String,
     ) -> Result<(), AllocError> {
         let image = self.bench.image();
-        match write_out(rt, path, image.blocks_from(0, image.blocks())) {
-            Ok(()) => out.push_str("ok\n"),
-            Err(why) => out.push_str(&not_written(self.alloc, path, &why)?),
-        }
+        self.write_file(rt, path, image.blocks_from(0, image.blocks()), out)
     }
 
     /// Does what a line asks for, and leaves what it says in an empty text.
@@ -162,10 +320,11 @@ impl Session {
     ) -> Result<Going, AllocError>
         requires empty { string_bytes out.old ≡ [] }
     {
+        let says = self.traces;
         match asked {
             Asked::Nothing => {}
             Asked::Step(step) => self.step(number, step, out)?,
-            Asked::Owners => put_owners(self.alloc, &self.bench, out)?,
+            Asked::Owners => self.owners(out)?,
             Asked::Counts => append_counts(out, self.bench.counts())?,
             Asked::Rings(q) => {
                 let (first, last) = self.queues(q);
@@ -178,10 +337,14 @@ impl Session {
             }
             Asked::Help(word) => say_help(self.alloc, out, word)?,
             Asked::Serve(q) => self.serve(q, out)?,
-            Asked::Read(extent) => self.hand(out, false).read(extent)?,
-            Asked::Write(extent, bytes) => self.hand(out, false).write(extent, bytes)?,
+            Asked::Read(extent) => self.hand(out, says).read(extent)?,
+            Asked::Write(extent, bytes) => self.hand(out, says).write(extent, bytes)?,
+            Asked::Play(path) => return read_lines(rt, path, out),
             Asked::Save(path) => self.save(rt, path, out)?,
-            Asked::Open(given) => self.reopen(given, out)?,
+            Asked::Dump(path) => self.dump(rt, path, out)?,
+            Asked::Output(path) => return going_to(self.alloc, path),
+            Asked::Explain(name) => say_meaning(self.alloc, out, name)?,
+            Asked::Open(said, image) => self.open_anew(rt, said, image, out)?,
             Asked::Print(text) => write!(out, "{text}\n")?,
             Asked::Quit => return Ok(Going::Out),
         }
@@ -216,7 +379,7 @@ impl Session {
         let number = numbered.number;
         match numbered.line {
             Line::Step(step) => self.step(number, step, out),
-            Line::Owners => put_owners(self.alloc, &self.bench, out),
+            Line::Owners => self.owners(out),
             Line::Nothing => Ok(()),
         }
     }
@@ -239,7 +402,7 @@ impl Session {
         flush(writer)
     }
 
-    /// Answers the lines of a reader, one after the other, until one ends the session or there is none.
+    /// Answers the lines of a reader, and of the files that they name, one after the other, until one ends the session or there is none.
     fn talk<R: AllocGlobal + Files + Print, B: BufRead, W: Write>(
         &mut self,
         rt: &R,
@@ -248,26 +411,37 @@ impl Session {
         prompt: bool,
     ) -> Result<(), RunFault> {
         let (prompt, end) = if prompt { (PROMPT, "\n") } else { ("", "") };
+        let mut lines = Lines::new(self.alloc);
         let mut line = Vec::new(self.alloc);
         let mut out = String::new(self.alloc);
-        let mut number = 0u32;
+        let mut sink = Sink::new(writer);
         for _ in 0..u64::MAX {
-            put(writer, prompt.as_bytes())?;
-            flush(writer)?;
-            read_line(reader, &mut line)?;
-            if line.is_empty() {
-                put(writer, end.as_bytes())?;
-                break;
-            }
-            number = number.saturating_add(1);
+            let number = match lines.of_file(&mut line)? {
+                Some(number) => number,
+                None => {
+                    sink.say(prompt)?;
+                    sink.flush()?;
+                    match lines.of_reader(reader, &mut line)? {
+                        Some(number) => number,
+                        None => {
+                            sink.say(end)?;
+                            break;
+                        }
+                    }
+                }
+            };
             out.clear();
             let going = self.answer(rt, number, &line, &mut out)?;
-            put(writer, out.as_bytes())?;
-            if going == Going::Out {
-                break;
+            sink.put(rt, &out)?;
+            match going {
+                Going::On => {}
+                Going::Into(text) if lines.has_room() => lines.push(text)?,
+                Going::Into(_) => sink.put(rt, "files are read 16 deep at most\n")?,
+                Going::To(path) => sink.turn(rt, path)?,
+                Going::Out => break,
             }
         }
-        flush(writer)
+        sink.flush()
     }
 }
 

@@ -2,7 +2,7 @@
 //!
 //! [`read_case`] reads pages, blocks and a submission entry from lines, and from dumps among them. [`explain`] walks the entry's list over these with the walk of
 //! `controller_walk` and keeps each descriptor that it takes; [`put_explanation`] writes a line for each, and then how the command ends and by
-//! which rule; [`put_objects`] writes the same as JSON. [`explain_text`] does all three. [`show`] decodes a single entry, descriptor or status. The lines are this project's own.
+//! which rule; [`put_objects`] writes the same as JSON. [`explain_text`] does all three. [`show`] decodes a single entry, descriptor or status, in lines or as JSON; [`put_fault_object`] tells as JSON what is wrong with the words. The lines are this project's own.
 
 mod answer;
 mod case;
@@ -18,9 +18,11 @@ pub mod laws;
 mod lines;
 mod list;
 mod namespace;
+mod refusal;
 mod round;
 mod rule;
 mod single;
+mod single_json;
 mod status;
 mod status_words;
 mod text;
@@ -29,7 +31,7 @@ pub use answer::{Answer, Layout, explain_text};
 pub use case::{Case, CaseReader, read_case};
 pub use command::{Explanation, explain};
 pub use fault::{CaseFault, Wrong};
-pub use json::put_objects;
+pub use json::{put_fault_object, put_objects};
 pub use lines::Stop;
 pub use list::Taken;
 pub use namespace::{GivenBlock, Namespace};

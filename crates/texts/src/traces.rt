@@ -14,6 +14,7 @@ mod slots;
 mod trace;
 
 pub use descriptors::put_descriptor;
-pub(crate) use descriptors::{subtype_name, type_name, type_of};
+pub(crate) use descriptors::{KEYED, TRANSPORT, subtype_name, type_name, type_of};
+pub(crate) use entries::opcode_name;
 pub use entries::{put_completion_fields, put_submission_fields};
 pub use trace::{Traced, put_trace};

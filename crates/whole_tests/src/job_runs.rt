@@ -133,7 +133,17 @@ fn played<R: AllocGlobal + Sync + Threads + Wait>(rt: &R, run: &Run) -> Result<S
         taken: Vec::new(alloc),
     };
     let image = zeros(alloc)?;
-    let end = run_jobs(rt, alloc, USUAL, image, 2, ONE, &mut reader, &mut writer);
+    let end = run_jobs(
+        rt,
+        alloc,
+        USUAL,
+        image,
+        2,
+        ONE,
+        &mut reader,
+        &mut writer,
+        &mut 0,
+    );
     let Ok(mut text) = String::from_utf8(writer.taken) else {
         return Err(Fail::from("text that is not ASCII"));
     };
@@ -169,7 +179,17 @@ fn a_reader_without_end(rt: HostRuntime) -> Result<(), Fail> {
     let image = zeros(rt.alloc())?;
     let mut out = Vec::new(rt.alloc());
     let mut reader = io::repeat(b'#');
-    let end = run_jobs(&rt, rt.alloc(), USUAL, image, 2, ONE, &mut reader, &mut out);
+    let end = run_jobs(
+        &rt,
+        rt.alloc(),
+        USUAL,
+        image,
+        2,
+        ONE,
+        &mut reader,
+        &mut out,
+        &mut 0,
+    );
     same(&rt, (end, out.len()), (Err(RunFault::TooLong), 0));
     Ok(())
 }

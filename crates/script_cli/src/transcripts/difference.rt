@@ -16,15 +16,38 @@ pub struct Difference {
     pub came: Option<String>,
 }
 
+impl Difference {
+    /// What stands there and what was printed, each `nothing` where there is none.
+    pub fn texts(&self) -> (&str, &str) {
+        (
+            self.wanted.as_ref().map_or("nothing", |text| text.as_str()),
+            self.came.as_ref().map_or("nothing", |text| text.as_str()),
+        )
+    }
+
+    /// The column of its line where it begins, from 1; an answer stands behind `> `.
+    pub fn column(&self) -> usize {
+        let Some(wanted) = &self.wanted else {
+            return 1;
+        };
+        let Some(came) = &self.came else {
+            return 1;
+        };
+        let mut column = 3usize;
+        for (wanted, came) in wanted.as_bytes().iter().zip(came.as_bytes().iter()) {
+            if *wanted != *came {
+                break;
+            }
+            column = column.saturating_add(1);
+        }
+        column
+    }
+}
+
 impl Display for Difference {
     fn fmt<W: Write>(&self, f: &mut Formatter<W>) -> fmt::Result {
-        let Difference {
-            number,
-            wanted,
-            came,
-        } = self;
-        let wanted = wanted.as_ref().map_or("nothing", |text| text.as_str());
-        let came = came.as_ref().map_or("nothing", |text| text.as_str());
+        let number = self.number;
+        let (wanted, came) = self.texts();
         write!(f, "line {number}: wanted {wanted}, came {came}")
     }
 }

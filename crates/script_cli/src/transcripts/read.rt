@@ -1,12 +1,9 @@
 //! How a transcript is read.
 
 use crate::transcripts::fault::TranscriptFault;
-use crate::transcripts::options::{Given, Options};
+use crate::transcripts::options::{OPTIONS, Options, SaidOptions, ScriptKind};
 use crate::{Line, LineFault, ScriptFault, read_script};
 use std::alloc::{AllocError, Global};
-
-/// What the first line begins with where it says the options.
-const OPTIONS: &str = "# options:";
 
 /// A line that must be printed.
 #[derive(Debug, Drop)]
@@ -31,19 +28,19 @@ pub struct Told {
 /// A transcript.
 #[derive(Drop)]
 pub struct Transcript {
-    given: Given,
+    said: SaidOptions,
     told: Vec<Told>,
 }
 
 impl Transcript {
-    /// What it is played over, where an option that it does not give is the usual one.
+    /// What it is played over, where an option that it does not say is the usual one.
     pub fn options(&self) -> Options {
         self.options_over(Options::USUAL)
     }
 
-    /// What it is played over, where an option that it does not give is one of these.
+    /// What it is played over, where an option that it does not say is one of these.
     pub fn options_over(&self, usual: Options) -> Options {
-        self.given.over(usual)
+        self.said.over(usual)
     }
 
     /// Its lines in order. The first is what must be printed before any step.
@@ -52,10 +49,34 @@ impl Transcript {
     }
 }
 
-/// The text of an answer, if a line is one: what stands behind the sign and a blank.
-pub(crate) fn answer_of(line: &str) -> Option<&str> {
-    let behind = line.strip_prefix('>')?;
-    Some(behind.strip_prefix(' ').unwrap_or(behind))
+/// What stands behind a blank.
+fn behind_blank(text: &str) -> Option<&str> {
+    match text.strip_prefix(' ') {
+        Some(behind) => Some(behind),
+        None => text.strip_prefix('\t'),
+    }
+}
+
+/// A text without the blanks at its front.
+fn unindented(text: &str) -> &str {
+    let mut rest = text;
+    for _ in 0..text.len() {
+        match behind_blank(rest) {
+            Some(behind) => rest = behind,
+            None => break,
+        }
+    }
+    rest
+}
+
+/// The text of an answer, if a line is one, whose first word is the sign: what stands behind that and a blank.
+pub fn answer_of(line: &str) -> Option<&str> {
+    let behind = unindented(line).strip_prefix('>')?;
+    if behind.is_empty() {
+        Some(behind)
+    } else {
+        behind_blank(behind)
+    }
 }
 
 /// What a line of the script is.
@@ -125,16 +146,16 @@ fn beginning(alloc: Global) -> Result<Vec<Told>, AllocError> {
 ///
 /// The first fault of the first line that has one, or that memory was refused.
 pub fn read_transcript(alloc: Global, text: &str) -> Result<Transcript, TranscriptFault> {
-    let mut given = Given::default();
+    let mut said = SaidOptions::NONE;
     let mut told = beginning(alloc)?;
     let mut number = 0u32;
     for line in text.lines() {
         number = number.saturating_add(1);
         if let Some(answer) = answer_of(line) {
             push_answer(alloc, &mut told, number, answer)?;
-        } else if let Some(words) = line.strip_prefix(OPTIONS) {
-            match Given::of_words(words) {
-                Ok(options) if number == 1 => given = options,
+        } else if line.starts_with(OPTIONS) {
+            match SaidOptions::of_line(ScriptKind::Steps, line.as_bytes()) {
+                Ok(options) if number == 1 => said = options,
                 _ => return Err(TranscriptFault::BadOptions { number }),
             }
         } else {
@@ -142,5 +163,5 @@ pub fn read_transcript(alloc: Global, text: &str) -> Result<Transcript, Transcri
             push_line(alloc, &mut told, number, line)?;
         }
     }
-    Ok(Transcript { given, told })
+    Ok(Transcript { said, told })
 }

@@ -6,7 +6,7 @@ use crate::transcripts::difference::{Difference, first_difference};
 use crate::transcripts::fault::{OpeningFault, TranscriptFault};
 use crate::transcripts::options::Options;
 use crate::transcripts::playing::printed;
-use crate::transcripts::read::{Transcript, read_transcript};
+use crate::transcripts::read::{Told, Transcript, read_transcript};
 use crate::transcripts::update::updated_text;
 use std::alloc::{AllocError, Global};
 
@@ -18,11 +18,16 @@ pub const MAX_TRANSCRIPT: usize = 16_777_216;
 pub enum Outcome {
     /// What is printed is what stands there.
     Agrees,
+    /// What is printed is what stands there, but over options that it does not say.
+    Unsaid {
+        /// The text, with the options.
+        updated: String,
+    },
     /// Something else is printed.
     Differs {
         /// The first difference.
         difference: Difference,
-        /// The text, with what was printed in place of what stands there.
+        /// The text, with what was printed in place of what stands there, and with the options.
         updated: String,
     },
     /// It is no transcript.
@@ -44,7 +49,11 @@ fn not_text(bytes: &[u8], valid: usize) -> TranscriptFault {
 }
 
 /// The text of a transcript.
-fn text_of(bytes: &[u8]) -> Result<&str, TranscriptFault> {
+///
+/// # Errors
+///
+/// Where it is too long or no text.
+pub fn text_of(bytes: &[u8]) -> Result<&str, TranscriptFault> {
     if bytes.len() > MAX_TRANSCRIPT {
         return Err(TranscriptFault::TooLong);
     }
@@ -66,28 +75,61 @@ fn placed(difference: Difference, text: &str) -> Difference {
     }
 }
 
-/// Compares what each line printed with what stands there.
-fn compared(
+/// The line that says options, if a transcript does not say them.
+fn options_line(
     alloc: Global,
-    text: &str,
     transcript: &Transcript,
+    options: Options,
+) -> Result<Option<String>, AllocError> {
+    if transcript.options() == options {
+        return Ok(None);
+    }
+    Ok(Some(options.line(alloc)?))
+}
+
+/// The first difference between what the lines printed and what stands there.
+fn first_of_all(
+    alloc: Global,
+    told: &[Told],
     printed: &[String],
-) -> Result<Outcome, AllocError> {
-    let told = transcript.told();
+) -> Result<Option<Difference>, AllocError> {
     for (told, came) in told.iter().zip(printed.iter()) {
-        if let Some(difference) = first_difference(alloc, told, came)? {
-            let updated = updated_text(alloc, text, transcript.told(), printed)?;
-            return Ok(Outcome::Differs {
-                difference: placed(difference, text),
-                updated,
-            });
+        let found = first_difference(alloc, told, came)?;
+        if found.is_some() {
+            return Ok(found);
         }
     }
-    Ok(Outcome::Agrees)
+    Ok(None)
+}
+
+/// Compares what each line of a text printed with what stands there; with the line of options that it has to say, if it does not say them.
+///
+/// # Errors
+///
+/// Where memory is refused.
+pub fn compared(
+    alloc: Global,
+    text: &str,
+    told: &[Told],
+    printed: &[String],
+    options: Option<&str>,
+) -> Result<Outcome, AllocError> {
+    let difference = first_of_all(alloc, told, printed)?;
+    if difference.is_none() && options.is_none() {
+        return Ok(Outcome::Agrees);
+    }
+    let updated = updated_text(alloc, text, options, told, printed)?;
+    Ok(match difference {
+        Some(difference) => Outcome::Differs {
+            difference: placed(difference, text),
+            updated,
+        },
+        None => Outcome::Unsaid { updated },
+    })
 }
 
 /// Plays the text of a transcript over a bench of its own, to its end, and compares what is printed with what stands there. An option that the
-/// transcript does not give is one of these.
+/// transcript does not say is one of these.
 ///
 /// # Errors
 ///
@@ -101,11 +143,14 @@ pub fn test_transcript(alloc: Global, bytes: &[u8], usual: Options) -> Result<Ou
         Ok(transcript) => transcript,
         Err(fault) => return Ok(Outcome::Fault(fault)),
     };
-    let mut bench = match OnBench::open(alloc, alloc, transcript.options_over(usual)) {
+    let options = transcript.options_over(usual);
+    let mut bench = match OnBench::open(alloc, alloc, options) {
         Ok(bench) => bench,
         Err(why) => return Ok(Outcome::NotOpened(why)),
     };
     let printed = printed(alloc, &mut bench, &transcript);
     bench.end();
-    compared(alloc, text, &transcript, &printed?)
+    let line = options_line(alloc, &transcript, options)?;
+    let line = line.as_ref().map(|line| line.as_str());
+    compared(alloc, text, transcript.told(), &printed?, line)
 }

@@ -4,7 +4,7 @@ use std::alloc::{AllocError, AllocGlobal, Global};
 use std::io;
 use std::rt::Files;
 use test_support::Numbers;
-use texts::explain::{CaseReader, Shown, Stop, show};
+use texts::explain::{CaseReader, Layout, Shown, Stop, show};
 
 /// How many lines are read.
 const LINES: u32 = 100_000;
@@ -84,7 +84,7 @@ fn read_lines<R: AllocGlobal + Files>(rt: &R) -> Result<String, AllocError> {
             Err(Stop::Memory) => return Err(AllocError),
             Err(Stop::At(..) | Stop::Before(..)) => {}
         }
-        if show(rt, shown_as(&mut numbers), &line).is_ok() {
+        if show(rt, shown_as(&mut numbers), &line, Layout::Objects).is_ok() {
             decoded = decoded.saturating_add(1);
         }
     }

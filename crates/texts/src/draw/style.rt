@@ -8,7 +8,8 @@ pub(crate) const HEAD: &str = "<!DOCTYPE html>
 <meta name=\"viewport\" content=\"width=device-width, initial-scale=1\">
 <title>nvmesgl: a script, step by step</title>
 <style>
-:root { --ink: #1b1f24; --dim: #59616b; --line: #c9ced6; --paper: #fff; --free: #eef0f3; }
+:root { color-scheme: light dark; --ink: #1b1f24; --dim: #59616b; --line: #c9ced6; --paper: #fff; --free: #eef0f3; }
+@media (prefers-color-scheme: dark) { :root { --ink: #e6e9ed; --dim: #a2abb5; --line: #3d454f; --paper: #14171b; --free: #2a3038; } .ring .p, .ring .w { --bar: #8a5200; } }
 body { font: 15px/1.45 system-ui, sans-serif; color: var(--ink); background: var(--paper); max-width: 76rem; margin: 0 auto; padding: 0 1rem 2rem; }
 nav { position: sticky; top: 0; background: var(--paper); border-bottom: 1px solid var(--line); padding: .6rem 0; display: flex; gap: .6rem; align-items: center; z-index: 1; }
 nav[hidden], section[hidden] { display: none; }
@@ -19,9 +20,10 @@ code, .pool b, td { font-family: ui-monospace, monospace; }
 .pool { display: grid; grid-template-columns: repeat(16, minmax(2.6rem, 1fr)); gap: 3px; max-width: 60rem; }
 .pool b { font-weight: 400; font-size: 12px; text-align: center; padding: .3rem 0; border-radius: 3px; background: var(--free); color: var(--dim); border: 2px solid transparent; }
 .pool .s { background: #3d5a80; color: #fff; }
-.pool .c { background: #98c1d9; color: var(--ink); }
-.pool .d { background: hsl(var(--h) 75% 72%); color: var(--ink); }
-.pool .l { background: repeating-linear-gradient(45deg, hsl(var(--h) 75% 72%) 0 5px, hsl(var(--h) 75% 88%) 5px 10px); color: var(--ink); }
+.pool .c { background: #98c1d9; }
+.pool .d { background: hsl(var(--h) 75% 72%); }
+.pool .l { background: repeating-linear-gradient(45deg, hsl(var(--h) 75% 72%) 0 5px, hsl(var(--h) 75% 88%) 5px 10px); }
+.pool .c, .pool .d, .pool .l, .ring .p, .ring .w { color: #1b1f24; }
 .pool .n { border-color: var(--ink); }
 .pool .t { text-decoration: underline 2px; font-weight: 700; }
 table { border-collapse: collapse; margin: .8rem 0 0; font-size: 13px; }
@@ -29,15 +31,15 @@ th, td { text-align: left; padding: .15rem .8rem .15rem 0; border-bottom: 1px so
 th { color: var(--dim); font-weight: 600; }
 .ring { display: flex; flex-wrap: wrap; gap: 2px; margin: .2rem 0; }
 .ring b { font: 11px ui-monospace, monospace; min-width: 1.5rem; text-align: center; padding: .15rem 0; border-radius: 3px; background: var(--free); color: var(--dim); }
-.ring .p { background: #f2b134; color: var(--ink); }
-.ring .w { background: #fbe3b0; color: var(--ink); }
-.ring .h { box-shadow: inset 3px 0 var(--ink); }
-.ring .e { box-shadow: inset -3px 0 var(--ink); }
-.ring .h.e { box-shadow: inset 3px 0 var(--ink), inset -3px 0 var(--ink); }
+.ring .p { background: #f2b134; }
+.ring .w { background: #fbe3b0; }
+.ring .h { box-shadow: inset 3px 0 var(--bar, var(--ink)); }
+.ring .e { box-shadow: inset -3px 0 var(--bar, var(--ink)); }
+.ring .h.e { box-shadow: inset 3px 0 var(--bar, var(--ink)), inset -3px 0 var(--bar, var(--ink)); }
 td i { display: inline-block; width: .8em; height: .8em; margin-right: .4em; border-radius: 2px; background: hsl(var(--h) 75% 72%); }
 @media (max-width: 48rem) { .pool { grid-template-columns: repeat(8, minmax(2.6rem, 1fr)); } }
 .key { color: var(--dim); font-size: 13px; margin: .4rem 0 0; }
-@media print { nav { display: none; } section[hidden] { display: block; } section { break-after: page; } * { print-color-adjust: exact; } }
+@media print { nav { display: none; } section[hidden] { display: block; } section { break-inside: avoid; } * { print-color-adjust: exact; } }
 </style>
 </head>
 <body>

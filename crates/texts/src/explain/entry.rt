@@ -24,20 +24,30 @@ pub(crate) fn put_entry(out: &mut String, entry: &SubEntry) -> Result<(), AllocE
     )
 }
 
+/// The bits above a status of its field: Do Not Retry, More and Command Retry Delay.
+pub(crate) fn retry_of(field: u16) -> (u16, u16, u16) {
+    (field / 16_384 % 2, field / 8_192 % 2, field / 2_048 % 4)
+}
+
+/// The field of 15 bits that a completion entry has its status in.
+pub(crate) fn field_of(bytes: &[u8; 16]) -> u16 {
+    u16::from_le_bytes([bytes[14], bytes[15]]) / 2
+}
+
 /// Puts the bits above a status: Command Retry Delay, More and Do Not Retry (NVM Express Base Specification 2.0, "Status Field Definition"), 14:11 of a status field.
 pub(crate) fn put_retry(out: &mut String, field: u16) -> Result<(), AllocError> {
-    let (retry, more, delay) = (field / 16_384 % 2, field / 8_192 % 2, field / 2_048 % 4);
+    let (retry, more, delay) = retry_of(field);
     write!(out, "    DNR {retry}, More {more}, CRD {delay}\n")
 }
 
 /// Puts the fields of a completion entry, those among them that no entry of this controller has.
 pub(crate) fn put_whole_completion(out: &mut String, bytes: &[u8; 16]) -> Result<(), AllocError> {
     put_completion_fields(out, &ComEntry::read(bytes))?;
-    put_retry(out, u16::from_le_bytes([bytes[14], bytes[15]]) / 2)
+    put_retry(out, field_of(bytes))
 }
 
 /// What an opcode of the admin queue asks for (the same specification, "Admin Command Set").
-fn admin_name(opcode: u8) -> &'static str {
+pub(crate) fn admin_name(opcode: u8) -> &'static str {
     match opcode {
         admin_opcode::DELETE_IO_SQ => "Delete I/O Submission Queue",
         admin_opcode::CREATE_IO_SQ => "Create I/O Submission Queue",
@@ -64,7 +74,7 @@ fn admin_name(opcode: u8) -> &'static str {
 }
 
 /// The halves of a word: bits 15:0, and 31:16.
-fn halves(word: u32) -> (u32, u32) {
+pub(crate) fn halves(word: u32) -> (u32, u32) {
     (word % 65_536, word / 65_536)
 }
 

@@ -40,8 +40,8 @@ pub enum Wrong {
     NoOffset(u64),
     /// Behind a line that stands for others an offset is wanted.
     NoEnd,
-    /// A file that is named cannot be read; why it was not opened, if that was it.
-    NoFile(Option<io::ErrorKind>),
+    /// A file that is named cannot be read; the system's number of the reason, if it gave one.
+    NoFile(Option<i32>),
     /// A line of a file that is named is no line of a dump.
     NoDump(u32),
     /// There are more bytes than so many.
@@ -137,7 +137,10 @@ impl fmt::Display for Wrong {
                 )
             }
             Wrong::NoEnd => f.write_str("behind a line * an offset is wanted."),
-            Wrong::NoFile(Some(kind)) => write!(f, "this file cannot be read: {kind}."),
+            Wrong::NoFile(Some(code)) => {
+                let why = io::Error::from_raw_os_error(*code);
+                write!(f, "this file cannot be read: {why}.")
+            }
             Wrong::NoFile(None) => f.write_str("this file cannot be read."),
             Wrong::NoDump(line) => write!(f, "line {line} of this file is no line of a dump."),
             Wrong::TooManyBytes(most) => write!(f, "there are {most} bytes at most."),
@@ -174,6 +177,17 @@ pub enum CaseFault {
     NoEntry,
     /// Memory was refused.
     Memory,
+}
+
+impl CaseFault {
+    /// A sentence for people of a fault that has no line.
+    pub(crate) fn sentence(self) -> Option<&'static str> {
+        match self {
+            CaseFault::TooLong => Some("it has 1048576 bytes and 65536 lines at most."),
+            CaseFault::NoEntry => Some("a line has the entry: `sqe`, and its 64 bytes."),
+            CaseFault::Line { .. } | CaseFault::Memory => None,
+        }
+    }
 }
 
 impl fmt::Display for CaseFault {

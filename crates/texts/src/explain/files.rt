@@ -4,6 +4,7 @@ use crate::explain::dump::Dump;
 use crate::explain::fault::Wrong;
 use crate::explain::lines::{Line, Stop, digit_of};
 use crate::faults::{Place, word_from};
+use crate::noted::Noted;
 use script_cli::{MAX_LINES, MAX_SCRIPT, ReadFault, read_first, split_line, words_of};
 use std::alloc::{AllocError, AllocGlobal, Global};
 use std::fs::File;
@@ -95,18 +96,19 @@ pub(crate) fn file_bytes<R: AllocGlobal + Files>(
     most: usize,
 ) -> Result<Vec<u8>, Stop> {
     let alloc = rt.alloc();
-    let unreadable = Stop::At(place, Wrong::NoFile(None));
     let Ok(name) = str::from_utf8(word.get(1..).unwrap_or(&[])) else {
-        return Err(unreadable);
+        return Err(Stop::At(place, Wrong::NoFile(None)));
     };
     let path = path_of(alloc, folder, name)?;
     let mut file = match File::open(rt, path.as_str()) {
-        Ok(file) => file,
-        Err(why) => return Err(Stop::At(place, Wrong::NoFile(Some(why.kind())))),
+        Ok(file) => Noted::over(file),
+        Err(why) => return Err(Stop::At(place, Wrong::NoFile(why.raw_os_error()))),
     };
     let bytes = match read_first(alloc, &mut file, MAX_SCRIPT) {
         Ok(bytes) => bytes,
-        Err(ReadFault::Unreadable) => return Err(unreadable),
+        Err(ReadFault::Unreadable) => {
+            return Err(Stop::At(place, Wrong::NoFile(file.code())));
+        }
         Err(ReadFault::Memory) => return Err(Stop::Memory),
     };
     if is_dump(bytes.as_slice()) {

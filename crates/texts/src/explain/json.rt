@@ -1,12 +1,14 @@
-//! An explanation as JSON, one object on each line.
+//! An explanation as JSON, one object on each line, and what is wrong with lines.
 
 use crate::explain::case::Case;
 use crate::explain::cause::put_cause;
 use crate::explain::command::Explanation;
+use crate::explain::fault::CaseFault;
 use crate::explain::list::Taken;
 use crate::explain::round::{Round, round_of};
 use crate::explain::rule::{broken_rule, put_rule};
 use crate::explain::text::{put_more, put_rest};
+use crate::objects::{hex_number, put_object};
 use crate::traces::{type_name, type_of};
 use controller_walk::DescriptorAt;
 use entry_codec::status_names::name_of;
@@ -54,15 +56,16 @@ struct EndObject {
     more: Option<String>,
 }
 
-/// Puts an object and a line feed.
-fn put_line<T: Serialize>(alloc: Global, out: &mut String, object: &T) -> Result<(), AllocError> {
-    match serde_json::to_string(alloc, object) {
-        Ok(text) => {
-            out.push_str(text.as_str())?;
-            out.push('\n')
-        }
-        Err(_) => Err(AllocError),
-    }
+/// What is wrong with what was given.
+#[derive(Drop, Serialize)]
+struct FaultObject {
+    fault: &'static str,
+    #[serde(skip_serializing_if = "Option::is_none")]
+    line: Option<u32>,
+    #[serde(skip_serializing_if = "Option::is_none")]
+    column: Option<usize>,
+    #[serde(skip_serializing_if = "Option::is_none")]
+    sentence: Option<String>,
 }
 
 /// The fields of an entry that breaks a rule for them.
@@ -80,21 +83,20 @@ struct EntryObject {
 /// A number of 64 bits as a hexadecimal text: a number of JSON is read as one of 53 bits.
 fn hex(alloc: Global, number: Option<u64>) -> Result<Option<String>, AllocError> {
     Ok(match number {
-        Some(number) => Some(format!(in alloc; "0x{number:X}")?),
+        Some(number) => Some(hex_number(alloc, number)?),
         None => None,
     })
 }
 
 /// The object of an entry.
 fn entry_object(alloc: Global, entry: &SubEntry) -> Result<EntryObject, AllocError> {
-    let first = first_block(entry);
     Ok(EntryObject {
         opcode: entry.opcode,
         fuse: entry.fuse,
         psdt: entry.psdt,
         cid: entry.cid,
         nsid: entry.nsid,
-        slba: format!(in alloc; "0x{first:X}")?,
+        slba: hex_number(alloc, first_block(entry))?,
         nlb: block_number(entry).saturating_sub(1),
     })
 }
@@ -184,7 +186,7 @@ pub fn put_objects(
 ) -> Result<(), AllocError> {
     let entry = SubEntry::read(&case.entry);
     if broken_rule(&entry, &case.namespace).is_some() {
-        put_line(alloc, out, &entry_object(alloc, &entry)?)?;
+        put_object(alloc, out, &entry_object(alloc, &entry)?)?;
     }
     let round = round_of(explanation);
     let all = explanation.taken.as_slice();
@@ -193,7 +195,7 @@ pub fn put_objects(
         None => all.len(),
     };
     for taken in all.iter().take(shown) {
-        put_line(alloc, out, &taken_object(alloc, taken)?)?;
+        put_object(alloc, out, &taken_object(alloc, taken)?)?;
     }
     if let Some(
         Round {
@@ -203,7 +205,54 @@ pub fn put_objects(
         },
     ) = round
     {
-        put_line(alloc, out, &RoundObject { again, left_out })?;
+        put_object(alloc, out, &RoundObject { again, left_out })?;
     }
-    put_line(alloc, out, &end_object(alloc, case, explanation)?)
+    put_object(alloc, out, &end_object(alloc, case, explanation)?)
+}
+
+/// The object of a fault without a place.
+fn unplaced(
+    alloc: Global,
+    name: &'static str,
+    fault: CaseFault,
+) -> Result<FaultObject, AllocError> {
+    let sentence = match fault.sentence() {
+        Some(sentence) => Some(String::from_str(alloc, sentence)?),
+        None => None,
+    };
+    Ok(FaultObject {
+        fault: name,
+        line: None,
+        column: None,
+        sentence,
+    })
+}
+
+/// Puts the object of what is wrong with lines, or with the words of an entry: its name, where it stands, line and column from 1, and a sentence.
+///
+/// # Errors
+///
+/// Where memory is refused.
+pub fn put_fault_object(
+    alloc: Global,
+    out: &mut String,
+    fault: CaseFault,
+) -> Result<(), AllocError> {
+    let object = match fault {
+        CaseFault::Line {
+            number,
+            start,
+            end: _,
+            wrong,
+        } => FaultObject {
+            fault: wrong.name(),
+            line: Some(number),
+            column: Some(start.saturating_add(1)),
+            sentence: Some(format!(in alloc; "{wrong}")?),
+        },
+        CaseFault::TooLong => unplaced(alloc, "TooLong", fault)?,
+        CaseFault::NoEntry => unplaced(alloc, "NoEntry", fault)?,
+        CaseFault::Memory => unplaced(alloc, "Memory", fault)?,
+    };
+    put_object(alloc, out, &object)
 }

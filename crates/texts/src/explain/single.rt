@@ -1,27 +1,22 @@
 //! Single entries and descriptors.
 
-ghost use Rattle.std.specs.Prelude.{◌≡◌, ◌≤◌, Some, false, length};
-ghost use Rattle.controller_walk.specs.Walks.{is_over, need_of};
-ghost use Rattle.io_commands.specs.Jobs.{block_number, kind_of_opcode};
-
-use crate::explain::cause::put_cause;
-use crate::explain::command::walk_of;
+use crate::explain::answer::Layout;
 use crate::explain::dump::{Dump, FILE};
 use crate::explain::entry::{put_admin, put_entry, put_whole_completion};
 use crate::explain::fault::{CaseFault, Wrong};
 use crate::explain::files::file_bytes;
 use crate::explain::lines::{Line, Stop, put_in};
-use crate::explain::list::Taken;
-use crate::explain::namespace::{Namespace, checked};
-use crate::explain::rule::put_rule;
-use crate::explain::status::put_status;
+use crate::explain::refusal::{Refusal, descriptor_fault, entry_refusal, put_first_rule};
+use crate::explain::single_json::{
+    put_admin_object, put_completion_object, put_descriptor_object, put_status_object,
+    put_submission_object,
+};
+use crate::explain::status::{put_status, status_field};
 use crate::faults::Place;
-use crate::sparse_memory::SparseMemory;
 use crate::traces::put_descriptor;
-use controller_walk::{Direction, Walk, WalkFault};
+use controller_walk::WalkFault;
 use entry_codec::SubEntry;
 use entry_codec::status_names::Named;
-use io_commands::Kind;
 use script_cli::{MAX_LINES, split_line, words_of};
 use std::alloc::{AllocError, AllocGlobal, Global};
 use std::rt::Files;
@@ -115,79 +110,39 @@ fn array<R: AllocGlobal + Files, const N: usize>(rt: &R, text: &[u8]) -> Result<
     Ok(array)
 }
 
-/// The fault of the entry's own descriptor, if it has one, whatever memory holds: the first step of a walk reads none.
-fn first_fault(
-    alloc: Global,
-    walk: Walk,
-    staging: &mut [u8],
-) -> Result<Option<WalkFault>, AllocError>
-    requires open { is_over walk ≡ false }
-    requires staging { length staging.old ≡ need_of walk }
-{
-    let mut memory = SparseMemory::open(alloc, 0, 0)?;
-    let mut walk = walk;
-    walk.step(&mut memory, staging);
-    Ok(walk.fault())
-}
-
-/// Puts whether a descriptor is refused where it stands in an entry.
+/// Puts that SGL1 is refused, and why, or that it is not.
 fn put_first(
     out: &mut String,
     bytes: &[u8; 16],
     fault: Option<WalkFault>,
 ) -> Result<(), AllocError> {
-    let Some(WalkFault { cause, at }) = fault else {
+    let Some(fault) = fault else {
         return out.push_str("SGL1 is not refused by itself\n");
     };
-    let named = Named(cause.status());
+    let named = Named(fault.cause.status());
     write!(out, "SGL1 is refused: {named}\n")?;
-    let taken = Taken {
-        at,
-        bytes: *bytes,
-        counted: 0,
-    };
-    put_cause(out, cause, Some(&taken))?;
+    put_first_rule(out, bytes, fault)?;
     out.push('\n')
 }
 
-/// Puts a descriptor, and whether it is refused as SGL1 of an entry, for any number of bytes.
-fn put_sgl(out: &mut String, alloc: Global, bytes: [u8; 16]) -> Result<(), AllocError> {
-    put_descriptor(out, &bytes)?;
+/// Puts a descriptor, and whether it is refused as SGL1 of an entry.
+fn put_sgl(out: &mut String, alloc: Global, bytes: &[u8; 16]) -> Result<(), AllocError> {
+    put_descriptor(out, bytes)?;
     out.push('\n')?;
-    let walk = Walk::begin(bytes, Direction::Destination, 1);
-    put_first(out, &bytes, first_fault(alloc, walk, &mut [0])?)
-}
-
-/// The fault of the own descriptor of an entry, if it has one.
-fn own_fault(alloc: Global, entry: &SubEntry, kind: Kind) -> Result<Option<WalkFault>, AllocError>
-    requires kind { kind_of_opcode entry.now.opcode ≡ Some kind }
-    requires few { block_number entry.now ≤ 2048 }
-{
-    let walk = walk_of(entry, kind);
-    let mut staging = vec![in alloc; 0; walk.need() as usize]?;
-    first_fault(alloc, walk, staging.as_mut_slice())
+    put_first(out, bytes, descriptor_fault(alloc, bytes)?)
 }
 
 /// Puts the fields of an entry, and whether it is refused before its list is read, whichever blocks the image has.
 fn put_sqe(out: &mut String, alloc: Global, bytes: &[u8; 64]) -> Result<(), AllocError> {
     let entry = SubEntry::read(bytes);
     put_entry(out, &entry)?;
-    let from_zero = SubEntry {
-        cdw10: 0,
-        cdw11: 0,
-        ..entry
-    };
-    let namespace = Namespace {
-        number: 1,
-        blocks: u64::MAX,
-        given: Vec::new(alloc),
-    };
-    match checked(&from_zero, &namespace) {
-        Ok(kind) => put_first(out, &entry.sgl1, own_fault(alloc, &from_zero, kind)?),
-        Err(status) => {
-            let named = Named(status);
+    match entry_refusal(alloc, &entry)? {
+        None => put_first(out, &entry.sgl1, None),
+        Some(Refusal::First(fault)) => put_first(out, &entry.sgl1, Some(fault)),
+        Some(refusal) => {
+            let named = Named(refusal.status());
             write!(out, "refused: {named}\n")?;
-            put_rule(out, &from_zero, &namespace, status)?;
+            refusal.put_rule(alloc, out, &entry)?;
             out.push('\n')
         }
     }
@@ -201,14 +156,28 @@ fn text_of<R: AllocGlobal + Files>(rt: &R, what: Shown, words: &[u8]) -> Result<
         Shown::Submission => put_sqe(&mut out, alloc, &array(rt, words)?)?,
         Shown::Admin => put_admin(&mut out, &SubEntry::read(&array(rt, words)?))?,
         Shown::Completion => put_whole_completion(&mut out, &array(rt, words)?)?,
-        Shown::Descriptor => put_sgl(&mut out, alloc, array(rt, words)?)?,
+        Shown::Descriptor => put_sgl(&mut out, alloc, &array(rt, words)?)?,
         Shown::Status => put_status(&mut out, words)?,
     }
     Ok(out)
 }
 
+/// What words are, by their fields, as an object.
+fn object_of<R: AllocGlobal + Files>(rt: &R, what: Shown, words: &[u8]) -> Result<String, Stop> {
+    let alloc = rt.alloc();
+    let mut out = String::new(alloc);
+    match what {
+        Shown::Submission => put_submission_object(alloc, &mut out, &array(rt, words)?)?,
+        Shown::Admin => put_admin_object(alloc, &mut out, &SubEntry::read(&array(rt, words)?))?,
+        Shown::Completion => put_completion_object(alloc, &mut out, &array(rt, words)?)?,
+        Shown::Descriptor => put_descriptor_object(alloc, &mut out, &array(rt, words)?)?,
+        Shown::Status => put_status_object(alloc, &mut out, status_field(words)?)?,
+    }
+    Ok(out)
+}
+
 /// Decodes an entry, a descriptor or a status that is typed, or stands in a file: each field by its name, and what of it the controller refuses whatever
-/// memory holds.
+/// memory holds; in lines, or as one object of JSON.
 ///
 /// # Errors
 ///
@@ -217,8 +186,13 @@ pub fn show<R: AllocGlobal + Files>(
     rt: &R,
     what: Shown,
     words: &[u8],
+    layout: Layout,
 ) -> Result<String, CaseFault> {
-    match text_of(rt, what, words) {
+    let text = match layout {
+        Layout::Lines => text_of(rt, what, words),
+        Layout::Objects => object_of(rt, what, words),
+    };
+    match text {
         Ok(text) => Ok(text),
         Err(stop) => Err(stop.fault(1)),
     }

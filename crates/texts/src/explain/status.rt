@@ -30,13 +30,23 @@ fn field_of(word: &[u8]) -> Option<u16> {
     Some(field as u16)
 }
 
-/// Puts a status by its name, and the bits above it.
-fn put_field(out: &mut String, field: u16) -> Result<(), AllocError> {
-    let status = Status {
+/// The status of a field.
+pub(crate) fn status_of(field: u16) -> Status {
+    Status {
         sct: (field / 256 % 8) as u8,
         sc: (field % 256) as u8,
-    };
-    match name_of(status).or(word_of(status.sct, status.sc)) {
+    }
+}
+
+/// The name of a status, one that this controller does not have among them.
+pub(crate) fn any_name_of(status: Status) -> Option<&'static str> {
+    name_of(status).or(word_of(status.sct, status.sc))
+}
+
+/// Puts a status by its name, and the bits above it.
+fn put_field(out: &mut String, field: u16) -> Result<(), AllocError> {
+    let status = status_of(field);
+    match any_name_of(status) {
         Some(name) => write!(out, "{status} {name}\n")?,
         None => write!(
             out,
@@ -46,14 +56,19 @@ fn put_field(out: &mut String, field: u16) -> Result<(), AllocError> {
     put_retry(out, field)
 }
 
-/// Puts the status that the one word of a line is.
-pub(crate) fn put_status(out: &mut String, text: &[u8]) -> Result<(), Stop> {
+/// The status field that the one word of a line is.
+pub(crate) fn status_field(text: &[u8]) -> Result<u16, Stop> {
     let mut line = Line::of(text);
     let place = line.wanted();
     let Some(field) = field_of(line.word(place)) else {
         return Err(Stop::At(place, Wrong::NoStatus));
     };
     line.done()?;
-    put_field(out, field)?;
+    Ok(field)
+}
+
+/// Puts the status that the one word of a line is.
+pub(crate) fn put_status(out: &mut String, text: &[u8]) -> Result<(), Stop> {
+    put_field(out, status_field(text)?)?;
     Ok(())
 }

@@ -237,20 +237,19 @@ pub fn put_explanation(
 /// Where memory is refused.
 pub fn fault_lines(alloc: Global, text: &[u8], fault: CaseFault) -> Result<String, AllocError> {
     let mut out = String::new(alloc);
-    match fault {
-        CaseFault::Line {
-            number,
-            start,
-            end,
-            wrong,
-        } => {
-            let line = line_at(text, number).unwrap_or(&[]);
-            put_line(&mut out, line, start, end)?;
-            write!(out, "{wrong}\n")?;
-        }
-        CaseFault::TooLong => out.push_str("it has 1048576 bytes and 65536 lines at most.\n")?,
-        CaseFault::NoEntry => out.push_str("a line has the entry: `sqe`, and its 64 bytes.\n")?,
-        CaseFault::Memory => {}
+    if let CaseFault::Line {
+        number,
+        start,
+        end,
+        wrong,
+    } = fault
+    {
+        let line = line_at(text, number).unwrap_or(&[]);
+        put_line(&mut out, line, start, end)?;
+        write!(out, "{wrong}\n")?;
+    }
+    if let Some(sentence) = fault.sentence() {
+        write!(out, "{sentence}\n")?;
     }
     Ok(out)
 }

@@ -74,6 +74,12 @@ fn put_bad_number(out: &mut String, word: &[u8], slot: Slot) -> Result<(), Alloc
 fn put_bad_bytes(out: &mut String, word: &[u8], slot: Slot) -> Result<(), AllocError> {
     let shown = Shown(word);
     let digits = word.len();
+    if slot == Slot::Bytes && word.contains(&b'*') {
+        return write!(
+            out,
+            "'{shown}' is no HEX: runs of bytes are printed so, and written out here, as ABAB for AB*2; zeros at the end may be left out."
+        );
+    }
     if !word.iter().all(|byte| byte.is_ascii_hexdigit()) {
         return write!(
             out,

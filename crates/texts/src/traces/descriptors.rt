@@ -4,10 +4,10 @@ use sgl_descriptor::Descriptor;
 use std::alloc::AllocError;
 
 /// The type of a Keyed SGL Data Block, whose length has three bytes and whose key four.
-const KEYED: u8 = 4;
+pub(crate) const KEYED: u8 = 4;
 
 /// The type of a Transport SGL Data Block, which has no address.
-const TRANSPORT: u8 = 5;
+pub(crate) const TRANSPORT: u8 = 5;
 
 /// The name of a type (NVM Express Base Specification 2.0, "SGL Descriptor Type").
 pub(crate) fn type_name(kind: u8) -> &'static str {

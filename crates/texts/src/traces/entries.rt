@@ -9,7 +9,7 @@ use std::alloc::AllocError;
 use world_bench::Bench;
 
 /// What an opcode asks for, on queue 0 or another one.
-fn opcode_name(q: u16, opcode: u8) -> &'static str {
+pub(crate) fn opcode_name(q: u16, opcode: u8) -> &'static str {
     if q == 0 {
         return match opcode {
             admin_opcode::DELETE_IO_SQ => "Delete I/O Submission Queue",

@@ -1,6 +1,6 @@
-use Rattle.std.{proofs.Common.{◌∙◌, ap, ℕ}, specs.{Prelude.option_and_then, Str.Parse.{ParsesUnsigned, ExplainsUnsignedError, HasUnsignedDigitsIfOk}}}
+use Rattle.std.{proofs.Common.{◌∙◌, ap}, specs.{Prelude.option_and_then, Str.Parse.{ParsesUnsigned, ExplainsUnsignedError, HasUnsignedDigitsIfOk}}}
 use Rattle.clap.{proofs.WalkLemmas.one_text-rows, specs.Words.found_of}
-use Rattle.command_line.{proofs.Asking.number_is, specs.Asked.number}
+use Rattle.command_line.{proofs.Asking.number_is, specs.Units.number}
 use Rattle.command_line.proofs.arguments.amount.Goals as goal
 
 pub returns : goal.returns

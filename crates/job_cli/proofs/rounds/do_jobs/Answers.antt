@@ -2,21 +2,21 @@
 use Rattle.std.{proofs.{Common.{not, ◌==◌, arith, rules, ap, length, map, sym, ◌∙◌}, lemmas.Simd.map-map}, specs.List.list_any}
 use Rattle.driver_threads.specs.{Behind.behind}
 use Rattle.job_cli.{proofs.JobRuns.{all_done, lengths_behind, more_done, one_gone_on}, specs.GoneOn.{Round}}
-use Rattle.job_cli.proofs.rounds.do_jobs.Goals.{in-None-2, in-Some-2+in_ok-round+in-Ok+in_ok-append+then-not-some_has_jobs}
+use Rattle.job_cli.proofs.rounds.do_jobs.Goals.{in-None, in-Some+in_ok-round+in-Ok+in_ok-append+then-not-some_has_jobs}
 use Rattle.job_cli.proofs.rounds.do_jobs.Goals as goal
 
 pub returns-clause-gone_on : goal.returns-clause-gone_on
 returns-clause-gone_on g c = elim c.match-next.branch [
-  | in-None-2 w ↦ absurd (search rules)
-  | in-Some-2+in_ok-round+in-Ok+in_ok-append+then-not-some_has_jobs w ↦
+  | in-None w ↦ absurd (search rules)
+  | in-Some+in_ok-round+in-Ok+in_ok-append+then-not-some_has_jobs w ↦
       let round : Round = record { log = w.in-Ok.round.log; report = w.in-Ok.round.report; world = w.in-Ok.round.world } in
       rw (w.ends-is, w.world-is, w.in_ok-append.ensures) (one_gone_on c.args.world.state c.loop.world.state c.loop.ends w.in-Ok.round.jobs round c.loop.invariant.gone_on w.in-Ok.ensures.ended w.in-Ok.ensures.agree w.in-Ok.ensures.jobs)
 ]
 
 pub returns-clause-ended : goal.returns-clause-ended
 returns-clause-ended g c = elim c.match-next.branch [
-  | in-None-2 w ↦ absurd (search rules)
-  | in-Some-2+in_ok-round+in-Ok+in_ok-append+then-not-some_has_jobs w ↦
+  | in-None w ↦ absurd (search rules)
+  | in-Some+in_ok-round+in-Ok+in_ok-append+then-not-some_has_jobs w ↦
       let done = c.loop.invariant.jobs in
       let taken = map (λ list. list.items) w.in_ok-round.round.items in
       let long = w.in-Ok.ensures.all_jobs ∙ sym (map-map length (λ list. list.items) w.in_ok-round.round.items) in

@@ -1,14 +1,8 @@
--- the ledger of a round's book, and what that book opens with; the rounds so far went on to the world as it is, and with the jobs that are left the jobs that were done are all
-use Rattle.std.proofs.Common.{◌≡◌, List, length, map, vec_len, true}
+-- the rounds so far went on to the world as it is, and with the jobs that are left the jobs that were done are all
+use Rattle.std.proofs.Common.{◌≡◌, List, length, map, vec_len}
 use Rattle.driver_threads.specs.{Behind.behind, Values.Job}
 use Rattle.job_cli.specs.GoneOn.{HasGoneOn}
 use Rattle.job_cli.proofs.rounds.do_jobs.Given as goal
-
-abbrev pub ghosts-run_round-L-Ledger : goal.ghosts-run_round-L-Ledger
-ghosts-run_round-L-Ledger g a = record { name = a.blank.name; parts = a.blank.parts }
-
-abbrev pub ghosts-run_round-L-LogBrand : goal.ghosts-run_round-L-LogBrand
-ghosts-run_round-L-LogBrand g a = record { opening = a.world.state; jobs_alone = true }
 
 abbrev pub invariant-loop : goal.invariant-loop
 invariant-loop g l = record {

@@ -1,37 +1,25 @@
-use Rattle.std.proofs.Common.{refl, Some}
-use Rattle.program.proofs.Telling.{ends_told, not_saved, ran_anyway, script_failed, writes_told}
-use Rattle.command_line.specs.Asked.{given_of, steps}
-use Rattle.program.specs.Performing.{Performs}
-use Rattle.script_cli.{proofs.Runs.run_to_text, specs.Runs.IsRunText}
+use Rattle.std.proofs.Common.{inl}
+use Rattle.program.proofs.Telling.{kept, ran_anyway, steps_end, steps_ended, steps_ran}
+use Rattle.command_line.specs.Asked.{given_of}
 use Rattle.program.proofs.commands.play.Goals as goal
 
-pub returns-in-Ok-clause-ran : goal.returns-in-Ok-clause-ran
-returns-in-Ok-clause-ran g c =
-    ran_anyway c.save_image-saved.result _ (
-      c.in_ok-image.image,
-      c.in_ok-image.ensures.image,
-      writes_told _ c.in_ok-text.text.items c.args.options.config c.in_ok-image.image _ _ IsRunText c.in_ok-text.ensures.text
-          (run_to_text (Some c.in_ok-text.text.items) c.args.options.config c.in_ok-image.image c.in-Ok.bench.table _ _ (rw c.as_slice-script.ensures.value at c.in-Ok.ensures.ran)),
-    )
+pub returns-in-Err-clause-failed : goal.returns-in-Err-clause-failed
+returns-in-Err-clause-failed g c = inl (c.in-Err.ensures.failed, kept _)
 
-pub returns-in-Ok-clause-failed : goal.returns-in-Ok-clause-failed
-returns-in-Ok-clause-failed g c =
-    not_saved c.save_image-saved.result (λ told. told.fault) _ (given_of c.args.options) c.args.options.save _ _ refl (
-      c.in_ok-image.image,
-      c.in_ok-image.ensures.image,
-      writes_told _ c.in_ok-text.text.items c.args.options.config c.in_ok-image.image _ _ IsRunText c.in_ok-text.ensures.text
-          (run_to_text (Some c.in_ok-text.text.items) c.args.options.config c.in_ok-image.image c.in-Ok.bench.table _ _ (rw c.as_slice-script.ensures.value at c.in-Ok.ensures.ran)),
-    )
-    c.save_image-saved.ensures.fault c.save_image-saved.ensures.asked
+pub returns-in-Ok-play_steps-clause-ran : goal.returns-in-Ok-play_steps-clause-ran
+returns-in-Ok-play_steps-clause-ran g c =
+    ran_anyway c.end_steps.result _
+    (steps_ran _ (given_of c.args.options) (given_of c.in-Ok.begun.said) c.in-Ok.begun.text.items c.in-Ok.begun.image _ _ c.in-Ok-play_steps.bench.table
+    c.in-Ok.ensures.read c.in-Ok.ensures.said c.in-Ok.ensures.image (rw c.as_slice-script.ensures.value at c.in-Ok-play_steps.ensures.ran))
+
+pub returns-in-Ok-play_steps-clause-failed : goal.returns-in-Ok-play_steps-clause-failed
+returns-in-Ok-play_steps-clause-failed g c =
+    steps_end c.end_steps.result (λ told. told.fault) _ (given_of c.args.options) _ _
+    (steps_ran _ (given_of c.args.options) (given_of c.in-Ok.begun.said) c.in-Ok.begun.text.items c.in-Ok.begun.image _ _ c.in-Ok-play_steps.bench.table
+    c.in-Ok.ensures.read c.in-Ok.ensures.said c.in-Ok.ensures.image (rw c.as_slice-script.ensures.value at c.in-Ok-play_steps.ensures.ran))
+    c.end_steps.ensures.end
 
 pub returns-clause-failed : goal.returns-clause-failed
-returns-clause-failed g c = (
-  c.in_ok-image.image,
-  c.in_ok-image.ensures.image,
-  ends_told _ c.in_ok-text.text.items c.args.options.config c.in_ok-image.image _ _ c.in-Err.fault c.in_ok-text.ensures.text (rw c.as_slice-script.ensures.value at c.in-Err.ensures.failed),
-)
-
-pub returns-in_err-text-clause-failed : goal.returns-in_err-text-clause-failed
-returns-in_err-text-clause-failed g c =
-    script_failed c.from_residual-in_err-text.result (λ told. told.fault) (g.I.Read.remaining c.args.reader.now) (given_of c.args.options) c.in_ok-image.image _ c.in_err-text.field-0.0.fault
-    c.from_residual-in_err-text.ensures.1 c.in_ok-image.ensures.image c.in_err-text.ensures.fault
+returns-clause-failed g c =
+    steps_ended _ (given_of c.args.options) (given_of c.in-Ok.begun.said) c.in-Ok.begun.text.items c.in-Ok.begun.image _ _ c.in-Err-play_steps.fault c.told_of_run.result.fault c.told_of_run.ensures
+    c.in-Ok.ensures.read c.in-Ok.ensures.said c.in-Ok.ensures.image (rw c.as_slice-script.ensures.value at c.in-Err-play_steps.ensures.failed)

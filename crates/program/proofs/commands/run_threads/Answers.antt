@@ -1,23 +1,26 @@
-use Rattle.program.proofs.Telling.{ends_jobs_told, script_failed_jobs, writes_jobs_told}
+use Rattle.std.proofs.Common.{inl}
+use Rattle.program.proofs.Telling.{jobs_end, jobs_ended, jobs_ran, kept, ran_anyway}
 use Rattle.command_line.specs.Asked.{given_of}
-use Rattle.job_cli.specs.JobRuns.{IsJobsText}
 use Rattle.program.proofs.commands.run_threads.Goals as goal
 
-pub returns-in_err-text-clause-failed : goal.returns-in_err-text-clause-failed
-returns-in_err-text-clause-failed g c =
-    script_failed_jobs c.from_residual-in_err-text.result (λ told. told.fault) (g.I.Read.remaining c.args.reader.now) (given_of c.args.options) c.args.threading c.args.serving c.in_ok-image.image _ c.in_err-text.field-0.0.fault
-    c.from_residual-in_err-text.ensures.1 c.in_ok-image.ensures.image c.in_err-text.ensures.fault
+pub returns-in-Err-clause-failed : goal.returns-in-Err-clause-failed
+returns-in-Err-clause-failed g c = inl (c.in-Err.ensures.failed, kept _)
 
-pub returns-in-Ok-clause-ran : goal.returns-in-Ok-clause-ran
-returns-in-Ok-clause-ran g c = (
-  c.in_ok-image.image,
-  c.in_ok-image.ensures.image,
-  writes_jobs_told _ c.args.threading.submitters c.in_ok-text.text.items c.args.options.config c.in_ok-image.image _ _ IsJobsText c.in_ok-text.ensures.text (rw c.as_slice-script.ensures.value at c.in-Ok.ensures.ran),
-)
+pub returns-in-Ok-run_jobs-clause-ran : goal.returns-in-Ok-run_jobs-clause-ran
+returns-in-Ok-run_jobs-clause-ran g c =
+    ran_anyway c.end_strictly.result _
+    (jobs_ran _ (given_of c.args.options) (given_of c.in-Ok.begun.0.said) c.args.threading c.args.serving c.in-Ok.begun.1 c.in-Ok.begun.0.text.items c.in-Ok.begun.0.image _ _
+    c.in-Ok.ensures.read c.in-Ok.ensures.said c.in-Ok.ensures.image (rw c.as_slice-script.ensures.value at c.in-Ok-run_jobs.ensures.ran))
+
+pub returns-in-Ok-run_jobs-clause-failed : goal.returns-in-Ok-run_jobs-clause-failed
+returns-in-Ok-run_jobs-clause-failed g c =
+    jobs_end c.end_strictly.result (λ told. told.fault) _ (given_of c.args.options) c.args.threading c.args.serving _ _
+    (jobs_ran _ (given_of c.args.options) (given_of c.in-Ok.begun.0.said) c.args.threading c.args.serving c.in-Ok.begun.1 c.in-Ok.begun.0.text.items c.in-Ok.begun.0.image _ _
+    c.in-Ok.ensures.read c.in-Ok.ensures.said c.in-Ok.ensures.image (rw c.as_slice-script.ensures.value at c.in-Ok-run_jobs.ensures.ran))
+    c.end_strictly.ensures.unwell
 
 pub returns-clause-failed : goal.returns-clause-failed
-returns-clause-failed g c = (
-  c.in_ok-image.image,
-  c.in_ok-image.ensures.image,
-  ends_jobs_told _ c.args.threading.submitters c.in_ok-text.text.items c.args.options.config c.in_ok-image.image _ _ c.in-Err.fault c.in_ok-text.ensures.text (rw c.as_slice-script.ensures.value at c.in-Err.ensures.failed),
-)
+returns-clause-failed g c =
+    jobs_ended _ (given_of c.args.options) (given_of c.in-Ok.begun.0.said) c.args.threading c.args.serving c.in-Ok.begun.1 c.in-Ok.begun.0.text.items c.in-Ok.begun.0.image _ _ c.in-Err-run_jobs.fault
+    c.told_of_run.result.fault c.told_of_run.ensures
+    c.in-Ok.ensures.read c.in-Ok.ensures.said c.in-Ok.ensures.image (rw c.as_slice-script.ensures.value at c.in-Err-run_jobs.ensures.failed)

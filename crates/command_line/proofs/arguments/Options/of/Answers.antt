@@ -13,4 +13,5 @@ returns c =
       c.get_str.ensures ∙ first_value-rows (found_of c.args.given.now) (codes "image"),
       c.script.ensures,
       c.get_str-2.ensures ∙ first_value-rows (found_of c.args.given.now) (codes "save"),
+      c.flag.ensures,
     ) refl

@@ -1,7 +1,7 @@
 use Rattle.std.{proofs.Common.{◌∙◌, ap, ℕ, Option}, specs.Prelude.{option_and_then, unwrap_or}}
 use Rattle.std.specs.Str.Parse.{ParsesUnsigned, ExplainsUnsignedError, HasUnsignedDigitsIfOk}
 use Rattle.clap.{proofs.WalkLemmas.one_text-rows, specs.Words.found_of}
-use Rattle.command_line.{proofs.Asking.number_is, specs.Asked.number}
+use Rattle.command_line.{proofs.Asking.number_is, specs.Units.number}
 use Rattle.command_line.proofs.commands.Number.value.Goals as goal
 
 pub returns : goal.returns

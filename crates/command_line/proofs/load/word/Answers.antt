@@ -1,0 +1,6 @@
+use Rattle.std.proofs.Common.{◌∙◌}
+use Rattle.clap.{proofs.WalkLemmas.first_value-rows, specs.Words.found_of}
+use Rattle.command_line.proofs.load.word.Goals as goal
+
+pub returns : goal.returns
+returns c = c.get_str.ensures ∙ first_value-rows (found_of c.args.given.now) c.args.name.now

@@ -1,0 +1,9 @@
+-- the ledger of a round's book, and what that book opens with
+use Rattle.std.proofs.Common.{true}
+use Rattle.job_cli.proofs.rounds.one_round.Given as goal
+
+abbrev pub ghosts-run_round-L-Ledger : goal.ghosts-run_round-L-Ledger
+ghosts-run_round-L-Ledger g a = record { name = a.blank.name; parts = a.blank.parts }
+
+abbrev pub ghosts-run_round-L-LogBrand : goal.ghosts-run_round-L-LogBrand
+ghosts-run_round-L-LogBrand g a = record { opening = a.world.state; jobs_alone = true }

@@ -1,0 +1,21 @@
+//! What a load came to so far.
+
+use crate::measured::Measured;
+use crate::tally::Tally;
+
+/// What a load came to, so far or at its end.
+#[derive(Clone, Copy)]
+pub struct Figures<'a> {
+    pub(crate) tally: Tally,
+    pub(crate) measured: &'a Measured,
+    /// The bytes of a command.
+    pub(crate) command_bytes: u64,
+    /// How long its commands took in all, in nanoseconds.
+    pub(crate) nanos: u64,
+}
+
+/// Who is told, while a load runs, what it came to so far.
+pub trait Report {
+    /// Takes it. What goes wrong with it is kept here, and ends no load.
+    fn take(&mut self, so_far: &Figures<'_>);
+}

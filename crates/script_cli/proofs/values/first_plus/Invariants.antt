@@ -1,7 +1,0 @@
--- no byte so far was the one that is looked for
-use Rattle.std.proofs.Common.{◌≡◌, ℕ, ◌<◌, get_or, false}
-use Rattle.script_cli.specs.Pieces.{is_plus}
-use Rattle.script_cli.proofs.values.first_plus.Given as goal
-
-abbrev pub invariant-loop-i : goal.invariant-loop-i
-invariant-loop-i l = (k : ℕ) → k < l.i → is_plus (get_or l.text k 0) ≡ false
