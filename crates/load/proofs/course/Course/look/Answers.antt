@@ -19,7 +19,12 @@ loop-plan-preserved c =
       next = inv.next;
       finite = inv.finite;
       layout = inv.layout;
+      seed = inv.seed;
+      queues = inv.queues;
+      round = inv.round;
       content = inv.content;
+      tally = inv.tally;
+      noted = ?;
       told =
           one_list_counted (λ plan. plan.items) (λ list. list.items) (wanted_of layout content) c.loop-plan.tally c.and-tally.result _ _ _ _ c.in-Some.plan.now c.in-Some.list.now steps.0 steps.1
           (c.and-tally.ensures ∙ ap (λ (looked : Tally). both c.loop-plan.tally looked) told)
