@@ -21,41 +21,47 @@ static void want(const char *what, uint32_t code, uint32_t wanted) {
 
 #define STRANGE(call) want(#call, call, NVMESGL_NO_HANDLE)
 
+/* The calls that a machine and a host both have, with the same words. */
+#define SHARED_CALLS(side, h)                                                  \
+    do {                                                                       \
+        STRANGE(side##_reserve(h, 1, NVMESGL_READ, 0, 1, &piece, 1, &answer)); \
+        STRANGE(side##_fill(h, 1, 0, block, 512, &answer));                    \
+        STRANGE(side##_build(h, 1, 0, &answer));                               \
+        STRANGE(side##_submit(h, 1, 0, &answer));                              \
+        STRANGE(side##_cancel(h, 1, 0, &answer));                              \
+        STRANGE(side##_collect(h, 1, 0, &answer));                             \
+        STRANGE(side##_gather(h, 1, 0, block, 512, &answer));                  \
+        STRANGE(side##_release(h, 1, 0, &answer));                             \
+        STRANGE(side##_abort(h, 1, 0, &answer));                               \
+        STRANGE(side##_delete_sq(h, 1, &answer));                              \
+        STRANGE(side##_delete_cq(h, 1, &answer));                              \
+        STRANGE(side##_create_cq(h, 1, &answer));                              \
+        STRANGE(side##_create_sq(h, 1, &answer));                              \
+        STRANGE(side##_retire(h, 1, &answer));                                 \
+        STRANGE(side##_reset(h, &answer));                                     \
+        STRANGE(side##_counts(h, &pages));                                     \
+        STRANGE(side##_owner(h, 0, &owner));                                   \
+        side##_close(h);                                                       \
+    } while (0)
+
 static void machine_calls(nvmesgl *h) {
     nvmesgl_options options = NVMESGL_OPTIONS;
     nvmesgl_piece piece = {0, 512, NVMESGL_PIECE};
     nvmesgl_pages pages;
     nvmesgl_page_owner owner;
     STRANGE(nvmesgl_open(h, &options, NULL, 0, &answer));
-    STRANGE(nvmesgl_reserve(h, 1, NVMESGL_READ, 0, 1, &piece, 1, &answer));
     STRANGE(nvmesgl_reserve(h, 1, 99, 0, 1, &piece, 1, &answer));
-    STRANGE(nvmesgl_fill(h, 1, 0, block, 512, &answer));
-    STRANGE(nvmesgl_build(h, 1, 0, &answer));
-    STRANGE(nvmesgl_submit(h, 1, 0, &answer));
-    STRANGE(nvmesgl_cancel(h, 1, 0, &answer));
-    STRANGE(nvmesgl_collect(h, 1, 0, &answer));
-    STRANGE(nvmesgl_gather(h, 1, 0, block, 512, &answer));
-    STRANGE(nvmesgl_release(h, 1, 0, &answer));
-    STRANGE(nvmesgl_abort(h, 1, 0, &answer));
     STRANGE(nvmesgl_ring(h, 1, &answer));
     STRANGE(nvmesgl_reap(h, 1, &answer));
-    STRANGE(nvmesgl_delete_sq(h, 1, &answer));
-    STRANGE(nvmesgl_delete_cq(h, 1, &answer));
-    STRANGE(nvmesgl_create_cq(h, 1, &answer));
-    STRANGE(nvmesgl_create_sq(h, 1, &answer));
-    STRANGE(nvmesgl_retire(h, 1, &answer));
     STRANGE(nvmesgl_forge(h, 1, 0, block, &answer));
     STRANGE(nvmesgl_fetch(h, 1, &answer));
     STRANGE(nvmesgl_walk(h, 1, 0, &answer));
     STRANGE(nvmesgl_complete(h, 1, 0, &answer));
-    STRANGE(nvmesgl_reset(h, &answer));
     STRANGE(nvmesgl_serve(h, &answer));
     STRANGE(nvmesgl_read(h, 1, 0, block, 512, &answer));
     STRANGE(nvmesgl_write(h, 1, 0, block, 512, &answer));
     STRANGE(nvmesgl_compare(h, 1, 0, block, 512, &answer));
-    STRANGE(nvmesgl_counts(h, &pages));
-    STRANGE(nvmesgl_owner(h, 0, &owner));
-    nvmesgl_close(h);
+    SHARED_CALLS(nvmesgl, h);
 }
 
 static void host_calls(nvmehost *h) {
@@ -72,32 +78,15 @@ static void host_calls(nvmehost *h) {
     size_t count;
     STRANGE(nvmehost_open(h, &options, &answer));
     STRANGE(nvmehost_open_at(h, &options, &memory, &answer));
-    STRANGE(nvmehost_reserve(h, 1, NVMESGL_READ, 0, 1, &piece, 1, &answer));
-    STRANGE(nvmehost_fill(h, 1, 0, block, 512, &answer));
-    STRANGE(nvmehost_build(h, 1, 0, &answer));
-    STRANGE(nvmehost_submit(h, 1, 0, &answer));
-    STRANGE(nvmehost_cancel(h, 1, 0, &answer));
-    STRANGE(nvmehost_collect(h, 1, 0, &answer));
-    STRANGE(nvmehost_gather(h, 1, 0, block, 512, &answer));
-    STRANGE(nvmehost_release(h, 1, 0, &answer));
-    STRANGE(nvmehost_abort(h, 1, 0, &answer));
     STRANGE(nvmehost_ring(h, 1, &bell, &answer));
     STRANGE(nvmehost_reap(h, 1, &bell, &answer));
-    STRANGE(nvmehost_delete_sq(h, 1, &answer));
-    STRANGE(nvmehost_delete_cq(h, 1, &answer));
-    STRANGE(nvmehost_create_cq(h, 1, &answer));
-    STRANGE(nvmehost_create_sq(h, 1, &answer));
-    STRANGE(nvmehost_retire(h, 1, &answer));
-    STRANGE(nvmehost_reset(h, &answer));
     STRANGE(nvmehost_read(h, 0, block, 512));
     STRANGE(nvmehost_write(h, 0, block, 512));
-    STRANGE(nvmehost_counts(h, &pages));
-    STRANGE(nvmehost_owner(h, 0, &owner));
     STRANGE(nvmehost_look(h, 1, &queue));
     STRANGE(nvmehost_may(h, 0, &right));
     STRANGE(nvmehost_runs(h, 1, 0, &run, 1, &count));
     STRANGE(nvmehost_data_place(h, 1, 0, 0, &place));
-    nvmehost_close(h);
+    SHARED_CALLS(nvmehost, h);
 }
 
 static void controller_calls(nvmectl *h) {
