@@ -57,7 +57,7 @@ pub enum JobRefusal {
     #[error("the request has a fault: {0}")]
     Bad(RequestFault),
     /// It needs more pages than the queues leave of the pool.
-    #[error("{need} pages are needed, and no queue owns {pool}")]
+    #[error("{need} pages are needed, and the queues leave only {pool} of the pool")]
     NoPages {
         /// How many pages it needs.
         need: u32,

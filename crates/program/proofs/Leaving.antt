@@ -1,5 +1,5 @@
 -- What is written of a load.
-use Rattle.std.proofs.Common.{◌≡◌, ℕ, List, [], Option, subst, sym}
+use Rattle.std.proofs.Common.{ℕ, List, [], Option, subst, sym}
 use Rattle.std.{proofs.lemmas.List.append-nil, specs.Io.KnownBytes.Appends}
 use Rattle.load.specs.{Lines.{Tells, line_text}, declared.tally.Tally.Tally}
 use Rattle.program.specs.Loading.{Adds, LeavesLoad}

@@ -355,7 +355,7 @@ fn look_at_steps<R: AllocGlobal + Files, I: Read>(
 {
     let text = script_text(rt, path, reader)?;
     let (alloc, file) = (rt.alloc(), file_of(path));
-    let _said = read_options(alloc, ScriptKind::Steps, Grammar::Steps, file, &text)?;
+    read_options(alloc, ScriptKind::Steps, Grammar::Steps, file, &text)?;
     check_steps(alloc, file, &text)?;
     Ok(())
 }

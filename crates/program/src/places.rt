@@ -1,6 +1,6 @@
 //! Where a fault stands, as editors read it.
 
-ghost use Rattle.std.specs.Prelude.{◌≡◌, MatchOption, false, true};
+ghost use Rattle.std.specs.Prelude.{◌≡◌, IfSome, MatchOption, Some, false, true};
 ghost use Rattle.command_line.specs.Asked.{path_of};
 ghost use Rattle.program.specs.Performing.{is_file};
 
@@ -13,7 +13,8 @@ pub(crate) const STANDARD: &str = "-";
 
 /// The path of a script that is no standard input.
 pub(crate) fn file_of(path: Option<&str>) -> Option<&str>
-    ensures { MatchOption result (is_file (path_of path.entry) ≡ false) (λ file. is_file (path_of path.entry) ≡ true) }
+    ensures file { MatchOption result (is_file (path_of path.entry) ≡ false) (λ file. is_file (path_of path.entry) ≡ true) }
+    ensures path { IfSome result (λ file. path_of path.entry ≡ Some file.now) }
 {
     match path {
         Some(path) if path != STANDARD => Some(path),
