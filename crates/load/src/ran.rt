@@ -5,6 +5,7 @@ use crate::figures::Figures;
 use crate::histogram::Histogram;
 use crate::measured::Measured;
 use crate::tally::Tally;
+use script_cli::progress::each_second;
 use std::alloc::{AllocError, Global};
 
 /// What a load came to.
@@ -19,12 +20,6 @@ pub struct Ran {
     pub(crate) command_bytes: u64,
     /// How long its commands took in all, in nanoseconds.
     pub(crate) nanos: u64,
-}
-
-/// How many there are in a second, of so many in so many nanoseconds.
-pub(crate) fn each_second(many: u64, nanos: u64) -> u64 {
-    let micros = nanos / 1000;
-    many.saturating_mul(1_000_000) / micros.max(1)
 }
 
 /// Puts nanoseconds as microseconds with a tenth.

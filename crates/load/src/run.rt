@@ -17,12 +17,13 @@ use crate::figures::Report;
 use crate::layout::Layout;
 use crate::line::append_line;
 use crate::plan::Planned;
-use crate::progress::{Interval, Progress, Standing, Stopwatch};
+use crate::progress::Interval;
 use crate::ran::Ran;
 use crate::tally::Tally;
 use crate::timing::Timing;
 use block_image::Image;
 use driver_threads::{Gate, Job, JobEnds, Open, Round, Server, run_round};
+use script_cli::progress::{Progress, Standing, Stopwatch};
 use script_cli::workload::{Load, OutputFormat, Pattern};
 use script_cli::{RunFault, flush, not_opened, put};
 use std::alloc::{AllocError, AllocGlobal, Global};
@@ -183,10 +184,13 @@ fn run_commands<R: Clock + Eprint + Threads + Wait + Sync, P: Report>(
         if more == 0 {
             break;
         }
-        progress.tell(rt, alloc, standing_of(load, begun, nanos))?;
-        let gone = nanos.unwrap_or(0);
-        if interval.is_due(gone) {
-            report.take(&course.figures(command_bytes(load), gone));
+        let standing = standing_of(load, begun, nanos);
+        progress.tell(rt, alloc, standing)?;
+        if interval.is_due(standing.nanos) {
+            report.take(&course.figures(command_bytes(load), standing.nanos));
+            if !load.quiet {
+                progress.note(rt, alloc, standing)?;
+            }
         }
         let (after, many) = run_some(rt, alloc, world, course, load.depth, &timing, more)?;
         world = after;
@@ -301,7 +305,7 @@ fn tell_end<W: Write>(
 
 /// Opens a world over an image, runs the commands of a load over it, reads what they wrote once more where that is asked for, and writes the line
 /// that says how it went, unless standard output gets JSON: then nothing is written. Where it shows, standard error says how far it is. `server` says who serves as
-/// the submitters ring, and `report` is told what it came to so far, between rounds, each time that the load's interval has gone by.
+/// the submitters ring, and `report` is told what it came to so far, between rounds, each time that the load's interval has gone by: then standard error has a line that stays too, but where the load is quiet.
 ///
 /// # Errors
 ///

@@ -2,8 +2,8 @@
 
 use crate::figures::Figures;
 use crate::histogram::Histogram;
-use crate::ran::each_second;
 use crate::tally::Tally;
+use script_cli::progress::each_second;
 use serde::Serialize;
 use std::alloc::{AllocError, Global};
 

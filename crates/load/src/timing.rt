@@ -1,19 +1,12 @@
 //! When commands got their pages and gave them back.
 
 use driver_threads::{Gate, GateClosed, Point};
+use script_cli::progress::nanos_of;
 use std::alloc::{AllocError, Global};
 use std::collections::VecDeque;
 use std::rt::Clock;
 use std::sync::{Mutex, Wait};
-use std::time::{Duration, Instant};
-
-/// The nanoseconds of a duration.
-pub(crate) fn nanos_of(duration: Duration) -> u64 {
-    duration
-        .as_secs()
-        .saturating_mul(1_000_000_000)
-        .saturating_add(u64::from(duration.subsec_nanos()))
-}
+use std::time::Instant;
 
 /// The commands of a submitter in a round.
 #[derive(Drop)]

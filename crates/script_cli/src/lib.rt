@@ -17,6 +17,7 @@ mod lines;
 mod numbers;
 mod output;
 mod owners;
+pub mod progress;
 mod reply;
 mod run;
 mod saving;
