@@ -16,5 +16,5 @@ any thread, by one at a time: threads that share it take a lock around each call
 from .machine import Completion, Counts, Machine
 from .words import Code, Kind, Owner, OwnerKind, Piece, Refused, Reserved, State, Status, Step, Walk
 
-__version__ = "0.2.0"
+__version__ = "0.3.0"
 __all__ = ["Code", "Completion", "Counts", "Kind", "Machine", "Owner", "OwnerKind", "Piece", "Refused", "Reserved", "State", "Status", "Step", "Walk"]
