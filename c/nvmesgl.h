@@ -15,9 +15,9 @@
  *  4. malloc, realloc and free come from one allocator and align to 16; or nvmesgl_heap_array was called before the first opening.
  *  5. The array of nvmesgl_heap_array has one user at a time: with handles in several threads, malloc serves, and the array does not.
  *
- * What is proved of each call stands in crates/nvmesgl_c: a call that is not done changes nothing but the answer. A wrong queue, identifier, kind,
- * page or length, a closed or strange handle and a second opening each have a code. So has want of memory: nothing is lost then, and no call
- * leaks. What is open at nvmesgl_close is let go, whatever is outstanding.
+ * What is proved of each call stands in crates/nvmesgl_c: a call that is not done changes nothing but the answer (what nvmesgl_serve or a whole command
+ * had done by then stays done, and the answer tells it). A wrong queue, identifier, kind, page or length, a closed or strange handle and a second opening
+ * each have a code. So has want of memory: nothing is lost then, and no call leaks. What is open at nvmesgl_close is let go, whatever is outstanding.
  */
 #ifndef NVMESGL_H
 #define NVMESGL_H

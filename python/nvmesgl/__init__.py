@@ -9,8 +9,8 @@
         machine.ring(1)
 
 `Machine` is both sides (c/nvmesgl.h), `nvmesgl.host.Host` the driver alone (c/nvmehost.h), and `nvmesgl.controller.Controller` the controller alone (c/nvmectl.h).
-Each method is one call and returns what the call tells. A call that is not done raises `Refused`, which has its code, and changes nothing. A handle may be used by
-any thread, by one at a time: threads that share it take a lock around each call.
+Each method is one call and returns what the call tells. A call that is not done raises `Refused`, which has its code, and changes nothing, but for what `serve` and a
+whole command had done by then. A handle may be used by any thread, by one at a time: threads that share it take a lock around each call.
 """
 
 from .machine import Completion, Counts, Machine

@@ -7,7 +7,7 @@ from types import TracebackType
 from typing import Any, Dict, List, Optional, Type, TypeVar
 
 from ._library import Answer, Handle
-from .words import Code, Refused, Status
+from .words import Code, Refused, State, Status
 
 Self = TypeVar("Self", bound="Opened")
 
@@ -42,7 +42,8 @@ class Opened:
         """Makes a call that writes an answer."""
         code = self._code(name, *arguments)
         if code != Code.DONE:
-            raise Refused(name, code, self._answer.need, self._answer.free, self._touched())
+            left = self._answer.cid if self._answer.state == State.LEFT else None
+            raise Refused(name, code, self._answer.need, self._answer.free, self._touched(), left)
         return self._answer
 
     def _look(self, name: str, *arguments: object) -> None:

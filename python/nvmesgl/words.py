@@ -74,7 +74,7 @@ class Kind(enum.IntEnum):
 
 
 class State(enum.IntEnum):
-    """How a walk stands, what a reap found, or that there is more to serve."""
+    """How a walk stands, what a reap found, that there is more to serve, or that a whole command is outstanding."""
 
     WALK_MORE = 1
     WALK_END = 2
@@ -86,6 +86,7 @@ class State(enum.IntEnum):
     REAP_BAD_HEAD = 8
     REAP_UNKNOWN_ID = 9
     SERVE_MORE = 10
+    LEFT = 11
 
 
 class OwnerKind(enum.IntEnum):
@@ -153,17 +154,20 @@ class Walk(NamedTuple):
 
 
 class Refused(Exception):
-    """A call that was not done. Nothing changed. `call` is its name; `need` and `free` count pages, where too few are free; `touched` are the pages
-    that a step of the controller touched before it was refused."""
+    """A call that was not done. Nothing changed, but for what `serve` had done by then, and where `left` is a number: it is the identifier of a whole
+    command that was submitted and could not be finished, and is outstanding. `call` is the call's name; `need` and `free` count pages, where too few are free;
+    `touched` are the pages that a step of the controller touched before it was refused."""
 
-    def __init__(self, call: str, code: int, need: int = 0, free: int = 0, touched: Sequence[int] = ()) -> None:
+    def __init__(self, call: str, code: int, need: int = 0, free: int = 0, touched: Sequence[int] = (), left: "int | None" = None) -> None:
         self.call = call
         self.code = Code(code)
         self.need = need
         self.free = free
         self.touched = list(touched)
+        self.left = left
         numbers = {Code.NO_PAGES: f" (need {need}, free {free})", Code.NO_RUN: f" (need {need})"}.get(self.code, "")
-        super().__init__(f"{call}: {self.code.name}: {library().nvmesgl_text(code).decode()}{numbers}")
+        outstanding = "" if left is None else f"; command {left} is outstanding"
+        super().__init__(f"{call}: {self.code.name}: {library().nvmesgl_text(code).decode()}{numbers}{outstanding}")
 
     def __reduce__(self) -> Tuple[Any, ...]:
-        return type(self), (self.call, int(self.code), self.need, self.free, tuple(self.touched))
+        return type(self), (self.call, int(self.code), self.need, self.free, tuple(self.touched), self.left)

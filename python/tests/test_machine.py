@@ -152,3 +152,15 @@ def test_whole_commands():
         refused(Code.LENGTH_MISMATCH, machine.read, 1, 0, bytearray(513))
         refused(Code.NO_QUEUE, machine.read, 2, 0, bytearray(512))
         assert machine.counts().free_pages == 300 - machine.counts().queue_pages
+
+
+def test_a_whole_command_that_is_left_is_named():
+    with Machine() as machine:
+        machine.forge(1, 0, bytes(14) + b"\x01\x00")
+        assert machine.reap(1).state == State.REAP_WRONG_QUEUE
+        why = refused(Code.NOT_YET, machine.write, 1, 0, bytes(512))
+        assert str(why) == "write: NOT_YET: the command has not ended; command 0 is outstanding"
+        assert pickle.loads(pickle.dumps(why)).left == why.left == 0
+        machine.reset()
+        assert machine.collect(1, why.left) == (0, 8)
+        machine.release(1, why.left)
