@@ -5,7 +5,7 @@
  * call that reaches it is lent it, and keeps nothing of it. An address behind its end is a page that is out. The pool may move or grow between calls, and
  * anybody may write into it between them: what a call promises it promises for any bytes.
  *
- * Of C nothing more is asked than nvmesgl.h asks (1 to 4 there); a pool overlaps no answer and no handle. What is proved of each call stands in
+ * Of C nothing more is asked than nvmesgl.h asks (1 to 5 there); a pool overlaps no answer and no handle. What is proved of each call stands in
  * crates/nvmesgl_c: a call that is not done changes nothing but the answer.
  */
 #ifndef NVMECTL_H

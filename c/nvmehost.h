@@ -9,8 +9,9 @@
  * owner, no identifier of a queue is outstanding twice, and a completion that fits no submitted command is rejected. What is proved of each call stands in
  * crates/nvmesgl_c: a call that is not done changes nothing but the answer.
  *
- * Of C nothing more is asked than nvmesgl.h asks (1 to 4 there): a handle is all zero bytes before its opening (NVMEHOST_CLOSED), it is never copied, and one
- * call at a time is made on it. Codes, kinds, pieces, answers and owners are those of nvmesgl.h.
+ * Of C nothing more is asked than nvmesgl.h asks (1 to 5 there): a handle is all zero bytes before its opening (NVMEHOST_CLOSED), it is never copied, and one
+ * call at a time is made on it; and of a pool in memory of the caller's what rules 6 to 8 of docs/C.md say. Codes, kinds, pieces, answers and owners are those
+ * of nvmesgl.h.
  */
 #ifndef NVMEHOST_H
 #define NVMEHOST_H
@@ -170,7 +171,7 @@ uint32_t nvmehost_cancel(nvmehost *, uint16_t q, uint16_t cid, nvmesgl_answer *)
 /* Collects a command that has ended, by its ticket: answer.sct and answer.sc. Its pages are out of the pool. Refused: NO_VALUE, NOT_YET, MEMORY. */
 uint32_t nvmehost_collect(nvmehost *, uint16_t q, uint16_t cid, nvmesgl_answer *) NVMESGL_CALL(1, 4);
 /* Gathers the bytes of a finished Read into the front of a buffer: answer.bytes; none of a Write or a Compare.
- * Refused: NO_VALUE, TOO_SHORT (the buffer stays as it was), MEMORY. */
+ * Refused: NO_VALUE, MEMORY, TOO_SHORT (the buffer stays as it was). */
 uint32_t nvmehost_gather(nvmehost *, uint16_t q, uint16_t cid, uint8_t *buffer, size_t buffer_len, nvmesgl_answer *) NVMESGL_CALL(1, 6);
 /* Releases a finished command: its pages and its identifier are free. Refused: NO_VALUE. */
 uint32_t nvmehost_release(nvmehost *, uint16_t q, uint16_t cid, nvmesgl_answer *) NVMESGL_CALL(1, 4);

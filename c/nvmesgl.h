@@ -7,7 +7,7 @@
  *
  * What C must keep, and nothing here checks:
  *  1. A handle is all zero bytes before its opening (NVMESGL_CLOSED). It is never copied and never written while it is open. A handle of another kind, and one that was never zeroed or
- *     was overwritten, is told by its mark, and left alone (NVMESGL_NO_HANDLE); but one in 2^32 bytes of chance is the mark.
+ *     was overwritten, is told by its mark and left alone (NVMESGL_NO_HANDLE); but arbitrary bytes may hold the mark, once in 2^32.
  *  2. One call at a time on a handle. It may go from thread to thread, where calls are ordered by a lock, or by the start or the end of a thread. No call from a signal handler, and
  *     none from a forked child.
  *  3. A pointer to a handle (but of a closing), an answer, options or another struct is not null. A pointer that goes with a length may be null where the
@@ -284,7 +284,7 @@ uint32_t nvmesgl_cancel(nvmesgl *, uint16_t q, uint16_t cid, nvmesgl_answer *) N
 /* Collects a command that has ended, by its ticket: answer.sct and answer.sc. Refused: NO_VALUE, NOT_YET, MEMORY. */
 uint32_t nvmesgl_collect(nvmesgl *, uint16_t q, uint16_t cid, nvmesgl_answer *) NVMESGL_CALL(1, 4);
 /* Gathers the bytes of a finished Read into the front of a buffer: answer.bytes; none of a Write or a Compare. What a Read that failed did not bring is zeros.
- * Refused: NO_VALUE, TOO_SHORT (the buffer stays as it was), MEMORY. */
+ * Refused: NO_VALUE, MEMORY, TOO_SHORT (the buffer stays as it was). */
 uint32_t nvmesgl_gather(nvmesgl *, uint16_t q, uint16_t cid, uint8_t *buffer, size_t buffer_len, nvmesgl_answer *) NVMESGL_CALL(1, 6);
 /* Releases a finished command: its pages and its identifier are free. Refused: NO_VALUE. */
 uint32_t nvmesgl_release(nvmesgl *, uint16_t q, uint16_t cid, nvmesgl_answer *) NVMESGL_CALL(1, 4);
