@@ -101,12 +101,12 @@ static void unlink_memory(nvmehost_memory *memory) {
 }
 
 uint32_t nvmehost_open_at(nvmehost *host, const nvmehost_options *options, nvmehost_memory *memory, nvmesgl_answer *answer) {
+    /* Refused: what is open stays where it is, and so does what is no handle of a host. */
+    if (host->mark != 0) return nvmehost_open(host, options, answer);
     if (memory->pages != options->pages) {
         memset(answer, 0, sizeof *answer);
         return NVMESGL_BAD_OPTION;
     }
-    /* Refused: what is open stays where it is, and so does what is no handle of a host. */
-    if (host->mark != 0) return nvmehost_open(host, options, answer);
     unlink_memory(memory);
     memory->next = memories;
     memory->used = 0;
@@ -124,7 +124,8 @@ uint32_t nvmehost_open_at(nvmehost *host, const nvmehost_options *options, nvmeh
 
 void nvmehost_close_at(nvmehost *host, nvmehost_memory *memory) {
     nvmehost_close(host);
-    unlink_memory(memory);
+    /* What is no handle of a host was left alone: its memory may be that of a host that is open. */
+    if (host != NULL && host->mark == 0) unlink_memory(memory);
 }
 
 struct tried rattle_alloc(size_t n, size_t align) {

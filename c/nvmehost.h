@@ -125,8 +125,9 @@ typedef struct nvmehost_memory {
 
 /* Opens as nvmehost_open does, over the caller's memory: page p of the pool stands at memory->at + 4,096 p until the handle is closed, whether the page is in or out. Such a handle is
  * closed by nvmehost_close_at; until then the struct stays where it is. One opening at a time in a program.
- * Refused before all else: BAD_OPTION where memory->pages is not options->pages. */
+ * Refused after OPEN_HANDLE and NO_HANDLE, and before all else: BAD_OPTION where memory->pages is not options->pages. */
 uint32_t nvmehost_open_at(nvmehost *, const nvmehost_options *, nvmehost_memory *, nvmesgl_answer *) NVMESGL_CALL(1, 2, 3, 4);
+/* Closes a handle as nvmehost_close does; the memory, which is that of its opening, is the caller's again. */
 void nvmehost_close_at(nvmehost *, nvmehost_memory *);
 
 /* Over such memory (rule 6 of docs/C.md) the caller may write the data of a draft in place, from reserve to submit, as nvmehost_fill would, and read that of a finished command, from collect to

@@ -1,4 +1,5 @@
-/* Handles that are none of the kind that a call takes: another kind's, never zeroed, overwritten. Each call of the library answers NO_HANDLE, and leaves the handle and all else as it was. */
+/* Handles that are none of the kind that a call takes: another kind's, never zeroed, overwritten. Each call of the library answers NO_HANDLE, and leaves the handle as it was; a closing leaves
+ * the memory of a host that is open, too. */
 #include "nvmectl.h"
 #include "nvmehost.h"
 
@@ -9,7 +10,7 @@
 enum { PAGE = 4096 };
 
 static nvmesgl_answer answer;
-static uint8_t pool[16 * PAGE], block[512];
+static uint8_t pool[16 * PAGE] __attribute__((aligned(PAGE))), block[512];
 static unsigned made;
 
 static void want(const char *what, uint32_t code, uint32_t wanted) {
@@ -86,6 +87,7 @@ static void host_calls(nvmehost *h) {
     STRANGE(nvmehost_may(h, 0, &right));
     STRANGE(nvmehost_runs(h, 1, 0, &run, 1, &count));
     STRANGE(nvmehost_data_place(h, 1, 0, 0, &place));
+    nvmehost_close_at(h, &memory);
     SHARED_CALLS(nvmehost, h);
 }
 
@@ -141,6 +143,11 @@ int main(void) {
     want("a closed handle", nvmesgl_ring(&machine, 1, &answer), NVMESGL_CLOSED_HANDLE);
     want("a closed handle", nvmehost_reset(&host, &answer), NVMESGL_CLOSED_HANDLE);
     want("a closed handle", nvmectl_reset(&controller), NVMESGL_CLOSED_HANDLE);
+    /* Where a closing of a strange handle took the memory of another, the last one here would free what malloc never gave. */
+    nvmehost strange = {NULL, 1};
+    nvmehost_memory memory = {pool, 16, 0, NULL};
+    want("open_at", nvmehost_open_at(&host, &host_options, &memory, &answer), NVMESGL_DONE);
+    nvmehost_close_at(&strange, &memory), nvmehost_close_at(&host, &memory);
     printf("%u calls, each with its code\n", made);
     return 0;
 }
