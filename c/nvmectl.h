@@ -2,7 +2,7 @@
  * nvmectl: the modelled NVMe controller alone, over memory of the caller's, for C (C99) and C++.
  *
  * The pool is any array of bytes of the caller's: address a of a command is its byte a, and page p its bytes 4,096 p to 4,096 p + 4,095. Each
- * call that reaches it is lent it, and keeps nothing of it. An address behind its end is a page that is out. The pool may move or grow between calls, and
+ * call that reaches it is lent it, and keeps nothing of it. An address past its end is a page that is out. The pool may move or grow between calls, and
  * anybody may write into it between them: what a call promises it promises for any bytes.
  *
  * Of C nothing more is asked than nvmesgl.h asks (1 to 5 there); a pool overlaps no answer and no handle. What is proved of each call stands in
@@ -63,7 +63,7 @@ typedef struct nvmectl_step {
 /* Opening and closing --------------------------------------------------------------------------------------------- */
 
 /* Opens over the bytes of an image, whole blocks of 512, or over options.blocks blocks of zeros where image_len is 0. Queue i has the i-th
- * of the pages, and queue 0 is the admin queue; at most 65,536. Each queue is live, with empty rings. A reset behind the opening leaves queue 0 alone, and the
+ * of the pages, and queue 0 is the admin queue; at most 65,536. Each queue is live, with empty rings. A reset after the opening leaves queue 0 alone, and the
  * others to Create I/O CQ and SQ. Refused, the first that holds: OPEN_HANDLE or NO_HANDLE, BAD_SIZE, BAD_OPTION,
  * BAD_CONFIG, BAD_IMAGE, MEMORY. */
 uint32_t nvmectl_open(nvmectl *, const nvmectl_options *, const nvmectl_queue *queues, size_t queue_count, const uint8_t *image, size_t image_len) NVMESGL_CALL(1, 2);

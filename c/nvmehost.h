@@ -154,18 +154,18 @@ static inline void nvmehost_write_doorbell(volatile void *registers, unsigned st
 /* A command, named by its queue and identifier ---------------------------------------------------------------------- */
 
 /* Below, "Refused" names the codes of a handle that is open, in the order in which they are looked for. But where memory is refused for the copy
- * of pieces (nvmehost_reserve, behind BAD_PIECE), MEMORY comes before what would be looked for next. */
+ * of pieces (nvmehost_reserve, after BAD_PIECE), MEMORY comes before what would be looked for next. */
 
 /* Reserves a command of blocks of 512 bytes from slba on: the lowest free identifier (answer.cid) and pages (data_pages, chain_pages), as a draft. The pages are out of the
  * pool until the draft is submitted or cancelled.
  * Refused: NO_KIND, BAD_PIECE, NO_QUEUE, DELETING, a fault of the request (TOO_MANY_PIECES to LENGTH_MISMATCH), NO_IDENTIFIER, NO_PAGES, MEMORY. */
 uint32_t nvmehost_reserve(nvmehost *, uint16_t q, uint32_t kind, uint64_t slba, uint32_t blocks, const nvmesgl_piece *pieces, size_t piece_count,
                           nvmesgl_answer *) NVMESGL_CALL(1, 8);
-/* Fills the draft of a Write or a Compare with the bytes, and zeros behind them. Refused: NO_VALUE, NOT_A_SOURCE, WRONG_LENGTH. */
+/* Fills the draft of a Write or a Compare with the bytes, and zeros after them. Refused: NO_VALUE, NOT_A_SOURCE, WRONG_LENGTH. */
 uint32_t nvmehost_fill(nvmehost *, uint16_t q, uint16_t cid, const uint8_t *bytes, size_t byte_count, nvmesgl_answer *) NVMESGL_CALL(1, 6);
 /* Lays the draft's chain. Refused: NO_VALUE, MEMORY. */
 uint32_t nvmehost_build(nvmehost *, uint16_t q, uint16_t cid, nvmesgl_answer *) NVMESGL_CALL(1, 4);
-/* Submits a draft that is built: its pages are in the pool, and its entry stands behind the tail. A ticket takes its place. Refused: NO_VALUE, NOT_BUILT, QUEUE_GONE, QUEUE_FULL. */
+/* Submits a draft that is built: its pages are in the pool, and its entry stands where the tail was. A ticket takes its place. Refused: NO_VALUE, NOT_BUILT, QUEUE_GONE, QUEUE_FULL. */
 uint32_t nvmehost_submit(nvmehost *, uint16_t q, uint16_t cid, nvmesgl_answer *) NVMESGL_CALL(1, 4);
 /* Cancels a draft: its pages and its identifier are free. Refused: NO_VALUE. */
 uint32_t nvmehost_cancel(nvmehost *, uint16_t q, uint16_t cid, nvmesgl_answer *) NVMESGL_CALL(1, 4);

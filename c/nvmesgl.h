@@ -266,13 +266,13 @@ void nvmesgl_close(nvmesgl *);
 /* The driver: a command, named by its queue and identifier -------------------------------------------------------- */
 
 /* Below, "Refused" names the codes of a handle that is open, in the order in which they are looked for. But where memory is refused for the copy
- * of pieces or bytes (nvmesgl_reserve, behind BAD_PIECE; nvmesgl_fill), MEMORY comes before what would be looked for next. */
+ * of pieces or bytes (nvmesgl_reserve, after BAD_PIECE; nvmesgl_fill), MEMORY comes before what would be looked for next. */
 
 /* Reserves a command of blocks of 512 bytes from slba on: an identifier (answer.cid) and pages (data_pages, chain_pages), as a draft.
  * Refused: NO_KIND, BAD_PIECE, NO_QUEUE, DELETING, a fault of the request (TOO_MANY_PIECES to LENGTH_MISMATCH), NO_IDENTIFIER, NO_PAGES, MEMORY. */
 uint32_t nvmesgl_reserve(nvmesgl *, uint16_t q, uint32_t kind, uint64_t slba, uint32_t blocks, const nvmesgl_piece *pieces, size_t piece_count,
                          nvmesgl_answer *) NVMESGL_CALL(1, 8);
-/* Fills the draft of a Write or a Compare with the bytes, and zeros behind them; a draft that was built may be filled again.
+/* Fills the draft of a Write or a Compare with the bytes, and zeros after them; a draft that was built may be filled again.
  * Refused: NO_VALUE, NOT_A_SOURCE, WRONG_LENGTH, MEMORY. */
 uint32_t nvmesgl_fill(nvmesgl *, uint16_t q, uint16_t cid, const uint8_t *bytes, size_t byte_count, nvmesgl_answer *) NVMESGL_CALL(1, 6);
 /* Lays the draft's chain. Refused: NO_VALUE, MEMORY. */
@@ -321,7 +321,7 @@ uint32_t nvmesgl_complete(nvmesgl *, uint16_t q, uint16_t cid, nvmesgl_answer *)
 /* Resets the controller: every command that was submitted has ended, aborted. It is done always. */
 uint32_t nvmesgl_reset(nvmesgl *, nvmesgl_answer *) NVMESGL_CALL(1, 2);
 /* Does all that the controller can do, of every queue, each step as one of the three calls above would: answer.count says how many commands it completed, and
- * answer.state is NVMESGL_SERVE_MORE where it stopped behind 65,536 steps with more to do. Refused: MEMORY, and behind a forgery what a step is refused for;
+ * answer.state is NVMESGL_SERVE_MORE where it stopped after 65,536 steps with more to do. Refused: MEMORY, and after a forgery what a step is refused for;
  * answer.count says what was done before. */
 uint32_t nvmesgl_serve(nvmesgl *, nvmesgl_answer *) NVMESGL_CALL(1, 2);
 

@@ -20,7 +20,7 @@ class Shell:
         self.lines = 0
 
     def ask(self, line):
-        """The lines that a line is answered with. A line that is printed behind them shows where they end."""
+        """The lines that a line is answered with. A line that is printed after them shows where they end."""
         self.lines += 1
         mark = f"end of answer {self.lines}"
         self.process.stdin.write(f"{line}\n.print {mark}\n")

@@ -85,7 +85,7 @@ int main(void) {
     nvmesgl_heap_array(heap, sizeof heap);
     if (!told("open", nvmectl_open(&controller, &options, queues, 2, NULL, 0))) return 1;
 
-    /* The Write: 300 and 212 bytes, and behind a link to another segment the last 512 at the end of a page. */
+    /* The Write: 300 and 212 bytes, and after a link to another segment the last 512 at the end of a page. */
     memcpy(pool + 8 * PAGE, bytes, 300);
     memcpy(pool + 9 * PAGE + 100, bytes + 300, 212);
     memcpy(pool + 11 * PAGE - 512, bytes + 512, 512);

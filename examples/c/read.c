@@ -1,4 +1,4 @@
-/* A Read of one block, step by step, as examples/read.script; then one behind the end of the image, which the controller finds at fault as it fetches it. */
+/* A Read of one block, step by step, as examples/read.script; then one past the end of the image, which the controller finds at fault as it fetches it. */
 #include "nvmesgl.h"
 
 #include <stdio.h>

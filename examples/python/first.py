@@ -1,4 +1,4 @@
-"""A Write of one block and a Read of it, step by step; a Read behind the end of the image; and whole commands in one call. Run it by:
+"""A Write of one block and a Read of it, step by step; a Read past the end of the image; and whole commands in one call. Run it by:
 PYTHONPATH=python python3 examples/python/first.py"""
 
 from nvmesgl import Code, Kind, Machine, Piece, Refused, State

@@ -75,7 +75,7 @@ class Qtest:
         return self.log.read().decode(errors="replace").strip()
 
     def ask(self, *lines):
-        """Sends commands, and answers what stands behind `OK` in the answer to each."""
+        """Sends commands, and answers what stands after `OK` in the answer to each."""
         self.socket.sendall("".join(line + "\n" for line in lines).encode())
         return [self._answer(line) for line in lines]
 

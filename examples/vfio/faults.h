@@ -5,7 +5,7 @@
 /* Begins to look, from now on. Without the right to read the log, none is told. */
 void faults_begin(void);
 
-/* How many were told since the last look; each is printed behind these blanks, where there are some. */
+/* How many were told since the last look; each is printed after these blanks, where there are some. */
 int faults_told(const char *blanks);
 
 #endif

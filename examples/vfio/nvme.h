@@ -30,7 +30,7 @@ struct nvme {
     struct vfio vfio;
     nvmehost host;
     nvmehost_memory memory; /* the device finds page p at memory.at + 4,096 p, */
-    uint8_t *identify;      /* and behind the pool a page for Identify */
+    uint8_t *identify;      /* and after the pool a page for Identify */
     unsigned stride;        /* of the doorbells: CAP.DSTRD */
     double patience;        /* seconds that the controller may take to start and to stop */
     bool carrier_made;

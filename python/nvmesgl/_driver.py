@@ -28,7 +28,7 @@ class Driver(Opened):
         return Reserved(told.cid, told.data_pages, told.chain_pages)
 
     def fill(self, q: int, cid: int, content: Any) -> None:
-        """Fills the draft of a Write or a Compare with the bytes of any buffer, and zeros behind them."""
+        """Fills the draft of a Write or a Compare with the bytes of any buffer, and zeros after them."""
         self._call("fill", q, cid, *lent(content))
 
     def build(self, q: int, cid: int) -> None:
@@ -36,7 +36,7 @@ class Driver(Opened):
         self._call("build", q, cid)
 
     def submit(self, q: int, cid: int) -> None:
-        """Submits a draft that is built: its pages are in the pool, and its entry stands behind the tail. It is not rung."""
+        """Submits a draft that is built: its pages are in the pool, and its entry stands where the tail was. It is not rung."""
         self._call("submit", q, cid)
 
     def cancel(self, q: int, cid: int) -> None:

@@ -1,4 +1,4 @@
-"""A host against a device that Python plays: what its calls tell, how its queues are made behind a reset, what the device may do with which page, and a pool
+"""A host against a device that Python plays: what its calls tell, how its queues are made after a reset, what the device may do with which page, and a pool
 in memory of one's own."""
 
 import ctypes
