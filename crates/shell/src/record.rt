@@ -168,7 +168,7 @@ impl Record {
         self.keep_lines(owners)
     }
 
-    /// The whole transcript, with the counts at its end; none where a step does not stand there.
+    /// The whole transcript, with the counts at its end; none where a step does not stand there, or where it is longer than one that is read.
     pub(crate) fn transcript(
         &self,
         alloc: Global,
@@ -180,6 +180,9 @@ impl Record {
         let mut text = String::from_str(alloc, &self.text)?;
         text.push_str("> ")?;
         append_counts(&mut text, counts)?;
+        if text.len() > MAX_TRANSCRIPT {
+            return Ok(None);
+        }
         Ok(Some(text))
     }
 }
