@@ -24,7 +24,7 @@ pub enum BytesFault {
     Case(CaseFault),
     /// They are no case, or no entry, and the output told it.
     Answered(CaseFault),
-    /// The word before them is not `sqe`, `cqe` or `sgl`.
+    /// The word before them names no kind of bytes.
     UnknownKind,
     /// The input that has them could not be read.
     Unreadable,
