@@ -114,7 +114,7 @@ impl DotWord {
             DotWord::Trace => "whether each step tells below its answer what it moved",
             DotWord::Serve => "lets the controller work until it rests, on all queues or on one",
             DotWord::Read => "reads blocks, and prints their bytes; or answers the lines of a file",
-            DotWord::Write => "writes blocks: HEX, or runs as AB*1,00*511; zeros behind them",
+            DotWord::Write => "writes blocks: HEX, or runs as AB*1,00*511; zeros after them",
             DotWord::Save => "writes the image into a file",
             DotWord::Dump => "what was done in this world, as a transcript",
             DotWord::Output => "writes what is answered into a file, or to standard output again",

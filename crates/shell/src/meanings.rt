@@ -19,10 +19,7 @@ pub const REFUSALS: [(&str, &str); 28] = [
         "Deleting",
         "the queue is being deleted, and takes no new commands",
     ),
-    (
-        "Bad",
-        "the request is at fault; the name behind it says how",
-    ),
+    ("Bad", "the request is at fault; the name after it says how"),
     (
         "NoIdentifier",
         "a queue of n entries has n - 1 identifiers, and all are outstanding: release a command first",
@@ -74,7 +71,7 @@ pub const REFUSALS: [(&str, &str); 28] = [
     ),
     (
         "NoRun",
-        "so many free pages do not stand one behind the other",
+        "so many free pages do not stand one after the other",
     ),
     (
         "NoSlot",
