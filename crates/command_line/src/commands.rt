@@ -135,8 +135,7 @@ impl Number {
     }
 }
 
-const STEPS_JSON: &str =
-    "Prints a JSON object for each step, with what it moved, and one with the counts at the end";
+const STEPS_JSON: &str = "Prints a JSON object for each step, and one with the counts at the end";
 
 const THREADS_JSON: &str = "Prints a JSON object for each job, and one with the counts at the end";
 
@@ -242,7 +241,7 @@ fn words_arg<'a>(alloc: Global) -> Arg<'a>
         .value_name("WORD")
         .action(ArgAction::Append)
         .required(true)
-        .help("`sqe`, `cqe` or `sgl`, and behind it the bytes")
+        .help("`sqe`, `admin`, `cqe` or `sgl` and the bytes, or `status` and a status")
 }
 
 /// The option that says that what came is written into the files.

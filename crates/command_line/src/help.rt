@@ -25,15 +25,15 @@ pub const STEPS_ABOUT: &str = "Plays a script, step by step, and prints what eac
 
 The script is read and checked whole before its first step. A refused step is an answer too:
 the run goes on, and its exit status is 0, or 4 with --strict. With --save the image is written
-into a file behind the last step, so that a later run can begin with it (--image). A first line
-as `# options: --segment 2` says options of the script's own, which go before those typed. Lines
-behind `>` are passed over: they are the answers of a transcript.";
+into a file after the last step, so that a later run can begin with it (--image). A first line
+as `# options: --segment 2` says options of the script's own, in place of those that are typed.
+Lines that begin with `>` are passed over: they are the answers of a transcript.";
 
 /// What `nvmesgl steps --help` says last.
 pub const STEPS_AFTER: &str = "A script has one step on each line; `#` begins a comment.
   reserve Q KIND SLBA BLOCKS PIECE..   KIND is read, write or compare; a PIECE is OFFSET+LEN,
                                        bytes of a page of its own, or xLEN, bytes left out
-  fill Q CID HEX                       the bytes of a Write or Compare, zeros behind them
+  fill Q CID HEX                       the bytes of a Write or Compare, zeros after them
   build Q CID                          lays the scatter-gather list
   submit Q CID  |  cancel Q CID        sends the command, or gives it up
   ring Q                               tells the controller
@@ -85,7 +85,7 @@ before its first job. A refused job is an answer too: the run goes on, and its e
 pub const THREADS_AFTER: &str = "A script has one job on each line; `#` begins a comment.
   job S Q read SLBA BLOCKS PIECE..          S is the submitter, from 0, and Q the queue;
   job S Q write SLBA BLOCKS HEX PIECE..     a PIECE is OFFSET+LEN, bytes of a page of its own,
-  job S Q compare SLBA BLOCKS HEX PIECE..   or xLEN, bytes left out; behind HEX stand zeros
+  job S Q compare SLBA BLOCKS HEX PIECE..   or xLEN, bytes left out; after HEX stand zeros
 
 When all jobs have ended, the lines of the jobs are printed in the order of the script, then
 who owns which page, and then the counts.
@@ -130,8 +130,9 @@ Without --runtime it is the same for the same words. `done` are commands with st
 `verified` reads that brought what stands there. The reads at the end are none of those `done`.
 
 Times go to standard error: commands and MiB a second, and the latencies, from when a command has
-its pages until these are free again. --stats writes them as JSON in the form of fio, anew after each
---status-interval too, and --output-format json prints that JSON in place of the line:
+its pages until these are free again. --stats writes them as JSON in the form of fio; with
+--status-interval they are written anew each time that it has gone by, and standard error says how
+far the load is. --output-format json prints that JSON in place of the line:
   nvmesgl load --rw randrw --runtime 10s --output-format json | jq .jobs[0].read.iops
 
 Example:
@@ -155,9 +156,10 @@ Exit status: 0 no fault, 1 the script is at fault, 2 the arguments, 3 memory or 
 /// What `nvmesgl test --help` says first.
 pub const TEST_ABOUT: &str = "Plays transcripts, and tells which come out otherwise than they say.
 
-A transcript is a script of steps, and below each step what it answers, each line behind `> `.
-For each file one line is printed: `ok` and the file, or the file and the first difference. The
-options are those of each world, where a transcript does not say others in its first line.";
+A transcript is a script of steps, or one of jobs whose first line says --submitters, and below
+each of its lines what that prints, each line after `> `. For each file one line is printed: `ok`
+and the file, or the file and the first difference. The options are those of each world, where a
+transcript does not say others in its first line.";
 
 /// What `nvmesgl test --help` says last.
 pub const TEST_AFTER: &str =
@@ -204,14 +206,17 @@ rule.";
 
 /// What `nvmesgl explain --help` says last.
 pub const EXPLAIN_AFTER: &str = "The input has one thing on each line; `#` begins a comment.
-  sqe BYTES       the entry of an I/O queue, 64 bytes
-  page P BYTES    the bytes of a page, zeros behind them; each page that is not told has zeros
-  out P           the host has this page out: the controller cannot reach it
-  block N BYTES   the bytes of a block, zeros behind them
-  pages N         how many pages the pool has, 8 to 65536, before these; else 16
-  blocks N        how many blocks the image has, 1 to 65536, before these; else 64
+  sqe BYTES         the entry of an I/O queue, 64 bytes
+  page P BYTES      the bytes of a page, zeros after them; each page that is not told has zeros
+  at ADDRESS BYTES  bytes from an address on, which is hexadecimal, as 0x142FE0000
+  out P             the host has this page out: the controller cannot reach it; or out ADDRESS
+  block N BYTES     the bytes of a block, zeros after them
+  pages N           how many pages the pool has, 8 to 65536, or any; before these; else 16
+  memory BASE SIZE  the pool has SIZE bytes from BASE on, both hexadecimal; before these
+  blocks N          how many blocks there are, 1 to 65536, or any; before these; else 64
+  nsid N            the namespace that the entry must name; else 1
 BYTES are hexadecimal digits, blanks anywhere between two bytes, or 00*16 for one byte so often,
-or @FILE for the bytes of a file.
+or @FILE for the bytes of a file; lines that xxd, hexdump or od print are read too.
 Page P has the addresses from 4096 times P on.
 
 Example:
@@ -231,7 +236,7 @@ pub const SHOW_ABOUT: &str =
 
 The first word says what the bytes are: `sqe` a submission entry of an I/O queue, 64 bytes, `admin`
 one of the admin queue, 64, `cqe` a completion entry, 16, `sgl` a scatter-gather list descriptor,
-16. All others are the bytes, or @FILE for those of a file. Behind `status` stands a status, as 0:0D
+16. All others are the bytes, or @FILE for those of a file. After `status` stands a status, as 0:0D
 or as the 15 bits of its field, 0x400D.";
 
 /// What `nvmesgl show --help` says last.

@@ -240,7 +240,7 @@ fn sentence(alloc: Global, given: &ArgMatches<'_>, wrong: Wrong<'_>) -> Result<S
     match wrong {
         Wrong::Number(number, value) => out_of_range(alloc, &number, value),
         Wrong::Blocks(name, most, text) => format!(in alloc;
-            "invalid value '{text}' for '--{name} <SIZE>': 1 to {most} blocks of 512 bytes are wanted, or as many bytes with a unit, as 512b, 4k or 1m"
+            "invalid value '{text}' for '--{name} <SIZE>': 1 to {most} blocks of 512 bytes are wanted, or as many bytes with a unit, as 512b or 4k"
         ),
         Wrong::Time(name, least, text) => format!(in alloc;
             "invalid value '{text}' for '--{name} <TIME>': {least} to 4294967295 seconds are wanted, or a number with a unit, as 90s, 10m or 2h"
