@@ -91,7 +91,7 @@ abbrev pub threading_in : List Row → Threading
 threading_in rows = record {
   submitters = submitters_in rows;
   depth = number_under (codes "depth") 1 rows;
-  log_limit = amount_under (codes "log-limit") rows;
+  log_limit = log_limit_in rows;
 }
 
 abbrev pub is_within : ℕ → ℕ → ℕ → Bool

@@ -93,7 +93,7 @@ pub(crate) const LOG_LIMIT: Number = Number {
     usual: 0,
     shown: "",
     range: (1, u32::MAX),
-    help: "Entries of a log: the jobs are done in rounds, and the log of each is dropped",
+    help: "Entries of a log: jobs are done in rounds, and the log of each is dropped [threads: 65536]",
 };
 
 impl Number {

@@ -74,9 +74,9 @@ pub const THREADS_ABOUT: &str = "Runs the jobs of a script, and prints how each 
 Each submitter does its jobs in a thread of its own, one after the other in the order of their
 lines; all share one pool. With --depth it has several of them in flight, and takes their ends in
 that order; those that are in flight together have no order, so a Read may bring what stood there
-before a Write that stands above it. With --log-limit the jobs are done in rounds, of each submitter
-one job at least, and what is kept of a round to check it by is dropped at its end; what is printed is
-the same. A submitter that rings serves what it can at once, and a controller in a thread of its own
+before a Write that stands above it. The jobs are done in rounds of --log-limit entries, of each
+submitter one job at least, and what is kept of a round to check it by is dropped at its end; what is
+printed in all is the same. A submitter that rings serves what it can at once, and a controller in a thread of its own
 what is left; with --serve controller that thread serves alone. The script is read and checked whole
 before its first job. A refused job is an answer too: the run goes on, and its exit status is 0, or
 4 with --strict. A first line as `# options: --queues 2` says options of the script's own.";
@@ -87,8 +87,8 @@ pub const THREADS_AFTER: &str = "A script has one job on each line; `#` begins a
   job S Q write SLBA BLOCKS HEX PIECE..     a PIECE is OFFSET+LEN, bytes of a page of its own,
   job S Q compare SLBA BLOCKS HEX PIECE..   or xLEN, bytes left out; after HEX stand zeros
 
-When all jobs have ended, the lines of the jobs are printed in the order of the script, then
-who owns which page, and then the counts.
+The lines of the jobs are printed in the order of the script, after each round those of the jobs
+whose turn came; then who owns which page, and then the counts.
 
 Example:
   printf 'job 0 1 write 5 1 ABCD 0+512\\njob 0 1 read 5 1 0+512\\n' | nvmesgl threads

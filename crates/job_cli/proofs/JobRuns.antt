@@ -1,19 +1,18 @@
 -- Runs of scripts of jobs: who does which job, what is printed, and how a run ends.
 use Rattle.script_cli.specs.declared.fault.ScriptFault.TheVariants as fault
-use Rattle.script_cli.specs.declared.fault.RunFault.TheVariants as run
-use Rattle.std.proofs.Common.{arith, ℕ, ◌≡◌, ◌≤◌, ◌+◌, List, ◌∷◌, Bool, true, false, nat_lt, Option, Result, Ok, Err, length, refl, ◌<◌, ◌^◌, Some, None, [], codes, if◌then◌else◌, ◌==◌, ◌⊎◌, inl, inr, ◌++◌, append_assoc, is_some, length-set, length-append, get_or, map, replicate, slice_get, slice_set, sym, ap, ◌∙◌, subst, eqb-true, zero, suc, option_and_then, true≢false, not}
+use Rattle.std.proofs.Common.{arith, ℕ, ◌≡◌, ◌≤◌, ◌+◌, List, ◌∷◌, Bool, true, false, nat_lt, Option, Result, Ok, Err, length, refl, ◌<◌, ◌^◌, Some, None, [], codes, if◌then◌else◌, ◌==◌, ◌++◌, append_assoc, is_some, length-set, length-append, get_or, map, replicate, slice_get, slice_set, sym, ap, ◌∙◌, subst, eqb-true, zero, suc, option_and_then, true≢false, not}
 use Rattle.std.proofs.lemmas.{Bool.{ltb-true, eqb-false, eq-eqb, or_parts}, Grind.common_steps}
 use Rattle.std.proofs.lemmas.List.{append-nil, length-replicate, get_or-map, get_or-replicate, get_or_at, map-set, length-map, map-append}
-use Rattle.std.{proofs.lemmas.{List.Elements.{All-nil, All-push}, Option.{slice_get-get_or, get_or_from_slice_get}}, specs.Io.KnownBytes.{Appends, Keeps}}
-use Rattle.std.specs.{List.list_any, Prelude.{All, IfOk, IfSome, IfErr, IsErrAnd, OnErr, OnOk}, Str.bytes_eq}
+use Rattle.std.{proofs.lemmas.{List.Elements.{All-nil, All-push}, Option.{slice_get-get_or, get_or_from_slice_get}}, specs.Io.KnownBytes.{Appends}}
+use Rattle.std.specs.{List.list_any, Prelude.{All, IfOk, IfSome}, Str.bytes_eq}
 use Rattle.job_cli.specs.{GoneOn.{Round, GoOn, HasGoneOn, logs_of, receipts_of}}
-use Rattle.job_cli.specs.Headings.{heading_at, heading, headings_from, end_at, headed_text, headed_lines}
-use Rattle.job_cli.specs.JobRuns.{is_of, jobs_for, AreListsOf, end_of, ended_text, job_lines, all_ended, ClosesFrom, IsLeftFrom, IsJobsText, HasJobs, HasJobFault, IsNoJobs, IsNoRun, WritesJobs, EndsJobsWith}
+use Rattle.job_cli.specs.Headings.{heading_at, heading, headings_from}
+use Rattle.job_cli.specs.JobRuns.{is_of, jobs_for, AreListsOf, end_of, all_ended, IsLeftFrom, HasJobs, HasJobFault, IsNoJobs}
 use Rattle.job_cli.specs.Jobs.{numbered_job, with_job, jobs_from, jobs_in, jobs_of, IsReadAs, head_words, data_words, job_words, some_job, job_of_words, job_of_line, at_line, then_jobs}
 use Rattle.job_cli.specs.declared.{job_runs.Heading.Heading, jobs.JobLine.JobLine}
-use Rattle.script_cli.{proofs.{Runs.{number_fits, then_fits, whatever_fits}, Texts.{appends_more, keeps_then, same_if_short}}, specs.Faults.fault_of_script}
+use Rattle.script_cli.{proofs.{Runs.{number_fits, then_fits, whatever_fits}, Texts.{appends_more, same_if_short}}, specs.Faults.fault_of_script}
 use Rattle.script_cli.specs.{Grammar.{Words, number_word, kind_word, pieces_from, begins_comment, words_of}, Inputs.{AreFirstOf, Gains, IsFront}, Lines.lines}
-use Rattle.script_cli.specs.{Runs.AreOwners, declared.fault.{LineFault.{LineFault, TheVariants.{UnknownVerb, TooManyLines}}, RunFault.RunFault}}
+use Rattle.script_cli.specs.{Runs.AreOwners, declared.fault.{LineFault.{LineFault, TheVariants.{UnknownVerb, TooManyLines}}}}
 use Rattle.script_cli.specs.declared.fault.ScriptFault.{ScriptFault}
 use Rattle.driver_threads.{proofs.UnderWay.{behind_none, behind_long}, specs.{Behind.behind, Ends.{AllAgree, ends_of, statuses_of}}}
 use Rattle.driver_threads.specs.{Runs.{EndsRound}, Values.{Job, JobEnd}, declared.jobs.JobEnd.TheVariants.{Done, Refused}}
@@ -227,7 +226,7 @@ end_found items (e ∷ ends) (l ∷ lists) zero k jobs same is less =
     there_is e k (omega (arith, long, ap length list))
 end_found items (e ∷ ends) (l ∷ lists) (suc s) k jobs same is less = let rest : map length ends ≡ map (λ list. length (items list)) lists = cc in end_found items ends lists s k jobs rest is less
 
-ended_behind : {X : Type 0} (items : X → List Job) (n : ℕ) (all : List JobLine) (lists : List X) (ends : List (List JobEnd)) → AreListsOf n all (map items lists)
+pub ended_behind : {X : Type 0} (items : X → List Job) (n : ℕ) (all : List JobLine) (lists : List X) (ends : List (List JobEnd)) → AreListsOf n all (map items lists)
     → map length ends ≡ map (λ list. length (items list)) lists → All (λ line. line.submitter < n) all → (before lines : List JobLine) → before ++ lines ≡ all → all_ended ends before lines ≡ true
 ended_behind items n all lists ends are same below before [] split = refl
 ended_behind items n all lists ends are same below before (line ∷ rest) split =
@@ -237,38 +236,6 @@ ended_behind items n all lists ends are same below before (line ∷ rest) split 
     let others : all_ended ends (before ++ line ∷ []) rest ≡ true = ended_behind items n all lists ends are same below (before ++ line ∷ []) rest (append_assoc before (line ∷ []) rest ∙ split) in
     rw first others
 
--- What is printed by headings
-
-same_text : (before : List JobLine) (line : JobLine) (what : Option JobEnd) → headed_text (heading before line) what ≡ ended_text line what
-same_text before line None = refl
-same_text before line (Some what) = refl
-
-pub headed_is : (ends : List (List JobEnd)) (before lines : List JobLine) → headed_lines ends (headings_from before lines) ≡ job_lines ends before lines
-headed_is ends before [] = refl
-headed_is ends before (line ∷ rest) =
-    ap (λ (text : List ℕ). text ++ headed_lines ends (headings_from (before ++ line ∷ []) rest)) (same_text before line (end_of ends before line))
-    ∙ ap (λ (text : List ℕ). ended_text line (end_of ends before line) ++ text) (headed_is ends (before ++ line ∷ []) rest)
-
-pub headed_append : (ends : List (List JobEnd)) (xs ys : List Heading) → headed_lines ends (xs ++ ys) ≡ headed_lines ends xs ++ headed_lines ends ys
-headed_append ends [] ys = refl
-headed_append ends (x ∷ xs) ys =
-    ap (λ (text : List ℕ). headed_text x (end_at ends x) ++ text) (headed_append ends xs ys)
-    ∙ sym (append_assoc (headed_text x (end_at ends x)) (headed_lines ends xs) (headed_lines ends ys))
-
-pub headed_more : (ends : List (List JobEnd)) (xs : List Heading) (x : Heading) → headed_lines ends (xs ++ x ∷ []) ≡ headed_lines ends xs ++ headed_text x (end_at ends x)
-headed_more ends xs x = headed_append ends xs (x ∷ []) ∙ ap (λ (text : List ℕ). headed_lines ends xs ++ text) (append-nil (headed_text x (end_at ends x)))
-
-pub headed_split : (ends : List (List JobEnd)) (all xs ys : List Heading) (tail : List ℕ) → xs ++ ys ≡ all → headed_lines ends all ++ tail ≡ headed_lines ends xs ++ (headed_lines ends ys ++ tail)
-headed_split ends all xs ys tail split =
-    ap (λ (text : List ℕ). text ++ tail) (ap (headed_lines ends) (sym split) ∙ headed_append ends xs ys) ∙ append_assoc (headed_lines ends xs) (headed_lines ends ys) tail
-
-pub headed_next : (ends : List (List JobEnd)) (all xs ys : List Heading) (x : Heading) (piece tail : List ℕ) → xs ++ x ∷ ys ≡ all → piece ≡ headed_text x (end_at ends x)
-    → headed_lines ends all ++ tail ≡ headed_lines ends xs ++ (piece ++ (headed_lines ends ys ++ tail))
-headed_next ends all xs ys x piece tail split is =
-    headed_split ends all xs (x ∷ ys) tail split
-    ∙ ap (λ (text : List ℕ). headed_lines ends xs ++ text)
-    (append_assoc (headed_text x (end_at ends x)) (headed_lines ends ys) tail ∙ ap (λ (text : List ℕ). text ++ (headed_lines ends ys ++ tail)) (sym is))
-
 -- Where the writing was cut off
 
 pub cut_between : (whole said rest : List ℕ) (a b : Option (List ℕ)) → whole ≡ said ++ rest → Appends a b said → Gains a b (λ front. IsFront front whole)
@@ -277,13 +244,6 @@ cut_between whole said rest a b joined first = (said, (rest, joined), first)
 pub cut_inside : (whole said piece rest : List ℕ) (a b c : Option (List ℕ)) → whole ≡ said ++ (piece ++ rest) → Appends a b said → Gains b c (λ front. IsFront front piece)
     → Gains a c (λ front. IsFront front whole)
 cut_inside whole said piece rest a b c joined first (front, (left, split), behind) = (said ++ front, (left ++ rest, grind (arith, common_steps)), appends_more a b c said front first behind)
-
--- all was written
-pub whole_is_cut : (whole : List ℕ) (a b : Option (List ℕ)) → Appends a b whole → Gains a b (λ front. IsFront front whole)
-whole_is_cut whole a b written = (whole, ([], sym (append-nil whole)), written)
-
-pub all_written : (whole said piece : List ℕ) (a b c d : Option (List ℕ)) → whole ≡ said ++ piece → Appends a b said → Appends b c piece → Keeps c d → Appends a d whole
-all_written whole said piece a b c d joined first behind kept = subst (Appends a d) (sym joined) (keeps_then a c d (said ++ piece) (appends_more a b c said piece first behind) kept)
 
 -- What was read
 
@@ -297,58 +257,6 @@ pub no_jobs_are_told : (told : Option (List ℕ)) (n : ℕ) (text : List ℕ) (w
 no_jobs_are_told told n text fault.TooLong first bad = fault_is_told told n text fault.TooLong first bad
 no_jobs_are_told told n text (fault.Line number why) first bad = fault_is_told told n text (fault.Line number why) first bad
 no_jobs_are_told told n text fault.Memory first bad = tt
-
--- How a run ends
-
-keeps_itself : (k : Option (List ℕ)) → Keeps k k
-keeps_itself None = _
-keeps_itself (Some bytes) = refl
-
--- before anything was written
-pub no_run_ends : (told : Option (List ℕ)) (n : ℕ) (config : Config) (image : List ℕ) (k : Option (List ℕ)) (lines : List JobLine) (why : RunFault)
-    → HasJobs told n lines → IsNoRun config why → EndsJobsWith told n config image k k why
-no_run_ends told n config image k lines run.BadConfig has why_not = (lines, has, why_not, keeps_itself k)
-no_run_ends told n config image k lines (run.NoPages need free) has why_not = (lines, has, why_not, keeps_itself k)
-no_run_ends told n config image k lines run.NoThread has why_not = (lines, has, why_not, keeps_itself k)
-no_run_ends told n config image k lines (run.Close why) has why_not = (lines, has, why_not, keeps_itself k)
-no_run_ends told n config image k lines run.Memory has why_not = inl (keeps_itself k)
-no_run_ends told n config image k lines (run.Line number why) has why_not = absurd why_not
-no_run_ends told n config image k lines run.TooLong has why_not = absurd why_not
-no_run_ends told n config image k lines run.Unreadable has why_not = absurd why_not
-no_run_ends told n config image k lines run.OutputFailed has why_not = absurd why_not
-
--- so where that is what is answered
-pub no_run_failed : {T : Type 0} (r : Result T RunFault) (told : Option (List ℕ)) (n : ℕ) (config : Config) (image : List ℕ) (k : Option (List ℕ)) (lines : List JobLine) (why : RunFault)
-    → IsErrAnd r (λ x. x ≡ why) → HasJobs told n lines → IsNoRun config why → IfErr r (EndsJobsWith told n config image k k)
-no_run_failed (Ok done) told n config image k lines why same has why_not = tt
-no_run_failed (Err x) told n config image k lines why same has why_not = rw same (no_run_ends told n config image k lines why has why_not)
-
--- what is written is the text of a run
-pub jobs_text_is : {X : Type 0} (items : X → List Job) (n : ℕ) (config : Config) (image : List ℕ) (lines given : List JobLine) (headings : List Heading) (lists : List X) (ends : List (List JobEnd)) (closing text : List ℕ)
-    → given ≡ lines → headings ≡ headings_from [] given → AreListsOf n given (map items lists) → map length ends ≡ map (λ list. length (items list)) lists → All (λ line. line.submitter < n) lines
-    → ClosesFrom (opening_of config image) image ends closing → text ≡ closing → IsJobsText config image lines (headed_lines ends headings ++ text)
-jobs_text_is items n config image lines given headings lists ends closing text e is are ended below (owners, counts, left, told) same = record {
-  ends = ends;
-  owners = owners;
-  counts = counts;
-  left = left;
-  ended = ended_behind items n lines lists ends (subst (λ (ls : List JobLine). AreListsOf n ls (map items lists)) e are) ended below [] lines refl;
-  said =
-      ap (λ (t : List ℕ). t ++ text) (ap (headed_lines ends) (is ∙ ap (headings_from []) e) ∙ headed_is ends [] lines) ∙ ap (λ (t : List ℕ). job_lines ends [] lines ++ t) (same ∙ told);
-}
-
-pub run_writes : {T E : Type 0} (r : Result T E) (told : Option (List ℕ)) (n : ℕ) (config : Config) (image : List ℕ) (a b : Option (List ℕ)) (lines : List JobLine) (whole : List ℕ)
-    → HasJobs told n lines → IsJobsText config image lines whole → OnOk r (Appends a b whole) → OnOk r (WritesJobs told n config image a b IsJobsText)
-run_writes (Ok done) told n config image a b lines whole has text written = (lines, has, (whole, text, written))
-run_writes (Err why) told n config image a b lines whole has text written = _
-
--- a run that was cut off says so
-pub run_is_cut : {T : Type 0} (r : Result T RunFault) (told : Option (List ℕ)) (n : ℕ) (config : Config) (image : List ℕ) (a b : Option (List ℕ)) (lines : List JobLine) (whole : List ℕ)
-    → HasJobs told n lines → IsJobsText config image lines whole → OnErr r (Gains a b (λ front. IsFront front whole))
-    → IfErr r (λ why. (why ≡ run.Memory) ⊎ (why ≡ run.OutputFailed)) → IfErr r (EndsJobsWith told n config image a b)
-run_is_cut (Ok done) told n config image a b lines whole has text cut says = _
-run_is_cut (Err why) told n config image a b lines whole has text (front, is, written) (inl e) = rw e (inr (lines, has, (front, (whole, text, is), written)))
-run_is_cut (Err why) told n config image a b lines whole has text (front, is, written) (inr e) = rw e (lines, has, (front, (whole, text, is), written))
 
 -- Rounds of jobs, one behind the other.
 
@@ -481,5 +389,3 @@ left_from config image ends owners counts after fits is_image gone owned counted
   owned = owned;
   counted = counted;
 }
-
--- How rounds fail

@@ -1,1 +1,2 @@
 pub mod JobRuns
+pub mod Told

@@ -1,7 +1,13 @@
 -- What is kept of the lines of jobs while these run.
-use Rattle.std.specs.Prelude.{ℕ, Option, Some, None, option_and_then, List, [], ◌∷◌, ◌++◌, length, slice_get}
+use Rattle.std.specs.Io.KnownBytes.{Keeps}
+use Rattle.std.specs.Prelude.{◌≡◌, ◌⊎◌, ℕ, Option, Some, None, option_and_then, is_some, List, [], ◌∷◌, ◌++◌, length, slice_get, if◌then◌else◌}
 use Rattle.driver_threads.specs.Values.{JobEnd}
-use Rattle.job_cli.specs.{JobLines.job_text, JobRuns.jobs_for, declared.{job_runs.Heading.Heading, jobs.JobLine.JobLine}}
+use Rattle.host_core.specs.{Opening.refusal_of_config, declared.config.Config.Config}
+use Rattle.job_cli.specs.{GoneOn.HasGoneOn, JobLines.job_text, JobRuns.{IsNoWorld, jobs_for}, declared.{job_runs.Heading.Heading, jobs.JobLine.JobLine}}
+use Rattle.machine_model.specs.State.{State}
+use Rattle.script_cli.specs.{Inputs.{Gains, IsFront}, declared.fault.RunFault.RunFault}
+use Rattle.step_core.specs.Opening.{opening_of}
+use Rattle.script_cli.specs.declared.fault.RunFault.TheVariants as run
 
 -- the heading of a job that has this place among the jobs of its submitter
 abbrev pub heading_at : ℕ → JobLine → Heading
@@ -26,7 +32,39 @@ abbrev pub headed_text : Heading → Option JobEnd → List ℕ
 headed_text h None = []
 headed_text h (Some what) = job_text h.number h.submitter h.kind what
 
--- the lines of the jobs with these headings
-abbrev pub headed_lines : List (List JobEnd) → List Heading → List ℕ
-headed_lines ends [] = []
-headed_lines ends (h ∷ rest) = headed_text h (end_at ends h) ++ headed_lines ends rest
+-- a job's line and more, where it has ended, and else nothing
+abbrev pub headed_and_more : Heading → Option JobEnd → List ℕ → List ℕ
+headed_and_more h None more = []
+headed_and_more h (Some what) more = headed_text h (Some what) ++ more
+
+-- the lines of the jobs with these headings, up to the first that has not ended
+abbrev pub headed_so_far : List (List JobEnd) → List Heading → List ℕ
+headed_so_far ends [] = []
+headed_so_far ends (h ∷ rest) = headed_and_more h (end_at ends h) (headed_so_far ends rest)
+
+-- the headings from that one on
+abbrev pub without_end : List (List JobEnd) → List Heading → List Heading
+without_end ends [] = []
+without_end ends (h ∷ rest) = if is_some (end_at ends h) then without_end ends rest else h ∷ rest
+
+-- How a run ends
+
+-- how much of a text is written where jobs over a world that was opened did not all end, or were not all told: all of it where a thread or the close of a book is wanting
+abbrev pub IsWrittenOf : RunFault → List ℕ → List ℕ → Type 0
+IsWrittenOf run.NoThread text whole = text ≡ whole
+IsWrittenOf (run.Close why) text whole = text ≡ whole
+IsWrittenOf run.Memory text whole = IsFront text whole
+IsWrittenOf run.OutputFailed text whole = IsFront text whole
+IsWrittenOf other text whole = ⊥
+
+-- Jobs with these headings went on from this state to some ends, and so much is written of the lines of those whose turn came.
+pub record IsCutShort (before : State) (headings : List Heading) (old new : Option (List ℕ)) (why : RunFault) : Type 0 where
+  pub ends : List (List JobEnd)
+  pub world : State
+  pub gone_on : HasGoneOn before ends world
+  pub written : Gains old new (λ text. IsWrittenOf why text (headed_so_far ends headings))
+
+-- why a run of jobs left no world, and what was then written: none was opened, and nothing was written, or the jobs were cut short
+abbrev pub IsNoRun : Config → List ℕ → List Heading → Option (List ℕ) → Option (List ℕ) → RunFault → Type 0
+IsNoRun config image headings old new why =
+    (IsNoWorld config why × Keeps old new) ⊎ ((refusal_of_config config ≡ None) × IsCutShort (opening_of config image) headings old new why)

@@ -1,5 +1,5 @@
 -- The text of how jobs ended.
-use Rattle.std.specs.{Fmt.decimal, Prelude.{ℕ, Bool, false, List, [], ◌∷◌, ◌++◌, codes}}
+use Rattle.std.specs.{Fmt.decimal, Prelude.{ℕ, ◌+◌, Bool, false, not, List, [], ◌∷◌, ◌++◌, codes, count_by, min}}
 use Rattle.driver_threads.specs.{Values.JobEnd, declared.jobs.JobRefusal.JobRefusal}
 use Rattle.entry_codec.specs.Status.{status_text}
 use Rattle.io_commands.specs.declared.{draft.FillFault.TheVariants.WrongLength, request.Kind.{Kind, TheVariants.{Read, Write, Compare}}}
@@ -35,3 +35,15 @@ job_text number seat kind what =
 abbrev pub is_well_end : JobEnd → Bool
 is_well_end (end.Done status bytes) = is_success status
 is_well_end (end.Refused why) = false
+
+-- how many ends are not so
+abbrev pub unwell_among : List JobEnd → ℕ
+unwell_among ends = count_by (λ what. not (is_well_end what)) ends
+
+-- so many and those of some submitters, as far as 64 bits count
+abbrev pub unwell_from : ℕ → List (List JobEnd) → ℕ
+unwell_from many [] = many
+unwell_from many (ends ∷ rest) = unwell_from (min (many + unwell_among ends) 18446744073709551615) rest
+
+abbrev pub unwell_in : List (List JobEnd) → ℕ
+unwell_in ends = unwell_from 0 ends

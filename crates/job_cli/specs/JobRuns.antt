@@ -7,7 +7,7 @@ use Rattle.machine_model.specs.{Claims.counts_of, State.State, declared.words.Op
 use Rattle.page_ledger.specs.declared.owner.{Counts.Counts, Owner.Owner}
 use Rattle.script_cli.specs.{Inputs.{IsTold, Gains, IsFront}, Owners.{owners_text, counts_line}, Runs.AreOwners, declared.fault.RunFault.RunFault}
 use Rattle.script_cli.specs.declared.fault.ScriptFault.{ScriptFault}
-use Rattle.job_cli.specs.{GoneOn.{HasGoneOn, logs_of}, JobLines.job_text, Jobs.jobs_of, declared.jobs.JobLine.JobLine}
+use Rattle.job_cli.specs.{GoneOn.{HasGoneOn, logs_of}, JobLines.{job_text, unwell_in}, Jobs.jobs_of, declared.jobs.JobLine.JobLine}
 use Rattle.host_core.specs.{Opening.refusal_of_config, declared.config.Config.Config}
 use Rattle.step_core.specs.Opening.{opening_of}
 use Rattle.machine_model.specs.declared.words.OpenRefusal.TheVariants as opening
@@ -46,6 +46,16 @@ abbrev pub job_lines : List (List JobEnd) → List JobLine → List JobLine → 
 job_lines ends before [] = []
 job_lines ends before (line ∷ rest) = ended_text line (end_of ends before line) ++ job_lines ends (before ++ line ∷ []) rest
 
+-- a job's line and more, where it has ended, and else nothing
+abbrev pub line_and_more : JobLine → Option JobEnd → List ℕ → List ℕ
+line_and_more line None more = []
+line_and_more line (Some what) more = ended_text line (Some what) ++ more
+
+-- the lines of jobs in their order, behind those before them, up to the first that has not ended
+abbrev pub lines_so_far : List (List JobEnd) → List JobLine → List JobLine → List ℕ
+lines_so_far ends before [] = []
+lines_so_far ends before (line ∷ rest) = line_and_more line (end_of ends before line) (lines_so_far ends (before ++ line ∷ []) rest)
+
 -- each job has its end
 abbrev pub all_ended : List (List JobEnd) → List JobLine → List JobLine → Bool
 all_ended ends before [] = true
@@ -65,9 +75,9 @@ pub record IsLeftFrom (opening : State) (image : List ℕ) (ends : List (List Jo
   pub owned : AreOwners world owners
   pub counted : counts ≡ counts_of world.host
 
--- so with owners and counts that this text tells
-abbrev pub ClosesFrom : State → List ℕ → List (List JobEnd) → List ℕ → Type 0
-ClosesFrom opening image ends text = (owners : List Owner) × (counts : Counts) × IsLeftFrom opening image ends owners counts × (text ≡ closing_text owners counts)
+-- what stands behind the lines of the jobs over a world that is left in this state
+abbrev pub IsClosing : State → List ℕ → Type 0
+IsClosing left text = (owners : List Owner) × AreOwners left owners × (text ≡ closing_text owners (counts_of left.host))
 
 -- The text of a run of jobs over a world that opens so over an image: the line of each job, in the order of the script's lines, by its end; then the owners of the world that
 -- some rounds of threads left, and then its counts.
@@ -79,9 +89,21 @@ pub record IsJobsText (config : Config) (image : List ℕ) (lines : List JobLine
   pub ended : all_ended ends [] lines ≡ true
   pub said : text ≡ job_lines ends [] lines ++ closing_text owners counts
 
+-- such a text, in whose ends so many jobs were refused or have a status that is not 0:00
+abbrev pub IsCountedText : ℕ → Config → List ℕ → List JobLine → List ℕ → Type 0
+IsCountedText unwell config image lines text = (said : IsJobsText config image lines text) × (unwell ≡ unwell_in said.ends)
+
+-- The text of a run of jobs whose later rounds are wanting: the line of each job whose turn came, up to the first that has not ended.
+pub record IsJobsTextSoFar (config : Config) (image : List ℕ) (lines : List JobLine) (text : List ℕ) : Type 0 where
+  pub ends : List (List JobEnd)
+  pub world : State
+  pub gone_on : HasGoneOn (opening_of config image) ends world
+  pub said : text ≡ lines_so_far ends [] lines
+
 -- what was written of a run that was cut off: the front of such a text
 abbrev pub IsCutJobsText : Config → List ℕ → List JobLine → List ℕ → Type 0
-IsCutJobsText config image lines text = (whole : List ℕ) × IsJobsText config image lines whole × IsFront text whole
+IsCutJobsText config image lines text =
+    (whole : List ℕ) × (IsJobsText config image lines whole ⊎ IsJobsTextSoFar config image lines whole) × IsFront text whole
 
 -- How a run ends
 
@@ -101,14 +123,12 @@ IsNoJobs told submitters run.Unreadable = Unit {0}
 IsNoJobs told submitters run.Memory = Unit {0}
 IsNoJobs told submitters other = ⊥
 
--- why a run of threads left no owners and counts: the opening is refused, or else something was wanting
-abbrev pub IsNoRun : Config → RunFault → Type 0
-IsNoRun config run.BadConfig = refusal_of_config config ≡ Some opening.BadConfig
-IsNoRun config (run.NoPages need free) = refusal_of_config config ≡ Some (opening.NoPages need free)
-IsNoRun config run.NoThread = refusal_of_config config ≡ None
-IsNoRun config (run.Close why) = refusal_of_config config ≡ None
-IsNoRun config run.Memory = Unit {0}
-IsNoRun config other = ⊥
+-- why no world was opened
+abbrev pub IsNoWorld : Config → RunFault → Type 0
+IsNoWorld config run.BadConfig = refusal_of_config config ≡ Some opening.BadConfig
+IsNoWorld config (run.NoPages need free) = refusal_of_config config ≡ Some (opening.NoPages need free)
+IsNoWorld config run.Memory = Unit {0}
+IsNoWorld config other = ⊥
 
 -- why jobs over a world that was opened did not all end
 abbrev pub IsWanting : RunFault → Type 0
@@ -127,6 +147,11 @@ abbrev pub EndsUnwritten : Option (List ℕ) → ℕ → Config → Option OpenR
 EndsUnwritten told submitters config refusal before after =
     (lines : List JobLine) × HasJobs told submitters lines × (refusal_of_config config ≡ refusal) × Keeps before after
 
+-- a reader has a script without faults, the configuration is not refused, and the lines of all jobs whose turn came were written
+abbrev pub EndsSoFar : Option (List ℕ) → ℕ → Config → List ℕ → Option (List ℕ) → Option (List ℕ) → Type 0
+EndsSoFar told submitters config image before after =
+    (lines : List JobLine) × HasJobs told submitters lines × (refusal_of_config config ≡ None) × Gains before after (IsJobsTextSoFar config image lines)
+
 -- what a fault of a run says, and what was then written
 abbrev pub EndsJobsWith : Option (List ℕ) → ℕ → Config → List ℕ → Option (List ℕ) → Option (List ℕ) → RunFault → Type 0
 EndsJobsWith told submitters config image before after (run.Line number why) = HasJobFault told submitters (fault.Line number why) × Keeps before after
@@ -134,7 +159,7 @@ EndsJobsWith told submitters config image before after run.TooLong = HasJobFault
 EndsJobsWith told submitters config image before after run.Unreadable = Keeps before after
 EndsJobsWith told submitters config image before after run.BadConfig = EndsUnwritten told submitters config (Some opening.BadConfig) before after
 EndsJobsWith told submitters config image before after (run.NoPages need free) = EndsUnwritten told submitters config (Some (opening.NoPages need free)) before after
-EndsJobsWith told submitters config image before after run.NoThread = EndsUnwritten told submitters config None before after
-EndsJobsWith told submitters config image before after (run.Close why) = EndsUnwritten told submitters config None before after
+EndsJobsWith told submitters config image before after run.NoThread = EndsSoFar told submitters config image before after
+EndsJobsWith told submitters config image before after (run.Close why) = EndsSoFar told submitters config image before after
 EndsJobsWith told submitters config image before after run.Memory = Keeps before after ⊎ WritesJobs told submitters config image before after IsCutJobsText
 EndsJobsWith told submitters config image before after run.OutputFailed = WritesJobs told submitters config image before after IsCutJobsText

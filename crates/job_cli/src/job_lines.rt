@@ -2,7 +2,7 @@
 
 ghost use Rattle.std.specs.Prelude.{◌≡◌, ◌++◌, OnOk, string_bytes, codes};
 ghost use Rattle.entry_codec.specs.Status.{status_text};
-ghost use Rattle.job_cli.specs.JobLines.{kind_text, too_few_text, job_refusal_text, job_end_text, job_text, is_well_end as spec_is_well_end};
+ghost use Rattle.job_cli.specs.JobLines.{kind_text, too_few_text, job_refusal_text, job_end_text, job_text, is_well_end as spec_is_well_end, unwell_among as spec_unwell_among, unwell_in};
 ghost use Rattle.script_cli.specs.Replies.{gathered_text, request_fault_name as spec_request_fault_name};
 
 use driver_threads::{JobEnd, JobEnds, JobRefusal};
@@ -99,15 +99,22 @@ pub(crate) fn is_well_end(end: &JobEnd) -> bool
     }
 }
 
-/// How many jobs were refused, or have a status other than 0:00.
-pub(crate) fn unwell_jobs(ends: &JobEnds) -> u64 {
+/// How many jobs of a submitter were refused, or have a status other than 0:00.
+fn unwell_among(ends: &[JobEnd]) -> usize
+    ensures { result ≡ spec_unwell_among ends.now }
+{
+    ends.iter().filter(|end| !is_well_end(end)).count()
+}
+
+/// How many jobs were refused, or have a status other than 0:00; [`u64::MAX`] where there are more.
+pub(crate) fn unwell_jobs(ends: &JobEnds) -> u64
+    ensures { result ≡ unwell_in ends.now }
+{
     let mut unwell = 0u64;
-    for list in ends.as_slice() {
-        for end in list.as_slice() {
-            if !is_well_end(end) {
-                unwell = unwell.saturating_add(1);
-            }
-        }
+    let mut left = ends.as_slice();
+    while let Some((list, others)) = left.split_first() {
+        unwell = unwell.saturating_add(unwell_among(list) as u64);
+        left = others;
     }
     unwell
 }

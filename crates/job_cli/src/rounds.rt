@@ -8,13 +8,21 @@ ghost use Rattle.driver_threads.specs.Ends.{AllAgree};
 ghost use Rattle.driver_threads.specs.Runs.{EndsRound};
 ghost use Rattle.job_cli.specs.JobRuns.{IsWanting};
 ghost use Rattle.job_cli.specs.GoneOn.{Fit, HasGoneOn, entries_for};
+ghost use Rattle.job_cli.specs.Headings.{headed_so_far, IsCutShort};
+ghost use Rattle.job_cli.specs.declared.telling.Form.TheVariants.{Lines};
+ghost use Rattle.std.specs.Io.KnownBytes.{Appends};
 
 use crate::fault::not_run;
+use crate::job_runs::Orders;
+use crate::telling::{Form, write_ended};
 use driver_threads::{Job, JobEnds, Open, Round, Server, run_round};
 use script_cli::RunFault;
+use script_cli::progress::{Progress, Standing, Stopwatch};
 use std::alloc::{AllocError, Global};
 use std::collections::VecDeque;
+use std::io::Write;
 use std::marker::Brand;
+use std::rt::Clock;
 use std::sync::Wait;
 use std::sync::ledger::Blank;
 use std::thread::Threads;
@@ -30,6 +38,10 @@ pub struct Pace {
     /// How many entries the log of a round of jobs may have, as far as that is known before: the jobs are done in rounds, of each submitter
     /// one job at least, and the log of a round is dropped at its end. `None`: all jobs are one round.
     pub log_limit: Option<u32>,
+    /// What is written of the jobs.
+    pub form: Form,
+    /// Whether standard error says how far the jobs are, between rounds.
+    pub shows: bool,
 }
 
 impl Pace {
@@ -41,6 +53,18 @@ impl Pace {
         match self.log_limit {
             None => None,
             Some(limit) => Some(limit / submitters as u32),
+        }
+    }
+
+    /// How far a run of so many jobs is after so long, of which these are left.
+    fn standing(self, nanos: Option<u64>, jobs: usize, left: &[VecDeque<Job>]) -> Standing {
+        let all = jobs as u64;
+        Standing {
+            done: all.saturating_sub(count_left(left)),
+            all: Some(all),
+            in_flight: (left.len() as u64).saturating_mul(u64::from(self.depth)),
+            nanos: nanos.unwrap_or(0),
+            until: None,
         }
     }
 }
@@ -106,7 +130,7 @@ fn next_jobs(
 }
 
 /// Takes the jobs of the next round, of each submitter its own.
-pub(crate) fn next_round(
+fn next_round(
     alloc: Global,
     left: &mut Vec<VecDeque<Job>>,
     share: Option<u32>,
@@ -125,7 +149,7 @@ pub(crate) fn next_round(
 }
 
 /// Whether some submitter has jobs left.
-pub(crate) fn some_has_jobs(left: &[VecDeque<Job>]) -> bool
+fn some_has_jobs(left: &[VecDeque<Job>]) -> bool
     ensures { result ≡ list_any (λ queue. not (length queue.items == 0)) left.now }
 {
     left.iter().any(|queue| !queue.is_empty())
@@ -141,7 +165,7 @@ pub(crate) struct Done {
 }
 
 /// Does a round of jobs over a world.
-pub(crate) fn one_round<R: Threads + Wait + Sync>(
+fn one_round<R: Threads + Wait + Sync>(
     rt: &R,
     alloc: Global,
     world: World,
@@ -174,37 +198,78 @@ pub(crate) fn one_round<R: Threads + Wait + Sync>(
     }
 }
 
-/// Does the jobs of submitters over a world, in rounds.
-pub(crate) fn do_jobs<R: Threads + Wait + Sync>(
+/// How many jobs are left.
+fn count_left(left: &[VecDeque<Job>]) -> u64 {
+    left.iter()
+        .fold(0, |count, queue| count.saturating_add(queue.len() as u64))
+}
+
+/// Does jobs over a world, in rounds, and writes after each round how the jobs ended whose turn came.
+fn tell_rounds<R: Clock + Eprint + Threads + Wait + Sync, W: Write>(
     rt: &R,
     alloc: Global,
     world: World,
-    jobs: Vec<VecDeque<Job>>,
+    orders: Orders,
     pace: Pace,
+    progress: &mut Progress,
+    writer: &mut W,
 ) -> Result<Done, RunFault>
-    requires some { 1 ≤ vec_len jobs }
-    requires few { vec_len jobs ≤ 16 }
+    requires some { 1 ≤ vec_len orders.lists }
+    requires few { vec_len orders.lists ≤ 16 }
     requires at_least_one { 1 ≤ pace.depth }
     requires at_most { pace.depth ≤ 256 }
     ensures gone_on { IfOk result (λ done. HasGoneOn world.state done.ends done.world.state) }
-    ensures ended { IfOk result (λ done. map length done.ends ≡ map (λ queue. length queue.items) jobs.items) }
-    ensures fault { IfErr result IsWanting }
+    ensures ended { IfOk result (λ done. map length done.ends ≡ map (λ queue. length queue.items) orders.lists.items) }
+    ensures written { pace.form ≡ Lines → IfOk result (λ done. Appends (W.contents writer.old) (W.contents writer.new) (headed_so_far done.ends orders.headings.items)) }
+    ensures failed { pace.form ≡ Lines → IfErr result (λ why. IsCutShort world.state orders.headings.items (W.contents writer.old) (W.contents writer.new) why) }
 {
-    let share = pace.share(jobs.len());
-    let mut left = jobs;
+    let Orders { headings, lists } = orders;
+    let watch = Stopwatch::new(rt);
+    let share = pace.share(lists.len());
+    let mut untold = headings.as_slice();
+    let mut left = lists;
     let mut world = world;
     let mut ends = JobEnds::none(alloc);
     for _ in rt.forever() {
         let round = next_round(alloc, &mut left, share)?;
-        let round = match one_round(rt, alloc, world, round, pace) {
-            Ok(round) => round,
-            Err(why) => return Err(why),
-        };
+        let round = one_round(rt, alloc, world, round, pace)?;
         world = round.world;
         ends.append(round.jobs)?;
+        progress.end(rt);
+        untold = write_ended(alloc, pace.form, untold, &ends, writer)?;
         if !some_has_jobs(&left) {
             break;
         }
+        progress.tell(
+            rt,
+            alloc,
+            pace.standing(watch.nanos(rt), headings.len(), &left),
+        )?;
     }
     Ok(Done { ends, world })
+}
+
+/// Does the jobs of submitters over a world, in rounds, and writes after each round how the jobs ended whose turn came: in the order of the headings, up to the first that
+/// has not ended. Where the pace shows it, standard error says how far they are.
+pub(crate) fn do_jobs<R: Clock + Eprint + Threads + Wait + Sync, W: Write>(
+    rt: &R,
+    alloc: Global,
+    world: World,
+    orders: Orders,
+    pace: Pace,
+    writer: &mut W,
+) -> Result<Done, RunFault>
+    requires some { 1 ≤ vec_len orders.lists }
+    requires few { vec_len orders.lists ≤ 16 }
+    requires at_least_one { 1 ≤ pace.depth }
+    requires at_most { pace.depth ≤ 256 }
+    ensures gone_on { IfOk result (λ done. HasGoneOn world.state done.ends done.world.state) }
+    ensures ended { IfOk result (λ done. map length done.ends ≡ map (λ queue. length queue.items) orders.lists.items) }
+    ensures written { pace.form ≡ Lines → IfOk result (λ done. Appends (W.contents writer.old) (W.contents writer.new) (headed_so_far done.ends orders.headings.items)) }
+    ensures failed { pace.form ≡ Lines → IfErr result (λ why. IsCutShort world.state orders.headings.items (W.contents writer.old) (W.contents writer.new) why) }
+{
+    let mut progress = Progress::new(pace.shows);
+    let done = tell_rounds(rt, alloc, world, orders, pace, &mut progress, writer);
+    progress.end(rt);
+    done
 }

@@ -2,18 +2,20 @@
 
 ghost use Rattle.std.specs.Prelude.{◌≤◌, vec_len};
 
-use crate::job_runs::{Heading, hand_out, line_of};
+use crate::job_runs::{Orders, hand_out};
 use crate::jobs::{JobLine, read_jobs};
-use crate::rounds::{Done, Pace, do_jobs};
+use crate::rounds::{Pace, do_jobs};
+use crate::telling::Form;
 use block_image::{Image, ImageError};
 use driver_threads::Server;
+use page_ledger::Counts;
 use script_cli::transcripts::{
     Answer, OPTIONS, OpeningFault, Options, Outcome, SaidOptions, Told, TranscriptFault, answer_of,
     compared, text_of,
 };
 use script_cli::{ImageFault, Line, RunFault, ScriptFault, append_counts, not_opened};
 use std::alloc::{AllocError, Global};
-use std::collections::VecDeque;
+use std::rt::Clock;
 use std::sync::Wait;
 use std::thread::Threads;
 use step_core::World;
@@ -23,6 +25,8 @@ const PACE: Pace = Pace {
     depth: 1,
     server: Server::Ringer,
     log_limit: None,
+    form: Form::Lines,
+    shows: false,
 };
 
 /// Why nothing is compared.
@@ -110,15 +114,15 @@ fn told_of(alloc: Global, text: &str, jobs: &[JobLine]) -> Result<Vec<Told>, All
     Ok(told)
 }
 
-/// Does jobs over a world that is opened for them.
-fn done_over<R: Threads + Wait + Sync>(
+/// Does jobs over a world that is opened for them: their lines, and the counts that they leave.
+fn done_over<R: Clock + Eprint + Threads + Wait + Sync>(
     rt: &R,
     alloc: Global,
     options: Options,
-    jobs: Vec<VecDeque<driver_threads::Job>>,
-) -> Result<Done, OpeningFault>
-    requires some { 1 ≤ vec_len jobs }
-    requires few { vec_len jobs ≤ 16 }
+    orders: Orders,
+) -> Result<(Vec<u8>, Counts), OpeningFault>
+    requires some { 1 ≤ vec_len orders.lists }
+    requires few { vec_len orders.lists ≤ 16 }
 {
     let image = match Image::zeroed(alloc, options.blocks) {
         Ok(image) => image,
@@ -129,23 +133,25 @@ fn done_over<R: Threads + Wait + Sync>(
         Ok(world) => world,
         Err(refused) => return Err(OpeningFault::World(not_opened(refused.why))),
     };
-    match do_jobs(rt, alloc, world, jobs, PACE) {
-        Ok(done) => Ok(done),
+    let mut lines = Vec::new(alloc);
+    match do_jobs(rt, alloc, world, orders, PACE, &mut lines) {
+        Ok(done) => Ok((lines, done.world.counts())),
+        // The lines are kept in memory.
+        Err(RunFault::OutputFailed) => Err(OpeningFault::World(RunFault::Memory)),
         Err(why) => Err(OpeningFault::World(why)),
     }
 }
 
-/// What is printed before any job, and for each job without the number of its line; behind the last one the counts.
-fn printed(alloc: Global, headings: Vec<Heading>, done: &Done) -> Result<Vec<String>, AllocError> {
+/// What is printed before any job, and for each job without the number of its line; after the last one the counts.
+fn printed(alloc: Global, lines: &[u8], counts: Counts) -> Result<Vec<String>, AllocError> {
     let mut texts = Vec::new(alloc);
     texts.push(String::new(alloc))?;
-    for heading in headings {
-        let line = line_of(alloc, heading, &done.ends)?;
+    for line in str::from_utf8(lines).unwrap_or("").lines() {
         let answer = line.split_once(' ').map_or("", |(_, answer)| answer);
-        texts.push(String::from_str(alloc, answer)?)?;
+        texts.push(format!(in alloc; "{answer}\n")?)?;
     }
     if let Some(last) = texts.last_mut() {
-        append_counts(last, done.world.counts())?;
+        append_counts(last, counts)?;
     }
     Ok(texts)
 }
@@ -166,7 +172,7 @@ fn options_line(
 }
 
 /// Does the jobs of a text, and compares.
-fn tested<R: Threads + Wait + Sync>(
+fn tested<R: Clock + Eprint + Threads + Wait + Sync>(
     rt: &R,
     alloc: Global,
     bytes: &[u8],
@@ -187,11 +193,11 @@ fn tested<R: Threads + Wait + Sync>(
     let told = told_of(alloc, text, &jobs)?;
     let orders = hand_out(alloc, submitters, jobs)?;
     let options = said.over(usual);
-    let done = match done_over(rt, alloc, options, orders.lists) {
+    let (lines, counts) = match done_over(rt, alloc, options, orders) {
         Ok(done) => done,
         Err(why) => return Err(Undone::NotOpened(why)),
     };
-    let printed = printed(alloc, orders.headings, &done)?;
+    let printed = printed(alloc, &lines, counts)?;
     let line = options_line(alloc, said, options, submitters)?;
     Ok(compared(
         alloc,
@@ -208,7 +214,7 @@ fn tested<R: Threads + Wait + Sync>(
 /// # Errors
 ///
 /// Where memory is refused for what stands around the jobs.
-pub fn test_jobs<R: Threads + Wait + Sync>(
+pub fn test_jobs<R: Clock + Eprint + Threads + Wait + Sync>(
     rt: &R,
     alloc: Global,
     bytes: &[u8],

@@ -2,15 +2,15 @@
 use Rattle.program.specs.declared.fault.Fault.TheVariants as fault
 use Rattle.script_cli.specs.declared.fault.RunFault.TheVariants as run
 use Rattle.script_cli.specs.declared.fault.ScriptFault.TheVariants as cause
-use Rattle.std.{proofs.Common.{◌≡◌, ◌⊎◌, Bool, false, Option, Some, None, List, [], ℕ, refl, sym, subst, inl, inr, ◌∙◌, ap}, specs.{Borrow.Bor, Io.KnownBytes.Keeps}}
-use Rattle.std.specs.Prelude.{IfErr, Result, Ok, Err, IsErrAnd, OnOk}
+use Rattle.std.{proofs.Common.{◌≡◌, ◌⊎◌, Bool, true, false, Option, Some, None, List, [], ℕ, refl, sym, subst, inl, inr, ◌∙◌, ap}, specs.{Io.KnownBytes.Keeps}}
+use Rattle.std.specs.Prelude.{IfErr, Result, Ok, Err, IsErrAnd, OnErr, OnOk}
 use Rattle.clap.specs.{Words.kind_of, declared.error.{Error.Error, kind.ErrorKind.TheVariants.OutOfMemory}}
 use Rattle.command_line.specs.Asked.{Asked, check, check_jobs, draw, explain, grammar, load, shell, show, steps, test, thread_objects, threads, traced, Given}
-use Rattle.program.specs.{Checking.{AreJobs, AreNoJobs, AreNoSteps, AreSteps}, Loading.LeavesLoad, Performing.{FailsWith, IsCheckFault, IsEndFault, IsFirstImage, IsNoFirstImage, IsNotBegun, is_file, IsUnread, IsUnwell, jobs_said, line_said, Performs, Plays, PlaysSteps, RunsJobs, SaysNone, script_told, steps_said}}
+use Rattle.program.specs.{Checking.{AreJobs, AreNoJobs, AreNoSteps, AreSteps}, Loading.LeavesLoad, Performing.{FailsWith, IsCheckFault, IsEndFault, IsFirstImage, IsNoFirstImage, IsNotBegun, is_file, IsUnread, IsTextAsAsked, IsUnwell, IsUnwellText, jobs_said, line_said, Performs, Plays, PlaysSteps, RunsJobs, SaysNone, script_told, steps_said}}
 use Rattle.program.specs.declared.fault.Fault.{Fault}
 use Rattle.command_line.specs.declared.{serving.Serving.Serving, threads.Threading.Threading}
 use Rattle.job_cli.proofs.JobRuns.{jobs_are_told, no_jobs_are_told}
-use Rattle.job_cli.specs.{JobRuns.{EndsJobsWith, EndsUnwritten, HasJobFault, HasJobs, IsCutJobsText, IsJobsText, IsNoJobs, WritesJobs}, Jobs.jobs_of}
+use Rattle.job_cli.specs.{JobRuns.{EndsJobsWith, EndsSoFar, EndsUnwritten, HasJobFault, HasJobs, IsCountedText, IsCutJobsText, IsNoJobs, WritesJobs}, Jobs.jobs_of}
 use Rattle.load.specs.{Lines.line_text, Tallies.no_tally}
 use Rattle.job_cli.specs.declared.jobs.JobLine.{JobLine}
 use Rattle.script_cli.{proofs.{Runs.{no_script_is_told, run_to_text, script_is_told}, Texts.appends_none}, specs.Inputs.AreFirstOf}
@@ -19,7 +19,7 @@ use Rattle.script_cli.specs.{Runs.{EndsWith, HasFault, HasScript, IsCutText, IsN
 use Rattle.script_cli.specs.declared.{fault.{LineFault.LineFault, RunFault.RunFault}, script.Numbered.Numbered}
 use Rattle.script_cli.specs.declared.transcripts.options.{SaidOptions.SaidOptions, ScriptKind.ScriptKind}
 use Rattle.host_core.specs.declared.config.Config.{Config}
-use Rattle.machine_model.specs.{Script.Table, State.State, declared.words.OpenRefusal.OpenRefusal}
+use Rattle.machine_model.specs.{Script.Table, declared.words.OpenRefusal.OpenRefusal}
 
 -- What is known where the words of a command line are at fault.
 
@@ -113,6 +113,10 @@ unwritten_told : (told : Option (List ℕ)) (submitters : ℕ) (text : List ℕ)
     → EndsUnwritten (Some text) submitters config why a b → EndsUnwritten told submitters config why a b
 unwritten_told told submitters text config why a b first (lines, has, refused, keeps) = (lines, has_jobs_told told submitters text lines first has, refused, keeps)
 
+so_far_told : (told : Option (List ℕ)) (submitters : ℕ) (text : List ℕ) (config : Config) (image : List ℕ) (a b : Option (List ℕ)) → AreFirstOf 1048576 told text
+    → EndsSoFar (Some text) submitters config image a b → EndsSoFar told submitters config image a b
+so_far_told told submitters text config image a b first (lines, has, refused, gains) = (lines, has_jobs_told told submitters text lines first has, refused, gains)
+
 pub writes_jobs_told : (told : Option (List ℕ)) (submitters : ℕ) (text : List ℕ) (config : Config) (image : List ℕ) (a b : Option (List ℕ)) (Holds : Config → List ℕ → List JobLine → List ℕ → Type 0)
     → AreFirstOf 1048576 told text → WritesJobs (Some text) submitters config image a b Holds → WritesJobs told submitters config image a b Holds
 writes_jobs_told told submitters text config image a b Holds first (lines, has, gains) = (lines, has_jobs_told told submitters text lines first has, gains)
@@ -124,8 +128,8 @@ ends_jobs_told told submitters text config image a b run.TooLong first (bad, kee
 ends_jobs_told told submitters text config image a b run.Unreadable first keeps = keeps
 ends_jobs_told told submitters text config image a b run.BadConfig first ends = unwritten_told told submitters text config _ a b first ends
 ends_jobs_told told submitters text config image a b (run.NoPages need free) first ends = unwritten_told told submitters text config _ a b first ends
-ends_jobs_told told submitters text config image a b run.NoThread first ends = unwritten_told told submitters text config _ a b first ends
-ends_jobs_told told submitters text config image a b (run.Close why) first ends = unwritten_told told submitters text config _ a b first ends
+ends_jobs_told told submitters text config image a b run.NoThread first ends = so_far_told told submitters text config image a b first ends
+ends_jobs_told told submitters text config image a b (run.Close why) first ends = so_far_told told submitters text config image a b first ends
 ends_jobs_told told submitters text config image a b run.Memory first (inl keeps) = inl keeps
 ends_jobs_told told submitters text config image a b run.Memory first (inr writes) = inr (writes_jobs_told told submitters text config image a b IsCutJobsText first writes)
 ends_jobs_told told submitters text config image a b run.OutputFailed first writes = writes_jobs_told told submitters text config image a b IsCutJobsText first writes
@@ -240,12 +244,19 @@ jobs_played : (told : Option (List ℕ)) (given said : Given) (submitters n : �
 jobs_played told given said submitters n text image Holds first says is holds =
     played (script_told given.script told) text (jobs_said given submitters) (said, n) (λ script s. (im : List ℕ) × IsFirstImage s.0 im × Holds script s.0 s.1 im) first says (λ all read. (image, is, holds all read))
 
-pub jobs_ran : (told : Option (List ℕ)) (given said : Given) (what : Threading) (who : Serving) (n : ℕ) (text image : List ℕ) (a b : Option (List ℕ))
+-- what is written of jobs is so
+held : (told : Option (List ℕ)) (n : ℕ) (config : Config) (image : List ℕ) (a b : Option (List ℕ)) (P Q : Config → List ℕ → List JobLine → List ℕ → Type 0)
+    → ((lines : List JobLine) (text : List ℕ) → P config image lines text → Q config image lines text) → WritesJobs told n config image a b P → WritesJobs told n config image a b Q
+held told n config image a b P Q is (lines, has, (text, holds, written)) = (lines, has, (text, is lines text holds, written))
+
+pub jobs_ran : {T U : Type 0} (r : Result T U) (told : Option (List ℕ)) (given said : Given) (what : Threading) (who : Serving) (n : ℕ) (text image : List ℕ) (a b : Option (List ℕ)) (unwell : ℕ)
     → AreFirstOf 1048576 (script_told given.script told) text → jobs_said given what.submitters text ≡ Some (said, n) → IsFirstImage said image
-    → WritesJobs (Some text) n said.config image a b IsJobsText → Performs told (Some (threads given what who)) a b
-jobs_ran told given said what who n text image a b first says is writes =
-    jobs_played told given said what.submitters n text image (λ script s m im. WritesJobs (Some script) m s.config im a b IsJobsText) first says is
-    (λ all read. writes_jobs_told (Some all) n text said.config image a b IsJobsText read writes)
+    → WritesJobs (Some text) n said.config image a b (IsCountedText unwell) → OnOk r (given.strict ≡ true → unwell ≡ 0) → OnOk r (Performs told (Some (threads given what who)) a b)
+jobs_ran (Ok done) told given said what who n text image a b unwell first says is writes well =
+    jobs_played told given said what.submitters n text image (λ script s m im. WritesJobs (Some script) m s.config im a b (IsTextAsAsked given.strict)) first says is
+    (λ all read. held (Some all) n said.config image a b (IsCountedText unwell) (IsTextAsAsked given.strict) (λ lines t counted. (unwell, counted, well))
+    (writes_jobs_told (Some all) n text said.config image a b (IsCountedText unwell) read writes))
+jobs_ran (Err x) told given said what who n text image a b unwell first says is writes well = tt
 
 pub jobs_ended : (told : Option (List ℕ)) (given said : Given) (what : Threading) (who : Serving) (n : ℕ) (text image : List ℕ) (a b : Option (List ℕ)) (why : RunFault) (f : Fault)
     → f ≡ fault.Run why → AreFirstOf 1048576 (script_told given.script told) text → jobs_said given what.submitters text ≡ Some (said, n) → IsFirstImage said image
@@ -256,10 +267,18 @@ jobs_ended told given said what who n text image a b why f same first says is en
     (λ all read. ends_jobs_told (Some all) n text said.config image a b why read ends))))
 
 -- a fault at the end of a run that went well
-pub jobs_end : {T U : Type 0} (r : Result T U) (fault_of : U → Fault) (told : Option (List ℕ)) (given : Given) (what : Threading) (who : Serving) (a b : Option (List ℕ))
-    → Performs told (Some (threads given what who)) a b → IfErr r (λ x. IsUnwell given (fault_of x)) → IfErr r (λ x. FailsWith told (Some (threads given what who)) a b (fault_of x))
-jobs_end (Ok done) fault_of told given what who a b ran end = tt
-jobs_end (Err x) fault_of told given what who a b ran end = inr (inr (ran, end))
+pub jobs_end : {T U : Type 0} (r : Result T U) (fault_of : U → Fault) (told : Option (List ℕ)) (given said : Given) (what : Threading) (who : Serving) (n : ℕ) (text image : List ℕ) (a b : Option (List ℕ)) (unwell : ℕ)
+    → AreFirstOf 1048576 (script_told given.script told) text → jobs_said given what.submitters text ≡ Some (said, n) → IsFirstImage said image
+    → WritesJobs (Some text) n said.config image a b (IsCountedText unwell) → OnErr r (unwell ≡ 0 → ⊥) → IfErr r (λ x. IsUnwell given (fault_of x))
+    → IfErr r (λ x. FailsWith told (Some (threads given what who)) a b (fault_of x))
+jobs_end (Ok done) fault_of told given said what who n text image a b unwell first says is writes some end = tt
+jobs_end (Err x) fault_of told given said what who n text image a b unwell first says is writes some end =
+    inr (inr (
+      jobs_played told given said what.submitters n text image (λ script s m im. WritesJobs (Some script) m s.config im a b IsUnwellText) first says is
+          (λ all read. held (Some all) n said.config image a b (IsCountedText unwell) IsUnwellText (λ lines t counted. (unwell, counted, some))
+          (writes_jobs_told (Some all) n text said.config image a b (IsCountedText unwell) read writes)),
+      end,
+    ))
 
 -- jobs told as objects: a fault of the run, and one at its end
 pub objects_failed : (told : Option (List ℕ)) (given : Given) (what : Threading) (who : Serving) (a b : Option (List ℕ)) (why : RunFault) (f : Fault)

@@ -5,10 +5,11 @@ use Rattle.block_image.specs.Blocks.{most_blocks}
 use Rattle.clap.specs.Words.{Text}
 use Rattle.command_line.specs.Asked.{Asked, Given, Loaded, check, check_jobs, draw, explain, grammar, load, shell, show, steps, test, thread_objects, threads, traced}
 use Rattle.program.specs.{Loading.{LeavesLoad, TellsLoad}, declared.fault.Fault.Fault}
-use Rattle.job_cli.specs.JobRuns.{EndsJobsWith, HasJobs, IsJobsText, IsNoJobs, WritesJobs}
+use Rattle.job_cli.specs.JobRuns.{EndsJobsWith, HasJobs, IsCountedText, IsNoJobs, WritesJobs}
 use Rattle.load.specs.{Lines.IsLineFront, Tallies.is_good}
 use Rattle.job_cli.specs.declared.jobs.JobLine.{JobLine}
 use Rattle.load.specs.declared.{fault.LoadFault.LoadFault, tally.Tally.Tally}
+use Rattle.host_core.specs.declared.config.Config.{Config}
 use Rattle.script_cli.specs.declared.transcripts.options.{Options.Options, SaidOptions.SaidOptions, ScriptKind.{ScriptKind, TheVariants.{Jobs, Steps}}}
 use Rattle.script_cli.specs.{Inputs.{IsTold, Gains}, Lines.first_line, Options.{jobs_options_in, options_in, said_on}, Runs.{EndsWith, HasScript, IsNoScript, IsRunText, Writes}}
 use Rattle.script_cli.specs.declared.{fault.RunFault.RunFault, input.ImageFault.ImageFault, script.Numbered.Numbered}
@@ -90,6 +91,14 @@ abbrev pub PlaysSteps : Option (List ℕ) → Given → (List ℕ → Given → 
 PlaysSteps told given Holds =
     Plays (script_told given.script told) (steps_said given) (λ script said. (image : List ℕ) × IsFirstImage said image × Holds script said image)
 
+-- the text of a run of jobs, each of which was not refused and ended with the status 0:00 where that is asked for
+abbrev pub IsTextAsAsked : Bool → Config → List ℕ → List JobLine → List ℕ → Type 0
+IsTextAsAsked strict config image lines text = (unwell : ℕ) × IsCountedText unwell config image lines text × (strict ≡ true → unwell ≡ 0)
+
+-- the text of one of which some did not
+abbrev pub IsUnwellText : Config → List ℕ → List JobLine → List ℕ → Type 0
+IsUnwellText config image lines text = (unwell : ℕ) × IsCountedText unwell config image lines text × (unwell ≡ 0 → ⊥)
+
 -- a script of jobs is run over an image by submitters, and of what comes of it something holds
 abbrev pub RunsJobs : Option (List ℕ) → Given → ℕ → (List ℕ → Given → ℕ → List ℕ → Type 0) → Type 0
 RunsJobs told given submitters Holds =
@@ -120,7 +129,7 @@ abbrev pub Performs : Option (List ℕ) → Option Asked → Option (List ℕ) �
 Performs told None before after = Keeps before after
 Performs told (Some (steps given)) before after = PlaysSteps told given (λ script said image. Writes (Some script) said.config image before after IsRunText)
 Performs told (Some (threads given what who)) before after =
-    RunsJobs told given what.submitters (λ script said submitters image. WritesJobs (Some script) submitters said.config image before after IsJobsText)
+    RunsJobs told given what.submitters (λ script said submitters image. WritesJobs (Some script) submitters said.config image before after (IsTextAsAsked given.strict))
 Performs told (Some (load given what who)) before after = WritesLoad what true before after
 Performs told (Some (check path)) before after = LooksAtSteps (script_told path told) × Keeps before after
 Performs told (Some (check_jobs path submitters)) before after = LooksAtJobs (script_told path told) submitters × Keeps before after
@@ -208,7 +217,7 @@ FailsWith told (Some (traced given objects)) before after why =
 FailsWith told (Some (threads given what who)) before after why =
     (IsNotBegun (script_told given.script told) (jobs_said given what.submitters) (λ said. said.0) why × Keeps before after)
     ⊎ (IsRunFault why (λ cause. RunsJobs told given what.submitters (λ script said submitters image. EndsJobsWith (Some script) submitters said.config image before after cause))
-    ⊎ (Performs told (Some (threads given what who)) before after × IsUnwell given why))
+    ⊎ (RunsJobs told given what.submitters (λ script said submitters image. WritesJobs (Some script) submitters said.config image before after IsUnwellText) × IsUnwell given why))
 FailsWith told (Some (thread_objects given what who)) before after why =
     (IsNotBegun (script_told given.script told) (jobs_said given what.submitters) (λ said. said.0) why × Keeps before after)
     ⊎ (IsRunFault why (λ cause. Unit {0}) ⊎ IsUnwell given why)

@@ -2,6 +2,7 @@
 
 ghost use Rattle.std.specs.Prelude.{◌≡◌, ◌≤◌, Some, IfErr, OnErr, OnOk, false, map, true};
 ghost use Rattle.command_line.specs.Asked.{asked, draw, given_of, path_of, shell, steps, thread_objects, threads, traced};
+ghost use Rattle.job_cli.specs.declared.telling.Form.TheVariants.{Lines};
 ghost use Rattle.program.specs.Performing.{FailsWith, is_file, IsEndFault, IsNoGrammar, IsNoJobScript, IsNoSteps, IsRunFault, IsTestFault, IsUnwell, LooksAtJobs, LooksAtSteps, Performs, script_told};
 
 use crate::below::below_run;
@@ -17,7 +18,7 @@ use crate::saving::save_image;
 use crate::serving::server_of;
 use crate::testing::test_files;
 use command_line::{CommandLine, Options, Serving, Testing, Threading, words};
-use job_cli::{Pace, run_jobs, tell_jobs};
+use job_cli::{Form, Pace, run_jobs};
 use script_cli::transcripts::ScriptKind;
 use script_cli::{MAX_SCRIPT, RunFault, play_steps, transcripts};
 use shell::{meanings_text, run_shell, tell_steps, trace_steps};
@@ -40,7 +41,7 @@ use world_bench::Bench;
 pub struct Terminals {
     /// Standard input, and standard output too: the shell prompts.
     pub input: bool,
-    /// Standard error: a load says how far it is.
+    /// Standard error: a load, and jobs, say how far they are.
     pub error: bool,
 }
 
@@ -117,12 +118,26 @@ pub fn perform<
         Ok(CommandLine::Traced(options, objects)) => {
             trace_script(rt, options, objects, reader, writer)
         }
-        Ok(CommandLine::Threads(options, threading, serving)) => {
-            run_threads(rt, options, threading, serving, reader, writer)
-        }
-        Ok(CommandLine::ThreadObjects(options, threading, serving)) => {
-            tell_threads(rt, options, threading, serving, reader, writer)
-        }
+        Ok(CommandLine::Threads(options, threading, serving)) => run_threads(
+            rt,
+            options,
+            threading,
+            serving,
+            Form::Lines,
+            terminals.error,
+            reader,
+            writer,
+        ),
+        Ok(CommandLine::ThreadObjects(options, threading, serving)) => run_threads(
+            rt,
+            options,
+            threading,
+            serving,
+            Form::Objects,
+            terminals.error,
+            reader,
+            writer,
+        ),
         Ok(CommandLine::Load(options, load, serving)) => {
             load_image(rt, options, load, serving, writer, terminals.error)
         }
@@ -158,6 +173,7 @@ fn layout_of(objects: bool) -> Layout {
 /// The end of a run in which so many answers were not well: a fault, where that is asked for.
 fn end_strictly(alloc: Global, options: Options<'_>, unwell: u64) -> Result<(), Told<Fault>>
     ensures unwell { IfErr result (λ told. IsUnwell (given_of options.entry) told.fault) }
+    ensures some { OnErr result (unwell ≡ 0 → ⊥) }
     ensures well { OnOk result ((given_of options.entry).strict ≡ true → unwell ≡ 0) }
 {
     if options.strict && unwell > 0 {
@@ -247,23 +263,31 @@ fn trace_script<R: AllocGlobal + Files + Print, I: Read, W: Write>(
     }
 }
 
-/// How the jobs of submitters are run.
-fn pace_of(threading: Threading, serving: Serving) -> Pace
-    ensures { result.depth ≡ threading.depth }
+/// How many entries the log of a round of jobs may have where nothing is said: few enough that the lines of a long script come while it runs.
+const USUAL_LOG: u32 = 65_536;
+
+/// How the jobs of submitters are run, and what is written of them.
+fn pace_of(threading: Threading, serving: Serving, form: Form, shows: bool) -> Pace
+    ensures depth { result.depth ≡ threading.depth }
+    ensures form { result.form ≡ form }
 {
     Pace {
         depth: threading.depth,
         server: server_of(serving),
-        log_limit: threading.log_limit,
+        log_limit: Some(threading.log_limit.unwrap_or(USUAL_LOG)),
+        form,
+        shows,
     }
 }
 
-/// Runs a script of jobs.
-fn run_threads<R: AllocGlobal + Files + Sync + Threads + Wait, I: Read, W: Write>(
+/// Runs a script of jobs, and tells how they ended, in lines or as objects.
+fn run_threads<R: AllocGlobal + Clock + Eprint + Files + Sync + Threads + Wait, I: Read, W: Write>(
     rt: &R,
     options: Options<'_>,
     threading: Threading,
     serving: Serving,
+    form: Form,
+    shows: bool,
     reader: &mut I,
     writer: &mut W,
 ) -> Result<(), Told<Fault>>
@@ -271,8 +295,9 @@ fn run_threads<R: AllocGlobal + Files + Sync + Threads + Wait, I: Read, W: Write
     requires few { threading.submitters ≤ 16 }
     requires at_least_one { 1 ≤ threading.depth }
     requires at_most { threading.depth ≤ 256 }
-    ensures ran { OnOk result (Performs (I.remaining reader.old) (Some (threads (given_of options.entry) threading serving)) (W.contents writer.old) (W.contents writer.new)) }
-    ensures failed { IfErr result (λ told. FailsWith (I.remaining reader.old) (Some (threads (given_of options.entry) threading serving)) (W.contents writer.old) (W.contents writer.new) told.fault) }
+    ensures ran { form ≡ Lines → OnOk result (Performs (I.remaining reader.old) (Some (threads (given_of options.entry) threading serving)) (W.contents writer.old) (W.contents writer.new)) }
+    ensures failed { form ≡ Lines → IfErr result (λ told. FailsWith (I.remaining reader.old) (Some (threads (given_of options.entry) threading serving)) (W.contents writer.old) (W.contents writer.new) told.fault) }
+    ensures objects { IfErr result (λ told. FailsWith (I.remaining reader.old) (Some (thread_objects (given_of options.entry) threading serving)) (W.contents writer.old) (W.contents writer.new) told.fault) }
 {
     let (begun, submitters) = match begin_jobs(rt, options, threading.submitters, reader) {
         Ok(begun) => begun,
@@ -281,8 +306,7 @@ fn run_threads<R: AllocGlobal + Files + Sync + Threads + Wait, I: Read, W: Write
     let Begun { text, said, image } = begun;
     let alloc = rt.alloc();
     let mut script = text.as_slice();
-    let pace = pace_of(threading, serving);
-    let mut unwell = 0;
+    let pace = pace_of(threading, serving, form, shows);
     match run_jobs(
         rt,
         alloc,
@@ -292,51 +316,8 @@ fn run_threads<R: AllocGlobal + Files + Sync + Threads + Wait, I: Read, W: Write
         pace,
         &mut script,
         writer,
-        &mut unwell,
     ) {
-        Ok(()) => end_strictly(alloc, options, unwell),
-        Err(fault) => {
-            let grammar = Grammar::Jobs(submitters);
-            Err(told_of_run(alloc, grammar, &text, &said, fault))
-        }
-    }
-}
-
-/// Runs a script of jobs, and tells how each ended as objects.
-fn tell_threads<R: AllocGlobal + Files + Sync + Threads + Wait, I: Read, W: Write>(
-    rt: &R,
-    options: Options<'_>,
-    threading: Threading,
-    serving: Serving,
-    reader: &mut I,
-    writer: &mut W,
-) -> Result<(), Told<Fault>>
-    requires some { 1 ≤ threading.submitters }
-    requires few { threading.submitters ≤ 16 }
-    requires at_least_one { 1 ≤ threading.depth }
-    requires at_most { threading.depth ≤ 256 }
-    ensures failed { IfErr result (λ told. FailsWith (I.remaining reader.old) (Some (thread_objects (given_of options.entry) threading serving)) (W.contents writer.old) (W.contents writer.new) told.fault) }
-{
-    let (begun, submitters) = match begin_jobs(rt, options, threading.submitters, reader) {
-        Ok(begun) => begun,
-        Err(told) => return Err(told),
-    };
-    let Begun { text, said, image } = begun;
-    let alloc = rt.alloc();
-    let pace = pace_of(threading, serving);
-    let mut unwell = 0;
-    match tell_jobs(
-        rt,
-        alloc,
-        said.config,
-        image,
-        submitters,
-        pace,
-        &text,
-        writer,
-        &mut unwell,
-    ) {
-        Ok(()) => end_strictly(alloc, options, unwell),
+        Ok(unwell) => end_strictly(alloc, options, unwell),
         Err(fault) => {
             let grammar = Grammar::Jobs(submitters);
             Err(told_of_run(alloc, grammar, &text, &said, fault))
@@ -379,7 +360,7 @@ fn look_at_jobs<R: AllocGlobal + Files, I: Read>(
 }
 
 /// Tests the transcripts of files.
-fn test<R: AllocGlobal + Files + Sync + Threads + Wait, I: Read, W: Write>(
+fn test<R: AllocGlobal + Clock + Eprint + Files + Sync + Threads + Wait, I: Read, W: Write>(
     rt: &R,
     testing: &Testing<'_>,
     reader: &mut I,

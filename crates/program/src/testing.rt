@@ -15,7 +15,7 @@ use script_cli::{ImageFault, LineFault, RunFault, flush, put, replace_file, spli
 use std::alloc::{AllocError, AllocGlobal, Global};
 use std::convert::AsStr;
 use std::io::{Read, Write};
-use std::rt::Files;
+use std::rt::{Clock, Files};
 use std::sync::Wait;
 use std::thread::Threads;
 use texts::faults::{Grammar, line_at};
@@ -225,7 +225,7 @@ fn jobs_said(bytes: &[u8]) -> Option<(SaidOptions, u16)>
 }
 
 /// Plays the bytes of a file, by the steps of a bench or the jobs of submitters: how that came out, and by which grammar they were read.
-fn play<R: AllocGlobal + Sync + Threads + Wait>(
+fn play<R: AllocGlobal + Clock + Eprint + Sync + Threads + Wait>(
     rt: &R,
     bytes: &[u8],
     usual: Options,
@@ -241,7 +241,7 @@ fn play<R: AllocGlobal + Sync + Threads + Wait>(
 }
 
 /// Tests the bytes of a file, and says how that came out.
-fn test_bytes<R: AllocGlobal + Files + Sync + Threads + Wait>(
+fn test_bytes<R: AllocGlobal + Clock + Eprint + Files + Sync + Threads + Wait>(
     rt: &R,
     path: &str,
     bytes: &[u8],
@@ -268,7 +268,7 @@ fn test_bytes<R: AllocGlobal + Files + Sync + Threads + Wait>(
 }
 
 /// Tests a file, and says how that came out.
-fn test_file<R: AllocGlobal + Files + Sync + Threads + Wait, I: Read>(
+fn test_file<R: AllocGlobal + Clock + Eprint + Files + Sync + Threads + Wait, I: Read>(
     rt: &R,
     path: &str,
     usual: Options,
@@ -299,7 +299,7 @@ fn test_file<R: AllocGlobal + Files + Sync + Threads + Wait, I: Read>(
 ///
 /// `OutputFailed` where a line is not written, and `Memory` where memory is refused. The files behind it are then not tested.
 pub(crate) fn test_files<
-    R: AllocGlobal + Files + Sync + Threads + Wait,
+    R: AllocGlobal + Clock + Eprint + Files + Sync + Threads + Wait,
     S: AsStr,
     I: Read,
     W: Write,

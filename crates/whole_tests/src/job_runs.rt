@@ -5,10 +5,11 @@ use crate::script_runs::{Narrow, Slow};
 use crate::usual::{USUAL, zeros};
 use driver_threads::{JobEnd, JobRefusal};
 use io_commands::Kind;
-use job_cli::{Pace, Server, append_job_line, run_jobs};
+use job_cli::{Form, Pace, Server, append_job_line, run_jobs};
 use script_cli::RunFault;
 use std::alloc::AllocGlobal;
 use std::io;
+use std::rt::Clock;
 use std::sync::Wait;
 use std::test::Fail;
 use std::thread::Threads;
@@ -26,6 +27,8 @@ const ONE: Pace = Pace {
     depth: 1,
     server: Server::Ringer,
     log_limit: None,
+    form: Form::Lines,
+    shows: false,
 };
 
 /// The text of `examples/two_submitters.script`: two submitters write three blocks each, and read them.
@@ -121,7 +124,10 @@ counts free 12 queue 4 chain 0 data 0
 ];
 
 /// Plays a script for two submitters: what was written, and the fault behind it.
-fn played<R: AllocGlobal + Sync + Threads + Wait>(rt: &R, run: &Run) -> Result<String, Fail> {
+fn played<R: AllocGlobal + Clock + Eprint + Sync + Threads + Wait>(
+    rt: &R,
+    run: &Run,
+) -> Result<String, Fail> {
     let alloc = rt.alloc();
     let mut reader = Slow {
         rest: run.script.as_bytes(),
@@ -133,17 +139,7 @@ fn played<R: AllocGlobal + Sync + Threads + Wait>(rt: &R, run: &Run) -> Result<S
         taken: Vec::new(alloc),
     };
     let image = zeros(alloc)?;
-    let end = run_jobs(
-        rt,
-        alloc,
-        USUAL,
-        image,
-        2,
-        ONE,
-        &mut reader,
-        &mut writer,
-        &mut 0,
-    );
+    let end = run_jobs(rt, alloc, USUAL, image, 2, ONE, &mut reader, &mut writer);
     let Ok(mut text) = String::from_utf8(writer.taken) else {
         return Err(Fail::from("text that is not ASCII"));
     };
@@ -179,17 +175,7 @@ fn a_reader_without_end(rt: HostRuntime) -> Result<(), Fail> {
     let image = zeros(rt.alloc())?;
     let mut out = Vec::new(rt.alloc());
     let mut reader = io::repeat(b'#');
-    let end = run_jobs(
-        &rt,
-        rt.alloc(),
-        USUAL,
-        image,
-        2,
-        ONE,
-        &mut reader,
-        &mut out,
-        &mut 0,
-    );
+    let end = run_jobs(&rt, rt.alloc(), USUAL, image, 2, ONE, &mut reader, &mut out);
     same(&rt, (end, out.len()), (Err(RunFault::TooLong), 0));
     Ok(())
 }

@@ -256,6 +256,17 @@ fn once(before: Option<u32>, number: Option<u32>) -> Result<Option<u32>, WhyBad>
     }
 }
 
+/// A number of submitters that is said, where none was said before.
+fn few_once(before: Option<u32>, number: Option<u32>) -> Result<Option<u32>, WhyBad>
+    ensures few { IfOk result AreFew }
+    ensures once { MatchResult result (λ n. spec_once before (spec_few number) ≡ Some n) (λ why. spec_once before (spec_few number) ≡ None) }
+{
+    match (before, number, few(number)) {
+        (None, Some(_), None) => Err(WhyBad::Submitters),
+        (before, _, number) => once(before, number),
+    }
+}
+
 impl SaidOptions {
     /// Nothing is said.
     pub const NONE: SaidOptions = SaidOptions {
@@ -288,7 +299,7 @@ impl SaidOptions {
             if kind == ScriptKind::Steps {
                 return Err(WhyBad::Jobs);
             }
-            said.submitters = once(self.submitters, few(number))?;
+            said.submitters = few_once(self.submitters, number)?;
         } else if name == "image".as_bytes() {
             return Err(WhyBad::Image);
         } else {

@@ -84,7 +84,10 @@ fn read_lines<R: AllocGlobal + Files>(rt: &R) -> Result<String, AllocError> {
             Err(Stop::Memory) => return Err(AllocError),
             Err(Stop::At(..) | Stop::Before(..)) => {}
         }
-        if show(rt, shown_as(&mut numbers), &line, Layout::Objects).is_ok() {
+        let shown = shown_as(&mut numbers);
+        let lines = show(rt, shown, &line, Layout::Lines).is_ok();
+        let objects = show(rt, shown, &line, Layout::Objects).is_ok();
+        if lines && objects {
             decoded = decoded.saturating_add(1);
         }
     }

@@ -2,7 +2,7 @@
 use Rattle.std.{proofs.Common.{◌≡◌, ◌+◌, ◌-◌, ◌≤◌, ℕ, Some, length, vec_len, vec_capacity}, specs.List.Contains}
 use Rattle.machine_model.specs.Claims.{claims_of}
 use Rattle.page_ledger.specs.{Owners.owner_at, declared.owner.Owner.Owner}
-use Rattle.job_cli.proofs.job_runs.owners_of.Given as goal
+use Rattle.job_cli.proofs.telling.owners_of.Given as goal
 
 abbrev pub invariant-loop-p : goal.invariant-loop-p
 invariant-loop-p l = record {
