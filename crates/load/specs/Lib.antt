@@ -3,6 +3,8 @@ pub mod Course
 pub mod Histograms
 pub mod Layouts
 pub mod Lines
+pub mod Loaded
 pub mod Picking
 pub mod Planning
+pub mod Rounds
 pub mod Tallies

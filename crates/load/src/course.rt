@@ -1,9 +1,10 @@
 //! What goes on from round to round.
 
 ghost use Rattle.load.specs.Planning.{IsInside};
-ghost use Rattle.std.specs.Prelude.{◌≡◌, ◌≤◌, ◌<◌, ◌*◌, All, IfOk, IfSome, length, map, min, vec_len};
+ghost use Rattle.std.specs.Prelude.{◌≡◌, ◌≤◌, ◌<◌, ◌*◌, ◌/◌, All, IfOk, IfSome, OnOk, length, map, max, min, replicate, vec_len};
 ghost use Rattle.std.proofs.Props.{props};
 ghost use Rattle.load.specs.Course.{AreJobs, ArePlans, commands_for as spec_commands_for, share_of as spec_share_of};
+ghost use Rattle.load.specs.Rounds.{AreReads, all_noted};
 ghost use Rattle.load.specs.Tallies.{both, counted, no_tally, tallies_from, wanted_of};
 ghost use Rattle.script_cli.specs.Loads.{FitsLoad};
 
@@ -14,10 +15,9 @@ use crate::layout::Layout;
 use crate::look::{look_at, note_writes};
 use crate::measured::Measured;
 use crate::picks::Picks;
-use crate::plan::{Planned, jobs_of, plan_one, plan_some};
+use crate::plan::{Planned, jobs_of, plan_some, reads_of};
 use crate::tally::Tally;
 use driver_threads::{Job, JobEnds, Server};
-use io_commands::Kind;
 use script_cli::workload::Load;
 use std::alloc::{AllocError, Global};
 
@@ -96,6 +96,13 @@ impl Course {
         requires fits { FitsLoad load.now }
         requires queues { 1 ≤ queues }
         requires whole { IfSome content (λ c. vec_len c.first ≡ 512 * layout.blocks) }
+        ensures layout { IfOk result (λ course. course.layout ≡ layout) }
+        ensures seed { IfOk result (λ course. course.seed ≡ load.now.seed) }
+        ensures queues { IfOk result (λ course. course.queues ≡ queues) }
+        ensures round { IfOk result (λ course. course.round ≡ spec_commands_for load.now.command_blocks layout.submitters load.now.log_limit) }
+        ensures content { IfOk result (λ course. course.content ≡ content) }
+        ensures generations { IfOk result (λ course. course.generations.items ≡ replicate (layout.submitters * layout.slots) 0) }
+        ensures tally { IfOk result (λ course. course.tally ≡ no_tally) }
     {
         let mut picks = Vec::with_capacity(alloc, usize::from(layout.submitters))?;
         for submitter in 0..layout.submitters {
@@ -134,7 +141,12 @@ impl Course {
         ensures inside { IfOk result (λ plans. All (λ plan. All (IsInside self.new.layout) plan.items) plans.items) }
         ensures planned { IfOk result (λ plans. ArePlans self.old.layout self.old.generations.items (min most self.old.round) (map (λ plan. plan.items) plans.items)) }
         ensures layout { self.new.layout ≡ self.old.layout }
+        ensures seed { self.new.seed ≡ self.old.seed }
+        ensures queues { self.new.queues ≡ self.old.queues }
+        ensures round { self.new.round ≡ self.old.round }
+        ensures content { self.new.content ≡ self.old.content }
         ensures generations { self.new.generations ≡ self.old.generations }
+        ensures tally { self.new.tally ≡ self.old.tally }
     {
         let commands = most.min(self.round);
         let layout = self.layout;
@@ -156,35 +168,32 @@ impl Course {
     ) -> Result<Vec<Vec<Planned>>, AllocError>
         ensures all { IfOk result (λ plans. vec_len plans ≡ self.now.layout.submitters) }
         ensures inside { IfOk result (λ plans. All (λ plan. All (IsInside self.now.layout) plan.items) plans.items) }
+        ensures reads { IfOk result (λ plans. AreReads self.now.layout self.now.generations.items from (min self.now.layout.slots (max (self.now.round / self.now.layout.submitters) 1)) (map (λ plan. plan.items) plans.items)) }
     {
         let layout = self.layout;
+        let begin = from.min(layout.slots);
+        let many = self.round_slots().min(layout.slots - begin);
         let mut plans = Vec::with_capacity(alloc, usize::from(layout.submitters))?;
         for submitter in 0..layout.submitters {
-            let first = layout.first_slot(submitter);
-            let to = layout.slots.min(from.saturating_add(self.round_slots()));
-            let mut plan = Vec::new(alloc);
-            for slot in first + from.min(to)..first + to {
-                let read = plan_one(&self.generations, slot, Kind::Read);
-                if read.generation > 0 {
-                    plan.push(read)?;
-                }
-            }
-            plans.push(plan)?;
+            let first = layout.first_slot(submitter) + begin;
+            plans.push(reads_of(alloc, layout, &self.generations, first, many)?)?;
         }
         Ok(plans)
     }
 
     /// How many slots each submitter has.
-    pub(crate) fn slots(&self) -> usize {
+    pub(crate) fn slots(&self) -> usize
+        ensures { result ≡ self.now.layout.slots }
+    {
         self.layout.slots
     }
 
     /// How many slots of each submitter are read once more in a round.
     pub(crate) fn round_slots(&self) -> usize
-        ensures { 1 ≤ result }
+        ensures { result ≡ min self.now.layout.slots (max (self.now.round / self.now.layout.submitters) 1) }
     {
         let many = self.round / u64::from(self.layout.submitters);
-        many.max(1) as usize
+        self.layout.slots.min(many.max(1) as usize)
     }
 
     /// The jobs of a round. A submitter has one queue, and submitters share queues where there are fewer.
@@ -218,6 +227,12 @@ impl Course {
         requires inside { All (λ plan. All (IsInside self.old.layout) plan.items) plans.now }
         ensures told { IfOk result (λ tally. tally ≡ tallies_from (wanted_of self.old.layout self.old.content) no_tally (map (λ plan. plan.items) plans.now) ends.now) }
         ensures layout { self.new.layout ≡ self.old.layout }
+        ensures seed { self.new.seed ≡ self.old.seed }
+        ensures queues { self.new.queues ≡ self.old.queues }
+        ensures round { self.new.round ≡ self.old.round }
+        ensures content { self.new.content ≡ self.old.content }
+        ensures tally { self.new.tally ≡ self.old.tally }
+        ensures noted { OnOk result (self.new.generations.items ≡ all_noted self.old.generations.items (map (λ plan. plan.items) plans.now) ends.now) }
     {
         let layout = self.layout;
         let mut tally = Tally::NONE;
@@ -234,6 +249,11 @@ impl Course {
     pub(crate) fn count(&mut self, tally: Tally, of_load: bool)
         ensures counted { self.new.tally ≡ both self.old.tally (counted of_load tally) }
         ensures layout { self.new.layout ≡ self.old.layout }
+        ensures seed { self.new.seed ≡ self.old.seed }
+        ensures queues { self.new.queues ≡ self.old.queues }
+        ensures round { self.new.round ≡ self.old.round }
+        ensures content { self.new.content ≡ self.old.content }
+        ensures generations { self.new.generations ≡ self.old.generations }
     {
         self.tally = self.tally.and(tally.counted(of_load));
     }
@@ -241,6 +261,12 @@ impl Course {
     /// Counts how long the commands of a round took.
     pub(crate) fn measure(&mut self, plans: &[Vec<Planned>], ends: &JobEnds, times: &[Vec<u64>])
         ensures layout { self.new.layout ≡ self.old.layout }
+        ensures seed { self.new.seed ≡ self.old.seed }
+        ensures queues { self.new.queues ≡ self.old.queues }
+        ensures round { self.new.round ≡ self.old.round }
+        ensures content { self.new.content ≡ self.old.content }
+        ensures generations { self.new.generations ≡ self.old.generations }
+        ensures tally { self.new.tally ≡ self.old.tally }
     {
         for ((plan, list), took) in plans.iter().zip(ends.as_slice()).zip(times) {
             self.measured.add(plan, list, took);

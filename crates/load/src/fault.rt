@@ -7,7 +7,7 @@ use thiserror::Error;
 /// Why a load did not run to its end.
 #[derive(Clone, Copy, Debug, Error)]
 pub enum LoadFault {
-    /// There are fewer blocks than are to be used, or there is not a slot for each submitter in those that are.
+    /// The image has fewer blocks than are to be used, or those that are used have no slot for each submitter.
     #[error("load: {need} blocks are needed, for --size or for a slot of each submitter, and there are {blocks}")]
     TooFewBlocks {
         /// How many are needed.

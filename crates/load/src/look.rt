@@ -2,6 +2,7 @@
 
 ghost use Rattle.std.specs.Prelude.{◌≡◌, ◌<◌, ◌*◌, All, IfOk, IfSome, length, option_map, vec_len};
 ghost use Rattle.load.specs.Planning.{IsInside};
+ghost use Rattle.load.specs.Rounds.{noted, wrote as spec_wrote};
 ghost use Rattle.load.specs.Tallies.{is_success as spec_is_success, no_tally, of_end as spec_of_end, tally_from, wanted_of};
 
 use crate::bad::{Bad, Why};
@@ -122,15 +123,24 @@ pub(crate) fn look_at(
     Ok(looked)
 }
 
-/// Notes which slots were written. A Write that was refused or failed left its slot as it was.
+/// Whether a command wrote its slot. A Write that was refused or failed left it as it was.
+fn wrote(kind: Kind, end: &JobEnd) -> bool
+    ensures { result ≡ spec_wrote kind end.now }
+{
+    match (kind, end) {
+        (Kind::Write, JobEnd::Done { status, .. }) => is_success(*status),
+        _ => false,
+    }
+}
+
+/// Notes how often slots were written.
 pub(crate) fn note_writes(generations: &mut [u32], plan: &[Planned], ends: &[JobEnd])
     requires { All (λ p. p.slot < length generations.old) plan.now }
+    ensures { generations.new ≡ noted generations.old plan.now ends.now }
 {
     for (planned, end) in plan.iter().zip(ends) {
-        if let (Kind::Write, JobEnd::Done { status, .. }) = (planned.kind, end) {
-            if is_success(*status) {
-                generations[planned.slot] = planned.generation;
-            }
+        if wrote(planned.kind, end) {
+            generations[planned.slot] = planned.generation;
         }
     }
 }

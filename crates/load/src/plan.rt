@@ -2,6 +2,7 @@
 
 ghost use Rattle.std.specs.Prelude.{◌≡◌, ◌≤◌, ◌<◌, ◌+◌, ◌*◌, All, IfOk, length, map};
 ghost use Rattle.load.specs.Planning.{IsInside, IsPlanOf, job_for, pieces_of, planned_at};
+ghost use Rattle.load.specs.Rounds.{reads_from};
 
 use crate::content::written_slot;
 use crate::layout::Layout;
@@ -58,6 +59,28 @@ pub(crate) fn plan_some(
     for slot in &picked {
         let kind = picks.kind();
         plan.push(plan_one(generations, first + slot, kind))?;
+    }
+    Ok(plan)
+}
+
+/// Reads of those that were written, of so many slots from one on.
+pub(crate) fn reads_of(
+    alloc: Global,
+    layout: Layout,
+    generations: &[u32],
+    first: usize,
+    many: usize,
+) -> Result<Vec<Planned>, AllocError>
+    requires slots { length generations.now ≡ layout.submitters * layout.slots }
+    requires inside { first + many ≤ layout.submitters * layout.slots }
+    ensures reads { IfOk result (λ plan. plan.items ≡ reads_from generations.now first many) }
+    ensures inside { IfOk result (λ plan. All (IsInside layout) plan.items) }
+{
+    let mut plan = Vec::new(alloc);
+    for slot in first..first + many {
+        if generations[slot] > 0 {
+            plan.push(plan_one(generations, slot, Kind::Read))?;
+        }
     }
     Ok(plan)
 }

@@ -1,13 +1,21 @@
 //! A load, from its opening to its line.
 
-ghost use Rattle.std.specs.Prelude.{◌≡◌, ◌≤◌, All, IfErr, IfOk, OnErr, OnOk, Some, length, option_map, vec_len};
+ghost use Rattle.std.specs.Prelude.{◌≡◌, ◌≤◌, ◌*◌, All, IfErr, IfOk, IfSome, OnErr, OnOk, Some, length, map, option_map, true, vec_len};
 ghost use Rattle.std.specs.Io.KnownBytes.{Appends};
+ghost use Rattle.block_image.specs.Blocks.{block_count, blocks_at};
 ghost use Rattle.script_cli.specs.Loads.{FitsLoad};
 ghost use Rattle.load.specs.Course.{commands_left as spec_commands_left};
+ghost use Rattle.driver_book.specs.State.{AreOfJobs};
+ghost use Rattle.driver_threads.specs.Ends.{AllAgree};
+ghost use Rattle.driver_threads.specs.Runs.{EndsRound};
 ghost use Rattle.load.specs.Layouts.{IsLayoutFor, too_few};
 ghost use Rattle.load.specs.declared.fault.LoadFault.TheVariants.{TooFewBlocks};
 ghost use Rattle.load.specs.Lines.{IsLineFront, Tells, line_text};
+ghost use Rattle.load.specs.Loaded.{HasRun, IsFirst, IsReadAgain, IsSettingFor, setting_of, standing_of, start};
 ghost use Rattle.load.specs.Planning.{IsInside};
+ghost use Rattle.load.specs.Rounds.{AreDone, GoesOn, HasGoneOn, HasReadAgain, ReadsOn, all_noted, commands_of as spec_commands_of};
+ghost use Rattle.load.specs.Tallies.{no_tally, tallies_from, wanted_of};
+ghost use Rattle.step_core.specs.Opening.{opening_of};
 ghost use Rattle.script_cli.specs.Inputs.{Gains, IsFront};
 
 use crate::content::Content;
@@ -51,6 +59,10 @@ fn play<G: Gate + Sync, R: Threads + Wait + Sync>(
     requires few { vec_len jobs ≤ 16 }
     requires some_depth { 1 ≤ depth }
     requires little_depth { depth ≤ 256 }
+    ensures ended { IfOk result (λ round. EndsRound world.state round.log round.report round.world) }
+    ensures all_jobs { IfOk result (λ round. map length round.jobs ≡ map (λ list. length list.items) jobs.items) }
+    ensures agree { IfOk result (λ round. AllAgree round.report.receipts round.jobs) }
+    ensures jobs { IfOk result (λ round. AreOfJobs round.log.entries) }
 {
     match run_round::<Brand, Global, G, R>(rt, alloc, world, jobs, depth, server, gate, blank) {
         Ok(round) => Ok(round),
@@ -81,6 +93,11 @@ fn run_plans<G: Gate + Sync, R: Threads + Wait + Sync>(
     requires inside { All (λ plan. All (IsInside course.old.layout) plan.items) plans.now }
     requires some_depth { 1 ≤ depth }
     requires little_depth { depth ≤ 256 }
+    ensures done { IfOk result (λ left. AreDone world.state (map (λ plan. plan.items) plans.now) left.ends left.world) }
+    ensures told { IfOk result (λ left. left.tally ≡ tallies_from (wanted_of course.old.layout course.old.content) no_tally (map (λ plan. plan.items) plans.now) left.ends) }
+    ensures noted { IfOk result (λ left. course.new.generations.items ≡ all_noted course.old.generations.items (map (λ plan. plan.items) plans.now) left.ends) }
+    ensures setting { setting_of course.new ≡ setting_of course.old }
+    ensures tally { course.new.tally ≡ course.old.tally }
 {
     let jobs = course.jobs(alloc, plans)?;
     let server = course.server();
@@ -95,7 +112,9 @@ fn run_plans<G: Gate + Sync, R: Threads + Wait + Sync>(
 }
 
 /// How many commands plans have.
-fn commands_of(plans: &[Vec<Planned>]) -> u64 {
+fn commands_of(plans: &[Vec<Planned>]) -> u64
+    ensures { result ≡ spec_commands_of (map (λ plan. plan.items) plans.now) }
+{
     let mut many = 0u64;
     for plan in plans {
         many = many.saturating_add(plan.len() as u64);
@@ -145,6 +164,8 @@ fn run_some<R: Clock + Threads + Wait + Sync>(
 ) -> Result<(World, u64), LoadFault>
     requires some_depth { 1 ≤ depth }
     requires little_depth { depth ≤ 256 }
+    ensures done { IfOk result (λ done. GoesOn (setting_of course.old) most (standing_of course.old world.state) done.1 (standing_of course.new done.0.state)) }
+    ensures setting { setting_of course.new ≡ setting_of course.old }
 {
     let plans = course.plan(alloc, most)?;
     let left = run_plans(rt, alloc, world, course, usize::from(depth), timing, &plans)?;
@@ -172,6 +193,8 @@ fn run_commands<R: Clock + Eprint + Threads + Wait + Sync, P: Report>(
     report: &mut P,
 ) -> Result<World, LoadFault>
     requires { FitsLoad load.now }
+    ensures gone_on { IfOk result (λ left. HasGoneOn load.now (setting_of course.old) (standing_of course.old world.state) (standing_of course.new left.state)) }
+    ensures setting { setting_of course.new ≡ setting_of course.old }
 {
     let timing = Timing::new(rt, alloc, load.submitters)?;
     let mut progress = Progress::new(shows);
@@ -200,6 +223,26 @@ fn run_commands<R: Clock + Eprint + Threads + Wait + Sync, P: Report>(
     Ok(world)
 }
 
+/// Reads slots that were written once more, of each submitter those of a round, from this one on.
+fn read_some<R: Threads + Wait + Sync>(
+    rt: &R,
+    alloc: Global,
+    world: World,
+    course: &mut Course,
+    depth: usize,
+    from: usize,
+) -> Result<World, LoadFault>
+    requires some_depth { 1 ≤ depth }
+    requires little_depth { depth ≤ 256 }
+    ensures done { IfOk result (λ left. ReadsOn (setting_of course.old) from (standing_of course.old world.state) (standing_of course.new left.state)) }
+    ensures setting { setting_of course.new ≡ setting_of course.old }
+{
+    let plans = course.plan_reads(alloc, from)?;
+    let left = run_plans(rt, alloc, world, course, depth, &Open, &plans)?;
+    course.count(left.tally, false);
+    Ok(left.world)
+}
+
 /// Reads each slot that was written once more, in rounds.
 fn read_again<R: Threads + Wait + Sync>(
     rt: &R,
@@ -210,16 +253,33 @@ fn read_again<R: Threads + Wait + Sync>(
 ) -> Result<World, LoadFault>
     requires some_depth { 1 ≤ depth }
     requires little_depth { depth ≤ 256 }
+    ensures { IfOk result (λ left. HasReadAgain (setting_of course.old) (standing_of course.old world.state) (standing_of course.new left.state)) }
 {
     let mut world = world;
-    let step = course.round_slots();
-    for from in (0..course.slots()).step_by(step) {
-        let plans = course.plan_reads(alloc, from)?;
-        let left = run_plans(rt, alloc, world, course, depth, &Open, &plans)?;
-        course.count(left.tally, false);
-        world = left.world;
+    let mut from = 0;
+    while from < course.slots() {
+        world = read_some(rt, alloc, world, course, depth, from)?;
+        from += course.round_slots();
     }
     Ok(world)
+}
+
+/// Reads what was written once more, where that is compared.
+fn read_if_verified<R: Threads + Wait + Sync>(
+    rt: &R,
+    alloc: Global,
+    world: World,
+    course: &mut Course,
+    load: &Load<'_>,
+) -> Result<World, LoadFault>
+    requires { FitsLoad load.now }
+    ensures { IfOk result (λ left. IsReadAgain load.now.verify (setting_of course.old) (standing_of course.old world.state) (standing_of course.new left.state)) }
+{
+    if load.verify {
+        read_again(rt, alloc, world, course, usize::from(load.depth))
+    } else {
+        Ok(world)
+    }
 }
 
 /// How a load shares out the blocks of an image that it uses.
@@ -242,6 +302,27 @@ fn share_out(blocks: u32, load: &Load<'_>) -> Result<Layout, LoadFault>
     }
 }
 
+/// What so many blocks of an image hold at first, where that is compared.
+fn first_content(
+    alloc: Global,
+    image: &Image,
+    load: &Load<'_>,
+    blocks: u32,
+) -> Result<Option<Content>, AllocError>
+    requires { blocks ≤ block_count image.now }
+    ensures first { IfOk result (λ content. IsFirst load.now.verify load.now.seed (blocks_at image.now 0 blocks) content) }
+    ensures whole { IfOk result (λ content. IfSome content (λ content. vec_len content.first ≡ 512 * blocks)) }
+{
+    if !load.verify {
+        return Ok(None);
+    }
+    let first = Vec::from_slice(alloc, image.blocks_from(0, blocks))?;
+    Ok(Some(Content {
+        seed: load.seed,
+        first,
+    }))
+}
+
 /// Opens a world over an image, and what goes on over it.
 fn open(
     alloc: Global,
@@ -251,17 +332,11 @@ fn open(
     server: Server,
 ) -> Result<(World, Course), LoadFault>
     requires { FitsLoad load.now }
+    ensures setting { IfOk result (λ opened. IsSettingFor load.now config.queues image (setting_of opened.1)) }
+    ensures start { IfOk result (λ opened. standing_of opened.1 opened.0.state ≡ start (setting_of opened.1) (opening_of config image)) }
 {
     let layout = share_out(image.blocks(), load)?;
-    let content = if load.verify {
-        let first = Vec::from_slice(alloc, image.blocks_from(0, layout.blocks))?;
-        Some(Content {
-            seed: load.seed,
-            first,
-        })
-    } else {
-        None
-    };
+    let content = first_content(alloc, &image, load, layout.blocks)?;
     let world = match World::open(alloc, config, image) {
         Ok(world) => world,
         Err(refused) => return Err(LoadFault::Run(not_opened(refused.why))),
@@ -305,7 +380,7 @@ fn tell_end<W: Write>(
 
 /// Opens a world over an image, runs the commands of a load over it, reads what they wrote once more where that is asked for, and writes the line
 /// that says how it went, unless standard output gets JSON: then nothing is written. Where it shows, standard error says how far it is. `server` says who serves as
-/// the submitters ring, and `report` is told what it came to so far, between rounds, each time that the load's interval has gone by: then standard error has a line that stays too, but where the load is quiet.
+/// the submitters ring, and `report` is told what it came to so far, between rounds, each time that the load's interval has gone by: then standard error has a line that stays too, unless the load is quiet.
 ///
 /// # Errors
 ///
@@ -323,18 +398,16 @@ pub fn run_load<R: AllocGlobal + Clock + Eprint + Threads + Wait + Sync, P: Repo
     writer: &mut W,
 ) -> Result<Ran, LoadFault>
     requires fits { FitsLoad load.now }
+    ensures ran { IfOk result (λ ran. HasRun config image load.now ran.tally) }
     ensures told { IfOk result (λ ran. Tells load.now.format load.now.pattern ran.tally (W.contents writer.old) (W.contents writer.new)) }
     ensures cut { OnErr result (Gains (W.contents writer.old) (W.contents writer.new) (λ front. IsLineFront load.now.pattern front)) }
 {
     let alloc = rt.alloc();
     let (world, mut course) = open(alloc, config, image, load, server)?;
-    let depth = usize::from(load.depth);
     let watch = Stopwatch::new(rt);
-    let mut world = run_commands(rt, alloc, world, &mut course, load, watch, shows, report)?;
+    let world = run_commands(rt, alloc, world, &mut course, load, watch, shows, report)?;
     let nanos = watch.nanos(rt).unwrap_or(0);
-    if load.verify {
-        world = read_again(rt, alloc, world, &mut course, depth)?;
-    }
+    let world = read_if_verified(rt, alloc, world, &mut course, load)?;
     let _ended = world.end();
     let tally = course.tally();
     tell_end(alloc, load, tally, writer)?;

@@ -21,5 +21,10 @@ loop-submitter-preserved c =
           one_more (λ plan. All (IsInside c.loop-submitter.self.layout) plan.items) c.loop-submitter.plans.items c.push.new.self.items c.in_ok-plan.plan c.in_ok-push.ensures.items
           c.loop-submitter.invariant.inside (subst (λ (y : Layout). All (IsInside y) plan) (sym c.loop-submitter.invariant.layout) c.in_ok-plan.ensures.inside);
       layout = c.loop-submitter.invariant.layout;
+      seed = c.loop-submitter.invariant.seed;
+      queues = c.loop-submitter.invariant.queues;
+      round = c.loop-submitter.invariant.round;
+      content = c.loop-submitter.invariant.content;
       generations = c.loop-submitter.invariant.generations;
+      tally = c.loop-submitter.invariant.tally;
     }

@@ -11,5 +11,10 @@ invariant-loop-submitter l = record {
       → IsPlanOf l.layout l.fn.self.generations.items s (share_of l.commands l.layout.submitters s) (slice_index_or (map (λ plan. plan.items) l.plans.items) s d);
   inside : All (λ plan. All (IsInside l.self.layout) plan.items) l.plans.items;
   layout : l.self.layout ≡ l.layout;
+  seed : l.self.seed ≡ l.fn.self.seed;
+  queues : l.self.queues ≡ l.fn.self.queues;
+  round : l.self.round ≡ l.fn.self.round;
+  content : l.self.content ≡ l.fn.self.content;
   generations : l.self.generations ≡ l.fn.self.generations;
+  tally : l.self.tally ≡ l.fn.self.tally;
 }
