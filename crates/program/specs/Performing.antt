@@ -3,13 +3,14 @@ use Rattle.std.specs.Io.KnownBytes.{Keeps}
 use Rattle.std.specs.{Prelude.{◌≡◌, ◌⊎◌, ◌<◌, ◌+◌, ◌*◌, ℕ, Bool, true, false, not, List, Option, Some, None, option_map, replicate, codes, take, unwrap_or, IsSome, if◌then◌else◌}, Str.bytes_eq}
 use Rattle.block_image.specs.Blocks.{most_blocks}
 use Rattle.clap.specs.Words.{Text}
-use Rattle.command_line.specs.Asked.{Asked, Given, Loaded, check, check_jobs, draw, explain, grammar, load, shell, show, steps, test, thread_objects, threads, traced}
+use Rattle.command_line.specs.Asked.{Asked, Given, Loaded, loaded_of, check, check_jobs, draw, explain, grammar, load, shell, show, steps, test, thread_objects, threads, traced}
 use Rattle.program.specs.{Loading.{LeavesLoad, TellsLoad}, declared.fault.Fault.Fault}
 use Rattle.job_cli.specs.JobRuns.{EndsJobsWith, HasJobs, IsCountedText, IsNoJobs, WritesJobs}
-use Rattle.load.specs.{Lines.IsLineFront, Tallies.is_good}
+use Rattle.load.specs.{Lines.IsLineFront, Loaded.HasRun, Tallies.is_good}
 use Rattle.job_cli.specs.declared.jobs.JobLine.{JobLine}
 use Rattle.load.specs.declared.{fault.LoadFault.LoadFault, tally.Tally.Tally}
 use Rattle.host_core.specs.declared.config.Config.{Config}
+use Rattle.script_cli.specs.declared.workload.Load.{Load}
 use Rattle.script_cli.specs.declared.transcripts.options.{Options.Options, SaidOptions.SaidOptions, ScriptKind.{ScriptKind, TheVariants.{Jobs, Steps}}}
 use Rattle.script_cli.specs.{Inputs.{IsTold, Gains}, Lines.first_line, Options.{jobs_options_in, options_in, said_on}, Runs.{EndsWith, HasScript, IsNoScript, IsRunText, Writes}}
 use Rattle.script_cli.specs.declared.{fault.RunFault.RunFault, input.ImageFault.ImageFault, script.Numbered.Numbered}
@@ -104,9 +105,14 @@ abbrev pub RunsJobs : Option (List ℕ) → Given → ℕ → (List ℕ → Give
 RunsJobs told given submitters Holds =
     Plays (script_told given.script told) (jobs_said given submitters) (λ script said. (image : List ℕ) × IsFirstImage said.0 image × Holds script said.0 said.1 image)
 
--- a load is told in which no command was refused or failed and none brought other bytes, or else some
-abbrev pub WritesLoad : Loaded → Bool → Option (List ℕ) → Option (List ℕ) → Type 0
-WritesLoad what good before after = (tally : Tally) × (is_good tally ≡ good) × TellsLoad what.format what.pattern tally before after
+-- a load runs over an image, in rounds until no command is left, and what it came to is told
+abbrev pub TellsRun : Given → Loaded → Tally → Option (List ℕ) → Option (List ℕ) → Type 0
+TellsRun given what tally before after =
+    (image : List ℕ) × IsFirstImage given image × (how : Load) × (loaded_of how ≡ what) × HasRun given.config image how tally × TellsLoad what.format what.pattern tally before after
+
+-- so a load of which no command was refused or failed and none brought other bytes, or else some
+abbrev pub WritesLoad : Given → Loaded → Bool → Option (List ℕ) → Option (List ℕ) → Type 0
+WritesLoad given what good before after = (tally : Tally) × (is_good tally ≡ good) × TellsRun given what tally before after
 
 -- the fault of a load that did not run to its end: a fault of its opening, of memory and of the output is that of any run
 abbrev pub fault_of_load : LoadFault → Fault
@@ -130,7 +136,7 @@ Performs told None before after = Keeps before after
 Performs told (Some (steps given)) before after = PlaysSteps told given (λ script said image. Writes (Some script) said.config image before after IsRunText)
 Performs told (Some (threads given what who)) before after =
     RunsJobs told given what.submitters (λ script said submitters image. WritesJobs (Some script) submitters said.config image before after (IsTextAsAsked given.strict))
-Performs told (Some (load given what who)) before after = WritesLoad what true before after
+Performs told (Some (load given what who)) before after = WritesLoad given what true before after
 Performs told (Some (check path)) before after = LooksAtSteps (script_told path told) × Keeps before after
 Performs told (Some (check_jobs path submitters)) before after = LooksAtJobs (script_told path told) submitters × Keeps before after
 Performs told (Some (thread_objects given what who)) before after = Unit {0}
@@ -199,8 +205,8 @@ abbrev pub FailsLoad : Given → Loaded → Option (List ℕ) → Option (List �
 FailsLoad given what before after (fault.Image why) = IsNoFirstImage given why × Keeps before after
 FailsLoad given what before after (fault.Load why) = Gains before after (IsLineFront what.pattern)
 FailsLoad given what before after (fault.Run why) = LeavesLoad what.format what.pattern before after
-FailsLoad given what before after (fault.Loaded tally) = (is_good tally ≡ false) × TellsLoad what.format what.pattern tally before after
-FailsLoad given what before after fault.NoStats = WritesLoad what true before after × IsSome what.stats
+FailsLoad given what before after (fault.Loaded tally) = (is_good tally ≡ false) × TellsRun given what tally before after
+FailsLoad given what before after fault.NoStats = WritesLoad given what true before after × IsSome what.stats
 FailsLoad given what before after other = ⊥
 
 -- What a fault says, and what was then written: nothing, where nothing was played; what a run that ended with this fault left; or what a run writes that went well, but for its end.

@@ -113,33 +113,22 @@ pub fn perform<
     ensures ran { OnOk result (Performs (I.remaining reader.old) (asked (map S.text words.now)) (W.contents writer.old) (W.contents writer.new)) }
     ensures failed { IfErr result (λ told. FailsWith (I.remaining reader.old) (asked (map S.text words.now)) (W.contents writer.old) (W.contents writer.new) told.fault) }
 {
+    let shows = terminals.error;
     match CommandLine::parse(rt.alloc(), words) {
         Ok(CommandLine::Steps(options)) => play(rt, options, reader, writer),
         Ok(CommandLine::Traced(options, objects)) => {
             trace_script(rt, options, objects, reader, writer)
         }
-        Ok(CommandLine::Threads(options, threading, serving)) => run_threads(
-            rt,
-            options,
-            threading,
-            serving,
-            Form::Lines,
-            terminals.error,
-            reader,
-            writer,
-        ),
-        Ok(CommandLine::ThreadObjects(options, threading, serving)) => run_threads(
-            rt,
-            options,
-            threading,
-            serving,
-            Form::Objects,
-            terminals.error,
-            reader,
-            writer,
-        ),
+        Ok(CommandLine::Threads(options, threading, serving)) => {
+            let form = Form::Lines;
+            run_threads(rt, options, threading, serving, form, shows, reader, writer)
+        }
+        Ok(CommandLine::ThreadObjects(options, threading, serving)) => {
+            let form = Form::Objects;
+            run_threads(rt, options, threading, serving, form, shows, reader, writer)
+        }
         Ok(CommandLine::Load(options, load, serving)) => {
-            load_image(rt, options, load, serving, writer, terminals.error)
+            load_image(rt, options, load, serving, writer, shows)
         }
         Ok(CommandLine::Check(path)) => look_at_steps(rt, path, reader),
         Ok(CommandLine::CheckJobs(path, submitters)) => {
