@@ -51,6 +51,18 @@ typedef struct nvmehost_doorbell {
     uint32_t reserved[4]; /* 0 */
 } nvmehost_doorbell;
 
+/* A completion that nvmehost_poll took. */
+typedef struct nvmehost_ended {
+    uint64_t tag;   /* of NVMESGL_REAP_DONE: what the command was sent with, and 0 where it was reserved by nvmehost_reserve; else 0 */
+    uint32_t state; /* NVMESGL_REAP_DONE to NVMESGL_REAP_UNKNOWN_ID */
+    uint32_t code;  /* of NVMESGL_REAP_DONE: the code of the collection of the command; else 0 */
+    uint32_t dw0;   /* of NVMESGL_REAP_ADMIN_DONE */
+    uint16_t cid;   /* of both */
+    uint8_t sct;    /* status code type, of both */
+    uint8_t sc;     /* status code */
+    uint32_t reserved[4]; /* 0 */
+} nvmehost_ended;
+
 enum nvmehost_queue_state {
     NVMEHOST_LIVE = 0,
     NVMEHOST_DELETING = 1,  /* the deletion of its submission queue was sent, */
@@ -176,6 +188,17 @@ uint32_t nvmehost_collect(nvmehost *, uint16_t q, uint16_t cid, nvmesgl_answer *
 uint32_t nvmehost_gather(nvmehost *, uint16_t q, uint16_t cid, uint8_t *buffer, size_t buffer_len, nvmesgl_answer *) NVMESGL_CALL(1, 6);
 /* Releases a finished command: its pages and its identifier are free. Refused: NO_VALUE. */
 uint32_t nvmehost_release(nvmehost *, uint16_t q, uint16_t cid, nvmesgl_answer *) NVMESGL_CALL(1, 4);
+/* Several of these calls in one, over the bytes of several buffers, which are as one: the bytes of the first, then those of the second, and so on. All together they are 1 to
+ * 2,048 whole blocks of 512 bytes; a data page each takes 4,096 of them, and the last what is left. Reserves a command, fills it with the bytes where it is a Write or a Compare,
+ * builds it and submits it (answer: as nvmehost_reserve). It is not rung. Of a Read only the lengths are looked at: its bytes are gathered once it has ended. The tag is the
+ * caller's: nvmehost_poll tells it when the command has ended.
+ * Refused: NO_KIND, BAD_COUNT for more than 1,048,576 bytes, and then what nvmehost_reserve (BAD_COUNT for fewer than 512 bytes, LENGTH_MISMATCH where the last block is cut
+ * short), nvmehost_fill, nvmehost_build and nvmehost_submit are refused for, and MEMORY for the tag; nothing of the command is left then: one that was reserved is cancelled. */
+uint32_t nvmehost_submit_iov(nvmehost *, uint16_t q, uint32_t kind, uint64_t slba, const nvmesgl_iovec *buffers, size_t buffer_count, uint64_t tag,
+                             nvmesgl_answer *) NVMESGL_CALL(1, 8);
+/* Gathers the bytes of a finished Read into the buffers, one after the other: answer.bytes; none of a Write or a Compare.
+ * Refused: NO_VALUE, TOO_SHORT (the buffers stay as they were), MEMORY. */
+uint32_t nvmehost_gather_iov(nvmehost *, uint16_t q, uint16_t cid, const nvmesgl_iovec *buffers, size_t buffer_count, nvmesgl_answer *) NVMESGL_CALL(1, 6);
 /* Sends an Abort of a submitted command on queue 0: answer.cid. It is not rung.
  * Refused: NO_QUEUE, WRONG_STATE, NO_SUCH_COMMAND, NO_IDENTIFIER, QUEUE_FULL. */
 uint32_t nvmehost_abort(nvmehost *, uint16_t q, uint16_t cid, nvmesgl_answer *) NVMESGL_CALL(1, 4);
@@ -187,6 +210,11 @@ uint32_t nvmehost_ring(nvmehost *, uint16_t q, nvmehost_doorbell *, nvmesgl_answ
 /* Takes one completion: answer.state says what was found (NVMESGL_REAP_EMPTY to NVMESGL_REAP_UNKNOWN_ID). Where one was taken, the value for the completion queue's head doorbell is told.
  * Refused: NO_QUEUE. */
 uint32_t nvmehost_reap(nvmehost *, uint16_t q, nvmehost_doorbell *, nvmesgl_answer *) NVMESGL_CALL(1, 3, 4);
+/* Takes completions, each as nvmehost_reap would, as many as the buffer holds, and collects the command that each ends, as nvmehost_collect would. They stand in the front of the buffer, and
+ * how many there are is told, and the value for the head doorbell after the last. answer.state is NVMESGL_REAP_EMPTY where there is no other; else the buffer is full. A command whose entry
+ * has a code (MEMORY) has ended and is not collected: collect it. Over memory that a device writes by itself it is called with room for one completion, once nvmehost_ready
+ * says that it is there (rule 6 of docs/C.md): it reaps until there is no other. Refused: NO_QUEUE. */
+uint32_t nvmehost_poll(nvmehost *, uint16_t q, nvmehost_ended *buffer, size_t buffer_len, size_t *count, nvmehost_doorbell *, nvmesgl_answer *) NVMESGL_CALL(1, 5, 6, 7);
 /* Each sends an admin command on queue 0 (answer.cid), which is not rung. Refused: NO_QUEUE, WRONG_STATE, OUTSTANDING (create_cq alone),
  * NO_IDENTIFIER, NO_RUN (create_cq and create_sq), QUEUE_FULL. */
 uint32_t nvmehost_delete_sq(nvmehost *, uint16_t q, nvmesgl_answer *) NVMESGL_CALL(1, 3);

@@ -33,9 +33,9 @@ extern "C" {
 /* Version --------------------------------------------------------------------------------------------------------- */
 
 /* The version of this header, and of the library that is linked. Versions 0.N may differ in any call and struct. */
-#define NVMESGL_VERSION "0.3.0"
+#define NVMESGL_VERSION "0.4.0"
 #define NVMESGL_VERSION_MAJOR 0
-#define NVMESGL_VERSION_MINOR 3
+#define NVMESGL_VERSION_MINOR 4
 #define NVMESGL_VERSION_PATCH 0
 const char *nvmesgl_version(void);
 
@@ -190,6 +190,12 @@ typedef struct nvmesgl_piece {
     uint32_t kind; /* enum nvmesgl_piece_kind */
 } nvmesgl_piece;
 
+/* Bytes of the caller's: len bytes from base on, which may be null where there are none. It is laid out as POSIX's struct iovec. */
+typedef struct nvmesgl_iovec {
+    void *base;
+    size_t len;
+} nvmesgl_iovec;
+
 enum nvmesgl_state {
     NVMESGL_WALK_MORE = 1,       /* a walk goes on */
     NVMESGL_WALK_END = 2,        /* all bytes are counted */
@@ -336,6 +342,11 @@ uint32_t nvmesgl_serve(nvmesgl *, nvmesgl_answer *) NVMESGL_CALL(1, 2);
 uint32_t nvmesgl_read(nvmesgl *, uint16_t q, uint64_t slba, uint8_t *buffer, size_t buffer_len, nvmesgl_answer *) NVMESGL_CALL(1, 6);
 uint32_t nvmesgl_write(nvmesgl *, uint16_t q, uint64_t slba, const uint8_t *bytes, size_t byte_count, nvmesgl_answer *) NVMESGL_CALL(1, 6);
 uint32_t nvmesgl_compare(nvmesgl *, uint16_t q, uint64_t slba, const uint8_t *bytes, size_t byte_count, nvmesgl_answer *) NVMESGL_CALL(1, 6);
+/* The same of several buffers, which are as one: the bytes of the first, then those of the second, and so on. Only all of them together are whole blocks. A Read writes
+ * the buffers, which overlap nothing; a Write and a Compare read them, and one may stand there twice. The array of buffers is read alone. */
+uint32_t nvmesgl_readv(nvmesgl *, uint16_t q, uint64_t slba, const nvmesgl_iovec *buffers, size_t buffer_count, nvmesgl_answer *) NVMESGL_CALL(1, 6);
+uint32_t nvmesgl_writev(nvmesgl *, uint16_t q, uint64_t slba, const nvmesgl_iovec *buffers, size_t buffer_count, nvmesgl_answer *) NVMESGL_CALL(1, 6);
+uint32_t nvmesgl_comparev(nvmesgl *, uint16_t q, uint64_t slba, const nvmesgl_iovec *buffers, size_t buffer_count, nvmesgl_answer *) NVMESGL_CALL(1, 6);
 
 /* Looks: they change nothing -------------------------------------------------------------------------------------- */
 

@@ -50,6 +50,7 @@ static void machine_calls(nvmesgl *h) {
     nvmesgl_piece piece = {0, 512, NVMESGL_PIECE};
     nvmesgl_pages pages;
     nvmesgl_page_owner owner;
+    nvmesgl_iovec buffer = {block, 512};
     STRANGE(nvmesgl_open(h, &options, NULL, 0, &answer));
     STRANGE(nvmesgl_reserve(h, 1, 99, 0, 1, &piece, 1, &answer));
     STRANGE(nvmesgl_ring(h, 1, &answer));
@@ -62,6 +63,9 @@ static void machine_calls(nvmesgl *h) {
     STRANGE(nvmesgl_read(h, 1, 0, block, 512, &answer));
     STRANGE(nvmesgl_write(h, 1, 0, block, 512, &answer));
     STRANGE(nvmesgl_compare(h, 1, 0, block, 512, &answer));
+    STRANGE(nvmesgl_readv(h, 1, 0, &buffer, 1, &answer));
+    STRANGE(nvmesgl_writev(h, 1, 0, &buffer, 1, &answer));
+    STRANGE(nvmesgl_comparev(h, 1, 0, &buffer, 1, &answer));
     SHARED_CALLS(nvmesgl, h);
 }
 
@@ -74,6 +78,8 @@ static void host_calls(nvmehost *h) {
     nvmehost_queue queue;
     nvmehost_run run;
     nvmehost_place place;
+    nvmehost_ended ended;
+    nvmesgl_iovec buffer = {block, 512};
     nvmehost_memory memory = {pool, 16, 0, NULL};
     uint32_t right;
     size_t count;
@@ -81,6 +87,9 @@ static void host_calls(nvmehost *h) {
     STRANGE(nvmehost_open_at(h, &options, &memory, &answer));
     STRANGE(nvmehost_ring(h, 1, &bell, &answer));
     STRANGE(nvmehost_reap(h, 1, &bell, &answer));
+    STRANGE(nvmehost_poll(h, 1, &ended, 1, &count, &bell, &answer));
+    STRANGE(nvmehost_submit_iov(h, 1, NVMESGL_READ, 0, &buffer, 1, 7, &answer));
+    STRANGE(nvmehost_gather_iov(h, 1, 0, &buffer, 1, &answer));
     STRANGE(nvmehost_read(h, 0, block, 512));
     STRANGE(nvmehost_write(h, 0, block, 512));
     STRANGE(nvmehost_look(h, 1, &queue));

@@ -12,6 +12,7 @@ int main(void) {
     STRUCT(nvmesgl_options), FIELD(nvmesgl_options, size), FIELD(nvmesgl_options, pages), FIELD(nvmesgl_options, queues), FIELD(nvmesgl_options, entries);
     FIELD(nvmesgl_options, segment), FIELD(nvmesgl_options, blocks), FIELD(nvmesgl_options, reserved), END;
     STRUCT(nvmesgl_piece), FIELD(nvmesgl_piece, offset), FIELD(nvmesgl_piece, len), FIELD(nvmesgl_piece, kind), END;
+    STRUCT(nvmesgl_iovec), FIELD(nvmesgl_iovec, base), FIELD(nvmesgl_iovec, len), END;
     STRUCT(nvmesgl_answer), FIELD(nvmesgl_answer, state), FIELD(nvmesgl_answer, dw0), FIELD(nvmesgl_answer, need), FIELD(nvmesgl_answer, free);
     FIELD(nvmesgl_answer, data_pages), FIELD(nvmesgl_answer, chain_pages), FIELD(nvmesgl_answer, bytes), FIELD(nvmesgl_answer, touched);
     FIELD(nvmesgl_answer, touched_count), FIELD(nvmesgl_answer, cid), FIELD(nvmesgl_answer, sct), FIELD(nvmesgl_answer, sc);
@@ -27,6 +28,8 @@ int main(void) {
     STRUCT(nvmehost_options), FIELD(nvmehost_options, size), FIELD(nvmehost_options, pages), FIELD(nvmehost_options, queues);
     FIELD(nvmehost_options, entries), FIELD(nvmehost_options, segment), FIELD(nvmehost_options, reserved), END;
     STRUCT(nvmehost_doorbell), FIELD(nvmehost_doorbell, offset), FIELD(nvmehost_doorbell, value), FIELD(nvmehost_doorbell, rings), FIELD(nvmehost_doorbell, reserved), END;
+    STRUCT(nvmehost_ended), FIELD(nvmehost_ended, tag), FIELD(nvmehost_ended, state), FIELD(nvmehost_ended, code), FIELD(nvmehost_ended, dw0), FIELD(nvmehost_ended, cid);
+    FIELD(nvmehost_ended, sct), FIELD(nvmehost_ended, sc), FIELD(nvmehost_ended, reserved), END;
     STRUCT(nvmehost_queue), FIELD(nvmehost_queue, state), FIELD(nvmehost_queue, submission_tail), FIELD(nvmehost_queue, submission_head);
     FIELD(nvmehost_queue, completion_head), FIELD(nvmehost_queue, phase), FIELD(nvmehost_queue, submission_page), FIELD(nvmehost_queue, completion_page);
     FIELD(nvmehost_queue, submission_pages), FIELD(nvmehost_queue, completion_pages), FIELD(nvmehost_queue, reserved), END;

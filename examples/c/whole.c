@@ -33,6 +33,9 @@ int main(void) {
     ended("compare", nvmesgl_compare(&machine, 1, 2048, out, 512, &answer));
     ended("compare", nvmesgl_compare(&machine, 1, 0, out, 512, &answer));
     ended("read", nvmesgl_read(&machine, 1, 65536, in, 512, &answer));
+    nvmesgl_iovec head_and_rest[] = {{in, 16}, {in + 4096, 1024 - 16}}; /* two blocks into two buffers */
+    ended("readv", nvmesgl_readv(&machine, 1, 2048, head_and_rest, 2, &answer));
+    if (memcmp(in, out, 16) != 0 || memcmp(in + 4096, out + 16, 1024 - 16) != 0) return 1;
     printf("513 bytes: %s\n", nvmesgl_text(nvmesgl_read(&machine, 1, 0, in, 513, &answer)));
 
     nvmesgl_close(&machine);

@@ -7,7 +7,7 @@ import functools
 import os
 import pathlib
 from ctypes import POINTER, Structure, c_char_p, c_size_t, c_uint8, c_uint16, c_uint32, c_uint64, c_void_p
-from typing import Any, Dict, List, Tuple
+from typing import Any, Dict, Iterable, List, Tuple
 
 
 @functools.lru_cache(maxsize=None)
@@ -84,6 +84,24 @@ def lent_to_write(buffer: Any) -> Tuple[Any, int]:
     if not view.c_contiguous:
         raise BufferError("the buffer is not in one piece")
     return (c_uint8 * view.nbytes).from_buffer(view), view.nbytes
+
+
+class IoVec(Structure):
+    _fields_ = [("base", c_void_p), ("len", c_size_t)]
+
+
+def _address(argument: Any) -> int:
+    """Where the bytes lie that `lent` or `lent_to_write` has made an argument of."""
+    if isinstance(argument, bytes):
+        return ctypes.cast(c_char_p(argument), c_void_p).value or 0
+    return ctypes.addressof(argument)
+
+
+def all_lent(buffers: Iterable[Any], writable: bool = False) -> Tuple[Any, int, List[Any]]:
+    """The bytes of several buffers, in order, as an array of `nvmesgl_iovec` and its length; and what has to live as long as that is used."""
+    held = [lent_to_write(buffer) if writable else lent(buffer) for buffer in buffers]
+    items = [IoVec(_address(argument), count) for argument, count in held]
+    return (IoVec * len(items))(*items), len(items), held
 
 
 # The words with which a struct ends that a call fills: 0, until a later version gives one a meaning.

@@ -23,14 +23,14 @@ from __future__ import annotations
 
 import ctypes
 import enum
-from ctypes import POINTER, Structure, byref, c_bool, c_size_t, c_uint8, c_uint16, c_uint32, c_void_p
-from typing import Any, Dict, List, NamedTuple, Optional
+from ctypes import POINTER, Structure, byref, c_bool, c_size_t, c_uint8, c_uint16, c_uint32, c_uint64, c_void_p
+from typing import Any, Dict, Iterable, List, NamedTuple, Optional
 
 from ._driver import Driver
-from ._library import COMMAND_CALLS, OPTION_WORDS, PAGE_COUNTS, RESERVED, U16, U32, U64, Answer, Handle, PageOwner, declare, fits, lent
-from .words import Code, Refused, State, Status
+from ._library import COMMAND_CALLS, OPTION_WORDS, PAGE_COUNTS, RESERVED, U16, U32, U64, Answer, Handle, IoVec, PageOwner, all_lent, declare, fits, lent
+from .words import Code, Kind, Refused, Reserved, State, Status
 
-__all__ = ["Counts", "Doorbell", "Host", "PAGE_BYTES", "Place", "Queue", "QueueState", "Reaped", "Right", "Rings", "Run"]
+__all__ = ["Counts", "Doorbell", "Ended", "Host", "PAGE_BYTES", "Place", "Polled", "Queue", "QueueState", "Reaped", "Right", "Rings", "Run"]
 
 PAGE_BYTES = 4096
 
@@ -73,6 +73,26 @@ class Reaped(NamedTuple):
     status: Optional[Status]
     dw0: Optional[int]
     doorbell: Optional[Doorbell]
+
+
+class Ended(NamedTuple):
+    """A completion that a poll took. The identifier and the status are there where a command has ended; dw0 is that of queue 0. Of a command of an I/O queue `tag` is
+    that which it was sent with, and else 0; `code` is that of its collection: DONE, or why it has ended and is not collected."""
+
+    state: State
+    cid: Optional[int]
+    status: Optional[Status]
+    dw0: Optional[int]
+    tag: int
+    code: Code
+
+
+class Polled(NamedTuple):
+    """What a poll took, the doorbell of the completion queue's head where it took something, and whether it left no completion there."""
+
+    ended: List[Ended]
+    doorbell: Optional[Doorbell]
+    empty: bool
 
 
 class Queue(NamedTuple):
@@ -133,6 +153,10 @@ class CDoorbell(Structure):
     _fields_ = [("offset", c_uint32), ("value", c_uint32), ("rings", c_bool), RESERVED]
 
 
+class CEnded(Structure):
+    _fields_ = [("tag", c_uint64), ("state", c_uint32), ("code", c_uint32), ("dw0", c_uint32), ("cid", c_uint16), ("sct", c_uint8), ("sc", c_uint8), RESERVED]
+
+
 class CQueue(Structure):
     _fields_ = [
         ("state", c_uint32),
@@ -169,6 +193,9 @@ _CALLS: Dict[str, List[Any]] = {
     **COMMAND_CALLS,
     "ring": [_HANDLE, U16, _BELL, _ANSWER],
     "reap": [_HANDLE, U16, _BELL, _ANSWER],
+    "poll": [_HANDLE, U16, POINTER(CEnded), c_size_t, POINTER(c_size_t), _BELL, _ANSWER],
+    "submit_iov": [_HANDLE, U16, U32, U64, POINTER(IoVec), c_size_t, U64, _ANSWER],
+    "gather_iov": [_HANDLE, U16, U16, POINTER(IoVec), c_size_t, _ANSWER],
     "reset": [_HANDLE, _ANSWER],
     "read": [_HANDLE, U64, POINTER(c_uint8), c_size_t],
     "write": [_HANDLE, U64, c_void_p, c_size_t],
@@ -180,6 +207,15 @@ _CALLS: Dict[str, List[Any]] = {
     "data_place": [_HANDLE, U16, U16, U32, POINTER(CPlace)],
     **{name: [_HANDLE, U16, _ANSWER] for name in ("delete_sq", "delete_cq", "create_cq", "create_sq", "retire")},
 }
+
+
+def _ended(entry: CEnded) -> Ended:
+    """What stands in an entry of a poll."""
+    state, code = State(entry.state), Code(entry.code)
+    if state not in (State.REAP_DONE, State.REAP_ADMIN_DONE):
+        return Ended(state, None, None, None, 0, code)
+    status = Status(entry.sct, entry.sc)
+    return Ended(state, entry.cid, status, entry.dw0 if state == State.REAP_ADMIN_DONE else None, entry.tag, code)
 
 
 def _lend(memory: Any) -> "ctypes.Array[c_uint8]":
@@ -231,6 +267,22 @@ class Host(Driver):
             self._functions["close_at"](self._at, byref(memory))
             self._memory = self._lent = None
 
+    # A command of several buffers
+
+    def send(self, q: int, kind: Kind, slba: int, buffers: Iterable[Any], tag: int = 0) -> Reserved:
+        """Reserves a command of the bytes of several buffers, one after the other, fills it with them where it is a Write or a Compare, builds it and submits it. It is
+        not rung. Only all of them together are whole blocks; of a Read only the lengths are looked at. `poll` tells the tag, of 64 bits, when the command has ended.
+        Refused, nothing of the command is left."""
+        array, count, _held = all_lent(buffers)
+        told = self._call("submit_iov", q, kind, slba, array, count, tag)
+        return Reserved(told.cid, told.data_pages, told.chain_pages)
+
+    def gather_all(self, q: int, cid: int, buffers: Iterable[Any]) -> int:
+        """Gathers the bytes of a finished Read into several writable buffers, one after the other, and returns how many there are. TOO_SHORT where they have not so
+        many."""
+        array, count, _held = all_lent(buffers, True)
+        return int(self._call("gather_iov", q, cid, array, count).bytes)
+
     # A queue
 
     def ring(self, q: int) -> Doorbell:
@@ -247,6 +299,14 @@ class Host(Driver):
             return Reaped(state, None, None, None, doorbell)
         status = Status(told.sct, told.sc)
         return Reaped(state, told.cid, status, told.dw0 if state == State.REAP_ADMIN_DONE else None, doorbell)
+
+    def poll(self, q: int, most: int = 64) -> Polled:
+        """Takes completions, each as `reap` does, at most so many, and collects the command that each ends, as `collect` does. A command whose entry has another
+        code than DONE has ended and is not collected: collect it."""
+        buffer, count = (CEnded * most)(), c_size_t()
+        told = self._call("poll", q, buffer, most, byref(count), byref(self._bell))
+        doorbell = Doorbell(self._bell.offset, self._bell.value) if self._bell.rings else None
+        return Polled([_ended(entry) for entry in buffer[: count.value]], doorbell, told.state == State.REAP_EMPTY)
 
     def reset(self) -> None:
         """Begins again, where the device is reset: queue 0 is as it opened, the I/O queues are gone, and every command that was submitted has ended,

@@ -4,10 +4,10 @@ from __future__ import annotations
 
 import ctypes
 from ctypes import POINTER, Structure, byref, c_bool, c_size_t, c_uint8, c_uint32, c_void_p
-from typing import Any, Dict, List, NamedTuple, Optional
+from typing import Any, Dict, Iterable, List, NamedTuple, Optional
 
 from ._driver import Driver
-from ._library import COMMAND_CALLS, OPTION_WORDS, PAGE_COUNTS, RESERVED, U16, U32, U64, Answer, Handle, PageOwner, declare, fits, lent, lent_to_write
+from ._library import COMMAND_CALLS, OPTION_WORDS, PAGE_COUNTS, RESERVED, U16, U32, U64, Answer, Handle, IoVec, PageOwner, all_lent, declare, fits, lent, lent_to_write
 from .words import State, Status, Step, Walk
 
 __all__ = ["Completion", "Counts", "Machine"]
@@ -52,6 +52,7 @@ _CALLS: Dict[str, List[Any]] = {
     "reset": [_HANDLE, _ANSWER],
     "serve": [_HANDLE, _ANSWER],
     **{name: [_HANDLE, U16, U64, c_void_p, c_size_t, _ANSWER] for name in ("read", "write", "compare")},
+    **{name: [_HANDLE, U16, U64, POINTER(IoVec), c_size_t, _ANSWER] for name in ("readv", "writev", "comparev")},
     "counts": [_HANDLE, POINTER(Pages)],
     "owner": [_HANDLE, U32, POINTER(PageOwner)],
     **{name: [_HANDLE, U16, _ANSWER] for name in ("ring", "reap", "fetch", "delete_sq", "delete_cq", "create_cq", "create_sq", "retire")},
@@ -133,6 +134,23 @@ class Machine(Driver):
     def compare(self, q: int, slba: int, content: Any) -> Status:
         """Carries a Compare of whole blocks from `slba` on through all its steps, and returns its status."""
         self._call("compare", q, slba, *lent(content))
+        return self._status()
+
+    def readv(self, q: int, slba: int, buffers: Iterable[Any]) -> Status:
+        """As `read`, into several writable buffers, one after the other. Only all of them together are whole blocks."""
+        return self._carry("readv", q, slba, buffers, True)
+
+    def writev(self, q: int, slba: int, contents: Iterable[Any]) -> Status:
+        """As `write`, of the bytes of several buffers, one after the other. Only all of them together are whole blocks."""
+        return self._carry("writev", q, slba, contents, False)
+
+    def comparev(self, q: int, slba: int, contents: Iterable[Any]) -> Status:
+        """As `compare`, with the bytes of several buffers, one after the other. Only all of them together are whole blocks."""
+        return self._carry("comparev", q, slba, contents, False)
+
+    def _carry(self, call: str, q: int, slba: int, buffers: Iterable[Any], writable: bool) -> Status:
+        array, count, _held = all_lent(buffers, writable)
+        self._call(call, q, slba, array, count)
         return self._status()
 
     # Looks

@@ -106,6 +106,43 @@ def test_calls():
     refused(Code.CLOSED_HANDLE, host.ring, 1)
 
 
+def test_commands_of_several_buffers():
+    with Host(pages=32, entries=8) as host:
+        device = Device(host)
+        device.rings[1], device.heads[1], device.tails[1] = host.rings(1), 0, (0, 1)
+        content = bytes(range(256)) * 18
+        write = host.send(1, Kind.WRITE, 0, [content[:5], b"", bytearray(content[5:4100]), memoryview(content)[4100:]], 1 << 63)
+        assert write.data_pages == 2
+        data = [host.data_place(1, write.cid, piece) for piece in range(2)]
+        assert b"".join(host.read(4096 * at.page + at.offset, at.len) for at in data) == content
+        read = host.send(1, Kind.READ, 0, [bytes(300), bytes(212)])
+        assert host.poll(1) == ([], None, True)
+        device.ring(host.ring(1))
+        first = host.poll(1, 1)
+        assert (first.doorbell, first.empty) == (Doorbell(0x100C, 1), False)
+        assert [(entry.state, entry.cid, entry.status, entry.dw0, entry.tag, entry.code) for entry in first.ended] == [(State.REAP_DONE, write.cid, (0, 0), None, 1 << 63, Code.DONE)]
+        rest = host.poll(1)
+        assert (rest.doorbell, rest.empty, [(entry.cid, entry.tag) for entry in rest.ended]) == (Doorbell(0x100C, 2), True, [(read.cid, 0)])
+        front, back = bytearray(300), bytearray(300)
+        refused(Code.TOO_SHORT, host.gather_all, 1, read.cid, [front, bytearray(1)])
+        assert front == bytes(300)
+        assert host.gather_all(1, read.cid, [front, back]) == 512
+        assert front == bytes([0x5A]) * 300 and back == bytes([0x5A]) * 212 + bytes(88)
+        assert host.gather_all(1, write.cid, []) == 0
+        host.release(1, write.cid)
+        host.release(1, read.cid)
+        cid = host.abort(1, host.send(1, Kind.COMPARE, 0, [bytes(512)]).cid)
+        device.ring(host.ring(0))
+        told = host.poll(0).ended
+        assert [(entry.state, entry.cid, entry.dw0) for entry in told] == [(State.REAP_ADMIN_DONE, cid, 0)]
+        refused(Code.BAD_COUNT, host.send, 1, Kind.READ, 0, [bytes(511)])
+        refused(Code.LENGTH_MISMATCH, host.send, 1, Kind.WRITE, 0, [bytes(512), b"x"])
+        host.reset()
+        refused(Code.NO_QUEUE, host.poll, 1)
+        refused(Code.NO_QUEUE, host.send, 1, Kind.READ, 0, [bytes(512)])
+        refused(Code.NO_KIND, host.send, 0, 3, 0, [])
+
+
 def test_openings_that_are_refused():
     refused(Code.BAD_CONFIG, lambda: Host(pages=7))
     why = refused(Code.NO_PAGES, lambda: Host(pages=8, queues=64))

@@ -164,3 +164,28 @@ def test_a_whole_command_that_is_left_is_named():
         machine.reset()
         assert machine.collect(1, why.left) == (0, 8)
         machine.release(1, why.left)
+
+
+def test_whole_commands_of_several_buffers():
+    with Machine(pages=300, blocks=4096, segment=64) as machine:
+        content = bytes(k * 7 % 251 for k in range(20 * 512))
+        parts = [content[:1], b"", bytearray(content[1:5000]), memoryview(content)[5000:], b""]
+        assert machine.writev(1, 3, parts) == (0, 0)
+        front, middle, back = bytearray(700), array.array("I", [0] * 200), bytearray(len(content) - 1500)
+        assert machine.readv(1, 3, [front, bytearray(0), middle, back]) == (0, 0)
+        assert bytes(front) + middle.tobytes() + bytes(back) == content
+        assert machine.comparev(1, 3, [content[:512], content[512:]]) == (0, 0)
+        assert str(machine.comparev(1, 3, [content[512:], content[:512]])) == "2:85 Compare Failure"
+        block = bytes(range(256))
+        assert machine.writev(1, 0, [block] * 4) == (0, 0)
+        buffer = bytearray(1024)
+        assert machine.read(1, 0, buffer) == (0, 0)
+        assert buffer == block * 4
+        before = bytes(buffer)
+        refused(Code.BAD_COUNT, machine.readv, 1, 0, [])
+        refused(Code.LENGTH_MISMATCH, machine.readv, 1, 0, [buffer, bytearray(1)])
+        refused(Code.BAD_COUNT, machine.writev, 1, 0, [bytes(1 << 20), b"x"])
+        refused(Code.NO_QUEUE, machine.readv, 2, 0, [buffer])
+        assert buffer == before
+        assert machine.counts().free_pages == 300 - machine.counts().queue_pages
+    refused(Code.CLOSED_HANDLE, machine.readv, 1, 0, [bytearray(512)])

@@ -7,3 +7,6 @@ mod Seen
 mod Told
 mod Laying
 mod Serving
+mod Scattering
+mod Polling
+mod Tags

@@ -5,13 +5,16 @@ use Rattle.host_bench.specs.Values.{Reply}
 use Rattle.nvmesgl_c.specs.declared.host.options.NotOpened.TheVariants as not_opened
 use Rattle.host_bench.specs.declared.call.Reply.TheVariants as reply
 
+abbrev pub code_of_answer : Reply → ℕ
+code_of_answer (reply.Refused why) = code_of_refusal why
+code_of_answer reply.NoValue = 3
+code_of_answer (reply.NotFilled why) = code_of_fill_fault why
+code_of_answer answer = 0
+
 -- of a call on a handle that keeps nothing there is no reply, but its code
 abbrev pub code_of_reply : Result Reply ℕ → ℕ
 code_of_reply (Err code) = code
-code_of_reply (Ok (reply.Refused why)) = code_of_refusal why
-code_of_reply (Ok reply.NoValue) = 3
-code_of_reply (Ok (reply.NotFilled why)) = code_of_fill_fault why
-code_of_reply (Ok answer) = 0
+code_of_reply (Ok answer) = code_of_answer answer
 
 abbrev pub code_of_not_opened : NotOpened → ℕ
 code_of_not_opened not_opened.BadSize = 7

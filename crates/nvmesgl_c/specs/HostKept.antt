@@ -1,10 +1,9 @@
 -- What a handle of a host keeps, as a call finds it.
 use Rattle.std.specs.Prelude.{◌≡◌, ℕ, Option, Some, Result, Ok, Err}
-use Rattle.machine_model.specs.Script.{Table}
-use Rattle.nvmesgl_c.specs.{Keeping.{keeps, cause_of_mark}, declared.host.handle.Handle.Handle}
+use Rattle.nvmesgl_c.specs.{Keeping.{keeps, cause_of_mark}, declared.host.{handle.Handle.Handle, tagged.Tagged.Tagged}}
 
 abbrev pub Kept : Type 0
-Kept = Result Table Handle
+Kept = Result Tagged Handle
 
 abbrev pub kept_in : Handle → Kept
 kept_in h = keeps h.kept.bench h

@@ -23,7 +23,7 @@ pages_of t =
 -- the counts, of a handle that is open
 abbrev pub TellsCounts : Kept → ℕ → CPages → CPages → Kept → Type 0
 TellsCounts (Err h) code old new left = (code ≡ code_of_mark h.mark) × (new ≡ old) × (left ≡ Err h)
-TellsCounts (Ok t) code old new left = (code ≡ 0) × (new ≡ pages_of t) × (left ≡ Ok t)
+TellsCounts (Ok t) code old new left = (code ≡ 0) × (new ≡ pages_of t.bench) × (left ≡ Ok t)
 
 -- a page is looked for: its owner is that of the one claim in which it stands; there is none outside the pool
 abbrev pub FindsOwner : Table → ℕ → Option Owner → Type 0
@@ -37,7 +37,7 @@ ShowsOwner (Some owner) code old new = (code ≡ 0) × (new ≡ owner_of owner)
 -- the owner of a page, of a handle that is open
 abbrev pub TellsOwner : Kept → ℕ → ℕ → COwner → COwner → Kept → Type 0
 TellsOwner (Err h) page code old new left = (code ≡ code_of_mark h.mark) × (new ≡ old) × (left ≡ Err h)
-TellsOwner (Ok t) page code old new left = (found : Option Owner) × FindsOwner t page found × ShowsOwner found code old new × (left ≡ Ok t)
+TellsOwner (Ok t) page code old new left = (found : Option Owner) × FindsOwner t.bench page found × ShowsOwner found code old new × (left ≡ Ok t)
 
 -- a queue's state as a number, and a queue as C sees it
 abbrev pub number_of : HostState → ℕ
@@ -80,4 +80,4 @@ ShowsQueue (Some queue) code old new = (code ≡ 0) × (new ≡ queue)
 
 abbrev pub TellsQueue : Kept → ℕ → ℕ → CHostQueue → CHostQueue → Kept → Type 0
 TellsQueue (Err h) q code old new left = (code ≡ code_of_mark h.mark) × (new ≡ old) × (left ≡ Err h)
-TellsQueue (Ok t) q code old new left = (found : Option CHostQueue) × FindsQueue t q found × ShowsQueue found code old new × (left ≡ Ok t)
+TellsQueue (Ok t) q code old new left = (found : Option CHostQueue) × FindsQueue t.bench q found × ShowsQueue found code old new × (left ≡ Ok t)

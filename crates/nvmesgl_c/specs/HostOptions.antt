@@ -1,11 +1,11 @@
 -- What the options of an opening say, and when a handle is not opened.
-use Rattle.std.specs.{List.list_any, Prelude.{◌≡◌, ◌==◌, ℕ, Option, Some, None, Ok, Err, if◌then◌else◌}}
+use Rattle.std.specs.{List.list_any, Prelude.{◌≡◌, ◌==◌, ℕ, Option, Some, None, Ok, Err, [], if◌then◌else◌}}
 use Rattle.host_core.specs.Opening.{refusal_of_config, RefusesOpening}
 use Rattle.host_core.specs.declared.config.Config.{Config}
 use Rattle.host_bench.specs.BenchTables.{opened_alone}
-use Rattle.machine_model.specs.Script.{Table, table}
+use Rattle.machine_model.specs.Script.{table}
 use Rattle.nvmesgl_c.specs.{Answers.nothing, HostAnswers.told_not_opened, HostCodes.code_of_not_opened, HostKept.{Kept, cause_in}, Requests.is_set}
-use Rattle.nvmesgl_c.specs.declared.{host.options.{NotOpened.NotOpened, Options.Options}, words.answer.Answer.Answer}
+use Rattle.nvmesgl_c.specs.declared.{host.{options.{NotOpened.NotOpened, Options.Options}, tagged.Tagged.Tagged}, words.answer.Answer.Answer}
 use Rattle.nvmesgl_c.specs.declared.host.options.NotOpened.TheVariants as not_opened
 
 -- the configuration of an opening
@@ -26,10 +26,11 @@ IsWhy o not_opened.Memory = (fault_of o ≡ None) × (refusal_of_config (config_
 IsWhy o why = fault_of o ≡ Some why
 
 -- what an opening makes
-pub record IsOpened (o : Options) (new : Table) : Type 0 where
+pub record IsOpened (o : Options) (new : Tagged) : Type 0 where
   pub form : fault_of o ≡ None
   pub config : refusal_of_config (config_of o) ≡ None
-  pub opened : new ≡ table (opened_alone (config_of o))
+  pub opened : new.bench ≡ table (opened_alone (config_of o))
+  pub no_tag : new.tags ≡ []
 
 -- an opening that nothing about the handle stands against, or one that its handle is refused for
 abbrev pub OpensBy : Option ℕ → Kept → Options → ℕ → Answer → Kept → Type 0

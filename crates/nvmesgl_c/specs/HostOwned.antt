@@ -2,18 +2,17 @@
 use Rattle.std.specs.{Coded.coded_option, Global.Global, Prelude.{ℕ, Option}, contracts.impls.GlobalAllocator.TheImpl.ghosts}
 use base.{Fml.Fml, Stored.Coded}
 use denote.{RattleType.RattleType, RawPtr.Ptr}
-use Rattle.machine_model.specs.Script.{Table}
+use Rattle.nvmesgl_c.specs.declared.host.tagged.Tagged.{Tagged}
 use Rattle.nvmesgl_c.specs.HeldOwned.{held_owns}
-use Rattle.std.specs.contracts.alloc.Global as heap
-use Rattle.host_bench.specs.contracts.bench.HostBench as bench
+use Rattle.nvmesgl_c.specs.contracts.host.tagged.Tagged as tagged
 
 abbrev pub Row : RattleType
-Row = bench.the_row heap.the_row ghosts
+Row = tagged.the_row
 
-abbrev pub bench_coded : Coded (Option Table)
+abbrev pub bench_coded : Coded (Option Tagged)
 bench_coded = coded_option Row.coded
 
-abbrev pub kept_owns : Global → Ptr → Option Table → Fml
+abbrev pub kept_owns : Global → Ptr → Option Tagged → Fml
 kept_owns alloc at bench = held_owns (ghosts.dealloc_token alloc) Row at bench
 
 -- the mark of a handle that keeps one

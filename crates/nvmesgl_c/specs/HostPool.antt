@@ -24,7 +24,7 @@ ReadsFrom t addr code old buffer new = Shows (fits (length old)) (bytes_from t a
 
 abbrev pub Reads : Kept → ℕ → ℕ → List ℕ → List ℕ → Kept → Type 0
 Reads (Err h) addr code old buffer new = (code ≡ code_of_mark h.mark) × (buffer ≡ old) × (new ≡ Err h)
-Reads (Ok t) addr code old buffer (Ok new) = ReadsFrom t addr code old buffer new
+Reads (Ok t) addr code old buffer (Ok new) = ReadsFrom t.bench addr code old buffer new.bench × (new.tags ≡ t.tags)
 Reads (Ok t) addr code old buffer (Err h) = ⊥
 
 -- bytes are written where bytes stand, or nothing changes
@@ -38,5 +38,5 @@ WritesInto t addr bytes code new = Puts (fits (length bytes)) (bytes_from t addr
 
 abbrev pub Writes : Kept → ℕ → List ℕ → ℕ → Kept → Type 0
 Writes (Err h) addr bytes code new = (code ≡ code_of_mark h.mark) × (new ≡ Err h)
-Writes (Ok t) addr bytes code (Ok new) = WritesInto t addr bytes code new
+Writes (Ok t) addr bytes code (Ok new) = WritesInto t.bench addr bytes code new.bench × (new.tags ≡ t.tags)
 Writes (Ok t) addr bytes code (Err h) = ⊥

@@ -19,7 +19,7 @@ place_of place = record { page = place.page; offset = place.offset; len = place.
 -- what a device may do with a page, of a handle that is open
 abbrev pub TellsRight : Kept → ℕ → ℕ → ℕ → ℕ → Kept → Type 0
 TellsRight (Err h) page code old new left = (code ≡ code_of_mark h.mark) × (new ≡ old) × (left ≡ Err h)
-TellsRight (Ok t) page code old new left = (code ≡ 0) × (new ≡ number_of (right_at t.world.host page)) × (left ≡ Ok t)
+TellsRight (Ok t) page code old new left = (code ≡ 0) × (new ≡ number_of (right_at t.bench.world.host page)) × (left ≡ Ok t)
 
 -- a buffer with runs in its front, as many as it holds
 abbrev pub laid : List Run → List CRun → List CRun
@@ -43,7 +43,7 @@ pub record ShowsRuns (runs : List Run) (code : ℕ) (old new : List CRun) (count
 abbrev pub TellsRuns : Kept → ℕ → ℕ → ℕ → List CRun → List CRun → ℕ → ℕ → Kept → Type 0
 TellsRuns (Err h) q cid code old new many many' left = (code ≡ code_of_mark h.mark) × (new ≡ old) × (many' ≡ many) × (left ≡ Err h)
 TellsRuns (Ok t) q cid code old new many many' left =
-    ShowsRuns (runs_of_command t.world.host q cid) code old new many' × (left ≡ Ok t)
+    ShowsRuns (runs_of_command t.bench.world.host q cid) code old new many' × (left ≡ Ok t)
 
 -- where a data piece lies, of a handle that is open
 abbrev pub ShowsPlace : Option DataPlace → ℕ → CPlace → CPlace → Type 0
@@ -52,4 +52,4 @@ ShowsPlace (Some place) code old new = (code ≡ 0) × (new ≡ place_of place)
 
 abbrev pub TellsPlace : Kept → ℕ → ℕ → ℕ → ℕ → CPlace → CPlace → Kept → Type 0
 TellsPlace (Err h) q cid piece code old new left = (code ≡ code_of_mark h.mark) × (new ≡ old) × (left ≡ Err h)
-TellsPlace (Ok t) q cid piece code old new left = ShowsPlace (place_at t.world.host q cid piece) code old new × (left ≡ Ok t)
+TellsPlace (Ok t) q cid piece code old new left = ShowsPlace (place_at t.bench.world.host q cid piece) code old new × (left ≡ Ok t)

@@ -4,6 +4,7 @@ pub mod Answers
 pub mod Codes
 pub mod Images
 pub mod Requests
+pub mod Buffers
 pub mod Owners
 pub mod Named
 pub mod MachineAnswers
@@ -31,3 +32,6 @@ pub mod HostCalls
 pub mod HostPool
 pub mod HostLooks
 pub mod HostReach
+pub mod HostTags
+pub mod HostSending
+pub mod HostPolling

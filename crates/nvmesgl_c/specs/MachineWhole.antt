@@ -1,27 +1,16 @@
 -- A whole command in one call: the steps that carry it from its reservation to its release.
 use Rattle.std.specs.List.{AllByRecursion}
-use Rattle.std.specs.Prelude.{◌≡◌, ◌⊎◌, ◌++◌, ◌==◌, ◌/◌, ◌%◌, ◌<◌, ◌≤◌, ℕ, Bool, true, false, Option, Some, None, Result, Ok, Err, List, [], ◌∷◌, drop, if◌then◌else◌, length, map, replicate}
-use Rattle.io_commands.specs.{Asked.Request, declared.request.{Kind.Kind, Piece.Piece}}
+use Rattle.std.specs.Prelude.{◌≡◌, ◌⊎◌, ◌++◌, ◌==◌, ◌<◌, ◌≤◌, ℕ, Bool, true, false, Option, Some, None, Result, Ok, Err, List, [], ◌∷◌, drop, length, map}
+use Rattle.io_commands.specs.{Asked.Request, declared.request.Kind.Kind}
 use Rattle.entry_codec.specs.declared.status.Status.{Status}
 use Rattle.machine_model.specs.Script.{Table}
 use Rattle.step_core.specs.{Bench.{Does, DoesAll}, Values.{Step, Reply}}
-use Rattle.nvmesgl_c.specs.{Answers.{nothing, ended}, MachineAnswers.told_of, MachineCalls.Refuses, MachineCodes.code_of_answer, MachineKept.Kept, Keeping.code_of_mark, MachineServing.Serves, declared.words.answer.Answer.Answer}
+use Rattle.nvmesgl_c.specs.{Answers.{nothing, ended}, MachineAnswers.told_of, MachineCalls.Refuses, MachineCodes.code_of_answer, MachineKept.Kept, Keeping.code_of_mark, MachineServing.Serves, Requests.request_of, declared.words.answer.Answer.Answer}
 use Rattle.nvmesgl_c.specs.declared.machine.{carrying.Carried.{Carried, TheVariants.{Ended, NotReserved, GivenUp, Left}}, serve.Served.Served}
 use Rattle.io_commands.specs.declared.request.Kind.TheVariants as kind
-use Rattle.io_commands.specs.declared.request.Piece.TheVariants as piece
 use Rattle.machine_model.specs.declared.words.Reaped.TheVariants as reaps
 use Rattle.step_core.specs.declared.step.Reply.TheVariants as reply
 use Rattle.step_core.specs.declared.step.Step.TheVariants as step
-
--- The request of so many bytes in a row
-
--- a piece for each page that they fill, and one for what is left
-abbrev pub pieces_of_length : ℕ → List Piece
-pieces_of_length n =
-    replicate (n / 4096) (piece.Data 0 4096) ++ (if n % 4096 == 0 then [] else (piece.Data 0 (n % 4096) ∷ []))
-
-abbrev pub request_of : Kind → ℕ → ℕ → Request
-request_of kind slba n = record { kind = kind; slba = slba; blocks = n / 512; pieces = pieces_of_length n }
 
 -- The steps of a command that is reserved
 

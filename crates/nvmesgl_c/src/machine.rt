@@ -17,6 +17,7 @@ mod options;
 mod queues;
 mod serve;
 mod steps;
+mod vectored;
 mod whole;
 
 pub use carrying::Carried;

@@ -22,7 +22,7 @@ pub struct CDoorbell {
 }
 
 /// What a reply tells.
-fn told_of(reply: &Reply) -> Answer
+pub(crate) fn told_of(reply: &Reply) -> Answer
     ensures { result ≡ answers.told_of reply.now }
 {
     match reply {
@@ -63,7 +63,7 @@ pub(crate) fn told(reply: &Result<Reply, u32>) -> Answer
 }
 
 /// A doorbell, as C sees it.
-fn shown_bell(bell: Option<Doorbell>) -> CDoorbell
+pub(crate) fn shown_bell(bell: Option<Doorbell>) -> CDoorbell
     ensures { result ≡ answers.shown_bell bell }
 {
     match bell {

@@ -19,15 +19,15 @@ use std::alloc::Global;
 pub(crate) fn make(alloc: Global, handle: &mut Handle, what: Call) -> Result<Reply, u32>
     ensures { DoesKept (kept_in handle.old) what result (kept_in handle.new) }
 {
-    let mut bench = match handle.take(alloc) {
-        Ok(bench) => bench,
+    let mut kept = match handle.take(alloc) {
+        Ok(kept) => kept,
         Err(code) => {
             drop(what);
             return Err(code);
         }
     };
-    let answer = bench.call(what);
-    handle.put(bench);
+    let answer = kept.bench.call(what);
+    handle.put(kept);
     Ok(answer)
 }
 

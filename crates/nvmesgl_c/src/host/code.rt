@@ -19,16 +19,25 @@ pub(crate) const PAGE_OUT: u32 = 54;
 /// No such command is outstanding, or it has no such data piece.
 pub(crate) const NO_PIECE: u32 = 55;
 
+/// The code of what a call answered.
+pub(crate) fn code_of_answer(reply: &Reply) -> u32
+    ensures { result ≡ codes.code_of_answer reply.now }
+{
+    match reply {
+        Reply::Refused(why) => code_of_refusal(*why),
+        Reply::NoValue => NO_VALUE,
+        Reply::NotFilled(why) => code_of_fill_fault(*why),
+        _ => DONE,
+    }
+}
+
 /// The code of what a call answered, or of the handle that it was made on.
 pub(crate) fn code_of_reply(reply: &Result<Reply, u32>) -> u32
     ensures { result ≡ codes.code_of_reply reply.now }
 {
     match reply {
+        Ok(reply) => code_of_answer(reply),
         Err(code) => *code,
-        Ok(Reply::Refused(why)) => code_of_refusal(*why),
-        Ok(Reply::NoValue) => NO_VALUE,
-        Ok(Reply::NotFilled(why)) => code_of_fill_fault(*why),
-        Ok(_) => DONE,
     }
 }
 

@@ -2,21 +2,21 @@
 
 ghost use Rattle.std.specs.Prelude.{◌≡◌, IfSome};
 ghost use Rattle.nvmesgl_c.specs.HostKept.{kept_in};
-ghost use Rattle.nvmesgl_c.specs.HostCalls.{DoesKept, Says, Reserves, Gathers};
+ghost use Rattle.nvmesgl_c.specs.HostCalls.{DoesKept, Says, Reserves, ReservesUntagged, Untags, Gathers};
 ghost use Rattle.host_bench.specs.declared.call.Call.TheVariants as call;
 
 use crate::host::answer::told;
 use crate::host::calls::{make, refuse, say};
 use crate::host::code::code_of_reply;
 use crate::host::handle::Handle;
-use crate::words::code::{BAD_PIECE, MEMORY, NO_KIND, TOO_SHORT};
+use crate::host::tagged::forget;
+use crate::words::code::{BAD_PIECE, DONE, MEMORY, NO_KIND, TOO_SHORT};
 use crate::words::{Answer, CPiece, NoPieces, kind_of, pieces_of};
 use host_bench::{Call, Reply, Request};
 use std::alloc::Global;
 
-/// Reserves a command. Its identifier and how many pages it has are told.
-#[unsafe(no_mangle)]
-pub extern "C" fn nvmehost_reserve(
+/// Reserves a command.
+fn reserve(
     alloc: Global,
     handle: &mut Handle,
     q: u16,
@@ -45,6 +45,38 @@ pub extern "C" fn nvmehost_reserve(
     say(alloc, handle, Call::Reserve { q, request }, answer)
 }
 
+/// Takes back the tag that the identifier of a command had, where the command was reserved.
+fn untag(alloc: Global, handle: &mut Handle, code: u32, q: u16, cid: u16)
+    ensures { Untags code q cid (kept_in handle.old) (kept_in handle.new) }
+{
+    if code != DONE {
+        return;
+    }
+    if let Ok(mut kept) = handle.take(alloc) {
+        forget(&mut kept.tags, q, cid);
+        handle.put(kept);
+    }
+}
+
+/// Reserves a command, which has no tag. Its identifier and how many pages it has are told.
+#[unsafe(no_mangle)]
+pub extern "C" fn nvmehost_reserve(
+    alloc: Global,
+    handle: &mut Handle,
+    q: u16,
+    kind: u32,
+    slba: u64,
+    blocks: u32,
+    pieces: &[CPiece],
+    answer: &mut Answer,
+) -> u32
+    ensures { ReservesUntagged (kept_in handle.old) q kind slba blocks pieces.now result answer.new (kept_in handle.new) }
+{
+    let code = reserve(alloc, handle, q, kind, slba, blocks, pieces, answer);
+    untag(alloc, handle, code, q, answer.cid);
+    code
+}
+
 /// Fills a draft of the host that is kept with bytes that are lent.
 ///
 /// # Errors
@@ -53,9 +85,9 @@ pub extern "C" fn nvmehost_reserve(
 fn fill(alloc: Global, handle: &mut Handle, q: u16, cid: u16, bytes: &[u8]) -> Result<Reply, u32>
     ensures { DoesKept (kept_in handle.old) (call.Fill q cid bytes.now) result (kept_in handle.new) }
 {
-    let mut bench = handle.take(alloc)?;
-    let answer = bench.fill(q, cid, bytes);
-    handle.put(bench);
+    let mut kept = handle.take(alloc)?;
+    let answer = kept.bench.fill(q, cid, bytes);
+    handle.put(kept);
     Ok(answer)
 }
 

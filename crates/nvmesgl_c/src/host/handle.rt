@@ -1,12 +1,12 @@
 //! A host that C keeps between its calls.
 
 ghost use Rattle.std.specs.Prelude.{◌≡◌, Option, None, Some};
-ghost use Rattle.machine_model.specs.Script.{Table};
+ghost use Rattle.nvmesgl_c.specs.declared.host.tagged.Tagged.{Tagged};
 ghost use Rattle.nvmesgl_c.specs.Keeping.{IsMarked};
 ghost use Rattle.nvmesgl_c.specs.HostOwned.{bench_coded, kept_owns, own_mark};
 
 use crate::held::Held;
-use host_bench::HostBench;
+use crate::host::tagged::Tagged;
 use std::alloc::Global;
 use std::marker::Model;
 
@@ -16,7 +16,7 @@ use std::marker::Model;
 pub struct Kept {
     at: *mut u8,
     alloc: Global,
-    pub ghost bench: { Option Table } by { bench_coded },
+    pub ghost bench: { Option Tagged } by { bench_coded },
 }
 
 impl Model for Kept {
@@ -28,7 +28,7 @@ unsafe impl Send for Kept {}
 
 impl Kept {
     /// What is held.
-    pub fn of_held(held: Held<HostBench, Global>) -> Kept
+    pub fn of_held(held: Held<Tagged, Global>) -> Kept
         ensures { result.bench ≡ held.value }
     {
         let Held { at, alloc } = held;
@@ -39,12 +39,12 @@ impl Kept {
     }
 
     /// What is held.
-    pub fn into_held(self) -> Held<HostBench, Global>
+    pub fn into_held(self) -> Held<Tagged, Global>
         ensures { result.value ≡ self.bench }
     {
         let Kept { at, alloc } = self;
         Held {
-            at: at as *mut HostBench,
+            at: at as *mut Tagged,
             alloc,
         }
     }
@@ -65,7 +65,7 @@ pub struct Handle {
 
 impl Handle {
     /// A handle that keeps a host.
-    pub fn of(host: Box<HostBench, Global>) -> Handle
+    pub fn of(host: Box<Tagged, Global>) -> Handle
         ensures { result.kept.bench ≡ Some host.value }
     {
         Handle {

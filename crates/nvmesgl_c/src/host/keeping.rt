@@ -5,8 +5,8 @@ ghost use Rattle.nvmesgl_c.specs.Keeping.{code_of_mark};
 ghost use Rattle.nvmesgl_c.specs.HostKept.{cause_in, kept_in};
 
 use crate::host::handle::{Handle, OWN_MARK};
+use crate::host::tagged::Tagged;
 use crate::words::code::{NO_HANDLE, OPEN, code_of_mark};
-use host_bench::HostBench;
 use std::alloc::Global;
 use std::mem::replace;
 
@@ -16,7 +16,7 @@ impl Handle {
     /// # Errors
     ///
     /// The code, where none is kept: the handle is closed, or none of this kind.
-    pub fn take(&mut self, alloc: Global) -> Result<Box<HostBench, Global>, u32>
+    pub fn take(&mut self, alloc: Global) -> Result<Box<Tagged, Global>, u32>
         ensures taken { IfOk result (λ taken. kept_in self.old ≡ Ok taken.value) }
         ensures left { OnOk result (kept_in self.new ≡ Err self.new) }
         ensures closed { OnOk result (self.new.mark ≡ 0) }
@@ -32,7 +32,7 @@ impl Handle {
     }
 
     /// Keeps a host, in the place of what was there.
-    pub fn put(&mut self, host: Box<HostBench, Global>)
+    pub fn put(&mut self, host: Box<Tagged, Global>)
         ensures { kept_in self.new ≡ Ok host.value }
     {
         *self = Handle::of(host);

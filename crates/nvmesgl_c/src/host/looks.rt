@@ -146,12 +146,12 @@ fn pages_of(bench: &HostBench) -> CPages
 pub extern "C" fn nvmehost_counts(alloc: Global, handle: &mut Handle, pages: &mut CPages) -> u32
     ensures { TellsCounts (kept_in handle.old) result pages.old pages.new (kept_in handle.new) }
 {
-    let bench = match handle.take(alloc) {
-        Ok(bench) => bench,
+    let kept = match handle.take(alloc) {
+        Ok(kept) => kept,
         Err(code) => return code,
     };
-    *pages = pages_of(&bench);
-    handle.put(bench);
+    *pages = pages_of(&kept.bench);
+    handle.put(kept);
     DONE
 }
 
@@ -165,12 +165,12 @@ pub extern "C" fn nvmehost_owner(
 ) -> u32
     ensures { TellsOwner (kept_in handle.old) page result owner.old owner.new (kept_in handle.new) }
 {
-    let bench = match handle.take(alloc) {
-        Ok(bench) => bench,
+    let kept = match handle.take(alloc) {
+        Ok(kept) => kept,
         Err(code) => return code,
     };
-    let found = find_owner(&bench, page);
-    handle.put(bench);
+    let found = find_owner(&kept.bench, page);
+    handle.put(kept);
     match found {
         Some(found) => {
             *owner = owner_of(found);
@@ -190,12 +190,12 @@ pub extern "C" fn nvmehost_look(
 ) -> u32
     ensures { TellsQueue (kept_in handle.old) q result queue.old queue.new (kept_in handle.new) }
 {
-    let bench = match handle.take(alloc) {
-        Ok(bench) => bench,
+    let kept = match handle.take(alloc) {
+        Ok(kept) => kept,
         Err(code) => return code,
     };
-    let found = find_queue(&bench, q);
-    handle.put(bench);
+    let found = find_queue(&kept.bench, q);
+    handle.put(kept);
     match found {
         Some(found) => {
             *queue = found;

@@ -8,13 +8,15 @@ use crate::host::answer::told_not_opened;
 use crate::host::code::code_of_not_opened;
 use crate::host::handle::Handle;
 use crate::host::options::{NotOpened, Options, config_of, fault_of};
+use crate::host::tagged::Tagged;
 use crate::words::code::DONE;
 use crate::words::{Answer, nothing};
 use host_bench::HostBench;
+use slot_table::LinkedTable;
 use std::alloc::Global;
 
 /// A host in a box.
-fn open_bench(alloc: Global, given: &Options) -> Result<Box<HostBench, Global>, NotOpened>
+fn open_bench(alloc: Global, given: &Options) -> Result<Box<Tagged, Global>, NotOpened>
     ensures opened { IfOk result (λ bench. IsOpened given.now bench.value) }
     ensures not_opened { IfErr result (λ why. IsWhy given.now why) }
 {
@@ -22,10 +24,13 @@ fn open_bench(alloc: Global, given: &Options) -> Result<Box<HostBench, Global>, 
         return Err(why);
     }
     match HostBench::open(alloc, config_of(given)) {
-        Ok(bench) => match Box::new(alloc, bench) {
-            Ok(bench) => Ok(bench),
-            Err(_) => Err(NotOpened::Memory),
-        },
+        Ok(bench) => {
+            let tags = LinkedTable::new(alloc);
+            match Box::new(alloc, Tagged { bench, tags }) {
+                Ok(bench) => Ok(bench),
+                Err(_) => Err(NotOpened::Memory),
+            }
+        }
         Err(why) => Err(NotOpened::Refused(why)),
     }
 }

@@ -53,12 +53,12 @@ pub extern "C" fn nvmehost_read(
 ) -> u32
     ensures { Reads (kept_in handle.old) addr result buffer.old buffer.new (kept_in handle.new) }
 {
-    let mut bench = match handle.take(alloc) {
-        Ok(bench) => bench,
+    let mut kept = match handle.take(alloc) {
+        Ok(kept) => kept,
         Err(code) => return code,
     };
-    let code = read_from(&mut bench, addr, buffer);
-    handle.put(bench);
+    let code = read_from(&mut kept.bench, addr, buffer);
+    handle.put(kept);
     code
 }
 
@@ -67,11 +67,11 @@ pub extern "C" fn nvmehost_read(
 pub extern "C" fn nvmehost_write(alloc: Global, handle: &mut Handle, addr: u64, bytes: &[u8]) -> u32
     ensures { Writes (kept_in handle.old) addr bytes.now result (kept_in handle.new) }
 {
-    let mut bench = match handle.take(alloc) {
-        Ok(bench) => bench,
+    let mut kept = match handle.take(alloc) {
+        Ok(kept) => kept,
         Err(code) => return code,
     };
-    let code = write_into(&mut bench, addr, bytes);
-    handle.put(bench);
+    let code = write_into(&mut kept.bench, addr, bytes);
+    handle.put(kept);
     code
 }

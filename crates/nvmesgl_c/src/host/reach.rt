@@ -100,12 +100,12 @@ pub extern "C" fn nvmehost_may(
 ) -> u32
     ensures { TellsRight (kept_in handle.old) page result right.old right.new (kept_in handle.new) }
 {
-    let bench = match handle.take(alloc) {
-        Ok(bench) => bench,
+    let kept = match handle.take(alloc) {
+        Ok(kept) => kept,
         Err(code) => return code,
     };
-    *right = number_of(bench.may(PageNo(page)));
-    handle.put(bench);
+    *right = number_of(kept.bench.may(PageNo(page)));
+    handle.put(kept);
     DONE
 }
 
@@ -121,13 +121,13 @@ pub extern "C" fn nvmehost_runs(
 ) -> u32
     ensures { TellsRuns (kept_in handle.old) q cid result buffer.old buffer.new count.old count.new (kept_in handle.new) }
 {
-    let bench = match handle.take(alloc) {
-        Ok(bench) => bench,
+    let kept = match handle.take(alloc) {
+        Ok(kept) => kept,
         Err(code) => return code,
     };
-    let (laid, all) = lay(bench.runs(q, cid), buffer);
+    let (laid, all) = lay(kept.bench.runs(q, cid), buffer);
     *count = laid;
-    handle.put(bench);
+    handle.put(kept);
     if all { DONE } else { TOO_SHORT }
 }
 
@@ -143,12 +143,12 @@ pub extern "C" fn nvmehost_data_place(
 ) -> u32
     ensures { TellsPlace (kept_in handle.old) q cid piece result place.old place.new (kept_in handle.new) }
 {
-    let bench = match handle.take(alloc) {
-        Ok(bench) => bench,
+    let kept = match handle.take(alloc) {
+        Ok(kept) => kept,
         Err(code) => return code,
     };
-    let found = bench.place(q, cid, piece as usize);
-    handle.put(bench);
+    let found = kept.bench.place(q, cid, piece as usize);
+    handle.put(kept);
     match found {
         Some(found) => {
             *place = place_of(found);

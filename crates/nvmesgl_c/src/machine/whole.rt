@@ -1,7 +1,8 @@
 //! Whole commands, each in one call.
 
-ghost use Rattle.std.specs.Prelude.{◌≡◌, ◌≤◌, ◌⊎◌, IfOk, length};
+ghost use Rattle.std.specs.Prelude.{◌≡◌, ◌⊎◌, length};
 ghost use Rattle.io_commands.specs.declared.request.Kind.TheVariants as kind;
+ghost use Rattle.nvmesgl_c.specs.Buffers.{joined};
 ghost use Rattle.nvmesgl_c.specs.MachineKept.{kept_in};
 ghost use Rattle.nvmesgl_c.specs.MachineWhole as whole;
 ghost use Rattle.nvmesgl_c.specs.MachineWhole.{Brings, CarriesKept, IsTurnedAway, Sends};
@@ -12,65 +13,16 @@ use crate::machine::code::code_of_answer;
 use crate::machine::handle::Handle;
 use crate::machine::steps::refuse;
 use crate::words::code::{BAD_COUNT, DONE, MEMORY, TOO_SHORT};
-use crate::words::{Answer, ended, nothing};
-use std::alloc::{AllocError, Global};
-use step_core::{Bytes, Kind, Piece, Pieces, Request};
-
-/// The most bytes that a command moves.
-const MOST_BYTES: usize = 1_048_576;
-
-/// How many bytes a page has.
-const PAGE: usize = 4_096;
-
-/// A piece for each page that so many bytes fill, and one for what is left.
-///
-/// # Errors
-///
-/// Where memory is refused.
-fn pieces_for(alloc: Global, len: usize) -> Result<Pieces, AllocError>
-    ensures { IfOk result (λ made. made ≡ whole.pieces_of_length len) }
-{
-    let mut pieces = Pieces::new(alloc);
-    for _ in 0..len / PAGE {
-        pieces.push(Piece::Data {
-            offset: 0,
-            len: 4_096,
-        })?;
-    }
-    let rest = (len % PAGE) as u32;
-    if rest != 0 {
-        pieces.push(Piece::Data {
-            offset: 0,
-            len: rest,
-        })?;
-    }
-    Ok(pieces)
-}
-
-/// The request of so many bytes in a row.
-///
-/// # Errors
-///
-/// Where memory is refused.
-fn request_for(alloc: Global, kind: Kind, slba: u64, len: usize) -> Result<Request, AllocError>
-    requires { len ≤ 1048576 }
-    ensures { IfOk result (λ request. request ≡ whole.request_of kind slba len) }
-{
-    let pieces = pieces_for(alloc, len)?;
-    Ok(Request {
-        kind,
-        slba,
-        blocks: (len / 512) as u32,
-        pieces,
-    })
-}
+use crate::words::{Answer, CBytes, MOST_MOVED, copy_of, count_of, ended, nothing, request_for};
+use std::alloc::Global;
+use step_core::{Bytes, Kind, Request};
 
 /// Carries a command of the bench that a handle keeps.
 ///
 /// # Errors
 ///
 /// The code, where none is kept.
-fn carry_kept(
+pub(crate) fn carry_kept(
     alloc: Global,
     handle: &mut Handle,
     q: u16,
@@ -122,7 +74,7 @@ fn code_of_carried(carried: &Carried) -> u32
 }
 
 /// What a whole command of a handle tells, which was open or not.
-fn told_of_kept(carried: &Result<Carried, u32>) -> Answer
+pub(crate) fn told_of_kept(carried: &Result<Carried, u32>) -> Answer
     ensures { result ≡ whole.told_of_kept carried.now }
 {
     match carried {
@@ -132,7 +84,7 @@ fn told_of_kept(carried: &Result<Carried, u32>) -> Answer
 }
 
 /// The code of a whole command, or of the handle that it was made on.
-fn code_of(carried: &Result<Carried, u32>) -> u32
+pub(crate) fn code_of(carried: &Result<Carried, u32>) -> u32
     ensures { result ≡ whole.code_of carried.now }
 {
     match carried {
@@ -141,25 +93,25 @@ fn code_of(carried: &Result<Carried, u32>) -> u32
     }
 }
 
-/// Carries a Write or a Compare of these bytes.
-fn send(
+/// Carries a Write or a Compare of the bytes in these buffers.
+pub(crate) fn send(
     alloc: Global,
     handle: &mut Handle,
     q: u16,
     kind: Kind,
     slba: u64,
-    bytes: &[u8],
+    sources: &[CBytes<'_>],
     answer: &mut Answer,
 ) -> u32
-    ensures { Sends (kept_in handle.old) q kind slba bytes.now result answer.new (kept_in handle.new) ⊎ IsTurnedAway (kept_in handle.old) (length bytes.now) result answer.new (kept_in handle.new) }
+    ensures { Sends (kept_in handle.old) q kind slba (joined sources.now) result answer.new (kept_in handle.new) ⊎ IsTurnedAway (kept_in handle.old) (length (joined sources.now)) result answer.new (kept_in handle.new) }
 {
-    if bytes.len() > MOST_BYTES {
+    let Some(count) = count_of(sources) else {
         return refuse(alloc, handle, BAD_COUNT, answer);
-    }
-    let Ok(request) = request_for(alloc, kind, slba, bytes.len()) else {
+    };
+    let Ok(request) = request_for(alloc, kind, slba, count) else {
         return refuse(alloc, handle, MEMORY, answer);
     };
-    let Ok(copied) = Vec::from_slice(alloc, bytes) else {
+    let Ok(copied) = copy_of(alloc, sources, count) else {
         drop(request);
         return refuse(alloc, handle, MEMORY, answer);
     };
@@ -194,7 +146,7 @@ pub extern "C" fn nvmesgl_read(
 ) -> u32
     ensures { Brings (kept_in handle.old) q slba buffer.old buffer.new result answer.new (kept_in handle.new) ⊎ whole.IsTurnedAwayFrom buffer.old buffer.new (kept_in handle.old) result answer.new (kept_in handle.new) }
 {
-    if buffer.len() > MOST_BYTES {
+    if buffer.len() > MOST_MOVED {
         return refuse(alloc, handle, BAD_COUNT, answer);
     }
     let Ok(request) = request_for(alloc, Kind::Read, slba, buffer.len()) else {
@@ -217,7 +169,15 @@ pub extern "C" fn nvmesgl_write(
 ) -> u32
     ensures { Sends (kept_in handle.old) q kind.Write slba bytes.now result answer.new (kept_in handle.new) ⊎ IsTurnedAway (kept_in handle.old) (length bytes.now) result answer.new (kept_in handle.new) }
 {
-    send(alloc, handle, q, Kind::Write, slba, bytes, answer)
+    send(
+        alloc,
+        handle,
+        q,
+        Kind::Write,
+        slba,
+        &[CBytes { bytes }],
+        answer,
+    )
 }
 
 /// Carries a Compare from its reservation to its release. Its status is told.
@@ -232,5 +192,13 @@ pub extern "C" fn nvmesgl_compare(
 ) -> u32
     ensures { Sends (kept_in handle.old) q kind.Compare slba bytes.now result answer.new (kept_in handle.new) ⊎ IsTurnedAway (kept_in handle.old) (length bytes.now) result answer.new (kept_in handle.new) }
 {
-    send(alloc, handle, q, Kind::Compare, slba, bytes, answer)
+    send(
+        alloc,
+        handle,
+        q,
+        Kind::Compare,
+        slba,
+        &[CBytes { bytes }],
+        answer,
+    )
 }

@@ -1,16 +1,13 @@
 use denote.{Param.Send.{IsSend, AllSend, owning_send, struct_send}}
 use denote.Struct.{Owning.{shape, fields, to}, Struct.exits_of}
-use Rattle.std.specs.contracts.impls.GlobalAllocator.TheImpl.{ghosts}
 use Rattle.std_alloc.proofs.SendSync.{quiet}
 use Rattle.nvmesgl_c.proofs.HeldSends.{held_keyless, pointer_send}
 use Rattle.nvmesgl_c.specs.{HostOwned.Row, contracts.host.handle.Kept.{the_row, the_type}}
-use Rattle.std.specs.contracts.alloc.Global as heap
 use Rattle.std_heap.proofs.Global.TheSendSync as heap_send
-use Rattle.std_heap.proofs.GlobalAllocator.TheSendSync as frees
-use Rattle.host_bench.proofs.bench.HostBench.TheSendSync as kept
+use Rattle.nvmesgl_c.proofs.host.tagged.Tagged.TheSendSync as kept
 
 kept_send : IsSend Row
-kept_send = kept.the_send heap.the_row ghosts heap_send.the_send frees.the_frees
+kept_send = kept.the_send
 
 pub send : IsSend the_row
 send =

@@ -1,7 +1,7 @@
 use Rattle.std.proofs.Common.{◌≡◌}
 use Rattle.std.specs.Prelude.{replicate}
 use Rattle.io_commands.specs.declared.request.Piece.TheVariants as piece
-use Rattle.nvmesgl_c.proofs.machine.whole.pieces_for.Given as goal
+use Rattle.nvmesgl_c.proofs.words.request.pieces_for.Given as goal
 
 -- a piece for each page so far
 abbrev pub invariant-loop : goal.invariant-loop
