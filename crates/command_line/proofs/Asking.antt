@@ -1,14 +1,14 @@
 -- What words ask for, by what a parse finds of them.
 use Rattle.std.proofs.Common.{◌≡◌, ◌∙◌, ◌||◌, ap, ap₂, Bool, true, false, refl, ◌&&◌, ◌<◌, ◌^◌, ℕ, List, [], ◌∷◌, Option, Some, None, sym, ◌⊎◌, subst, inl, inr}
-use Rattle.std.{proofs.lemmas.{Bool.{ltb-true, lt-ltb}}, specs.{Box.box_value, Char.digit_value, List.list_all}}
-use Rattle.std.specs.{Prelude.{Result, Ok, Err, nat_lt, option_and_then, if◌then◌else◌, IfErr, IfOk, IsErrAnd, IsOkAnd, option_map}}
+use Rattle.std.{proofs.lemmas.{Bool.{ltb-true, lt-ltb}}, specs.{Box.box_value, Char.digit_value, List.{AllByRecursion, list_all}}}
+use Rattle.std.specs.{Prelude.{map, Result, Ok, Err, nat_lt, option_and_then, if◌then◌else◌, IfErr, IfOk, IsErrAnd, IsOkAnd, option_map}}
 use Rattle.std.specs.Str.Parse.{AllDigits, IsNumeral, ParsesUnsigned, digits_value, without_leading_plus}
 use Rattle.clap.{proofs.{OnLiterals.clap_on_literals, WalkLemmas.both}, specs.ValueTests.is_numeral}
-use Rattle.clap.specs.Words.{AddsArg, AddsSubcommand, App, Rule, app_of, rule_of, with_rule, with_subcommand, ReadsOne, Text, HasKind, HasMatchesOf, IsAmong, Kinds, Row, fault_of, found_of, is_simple, is_simple_and_free, kind_of, rows_of, subcommand_name_of, subcommand_of, subcommand_rows_of}
+use Rattle.clap.specs.Words.{AddsArg, AddsInTurn, AddsSubcommand, App, Rule, app_of, rule_of, with_rule, with_subcommand, ReadsOne, Text, HasKind, HasMatchesOf, IsAmong, Kinds, Row, fault_of, found_of, is_simple, is_simple_and_free, kind_of, rows_of, subcommand_name_of, subcommand_of, subcommand_rows_of}
 use Rattle.clap.specs.declared.{builder.{arg.Arg.Arg, command.Command.{Command, TheViews.out-Command}}, error.{Error.Error, kind.ErrorKind.ErrorKind}}
 use Rattle.clap.specs.declared.{error.kind.ErrorKind.TheVariants.OutOfMemory, parser.matches.ArgMatches.{ArgMatches, TheViews.{out-ArgMatches, out-SubCommand}}}
 use Rattle.command_line.specs.{Asked.{asked, asked_by, unless_at_fault}, Units.number}
-use Rattle.command_line.specs.Commands.{nvmesgl}
+use Rattle.command_line.specs.Commands.{nvmesgl, with_rules}
 
 -- What adding an argument makes of a command.
 
@@ -25,6 +25,21 @@ or_false false = refl
 pub added_local : (old : Command) (a : Arg) (new : Command) (b : Bool) → AddsArg old a new
     → a.global ≡ false → (out-Command old).has_globals ≡ b → (out-Command new).has_globals ≡ b
 added_local old a new b adds local is = adds.globals ∙ (ap (λ (g : Bool). (out-Command old).has_globals || g) local ∙ (or_false _ ∙ is))
+
+-- so of one argument after the other
+pub added_all : (args : List Arg) (old new : Command) (rules : List Rule) → AddsInTurn AddsArg old args new
+    → AllByRecursion (λ arg. arg.global ≡ false) args → map rule_of args ≡ rules → app_of new ≡ with_rules (app_of old) rules
+added_all args old new rules adds local is = go args old adds local ∙ ap (with_rules (app_of old)) is
+  where
+    go : (args : List Arg) (old : Command) → AddsInTurn AddsArg old args new → AllByRecursion (λ arg. arg.global ≡ false) args
+        → app_of new ≡ with_rules (app_of old) (map rule_of args)
+    go [] old adds local = ap app_of (sym adds)
+    go (arg ∷ args) old adds local = go args adds.0 adds.2 local.1 ∙ ap (λ x. with_rules x (map rule_of args)) (adds.1.shape local.0)
+
+pub all_local : (args : List Arg) (old new : Command) → AddsInTurn AddsArg old args new
+    → AllByRecursion (λ arg. arg.global ≡ false) args → (out-Command new).has_globals ≡ (out-Command old).has_globals
+all_local [] old new adds local = ap (λ (c : Command). (out-Command c).has_globals) (sym adds)
+all_local (arg ∷ args) old new adds local = all_local args adds.0 new adds.2 local.1 ∙ added_local old arg adds.0 _ adds.1 local.0 refl
 
 -- what adding a command made, where that command was made, by what a parse reads of both
 pub added_command : {E : Type 0} (made : Result Command E) (old new : Command) (x y : App) → IfOk made (λ command. app_of command ≡ y)

@@ -1,5 +1,5 @@
 -- The commands and their options, as a parse reads them.
-use Rattle.std.specs.Prelude.{pos, true, [], ◌∷◌, Some, codes}
+use Rattle.std.specs.Prelude.{List, pos, true, [], ◌∷◌, Some, codes}
 use Rattle.clap.specs.{Words.{App, Rule, Text, new_app, new_rule, with_rule, with_subcommand}, declared.builder.action.ArgAction.TheVariants.{Append, SetTrue}}
 use Rattle.clap.specs.declared.builder.value_parser.ValueParser.TheVariants.{Signed}
 
@@ -75,40 +75,41 @@ with_threading command = with_rule
 abbrev pub threads : App
 threads = with_options (with_threading (with_telling (new_app (codes "threads"))))
 
+-- a command with one rule after the other
+abbrev pub with_rules : App → List Rule → App
+with_rules command [] = command
+with_rules command (rule ∷ rules) = with_rules (with_rule command rule) rules
+
 -- what is loaded, in the order of the help text
+abbrev pub amount_rules : List Rule
+amount_rules =
+    text_rule (codes "rw") (codes "read")
+    ∷ number_rule (codes "rwmixread") (codes "50")
+    ∷ text_rule (codes "bs") (codes "1")
+    ∷ option_rule (codes "size")
+    ∷ optional_number_rule (codes "count")
+    ∷ option_rule (codes "runtime")
+    ∷ number_rule (codes "numjobs") (codes "1")
+    ∷ []
+
 abbrev pub with_amounts : App → App
-with_amounts command = with_rule
-    (with_rule
-    (with_rule
-    (with_rule
-    (with_rule
-    (with_rule
-    (with_rule command (text_rule (codes "rw") (codes "read")))
-    (number_rule (codes "rwmixread") (codes "50")))
-    (text_rule (codes "bs") (codes "1")))
-    (option_rule (codes "size")))
-    (optional_number_rule (codes "count")))
-    (option_rule (codes "runtime")))
-    (number_rule (codes "numjobs") (codes "1"))
+with_amounts command = with_rules command amount_rules
+
+abbrev pub check_rules : List Rule
+check_rules =
+    number_rule (codes "iodepth") (codes "1")
+    ∷ optional_number_rule (codes "log-limit")
+    ∷ text_rule (codes "serve") (codes "ringer")
+    ∷ number_rule (codes "seed") (codes "1")
+    ∷ flag_rule (codes "verify")
+    ∷ option_rule (codes "stats")
+    ∷ option_rule (codes "status-interval")
+    ∷ text_rule (codes "output-format") (codes "normal")
+    ∷ flag_rule (codes "quiet")
+    ∷ []
 
 abbrev pub with_checks : App → App
-with_checks command = with_rule
-    (with_rule
-    (with_rule
-    (with_rule
-    (with_rule
-    (with_rule
-    (with_rule
-    (with_rule
-    (with_rule command (number_rule (codes "iodepth") (codes "1")))
-    (optional_number_rule (codes "log-limit")))
-    (text_rule (codes "serve") (codes "ringer")))
-    (number_rule (codes "seed") (codes "1")))
-    (flag_rule (codes "verify")))
-    (option_rule (codes "stats")))
-    (option_rule (codes "status-interval")))
-    (text_rule (codes "output-format") (codes "normal")))
-    (flag_rule (codes "quiet"))
+with_checks command = with_rules command check_rules
 
 abbrev pub load : App
 load = with_rule (with_sizes (with_checks (with_amounts (new_app (codes "load"))))) (option_rule (codes "image"))

@@ -1,9 +1,10 @@
 //! The options of `load`.
 
-ghost use Rattle.std.specs.Prelude.{◌≡◌, IfOk, false, codes};
+ghost use Rattle.std.specs.Prelude.{◌≡◌, IfOk, false, codes, map};
+ghost use Rattle.std.specs.List.{AllByRecursion};
 ghost use Rattle.clap.specs.Words.{app_of, rule_of};
 ghost use Rattle.clap.specs.declared.builder.command.Command.TheViews.{out-Command};
-ghost use Rattle.command_line.specs.Commands.{flag_rule, load, option_rule, text_rule, with_amounts, with_checks};
+ghost use Rattle.command_line.specs.Commands.{amount_rules, check_rules, flag_rule, load, option_rule, text_rule, with_amounts, with_checks};
 
 use crate::commands::{LOG_LIMIT, Number, image_arg, with_sizes};
 use crate::help::{LOAD_ABOUT, LOAD_AFTER};
@@ -117,19 +118,52 @@ fn flag_arg<'a>(alloc: Global, name: &'static str, help: &'static str) -> Arg<'a
         .help(help)
 }
 
+/// The options that say what is done, and how much.
+fn amount_args<'a>(alloc: Global) -> Result<Vec<Arg<'a>>, AllocError>
+    ensures rules { IfOk result (λ args. map rule_of args.items ≡ amount_rules) }
+    ensures local { IfOk result (λ args. AllByRecursion (λ arg. arg.global ≡ false) args.items) }
+{
+    Ok(Vec::from_array(
+        alloc,
+        [
+            text_arg(alloc, "rw", "PATTERN", "read", PATTERN_HELP),
+            READS.arg(alloc),
+            text_arg(alloc, "bs", "SIZE", "1", BLOCKS_HELP),
+            option_arg(alloc, "size", "SIZE", SIZE_HELP),
+            COUNT.optional_arg(alloc),
+            option_arg(alloc, "runtime", "TIME", RUNTIME_HELP),
+            SUBMITTERS.arg(alloc),
+        ],
+    )?)
+}
+
 /// A command with what is done, and how much.
 fn with_amounts<'a>(alloc: Global, command: Command<'a>) -> Result<Command<'a>, AllocError>
     ensures shape { IfOk result (λ whole. app_of whole ≡ with_amounts (app_of command.entry)) }
     ensures local { IfOk result (λ whole. (out-Command whole).has_globals ≡ (out-Command command.entry).has_globals) }
 {
-    command
-        .arg(text_arg(alloc, "rw", "PATTERN", "read", PATTERN_HELP))?
-        .arg(READS.arg(alloc))?
-        .arg(text_arg(alloc, "bs", "SIZE", "1", BLOCKS_HELP))?
-        .arg(option_arg(alloc, "size", "SIZE", SIZE_HELP))?
-        .arg(COUNT.optional_arg(alloc))?
-        .arg(option_arg(alloc, "runtime", "TIME", RUNTIME_HELP))?
-        .arg(SUBMITTERS.arg(alloc))
+    command.args(amount_args(alloc)?)
+}
+
+/// The options that say how it is run, what it checks and what it tells.
+fn check_args<'a>(alloc: Global) -> Result<Vec<Arg<'a>>, AllocError>
+    ensures rules { IfOk result (λ args. map rule_of args.items ≡ check_rules) }
+    ensures local { IfOk result (λ args. AllByRecursion (λ arg. arg.global ≡ false) args.items) }
+{
+    Ok(Vec::from_array(
+        alloc,
+        [
+            DEPTH.arg(alloc),
+            LOG_LIMIT.optional_arg(alloc),
+            serve_arg(alloc),
+            SEED.arg(alloc),
+            flag_arg(alloc, "verify", VERIFY_HELP),
+            option_arg(alloc, "stats", "FILE", STATS_HELP),
+            option_arg(alloc, "status-interval", "TIME", INTERVAL_HELP),
+            text_arg(alloc, "output-format", "FORMAT", "normal", FORMAT_HELP),
+            flag_arg(alloc, "quiet", "Tells no times on standard error"),
+        ],
+    )?)
 }
 
 /// A command with how it is run, what it checks and what it tells.
@@ -137,16 +171,7 @@ fn with_checks<'a>(alloc: Global, command: Command<'a>) -> Result<Command<'a>, A
     ensures shape { IfOk result (λ whole. app_of whole ≡ with_checks (app_of command.entry)) }
     ensures local { IfOk result (λ whole. (out-Command whole).has_globals ≡ (out-Command command.entry).has_globals) }
 {
-    command
-        .arg(DEPTH.arg(alloc))?
-        .arg(LOG_LIMIT.optional_arg(alloc))?
-        .arg(serve_arg(alloc))?
-        .arg(SEED.arg(alloc))?
-        .arg(flag_arg(alloc, "verify", VERIFY_HELP))?
-        .arg(option_arg(alloc, "stats", "FILE", STATS_HELP))?
-        .arg(option_arg(alloc, "status-interval", "TIME", INTERVAL_HELP))?
-        .arg(text_arg(alloc, "output-format", "FORMAT", "normal", FORMAT_HELP))?
-        .arg(flag_arg(alloc, "quiet", "Tells no times on standard error"))
+    command.args(check_args(alloc)?)
 }
 
 /// The command that makes its jobs.

@@ -9,7 +9,7 @@ use clap::error::ErrorKind;
 use std::alloc::{AllocError, Global};
 
 /// The options that are numbers.
-const NUMBERS: [Number; 13] = [
+static NUMBERS: [Number; 13] = [
     PAGES,
     QUEUES,
     ENTRIES,
@@ -36,8 +36,7 @@ const TIP: &str = "tip: to pass '";
 
 /// The option of this name, if it is a number.
 fn number_named(name: &str) -> Option<Number> {
-    let numbers = NUMBERS;
-    for number in numbers.as_slice() {
+    for number in &NUMBERS {
         if number.name() == name {
             return Some(*number);
         }
