@@ -2,7 +2,7 @@
 //!
 //! A word is runs with commas between them. A run is hexadecimal digits, two for each byte, and, behind a star, how often these bytes stand there.
 
-use script_cli::{LineError, LineFault, words_of};
+use script_cli::{LineError, words_of};
 use std::alloc::{AllocError, Global};
 
 /// Why a word is no bytes.
@@ -22,32 +22,24 @@ impl From<AllocError> for RunsFault {
     }
 }
 
-impl From<LineError> for RunsFault {
-    fn from(why: LineError) -> Self {
-        match why {
-            LineError::Fault(_) => RunsFault::NoRuns,
-            LineError::Memory => RunsFault::Memory,
-        }
-    }
-}
-
-impl From<LineFault> for RunsFault {
-    fn from(_fault: LineFault) -> Self {
-        RunsFault::NoRuns
-    }
-}
-
 /// The bytes of hexadecimal digits.
 fn hex(alloc: Global, digits: &[u8]) -> Result<Vec<u8>, RunsFault> {
-    let mut words = words_of(digits)?;
-    let bytes = words.bytes(alloc)?;
-    Ok(Vec::from_slice(alloc, bytes.as_slice())?)
+    let Ok(mut words) = words_of(digits) else {
+        return Err(RunsFault::NoRuns);
+    };
+    match words.bytes(alloc) {
+        Ok(bytes) => Ok(bytes.into_vec()),
+        Err(LineError::Fault(_)) => Err(RunsFault::NoRuns),
+        Err(LineError::Memory) => Err(RunsFault::Memory),
+    }
 }
 
 /// How often the bytes of a run stand there.
 fn count(digits: &[u8]) -> Result<u32, RunsFault> {
-    let mut words = words_of(digits)?;
-    Ok(words.number32()?)
+    let Ok(mut words) = words_of(digits) else {
+        return Err(RunsFault::NoRuns);
+    };
+    words.number32().or(Err(RunsFault::NoRuns))
 }
 
 /// Puts the bytes of hexadecimal digits so many times behind others.

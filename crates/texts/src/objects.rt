@@ -5,9 +5,10 @@
 //! lines of `nvmesgl steps`. No clause speaks of these texts.
 
 mod line;
+pub(crate) mod members;
 mod pages;
 mod steps;
 
-pub use line::{hex_bytes, hex_number, put_object};
+pub use line::{hex_bytes, put_object};
 pub use pages::{put_counts_object, put_owners_object};
 pub use steps::put_reply_object;

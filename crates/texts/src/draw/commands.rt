@@ -1,9 +1,10 @@
 //! The outstanding commands: what they were asked for, and the pages that they own.
 
 use crate::draw::cells::hue_of;
-use crate::draw::escaped::put_escaped;
+use crate::draw::escaped::Escaped;
 use page_ledger::{Owner, Role};
 use std::alloc::{AllocError, Global};
+use std::fmt;
 
 /// What a command was asked for.
 #[derive(Drop)]
@@ -57,82 +58,87 @@ impl Requests {
     }
 }
 
-/// A command that owns pages.
-#[derive(Drop)]
-struct Command {
-    q: u16,
-    cid: u16,
-    /// The numbers of the pages where its list lies, and of those of its data.
-    list: String,
-    data: String,
-}
-
-/// Puts the number of a page behind others.
-fn put_page(numbers: &mut String, page: usize) -> Result<(), AllocError> {
-    if !numbers.is_empty() {
-        numbers.push_str(" ")?;
-    }
-    write!(numbers, "{page}")
-}
-
-/// Notes that a command owns a page.
-fn note(
-    alloc: Global,
-    commands: &mut Vec<Command>,
-    (q, cid): (u16, u16),
-    role: Role,
-    page: usize,
-) -> Result<(), AllocError> {
-    let place = commands
-        .iter()
-        .position(|command| command.q == q && command.cid == cid);
-    let place = match place {
-        Some(place) => place,
-        None => {
-            commands.push(Command {
-                q,
-                cid,
-                list: String::new(alloc),
-                data: String::new(alloc),
-            })?;
-            commands.len() - 1
+/// Whether a command owns one of these pages.
+fn owns_one(owners: &[Owner], (q, cid): (u16, u16)) -> bool {
+    for owner in owners {
+        if let Owner::Command {
+            q: other,
+            cid: id,
+            role: _,
+        } = *owner
+        {
+            if other == q && id == cid {
+                return true;
+            }
         }
-    };
-    match (commands.get_mut(place), role) {
-        (Some(command), Role::Chain) => put_page(&mut command.list, page),
-        (Some(command), Role::Data) => put_page(&mut command.data, page),
-        (None, _) => Ok(()),
+    }
+    false
+}
+
+/// The pages that a command has for its list, or for its data, as their numbers.
+#[derive(Clone, Copy)]
+struct PagesOf<'a> {
+    owner: Owner,
+    owners: &'a [Owner],
+}
+
+impl fmt::Display for PagesOf<'_> {
+    fn fmt<W: fmt::Write>(&self, f: &mut fmt::Formatter<W>) -> fmt::Result {
+        let mut blank = "";
+        for (page, owner) in self.owners.iter().enumerate() {
+            if *owner == self.owner {
+                write!(f, "{blank}{page}")?;
+                blank = " ";
+            }
+        }
+        Ok(())
     }
 }
+
+/// Puts the row of a command that owns pages.
+fn put_row(
+    out: &mut String,
+    requests: &Requests,
+    owners: &[Owner],
+    (q, cid): (u16, u16),
+) -> Result<(), AllocError> {
+    let hue = hue_of(q, cid);
+    let line = Escaped(requests.line_of(q, cid));
+    let role = Role::Chain;
+    let list = PagesOf {
+        owner: Owner::Command { q, cid, role },
+        owners,
+    };
+    let role = Role::Data;
+    let data = PagesOf {
+        owner: Owner::Command { q, cid, role },
+        owners,
+    };
+    write!(
+        out,
+        "<tr><td><i style=\"--h:{hue}\"></i>{q}, {cid}</td><td>{line}</td><td>{list}</td><td>{data}</td></tr>"
+    )
+}
+
+/// What stands before the rows.
+const HEAD: &str =
+    "<table><tr><th>queue, identifier</th><th>reserved by</th><th>list in pages</th><th>data in pages</th></tr>";
 
 /// Puts a table of the commands that own pages.
 pub(crate) fn put_commands(
-    alloc: Global,
     out: &mut String,
     requests: &Requests,
     owners: &[Owner],
 ) -> Result<(), AllocError> {
-    let mut commands = Vec::new(alloc);
+    let mut is_begun = false;
     for (page, owner) in owners.iter().enumerate() {
-        if let Owner::Command { q, cid, role } = *owner {
-            note(alloc, &mut commands, (q, cid), role, page)?;
+        if let Owner::Command { q, cid, .. } = *owner {
+            if !owns_one(owners.get(..page).unwrap_or(&[]), (q, cid)) {
+                out.push_str(if is_begun { "" } else { HEAD })?;
+                is_begun = true;
+                put_row(out, requests, owners, (q, cid))?;
+            }
         }
     }
-    if commands.is_empty() {
-        return Ok(());
-    }
-    out.push_str(
-        "<table><tr><th>queue, identifier</th><th>reserved by</th><th>list in pages</th><th>data in pages</th></tr>",
-    )?;
-    for command in &commands {
-        let Command { q, cid, list, data } = command;
-        let hue = hue_of(*q, *cid);
-        write!(
-            out,
-            "<tr><td><i style=\"--h:{hue}\"></i>{q}, {cid}</td><td>"
-        )?;
-        put_escaped(out, requests.line_of(*q, *cid))?;
-        write!(out, "</td><td>{list}</td><td>{data}</td></tr>")?;
-    }
-    out.push_str("</table>\n")
+    out.push_str(if is_begun { "</table>\n" } else { "" })
 }

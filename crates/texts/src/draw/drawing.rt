@@ -7,6 +7,7 @@ use crate::draw::commands::Requests;
 use crate::draw::picture::{Caption, put_picture, touched_by};
 use crate::draw::style::{FOOT, HEAD};
 use page_ledger::Owner;
+use page_memory::PageNo;
 use script_cli::{
     Line, Numbered, RunFault, Script, Verb, append_reply, first_owners, flush, not_opened, put,
     read_script, script_at_fault, split_line,
@@ -39,17 +40,20 @@ struct Lines<'a> {
 }
 
 impl<'a> Lines<'a> {
+    /// The next line.
+    fn next(&mut self) -> &'a [u8] {
+        let (line, rest) = split_line(self.rest);
+        self.rest = rest;
+        line
+    }
+
     /// The line of this number. Those before it are passed over, and so is this one.
     fn take(&mut self, number: u32) -> &'a str {
-        let mut line: &[u8] = &[];
-        let next = number.saturating_add(1);
-        for _ in self.number..next {
-            let (first, rest) = split_line(self.rest);
-            line = first;
-            self.rest = rest;
+        for _ in self.number..number {
+            self.next();
         }
-        self.number = next;
-        std::str::from_utf8(line).unwrap_or("")
+        self.number = number.saturating_add(1);
+        std::str::from_utf8(self.next()).unwrap_or("")
     }
 }
 
@@ -79,7 +83,6 @@ impl Drawing<'_> {
         };
         let owners = &self.owners;
         put_picture(
-            self.alloc,
             &mut self.out,
             &caption,
             self.bench,
@@ -91,35 +94,62 @@ impl Drawing<'_> {
         )
     }
 
-    /// Makes a step, and puts its picture in place of the one before.
-    fn step(&mut self, number: u32, line: &str, step: Step) -> Result<(), AllocError> {
-        let verb = Verb::of(&step);
-        let reply = self.bench.step(step);
-        if let Reply::Reserved { q, cid, .. } = &reply {
+    /// What a step answered, as its line; the line that reserved a command is noted.
+    fn tell(
+        &mut self,
+        number: u32,
+        line: &str,
+        verb: Verb,
+        reply: &Reply,
+    ) -> Result<String, AllocError> {
+        if let Reply::Reserved { q, cid, .. } = reply {
             self.requests.note(self.alloc, *q, *cid, line)?;
         }
         let mut told = String::new(self.alloc);
-        append_reply(&mut told, number, verb, &reply)?;
-        let caption = Caption {
-            number,
-            line,
-            reply: &told,
-        };
+        append_reply(&mut told, number, verb, reply)?;
+        Ok(told)
+    }
+
+    /// Puts the picture of a step in place of the one before.
+    fn put_step(&mut self, caption: &Caption<'_>, touched: &[PageNo]) -> Result<(), AllocError> {
         let owners = owners_of(self.alloc, self.bench)?;
         self.out.clear();
         put_picture(
-            self.alloc,
             &mut self.out,
-            &caption,
+            caption,
             self.bench,
             self.entries,
             &self.requests,
             &self.owners,
             &owners,
-            touched_by(&reply),
+            touched,
         )?;
         self.owners = owners;
         Ok(())
+    }
+
+    /// Puts the picture of a step that answered so.
+    fn put_reply(
+        &mut self,
+        number: u32,
+        line: &str,
+        verb: Verb,
+        reply: &Reply,
+    ) -> Result<(), AllocError> {
+        let told = self.tell(number, line, verb, reply)?;
+        let caption = Caption {
+            number,
+            line,
+            reply: &told,
+        };
+        self.put_step(&caption, touched_by(reply))
+    }
+
+    /// Makes a step, and puts its picture.
+    fn step(&mut self, number: u32, line: &str, step: Step) -> Result<(), AllocError> {
+        let verb = Verb::of(&step);
+        let reply = self.bench.step(step);
+        self.put_reply(number, line, verb, &reply)
     }
 }
 
@@ -137,6 +167,23 @@ fn put_end<W: Write>(alloc: Global, left_out: usize, writer: &mut W) -> Result<(
     put(writer, FOOT.as_bytes())
 }
 
+/// Draws what a line of a script says, if it is a step.
+fn draw_line<W: Write>(
+    drawing: &mut Drawing<'_>,
+    lines: &mut Lines<'_>,
+    numbered: Numbered,
+    writer: &mut W,
+) -> Result<(), RunFault> {
+    let Numbered { number, line } = numbered;
+    match line {
+        Line::Step(step) => {
+            drawing.step(number, lines.take(number), step)?;
+            put(writer, drawing.out.as_bytes())
+        }
+        Line::Owners | Line::Nothing => Ok(()),
+    }
+}
+
 /// Draws the steps of a script.
 fn draw_all<W: Write>(
     drawing: &mut Drawing<'_>,
@@ -152,11 +199,8 @@ fn draw_all<W: Write>(
     };
     let all = script.into_lines();
     let left_out = all.len().saturating_sub(MOST_PICTURES);
-    for Numbered { number, line } in all.into_iter().take(MOST_PICTURES) {
-        if let Line::Step(step) = line {
-            drawing.step(number, lines.take(number), step)?;
-            put(writer, drawing.out.as_bytes())?;
-        }
+    for numbered in all.into_iter().take(MOST_PICTURES) {
+        draw_line(drawing, &mut lines, numbered, writer)?;
     }
     put_end(drawing.alloc, left_out, writer)?;
     flush(writer)

@@ -2,12 +2,12 @@
 
 use crate::draw::cells::put_cells;
 use crate::draw::commands::{Requests, put_commands};
-use crate::draw::escaped::put_escaped;
+use crate::draw::escaped::Escaped;
 use crate::draw::rings::put_rings;
 use page_ledger::Owner;
 use page_memory::PageNo;
 use script_cli::append_counts;
-use std::alloc::{AllocError, Global};
+use std::alloc::AllocError;
 use step_core::Reply;
 use world_bench::Bench;
 
@@ -36,22 +36,31 @@ pub(crate) fn touched_by(reply: &Reply) -> &[PageNo] {
 /// Puts what stands over a picture.
 fn put_caption(out: &mut String, caption: &Caption<'_>) -> Result<(), AllocError> {
     let number = caption.number;
-    write!(out, "<section id=\"line{number}\">\n<h2>")?;
+    let (line, reply) = (Escaped(caption.line), Escaped(caption.reply));
     if number > 0 {
-        write!(out, "line {number}: <code>")?;
-        put_escaped(out, caption.line)?;
-        out.push_str("</code>")?;
+        write!(
+            out,
+            "<section id=\"line{number}\">\n<h2>line {number}: <code>{line}</code>"
+        )?;
     } else {
-        out.push_str("as it opens")?;
+        out.push_str("<section id=\"line0\">\n<h2>as it opens")?;
     }
-    out.push_str("</h2>\n<p class=\"reply\"><code>")?;
-    put_escaped(out, caption.reply)?;
-    out.push_str("</code></p>\n")
+    write!(out, "</h2>\n<p class=\"reply\"><code>{reply}</code></p>\n")
+}
+
+/// Puts how many pages each class has, and how many of them are not drawn.
+fn put_key(out: &mut String, bench: &Bench, drawn: usize) -> Result<(), AllocError> {
+    out.push_str("<p class=\"key\">")?;
+    append_counts(out, bench.counts())?;
+    let hidden = (bench.pages() as usize).saturating_sub(drawn);
+    if hidden > 0 {
+        write!(out, "; the last {hidden} pages are not drawn")?;
+    }
+    out.push_str("</p>\n</section>\n")
 }
 
 /// Puts a picture of a world, where its pages had other owners before.
 pub(crate) fn put_picture(
-    alloc: Global,
     out: &mut String,
     caption: &Caption<'_>,
     bench: &Bench,
@@ -63,13 +72,7 @@ pub(crate) fn put_picture(
 ) -> Result<(), AllocError> {
     put_caption(out, caption)?;
     put_cells(out, before, owners, touched)?;
-    put_commands(alloc, out, requests, owners)?;
+    put_commands(out, requests, owners)?;
     put_rings(out, bench, entries)?;
-    out.push_str("<p class=\"key\">")?;
-    append_counts(out, bench.counts())?;
-    let hidden = (bench.pages() as usize).saturating_sub(owners.len());
-    if hidden > 0 {
-        write!(out, "; the last {hidden} pages are not drawn")?;
-    }
-    out.push_str("</p>\n</section>\n")
+    put_key(out, bench, owners.len())
 }

@@ -98,6 +98,16 @@ fn put_completion(out: &mut String, rings: &Rings, entries: u16) -> Result<(), A
     }
 }
 
+/// Puts the row of a queue.
+fn put_row(out: &mut String, q: u16, rings: &Rings, entries: u16) -> Result<(), AllocError> {
+    let (state, outstanding) = (rings.state.name(), rings.outstanding);
+    write!(out, "<tr><td>{q}<br>{state}</td><td>")?;
+    put_submission(out, rings, entries)?;
+    out.push_str("</td><td>")?;
+    put_completion(out, rings, entries)?;
+    write!(out, "</td><td>{outstanding}</td></tr>\n")
+}
+
 /// Puts a table of the queues of a bench, whose rings have so many slots.
 pub(crate) fn put_rings(out: &mut String, bench: &Bench, entries: u16) -> Result<(), AllocError> {
     out.push_str(
@@ -107,13 +117,7 @@ pub(crate) fn put_rings(out: &mut String, bench: &Bench, entries: u16) -> Result
         let Some(rings) = bench.rings(q) else {
             break;
         };
-        let state = rings.state.name();
-        write!(out, "<tr><td>{q}<br>{state}</td><td>")?;
-        put_submission(out, &rings, entries)?;
-        out.push_str("</td><td>")?;
-        put_completion(out, &rings, entries)?;
-        let outstanding = rings.outstanding;
-        write!(out, "</td><td>{outstanding}</td></tr>\n")?;
+        put_row(out, q, &rings, entries)?;
     }
     out.push_str("</table>\n")
 }

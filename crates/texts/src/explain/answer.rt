@@ -28,20 +28,29 @@ pub struct Answer {
     pub status: Status,
 }
 
+/// Puts what becomes of a case, and answers how its command ends.
+fn put_answer(
+    alloc: Global,
+    text: &mut String,
+    case: &mut Case,
+    layout: Layout,
+) -> Result<Status, AllocError> {
+    let entry = SubEntry::read(&case.entry);
+    let explanation = explain(alloc, &entry, &case.namespace, &mut case.memory)?;
+    let put = match layout {
+        Layout::Lines => put_explanation(text, case, &explanation),
+        Layout::Objects => put_objects(alloc, text, case, &explanation),
+    };
+    put?;
+    Ok(explanation.status)
+}
+
 /// Explains a case.
 fn answer_of(alloc: Global, case: Case, layout: Layout) -> Result<Answer, AllocError> {
     let mut case = case;
-    let entry = SubEntry::read(&case.entry);
-    let explanation = explain(alloc, &entry, &case.namespace, &mut case.memory)?;
     let mut text = String::new(alloc);
-    match layout {
-        Layout::Lines => put_explanation(&mut text, &case, &explanation)?,
-        Layout::Objects => put_objects(alloc, &mut text, &case, &explanation)?,
-    }
-    Ok(Answer {
-        text,
-        status: explanation.status,
-    })
+    let status = put_answer(alloc, &mut text, &mut case, layout)?;
+    Ok(Answer { text, status })
 }
 
 /// Reads a case from lines, and explains it. Files that lines name are relative to the folder of the path that the lines stand in, or, without a path, to the

@@ -2,9 +2,9 @@
 
 ghost use Rattle.std.specs.Prelude.{◌≤◌, IfOk};
 
-use crate::explain::dump::{Dump, FILE};
+use crate::explain::dump::Dump;
 use crate::explain::fault::{CaseFault, Wrong};
-use crate::explain::files::file_bytes;
+use crate::explain::files::next_bytes;
 use crate::explain::key::Key;
 use crate::explain::lines::{Line, Stop, address_of, number_of, put_in};
 use crate::explain::namespace::{GivenBlock, Namespace};
@@ -60,6 +60,23 @@ struct Open {
     key: Place,
 }
 
+impl Open {
+    /// Sees that no more bytes are wanted.
+    fn end(&self) -> Result<(), Stop> {
+        if self.dump.is_cut() {
+            return Err(Stop::Before(self.number, self.key, Wrong::NoEnd));
+        }
+        let found = self.dump.filled();
+        match self.target {
+            Target::Entry if found != 64 => {
+                let wrong = Wrong::NotSoMany { found, wanted: 64 };
+                Err(Stop::Before(self.number, self.key, wrong))
+            }
+            _ => Ok(()),
+        }
+    }
+}
+
 /// Addresses, or blocks, that a line has bytes for.
 #[derive(Clone, Copy)]
 struct Claim {
@@ -81,6 +98,20 @@ fn claimed(claims: &[Claim], first: u64, count: u64) -> Option<u32> {
         }
     }
     None
+}
+
+/// Notes that the line of a number has bytes for so many places from a first one on.
+fn push_claim(
+    claims: &mut Vec<Claim>,
+    first: u64,
+    count: u64,
+    number: u32,
+) -> Result<(), AllocError> {
+    Ok(claims.push(Claim {
+        first,
+        count,
+        number,
+    })?)
 }
 
 /// A case whose lines are not all read. After a fault no more is read of it.
@@ -250,13 +281,7 @@ impl CaseReader {
             return Err(Stop::At(place, Wrong::Given(other)));
         }
         self.pool_told = true;
-        self.addresses
-            .push(Claim {
-                first,
-                count: PAGE,
-                number,
-            })
-            .map_err(AllocError::from)?;
+        push_claim(&mut self.addresses, first, PAGE, number)?;
         self.begin_bytes(alloc, Target::Memory(first), PAGE_BYTES, number, key);
         Ok(())
     }
@@ -277,13 +302,7 @@ impl CaseReader {
             .saturating_sub(first % PAGE)
             .min(MOST_BYTES);
         self.pool_told = true;
-        self.addresses
-            .push(Claim {
-                first,
-                count: 0,
-                number,
-            })
-            .map_err(AllocError::from)?;
+        push_claim(&mut self.addresses, first, 0, number)?;
         self.begin_bytes(alloc, Target::Memory(first), most as usize, number, key);
         Ok(())
     }
@@ -302,13 +321,7 @@ impl CaseReader {
             return Err(Stop::At(place, Wrong::Given(other)));
         }
         self.blocks_told = true;
-        self.blocks
-            .push(Claim {
-                first,
-                count: 1,
-                number,
-            })
-            .map_err(AllocError::from)?;
+        push_claim(&mut self.blocks, first, 1, number)?;
         self.namespace
             .given
             .push(GivenBlock {
@@ -381,6 +394,26 @@ impl CaseReader {
         }
     }
 
+    /// Reads the bytes that are left of a line, which go on those of an open one.
+    fn read_open<R: AllocGlobal + Files>(
+        &mut self,
+        rt: &R,
+        open: &mut Open,
+        line: &mut Line<'_>,
+    ) -> Result<(), Stop> {
+        for _ in 0..line.len() {
+            let Some(place) = line.peek() else {
+                break;
+            };
+            let mut bytes = Vec::new(rt.alloc());
+            let folder = self.folder.as_str();
+            next_bytes(rt, folder, &mut open.dump, line, place, &mut bytes)?;
+            let from = open.dump.filled().saturating_sub(bytes.len());
+            self.put(open.target, place, from, bytes.as_slice())?;
+        }
+        Ok(())
+    }
+
     /// Reads the bytes that are left of a line.
     fn read_bytes<R: AllocGlobal + Files>(
         &mut self,
@@ -391,45 +424,19 @@ impl CaseReader {
             return line.done();
         };
         let mut open = open;
-        for _ in 0..line.len() {
-            let Some(place) = line.peek() else {
-                break;
-            };
-            let (word, mut from) = (line.word(place), open.dump.filled());
-            let bytes = if matches!(word, [FILE, ..]) {
-                line.next();
-                let room = open.dump.room();
-                let bytes = file_bytes(rt, self.folder.as_str(), place, word, room)?;
-                open.dump.add(bytes.len());
-                bytes
-            } else {
-                let bytes = open.dump.line(rt.alloc(), line)?;
-                from = open.dump.filled().saturating_sub(bytes.len());
-                bytes
-            };
-            self.put(open.target, place, from, bytes.as_slice())?;
-        }
+        self.read_open(rt, &mut open, line)?;
         self.open = Some(open);
         Ok(())
     }
 
     /// Ends the line whose bytes go on.
     fn close(&mut self) -> Result<(), Stop> {
-        let Some(open) = self.open.take() else {
-            return Ok(());
+        let ended = match &self.open {
+            Some(open) => open.end(),
+            None => Ok(()),
         };
-        let found = open.dump.filled();
-        if open.dump.is_cut() {
-            return Err(Stop::Before(open.number, open.key, Wrong::NoEnd));
-        }
-        match open.target {
-            Target::Entry if found != 64 => {
-                let wanted = 64;
-                let wrong = Wrong::NotSoMany { found, wanted };
-                Err(Stop::Before(open.number, open.key, wrong))
-            }
-            _ => Ok(()),
-        }
+        self.open = None;
+        ended
     }
 
     /// Reads what stands behind the first word of a line.
@@ -552,6 +559,30 @@ fn pages_of(line: &mut Line<'_>, most: u64) -> Result<u64, Stop>
     }
 }
 
+/// Reads the lines of a text.
+fn read_lines<R: AllocGlobal + Files>(
+    rt: &R,
+    reader: &mut CaseReader,
+    text: &[u8],
+) -> Result<(), CaseFault> {
+    let mut rest = text;
+    for number in 1..=MAX_LINES {
+        if rest.is_empty() {
+            break;
+        }
+        let (line, after) = split_line(rest);
+        if let Err(stop) = reader.line(rt, number, line) {
+            return Err(stop.fault(number));
+        }
+        rest = after;
+    }
+    if rest.is_empty() {
+        Ok(())
+    } else {
+        Err(CaseFault::TooLong)
+    }
+}
+
 /// Reads a case: a line for each page and each block that is not all zeros, for each page that is out, and for the entry. Files that lines name are relative to
 /// a folder, which ends with a slash, or is empty for the working folder.
 ///
@@ -570,20 +601,7 @@ pub fn read_case<R: AllocGlobal + Files>(
     let Ok(mut reader) = CaseReader::begin(rt.alloc(), folder) else {
         return Err(CaseFault::Memory);
     };
-    let mut rest = text;
-    for number in 1..=MAX_LINES {
-        if rest.is_empty() {
-            break;
-        }
-        let (line, after) = split_line(rest);
-        if let Err(stop) = reader.line(rt, number, line) {
-            return Err(stop.fault(number));
-        }
-        rest = after;
-    }
-    if !rest.is_empty() {
-        return Err(CaseFault::TooLong);
-    }
+    read_lines(rt, &mut reader, text)?;
     match reader.end() {
         Ok(Some(case)) => Ok(case),
         Ok(None) => Err(CaseFault::NoEntry),

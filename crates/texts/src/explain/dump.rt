@@ -321,15 +321,28 @@ impl Dump {
         true
     }
 
-    /// Takes the words of a line, up to one that names a file, and answers their bytes.
-    pub(crate) fn line(&mut self, alloc: Global, line: &mut Line<'_>) -> Result<Vec<u8>, Stop> {
-        let mut bytes = Vec::new(alloc);
+    /// Keeps the bytes that a line has, for a line `*` behind it.
+    fn keep(&mut self, alloc: Global, row: Row, bytes: &[u8]) -> Result<(), Stop> {
+        if !bytes.is_empty() {
+            self.row = Vec::from_slice(alloc, bytes)?;
+            self.numbers = row == Row::Numbers;
+        }
+        Ok(())
+    }
+
+    /// Takes the words of a line, up to one that names a file, and puts their bytes into an empty vector.
+    pub(crate) fn line(
+        &mut self,
+        alloc: Global,
+        line: &mut Line<'_>,
+        bytes: &mut Vec<u8>,
+    ) -> Result<(), Stop> {
         let Some(place) = line.peek() else {
-            return Ok(bytes);
+            return Ok(());
         };
         let word = line.word(place);
         if self.passes_over(word, line) {
-            return Ok(bytes);
+            return Ok(());
         }
         let mut rest = *line;
         rest.next();
@@ -340,16 +353,12 @@ impl Dump {
             }
         } else {
             *line = rest;
-            self.go_to(place, word, row, &mut bytes)?;
+            self.go_to(place, word, row, bytes)?;
         }
         let from = bytes.len();
-        self.put_words(alloc, row, line, &mut bytes)?;
-        let new = bytes.get(from..).unwrap_or(&[]);
-        if !new.is_empty() {
-            self.row = Vec::from_slice(alloc, new)?;
-            self.numbers = row == Row::Numbers;
-        }
+        self.put_words(alloc, row, line, bytes)?;
+        self.keep(alloc, row, bytes.get(from..).unwrap_or(&[]))?;
         self.filled = self.filled.saturating_add(bytes.len());
-        Ok(bytes)
+        Ok(())
     }
 }

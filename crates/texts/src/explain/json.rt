@@ -8,168 +8,189 @@ use crate::explain::list::Taken;
 use crate::explain::round::{Round, round_of};
 use crate::explain::rule::{broken_rule, put_rule};
 use crate::explain::text::{put_more, put_rest};
-use crate::objects::{hex_number, put_object};
+use crate::objects::members::{Member, Object, Value, put_members};
+use crate::objects::put_object;
 use crate::traces::{type_name, type_of};
 use controller_walk::DescriptorAt;
 use entry_codec::status_names::name_of;
 use entry_codec::{Status, SubEntry};
 use io_commands::{block_number, first_block};
-use serde::Serialize;
+use serde::{Described, Serialize, Serializer};
 use sgl_descriptor::Descriptor;
 use std::alloc::{AllocError, Global};
 
-/// A descriptor that the controller takes.
-#[derive(Drop, Serialize)]
-struct TakenObject {
-    descriptor: u32,
-    at: Option<String>,
-    #[serde(rename = "type")]
-    kind: &'static str,
-    #[serde(skip_serializing_if = "Option::is_none")]
-    address: Option<String>,
-    #[serde(skip_serializing_if = "Option::is_none")]
-    length: Option<u32>,
-    #[serde(skip_serializing_if = "Option::is_none")]
-    bytes: Option<u32>,
+/// A number of 64 bits, or that there is none.
+fn wide(number: Option<u64>) -> Value<'static> {
+    match number {
+        Some(number) => Value::Wide(number),
+        None => Value::Null,
+    }
 }
 
-/// Where a list goes round.
-#[derive(Drop, Serialize)]
-struct RoundObject {
-    again: u32,
-    left_out: usize,
+/// A descriptor that the controller takes.
+#[derive(Clone, Copy)]
+struct TakenObject<'a>(&'a Taken);
+
+/// Puts the number of a descriptor, where it stands, its type, and the fields that its type has.
+fn put_taken<S: Serializer>(
+    out: &mut S,
+    at: DescriptorAt,
+    kind: &str,
+    fields: &[Member<'_>],
+) -> Result<(), S::Error> {
+    out.begin_map(None)?;
+    put_members(
+        out,
+        &[
+            ("descriptor", Value::Number(at.number)),
+            ("at", wide(at.place)),
+            ("type", Value::Text(kind)),
+        ],
+    )?;
+    put_members(out, fields)?;
+    out.end_map()
+}
+
+impl Described for TakenObject<'_> {}
+
+impl Serialize for TakenObject<'_> {
+    fn serialize<S: Serializer>(&self, out: &mut S) -> Result<(), S::Error> {
+        let Taken { at, bytes, counted } = *self.0;
+        let counted = ("bytes", Value::Number(counted));
+        let (kind, addr, len) = match Descriptor::read(&bytes) {
+            Ok(Descriptor::DataBlock { addr, len }) => {
+                let address = ("address", Value::Wide(addr));
+                let length = ("length", Value::Number(len));
+                return put_taken(out, at, "Data Block", &[address, length, counted]);
+            }
+            Ok(Descriptor::BitBucket { len }) => {
+                let length = ("length", Value::Number(len));
+                return put_taken(out, at, "Bit Bucket", &[length, counted]);
+            }
+            Ok(Descriptor::Segment { addr, len }) => ("Segment", addr, len),
+            Ok(Descriptor::LastSegment { addr, len }) => ("Last Segment", addr, len),
+            Err(_) => return put_taken(out, at, type_name(type_of(&bytes).0), &[]),
+        };
+        let address = ("address", Value::Wide(addr));
+        let length = ("length", Value::Number(len));
+        put_taken(out, at, kind, &[address, length])
+    }
 }
 
 /// How a command ends.
-#[derive(Drop, Serialize)]
-struct EndObject {
-    accepted: bool,
-    status: String,
-    name: Option<&'static str>,
-    #[serde(skip_serializing_if = "Option::is_none")]
-    descriptor: Option<u32>,
-    #[serde(skip_serializing_if = "Option::is_none")]
-    at: Option<String>,
-    #[serde(skip_serializing_if = "Option::is_none")]
-    rule: Option<String>,
-    #[serde(skip_serializing_if = "Option::is_none")]
-    more: Option<String>,
+#[derive(Clone, Copy)]
+struct EndObject<'a> {
+    status: Status,
+    /// The descriptor that is at fault.
+    at: Option<DescriptorAt>,
+    /// The rule that is broken.
+    rule: Option<&'a str>,
+    more: Option<&'a str>,
 }
 
-/// What is wrong with what was given.
-#[derive(Drop, Serialize)]
-struct FaultObject {
-    fault: &'static str,
-    #[serde(skip_serializing_if = "Option::is_none")]
-    line: Option<u32>,
-    #[serde(skip_serializing_if = "Option::is_none")]
-    column: Option<usize>,
-    #[serde(skip_serializing_if = "Option::is_none")]
-    sentence: Option<String>,
+/// Puts which descriptor it is, and where it stands.
+fn put_at<S: Serializer>(out: &mut S, at: DescriptorAt) -> Result<(), S::Error> {
+    put_members(out, &[("descriptor", Value::Number(at.number))])?;
+    match at.place {
+        Some(place) => put_members(out, &[("at", Value::Wide(place))]),
+        None => Ok(()),
+    }
 }
 
-/// The fields of an entry that breaks a rule for them.
-#[derive(Drop, Serialize)]
-struct EntryObject {
-    opcode: u8,
-    fuse: u8,
-    psdt: u8,
-    cid: u16,
-    nsid: u32,
-    slba: String,
-    nlb: u32,
+/// Puts a text that there may be.
+fn put_text<S: Serializer>(
+    out: &mut S,
+    name: &'static str,
+    text: Option<&str>,
+) -> Result<(), S::Error> {
+    match text {
+        Some(text) => put_members(out, &[(name, Value::Text(text))]),
+        None => Ok(()),
+    }
 }
 
-/// A number of 64 bits as a hexadecimal text: a number of JSON is read as one of 53 bits.
-fn hex(alloc: Global, number: Option<u64>) -> Result<Option<String>, AllocError> {
-    Ok(match number {
-        Some(number) => Some(hex_number(alloc, number)?),
-        None => None,
-    })
+impl Described for EndObject<'_> {}
+
+impl Serialize for EndObject<'_> {
+    fn serialize<S: Serializer>(&self, out: &mut S) -> Result<(), S::Error> {
+        let name = match name_of(self.status) {
+            Some(name) => Value::Text(name),
+            None => Value::Null,
+        };
+        out.begin_map(None)?;
+        put_members(
+            out,
+            &[
+                ("accepted", Value::Truth(self.status == Status::SUCCESS)),
+                ("status", Value::Status(self.status)),
+                ("name", name),
+            ],
+        )?;
+        if let Some(at) = self.at {
+            put_at(out, at)?;
+        }
+        put_text(out, "rule", self.rule)?;
+        put_text(out, "more", self.more)?;
+        out.end_map()
+    }
 }
 
-/// The object of an entry.
-fn entry_object(alloc: Global, entry: &SubEntry) -> Result<EntryObject, AllocError> {
-    Ok(EntryObject {
-        opcode: entry.opcode,
-        fuse: entry.fuse,
-        psdt: entry.psdt,
-        cid: entry.cid,
-        nsid: entry.nsid,
-        slba: hex_number(alloc, first_block(entry))?,
-        nlb: block_number(entry).saturating_sub(1),
-    })
-}
-
-/// The object of a descriptor.
-fn taken_object(alloc: Global, taken: &Taken) -> Result<TakenObject, AllocError> {
-    let DescriptorAt { number, place } = taken.at;
-    let counted = Some(taken.counted);
-    let (kind, address, length, bytes) = match Descriptor::read(&taken.bytes) {
-        Ok(Descriptor::DataBlock { addr, len }) => ("Data Block", Some(addr), Some(len), counted),
-        Ok(Descriptor::BitBucket { len }) => ("Bit Bucket", None, Some(len), counted),
-        Ok(Descriptor::Segment { addr, len }) => ("Segment", Some(addr), Some(len), None),
-        Ok(Descriptor::LastSegment { addr, len }) => ("Last Segment", Some(addr), Some(len), None),
-        Err(_) => (type_name(type_of(&taken.bytes).0), None, None, None),
-    };
-    Ok(TakenObject {
-        descriptor: number,
-        at: hex(alloc, place)?,
-        kind,
-        address: hex(alloc, address)?,
-        length,
-        bytes,
-    })
+/// Puts the object of an entry that breaks a rule for its fields.
+fn put_entry_object(alloc: Global, out: &mut String, entry: &SubEntry) -> Result<(), AllocError> {
+    let last = block_number(entry).saturating_sub(1);
+    let object = Object(&[
+        ("opcode", Value::Byte(entry.opcode)),
+        ("fuse", Value::Byte(entry.fuse)),
+        ("psdt", Value::Byte(entry.psdt)),
+        ("cid", Value::Short(entry.cid)),
+        ("nsid", Value::Number(entry.nsid)),
+        ("slba", Value::Wide(first_block(entry))),
+        ("nlb", Value::Number(last)),
+    ]);
+    put_object(alloc, out, &object)
 }
 
 /// A text that is put, without its line feed; none where nothing is put.
-fn sentence(text: String) -> Option<String> {
-    let mut text = text;
-    if text.as_str().ends_with('\n') {
-        text.pop();
-    }
+fn sentence(text: &str) -> Option<&str> {
+    let text = text.strip_suffix('\n').unwrap_or(text);
     if text.is_empty() { None } else { Some(text) }
 }
 
-/// The object of a command's end.
-fn end_object(
-    alloc: Global,
+/// Puts the rule that a command breaks, if it breaks one, and what more there is to say.
+fn put_why(
+    rule: &mut String,
+    more: &mut String,
     case: &Case,
     explanation: &Explanation,
-) -> Result<EndObject, AllocError> {
+) -> Result<(), AllocError> {
     let status = explanation.status;
-    let mut more = String::new(alloc);
-    let (at, rule) = match explanation.fault {
+    match explanation.fault {
         Some(fault) => {
-            put_more(&mut more, &case.memory, explanation, fault)?;
-            let mut rule = String::new(alloc);
-            put_cause(&mut rule, fault.cause, explanation.taken.last())?;
-            (Some(fault.at), Some(rule))
+            put_more(more, &case.memory, explanation, fault)?;
+            put_cause(rule, fault.cause, explanation.taken.last())
         }
-        None if status == Status::SUCCESS => {
-            put_rest(&mut more, explanation)?;
-            (None, None)
-        }
-        None => {
-            let mut rule = String::new(alloc);
-            put_rule(
-                &mut rule,
-                &SubEntry::read(&case.entry),
-                &case.namespace,
-                status,
-            )?;
-            (None, Some(rule))
-        }
+        None if status == Status::SUCCESS => put_rest(more, explanation),
+        None => put_rule(rule, &SubEntry::read(&case.entry), &case.namespace, status),
+    }
+}
+
+/// Puts the object of a command's end.
+fn put_end_object(
+    alloc: Global,
+    out: &mut String,
+    case: &Case,
+    explanation: &Explanation,
+) -> Result<(), AllocError> {
+    let mut rule = String::new(alloc);
+    let mut more = String::new(alloc);
+    put_why(&mut rule, &mut more, case, explanation)?;
+    let object = EndObject {
+        status: explanation.status,
+        at: explanation.fault.map(|fault| fault.at),
+        rule: sentence(rule.as_str()),
+        more: sentence(more.as_str()),
     };
-    Ok(EndObject {
-        accepted: status == Status::SUCCESS,
-        status: format!(in alloc; "{status}")?,
-        name: name_of(status),
-        descriptor: at.map(|at| at.number),
-        at: hex(alloc, at.and_then(|at| at.place))?,
-        rule,
-        more: sentence(more),
-    })
+    put_object(alloc, out, &object)
 }
 
 /// Puts what [`crate::explain::put_explanation`] puts as JSON: an object for each descriptor that was taken, and one for the command's end. Numbers of 64 bits are hexadecimal texts;
@@ -186,7 +207,7 @@ pub fn put_objects(
 ) -> Result<(), AllocError> {
     let entry = SubEntry::read(&case.entry);
     if broken_rule(&entry, &case.namespace).is_some() {
-        put_object(alloc, out, &entry_object(alloc, &entry)?)?;
+        put_entry_object(alloc, out, &entry)?;
     }
     let round = round_of(explanation);
     let all = explanation.taken.as_slice();
@@ -195,7 +216,7 @@ pub fn put_objects(
         None => all.len(),
     };
     for taken in all.iter().take(shown) {
-        put_object(alloc, out, &taken_object(alloc, taken)?)?;
+        put_object(alloc, out, &TakenObject(taken))?;
     }
     if let Some(
         Round {
@@ -205,27 +226,47 @@ pub fn put_objects(
         },
     ) = round
     {
-        put_object(alloc, out, &RoundObject { again, left_out })?;
+        let object = Object(&[
+            ("again", Value::Number(again)),
+            ("left_out", Value::Count(left_out)),
+        ]);
+        put_object(alloc, out, &object)?;
     }
-    put_object(alloc, out, &end_object(alloc, case, explanation)?)
+    put_end_object(alloc, out, case, explanation)
 }
 
-/// The object of a fault without a place.
-fn unplaced(
+/// Puts the object of a fault without a place.
+fn put_unplaced(
     alloc: Global,
+    out: &mut String,
     name: &'static str,
     fault: CaseFault,
-) -> Result<FaultObject, AllocError> {
-    let sentence = match fault.sentence() {
-        Some(sentence) => Some(String::from_str(alloc, sentence)?),
-        None => None,
-    };
-    Ok(FaultObject {
-        fault: name,
-        line: None,
-        column: None,
-        sentence,
-    })
+) -> Result<(), AllocError> {
+    let fault_member = ("fault", Value::Text(name));
+    match fault.sentence() {
+        Some(sentence) => {
+            let sentence = ("sentence", Value::Text(sentence));
+            put_object(alloc, out, &Object(&[fault_member, sentence]))
+        }
+        None => put_object(alloc, out, &Object(&[fault_member])),
+    }
+}
+
+/// Puts the object of a fault at a line and a column.
+fn put_placed(
+    alloc: Global,
+    out: &mut String,
+    name: &'static str,
+    (line, column): (u32, usize),
+    sentence: &str,
+) -> Result<(), AllocError> {
+    let object = Object(&[
+        ("fault", Value::Text(name)),
+        ("line", Value::Number(line)),
+        ("column", Value::Count(column)),
+        ("sentence", Value::Text(sentence)),
+    ]);
+    put_object(alloc, out, &object)
 }
 
 /// Puts the object of what is wrong with lines, or with the words of an entry: its name, where it stands, line and column from 1, and a sentence.
@@ -238,21 +279,25 @@ pub fn put_fault_object(
     out: &mut String,
     fault: CaseFault,
 ) -> Result<(), AllocError> {
-    let object = match fault {
+    match fault {
         CaseFault::Line {
             number,
             start,
             end: _,
             wrong,
-        } => FaultObject {
-            fault: wrong.name(),
-            line: Some(number),
-            column: Some(start.saturating_add(1)),
-            sentence: Some(format!(in alloc; "{wrong}")?),
-        },
-        CaseFault::TooLong => unplaced(alloc, "TooLong", fault)?,
-        CaseFault::NoEntry => unplaced(alloc, "NoEntry", fault)?,
-        CaseFault::Memory => unplaced(alloc, "Memory", fault)?,
-    };
-    put_object(alloc, out, &object)
+        } => {
+            let column = start.saturating_add(1);
+            let sentence = format!(in alloc; "{wrong}")?;
+            put_placed(
+                alloc,
+                out,
+                wrong.name(),
+                (number, column),
+                sentence.as_str(),
+            )
+        }
+        CaseFault::TooLong => put_unplaced(alloc, out, "TooLong", fault),
+        CaseFault::NoEntry => put_unplaced(alloc, out, "NoEntry", fault),
+        CaseFault::Memory => put_unplaced(alloc, out, "Memory", fault),
+    }
 }

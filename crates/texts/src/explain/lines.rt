@@ -27,6 +27,15 @@ impl Stop {
         }
     }
 
+    /// Why a file is not read that is named at a place, where this is wrong with its line of a number.
+    pub(crate) fn in_file(self, place: Place, number: u32) -> Stop {
+        match self {
+            Stop::Memory => self,
+            Stop::At(_, Wrong::TooManyBytes(most)) => Stop::At(place, Wrong::TooManyBytes(most)),
+            Stop::At(..) | Stop::Before(..) => Stop::At(place, Wrong::NoDump(number)),
+        }
+    }
+
     /// The fault that it is of the line of this number, or of an earlier one.
     pub(crate) fn fault(self, line: u32) -> CaseFault {
         let (number, Place { start, end }, wrong) = match self {

@@ -29,7 +29,7 @@ pub struct Taken {
 }
 
 /// A list whose walk is over.
-#[derive(Debug, Drop)]
+#[derive(Drop)]
 pub(crate) struct Walked {
     /// The descriptors that were taken, in order.
     pub(crate) taken: Vec<Taken>,

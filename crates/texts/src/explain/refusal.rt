@@ -16,7 +16,7 @@ use io_commands::Kind;
 use std::alloc::{AllocError, Global};
 
 /// What is refused.
-#[derive(Clone, Copy, Debug, PartialEq, Eq)]
+#[derive(Clone, Copy)]
 pub(crate) enum Refusal {
     /// The descriptor in SGL1.
     First(WalkFault),

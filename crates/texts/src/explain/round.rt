@@ -5,7 +5,7 @@ use crate::explain::list::Taken;
 use controller_walk::FaultCause;
 
 /// Where a list goes round.
-#[derive(Clone, Copy, Debug)]
+#[derive(Clone, Copy)]
 pub(crate) struct Round {
     /// How many descriptors were taken before one came again.
     pub(crate) len: usize,

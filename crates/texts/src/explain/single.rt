@@ -1,10 +1,10 @@
 //! Single entries and descriptors.
 
 use crate::explain::answer::Layout;
-use crate::explain::dump::{Dump, FILE};
+use crate::explain::dump::Dump;
 use crate::explain::entry::{put_admin, put_entry, put_whole_completion};
 use crate::explain::fault::{CaseFault, Wrong};
-use crate::explain::files::file_bytes;
+use crate::explain::files::next_bytes;
 use crate::explain::lines::{Line, Stop, put_in};
 use crate::explain::refusal::{Refusal, descriptor_fault, entry_refusal, put_first_rule};
 use crate::explain::single_json::{
@@ -71,15 +71,8 @@ fn put_line<R: AllocGlobal + Files>(
         let Some(place) = line.peek() else {
             break;
         };
-        let word = line.word(place);
-        let bytes = if matches!(word, [FILE, ..]) {
-            line.next();
-            let bytes = file_bytes(rt, "", place, word, dump.room())?;
-            dump.add(bytes.len());
-            bytes
-        } else {
-            dump.line(rt.alloc(), &mut line)?
-        };
+        let mut bytes = Vec::new(rt.alloc());
+        next_bytes(rt, "", dump, &mut line, place, &mut bytes)?;
         let from = dump.filled().saturating_sub(bytes.len());
         put_in(into, from, bytes.as_slice());
     }
@@ -148,32 +141,39 @@ fn put_sqe(out: &mut String, alloc: Global, bytes: &[u8; 64]) -> Result<(), Allo
     }
 }
 
-/// What words are, by their fields.
-fn text_of<R: AllocGlobal + Files>(rt: &R, what: Shown, words: &[u8]) -> Result<String, Stop> {
-    let alloc = rt.alloc();
-    let mut out = String::new(alloc);
+/// Puts what words are, by their fields.
+fn put_text<R: AllocGlobal + Files>(
+    rt: &R,
+    out: &mut String,
+    what: Shown,
+    words: &[u8],
+) -> Result<(), Stop> {
     match what {
-        Shown::Submission => put_sqe(&mut out, alloc, &array(rt, words)?)?,
-        Shown::Admin => put_admin(&mut out, &SubEntry::read(&array(rt, words)?))?,
-        Shown::Completion => put_whole_completion(&mut out, &array(rt, words)?)?,
-        Shown::Descriptor => put_sgl(&mut out, alloc, &array(rt, words)?)?,
-        Shown::Status => put_status(&mut out, words)?,
+        Shown::Submission => put_sqe(out, rt.alloc(), &array(rt, words)?)?,
+        Shown::Admin => put_admin(out, &SubEntry::read(&array(rt, words)?))?,
+        Shown::Completion => put_whole_completion(out, &array(rt, words)?)?,
+        Shown::Descriptor => put_sgl(out, rt.alloc(), &array(rt, words)?)?,
+        Shown::Status => put_status(out, words)?,
     }
-    Ok(out)
+    Ok(())
 }
 
-/// What words are, by their fields, as an object.
-fn object_of<R: AllocGlobal + Files>(rt: &R, what: Shown, words: &[u8]) -> Result<String, Stop> {
+/// Puts what words are, by their fields, as an object.
+fn put_objects<R: AllocGlobal + Files>(
+    rt: &R,
+    out: &mut String,
+    what: Shown,
+    words: &[u8],
+) -> Result<(), Stop> {
     let alloc = rt.alloc();
-    let mut out = String::new(alloc);
     match what {
-        Shown::Submission => put_submission_object(alloc, &mut out, &array(rt, words)?)?,
-        Shown::Admin => put_admin_object(alloc, &mut out, &SubEntry::read(&array(rt, words)?))?,
-        Shown::Completion => put_completion_object(alloc, &mut out, &array(rt, words)?)?,
-        Shown::Descriptor => put_descriptor_object(alloc, &mut out, &array(rt, words)?)?,
-        Shown::Status => put_status_object(alloc, &mut out, status_field(words)?)?,
+        Shown::Submission => put_submission_object(alloc, out, &array(rt, words)?)?,
+        Shown::Admin => put_admin_object(alloc, out, &SubEntry::read(&array(rt, words)?))?,
+        Shown::Completion => put_completion_object(alloc, out, &array(rt, words)?)?,
+        Shown::Descriptor => put_descriptor_object(alloc, out, &array(rt, words)?)?,
+        Shown::Status => put_status_object(alloc, out, status_field(words)?)?,
     }
-    Ok(out)
+    Ok(())
 }
 
 /// Decodes an entry, a descriptor or a status that is typed, or stands in a file: each field by its name, and what of it the controller refuses whatever
@@ -188,12 +188,13 @@ pub fn show<R: AllocGlobal + Files>(
     words: &[u8],
     layout: Layout,
 ) -> Result<String, CaseFault> {
-    let text = match layout {
-        Layout::Lines => text_of(rt, what, words),
-        Layout::Objects => object_of(rt, what, words),
+    let mut text = String::new(rt.alloc());
+    let put = match layout {
+        Layout::Lines => put_text(rt, &mut text, what, words),
+        Layout::Objects => put_objects(rt, &mut text, what, words),
     };
-    match text {
-        Ok(text) => Ok(text),
+    match put {
+        Ok(()) => Ok(text),
         Err(stop) => Err(stop.fault(1)),
     }
 }

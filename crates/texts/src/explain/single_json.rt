@@ -3,181 +3,263 @@
 use crate::explain::entry::{admin_name, field_of, halves, retry_of};
 use crate::explain::refusal::{Refusal, descriptor_fault, entry_refusal, put_first_rule};
 use crate::explain::status::{any_name_of, status_of};
-use crate::objects::{hex_number, put_object};
+use crate::objects::members::{Member, Object, Value, put_members, put_nested};
+use crate::objects::put_object;
 use crate::traces::{KEYED, TRANSPORT, opcode_name, subtype_name, type_name, type_of};
 use entry_codec::{ComEntry, Status, SubEntry, admin_opcode};
 use io_commands::{block_number, first_block, kind_of};
-use serde::Serialize;
+use serde::{Described, Serialize, Serializer};
 use std::alloc::{AllocError, Global};
 
 /// The type of a Bit Bucket, which has no address.
 const BUCKET: u8 = 1;
 
-/// The fields of a descriptor that its type has.
-#[derive(Drop, Serialize)]
-struct DescriptorFields {
-    #[serde(rename = "type")]
-    kind: &'static str,
-    type_code: u8,
-    subtype: &'static str,
-    subtype_code: u8,
-    address: Option<String>,
-    length: u32,
-    key: Option<u32>,
-}
-
-/// What is refused, and by which rule.
-#[derive(Drop, Serialize)]
-struct RefusedObject {
-    what: &'static str,
-    status: String,
-    name: Option<&'static str>,
-    rule: String,
-}
-
 /// A descriptor, and whether it is refused as SGL1 of an entry.
-#[derive(Drop, Serialize)]
-struct DescriptorObject {
-    descriptor: DescriptorFields,
-    refused: Option<RefusedObject>,
+#[derive(Clone, Copy)]
+struct DescriptorObject<'b, 'r> {
+    bytes: &'b [u8; 16],
+    refused: Option<Object<'r>>,
 }
 
-/// The words of an entry that a command may use.
-#[derive(Drop, Serialize)]
-struct WordsObject {
-    cdw10: u32,
-    cdw11: u32,
-    cdw12: u32,
-    cdw13: u32,
-    cdw14: u32,
-    cdw15: u32,
-}
+impl Described for DescriptorObject<'_, '_> {}
 
-/// The blocks of an entry.
-#[derive(Drop, Serialize)]
-struct BlocksObject {
-    slba: String,
-    nlb: u32,
+impl Serialize for DescriptorObject<'_, '_> {
+    fn serialize<S: Serializer>(&self, out: &mut S) -> Result<(), S::Error> {
+        out.begin_map(None)?;
+        put_descriptor(out, "descriptor", self.bytes)?;
+        put_nested(out, "refused", self.refused)?;
+        out.end_map()
+    }
 }
 
 /// An entry of an I/O queue, and what of it is refused.
-#[derive(Drop, Serialize)]
-struct SubmissionObject {
-    opcode: u8,
-    command: &'static str,
-    fuse: u8,
-    psdt: u8,
-    cid: u16,
-    nsid: u32,
-    mptr: String,
-    sgl1: DescriptorFields,
-    words: WordsObject,
-    blocks: Option<BlocksObject>,
-    refused: Option<RefusedObject>,
+#[derive(Clone, Copy)]
+struct SubmissionObject<'e, 'r> {
+    entry: &'e SubEntry,
+    refused: Option<Object<'r>>,
 }
 
-/// The fields of CDW10 and CDW11 that an opcode of the admin queue has.
-#[derive(Drop, Serialize)]
-struct AdminFields {
-    #[serde(skip_serializing_if = "Option::is_none")]
-    qid: Option<u32>,
-    #[serde(skip_serializing_if = "Option::is_none")]
-    qsize: Option<u32>,
-    #[serde(skip_serializing_if = "Option::is_none")]
-    pc: Option<u32>,
-    #[serde(skip_serializing_if = "Option::is_none")]
-    ien: Option<u32>,
-    #[serde(skip_serializing_if = "Option::is_none")]
-    iv: Option<u32>,
-    #[serde(skip_serializing_if = "Option::is_none")]
-    qprio: Option<u32>,
-    #[serde(skip_serializing_if = "Option::is_none")]
-    cqid: Option<u32>,
-    #[serde(skip_serializing_if = "Option::is_none")]
-    sqid: Option<u32>,
-    #[serde(skip_serializing_if = "Option::is_none")]
-    cid: Option<u32>,
+impl Described for SubmissionObject<'_, '_> {}
+
+impl Serialize for SubmissionObject<'_, '_> {
+    fn serialize<S: Serializer>(&self, out: &mut S) -> Result<(), S::Error> {
+        let entry = self.entry;
+        out.begin_map(None)?;
+        put_front(out, opcode_name(1, entry.opcode), entry)?;
+        put_descriptor(out, "sgl1", &entry.sgl1)?;
+        put_words(out, entry)?;
+        put_blocks(out, entry)?;
+        put_nested(out, "refused", self.refused)?;
+        out.end_map()
+    }
 }
 
 /// An entry of the admin queue.
-#[derive(Drop, Serialize)]
-struct AdminObject {
-    opcode: u8,
-    command: &'static str,
-    fuse: u8,
-    psdt: u8,
-    cid: u16,
-    nsid: u32,
-    mptr: String,
-    prp1: String,
-    prp2: String,
-    words: WordsObject,
-    fields: Option<AdminFields>,
+#[derive(Clone, Copy)]
+struct AdminObject<'a> {
+    entry: &'a SubEntry,
 }
 
-/// A status, and the bits above it.
-#[derive(Drop, Serialize)]
-struct StatusObject {
-    status: String,
-    name: Option<&'static str>,
-    dnr: u16,
-    more: u16,
-    crd: u16,
+impl Described for AdminObject<'_> {}
+
+impl Serialize for AdminObject<'_> {
+    fn serialize<S: Serializer>(&self, out: &mut S) -> Result<(), S::Error> {
+        let entry = self.entry;
+        let [a, b, c, d, e, f, g, h, i, j, k, l, m, n, o, p] = entry.sgl1;
+        let first = u64::from_le_bytes([a, b, c, d, e, f, g, h]);
+        let second = u64::from_le_bytes([i, j, k, l, m, n, o, p]);
+        out.begin_map(None)?;
+        put_front(out, admin_name(entry.opcode), entry)?;
+        put_members(
+            out,
+            &[("prp1", Value::Wide(first)), ("prp2", Value::Wide(second))],
+        )?;
+        put_words(out, entry)?;
+        put_fields(out, entry)?;
+        out.end_map()
+    }
 }
 
-/// A completion entry.
-#[derive(Drop, Serialize)]
+/// A completion entry, and the field that its status stands in.
+#[derive(Clone, Copy)]
 struct CompletionObject {
-    dw0: u32,
-    sqhd: u16,
-    sqid: u16,
-    cid: u16,
-    phase: u8,
-    status: StatusObject,
+    entry: ComEntry,
+    field: u16,
+}
+
+impl Described for CompletionObject {}
+
+impl Serialize for CompletionObject {
+    fn serialize<S: Serializer>(&self, out: &mut S) -> Result<(), S::Error> {
+        let ComEntry {
+            dw0,
+            sqhd,
+            sqid,
+            cid,
+            phase,
+            status,
+        } = self.entry;
+        let status = status_members(status, self.field);
+        out.begin_map(None)?;
+        put_members(
+            out,
+            &[
+                ("dw0", Value::Number(dw0)),
+                ("sqhd", Value::Short(sqhd)),
+                ("sqid", Value::Short(sqid)),
+                ("cid", Value::Short(cid)),
+                ("phase", Value::Byte(u8::from(phase))),
+            ],
+        )?;
+        put_nested(out, "status", Some(Object(&status)))?;
+        out.end_map()
+    }
+}
+
+/// Puts the fields that the entries of all queues have, the name of the command behind the opcode.
+fn put_front<S: Serializer>(
+    out: &mut S,
+    command: &'static str,
+    entry: &SubEntry,
+) -> Result<(), S::Error> {
+    put_members(
+        out,
+        &[
+            ("opcode", Value::Byte(entry.opcode)),
+            ("command", Value::Text(command)),
+            ("fuse", Value::Byte(entry.fuse)),
+            ("psdt", Value::Byte(entry.psdt)),
+            ("cid", Value::Short(entry.cid)),
+            ("nsid", Value::Number(entry.nsid)),
+            ("mptr", Value::Wide(entry.mptr)),
+        ],
+    )
+}
+
+/// Puts a descriptor, by the fields of its type.
+fn put_descriptor<S: Serializer>(
+    out: &mut S,
+    name: &'static str,
+    bytes: &[u8; 16],
+) -> Result<(), S::Error> {
+    let descriptor = descriptor_members(bytes);
+    put_nested(out, name, Some(Object(&descriptor)))
+}
+
+/// Puts the words of an entry that a command may use.
+fn put_words<S: Serializer>(out: &mut S, entry: &SubEntry) -> Result<(), S::Error> {
+    let words = [
+        ("cdw10", Value::Number(entry.cdw10)),
+        ("cdw11", Value::Number(entry.cdw11)),
+        ("cdw12", Value::Number(entry.cdw12)),
+        ("cdw13", Value::Number(entry.cdw13)),
+        ("cdw14", Value::Number(entry.cdw14)),
+        ("cdw15", Value::Number(entry.cdw15)),
+    ];
+    put_nested(out, "words", Some(Object(&words)))
+}
+
+/// Puts the blocks of an entry, if its opcode has some.
+fn put_blocks<S: Serializer>(out: &mut S, entry: &SubEntry) -> Result<(), S::Error> {
+    if kind_of(entry.opcode).is_none() {
+        return put_nested(out, "blocks", None);
+    }
+    let last = block_number(entry).saturating_sub(1);
+    let blocks = [
+        ("slba", Value::Wide(first_block(entry))),
+        ("nlb", Value::Number(last)),
+    ];
+    put_nested(out, "blocks", Some(Object(&blocks)))
+}
+
+/// Puts the fields of CDW10 and CDW11 that an opcode of the admin queue has.
+fn put_fields<S: Serializer>(out: &mut S, entry: &SubEntry) -> Result<(), S::Error> {
+    let (low, high) = halves(entry.cdw10);
+    let (flags, other) = halves(entry.cdw11);
+    let qid = ("qid", Value::Number(low));
+    let qsize = ("qsize", Value::Number(high));
+    let contiguous = ("pc", Value::Number(flags % 2));
+    match entry.opcode {
+        admin_opcode::CREATE_IO_CQ => {
+            let enabled = ("ien", Value::Number(flags / 2 % 2));
+            let vector = ("iv", Value::Number(other));
+            let fields = [qid, qsize, contiguous, enabled, vector];
+            put_nested(out, "fields", Some(Object(&fields)))
+        }
+        admin_opcode::CREATE_IO_SQ => {
+            let priority = ("qprio", Value::Number(flags / 2 % 4));
+            let completions = ("cqid", Value::Number(other));
+            let fields = [qid, qsize, contiguous, priority, completions];
+            put_nested(out, "fields", Some(Object(&fields)))
+        }
+        admin_opcode::DELETE_IO_SQ | admin_opcode::DELETE_IO_CQ => {
+            put_nested(out, "fields", Some(Object(&[qid])))
+        }
+        admin_opcode::ABORT => {
+            let sqid = ("sqid", Value::Number(low));
+            let cid = ("cid", Value::Number(high));
+            put_nested(out, "fields", Some(Object(&[sqid, cid])))
+        }
+        _ => put_nested(out, "fields", None),
+    }
 }
 
 /// The fields of a descriptor, by its type.
-fn descriptor_fields(alloc: Global, bytes: &[u8; 16]) -> Result<DescriptorFields, AllocError> {
+fn descriptor_members(bytes: &[u8; 16]) -> [Member<'static>; 7] {
     let [a, b, c, d, e, f, g, h, i, j, k, l, m, n, o, _] = *bytes;
     let (kind, subtype) = type_of(bytes);
-    let address = u64::from_le_bytes([a, b, c, d, e, f, g, h]);
+    let address = Value::Wide(u64::from_le_bytes([a, b, c, d, e, f, g, h]));
     let whole = u32::from_le_bytes([i, j, k, l]);
     let (address, length, key) = match kind {
-        BUCKET | TRANSPORT => (None, whole, None),
-        KEYED => (
-            Some(hex_number(alloc, address)?),
-            whole % 0x100_0000,
-            Some(u32::from_le_bytes([l, m, n, o])),
-        ),
-        _ => (Some(hex_number(alloc, address)?), whole, None),
+        BUCKET | TRANSPORT => (Value::Null, whole, Value::Null),
+        KEYED => {
+            let key = u32::from_le_bytes([l, m, n, o]);
+            (address, whole % 0x100_0000, Value::Number(key))
+        }
+        _ => (address, whole, Value::Null),
     };
-    Ok(DescriptorFields {
-        kind: type_name(kind),
-        type_code: kind,
-        subtype: subtype_name(subtype),
-        subtype_code: subtype,
-        address,
-        length,
-        key,
-    })
+    [
+        ("type", Value::Text(type_name(kind))),
+        ("type_code", Value::Byte(kind)),
+        ("subtype", Value::Text(subtype_name(subtype))),
+        ("subtype_code", Value::Byte(subtype)),
+        ("address", address),
+        ("length", Value::Number(length)),
+        ("key", key),
+    ]
 }
 
-/// What is refused, with the rule that is broken.
-fn refused_object(
-    alloc: Global,
-    refusal: Refusal,
-    rule: String,
-) -> Result<RefusedObject, AllocError> {
+/// The name of a status, or that it has none.
+fn name_value(status: Status) -> Value<'static> {
+    match any_name_of(status) {
+        Some(name) => Value::Text(name),
+        None => Value::Null,
+    }
+}
+
+/// What is refused, and the rule that is broken.
+fn refused_members<'a>(refusal: Refusal, rule: &'a str) -> [Member<'a>; 4] {
     let status = refusal.status();
-    Ok(RefusedObject {
-        what: match refusal {
-            Refusal::First(_) => "sgl1",
-            Refusal::Field(_) => "entry",
-        },
-        status: format!(in alloc; "{status}")?,
-        name: any_name_of(status),
-        rule,
-    })
+    let what = match refusal {
+        Refusal::First(_) => "sgl1",
+        Refusal::Field(_) => "entry",
+    };
+    [
+        ("what", Value::Text(what)),
+        ("status", Value::Status(status)),
+        ("name", name_value(status)),
+        ("rule", Value::Text(rule)),
+    ]
+}
+
+/// Puts the object of a descriptor, of which this is refused.
+fn put_whole_descriptor(
+    alloc: Global,
+    out: &mut String,
+    bytes: &[u8; 16],
+    refused: Option<Object<'_>>,
+) -> Result<(), AllocError> {
+    put_object(alloc, out, &DescriptorObject { bytes, refused })
 }
 
 /// Puts the object of a descriptor.
@@ -186,46 +268,23 @@ pub(crate) fn put_descriptor_object(
     out: &mut String,
     bytes: &[u8; 16],
 ) -> Result<(), AllocError> {
-    let refused = match descriptor_fault(alloc, bytes)? {
-        Some(fault) => {
-            let mut rule = String::new(alloc);
-            put_first_rule(&mut rule, bytes, fault)?;
-            Some(refused_object(alloc, Refusal::First(fault), rule)?)
-        }
-        None => None,
+    let Some(fault) = descriptor_fault(alloc, bytes)? else {
+        return put_whole_descriptor(alloc, out, bytes, None);
     };
-    let descriptor = descriptor_fields(alloc, bytes)?;
-    put_object(
-        alloc,
-        out,
-        &DescriptorObject {
-            descriptor,
-            refused,
-        },
-    )
+    let mut rule = String::new(alloc);
+    put_first_rule(&mut rule, bytes, fault)?;
+    let refused = refused_members(Refusal::First(fault), rule.as_str());
+    put_whole_descriptor(alloc, out, bytes, Some(Object(&refused)))
 }
 
-/// The words of an entry.
-fn words_of(entry: &SubEntry) -> WordsObject {
-    WordsObject {
-        cdw10: entry.cdw10,
-        cdw11: entry.cdw11,
-        cdw12: entry.cdw12,
-        cdw13: entry.cdw13,
-        cdw14: entry.cdw14,
-        cdw15: entry.cdw15,
-    }
-}
-
-/// The blocks of an entry whose opcode has some.
-fn blocks_of(alloc: Global, entry: &SubEntry) -> Result<Option<BlocksObject>, AllocError> {
-    if kind_of(entry.opcode).is_none() {
-        return Ok(None);
-    }
-    Ok(Some(BlocksObject {
-        slba: hex_number(alloc, first_block(entry))?,
-        nlb: block_number(entry).saturating_sub(1),
-    }))
+/// Puts the object of an entry of an I/O queue, of which this is refused.
+fn put_whole_submission(
+    alloc: Global,
+    out: &mut String,
+    entry: &SubEntry,
+    refused: Option<Object<'_>>,
+) -> Result<(), AllocError> {
+    put_object(alloc, out, &SubmissionObject { entry, refused })
 }
 
 /// Puts the object of an entry of an I/O queue.
@@ -235,73 +294,13 @@ pub(crate) fn put_submission_object(
     bytes: &[u8; 64],
 ) -> Result<(), AllocError> {
     let entry = SubEntry::read(bytes);
-    let refused = match entry_refusal(alloc, &entry)? {
-        Some(refusal) => {
-            let mut rule = String::new(alloc);
-            refusal.put_rule(alloc, &mut rule, &entry)?;
-            Some(refused_object(alloc, refusal, rule)?)
-        }
-        None => None,
+    let Some(refusal) = entry_refusal(alloc, &entry)? else {
+        return put_whole_submission(alloc, out, &entry, None);
     };
-    let object = SubmissionObject {
-        opcode: entry.opcode,
-        command: opcode_name(1, entry.opcode),
-        fuse: entry.fuse,
-        psdt: entry.psdt,
-        cid: entry.cid,
-        nsid: entry.nsid,
-        mptr: hex_number(alloc, entry.mptr)?,
-        sgl1: descriptor_fields(alloc, &entry.sgl1)?,
-        words: words_of(&entry),
-        blocks: blocks_of(alloc, &entry)?,
-        refused,
-    };
-    put_object(alloc, out, &object)
-}
-
-/// The fields of CDW10 and CDW11 that an opcode of the admin queue has.
-fn admin_fields(entry: &SubEntry) -> Option<AdminFields> {
-    let (low, high) = halves(entry.cdw10);
-    let (flags, other) = halves(entry.cdw11);
-    let none = AdminFields {
-        qid: None,
-        qsize: None,
-        pc: None,
-        ien: None,
-        iv: None,
-        qprio: None,
-        cqid: None,
-        sqid: None,
-        cid: None,
-    };
-    match entry.opcode {
-        admin_opcode::CREATE_IO_CQ => Some(AdminFields {
-            qid: Some(low),
-            qsize: Some(high),
-            pc: Some(flags % 2),
-            ien: Some(flags / 2 % 2),
-            iv: Some(other),
-            ..none
-        }),
-        admin_opcode::CREATE_IO_SQ => Some(AdminFields {
-            qid: Some(low),
-            qsize: Some(high),
-            pc: Some(flags % 2),
-            qprio: Some(flags / 2 % 4),
-            cqid: Some(other),
-            ..none
-        }),
-        admin_opcode::DELETE_IO_SQ | admin_opcode::DELETE_IO_CQ => Some(AdminFields {
-            qid: Some(low),
-            ..none
-        }),
-        admin_opcode::ABORT => Some(AdminFields {
-            sqid: Some(low),
-            cid: Some(high),
-            ..none
-        }),
-        _ => None,
-    }
+    let mut rule = String::new(alloc);
+    refusal.put_rule(alloc, &mut rule, &entry)?;
+    let refused = refused_members(refusal, rule.as_str());
+    put_whole_submission(alloc, out, &entry, Some(Object(&refused)))
 }
 
 /// Puts the object of an entry of the admin queue.
@@ -310,35 +309,19 @@ pub(crate) fn put_admin_object(
     out: &mut String,
     entry: &SubEntry,
 ) -> Result<(), AllocError> {
-    let [a, b, c, d, e, f, g, h, i, j, k, l, m, n, o, p] = entry.sgl1;
-    let first = u64::from_le_bytes([a, b, c, d, e, f, g, h]);
-    let second = u64::from_le_bytes([i, j, k, l, m, n, o, p]);
-    let object = AdminObject {
-        opcode: entry.opcode,
-        command: admin_name(entry.opcode),
-        fuse: entry.fuse,
-        psdt: entry.psdt,
-        cid: entry.cid,
-        nsid: entry.nsid,
-        mptr: hex_number(alloc, entry.mptr)?,
-        prp1: hex_number(alloc, first)?,
-        prp2: hex_number(alloc, second)?,
-        words: words_of(entry),
-        fields: admin_fields(entry),
-    };
-    put_object(alloc, out, &object)
+    put_object(alloc, out, &AdminObject { entry })
 }
 
-/// The object of a status, by its name, and the bits of the field above it.
-fn status_object(alloc: Global, status: Status, field: u16) -> Result<StatusObject, AllocError> {
+/// A status by its name, and the bits of the field above it.
+fn status_members(status: Status, field: u16) -> [Member<'static>; 5] {
     let (dnr, more, crd) = retry_of(field);
-    Ok(StatusObject {
-        status: format!(in alloc; "{status}")?,
-        name: any_name_of(status),
-        dnr,
-        more,
-        crd,
-    })
+    [
+        ("status", Value::Status(status)),
+        ("name", name_value(status)),
+        ("dnr", Value::Short(dnr)),
+        ("more", Value::Short(more)),
+        ("crd", Value::Short(crd)),
+    ]
 }
 
 /// Puts the object of a completion entry.
@@ -347,21 +330,9 @@ pub(crate) fn put_completion_object(
     out: &mut String,
     bytes: &[u8; 16],
 ) -> Result<(), AllocError> {
-    let ComEntry {
-        dw0,
-        sqhd,
-        sqid,
-        cid,
-        phase,
-        status,
-    } = ComEntry::read(bytes);
     let object = CompletionObject {
-        dw0,
-        sqhd,
-        sqid,
-        cid,
-        phase: u8::from(phase),
-        status: status_object(alloc, status, field_of(bytes))?,
+        entry: ComEntry::read(bytes),
+        field: field_of(bytes),
     };
     put_object(alloc, out, &object)
 }
@@ -372,5 +343,6 @@ pub(crate) fn put_status_object(
     out: &mut String,
     field: u16,
 ) -> Result<(), AllocError> {
-    put_object(alloc, out, &status_object(alloc, status_of(field), field)?)
+    let status = status_members(status_of(field), field);
+    put_object(alloc, out, &Object(&status))
 }

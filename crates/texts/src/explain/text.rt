@@ -230,13 +230,8 @@ pub fn put_explanation(
     }
 }
 
-/// What more is told of a fault: the line, a caret under the word, and a sentence.
-///
-/// # Errors
-///
-/// Where memory is refused.
-pub fn fault_lines(alloc: Global, text: &[u8], fault: CaseFault) -> Result<String, AllocError> {
-    let mut out = String::new(alloc);
+/// Puts what more is told of a fault.
+fn put_fault(out: &mut String, text: &[u8], fault: CaseFault) -> Result<(), AllocError> {
     if let CaseFault::Line {
         number,
         start,
@@ -245,11 +240,22 @@ pub fn fault_lines(alloc: Global, text: &[u8], fault: CaseFault) -> Result<Strin
     } = fault
     {
         let line = line_at(text, number).unwrap_or(&[]);
-        put_line(&mut out, line, start, end)?;
+        put_line(out, line, start, end)?;
         write!(out, "{wrong}\n")?;
     }
-    if let Some(sentence) = fault.sentence() {
-        write!(out, "{sentence}\n")?;
+    match fault.sentence() {
+        Some(sentence) => write!(out, "{sentence}\n"),
+        None => Ok(()),
     }
+}
+
+/// What more is told of a fault: the line, a caret under the word, and a sentence.
+///
+/// # Errors
+///
+/// Where memory is refused.
+pub fn fault_lines(alloc: Global, text: &[u8], fault: CaseFault) -> Result<String, AllocError> {
+    let mut out = String::new(alloc);
+    put_fault(&mut out, text, fault)?;
     Ok(out)
 }

@@ -82,6 +82,27 @@ fn about(verb: Verb) -> &'static str {
     }
 }
 
+/// Puts a verb with its form, and what its line does.
+fn put_verb(out: &mut String, alloc: Global, verb: Verb) -> Result<(), AllocError> {
+    let form = form_text(alloc, verb)?;
+    let (form, about) = (form.as_str(), about(verb));
+    write!(out, "  {form:<35}  {about}\n")
+}
+
+/// Puts all that a script may say.
+fn put_grammar(out: &mut String, alloc: Global) -> Result<(), AllocError> {
+    out.push_str(BEGINNING)?;
+    for verb in VERBS {
+        put_verb(out, alloc, verb)?;
+    }
+    out.push_str(END)?;
+    for (status, _) in NAMES {
+        let named = Named(status);
+        write!(out, "  {named}\n")?;
+    }
+    out.push_str(LAST)
+}
+
 /// All that a script may say: each verb of the parser's table, with its form, and then the line of a job, what the words
 /// are, and the names of statuses.
 ///
@@ -89,18 +110,7 @@ fn about(verb: Verb) -> &'static str {
 ///
 /// Where memory is refused.
 pub fn grammar_text(alloc: Global) -> Result<String, AllocError> {
-    let mut out = String::from_str(alloc, BEGINNING)?;
-    for verb in VERBS {
-        let form = form_text(alloc, verb)?;
-        let form = form.as_str();
-        let about = about(verb);
-        write!(out, "  {form:<35}  {about}\n")?;
-    }
-    out.push_str(END)?;
-    for (status, _) in NAMES {
-        let named = Named(status);
-        write!(out, "  {named}\n")?;
-    }
-    out.push_str(LAST)?;
+    let mut out = String::new(alloc);
+    put_grammar(&mut out, alloc)?;
     Ok(out)
 }

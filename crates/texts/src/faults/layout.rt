@@ -80,6 +80,28 @@ pub fn put_line(out: &mut String, line: &[u8], start: usize, end: usize) -> Resu
     out.push_str("\n")
 }
 
+/// Puts what is told of a line that is at fault.
+fn put_fault(
+    out: &mut String,
+    alloc: Global,
+    grammar: Grammar,
+    line: &[u8],
+    fault: LineFault,
+) -> Result<(), AllocError> {
+    if fault == LineFault::TooManyLines {
+        put_line(out, line, 0, 1)?;
+        return out.push_str(
+            "a script has 65536 lines at most, empty ones and comments among them.\n",
+        );
+    }
+    let Some(found) = find(alloc, grammar, line)? else {
+        return Ok(());
+    };
+    put_line(out, line, found.start, found.end)?;
+    put_sentence(out, alloc, grammar, line, found)?;
+    out.push_str("\n")
+}
+
 /// What is told of a line that is at fault: the line, a caret under the word, and a sentence; three lines, each with its line feed.
 ///
 /// # Errors
@@ -92,15 +114,6 @@ pub fn explain(
     fault: LineFault,
 ) -> Result<String, AllocError> {
     let mut out = String::new(alloc);
-    if fault == LineFault::TooManyLines {
-        put_line(&mut out, line, 0, 1)?;
-        out.push_str("a script has 65536 lines at most, empty ones and comments among them.\n")?;
-        return Ok(out);
-    }
-    if let Some(found) = find(alloc, grammar, line)? {
-        put_line(&mut out, line, found.start, found.end)?;
-        put_sentence(&mut out, alloc, grammar, line, found)?;
-        out.push_str("\n")?;
-    }
+    put_fault(&mut out, alloc, grammar, line, fault)?;
     Ok(out)
 }

@@ -30,17 +30,23 @@ fn put_meant(
     }
 }
 
+/// The words of all verbs.
+fn verb_names(alloc: Global) -> Result<Vec<&'static str>, AllocError> {
+    let mut names = Vec::new(alloc);
+    for verb in VERBS {
+        names.push(verb.name())?;
+    }
+    Ok(names)
+}
+
 /// Puts what a first word is, where a step is wanted.
 fn put_no_verb(out: &mut String, alloc: Global, word: &[u8]) -> Result<(), AllocError> {
     if word == JOB {
         return out.push_str("'job' begins a line of `nvmesgl threads`, and is no step.");
     }
-    let mut names = Vec::new(alloc);
-    for verb in VERBS {
-        names.push(verb.name())?;
-    }
     let shown = Shown(word);
     write!(out, "'{shown}' is no verb: ")?;
+    let names = verb_names(alloc)?;
     let otherwise = "`nvmesgl grammar` prints them all.";
     put_meant(out, alloc, word, names.as_slice(), otherwise)
 }

@@ -1,5 +1,6 @@
 //! An object on a line, and what stands in it as hexadecimal digits.
 
+use crate::objects::members::Digits;
 use serde::Serialize;
 use std::alloc::{AllocError, Global};
 
@@ -22,24 +23,12 @@ pub fn put_object<T: Serialize>(
     }
 }
 
-/// A number of 64 bits as a hexadecimal text, as `0x1000`.
-///
-/// # Errors
-///
-/// Where memory is refused.
-pub fn hex_number(alloc: Global, number: u64) -> Result<String, AllocError> {
-    format!(in alloc; "0x{number:X}")
-}
-
 /// Bytes as two hexadecimal digits each.
 ///
 /// # Errors
 ///
 /// Where memory is refused.
 pub fn hex_bytes(alloc: Global, bytes: &[u8]) -> Result<String, AllocError> {
-    let mut text = String::new(alloc);
-    for byte in bytes {
-        write!(text, "{byte:02X}")?;
-    }
-    Ok(text)
+    let digits = Digits(bytes);
+    format!(in alloc; "{digits}")
 }

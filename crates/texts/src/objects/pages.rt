@@ -1,38 +1,91 @@
 //! Who owns the pages, as objects.
 
 use crate::objects::line::put_object;
+use crate::objects::members::{Object, Value, put_map, put_nested};
 use page_ledger::{Counts, Owner, Role};
 use page_memory::Half;
-use serde::Serialize;
+use serde::{Described, Serialize, Serializer};
 use std::alloc::{AllocError, Global};
 
-/// How many pages each class has.
-#[derive(Drop, Serialize)]
-struct CountsObject {
-    free: u32,
-    queue: u32,
-    chain: u32,
-    data: u32,
+/// The last object of every run.
+#[derive(Clone, Copy)]
+struct LastObject {
+    counts: Counts,
 }
 
-/// The last object of every run.
-#[derive(Drop, Serialize)]
-struct LastObject {
-    counts: CountsObject,
+impl Described for LastObject {}
+
+impl Serialize for LastObject {
+    fn serialize<S: Serializer>(&self, out: &mut S) -> Result<(), S::Error> {
+        let Counts {
+            free_pages,
+            queue_pages,
+            chain_pages,
+            data_pages,
+        } = self.counts;
+        let counts = [
+            ("free", Value::Number(free_pages)),
+            ("queue", Value::Number(queue_pages)),
+            ("chain", Value::Number(chain_pages)),
+            ("data", Value::Number(data_pages)),
+        ];
+        out.begin_map(None)?;
+        put_nested(out, "counts", Some(Object(&counts)))?;
+        out.end_map()
+    }
 }
 
 /// Pages that follow each other and have one owner.
-#[derive(Drop, Serialize)]
+#[derive(Clone, Copy)]
 struct RunObject {
     first: usize,
     last: usize,
-    owner: &'static str,
-    #[serde(skip_serializing_if = "Option::is_none")]
-    q: Option<u16>,
-    #[serde(skip_serializing_if = "Option::is_none")]
-    cid: Option<u16>,
-    #[serde(skip_serializing_if = "Option::is_none")]
-    role: Option<&'static str>,
+    owner: Owner,
+}
+
+impl Described for RunObject {}
+
+impl Serialize for RunObject {
+    fn serialize<S: Serializer>(&self, out: &mut S) -> Result<(), S::Error> {
+        let (first, last) = (Value::Count(self.first), Value::Count(self.last));
+        let (first, last) = (("first", first), ("last", last));
+        match self.owner {
+            Owner::Free => put_map(out, &[first, last, ("owner", Value::Text("free"))]),
+            Owner::Queue { q, half } => {
+                let role = match half {
+                    Half::Submission => "sq",
+                    Half::Completion => "cq",
+                };
+                put_map(
+                    out,
+                    &[
+                        first,
+                        last,
+                        ("owner", Value::Text("queue")),
+                        ("q", Value::Short(q)),
+                        ("role", Value::Text(role)),
+                    ],
+                )
+            }
+            Owner::Command { q, cid, role } => {
+                let role = match role {
+                    Role::Data => "data",
+                    Role::Chain => "chain",
+                };
+                put_map(
+                    out,
+                    &[
+                        first,
+                        last,
+                        ("owner", Value::Text("command")),
+                        ("q", Value::Short(q)),
+                        ("cid", Value::Short(cid)),
+                        ("role", Value::Text(role)),
+                    ],
+                )
+            }
+        }
+    }
 }
 
 /// All pages, by their owners.
@@ -53,52 +106,7 @@ pub fn put_counts_object(
     out: &mut String,
     counts: Counts,
 ) -> Result<(), AllocError> {
-    let Counts {
-        free_pages,
-        queue_pages,
-        chain_pages,
-        data_pages,
-    } = counts;
-    let counts = CountsObject {
-        free: free_pages,
-        queue: queue_pages,
-        chain: chain_pages,
-        data: data_pages,
-    };
     put_object(alloc, out, &LastObject { counts })
-}
-
-/// The object of a run of pages.
-fn run_object(first: usize, last: usize, owner: Owner) -> RunObject {
-    let (name, q, cid, role) = match owner {
-        Owner::Free => ("free", None, None, None),
-        Owner::Queue {
-            q,
-            half: Half::Submission,
-        } => ("queue", Some(q), None, Some("sq")),
-        Owner::Queue {
-            q,
-            half: Half::Completion,
-        } => ("queue", Some(q), None, Some("cq")),
-        Owner::Command {
-            q,
-            cid,
-            role: Role::Data,
-        } => ("command", Some(q), Some(cid), Some("data")),
-        Owner::Command {
-            q,
-            cid,
-            role: Role::Chain,
-        } => ("command", Some(q), Some(cid), Some("chain")),
-    };
-    RunObject {
-        first,
-        last,
-        owner: name,
-        q,
-        cid,
-        role,
-    }
 }
 
 /// The longest runs of pages with one owner.
@@ -108,7 +116,11 @@ fn runs_of(alloc: Global, owners: &[Owner]) -> Result<Vec<RunObject>, AllocError
     for (place, owner) in owners.iter().enumerate() {
         let next = place.saturating_add(1);
         if owners.get(next) != Some(owner) {
-            runs.push(run_object(first, place, *owner))?;
+            runs.push(RunObject {
+                first,
+                last: place,
+                owner: *owner,
+            })?;
             first = next;
         }
     }

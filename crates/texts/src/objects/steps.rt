@@ -1,198 +1,175 @@
 //! What a step answered, as an object.
 
-use crate::objects::line::{hex_bytes, put_object};
+use crate::objects::line::put_object;
+use crate::objects::members::{Member, Value, put_members};
 use controller_walk::WalkState;
 use entry_codec::Status;
 use entry_codec::status_names::name_of;
 use script_cli::{Verb, fill_fault_name, is_well, refusal_name, rejected_name, request_fault_name};
-use serde::Serialize;
+use serde::{Described, Serialize, Serializer};
 use std::alloc::{AllocError, Global};
 use step_core::{Reaped, Refusal, Reply, Touched};
 
-/// What a step answered. What an answer does not have is left out.
-#[derive(Drop, Serialize)]
-struct ReplyObject {
+/// What a step answered, and the line that it stands in. What an answer does not have is left out.
+#[derive(Clone, Copy)]
+struct ReplyObject<'a> {
     line: u32,
-    verb: &'static str,
-    /// Whether it was not refused, and has no other status than 0:00.
-    well: bool,
+    verb: Verb,
+    reply: &'a Reply,
+}
+
+impl Described for ReplyObject<'_> {}
+
+impl Serialize for ReplyObject<'_> {
+    fn serialize<S: Serializer>(&self, out: &mut S) -> Result<(), S::Error> {
+        out.begin_map(None)?;
+        put_members(
+            out,
+            &[
+                ("line", Value::Number(self.line)),
+                ("verb", Value::Text(self.verb.name())),
+                ("well", Value::Truth(is_well(self.reply))),
+            ],
+        )?;
+        put_answer(out, self.reply)?;
+        out.end_map()
+    }
+}
+
+/// Puts a status, and its name where it has one.
+fn put_status<S: Serializer>(out: &mut S, status: Status) -> Result<(), S::Error> {
+    put_members(out, &[("status", Value::Status(status))])?;
+    match name_of(status) {
+        Some(name) => put_members(out, &[("name", Value::Text(name))]),
+        None => Ok(()),
+    }
+}
+
+/// Puts the name of an answer, and what else it has.
+fn put_named<S: Serializer>(
+    out: &mut S,
     answer: &'static str,
-    #[serde(skip_serializing_if = "Option::is_none")]
-    q: Option<u16>,
-    #[serde(skip_serializing_if = "Option::is_none")]
-    cid: Option<u16>,
-    #[serde(skip_serializing_if = "Option::is_none")]
-    data: Option<u32>,
-    #[serde(skip_serializing_if = "Option::is_none")]
-    chain: Option<u32>,
-    #[serde(skip_serializing_if = "Option::is_none")]
-    status: Option<String>,
-    #[serde(skip_serializing_if = "Option::is_none")]
-    name: Option<&'static str>,
-    #[serde(skip_serializing_if = "Option::is_none")]
-    dw0: Option<u32>,
-    #[serde(skip_serializing_if = "Option::is_none")]
-    why: Option<&'static str>,
-    #[serde(skip_serializing_if = "Option::is_none")]
-    fault: Option<&'static str>,
-    #[serde(skip_serializing_if = "Option::is_none")]
-    need: Option<u32>,
-    #[serde(skip_serializing_if = "Option::is_none")]
-    free: Option<u32>,
-    #[serde(skip_serializing_if = "Option::is_none")]
-    touched: Option<Vec<u32>>,
-    #[serde(skip_serializing_if = "Option::is_none")]
-    bytes: Option<String>,
+    members: &[Member<'_>],
+) -> Result<(), S::Error> {
+    put_members(out, &[("answer", Value::Text(answer))])?;
+    put_members(out, members)
 }
 
-impl ReplyObject {
-    /// An object with an answer's name alone.
-    fn named(answer: &'static str) -> ReplyObject {
-        ReplyObject {
-            line: 0,
-            verb: "",
-            well: true,
-            answer,
-            q: None,
-            cid: None,
-            data: None,
-            chain: None,
-            status: None,
-            name: None,
-            dw0: None,
-            why: None,
-            fault: None,
-            need: None,
-            free: None,
-            touched: None,
-            bytes: None,
+/// Puts what a reap found.
+fn put_reaped<S: Serializer>(out: &mut S, found: &Reaped) -> Result<(), S::Error> {
+    match *found {
+        Reaped::Empty => put_named(out, "empty", &[]),
+        Reaped::Done { cid, status } => {
+            put_named(out, "done", &[("cid", Value::Short(cid))])?;
+            put_status(out, status)
         }
-    }
-
-    /// An object with a status.
-    fn ended(
-        alloc: Global,
-        answer: &'static str,
-        status: Status,
-    ) -> Result<ReplyObject, AllocError> {
-        Ok(ReplyObject {
-            status: Some(format!(in alloc; "{status}")?),
-            name: name_of(status),
-            ..ReplyObject::named(answer)
-        })
-    }
-
-    /// An object of a refusal.
-    fn refused(why: &'static str) -> ReplyObject {
-        ReplyObject {
-            why: Some(why),
-            ..ReplyObject::named("refused")
+        Reaped::AdminDone { cid, status, dw0 } => {
+            put_named(out, "admin", &[("cid", Value::Short(cid))])?;
+            put_status(out, status)?;
+            put_members(out, &[("dw0", Value::Number(dw0))])
+        }
+        Reaped::Rejected(why) => {
+            put_named(out, "rejected", &[("why", Value::Text(rejected_name(why)))])
         }
     }
 }
 
-/// The numbers of the pages that a step touched.
-fn pages_of(alloc: Global, touched: &Touched) -> Result<Vec<u32>, AllocError> {
-    let mut pages = Vec::new(alloc);
-    for page in touched.pages() {
-        pages.push(page.0)?;
+/// Puts what a walk found.
+fn put_walked<S: Serializer>(out: &mut S, state: WalkState) -> Result<(), S::Error> {
+    match state {
+        WalkState::More => put_named(out, "more", &[]),
+        WalkState::End => put_named(out, "end", &[]),
+        WalkState::Fault(status) => {
+            put_named(out, "fault", &[])?;
+            put_status(out, status)
+        }
     }
-    Ok(pages)
 }
 
-/// The object of what a reap found.
-fn reaped_object(alloc: Global, found: &Reaped) -> Result<ReplyObject, AllocError> {
-    Ok(match *found {
-        Reaped::Empty => ReplyObject::named("empty"),
-        Reaped::Done { cid, status } => ReplyObject {
-            cid: Some(cid),
-            ..ReplyObject::ended(alloc, "done", status)?
-        },
-        Reaped::AdminDone { cid, status, dw0 } => ReplyObject {
-            cid: Some(cid),
-            dw0: Some(dw0),
-            ..ReplyObject::ended(alloc, "admin", status)?
-        },
-        Reaped::Rejected(why) => ReplyObject {
-            why: Some(rejected_name(why)),
-            ..ReplyObject::named("rejected")
-        },
-    })
+/// Puts why a step was not done.
+fn put_why<S: Serializer>(out: &mut S, why: &str) -> Result<(), S::Error> {
+    put_named(out, "refused", &[("why", Value::Text(why))])
 }
 
-/// The object of what a walk found.
-fn walked_object(alloc: Global, state: WalkState) -> Result<ReplyObject, AllocError> {
-    Ok(match state {
-        WalkState::More => ReplyObject::named("more"),
-        WalkState::End => ReplyObject::named("end"),
-        WalkState::Fault(status) => ReplyObject::ended(alloc, "fault", status)?,
-    })
-}
-
-/// The object of a refusal, with what more it says.
-fn refused_object(why: Refusal) -> ReplyObject {
-    let object = ReplyObject::refused(refusal_name(why));
+/// Puts a refusal, with what more it says.
+fn put_refused<S: Serializer>(out: &mut S, why: Refusal) -> Result<(), S::Error> {
+    put_why(out, refusal_name(why))?;
     match why {
-        Refusal::Bad(fault) => ReplyObject {
-            fault: Some(request_fault_name(fault)),
-            ..object
-        },
-        Refusal::NoPages { need, free } => ReplyObject {
-            need: Some(need),
-            free: Some(free),
-            ..object
-        },
-        Refusal::NoRun { need } => ReplyObject {
-            need: Some(need),
-            ..object
-        },
-        _ => object,
+        Refusal::Bad(fault) => {
+            put_members(out, &[("fault", Value::Text(request_fault_name(fault)))])
+        }
+        Refusal::NoPages { need, free } => put_members(
+            out,
+            &[("need", Value::Number(need)), ("free", Value::Number(free))],
+        ),
+        Refusal::NoRun { need } => put_members(out, &[("need", Value::Number(need))]),
+        _ => Ok(()),
     }
 }
 
-/// The object of an answer, without its line.
-fn answer_object(alloc: Global, reply: &Reply) -> Result<ReplyObject, AllocError> {
-    Ok(match reply {
+/// Puts what was reserved.
+fn put_reserved<S: Serializer>(
+    out: &mut S,
+    (q, cid): (u16, u16),
+    data: u32,
+    chain: u32,
+) -> Result<(), S::Error> {
+    put_named(
+        out,
+        "reserved",
+        &[
+            ("q", Value::Short(q)),
+            ("cid", Value::Short(cid)),
+            ("data", Value::Number(data)),
+            ("chain", Value::Number(chain)),
+        ],
+    )
+}
+
+/// Puts the pages that a step touched.
+fn put_touched<S: Serializer>(out: &mut S, touched: &Touched) -> Result<(), S::Error> {
+    put_members(out, &[("touched", Value::Pages(touched.pages()))])
+}
+
+/// Puts an answer, by its name.
+fn put_answer<S: Serializer>(out: &mut S, reply: &Reply) -> Result<(), S::Error> {
+    match reply {
         Reply::Reserved {
             q,
             cid,
             data,
             chain,
-        } => ReplyObject {
-            q: Some(*q),
-            cid: Some(*cid),
-            data: Some(*data),
-            chain: Some(*chain),
-            ..ReplyObject::named("reserved")
-        },
-        Reply::Accepted => ReplyObject::named("ok"),
-        Reply::Fetched { cid, touched } => ReplyObject {
-            cid: Some(*cid),
-            touched: Some(pages_of(alloc, touched)?),
-            ..ReplyObject::named("fetched")
-        },
-        Reply::Walked { state, touched } => ReplyObject {
-            touched: Some(pages_of(alloc, touched)?),
-            ..walked_object(alloc, *state)?
-        },
-        Reply::Completed { touched } => ReplyObject {
-            touched: Some(pages_of(alloc, touched)?),
-            ..ReplyObject::named("ok")
-        },
-        Reply::Reaps(found) => reaped_object(alloc, found)?,
-        Reply::Collected(status) => ReplyObject::ended(alloc, "collected", *status)?,
-        Reply::Gathered(bytes) => ReplyObject {
-            bytes: Some(hex_bytes(alloc, bytes.as_slice())?),
-            ..ReplyObject::named("gathered")
-        },
-        Reply::Sent { cid } => ReplyObject {
-            cid: Some(*cid),
-            ..ReplyObject::named("sent")
-        },
-        Reply::NoValue => ReplyObject::refused("NoValue"),
-        Reply::NotFilled(why) => ReplyObject::refused(fill_fault_name(*why)),
-        Reply::Refused { why, .. } => refused_object(*why),
-    })
+        } => put_reserved(out, (*q, *cid), *data, *chain),
+        Reply::Accepted => put_named(out, "ok", &[]),
+        Reply::Fetched { cid, touched } => {
+            put_named(out, "fetched", &[("cid", Value::Short(*cid))])?;
+            put_touched(out, touched)
+        }
+        Reply::Walked { state, touched } => {
+            put_walked(out, *state)?;
+            put_touched(out, touched)
+        }
+        Reply::Completed { touched } => {
+            put_named(out, "ok", &[])?;
+            put_touched(out, touched)
+        }
+        Reply::Reaps(found) => put_reaped(out, found),
+        Reply::Collected(status) => {
+            put_named(out, "collected", &[])?;
+            put_status(out, *status)
+        }
+        Reply::Gathered(bytes) => {
+            put_named(
+                out,
+                "gathered",
+                &[("bytes", Value::Bytes(bytes.as_slice()))],
+            )
+        }
+        Reply::Sent { cid } => put_named(out, "sent", &[("cid", Value::Short(*cid))]),
+        Reply::NoValue => put_why(out, "NoValue"),
+        Reply::NotFilled(why) => put_why(out, fill_fault_name(*why)),
+        Reply::Refused { why, .. } => put_refused(out, *why),
+    }
 }
 
 /// Puts the object of a step: the number of its line, its verb, and what it answered, by name.
@@ -209,9 +186,8 @@ pub fn put_reply_object(
 ) -> Result<(), AllocError> {
     let object = ReplyObject {
         line: number,
-        verb: verb.name(),
-        well: is_well(reply),
-        ..answer_object(alloc, reply)?
+        verb,
+        reply,
     };
     put_object(alloc, out, &object)
 }
