@@ -2,7 +2,7 @@
 use Rattle.std.specs.Option.{option_map_or}
 use Rattle.std.specs.Prelude.{◌≡◌, ◌⊎◌, ◌/◌, ◌<◌, ◌≤◌, ◌==◌, ℕ, nat_lt, Option, Some, None, Result, Ok, Err, List, [], length, slice_get, if◌then◌else◌}
 use Rattle.std.specs.Result.{result_err}
-use Rattle.nvmesgl_c.specs.{Answers.{nothing, touching, walked}, ControllerKept.Kept, Keeping.code_of_mark, ControllerCodes.code_of_refusal, declared.words.answer.Answer.Answer}
+use Rattle.nvmesgl_c.specs.{Answers.{nothing, touching, walked}, ControllerKept.{Kept, code_in}, ControllerCodes.code_of_refusal, declared.words.answer.Answer.Answer}
 use Rattle.controller_core.specs.{Completing.{complete_refusal, CompletesTo}, Contents.Contents, Doorbells.{tail_rung, head_rung}, Fetching.Fetches}
 use Rattle.controller_core.specs.{Resetting.reset, Walking.{walk_refusal, WalksTo}, declared.{queue.ControllerQueue.ControllerQueue, refusal.Refusal.Refusal}}
 use Rattle.controller_walk.specs.declared.walk.WalkState.{WalkState}
@@ -22,17 +22,17 @@ head_code queues q v =
 
 -- a value that has code 0 is taken, and another one changes nothing
 abbrev pub RingsTail : Kept → ℕ → ℕ → ℕ → Kept → Type 0
-RingsTail (Err h) q v code new = (code ≡ code_of_mark h.mark) × (new ≡ Err h)
+RingsTail (Err h) q v code new = (code ≡ code_in h) × (new ≡ Err h)
 RingsTail (Ok c) q v code new = (code ≡ tail_code c.queues q v) × (new ≡ Ok (if code == 0 then tail_rung q v c else c))
 
 abbrev pub RingsHead : Kept → ℕ → ℕ → ℕ → Kept → Type 0
-RingsHead (Err h) q v code new = (code ≡ code_of_mark h.mark) × (new ≡ Err h)
+RingsHead (Err h) q v code new = (code ≡ code_in h) × (new ≡ Err h)
 RingsHead (Ok c) q v code new = (code ≡ head_code c.queues q v) × (new ≡ Ok (if code == 0 then head_rung q v c else c))
 
 -- A reset
 
 abbrev pub Resets : Kept → ℕ → Kept → Type 0
-Resets (Err h) code new = (code ≡ code_of_mark h.mark) × (new ≡ Err h)
+Resets (Err h) code new = (code ≡ code_in h) × (new ≡ Err h)
 Resets (Ok c) code new = (code ≡ 0) × (new ≡ Ok (reset c))
 
 -- The calls over a pool
@@ -81,7 +81,7 @@ pub record CompletesBy (q cid : ℕ) (c : Contents) (pages : ℕ) (m : Memory) (
 
 -- no call is made, with its cause: no controller is kept, or the pool has more than 65,536 pages
 abbrev pub LendsNone : Kept → ℕ → ℕ → Kept → Type 0
-LendsNone (Err h) bytes code new = (code ≡ code_of_mark h.mark) × (new ≡ Err h)
+LendsNone (Err h) bytes code new = (code ≡ code_in h) × (new ≡ Err h)
 LendsNone (Ok c) bytes code new = (268435456 < bytes) × (code ≡ 51) × (new ≡ Ok c)
 
 -- a call that is lent a pool: it is made over the bytes of the pool, or it is not made, and nothing changes

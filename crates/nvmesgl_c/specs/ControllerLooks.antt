@@ -3,7 +3,7 @@ use Rattle.std.specs.Prelude.{◌≡◌, ◌⊎◌, ℕ, true, false, List, Opti
 use Rattle.block_image.specs.Blocks.{IsInRange, block_count, blocks_at}
 use Rattle.controller_core.specs.Contents.{FetchedCommand, is_command, verdict_of_work}
 use Rattle.entry_codec.specs.declared.status.Status.{Status}
-use Rattle.nvmesgl_c.specs.{ControllerKept.Kept, Keeping.code_of_mark, declared.controller.looks.CCommand.CCommand}
+use Rattle.nvmesgl_c.specs.{ControllerKept.{Kept, code_in}, declared.controller.looks.CCommand.CCommand}
 
 -- so many units were done, and how the command ends, once that is known
 abbrev pub command_with : ℕ → Option Status → CCommand
@@ -19,7 +19,7 @@ Shows (Some k) code old new = (code ≡ 0) × (new ≡ command_of k)
 
 -- a command of a name, of a handle that is open
 abbrev pub TellsCommand : Kept → ℕ → ℕ → ℕ → CCommand → CCommand → Kept → Type 0
-TellsCommand (Err h) q cid code old new left = (code ≡ code_of_mark h.mark) × (new ≡ old) × (left ≡ Err h)
+TellsCommand (Err h) q cid code old new left = (code ≡ code_in h) × (new ≡ old) × (left ≡ Err h)
 TellsCommand (Ok c) q cid code old new left = Shows (find (is_command q cid) c.commands) code old new × (left ≡ Ok c)
 
 -- blocks of the image fill a buffer, where the buffer is whole blocks and the image has as many of them from slba on
@@ -29,5 +29,5 @@ Copies image slba code old new =
     ⊎ ((IsInRange image slba old → ⊥) × (code ≡ 52) × (new ≡ old))
 
 abbrev pub TellsBlocks : Kept → ℕ → ℕ → List ℕ → List ℕ → Kept → Type 0
-TellsBlocks (Err h) slba code old new left = (code ≡ code_of_mark h.mark) × (new ≡ old) × (left ≡ Err h)
+TellsBlocks (Err h) slba code old new left = (code ≡ code_in h) × (new ≡ old) × (left ≡ Err h)
 TellsBlocks (Ok c) slba code old new left = Copies c.image slba code old new × (left ≡ Ok c)

@@ -1,6 +1,6 @@
 -- What a handle shows of its host.
 use Rattle.std.specs.{List.Contains, Option.option_map, Prelude.{◌≡◌, ◌≤◌, ℕ, true, false, Option, Some, None, Ok, Err, [], ◌∷◌, length, slice_get}}
-use Rattle.nvmesgl_c.specs.{HostKept.Kept, Keeping.code_of_mark, Owners.owner_of, declared.{host.looks.{CHostQueue.CHostQueue, CPages.CPages}, words.owner.COwner.COwner}}
+use Rattle.nvmesgl_c.specs.{HostKept.{Kept, code_in}, Owners.owner_of, declared.{host.looks.{CHostQueue.CHostQueue, CPages.CPages}, words.owner.COwner.COwner}}
 use Rattle.machine_model.specs.{Claims.claims_of, Script.Table, declared.words.HostState.HostState}
 use Rattle.page_ledger.specs.declared.owner.Owner.{Owner}
 use Rattle.host_core.specs.{Rights.memory_of_queue, declared.rights.{QueueMemory.QueueMemory, Run.Run}}
@@ -22,7 +22,7 @@ pages_of t =
 
 -- the counts, of a handle that is open
 abbrev pub TellsCounts : Kept → ℕ → CPages → CPages → Kept → Type 0
-TellsCounts (Err h) code old new left = (code ≡ code_of_mark h.mark) × (new ≡ old) × (left ≡ Err h)
+TellsCounts (Err h) code old new left = (code ≡ code_in h) × (new ≡ old) × (left ≡ Err h)
 TellsCounts (Ok t) code old new left = (code ≡ 0) × (new ≡ pages_of t.bench) × (left ≡ Ok t)
 
 -- a page is looked for: its owner is that of the one claim in which it stands; there is none outside the pool
@@ -36,7 +36,7 @@ ShowsOwner (Some owner) code old new = (code ≡ 0) × (new ≡ owner_of owner)
 
 -- the owner of a page, of a handle that is open
 abbrev pub TellsOwner : Kept → ℕ → ℕ → COwner → COwner → Kept → Type 0
-TellsOwner (Err h) page code old new left = (code ≡ code_of_mark h.mark) × (new ≡ old) × (left ≡ Err h)
+TellsOwner (Err h) page code old new left = (code ≡ code_in h) × (new ≡ old) × (left ≡ Err h)
 TellsOwner (Ok t) page code old new left = (found : Option Owner) × FindsOwner t.bench page found × ShowsOwner found code old new × (left ≡ Ok t)
 
 -- a queue's state as a number, and a queue as C sees it
@@ -79,5 +79,5 @@ ShowsQueue None code old new = (code ≡ 10) × (new ≡ old)
 ShowsQueue (Some queue) code old new = (code ≡ 0) × (new ≡ queue)
 
 abbrev pub TellsQueue : Kept → ℕ → ℕ → CHostQueue → CHostQueue → Kept → Type 0
-TellsQueue (Err h) q code old new left = (code ≡ code_of_mark h.mark) × (new ≡ old) × (left ≡ Err h)
+TellsQueue (Err h) q code old new left = (code ≡ code_in h) × (new ≡ old) × (left ≡ Err h)
 TellsQueue (Ok t) q code old new left = (found : Option CHostQueue) × FindsQueue t.bench q found × ShowsQueue found code old new × (left ≡ Ok t)

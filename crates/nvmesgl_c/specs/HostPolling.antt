@@ -4,7 +4,7 @@ use Rattle.host_bench.specs.{Calls.Does, Values.{Reply}}
 use Rattle.host_core.specs.declared.doorbell.Doorbell.{Doorbell}
 use Rattle.slot_table.specs.Rows.{Row}
 use Rattle.machine_model.specs.{Script.Table, declared.words.Reaped.Reaped}
-use Rattle.nvmesgl_c.specs.{Answers.{nothing, reaped}, HostAnswers.{shown_bell, told_of}, HostCodes.code_of_answer, HostKept.Kept, HostTags.tag_at, Keeping.code_of_mark}
+use Rattle.nvmesgl_c.specs.{Answers.{nothing, reaped}, HostAnswers.{shown_bell, told_of}, HostCodes.code_of_answer, HostKept.{Kept, code_in}, HostTags.tag_at}
 use Rattle.nvmesgl_c.specs.declared.{host.{answer.CDoorbell.CDoorbell, polling.CEnded.CEnded}, words.answer.Answer.Answer}
 use Rattle.host_bench.specs.declared.call.Reply.TheVariants as reply
 use Rattle.host_bench.specs.declared.call.Call.TheVariants as call
@@ -64,7 +64,7 @@ told_of_end (Some why) = told_of why
 -- of a handle that keeps a host or none
 abbrev pub PollsKept : Kept → ℕ → ℕ → List CEnded → List CEnded → ℕ → CDoorbell → Answer → Kept → Type 0
 PollsKept (Err h) q code old buffer count bell answer new =
-    (code ≡ code_of_mark h.mark) × (buffer ≡ old) × (count ≡ 0) × (bell ≡ shown_bell None) × (answer ≡ nothing) × (new ≡ Err h)
+    (code ≡ code_in h) × (buffer ≡ old) × (count ≡ 0) × (bell ≡ shown_bell None) × (answer ≡ nothing) × (new ≡ Err h)
 PollsKept (Ok t) q code old buffer count bell answer (Err h) = ⊥
 PollsKept (Ok t) q code old buffer count bell answer (Ok new) =
     (rung : Option Doorbell) × (end : Option Reply) × Polls t.bench t.tags q old buffer count rung end new.bench × (new.tags ≡ t.tags) × (bell ≡ shown_bell rung) × (code ≡ code_of_end end) × (answer ≡ told_of_end end)

@@ -2,7 +2,7 @@
 use Rattle.std.specs.Prelude.{◌≡◌, ◌&&◌, ℕ, nat_lt, nat_le, Bool, true, false, Option, Some, None, Ok, Err, List, length}
 use Rattle.host_bench.specs.Pool.{IsWritten}
 use Rattle.machine_model.specs.Script.{Table}
-use Rattle.nvmesgl_c.specs.{HostKept.Kept, Keeping.code_of_mark}
+use Rattle.nvmesgl_c.specs.{HostKept.{Kept, code_in}}
 use Rattle.page_memory.specs.{Memory.bytes_at, Pages.byte_at}
 
 -- whether so many bytes are moved by one call
@@ -23,7 +23,7 @@ abbrev pub ReadsFrom : Table → ℕ → ℕ → List ℕ → List ℕ → Table
 ReadsFrom t addr code old buffer new = Shows (fits (length old)) (bytes_from t addr (length old)) code old buffer × (new ≡ t)
 
 abbrev pub Reads : Kept → ℕ → ℕ → List ℕ → List ℕ → Kept → Type 0
-Reads (Err h) addr code old buffer new = (code ≡ code_of_mark h.mark) × (buffer ≡ old) × (new ≡ Err h)
+Reads (Err h) addr code old buffer new = (code ≡ code_in h) × (buffer ≡ old) × (new ≡ Err h)
 Reads (Ok t) addr code old buffer (Ok new) = ReadsFrom t.bench addr code old buffer new.bench × (new.tags ≡ t.tags)
 Reads (Ok t) addr code old buffer (Err h) = ⊥
 
@@ -37,6 +37,6 @@ abbrev pub WritesInto : Table → ℕ → List ℕ → ℕ → Table → Type 0
 WritesInto t addr bytes code new = Puts (fits (length bytes)) (bytes_from t addr (length bytes)) t addr bytes code new
 
 abbrev pub Writes : Kept → ℕ → List ℕ → ℕ → Kept → Type 0
-Writes (Err h) addr bytes code new = (code ≡ code_of_mark h.mark) × (new ≡ Err h)
+Writes (Err h) addr bytes code new = (code ≡ code_in h) × (new ≡ Err h)
 Writes (Ok t) addr bytes code (Ok new) = WritesInto t.bench addr bytes code new.bench × (new.tags ≡ t.tags)
 Writes (Ok t) addr bytes code (Err h) = ⊥

@@ -2,7 +2,7 @@
 use Rattle.std.specs.Prelude.{◌≡◌, ◌<◌, ◌≤◌, ◌⊎◌, ℕ, Bool, true, false, Option, Some, None, Ok, Err, List, [], ◌∷◌, length, min}
 use Rattle.host_core.specs.{DataPlaces.place_at, Rights.{right_at, runs_of_command}}
 use Rattle.host_core.specs.declared.{data_place.DataPlace.DataPlace, rights.{Right.Right, Run.Run}}
-use Rattle.nvmesgl_c.specs.{HostKept.Kept, Keeping.code_of_mark, declared.host.reach.{CPlace.CPlace, CRun.CRun}}
+use Rattle.nvmesgl_c.specs.{HostKept.{Kept, code_in}, declared.host.reach.{CPlace.CPlace, CRun.CRun}}
 use Rattle.host_core.specs.declared.rights.Right.TheVariants as right
 
 abbrev pub number_of : Right → ℕ
@@ -18,7 +18,7 @@ place_of place = record { page = place.page; offset = place.offset; len = place.
 
 -- what a device may do with a page, of a handle that is open
 abbrev pub TellsRight : Kept → ℕ → ℕ → ℕ → ℕ → Kept → Type 0
-TellsRight (Err h) page code old new left = (code ≡ code_of_mark h.mark) × (new ≡ old) × (left ≡ Err h)
+TellsRight (Err h) page code old new left = (code ≡ code_in h) × (new ≡ old) × (left ≡ Err h)
 TellsRight (Ok t) page code old new left = (code ≡ 0) × (new ≡ number_of (right_at t.bench.world.host page)) × (left ≡ Ok t)
 
 -- a buffer with runs in its front, as many as it holds
@@ -41,7 +41,7 @@ pub record ShowsRuns (runs : List Run) (code : ℕ) (old new : List CRun) (count
   pub too_short : (code ≡ 0) ⊎ ((code ≡ 5) × (length old < length runs))
 
 abbrev pub TellsRuns : Kept → ℕ → ℕ → ℕ → List CRun → List CRun → ℕ → ℕ → Kept → Type 0
-TellsRuns (Err h) q cid code old new many many' left = (code ≡ code_of_mark h.mark) × (new ≡ old) × (many' ≡ many) × (left ≡ Err h)
+TellsRuns (Err h) q cid code old new many many' left = (code ≡ code_in h) × (new ≡ old) × (many' ≡ many) × (left ≡ Err h)
 TellsRuns (Ok t) q cid code old new many many' left =
     ShowsRuns (runs_of_command t.bench.world.host q cid) code old new many' × (left ≡ Ok t)
 
@@ -51,5 +51,5 @@ ShowsPlace None code old new = (code ≡ 55) × (new ≡ old)
 ShowsPlace (Some place) code old new = (code ≡ 0) × (new ≡ place_of place)
 
 abbrev pub TellsPlace : Kept → ℕ → ℕ → ℕ → ℕ → CPlace → CPlace → Kept → Type 0
-TellsPlace (Err h) q cid piece code old new left = (code ≡ code_of_mark h.mark) × (new ≡ old) × (left ≡ Err h)
+TellsPlace (Err h) q cid piece code old new left = (code ≡ code_in h) × (new ≡ old) × (left ≡ Err h)
 TellsPlace (Ok t) q cid piece code old new left = ShowsPlace (place_at t.bench.world.host q cid piece) code old new × (left ≡ Ok t)

@@ -16,3 +16,7 @@ code_of_mark mark = if mark == 0 then 1 else 57
 -- what an opening of it is refused with
 abbrev pub cause_of_mark : ℕ → Option ℕ
 cause_of_mark mark = if mark == 0 then None else Some 57
+
+-- what an opening of any handle is refused with, by the mark of its kind and its own: it is open, or no handle of this kind
+abbrev pub cause_by : ℕ → ℕ → Option ℕ
+cause_by own mark = if mark == own then Some 2 else cause_of_mark mark

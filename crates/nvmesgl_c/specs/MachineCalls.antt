@@ -2,7 +2,7 @@
 use Rattle.std.specs.List.{list_any}
 use Rattle.std.specs.Prelude.{◌≡◌, ◌⊎◌, ◌<◌, ◌++◌, ℕ, Bool, true, false, Option, Some, None, Result, Ok, Err, List, length, drop, map, take}
 use Rattle.io_commands.specs.{declared.request.Kind.Kind}
-use Rattle.nvmesgl_c.specs.{Answers.nothing, MachineAnswers.told, MachineCodes.code_of_reply, MachineKept.Kept, Keeping.code_of_mark, Requests.{is_no_piece, kind_of, piece_of}, declared.words.answer.Answer.Answer}
+use Rattle.nvmesgl_c.specs.{Answers.nothing, MachineAnswers.told, MachineCodes.code_of_reply, MachineKept.{Kept, code_in}, Requests.{is_no_piece, kind_of, piece_of}, declared.words.answer.Answer.Answer}
 use Rattle.nvmesgl_c.specs.declared.words.piece.CPiece.{CPiece}
 use Rattle.step_core.specs.{Bench.Does, Values.{Step, Reply}}
 use Rattle.nvmesgl_c.specs.Requests as requests
@@ -11,7 +11,7 @@ use Rattle.step_core.specs.declared.step.Step.TheVariants as step
 
 -- a step of the bench that a handle keeps; one that keeps none stays as it is, and has its code
 abbrev pub DoesKept : Kept → Step → Result Reply ℕ → Kept → Type 0
-DoesKept (Err h) what (Err code) new = (code ≡ code_of_mark h.mark) × (new ≡ Err h)
+DoesKept (Err h) what (Err code) new = (code ≡ code_in h) × (new ≡ Err h)
 DoesKept (Ok t) what (Ok answer) (Ok new) = Does t what answer new
 DoesKept t what answer new = ⊥
 
@@ -24,7 +24,7 @@ pub record Says (t : Kept) (what : Step) (code : ℕ) (answer : Answer) (new : K
 
 -- a call that makes no step, for a cause; nothing changes
 abbrev pub Refuses : Kept → ℕ → ℕ → Answer → Kept → Type 0
-Refuses (Err h) cause code answer new = (code ≡ code_of_mark h.mark) × (answer ≡ nothing) × (new ≡ Err h)
+Refuses (Err h) cause code answer new = (code ≡ code_in h) × (answer ≡ nothing) × (new ≡ Err h)
 Refuses (Ok t) cause code answer new = (code ≡ cause) × (answer ≡ nothing) × (new ≡ Ok t)
 
 -- a call that is a step, or is refused memory for what the step takes along

@@ -1,7 +1,7 @@
 -- What the looks at a pool tell.
 use Rattle.std.specs.{List.Contains, Prelude.{◌≡◌, ◌≤◌, ℕ, Option, Some, None, Ok, Err, [], ◌∷◌, length}}
 use Rattle.machine_model.specs.{Claims.claims_of, Script.Table}
-use Rattle.nvmesgl_c.specs.{MachineKept.Kept, Keeping.code_of_mark, Owners.owner_of, declared.{machine.looks.CCounts.CCounts, words.owner.COwner.COwner}}
+use Rattle.nvmesgl_c.specs.{MachineKept.{Kept, code_in}, Owners.owner_of, declared.{machine.looks.CCounts.CCounts, words.owner.COwner.COwner}}
 use Rattle.page_ledger.specs.declared.owner.Owner.{Owner}
 use Rattle.machine_model.specs.Claims as claims
 
@@ -20,7 +20,7 @@ counts_of t =
 
 -- the counts, of a handle that is open
 abbrev pub TellsCounts : Kept → ℕ → CCounts → CCounts → Kept → Type 0
-TellsCounts (Err h) code old new left = (code ≡ code_of_mark h.mark) × (new ≡ old) × (left ≡ Err h)
+TellsCounts (Err h) code old new left = (code ≡ code_in h) × (new ≡ old) × (left ≡ Err h)
 TellsCounts (Ok t) code old new left = (code ≡ 0) × (new ≡ counts_of t) × (left ≡ Ok t)
 
 -- a page is looked for: its owner is that of the one claim in which it stands; there is none outside the pool
@@ -34,5 +34,5 @@ Shows (Some owner) code old new = (code ≡ 0) × (new ≡ owner_of owner)
 
 -- the owner of a page, of a handle that is open
 abbrev pub TellsOwner : Kept → ℕ → ℕ → COwner → COwner → Kept → Type 0
-TellsOwner (Err h) page code old new left = (code ≡ code_of_mark h.mark) × (new ≡ old) × (left ≡ Err h)
+TellsOwner (Err h) page code old new left = (code ≡ code_in h) × (new ≡ old) × (left ≡ Err h)
 TellsOwner (Ok t) page code old new left = (found : Option Owner) × FindsOwner t page found × Shows found code old new × (left ≡ Ok t)

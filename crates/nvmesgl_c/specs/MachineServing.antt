@@ -3,7 +3,7 @@ use Rattle.std.specs.List.{AllByRecursion}
 use Rattle.std.specs.Prelude.{◌≡◌, ◌++◌, ℕ, Bool, true, false, IsTrue, Option, Some, None, Ok, Err, List, [], ◌∷◌, count_by, length}
 use Rattle.machine_model.specs.{Script.Table, declared.words.Refusal.Refusal}
 use Rattle.step_core.specs.{Bench.DoesAll, Looks.IsAtRest, Values.{Step, Reply}}
-use Rattle.nvmesgl_c.specs.{Answers.nothing, Codes.code_of_refusal, MachineKept.Kept, Keeping.code_of_mark, declared.{machine.serve.{ServeEnd.ServeEnd, Served.Served}, words.answer.Answer.Answer}}
+use Rattle.nvmesgl_c.specs.{Answers.nothing, Codes.code_of_refusal, MachineKept.{Kept, code_in}, declared.{machine.serve.{ServeEnd.ServeEnd, Served.Served}, words.answer.Answer.Answer}}
 use Rattle.nvmesgl_c.specs.declared.machine.serve.ServeEnd.TheVariants as serve_end
 use Rattle.step_core.specs.declared.step.Reply.TheVariants as reply
 use Rattle.step_core.specs.declared.step.Step.TheVariants as step
@@ -58,6 +58,6 @@ told_serving served = record nothing { state = state_of_end served.end; count = 
 
 -- the call, of a handle that keeps a bench or none
 abbrev pub ServesKept : Kept → ℕ → Answer → Kept → Type 0
-ServesKept (Err h) code answer new = (code ≡ code_of_mark h.mark) × (answer ≡ nothing) × (new ≡ Err h)
+ServesKept (Err h) code answer new = (code ≡ code_in h) × (answer ≡ nothing) × (new ≡ Err h)
 ServesKept (Ok t) code answer (Err h) = ⊥
 ServesKept (Ok t) code answer (Ok new) = (served : Served) × Serves t served new × (code ≡ code_of_end served.end) × (answer ≡ told_serving served)

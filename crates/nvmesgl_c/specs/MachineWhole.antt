@@ -5,7 +5,7 @@ use Rattle.io_commands.specs.{Asked.Request, declared.request.Kind.Kind}
 use Rattle.entry_codec.specs.declared.status.Status.{Status}
 use Rattle.machine_model.specs.Script.{Table}
 use Rattle.step_core.specs.{Bench.{Does, DoesAll}, Values.{Step, Reply}}
-use Rattle.nvmesgl_c.specs.{Answers.{nothing, ended}, MachineAnswers.told_of, MachineCalls.Refuses, MachineCodes.code_of_answer, MachineKept.Kept, Keeping.code_of_mark, MachineServing.Serves, Requests.request_of, declared.words.answer.Answer.Answer}
+use Rattle.nvmesgl_c.specs.{Answers.{nothing, ended}, MachineAnswers.told_of, MachineCalls.Refuses, MachineCodes.code_of_answer, MachineKept.{Kept, code_in}, MachineServing.Serves, Requests.request_of, declared.words.answer.Answer.Answer}
 use Rattle.nvmesgl_c.specs.declared.machine.{carrying.Carried.{Carried, TheVariants.{Ended, NotReserved, GivenUp, Left}}, serve.Served.Served}
 use Rattle.io_commands.specs.declared.request.Kind.TheVariants as kind
 use Rattle.machine_model.specs.declared.words.Reaped.TheVariants as reaps
@@ -156,7 +156,7 @@ told_carried (Left cid why) = record nothing { state = 11; cid = cid }
 
 -- a command of a handle that keeps a bench or none
 abbrev pub CarriesKept : Kept → ℕ → Request → Option (List ℕ) → Result Carried ℕ → Kept → Type 0
-CarriesKept (Err h) q request bytes (Err code) new = (code ≡ code_of_mark h.mark) × (new ≡ Err h)
+CarriesKept (Err h) q request bytes (Err code) new = (code ≡ code_in h) × (new ≡ Err h)
 CarriesKept (Ok t) q request bytes (Ok carried) (Ok new) = Carries t q request bytes carried new
 CarriesKept t q request bytes carried new = ⊥
 

@@ -8,7 +8,6 @@ mod calls;
 mod code;
 mod doorbells;
 mod handle;
-mod keeping;
 mod looks;
 mod next;
 mod opening;

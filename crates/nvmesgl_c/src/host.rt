@@ -9,7 +9,6 @@ mod calls;
 mod code;
 mod commands;
 mod handle;
-mod keeping;
 mod looks;
 mod opening;
 mod options;

@@ -10,7 +10,6 @@ mod commands;
 mod controller;
 mod desk;
 mod handle;
-mod keeping;
 mod looks;
 mod opening;
 mod options;

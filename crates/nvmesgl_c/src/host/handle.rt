@@ -1,14 +1,16 @@
 //! A host that C keeps between its calls.
 
-ghost use Rattle.std.specs.Prelude.{◌≡◌, Option, None, Some};
+ghost use Rattle.std.specs.Prelude.{◌≡◌, Option, None, Some, Ok, Err, IfOk, IfErr, OnOk};
 ghost use Rattle.nvmesgl_c.specs.declared.host.tagged.Tagged.{Tagged};
 ghost use Rattle.nvmesgl_c.specs.Keeping.{IsMarked};
 ghost use Rattle.nvmesgl_c.specs.HostOwned.{bench_coded, kept_owns, own_mark};
 
 use crate::held::Held;
 use crate::host::tagged::Tagged;
+use crate::words::code::{cause_of_mark, code_of_mark};
 use std::alloc::Global;
 use std::marker::Model;
+use std::mem::replace;
 
 /// A host by its pointer, or none. It frees nothing by itself: a [`Handle`] does.
 #[repr(C)]
@@ -51,21 +53,23 @@ impl Kept {
 }
 
 /// The mark of a handle that keeps a host.
-pub const OWN_MARK: u32 = 0x7473_6F68;
+const OWN_MARK: u32 = 0x7473_6F68;
 
 /// A host that C keeps, or none. C holds the bytes of this, all zero before the opening, and never looks inside.
 #[repr(C)]
 pub struct Handle {
     /// What is kept.
-    pub kept: Kept,
+    kept: Kept,
     /// [`OWN_MARK`] where there is one, and 0 in a handle that is closed. A handle with another mark is none of this kind.
-    pub mark: u32,
+    mark: u32,
     pub ghost marked: { IsMarked own_mark mark kept.bench },
 }
 
 impl Handle {
+    ghost use Rattle.nvmesgl_c.specs.HostKept.{IsClosed, cause_in, code_in, kept_in};
+
     /// A handle that keeps a host.
-    pub fn of(host: Box<Tagged, Global>) -> Handle
+    fn of(host: Box<Tagged, Global>) -> Handle
         ensures { result.kept.bench ≡ Some host.value }
     {
         Handle {
@@ -75,7 +79,7 @@ impl Handle {
     }
 
     /// A handle that is closed.
-    pub fn closed(alloc: Global) -> Handle
+    fn closed(alloc: Global) -> Handle
         ensures none { result.kept.bench ≡ None }
         ensures closed { result.mark ≡ 0 }
     {
@@ -86,11 +90,45 @@ impl Handle {
     }
 
     /// What is kept.
-    pub fn into_kept(self) -> Kept
+    fn into_kept(self) -> Kept
         ensures { result.bench ≡ self.kept.bench }
     {
         let Handle { kept, mark: _ } = self;
         kept
+    }
+
+    /// Takes the host out for a call. A handle that keeps none stays as it is.
+    ///
+    /// # Errors
+    ///
+    /// The code, where none is kept: the handle is closed, or none of this kind.
+    pub fn take(&mut self, alloc: Global) -> Result<Box<Tagged, Global>, u32>
+        ensures taken { IfOk result (λ taken. kept_in self.old ≡ Ok taken.value) }
+        ensures left { OnOk result (kept_in self.new ≡ Err self.new) }
+        ensures closed { OnOk result (IsClosed self.new) }
+        ensures none { IfErr result (λ code. kept_in self.old ≡ Err self.old) }
+        ensures same { IfErr result (λ code. kept_in self.new ≡ Err self.old) }
+        ensures code { IfErr result (λ code. code ≡ code_in self.old) }
+    {
+        if self.mark == OWN_MARK {
+            let kept = replace(self, Handle::closed(alloc)).into_kept();
+            return Ok(kept.into_held().into_box());
+        }
+        Err(code_of_mark(self.mark))
+    }
+
+    /// Keeps a host, in the place of what was there.
+    pub fn put(&mut self, host: Box<Tagged, Global>)
+        ensures { kept_in self.new ≡ Ok host.value }
+    {
+        *self = Handle::of(host);
+    }
+
+    /// What an opening is refused with for what the handle is: it is open, or none of this kind.
+    pub fn cause(&self) -> Option<u32>
+        ensures { result ≡ cause_in (kept_in self.now) }
+    {
+        cause_of_mark(self.mark, OWN_MARK)
     }
 }
 

@@ -44,6 +44,16 @@ pub fn code_of_mark(mark: u32) -> u32
     if mark == 0 { CLOSED } else { NO_HANDLE }
 }
 
+/// What an opening of a handle is refused with, by its mark and by that of its kind: it is open, or none of this kind.
+pub fn cause_of_mark(mark: u32, own: u32) -> Option<u32>
+    ensures { result ≡ keeping.cause_by own mark }
+{
+    if mark == own {
+        return Some(OPEN);
+    }
+    if mark == 0 { None } else { Some(NO_HANDLE) }
+}
+
 /// The code of a fault of a request.
 fn code_of_request_fault(why: RequestFault) -> u32
     ensures { result ≡ codes.code_of_request_fault why }
