@@ -53,7 +53,7 @@ typedef struct nvmehost_doorbell {
 
 /* A completion that nvmehost_poll took. */
 typedef struct nvmehost_ended {
-    uint64_t tag;   /* of NVMESGL_REAP_DONE: what the command was sent with, and 0 where it was reserved by nvmehost_reserve; else 0 */
+    uint64_t tag;   /* of NVMESGL_REAP_DONE: the command's, and 0 where it was reserved by nvmehost_reserve; else 0 */
     uint32_t state; /* NVMESGL_REAP_DONE to NVMESGL_REAP_UNKNOWN_ID */
     uint32_t code;  /* of NVMESGL_REAP_DONE: the code of the collection of the command; else 0 */
     uint32_t dw0;   /* of NVMESGL_REAP_ADMIN_DONE */
@@ -173,6 +173,10 @@ static inline void nvmehost_write_doorbell(volatile void *registers, unsigned st
  * Refused: NO_KIND, BAD_PIECE, NO_QUEUE, DELETING, a fault of the request (TOO_MANY_PIECES to LENGTH_MISMATCH), NO_IDENTIFIER, NO_PAGES, MEMORY. */
 uint32_t nvmehost_reserve(nvmehost *, uint16_t q, uint32_t kind, uint64_t slba, uint32_t blocks, const nvmesgl_piece *pieces, size_t piece_count,
                           nvmesgl_answer *) NVMESGL_CALL(1, 8);
+/* Reserves a command as nvmehost_reserve does, with a tag: 64 bits of the caller's, which nvmehost_reap, nvmehost_collect and nvmehost_poll tell when the command has ended, also where a
+ * reset ended it. One that nvmehost_reserve reserves has the tag 0, whatever its identifier had before. Refused: as nvmehost_reserve, and MEMORY for a tag that is not 0. */
+uint32_t nvmehost_reserve_tagged(nvmehost *, uint16_t q, uint32_t kind, uint64_t slba, uint32_t blocks, const nvmesgl_piece *pieces, size_t piece_count, uint64_t tag,
+                                 nvmesgl_answer *) NVMESGL_CALL(1, 9);
 /* Fills the draft of a Write or a Compare with the bytes, and zeros after them. Refused: NO_VALUE, NOT_A_SOURCE, WRONG_LENGTH. */
 uint32_t nvmehost_fill(nvmehost *, uint16_t q, uint16_t cid, const uint8_t *bytes, size_t byte_count, nvmesgl_answer *) NVMESGL_CALL(1, 6);
 /* Lays the draft's chain. Refused: NO_VALUE, MEMORY. */
@@ -181,7 +185,7 @@ uint32_t nvmehost_build(nvmehost *, uint16_t q, uint16_t cid, nvmesgl_answer *) 
 uint32_t nvmehost_submit(nvmehost *, uint16_t q, uint16_t cid, nvmesgl_answer *) NVMESGL_CALL(1, 4);
 /* Cancels a draft: its pages and its identifier are free. Refused: NO_VALUE. */
 uint32_t nvmehost_cancel(nvmehost *, uint16_t q, uint16_t cid, nvmesgl_answer *) NVMESGL_CALL(1, 4);
-/* Collects a command that has ended, by its ticket: answer.sct and answer.sc. Its pages are out of the pool. Refused: NO_VALUE, NOT_YET, MEMORY. */
+/* Collects a command that has ended, by its ticket: answer.sct and answer.sc, and its answer.tag. Its pages are out of the pool. Refused: NO_VALUE, NOT_YET, MEMORY. */
 uint32_t nvmehost_collect(nvmehost *, uint16_t q, uint16_t cid, nvmesgl_answer *) NVMESGL_CALL(1, 4);
 /* Gathers the bytes of a finished Read into the front of a buffer: answer.bytes; none of a Write or a Compare.
  * Refused: NO_VALUE, MEMORY, TOO_SHORT (the buffer stays as it was). */
@@ -190,10 +194,10 @@ uint32_t nvmehost_gather(nvmehost *, uint16_t q, uint16_t cid, uint8_t *buffer, 
 uint32_t nvmehost_release(nvmehost *, uint16_t q, uint16_t cid, nvmesgl_answer *) NVMESGL_CALL(1, 4);
 /* Several of these calls in one, over the bytes of several buffers, which are as one: the bytes of the first, then those of the second, and so on. All together they are 1 to
  * 2,048 whole blocks of 512 bytes; a data page each takes 4,096 of them, and the last what is left. Reserves a command, fills it with the bytes where it is a Write or a Compare,
- * builds it and submits it (answer: as nvmehost_reserve). It is not rung. Of a Read only the lengths are looked at: its bytes are gathered once it has ended. The tag is the
- * caller's: nvmehost_poll tells it when the command has ended.
+ * builds it and submits it (answer: as nvmehost_reserve). It is not rung. Of a Read only the lengths are looked at: its bytes are gathered once it has ended. The tag is
+ * that of nvmehost_reserve_tagged.
  * Refused: NO_KIND, BAD_COUNT for more than 1,048,576 bytes, and then what nvmehost_reserve (BAD_COUNT for fewer than 512 bytes, LENGTH_MISMATCH where the last block is cut
- * short), nvmehost_fill, nvmehost_build and nvmehost_submit are refused for, and MEMORY for the tag; nothing of the command is left then: one that was reserved is cancelled. */
+ * short), nvmehost_fill, nvmehost_build and nvmehost_submit are refused for, and MEMORY for a tag that is not 0; nothing of the command is left then: one that was reserved is cancelled. */
 uint32_t nvmehost_submit_iov(nvmehost *, uint16_t q, uint32_t kind, uint64_t slba, const nvmesgl_iovec *buffers, size_t buffer_count, uint64_t tag,
                              nvmesgl_answer *) NVMESGL_CALL(1, 8);
 /* Gathers the bytes of a finished Read into the buffers, one after the other: answer.bytes; none of a Write or a Compare.
@@ -207,7 +211,8 @@ uint32_t nvmehost_abort(nvmehost *, uint16_t q, uint16_t cid, nvmesgl_answer *) 
 
 /* Tells the value for the queue's tail doorbell, with which the device hears all that was submitted. Refused: NO_QUEUE. */
 uint32_t nvmehost_ring(nvmehost *, uint16_t q, nvmehost_doorbell *, nvmesgl_answer *) NVMESGL_CALL(1, 3, 4);
-/* Takes one completion: answer.state says what was found (NVMESGL_REAP_EMPTY to NVMESGL_REAP_UNKNOWN_ID). Where one was taken, the value for the completion queue's head doorbell is told.
+/* Takes one completion: answer.state says what was found (NVMESGL_REAP_EMPTY to NVMESGL_REAP_UNKNOWN_ID), and of NVMESGL_REAP_DONE answer.tag is the command's. Where one was taken, the
+ * value for the completion queue's head doorbell is told.
  * Refused: NO_QUEUE. */
 uint32_t nvmehost_reap(nvmehost *, uint16_t q, nvmehost_doorbell *, nvmesgl_answer *) NVMESGL_CALL(1, 3, 4);
 /* Takes completions, each as nvmehost_reap would, as many as the buffer holds, and collects the command that each ends, as nvmehost_collect would. They stand in the front of the buffer, and

@@ -33,7 +33,7 @@ extern "C" {
 /* Version --------------------------------------------------------------------------------------------------------- */
 
 /* The version of this header, and of the library that is linked. Versions 0.N may differ in any call and struct. */
-#define NVMESGL_VERSION "0.4.0"
+#define NVMESGL_VERSION "0.5.0"
 #define NVMESGL_VERSION_MAJOR 0
 #define NVMESGL_VERSION_MINOR 4
 #define NVMESGL_VERSION_PATCH 0
@@ -225,7 +225,8 @@ typedef struct nvmesgl_answer {
     uint8_t sct;            /* status code type: of a walk's fault, a reap, a collect and a whole command */
     uint8_t sc;             /* status code */
     uint32_t count;         /* of a serve: commands that it completed */
-    uint32_t reserved[5];   /* 0 */
+    uint32_t reserved[3];   /* 0 */
+    uint64_t tag;           /* of nvmehost_reap and nvmehost_collect: that of the command of an I/O queue that has ended */
 } nvmesgl_answer;
 
 typedef struct nvmesgl_pages {

@@ -1,5 +1,6 @@
 /* Commands whose bytes lie in several buffers: buffers SEED COMMANDS. A machine carries arbitrary ones by one call each, and another the same over one buffer: each byte, code and answer is the
- * same, and no byte around a buffer changes. Then a host sends such commands to a controller over memory that both share, and takes their completions by polls. */
+ * same, and no byte around a buffer changes. Then a host sends such commands to a controller over memory that both share, and takes their completions by polls and by single calls; each tells
+ * the tag with which its command was sent. */
 #include "arbitrary.h"
 #include "nvmectl.h"
 #include "nvmehost.h"
@@ -11,7 +12,7 @@
 enum { PAGE = 4096, BLOCKS = 64, MOST = 40 * 512, PARTS = 7, PAGES = 64, ENTRIES = 8 };
 
 static nvmesgl_answer answer, twin_answer;
-static unsigned long codes[64], refused, polled, full;
+static unsigned long codes[64], refused, polled, full, reaped, reset;
 
 static void fail(const char *why, uint32_t code) {
     printf("%s: %s (%u)\n", why, nvmesgl_text(code), code);
@@ -164,22 +165,66 @@ static void send(void) {
     outstanding[answer.cid] = next;
 }
 
-/* A command that is reserved by its own call has no tag, whatever its identifier had before. */
-static void send_without_tag(void) {
+/* A command that is reserved by its own call has the tag that the call names, and else none, whatever its identifier had before. */
+static void send_by_steps(void) {
     nvmesgl_piece piece = {0, 512, NVMESGL_PIECE};
     static sent next;
-    if (waits(NVMESGL_READ) || nvmehost_reserve(&host, 1, NVMESGL_READ, 3, 1, &piece, 1, &answer) != NVMESGL_DONE) return;
+    next.is = true, next.kind = NVMESGL_READ, next.count = 512, next.slba = 3, next.tag = below(2) == 0 ? 0 : (uint64_t)below(1u << 31) << 32 | below(3);
+    if (waits(NVMESGL_READ)) return;
+    uint32_t code = next.tag == 0 && below(2) == 0 ? nvmehost_reserve(&host, 1, NVMESGL_READ, 3, 1, &piece, 1, &answer)
+                                                   : nvmehost_reserve_tagged(&host, 1, NVMESGL_READ, 3, 1, &piece, 1, next.tag, &answer);
+    if (answer.tag != 0) fail("a reservation tells a tag", answer.cid);
+    if (code != NVMESGL_DONE) return;
     uint16_t cid = answer.cid;
-    next.is = true, next.kind = NVMESGL_READ, next.count = 512, next.slba = 3, next.tag = 0;
     want("build", nvmehost_build(&host, 1, cid, &answer), NVMESGL_DONE);
     want("submit", nvmehost_submit(&host, 1, cid, &answer), NVMESGL_DONE);
     outstanding[cid] = next;
 }
 
-/* Completions are taken by one call; each command that has ended is gathered and released. */
+/* A command that has ended and is collected is gathered and released. */
+static void finish(uint16_t cid, uint8_t sct, uint8_t sc) {
+    static uint8_t bytes[4 * 512];
+    sent *command = &outstanding[cid];
+    bool inside = command->slba + command->count / 512 <= BLOCKS;
+    if (command->kind != NVMESGL_COMPARE && (sct == 0 && sc == 0) != inside) fail("a status", sc);
+    cut(command->count);
+    uint8_t short_of = 0xEE;
+    nvmesgl_iovec little = {&short_of, command->kind == NVMESGL_READ ? 1 : 0};
+    want("gather", nvmehost_gather_iov(&host, 1, cid, &little, 1, &answer), command->kind == NVMESGL_READ ? NVMESGL_TOO_SHORT : NVMESGL_DONE);
+    if (short_of != 0xEE || answer.bytes != (command->kind == NVMESGL_READ ? command->count : 0)) fail("a short buffer", short_of);
+    want("gather", nvmehost_gather_iov(&host, 1, cid, buffers, PARTS, &answer), NVMESGL_DONE);
+    unspoilt();
+    get(bytes);
+    if (command->kind == NVMESGL_READ && inside && memcmp(bytes, image + 512 * command->slba, command->count) != 0) fail("other bytes", cid);
+    want("release", nvmehost_release(&host, 1, cid, &answer), NVMESGL_DONE);
+    if (answer.tag != 0) fail("a release tells a tag", cid);
+    command->is = false;
+}
+
+/* A completion is taken and its command collected by single calls: both tell its tag, and where there is none, or it has not ended, 0 is told. */
+static void reap(void) {
+    nvmehost_doorbell bell;
+    uint16_t other = (uint16_t)below(ENTRIES);
+    uint32_t code = nvmehost_collect(&host, 1, other, &answer);
+    if (code != NVMESGL_NO_VALUE && code != NVMESGL_NOT_YET) fail("a command that has not ended", code);
+    if (answer.tag != 0) fail("the tag of a command that has not ended", other);
+    want("reap", nvmehost_reap(&host, 1, &bell, &answer), NVMESGL_DONE);
+    if (answer.state == NVMESGL_REAP_EMPTY) {
+        if (answer.tag != 0) fail("a tag where nothing was found", answer.state);
+        return;
+    }
+    uint16_t cid = answer.cid;
+    if (answer.state != NVMESGL_REAP_DONE || !outstanding[cid].is || answer.tag != outstanding[cid].tag) fail("a reap tells another tag", cid);
+    want("head", nvmectl_head(&controller, 1, (uint16_t)bell.value), NVMESGL_DONE);
+    want("collect", nvmehost_collect(&host, 1, cid, &answer), NVMESGL_DONE);
+    if (answer.tag != outstanding[cid].tag) fail("a collection tells another tag", cid);
+    finish(cid, answer.sct, answer.sc);
+    reaped++;
+}
+
+/* Completions are taken by one call. */
 static void poll(void) {
     static nvmehost_ended ended[ENTRIES];
-    static uint8_t bytes[4 * 512];
     nvmehost_doorbell bell;
     size_t most = below(ENTRIES), count;
     want("poll", nvmehost_poll(&host, 1, ended, most, &count, &bell, &answer), NVMESGL_DONE);
@@ -191,19 +236,21 @@ static void poll(void) {
         sent *command = &outstanding[ended[i].cid];
         if (ended[i].state != NVMESGL_REAP_DONE || ended[i].code != NVMESGL_DONE || !command->is) fail("a completion", ended[i].state);
         if (ended[i].tag != command->tag) fail("another tag", ended[i].cid);
-        bool inside = command->slba + command->count / 512 <= BLOCKS;
-        if (command->kind != NVMESGL_COMPARE && (ended[i].sct == 0 && ended[i].sc == 0) != inside) fail("a status", ended[i].sc);
-        cut(command->count);
-        uint8_t short_of = 0xEE;
-        nvmesgl_iovec little = {&short_of, command->kind == NVMESGL_READ ? 1 : 0};
-        want("gather", nvmehost_gather_iov(&host, 1, ended[i].cid, &little, 1, &answer), command->kind == NVMESGL_READ ? NVMESGL_TOO_SHORT : NVMESGL_DONE);
-        if (short_of != 0xEE || answer.bytes != (command->kind == NVMESGL_READ ? command->count : 0)) fail("a short buffer", short_of);
-        want("gather", nvmehost_gather_iov(&host, 1, ended[i].cid, buffers, PARTS, &answer), NVMESGL_DONE);
-        unspoilt();
-        get(bytes);
-        if (command->kind == NVMESGL_READ && inside && memcmp(bytes, image + 512 * command->slba, command->count) != 0) fail("other bytes", ended[i].cid);
-        want("release", nvmehost_release(&host, 1, ended[i].cid, &answer), NVMESGL_DONE);
-        command->is = false;
+        finish(ended[i].cid, ended[i].sct, ended[i].sc);
+    }
+}
+
+/* Where the host begins again every command that was submitted has ended, and its collection tells its tag. */
+static void begin_again(void) {
+    for (int i = 0; i < ENTRIES; i++) send();
+    want("reset", nvmehost_reset(&host, &answer), NVMESGL_DONE);
+    for (uint16_t cid = 0; cid < ENTRIES; cid++) {
+        if (!outstanding[cid].is) continue;
+        want("collect", nvmehost_collect(&host, 1, cid, &answer), NVMESGL_DONE);
+        if (answer.tag != outstanding[cid].tag || answer.sct != 0 || answer.sc == 0) fail("a command that a reset ended", cid);
+        want("release", nvmehost_release(&host, 1, cid, &answer), NVMESGL_DONE);
+        outstanding[cid].is = false;
+        reset++;
     }
 }
 
@@ -223,14 +270,16 @@ static void by_polls(unsigned long left) {
     want("open", nvmectl_open(&controller, &own, queues, 2, NULL, 0), NVMESGL_DONE);
     while (left-- != 0) {
         if (below(3) != 0) send();
-        else if (below(4) == 0) send_without_tag();
+        else if (below(4) == 0) send_by_steps();
         if (below(3) == 0) {
             want("ring", nvmehost_ring(&host, 1, &bell, &answer), NVMESGL_DONE);
             want("tail", nvmectl_tail(&controller, 1, (uint16_t)bell.value), NVMESGL_DONE);
             serve();
         }
         if (below(3) == 0) poll();
+        else if (below(3) == 0) reap();
     }
+    begin_again();
     size_t count;
     want("no queue", nvmehost_poll(&host, 5, NULL, 0, &count, &bell, &answer), NVMESGL_DONE); /* no room: no reap */
     nvmehost_ended ended;
@@ -260,7 +309,7 @@ int main(int argc, char **argv) {
     if (answer.sct != 0 || answer.sc != 0) fail("a buffer that stands there twice", answer.sc);
     nvmesgl_close(&machine), nvmesgl_close(&twin);
     by_polls(left);
-    printf("%lu commands polled, %lu polls that were full, %lu commands refused by the host; codes:", polled, full, refused);
+    printf("%lu commands polled, %lu polls that were full, %lu reaped by single calls, %lu ended by a reset, %lu refused by the host; codes:", polled, full, reaped, reset, refused);
     for (unsigned i = 0; i < 64; i++)
         if (codes[i] != 0) printf(" %u:%lu", i, codes[i]);
     printf("\n");

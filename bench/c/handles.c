@@ -88,6 +88,7 @@ static void host_calls(nvmehost *h) {
     STRANGE(nvmehost_ring(h, 1, &bell, &answer));
     STRANGE(nvmehost_reap(h, 1, &bell, &answer));
     STRANGE(nvmehost_poll(h, 1, &ended, 1, &count, &bell, &answer));
+    STRANGE(nvmehost_reserve_tagged(h, 1, NVMESGL_READ, 0, 1, &piece, 1, 7, &answer));
     STRANGE(nvmehost_submit_iov(h, 1, NVMESGL_READ, 0, &buffer, 1, 7, &answer));
     STRANGE(nvmehost_gather_iov(h, 1, 0, &buffer, 1, &answer));
     STRANGE(nvmehost_read(h, 0, block, 512));

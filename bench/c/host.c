@@ -141,6 +141,7 @@ static uint32_t arbitrary(void) {
         size_t count = below(4);
         for (size_t i = 0; i < count; i++) pieces[i] = (nvmesgl_piece){8 * below(500), 512 * below(3), below(5) == 0};
         if (below(3) != 0) pieces[0] = (nvmesgl_piece){0, 512 * blocks, NVMESGL_PIECE}, count = 1;
+        if (below(2) == 0) return nvmehost_reserve_tagged(&host, q, below(4), below(16), blocks, pieces, count, below(3), &answer);
         return nvmehost_reserve(&host, q, below(4), below(16), blocks, pieces, count, &answer);
     }
     case 2:

@@ -16,7 +16,7 @@ int main(void) {
     STRUCT(nvmesgl_answer), FIELD(nvmesgl_answer, state), FIELD(nvmesgl_answer, dw0), FIELD(nvmesgl_answer, need), FIELD(nvmesgl_answer, free);
     FIELD(nvmesgl_answer, data_pages), FIELD(nvmesgl_answer, chain_pages), FIELD(nvmesgl_answer, bytes), FIELD(nvmesgl_answer, touched);
     FIELD(nvmesgl_answer, touched_count), FIELD(nvmesgl_answer, cid), FIELD(nvmesgl_answer, sct), FIELD(nvmesgl_answer, sc);
-    FIELD(nvmesgl_answer, count), FIELD(nvmesgl_answer, reserved), END;
+    FIELD(nvmesgl_answer, count), FIELD(nvmesgl_answer, reserved), FIELD(nvmesgl_answer, tag), END;
     STRUCT(nvmesgl_pages), FIELD(nvmesgl_pages, pages), FIELD(nvmesgl_pages, free_pages), FIELD(nvmesgl_pages, queue_pages);
     FIELD(nvmesgl_pages, chain_pages), FIELD(nvmesgl_pages, data_pages), FIELD(nvmesgl_pages, trusted), FIELD(nvmesgl_pages, reserved), END;
     STRUCT(nvmesgl_page_owner), FIELD(nvmesgl_page_owner, kind), FIELD(nvmesgl_page_owner, q), FIELD(nvmesgl_page_owner, cid), FIELD(nvmesgl_page_owner, reserved), END;

@@ -4,11 +4,17 @@ from __future__ import annotations
 
 import ctypes
 from ctypes import byref, c_uint8
-from typing import Any, Dict, Iterable
+from typing import Any, Dict, Iterable, Tuple
 
 from ._library import CPiece, PageOwner, fits, lent, lent_to_write
 from ._opened import Opened
 from .words import Code, Kind, Owner, OwnerKind, Piece, Refused, Reserved, Status
+
+
+def lent_pieces(pieces: Iterable[Piece]) -> Tuple["ctypes.Array[CPiece]", int]:
+    """The pieces as C takes them, and how many there are."""
+    items = [CPiece(fits(p.offset, 32), fits(p.len, 32), int(p.bucket)) for p in pieces]
+    return (CPiece * len(items))(*items), len(items)
 
 
 class Driver(Opened):
@@ -23,8 +29,7 @@ class Driver(Opened):
     def reserve(self, q: int, kind: Kind, slba: int, blocks: int, pieces: Iterable[Piece]) -> Reserved:
         """Reserves a command of `blocks` blocks of 512 bytes from `slba` on, as a draft: `cid`, `data_pages`, `chain_pages`. Its pages are out of the
         pool until it is submitted."""
-        items = [CPiece(fits(p.offset, 32), fits(p.len, 32), int(p.bucket)) for p in pieces]
-        told = self._call("reserve", q, kind, slba, blocks, (CPiece * len(items))(*items), len(items))
+        told = self._call("reserve", q, kind, slba, blocks, *lent_pieces(pieces))
         return Reserved(told.cid, told.data_pages, told.chain_pages)
 
     def fill(self, q: int, cid: int, content: Any) -> None:

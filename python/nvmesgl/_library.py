@@ -135,7 +135,8 @@ class Answer(Structure):
         ("sct", c_uint8),
         ("sc", c_uint8),
         ("count", c_uint32),
-        ("reserved", c_uint32 * 5),
+        ("reserved", c_uint32 * 3),
+        ("tag", c_uint64),
     ]
 
 

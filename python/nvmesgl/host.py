@@ -26,11 +26,11 @@ import enum
 from ctypes import POINTER, Structure, byref, c_bool, c_size_t, c_uint8, c_uint16, c_uint32, c_uint64, c_void_p
 from typing import Any, Dict, Iterable, List, NamedTuple, Optional
 
-from ._driver import Driver
-from ._library import COMMAND_CALLS, OPTION_WORDS, PAGE_COUNTS, RESERVED, U16, U32, U64, Answer, Handle, IoVec, PageOwner, all_lent, declare, fits, lent
-from .words import Code, Kind, Refused, Reserved, State, Status
+from ._driver import Driver, lent_pieces
+from ._library import COMMAND_CALLS, OPTION_WORDS, PAGE_COUNTS, RESERVED, U16, U32, U64, Answer, CPiece, Handle, IoVec, PageOwner, all_lent, declare, fits, lent
+from .words import Code, Kind, Piece, Refused, Reserved, State, Status
 
-__all__ = ["Counts", "Doorbell", "Ended", "Host", "PAGE_BYTES", "Place", "Polled", "Queue", "QueueState", "Reaped", "Right", "Rings", "Run"]
+__all__ = ["Collected", "Counts", "Doorbell", "Ended", "Host", "PAGE_BYTES", "Place", "Polled", "Queue", "QueueState", "Reaped", "Right", "Rings", "Run"]
 
 PAGE_BYTES = 4096
 
@@ -66,18 +66,25 @@ class Doorbell(NamedTuple):
 
 class Reaped(NamedTuple):
     """What a reap found. The identifier and the status are there where a command has ended; dw0 is that of queue 0. The doorbell is that
-    of the completion queue's head, where a completion was taken."""
+    of the completion queue's head, where a completion was taken. `tag` is that of a command of an I/O queue, and else 0."""
 
     state: State
     cid: Optional[int]
     status: Optional[Status]
     dw0: Optional[int]
     doorbell: Optional[Doorbell]
+    tag: int
+
+
+class Collected(Status):
+    """How a command ended that was collected; `tag` is the command's, and 0 where it has none."""
+
+    tag: int = 0
 
 
 class Ended(NamedTuple):
-    """A completion that a poll took. The identifier and the status are there where a command has ended; dw0 is that of queue 0. Of a command of an I/O queue `tag` is
-    that which it was sent with, and else 0; `code` is that of its collection: DONE, or why it has ended and is not collected."""
+    """A completion that a poll took. The identifier and the status are there where a command has ended; dw0 is that of queue 0. `tag` is that of a command of an I/O
+    queue, and else 0; `code` is that of its collection: DONE, or why it has ended and is not collected."""
 
     state: State
     cid: Optional[int]
@@ -194,6 +201,7 @@ _CALLS: Dict[str, List[Any]] = {
     "ring": [_HANDLE, U16, _BELL, _ANSWER],
     "reap": [_HANDLE, U16, _BELL, _ANSWER],
     "poll": [_HANDLE, U16, POINTER(CEnded), c_size_t, POINTER(c_size_t), _BELL, _ANSWER],
+    "reserve_tagged": [_HANDLE, U16, U32, U64, U32, POINTER(CPiece), c_size_t, U64, _ANSWER],
     "submit_iov": [_HANDLE, U16, U32, U64, POINTER(IoVec), c_size_t, U64, _ANSWER],
     "gather_iov": [_HANDLE, U16, U16, POINTER(IoVec), c_size_t, _ANSWER],
     "reset": [_HANDLE, _ANSWER],
@@ -267,11 +275,26 @@ class Host(Driver):
             self._functions["close_at"](self._at, byref(memory))
             self._memory = self._lent = None
 
+    # A command, with its tag
+
+    def reserve(self, q: int, kind: Kind, slba: int, blocks: int, pieces: Iterable[Piece], tag: int = 0) -> Reserved:
+        """Reserves a command of `blocks` blocks of 512 bytes from `slba` on, as a draft: `cid`, `data_pages`, `chain_pages`. Its pages are out of the
+        pool until it is submitted. `reap`, `collect` and `poll` tell the tag, of 64 bits, when the command has ended."""
+        told = self._call("reserve_tagged", q, kind, slba, blocks, *lent_pieces(pieces), tag)
+        return Reserved(told.cid, told.data_pages, told.chain_pages)
+
+    def collect(self, q: int, cid: int) -> Collected:
+        """Collects a command that has ended: its status, with its `tag`. Its pages are out of the pool."""
+        told = self._call("collect", q, cid)
+        collected = Collected(told.sct, told.sc)
+        collected.tag = int(told.tag)
+        return collected
+
     # A command of several buffers
 
     def send(self, q: int, kind: Kind, slba: int, buffers: Iterable[Any], tag: int = 0) -> Reserved:
         """Reserves a command of the bytes of several buffers, one after the other, fills it with them where it is a Write or a Compare, builds it and submits it. It is
-        not rung. Only all of them together are whole blocks; of a Read only the lengths are looked at. `poll` tells the tag, of 64 bits, when the command has ended.
+        not rung. Only all of them together are whole blocks; of a Read only the lengths are looked at. The tag is that of `reserve`.
         Refused, nothing of the command is left."""
         array, count, _held = all_lent(buffers)
         told = self._call("submit_iov", q, kind, slba, array, count, tag)
@@ -291,14 +314,14 @@ class Host(Driver):
         return Doorbell(self._bell.offset, self._bell.value)
 
     def reap(self, q: int) -> Reaped:
-        """Takes one completion, if a new one stands there: `state`, `cid`, `status`, `dw0`, and the `doorbell` to write then."""
+        """Takes one completion, if a new one stands there: `state`, `cid`, `status`, `dw0`, the `doorbell` to write then, and the `tag`."""
         told = self._call("reap", q, byref(self._bell))
         state = State(told.state)
         doorbell = Doorbell(self._bell.offset, self._bell.value) if self._bell.rings else None
         if state not in (State.REAP_DONE, State.REAP_ADMIN_DONE):
-            return Reaped(state, None, None, None, doorbell)
+            return Reaped(state, None, None, None, doorbell, 0)
         status = Status(told.sct, told.sc)
-        return Reaped(state, told.cid, status, told.dw0 if state == State.REAP_ADMIN_DONE else None, doorbell)
+        return Reaped(state, told.cid, status, told.dw0 if state == State.REAP_ADMIN_DONE else None, doorbell, told.tag)
 
     def poll(self, q: int, most: int = 64) -> Polled:
         """Takes completions, each as `reap` does, at most so many, and collects the command that each ends, as `collect` does. A command whose entry has another

@@ -66,7 +66,7 @@ def test_calls():
         assert (host.may(rings.submission[0]), host.may(rings.completion[0])) == (Right.READ, Right.WRITE)
         assert host.queue(2).submission == host.queue(2).completion == range(0)
 
-        cid = host.reserve(1, Kind.READ, 0, 1, [Piece(8, 512)]).cid
+        cid = host.reserve(1, Kind.READ, 0, 1, [Piece(8, 512)], 7 << 61).cid
         data = [p for p in range(32) if host.owner(p).kind == OwnerKind.DATA]
         assert host.data_place(1, cid, 0) == Place(data[0], 8, 512)
         refused(Code.NO_PIECE, host.data_place, 1, cid, 1)
@@ -83,9 +83,10 @@ def test_calls():
         assert host.ready(1)
         told = host.reap(1)
         assert host.may(data[0]) == Right.NOTHING and not host.ready(1)
-        assert (told.state, told.cid, told.doorbell) == (State.REAP_DONE, cid, Doorbell(0x100C, 1)), told
-        assert host.reap(1).state == State.REAP_EMPTY and host.reap(1).doorbell is None
-        assert host.collect(1, cid) == (0, 0)
+        assert (told.state, told.cid, told.doorbell, told.tag) == (State.REAP_DONE, cid, Doorbell(0x100C, 1), 7 << 61), told
+        assert host.reap(1) == (State.REAP_EMPTY, None, None, None, None, 0)
+        collected = host.collect(1, cid)
+        assert collected == (0, 0) and collected.tag == 7 << 61
         assert host.gather(1, cid) == bytes([0x5A]) * 512
         host.release(1, cid)
         assert host.runs(1, cid) == [] and host.may(32) == Right.NOTHING
@@ -137,7 +138,10 @@ def test_commands_of_several_buffers():
         assert [(entry.state, entry.cid, entry.dw0) for entry in told] == [(State.REAP_ADMIN_DONE, cid, 0)]
         refused(Code.BAD_COUNT, host.send, 1, Kind.READ, 0, [bytes(511)])
         refused(Code.LENGTH_MISMATCH, host.send, 1, Kind.WRITE, 0, [bytes(512), b"x"])
+        left = host.send(1, Kind.READ, 0, [bytes(512)], 9).cid
         host.reset()
+        collected = host.collect(1, left)
+        assert collected != (0, 0) and collected.tag == 9
         refused(Code.NO_QUEUE, host.poll, 1)
         refused(Code.NO_QUEUE, host.send, 1, Kind.READ, 0, [bytes(512)])
         refused(Code.NO_KIND, host.send, 0, 3, 0, [])

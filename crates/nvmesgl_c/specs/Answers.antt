@@ -26,7 +26,8 @@ nothing =
       sct = 0;
       sc = 0;
       count = 0;
-      reserved = 0 ∷ 0 ∷ 0 ∷ 0 ∷ 0 ∷ [];
+      reserved = 0 ∷ 0 ∷ 0 ∷ [];
+      tag = 0;
     }
 
 -- the first four pages, with 0 behind them

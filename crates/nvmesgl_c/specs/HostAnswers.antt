@@ -30,10 +30,15 @@ abbrev pub shown_bell : Option Doorbell → CDoorbell
 shown_bell (Some bell) = record { offset = bell.offset; value = bell.value; rings = true; reserved = 0 ∷ 0 ∷ 0 ∷ 0 ∷ [] }
 shown_bell None = record { offset = 0; value = 0; rings = false; reserved = 0 ∷ 0 ∷ 0 ∷ 0 ∷ [] }
 
+abbrev pub bell_in : Reply → CDoorbell
+bell_in (reply.Rung bell) = shown_bell (Some bell)
+bell_in (reply.Reaps what bell) = shown_bell bell
+bell_in r = shown_bell None
+
+-- of a call on a handle that keeps nothing there is none
 abbrev pub bell_of : Result Reply ℕ → CDoorbell
-bell_of (Ok (reply.Rung bell)) = shown_bell (Some bell)
-bell_of (Ok (reply.Reaps what bell)) = shown_bell bell
-bell_of answer = shown_bell None
+bell_of (Ok answer) = bell_in answer
+bell_of (Err code) = shown_bell None
 
 abbrev pub told_not_opened : NotOpened → Answer
 told_not_opened (not_opened.Refused why) = words.not_opened why

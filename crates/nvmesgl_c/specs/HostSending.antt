@@ -3,16 +3,10 @@ use Rattle.std.specs.Prelude.{◌≡◌, ◌⊎◌, ◌<◌, ◌≤◌, ℕ, Boo
 use Rattle.io_commands.specs.{Asked.Request, declared.request.Kind.Kind}
 use Rattle.machine_model.specs.Script.{Table}
 use Rattle.host_bench.specs.{Calls.Does, Values.{Call, Reply}}
-use Rattle.nvmesgl_c.specs.{HostAnswers.told, HostCalls.Refuses, HostCodes.code_of_reply, HostKept.Kept, HostTags.IsTagged, Keeping.code_of_mark, Requests.{kind_of, request_of}, declared.{host.tagged.Tagged.Tagged, words.answer.Answer.Answer}}
+use Rattle.nvmesgl_c.specs.{HostAnswers.told, HostCalls.Refuses, HostCodes.code_of_reply, HostKept.{Kept, code_in}, HostReserving.{ReservesOne, named}, Requests.{kind_of, request_of}, declared.{host.tagged.Tagged.Tagged, words.answer.Answer.Answer}}
 use Rattle.host_bench.specs.declared.call.Reply.TheVariants as reply
 use Rattle.host_bench.specs.declared.call.Call.TheVariants as call
 use Rattle.io_commands.specs.declared.request.Kind.TheVariants as kind
-use Rattle.machine_model.specs.declared.words.Refusal.TheVariants as refusal
-
--- the identifier of a command that was reserved
-abbrev pub named : Reply → Option ℕ
-named (reply.Reserved q cid front back) = Some cid
-named r = None
 
 abbrev pub is_accepted : Reply → Bool
 is_accepted reply.Accepted = true
@@ -51,31 +45,23 @@ pub record GivesUp (t : Table) (q cid : ℕ) (bytes : Option (List ℕ)) (why : 
   pub fails : FirstFails t (send_calls q cid bytes) why stopped
   pub cancels : Does stopped (call.Cancel q cid) answer new
 
--- memory was refused for its tag, and it was cancelled
-pub record LacksTag (t : Table) (q cid : ℕ) (tells : Reply) (new : Table) : Type 0 where
-  pub answer : Reply
-  pub memory : tells ≡ reply.Refused refusal.Memory
-  pub cancels : Does t (call.Cancel q cid) answer new
-
--- behind a reservation: where it was refused, that is told; else the command gets its tag and is submitted, and the reservation is told; or it is given up, and what is told stood against it
-abbrev pub SendsOn : Option ℕ → Reply → Tagged → ℕ → Option (List ℕ) → ℕ → Reply → Tagged → Type 0
-SendsOn None reserved t q bytes tag tells new = (tells ≡ reserved) × (new ≡ t)
-SendsOn (Some cid) reserved t q bytes tag tells new =
-    ((tells ≡ reserved) × AllAccepted t.bench (send_calls q cid bytes) new.bench × IsTagged t.tags q cid tag new.tags)
-    ⊎ (GivesUp t.bench q cid bytes tells new.bench × IsTagged t.tags q cid tag new.tags)
-    ⊎ (LacksTag t.bench q cid tells new.bench × (new.tags ≡ t.tags))
+-- after a reservation: where it was refused, that is told; else the command is submitted, and the reservation is told; or it is given up, and what is told stood against it
+abbrev pub SendsOn : Option ℕ → Reply → Tagged → ℕ → Option (List ℕ) → Reply → Tagged → Type 0
+SendsOn None reserved t q bytes tells new = (tells ≡ reserved) × (new ≡ t)
+SendsOn (Some cid) reserved t q bytes tells new =
+    (((tells ≡ reserved) × AllAccepted t.bench (send_calls q cid bytes) new.bench) ⊎ GivesUp t.bench q cid bytes tells new.bench) × (new.tags ≡ t.tags)
 
 pub record SendsOne (t : Tagged) (q : ℕ) (request : Request) (bytes : Option (List ℕ)) (tag : ℕ) (tells : Reply) (new : Tagged) : Type 0 where
   pub reserved : Reply
-  pub mid : Table
-  pub reserves : Does t.bench (call.Reserve q request) reserved mid
-  pub goes_on : SendsOn (named reserved) reserved (record t { bench = mid }) q bytes tag tells new
+  pub mid : Tagged
+  pub reserves : ReservesOne t q request tag reserved mid
+  pub goes_on : SendsOn (named reserved) reserved mid q bytes tells new
 
 -- What C is told
 
 -- a command of a handle that keeps a host or none
 abbrev pub SendsKept : Kept → ℕ → Request → Option (List ℕ) → ℕ → Result Reply ℕ → Kept → Type 0
-SendsKept (Err h) q request bytes tag (Err code) new = (code ≡ code_of_mark h.mark) × (new ≡ Err h)
+SendsKept (Err h) q request bytes tag (Err code) new = (code ≡ code_in h) × (new ≡ Err h)
 SendsKept (Ok t) q request bytes tag (Ok tells) (Ok new) = SendsOne t q request bytes tag tells new
 SendsKept t q request bytes tag tells new = ⊥
 

@@ -33,5 +33,7 @@ pub mod HostPool
 pub mod HostLooks
 pub mod HostReach
 pub mod HostTags
+pub mod HostReserving
 pub mod HostSending
 pub mod HostPolling
+pub mod HostEnding

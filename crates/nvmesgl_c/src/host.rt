@@ -8,6 +8,7 @@ mod answer;
 mod calls;
 mod code;
 mod commands;
+mod ending;
 mod handle;
 mod looks;
 mod opening;
@@ -16,6 +17,7 @@ mod polling;
 mod pool;
 mod queues;
 mod reach;
+mod reserving;
 mod sending;
 mod tagged;
 

@@ -82,14 +82,24 @@ pub(crate) fn shown_bell(bell: Option<Doorbell>) -> CDoorbell
     }
 }
 
+/// The doorbell that a reply tells.
+pub(crate) fn bell_in(reply: &Reply) -> CDoorbell
+    ensures { result ≡ answers.bell_in reply.now }
+{
+    match reply {
+        Reply::Rung(bell) => shown_bell(Some(*bell)),
+        Reply::Reaps { found: _, bell } => shown_bell(*bell),
+        _ => shown_bell(None),
+    }
+}
+
 /// The doorbell that a call tells, of a handle that was open or not.
 pub(crate) fn bell_of(reply: &Result<Reply, u32>) -> CDoorbell
     ensures { result ≡ answers.bell_of reply.now }
 {
     match reply {
-        Ok(Reply::Rung(bell)) => shown_bell(Some(*bell)),
-        Ok(Reply::Reaps { found: _, bell }) => shown_bell(*bell),
-        Ok(_) | Err(_) => shown_bell(None),
+        Ok(reply) => bell_in(reply),
+        Err(_) => shown_bell(None),
     }
 }
 

@@ -2,9 +2,9 @@
 
 ghost use Rattle.std.specs.Prelude.{◌≡◌};
 ghost use Rattle.nvmesgl_c.specs.HostKept.{kept_in};
-ghost use Rattle.nvmesgl_c.specs.HostCalls.{DoesKept, Says, SaysBell, Refuses};
+ghost use Rattle.nvmesgl_c.specs.HostCalls.{DoesKept, Says, Refuses};
 
-use crate::host::answer::{CDoorbell, bell_of, told};
+use crate::host::answer::told;
 use crate::host::code::code_of_reply;
 use crate::host::handle::Handle;
 use crate::words::{Answer, nothing};
@@ -36,22 +36,6 @@ pub(crate) fn say(alloc: Global, handle: &mut Handle, what: Call, answer: &mut A
     ensures { Says (kept_in handle.old) what result answer.new (kept_in handle.new) }
 {
     let reply = make(alloc, handle, what);
-    *answer = told(&reply);
-    code_of_reply(&reply)
-}
-
-/// Makes a call, and tells what it answered, and the value for a doorbell.
-pub(crate) fn say_bell(
-    alloc: Global,
-    handle: &mut Handle,
-    what: Call,
-    bell: &mut CDoorbell,
-    answer: &mut Answer,
-) -> u32
-    ensures { SaysBell (kept_in handle.old) what result bell.new answer.new (kept_in handle.new) }
-{
-    let reply = make(alloc, handle, what);
-    *bell = bell_of(&reply);
     *answer = told(&reply);
     code_of_reply(&reply)
 }

@@ -1,81 +1,18 @@
 //! The calls of a command, named by its queue and identifier.
 
-ghost use Rattle.std.specs.Prelude.{◌≡◌, IfSome};
+ghost use Rattle.std.specs.Prelude.{◌≡◌};
 ghost use Rattle.nvmesgl_c.specs.HostKept.{kept_in};
-ghost use Rattle.nvmesgl_c.specs.HostCalls.{DoesKept, Says, Reserves, ReservesUntagged, Untags, Gathers};
+ghost use Rattle.nvmesgl_c.specs.HostCalls.{DoesKept, Says, Gathers};
 ghost use Rattle.host_bench.specs.declared.call.Call.TheVariants as call;
 
 use crate::host::answer::told;
-use crate::host::calls::{make, refuse, say};
+use crate::host::calls::{make, say};
 use crate::host::code::code_of_reply;
 use crate::host::handle::Handle;
-use crate::host::tagged::forget;
-use crate::words::code::{BAD_PIECE, DONE, MEMORY, NO_KIND, TOO_SHORT};
-use crate::words::{Answer, CPiece, NoPieces, kind_of, pieces_of};
-use host_bench::{Call, Reply, Request};
+use crate::words::Answer;
+use crate::words::code::TOO_SHORT;
+use host_bench::{Call, Reply};
 use std::alloc::Global;
-
-/// Reserves a command.
-fn reserve(
-    alloc: Global,
-    handle: &mut Handle,
-    q: u16,
-    kind: u32,
-    slba: u64,
-    blocks: u32,
-    pieces: &[CPiece],
-    answer: &mut Answer,
-) -> u32
-    ensures { Reserves (kept_in handle.old) q kind slba blocks pieces.now result answer.new (kept_in handle.new) }
-{
-    let Some(kind) = kind_of(kind) else {
-        return refuse(alloc, handle, NO_KIND, answer);
-    };
-    let pieces = match pieces_of(alloc, pieces) {
-        Ok(pieces) => pieces,
-        Err(NoPieces::BadPiece) => return refuse(alloc, handle, BAD_PIECE, answer),
-        Err(NoPieces::Memory) => return refuse(alloc, handle, MEMORY, answer),
-    };
-    let request = Request {
-        kind,
-        slba,
-        blocks,
-        pieces,
-    };
-    say(alloc, handle, Call::Reserve { q, request }, answer)
-}
-
-/// Takes back the tag that the identifier of a command had, where the command was reserved.
-fn untag(alloc: Global, handle: &mut Handle, code: u32, q: u16, cid: u16)
-    ensures { Untags code q cid (kept_in handle.old) (kept_in handle.new) }
-{
-    if code != DONE {
-        return;
-    }
-    if let Ok(mut kept) = handle.take(alloc) {
-        forget(&mut kept.tags, q, cid);
-        handle.put(kept);
-    }
-}
-
-/// Reserves a command, which has no tag. Its identifier and how many pages it has are told.
-#[unsafe(no_mangle)]
-pub extern "C" fn nvmehost_reserve(
-    alloc: Global,
-    handle: &mut Handle,
-    q: u16,
-    kind: u32,
-    slba: u64,
-    blocks: u32,
-    pieces: &[CPiece],
-    answer: &mut Answer,
-) -> u32
-    ensures { ReservesUntagged (kept_in handle.old) q kind slba blocks pieces.now result answer.new (kept_in handle.new) }
-{
-    let code = reserve(alloc, handle, q, kind, slba, blocks, pieces, answer);
-    untag(alloc, handle, code, q, answer.cid);
-    code
-}
 
 /// Fills a draft of the host that is kept with bytes that are lent.
 ///
@@ -172,20 +109,6 @@ pub extern "C" fn nvmehost_cancel(
     ensures { Says (kept_in handle.old) (call.Cancel q cid) result answer.new (kept_in handle.new) }
 {
     say(alloc, handle, Call::Cancel { q, cid }, answer)
-}
-
-/// Collects a command that has ended. Its status is told.
-#[unsafe(no_mangle)]
-pub extern "C" fn nvmehost_collect(
-    alloc: Global,
-    handle: &mut Handle,
-    q: u16,
-    cid: u16,
-    answer: &mut Answer,
-) -> u32
-    ensures { Says (kept_in handle.old) (call.Collect q cid) result answer.new (kept_in handle.new) }
-{
-    say(alloc, handle, Call::Collect { q, cid }, answer)
 }
 
 /// Releases a finished command.

@@ -4,8 +4,9 @@ ghost use Rattle.nvmesgl_c.specs.HostKept.{kept_in};
 ghost use Rattle.nvmesgl_c.specs.HostCalls.{Says, SaysBell};
 ghost use Rattle.host_bench.specs.declared.call.Call.TheVariants as call;
 
-use crate::host::answer::CDoorbell;
-use crate::host::calls::{say, say_bell};
+use crate::host::answer::{CDoorbell, bell_of, told};
+use crate::host::calls::{make, say};
+use crate::host::code::code_of_reply;
 use crate::host::handle::Handle;
 use crate::words::Answer;
 use host_bench::Call;
@@ -22,21 +23,10 @@ pub extern "C" fn nvmehost_ring(
 ) -> u32
     ensures { SaysBell (kept_in handle.old) (call.Ring q) result bell.new answer.new (kept_in handle.new) }
 {
-    say_bell(alloc, handle, Call::Ring { q }, bell, answer)
-}
-
-/// Takes a completion from a queue. What was found is told, and the value for the head doorbell.
-#[unsafe(no_mangle)]
-pub extern "C" fn nvmehost_reap(
-    alloc: Global,
-    handle: &mut Handle,
-    q: u16,
-    bell: &mut CDoorbell,
-    answer: &mut Answer,
-) -> u32
-    ensures { SaysBell (kept_in handle.old) (call.Reap q) result bell.new answer.new (kept_in handle.new) }
-{
-    say_bell(alloc, handle, Call::Reap { q }, bell, answer)
+    let reply = make(alloc, handle, Call::Ring { q });
+    *bell = bell_of(&reply);
+    *answer = told(&reply);
+    code_of_reply(&reply)
 }
 
 /// Sends the deletion of a submission queue. The identifier on queue 0 is told.

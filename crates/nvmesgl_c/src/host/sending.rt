@@ -11,10 +11,11 @@ use crate::host::answer::told;
 use crate::host::calls::{make, refuse};
 use crate::host::code::code_of_reply;
 use crate::host::handle::Handle;
-use crate::host::tagged::{Tagged, give};
+use crate::host::reserving::{named, reserve};
+use crate::host::tagged::Tagged;
 use crate::words::code::{BAD_COUNT, MEMORY, NO_KIND, TOO_SHORT};
 use crate::words::{Answer, CBuffer, CBytes, copy_of, count_of, kind_of, lay, request_for};
-use host_bench::{Bytes, Call, HostBench, Kind, Refusal, Reply, Request};
+use host_bench::{Bytes, Call, HostBench, Kind, Reply, Request};
 use std::alloc::{AllocError, Global};
 
 /// Whether a call was accepted.
@@ -22,16 +23,6 @@ fn is_accepted(reply: &Reply) -> bool
     ensures { result ≡ sending.is_accepted reply.now }
 {
     matches!(reply, Reply::Accepted)
-}
-
-/// The identifier of a command that was reserved.
-fn named(reply: &Reply) -> Option<u16>
-    ensures { result ≡ sending.named reply.now }
-{
-    match reply {
-        Reply::Reserved { cid, .. } => Some(*cid),
-        _ => None,
-    }
 }
 
 /// Builds a draft and submits it. What was answered by the call that was not accepted, if one was not.
@@ -77,20 +68,15 @@ fn send_reserved(bench: &mut HostBench, q: u16, cid: u16, bytes: Option<Bytes>) 
     Some(why)
 }
 
-/// Reserves a command, gives it its tag, and submits it; one that cannot be submitted is cancelled. What is told: the reservation, or what was answered that stood against it.
+/// Reserves a command, which gets its tag, and submits it; one that cannot be submitted is cancelled. What is told: the reservation, or what was answered that stood against it.
 fn send(kept: &mut Tagged, q: u16, request: Request, bytes: Option<Bytes>, tag: u64) -> Reply
     ensures { SendsOne kept.old q request bytes tag result kept.new }
 {
-    let reserved = kept.bench.call(Call::Reserve { q, request });
+    let reserved = reserve(kept, q, request, tag);
     let Some(cid) = named(&reserved) else {
         drop(bytes);
         return reserved;
     };
-    if !give(&mut kept.tags, q, cid, tag) {
-        drop(bytes);
-        drop(kept.bench.call(Call::Cancel { q, cid }));
-        return Reply::Refused(Refusal::Memory);
-    }
     match send_reserved(&mut kept.bench, q, cid, bytes) {
         None => reserved,
         Some(why) => why,

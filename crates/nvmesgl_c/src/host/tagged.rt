@@ -54,20 +54,17 @@ fn add(tags: &mut LinkedTable<u64>, q: u16, cid: u16, tag: u64) -> bool
     }
 }
 
-/// Gives an identifier a tag: whether memory was there for it. If not, nothing changed.
+/// Gives an identifier a tag: whether memory was there for it. If not, nothing changed; the tag 0 needs none.
 pub(crate) fn give(tags: &mut LinkedTable<u64>, q: u16, cid: u16, tag: u64) -> bool
     ensures given { result ≡ true → IsTagged tags.old q cid tag tags.new }
     ensures same { result ≡ false → tags.new ≡ tags.old }
+    ensures needs { result ≡ false → tag ≡ 0 → ⊥ }
 {
     if change(tags, q, cid, tag) {
         return true;
     }
+    if tag == 0 {
+        return true;
+    }
     add(tags, q, cid, tag)
-}
-
-/// Takes back the tag of an identifier.
-pub(crate) fn forget(tags: &mut LinkedTable<u64>, q: u16, cid: u16)
-    ensures { IsTagged tags.old q cid 0 tags.new }
-{
-    change(tags, q, cid, 0);
 }

@@ -41,7 +41,9 @@ pub struct Answer {
     /// How many commands a call that serves completed.
     pub count: u32,
     /// Zeros.
-    pub reserved: [u32; 5],
+    pub reserved: [u32; 3],
+    /// The tag of a host's command of an I/O queue that was reaped or collected.
+    pub tag: u64,
 }
 
 /// Nothing.
@@ -62,7 +64,8 @@ pub fn nothing() -> Answer
         sct: 0,
         sc: 0,
         count: 0,
-        reserved: [0; 5],
+        reserved: [0; 3],
+        tag: 0,
     }
 }
 
