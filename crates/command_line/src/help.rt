@@ -214,6 +214,7 @@ pub const EXPLAIN_AFTER: &str = "The input has one thing on each line; `#` begin
   pages N           how many pages the pool has, 8 to 65536, or any; before these; else 16
   memory BASE SIZE  the pool has SIZE bytes from BASE on, both hexadecimal; before these
   blocks N          how many blocks there are, 1 to 65536, or any; before these; else 64
+  block_size N      how many bytes a block has: 512, 1024, 2048 or 4096; before these; else 512
   nsid N            the namespace that the entry must name; else 1
 BYTES are hexadecimal digits, blanks anywhere between two bytes, or 00*16 for one byte so often,
 or @FILE for the bytes of a file; lines that xxd, hexdump or od print are read too.

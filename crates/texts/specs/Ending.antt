@@ -3,13 +3,14 @@ use Rattle.std.specs.Prelude.{◌≡◌, ◌≤◌, ℕ, suc, Bool, true, false,
 use Rattle.controller_walk.specs.{Faults.{fault_met, fault_of, fault_status, answered_status}, Laws.{Agree, StandsAfter}}
 use Rattle.controller_walk.specs.{Units.{Course, cause_status, course_of_list, units, verdict}, declared.{cause.WalkFault.WalkFault, walk.Walk.Walk}}
 use Rattle.entry_codec.specs.declared.{status.Status.Status, submission.SubEntry.SubEntry}
-use Rattle.io_commands.specs.Jobs.{direction_of_entry, kind_of_opcode, need_of_entry}
+use Rattle.io_commands.specs.Jobs.{direction_of_entry, kind_of_opcode}
 use Rattle.page_memory.specs.Memory.{Memory}
-use Rattle.texts.specs.Stored.{status_by}
+use Rattle.texts.specs.Stored.{bytes_moved, status_by}
+use Rattle.texts.specs.declared.explain.block_size.BlockSize.{BlockSize}
 
--- the list of an entry
-abbrev pub list_of : Memory → SubEntry → Course
-list_of m e = course_of_list m e.sgl1 (direction_of_entry e) (need_of_entry e)
+-- the list of an entry whose blocks have such a size
+abbrev pub list_of : BlockSize → Memory → SubEntry → Course
+list_of size m e = course_of_list m e.sgl1 (direction_of_entry e) (bytes_moved size e)
 
 -- A walk has done some units of a list; the memory is that of the list, but for bytes which that has moved.
 pub record Goes (at : ℕ → Bool) (m : Memory) (c : Course) (w : Walk) (now : Memory) : Type 0 where

@@ -82,6 +82,28 @@ fn put_run(alloc: Global, out: &mut Vec<u8>, run: &[u8], most: usize) -> Result<
     put_times(alloc, out, digits, count(number)?, most)
 }
 
+/// How many bytes a run is.
+fn run_len(run: &[u8]) -> Option<u64> {
+    let (digits, times) = match run.iter().position(|byte| *byte == b'*') {
+        Some(star) => {
+            let (digits, behind) = run.split_at(star);
+            let (_, number) = behind.split_first()?;
+            (digits, count(number).ok()?)
+        }
+        None => (run, 1),
+    };
+    (digits.len() as u64 / 2).checked_mul(u64::from(times))
+}
+
+/// How many bytes a word is, if they can be counted: as many as its runs have.
+pub(crate) fn len_of(word: &[u8]) -> Option<u64> {
+    let mut len = 0u64;
+    for run in word.split(|byte| *byte == b',') {
+        len = len.checked_add(run_len(run)?)?;
+    }
+    Some(len)
+}
+
 /// The bytes that a word is, of so many at most.
 ///
 /// # Errors

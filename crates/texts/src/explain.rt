@@ -5,6 +5,7 @@
 //! which rule; [`put_objects`] writes the same as JSON. [`explain_text`] does all three. [`show`] decodes a single entry, descriptor or status, in lines or as JSON; [`put_fault_object`] tells as JSON what is wrong with the words. The lines are this project's own.
 
 mod answer;
+mod block_size;
 mod case;
 mod cause;
 mod command;
@@ -28,6 +29,7 @@ mod status_words;
 mod text;
 
 pub use answer::{Answer, Layout, explain_text};
+pub use block_size::BlockSize;
 pub use case::{Case, CaseReader, read_case};
 pub use command::{Explanation, explain};
 pub use fault::{CaseFault, Wrong};

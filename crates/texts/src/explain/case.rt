@@ -2,6 +2,7 @@
 
 ghost use Rattle.std.specs.Prelude.{◌≤◌, IfOk};
 
+use crate::explain::block_size::{BlockSize, MAX_BLOCK_BYTES};
 use crate::explain::dump::{Dump, FILE};
 use crate::explain::fault::{CaseFault, Wrong};
 use crate::explain::files::file_bytes;
@@ -10,7 +11,6 @@ use crate::explain::lines::{Line, Stop, address_of, number_of, put_in};
 use crate::explain::namespace::{GivenBlock, Namespace};
 use crate::faults::Place;
 use crate::sparse_memory::{ALL_PAGES, SparseMemory};
-use block_image::BLOCK_SIZE;
 use page_memory::PAGE_BYTES;
 use script_cli::{MAX_LINES, MAX_SCRIPT, begins_comment, split_line, words_of};
 use std::alloc::{AllocError, AllocGlobal, Global};
@@ -97,6 +97,8 @@ pub struct CaseReader {
     pool_told: bool,
     /// Whether a line told how many blocks there are, or a block.
     blocks_told: bool,
+    /// Whether a line told how many bytes a block has, or a block.
+    size_told: bool,
     /// Whether a line told the namespace.
     namespace_told: bool,
     /// What has bytes in the pool.
@@ -107,7 +109,7 @@ pub struct CaseReader {
 }
 
 impl CaseReader {
-    /// Before the first line: a pool of 16 pages and a namespace of 64 blocks, all zero. Files that lines name are relative to a folder.
+    /// Before the first line: a pool of 16 pages and a namespace of 64 blocks of 512 bytes, all zero. Files that lines name are relative to a folder.
     ///
     /// # Errors
     ///
@@ -118,6 +120,7 @@ impl CaseReader {
             memory: SparseMemory::open(alloc, 0, PAGES)?,
             namespace: Namespace {
                 number: 1,
+                size: BlockSize::Bytes512,
                 blocks: BLOCKS,
                 given: Vec::new(alloc),
             },
@@ -125,6 +128,7 @@ impl CaseReader {
             has_entry: false,
             pool_told: false,
             blocks_told: false,
+            size_told: false,
             namespace_told: false,
             addresses: Vec::new(alloc),
             blocks: Vec::new(alloc),
@@ -170,6 +174,21 @@ impl CaseReader {
         }
         self.blocks_told = true;
         self.namespace.blocks = blocks;
+        Ok(())
+    }
+
+    /// `block_size N`: how many bytes a block has.
+    fn block_size(&mut self, key: Place, line: &mut Line<'_>) -> Result<(), Stop> {
+        let place = line.wanted();
+        let Some(size) = number_of(line.word(place)).and_then(BlockSize::of) else {
+            return Err(Stop::At(place, Wrong::NoBlockSize));
+        };
+        line.done()?;
+        if self.size_told {
+            return Err(Stop::At(key, Wrong::Late));
+        }
+        self.size_told = true;
+        self.namespace.size = size;
         Ok(())
     }
 
@@ -302,6 +321,7 @@ impl CaseReader {
             return Err(Stop::At(place, Wrong::Given(other)));
         }
         self.blocks_told = true;
+        self.size_told = true;
         self.blocks
             .push(Claim {
                 first,
@@ -313,10 +333,11 @@ impl CaseReader {
             .given
             .push(GivenBlock {
                 number: first,
-                bytes: [0; 512],
+                bytes: [0; MAX_BLOCK_BYTES],
             })
             .map_err(AllocError::from)?;
-        self.begin_bytes(alloc, Target::Block, BLOCK_SIZE, number, key);
+        let most = self.namespace.size.bytes();
+        self.begin_bytes(alloc, Target::Block, most, number, key);
         Ok(())
     }
 
@@ -447,6 +468,7 @@ impl CaseReader {
             Key::Pages => return self.pages(alloc, key, line),
             Key::Memory => return self.memory(alloc, key, line),
             Key::Blocks => return self.blocks(key, line),
+            Key::BlockSize => return self.block_size(key, line),
             Key::Namespace => return self.nsid(key, line),
             Key::Out => return self.out(line),
             Key::Page => self.page(alloc, number, key, line)?,

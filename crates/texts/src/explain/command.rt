@@ -6,12 +6,13 @@ ghost use Rattle.controller_walk.specs.Laws.{IsApart};
 ghost use Rattle.controller_walk.specs.Walks.{course, direction_of, is_over, need_of};
 ghost use Rattle.entry_codec.specs.declared.submission.SubEntry.{SubEntry};
 ghost use Rattle.texts.specs.Ending.{Ends, ends_with, list_of};
-ghost use Rattle.texts.specs.Stored.{field_fault, stored_of};
+ghost use Rattle.texts.specs.Stored.{bytes_moved, field_fault, most_blocks, stored_of};
 ghost use Rattle.texts.specs.Taking.{AreOf, own};
-ghost use Rattle.io_commands.specs.Jobs.{kind_of_opcode, block_number as spec_block_number, need_of_entry, direction_of_entry};
+ghost use Rattle.io_commands.specs.Jobs.{kind_of_opcode, block_number as spec_block_number, direction_of_entry};
 ghost use Rattle.page_memory.specs.Memory.{Memory};
 ghost use Rattle.texts.specs.Sparse.{byte_in};
 
+use crate::explain::block_size::BlockSize;
 use crate::explain::list::{Taken, Walked, walk_list};
 use crate::explain::namespace::{Namespace, checked, stored};
 use crate::sparse_memory::SparseMemory;
@@ -55,16 +56,17 @@ fn first_bytes(alloc: Global, kind: Kind, stored: &[u8]) -> Result<Vec<u8>, Allo
 }
 
 /// The walk over the list of a command that passed its field checks.
-pub(crate) fn walk_of(entry: &SubEntry, kind: Kind) -> Walk
+pub(crate) fn walk_of(entry: &SubEntry, kind: Kind, size: BlockSize) -> Walk
     requires kind { kind_of_opcode entry.now.opcode ≡ Some kind }
-    requires most { spec_block_number entry.now ≤ 2048 }
-    ensures course { (m : Memory) → course m result ≡ list_of m entry.now }
+    requires most { spec_block_number entry.now ≤ most_blocks size }
+    ensures course { (m : Memory) → course m result ≡ list_of size m entry.now }
     ensures open { is_over result ≡ false }
     ensures direction { direction_of result ≡ direction_of_entry entry.now }
-    ensures need { need_of result ≡ need_of_entry entry.now }
+    ensures need { need_of result ≡ bytes_moved size entry.now }
     ensures next { next_of result ≡ Some own }
 {
-    Walk::begin(entry.sgl1, kind.direction(), 512 * block_number(entry))
+    let need = size.bytes_of(block_number(entry));
+    Walk::begin(entry.sgl1, kind.direction(), need)
 }
 
 /// Walks the list of a command of an I/O queue, over the pages of a pool and the blocks of a namespace.
@@ -83,21 +85,21 @@ pub fn explain(
 ) -> Result<Explanation, AllocError>
 
     // Where the field checks find a fault, the command ends with its status, and no list is walked.
-    ensures refused { IfOk result (λ told. IfSome (field_fault namespace.now.number namespace.now.blocks entry.now) (λ status. (told.status ≡ status) × (told.fault ≡ None) × (told.taken.items ≡ []))) }
+    ensures refused { IfOk result (λ told. IfSome (field_fault namespace.now.number namespace.now.size namespace.now.blocks entry.now) (λ status. (told.status ≡ status) × (told.fault ≡ None) × (told.taken.items ≡ []))) }
 
     // Else the fault is that with which its list ends, where that list moves no byte onto its own descriptors,
-    ensures fault { IfOk result (λ told. field_fault namespace.now.number namespace.now.blocks entry.now ≡ None → (at : ℕ → Bool)
-        → IsApart at (direction_of_entry entry.now) (list_of (byte_in memory.old.pool) entry.now)
-        → Ends at (byte_in memory.old.pool) (list_of (byte_in memory.old.pool) entry.now) told.fault) }
+    ensures fault { IfOk result (λ told. field_fault namespace.now.number namespace.now.size namespace.now.blocks entry.now ≡ None → (at : ℕ → Bool)
+        → IsApart at (direction_of_entry entry.now) (list_of namespace.now.size (byte_in memory.old.pool) entry.now)
+        → Ends at (byte_in memory.old.pool) (list_of namespace.now.size (byte_in memory.old.pool) entry.now) told.fault) }
 
     // the descriptors told are those that its list reads, all of them, each with the bytes that stand at its place,
-    ensures told { IfOk result (λ told. field_fault namespace.now.number namespace.now.blocks entry.now ≡ None → (at : ℕ → Bool)
-        → IsApart at (direction_of_entry entry.now) (list_of (byte_in memory.old.pool) entry.now)
-        → AreOf (byte_in memory.old.pool) entry.now.sgl1 (list_of (byte_in memory.old.pool) entry.now) told.taken.items) }
+    ensures told { IfOk result (λ told. field_fault namespace.now.number namespace.now.size namespace.now.blocks entry.now ≡ None → (at : ℕ → Bool)
+        → IsApart at (direction_of_entry entry.now) (list_of namespace.now.size (byte_in memory.old.pool) entry.now)
+        → AreOf (byte_in memory.old.pool) entry.now.sgl1 (list_of namespace.now.size (byte_in memory.old.pool) entry.now) told.taken.items) }
 
     // and the status is that of the fault, or, of a command whose list was accepted, that of its bytes.
-    ensures status { IfOk result (λ told. field_fault namespace.now.number namespace.now.blocks entry.now ≡ None → (bytes : List ℕ)
-        × (told.status ≡ ends_with (stored_of namespace.now.given.items entry.now) entry.now bytes told.fault)) }
+    ensures status { IfOk result (λ told. field_fault namespace.now.number namespace.now.size namespace.now.blocks entry.now ≡ None → (bytes : List ℕ)
+        × (told.status ≡ ends_with (stored_of namespace.now.size namespace.now.given.items entry.now) entry.now bytes told.fault)) }
 {
     let kind = match checked(entry, namespace) {
         Ok(kind) => kind,
@@ -112,7 +114,7 @@ pub fn explain(
     };
     let stored = stored(alloc, entry, namespace)?;
     let mut bytes = first_bytes(alloc, kind, stored.as_slice())?;
-    let walk = walk_of(entry, kind);
+    let walk = walk_of(entry, kind, namespace.size);
     let Walked { taken, fault } = walk_list(
         alloc,
         walk,

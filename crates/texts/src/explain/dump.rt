@@ -2,7 +2,7 @@
 //!
 //! A line of a dump may begin with an offset and end with a column of text. Which of its words are what is said by the widths of its words: `docs/FIRMWARE.md` has the forms.
 
-use crate::byte_runs::{RunsFault, bytes_of};
+use crate::byte_runs::{RunsFault, bytes_of, len_of};
 use crate::explain::fault::Wrong;
 use crate::explain::lines::{Line, Stop, behind_prefix, digit_of, is_hex, value_of};
 use crate::faults::Place;
@@ -150,6 +150,20 @@ fn word_bytes(alloc: Global, row: Row, word: &[u8], most: usize) -> Result<Vec<u
     Ok(bytes)
 }
 
+/// How many bytes a word is, where that is known.
+fn word_len(row: Row, word: &[u8]) -> Option<u64> {
+    let bare = word.strip_suffix(b",").unwrap_or(word);
+    if row == Row::Numbers {
+        Some(word.len() as u64 / 2)
+    } else if let Some(digits) = behind_prefix(bare) {
+        Some(digits.len() as u64 / 2)
+    } else if word.iter().any(|byte| *byte == b':' || *byte == b'-') {
+        Some(word.len() as u64 / 3 + 1)
+    } else {
+        len_of(word)
+    }
+}
+
 /// Bytes whose lines are not all read.
 #[derive(Drop)]
 pub(crate) struct Dump {
@@ -193,9 +207,12 @@ impl Dump {
         self.most.saturating_sub(self.filled)
     }
 
-    /// The fault of too many bytes.
-    pub(crate) fn too_many(&self) -> Wrong {
-        Wrong::TooManyBytes(self.most)
+    /// The fault of so many bytes more than were read, where that is known.
+    fn too_many(&self, more: Option<u64>) -> Wrong {
+        Wrong::TooManyBytes {
+            most: self.most,
+            found: more.map(|more| more.saturating_add(self.filled as u64)),
+        }
     }
 
     /// Whether a line `*` is the last one, and stands for bytes that are not zero.
@@ -230,7 +247,8 @@ impl Dump {
         self.starred = false;
         let room = self.room().saturating_sub(bytes.len());
         if count > room as u64 {
-            return Err(Stop::At(place, self.too_many()));
+            let more = count.saturating_add(bytes.len() as u64);
+            return Err(Stop::At(place, self.too_many(Some(more))));
         }
         let rows = count.checked_div(self.row.len() as u64).unwrap_or(0);
         if rows.saturating_mul(self.row.len() as u64) != count {
@@ -302,7 +320,12 @@ impl Dump {
             let room = self.room().saturating_sub(bytes.len());
             match word_bytes(alloc, row, word, room) {
                 Ok(more) => bytes.extend_from_slice(more.as_slice())?,
-                Err(NoBytes::TooMany) => return Err(Stop::At(place, self.too_many())),
+                Err(NoBytes::TooMany) => {
+                    let more = word_len(row, word).map(|len| len.saturating_add(
+                        bytes.len() as u64,
+                    ));
+                    return Err(Stop::At(place, self.too_many(more)));
+                }
                 Err(NoBytes::NoHex) => return Err(Stop::At(place, Wrong::NoHex)),
                 Err(NoBytes::Memory) => return Err(Stop::Memory),
             }

@@ -32,6 +32,8 @@ pub enum Wrong {
     },
     /// A multiple of 4,096 is wanted, with which the pool ends at 2^64.
     NoMultiple,
+    /// How many bytes a block has is wanted.
+    NoBlockSize,
     /// Bytes are wanted.
     NoHex,
     /// A status is wanted.
@@ -44,8 +46,13 @@ pub enum Wrong {
     NoFile(Option<i32>),
     /// A line of a file that is named is no line of a dump.
     NoDump(u32),
-    /// There are more bytes than so many.
-    TooManyBytes(usize),
+    /// There are more bytes than there may be.
+    TooManyBytes {
+        /// How many there may be.
+        most: usize,
+        /// How many there are with this word, where that is known.
+        found: Option<u64>,
+    },
     /// There are so many bytes, and others are wanted.
     NotSoMany {
         /// How many there are.
@@ -73,13 +80,13 @@ impl Wrong {
         match self {
             Wrong::NoText => "BadLine",
             Wrong::NoKey => "UnknownWord",
-            Wrong::NoNumber { .. } | Wrong::NoSize { .. } => "BadNumber",
+            Wrong::NoNumber { .. } | Wrong::NoSize { .. } | Wrong::NoBlockSize => "BadNumber",
             Wrong::NoAddress { .. } | Wrong::NoMultiple => "BadAddress",
             Wrong::NoHex => "BadHex",
             Wrong::NoStatus => "BadStatus",
             Wrong::NoOffset(_) | Wrong::NoEnd => "BadOffset",
             Wrong::NoFile(_) | Wrong::NoDump(_) => "BadFile",
-            Wrong::TooManyBytes(_) | Wrong::NotSoMany { .. } => "BadLength",
+            Wrong::TooManyBytes { .. } | Wrong::NotSoMany { .. } => "BadLength",
             Wrong::Extra => "ExtraWord",
             Wrong::Late => "LateSize",
             Wrong::IsOut => "PageOut",
@@ -87,6 +94,38 @@ impl Wrong {
             Wrong::Twice => "SecondEntry",
             Wrong::SecondNamespace => "SecondNamespace",
         }
+    }
+}
+
+/// The sentence for too many bytes, or too few.
+fn put_length<W: fmt::Write>(f: &mut fmt::Formatter<W>, wrong: Wrong) -> fmt::Result {
+    match wrong {
+        Wrong::TooManyBytes {
+            most,
+            found: Some(found),
+        } => write!(f, "there are {most} bytes at most, and {found} stand here."),
+        Wrong::TooManyBytes { most, found: None } => {
+            write!(f, "there are {most} bytes at most.")
+        }
+        Wrong::NotSoMany { found: 1, wanted } => {
+            write!(f, "there is 1 byte here, and {wanted} are wanted.")
+        }
+        Wrong::NotSoMany { found, wanted } => {
+            write!(f, "there are {found} bytes here, and {wanted} are wanted.")
+        }
+        _ => Ok(()),
+    }
+}
+
+/// The sentence for a file that gives no bytes.
+fn put_file<W: fmt::Write>(f: &mut fmt::Formatter<W>, wrong: Wrong) -> fmt::Result {
+    match wrong {
+        Wrong::NoFile(Some(code)) => {
+            let why = io::Error::from_raw_os_error(code);
+            write!(f, "this file cannot be read: {why}.")
+        }
+        Wrong::NoDump(line) => write!(f, "line {line} of this file is no line of a dump."),
+        _ => f.write_str("this file cannot be read."),
     }
 }
 
@@ -101,6 +140,9 @@ fn put_wanted<W: fmt::Write>(f: &mut fmt::Formatter<W>, wrong: Wrong) -> fmt::Re
                 f,
                 "a decimal number is wanted here, {least} to {most}, or any."
             )
+        }
+        Wrong::NoBlockSize => {
+            f.write_str("a block's size is wanted here: 512, 1024, 2048 or 4096 bytes.")
         }
         Wrong::NoAddress { first, last } => write!(
             f,
@@ -118,12 +160,15 @@ impl fmt::Display for Wrong {
         match self {
             Wrong::NoText => f.write_str("a line is ASCII text of 16384 bytes at most."),
             Wrong::NoKey => f.write_str(
-                "a line begins with pages, memory, page, at, out, blocks, block, nsid or sqe, or goes on with bytes.",
+                "a line begins with pages, memory, page, at, out, blocks, block_size, block, nsid or sqe, or goes on with bytes.",
             ),
             Wrong::NoNumber { .. }
             | Wrong::NoSize { .. }
             | Wrong::NoAddress { .. }
-            | Wrong::NoMultiple => put_wanted(f, *self),
+            | Wrong::NoMultiple
+            | Wrong::NoBlockSize => put_wanted(f, *self),
+            Wrong::NoFile(_) | Wrong::NoDump(_) => put_file(f, *self),
+            Wrong::TooManyBytes { .. } | Wrong::NotSoMany { .. } => put_length(f, *self),
             Wrong::NoHex => f.write_str(
                 "bytes are wanted here: two hexadecimal digits for each, or a byte so often, as 00*16, or a file, as @FILE.",
             ),
@@ -137,16 +182,6 @@ impl fmt::Display for Wrong {
                 )
             }
             Wrong::NoEnd => f.write_str("behind a line * an offset is wanted."),
-            Wrong::NoFile(Some(code)) => {
-                let why = io::Error::from_raw_os_error(*code);
-                write!(f, "this file cannot be read: {why}.")
-            }
-            Wrong::NoFile(None) => f.write_str("this file cannot be read."),
-            Wrong::NoDump(line) => write!(f, "line {line} of this file is no line of a dump."),
-            Wrong::TooManyBytes(most) => write!(f, "there are {most} bytes at most."),
-            Wrong::NotSoMany { found, wanted } => {
-                write!(f, "there are {found} bytes here, and {wanted} are wanted.")
-            }
             Wrong::Extra => f.write_str("this word is one too many."),
             Wrong::Late => f.write_str("a size stands once, before the lines that it is for."),
             Wrong::IsOut => f.write_str("this page is out, and has no bytes."),

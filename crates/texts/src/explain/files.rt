@@ -71,8 +71,8 @@ fn dumped(alloc: Global, place: Place, text: &[u8], most: usize) -> Result<Vec<u
         match dump.line(alloc, &mut line) {
             Ok(more) => bytes.extend_from_slice(more.as_slice())?,
             Err(Stop::Memory) => return Err(Stop::Memory),
-            Err(Stop::At(_, Wrong::TooManyBytes(most))) => {
-                return Err(Stop::At(place, Wrong::TooManyBytes(most)));
+            Err(Stop::At(_, wrong @ Wrong::TooManyBytes { .. })) => {
+                return Err(Stop::At(place, wrong));
             }
             Err(Stop::At(..) | Stop::Before(..)) => {
                 return Err(Stop::At(place, Wrong::NoDump(number)));
@@ -115,7 +115,7 @@ pub(crate) fn file_bytes<R: AllocGlobal + Files>(
         return dumped(alloc, place, bytes.as_slice(), most);
     }
     if bytes.len() > most {
-        return Err(Stop::At(place, Wrong::TooManyBytes(most)));
+        return Err(Stop::At(place, Wrong::TooManyBytes { most, found: None }));
     }
     Ok(bytes)
 }

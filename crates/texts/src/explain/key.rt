@@ -15,6 +15,8 @@ pub(crate) enum Key {
     Out,
     /// How many blocks there are.
     Blocks,
+    /// How many bytes a block has.
+    BlockSize,
     /// The bytes of a block.
     Block,
     /// The namespace.
@@ -33,6 +35,7 @@ impl Key {
             ("at", Key::At),
             ("out", Key::Out),
             ("blocks", Key::Blocks),
+            ("block_size", Key::BlockSize),
             ("block", Key::Block),
             ("nsid", Key::Namespace),
             ("sqe", Key::Entry),

@@ -3,7 +3,9 @@
 ghost use Rattle.std.specs.Prelude.{◌≡◌, ◌≤◌, Some, false, length};
 ghost use Rattle.controller_walk.specs.Walks.{is_over, need_of};
 ghost use Rattle.io_commands.specs.Jobs.{block_number, kind_of_opcode};
+ghost use Rattle.texts.specs.Stored.{most_blocks};
 
+use crate::explain::block_size::BlockSize;
 use crate::explain::cause::put_cause;
 use crate::explain::command::walk_of;
 use crate::explain::list::Taken;
@@ -76,6 +78,7 @@ fn from_zero(entry: &SubEntry) -> SubEntry {
 fn any_namespace(alloc: Global) -> Namespace {
     Namespace {
         number: 1,
+        size: BlockSize::Bytes512,
         blocks: u64::MAX,
         given: Vec::new(alloc),
     }
@@ -106,11 +109,16 @@ pub(crate) fn descriptor_fault(
 }
 
 /// The fault of the own descriptor of an entry, if it has one.
-fn own_fault(alloc: Global, entry: &SubEntry, kind: Kind) -> Result<Option<WalkFault>, AllocError>
+fn own_fault(
+    alloc: Global,
+    entry: &SubEntry,
+    kind: Kind,
+    size: BlockSize,
+) -> Result<Option<WalkFault>, AllocError>
     requires kind { kind_of_opcode entry.now.opcode ≡ Some kind }
-    requires few { block_number entry.now ≤ 2048 }
+    requires few { block_number entry.now ≤ most_blocks size }
 {
-    let walk = walk_of(entry, kind);
+    let walk = walk_of(entry, kind, size);
     let mut staging = vec![in alloc; 0; walk.need() as usize]?;
     first_fault(alloc, walk, staging.as_mut_slice())
 }
@@ -121,8 +129,9 @@ pub(crate) fn entry_refusal(
     entry: &SubEntry,
 ) -> Result<Option<Refusal>, AllocError> {
     let entry = from_zero(entry);
-    match checked(&entry, &any_namespace(alloc)) {
-        Ok(kind) => match own_fault(alloc, &entry, kind)? {
+    let namespace = any_namespace(alloc);
+    match checked(&entry, &namespace) {
+        Ok(kind) => match own_fault(alloc, &entry, kind, namespace.size)? {
             Some(fault) => Ok(Some(Refusal::First(fault))),
             None => Ok(None),
         },

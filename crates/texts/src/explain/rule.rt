@@ -8,7 +8,7 @@ ghost use Rattle.texts.specs.Stored.{field_fault};
 use crate::explain::entry::plural;
 use crate::explain::namespace::{Namespace, is_outside};
 use entry_codec::{Status, SubEntry};
-use io_commands::{MAX_BLOCKS, block_number, first_block, kind_of};
+use io_commands::{block_number, first_block, kind_of};
 use std::alloc::AllocError;
 
 /// A rule for a field of an entry, in the order in which they are looked at.
@@ -22,7 +22,7 @@ pub(crate) enum FieldRule {
     Fuse,
     /// PSDT is 1.
     Psdt,
-    /// There are 2,048 blocks at most.
+    /// The blocks have 1 MiB at most.
     Blocks,
     /// The blocks are the namespace's.
     Range,
@@ -30,7 +30,7 @@ pub(crate) enum FieldRule {
 
 /// The first rule that an entry breaks, if it breaks one.
 pub(crate) fn broken_rule(entry: &SubEntry, namespace: &Namespace) -> Option<FieldRule>
-    ensures { option_map status_of_rule result ≡ field_fault namespace.now.number namespace.now.blocks entry.now }
+    ensures { option_map status_of_rule result ≡ field_fault namespace.now.number namespace.now.size namespace.now.blocks entry.now }
 {
     let number = block_number(entry);
     if kind_of(entry.opcode).is_none() {
@@ -41,7 +41,7 @@ pub(crate) fn broken_rule(entry: &SubEntry, namespace: &Namespace) -> Option<Fie
         Some(FieldRule::Fuse)
     } else if entry.psdt != 1 {
         Some(FieldRule::Psdt)
-    } else if number > MAX_BLOCKS {
+    } else if number > namespace.size.most_blocks() {
         Some(FieldRule::Blocks)
     } else if is_outside(first_block(entry), u64::from(number), namespace.blocks) {
         Some(FieldRule::Range)
@@ -76,7 +76,7 @@ fn put_broken(
             write!(out, "PSDT is {psdt}, and 1 is wanted: data by a list")
         }
         FieldRule::Blocks => {
-            let most = MAX_BLOCKS;
+            let most = namespace.size.most_blocks();
             write!(out, "NLB asks for {number} blocks, and {most} are the most")
         }
         FieldRule::Range => {

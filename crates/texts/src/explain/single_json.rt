@@ -77,7 +77,7 @@ struct SubmissionObject {
 }
 
 /// The fields of CDW10 and CDW11 that an opcode of the admin queue has.
-#[derive(Drop, Serialize)]
+#[derive(Default, Drop, Serialize)]
 struct AdminFields {
     #[serde(skip_serializing_if = "Option::is_none")]
     qid: Option<u32>,
@@ -263,17 +263,6 @@ pub(crate) fn put_submission_object(
 fn admin_fields(entry: &SubEntry) -> Option<AdminFields> {
     let (low, high) = halves(entry.cdw10);
     let (flags, other) = halves(entry.cdw11);
-    let none = AdminFields {
-        qid: None,
-        qsize: None,
-        pc: None,
-        ien: None,
-        iv: None,
-        qprio: None,
-        cqid: None,
-        sqid: None,
-        cid: None,
-    };
     match entry.opcode {
         admin_opcode::CREATE_IO_CQ => Some(AdminFields {
             qid: Some(low),
@@ -281,7 +270,7 @@ fn admin_fields(entry: &SubEntry) -> Option<AdminFields> {
             pc: Some(flags % 2),
             ien: Some(flags / 2 % 2),
             iv: Some(other),
-            ..none
+            ..AdminFields::default()
         }),
         admin_opcode::CREATE_IO_SQ => Some(AdminFields {
             qid: Some(low),
@@ -289,16 +278,16 @@ fn admin_fields(entry: &SubEntry) -> Option<AdminFields> {
             pc: Some(flags % 2),
             qprio: Some(flags / 2 % 4),
             cqid: Some(other),
-            ..none
+            ..AdminFields::default()
         }),
         admin_opcode::DELETE_IO_SQ | admin_opcode::DELETE_IO_CQ => Some(AdminFields {
             qid: Some(low),
-            ..none
+            ..AdminFields::default()
         }),
         admin_opcode::ABORT => Some(AdminFields {
             sqid: Some(low),
             cid: Some(high),
-            ..none
+            ..AdminFields::default()
         }),
         _ => None,
     }

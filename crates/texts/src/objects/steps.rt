@@ -150,6 +150,18 @@ fn refused_object(why: Refusal) -> ReplyObject {
     }
 }
 
+/// The object, with the pages that a step touched.
+fn touching(
+    alloc: Global,
+    object: ReplyObject,
+    touched: &Touched,
+) -> Result<ReplyObject, AllocError> {
+    Ok(ReplyObject {
+        touched: Some(pages_of(alloc, touched)?),
+        ..object
+    })
+}
+
 /// The object of an answer, without its line.
 fn answer_object(alloc: Global, reply: &Reply) -> Result<ReplyObject, AllocError> {
     Ok(match reply {
@@ -168,17 +180,12 @@ fn answer_object(alloc: Global, reply: &Reply) -> Result<ReplyObject, AllocError
         Reply::Accepted => ReplyObject::named("ok"),
         Reply::Fetched { cid, touched } => ReplyObject {
             cid: Some(*cid),
-            touched: Some(pages_of(alloc, touched)?),
-            ..ReplyObject::named("fetched")
+            ..touching(alloc, ReplyObject::named("fetched"), touched)?
         },
-        Reply::Walked { state, touched } => ReplyObject {
-            touched: Some(pages_of(alloc, touched)?),
-            ..walked_object(alloc, *state)?
-        },
-        Reply::Completed { touched } => ReplyObject {
-            touched: Some(pages_of(alloc, touched)?),
-            ..ReplyObject::named("ok")
-        },
+        Reply::Walked { state, touched } => {
+            touching(alloc, walked_object(alloc, *state)?, touched)?
+        }
+        Reply::Completed { touched } => touching(alloc, ReplyObject::named("ok"), touched)?,
         Reply::Reaps(found) => reaped_object(alloc, found)?,
         Reply::Collected(status) => ReplyObject::ended(alloc, "collected", *status)?,
         Reply::Gathered(bytes) => ReplyObject {
