@@ -6,14 +6,14 @@ use Rattle.std.{proofs.Common.{◌≡◌, ◌⊎◌, Bool, true, false, Option, 
 use Rattle.std.specs.Prelude.{IfErr, Result, Ok, Err, IsErrAnd, OnErr, OnOk}
 use Rattle.clap.specs.{Words.kind_of, declared.error.{Error.Error, kind.ErrorKind.TheVariants.OutOfMemory}}
 use Rattle.command_line.specs.Asked.{Asked, check, check_jobs, draw, explain, grammar, load, shell, show, steps, test, thread_objects, threads, traced, Given}
-use Rattle.program.specs.{Checking.{AreJobs, AreNoJobs, AreNoSteps, AreSteps}, Loading.LeavesLoad, Performing.{FailsWith, IsCheckFault, IsEndFault, IsFirstImage, IsNoFirstImage, IsNotBegun, is_file, IsUnread, IsTextAsAsked, IsUnwell, IsUnwellText, jobs_said, line_said, Performs, Plays, PlaysSteps, RunsJobs, SaysNone, script_told, steps_said}}
+use Rattle.program.specs.{Checking.{AreJobs, AreNoJobs, AreNoSteps, AreSteps}, Loading.LeavesLoad, Performing.{FailsWith, IsCheckFault, IsEndFault, IsEndOfRun, IsFirstImage, IsNoFirstImage, IsNotBegun, is_file, IsUnread, IsRunAsAsked, IsTextAsAsked, IsUnwell, IsUnwellText, jobs_said, line_said, Performs, Plays, PlaysSteps, RunsJobs, SaysNone, script_told, steps_said}}
 use Rattle.program.specs.declared.fault.Fault.{Fault}
 use Rattle.command_line.specs.declared.{serving.Serving.Serving, threads.Threading.Threading}
 use Rattle.job_cli.proofs.JobRuns.{jobs_are_told, no_jobs_are_told}
 use Rattle.job_cli.specs.{JobRuns.{EndsJobsWith, EndsSoFar, EndsUnwritten, HasJobFault, HasJobs, IsCountedText, IsCutJobsText, IsNoJobs, WritesJobs}, Jobs.jobs_of}
 use Rattle.load.specs.{Lines.line_text, Tallies.no_tally}
 use Rattle.job_cli.specs.declared.jobs.JobLine.{JobLine}
-use Rattle.script_cli.{proofs.{Runs.{no_script_is_told, run_to_text, script_is_told}, Texts.appends_none}, specs.Inputs.AreFirstOf}
+use Rattle.script_cli.{proofs.{Runs.{no_script_is_told, script_is_told, writes_so}, Texts.appends_none}, specs.Inputs.AreFirstOf}
 use Rattle.script_cli.specs.declared.{input.ImageFault.ImageFault, workload.{OutputFormat.{OutputFormat, TheVariants.{Json, Normal}}, Pattern.Pattern}}
 use Rattle.script_cli.specs.{Runs.{EndsWith, HasFault, HasScript, IsCutText, IsNoScript, IsNotOpened, IsRunText, IsRunTo, Writes}, Scripts.script_of}
 use Rattle.script_cli.specs.declared.{fault.{LineFault.LineFault, RunFault.RunFault}, script.Numbered.Numbered}
@@ -180,12 +180,6 @@ no_image {S} (Err x) fault_of told text said_in given_in said why same first say
     subst (λ (f : Fault). IsNotBegun told said_in given_in f) (sym same)
     (played told text said_in said (λ script s. IsNoFirstImage (given_in s) why) first says (λ all read. none))
 
--- How a run ends that went well
-
-pub ran_anyway : {T X : Type 0} (r : Result T X) (P : Type 0) → P → OnOk r P
-ran_anyway (Ok done) P ran = ran
-ran_anyway (Err x) P ran = tt
-
 -- A script of steps
 
 -- it is played, and what holds of each script of which those are the first bytes holds of it
@@ -195,12 +189,14 @@ steps_played : (told : Option (List ℕ)) (given said : Given) (text image : Lis
 steps_played told given said text image Holds first says is holds =
     played (script_told given.script told) text (steps_said given) said (λ script s. (im : List ℕ) × IsFirstImage s im × Holds script s im) first says (λ all read. (image, is, holds all read))
 
-pub steps_ran : (told : Option (List ℕ)) (given said : Given) (text image : List ℕ) (a b : Option (List ℕ)) (last : Table)
+pub steps_ran : {T U : Type 0} (r : Result T U) (told : Option (List ℕ)) (given said : Given) (text image : List ℕ) (a b : Option (List ℕ)) (last : Table) (unwell : ℕ)
     → AreFirstOf 1048576 (script_told given.script told) text → steps_said given text ≡ Some said → IsFirstImage said image
-    → Writes (Some text) said.config image a b (IsRunTo last) → Performs told (Some (steps given)) a b
-steps_ran told given said text image a b last first says is writes =
-    steps_played told given said text image (λ script s im. Writes (Some script) s.config im a b IsRunText) first says is
-    (λ all read. writes_told (Some all) text said.config image a b IsRunText read (run_to_text (Some text) said.config image last a b writes))
+    → Writes (Some text) said.config image a b (IsRunTo last unwell) → OnOk r (given.strict ≡ true → unwell ≡ 0) → OnOk r (Performs told (Some (steps given)) a b)
+steps_ran (Ok done) told given said text image a b last unwell first says is writes well =
+    steps_played told given said text image (λ script s im. Writes (Some script) s.config im a b (IsRunAsAsked given.strict)) first says is
+    (λ all read. writes_so (Some all) said.config image a b (IsRunTo last unwell) (IsRunAsAsked given.strict) (λ t script words ran. (last, unwell, ran, well))
+    (writes_told (Some all) text said.config image a b (IsRunTo last unwell) read writes))
+steps_ran (Err x) told given said text image a b last unwell first says is writes well = tt
 
 pub steps_ended : (told : Option (List ℕ)) (given said : Given) (text image : List ℕ) (a b : Option (List ℕ)) (why : RunFault) (f : Fault)
     → f ≡ fault.Run why → AreFirstOf 1048576 (script_told given.script told) text → steps_said given text ≡ Some said → IsFirstImage said image
@@ -211,10 +207,21 @@ steps_ended told given said text image a b why f same first says is ends =
     (λ all read. ends_told (Some all) text said.config image a b why read ends))))
 
 -- a fault at the end of a run that went well
-pub steps_end : {T U : Type 0} (r : Result T U) (fault_of : U → Fault) (told : Option (List ℕ)) (given : Given) (a b : Option (List ℕ))
-    → Performs told (Some (steps given)) a b → IfErr r (λ x. IsEndFault given (fault_of x)) → IfErr r (λ x. FailsWith told (Some (steps given)) a b (fault_of x))
-steps_end (Ok done) fault_of told given a b ran end = tt
-steps_end (Err x) fault_of told given a b ran end = inr (inr (ran, end))
+pub steps_end : {T U : Type 0} (r : Result T U) (fault_of : U → Fault) (told : Option (List ℕ)) (given said : Given) (text image : List ℕ) (a b : Option (List ℕ)) (last : Table) (unwell : ℕ)
+    → AreFirstOf 1048576 (script_told given.script told) text → steps_said given text ≡ Some said → IsFirstImage said image
+    → Writes (Some text) said.config image a b (IsRunTo last unwell) → IfErr r (λ x. IsEndFault given (fault_of x)) → IfErr r (λ x. fault_of x ≡ fault.Unwell → unwell ≡ 0 → ⊥)
+    → IfErr r (λ x. FailsWith told (Some (steps given)) a b (fault_of x))
+steps_end (Ok done) fault_of told given said text image a b last unwell first says is writes end some = tt
+steps_end (Err x) fault_of told given said text image a b last unwell first says is writes end some =
+    inr (inr (steps_played told given said text image (λ script s im. Writes (Some script) s.config im a b (IsEndOfRun given (fault_of x))) first says is
+    (λ all read. writes_so (Some all) said.config image a b (IsRunTo last unwell) (IsEndOfRun given (fault_of x)) (λ t script words ran. ended (fault_of x) t script words ran end some)
+    (writes_told (Some all) text said.config image a b (IsRunTo last unwell) read writes))))
+  where
+    ended : (why : Fault) (t : Table) (script : List Numbered) (words : List ℕ) → IsRunTo last unwell t script words → IsEndFault given why → (why ≡ fault.Unwell → unwell ≡ 0 → ⊥)
+        → IsEndOfRun given why t script words
+    ended fault.NotSaved t script words (said, all, run, joined, is) end some = (end, (last, said, all, run, joined))
+    ended fault.Unwell t script words ran end some = (end, (last, unwell, ran, some refl))
+    ended why t script words ran end some = absurd end
 
 -- Scripts that are looked at, by the faults that `?` makes
 

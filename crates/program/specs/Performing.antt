@@ -10,9 +10,10 @@ use Rattle.load.specs.{Lines.IsLineFront, Loaded.HasRun, Tallies.is_good}
 use Rattle.job_cli.specs.declared.jobs.JobLine.{JobLine}
 use Rattle.load.specs.declared.{fault.LoadFault.LoadFault, tally.Tally.Tally}
 use Rattle.host_core.specs.declared.config.Config.{Config}
+use Rattle.machine_model.specs.Script.{Table}
 use Rattle.script_cli.specs.declared.workload.Load.{Load}
 use Rattle.script_cli.specs.declared.transcripts.options.{Options.Options, SaidOptions.SaidOptions, ScriptKind.{ScriptKind, TheVariants.{Jobs, Steps}}}
-use Rattle.script_cli.specs.{Inputs.{IsTold, Gains}, Lines.first_line, Options.{jobs_options_in, options_in, said_on}, Runs.{EndsWith, HasScript, IsNoScript, IsRunText, Writes}}
+use Rattle.script_cli.specs.{Inputs.{IsTold, Gains}, Lines.first_line, Options.{jobs_options_in, options_in, said_on}, Runs.{EndsWith, HasScript, IsNoScript, IsRunText, IsRunTo, Writes}}
 use Rattle.script_cli.specs.declared.{fault.RunFault.RunFault, input.ImageFault.ImageFault, script.Numbered.Numbered}
 use Rattle.load.specs.declared.fault.LoadFault.TheVariants as load_fault
 use Rattle.program.specs.declared.fault.Fault.TheVariants as fault
@@ -92,6 +93,14 @@ abbrev pub PlaysSteps : Option (List ℕ) → Given → (List ℕ → Given → 
 PlaysSteps told given Holds =
     Plays (script_told given.script told) (steps_said given) (λ script said. (image : List ℕ) × IsFirstImage said image × Holds script said image)
 
+-- the text of a run of steps, each of which was answered well where that is asked for
+abbrev pub IsRunAsAsked : Bool → Table → List Numbered → List ℕ → Type 0
+IsRunAsAsked strict t script text = (last : Table) × (unwell : ℕ) × IsRunTo last unwell t script text × (strict ≡ true → unwell ≡ 0)
+
+-- the text of one of which some was not
+abbrev pub IsUnwellRun : Table → List Numbered → List ℕ → Type 0
+IsUnwellRun t script text = (last : Table) × (unwell : ℕ) × IsRunTo last unwell t script text × (unwell ≡ 0 → ⊥)
+
 -- the text of a run of jobs, each of which was not refused and ended with the status 0:00 where that is asked for
 abbrev pub IsTextAsAsked : Bool → Config → List ℕ → List JobLine → List ℕ → Type 0
 IsTextAsAsked strict config image lines text = (unwell : ℕ) × IsCountedText unwell config image lines text × (strict ≡ true → unwell ≡ 0)
@@ -133,7 +142,7 @@ LooksAtJobs told submitters = Plays told (line_said Jobs) (λ script said. (line
 -- the text of the grammar nothing is said.
 abbrev pub Performs : Option (List ℕ) → Option Asked → Option (List ℕ) → Option (List ℕ) → Type 0
 Performs told None before after = Keeps before after
-Performs told (Some (steps given)) before after = PlaysSteps told given (λ script said image. Writes (Some script) said.config image before after IsRunText)
+Performs told (Some (steps given)) before after = PlaysSteps told given (λ script said image. Writes (Some script) said.config image before after (IsRunAsAsked given.strict))
 Performs told (Some (threads given what who)) before after =
     RunsJobs told given what.submitters (λ script said submitters image. WritesJobs (Some script) submitters said.config image before after (IsTextAsAsked given.strict))
 Performs told (Some (load given what who)) before after = WritesLoad given what true before after
@@ -195,6 +204,12 @@ IsEndFault given fault.NotSaved = IsSome given.save
 IsEndFault given fault.Unwell = given.strict ≡ true
 IsEndFault given other = ⊥
 
+-- so of a script of steps, of whose run this is the text
+abbrev pub IsEndOfRun : Given → Fault → Table → List Numbered → List ℕ → Type 0
+IsEndOfRun given fault.NotSaved t script text = IsSome given.save × IsRunText t script text
+IsEndOfRun given fault.Unwell t script text = (given.strict ≡ true) × IsUnwellRun t script text
+IsEndOfRun given other t script text = ⊥
+
 -- not all answers were well, which was asked for
 abbrev pub IsUnwell : Given → Fault → Type 0
 IsUnwell given fault.Unwell = given.strict ≡ true
@@ -216,7 +231,7 @@ FailsWith told None before after why = Keeps before after
 FailsWith told (Some (steps given)) before after why =
     (IsNotBegun (script_told given.script told) (steps_said given) (λ said. said) why × Keeps before after)
     ⊎ (IsRunFault why (λ cause. PlaysSteps told given (λ script said image. EndsWith (Some script) said.config image before after cause))
-    ⊎ (Performs told (Some (steps given)) before after × IsEndFault given why))
+    ⊎ PlaysSteps told given (λ script said image. Writes (Some script) said.config image before after (IsEndOfRun given why)))
 FailsWith told (Some (traced given objects)) before after why =
     (IsNotBegun (script_told given.script told) (steps_said given) (λ said. said) why × Keeps before after)
     ⊎ (IsRunFault why (λ cause. Unit {0}) ⊎ IsEndFault given why)

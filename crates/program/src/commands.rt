@@ -20,7 +20,7 @@ use crate::testing::test_files;
 use command_line::{CommandLine, Options, Serving, Testing, Threading, words};
 use job_cli::{Form, Pace, run_jobs};
 use script_cli::transcripts::ScriptKind;
-use script_cli::{MAX_SCRIPT, RunFault, play_steps, transcripts};
+use script_cli::{MAX_SCRIPT, Played, RunFault, play_steps, transcripts};
 use shell::{meanings_text, run_shell, tell_steps, trace_steps};
 use std::alloc::{AllocError, AllocGlobal, Global};
 use std::convert::AsStr;
@@ -179,6 +179,8 @@ fn end_steps<R: AllocGlobal + Files + Print>(
     unwell: u64,
 ) -> Result<(), Told<Fault>>
     ensures end { IfErr result (λ told. IsEndFault (given_of options.entry) told.fault) }
+    ensures some { IfErr result (λ told. told.fault ≡ Fault.Unwell → unwell ≡ 0 → ⊥) }
+    ensures well { OnOk result ((given_of options.entry).strict ≡ true → unwell ≡ 0) }
 {
     let saved = save_image(rt, options.save, bench.image());
     let _ended = bench.end();
@@ -218,9 +220,8 @@ fn play<R: AllocGlobal + Files + Print, I: Read, W: Write>(
     };
     let alloc = rt.alloc();
     let mut script = text.as_slice();
-    let mut unwell = 0;
-    match play_steps(alloc, said.config, image, &mut script, writer, &mut unwell) {
-        Ok(bench) => end_steps(rt, options, bench, unwell),
+    match play_steps(alloc, said.config, image, &mut script, writer) {
+        Ok(Played { bench, unwell }) => end_steps(rt, options, bench, unwell),
         Err(fault) => Err(told_of_run(alloc, Grammar::Steps, &text, &said, fault)),
     }
 }

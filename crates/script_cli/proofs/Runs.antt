@@ -5,17 +5,17 @@ use Rattle.script_cli.specs.declared.verb.CommandVerb.TheVariants as command
 use Rattle.script_cli.specs.declared.verb.QueueVerb.TheVariants as queue
 use Rattle.step_core.specs.declared.step.Step.TheVariants as step
 use Rattle.script_cli.specs.declared.fault.RunFault.TheVariants as run
-use Rattle.std.proofs.Common.{◌≡◌, ◌<◌, ◌+◌, ◌^◌, ◌==◌, ◌&&◌, ℕ, Bool, true, false, nat_lt, nat_le, Option, Some, None, Result, Ok, Err, List, [], ◌∷◌, ◌++◌, length, option_and_then, if◌then◌else◌, refl, subst, eqb-true, ltb-true, arith, zero, suc, map, slice_get, ap, lt-ltb, append_assoc, sym, ◌∙◌, ◌⊎◌, inl, inr, take}
+use Rattle.std.proofs.Common.{◌≡◌, ◌<◌, ◌+◌, ◌^◌, ◌==◌, ◌&&◌, ℕ, Bool, true, false, nat_lt, nat_le, Option, Some, None, Result, Ok, Err, List, [], ◌∷◌, ◌++◌, length, option_and_then, if◌then◌else◌, refl, subst, eqb-true, ltb-true, arith, zero, suc, map, slice_get, ap, lt-ltb, append_assoc, sym, ◌∙◌, ◌⊎◌, inl, inr, take, min}
 use Rattle.std.{proofs.lemmas.{Grind.common_steps, List.Elements.{All-nil, All-push, Contains-append_right}}, specs.Io.KnownBytes.{Appends, Keeps}}
 use Rattle.std.specs.{List.Contains, Prelude.{All, IfOk, OnOk, OnErr, IfErr}}
 use Rattle.io_commands.specs.{Requests.FitsPiece, declared.request.Piece.{Piece, TheVariants.{Data, Bucket}}}
 use Rattle.two_sides.proofs.Provided.{all_append}
-use Rattle.script_cli.{proofs.Texts.{same_if_short, appends_more, appends_none, keeps_then}, specs.Faults.fault_of_script}
+use Rattle.script_cli.{proofs.Texts.{same_if_short, appends_more, keeps_then}, specs.Faults.fault_of_script}
 use Rattle.script_cli.specs.Grammar.{Words, ◌>>=◌, value_or, wanted, number_word, kind_word, hex_word, sixteen_bytes_word, nothing_more, with_piece, pieces_from, reserve_line, fill_line, forge_line, queue_line, command_line, verb_line, begins_comment, known_verb_line, line_of_words, words_of, line_of}
 use Rattle.script_cli.specs.{Inputs.{IsFront, AreFirstOf, Gains}, Lines.{lines, before, onward}}
 use Rattle.script_cli.specs.{Numbers.{digits_from, if_below, number, hex, if_sixteen, sixteen_bytes}, Owners.owners_text}
 use Rattle.script_cli.specs.{Pieces.{number32, is_plus, data_of, data_piece, bucket_piece, piece}, Replies.reply_line}
-use Rattle.script_cli.specs.Runs.{IsFitLine, AreFitLines, AreOwners, PrintsLine, Prints, last_line, IsFrontOfFirst, IsCutText, HasScript, IsRunText, IsRunTo, HasFault, IsNoScript, EndsWith, Writes}
+use Rattle.script_cli.specs.Runs.{IsFitLine, AreFitLines, AreOwners, PrintsLine, Prints, unwell_by, last_line, IsFrontOfFirst, IsCutText, HasScript, IsRunText, IsRunTo, HasFault, IsNoScript, EndsWith, Writes}
 use Rattle.script_cli.specs.Scripts.{numbered_line, numbered, with_line, then_lines, script_from, script_of, IsReading}
 use Rattle.script_cli.specs.{Verbs.{verb_named, queue_step, command_step, verb_of}, declared.fault.LineFault.{LineFault, TheVariants.TooManyLines}}
 use Rattle.script_cli.specs.declared.{fault.{RunFault.RunFault, ScriptFault.ScriptFault}, script.{Line.Line, Numbered.Numbered}, verb.CommandVerb.CommandVerb}
@@ -280,34 +280,39 @@ owners_there s sound = go (listed (λ p owner. Contains (claims_of s.host) (p, o
 -- From where a run of a script was cut off, the rest of the script can be run.
 
 -- each line prints something
-pub line_goes_on : (t : Table) (n : ℕ) (what : Line) → IsTableInOrder t → IsFitLine what → (said : List ℕ) × (new : Table) × PrintsLine t n what said new
-line_goes_on t n (line.Step what) order fit = let next = goes_on t what order fit in (reply_line n (verb_of what) next.answer, next.left, (next.answer, next.does, refl))
-line_goes_on t n line.Owners order fit = let found = owners_there t.world order.world.sound in (owners_text found.0, t, (found.0, found.1, refl, refl))
-line_goes_on t n line.Nothing order fit = ([], t, (refl, refl))
+pub line_goes_on : (t : Table) (n : ℕ) (what : Line) → IsTableInOrder t → IsFitLine what → (said : List ℕ) × (unwell : ℕ) × (new : Table) × PrintsLine t n what said unwell new
+line_goes_on t n (line.Step what) order fit =
+    let next = goes_on t what order fit in
+    (reply_line n (verb_of what) next.answer, unwell_by next.answer, next.left, (next.answer, next.does, refl, refl))
+line_goes_on t n line.Owners order fit = let found = owners_there t.world order.world.sound in (owners_text found.0, 0, t, (found.0, found.1, refl, refl, refl))
+line_goes_on t n line.Nothing order fit = ([], 0, t, (refl, refl, refl))
 
-line_keeps_order : (t : Table) (n : ℕ) (what : Line) (said : List ℕ) (new : Table) → IsTableInOrder t → PrintsLine t n what said new → IsTableInOrder new
-line_keeps_order t n (line.Step what) said new order (answer, does, text) = bench_keeps t what answer new order does
-line_keeps_order t n line.Owners said new order (owners, are, text, stays) = subst IsTableInOrder (sym stays) order
-line_keeps_order t n line.Nothing said new order (text, stays) = subst IsTableInOrder (sym stays) order
+line_keeps_order : (t : Table) (n : ℕ) (what : Line) (said : List ℕ) (unwell : ℕ) (new : Table) → IsTableInOrder t → PrintsLine t n what said unwell new → IsTableInOrder new
+line_keeps_order t n (line.Step what) said unwell new order (answer, does, text, counted) = bench_keeps t what answer new order does
+line_keeps_order t n line.Owners said unwell new order (owners, are, text, counted, stays) = subst IsTableInOrder (sym stays) order
+line_keeps_order t n line.Nothing said unwell new order (text, counted, stays) = subst IsTableInOrder (sym stays) order
 
-pub prints_keep_order : (t : Table) (done : List Numbered) (said : List ℕ) (new : Table) → IsTableInOrder t → Prints t done said new → IsTableInOrder new
-prints_keep_order t [] said new order (text, stays) = subst IsTableInOrder (sym stays) order
-prints_keep_order t (first ∷ rest) said new order (mid, one, others, says, run, text) =
-    prints_keep_order mid rest others new (line_keeps_order t first.number first.line one mid order says) run
+pub prints_keep_order : (t : Table) (done : List Numbered) (said : List ℕ) (unwell : ℕ) (new : Table) → IsTableInOrder t → Prints t done said unwell new → IsTableInOrder new
+prints_keep_order t [] said unwell new order (text, counted, stays) = subst IsTableInOrder (sym stays) order
+prints_keep_order t (first ∷ rest) said unwell new order (mid, one, others, here, later, says, run, text, counted) =
+    prints_keep_order mid rest others later new (line_keeps_order t first.number first.line one here mid order says) run
 
-pub lines_go_on : (t : Table) (left : List Numbered) → IsTableInOrder t → AreFitLines left → (said : List ℕ) × (new : Table) × Prints t left said new
-lines_go_on t [] order fit = ([], t, (refl, refl))
+pub lines_go_on : (t : Table) (left : List Numbered) → IsTableInOrder t → AreFitLines left → (said : List ℕ) × (unwell : ℕ) × (new : Table) × Prints t left said unwell new
+lines_go_on t [] order fit = ([], 0, t, (refl, refl, refl))
 lines_go_on t (first ∷ rest) order fit =
-    let (one, mid, says) = line_goes_on t first.number first.line order fit.0 in
-    let (others, new, run) = lines_go_on mid rest (line_keeps_order t first.number first.line one mid order says) fit.1 in
-    (one ++ others, new, (mid, one, others, says, run, refl))
+    let (one, here, mid, says) = line_goes_on t first.number first.line order fit.0 in
+    let (others, later, new, run) = lines_go_on mid rest (line_keeps_order t first.number first.line one here mid order says) fit.1 in
+    (one ++ others, here + later, new, (mid, one, others, here, later, says, run, refl, refl))
 
 -- what lines print, and then what others do
-pub joins : (t : Table) (done left : List Numbered) (said others : List ℕ) (mid new : Table) → Prints t done said mid → Prints mid left others new → Prints t (done ++ left) (said ++ others) new
-joins t [] left said others mid new (none, stays) run =
-    subst (λ (text : List ℕ). Prints t left text new) (sym (ap (λ (xs : List ℕ). xs ++ others) none)) (subst (λ (from : Table). Prints from left others new) stays run)
-joins t (first ∷ rest) left said others mid new (after, one, more, says, run, text) next =
-    (after, one, more ++ others, says, joins after rest left more others mid new run next, ap (λ (xs : List ℕ). xs ++ others) text ∙ append_assoc one more others)
+pub joins : (t : Table) (done left : List Numbered) (said others : List ℕ) (here later : ℕ) (mid new : Table)
+    → Prints t done said here mid → Prints mid left others later new → Prints t (done ++ left) (said ++ others) (here + later) new
+joins t [] left said others here later mid new (none, zeros, stays) run =
+    let sum : here + later ≡ later = omega (arith, zeros) in
+    subst (λ (n : ℕ). Prints t left (said ++ others) n new) (sym sum)
+    (subst (λ (text : List ℕ). Prints t left text later new) (sym (ap (λ (xs : List ℕ). xs ++ others) none)) (subst (λ (from : Table). Prints from left others later new) stays run))
+joins t (first ∷ rest) left said others here later mid new (after, one, more, a, b, says, run, text, counted) next =
+    (after, one, more ++ others, a, b + later, says, joins after rest left more others b later mid new run next, ap (λ (xs : List ℕ). xs ++ others) text ∙ append_assoc one more others, omega (arith, counted))
 
 fit_after : (done left : List Numbered) → AreFitLines (done ++ left) → AreFitLines left
 fit_after [] left fit = fit
@@ -315,16 +320,16 @@ fit_after (first ∷ rest) left fit = fit_after rest left fit.1
 
 -- what the lines done print begins the text of a run of all lines
 pub front_of_first_is_cut : (t : Table) (script : List Numbered) (text : List ℕ) → IsTableInOrder t → AreFitLines script → IsFrontOfFirst t script text → IsCutText t script text
-front_of_first_is_cut t script text order fit (done, left, last, said, split, run, front) = go left split front
+front_of_first_is_cut t script text order fit (done, left, last, said, unwell, split, run, front) = go left split front
   where
     go : (left : List Numbered) → script ≡ done ++ left → IsFront text (said ++ last_line left last) → IsCutText t script text
     go [] split front =
         let all : script ≡ done = grind (arith, common_steps) in
-        (said ++ last_line [] last, (last, said, rw all run, refl), front)
+        (said ++ last_line [] last, (last, said, unwell, rw all run, refl), front)
     go (next ∷ others) split (rest, joined) =
-        let (more, new, onward) = lines_go_on last (next ∷ others) (prints_keep_order t done said last order run) (fit_after done (next ∷ others) (subst AreFitLines split fit)) in (
+        let (more, later, new, onward) = lines_go_on last (next ∷ others) (prints_keep_order t done said unwell last order run) (fit_after done (next ∷ others) (subst AreFitLines split fit)) in (
           (said ++ more) ++ last_line [] new,
-          (new, said ++ more, rw split (joins t done (next ∷ others) said more last new run onward), refl),
+          (new, said ++ more, unwell + later, rw split (joins t done (next ∷ others) said more unwell later last new run onward), refl),
           (rest ++ (more ++ last_line [] new), grind (arith, common_steps)),
         )
 
@@ -354,74 +359,86 @@ no_script_is_told told text fault.Memory first bad = _
 
 -- What is printed grows by a line
 
-pub prints_more : (t : Table) (done : List Numbered) (said : List ℕ) (mid : Table) (next : Numbered) (text : List ℕ) (new : Table) →
-    Prints t done said mid → PrintsLine mid next.number next.line text new → Prints t (done ++ next ∷ []) (said ++ text) new
-prints_more t [] said mid next text new (none, stays) line =
-    (new, text, [], subst (λ (from : Table). PrintsLine from next.number next.line text new) stays line, (refl, refl), grind (arith, common_steps))
-prints_more t (first ∷ rest) said mid next text new (after, one, others, says, run, joined) line =
-    (after, one, others ++ text, says, prints_more after rest others mid next text new run line, grind (arith, common_steps))
+pub prints_more : (t : Table) (done : List Numbered) (said : List ℕ) (so_far : ℕ) (mid : Table) (next : Numbered) (text : List ℕ) (unwell : ℕ) (new : Table) →
+    Prints t done said so_far mid → PrintsLine mid next.number next.line text unwell new → Prints t (done ++ next ∷ []) (said ++ text) (so_far + unwell) new
+prints_more t [] said so_far mid next text unwell new (none, zeros, stays) line =
+    (new, text, [], unwell, 0, subst (λ (from : Table). PrintsLine from next.number next.line text unwell new) stays line, (refl, refl, refl), grind (arith, common_steps), omega (arith, zeros))
+prints_more t (first ∷ rest) said so_far mid next text unwell new (after, one, others, here, later, says, run, joined, counted) line =
+    (after, one, others ++ text, here, later + unwell, says, prints_more after rest others later mid next text unwell new run line, grind (arith, common_steps), omega (arith, counted))
 
 -- Where a run was cut off: between lines, inside what a line prints, and inside the counts
 
--- what has been written of the lines done
-abbrev pub HasPrinted : Table → List Numbered → Table → Option (List ℕ) → Option (List ℕ) → Type 0
-HasPrinted t done now a b = Gains a b (λ said. Prints t done said now)
+-- what has been written of the lines done, and how many answers are not well, as far as 64 bits count
+abbrev pub HasPrinted : Table → List Numbered → Table → ℕ → Option (List ℕ) → Option (List ℕ) → Type 0
+HasPrinted t done now counted a b = (unwell : ℕ) × (counted ≡ min unwell 18446744073709551615) × Gains a b (λ said. Prints t done said unwell now)
 
 abbrev pub IsFrontOf : List ℕ → List ℕ → Type 0
 IsFrontOf whole front = IsFront front whole
 
-pub printed_more : (t : Table) (done : List Numbered) (mid : Table) (next : Numbered) (text : List ℕ) (new : Table) (a b c : Option (List ℕ)) →
-    HasPrinted t done mid a b → PrintsLine mid next.number next.line text new → Appends b c text → HasPrinted t (done ++ next ∷ []) new a c
-printed_more t done mid next text new a b c (said, run, first) line second =
-    (said ++ text, prints_more t done said mid next text new run line, appends_more a b c said text first second)
+-- a count and what comes to it, as far as 64 bits count
+counts_on : (counted more sum so_far : ℕ) → counted ≡ min so_far 18446744073709551615 → sum ≡ min (counted + more) 18446744073709551615 → sum ≡ min (so_far + more) 18446744073709551615
+counts_on counted more sum so_far first second = omega (arith, first, second)
+
+pub printed_more : (t : Table) (done : List Numbered) (mid : Table) (counted : ℕ) (next : Numbered) (text : List ℕ) (more : ℕ) (new : Table) (sum : ℕ) (a b c : Option (List ℕ)) →
+    HasPrinted t done mid counted a b → PrintsLine mid next.number next.line text more new → sum ≡ min (counted + more) 18446744073709551615 → Appends b c text
+    → HasPrinted t (done ++ next ∷ []) new sum a c
+printed_more t done mid counted next text more new sum a b c (so_far, is, (said, run, first)) line adds second =
+    (so_far + more, counts_on counted more sum so_far is adds, (said ++ text, prints_more t done said so_far mid next text more new run line, appends_more a b c said text first second))
 
 -- between lines
-pub cut_between : (t : Table) (script done left : List Numbered) (mid : Table) (a b : Option (List ℕ)) → done ++ left ≡ script → HasPrinted t done mid a b → Gains a b (IsFrontOfFirst t script)
-cut_between t script done left mid a b split (said, run, first) = (said, (done, left, mid, said, sym split, run, (last_line left mid, refl)), first)
+pub cut_between : (t : Table) (script done left : List Numbered) (mid : Table) (counted : ℕ) (a b : Option (List ℕ)) → done ++ left ≡ script → HasPrinted t done mid counted a b → Gains a b (IsFrontOfFirst t script)
+cut_between t script done left mid counted a b split (so_far, is, (said, run, first)) = (said, (done, left, mid, said, so_far, sym split, run, (last_line left mid, refl)), first)
 
 -- inside what a line prints
-pub cut_inside : (t : Table) (script done left : List Numbered) (mid : Table) (next : Numbered) (text : List ℕ) (new : Table) (a b c : Option (List ℕ)) → done ++ next ∷ left ≡ script →
-    HasPrinted t done mid a b → PrintsLine mid next.number next.line text new → Gains b c (IsFrontOf text) → Gains a c (IsFrontOfFirst t script)
-cut_inside t script done left mid next text new a b c split (said, run, first) line (front, (rest, joined), second) = (
+pub cut_inside : (t : Table) (script done left : List Numbered) (mid : Table) (counted : ℕ) (next : Numbered) (text : List ℕ) (more : ℕ) (new : Table) (a b c : Option (List ℕ)) → done ++ next ∷ left ≡ script →
+    HasPrinted t done mid counted a b → PrintsLine mid next.number next.line text more new → Gains b c (IsFrontOf text) → Gains a c (IsFrontOfFirst t script)
+cut_inside t script done left mid counted next text more new a b c split (so_far, is, (said, run, first)) line (front, (rest, joined), second) = (
   said ++ front,
   (
     done ++ next ∷ [],
     left,
     new,
     said ++ text,
+    so_far + more,
     grind (arith, common_steps),
-    prints_more t done said mid next text new run line,
+    prints_more t done said so_far mid next text more new run line,
     (rest ++ last_line left new, grind (arith, common_steps)),
   ),
   appends_more a b c said front first second,
 )
 
 -- inside the counts
-pub cut_in_counts : (t : Table) (script : List Numbered) (last : Table) (a b c : Option (List ℕ)) →
-    HasPrinted t script last a b → Gains b c (IsFrontOf (last_line [] last)) → Gains a c (IsFrontOfFirst t script)
-cut_in_counts t script last a b c (said, run, first) (front, (rest, joined), second) =
-    (said ++ front, (script, [], last, said, grind (arith, common_steps), run, (rest, grind (arith, common_steps))), appends_more a b c said front first second)
+pub cut_in_counts : (t : Table) (script : List Numbered) (last : Table) (counted : ℕ) (a b c : Option (List ℕ)) →
+    HasPrinted t script last counted a b → Gains b c (IsFrontOf (last_line [] last)) → Gains a c (IsFrontOfFirst t script)
+cut_in_counts t script last counted a b c (so_far, is, (said, run, first)) (front, (rest, joined), second) =
+    (said ++ front, (script, [], last, said, so_far, grind (arith, common_steps), run, (rest, grind (arith, common_steps))), appends_more a b c said front first second)
 
 -- all was written
-pub whole_text : (t : Table) (script : List Numbered) (last : Table) (a b c : Option (List ℕ)) →
-    HasPrinted t script last a b → Appends b c (last_line [] last) → Gains a c (IsRunText t script)
-whole_text t script last a b c (said, run, first) second = (said ++ last_line [] last, (last, said, run, refl), appends_more a b c said (last_line [] last) first second)
+pub whole_text : (t : Table) (script : List Numbered) (last : Table) (counted : ℕ) (a b c : Option (List ℕ)) →
+    HasPrinted t script last counted a b → Appends b c (last_line [] last) → Gains a c (IsRunText t script)
+whole_text t script last counted a b c (unwell, is, (said, run, first)) second = (said ++ last_line [] last, (last, said, unwell, run, refl), appends_more a b c said (last_line [] last) first second)
 
 -- and by the table that was left
-pub whole_run : (t : Table) (script : List Numbered) (last : Table) (a b c : Option (List ℕ)) →
-    HasPrinted t script last a b → Appends b c (last_line [] last) → Gains a c (IsRunTo last t script)
-whole_run t script last a b c (said, run, first) second = (said ++ last_line [] last, (said, run, refl), appends_more a b c said (last_line [] last) first second)
+pub whole_run : (t : Table) (script : List Numbered) (last : Table) (counted : ℕ) (a b c : Option (List ℕ)) →
+    HasPrinted t script last counted a b → Appends b c (last_line [] last) → Gains a c (IsRunTo last counted t script)
+whole_run t script last counted a b c (unwell, is, (said, run, first)) second = (said ++ last_line [] last, (said, unwell, run, refl, is), appends_more a b c said (last_line [] last) first second)
 
-pub run_to_text : (told : Option (List ℕ)) (config : Config) (image : List ℕ) (last : Table) (a b : Option (List ℕ)) → Writes told config image a b (IsRunTo last) → Writes told config image a b IsRunText
-run_to_text told config image last a b (script, has, fits, (text, (said, run, joined), gained)) = (script, has, fits, (text, (last, said, run, joined), gained))
+-- what is written of a run is so
+pub writes_so : (told : Option (List ℕ)) (config : Config) (image : List ℕ) (a b : Option (List ℕ)) (P Q : Table → List Numbered → List ℕ → Type 0)
+    → ((t : Table) (script : List Numbered) (text : List ℕ) → P t script text → Q t script text) → Writes told config image a b P → Writes told config image a b Q
+writes_so told config image a b P Q is (script, has, fits, (text, holds, written)) = (script, has, fits, (text, is (table (opening_of config image)) script text holds, written))
+
+pub run_to_text : (told : Option (List ℕ)) (config : Config) (image : List ℕ) (last : Table) (counted : ℕ) (a b : Option (List ℕ))
+    → Writes told config image a b (IsRunTo last counted) → Writes told config image a b IsRunText
+run_to_text told config image last counted a b (script, has, fits, (text, (said, unwell, run, joined, is), gained)) = (script, has, fits, (text, (last, said, unwell, run, joined), gained))
 
 pub kept_gains : (a b c : Option (List ℕ)) (Holds : List ℕ → Type 0) → Gains a b Holds → Keeps b c → Gains a c Holds
 kept_gains a b c Holds (bytes, holds, first) kept = (bytes, holds, keeps_then a b c bytes first kept)
 
 -- a whole text is a front of itself
 pub whole_is_cut : (t : Table) (script : List Numbered) (a b : Option (List ℕ)) → Gains a b (IsRunText t script) → Gains a b (IsFrontOfFirst t script)
-whole_is_cut t script a b (text, (last, said, run, joined), first) =
-    (text, (script, [], last, said, grind (arith, common_steps), run, ([], grind (arith, common_steps))), first)
+whole_is_cut t script a b (text, (last, said, unwell, run, joined), first) =
+    (text, (script, [], last, said, unwell, grind (arith, common_steps), run, ([], grind (arith, common_steps))), first)
 
 -- what holds in any case holds of a refusal
 pub on_err : {T E X : Type 0} (r : Result T E) → X → OnErr r X

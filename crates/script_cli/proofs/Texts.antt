@@ -1,8 +1,8 @@
 -- Texts: lines, words and digits that are read from their front; what was read and written.
 use Rattle.script_cli.specs.declared.fault.ScriptFault.TheVariants as fault
-use Rattle.std.proofs.Common.{arith, ◌≡◌, ◌<◌, ◌≤◌, ◌+◌, ◌-◌, ℕ, Bool, true, false, nat_lt, Option, Some, None, List, [], ◌++◌, append_assoc, length, take, drop, refl, sym, ap, ◌∙◌, subst, if◌then◌else◌, suc, ◌==◌, ◌∷◌, not, ◌*◌, zero, get_or, replicate, ◌&&◌, nat_eq, Result, Ok, Err}
+use Rattle.std.proofs.Common.{arith, ◌≡◌, ◌<◌, ◌≤◌, ◌+◌, ◌-◌, ℕ, Bool, true, false, nat_lt, Option, Some, None, List, [], ◌++◌, append_assoc, length, take, drop, refl, sym, ap, ◌∙◌, subst, if◌then◌else◌, suc, ◌==◌, ◌∷◌, not, ◌*◌, zero, get_or, replicate, nat_eq, Result, Ok, Err}
 use Rattle.std.proofs.lemmas.{Bool.{ltb-true, ltb-false, true≢false, and_parts, le-ltb}, Grind.common_steps}
-use Rattle.std.{proofs.lemmas.List.{take_all, take_at, take_rest, take-append-drop, length-take-le}, specs.Io.KnownBytes.{Appends, Keeps, Consumes, IsAtEnd}}
+use Rattle.std.{proofs.lemmas.List.{take_all, take_at, take_rest, take-append-drop, length-take-le}, specs.Io.KnownBytes.{Appends, Keeps, Consumes}}
 use Rattle.std.specs.{List.{onto_first, position_or_len}, Str.bytes_eq}
 use Rattle.block_image.specs.Blocks.{IsImage}
 use Rattle.script_cli.specs.Inputs.{IsTold, AreFirstOf, GivesNoImage}

@@ -1,8 +1,8 @@
 -- What a run of a script prints, and how it may end.
-use Rattle.std.specs.{Io.KnownBytes.Keeps, List.{AllByRecursion, Contains}, Prelude.{◌≡◌, ◌⊎◌, ℕ, Option, Some, None, Ok, Err, List, [], ◌∷◌, ◌++◌, length}}
+use Rattle.std.specs.{Io.KnownBytes.Keeps, List.{AllByRecursion, Contains}, Prelude.{◌≡◌, ◌⊎◌, ◌+◌, ℕ, Option, Some, None, Ok, Err, List, [], ◌∷◌, ◌++◌, length, min, if◌then◌else◌}}
 use Rattle.machine_model.specs.{Claims.{claims_of, counts_of}, Script.{Table, table}, State.State, declared.words.OpenRefusal.OpenRefusal}
 use Rattle.page_ledger.specs.{Owners.owner_at, declared.owner.Owner.Owner}
-use Rattle.script_cli.specs.{Inputs.{IsTold, Gains, IsFront}, Owners.{owners_text, counts_line}, Replies.reply_line, Scripts.script_of, Verbs.verb_of}
+use Rattle.script_cli.specs.{Inputs.{IsTold, Gains, IsFront}, Owners.{owners_text, counts_line}, Replies.{is_well, reply_line}, Scripts.script_of, Verbs.verb_of}
 use Rattle.script_cli.specs.declared.{fault.{RunFault.RunFault, ScriptFault.ScriptFault}, script.{Line.Line, Numbered.Numbered}}
 use Rattle.step_core.specs.{Bench.Does, Going.IsFitStep, Opening.opening_of, Values.{Step, Reply}}
 use Rattle.host_core.specs.{Opening.refusal_of_config, declared.config.Config.Config}
@@ -36,17 +36,22 @@ pub record AreOwners (s : State) (owners : List Owner) : Type 0 where
 abbrev pub PrintsAnswer : Table → ℕ → Step → Reply → List ℕ → Table → Type 0
 PrintsAnswer t number what answer text new = Does t what answer new × (text ≡ reply_line number (verb_of what) answer)
 
--- what a line of a script prints, and what it leaves
-abbrev pub PrintsLine : Table → ℕ → Line → List ℕ → Table → Type 0
-PrintsLine t number (line.Step what) text new = (answer : Reply) × Does t what answer new × (text ≡ reply_line number (verb_of what) answer)
-PrintsLine t number line.Owners text new = (owners : List Owner) × AreOwners t.world owners × (text ≡ owners_text owners) × (new ≡ t)
-PrintsLine t number line.Nothing text new = (text ≡ []) × (new ≡ t)
+-- one answer that is not well, or none
+abbrev pub unwell_by : Reply → ℕ
+unwell_by answer = if is_well answer then 0 else 1
 
--- what lines print, each over what the one before left
-abbrev pub Prints : Table → List Numbered → List ℕ → Table → Type 0
-Prints t [] text new = (text ≡ []) × (new ≡ t)
-Prints t (first ∷ rest) text new =
-    (mid : Table) × (said : List ℕ) × (others : List ℕ) × PrintsLine t first.number first.line said mid × Prints mid rest others new × (text ≡ said ++ others)
+-- what a line of a script prints, how many of its answers are not well, and what it leaves
+abbrev pub PrintsLine : Table → ℕ → Line → List ℕ → ℕ → Table → Type 0
+PrintsLine t number (line.Step what) text unwell new = (answer : Reply) × Does t what answer new × (text ≡ reply_line number (verb_of what) answer) × (unwell ≡ unwell_by answer)
+PrintsLine t number line.Owners text unwell new = (owners : List Owner) × AreOwners t.world owners × (text ≡ owners_text owners) × (unwell ≡ 0) × (new ≡ t)
+PrintsLine t number line.Nothing text unwell new = (text ≡ []) × (unwell ≡ 0) × (new ≡ t)
+
+-- so of lines, each over what the one before left
+abbrev pub Prints : Table → List Numbered → List ℕ → ℕ → Table → Type 0
+Prints t [] text unwell new = (text ≡ []) × (unwell ≡ 0) × (new ≡ t)
+Prints t (first ∷ rest) text unwell new =
+    (mid : Table) × (said : List ℕ) × (others : List ℕ) × (here : ℕ) × (later : ℕ)
+    × PrintsLine t first.number first.line said here mid × Prints mid rest others later new × (text ≡ said ++ others) × (unwell ≡ here + later)
 
 -- the counts of a table, where no line is left
 abbrev pub last_line : List Numbered → Table → List ℕ
@@ -55,17 +60,18 @@ last_line (next ∷ rest) t = []
 
 -- the text of a run of a script: what its lines print, and then the counts
 abbrev pub IsRunText : Table → List Numbered → List ℕ → Type 0
-IsRunText t script text = (last : Table) × (said : List ℕ) × Prints t script said last × (text ≡ said ++ last_line [] last)
+IsRunText t script text = (last : Table) × (said : List ℕ) × (unwell : ℕ) × Prints t script said unwell last × (text ≡ said ++ last_line [] last)
 
--- the same of a run that leaves this table
-abbrev pub IsRunTo : Table → Table → List Numbered → List ℕ → Type 0
-IsRunTo last t script text = (said : List ℕ) × Prints t script said last × (text ≡ said ++ last_line [] last)
+-- the same of a run that leaves this table, so many of whose answers, as far as 64 bits count, are not well
+abbrev pub IsRunTo : Table → ℕ → Table → List Numbered → List ℕ → Type 0
+IsRunTo last counted t script text =
+    (said : List ℕ) × (unwell : ℕ) × Prints t script said unwell last × (text ≡ said ++ last_line [] last) × (counted ≡ min unwell 18446744073709551615)
 
 -- what stands where a run was cut off, told by the lines that were done: the front of what these print, with the counts where they are all
 abbrev pub IsFrontOfFirst : Table → List Numbered → List ℕ → Type 0
 IsFrontOfFirst t script text =
-    (done : List Numbered) × (left : List Numbered) × (last : Table) × (said : List ℕ)
-    × (script ≡ done ++ left) × Prints t done said last × IsFront text (said ++ last_line left last)
+    (done : List Numbered) × (left : List Numbered) × (last : Table) × (said : List ℕ) × (unwell : ℕ)
+    × (script ≡ done ++ left) × Prints t done said unwell last × IsFront text (said ++ last_line left last)
 
 -- what was written of a run that was cut off: the front of the text of a run of the whole script
 abbrev pub IsCutText : Table → List Numbered → List ℕ → Type 0

@@ -6,7 +6,7 @@ ghost use Rattle.machine_model.specs.Claims.{counts_of};
 ghost use Rattle.machine_model.specs.Script.{table};
 ghost use Rattle.script_cli.specs.Inputs.{Gains};
 ghost use Rattle.script_cli.specs.Owners.{counts_line};
-ghost use Rattle.script_cli.specs.Runs.{AreFirstOwners, PrintsAnswer, PrintsLine, IsRunText, IsRunTo, IsFrontOfFirst, HasScript, IsNoScript, IsNoOpening, Writes, EndsWith};
+ghost use Rattle.script_cli.specs.Runs.{AreFirstOwners, PrintsAnswer, PrintsLine, unwell_by as spec_unwell_by, IsRunText, IsRunTo, IsFrontOfFirst, HasScript, IsNoScript, IsNoOpening, Writes, EndsWith};
 ghost use Rattle.script_cli.specs.declared.fault.RunFault.TheVariants as run;
 ghost use Rattle.script_cli.specs.declared.script.Line.TheVariants as line;
 ghost use Rattle.host_core.specs.Opening.{refusal_of_config};
@@ -90,63 +90,78 @@ pub fn first_owners(alloc: Global, bench: &Bench, pages: u32) -> Result<Vec<Owne
 /// Puts the owners of all pages of a bench into an empty text.
 pub fn put_owners(alloc: Global, bench: &Bench, text: &mut String) -> Result<(), AllocError>
     requires empty { string_bytes text.old ≡ [] }
-    ensures { OnOk result (PrintsLine bench.now.table 0 line.Owners (string_bytes text.new) bench.now.table) }
+    ensures { OnOk result (PrintsLine bench.now.table 0 line.Owners (string_bytes text.new) 0 bench.now.table) }
 {
     let owners = first_owners(alloc, bench, bench.pages())?;
     append_owners(text, &owners)
 }
 
-/// Does what a line says, and leaves what it prints in an empty text. An answer that is not well is counted.
+/// How many of an answer are not well: one, or none.
+fn unwell_by(reply: &Reply) -> u64
+    ensures { result ≡ spec_unwell_by reply.now }
+{
+    if is_well(reply) { 0 } else { 1 }
+}
+
+/// Does what a line says, leaves what it prints in an empty text, and answers how many of its answers are not well.
 fn play_line(
     alloc: Global,
     bench: &mut Bench,
     numbered: Numbered,
     text: &mut String,
-    unwell: &mut u64,
-) -> Result<(), AllocError>
+) -> Result<u64, AllocError>
     requires empty { string_bytes text.old ≡ [] }
-    ensures { OnOk result (PrintsLine bench.old.table numbered.number numbered.line (string_bytes text.new) bench.new.table) }
+    ensures { IfOk result (λ unwell. PrintsLine bench.old.table numbered.number numbered.line (string_bytes text.new) unwell bench.new.table) }
 {
     let number = numbered.number;
     match numbered.line {
         Line::Step(step) => {
             let reply = play_step(bench, number, step, text)?;
-            if !is_well(&reply) {
-                *unwell = unwell.saturating_add(1);
-            }
-            Ok(())
+            Ok(unwell_by(&reply))
         }
-        Line::Owners => { put_owners(alloc, bench, text) }
-        Line::Nothing => Ok(()),
+        Line::Owners => {
+            put_owners(alloc, bench, text)?;
+            Ok(0)
+        }
+        Line::Nothing => Ok(0),
     }
 }
 
-/// Plays a script, and writes what it prints. Answers that are not well are counted.
+/// Plays a script, writes what it prints, and answers how many answers are not well.
 fn play<W: Write>(
     alloc: Global,
     bench: &mut Bench,
     script: Script,
     writer: &mut W,
-    unwell: &mut u64,
-) -> Result<(), RunFault>
-    ensures ran { OnOk result (Gains (W.contents writer.old) (W.contents writer.new) (IsRunTo bench.new.table bench.old.table script)) }
+) -> Result<u64, RunFault>
+    ensures ran { IfOk result (λ unwell. Gains (W.contents writer.old) (W.contents writer.new) (IsRunTo bench.new.table unwell bench.old.table script)) }
     ensures cut { OnErr result (Gains (W.contents writer.old) (W.contents writer.new) (IsFrontOfFirst bench.old.table script)) }
     ensures fault { IfErr result (λ fault. (fault ≡ run.Memory) ⊎ (fault ≡ run.OutputFailed)) }
 {
     let mut text = String::new(alloc);
+    let mut unwell = 0u64;
     for numbered in script.into_lines() {
         text.clear();
-        play_line(alloc, bench, numbered, &mut text, unwell)?;
+        let more = play_line(alloc, bench, numbered, &mut text)?;
+        unwell = unwell.saturating_add(more);
         put(writer, text.as_bytes())?;
     }
     text.clear();
     append_counts(&mut text, bench.counts())?;
     put(writer, text.as_bytes())?;
-    flush(writer)
+    flush(writer)?;
+    Ok(unwell)
 }
 
-/// Plays a script, line after line, over a world that it opens, and writes what each step answered. The bench is as the last step left it. `unwell` grows
-/// by the steps whose answer is not well ([`is_well`]).
+/// What a script leaves that was played.
+pub struct Played {
+    /// The bench, as the last step left it.
+    pub bench: Bench,
+    /// How many answers are not well ([`is_well`]).
+    pub unwell: u64,
+}
+
+/// Plays a script, line after line, over a world that it opens, and writes what each step answered.
 ///
 /// # Errors
 ///
@@ -158,15 +173,14 @@ pub fn play_steps<R: Read, W: Write>(
     image: Image,
     reader: &mut R,
     writer: &mut W,
-    unwell: &mut u64,
-) -> Result<Bench, RunFault>
-    ensures ran { IfOk result (λ bench. Writes (R.remaining reader.old) config image (W.contents writer.old) (W.contents writer.new) (IsRunTo bench.table)) }
+) -> Result<Played, RunFault>
+    ensures ran { IfOk result (λ played. Writes (R.remaining reader.old) config image (W.contents writer.old) (W.contents writer.new) (IsRunTo played.bench.table played.unwell)) }
     ensures failed { IfErr result (λ fault. EndsWith (R.remaining reader.old) config image (W.contents writer.old) (W.contents writer.new) fault) }
 {
     let script = load(alloc, reader)?;
     let mut bench = open(alloc, config, image)?;
-    match play(alloc, &mut bench, script, writer, unwell) {
-        Ok(()) => Ok(bench),
+    match play(alloc, &mut bench, script, writer) {
+        Ok(unwell) => Ok(Played { bench, unwell }),
         Err(fault) => {
             let _ended = bench.end();
             Err(fault)
@@ -189,8 +203,7 @@ pub fn run_steps<R: Read, W: Write>(
     ensures ran { OnOk result (Writes (R.remaining reader.old) config image (W.contents writer.old) (W.contents writer.new) IsRunText) }
     ensures failed { IfErr result (λ fault. EndsWith (R.remaining reader.old) config image (W.contents writer.old) (W.contents writer.new) fault) }
 {
-    let mut unwell = 0;
-    let bench = play_steps(alloc, config, image, reader, writer, &mut unwell)?;
+    let Played { bench, unwell: _ } = play_steps(alloc, config, image, reader, writer)?;
     let _ended = bench.end();
     Ok(())
 }

@@ -1,5 +1,5 @@
 -- the owners so far are those of the pages below the next one
-use Rattle.std.proofs.Common.{◌≡◌, ◌+◌, ◌-◌, ◌≤◌, ℕ, Some, length, vec_len, vec_capacity}
+use Rattle.std.proofs.Common.{◌≡◌, ◌+◌, ◌-◌, ◌≤◌, length, vec_len, vec_capacity}
 use Rattle.script_cli.specs.Runs.{AreFirstOwners}
 use Rattle.script_cli.proofs.run.first_owners.Given as goal
 

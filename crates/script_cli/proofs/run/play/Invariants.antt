@@ -6,5 +6,5 @@ use Rattle.script_cli.proofs.run.play.Given as goal
 abbrev pub invariant-loop-numbered : goal.invariant-loop-numbered
 invariant-loop-numbered g l = record {
   lines : l.yielded ++ l.numbered-iterator.rest.items ≡ l.fn.script;
-  printed : HasPrinted l.fn.bench.table l.yielded l.bench.table (g.W.Write.contents l.fn.writer) (g.W.Write.contents l.writer);
+  printed : HasPrinted l.fn.bench.table l.yielded l.bench.table l.unwell (g.W.Write.contents l.fn.writer) (g.W.Write.contents l.writer);
 }
