@@ -8,3 +8,4 @@ pub mod Picking
 pub mod Planning
 pub mod Rounds
 pub mod Tallies
+pub mod Statuses

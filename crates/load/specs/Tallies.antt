@@ -1,9 +1,9 @@
 -- How many commands ended how.
 use Rattle.std.specs.{Prelude.{ℕ, ◌+◌, ◌-◌, ◌^◌, ◌==◌, ◌&&◌, Bool, true, false, Option, Some, None, List, [], ◌∷◌, min, if◌then◌else◌}, Str.bytes_eq}
 use Rattle.driver_threads.specs.{Values.JobEnd, declared.jobs.JobEnd.TheVariants.{Done, Refused}}
-use Rattle.entry_codec.specs.declared.status.Status.{Status}
 use Rattle.io_commands.specs.declared.request.Kind.{Kind}
 use Rattle.load.specs.{Content.slot_content, declared.{content.Content.Content, layout.Layout.Layout, plan.Planned.Planned, tally.Tally.Tally}}
+use Rattle.script_cli.specs.Replies.{is_success}
 use Rattle.io_commands.specs.declared.request.Kind.TheVariants as kind
 
 abbrev pub no_tally : Tally
@@ -25,9 +25,6 @@ both a b = record {
 -- no command was refused or failed, and none brought other bytes
 abbrev pub is_good : Tally → Bool
 is_good tally = (tally.refused == 0) && ((tally.failed == 0) && (tally.differ == 0))
-
-abbrev pub is_success : Status → Bool
-is_success status = (status.sct == 0) && (status.sc == 0)
 
 -- what a Read must bring; of a Write nothing is compared
 abbrev pub wanted_by : Kind → List ℕ → Option (List ℕ)

@@ -1,5 +1,8 @@
 //! Why a load did not run to its end.
 
+ghost use Rattle.std.specs.Prelude.{◌≡◌};
+ghost use Rattle.load.specs.Statuses.{status_of_load};
+
 use script_cli::RunFault;
 use std::alloc::AllocError;
 use thiserror::Error;
@@ -25,7 +28,9 @@ pub enum LoadFault {
 
 impl LoadFault {
     /// The exit status that a program ends with.
-    pub fn exit_status(self) -> u8 {
+    pub fn exit_status(self) -> u8
+        ensures { result ≡ status_of_load self }
+    {
         match self {
             LoadFault::TooFewBlocks { .. } => 2,
             LoadFault::Run(fault) => fault.exit_status(),

@@ -3,7 +3,7 @@
 ghost use Rattle.std.specs.Prelude.{◌≡◌, ◌<◌, ◌*◌, All, IfOk, IfSome, length, option_map, vec_len};
 ghost use Rattle.load.specs.Planning.{IsInside};
 ghost use Rattle.load.specs.Rounds.{noted, wrote as spec_wrote};
-ghost use Rattle.load.specs.Tallies.{is_success as spec_is_success, no_tally, of_end as spec_of_end, tally_from, wanted_of};
+ghost use Rattle.load.specs.Tallies.{no_tally, of_end as spec_of_end, tally_from, wanted_of};
 
 use crate::bad::{Bad, Why};
 use crate::content::Content;
@@ -11,8 +11,8 @@ use crate::layout::Layout;
 use crate::plan::Planned;
 use crate::tally::Tally;
 use driver_threads::JobEnd;
-use entry_codec::Status;
 use io_commands::Kind;
+use script_cli::is_success;
 use std::alloc::{AllocError, Global};
 
 /// What commands came to: how many ended how, and the first that did not end well.
@@ -20,13 +20,6 @@ use std::alloc::{AllocError, Global};
 pub(crate) struct Looked {
     pub(crate) tally: Tally,
     pub(crate) bad: Option<Bad>,
-}
-
-/// Whether a status is 0:00.
-pub(crate) fn is_success(status: Status) -> bool
-    ensures { result ≡ spec_is_success status }
-{
-    status.sct == 0 && status.sc == 0
 }
 
 /// What a command must bring, where that is looked at.

@@ -1,10 +1,10 @@
 //! How long commands took.
 
 use crate::histogram::Histogram;
-use crate::look::is_success;
 use crate::plan::Planned;
 use driver_threads::JobEnd;
 use io_commands::Kind;
+use script_cli::is_success;
 use std::alloc::{AllocError, Global};
 
 /// How long commands with status 0:00 took, in nanoseconds.

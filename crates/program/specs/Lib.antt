@@ -1,3 +1,4 @@
 pub mod Checking
 pub mod Loading
 pub mod Performing
+pub mod Statuses

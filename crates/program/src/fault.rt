@@ -2,6 +2,7 @@
 
 ghost use Rattle.std.specs.Prelude.{◌≡◌, ◌≢◌, IfErr, OnOk};
 ghost use Rattle.clap.specs.Words.{kind_of};
+ghost use Rattle.program.specs.Statuses.{status_of, status_of_bytes};
 ghost use Rattle.clap.specs.declared.error.kind.ErrorKind.TheVariants.{OutOfMemory};
 ghost use Rattle.script_cli.specs.declared.fault.RunFault.TheVariants as run;
 
@@ -32,7 +33,9 @@ pub enum BytesFault {
 
 impl BytesFault {
     /// The exit status.
-    fn exit_status(self) -> u8 {
+    fn exit_status(self) -> u8
+        ensures { result ≡ status_of_bytes self }
+    {
         match self {
             BytesFault::Refused => 4,
             BytesFault::Case(CaseFault::Memory) | BytesFault::Answered(CaseFault::Memory) => 3,
@@ -125,8 +128,10 @@ impl Fault {
         }
     }
 
-    /// The exit status.
-    pub fn exit_status(&self) -> u8 {
+    /// The exit status that the program ends with.
+    pub fn exit_status(&self) -> u8
+        ensures { result ≡ status_of self.now }
+    {
         match self {
             Fault::Arguments(_) => 2,
             Fault::Image(fault) => fault.exit_status(),

@@ -1,6 +1,7 @@
 //! Files of transcripts, of steps and of jobs.
 
-ghost use Rattle.std.specs.Prelude.{◌≤◌, IfOk, IfSome};
+ghost use Rattle.std.specs.Prelude.{◌≡◌, ◌≤◌, IfOk, IfSome};
+ghost use Rattle.program.specs.Statuses.{status_of_tally};
 ghost use Rattle.script_cli.specs.Options.{AreFew};
 
 use crate::below::{below_options, below_script, lines_or_none, place_of_option};
@@ -35,7 +36,9 @@ pub struct Tally {
 
 impl Tally {
     /// The exit status that a program ends with: 3 where a file was not written, else 4 where one differs, else 1 where one is at fault.
-    pub fn exit_status(self) -> u8 {
+    pub fn exit_status(self) -> u8
+        ensures { result ≡ status_of_tally self }
+    {
         if self.unwritten > 0 {
             3
         } else if self.differing > 0 {
