@@ -46,7 +46,7 @@ named s q cid f h = go (find (is_at q cid) s.host.records) (found_is (is_at q ci
         let same = made s r f h in
         (same.0 ∙ eqb-true r.q q both.0, same.1 ∙ eqb-true r.cid cid both.1)
 
-host_answers : (A B : Type 0) (b : Bool) → MatchBool (b || true) A B → A
+pub host_answers : (A B : Type 0) (b : Bool) → MatchBool (b || true) A B → A
 host_answers A B true h = h
 host_answers A B false h = h
 
@@ -129,7 +129,7 @@ all_carried (Err e) many before jobs none fewer agree same = absurd (omega (arit
 
 -- Nothing is in flight
 
-none_is : (tickets : List TicketContents) (n : ℕ) → n ≡ length tickets → n ≡ 0 → tickets ≡ []
+pub none_is : (tickets : List TicketContents) (n : ℕ) → n ≡ length tickets → n ≡ 0 → tickets ≡ []
 none_is [] n long none = refl
 none_is (t ∷ tickets) n long none = absurd (omega (arith, long, none))
 
@@ -145,7 +145,7 @@ landed receipts ends tickets n long none u = all_ended_under_way u.awaited u.end
 
 -- One command more
 
-await_push : (awaited : List Receipt) (tickets : List TicketContents) (number : ℕ) (t : TicketContents) → AwaitEach awaited tickets → AwaitEach (awaited ++ receipt number t.q t.cid None ∷ []) (tickets ++ t ∷ [])
+pub await_push : (awaited : List Receipt) (tickets : List TicketContents) (number : ℕ) (t : TicketContents) → AwaitEach awaited tickets → AwaitEach (awaited ++ receipt number t.q t.cid None ∷ []) (tickets ++ t ∷ [])
 await_push [] [] number t await = (refl, tt)
 await_push [] (u ∷ tickets) number t await = absurd await
 await_push (r ∷ awaited) [] number t await = absurd await
@@ -163,7 +163,7 @@ launched receipts new ends tickets t u (number, awaits) =
 
 -- The oldest one
 
-await_length : (awaited : List Receipt) (tickets : List TicketContents) → AwaitEach awaited tickets → length awaited ≡ length tickets
+pub await_length : (awaited : List Receipt) (tickets : List TicketContents) → AwaitEach awaited tickets → length awaited ≡ length tickets
 await_length [] [] await = refl
 await_length [] (u ∷ tickets) await = absurd await
 await_length (r ∷ awaited) [] await = absurd await
