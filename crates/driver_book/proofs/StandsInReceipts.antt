@@ -10,10 +10,10 @@ use Rattle.io_commands.specs.{Drafts.DraftContents, Values.{FinishedContents, Ti
 use Rattle.machine_model.{proofs.Counting.{one, times-cons, times-append, times-filter}, specs.{State.State, Step.times}}
 use Rattle.host_core.specs.declared.refused.Refused.{Refused}
 use Rattle.driver_book.specs.Calls.{receipt, is_open_for, settled, settled_at, status_at, Receives, Settles}
-use Rattle.driver_book.specs.Close.{same_seat, has, stands, StandBefore, accepted_of, IsMissing, held, first_of, status_by, is_receipt_of, fits_status, queue_in, identifier_in, receipts_of, AllStand}
-use Rattle.driver_book.specs.{Entries.Entry, History.{accepted, is_accepted}, Keeping.may_end, Passes.{is_known, AreKnown, StandOf, IsMissingAt}}
+use Rattle.driver_book.specs.Close.{same_seat, has, stands, StandBefore, accepted_of, IsMissing, held, first_of, status_by, is_receipt_of, fits_status, fits_asked, queue_in, identifier_in, receipts_of, AllStand}
+use Rattle.driver_book.specs.{Entries.{Entry, asked_of, asked_in}, History.{accepted, is_accepted}, Keeping.may_end, Passes.{is_known, AreKnown, StandOf, IsMissingAt}}
 use Rattle.driver_book.specs.{Seats.{AreSettled, is_without_status}, State.{SeatContents, is_seated, AreSeated, BookContents, IsBook}}
-use Rattle.driver_book.specs.declared.report.Receipt.{Receipt}
+use Rattle.driver_book.specs.declared.report.{Asked.Asked, Receipt.Receipt}
 use Rattle.step_core.specs.Values.{Reply, Step}
 use Rattle.host_core.proofs.Granting.{all-used}
 use Rattle.page_memory.proofs.Lists.{all-at}
@@ -22,7 +22,7 @@ use Rattle.page_memory.proofs.Lists.{all-at}
 
 -- a seat with one receipt more
 pub receives_in : {at old : SeatContents} {here log : List Entry} → at ≡ old → here ≡ log → (d : DraftContents) (result : Result TicketContents (Refused DraftContents))
-    → is_ok result ≡ true → (receipts : List Receipt) (spare : ℕ) → receipts ≡ at.receipts ++ receipt (accepted here) d.q d.cid None ∷ []
+    → is_ok result ≡ true → (receipts : List Receipt) (spare : ℕ) → receipts ≡ at.receipts ++ receipt (accepted here) d.q d.cid (asked_of d.request) None ∷ []
     → Receives log old d result (let new : SeatContents = record at { receipts = receipts; spare = spare } in new)
 receives_in same logs d (Ok ticket) ok receipts spare is = rw (← same, ← logs, is) refl
 receives_in same logs d (Err r) ok receipts spare is = absurd (true≢false (sym ok))
@@ -283,19 +283,19 @@ known_here log seats p x here known so_far =
     subst (λ (y : Entry). is_known seats y.seat ≡ true) same (known (ap is_accepted same ∙ is)))
 
 -- the submission of a seat that was not handed in stands in no receipt
-pub stands_nowhere : (seat : Option ℕ) (place number q cid : ℕ) (told : Option Status) (seats : List SeatContents) → is_known seats seat ≡ false
-    → list_any (has seat place number q cid told) seats ≡ false
-stands_nowhere seat place number q cid told [] none = refl
-stands_nowhere seat place number q cid told (s ∷ seats) none = go (same_seat (Some s.number) seat) refl (stands_nowhere seat place number q cid told seats)
+pub stands_nowhere : (seat : Option ℕ) (place number q cid : ℕ) (asked : Option Asked) (told : Option Status) (seats : List SeatContents) → is_known seats seat ≡ false
+    → list_any (has seat place number q cid asked told) seats ≡ false
+stands_nowhere seat place number q cid asked told [] none = refl
+stands_nowhere seat place number q cid asked told (s ∷ seats) none = go (same_seat (Some s.number) seat) refl (stands_nowhere seat place number q cid asked told seats)
   where
-    go : (b : Bool) → same_seat (Some s.number) seat ≡ b → (is_known seats seat ≡ false → list_any (has seat place number q cid told) seats ≡ false)
-        → list_any (has seat place number q cid told) (s ∷ seats) ≡ false
+    go : (b : Bool) → same_seat (Some s.number) seat ≡ b → (is_known seats seat ≡ false → list_any (has seat place number q cid asked told) seats ≡ false)
+        → list_any (has seat place number q cid asked told) (s ∷ seats) ≡ false
     go true e later = let known : is_known (s ∷ seats) seat ≡ true = rw e refl in absurd (true≢false (sym known ∙ none))
     go false e later = rw e (later (rw e at none))
 
 pub unknown_here : (log : List Entry) (seats : List SeatContents) (p : ℕ) (x : Entry) → p < length log → x ≡ get_or log p x → is_accepted x ≡ true → is_known seats x.seat ≡ false
     → IsMissingAt log seats p
-unknown_here log seats p x less here accepts none = missing_here log seats p x less here accepts (stands_nowhere x.seat _ _ _ _ _ seats none)
+unknown_here log seats p x less here accepts none = missing_here log seats p x less here accepts (stands_nowhere x.seat _ _ _ _ _ _ seats none)
 
 -- The seats that were gone through: their submissions stand before a place, at which one is missing, unless that is the end of the log.
 pub record Searched (log : List Entry) (seats : List SeatContents) (i end : ℕ) : Type 0 where
@@ -433,30 +433,30 @@ length_all_numbers [] = refl
 length_all_numbers (s ∷ seats) =
     omega (arith, length-append (numbers_of s.receipts) (all_numbers seats), length-map s.receipts (λ (r : Receipt). r.number), length_all_numbers seats, sum_by-cons (λ (s : SeatContents). length s.receipts) s seats)
 
-first_true : (a b c d : Bool) → (a && b && c && d) ≡ true → a ≡ true
-first_true true b c d e = refl
-first_true false b c d e = e
+first_true : (a b c d e : Bool) → (a && b && c && d && e) ≡ true → a ≡ true
+first_true true b c d e is = refl
+first_true false b c d e is = is
 
 -- the number of a receipt is among the numbers
-times_at : (number q cid : ℕ) (told : Option Status) (receipts : List Receipt) (place : ℕ) → is_receipt_of number q cid told (slice_get receipts place) ≡ true
-    → 0 < times number (numbers_of receipts)
-times_at number q cid told [] place it = absurd (true≢false (sym it))
-times_at number q cid told (r ∷ receipts) zero it =
-    let here : (r.number == number) ≡ true = first_true (r.number == number) (r.q == q) (r.cid == cid) (fits_status r.status told) it in
+times_at : (number q cid : ℕ) (asked : Option Asked) (told : Option Status) (receipts : List Receipt) (place : ℕ)
+    → is_receipt_of number q cid asked told (slice_get receipts place) ≡ true → 0 < times number (numbers_of receipts)
+times_at number q cid asked told [] place it = absurd (true≢false (sym it))
+times_at number q cid asked told (r ∷ receipts) zero it =
+    let here : (r.number == number) ≡ true = first_true (r.number == number) (r.q == q) (r.cid == cid) (fits_asked r.asked asked) (fits_status r.status told) it in
     omega (arith, times-cons number r.number (numbers_of receipts), ap one here)
-times_at number q cid told (r ∷ receipts) (suc place) it =
-    omega (arith, times-cons number r.number (numbers_of receipts), times_at number q cid told receipts place it)
+times_at number q cid asked told (r ∷ receipts) (suc place) it =
+    omega (arith, times-cons number r.number (numbers_of receipts), times_at number q cid asked told receipts place it)
 
-times_in : (seat : Option ℕ) (place number q cid : ℕ) (told : Option Status) (seats : List SeatContents) → list_any (has seat place number q cid told) seats ≡ true
-    → 0 < times number (all_numbers seats)
-times_in seat place number q cid told [] it = absurd (true≢false (sym it))
-times_in seat place number q cid told (s ∷ seats) it = go (has seat place number q cid told s) refl (times_in seat place number q cid told seats)
+times_in : (seat : Option ℕ) (place number q cid : ℕ) (asked : Option Asked) (told : Option Status) (seats : List SeatContents)
+    → list_any (has seat place number q cid asked told) seats ≡ true → 0 < times number (all_numbers seats)
+times_in seat place number q cid asked told [] it = absurd (true≢false (sym it))
+times_in seat place number q cid asked told (s ∷ seats) it = go (has seat place number q cid asked told s) refl (times_in seat place number q cid asked told seats)
   where
-    go : (b : Bool) → has seat place number q cid told s ≡ b → (list_any (has seat place number q cid told) seats ≡ true → 0 < times number (all_numbers seats))
+    go : (b : Bool) → has seat place number q cid asked told s ≡ b → (list_any (has seat place number q cid asked told) seats ≡ true → 0 < times number (all_numbers seats))
         → 0 < times number (all_numbers (s ∷ seats))
     go true e later =
-        let both = both_true (same_seat (Some s.number) seat) (is_receipt_of number q cid told (slice_get s.receipts place)) e in
-        omega (arith, times-append number (numbers_of s.receipts) (all_numbers seats), times_at number q cid told s.receipts place both.1)
+        let both = both_true (same_seat (Some s.number) seat) (is_receipt_of number q cid asked told (slice_get s.receipts place)) e in
+        omega (arith, times-append number (numbers_of s.receipts) (all_numbers seats), times_at number q cid asked told s.receipts place both.1)
     go false e later =
         omega (arith, times-append number (numbers_of s.receipts) (all_numbers seats), later (rw e at it))
 
@@ -468,7 +468,7 @@ each_number log seats stand k less =
   where
     at : (p : ℕ) (e : Entry) → p < length log → slice_get log p ≡ Some e → is_accepted e ≡ true → accepted (take p log) ≡ k → 0 < times k (all_numbers seats)
     at p e within get is number =
-        rw number at (times_in e.seat (accepted_of e.seat (take p log)) (accepted (take p log)) (queue_in e.step) (identifier_in e.step) (held (queue_in e.step) (identifier_in e.step) (drop (p + 1) log)) seats (stand p within e get is))
+        rw number at (times_in e.seat (accepted_of e.seat (take p log)) (accepted (take p log)) (queue_in e.step) (identifier_in e.step) (asked_in e.draft) (held (queue_in e.step) (identifier_in e.step) (drop (p + 1) log)) seats (stand p within e get is))
 
 -- so there are at least as many receipts
 pub enough_receipts : (log : List Entry) (seats : List SeatContents) → AllStand log seats → accepted log ≤ receipts_of seats

@@ -8,10 +8,10 @@ use Rattle.entry_codec.specs.declared.status.{Status.Status, TheConstants.Status
 use Rattle.io_commands.specs.declared.request.Piece.{Piece}
 use Rattle.machine_model.specs.declared.words.Reaped.TheVariants.{Done}
 use Rattle.driver_book.specs.Close.{same_seat, has, stands, accepted_of, held, first_of, status_by, queue_in, identifier_in, AllStand, IsMissing}
-use Rattle.driver_book.specs.{Entries.Entry, History.{accepted, is_accepted, is_submission}, Keeping.{Kept, KeptStep, shown, shown_step}, Passes.is_known, State.{SeatContents, is_seated, AreSeated}}
+use Rattle.driver_book.specs.{Entries.{Entry, LoggedDraft, asked_in}, History.{accepted, is_accepted, is_submission}, Keeping.{Kept, KeptStep, shown, shown_step}, Passes.is_known, State.{SeatContents, is_seated, AreSeated}}
 use Rattle.driver_book.specs.Submissions.{submitted_by, submission_of, ended_by, end_of, given_by}
 use Rattle.driver_book.specs.Table.{count_of, with_count, AreCounted, AreWithin, AreBelow, StandFrom, IsMissingFrom, earlier, EndTable, status_in, with_single, IsFrom, Tells}
-use Rattle.driver_book.specs.declared.{entry.{EndAt.{EndAt, TheVariants.{Nothing, One, Queue, All}}, Submission.Submission}, ends.End.End}
+use Rattle.driver_book.specs.declared.{entry.{EndAt.{EndAt, TheVariants.{Nothing, One, Queue, All}}, Submission.Submission}, ends.End.End, report.Asked.Asked}
 use Rattle.page_memory.proofs.Lists.{all-at}
 use Rattle.driver_book.proofs.StandsInReceipts.{held_at, both_true, seat_named, stands_nowhere}
 use Rattle.step_core.specs.Values.{Reply, Step}
@@ -234,11 +234,12 @@ pub record IsMade (log : List Entry) (p : ℕ) (s : Submission) : Type 0 where
   pub seat : entry.seat ≡ s.seat
   pub queue : queue_in entry.step ≡ s.q
   pub identifier : identifier_in entry.step ≡ s.cid
+  pub asked : asked_in entry.draft ≡ s.asked
 
-made : (log : List Entry) (p : ℕ) (e : Entry) (seat : Option ℕ) (what : Step) (answer : Reply) (s : Submission) → slice_get log p ≡ Some e → e.seat ≡ seat → e.step ≡ what → e.answer ≡ answer
-    → submitted_by seat what answer ≡ Some s → IsMade log p s
-made log p e seat (step.Submit q cid) reply.Accepted s at of asks tells is =
-    let same : (let t : Submission = record { seat = seat; q = q; cid = cid } in t) ≡ s = same_Some _ s is in
+made : (log : List Entry) (p : ℕ) (e : Entry) (seat : Option ℕ) (what : Step) (answer : Reply) (draft : Option LoggedDraft) (s : Submission) → slice_get log p ≡ Some e
+    → e.seat ≡ seat → e.step ≡ what → e.answer ≡ answer → e.draft ≡ draft → submitted_by seat what answer draft ≡ Some s → IsMade log p s
+made log p e seat (step.Submit q cid) reply.Accepted draft s at of asks tells drafts is =
+    let same : (let t : Submission = record { seat = seat; q = q; cid = cid; asked = asked_in draft } in t) ≡ s = same_Some _ s is in
     record {
       entry = e;
       there = at;
@@ -246,19 +247,20 @@ made log p e seat (step.Submit q cid) reply.Accepted s at of asks tells is =
       seat = of ∙ ap (λ (t : Submission). t.seat) same;
       queue = ap queue_in asks ∙ ap (λ (t : Submission). t.q) same;
       identifier = ap identifier_in asks ∙ ap (λ (t : Submission). t.cid) same;
+      asked = ap (λ (d : Option LoggedDraft). asked_in d) drafts ∙ ap (λ (t : Submission). t.asked) same;
     }
-made log p e seat what answer s at of asks tells is = absurd cc
+made log p e seat what answer draft s at of asks tells drafts is = absurd cc
 
 pub is_made : (log : List Entry) (p : ℕ) (s : Submission) → option_map submission_of (slice_get log p) ≡ Some (Some s) → IsMade log p s
 is_made log p s is = go (slice_get log p) refl is
   where
     go : (o : Option Entry) → slice_get log p ≡ o → option_map submission_of o ≡ Some (Some s) → IsMade log p s
     go None at none = absurd cc
-    go (Some e) at some = made log p e e.seat e.step e.answer s at refl refl refl (same_Some (submission_of e) (Some s) some)
+    go (Some e) at some = made log p e e.seat e.step e.answer e.draft s at refl refl refl refl (same_Some (submission_of e) (Some s) some)
 
-unmade : (seat : Option ℕ) (what : Step) (answer : Reply) → submitted_by seat what answer ≡ None → is_submission what answer ≡ false
-unmade seat (step.Submit q cid) reply.Accepted none = absurd cc
-unmade seat what answer none = refl
+unmade : (seat : Option ℕ) (what : Step) (answer : Reply) (draft : Option LoggedDraft) → submitted_by seat what answer draft ≡ None → is_submission what answer ≡ false
+unmade seat (step.Submit q cid) reply.Accepted draft none = absurd cc
+unmade seat what answer draft none = refl
 
 -- no submission stands at a place
 pub record IsNone (log : List Entry) (p : ℕ) : Type 0 where
@@ -271,7 +273,7 @@ is_none_made log p is = go (slice_get log p) refl is
   where
     go : (o : Option Entry) → slice_get log p ≡ o → option_map submission_of o ≡ Some None → IsNone log p
     go None at none = absurd cc
-    go (Some e) at some = record { entry = e; there = at; accepts = unmade e.seat e.step e.answer (same_Some (submission_of e) None some) }
+    go (Some e) at some = record { entry = e; there = at; accepts = unmade e.seat e.step e.answer e.draft (same_Some (submission_of e) None some) }
 
 -- Counts
 
@@ -418,29 +420,30 @@ no_seat [] = refl
 no_seat (s ∷ seats) = no_seat seats
 
 -- the count of a seat tells the same as its place, if there is such a seat
-same_place : (log : List Entry) (p number : ℕ) (counts : List ℕ) (seats : List SeatContents) (seat : Option ℕ) (n q cid : ℕ) (told : Option Status) → AreCounted number counts log p → AreBelow seats (length counts)
-    → list_any (has seat (accepted_of seat (take p log)) n q cid told) seats ≡ list_any (has seat (count_of counts seat) n q cid told) seats
-same_place log p number counts seats None n q cid told counted below =
-    stands_nowhere None (accepted_of None (take p log)) n q cid told seats (no_seat seats) ∙ sym (stands_nowhere None (count_of counts None) n q cid told seats (no_seat seats))
-same_place log p number counts seats (Some k) n q cid told counted below = go (nat_lt k (length counts)) refl
+same_place : (log : List Entry) (p number : ℕ) (counts : List ℕ) (seats : List SeatContents) (seat : Option ℕ) (n q cid : ℕ) (asked : Option Asked) (told : Option Status) → AreCounted number counts log p
+    → AreBelow seats (length counts)
+    → list_any (has seat (accepted_of seat (take p log)) n q cid asked told) seats ≡ list_any (has seat (count_of counts seat) n q cid asked told) seats
+same_place log p number counts seats None n q cid asked told counted below =
+    stands_nowhere None (accepted_of None (take p log)) n q cid asked told seats (no_seat seats) ∙ sym (stands_nowhere None (count_of counts None) n q cid asked told seats (no_seat seats))
+same_place log p number counts seats (Some k) n q cid asked told counted below = go (nat_lt k (length counts)) refl
   where
     go : (b : Bool) → nat_lt k (length counts) ≡ b
-        → list_any (has (Some k) (accepted_of (Some k) (take p log)) n q cid told) seats ≡ list_any (has (Some k) (count_of counts (Some k)) n q cid told) seats
-    go true within = ap (λ (place : ℕ). list_any (has (Some k) place n q cid told) seats) (sym (counted.each k (ltb-true k (length counts) within)))
+        → list_any (has (Some k) (accepted_of (Some k) (take p log)) n q cid asked told) seats ≡ list_any (has (Some k) (count_of counts (Some k)) n q cid asked told) seats
+    go true within = ap (λ (place : ℕ). list_any (has (Some k) place n q cid asked told) seats) (sym (counted.each k (ltb-true k (length counts) within)))
     go false past =
         let unknown : is_known seats (Some k) ≡ false = not_known seats (length counts) k below (ltb-false k (length counts) past) in
-        stands_nowhere (Some k) (accepted_of (Some k) (take p log)) n q cid told seats unknown ∙ sym (stands_nowhere (Some k) (count_of counts (Some k)) n q cid told seats unknown)
+        stands_nowhere (Some k) (accepted_of (Some k) (take p log)) n q cid asked told seats unknown ∙ sym (stands_nowhere (Some k) (count_of counts (Some k)) n q cid asked told seats unknown)
 
 pub stands_by : (log : List Entry) (p number : ℕ) (counts : List ℕ) (t : EndTable) (seats : List SeatContents) (s : Submission) (m : IsMade log p s) → AreCounted number counts log p → AreBelow seats (length counts)
     → AreWithin (length t.retired) t.identifiers log (length log) → Tells t log (p + 1)
-    → stands log seats p m.entry ≡ list_any (has s.seat (count_of counts s.seat) number s.q s.cid (status_in t s.q s.cid)) seats
+    → stands log seats p m.entry ≡ list_any (has s.seat (count_of counts s.seat) number s.q s.cid s.asked (status_in t s.q s.cid)) seats
 stands_by log p number counts t seats s m counted below within tells =
     let both = made_within (length t.retired) t.identifiers log p s m within in
     let told : status_in t s.q s.cid ≡ held s.q s.cid (drop (p + 1) log) = tells.told s.q s.cid both.0 both.1 in
-    let named : stands log seats p m.entry ≡ list_any (has s.seat (accepted_of s.seat (take p log)) (accepted (take p log)) s.q s.cid (held s.q s.cid (drop (p + 1) log))) seats = rw (m.seat, m.queue, m.identifier) refl in
-    named ∙ same_place log p number counts seats s.seat (accepted (take p log)) s.q s.cid (held s.q s.cid (drop (p + 1) log)) counted below
-    ∙ ap (λ (n : ℕ). list_any (has s.seat (count_of counts s.seat) n s.q s.cid (held s.q s.cid (drop (p + 1) log))) seats) (sym counted.all)
-    ∙ ap (λ (o : Option Status). list_any (has s.seat (count_of counts s.seat) number s.q s.cid o) seats) (sym told)
+    let named : stands log seats p m.entry ≡ list_any (has s.seat (accepted_of s.seat (take p log)) (accepted (take p log)) s.q s.cid s.asked (held s.q s.cid (drop (p + 1) log))) seats = rw (m.seat, m.queue, m.identifier, m.asked) refl in
+    named ∙ same_place log p number counts seats s.seat (accepted (take p log)) s.q s.cid s.asked (held s.q s.cid (drop (p + 1) log)) counted below
+    ∙ ap (λ (n : ℕ). list_any (has s.seat (count_of counts s.seat) n s.q s.cid s.asked (held s.q s.cid (drop (p + 1) log))) seats) (sym counted.all)
+    ∙ ap (λ (o : Option Status). list_any (has s.seat (count_of counts s.seat) number s.q s.cid s.asked o) seats) (sym told)
 
 -- What was found so far
 

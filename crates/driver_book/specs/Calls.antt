@@ -1,10 +1,10 @@
 -- What the calls of a book do: each makes one step of the world, and writes it down, but for one that answers `Memory`.
 use Rattle.std.specs.Prelude.{◌≡◌, ℕ, ◌+◌, ◌==◌, ◌&&◌, Bool, is_none, Option, Some, None, option_and_then, Result, Ok, Err, List, [], ◌∷◌, ◌++◌, length, position, slice_set, slice_index_or}
 use Rattle.entry_codec.specs.declared.status.Status.{Status}
-use Rattle.io_commands.specs.{Asked.Request, Drafts.DraftContents, Requests.data_count, Values.{FinishedContents, TicketContents}}
+use Rattle.io_commands.specs.{Asked.Request, Drafts.DraftContents, Requests.data_count, Values.{FinishedContents, TicketContents}, declared.request.Kind.TheVariants.Read}
 use Rattle.machine_model.specs.{Events.Event, Refusals.refusal_of, State.{State, Host, record_at}, declared.words.Refusal.Refusal}
-use Rattle.driver_book.specs.{Entries.{Entry, LoggedDraft, Lacks}, History.{told, entry, entry_of, accepted}, State.{BookContents, SeatContents}}
-use Rattle.driver_book.specs.declared.report.Receipt.{Receipt}
+use Rattle.driver_book.specs.{Entries.{Entry, LoggedDraft, Lacks, asked_of}, History.{told, entry, entry_of, accepted}, State.{BookContents, SeatContents}}
+use Rattle.driver_book.specs.declared.report.{Asked.Asked, Receipt.Receipt}
 use Rattle.host_core.specs.declared.refused.Refused.{Refused}
 use Rattle.step_core.specs.Values.{Reply, Step}
 use Rattle.machine_model.specs.Events as events
@@ -65,21 +65,25 @@ MayWorldWant book e = (touched : List ℕ) × machine.Permits book.world e (even
 
 -- Receipts
 
-abbrev pub receipt : ℕ → ℕ → ℕ → Option Status → Receipt
-receipt number q cid status = record { number = number; q = q; cid = cid; status = status }
+abbrev pub receipt : ℕ → ℕ → ℕ → Asked → Option Status → Receipt
+receipt number q cid asked status = record { number = number; q = q; cid = cid; asked = asked; status = status }
 
 -- a seat has a receipt more for an accepted submission
 abbrev pub Receives : List Entry → SeatContents → DraftContents → Result TicketContents (Refused DraftContents) → SeatContents → Type 0
-Receives log old d (Ok ticket) new = new ≡ record old { receipts = old.receipts ++ receipt (accepted log) d.q d.cid None ∷ []; spare = new.spare }
+Receives log old d (Ok ticket) new = new ≡ record old { receipts = old.receipts ++ receipt (accepted log) d.q d.cid (asked_of d.request) None ∷ []; spare = new.spare }
 Receives log old d (Err r) new = new ≡ record old { spare = new.spare }
 
 -- a receipt for this command, without a status yet
 abbrev pub is_open_for : ℕ → ℕ → Receipt → Bool
 is_open_for q cid r = (r.q == q) && (r.cid == cid) && is_none r.status
 
+-- what stands for a receipt behind the end of a list
+abbrev pub no_receipt : Receipt
+no_receipt = receipt 0 0 0 (record { kind = Read; slba = 0; blocks = 0 }) None
+
 abbrev pub settled_at : Option ℕ → Option Status → List Receipt → List Receipt
 settled_at None status receipts = receipts
-settled_at (Some i) status receipts = slice_set receipts i (record (slice_index_or receipts i (receipt 0 0 0 None)) { status = status })
+settled_at (Some i) status receipts = slice_set receipts i (record (slice_index_or receipts i no_receipt) { status = status })
 
 -- the first receipt for this command without a status gets this one
 abbrev pub settled : ℕ → ℕ → Option Status → List Receipt → List Receipt

@@ -2,9 +2,9 @@
 use Rattle.std.specs.List.{list_any}
 use Rattle.std.specs.Prelude.{◌≡◌, ◌⊎◌, ℕ, ◌+◌, ◌<◌, ◌≤◌, ◌==◌, ◌&&◌, Bool, true, false, Option, Some, None, is_none, List, [], ◌∷◌, length, map, count_by, slice_get, take, drop, sum_by, if◌then◌else◌}
 use Rattle.entry_codec.specs.declared.status.{Status.Status, TheConstants.Status.ABORTED_SQ_DELETION}
-use Rattle.machine_model.specs.{Claims.counts_of, Status.same_status, declared.words.Reaped.TheVariants.Done}
-use Rattle.driver_book.specs.{Entries.Entry, History.{is_accepted, accepted}, Reports.Report, State.{BookContents, SeatContents}}
-use Rattle.driver_book.specs.declared.report.{CloseFault.{CloseFault, TheVariants.{Missing, SeatOut, StillOut, Memory}}, Receipt.Receipt}
+use Rattle.machine_model.specs.{Claims.counts_of, Refusals.same_kind, Status.same_status, declared.words.Reaped.TheVariants.Done}
+use Rattle.driver_book.specs.{Entries.{Entry, asked_in}, History.{is_accepted, accepted}, Reports.Report, State.{BookContents, SeatContents}}
+use Rattle.driver_book.specs.declared.report.{CloseFault.{CloseFault, TheVariants.{Missing, SeatOut, StillOut, Memory}}, Asked.Asked, Receipt.Receipt}
 use Rattle.step_core.specs.Values.{Reply, Step}
 use Rattle.step_core.specs.declared.step.Reply.TheVariants as reply
 use Rattle.step_core.specs.declared.step.Step.TheVariants as step
@@ -54,21 +54,30 @@ abbrev pub identifier_in : Step → ℕ
 identifier_in (step.Submit q cid) = cid
 identifier_in what = 0
 
-abbrev pub is_receipt_of : ℕ → ℕ → ℕ → Option Status → Option Receipt → Bool
-is_receipt_of number q cid told None = false
-is_receipt_of number q cid told (Some r) = (r.number == number) && (r.q == q) && (r.cid == cid) && fits_status r.status told
+-- the same kind, first block and number of blocks
+abbrev pub same_asked : Asked → Asked → Bool
+same_asked a b = same_kind a.kind b.kind && (a.slba == b.slba) && (a.blocks == b.blocks)
+
+-- what the draft of an entry asks for; an entry without a draft fits nothing
+abbrev pub fits_asked : Asked → Option Asked → Bool
+fits_asked asked None = false
+fits_asked asked (Some logged) = same_asked asked logged
+
+abbrev pub is_receipt_of : ℕ → ℕ → ℕ → Option Asked → Option Status → Option Receipt → Bool
+is_receipt_of number q cid asked told None = false
+is_receipt_of number q cid asked told (Some r) = (r.number == number) && (r.q == q) && (r.cid == cid) && fits_asked r.asked asked && fits_status r.status told
 
 -- a seat of this number has at this place that receipt
-abbrev pub has : Option ℕ → ℕ → ℕ → ℕ → ℕ → Option Status → SeatContents → Bool
-has seat place number q cid told s = same_seat (Some s.number) seat && is_receipt_of number q cid told (slice_get s.receipts place)
+abbrev pub has : Option ℕ → ℕ → ℕ → ℕ → ℕ → Option Asked → Option Status → SeatContents → Bool
+has seat place number q cid asked told s = same_seat (Some s.number) seat && is_receipt_of number q cid asked told (slice_get s.receipts place)
 
 -- The submission at place p of the log, the j-th of its seat, stands in the j-th receipt of that seat: it has the submission's number, queue
--- and identifier, and no status or the one that the log gave the command.
+-- and identifier, what its draft asks for, and no status or the one that the log gave the command.
 abbrev pub stands : List Entry → List SeatContents → ℕ → Entry → Bool
 stands log seats p e =
     let q = queue_in e.step in
     let cid = identifier_in e.step in
-    list_any (has e.seat (accepted_of e.seat (take p log)) (accepted (take p log)) q cid (held q cid (drop (p + 1) log))) seats
+    list_any (has e.seat (accepted_of e.seat (take p log)) (accepted (take p log)) q cid (asked_in e.draft) (held q cid (drop (p + 1) log))) seats
 
 abbrev pub StandsAt : List Entry → List SeatContents → ℕ → Type 0
 StandsAt log seats p = (e : Entry) → slice_get log p ≡ Some e → is_accepted e ≡ true → stands log seats p e ≡ true

@@ -1,7 +1,9 @@
 -- Logs and their entries, as contracts see them: with requests and lists, wherever they stand.
-use Rattle.std.specs.Prelude.{◌≡◌, ◌⊎◌, ℕ, ◌-◌, ◌≤◌, ◌<◌, List, [], ◌∷◌}
+use Rattle.std.specs.Prelude.{◌≡◌, ◌⊎◌, ℕ, ◌-◌, ◌≤◌, ◌<◌, Option, Some, None, List, [], ◌∷◌}
 use Rattle.io_commands.specs.Asked.{Request}
 use Rattle.step_core.specs.Values.{Reply}
+use Rattle.driver_book.specs.declared.report.Asked.{Asked}
+use Rattle.io_commands.specs.declared.request.RequestOf as declared_request
 use Rattle.driver_book.specs.declared.entry.Entry as declared_entry
 use Rattle.driver_book.specs.declared.entry.LoggedDraft as declared_draft
 
@@ -10,6 +12,15 @@ LoggedDraft = declared_draft.LoggedDraft Request (List ℕ)
 
 abbrev pub Entry : Type 0
 Entry = declared_entry.Entry Request (List ℕ) (List ℕ)
+
+-- what a request asks for, apart from its pieces
+abbrev pub asked_of : {P : Type 0} → declared_request.RequestOf P → Asked
+asked_of r = record { kind = r.kind; slba = r.slba; blocks = r.blocks }
+
+-- what the draft of an entry asks for, where it has one
+abbrev pub asked_in : {P Q : Type 0} → Option (declared_draft.LoggedDraft (declared_request.RequestOf P) Q) → Option Asked
+asked_in None = None
+asked_in (Some d) = Some (asked_of d.request)
 
 -- how many more entries, pieces of requests and page numbers of drafts a log takes before its lists have to grow
 pub record Room : Type 0 where

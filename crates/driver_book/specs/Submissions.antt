@@ -2,20 +2,22 @@
 use Rattle.std.specs.Prelude.{ℕ, ◌==◌, ◌&&◌, Option, Some, None, if◌then◌else◌}
 use Rattle.entry_codec.specs.declared.status.{Status.Status, TheConstants.Status.ABORTED_SQ_DELETION}
 use Rattle.machine_model.specs.declared.words.Reaped.TheVariants.{Done}
-use Rattle.driver_book.specs.Entries.{Entry}
+use Rattle.driver_book.specs.Entries.{Entry, asked_in}
 use Rattle.driver_book.specs.declared.entry.{EndAt.{EndAt, TheVariants.{Nothing, One, Queue, All}}, Submission.Submission}
+use Rattle.io_commands.specs.declared.request.RequestOf as declared_request
+use Rattle.driver_book.specs.declared.entry.LoggedDraft as declared_draft
 use Rattle.step_core.specs.declared.step.Reply as declared_reply
 use Rattle.step_core.specs.declared.step.Step as declared_step
 use Rattle.step_core.specs.declared.step.Reply.TheVariants as reply
 use Rattle.step_core.specs.declared.step.Step.TheVariants as step
 
 -- the submission that a step is, where it was accepted
-abbrev pub submitted_by : {R B C : Type 0} → Option ℕ → declared_step.Step R B → declared_reply.Reply C → Option Submission
-submitted_by seat (step.Submit q cid) reply.Accepted = Some (record { seat = seat; q = q; cid = cid })
-submitted_by seat what answer = None
+abbrev pub submitted_by : {R B C P Q : Type 0} → Option ℕ → declared_step.Step R B → declared_reply.Reply C → Option (declared_draft.LoggedDraft (declared_request.RequestOf P) Q) → Option Submission
+submitted_by seat (step.Submit q cid) reply.Accepted draft = Some (record { seat = seat; q = q; cid = cid; asked = asked_in draft })
+submitted_by seat what answer draft = None
 
 abbrev pub submission_of : Entry → Option Submission
-submission_of e = submitted_by e.seat e.step e.answer
+submission_of e = submitted_by e.seat e.step e.answer e.draft
 
 -- which submitted commands a step ended
 abbrev pub ended_by : {R B C : Type 0} → declared_step.Step R B → declared_reply.Reply C → EndAt

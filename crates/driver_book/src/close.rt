@@ -4,18 +4,21 @@ ghost use Rattle.std.specs.Prelude.{◌≡◌, ℕ, ◌+◌, ◌<◌, ◌≤◌,
 ghost use Rattle.std.specs.List.{list_any};
 ghost use Rattle.machine_model.specs.Claims.{IsSound};
 ghost use Rattle.machine_model.specs.Status.{same_status as same_statuses};
+ghost use Rattle.machine_model.specs.Refusals.{same_kind};
 ghost use Rattle.driver_book.specs.History.{LeadsTo, accepted, is_accepted, is_submission as is_step_of_submission};
 ghost use Rattle.driver_book.specs.State.{AreSeated};
-ghost use Rattle.driver_book.specs.Close.{status_by, held, same_seat, accepted_of, fits_status, queue_in, identifier_in, is_receipt_of, has, stands, AllStand, IsMissing, receipts_of, has_open, IsDone, RefusesClose, Reports};
+ghost use Rattle.driver_book.specs.Close.{status_by, held, same_seat, accepted_of, fits_status, same_asked, fits_asked, queue_in, identifier_in, is_receipt_of, has, stands, AllStand, IsMissing, receipts_of, has_open, IsDone, RefusesClose, Reports};
 ghost use Rattle.driver_book.specs.Passes.{is_known, StandOf, AreKnown, IsMissingAt};
 ghost use Rattle.driver_book.specs.declared.report.Receipt.{Receipt as AReceipt};
 
 use crate::book::{Book, LogBrand};
-use crate::report::{CloseFault, Receipt, Receipts, Report, ReportIn};
+use crate::entry::asked_in;
+use crate::report::{Asked, CloseFault, Receipt, Receipts, Report, ReportIn};
 use crate::seat::Seat;
 use crate::two_passes::first_missing;
 use crate::{Log, NoBytes, ShownEntry, ShownStep};
 use entry_codec::Status;
+use io_commands::Kind;
 use machine_model::words::Reaped;
 use std::alloc::{Allocator, Global};
 use std::sync::ledger::{Ledger, Share};
@@ -131,6 +134,34 @@ fn fits(status: Option<Status>, told: Option<Status>) -> bool
     }
 }
 
+/// Whether two commands are of one kind.
+fn is_same_kind(a: Kind, b: Kind) -> bool
+    ensures { result ≡ same_kind a b }
+{
+    match (a, b) {
+        (Kind::Read, Kind::Read) | (Kind::Write, Kind::Write) | (Kind::Compare, Kind::Compare) =>
+            true,
+        (Kind::Read | Kind::Write | Kind::Compare, _) => false,
+    }
+}
+
+/// Whether two commands ask for the same, apart from their pieces.
+fn is_same_asked(a: Asked, b: Asked) -> bool
+    ensures { result ≡ same_asked a b }
+{
+    is_same_kind(a.kind, b.kind) && a.slba == b.slba && a.blocks == b.blocks
+}
+
+/// Whether this is what the draft of an entry asks for.
+fn is_asked(asked: Asked, logged: Option<Asked>) -> bool
+    ensures { result ≡ fits_asked asked logged }
+{
+    match logged {
+        Some(logged) => is_same_asked(asked, logged),
+        None => false,
+    }
+}
+
 /// The queue of a submission.
 fn queue_of_step(step: &ShownStep<'_>) -> u16
     ensures { result ≡ queue_in step.now }
@@ -151,15 +182,31 @@ fn identifier_of_step(step: &ShownStep<'_>) -> u16
     }
 }
 
+/// What the receipt of a submission says, as the log has it.
+#[derive(Clone, Copy)]
+pub(crate) struct Wanted {
+    /// The submission's number.
+    pub(crate) number: u64,
+    /// Its queue.
+    pub(crate) q: u16,
+    /// Its identifier.
+    pub(crate) cid: u16,
+    /// What its draft asks for, where its entry has one.
+    pub(crate) asked: Option<Asked>,
+    /// How it ended, where it did.
+    pub(crate) status: Option<Status>,
+}
+
 /// Whether a receipt is the one that is wanted, with its status or none yet.
-fn is_wanted(receipt: Option<Receipt>, wanted: Receipt) -> bool
-    ensures { result ≡ is_receipt_of wanted.number wanted.q wanted.cid wanted.status receipt }
+fn is_wanted(receipt: Option<Receipt>, wanted: Wanted) -> bool
+    ensures { result ≡ is_receipt_of wanted.number wanted.q wanted.cid wanted.asked wanted.status receipt }
 {
     match receipt {
         Some(r) => {
             r.number == wanted.number
                 && r.q == wanted.q
                 && r.cid == wanted.cid
+                && is_asked(r.asked, wanted.asked)
                 && fits(r.status, wanted.status)
         }
         None => false,
@@ -171,9 +218,9 @@ fn has_receipt<L: Ledger, A: Allocator>(
     holder: &Seat<L, A>,
     seat: Option<u16>,
     place: usize,
-    wanted: Receipt,
+    wanted: Wanted,
 ) -> bool
-    ensures { result ≡ has seat place wanted.number wanted.q wanted.cid wanted.status holder.now }
+    ensures { result ≡ has seat place wanted.number wanted.q wanted.cid wanted.asked wanted.status holder.now }
 {
     is_same_seat(Some(holder.number), seat)
         && is_wanted(holder.receipts.get(place).copied(), wanted)
@@ -184,9 +231,9 @@ pub(crate) fn any_has<L: Ledger, A: Allocator>(
     seats: &[Seat<L, A>],
     seat: Option<u16>,
     place: usize,
-    wanted: Receipt,
+    wanted: Wanted,
 ) -> bool
-    ensures { result ≡ list_any (has seat place wanted.number wanted.q wanted.cid wanted.status) seats.now }
+    ensures { result ≡ list_any (has seat place wanted.number wanted.q wanted.cid wanted.asked wanted.status) seats.now }
 {
     seats.iter().any(|s| has_receipt(s, seat, place, wanted))
 }
@@ -208,11 +255,13 @@ fn does_stand<L: Ledger, A: Allocator>(
 {
     let q = queue_of_step(&entry.step);
     let cid = identifier_of_step(&entry.step);
+    let asked = asked_in(&entry.draft);
     let status = status_behind(q, cid, log, index);
-    let wanted = Receipt {
+    let wanted = Wanted {
         number,
         q,
         cid,
+        asked,
         status,
     };
     any_has(seats, entry.seat, place, wanted)
@@ -338,10 +387,10 @@ fn take_in<L: Ledger, A: Allocator>(
 impl<L: LogBrand, A: Allocator + Copy> Book<L, A> {
     /// Compares the log with the receipts of the seats, and takes the seats. It goes through the log twice, and once for each seat where there
     /// is no memory for tables. `Ok` says that each accepted submission of the log
-    /// stands in the receipts, as the j-th of its seat in that seat's j-th receipt, with its number, queue and identifier and the
-    /// status that the log gave it; that there is no further receipt; that each seat out was handed in; and that no receipt is
-    /// without a status and no command outstanding. Whatever is answered, the log tells of a run of the machine that leads from the
-    /// opening to the world, which is sound.
+    /// stands in the receipts, as the j-th of its seat in that seat's j-th receipt, with its number, queue and identifier, what it
+    /// asks for (kind, first block and number of blocks) and the status that the log gave it; that there is no further receipt; that
+    /// each seat out was handed in; and that no receipt is without a status and no command outstanding. Whatever is answered, the log
+    /// tells of a run of the machine that leads from the opening to the world, which is sound.
     ///
     /// # Errors
     ///

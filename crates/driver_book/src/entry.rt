@@ -1,7 +1,9 @@
 //! Entries, and how a log keeps them.
 
 ghost use Rattle.std.specs.Prelude.{◌≡◌, []};
+ghost use Rattle.driver_book.specs.Entries.{asked_in as asked_in_draft};
 
+use crate::report::Asked;
 use entry_codec::Status;
 use io_commands::RequestOf;
 use std::marker::Model;
@@ -65,6 +67,16 @@ pub(crate) type KeptEntry = Entry<KeptRequest, NoBytes, Span>;
 /// A step as a log keeps it.
 pub type KeptStep = Step<RequestOf<Span>, NoBytes>;
 
+/// What the draft of an entry asks for, where it has one.
+pub(crate) fn asked_in<P, Q>(draft: &Option<LoggedDraft<RequestOf<P>, Q>>) -> Option<Asked>
+    ensures { result ≡ asked_in_draft draft.now }
+{
+    match draft {
+        Some(draft) => Some(Asked::of(&draft.request)),
+        None => None,
+    }
+}
+
 /// A submission that was accepted.
 #[derive(Clone, Copy)]
 pub(crate) struct Submission {
@@ -74,6 +86,8 @@ pub(crate) struct Submission {
     pub(crate) q: u16,
     /// Its identifier.
     pub(crate) cid: u16,
+    /// What its draft asks for, where its entry has one.
+    pub(crate) asked: Option<Asked>,
 }
 
 /// Which submitted commands a step ended.

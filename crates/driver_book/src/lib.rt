@@ -46,6 +46,6 @@ pub use close::CloseRefused;
 pub use entry::{Entry, KeptStep, LoggedDraft, NoBytes, Span};
 pub use full::Full;
 pub use log::Log;
-pub use report::{CloseFault, NoSeat, Receipt, Receipts, Report, ReportIn};
+pub use report::{Asked, CloseFault, NoSeat, Receipt, Receipts, Report, ReportIn};
 pub use seat::Seat;
 pub use shown::{PageNumbers, PieceList, ShownEntry, ShownStep};

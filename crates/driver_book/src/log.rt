@@ -9,7 +9,7 @@ ghost use Rattle.driver_book.specs.Submissions.{submitted_by, submission_of, end
 ghost use Rattle.driver_book.specs.Keeping.{HasNoRequest, bare_step, may_end as may_end_step};
 ghost use Rattle.driver_book.specs.Entries.{IsNoLess, Takes, Lacks, left, answered};
 
-use crate::entry::{EndAt, Entry, KeptEntry, KeptStep, NoBytes, Submission};
+use crate::entry::{EndAt, Entry, KeptDraft, KeptEntry, KeptStep, NoBytes, Submission, asked_in};
 use crate::keep::{keep_draft, keep_request, same_request};
 use crate::shown::{ShownEntry, shown_entry};
 use io_commands::{Draft, Piece, Request};
@@ -60,9 +60,14 @@ fn may_end(step: &KeptStep) -> bool
     matches!(step, Step::Reap { .. } | Step::Retire { .. } | Step::Reset)
 }
 
-/// The submission that a step is, where it was accepted.
-fn submission_in(seat: Option<u16>, step: &KeptStep, answer: &Reply<NoBytes>) -> Option<Submission>
-    ensures { result ≡ submitted_by seat step.now answer.now }
+/// The submission that a step is, where it was accepted, with what its draft asks for.
+fn submission_in(
+    seat: Option<u16>,
+    step: &KeptStep,
+    answer: &Reply<NoBytes>,
+    draft: &Option<KeptDraft>,
+) -> Option<Submission>
+    ensures { result ≡ submitted_by seat step.now answer.now draft.now }
 {
     match step {
         Step::Submit { q, cid } => match answer {
@@ -70,6 +75,7 @@ fn submission_in(seat: Option<u16>, step: &KeptStep, answer: &Reply<NoBytes>) ->
                 seat,
                 q: *q,
                 cid: *cid,
+                asked: asked_in(draft),
             }),
             _ => None,
         },
@@ -245,7 +251,7 @@ impl<A: Allocator> Log<A> {
         ensures { option_map submission_of (slice_get self.now.entries index) ≡ Some result }
     {
         let entry = &self.kept[index];
-        submission_in(entry.seat, &entry.step, &entry.answer)
+        submission_in(entry.seat, &entry.step, &entry.answer, &entry.draft)
     }
 
     /// Which submitted commands the step of the entry at a place ended, counted from 0.

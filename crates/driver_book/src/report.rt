@@ -1,18 +1,46 @@
 //! What a book writes down, and what it hands out.
 
 ghost use Rattle.std.specs.Prelude.{◌≡◌, map};
+ghost use Rattle.driver_book.specs.Entries.{asked_of};
 
 use entry_codec::Status;
+use io_commands::{Kind, RequestOf};
 use page_ledger::Counts;
 use std::alloc::{Allocator, Global};
 use std::marker::Model;
 use thiserror::Error;
 
-/// What a seat knows of a command that it submitted.
+/// What a command asks for, apart from its pieces.
+#[derive(Clone, Copy, Debug, PartialEq, Eq)]
+pub struct Asked {
+    /// Its first block.
+    pub slba: u64,
+    /// How many blocks it moves.
+    pub blocks: u32,
+    /// Which I/O command.
+    pub kind: Kind,
+}
+
+impl Asked {
+    /// What a request asks for.
+    pub fn of<P>(request: &RequestOf<P>) -> Asked
+        ensures { result ≡ asked_of request.now }
+    {
+        Asked {
+            kind: request.kind,
+            slba: request.slba,
+            blocks: request.blocks,
+        }
+    }
+}
+
+/// What a seat knows of a command that it submitted: which submission it is, what it asks for, and how it ended.
 #[derive(Clone, Copy, Debug, PartialEq, Eq)]
 pub struct Receipt {
     /// Which accepted submission of the book it is, from 0.
     pub number: u64,
+    /// What it asks for, as its draft said.
+    pub asked: Asked,
     /// The command's queue.
     pub q: u16,
     /// Its identifier.

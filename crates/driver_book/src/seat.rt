@@ -11,7 +11,7 @@ ghost use Rattle.driver_book.specs.Seats.{AreSettled, is_without_status};
 use crate::book::{Book, LogBrand};
 use crate::host::unlogged;
 use crate::note::{ended, note, note_refused};
-use crate::report::Receipt;
+use crate::report::{Asked, Receipt};
 use entry_codec::Status;
 use io_commands::{Draft, Finished, Ticket};
 use std::alloc::{Allocator, Global};
@@ -169,6 +169,7 @@ impl<L: LogBrand, A: Allocator + Copy> Book<L, A> {
             return Err(unlogged(draft));
         };
         let (q, cid) = (draft.q(), draft.cid());
+        let asked = Asked::of(draft.request());
         self.log.push_submission(Some(seat.number), &draft);
         let answer = self.world.submit(draft);
         note_refused(&mut self.log, &answer);
@@ -178,6 +179,7 @@ impl<L: LogBrand, A: Allocator + Copy> Book<L, A> {
                 number: self.submissions,
                 q,
                 cid,
+                asked,
                 status: None,
             });
             self.submissions += 1;

@@ -10,10 +10,9 @@ ghost use Rattle.driver_book.specs.Submissions.{submission_of};
 ghost use Rattle.driver_book.specs.Table.{count_of, with_count, status_in, AreCounted, AreWithin, AreBelow, Tells};
 
 use crate::Log;
-use crate::close::{any_has, missing};
+use crate::close::{Wanted, any_has, missing};
 use crate::ends::Ends;
 use crate::entry::Submission;
-use crate::report::Receipt;
 use crate::seat::Seat;
 use std::alloc::{AllocError, Allocator};
 use std::sync::ledger::Ledger;
@@ -172,12 +171,13 @@ impl<A: Allocator> Counted<A> {
     fn does_stand<L: Ledger>(&self, made: Submission, ends: &Ends<A>, seats: &[Seat<L, A>]) -> bool
         requires queue { made.q < length ends.now.retired }
         requires identifier { made.cid < ends.now.identifiers }
-        ensures { result ≡ list_any (has made.seat (count_of self.now.of_seats.items made.seat) self.now.number made.q made.cid (status_in ends.now made.q made.cid)) seats.now }
+        ensures { result ≡ list_any (has made.seat (count_of self.now.of_seats.items made.seat) self.now.number made.q made.cid made.asked (status_in ends.now made.q made.cid)) seats.now }
     {
-        let wanted = Receipt {
+        let wanted = Wanted {
             number: self.number,
             q: made.q,
             cid: made.cid,
+            asked: made.asked,
             status: ends.status_of(made.q, made.cid),
         };
         any_has(

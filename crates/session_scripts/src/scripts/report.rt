@@ -68,6 +68,7 @@ fn print_receipt<R: Print>(rt: &R, receipt: &Receipt) -> io::Result<()> {
         number,
         q,
         cid,
+        asked: _,
         status,
     } = receipt;
     match status {

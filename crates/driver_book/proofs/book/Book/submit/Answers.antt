@@ -39,7 +39,7 @@ returns-then-is_ok-clause-step g c =
 pub returns-then-is_ok-clause-receipt : goal.returns-then-is_ok-clause-receipt
 returns-then-is_ok-clause-receipt g c =
     receives_in c.seat.view_is (ap (λ (b : BookContents). b.log) c.self.view_is) c.args.draft c.submit-answer.result (sym c.is_ok.ensures.value ∙ c.if-is_ok.true) c.push_reserved.new.self.items (vec_capacity c.push_reserved.new.self - vec_len c.push_reserved.new.self)
-    (rw (c.push_reserved.ensures.items, c.reserve.ensures.items, c.q-q.ensures, c.cid-cid.ensures, c.self.invariant.numbered) refl)
+    (rw (c.push_reserved.ensures.items, c.reserve.ensures.items, c.q-q.ensures, c.cid-cid.ensures, c.of-asked.ensures, c.request-2.ensures.request, c.self.invariant.numbered) refl)
 
 pub returns-then-is_ok-clause-memory : goal.returns-then-is_ok-clause-memory
 returns-then-is_ok-clause-memory g c =
