@@ -5,8 +5,8 @@ use Rattle.std.proofs.{Math.Seq.{get_or-append_seam, set-append_seam}, lemmas.{B
 use Rattle.std.{proofs.lemmas.{List.{append-nil, length-append, append_assoc, length-map, map-append}, Option.slice_get-get_or}, specs.Bool.OnTrue}
 use Rattle.std.specs.{List.{list_any, position_from}, Option.{option_map, option_map_or}, Prelude.{option_and_then, is_none, slice_get, slice_set}}
 use Rattle.driver_book.proofs.{Runs.logs_of_jobs_are_runs, StandsInReceipts.{both_true, closed_is_another}}
-use Rattle.driver_book.specs.{Calls.{Does, receipt, is_open_for, settled, settled_at}, History.LeadsTo, Laws.IsTrustedLog, Reports.Report}
-use Rattle.driver_book.specs.{State.{BookContents, AreOfJobs}, declared.report.Receipt.Receipt}
+use Rattle.driver_book.specs.{Calls.{Does, no_receipt, receipt, is_open_for, settled, settled_at}, History.LeadsTo, Laws.IsTrustedLog, Reports.Report}
+use Rattle.driver_book.specs.{State.{BookContents, AreOfJobs}, declared.report.{Asked.Asked, Receipt.Receipt}}
 use Rattle.entry_codec.specs.declared.status.Status.{Status}
 use Rattle.io_commands.specs.{Asked.Request, Values.{FinishedContents, TicketContents}}
 use Rattle.machine_model.specs.{State.{State, Record, is_at}, Step.{finished_from, asked_by, pages_with_bytes}}
@@ -46,7 +46,7 @@ named s q cid f h = go (find (is_at q cid) s.host.records) (found_is (is_at q ci
         let same = made s r f h in
         (same.0 ∙ eqb-true r.q q both.0, same.1 ∙ eqb-true r.cid cid both.1)
 
-host_answers : (A B : Type 0) (b : Bool) → MatchBool (b || true) A B → A
+pub host_answers : (A B : Type 0) (b : Bool) → MatchBool (b || true) A B → A
 host_answers A B true h = h
 host_answers A B false h = h
 
@@ -81,26 +81,25 @@ none_open receipts ends agree = open_statuses receipts ∙ ap (λ (xs : List (Op
 -- Receipts
 
 -- the first receipt that is open for a command stands behind those that are not open
-found_from : (q cid number i : ℕ) (old rest : List Receipt) → list_any (λ (r : Receipt). is_none r.status) old ≡ false
-    → position_from (is_open_for q cid) i (old ++ receipt number q cid None ∷ rest) ≡ Some (i + length old)
-found_from q cid number i [] rest none = rw (eq-eqb q q refl, eq-eqb cid cid refl) (ap (λ (n : ℕ). Some n) (omega arith))
-found_from q cid number i (r ∷ old) rest none =
+found_from : (q cid number i : ℕ) (asked : Asked) (old rest : List Receipt) → list_any (λ (r : Receipt). is_none r.status) old ≡ false
+    → position_from (is_open_for q cid) i (old ++ receipt number q cid asked None ∷ rest) ≡ Some (i + length old)
+found_from q cid number i asked [] rest none = rw (eq-eqb q q refl, eq-eqb cid cid refl) (ap (λ (n : ℕ). Some n) (omega arith))
+found_from q cid number i asked (r ∷ old) rest none =
     let both = or_parts (is_none r.status) (list_any (λ (r : Receipt). is_none r.status) old) none in
-    rw (closed_is_another q cid r both.0) (found_from q cid number (i + 1) old rest both.1 ∙ ap (λ (n : ℕ). Some n) (omega arith))
+    rw (closed_is_another q cid r both.0) (found_from q cid number (i + 1) asked old rest both.1 ∙ ap (λ (n : ℕ). Some n) (omega arith))
 
-found_oldest : (q cid number : ℕ) (old rest : List Receipt) → list_any (λ (r : Receipt). is_none r.status) old ≡ false → position (is_open_for q cid) (old ++ receipt number q cid None ∷ rest) ≡ Some (length old)
-found_oldest q cid number old rest none =
+found_oldest : (q cid number : ℕ) (asked : Asked) (old rest : List Receipt) → list_any (λ (r : Receipt). is_none r.status) old ≡ false → position (is_open_for q cid) (old ++ receipt number q cid asked None ∷ rest) ≡ Some (length old)
+found_oldest q cid number asked old rest none =
     let first : 0 + length old ≡ length old = omega arith in
-    position_from-zero (is_open_for q cid) (old ++ receipt number q cid None ∷ rest) ∙ (found_from q cid number 0 old rest none ∙ ap (λ (n : ℕ). Some n) first)
+    position_from-zero (is_open_for q cid) (old ++ receipt number q cid asked None ∷ rest) ∙ (found_from q cid number 0 asked old rest none ∙ ap (λ (n : ℕ). Some n) first)
 
-pub settled_oldest : (q cid number : ℕ) (status : Option Status) (old rest : List Receipt) → list_any (λ (r : Receipt). is_none r.status) old ≡ false
-    → settled q cid status (old ++ receipt number q cid None ∷ rest) ≡ old ++ receipt number q cid status ∷ rest
-settled_oldest q cid number status old rest none =
-    let waiting : Receipt = receipt number q cid None in
-    let empty : Receipt = receipt 0 0 0 None in
-    ap (λ (i : Option ℕ). settled_at i status (old ++ waiting ∷ rest)) (found_oldest q cid number old rest none)
-    ∙ ap (λ (r : Receipt). slice_set (old ++ waiting ∷ rest) (length old) (record r { status = status })) (get_or-append_seam old waiting rest empty)
-    ∙ set-append_seam old waiting rest (receipt number q cid status)
+pub settled_oldest : (q cid number : ℕ) (asked : Asked) (status : Option Status) (old rest : List Receipt) → list_any (λ (r : Receipt). is_none r.status) old ≡ false
+    → settled q cid status (old ++ receipt number q cid asked None ∷ rest) ≡ old ++ receipt number q cid asked status ∷ rest
+settled_oldest q cid number asked status old rest none =
+    let waiting : Receipt = receipt number q cid asked None in
+    ap (λ (i : Option ℕ). settled_at i status (old ++ waiting ∷ rest)) (found_oldest q cid number asked old rest none)
+    ∙ ap (λ (r : Receipt). slice_set (old ++ waiting ∷ rest) (length old) (record r { status = status })) (get_or-append_seam old waiting rest no_receipt)
+    ∙ set-append_seam old waiting rest (receipt number q cid asked status)
 
 pub status_is : (old rest : List Receipt) (r : Receipt) → status_of (old ++ r ∷ rest) (length old) ≡ r.status
 status_is old rest r =
@@ -129,7 +128,7 @@ all_carried (Err e) many before jobs none fewer agree same = absurd (omega (arit
 
 -- Nothing is in flight
 
-none_is : (tickets : List TicketContents) (n : ℕ) → n ≡ length tickets → n ≡ 0 → tickets ≡ []
+pub none_is : (tickets : List TicketContents) (n : ℕ) → n ≡ length tickets → n ≡ 0 → tickets ≡ []
 none_is [] n long none = refl
 none_is (t ∷ tickets) n long none = absurd (omega (arith, long, none))
 
@@ -145,25 +144,25 @@ landed receipts ends tickets n long none u = all_ended_under_way u.awaited u.end
 
 -- One command more
 
-await_push : (awaited : List Receipt) (tickets : List TicketContents) (number : ℕ) (t : TicketContents) → AwaitEach awaited tickets → AwaitEach (awaited ++ receipt number t.q t.cid None ∷ []) (tickets ++ t ∷ [])
-await_push [] [] number t await = (refl, tt)
-await_push [] (u ∷ tickets) number t await = absurd await
-await_push (r ∷ awaited) [] number t await = absurd await
-await_push (r ∷ awaited) (u ∷ tickets) number t await = (await.0, await_push awaited tickets number t await.1)
+pub await_push : (awaited : List Receipt) (tickets : List TicketContents) (number : ℕ) (asked : Asked) (t : TicketContents) → AwaitEach awaited tickets → AwaitEach (awaited ++ receipt number t.q t.cid asked None ∷ []) (tickets ++ t ∷ [])
+await_push [] [] number asked t await = (refl, tt)
+await_push [] (u ∷ tickets) number asked t await = absurd await
+await_push (r ∷ awaited) [] number asked t await = absurd await
+await_push (r ∷ awaited) (u ∷ tickets) number asked t await = (await.0, await_push awaited tickets number asked t await.1)
 
 pub launched : (receipts new : List Receipt) (ends : List JobEnd) (tickets : List TicketContents) (t : TicketContents) → IsUnderWay receipts ends tickets → Awaits receipts t new → IsUnderWay new ends (tickets ++ t ∷ [])
-launched receipts new ends tickets t u (number, awaits) =
-    let one : List Receipt = receipt number t.q t.cid None ∷ [] in record {
+launched receipts new ends tickets t u (number, asked, awaits) =
+    let one : List Receipt = receipt number t.q t.cid asked None ∷ [] in record {
       ended = u.ended;
       awaited = u.awaited ++ one;
       receipts_are = awaits ∙ ap (λ (rs : List Receipt). rs ++ one) u.receipts_are ∙ append_assoc u.ended u.awaited one;
       agree = u.agree;
-      await = await_push u.awaited tickets number t u.await;
+      await = await_push u.awaited tickets number asked t u.await;
     }
 
 -- The oldest one
 
-await_length : (awaited : List Receipt) (tickets : List TicketContents) → AwaitEach awaited tickets → length awaited ≡ length tickets
+pub await_length : (awaited : List Receipt) (tickets : List TicketContents) → AwaitEach awaited tickets → length awaited ≡ length tickets
 await_length [] [] await = refl
 await_length [] (u ∷ tickets) await = absurd await
 await_length (r ∷ awaited) [] await = absurd await
@@ -180,14 +179,14 @@ or_true : (b : Bool) → (b || true) ≡ true
 or_true true = refl
 or_true false = refl
 
-is_open : (number q cid : ℕ) (ended awaited : List Receipt) → list_any (is_open_for q cid) (ended ++ receipt number q cid None ∷ awaited) ≡ true
-is_open number q cid [] awaited = rw (eq-eqb q q refl, eq-eqb cid cid refl) refl
-is_open number q cid (r ∷ ended) awaited = rw (is_open number q cid ended awaited) (or_true (is_open_for q cid r))
+is_open : (number q cid : ℕ) (asked : Asked) (ended awaited : List Receipt) → list_any (is_open_for q cid) (ended ++ receipt number q cid asked None ∷ awaited) ≡ true
+is_open number q cid asked [] awaited = rw (eq-eqb q q refl, eq-eqb cid cid refl) refl
+is_open number q cid asked (r ∷ ended) awaited = rw (is_open number q cid asked ended awaited) (or_true (is_open_for q cid r))
 
 oldest_open : (awaited ended receipts : List Receipt) (t : TicketContents) (tickets : List TicketContents) → receipts ≡ ended ++ awaited → AwaitEach awaited (t ∷ tickets) → list_any (is_open_for t.q t.cid) receipts ≡ true
 oldest_open [] ended receipts t tickets are await = absurd await
 oldest_open (r ∷ awaited) ended receipts t tickets are await =
-    ap (list_any (is_open_for t.q t.cid)) (are ∙ ap (λ (r : Receipt). ended ++ r ∷ awaited) await.0) ∙ is_open r.number t.q t.cid ended awaited
+    ap (list_any (is_open_for t.q t.cid)) (are ∙ ap (λ (r : Receipt). ended ++ r ∷ awaited) await.0) ∙ is_open r.number t.q t.cid r.asked ended awaited
 
 -- the seat awaits the oldest command in flight
 pub oldest_is_open : (receipts : List Receipt) (ends : List JobEnd) (t : TicketContents) (tickets : List TicketContents) → IsUnderWay receipts ends (t ∷ tickets) → list_any (is_open_for t.q t.cid) receipts ≡ true
@@ -198,9 +197,9 @@ oldest_ends : (awaited ended receipts new : List Receipt) (ends : List JobEnd) (
     → IsUnderWay new (ends ++ end ∷ []) tickets
 oldest_ends [] ended receipts new ends t tickets place end are agree await at ends_with = absurd await
 oldest_ends (r ∷ awaited) ended receipts new ends t tickets place end are agree await at (status, settles, tells) =
-    let told : Receipt = receipt r.number t.q t.cid status in
-    let was : receipts ≡ ended ++ receipt r.number t.q t.cid None ∷ awaited = are ∙ ap (λ (r : Receipt). ended ++ r ∷ awaited) await.0 in
-    let is : new ≡ ended ++ told ∷ awaited = settles ∙ ap (settled t.q t.cid status) was ∙ settled_oldest t.q t.cid r.number status ended awaited (none_open ended ends agree) in
+    let told : Receipt = receipt r.number t.q t.cid r.asked status in
+    let was : receipts ≡ ended ++ receipt r.number t.q t.cid r.asked None ∷ awaited = are ∙ ap (λ (r : Receipt). ended ++ r ∷ awaited) await.0 in
+    let is : new ≡ ended ++ told ∷ awaited = settles ∙ ap (settled t.q t.cid status) was ∙ settled_oldest t.q t.cid r.number r.asked status ended awaited (none_open ended ends agree) in
     let long : length receipts ≡ length ended + length (r ∷ awaited) = ap length are ∙ length-append ended (r ∷ awaited) in
     let same : length awaited ≡ length tickets = await_length awaited tickets await.1 in
     let here : place ≡ length ended = omega (arith, at, long, same) in

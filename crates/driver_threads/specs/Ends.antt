@@ -2,7 +2,7 @@
 use Rattle.std.specs.Prelude.{◌≡◌, ℕ, Bool, true, false, Option, Some, None, List, [], ◌∷◌, ◌++◌, map, slice_get, option_and_then}
 use Rattle.entry_codec.specs.declared.status.Status.{Status}
 use Rattle.io_commands.specs.Values.{TicketContents}
-use Rattle.driver_book.specs.{Calls.{receipt, settled}, declared.report.Receipt.Receipt}
+use Rattle.driver_book.specs.{Calls.{receipt, settled}, declared.report.{Asked.Asked, Receipt.Receipt}}
 use Rattle.driver_threads.specs.{Values.JobEnd, declared.{jobs.JobEnd.TheVariants.{Done, Refused}, waits.Halt.Halt}}
 use Rattle.driver_threads.specs.declared.waits.Halt.TheVariants as halt
 
@@ -30,7 +30,7 @@ status_of receipts place = option_and_then (λ r. r.status) (slice_get receipts 
 
 -- one receipt more, for the command of a ticket, without a status
 abbrev pub Awaits : List Receipt → TicketContents → List Receipt → Type 0
-Awaits old ticket new = (number : ℕ) × (new ≡ old ++ receipt number ticket.q ticket.cid None ∷ [])
+Awaits old ticket new = (number : ℕ) × (asked : Asked) × (new ≡ old ++ receipt number ticket.q ticket.cid asked None ∷ [])
 
 -- the command's receipt got a status, and the job's end is what the receipt at this place says
 abbrev pub EndsWith : List Receipt → ℕ → ℕ → ℕ → JobEnd → List Receipt → Type 0
@@ -39,7 +39,7 @@ EndsWith old q cid place end new = (status : Option Status) × (new ≡ settled 
 -- these receipts are those of the commands of these tickets, in their order, and none has a status yet
 abbrev pub AwaitEach : List Receipt → List TicketContents → Type 0
 AwaitEach [] [] = Unit {0}
-AwaitEach (r ∷ receipts) (t ∷ tickets) = (r ≡ receipt r.number t.q t.cid None) × AwaitEach receipts tickets
+AwaitEach (r ∷ receipts) (t ∷ tickets) = (r ≡ receipt r.number t.q t.cid r.asked None) × AwaitEach receipts tickets
 AwaitEach receipts tickets = ⊥
 
 -- A submitter is under way: its receipts are those of the commands that ended, which agree with the ends of its jobs so far, and then those of

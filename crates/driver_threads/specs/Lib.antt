@@ -3,3 +3,5 @@ pub mod Sharing
 pub mod Ends
 pub mod Runs
 pub mod Behind
+pub mod Jobs
+pub mod JobSteps

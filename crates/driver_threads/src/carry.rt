@@ -1,10 +1,13 @@
 //! What a submitter does for one job.
 
-ghost use Rattle.std.specs.Prelude.{◌≡◌, true, false, IfOk, IfErr};
+ghost use Rattle.std.specs.Prelude.{◌≡◌, true, false, Ok, IfOk, IfErr, OnOk};
 ghost use Rattle.std.specs.List.{list_any};
 ghost use Rattle.std.specs.Sync.Mutex.{mutex_guard_value};
 ghost use Rattle.driver_book.specs.Calls.{is_open_for};
 ghost use Rattle.driver_threads.specs.Ends.{status_of as spec_status_of, Awaits, EndsWith, refuses};
+ghost use Rattle.driver_threads.specs.JobSteps.{GivesUp, IsEndOf, IsRefusal, IsTooLong, Refusing, TakesItNoMore, TakesNoMore};
+ghost use Rattle.driver_threads.specs.Jobs.{prepared as spec_prepared};
+ghost use Rattle.driver_threads.specs.Sharing.{Released, Submitted};
 
 use crate::gate::{Gate, Point};
 use crate::jobs::{JobEnd, JobEndIn, JobRefusal};
@@ -49,7 +52,10 @@ impl<'a, G: Gate> Watch<'a, G> {
 }
 
 /// Fills a draft with the bytes, and with zeros behind them, where it is a source, and builds it. No lock is held.
-fn prepare<A: Allocator + Copy>(alloc: A, draft: &mut Draft<A>, bytes: &[u8]) -> Result<(), Halt> {
+fn prepare<A: Allocator + Copy>(alloc: A, draft: &mut Draft<A>, bytes: &[u8]) -> Result<(), Halt>
+    ensures prepared { OnOk result (draft.new ≡ spec_prepared bytes.now draft.old) }
+    ensures refused { IfErr result (Refusing (IsTooLong bytes.now draft.old.request)) }
+{
     match draft.fill_padded(bytes) {
         Ok(()) | Err(FillFault::NotASource) => {}
         Err(FillFault::WrongLength) => return Err(Halt::Refused(JobRefusal::WrongLength)),
@@ -66,7 +72,9 @@ fn give_up<L: LogBrand, A: Allocator + Copy, R: Wait>(
     shared: &Shared<L, A>,
     draft: Draft<A>,
     halt: Halt,
-) -> Halt {
+) -> Halt
+    ensures { Refusing (IsRefusal halt) result }
+{
     match halt {
         Halt::Refused(_) => match shared.cancel(rt, draft) {
             Ok(()) => halt,
@@ -89,7 +97,10 @@ pub(crate) fn prepared<L: LogBrand, A: Allocator + Copy, R: Wait>(
     shared: &Shared<L, A>,
     draft: Draft<A>,
     bytes: Bytes<A>,
-) -> Result<Draft<A>, Halt> {
+) -> Result<Draft<A>, Halt>
+    ensures prepared { IfOk result (λ ready. ready ≡ spec_prepared bytes draft) }
+    ensures refused { IfErr result (Refusing (IsTooLong bytes draft.request)) }
+{
     let mut draft = draft;
     match prepare(alloc, &mut draft, bytes.as_slice()) {
         Ok(()) => Ok(draft),
@@ -97,11 +108,15 @@ pub(crate) fn prepared<L: LogBrand, A: Allocator + Copy, R: Wait>(
     }
 }
 
-/// Why a submission was refused: a queue that takes no more commands refuses the job.
-fn halt_of(why: Refusal) -> Halt {
+/// Why a submission was refused: a queue that takes no more commands refuses the job. Of a draft that somebody else has submitted or given up
+/// there is no more to be done.
+fn halt_of(why: Refusal) -> Halt
+    ensures { Refusing (TakesNoMore why) result }
+{
     match why {
+        Refusal::QueueGone | Refusal::QueueFull => Halt::Refused(JobRefusal::QueueGone),
         Refusal::Memory => Halt::Memory,
-        _ => Halt::Refused(JobRefusal::QueueGone),
+        _ => Halt::Stopped,
     }
 }
 
@@ -114,6 +129,10 @@ pub(crate) fn submitted<L: LogBrand, A: Allocator + Copy, R: Wait>(
 ) -> Result<Ticket, Halt>
     ensures receipt { IfOk result (λ ticket. Awaits seat.old.receipts ticket seat.new.receipts) }
     ensures refused { IfErr result (λ halt. refuses halt ≡ true → seat.new.receipts ≡ seat.old.receipts) }
+    ensures submitted { IfOk result (λ ticket. Submitted L.opening seat.old draft (Ok ticket) seat.new) }
+    ensures ticket { IfOk result (λ ticket. ticket ≡ record { q = draft.q; cid = draft.cid }) }
+    ensures cause { IfErr result (Refusing (TakesItNoMore L.opening draft)) }
+    ensures seat { seat.new.number ≡ seat.old.number }
 {
     let q = draft.q();
     let mut locked = shared.lock(rt);
@@ -155,6 +174,8 @@ fn released<L: LogBrand, A: Allocator + Copy, R: Wait>(
 ) -> Result<JobEndIn<A>, Halt>
     requires { list_any (is_open_for finished.q finished.cid) seat.old.receipts ≡ true }
     ensures settled { IfOk result (λ end. EndsWith seat.old.receipts finished.q finished.cid place end seat.new.receipts) }
+    ensures released { OnOk result (Released L.opening seat.old finished {A = Unit {0}} (Ok tt) seat.new) }
+    ensures end { IfOk result (IsEndOf finished seat.new.receipts place) }
     ensures halted { IfErr result (λ halt. refuses halt ≡ false) }
 {
     let Ok(bytes) = finished.gather(alloc) else {
@@ -189,6 +210,7 @@ pub(crate) fn finished<L: LogBrand, A: Allocator + Copy, R: Wait>(
 ) -> Result<JobEndIn<A>, Halt>
     requires { list_any (is_open_for ticket.q ticket.cid) seat.old.receipts ≡ true }
     ensures settled { IfOk result (λ end. EndsWith seat.old.receipts ticket.q ticket.cid place end seat.new.receipts) }
+    ensures gives_up { IfOk result (λ end. GivesUp L.opening seat.old ticket.q ticket.cid place end seat.new) }
     ensures halted { IfErr result (λ halt. refuses halt ≡ false) }
 {
     let command = shared.collect_when_ended(rt, ticket)?;

@@ -1,8 +1,12 @@
 //! Commands in flight: a submitter has submitted and rung them, and not collected them yet.
 
-ghost use Rattle.std.specs.Prelude.{◌≡◌, ◌+◌, ◌-◌, ◌<◌, ◌≤◌, true, false, vec_len, IfErr, OnOk, OnErr};
+ghost use Rattle.std.specs.Prelude.{◌≡◌, ◌+◌, ◌-◌, ◌<◌, ◌≤◌, [], None, true, false, vec_len, IfOk, IfErr, OnOk, OnErr};
 ghost use Rattle.std.specs.VecDeque.{deque_len, deque_capacity};
 ghost use Rattle.driver_threads.specs.Ends.{Agree, IsUnderWay, refuses};
+ghost use Rattle.driver_threads.specs.JobSteps.{Carries, CarriesAlso, CarriesOn, CarriesRefused, Refusing};
+ghost use Rattle.driver_threads.specs.Jobs.{RefusesJob, RefusesRequest, WentSo};
+ghost use Rattle.driver_threads.specs.Sharing.{Made};
+ghost use Rattle.machine_model.specs.Events as events;
 
 use crate::carry::{Watch, finished, prepared, submitted};
 use crate::gate::{Gate, Point};
@@ -39,6 +43,7 @@ impl<L: LogBrand, A: Allocator + Copy> Flight<L, A> {
     ) -> Result<(), Halt>
         requires { IsUnderWay self.old.seat.receipts self.old.ends.items self.old.tickets.items }
         ensures under_way { OnOk result (IsUnderWay self.new.seat.receipts self.new.ends.items self.new.tickets.items) }
+        ensures carries { OnOk result (CarriesOn L.opening self.old.seat self.old.ends.items self.old.tickets.items self.new.seat self.new.ends.items self.new.tickets.items) }
         ensures all { OnOk result (vec_len self.new.ends + deque_len self.new.tickets ≡ vec_len self.old.ends + deque_len self.old.tickets) }
         ensures one { OnOk result (deque_len self.new.tickets ≡ deque_len self.old.tickets - 1) }
         ensures fewer { OnErr result (vec_len self.new.ends < vec_len self.old.ends + deque_len self.old.tickets) }
@@ -73,6 +78,7 @@ impl<L: LogBrand, A: Allocator + Copy> Flight<L, A> {
     ) -> Result<(), Halt>
         requires { IsUnderWay self.old.seat.receipts self.old.ends.items self.old.tickets.items }
         ensures under_way { OnOk result (IsUnderWay self.new.seat.receipts self.new.ends.items self.new.tickets.items) }
+        ensures carries { OnOk result (CarriesOn L.opening self.old.seat self.old.ends.items self.old.tickets.items self.new.seat self.new.ends.items self.new.tickets.items) }
         ensures all { OnOk result (vec_len self.new.ends ≡ vec_len self.old.ends + deque_len self.old.tickets) }
         ensures none { OnOk result (deque_len self.new.tickets ≡ 0) }
         ensures agree { OnOk result (Agree self.new.seat.receipts self.new.ends.items) }
@@ -100,6 +106,7 @@ impl<L: LogBrand, A: Allocator + Copy> Flight<L, A> {
         requires under_way { IsUnderWay self.old.seat.receipts self.old.ends.items self.old.tickets.items }
         requires places { 0 < deque_capacity self.old.tickets }
         ensures under_way { OnOk result (IsUnderWay self.new.seat.receipts self.new.ends.items self.new.tickets.items) }
+        ensures carries { OnOk result (CarriesOn L.opening self.old.seat self.old.ends.items self.old.tickets.items self.new.seat self.new.ends.items self.new.tickets.items) }
         ensures all { OnOk result (vec_len self.new.ends + deque_len self.new.tickets ≡ vec_len self.old.ends + deque_len self.old.tickets) }
         ensures place { OnOk result (deque_len self.new.tickets < deque_capacity self.new.tickets) }
         ensures fewer { OnErr result (vec_len self.new.ends < vec_len self.old.ends + deque_len self.old.tickets) }
@@ -127,6 +134,10 @@ impl<L: LogBrand, A: Allocator + Copy> Flight<L, A> {
     ) -> Result<Draft<A>, Halt>
         requires { IsUnderWay self.old.seat.receipts self.old.ends.items self.old.tickets.items }
         ensures under_way { OnOk result (IsUnderWay self.new.seat.receipts self.new.ends.items self.new.tickets.items) }
+        ensures carries { OnOk result (CarriesOn L.opening self.old.seat self.old.ends.items self.old.tickets.items self.new.seat self.new.ends.items self.new.tickets.items) }
+        ensures made { IfOk result (λ draft. Made L.opening None (events.Reserve q request) (events.Reserved draft)) }
+        ensures carries_refused { IfErr result (λ halt. refuses halt ≡ true → CarriesOn L.opening self.old.seat self.old.ends.items self.old.tickets.items self.new.seat self.new.ends.items self.new.tickets.items) }
+        ensures cause { IfErr result (Refusing (RefusesRequest L.opening q request)) }
         ensures all { OnOk result (vec_len self.new.ends + deque_len self.new.tickets ≡ vec_len self.old.ends + deque_len self.old.tickets) }
         ensures refused { IfErr result (λ halt. refuses halt ≡ true → IsUnderWay self.new.seat.receipts self.new.ends.items self.new.tickets.items) }
         ensures all_refused { IfErr result (λ halt. refuses halt ≡ true → vec_len self.new.ends + deque_len self.new.tickets ≡ vec_len self.old.ends + deque_len self.old.tickets) }
@@ -161,6 +172,9 @@ impl<L: LogBrand, A: Allocator + Copy> Flight<L, A> {
         requires under_way { IsUnderWay self.old.seat.receipts self.old.ends.items self.old.tickets.items }
         requires place { deque_len self.old.tickets < deque_capacity self.old.tickets }
         ensures under_way { OnOk result (IsUnderWay self.new.seat.receipts self.new.ends.items self.new.tickets.items) }
+        ensures carries { OnOk result (CarriesAlso L.opening self.old.seat self.old.ends.items self.old.tickets.items job self.new.seat self.new.ends.items self.new.tickets.items) }
+        ensures carries_refused { IfErr result (λ halt. refuses halt ≡ true → CarriesOn L.opening self.old.seat self.old.ends.items self.old.tickets.items self.new.seat self.new.ends.items self.new.tickets.items) }
+        ensures cause { IfErr result (Refusing (RefusesJob L.opening job)) }
         ensures all { OnOk result (vec_len self.new.ends + deque_len self.new.tickets ≡ vec_len self.old.ends + deque_len self.old.tickets + 1) }
         ensures refused { IfErr result (λ halt. refuses halt ≡ true → IsUnderWay self.new.seat.receipts self.new.ends.items self.new.tickets.items) }
         ensures all_refused { IfErr result (λ halt. refuses halt ≡ true → vec_len self.new.ends + deque_len self.new.tickets ≡ vec_len self.old.ends + deque_len self.old.tickets) }
@@ -192,6 +206,7 @@ impl<L: LogBrand, A: Allocator + Copy> Flight<L, A> {
     ) -> Result<(), Halt>
         requires { IsUnderWay self.old.seat.receipts self.old.ends.items self.old.tickets.items }
         ensures under_way { OnOk result (IsUnderWay self.new.seat.receipts self.new.ends.items self.new.tickets.items) }
+        ensures carries { OnOk result (CarriesRefused L.opening self.old.seat self.old.ends.items self.old.tickets.items why self.new.seat self.new.ends.items self.new.tickets.items) }
         ensures all { OnOk result (vec_len self.new.ends + deque_len self.new.tickets ≡ vec_len self.old.ends + deque_len self.old.tickets + 1) }
         ensures fewer { OnErr result (vec_len self.new.ends ≤ vec_len self.old.ends + deque_len self.old.tickets) }
         ensures places { deque_capacity self.new.tickets ≡ deque_capacity self.old.tickets }
@@ -220,6 +235,7 @@ impl<L: LogBrand, A: Allocator + Copy> Flight<L, A> {
         requires under_way { IsUnderWay self.old.seat.receipts self.old.ends.items self.old.tickets.items }
         requires places { 0 < deque_capacity self.old.tickets }
         ensures under_way { OnOk result (IsUnderWay self.new.seat.receipts self.new.ends.items self.new.tickets.items) }
+        ensures carries { OnOk result (CarriesAlso L.opening self.old.seat self.old.ends.items self.old.tickets.items job self.new.seat self.new.ends.items self.new.tickets.items) }
         ensures all { OnOk result (vec_len self.new.ends + deque_len self.new.tickets ≡ vec_len self.old.ends + deque_len self.old.tickets + 1) }
         ensures fewer { OnErr result (vec_len self.new.ends ≤ vec_len self.old.ends + deque_len self.old.tickets) }
         ensures places { deque_capacity self.new.tickets ≡ deque_capacity self.old.tickets }
@@ -252,6 +268,7 @@ impl<L: LogBrand, A: Allocator + Copy> Flight<L, A> {
         ensures fewer { OnErr result (vec_len self.new.ends < vec_len self.old.ends + vec_len jobs) }
         ensures most { vec_len self.new.ends ≤ vec_len self.old.ends + vec_len jobs }
         ensures agree { OnOk result (Agree self.new.seat.receipts self.new.ends.items) }
+        ensures went { OnOk result (Carries L.opening self.old.seat self.old.ends.items self.old.tickets.items [] → WentSo L.opening self.new.seat.number jobs.items self.new.seat.receipts self.new.ends.items) }
     {
         for job in jobs {
             self.carry(rt, alloc, shared, watch, job)?;

@@ -1,10 +1,13 @@
 //! Runs of threads, over a new world or over one that is there, and what they leave.
 
-ghost use Rattle.std.specs.Prelude.{◌≡◌, ◌≤◌, map, length, vec_len, IfOk, IfErr, IfSome};
+ghost use Rattle.std.specs.Prelude.{◌≡◌, ◌≤◌, ◌++◌, [], Some, map, length, vec_capacity, vec_len, IfOk, IfErr, IfSome};
 ghost use Rattle.std.specs.Bool.{OnTrue};
+ghost use Rattle.std.specs.List.{AllZip};
 ghost use Rattle.driver_book.specs.Laws.{IsTrustedLog};
 ghost use Rattle.driver_book.specs.State.{AreOfJobs};
 ghost use Rattle.driver_threads.specs.Ends.{Agree, AllAgree, ends_of, statuses_of};
+ghost use Rattle.driver_threads.specs.JobSteps.{HoldsOfEach};
+ghost use Rattle.driver_threads.specs.Jobs.{AllWent, WentSo};
 ghost use Rattle.driver_threads.specs.Runs.{EndsRound, IsAfterOpening, RanFrom, RefusesRun};
 ghost use Rattle.step_core.specs.Opening.{opening_of};
 
@@ -16,10 +19,11 @@ use crate::workers::{Worked, controller, poller, submitter};
 use block_image::Image;
 use driver_book::{Book, CloseFault, ClosedLog, LogBrand, Seat};
 use std::alloc::{AllocError, Allocator};
+use std::snapshot::Snapshot;
 use std::sync::Wait;
 use std::sync::ledger::Blank;
 use std::thread;
-use std::thread::{JoinHandle, Threads};
+use std::thread::{JoinHandle, Promise, PromisedHandle, Scope, Threads};
 use step_core::{Config, OpenRefusal, World};
 
 /// Why a run failed whose book was opened.
@@ -60,12 +64,15 @@ struct Returned<L: LogBrand, A: Allocator> {
     closed: bool,
 }
 
-/// What the threads gave back.
+/// That what the thread of a submitter carried through are these jobs.
 #[derive(Drop)]
-struct Work<L: LogBrand, A: Allocator> {
-    workers: Vec<Returned<L, A>, A>,
-    /// Whether memory was refused to the poller, to the controller, or to the list of the workers.
-    short: bool,
+struct JobsOf<A: Allocator>(Snapshot<Vec<JobIn<A>, A>>);
+
+impl<L: LogBrand, A: Allocator> Promise<Returned<L, A>> for JobsOf<A> {
+    ghost use Rattle.std.specs.Prelude.{IfOk};
+    ghost use Rattle.driver_threads.specs.Jobs.{WentSo};
+
+    ghost kept_by = { λ p r. IfOk r.carried (λ carried. WentSo L.opening carried.seat.number p.0.value.items carried.seat.receipts carried.ends.items) };
 }
 
 /// How long each list is.
@@ -97,6 +104,9 @@ fn all_carried<L: LogBrand, A: Allocator>(
     jobs: usize,
 ) -> Result<Carried<L, A>, Failure>
     requires { vec_len ends ≡ jobs → IfSome seat (λ seat. Agree seat.receipts ends.items) }
+    ensures all { IfOk result (λ carried. vec_len ends ≡ jobs) }
+    ensures seat { IfOk result (λ carried. seat ≡ Some carried.seat) }
+    ensures ends { IfOk result (λ carried. carried.ends ≡ ends) }
 {
     let Some(seat) = seat else {
         return Err(Failure::NoThread);
@@ -131,7 +141,9 @@ fn submit_all<L: LogBrand, A: Allocator + Copy, G: Gate, R: Wait>(
     gate: &G,
     post: Post,
     jobs: Vec<JobIn<A>, A>,
-) -> Returned<L, A> {
+) -> Returned<L, A>
+    ensures { IfOk result.carried (λ carried. WentSo L.opening carried.seat.number jobs.items carried.seat.receipts carried.ends.items) }
+{
     let Post { worker, depth } = post;
     let many = jobs.len();
     let Worked {
@@ -146,27 +158,149 @@ fn submit_all<L: LogBrand, A: Allocator + Copy, G: Gate, R: Wait>(
     }
 }
 
-/// Joins the submitters, tells the poller and the controller to stop, and joins them.
-fn join_all<L: LogBrand, A: Allocator + Copy, R: Threads + Wait>(
+/// A submitter that is still to be joined, and whose jobs these are.
+type Submitting<L, A> = PromisedHandle<Returned<L, A>, JobsOf<A>>;
+
+/// Joins the submitters, and puts what they give back into a list that has room for it.
+fn join_all<L: LogBrand, A: Allocator, R: Threads>(
+    rt: &R,
+    submitters: Vec<Submitting<L, A>, A>,
+    room: Vec<Returned<L, A>, A>,
+) -> Vec<Returned<L, A>, A>
+    requires room { vec_len submitters ≤ vec_capacity room }
+    requires empty { room.items ≡ [] }
+    ensures { AllZip (λ handle returned. IfOk returned.carried (λ carried. WentSo L.opening carried.seat.number handle.promise.0.value.items carried.seat.receipts carried.ends.items)) submitters.items result.items }
+{
+    let mut workers = room;
+    for handle in submitters {
+        workers.push_reserved(handle.join(rt));
+    }
+    workers
+}
+
+/// Room for so many submitters, and for what they give back.
+fn room_for<L: LogBrand, A: Allocator + Copy>(
+    alloc: A,
+    many: usize,
+) -> Result<(Vec<Submitting<L, A>, A>, Vec<Returned<L, A>, A>), Failure>
+    ensures none { IfOk result (λ lists. (lists.0.items ≡ []) × (lists.1.items ≡ [])) }
+    ensures room { IfOk result (λ lists. (many ≤ vec_capacity lists.0) × (many ≤ vec_capacity lists.1)) }
+{
+    match (
+        Vec::with_capacity(alloc, many),
+        Vec::with_capacity(alloc, many),
+    ) {
+        (Ok(submitters), Ok(room)) => Ok((submitters, room)),
+        _ => Err(Failure::Memory),
+    }
+}
+
+/// Starts a submitter that does these jobs. `None` where its thread cannot be made.
+fn start<
+    's,
+    L: LogBrand + Send + Sync,
+    A: Allocator + Copy + Send + Sync,
+    G: Gate + Sync,
+    R: Wait + Sync,
+    E,
+>(
+    scope: &'s Scope<'s, E>,
+    rt: &'s R,
+    alloc: A,
+    shared: &'s Shared<L, A>,
+    gate: &'s G,
+    post: Post,
+    jobs: Vec<JobIn<A>, A>,
+) -> Option<Submitting<L, A>>
+    ensures { IfSome result (λ submitter. submitter.promise.0.value ≡ jobs) }
+{
+    let promise = JobsOf(Snapshot::of(&jobs));
+    match scope.spawn_with(
+        promise,
+        move || -> Returned<L, A>
+            ensures { IfOk result.carried (λ carried. WentSo L.opening carried.seat.number jobs.items carried.seat.receipts carried.ends.items) }
+        { submit_all(rt, alloc, shared, gate, post, jobs) },
+    ) {
+        Ok(submitter) => Some(submitter),
+        Err(_) => None,
+    }
+}
+
+/// Starts a submitter for each list of jobs, and puts them into a list that has room for them.
+///
+/// # Errors
+///
+/// Those that were started, where a thread cannot be made.
+fn start_all<
+    's,
+    L: LogBrand + Send + Sync,
+    A: Allocator + Copy + Send + Sync,
+    G: Gate + Sync,
+    R: Wait + Sync,
+    E,
+>(
+    scope: &'s Scope<'s, E>,
+    rt: &'s R,
+    alloc: A,
+    shared: &'s Shared<L, A>,
+    gate: &'s G,
+    jobs: Vec<Vec<JobIn<A>, A>, A>,
+    depth: Depth,
+    room: Vec<Submitting<L, A>, A>,
+) -> Result<Vec<Submitting<L, A>, A>, Vec<Submitting<L, A>, A>>
+    requires room { vec_len jobs ≤ vec_capacity room }
+    requires empty { room.items ≡ [] }
+    ensures started { IfOk result (λ started. (later : _) × (map (λ submitter. submitter.promise.0.value.items) started.items ++ later ≡ map (λ list. list.items) jobs.items)) }
+    ensures most { IfOk result (λ started. vec_len started ≤ vec_len jobs) }
+    ensures few { IfErr result (λ started. vec_len started ≤ vec_len jobs) }
+{
+    let mut submitters = room;
+    for (worker, list) in (0..16u16).zip(jobs) {
+        let post = Post { worker, depth };
+        let Some(submitter) = start(scope, rt, alloc, shared, gate, post, list) else {
+            return Err(submitters);
+        };
+        submitters.push_reserved(submitter);
+    }
+    Ok(submitters)
+}
+
+/// Starts a submitter for each list of jobs, and joins them.
+fn run_submitters<
+    L: LogBrand + Send + Sync,
+    A: Allocator + Copy + Send + Sync,
+    G: Gate + Sync,
+    R: Threads + Wait + Sync,
+>(
     rt: &R,
     alloc: A,
     shared: &Shared<L, A>,
-    submitters: Vec<JoinHandle<Returned<L, A>>, A>,
-    polls: JoinHandle<Result<(), AllocError>>,
-    serves: JoinHandle<Result<(), AllocError>>,
-) -> Work<L, A> {
-    let mut workers = Vec::new(alloc);
-    let mut short = false;
-    for handle in submitters {
-        short = workers.push(handle.join(rt)).is_err() || short;
-    }
-    shared.stop(rt);
-    short = serves.join(rt).is_err() || short;
-    short = polls.join(rt).is_err() || short;
-    Work { workers, short }
+    gate: &G,
+    jobs: Vec<Vec<JobIn<A>, A>, A>,
+    depth: Depth,
+) -> Result<Vec<Returned<L, A>, A>, Failure>
+    ensures { IfOk result (λ workers. HoldsOfEach (λ list returned. IfOk returned.carried (λ carried. WentSo L.opening carried.seat.number list carried.seat.receipts carried.ends.items)) (map (λ list. list.items) jobs.items) workers.items) }
+{
+    thread::scope(
+        thread::scope_env(),
+        rt,
+        move |scope| -> Result<Vec<Returned<L, A>, A>, Failure>
+            ensures { IfOk result (λ workers. HoldsOfEach (λ list returned. IfOk returned.carried (λ carried. WentSo L.opening carried.seat.number list carried.seat.receipts carried.ends.items)) (map (λ list. list.items) jobs.items) workers.items) }
+        {
+            let (submitters, room) = room_for(alloc, jobs.len())?;
+            match start_all(scope, rt, alloc, shared, gate, jobs, depth, submitters) {
+                Ok(started) => Ok(join_all(rt, started, room)),
+                Err(started) => {
+                    shared.stop(rt);
+                    drop(join_all(rt, started, room));
+                    Err(Failure::NoThread)
+                }
+            }
+        },
+    )
 }
 
-/// Starts a submitter for each list of jobs, a poller and a controller, and joins them.
+/// Runs the submitters beside a poller and a controller.
 fn run_workers<
     L: LogBrand + Send + Sync,
     A: Allocator + Copy + Send + Sync,
@@ -179,39 +313,29 @@ fn run_workers<
     gate: &G,
     jobs: Vec<Vec<JobIn<A>, A>, A>,
     depth: Depth,
-) -> Result<Work<L, A>, Failure> {
-    let Ok(mut handles) = Vec::with_capacity(alloc, jobs.len()) else {
-        return Err(Failure::Memory);
-    };
-    thread::scope(thread::scope_env(), rt, |scope| {
-        let Ok(polls) = scope.spawn(move || poller(rt, shared)) else {
-            return Err(Failure::NoThread);
-        };
-        let Ok(serves) = scope.spawn(move || controller(rt, shared)) else {
+) -> Result<Vec<Returned<L, A>, A>, Failure>
+    ensures { IfOk result (λ workers. HoldsOfEach (λ list returned. IfOk returned.carried (λ carried. WentSo L.opening carried.seat.number list carried.seat.receipts carried.ends.items)) (map (λ list. list.items) jobs.items) workers.items) }
+{
+    thread::scope(
+        thread::scope_env(),
+        rt,
+        |scope| -> Result<Vec<Returned<L, A>, A>, Failure>
+            ensures { IfOk result (λ workers. HoldsOfEach (λ list returned. IfOk returned.carried (λ carried. WentSo L.opening carried.seat.number list carried.seat.receipts carried.ends.items)) (map (λ list. list.items) jobs.items) workers.items) }
+        {
+            let polls = scope.spawn(move || poller(rt, shared));
+            let serves = scope.spawn(move || controller(rt, shared));
+            let (Ok(polls), Ok(serves)) = (polls, serves) else {
+                shared.stop(rt);
+                return Err(Failure::NoThread);
+            };
+            let workers = run_submitters(rt, alloc, shared, gate, jobs, depth);
             shared.stop(rt);
-            return Err(Failure::NoThread);
-        };
-        let mut all_started = true;
-        let mut short = false;
-        for (worker, list) in (0..16u16).zip(jobs) {
-            let post = Post { worker, depth };
-            match scope.spawn(move || submit_all(rt, alloc, shared, gate, post, list)) {
-                Ok(handle) => short = handles.push(handle).is_err() || short,
-                Err(_) => {
-                    all_started = false;
-                    shared.stop(rt);
-                    break;
-                }
+            match (serves.join(rt), polls.join(rt)) {
+                (Ok(()), Ok(())) => workers,
+                _ => Err(Failure::Memory),
             }
-        }
-        let mut work = join_all(rt, alloc, shared, handles, polls, serves);
-        work.short = work.short || short;
-        if all_started {
-            Ok(work)
-        } else {
-            Err(Failure::NoThread)
-        }
-    })
+        },
+    )
 }
 
 /// The least worker to whom a gate was closed, where none was left out for want of memory.
@@ -232,24 +356,24 @@ struct HandedIn<L: LogBrand, A: Allocator> {
 /// Takes what the submitters hand in, whose lists of jobs are so long.
 fn handed_in<L: LogBrand, A: Allocator + Copy>(
     alloc: A,
-    work: Work<L, A>,
+    workers: Vec<Returned<L, A>, A>,
     jobs: &[usize],
 ) -> Result<HandedIn<L, A>, Failure>
     ensures long { IfOk result (λ hand. map (λ list. length list.items) hand.lists.items ≡ jobs.now) }
     ensures agree { IfOk result (λ hand. map (λ seat. statuses_of seat.receipts) hand.seats.items ≡ map (λ list. ends_of list.items) hand.lists.items) }
+    ensures went { IfOk result (λ hand. (lists : _) → HoldsOfEach (λ list returned. IfOk returned.carried (λ carried. WentSo L.opening carried.seat.number list carried.seat.receipts carried.ends.items)) lists workers.items → length lists ≡ length jobs.now → AllWent L.opening lists (map (λ seat. seat.receipts) hand.seats.items) (map (λ list. list.items) hand.lists.items)) }
 {
-    let short = work.short;
     let mut seats = Vec::new(alloc);
     let mut lists = Vec::new(alloc);
-    for returned in work.workers {
+    for returned in workers {
         let Carried { seat, ends } = returned.carried?;
-        if seats.push(seat).is_err() || lists.push(ends).is_err() {
+        let (Ok(()), Ok(())) = (seats.push(seat), lists.push(ends)) else {
             return Err(Failure::Memory);
-        }
+        };
     }
     match as_long_as(alloc, lists, jobs) {
-        Some(lists) if !short => Ok(HandedIn { seats, lists }),
-        _ => Err(Failure::Memory),
+        Some(lists) => Ok(HandedIn { seats, lists }),
+        None => Err(Failure::Memory),
     }
 }
 
@@ -269,6 +393,8 @@ fn close<L: LogBrand, A: Allocator + Copy>(
     requires agree { map (λ seat. statuses_of seat.receipts) hand.seats.items ≡ map (λ list. ends_of list.items) hand.lists.items }
     ensures closed { IfOk result (λ ran. RanFrom L.opening ran.report ran.book) }
     ensures ends { IfOk result (λ ran. map length ran.jobs ≡ map (λ list. length list.items) hand.lists.items) }
+    ensures receipts { IfOk result (λ ran. ran.report.receipts ≡ map (λ seat. seat.receipts) hand.seats.items) }
+    ensures lists { IfOk result (λ ran. ran.jobs ≡ map (λ list. list.items) hand.lists.items) }
     ensures agree { IfOk result (λ ran. AllAgree ran.report.receipts ran.jobs) }
     ensures jobs { IfOk result (λ ran. OnTrue L.jobs_alone (AreOfJobs ran.book.log)) }
 {
@@ -296,6 +422,8 @@ fn carry_on<L: LogBrand, A: Allocator + Copy>(
     requires agree { map (λ seat. statuses_of seat.receipts) hand.seats.items ≡ map (λ list. ends_of list.items) hand.lists.items }
     ensures ended { IfOk result (λ round. EndsRound L.opening round.log round.report round.world) }
     ensures ends { IfOk result (λ round. map length round.jobs ≡ map (λ list. length list.items) hand.lists.items) }
+    ensures receipts { IfOk result (λ round. round.report.receipts ≡ map (λ seat. seat.receipts) hand.seats.items) }
+    ensures lists { IfOk result (λ round. round.jobs ≡ map (λ list. list.items) hand.lists.items) }
     ensures agree { IfOk result (λ round. AllAgree round.report.receipts round.jobs) }
     ensures jobs { IfOk result (λ round. OnTrue L.jobs_alone (AreOfJobs round.log.entries)) }
 {
@@ -334,15 +462,16 @@ fn work_over<
 ) -> Result<(Book<L, A>, HandedIn<L, A>), Failure>
     ensures long { IfOk result (λ done. map (λ list. length list.items) done.1.lists.items ≡ map (λ list. length list.items) jobs.items) }
     ensures agree { IfOk result (λ done. map (λ seat. statuses_of seat.receipts) done.1.seats.items ≡ map (λ list. ends_of list.items) done.1.lists.items) }
+    ensures went { IfOk result (λ done. AllWent L.opening (map (λ list. list.items) jobs.items) (map (λ seat. seat.receipts) done.1.seats.items) (map (λ list. list.items) done.1.lists.items)) }
 {
     let Ok(many) = lengths(alloc, &jobs) else {
         return Err(Failure::Memory);
     };
-    let work = run_workers(rt, alloc, &shared, gate, jobs, depth)?;
-    if let Some(worker) = first_closed(&work.workers) {
+    let workers = run_workers(rt, alloc, &shared, gate, jobs, depth)?;
+    if let Some(worker) = first_closed(&workers) {
         return Err(Failure::GateClosed { worker });
     }
-    let hand = handed_in(alloc, work, &many)?;
+    let hand = handed_in(alloc, workers, &many)?;
     Ok((shared.end(), hand))
 }
 
@@ -363,6 +492,7 @@ fn run_over<
     ensures closed { IfOk result (λ ran. RanFrom L.opening ran.report ran.book) }
     ensures all_jobs { IfOk result (λ ran. map length ran.jobs ≡ map (λ list. length list.items) jobs.items) }
     ensures agree { IfOk result (λ ran. AllAgree ran.report.receipts ran.jobs) }
+    ensures went { IfOk result (λ ran. AllWent L.opening (map (λ list. list.items) jobs.items) ran.report.receipts ran.jobs) }
     ensures jobs { IfOk result (λ ran. OnTrue L.jobs_alone (AreOfJobs ran.book.log)) }
 {
     let (book, hand) = work_over(rt, alloc, shared, gate, jobs, depth)?;
@@ -386,6 +516,7 @@ fn round_over<
     ensures ended { IfOk result (λ round. EndsRound L.opening round.log round.report round.world) }
     ensures all_jobs { IfOk result (λ round. map length round.jobs ≡ map (λ list. length list.items) jobs.items) }
     ensures agree { IfOk result (λ round. AllAgree round.report.receipts round.jobs) }
+    ensures went { IfOk result (λ round. AllWent L.opening (map (λ list. list.items) jobs.items) round.report.receipts round.jobs) }
     ensures jobs { IfOk result (λ round. OnTrue L.jobs_alone (AreOfJobs round.log.entries)) }
 {
     let (book, hand) = work_over(rt, alloc, shared, gate, jobs, depth)?;
@@ -396,8 +527,10 @@ fn round_over<
 /// submitters' seats. A list's place, from 0, is the worker of its submitter. Each submitter has at most `depth` jobs, 1 to 256, in flight at a
 /// time. `server` says who serves as the submitters ring.
 ///
-/// A job's command ended as its receipt in the report says, and so as the log does. Where the driver takes the steps of jobs alone, the log
-/// has no others: so the run is trusted from its opening to its end, and the laws of trusted runs speak of its Reads, Writes and Compares.
+/// A job's command ended as its receipt in the report says, and so as the log does. Each job went as [`submitter`] says: which request was
+/// reserved, with which bytes its draft was submitted, which bytes its end has, and why it was refused. Where the driver takes the steps of jobs
+/// alone, the log has no others: so the run is trusted from its opening to its end, and the laws of trusted runs speak of its Reads, Writes and
+/// Compares.
 ///
 /// # Errors
 ///
@@ -431,6 +564,7 @@ pub fn run_threads<
     ensures ran { IfOk result (λ ran. RanFrom (opening_of config image) ran.report ran.book) }
     ensures all_jobs { IfOk result (λ ran. map length ran.jobs ≡ map (λ list. length list.items) jobs.items) }
     ensures agree { IfOk result (λ ran. AllAgree ran.report.receipts ran.jobs) }
+    ensures went { IfOk result (λ ran. AllWent (opening_of config image) (map (λ list. list.items) jobs.items) ran.report.receipts ran.jobs) }
     ensures jobs { IfOk result (λ ran. OnTrue L.jobs_alone (AreOfJobs ran.book.log)) }
     ensures trusted { IfOk result (λ ran. OnTrue L.jobs_alone (IsTrustedLog image ran.book.log ran.book.world)) }
     ensures refused { IfErr result (RefusesRun config) }
@@ -460,8 +594,9 @@ pub fn run_threads<
 /// threads of their own, as [`run_threads`], and closes the book with the submitters' seats. It gives the book's log and its world, over which the next round
 /// may go on: whoever drops the log of each round needs no more memory for many rounds than for the longest of them.
 ///
-/// A job's command ended as its receipt in the report says, and so as the log does. The logs of rounds that go on each over the world of the one before, one
-/// behind the other, are one history ([`law_of_pieces`](driver_book::laws::law_of_pieces)). Each round takes a new ledger.
+/// A job's command ended as its receipt in the report says, and so as the log does, and each job went as [`submitter`] says. The logs of rounds
+/// that go on each over the world of the one before, one behind the other, are one history
+/// ([`law_of_pieces`](driver_book::laws::law_of_pieces)). Each round takes a new ledger.
 ///
 /// # Errors
 ///
@@ -493,6 +628,7 @@ pub fn run_round<
     ensures ended { IfOk result (λ round. EndsRound world.state round.log round.report round.world) }
     ensures all_jobs { IfOk result (λ round. map length round.jobs ≡ map (λ list. length list.items) jobs.items) }
     ensures agree { IfOk result (λ round. AllAgree round.report.receipts round.jobs) }
+    ensures went { IfOk result (λ round. AllWent world.state (map (λ list. list.items) jobs.items) round.report.receipts round.jobs) }
     ensures jobs { IfOk result (λ round. OnTrue L.jobs_alone (AreOfJobs round.log.entries)) }
     ensures refused { IfErr result IsAfterOpening }
 {

@@ -1,8 +1,12 @@
 //! Calls that wait. Who waits looks at the book before it sleeps and each time that it is woken, and makes its step once the answer is another:
 //! a wait makes no step, and writes nothing down.
 
-ghost use Rattle.std.specs.Prelude.{◌≡◌, true, false, IfOk, IfErr};
+ghost use Rattle.std.specs.Prelude.{◌≡◌, true, false, None, IfOk, IfErr};
 ghost use Rattle.driver_threads.specs.Ends.{refuses};
+ghost use Rattle.driver_threads.specs.JobSteps.{IsReservation, Refusing};
+ghost use Rattle.driver_threads.specs.Jobs.{RefusesRequest};
+ghost use Rattle.driver_threads.specs.Sharing.{Made};
+ghost use Rattle.machine_model.specs.Events as events;
 
 use crate::changes::Change;
 use crate::jobs::JobRefusal;
@@ -52,7 +56,13 @@ fn turn_of<L: LogBrand, A: Allocator + Copy>(
     book: &Book<L, A>,
     q: u16,
     request: &Request<A>,
-) -> Result<Turn, Halt> {
+) -> Result<Turn, Halt>
+    ensures refused { IfErr result (Refusing (RefusesRequest L.opening q request.now)) }
+{
+    prove!({
+        book.check();
+        true
+    });
     if book.stopping() {
         return Err(Halt::Stopped);
     }
@@ -71,7 +81,8 @@ fn turn_of<L: LogBrand, A: Allocator + Copy>(
         },
         Some(Refusal::NoQueue) => JobRefusal::NoQueue,
         Some(Refusal::Bad(fault)) => JobRefusal::Bad(fault),
-        Some(_) => JobRefusal::QueueGone,
+        Some(Refusal::Deleting) => JobRefusal::QueueGone,
+        Some(_) => return Err(Halt::Stopped),
     };
     Err(Halt::Refused(refusal))
 }
@@ -85,7 +96,14 @@ fn reserved<L: LogBrand, A: Allocator + Copy>(
     book: &mut Book<L, A>,
     q: u16,
     request: Request<A>,
-) -> Result<Draft<A>, Halt> {
+) -> Result<Draft<A>, Halt>
+    ensures made { IfOk result (λ draft. Made L.opening None (events.Reserve q request) (events.Reserved draft)) }
+    ensures halted { IfErr result (λ halt. refuses halt ≡ false) }
+{
+    prove!({
+        book.check();
+        true
+    });
     match book.reserve(q, request) {
         Ok(draft) => Ok(draft),
         Err(_) => Err(Halt::Memory),
@@ -103,8 +121,13 @@ fn collected<L: LogBrand, A: Allocator + Copy>(
     ticket: Ticket,
 ) -> Result<Finished<A>, Halt>
     ensures command { IfOk result (λ finished. (finished.q ≡ ticket.q) × (finished.cid ≡ ticket.cid)) }
+    ensures made { IfOk result (λ finished. Made L.opening None (events.Collect ticket.q ticket.cid) (events.Collects finished)) }
     ensures halted { IfErr result (λ halt. refuses halt ≡ false) }
 {
+    prove!({
+        book.check();
+        true
+    });
     match book.collect(ticket) {
         Ok(finished) => Ok(finished),
         Err(refused) => {
@@ -128,7 +151,10 @@ impl<L: LogBrand, A: Allocator + Copy> Shared<L, A> {
         rt: &R,
         q: u16,
         request: Request<A>,
-    ) -> Result<Reservation<A>, Halt> {
+    ) -> Result<Reservation<A>, Halt>
+        ensures reservation { IfOk result (IsReservation L.opening q request) }
+        ensures refused { IfErr result (Refusing (RefusesRequest L.opening q request)) }
+    {
         let mut locked = self.lock(rt);
         match turn_of(&locked.book, q, &request)? {
             Turn::Free => Ok(Reservation::Now(reserved(&mut locked.book, q, request)?)),
@@ -146,7 +172,10 @@ impl<L: LogBrand, A: Allocator + Copy> Shared<L, A> {
         rt: &R,
         q: u16,
         request: Request<A>,
-    ) -> Result<Draft<A>, Halt> {
+    ) -> Result<Draft<A>, Halt>
+        ensures made { IfOk result (λ draft. Made L.opening None (events.Reserve q request) (events.Reserved draft)) }
+        ensures refused { IfErr result (Refusing (RefusesRequest L.opening q request)) }
+    {
         let mut locked = self.lock(rt);
         for _ in rt.forever() {
             match turn_of(&locked.book, q, &request)? {
@@ -168,6 +197,7 @@ impl<L: LogBrand, A: Allocator + Copy> Shared<L, A> {
         ticket: Ticket,
     ) -> Result<Finished<A>, Halt>
         ensures command { IfOk result (λ finished. (finished.q ≡ ticket.q) × (finished.cid ≡ ticket.cid)) }
+        ensures made { IfOk result (λ finished. Made L.opening None (events.Collect ticket.q ticket.cid) (events.Collects finished)) }
         ensures halted { IfErr result (λ halt. refuses halt ≡ false) }
     {
         let (q, cid) = (ticket.q(), ticket.cid());

@@ -2,6 +2,7 @@
 
 ghost use Rattle.std.specs.Prelude.{◌≡◌, ◌≤◌, vec_len, IfSome};
 ghost use Rattle.driver_threads.specs.Ends.{Agree};
+ghost use Rattle.driver_threads.specs.Jobs.{WentSo};
 
 use crate::carry::Watch;
 use crate::flight::Flight;
@@ -33,6 +34,11 @@ pub struct Worked<L: Ledger, A: Allocator = Global> {
 /// hold while it has nothing in flight, and for the end of its oldest command. Where memory is refused to it, all workers are told to stop; what
 /// it holds is spent. Where each job has its end, the ends of its commands are those that its receipts say, in their order, and there is no
 /// further receipt.
+///
+/// Each job that is not refused was reserved with its own request on its own queue. Its draft was submitted from this seat with the job's bytes in the
+/// data pieces, and zeros after them; of a Read it was submitted as it was reserved. The receipt has the number of that submission. The command of that
+/// receipt was collected and released, and the bytes of the job's end are those that were gathered from it. A job is refused only for what the book
+/// answered to its request or its draft, or where it has more bytes than its data pieces take.
 #[tactic(auto, using(crate::proofs::UnderWay::begins))]
 pub fn submitter<L: LogBrand, A: Allocator + Copy, G: Gate, R: Wait>(
     rt: &R,
@@ -47,6 +53,7 @@ pub fn submitter<L: LogBrand, A: Allocator + Copy, G: Gate, R: Wait>(
     requires at_most { depth ≤ 256 }
     ensures most { vec_len result.ends ≤ vec_len jobs }
     ensures agree { vec_len result.ends ≡ vec_len jobs → IfSome result.seat (λ seat. Agree seat.receipts result.ends.items) }
+    ensures went { vec_len result.ends ≡ vec_len jobs → IfSome result.seat (λ seat. WentSo L.opening seat.number jobs.items seat.receipts result.ends.items) }
 {
     let ends = Vec::new(alloc);
     let Ok(seat) = shared.seat(rt) else {

@@ -5,7 +5,7 @@ use Rattle.std.proofs.lemmas.{Bool.{ltb-true, eqb-false, eq-eqb, or_parts}, Grin
 use Rattle.std.proofs.lemmas.List.{append-nil, length-replicate, get_or-map, get_or-replicate, get_or_at, map-set, length-map, map-append}
 use Rattle.std.{proofs.lemmas.{List.Elements.{All-nil, All-push}, Option.{slice_get-get_or, get_or_from_slice_get}}, specs.Io.KnownBytes.{Appends}}
 use Rattle.std.specs.{List.list_any, Prelude.{All, IfOk, IfSome}, Str.bytes_eq}
-use Rattle.job_cli.specs.{GoneOn.{Round, GoOn, HasGoneOn, logs_of, receipts_of}}
+use Rattle.job_cli.specs.{GoneOn.{Round, GoOn, HasGoneOn, ends_in, lists_of, logs_of, receipts_of}}
 use Rattle.job_cli.specs.Headings.{heading_at, heading, headings_from}
 use Rattle.job_cli.specs.JobRuns.{is_of, jobs_for, AreListsOf, end_of, all_ended, IsLeftFrom, HasJobs, HasJobFault, IsNoJobs}
 use Rattle.job_cli.specs.Jobs.{numbered_job, with_job, jobs_from, jobs_in, jobs_of, IsReadAs, head_words, data_words, job_words, some_job, job_of_words, job_of_line, at_line, then_jobs}
@@ -14,7 +14,7 @@ use Rattle.script_cli.{proofs.{Runs.{number_fits, then_fits, whatever_fits}, Tex
 use Rattle.script_cli.specs.{Grammar.{Words, number_word, kind_word, pieces_from, begins_comment, words_of}, Inputs.{AreFirstOf, Gains, IsFront}, Lines.lines}
 use Rattle.script_cli.specs.{Runs.AreOwners, declared.fault.{LineFault.{LineFault, TheVariants.{UnknownVerb, TooManyLines}}}}
 use Rattle.script_cli.specs.declared.fault.ScriptFault.{ScriptFault}
-use Rattle.driver_threads.{proofs.UnderWay.{behind_none, behind_long}, specs.{Behind.behind, Ends.{AllAgree, ends_of, statuses_of}}}
+use Rattle.driver_threads.{proofs.UnderWay.{behind_none, behind_long}, specs.{Behind.behind, Ends.{AllAgree, ends_of, statuses_of}, Jobs.AllWent}}
 use Rattle.driver_threads.specs.{Runs.{EndsRound}, Values.{Job, JobEnd}, declared.jobs.JobEnd.TheVariants.{Done, Refused}}
 use Rattle.page_ledger.{proofs.Tables.{slice_get-set_same, slice_get-set_other}, specs.declared.owner.{Counts.Counts, Owner.Owner}}
 use Rattle.step_core.specs.{Opening.opening_of, World.WorldContents}
@@ -342,9 +342,19 @@ receipts_more [] round = behind_none round.report.receipts
 receipts_more (first ∷ rounds) round =
     ap (behind first.report.receipts) (receipts_more rounds round) ∙ sym (behind_assoc first.report.receipts (receipts_of rounds) round.report.receipts)
 
-go_on_more : (before mid : State) (rounds : List Round) (round : Round) → GoOn before rounds mid → EndsRound mid round.log round.report round.world → GoOn before (rounds ++ round ∷ []) round.world.state
-go_on_more before mid [] round same ends = (subst (λ (s : State). EndsRound s round.log round.report round.world) same ends, refl)
-go_on_more before mid (first ∷ rounds) round (one, rest) ends = (one, go_on_more first.world.state mid rounds round rest ends)
+lists_more_of : (rounds : List Round) (round : Round) → lists_of (rounds ++ round ∷ []) ≡ behind (lists_of rounds) round.lists
+lists_more_of [] round = behind_none round.lists
+lists_more_of (first ∷ rounds) round = ap (behind first.lists) (lists_more_of rounds round) ∙ sym (behind_assoc first.lists (lists_of rounds) round.lists)
+
+ends_more_in : (rounds : List Round) (round : Round) → ends_in (rounds ++ round ∷ []) ≡ behind (ends_in rounds) round.ends
+ends_more_in [] round = behind_none round.ends
+ends_more_in (first ∷ rounds) round = ap (behind first.ends) (ends_more_in rounds round) ∙ sym (behind_assoc first.ends (ends_in rounds) round.ends)
+
+go_on_more : (before mid : State) (rounds : List Round) (round : Round) → GoOn before rounds mid → EndsRound mid round.log round.report round.world → AllWent mid round.lists round.report.receipts round.ends
+    → GoOn before (rounds ++ round ∷ []) round.world.state
+go_on_more before mid [] round same ends went =
+    (subst (λ (s : State). EndsRound s round.log round.report round.world) same ends, subst (λ (s : State). AllWent s round.lists round.report.receipts round.ends) same went, refl)
+go_on_more before mid (first ∷ rounds) round (one, all, rest) ends went = (one, all, go_on_more first.world.state mid rounds round rest ends went)
 
 jobs_on : (log more : List Entry) → AreOfJobs log → AreOfJobs more → AreOfJobs (log ++ more)
 jobs_on [] more before after = after
@@ -360,12 +370,14 @@ agree_behind receipts more ends later first second =
     map_behind statuses_of (map-append (λ (r : Receipt). r.status)) receipts more ∙ rw (first, second) refl ∙ sym (map_behind ends_of ends_append ends later)
 
 -- one round more
-pub one_gone_on : (before mid : State) (ends later : List (List JobEnd)) (round : Round) → HasGoneOn before ends mid → EndsRound mid round.log round.report round.world
-    → AllAgree round.report.receipts later → AreOfJobs round.log.entries → HasGoneOn before (behind ends later) round.world.state
-one_gone_on before mid ends later round gone ended agree jobs = record {
+pub one_gone_on : (before mid : State) (done : List (List Job)) (ends : List (List JobEnd)) (round : Round) → HasGoneOn before done ends mid → EndsRound mid round.log round.report round.world
+    → AllWent mid round.lists round.report.receipts round.ends → AllAgree round.report.receipts round.ends → AreOfJobs round.log.entries → HasGoneOn before (behind done round.lists) (behind ends round.ends) round.world.state
+one_gone_on before mid done ends round gone ended went agree jobs = record {
   rounds = gone.rounds ++ round ∷ [];
-  go_on = go_on_more before mid gone.rounds round gone.go_on ended;
-  agree = rw (receipts_more gone.rounds round) (agree_behind (receipts_of gone.rounds) round.report.receipts ends later gone.agree agree);
+  go_on = go_on_more before mid gone.rounds round gone.go_on ended went;
+  lists_are = ap (λ (ls : List (List Job)). behind ls round.lists) gone.lists_are ∙ sym (lists_more_of gone.rounds round);
+  ends_are = ap (λ (es : List (List JobEnd)). behind es round.ends) gone.ends_are ∙ sym (ends_more_in gone.rounds round);
+  agree = rw (receipts_more gone.rounds round) (agree_behind (receipts_of gone.rounds) round.report.receipts ends round.ends gone.agree agree);
   jobs = rw (logs_more gone.rounds round) (jobs_on (logs_of gone.rounds) round.log.entries gone.jobs jobs);
 }
 
@@ -376,13 +388,13 @@ round_leads before round ended =
 
 all_lead : (before after : State) (rounds : List Round) → GoOn before rounds after → LeadsTo before (logs_of rounds) after
 all_lead before after [] same = same
-all_lead before after (round ∷ rounds) (ended, rest) =
+all_lead before after (round ∷ rounds) (ended, went, rest) =
     leads_on before round.log.entries round.world.state (logs_of rounds) after (round_leads before round ended) (all_lead round.world.state after rounds rest)
 
 -- what rounds over an opening left
-pub left_from : (config : Config) (image : List ℕ) (ends : List (List JobEnd)) (owners : List Owner) (counts : Counts) (after : State) → refusal_of_config config ≡ None → IsImage image
-    → HasGoneOn (opening_of config image) ends after → AreOwners after owners → counts ≡ counts_of after.host → IsLeftFrom (opening_of config image) image ends owners counts
-left_from config image ends owners counts after fits is_image gone owned counted = record {
+pub left_from : (config : Config) (image : List ℕ) (lists : List (List Job)) (ends : List (List JobEnd)) (owners : List Owner) (counts : Counts) (after : State) → refusal_of_config config ≡ None → IsImage image
+    → HasGoneOn (opening_of config image) lists ends after → AreOwners after owners → counts ≡ counts_of after.host → IsLeftFrom (opening_of config image) image lists ends owners counts
+left_from config image lists ends owners counts after fits is_image gone owned counted = record {
   world = after;
   gone_on = gone;
   trusted = logs_of_jobs_are_runs config image (logs_of gone.rounds) after fits is_image (all_lead (opening_of config image) after gone.rounds gone.go_on) gone.jobs;

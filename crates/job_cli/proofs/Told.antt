@@ -3,10 +3,10 @@ use Rattle.std.proofs.Common.{◌≡◌, ◌<◌, ◌⊎◌, ◌&&◌, ℕ, true
 use Rattle.std.{proofs.lemmas.List.append-nil, specs.Io.KnownBytes.{Appends, Keeps}}
 use Rattle.std.specs.Prelude.{All, IfErr, IsErrAnd, Result, Ok, Err}
 use Rattle.block_image.specs.Blocks.{IsImage}
-use Rattle.driver_threads.specs.{Behind.behind, Values.{Job, JobEnd}}
+use Rattle.driver_threads.{proofs.UnderWay.behind_none, specs.{Behind.behind, Values.{Job, JobEnd}}}
 use Rattle.host_core.specs.{Opening.refusal_of_config, declared.config.Config.Config}
 use Rattle.job_cli.proofs.JobRuns.{cut_inside, ended_behind, left_from}
-use Rattle.job_cli.specs.{GoneOn.HasGoneOn, Headings.{end_at, headed_so_far, headed_text, heading, headings_from, IsCutShort, IsNoRun, IsWrittenOf, without_end}, JobLines.unwell_in}
+use Rattle.job_cli.specs.{GoneOn.{HasBegun, HasGoneOn}, Headings.{end_at, headed_so_far, headed_text, heading, headings_from, IsCutShort, IsNoRun, IsWrittenOf, without_end}, JobLines.unwell_in}
 use Rattle.job_cli.specs.JobRuns.{all_ended, AreListsOf, end_of, EndsJobsWith, HasJobs, IsClosing, IsCountedText, IsCutJobsText, IsJobsText, IsJobsTextSoFar, IsWanting, job_lines, lines_so_far}
 use Rattle.job_cli.specs.declared.{job_runs.Heading.Heading, jobs.JobLine.JobLine}
 use Rattle.machine_model.specs.{Claims.counts_of, State.State}
@@ -84,8 +84,8 @@ all_left : (all : List Heading) → without_end [] all ≡ all
 all_left [] = refl
 all_left (h ∷ rest) = refl
 
-pub begun_on : (s : State) (ends : List (List JobEnd)) → ends ≡ [] → HasGoneOn s ends s
-begun_on s ends none = rw none (record { rounds = []; go_on = refl; agree = refl; jobs = tt })
+pub begun_on : (s : State) (ends : List (List JobEnd)) → ends ≡ [] → HasGoneOn s [] ends s
+begun_on s ends none = rw none (record { rounds = []; go_on = refl; lists_are = refl; ends_are = refl; agree = refl; jobs = tt })
 
 pub begun_left : (ends : List (List JobEnd)) (all left : List Heading) → ends ≡ [] → left ≡ all → left ≡ without_end ends all
 begun_left ends all left none is = rw none (is ∙ sym (all_left all))
@@ -117,34 +117,34 @@ round_cut ends later after all left a b c grown is written (front, (rest, split)
 -- How jobs are cut short
 
 -- all of what was told stands there
-cut_after : (before after : State) (ends : List (List JobEnd)) (headings : List Heading) (a b : Option (List ℕ)) (why : RunFault) → HasGoneOn before ends after → IsWanting why
-    → Appends a b (headed_so_far ends headings) → IsCutShort before headings a b why
-cut_after before after ends headings a b run.NoThread gone wants written = record { ends = ends; world = after; gone_on = gone; written = (headed_so_far ends headings, refl, written) }
-cut_after before after ends headings a b (run.Close why) gone wants written = record { ends = ends; world = after; gone_on = gone; written = (headed_so_far ends headings, refl, written) }
-cut_after before after ends headings a b run.Memory gone wants written =
-    record { ends = ends; world = after; gone_on = gone; written = (headed_so_far ends headings, ([], sym (append-nil (headed_so_far ends headings))), written) }
-cut_after before after ends headings a b (run.Line number why) gone wants written = absurd wants
-cut_after before after ends headings a b run.TooLong gone wants written = absurd wants
-cut_after before after ends headings a b run.Unreadable gone wants written = absurd wants
-cut_after before after ends headings a b run.BadConfig gone wants written = absurd wants
-cut_after before after ends headings a b (run.NoPages need free) gone wants written = absurd wants
-cut_after before after ends headings a b run.OutputFailed gone wants written = absurd wants
+cut_after : (before after : State) (all : List (List Job)) (ends : List (List JobEnd)) (headings : List Heading) (a b : Option (List ℕ)) (why : RunFault) → HasBegun before all ends after → IsWanting why
+    → Appends a b (headed_so_far ends headings) → IsCutShort before all headings a b why
+cut_after before after all ends headings a b run.NoThread gone wants written = record { ends = ends; world = after; begun = gone; written = (headed_so_far ends headings, refl, written) }
+cut_after before after all ends headings a b (run.Close why) gone wants written = record { ends = ends; world = after; begun = gone; written = (headed_so_far ends headings, refl, written) }
+cut_after before after all ends headings a b run.Memory gone wants written =
+    record { ends = ends; world = after; begun = gone; written = (headed_so_far ends headings, ([], sym (append-nil (headed_so_far ends headings))), written) }
+cut_after before after all ends headings a b (run.Line number why) gone wants written = absurd wants
+cut_after before after all ends headings a b run.TooLong gone wants written = absurd wants
+cut_after before after all ends headings a b run.Unreadable gone wants written = absurd wants
+cut_after before after all ends headings a b run.BadConfig gone wants written = absurd wants
+cut_after before after all ends headings a b (run.NoPages need free) gone wants written = absurd wants
+cut_after before after all ends headings a b run.OutputFailed gone wants written = absurd wants
 
-pub wanting_failed : {T : Type 0} (r : Result T RunFault) (why : RunFault) (before after : State) (ends : List (List JobEnd)) (headings : List Heading) (a b : Option (List ℕ)) → IsErrAnd r (λ x. x ≡ why)
-    → HasGoneOn before ends after → IsWanting why → Appends a b (headed_so_far ends headings) → IfErr r (IsCutShort before headings a b)
-wanting_failed (Ok done) why before after ends headings a b same gone wants written = tt
-wanting_failed (Err x) why before after ends headings a b same gone wants written = rw same (cut_after before after ends headings a b why gone wants written)
+pub wanting_failed : {T : Type 0} (r : Result T RunFault) (why : RunFault) (before after : State) (all : List (List Job)) (ends : List (List JobEnd)) (headings : List Heading) (a b : Option (List ℕ)) → IsErrAnd r (λ x. x ≡ why)
+    → HasBegun before all ends after → IsWanting why → Appends a b (headed_so_far ends headings) → IfErr r (IsCutShort before all headings a b)
+wanting_failed (Ok done) why before after all ends headings a b same gone wants written = tt
+wanting_failed (Err x) why before after all ends headings a b same gone wants written = rw same (cut_after before after all ends headings a b why gone wants written)
 
 -- a front of it
-cut_within : (before after : State) (ends : List (List JobEnd)) (headings : List Heading) (a b : Option (List ℕ)) (why : RunFault) → HasGoneOn before ends after
-    → (why ≡ run.Memory) ⊎ (why ≡ run.OutputFailed) → Gains a b (λ front. IsFront front (headed_so_far ends headings)) → IsCutShort before headings a b why
-cut_within before after ends headings a b why gone (inl is) written = rw is (record { ends = ends; world = after; gone_on = gone; written = written })
-cut_within before after ends headings a b why gone (inr is) written = rw is (record { ends = ends; world = after; gone_on = gone; written = written })
+cut_within : (before after : State) (all : List (List Job)) (ends : List (List JobEnd)) (headings : List Heading) (a b : Option (List ℕ)) (why : RunFault) → HasBegun before all ends after
+    → (why ≡ run.Memory) ⊎ (why ≡ run.OutputFailed) → Gains a b (λ front. IsFront front (headed_so_far ends headings)) → IsCutShort before all headings a b why
+cut_within before after all ends headings a b why gone (inl is) written = rw is (record { ends = ends; world = after; begun = gone; written = written })
+cut_within before after all ends headings a b why gone (inr is) written = rw is (record { ends = ends; world = after; begun = gone; written = written })
 
-pub within_failed : {T : Type 0} (r : Result T RunFault) (why : RunFault) (before after : State) (ends : List (List JobEnd)) (headings : List Heading) (a b : Option (List ℕ)) → IsErrAnd r (λ x. x ≡ why)
-    → HasGoneOn before ends after → (why ≡ run.Memory) ⊎ (why ≡ run.OutputFailed) → Gains a b (λ front. IsFront front (headed_so_far ends headings)) → IfErr r (IsCutShort before headings a b)
-within_failed (Ok done) why before after ends headings a b same gone says written = tt
-within_failed (Err x) why before after ends headings a b same gone says written = rw same (cut_within before after ends headings a b why gone says written)
+pub within_failed : {T : Type 0} (r : Result T RunFault) (why : RunFault) (before after : State) (all : List (List Job)) (ends : List (List JobEnd)) (headings : List Heading) (a b : Option (List ℕ)) → IsErrAnd r (λ x. x ≡ why)
+    → HasBegun before all ends after → (why ≡ run.Memory) ⊎ (why ≡ run.OutputFailed) → Gains a b (λ front. IsFront front (headed_so_far ends headings)) → IfErr r (IsCutShort before all headings a b)
+within_failed (Ok done) why before after all ends headings a b same gone says written = tt
+within_failed (Err x) why before after all ends headings a b same gone says written = rw same (cut_within before after all ends headings a b why gone says written)
 
 -- What is told is the text of the lines
 
@@ -170,19 +170,28 @@ all_told ends before (line ∷ rest) ended = go (end_of ends before line) refl e
 
 -- What a run writes
 
+lists_of_lines : (n : ℕ) (lines : List JobLine) (lists : List (List Job)) → AreListsOf n lines lists → AreListsOf (length lists) lines lists
+lists_of_lines n lines lists are = subst (λ (k : ℕ). AreListsOf k lines lists) (sym are.count) are
+
+-- where all jobs are done, none is left
+pub all_begun : (before after : State) (all : List (List Job)) (ends : List (List JobEnd)) → HasGoneOn before all ends after → HasBegun before all ends after
+all_begun before after all ends gone = record { done = all; left = []; all_are = behind_none all; gone_on = gone }
+
 -- jobs that all ended, and what stands behind their lines
 jobs_text_is : {X : Type 0} (items : X → List Job) (n : ℕ) (config : Config) (image : List ℕ) (lines given : List JobLine) (headings : List Heading) (lists : List X) (ends : List (List JobEnd))
     (world : State) (closing : List ℕ) → given ≡ lines → headings ≡ headings_from [] given → AreListsOf n given (map items lists)
-    → map length ends ≡ map (λ list. length (items list)) lists → All (λ line. line.submitter < n) lines → refusal_of_config config ≡ None → IsImage image → HasGoneOn (opening_of config image) ends world
+    → map length ends ≡ map (λ list. length (items list)) lists → All (λ line. line.submitter < n) lines → refusal_of_config config ≡ None → IsImage image → HasGoneOn (opening_of config image) (map items lists) ends world
     → IsClosing world closing → (said : IsJobsText config image lines (headed_so_far ends headings ++ closing)) × (said.ends ≡ ends)
 jobs_text_is items n config image lines given headings lists ends world closing e is are ended below fits is_image gone (owners, owned, told) =
     let all : all_ended ends [] lines ≡ true = ended_behind items n lines lists ends (subst (λ (ls : List JobLine). AreListsOf n ls (map items lists)) e are) ended below [] lines refl in
     let lines_are : headed_so_far ends headings ≡ job_lines ends [] lines = ap (headed_so_far ends) (is ∙ ap (headings_from []) e) ∙ (headed_so_far_is ends [] lines ∙ all_told ends [] lines all) in (
       record {
+        lists = map items lists;
         ends = ends;
         owners = owners;
         counts = counts_of world.host;
-        left = left_from config image ends owners (counts_of world.host) world fits is_image gone owned refl;
+        given = lists_of_lines n lines (map items lists) (subst (λ (ls : List JobLine). AreListsOf n ls (map items lists)) e are);
+        left = left_from config image (map items lists) ends owners (counts_of world.host) world fits is_image gone owned refl;
         ended = all;
         said = ap (λ (t : List ℕ). t ++ closing) lines_are ∙ ap (λ (t : List ℕ). job_lines ends [] lines ++ t) told;
       },
@@ -191,59 +200,61 @@ jobs_text_is items n config image lines given headings lists ends world closing 
 
 pub jobs_are_written : {X : Type 0} (items : X → List Job) (n : ℕ) (config : Config) (image : List ℕ) (lines given : List JobLine) (headings : List Heading) (lists : List X) (ends : List (List JobEnd))
     (world : State) (a b c : Option (List ℕ)) (unwell : ℕ) → given ≡ lines → headings ≡ headings_from [] given → AreListsOf n given (map items lists)
-    → map length ends ≡ map (λ list. length (items list)) lists → All (λ line. line.submitter < n) lines → refusal_of_config config ≡ None → IsImage image → HasGoneOn (opening_of config image) ends world
+    → map length ends ≡ map (λ list. length (items list)) lists → All (λ line. line.submitter < n) lines → refusal_of_config config ≡ None → IsImage image → HasGoneOn (opening_of config image) (map items lists) ends world
     → Appends a b (headed_so_far ends headings) → Gains b c (IsClosing world) → unwell ≡ unwell_in ends → Gains a c (IsCountedText unwell config image lines)
 jobs_are_written items n config image lines given headings lists ends world a b c unwell e is are ended below fits is_image gone written (closing, closes, closed) counted =
     let (said, same) = jobs_text_is items n config image lines given headings lists ends world closing e is are ended below fits is_image gone closes in
     (headed_so_far ends headings ++ closing, (said, counted ∙ ap unwell_in (sym same)), appends_more a b c (headed_so_far ends headings) closing written closed)
 
 -- the text so far of some lines
-so_far_of : (config : Config) (image : List ℕ) (lines given : List JobLine) (headings : List Heading) (ends : List (List JobEnd)) (world : State) (text : List ℕ) → given ≡ lines → headings ≡ headings_from [] given
-    → HasGoneOn (opening_of config image) ends world → text ≡ headed_so_far ends headings → IsJobsTextSoFar config image lines text
-so_far_of config image lines given headings ends world text e is gone said = record {
+so_far_of : (config : Config) (image : List ℕ) (n : ℕ) (lines given : List JobLine) (headings : List Heading) (all : List (List Job)) (ends : List (List JobEnd)) (world : State) (text : List ℕ)
+    → given ≡ lines → headings ≡ headings_from [] given → AreListsOf n given all → HasBegun (opening_of config image) all ends world → text ≡ headed_so_far ends headings → IsJobsTextSoFar config image lines text
+so_far_of config image n lines given headings all ends world text e is are begun said = record {
+  all = all;
   ends = ends;
   world = world;
-  gone_on = gone;
+  given = lists_of_lines n lines all (subst (λ (ls : List JobLine). AreListsOf n ls all) e are);
+  begun = begun;
   said = said ∙ (ap (headed_so_far ends) (is ∙ ap (headings_from []) e) ∙ headed_so_far_is ends [] lines);
 }
 
 -- no world was opened, or the jobs were cut short
-pub no_run_ends : (told : Option (List ℕ)) (n : ℕ) (config : Config) (image : List ℕ) (a b : Option (List ℕ)) (lines given : List JobLine) (headings : List Heading) (why : RunFault)
-    → HasJobs told n lines → given ≡ lines → headings ≡ headings_from [] given → IsNoRun config image headings a b why → EndsJobsWith told n config image a b why
-no_run_ends told n config image a b lines given headings run.BadConfig has e is (inl (why_not, keeps)) = (lines, has, why_not, keeps)
-no_run_ends told n config image a b lines given headings (run.NoPages need free) has e is (inl (why_not, keeps)) = (lines, has, why_not, keeps)
-no_run_ends told n config image a b lines given headings run.Memory has e is (inl (why_not, keeps)) = inl keeps
-no_run_ends told n config image a b lines given headings run.NoThread has e is (inl (why_not, keeps)) = absurd why_not
-no_run_ends told n config image a b lines given headings (run.Close why) has e is (inl (why_not, keeps)) = absurd why_not
-no_run_ends told n config image a b lines given headings (run.Line number why) has e is (inl (why_not, keeps)) = absurd why_not
-no_run_ends told n config image a b lines given headings run.TooLong has e is (inl (why_not, keeps)) = absurd why_not
-no_run_ends told n config image a b lines given headings run.Unreadable has e is (inl (why_not, keeps)) = absurd why_not
-no_run_ends told n config image a b lines given headings run.OutputFailed has e is (inl (why_not, keeps)) = absurd why_not
-no_run_ends told n config image a b lines given headings why has e is (inr (fits, cut)) = go why cut.written
+pub no_run_ends : (told : Option (List ℕ)) (n : ℕ) (config : Config) (image : List ℕ) (a b : Option (List ℕ)) (lines given : List JobLine) (headings : List Heading) (all : List (List Job)) (why : RunFault)
+    → HasJobs told n lines → given ≡ lines → headings ≡ headings_from [] given → AreListsOf n given all → IsNoRun config image all headings a b why → EndsJobsWith told n config image a b why
+no_run_ends told n config image a b lines given headings all run.BadConfig has e is are (inl (why_not, keeps)) = (lines, has, why_not, keeps)
+no_run_ends told n config image a b lines given headings all (run.NoPages need free) has e is are (inl (why_not, keeps)) = (lines, has, why_not, keeps)
+no_run_ends told n config image a b lines given headings all run.Memory has e is are (inl (why_not, keeps)) = inl keeps
+no_run_ends told n config image a b lines given headings all run.NoThread has e is are (inl (why_not, keeps)) = absurd why_not
+no_run_ends told n config image a b lines given headings all (run.Close why) has e is are (inl (why_not, keeps)) = absurd why_not
+no_run_ends told n config image a b lines given headings all (run.Line number why) has e is are (inl (why_not, keeps)) = absurd why_not
+no_run_ends told n config image a b lines given headings all run.TooLong has e is are (inl (why_not, keeps)) = absurd why_not
+no_run_ends told n config image a b lines given headings all run.Unreadable has e is are (inl (why_not, keeps)) = absurd why_not
+no_run_ends told n config image a b lines given headings all run.OutputFailed has e is are (inl (why_not, keeps)) = absurd why_not
+no_run_ends told n config image a b lines given headings all why has e is are (inr (fits, cut)) = go why cut.written
   where
     go : (w : RunFault) → Gains a b (λ text. IsWrittenOf w text (headed_so_far cut.ends headings)) → EndsJobsWith told n config image a b w
-    go run.NoThread (text, all, written) = (lines, has, fits, (text, so_far_of config image lines given headings cut.ends cut.world text e is cut.gone_on all, written))
-    go (run.Close w) (text, all, written) = (lines, has, fits, (text, so_far_of config image lines given headings cut.ends cut.world text e is cut.gone_on all, written))
+    go run.NoThread (text, whole, written) = (lines, has, fits, (text, so_far_of config image n lines given headings all cut.ends cut.world text e is are cut.begun whole, written))
+    go (run.Close w) (text, whole, written) = (lines, has, fits, (text, so_far_of config image n lines given headings all cut.ends cut.world text e is are cut.begun whole, written))
     go run.Memory (text, front, written) =
-        inr (lines, has, (text, (headed_so_far cut.ends headings, inr (so_far_of config image lines given headings cut.ends cut.world (headed_so_far cut.ends headings) e is cut.gone_on refl), front), written))
+        inr (lines, has, (text, (headed_so_far cut.ends headings, inr (so_far_of config image n lines given headings all cut.ends cut.world (headed_so_far cut.ends headings) e is are cut.begun refl), front), written))
     go run.OutputFailed (text, front, written) =
-        (lines, has, (text, (headed_so_far cut.ends headings, inr (so_far_of config image lines given headings cut.ends cut.world (headed_so_far cut.ends headings) e is cut.gone_on refl), front), written))
+        (lines, has, (text, (headed_so_far cut.ends headings, inr (so_far_of config image n lines given headings all cut.ends cut.world (headed_so_far cut.ends headings) e is are cut.begun refl), front), written))
     go run.BadConfig (text, none, written) = absurd none
     go (run.NoPages need free) (text, none, written) = absurd none
     go (run.Line number w) (text, none, written) = absurd none
     go run.TooLong (text, none, written) = absurd none
     go run.Unreadable (text, none, written) = absurd none
 
-pub no_run_failed : {T : Type 0} (r : Result T RunFault) (told : Option (List ℕ)) (n : ℕ) (config : Config) (image : List ℕ) (a b : Option (List ℕ)) (lines given : List JobLine) (headings : List Heading) (why : RunFault)
-    → IsErrAnd r (λ x. x ≡ why) → HasJobs told n lines → given ≡ lines → headings ≡ headings_from [] given → IsNoRun config image headings a b why → IfErr r (EndsJobsWith told n config image a b)
-no_run_failed (Ok done) told n config image a b lines given headings why same has e is none = tt
-no_run_failed (Err x) told n config image a b lines given headings why same has e is none = rw same (no_run_ends told n config image a b lines given headings why has e is none)
+pub no_run_failed : {T : Type 0} (r : Result T RunFault) (told : Option (List ℕ)) (n : ℕ) (config : Config) (image : List ℕ) (a b : Option (List ℕ)) (lines given : List JobLine) (headings : List Heading) (all : List (List Job)) (why : RunFault)
+    → IsErrAnd r (λ x. x ≡ why) → HasJobs told n lines → given ≡ lines → headings ≡ headings_from [] given → AreListsOf n given all → IsNoRun config image all headings a b why → IfErr r (EndsJobsWith told n config image a b)
+no_run_failed (Ok done) told n config image a b lines given headings all why same has e is are none = tt
+no_run_failed (Err x) told n config image a b lines given headings all why same has e is are none = rw same (no_run_ends told n config image a b lines given headings all why has e is are none)
 
 -- all jobs were told, and not all that stands behind them
 pub closing_is_cut : {X : Type 0} (items : X → List Job) (told : Option (List ℕ)) (n : ℕ) (config : Config) (image : List ℕ) (lines given : List JobLine) (headings : List Heading)
     (lists : List X) (ends : List (List JobEnd)) (world : State) (a b c : Option (List ℕ)) (why : RunFault) → HasJobs told n lines → given ≡ lines → headings ≡ headings_from [] given
     → AreListsOf n given (map items lists) → map length ends ≡ map (λ list. length (items list)) lists → All (λ line. line.submitter < n) lines → refusal_of_config config ≡ None → IsImage image
-    → HasGoneOn (opening_of config image) ends world → Appends a b (headed_so_far ends headings)
+    → HasGoneOn (opening_of config image) (map items lists) ends world → Appends a b (headed_so_far ends headings)
     → Keeps b c ⊎ Gains b c (λ front. (text : List ℕ) × IsClosing world text × IsFront front text) → (why ≡ run.Memory) ⊎ (why ≡ run.OutputFailed) → EndsJobsWith told n config image a c why
 closing_is_cut items told n config image lines given headings lists ends world a b c why has e is are ended below fits is_image gone written rest says = ends_so says (cut rest)
   where
@@ -252,7 +263,7 @@ closing_is_cut items told n config image lines given headings lists ends world a
       headed_so_far ends headings,
       (
         headed_so_far ends headings,
-        inr (so_far_of config image lines given headings ends world (headed_so_far ends headings) e is gone refl),
+        inr (so_far_of config image n lines given headings (map items lists) ends world (headed_so_far ends headings) e is are (all_begun (opening_of config image) world (map items lists) ends gone) refl),
         ([], sym (append-nil (headed_so_far ends headings))),
       ),
       keeps_then a b c (headed_so_far ends headings) written kept,

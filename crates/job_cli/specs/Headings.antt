@@ -1,9 +1,9 @@
 -- What is kept of the lines of jobs while these run.
 use Rattle.std.specs.Io.KnownBytes.{Keeps}
 use Rattle.std.specs.Prelude.{◌≡◌, ◌⊎◌, ℕ, Option, Some, None, option_and_then, is_some, List, [], ◌∷◌, ◌++◌, length, slice_get, if◌then◌else◌}
-use Rattle.driver_threads.specs.Values.{JobEnd}
+use Rattle.driver_threads.specs.Values.{Job, JobEnd}
 use Rattle.host_core.specs.{Opening.refusal_of_config, declared.config.Config.Config}
-use Rattle.job_cli.specs.{GoneOn.HasGoneOn, JobLines.job_text, JobRuns.{IsNoWorld, jobs_for}, declared.{job_runs.Heading.Heading, jobs.JobLine.JobLine}}
+use Rattle.job_cli.specs.{GoneOn.HasBegun, JobLines.job_text, JobRuns.{IsNoWorld, jobs_for}, declared.{job_runs.Heading.Heading, jobs.JobLine.JobLine}}
 use Rattle.machine_model.specs.State.{State}
 use Rattle.script_cli.specs.{Inputs.{Gains, IsFront}, declared.fault.RunFault.RunFault}
 use Rattle.step_core.specs.Opening.{opening_of}
@@ -57,14 +57,14 @@ IsWrittenOf run.Memory text whole = IsFront text whole
 IsWrittenOf run.OutputFailed text whole = IsFront text whole
 IsWrittenOf other text whole = ⊥
 
--- Jobs with these headings went on from this state to some ends, and so much is written of the lines of those whose turn came.
-pub record IsCutShort (before : State) (headings : List Heading) (old new : Option (List ℕ)) (why : RunFault) : Type 0 where
+-- These jobs, with these headings, went on from this state to some ends, and so much is written of the lines of those whose turn came.
+pub record IsCutShort (before : State) (all : List (List Job)) (headings : List Heading) (old new : Option (List ℕ)) (why : RunFault) : Type 0 where
   pub ends : List (List JobEnd)
   pub world : State
-  pub gone_on : HasGoneOn before ends world
+  pub begun : HasBegun before all ends world
   pub written : Gains old new (λ text. IsWrittenOf why text (headed_so_far ends headings))
 
 -- why a run of jobs left no world, and what was then written: none was opened, and nothing was written, or the jobs were cut short
-abbrev pub IsNoRun : Config → List ℕ → List Heading → Option (List ℕ) → Option (List ℕ) → RunFault → Type 0
-IsNoRun config image headings old new why =
-    (IsNoWorld config why × Keeps old new) ⊎ ((refusal_of_config config ≡ None) × IsCutShort (opening_of config image) headings old new why)
+abbrev pub IsNoRun : Config → List ℕ → List (List Job) → List Heading → Option (List ℕ) → Option (List ℕ) → RunFault → Type 0
+IsNoRun config image all headings old new why =
+    (IsNoWorld config why × Keeps old new) ⊎ ((refusal_of_config config ≡ None) × IsCutShort (opening_of config image) all headings old new why)

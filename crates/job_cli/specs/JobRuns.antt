@@ -7,7 +7,7 @@ use Rattle.machine_model.specs.{Claims.counts_of, State.State, declared.words.Op
 use Rattle.page_ledger.specs.declared.owner.{Counts.Counts, Owner.Owner}
 use Rattle.script_cli.specs.{Inputs.{IsTold, Gains, IsFront}, Owners.{owners_text, counts_line}, Runs.AreOwners, declared.fault.RunFault.RunFault}
 use Rattle.script_cli.specs.declared.fault.ScriptFault.{ScriptFault}
-use Rattle.job_cli.specs.{GoneOn.{HasGoneOn, logs_of}, JobLines.{job_text, unwell_in}, Jobs.jobs_of, declared.jobs.JobLine.JobLine}
+use Rattle.job_cli.specs.{GoneOn.{HasBegun, HasGoneOn, logs_of}, JobLines.{job_text, unwell_in}, Jobs.jobs_of, declared.jobs.JobLine.JobLine}
 use Rattle.host_core.specs.{Opening.refusal_of_config, declared.config.Config.Config}
 use Rattle.step_core.specs.Opening.{opening_of}
 use Rattle.machine_model.specs.declared.words.OpenRefusal.TheVariants as opening
@@ -65,12 +65,13 @@ all_ended ends before (line ∷ rest) = is_some (end_of ends before line) && all
 abbrev pub closing_text : List Owner → Counts → List ℕ
 closing_text owners counts = owners_text owners ++ counts_line counts
 
--- Rounds of threads, the first over this opening, each other over the world to which the one before led, left a world with these owners and counts, and jobs that ended so. Each
--- command of theirs ended as its receipt in the report of its round's book says, and the reports have no further receipt. The logs of all rounds have the steps of jobs alone, so
--- that they are, one behind the other, one run of which the machine's laws of trusted runs speak.
-pub record IsLeftFrom (opening : State) (image : List ℕ) (ends : List (List JobEnd)) (owners : List Owner) (counts : Counts) : Type 0 where
+-- Rounds of threads, the first over this opening, each other over the world to which the one before led, left a world with these owners and counts, and these jobs ended so. Each was
+-- submitted with its own request and bytes, and its end has what its command gathered; or a book of its round refused it. Each command of theirs ended as its receipt in the report of
+-- its round's book says, and the reports have no further receipt. The logs of all rounds have the steps of jobs alone, so that they are, one behind the other, one run of which the
+-- machine's laws of trusted runs speak.
+pub record IsLeftFrom (opening : State) (image : List ℕ) (lists : List (List Job)) (ends : List (List JobEnd)) (owners : List Owner) (counts : Counts) : Type 0 where
   pub world : State
-  pub gone_on : HasGoneOn opening ends world
+  pub gone_on : HasGoneOn opening lists ends world
   pub trusted : IsTrustedLog image (logs_of gone_on.rounds) world
   pub owned : AreOwners world owners
   pub counted : counts ≡ counts_of world.host
@@ -79,13 +80,15 @@ pub record IsLeftFrom (opening : State) (image : List ℕ) (ends : List (List Jo
 abbrev pub IsClosing : State → List ℕ → Type 0
 IsClosing left text = (owners : List Owner) × AreOwners left owners × (text ≡ closing_text owners (counts_of left.host))
 
--- The text of a run of jobs over a world that opens so over an image: the line of each job, in the order of the script's lines, by its end; then the owners of the world that
--- some rounds of threads left, and then its counts.
+-- The text of a run of the jobs of these lines, each of its submitter, over a world that opens so over an image: the line of each job, in the order of the script's lines, by its
+-- end; then the owners of the world that some rounds of threads left, and then its counts.
 pub record IsJobsText (config : Config) (image : List ℕ) (lines : List JobLine) (text : List ℕ) : Type 0 where
+  pub lists : List (List Job)
   pub ends : List (List JobEnd)
   pub owners : List Owner
   pub counts : Counts
-  pub left : IsLeftFrom (opening_of config image) image ends owners counts
+  pub given : AreListsOf (length lists) lines lists
+  pub left : IsLeftFrom (opening_of config image) image lists ends owners counts
   pub ended : all_ended ends [] lines ≡ true
   pub said : text ≡ job_lines ends [] lines ++ closing_text owners counts
 
@@ -95,9 +98,11 @@ IsCountedText unwell config image lines text = (said : IsJobsText config image l
 
 -- The text of a run of jobs whose later rounds are wanting: the line of each job whose turn came, up to the first that has not ended.
 pub record IsJobsTextSoFar (config : Config) (image : List ℕ) (lines : List JobLine) (text : List ℕ) : Type 0 where
+  pub all : List (List Job)
   pub ends : List (List JobEnd)
   pub world : State
-  pub gone_on : HasGoneOn (opening_of config image) ends world
+  pub given : AreListsOf (length all) lines all
+  pub begun : HasBegun (opening_of config image) all ends world
   pub said : text ≡ lines_so_far ends [] lines
 
 -- what was written of a run that was cut off: the front of such a text

@@ -136,10 +136,10 @@ fn run_world<R: Clock + Eprint + Threads + Wait + Sync, W: Write>(
     requires at_most { pace.depth ≤ 256 }
     ensures opened { IfOk result (λ done. refusal_of_config config ≡ None) }
     ensures image { IsImage image }
-    ensures gone_on { IfOk result (λ done. HasGoneOn (opening_of config image) done.ends done.world.state) }
+    ensures gone_on { IfOk result (λ done. HasGoneOn (opening_of config image) (map (λ queue. queue.items) orders.lists.items) done.ends done.world.state) }
     ensures ended { IfOk result (λ done. map length done.ends ≡ map (λ queue. length queue.items) orders.lists.items) }
     ensures written { pace.form ≡ Lines → IfOk result (λ done. Appends (W.contents writer.old) (W.contents writer.new) (headed_so_far done.ends orders.headings.items)) }
-    ensures failed { pace.form ≡ Lines → IfErr result (λ why. IsNoRun config image orders.headings.items (W.contents writer.old) (W.contents writer.new) why) }
+    ensures failed { pace.form ≡ Lines → IfErr result (λ why. IsNoRun config image (map (λ queue. queue.items) orders.lists.items) orders.headings.items (W.contents writer.old) (W.contents writer.new) why) }
 {
     prove!({
         image.blocks();

@@ -5,6 +5,7 @@ ghost use Rattle.std.specs.List.{list_any};
 ghost use Rattle.driver_book.specs.State.{AreOfJobs};
 ghost use Rattle.driver_threads.specs.Behind.{behind};
 ghost use Rattle.driver_threads.specs.Ends.{AllAgree};
+ghost use Rattle.driver_threads.specs.Jobs.{AllWent};
 ghost use Rattle.driver_threads.specs.Runs.{EndsRound};
 ghost use Rattle.job_cli.specs.JobRuns.{IsWanting};
 ghost use Rattle.job_cli.specs.GoneOn.{Fit, HasGoneOn, entries_for};
@@ -179,6 +180,7 @@ fn one_round<R: Threads + Wait + Sync>(
     ensures ended { IfOk result (λ round. EndsRound world.state round.log round.report round.world) }
     ensures all_jobs { IfOk result (λ round. map length round.jobs ≡ map (λ list. length list.items) jobs.items) }
     ensures agree { IfOk result (λ round. AllAgree round.report.receipts round.jobs) }
+    ensures went { IfOk result (λ round. AllWent world.state (map (λ list. list.items) jobs.items) round.report.receipts round.jobs) }
     ensures jobs { IfOk result (λ round. AreOfJobs round.log.entries) }
     ensures fault { IfErr result IsWanting }
 {
@@ -218,10 +220,10 @@ fn tell_rounds<R: Clock + Eprint + Threads + Wait + Sync, W: Write>(
     requires few { vec_len orders.lists ≤ 16 }
     requires at_least_one { 1 ≤ pace.depth }
     requires at_most { pace.depth ≤ 256 }
-    ensures gone_on { IfOk result (λ done. HasGoneOn world.state done.ends done.world.state) }
+    ensures gone_on { IfOk result (λ done. HasGoneOn world.state (map (λ queue. queue.items) orders.lists.items) done.ends done.world.state) }
     ensures ended { IfOk result (λ done. map length done.ends ≡ map (λ queue. length queue.items) orders.lists.items) }
     ensures written { pace.form ≡ Lines → IfOk result (λ done. Appends (W.contents writer.old) (W.contents writer.new) (headed_so_far done.ends orders.headings.items)) }
-    ensures failed { pace.form ≡ Lines → IfErr result (λ why. IsCutShort world.state orders.headings.items (W.contents writer.old) (W.contents writer.new) why) }
+    ensures failed { pace.form ≡ Lines → IfErr result (λ why. IsCutShort world.state (map (λ queue. queue.items) orders.lists.items) orders.headings.items (W.contents writer.old) (W.contents writer.new) why) }
 {
     let Orders { headings, lists } = orders;
     let watch = Stopwatch::new(rt);
@@ -263,10 +265,10 @@ pub(crate) fn do_jobs<R: Clock + Eprint + Threads + Wait + Sync, W: Write>(
     requires few { vec_len orders.lists ≤ 16 }
     requires at_least_one { 1 ≤ pace.depth }
     requires at_most { pace.depth ≤ 256 }
-    ensures gone_on { IfOk result (λ done. HasGoneOn world.state done.ends done.world.state) }
+    ensures gone_on { IfOk result (λ done. HasGoneOn world.state (map (λ queue. queue.items) orders.lists.items) done.ends done.world.state) }
     ensures ended { IfOk result (λ done. map length done.ends ≡ map (λ queue. length queue.items) orders.lists.items) }
     ensures written { pace.form ≡ Lines → IfOk result (λ done. Appends (W.contents writer.old) (W.contents writer.new) (headed_so_far done.ends orders.headings.items)) }
-    ensures failed { pace.form ≡ Lines → IfErr result (λ why. IsCutShort world.state orders.headings.items (W.contents writer.old) (W.contents writer.new) why) }
+    ensures failed { pace.form ≡ Lines → IfErr result (λ why. IsCutShort world.state (map (λ queue. queue.items) orders.lists.items) orders.headings.items (W.contents writer.old) (W.contents writer.new) why) }
 {
     let mut progress = Progress::new(pace.shows);
     let done = tell_rounds(rt, alloc, world, orders, pace, &mut progress, writer);

@@ -1,9 +1,9 @@
 -- Rounds of a load, each over the world to which the one before led.
 use Rattle.std.specs.Prelude.{◌≡◌, ◌≤◌, ◌<◌, ◌+◌, ◌-◌, ◌*◌, ◌/◌, ◌==◌, zero, suc, ℕ, Bool, true, false, Option, List, [], ◌∷◌, length, map, max, min, slice_index, slice_index_or, slice_set, if◌then◌else◌}
 use Rattle.driver_book.specs.{Entries.LogContents, Reports.Report, State.AreOfJobs}
-use Rattle.driver_threads.specs.{Ends.AllAgree, Runs.EndsRound, Values.JobEnd, declared.jobs.JobEnd.TheVariants.{Done}}
+use Rattle.driver_threads.specs.{Ends.AllAgree, Jobs.AllWent, Runs.EndsRound, Values.{Job, JobEnd}, declared.jobs.JobEnd.TheVariants.{Done}}
 use Rattle.io_commands.specs.declared.request.Kind.{Kind}
-use Rattle.load.specs.{Course.{ArePlans, commands_left}, Planning.planned_at, Tallies.{both, counted, no_tally, sum_of, tallies_from, wanted_of}}
+use Rattle.load.specs.{Course.{AreJobs, ArePlans, commands_left}, Planning.planned_at, Tallies.{both, counted, no_tally, sum_of, tallies_from, wanted_of}}
 use Rattle.load.specs.declared.{content.Content.Content, layout.Layout.Layout, plan.Planned.Planned, tally.Tally.Tally}
 use Rattle.machine_model.specs.State.{State}
 use Rattle.script_cli.specs.{Replies.is_success, declared.workload.Load.Load}
@@ -54,12 +54,15 @@ all_noted generations (plan ∷ plans) (ends ∷ lists) = all_noted (noted gener
 
 -- Rounds
 
--- The commands of plans were done over a machine: a book that opened there was closed, whose log has the steps of jobs alone. Each command has its end, which is the one that its receipt says, and there is no
--- further receipt.
-pub record AreDone (before : State) (plans : List (List Planned)) (ends : List (List JobEnd)) (world : WorldContents) : Type 0 where
+-- The commands of plans were done over a machine: a book that opened there was closed, whose log has the steps of jobs alone. The jobs of each submitter were those of its plan, on its queue: each was submitted
+-- with its own request and bytes, and its end has what its command gathered; or a book of the round refused it. Each command has its end, which is the one that its receipt says, and there is no further receipt.
+pub record AreDone (s : Setting) (before : State) (plans : List (List Planned)) (ends : List (List JobEnd)) (world : WorldContents) : Type 0 where
+  pub lists : List (List Job)
   pub log : LogContents
   pub report : Report
   pub ended : EndsRound before log report world
+  pub are_jobs : AreJobs s.layout s.seed s.queues plans lists
+  pub went : AllWent before lists report.receipts ends
   pub all : map length ends ≡ map length plans
   pub agree : AllAgree report.receipts ends
   pub jobs : AreOfJobs log.entries
@@ -83,7 +86,7 @@ after s of_load before round = record {
 -- so many commands at most are planned, and done
 pub record IsRoundOf (s : Setting) (most : ℕ) (before : Standing) (round : Round) : Type 0 where
   pub planned : ArePlans s.layout before.generations (min most s.round) round.plans
-  pub done : AreDone before.machine round.plans round.ends round.world
+  pub done : AreDone s before.machine round.plans round.ends round.world
 
 -- one round, of so many commands, led from where a load stood to where it stands
 pub record GoesOn (s : Setting) (most : ℕ) (before : Standing) (many : ℕ) (standing : Standing) : Type 0 where
@@ -129,7 +132,7 @@ pub record AreReads (layout : Layout) (generations : List ℕ) (from many : ℕ)
 -- so many of each submitter's slots are read that were written, from one on
 pub record IsReadOf (s : Setting) (from : ℕ) (before : Standing) (round : Round) : Type 0 where
   pub planned : AreReads s.layout before.generations from (reads_of s) round.plans
-  pub done : AreDone before.machine round.plans round.ends round.world
+  pub done : AreDone s before.machine round.plans round.ends round.world
 
 -- one round of reads led from where a load stood to where it stands
 pub record ReadsOn (s : Setting) (from : ℕ) (before standing : Standing) : Type 0 where

@@ -7,6 +7,7 @@ ghost use Rattle.script_cli.specs.Loads.{FitsLoad};
 ghost use Rattle.load.specs.Course.{commands_left as spec_commands_left};
 ghost use Rattle.driver_book.specs.State.{AreOfJobs};
 ghost use Rattle.driver_threads.specs.Ends.{AllAgree};
+ghost use Rattle.driver_threads.specs.Jobs.{AllWent};
 ghost use Rattle.driver_threads.specs.Runs.{EndsRound};
 ghost use Rattle.load.specs.Layouts.{IsLayoutFor, too_few};
 ghost use Rattle.load.specs.declared.fault.LoadFault.TheVariants.{TooFewBlocks};
@@ -62,6 +63,7 @@ fn play<G: Gate + Sync, R: Threads + Wait + Sync>(
     ensures ended { IfOk result (λ round. EndsRound world.state round.log round.report round.world) }
     ensures all_jobs { IfOk result (λ round. map length round.jobs ≡ map (λ list. length list.items) jobs.items) }
     ensures agree { IfOk result (λ round. AllAgree round.report.receipts round.jobs) }
+    ensures went { IfOk result (λ round. AllWent world.state (map (λ list. list.items) jobs.items) round.report.receipts round.jobs) }
     ensures jobs { IfOk result (λ round. AreOfJobs round.log.entries) }
 {
     match run_round::<Brand, Global, G, R>(rt, alloc, world, jobs, depth, server, gate, blank) {
@@ -93,7 +95,7 @@ fn run_plans<G: Gate + Sync, R: Threads + Wait + Sync>(
     requires inside { All (λ plan. All (IsInside course.old.layout) plan.items) plans.now }
     requires some_depth { 1 ≤ depth }
     requires little_depth { depth ≤ 256 }
-    ensures done { IfOk result (λ left. AreDone world.state (map (λ plan. plan.items) plans.now) left.ends left.world) }
+    ensures done { IfOk result (λ left. AreDone (setting_of course.old) world.state (map (λ plan. plan.items) plans.now) left.ends left.world) }
     ensures told { IfOk result (λ left. left.tally ≡ tallies_from (wanted_of course.old.layout course.old.content) no_tally (map (λ plan. plan.items) plans.now) left.ends) }
     ensures noted { IfOk result (λ left. course.new.generations.items ≡ all_noted course.old.generations.items (map (λ plan. plan.items) plans.now) left.ends) }
     ensures setting { setting_of course.new ≡ setting_of course.old }

@@ -5,7 +5,8 @@ use Rattle.job_cli.proofs.job_runs.run_jobs.Goals as goal
 pub returns-in_err-done-clause-failed : goal.returns-in_err-done-clause-failed
 returns-in_err-done-clause-failed g c lines =
     no_run_failed c.from_residual-in_err-done.result (g.I.Read.remaining c.args.reader.now) c.args.submitters c.args.config c.args.image _ _ c.in_ok-script.script c.into_jobs.result.items
-    c.in_ok-orders.orders.headings.items c.in_err-done.field-0.0 c.from_residual-in_err-done.ensures.1 c.in_ok-script.ensures.script c.into_jobs.ensures c.in_ok-orders.ensures.headings
+    c.in_ok-orders.orders.headings.items _ c.in_err-done.field-0.0 c.from_residual-in_err-done.ensures.1 c.in_ok-script.ensures.script c.into_jobs.ensures c.in_ok-orders.ensures.headings
+    c.in_ok-orders.ensures.lists
     (c.in_err-done.ensures.failed lines)
 
 pub returns-in-Ok-clause-ran : goal.returns-in-Ok-clause-ran

@@ -7,8 +7,8 @@ use Rattle.job_cli.proofs.rounds.tell_rounds.Given as goal
 abbrev pub invariant-loop : goal.invariant-loop
 invariant-loop g l = record {
   count : vec_len l.left ≡ vec_len l.fn.orders.lists;
-  gone_on : HasGoneOn l.fn.world.state l.ends l.world.state;
-  jobs : (done : List (List Job)) × (map length l.ends ≡ map length done) × (behind done (map (λ queue. queue.items) l.left.items) ≡ map (λ queue. queue.items) l.fn.orders.lists.items);
+  jobs : (done : List (List Job)) × (map length l.ends ≡ map length done) × (behind done (map (λ queue. queue.items) l.left.items) ≡ map (λ queue. queue.items) l.fn.orders.lists.items)
+      × HasGoneOn l.fn.world.state done l.ends l.world.state;
   untold : l.untold ≡ without_end l.ends l.fn.orders.headings.items;
   told : l.pace.form ≡ Lines → Appends (g.W.Write.contents l.fn.writer) (g.W.Write.contents l.writer) (headed_so_far l.ends l.fn.orders.headings.items);
 }

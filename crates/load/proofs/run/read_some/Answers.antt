@@ -18,7 +18,7 @@ returns-clause-done g c =
     let told = c.count.ensures.counted ∙ ap₂ (λ (before new : Tally). both before (counted false new)) ran.tally come in
     record {
       round = round;
-      is_read = record { planned = c.in_ok-plans.ensures.reads; done = subst (λ (ps : List (List Planned)). AreDone c.args.world.state ps ends c.in_ok-left.left.world) same ran.done };
+      is_read = record { planned = c.in_ok-plans.ensures.reads; done = subst (λ (ps : List (List Planned)). AreDone (setting_of old) c.args.world.state ps ends c.in_ok-left.left.world) same ran.done };
       stands = stands_after (setting_of old) false (standing_of old c.args.world.state) round c.count.new.self noted told;
     }
 

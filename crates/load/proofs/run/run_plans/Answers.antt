@@ -11,9 +11,12 @@ returns-clause-done g c =
     let round = c.in_ok-world.field-0 in
     let ran = c.in_ok-world.ensures in
     record {
+      lists = map (λ list. list.items) jobs;
       log = round.log;
       report = round.report;
       ended = ran.ended;
+      are_jobs = c.in_ok-jobs.ensures.jobs;
+      went = ran.went;
       all = ran.all_jobs ∙ (sym (map-map length (λ list. list.items) jobs) ∙ jobs_long course.layout course.seed course.queues plans (map (λ list. list.items) jobs) c.in_ok-jobs.ensures.jobs);
       agree = ran.agree;
       jobs = ran.jobs;

@@ -14,6 +14,7 @@ returns-clause-done g c =
     let ends = c.in_ok-left.left.ends in
     let round : Round = record { plans = plans; ends = ends; world = c.in_ok-left.left.world } in
     let same = ap (λ (ps : List (Vec Planned Global)). map (λ plan. plan.items) ps) c.deref.ensures.value in
+    let kept = same_setting c.plan.new.self c.args.course.now planned.layout planned.seed planned.queues planned.round planned.content in
     let noted =
     ap (λ (v : Vec ℕ Global). v.items) (c.measure.ensures.generations ∙ c.count.ensures.generations)
     ∙ (ran.noted
@@ -27,7 +28,7 @@ returns-clause-done g c =
     ∙ (c.count.ensures.counted ∙ ap₂ (λ (old new : Tally). both old (counted true new)) (ran.tally ∙ planned.tally) come) in
     record {
       round = round;
-      is_round = record { planned = planned.planned; done = subst (λ (ps : List (List Planned)). AreDone c.args.world.state ps ends c.in_ok-left.left.world) same ran.done };
+      is_round = record { planned = planned.planned; done = subst (λ (x : Setting). AreDone x c.args.world.state plans ends c.in_ok-left.left.world) kept (subst (λ (ps : List (List Planned)). AreDone (setting_of c.plan.new.self) c.args.world.state ps ends c.in_ok-left.left.world) same ran.done) };
       count = c.commands_of.ensures ∙ ap (λ (ps : List (Vec Planned Global)). commands_of (map (λ plan. plan.items) ps)) c.deref-4.ensures.value;
       stands = stands_after s true before round c.measure.new.self noted told;
     }

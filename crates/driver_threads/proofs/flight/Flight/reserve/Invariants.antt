@@ -1,6 +1,6 @@
 -- each command that is finished has its end
 use Rattle.std.{proofs.Common.{◌≡◌, ◌+◌, ◌≤◌, vec_len}, specs.VecDeque.{deque_len, deque_capacity}}
-use Rattle.driver_threads.specs.Ends.{IsUnderWay}
+use Rattle.driver_threads.specs.{Ends.IsUnderWay, JobSteps.CarriesOn}
 use Rattle.driver_threads.proofs.flight.Flight.reserve.Given as goal
 
 abbrev pub invariant-loop-alloc : goal.invariant-loop-alloc
@@ -8,6 +8,8 @@ invariant-loop-alloc g l = record {
   under_way : IsUnderWay l.self.seat.receipts l.self.ends.items l.self.tickets.items;
   all : vec_len l.self.ends + deque_len l.self.tickets ≡ vec_len l.initial.self.ends + deque_len l.initial.self.tickets;
   fewer : deque_len l.self.tickets ≤ deque_len l.initial.self.tickets;
+  carries : CarriesOn g.L.LogBrand.opening l.initial.self.seat l.initial.self.ends.items l.initial.self.tickets.items l.self.seat l.self.ends.items l.self.tickets.items;
+  same : l.request ≡ l.fn.request;
   places : deque_capacity l.self.tickets ≡ deque_capacity l.initial.self.tickets;
 }
 

@@ -7,13 +7,13 @@ use Rattle.driver_threads.proofs.jobs.Job.TheSendSync as jobs
 use Rattle.driver_threads.proofs.shared.Shared.TheSendSync as books
 use Rattle.driver_threads.proofs.run.Post.TheSendSync as posts
 use Rattle.driver_threads.proofs.run.Returned.TheSendSync as returned
-use Rattle.driver_threads.proofs.run.fn.run_workers.scope.Goals as goal
+use Rattle.driver_threads.proofs.run.start.Goals as goal
 
 -- each part of the closure that names the allocator, whole: a `search` that goes down to it runs out of steps
-pub spawn-requires-in-loop-worker-send-F : goal.spawn-requires-in-loop-worker-send-F
-spawn-requires-in-loop-worker-send-F g c κs within =
+pub spawn_with-requires-send-F : goal.spawn_with-requires-send-F
+spawn_with-requires-send-F g c κs within =
     let A = copied 1 g.row.A in
-    let told = c.requires.1.1.1.1 in
+    let told = c.type_bounds in
     let send : IsSend (copied 1 g.row.A) = search sendable depth 20 in
     let frees : Frees g.A.Allocator g.A.Allocator.dealloc_token = search sendable depth 20 in
     let byte = bytes.the_send A g.A.Allocator send frees in
@@ -26,9 +26,9 @@ spawn-requires-in-loop-worker-send-F g c κs within =
     let mixed = vectors.the_send _ A g.A.Allocator (jobs.the_field_send _ _ (requests.the_send _ piece) byte) send frees in
     search sendable depth 30
 
-pub spawn-requires-in-loop-worker-send-T : goal.spawn-requires-in-loop-worker-send-T
-spawn-requires-in-loop-worker-send-T g c κs within =
-    let told = c.requires.1.1.1.1 in
+pub spawn_with-requires-send-T : goal.spawn_with-requires-send-T
+spawn_with-requires-send-T g c κs within =
+    let told = c.type_bounds in
     let send : IsSend (copied 1 g.row.A) = search sendable depth 20 in
     let frees : Frees g.A.Allocator g.A.Allocator.dealloc_token = search sendable depth 20 in
     let field = returned.the_field_send (param 0 g.row.L) (copied 1 g.row.A) g.L.LogBrand g.L.Ledger g.A.Allocator send frees in

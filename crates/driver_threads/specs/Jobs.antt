@@ -1,0 +1,131 @@
+-- What a submitter does for its jobs: which steps some books of its opening made for each, with which receipt, and how it ended.
+use Rattle.std.specs.Prelude.{◌≡◌, ◌≢◌, ◌⊎◌, ◌<◌, ◌-◌, ℕ, Some, None, List, [], ◌∷◌, ◌++◌, length, replicate, sum_by}
+use Rattle.io_commands.specs.{Asked.Request, Drafts.{DraftContents, built}, DataBytes.{PagesOut, data_length, filled}, Least.least_pages, Values.{FinishedContents, gathered_from}}
+use Rattle.io_commands.specs.declared.request.Kind.{Kind, TheVariants.{Read, Write, Compare}}
+use Rattle.machine_model.specs.{Claims.counts_of, Refusals.refusal_of, State.State}
+use Rattle.driver_book.specs.{Calls.{Does, status_at}, Entries.asked_of, History.accepted, State.BookContents, declared.report.Receipt.Receipt}
+use Rattle.driver_threads.specs.{Sharing.{IsBookOf, Made}, Values.{Job, JobEnd}}
+use Rattle.driver_threads.specs.declared.jobs.{JobEnd.TheVariants.{Done, Refused}, JobRefusal.JobRefusal}
+use Rattle.driver_threads.specs.declared.jobs.JobRefusal.TheVariants as why
+use Rattle.machine_model.specs.Events as events
+use Rattle.machine_model.specs.declared.words.Refusal.TheVariants as refusal
+
+-- The draft of a job
+
+-- its data pages, with the bytes of the job from the first data piece on, and zeros behind them
+abbrev pub padded : Request → List ℕ → PagesOut → PagesOut
+padded r bytes pages = filled r.pieces pages (bytes ++ replicate (sum_by data_length r.pieces - length bytes) 0)
+
+-- a Read's pages are as they came; a Write and a Compare have the job's bytes
+abbrev pub with_bytes_of : Kind → List ℕ → DraftContents → DraftContents
+with_bytes_of Read bytes d = d
+with_bytes_of Write bytes d = record d { data_pages = padded d.request bytes d.data_pages }
+with_bytes_of Compare bytes d = record d { data_pages = padded d.request bytes d.data_pages }
+
+-- the draft as it is submitted
+abbrev pub prepared : List ℕ → DraftContents → DraftContents
+prepared bytes d = built (with_bytes_of d.request.kind bytes d)
+
+-- The command of a job
+
+-- A job was submitted: some book of this opening reserved its request on its queue, and some book accepted, for this seat, the draft so
+-- reserved with the job's bytes. The receipt has the number of that submission, what the job asks for, its queue and the draft's identifier.
+pub record IsSubmitted (opening : State) (seat : ℕ) (job : Job) (r : Receipt) : Type 0 where
+  pub draft : DraftContents
+  pub reserved : Made opening None (events.Reserve job.q job.request) (events.Reserved draft)
+  pub old : BookContents
+  pub new : BookContents
+  pub of : IsBookOf opening old
+  pub does : Does old (Some seat) (events.Submit (prepared job.bytes draft)) events.Accepted new
+  pub number : r.number ≡ accepted old.log
+  pub asked : r.asked ≡ asked_of job.request
+  pub queue : r.q ≡ job.q
+  pub identifier : r.cid ≡ draft.cid
+
+-- The command of a receipt was given up: some book of this opening collected it, these bytes were gathered from it, and some book released it for
+-- this seat; the receipt has the status that it had then.
+pub record IsEnded (opening : State) (seat : ℕ) (r : Receipt) (bytes : List ℕ) : Type 0 where
+  pub command : FinishedContents
+  pub collected : Made opening None (events.Collect r.q r.cid) (events.Collects command)
+  pub gathered : bytes ≡ gathered_from command
+  pub old : BookContents
+  pub new : BookContents
+  pub of : IsBookOf opening old
+  pub does : Does old (Some seat) (events.Release command) events.Accepted new
+  pub status : r.status ≡ status_at old.world.host r.q r.cid
+
+-- Why a job is refused
+
+-- A book has too few pages for a request beside its queues: it lacks pages for it, and the fewest that the request could take are more than
+-- those that no queue owns.
+pub record LacksPages (book : BookContents) (q : ℕ) (request : Request) (need pool : ℕ) : Type 0 where
+  pub wanted : ℕ
+  pub free : ℕ
+  pub refuses : refusal_of book.world (events.Reserve q request) ≡ Some (refusal.NoPages wanted free)
+  pub need_is : need ≡ least_pages request.pieces book.world.segment
+  pub pool_is : pool ≡ length book.world.memory - (counts_of book.world.host).queue_pages
+  pub few : pool < need
+
+-- a book refuses to reserve a request, for a cause that waiting does not end
+abbrev pub RefusesToReserve : BookContents → ℕ → Request → JobRefusal → Type 0
+RefusesToReserve book q request why.NoQueue = refusal_of book.world (events.Reserve q request) ≡ Some refusal.NoQueue
+RefusesToReserve book q request why.QueueGone = refusal_of book.world (events.Reserve q request) ≡ Some refusal.Deleting
+RefusesToReserve book q request (why.Bad fault) = refusal_of book.world (events.Reserve q request) ≡ Some (refusal.Bad fault)
+RefusesToReserve book q request (why.NoPages need pool) = LacksPages book q request need pool
+RefusesToReserve book q request why.WrongLength = ⊥
+
+-- a book's queue takes a draft no more: it is not live any more, or its ring is full
+abbrev pub RefusesToSubmit : BookContents → DraftContents → Type 0
+RefusesToSubmit book d = (refusal_of book.world (events.Submit d) ≡ Some refusal.QueueGone) ⊎ (refusal_of book.world (events.Submit d) ≡ Some refusal.QueueFull)
+
+-- some book of this opening refuses to reserve the request
+pub record RefusesRequest (opening : State) (q : ℕ) (request : Request) (cause : JobRefusal) : Type 0 where
+  pub book : BookContents
+  pub of : IsBookOf opening book
+  pub refuses : RefusesToReserve book q request cause
+
+-- some book of this opening refuses this draft as it is submitted
+pub record RefusesDraft (opening : State) (d : DraftContents) : Type 0 where
+  pub book : BookContents
+  pub of : IsBookOf opening book
+  pub refuses : RefusesToSubmit book d
+
+-- a job that was reserved is refused for its own bytes, or where its queue takes its draft no more
+abbrev pub RefusesReserved : State → Job → DraftContents → JobRefusal → Type 0
+RefusesReserved opening job draft why.WrongLength = (job.request.kind ≢ Read) × (sum_by data_length job.request.pieces < length job.bytes)
+RefusesReserved opening job draft why.QueueGone = RefusesDraft opening (prepared job.bytes draft)
+RefusesReserved opening job draft cause = ⊥
+
+-- some book of this opening reserved the job's request, and what was reserved is refused
+pub record IsRefusedOnceReserved (opening : State) (job : Job) (cause : JobRefusal) : Type 0 where
+  pub draft : DraftContents
+  pub reserved : Made opening None (events.Reserve job.q job.request) (events.Reserved draft)
+  pub refuses : RefusesReserved opening job draft cause
+
+-- A JOB IS REFUSED for what a book of this opening answers to its request, or, once that is reserved, for its own bytes or for what a book
+-- answers to its draft.
+abbrev pub RefusesJob : State → Job → JobRefusal → Type 0
+RefusesJob opening job cause = RefusesRequest opening job.q job.request cause ⊎ IsRefusedOnceReserved opening job cause
+
+-- All jobs of a submitter
+
+-- HOW THE JOBS WENT, in their order, beside the receipts of their seat and their ends: a refused job has no receipt; each other one has the next
+-- receipt, was submitted with it, and ended with what was gathered of its command.
+abbrev pub WentSo : State → ℕ → List Job → List Receipt → List JobEnd → Type 0
+WentSo opening seat [] [] [] = Unit {0}
+WentSo opening seat (job ∷ jobs) receipts (Refused cause ∷ ends) = RefusesJob opening job cause × WentSo opening seat jobs receipts ends
+WentSo opening seat (job ∷ jobs) (r ∷ receipts) (Done status bytes ∷ ends) =
+    IsSubmitted opening seat job r × IsEnded opening seat r bytes × (r.status ≡ Some status) × WentSo opening seat jobs receipts ends
+WentSo opening seat jobs receipts ends = ⊥
+
+-- those in flight: each has its receipt, and was submitted with it
+abbrev pub AreSubmitted : State → ℕ → List Job → List Receipt → Type 0
+AreSubmitted opening seat [] [] = Unit {0}
+AreSubmitted opening seat (job ∷ jobs) (r ∷ receipts) = IsSubmitted opening seat job r × AreSubmitted opening seat jobs receipts
+AreSubmitted opening seat jobs receipts = ⊥
+
+-- so the jobs of all submitters, each with a seat of its own
+abbrev pub AllWent : State → List (List Job) → List (List Receipt) → List (List JobEnd) → Type 0
+AllWent opening [] [] [] = Unit {0}
+AllWent opening (jobs ∷ lists) (receipts ∷ reports) (ends ∷ later) = ((seat : ℕ) × WentSo opening seat jobs receipts ends) × AllWent opening lists reports later
+AllWent opening lists reports later = ⊥
