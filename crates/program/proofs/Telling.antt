@@ -6,7 +6,8 @@ use Rattle.std.{proofs.Common.{◌≡◌, ◌⊎◌, Bool, true, false, Option, 
 use Rattle.std.specs.Prelude.{IfErr, Result, Ok, Err, IsErrAnd, OnErr, OnOk}
 use Rattle.clap.specs.{Words.kind_of, declared.error.{Error.Error, kind.ErrorKind.TheVariants.OutOfMemory}}
 use Rattle.command_line.specs.Asked.{Asked, check, check_jobs, draw, explain, grammar, load, shell, show, steps, test, thread_objects, threads, traced, Given}
-use Rattle.program.specs.{Checking.{AreJobs, AreNoJobs, AreNoSteps, AreSteps}, Loading.LeavesLoad, Performing.{FailsWith, IsCheckFault, IsEndFault, IsEndOfRun, IsFirstImage, IsNoFirstImage, IsNotBegun, is_file, IsUnread, IsRunAsAsked, IsTextAsAsked, IsUnwell, IsUnwellText, jobs_said, line_said, Performs, Plays, PlaysSteps, RunsJobs, SaysNone, script_told, steps_said}}
+use Rattle.program.specs.{Checking.{AreJobs, AreNoJobs, AreNoSteps, AreSteps}, Loading.LeavesLoad, Performing.{FailsWith, IsCheckFault, IsEndFault, IsEndOfRun, IsFirstImage, IsNoFirstImage, IsNotBegun, is_file, IsUnread, IsAsAsked, IsTextAsAsked, IsUnwell, IsUnwellText, jobs_said, line_said, Outcome, Performs, Plays, PlaysSteps, RunsJobs, SaysNone, script_told, steps_said, told_as}}
+use Rattle.shell.specs.{Told.{EndsTold, IsFrontOfTold, IsToldTo}, declared.told.Telling.Telling}
 use Rattle.program.specs.declared.fault.Fault.{Fault}
 use Rattle.command_line.specs.declared.{serving.Serving.Serving, threads.Threading.Threading}
 use Rattle.job_cli.proofs.JobRuns.{jobs_are_told, no_jobs_are_told}
@@ -189,13 +190,20 @@ steps_played : (told : Option (List ℕ)) (given said : Given) (text image : Lis
 steps_played told given said text image Holds first says is holds =
     played (script_told given.script told) text (steps_said given) said (λ script s. (im : List ℕ) × IsFirstImage s im × Holds script s im) first says (λ all read. (image, is, holds all read))
 
+-- of whichever text that goes with what a run leaves
+ran_so : (Leaves : Outcome) (told : Option (List ℕ)) (given said : Given) (text image : List ℕ) (a b : Option (List ℕ)) (last : Table) (unwell : ℕ)
+    → AreFirstOf 1048576 (script_told given.script told) text → steps_said given text ≡ Some said → IsFirstImage said image
+    → Writes (Some text) said.config image a b (Leaves last unwell) → (given.strict ≡ true → unwell ≡ 0)
+    → PlaysSteps told given (λ script s im. Writes (Some script) s.config im a b (IsAsAsked Leaves given.strict))
+ran_so Leaves told given said text image a b last unwell first says is writes well =
+    steps_played told given said text image (λ script s im. Writes (Some script) s.config im a b (IsAsAsked Leaves given.strict)) first says is
+    (λ all read. writes_so (Some all) said.config image a b (Leaves last unwell) (IsAsAsked Leaves given.strict) (λ t script words ran. (last, unwell, ran, well))
+    (writes_told (Some all) text said.config image a b (Leaves last unwell) read writes))
+
 pub steps_ran : {T U : Type 0} (r : Result T U) (told : Option (List ℕ)) (given said : Given) (text image : List ℕ) (a b : Option (List ℕ)) (last : Table) (unwell : ℕ)
     → AreFirstOf 1048576 (script_told given.script told) text → steps_said given text ≡ Some said → IsFirstImage said image
     → Writes (Some text) said.config image a b (IsRunTo last unwell) → OnOk r (given.strict ≡ true → unwell ≡ 0) → OnOk r (Performs told (Some (steps given)) a b)
-steps_ran (Ok done) told given said text image a b last unwell first says is writes well =
-    steps_played told given said text image (λ script s im. Writes (Some script) s.config im a b (IsRunAsAsked given.strict)) first says is
-    (λ all read. writes_so (Some all) said.config image a b (IsRunTo last unwell) (IsRunAsAsked given.strict) (λ t script words ran. (last, unwell, ran, well))
-    (writes_told (Some all) text said.config image a b (IsRunTo last unwell) read writes))
+steps_ran (Ok done) told given said text image a b last unwell first says is writes well = ran_so IsRunTo told given said text image a b last unwell first says is writes well
 steps_ran (Err x) told given said text image a b last unwell first says is writes well = tt
 
 pub steps_ended : (told : Option (List ℕ)) (given said : Given) (text image : List ℕ) (a b : Option (List ℕ)) (why : RunFault) (f : Fault)
@@ -207,21 +215,66 @@ steps_ended told given said text image a b why f same first says is ends =
     (λ all read. ends_told (Some all) text said.config image a b why read ends))))
 
 -- a fault at the end of a run that went well
+end_so : (Leaves : Outcome) (why : Fault) (told : Option (List ℕ)) (given said : Given) (text image : List ℕ) (a b : Option (List ℕ)) (last : Table) (unwell : ℕ)
+    → AreFirstOf 1048576 (script_told given.script told) text → steps_said given text ≡ Some said → IsFirstImage said image
+    → Writes (Some text) said.config image a b (Leaves last unwell) → IsEndFault given why → (why ≡ fault.Unwell → unwell ≡ 0 → ⊥)
+    → PlaysSteps told given (λ script s im. Writes (Some script) s.config im a b (IsEndOfRun Leaves given why))
+end_so Leaves why told given said text image a b last unwell first says is writes end some =
+    steps_played told given said text image (λ script s im. Writes (Some script) s.config im a b (IsEndOfRun Leaves given why)) first says is
+    (λ all read. writes_so (Some all) said.config image a b (Leaves last unwell) (IsEndOfRun Leaves given why) (λ t script words ran. ended why t script words ran end some)
+    (writes_told (Some all) text said.config image a b (Leaves last unwell) read writes))
+  where
+    ended : (why : Fault) (t : Table) (script : List Numbered) (words : List ℕ) → Leaves last unwell t script words → IsEndFault given why → (why ≡ fault.Unwell → unwell ≡ 0 → ⊥)
+        → IsEndOfRun Leaves given why t script words
+    ended fault.NotSaved t script words ran end some = (end, last, unwell, ran)
+    ended fault.Unwell t script words ran end some = (end, (last, unwell, ran, some refl))
+    ended why t script words ran end some = absurd end
+
 pub steps_end : {T U : Type 0} (r : Result T U) (fault_of : U → Fault) (told : Option (List ℕ)) (given said : Given) (text image : List ℕ) (a b : Option (List ℕ)) (last : Table) (unwell : ℕ)
     → AreFirstOf 1048576 (script_told given.script told) text → steps_said given text ≡ Some said → IsFirstImage said image
     → Writes (Some text) said.config image a b (IsRunTo last unwell) → IfErr r (λ x. IsEndFault given (fault_of x)) → IfErr r (λ x. fault_of x ≡ fault.Unwell → unwell ≡ 0 → ⊥)
     → IfErr r (λ x. FailsWith told (Some (steps given)) a b (fault_of x))
 steps_end (Ok done) fault_of told given said text image a b last unwell first says is writes end some = tt
 steps_end (Err x) fault_of told given said text image a b last unwell first says is writes end some =
-    inr (inr (steps_played told given said text image (λ script s im. Writes (Some script) s.config im a b (IsEndOfRun given (fault_of x))) first says is
-    (λ all read. writes_so (Some all) said.config image a b (IsRunTo last unwell) (IsEndOfRun given (fault_of x)) (λ t script words ran. ended (fault_of x) t script words ran end some)
-    (writes_told (Some all) text said.config image a b (IsRunTo last unwell) read writes))))
-  where
-    ended : (why : Fault) (t : Table) (script : List Numbered) (words : List ℕ) → IsRunTo last unwell t script words → IsEndFault given why → (why ≡ fault.Unwell → unwell ≡ 0 → ⊥)
-        → IsEndOfRun given why t script words
-    ended fault.NotSaved t script words (said, all, run, joined, is) end some = (end, (last, said, all, run, joined))
-    ended fault.Unwell t script words ran end some = (end, (last, unwell, ran, some refl))
-    ended why t script words ran end some = absurd end
+    inr (inr (end_so IsRunTo (fault_of x) told given said text image a b last unwell first says is writes end some))
+
+-- A script of steps of which more is told, or in another form
+
+pub trace_ran : {T U : Type 0} (r : Result T U) (told : Option (List ℕ)) (given said : Given) (objects : Bool) (text image : List ℕ) (a b : Option (List ℕ)) (last : Table) (unwell : ℕ)
+    → AreFirstOf 1048576 (script_told given.script told) text → steps_said given text ≡ Some said → IsFirstImage said image
+    → Writes (Some text) said.config image a b (IsToldTo (told_as objects) last unwell) → OnOk r (given.strict ≡ true → unwell ≡ 0) → OnOk r (Performs told (Some (traced given objects)) a b)
+trace_ran (Ok done) told given said objects text image a b last unwell first says is writes well =
+    ran_so (IsToldTo (told_as objects)) told given said text image a b last unwell first says is writes well
+trace_ran (Err x) told given said objects text image a b last unwell first says is writes well = tt
+
+cut_told : (telling : Telling) (told : Option (List ℕ)) (text : List ℕ) (config : Config) (image : List ℕ) (a b : Option (List ℕ)) (why : RunFault)
+    → AreFirstOf 1048576 told text → EndsTold telling (Some text) config image a b why → EndsTold telling told config image a b why
+cut_told telling told text config image a b (run.Line number why) first (bad, keeps) = (line_told told text number why first bad, keeps)
+cut_told telling told text config image a b run.TooLong first (bad, keeps) = (long_told told text first bad, keeps)
+cut_told telling told text config image a b run.Unreadable first bad = absurd bad
+cut_told telling told text config image a b run.BadConfig first (refused, keeps) = (unopened_told told text config _ first refused, keeps)
+cut_told telling told text config image a b (run.NoPages need free) first (refused, keeps) = (unopened_told told text config _ first refused, keeps)
+cut_told telling told text config image a b run.NoThread first bad = absurd bad
+cut_told telling told text config image a b (run.Close why) first bad = absurd bad
+cut_told telling told text config image a b run.Memory first (inl keeps) = inl keeps
+cut_told telling told text config image a b run.Memory first (inr writes) = inr (writes_told told text config image a b (IsFrontOfTold telling) first writes)
+cut_told telling told text config image a b run.OutputFailed first writes = writes_told told text config image a b (IsFrontOfTold telling) first writes
+
+pub trace_ended : (told : Option (List ℕ)) (given said : Given) (objects : Bool) (text image : List ℕ) (a b : Option (List ℕ)) (why : RunFault) (f : Fault)
+    → f ≡ fault.Run why → AreFirstOf 1048576 (script_told given.script told) text → steps_said given text ≡ Some said → IsFirstImage said image
+    → EndsTold (told_as objects) (Some text) said.config image a b why → FailsWith told (Some (traced given objects)) a b f
+trace_ended told given said objects text image a b why f same first says is ends =
+    subst (λ (g : Fault). FailsWith told (Some (traced given objects)) a b g) (sym same)
+    (inr (inl (steps_played told given said text image (λ script s im. EndsTold (told_as objects) (Some script) s.config im a b why) first says is
+    (λ all read. cut_told (told_as objects) (Some all) text said.config image a b why read ends))))
+
+pub trace_end : {T U : Type 0} (r : Result T U) (fault_of : U → Fault) (told : Option (List ℕ)) (given said : Given) (objects : Bool) (text image : List ℕ) (a b : Option (List ℕ)) (last : Table) (unwell : ℕ)
+    → AreFirstOf 1048576 (script_told given.script told) text → steps_said given text ≡ Some said → IsFirstImage said image
+    → Writes (Some text) said.config image a b (IsToldTo (told_as objects) last unwell) → IfErr r (λ x. IsEndFault given (fault_of x)) → IfErr r (λ x. fault_of x ≡ fault.Unwell → unwell ≡ 0 → ⊥)
+    → IfErr r (λ x. FailsWith told (Some (traced given objects)) a b (fault_of x))
+trace_end (Ok done) fault_of told given said objects text image a b last unwell first says is writes end some = tt
+trace_end (Err x) fault_of told given said objects text image a b last unwell first says is writes end some =
+    inr (inr (end_so (IsToldTo (told_as objects)) (fault_of x) told given said text image a b last unwell first says is writes end some))
 
 -- Scripts that are looked at, by the faults that `?` makes
 
@@ -298,15 +351,6 @@ objects_end (Ok done) fault_of told given what who a b end = tt
 objects_end (Err x) fault_of told given what who a b end = inr (inr end)
 
 -- Runs of which nothing more is said
-
--- a trace: a fault of the run, and one at its end
-pub trace_failed : (told : Option (List ℕ)) (given : Given) (objects : Bool) (a b : Option (List ℕ)) (why : RunFault) (f : Fault) → f ≡ fault.Run why → FailsWith told (Some (traced given objects)) a b f
-trace_failed told given objects a b why f same = subst (λ (g : Fault). FailsWith told (Some (traced given objects)) a b g) (sym same) (inr (inl tt))
-
-pub trace_end : {T U : Type 0} (r : Result T U) (fault_of : U → Fault) (told : Option (List ℕ)) (given : Given) (objects : Bool) (a b : Option (List ℕ))
-    → IfErr r (λ x. IsEndFault given (fault_of x)) → IfErr r (λ x. FailsWith told (Some (traced given objects)) a b (fault_of x))
-trace_end (Ok done) fault_of told given objects a b end = tt
-trace_end (Err x) fault_of told given objects a b end = inr (inr end)
 
 -- a session: why it was not begun, and a fault of its run
 pub shell_unbegun : {T U : Type 0} (r : Result T U) (fault_of : U → Fault) (told : Option (List ℕ)) (given : Given) (traces : Bool) (a : Option (List ℕ)) (why : ImageFault)

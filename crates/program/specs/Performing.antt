@@ -13,7 +13,8 @@ use Rattle.host_core.specs.declared.config.Config.{Config}
 use Rattle.machine_model.specs.Script.{Table}
 use Rattle.script_cli.specs.declared.workload.Load.{Load}
 use Rattle.script_cli.specs.declared.transcripts.options.{Options.Options, SaidOptions.SaidOptions, ScriptKind.{ScriptKind, TheVariants.{Jobs, Steps}}}
-use Rattle.script_cli.specs.{Inputs.{IsTold, Gains}, Lines.first_line, Options.{jobs_options_in, options_in, said_on}, Runs.{EndsWith, HasScript, IsNoScript, IsRunText, IsRunTo, Writes}}
+use Rattle.script_cli.specs.{Inputs.{IsTold, Gains}, Lines.first_line, Options.{jobs_options_in, options_in, said_on}, Runs.{EndsWith, HasScript, IsNoScript, IsRunTo, Writes}}
+use Rattle.shell.specs.{Told.{EndsTold, IsToldTo}, declared.told.Telling.{Telling, TheVariants.{Objects, Traces}}}
 use Rattle.script_cli.specs.declared.{fault.RunFault.RunFault, input.ImageFault.ImageFault, script.Numbered.Numbered}
 use Rattle.load.specs.declared.fault.LoadFault.TheVariants as load_fault
 use Rattle.program.specs.declared.fault.Fault.TheVariants as fault
@@ -93,13 +94,22 @@ abbrev pub PlaysSteps : Option (List ℕ) → Given → (List ℕ → Given → 
 PlaysSteps told given Holds =
     Plays (script_told given.script told) (steps_said given) (λ script said. (image : List ℕ) × IsFirstImage said image × Holds script said image)
 
--- the text of a run of steps, each of which was answered well where that is asked for
-abbrev pub IsRunAsAsked : Bool → Table → List Numbered → List ℕ → Type 0
-IsRunAsAsked strict t script text = (last : Table) × (unwell : ℕ) × IsRunTo last unwell t script text × (strict ≡ true → unwell ≡ 0)
+-- a text that goes with what a run of steps leaves, and with how many of its answers are not well
+abbrev pub Outcome : Type 1
+Outcome = Table → ℕ → Table → List Numbered → List ℕ → Type 0
 
--- the text of one of which some was not
-abbrev pub IsUnwellRun : Table → List Numbered → List ℕ → Type 0
-IsUnwellRun t script text = (last : Table) × (unwell : ℕ) × IsRunTo last unwell t script text × (unwell ≡ 0 → ⊥)
+-- each step was answered well, where that is asked for
+abbrev pub IsAsAsked : Outcome → Bool → Table → List Numbered → List ℕ → Type 0
+IsAsAsked Leaves strict t script text = (last : Table) × (unwell : ℕ) × Leaves last unwell t script text × (strict ≡ true → unwell ≡ 0)
+
+-- some was not
+abbrev pub HasUnwell : Outcome → Table → List Numbered → List ℕ → Type 0
+HasUnwell Leaves t script text = (last : Table) × (unwell : ℕ) × Leaves last unwell t script text × (unwell ≡ 0 → ⊥)
+
+-- how a run of steps is told that is not told in the lines of `steps` alone
+abbrev pub told_as : Bool → Telling
+told_as true = Objects
+told_as false = Traces
 
 -- the text of a run of jobs, each of which was not refused and ended with the status 0:00 where that is asked for
 abbrev pub IsTextAsAsked : Bool → Config → List ℕ → List JobLine → List ℕ → Type 0
@@ -138,11 +148,11 @@ abbrev pub LooksAtJobs : Option (List ℕ) → ℕ → Type 0
 LooksAtJobs told submitters = Plays told (line_said Jobs) (λ script said. (lines : List JobLine) × HasJobs (Some script) (unwrap_or said.submitters submitters) lines)
 
 -- What is written where all goes well: the text of a run of the script, over the configuration and the image that are given, or said in its first line; nothing where help
--- is asked for, and nothing of a script that is checked and has no fault. Of what `test`, `shell`, `draw`, `explain`, `show`, `steps --trace` and each `--json` write and of
--- the text of the grammar nothing is said.
+-- is asked for, and nothing of a script that is checked and has no fault. Of what `test`, `shell`, `draw`, `explain` and `show` write, of objects of JSON and of the text of
+-- the grammar nothing is said.
 abbrev pub Performs : Option (List ℕ) → Option Asked → Option (List ℕ) → Option (List ℕ) → Type 0
 Performs told None before after = Keeps before after
-Performs told (Some (steps given)) before after = PlaysSteps told given (λ script said image. Writes (Some script) said.config image before after (IsRunAsAsked given.strict))
+Performs told (Some (steps given)) before after = PlaysSteps told given (λ script said image. Writes (Some script) said.config image before after (IsAsAsked IsRunTo given.strict))
 Performs told (Some (threads given what who)) before after =
     RunsJobs told given what.submitters (λ script said submitters image. WritesJobs (Some script) submitters said.config image before after (IsTextAsAsked given.strict))
 Performs told (Some (load given what who)) before after = WritesLoad given what true before after
@@ -152,7 +162,8 @@ Performs told (Some (thread_objects given what who)) before after = Unit {0}
 Performs told (Some (test tested)) before after = Unit {0}
 Performs told (Some (shell given traces)) before after = Unit {0}
 Performs told (Some (draw given)) before after = Unit {0}
-Performs told (Some (traced given objects)) before after = Unit {0}
+Performs told (Some (traced given objects)) before after =
+    PlaysSteps told given (λ script said image. Writes (Some script) said.config image before after (IsAsAsked (IsToldTo (told_as objects)) given.strict))
 Performs told (Some (explain path objects)) before after = Unit {0}
 Performs told (Some (show words objects)) before after = Unit {0}
 Performs told (Some grammar) before after = Unit {0}
@@ -205,10 +216,10 @@ IsEndFault given fault.Unwell = given.strict ≡ true
 IsEndFault given other = ⊥
 
 -- so of a script of steps, of whose run this is the text
-abbrev pub IsEndOfRun : Given → Fault → Table → List Numbered → List ℕ → Type 0
-IsEndOfRun given fault.NotSaved t script text = IsSome given.save × IsRunText t script text
-IsEndOfRun given fault.Unwell t script text = (given.strict ≡ true) × IsUnwellRun t script text
-IsEndOfRun given other t script text = ⊥
+abbrev pub IsEndOfRun : Outcome → Given → Fault → Table → List Numbered → List ℕ → Type 0
+IsEndOfRun Leaves given fault.NotSaved t script text = IsSome given.save × (last : Table) × (unwell : ℕ) × Leaves last unwell t script text
+IsEndOfRun Leaves given fault.Unwell t script text = (given.strict ≡ true) × HasUnwell Leaves t script text
+IsEndOfRun Leaves given other t script text = ⊥
 
 -- not all answers were well, which was asked for
 abbrev pub IsUnwell : Given → Fault → Type 0
@@ -231,10 +242,11 @@ FailsWith told None before after why = Keeps before after
 FailsWith told (Some (steps given)) before after why =
     (IsNotBegun (script_told given.script told) (steps_said given) (λ said. said) why × Keeps before after)
     ⊎ (IsRunFault why (λ cause. PlaysSteps told given (λ script said image. EndsWith (Some script) said.config image before after cause))
-    ⊎ PlaysSteps told given (λ script said image. Writes (Some script) said.config image before after (IsEndOfRun given why)))
+    ⊎ PlaysSteps told given (λ script said image. Writes (Some script) said.config image before after (IsEndOfRun IsRunTo given why)))
 FailsWith told (Some (traced given objects)) before after why =
     (IsNotBegun (script_told given.script told) (steps_said given) (λ said. said) why × Keeps before after)
-    ⊎ (IsRunFault why (λ cause. Unit {0}) ⊎ IsEndFault given why)
+    ⊎ (IsRunFault why (λ cause. PlaysSteps told given (λ script said image. EndsTold (told_as objects) (Some script) said.config image before after cause))
+    ⊎ PlaysSteps told given (λ script said image. Writes (Some script) said.config image before after (IsEndOfRun (IsToldTo (told_as objects)) given why)))
 FailsWith told (Some (threads given what who)) before after why =
     (IsNotBegun (script_told given.script told) (jobs_said given what.submitters) (λ said. said.0) why × Keeps before after)
     ⊎ (IsRunFault why (λ cause. RunsJobs told given what.submitters (λ script said submitters image. EndsJobsWith (Some script) submitters said.config image before after cause))

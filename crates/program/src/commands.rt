@@ -3,7 +3,7 @@
 ghost use Rattle.std.specs.Prelude.{◌≡◌, ◌≤◌, Some, IfErr, OnErr, OnOk, false, map, true};
 ghost use Rattle.command_line.specs.Asked.{asked, draw, given_of, path_of, shell, steps, thread_objects, threads, traced};
 ghost use Rattle.job_cli.specs.declared.telling.Form.TheVariants.{Lines};
-ghost use Rattle.program.specs.Performing.{FailsWith, is_file, IsEndFault, IsNoGrammar, IsNoJobScript, IsNoSteps, IsRunFault, IsTestFault, IsUnwell, LooksAtJobs, LooksAtSteps, Performs, script_told};
+ghost use Rattle.program.specs.Performing.{FailsWith, is_file, IsEndFault, IsNoGrammar, IsNoJobScript, IsNoSteps, IsRunFault, IsTestFault, IsUnwell, LooksAtJobs, LooksAtSteps, Performs, script_told, told_as};
 
 use crate::below::below_run;
 use crate::bytes::{explain_case, show_words};
@@ -21,7 +21,7 @@ use command_line::{CommandLine, Options, Serving, Testing, Threading, words};
 use job_cli::{Form, Pace, run_jobs};
 use script_cli::transcripts::ScriptKind;
 use script_cli::{MAX_SCRIPT, Played, RunFault, play_steps, transcripts};
-use shell::{meanings_text, run_shell, tell_steps, trace_steps};
+use shell::{Telling, meanings_text, run_shell, tell_steps};
 use std::alloc::{AllocError, AllocGlobal, Global};
 use std::convert::AsStr;
 use std::env::Env;
@@ -226,6 +226,17 @@ fn play<R: AllocGlobal + Files + Print, I: Read, W: Write>(
     }
 }
 
+/// What is told of a script of steps beside its answers, or in their stead.
+fn telling_of(objects: bool) -> Telling
+    ensures { result ≡ told_as objects }
+{
+    if objects {
+        Telling::Objects
+    } else {
+        Telling::Traces
+    }
+}
+
 /// Plays a script of steps, and tells what each moved, in lines or as objects.
 fn trace_script<R: AllocGlobal + Files + Print, I: Read, W: Write>(
     rt: &R,
@@ -234,6 +245,7 @@ fn trace_script<R: AllocGlobal + Files + Print, I: Read, W: Write>(
     reader: &mut I,
     writer: &mut W,
 ) -> Result<(), Told<Fault>>
+    ensures ran { OnOk result (Performs (I.remaining reader.old) (Some (traced (given_of options.entry) objects)) (W.contents writer.old) (W.contents writer.new)) }
     ensures failed { IfErr result (λ told. FailsWith (I.remaining reader.old) (Some (traced (given_of options.entry) objects)) (W.contents writer.old) (W.contents writer.new) told.fault) }
 {
     let Begun { text, said, image } = match begin_steps(rt, options, reader) {
@@ -241,14 +253,15 @@ fn trace_script<R: AllocGlobal + Files + Print, I: Read, W: Write>(
         Err(told) => return Err(told),
     };
     let alloc = rt.alloc();
-    let mut unwell = 0;
-    let played = if objects {
-        tell_steps(alloc, said.config, image, &text, writer, &mut unwell)
-    } else {
-        trace_steps(alloc, said.config, image, &text, writer, &mut unwell)
-    };
-    match played {
-        Ok(bench) => end_steps(rt, options, bench, unwell),
+    match tell_steps(
+        alloc,
+        said.config,
+        image,
+        telling_of(objects),
+        &text,
+        writer,
+    ) {
+        Ok(Played { bench, unwell }) => end_steps(rt, options, bench, unwell),
         Err(fault) => Err(told_of_run(alloc, Grammar::Steps, &text, &said, fault)),
     }
 }

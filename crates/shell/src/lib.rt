@@ -2,7 +2,7 @@
 //!
 //! [`run_shell`] reads lines and answers each before it reads the next. A line is a step of a script (`script_cli`), which prints what
 //! `nvmesgl steps` prints for it, or a [`DotWord`] with its arguments. A line that is at fault says so and changes nothing; the session goes on.
-//! [`trace_steps`] plays a whole script so, with what each step moved, and [`tell_steps`] with an object of JSON for each answer.
+//! [`tell_steps`] plays a whole script, with what each step moved, or with an object of JSON for each answer.
 //!
 //! What a step, `owners`, `.counts`, `.page` and `.rings` say of the world is the world's: `specs/`, and the clauses of a script's run.
 #![tactic(auto)]
@@ -17,16 +17,14 @@ mod lines;
 mod looks;
 mod meanings;
 mod moves;
-mod objects;
 mod pages;
 mod record;
-mod script;
 mod serve;
 mod session;
 mod sink;
+mod told;
 
 pub use dot_word::{DOT_WORDS, DotWord};
 pub use meanings::{FAULTS, REASONS, REFUSALS, STATUSES, meanings_text};
-pub use objects::tell_steps;
-pub use script::trace_steps;
 pub use session::run_shell;
+pub use told::{Telling, tell_steps};

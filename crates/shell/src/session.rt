@@ -14,9 +14,8 @@ use crate::record::Record;
 use crate::sink::Sink;
 use script_cli::transcripts::{OpeningFault, Options, SaidOptions, out_of_range};
 use script_cli::{
-    ImageFault, Line, MAX_SCRIPT, Numbered, ReadFault, RunFault, Script, Verb, append_counts,
-    flush, is_well, not_opened, not_written, play_step, put, put_owners, read_first, split_line,
-    write_out,
+    ImageFault, MAX_SCRIPT, ReadFault, RunFault, Verb, append_counts, not_opened, not_written,
+    play_step, put_owners, read_first, split_line, write_out,
 };
 use std::alloc::{AllocError, AllocGlobal, Global};
 use std::io::{BufRead, BufReader, Read, Write};
@@ -54,8 +53,6 @@ pub(crate) struct Session {
     record: Record,
     /// Whether each step says what it moved.
     traces: bool,
-    /// How many steps of a script did not go well.
-    unwell: u64,
 }
 
 /// Zero blocks.
@@ -141,7 +138,6 @@ impl Session {
                 bench,
                 record,
                 traces,
-                unwell: 0,
             }),
             Err(refused) => Err(not_opened(refused.why)),
         }
@@ -156,14 +152,8 @@ impl Session {
             bench,
             record: _,
             traces: _,
-            unwell: _,
         } = self;
         bench
-    }
-
-    /// How many steps of a script did not go well.
-    pub(crate) fn unwell(&self) -> u64 {
-        self.unwell
     }
 
     /// Opens a new world over an image in place of the old one. Where that is refused the old one stays.
@@ -279,9 +269,6 @@ impl Session {
         self.record.begin(&step)?;
         let reply = play_step(&mut self.bench, number, step, out)?;
         self.record.end(self.alloc, verb, &reply)?;
-        if !is_well(&reply) {
-            self.unwell = self.unwell.saturating_add(1);
-        }
         self.hand(out, true).trace(traced, &reply)
     }
 
@@ -370,36 +357,6 @@ impl Session {
                 Ok(Going::On)
             }
         }
-    }
-
-    /// Does what a line of a script says, and leaves what it says in an empty text.
-    fn play_line(&mut self, numbered: Numbered, out: &mut String) -> Result<(), AllocError>
-        requires empty { string_bytes out.old ≡ [] }
-    {
-        let number = numbered.number;
-        match numbered.line {
-            Line::Step(step) => self.step(number, step, out),
-            Line::Owners => self.owners(out),
-            Line::Nothing => Ok(()),
-        }
-    }
-
-    /// Does what a script says, line after line, and writes what each line says, and the counts behind the last one.
-    pub(crate) fn play<W: Write>(
-        &mut self,
-        script: Script,
-        writer: &mut W,
-    ) -> Result<(), RunFault> {
-        let mut out = String::new(self.alloc);
-        for numbered in script.into_lines() {
-            out.clear();
-            self.play_line(numbered, &mut out)?;
-            put(writer, out.as_bytes())?;
-        }
-        out.clear();
-        append_counts(&mut out, self.bench.counts())?;
-        put(writer, out.as_bytes())?;
-        flush(writer)
     }
 
     /// Answers the lines of a reader, and of the files that they name, one after the other, until one ends the session or there is none.

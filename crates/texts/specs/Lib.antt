@@ -2,6 +2,9 @@ pub mod Found
 pub mod Slots
 pub mod Stored
 pub mod Ending
+pub mod Fetched
 pub mod Taking
 pub mod Sparse
 pub mod Rules
+pub mod Traces
+pub mod Words

@@ -1,8 +1,9 @@
 //! What the modelled controller makes of bytes that somebody pastes in, told for people who write firmware.
 //!
-//! [`read_case`] reads pages, blocks and a submission entry from lines, and from dumps among them. [`explain`] walks the entry's list over these with the walk of
-//! `controller_walk` and keeps each descriptor that it takes; [`put_explanation`] writes a line for each, and then how the command ends and by
-//! which rule; [`put_objects`] writes the same as JSON. [`explain_text`] does all three. [`show`] decodes a single entry, descriptor or status, in lines or as JSON; [`put_fault_object`] tells as JSON what is wrong with the words. The lines are this project's own.
+//! [`explain_text`] reads pages, blocks and a submission entry from lines, and from dumps among them ([`CaseReader`]). [`explain`] walks the entry's list over these
+//! with the walk of `controller_walk` and keeps each descriptor that it takes. What is told is a line for each, and then how the command ends and by which rule; or
+//! the same as JSON. [`show`] decodes a single entry, descriptor or status, in lines or as JSON; [`put_fault_object`] tells as JSON what is wrong with the words. The
+//! lines are this project's own.
 
 mod answer;
 mod block_size;
@@ -30,12 +31,12 @@ mod text;
 
 pub use answer::{Answer, Layout, explain_text};
 pub use block_size::BlockSize;
-pub use case::{Case, CaseReader, read_case};
+pub use case::{Case, CaseReader};
 pub use command::{Explanation, explain};
 pub use fault::{CaseFault, Wrong};
-pub use json::{put_fault_object, put_objects};
+pub use json::put_fault_object;
 pub use lines::Stop;
 pub use list::Taken;
 pub use namespace::{GivenBlock, Namespace};
 pub use single::{Shown, show};
-pub use text::{fault_lines, put_explanation};
+pub use text::fault_lines;

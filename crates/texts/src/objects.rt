@@ -8,6 +8,7 @@ mod line;
 mod pages;
 mod steps;
 
-pub use line::{hex_bytes, hex_number, put_object};
+pub(crate) use line::hex_number;
+pub use line::{hex_bytes, put_object};
 pub use pages::{put_counts_object, put_owners_object};
 pub use steps::put_reply_object;

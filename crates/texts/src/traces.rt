@@ -1,7 +1,6 @@
 //! What a step moved, for people: entries, lists, completions and doorbells, in bytes and decoded.
 //!
-//! [`Traced::of`] keeps which step is made, before it is made; [`put_trace`] puts lines below its answer, from looks at the bench behind it. What
-//! it puts of single entries and descriptors is public too. The
+//! [`Traced::of`] keeps which step is made, before it is made; [`put_trace`] puts lines below its answer, from looks at the bench after it. The
 //! fields have their names of the NVM Express Base Specification 2.0. Numbers are decimal, and bytes, addresses, offsets and opcodes are
 //! hexadecimal. The layout is this project's own.
 
@@ -13,8 +12,6 @@ mod rings;
 mod slots;
 mod trace;
 
-pub use descriptors::put_descriptor;
-pub(crate) use descriptors::{KEYED, TRANSPORT, subtype_name, type_name, type_of};
-pub(crate) use entries::opcode_name;
-pub use entries::{put_completion_fields, put_submission_fields};
+pub(crate) use descriptors::{KEYED, TRANSPORT, put_descriptor, subtype_name, type_name, type_of};
+pub(crate) use entries::{opcode_name, put_completion_fields, put_submission_fields};
 pub use trace::{Traced, put_trace};

@@ -581,7 +581,7 @@ fn pages_of(line: &mut Line<'_>, most: u64) -> Result<u64, Stop>
 ///
 /// `TooLong` before any line is looked at, where there are more than 1,048,576 bytes, and where there are more than 65,536 lines; else the first fault of the first line that has one; `NoEntry` where no line has an entry; and `Memory`
 /// where memory is refused.
-pub fn read_case<R: AllocGlobal + Files>(
+pub(crate) fn read_case<R: AllocGlobal + Files>(
     rt: &R,
     folder: &str,
     text: &[u8],

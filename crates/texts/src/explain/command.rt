@@ -1,13 +1,15 @@
 //! A command, from its entry to its status.
 
-ghost use Rattle.std.specs.Prelude.{◌≡◌, ◌≤◌, ◌<◌, ◌*◌, [], ℕ, Bool, List, None, Some, IfOk, IfSome, false, length};
+ghost use Rattle.std.specs.Prelude.{◌≡◌, ◌≢◌, ◌≤◌, ◌<◌, ◌*◌, [], ℕ, Bool, None, Some, IfOk, IfSome, false, length, replicate};
 ghost use Rattle.controller_walk.specs.Faults.{next_of};
 ghost use Rattle.controller_walk.specs.Laws.{IsApart};
 ghost use Rattle.controller_walk.specs.Walks.{course, direction_of, is_over, need_of};
 ghost use Rattle.entry_codec.specs.declared.submission.SubEntry.{SubEntry};
 ghost use Rattle.texts.specs.Ending.{Ends, ends_with, list_of};
+ghost use Rattle.texts.specs.Fetched.{bytes_fetched};
 ghost use Rattle.texts.specs.Stored.{bytes_moved, field_fault, most_blocks, stored_of};
 ghost use Rattle.texts.specs.Taking.{AreOf, own};
+ghost use Rattle.io_commands.specs.declared.request.Kind.TheVariants.{Read};
 ghost use Rattle.io_commands.specs.Jobs.{kind_of_opcode, block_number as spec_block_number, direction_of_entry};
 ghost use Rattle.page_memory.specs.Memory.{Memory};
 ghost use Rattle.texts.specs.Sparse.{byte_in};
@@ -47,7 +49,8 @@ fn final_status(kind: Kind, stored: &[u8], bytes: &[u8], fault: Option<WalkFault
 
 /// The bytes that a command begins with: those that stand in the blocks of a Read, and zeros for what a Write or a Compare fetches.
 fn first_bytes(alloc: Global, kind: Kind, stored: &[u8]) -> Result<Vec<u8>, AllocError>
-    ensures { IfOk result (λ bytes. length bytes.items ≡ length stored.now) }
+    ensures len { IfOk result (λ bytes. length bytes.items ≡ length stored.now) }
+    ensures zeros { IfOk result (λ bytes. kind ≢ Read → bytes.items ≡ replicate (length stored.now) 0) }
 {
     match kind {
         Kind::Read => Vec::from_slice(alloc, stored),
@@ -97,9 +100,9 @@ pub fn explain(
         → IsApart at (direction_of_entry entry.now) (list_of namespace.now.size (byte_in memory.old.pool) entry.now)
         → AreOf (byte_in memory.old.pool) entry.now.sgl1 (list_of namespace.now.size (byte_in memory.old.pool) entry.now) told.taken.items) }
 
-    // and the status is that of the fault, or, of a command whose list was accepted, that of its bytes.
-    ensures status { IfOk result (λ told. field_fault namespace.now.number namespace.now.size namespace.now.blocks entry.now ≡ None → (bytes : List ℕ)
-        × (told.status ≡ ends_with (stored_of namespace.now.size namespace.now.given.items entry.now) entry.now bytes told.fault)) }
+    // and the status is that of the fault, or, of a command whose list was accepted, that of the bytes which its list fetched.
+    ensures status { IfOk result (λ told. field_fault namespace.now.number namespace.now.size namespace.now.blocks entry.now ≡ None
+        → told.status ≡ ends_with (stored_of namespace.now.size namespace.now.given.items entry.now) entry.now (bytes_fetched namespace.now.size (byte_in memory.old.pool) entry.now) told.fault) }
 {
     let kind = match checked(entry, namespace) {
         Ok(kind) => kind,

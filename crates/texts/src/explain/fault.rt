@@ -76,7 +76,7 @@ pub enum Wrong {
 
 impl Wrong {
     /// Its name.
-    pub fn name(self) -> &'static str {
+    pub(crate) fn name(self) -> &'static str {
         match self {
             Wrong::NoText => "BadLine",
             Wrong::NoKey => "UnknownWord",

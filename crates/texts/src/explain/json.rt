@@ -172,13 +172,13 @@ fn end_object(
     })
 }
 
-/// Puts what [`crate::explain::put_explanation`] puts as JSON: an object for each descriptor that was taken, and one for the command's end. Numbers of 64 bits are hexadecimal texts;
+/// Puts what [`crate::explain::text::put_explanation`] puts as JSON: an object for each descriptor that was taken, and one for the command's end. Numbers of 64 bits are hexadecimal texts;
 /// `at` is null for a descriptor that stands in the entry. An entry that breaks a rule for its fields has an object too.
 ///
 /// # Errors
 ///
 /// Where memory is refused.
-pub fn put_objects(
+pub(crate) fn put_objects(
     alloc: Global,
     out: &mut String,
     case: &Case,

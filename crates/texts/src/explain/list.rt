@@ -6,7 +6,9 @@ ghost use Rattle.controller_walk.specs.Faults.{next_of};
 ghost use Rattle.controller_walk.specs.Laws.{IsApart};
 ghost use Rattle.controller_walk.specs.Units.{Course, Does, Reads};
 ghost use Rattle.controller_walk.specs.Walks.{course, direction_of, is_over, left_of, need_of};
+ghost use Rattle.sgl_descriptor.specs.declared.Direction.TheVariants.{Source};
 ghost use Rattle.texts.specs.Ending.{Ends, Goes, WalkedTo};
+ghost use Rattle.texts.specs.Fetched.{Fetches, fetched};
 ghost use Rattle.texts.specs.Taking.{AreOf, TellsTaken, ToldTo, taken_at, taken_next, with_next};
 ghost use Rattle.texts.specs.declared.explain.list.Taken.{Taken};
 ghost use Rattle.page_memory.specs.Memory.{Memory};
@@ -85,6 +87,9 @@ fn step<D: Dma>(walk: &mut Walk, sgl1: &[u8; 16], dma: &mut D, staging: &mut [u8
     ensures tells { (at : ℕ → Bool) (m : Memory) (c : Course) (told : List Taken) → IsApart at (direction_of walk.old) c
         → TellsTaken at m sgl1.now c told walk.old (D.memory dma.old)
         → ToldTo (is_over walk.new) at m sgl1.now c (with_next told (taken_next (D.memory dma.old) sgl1.now walk.old)) walk.new (D.memory dma.new) }
+
+    // A walk that fetches leaves of its bytes what it left of those before.
+    ensures fetches { Fetches walk.old walk.new (D.memory dma.old) (D.memory dma.new) staging.old staging.new }
     ensures direction { direction_of walk.new ≡ direction_of walk.old }
     ensures need { need_of walk.new ≡ need_of walk.old }
     ensures fewer { left_of walk.new < left_of walk.old }
@@ -109,6 +114,7 @@ pub(crate) fn walk_list(
         → Ends at m c walked.fault) }
     ensures told { IfOk result (λ walked. (at : ℕ → Bool) (m : Memory) (c : Course) → IsApart at (direction_of begun) c
         → TellsTaken at m sgl1.now c [] begun (byte_in memory.old.pool) → AreOf m sgl1.now c walked.taken.items) }
+    ensures fetched { IfOk result (λ _. direction_of begun ≡ Source → staging.new ≡ fetched (byte_in memory.old.pool) (course (byte_in memory.old.pool) begun) staging.old) }
     ensures staging { length staging.new ≡ length staging.old }
 {
     let mut walk = begun;

@@ -1,5 +1,8 @@
 //! Single entries and descriptors.
 
+ghost use Rattle.std.specs.Prelude.{◌≡◌};
+ghost use Rattle.texts.specs.Words.{shown_named};
+
 use crate::explain::answer::Layout;
 use crate::explain::dump::{Dump, FILE};
 use crate::explain::entry::{put_admin, put_entry, put_whole_completion};
@@ -38,20 +41,22 @@ pub enum Shown {
 
 impl Shown {
     /// What a word names: `sqe`, `admin`, `cqe`, `sgl` or `status`.
-    pub fn named(word: &str) -> Option<Shown> {
-        let words = [
-            ("sqe", Shown::Submission),
-            ("admin", Shown::Admin),
-            ("cqe", Shown::Completion),
-            ("sgl", Shown::Descriptor),
-            ("status", Shown::Status),
-        ];
-        for (name, shown) in words {
-            if word == name {
-                return Some(shown);
-            }
+    pub fn named(word: &str) -> Option<Shown>
+        ensures { result ≡ shown_named word.now }
+    {
+        if word == "sqe" {
+            Some(Shown::Submission)
+        } else if word == "admin" {
+            Some(Shown::Admin)
+        } else if word == "cqe" {
+            Some(Shown::Completion)
+        } else if word == "sgl" {
+            Some(Shown::Descriptor)
+        } else if word == "status" {
+            Some(Shown::Status)
+        } else {
+            None
         }
-        None
     }
 }
 

@@ -199,7 +199,7 @@ pub(crate) fn put_rest(out: &mut String, explanation: &Explanation) -> Result<()
 /// # Errors
 ///
 /// Where memory is refused.
-pub fn put_explanation(
+pub(crate) fn put_explanation(
     out: &mut String,
     case: &Case,
     explanation: &Explanation,

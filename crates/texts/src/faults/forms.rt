@@ -77,7 +77,7 @@ pub(crate) fn slots_of_job(submitters: u16) -> [Slot; 5] {
 
 impl Slot {
     /// Its name in the forms of lines.
-    pub fn name(self) -> &'static str {
+    pub(crate) fn name(self) -> &'static str {
         match self {
             Slot::Queue => "Q",
             Slot::Identifier => "CID",

@@ -1,5 +1,8 @@
 //! An object on a line, and what stands in it as hexadecimal digits.
 
+ghost use Rattle.std.specs.Prelude.{◌≡◌, ◌++◌, IfOk, OnOk, string_bytes};
+ghost use Rattle.texts.specs.Words.{hex_byte_text, hex_text};
+
 use serde::Serialize;
 use std::alloc::{AllocError, Global};
 
@@ -27,8 +30,15 @@ pub fn put_object<T: Serialize>(
 /// # Errors
 ///
 /// Where memory is refused.
-pub fn hex_number(alloc: Global, number: u64) -> Result<String, AllocError> {
+pub(crate) fn hex_number(alloc: Global, number: u64) -> Result<String, AllocError> {
     format!(in alloc; "0x{number:X}")
+}
+
+/// Puts a byte as two hexadecimal digits.
+fn put_hex_byte(out: &mut String, byte: u8) -> Result<(), AllocError>
+    ensures { OnOk result (string_bytes out.new ≡ string_bytes out.old ++ hex_byte_text byte) }
+{
+    write!(out, "{byte:02X}")
 }
 
 /// Bytes as two hexadecimal digits each.
@@ -36,10 +46,12 @@ pub fn hex_number(alloc: Global, number: u64) -> Result<String, AllocError> {
 /// # Errors
 ///
 /// Where memory is refused.
-pub fn hex_bytes(alloc: Global, bytes: &[u8]) -> Result<String, AllocError> {
+pub fn hex_bytes(alloc: Global, bytes: &[u8]) -> Result<String, AllocError>
+    ensures { IfOk result (λ text. string_bytes text ≡ hex_text bytes.now) }
+{
     let mut text = String::new(alloc);
     for byte in bytes {
-        write!(text, "{byte:02X}")?;
+        put_hex_byte(&mut text, *byte)?;
     }
     Ok(text)
 }

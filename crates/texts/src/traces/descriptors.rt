@@ -69,7 +69,7 @@ fn put_unknown(out: &mut String, bytes: &[u8; 16]) -> Result<(), AllocError> {
 /// # Errors
 ///
 /// Where memory is refused.
-pub fn put_descriptor(out: &mut String, bytes: &[u8; 16]) -> Result<(), AllocError> {
+pub(crate) fn put_descriptor(out: &mut String, bytes: &[u8; 16]) -> Result<(), AllocError> {
     match Descriptor::read(bytes) {
         Ok(Descriptor::DataBlock { addr, len }) => put_at(out, "Data Block", addr, len),
         Ok(Descriptor::BitBucket { len }) => write!(out, "Bit Bucket, length {len}"),

@@ -1,5 +1,7 @@
 //! Entries of queues, field by field.
 
+ghost use Rattle.std.specs.Prelude.{◌≡◌};
+
 use crate::traces::descriptors::put_descriptor;
 use crate::traces::lists::put_list;
 use crate::traces::slots::{put_completion_slot, put_submission_slot};
@@ -33,7 +35,11 @@ pub(crate) fn opcode_name(q: u16, opcode: u8) -> &'static str {
 /// # Errors
 ///
 /// Where memory is refused.
-pub fn put_submission_fields(out: &mut String, q: u16, entry: &SubEntry) -> Result<(), AllocError> {
+pub(crate) fn put_submission_fields(
+    out: &mut String,
+    q: u16,
+    entry: &SubEntry,
+) -> Result<(), AllocError> {
     let SubEntry {
         opcode,
         fuse,
@@ -69,7 +75,9 @@ pub(crate) fn put_submission(
     q: u16,
     slot: u16,
     list: bool,
-) -> Result<(), AllocError> {
+) -> Result<(), AllocError>
+    ensures same { bench.new.table ≡ bench.old.table }
+{
     let Some(bytes) = put_submission_slot(out, bench, q, slot)? else {
         return Ok(());
     };
@@ -86,7 +94,7 @@ pub(crate) fn put_submission(
 /// # Errors
 ///
 /// Where memory is refused.
-pub fn put_completion_fields(out: &mut String, entry: &ComEntry) -> Result<(), AllocError> {
+pub(crate) fn put_completion_fields(out: &mut String, entry: &ComEntry) -> Result<(), AllocError> {
     let ComEntry {
         dw0,
         sqhd,
@@ -108,7 +116,9 @@ pub(crate) fn put_completion(
     bench: &mut Bench,
     q: u16,
     slot: u16,
-) -> Result<(), AllocError> {
+) -> Result<(), AllocError>
+    ensures same { bench.new.table ≡ bench.old.table }
+{
     let Some(bytes) = put_completion_slot(out, bench, q, slot)? else {
         return Ok(());
     };

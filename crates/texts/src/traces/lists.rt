@@ -1,5 +1,7 @@
 //! Scatter-gather lists.
 
+ghost use Rattle.std.specs.Prelude.{◌≡◌};
+
 use crate::traces::bytes::{put_place, sixteen_at};
 use crate::traces::descriptors::put_descriptor;
 use sgl_descriptor::Descriptor;
@@ -34,7 +36,9 @@ fn put_segment(
     out: &mut String,
     bench: &mut Bench,
     segment: Segment,
-) -> Result<Option<Segment>, AllocError> {
+) -> Result<Option<Segment>, AllocError>
+    ensures same { bench.new.table ≡ bench.old.table }
+{
     out.push_str("  segment at ")?;
     put_place(out, segment.addr)?;
     out.push_str("\n")?;
@@ -60,7 +64,9 @@ pub(crate) fn put_list(
     out: &mut String,
     bench: &mut Bench,
     first: &[u8; 16],
-) -> Result<(), AllocError> {
+) -> Result<(), AllocError>
+    ensures same { bench.new.table ≡ bench.old.table }
+{
     let mut next = segment_of(first);
     for _ in 0..MOST_SEGMENTS {
         let Some(segment) = next else {

@@ -1,5 +1,8 @@
 //! Which step is traced, and what it moved.
 
+ghost use Rattle.std.specs.Prelude.{◌≡◌};
+ghost use Rattle.texts.specs.Traces.{traced_of};
+
 use crate::traces::entries::{put_completion, put_submission};
 use crate::traces::rings::{put_doorbell, slot_before};
 use std::alloc::AllocError;
@@ -25,7 +28,9 @@ pub enum Traced {
 
 impl Traced {
     /// What of a step its trace needs.
-    pub fn of(step: &Step) -> Traced {
+    pub fn of(step: &Step) -> Traced
+        ensures { result ≡ traced_of step.now }
+    {
         match step {
             Step::Submit { q, .. } => Traced::Entry(*q),
             Step::Ring { q } => Traced::Ring(*q),
@@ -88,7 +93,9 @@ fn put_host(
     traced: Traced,
     q: u16,
     rings: &Rings,
-) -> Result<(), AllocError> {
+) -> Result<(), AllocError>
+    ensures same { bench.new.table ≡ bench.old.table }
+{
     let (tail, head) = (rings.host.submission_tail, rings.host.completion_head);
     match traced {
         Traced::Entry(_) => put_submission(out, bench, q, slot_before(entries, tail), true),
@@ -109,7 +116,9 @@ fn put_controller(
     traced: Traced,
     q: u16,
     rings: &Rings,
-) -> Result<(), AllocError> {
+) -> Result<(), AllocError>
+    ensures same { bench.new.table ≡ bench.old.table }
+{
     match (traced, rings.submission, rings.completion) {
         (Traced::Fetch(_), Some(at), _) => {
             put_submission(out, bench, q, slot_before(entries, at.head), false)
@@ -146,7 +155,7 @@ fn was_done(reply: &Reply) -> bool {
     }
 }
 
-/// Puts what a step moved, from what the bench shows behind it: the entry that was put into a queue, with the segments of its list; the completion that
+/// Puts what a step moved, from what the bench shows after it: the entry that was put into a queue, with the segments of its list; the completion that
 /// was posted or taken; the value that was written to a doorbell; the pages that the controller touched. Of a refused step there is
 /// nothing. It looks at each page, to find those of a queue.
 ///
@@ -159,7 +168,9 @@ pub fn put_trace(
     entries: u16,
     traced: Traced,
     reply: &Reply,
-) -> Result<(), AllocError> {
+) -> Result<(), AllocError>
+    ensures same { bench.new.table ≡ bench.old.table }
+{
     if !was_done(reply) {
         return Ok(());
     }

@@ -1,7 +1,7 @@
 -- The descriptor is looked at before the step, and that changes no byte.
 use Rattle.std.proofs.Common.{◌≡◌, sym, subst}
 use Rattle.controller_walk.specs.Walks.{is_over}
-use Rattle.texts.{proofs.Telling.{tells_on, steps_on}, specs.{Ending.Goes, Taking.{TellsTaken, ToldTo, taken_next, with_next}}}
+use Rattle.texts.{proofs.{Fetched.step_fetches, Telling.{tells_on, steps_on}}, specs.{Ending.Goes, Fetched.Fetches, Taking.{TellsTaken, ToldTo, taken_next, with_next}}}
 use Rattle.page_memory.specs.Memory.{Memory}
 use Rattle.texts.proofs.explain.list.step.Goals as goal
 
@@ -21,3 +21,9 @@ returns-clause-tells g c at m list told apart tells =
     subst (λ (x : Memory). ToldTo (is_over c.step.new.self) at m c.args.sgl1.now list (with_next told (taken_next x c.args.sgl1.now c.args.walk.now)) c.step.new.self (g.D.Dma.memory c.step.new.dma)) same
     (tells_on at m c.args.sgl1.now list told c.args.walk.now c.step.new.self c.step.result _ _ _ _ _ _ c.next_taken-next.ensures.reads apart tells' c.step.ensures.does
     c.step.ensures.leaves c.step.ensures.over)
+
+pub returns-clause-fetches : goal.returns-clause-fetches
+returns-clause-fetches g c =
+    let same : g.D.Dma.memory c.next_taken-next.new.dma ≡ g.D.Dma.memory c.args.dma.now = c.next_taken-next.ensures.memory in
+    subst (λ (x : Memory). Fetches c.args.walk.now c.step.new.self x (g.D.Dma.memory c.step.new.dma) c.args.staging.now c.step.new.staging) same
+    (step_fetches c.args.walk.now c.step.new.self c.step.result _ _ _ _ _ _ c.step.ensures.does c.step.ensures.leaves c.step.ensures.over)
