@@ -35,7 +35,7 @@ extern "C" {
 /* The version of this header, and of the library that is linked. Versions 0.N may differ in any call and struct. */
 #define NVMESGL_VERSION "0.5.0"
 #define NVMESGL_VERSION_MAJOR 0
-#define NVMESGL_VERSION_MINOR 4
+#define NVMESGL_VERSION_MINOR 5
 #define NVMESGL_VERSION_PATCH 0
 const char *nvmesgl_version(void);
 
