@@ -2,6 +2,8 @@ pub mod HeldValues
 mod HeldSends
 pub mod Named
 pub mod Slices
+mod Tables
+mod Runs
 mod Lending
 mod Seen
 mod Told

@@ -13,6 +13,8 @@ mod next;
 mod opening;
 mod options;
 mod over;
+mod region_calls;
+mod regions;
 
 pub use handle::Handle;
 pub use looks::CCommand;
