@@ -4,6 +4,8 @@ pub mod Named
 pub mod Slices
 mod Tables
 mod Runs
+mod Hidden
+mod Marks
 mod Lending
 mod Seen
 mod Told

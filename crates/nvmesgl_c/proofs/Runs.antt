@@ -7,7 +7,7 @@ use Rattle.nvmesgl_c.specs.declared.words.region.{CRegion.CRegion, Run.Run}
 
 -- Which addresses a region has
 
-clash : (b : Bool) → b ≡ true → b ≡ false → ⊥
+pub clash : (b : Bool) → b ≡ true → b ≡ false → ⊥
 clash b has lacks = cc
 
 decide : (b : Bool) → (b ≡ true) ⊎ (b ≡ false)
@@ -29,7 +29,7 @@ starts r p has = elim (cases_lt p r.addr) [
   | inr high ↦ high
 ]
 
-same_range : (old new : CRegion) (p : ℕ) → new.addr ≡ old.addr → length new.bytes.now ≡ length old.bytes.now → has_byte new p ≡ has_byte old p
+pub same_range : (old new : CRegion) (p : ℕ) → new.addr ≡ old.addr → length new.bytes.now ≡ length old.bytes.now → has_byte new p ≡ has_byte old p
 same_range old new p addr len = λ i. nat_le (addr i) p && nat_lt p (addr i + len i)
 
 pub clear_less : (r : CRegion) (addr count less : ℕ) → IsClear r addr count → less ≤ count → IsClear r addr less
@@ -55,7 +55,7 @@ byte_here r rs p has = ap (λ (b : Bool). if b then slice_get r.bytes.now (p - r
 byte_on : (r : CRegion) (rs : List CRegion) (p : ℕ) → has_byte r p ≡ false → byte_in (r ∷ rs) p ≡ byte_in rs p
 byte_on r rs p lacks = ap (λ (b : Bool). if b then slice_get r.bytes.now (p - r.addr) else byte_in rs p) lacks
 
-same_region : (a b : CRegion) → Some a ≡ Some b → a ≡ b
+pub same_region : (a b : CRegion) → Some a ≡ Some b → a ≡ b
 same_region a b e = cc
 
 byte_found : (rs : List CRegion) (place p : ℕ) (r : CRegion) → slice_get rs place ≡ Some r

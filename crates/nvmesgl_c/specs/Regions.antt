@@ -1,6 +1,6 @@
 -- Memory that lies in regions of C's, each at addresses of its own.
 use Rattle.std.specs.Borrow.{GName}
-use Rattle.std.specs.Prelude.{◌≡◌, ◌+◌, ◌-◌, ◌*◌, ◌/◌, ◌&&◌, ◌<◌, ◌≤◌, ℕ, zero, suc, Bool, false, List, [], ◌∷◌, Some, None, if◌then◌else◌, length, map, max, min, nat_le, nat_lt, slice_get}
+use Rattle.std.specs.Prelude.{◌≡◌, ◌+◌, ◌-◌, ◌*◌, ◌/◌, ◌&&◌, ◌||◌, ◌<◌, ◌≤◌, ℕ, zero, suc, Bool, false, List, [], ◌∷◌, Option, Some, None, if◌then◌else◌, length, map, max, min, nat_le, nat_lt, slice_get}
 use Rattle.nvmesgl_c.specs.declared.words.region.{CRegion.CRegion, Run.Run, Share.{Share, TheVariants.{Front, Clear}}}
 use Rattle.page_memory.specs.Memory.{Memory}
 
@@ -55,6 +55,24 @@ pub record IsRun (regions : List CRegion) (addr most : ℕ) (run : Run) : Type 0
   pub few : run.count ≤ most
   pub first : (place : ℕ) (before : CRegion) → place < run.place → slice_get regions place ≡ Some before → IsClear before addr run.count
 
+-- Of the bytes of a region those that no address shows, the last first: a region before it has their address, or no page has
+
+abbrev pub is_past : ℕ → Bool
+is_past place = nat_le past_pages place
+
+abbrev pub hidden_of : (ℕ → Bool) → CRegion → ℕ → List (Option ℕ)
+hidden_of taken region zero = []
+hidden_of taken region (suc n) =
+    (if taken (region.addr + n) then slice_get region.bytes.now n else None) ∷ hidden_of taken region n
+
+abbrev pub hidden_among : (ℕ → Bool) → List CRegion → List (List (Option ℕ))
+hidden_among taken [] = []
+hidden_among taken (region ∷ regions) =
+    hidden_of taken region (length region.bytes.now) ∷ hidden_among (λ place. taken place || has_byte region place) regions
+
+abbrev pub hidden_in : List CRegion → List (List (Option ℕ))
+hidden_in regions = hidden_among is_past regions
+
 -- where each region begins, how many bytes it has, and where they lie
 pub record Row : Type 0 where
   pub addr : ℕ
@@ -67,7 +85,7 @@ row_of region = record { addr = region.addr; len = length region.bytes.now; lies
 abbrev pub table_of : List CRegion → List Row
 table_of regions = map row_of regions
 
--- two numbers as one, which tells both; and so a table
+-- two numbers as one, which tells both; and so a table, and lists of bytes
 unfoldable pub paired : ℕ → ℕ → ℕ
 paired zero b = 2 * b + 1
 paired (suc a) b = 2 * paired a b
@@ -75,3 +93,15 @@ paired (suc a) b = 2 * paired a b
 unfoldable pub number_of : List Row → ℕ
 number_of [] = 0
 number_of (row ∷ rows) = paired row.addr (paired row.len (paired row.lies (number_of rows)))
+
+abbrev pub byte_number : Option ℕ → ℕ
+byte_number None = 0
+byte_number (Some byte) = byte + 1
+
+unfoldable pub bytes_number : List (Option ℕ) → ℕ
+bytes_number [] = 0
+bytes_number (byte ∷ bytes) = paired (byte_number byte) (bytes_number bytes)
+
+unfoldable pub lists_number : List (List (Option ℕ)) → ℕ
+lists_number [] = 0
+lists_number (bytes ∷ lists) = paired (bytes_number bytes) (lists_number lists)

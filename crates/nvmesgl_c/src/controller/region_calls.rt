@@ -4,7 +4,7 @@ ghost use Rattle.std.specs.Prelude.{◌≡◌};
 ghost use Rattle.nvmesgl_c.specs.ControllerKept.{kept_in};
 ghost use Rattle.nvmesgl_c.specs.ControllerCalls.{FetchesBy, WalksBy, CompletesBy};
 ghost use Rattle.nvmesgl_c.specs.ControllerOver.{LentOver, TellsNextOver};
-ghost use Rattle.nvmesgl_c.specs.Regions.{table_of};
+ghost use Rattle.nvmesgl_c.specs.Regions.{hidden_in, table_of};
 
 use crate::controller::handle::Handle;
 use crate::controller::next::{CStep, step_of};
@@ -24,6 +24,7 @@ pub extern "C" fn nvmectl_fetch_over(
 ) -> u32
     ensures calls { LentOver (FetchesBy q) (kept_in handle.old) regions.old result answer.new (kept_in handle.new) regions.new }
     ensures table { table_of regions.new ≡ table_of regions.old }
+    ensures hidden { hidden_in regions.new ≡ hidden_in regions.old }
 {
     *answer = nothing();
     let mut controller = match handle.take(alloc) {
@@ -47,6 +48,7 @@ pub extern "C" fn nvmectl_walk_over(
 ) -> u32
     ensures calls { LentOver (WalksBy q cid) (kept_in handle.old) regions.old result answer.new (kept_in handle.new) regions.new }
     ensures table { table_of regions.new ≡ table_of regions.old }
+    ensures hidden { hidden_in regions.new ≡ hidden_in regions.old }
 {
     *answer = nothing();
     let mut controller = match handle.take(alloc) {
@@ -70,6 +72,7 @@ pub extern "C" fn nvmectl_complete_over(
 ) -> u32
     ensures calls { LentOver (CompletesBy q cid) (kept_in handle.old) regions.old result answer.new (kept_in handle.new) regions.new }
     ensures table { table_of regions.new ≡ table_of regions.old }
+    ensures hidden { hidden_in regions.new ≡ hidden_in regions.old }
 {
     *answer = nothing();
     let mut controller = match handle.take(alloc) {
@@ -91,6 +94,7 @@ pub extern "C" fn nvmectl_next_over(
 ) -> u32
     ensures tells { TellsNextOver (kept_in handle.old) regions.old result step.old step.new (kept_in handle.new) regions.new }
     ensures table { table_of regions.new ≡ table_of regions.old }
+    ensures hidden { hidden_in regions.new ≡ hidden_in regions.old }
 {
     let controller = match handle.take(alloc) {
         Ok(controller) => controller,

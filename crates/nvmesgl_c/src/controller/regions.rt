@@ -3,7 +3,7 @@
 ghost use Rattle.std.specs.Prelude.{◌≡◌, []};
 ghost use Rattle.nvmesgl_c.specs.ControllerCalls.{FetchesBy, WalksBy, CompletesBy};
 ghost use Rattle.nvmesgl_c.specs.ControllerNext.{Sees};
-ghost use Rattle.nvmesgl_c.specs.Regions.{memory_of, pages_of, table_of};
+ghost use Rattle.nvmesgl_c.specs.Regions.{hidden_in, memory_of, pages_of, table_of};
 
 use crate::controller::code::code_of_refusal;
 use crate::words::code::DONE;
@@ -13,7 +13,7 @@ use crate::words::{
 use arrayvec::ArrayVec;
 use controller_core::{Controller, ControllerStep};
 
-/// Fetches over a memory that is lent, and tells what was fetched. The borrow and the table are the same ones afterwards.
+/// Fetches over a memory that is lent, and tells what was fetched. The borrow, the table and what no address shows are the same afterwards.
 fn fetch_over(
     controller: &mut Controller,
     q: u16,
@@ -23,6 +23,7 @@ fn fetch_over(
     requires fresh { memory.old.touched.items ≡ [] }
     ensures same { memory.new.regions.ghost_name ≡ memory.old.regions.ghost_name }
     ensures table { table_of memory.new.regions.now ≡ table_of memory.old.regions.now }
+    ensures hidden { hidden_in memory.new.regions.now ≡ hidden_in memory.old.regions.now }
     ensures fetches { FetchesBy q controller.old memory.old.pages (memory_of memory.old.regions.now) result answer.new controller.new (memory_of memory.new.regions.now) }
 {
     let fetched = controller.fetch(q, memory);
@@ -36,7 +37,7 @@ fn fetch_over(
     }
 }
 
-/// Does a unit of a command's list over a memory that is lent, and tells how the list stands. The borrow and the table are the same ones afterwards.
+/// Does a unit of a command's list over a memory that is lent, and tells how the list stands. The borrow, the table and what no address shows are the same afterwards.
 fn walk_over(
     controller: &mut Controller,
     q: u16,
@@ -47,6 +48,7 @@ fn walk_over(
     requires fresh { memory.old.touched.items ≡ [] }
     ensures same { memory.new.regions.ghost_name ≡ memory.old.regions.ghost_name }
     ensures table { table_of memory.new.regions.now ≡ table_of memory.old.regions.now }
+    ensures hidden { hidden_in memory.new.regions.now ≡ hidden_in memory.old.regions.now }
     ensures walks { WalksBy q cid controller.old memory.old.pages (memory_of memory.old.regions.now) result answer.new controller.new (memory_of memory.new.regions.now) }
 {
     match controller.walk(q, cid, memory) {
@@ -61,7 +63,7 @@ fn walk_over(
     }
 }
 
-/// Completes a command over a memory that is lent. The borrow and the table are the same ones afterwards.
+/// Completes a command over a memory that is lent. The borrow, the table and what no address shows are the same afterwards.
 fn complete_over(
     controller: &mut Controller,
     q: u16,
@@ -72,6 +74,7 @@ fn complete_over(
     requires fresh { memory.old.touched.items ≡ [] }
     ensures same { memory.new.regions.ghost_name ≡ memory.old.regions.ghost_name }
     ensures table { table_of memory.new.regions.now ≡ table_of memory.old.regions.now }
+    ensures hidden { hidden_in memory.new.regions.now ≡ hidden_in memory.old.regions.now }
     ensures completes { CompletesBy q cid controller.old memory.old.pages (memory_of memory.old.regions.now) result answer.new controller.new (memory_of memory.new.regions.now) }
 {
     let completed = controller.complete(q, cid, memory);
@@ -82,13 +85,14 @@ fn complete_over(
     }
 }
 
-/// Looks for a step over a memory that is lent. The borrow and the table are the same ones afterwards.
+/// Looks for a step over a memory that is lent. The borrow, the table and what no address shows are the same afterwards.
 fn look_over(
     controller: &Controller,
     memory: &mut LentRegionsRecord<'_, '_>,
 ) -> Option<ControllerStep>
     ensures same { memory.new.regions.ghost_name ≡ memory.old.regions.ghost_name }
     ensures table { table_of memory.new.regions.now ≡ table_of memory.old.regions.now }
+    ensures hidden { hidden_in memory.new.regions.now ≡ hidden_in memory.old.regions.now }
     ensures kept { memory_of memory.new.regions.now ≡ memory_of memory.old.regions.now }
     ensures sees { Sees controller.now (memory_of memory.old.regions.now) result }
 {
@@ -104,6 +108,7 @@ pub(crate) fn fetch(
 ) -> u32
     ensures fetches { FetchesBy q controller.old (pages_of regions.old) (memory_of regions.old) result answer.new controller.new (memory_of regions.new) }
     ensures table { table_of regions.new ≡ table_of regions.old }
+    ensures hidden { hidden_in regions.new ≡ hidden_in regions.old }
 {
     let pages = pages_in(regions);
     let mut memory = LentRegions {
@@ -124,6 +129,7 @@ pub(crate) fn walk(
 ) -> u32
     ensures walks { WalksBy q cid controller.old (pages_of regions.old) (memory_of regions.old) result answer.new controller.new (memory_of regions.new) }
     ensures table { table_of regions.new ≡ table_of regions.old }
+    ensures hidden { hidden_in regions.new ≡ hidden_in regions.old }
 {
     let pages = pages_in(regions);
     let mut memory = LentRegions {
@@ -144,6 +150,7 @@ pub(crate) fn complete(
 ) -> u32
     ensures completes { CompletesBy q cid controller.old (pages_of regions.old) (memory_of regions.old) result answer.new controller.new (memory_of regions.new) }
     ensures table { table_of regions.new ≡ table_of regions.old }
+    ensures hidden { hidden_in regions.new ≡ hidden_in regions.old }
 {
     let pages = pages_in(regions);
     let mut memory = LentRegions {
@@ -158,6 +165,7 @@ pub(crate) fn complete(
 pub(crate) fn look(controller: &Controller, regions: &mut [CRegion<'_>]) -> Option<ControllerStep>
     ensures kept { memory_of regions.new ≡ memory_of regions.old }
     ensures table { table_of regions.new ≡ table_of regions.old }
+    ensures hidden { hidden_in regions.new ≡ hidden_in regions.old }
     ensures sees { Sees controller.now (memory_of regions.old) result }
 {
     let pages = pages_in(regions);

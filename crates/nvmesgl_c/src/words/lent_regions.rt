@@ -19,14 +19,14 @@ pub struct LentRegions<'a, 'b> {
 }
 
 impl<'a, 'b> Dma for LentRegions<'a, 'b> {
-    ghost use Rattle.nvmesgl_c.specs.Regions.{memory_of, number_of, paired, table_of};
+    ghost use Rattle.nvmesgl_c.specs.Regions.{hidden_in, lists_number, memory_of, number_of, paired, table_of};
 
     ghost memory = { λ m. memory_of m.regions.now };
 
     ghost reached = { λ m. m.touched.items };
 
-    // the name of the borrow, and the table: no call changes them, so what stands in the regions afterwards is the lender's
-    ghost unlisted = { λ m. paired m.regions.ghost_name (number_of (table_of m.regions.now)) };
+    // the name of the borrow, the table, and the bytes that no address shows: no call changes them, so what stands in the regions afterwards is the lender's
+    ghost unlisted = { λ m. paired m.regions.ghost_name (paired (number_of (table_of m.regions.now)) (lists_number (hidden_in m.regions.now))) };
 
     ghost page_count = { λ m. m.pages };
 
@@ -64,10 +64,10 @@ pub struct LentRegionsRecord<'a, 'b> {
 
 impl<'a, 'b> Dma for LentRegionsRecord<'a, 'b> {
     ghost use Rattle.nvmesgl_c.specs.Named.{named_memory};
-    ghost use Rattle.nvmesgl_c.specs.Regions.{memory_of, number_of, paired, table_of};
+    ghost use Rattle.nvmesgl_c.specs.Regions.{hidden_in, lists_number, memory_of, number_of, paired, table_of};
 
-    // the name of the borrow and the table stand behind all addresses, since each count here has another use
-    ghost memory = { λ m. named_memory (memory_of m.regions.now) (paired m.regions.ghost_name (number_of (table_of m.regions.now))) };
+    // these stand behind all addresses, since each count here has another use
+    ghost memory = { λ m. named_memory (memory_of m.regions.now) (paired m.regions.ghost_name (paired (number_of (table_of m.regions.now)) (lists_number (hidden_in m.regions.now)))) };
 
     ghost reached = { λ m. m.touched.items };
 

@@ -4,7 +4,7 @@
 //! moved in runs, each as long as one region serves.
 
 ghost use Rattle.std.specs.Prelude.{◌≡◌, ◌≢◌, ◌+◌, ◌<◌, ◌≤◌, ℕ, true, false, IfNone, IfSome, IsSome, None, OnErr, OnOk, Some, length, max, slice_index};
-ghost use Rattle.nvmesgl_c.specs.Regions.{IsMissing, IsRun, IsShare, byte_in, memory_of, pages_of, pages_up_to, table_of};
+ghost use Rattle.nvmesgl_c.specs.Regions.{IsMissing, IsRun, IsShare, byte_in, hidden_in, memory_of, pages_of, pages_up_to, table_of};
 ghost use Rattle.page_memory.specs.Memory.{bytes_at, written};
 ghost use Rattle.page_memory.specs.Pages.{with_bytes};
 
@@ -127,6 +127,7 @@ fn copy_to(regions: &mut [CRegion<'_>], addr: u64, bytes: &[u8])
     requires low { addr + length bytes.now ≤ 17592186044416 }
     requires there { (k : ℕ) → k < length bytes.now → IsSome (byte_in regions.old (addr + k)) }
     ensures table { table_of regions.new ≡ table_of regions.old }
+    ensures hidden { hidden_in regions.new ≡ hidden_in regions.old }
     ensures written { byte_in regions.new ≡ written (byte_in regions.old) addr bytes.now }
 {
     let mut done = 0;
@@ -167,6 +168,7 @@ pub(crate) fn write_range(
 ) -> Result<(), Unreadable>
     requires { 0 < length bytes.now }
     ensures table { table_of regions.new ≡ table_of regions.old }
+    ensures hidden { hidden_in regions.new ≡ hidden_in regions.old }
     ensures low { OnOk result (addr + length bytes.now ≤ 17592186044416) }
     ensures there { OnOk result (bytes_at (memory_of regions.old) addr (length bytes.now) ≢ None) }
     ensures written { OnOk result (memory_of regions.new ≡ written (memory_of regions.old) addr bytes.now) }

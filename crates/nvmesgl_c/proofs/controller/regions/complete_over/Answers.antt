@@ -1,4 +1,4 @@
-use Rattle.nvmesgl_c.proofs.Tables.{same_mark}
+use Rattle.nvmesgl_c.proofs.Marks.{same_mark}
 use Rattle.nvmesgl_c.proofs.Told.{complete_ok, complete_err}
 use Rattle.nvmesgl_c.proofs.controller.regions.complete_over.Goals as goal
 
@@ -13,13 +13,19 @@ returns-in-Err-clause-completes c =
     c.as_slice.ensures.value c.code_of_refusal.ensures
 
 pub returns-in-Ok-clause-same : goal.returns-in-Ok-clause-same
-returns-in-Ok-clause-same c = (same_mark _ _ _ _ c.complete-completed.ensures.unlisted).0
+returns-in-Ok-clause-same c = (same_mark _ _ _ _ _ _ c.complete-completed.ensures.unlisted).0
 
 pub returns-in-Ok-clause-table : goal.returns-in-Ok-clause-table
-returns-in-Ok-clause-table c = (same_mark _ _ _ _ c.complete-completed.ensures.unlisted).1
+returns-in-Ok-clause-table c = (same_mark _ _ _ _ _ _ c.complete-completed.ensures.unlisted).1
 
 pub returns-in-Err-clause-same : goal.returns-in-Err-clause-same
-returns-in-Err-clause-same c = (same_mark _ _ _ _ c.complete-completed.ensures.unlisted).0
+returns-in-Err-clause-same c = (same_mark _ _ _ _ _ _ c.complete-completed.ensures.unlisted).0
 
 pub returns-in-Err-clause-table : goal.returns-in-Err-clause-table
-returns-in-Err-clause-table c = (same_mark _ _ _ _ c.complete-completed.ensures.unlisted).1
+returns-in-Err-clause-table c = (same_mark _ _ _ _ _ _ c.complete-completed.ensures.unlisted).1
+
+pub returns-in-Ok-clause-hidden : goal.returns-in-Ok-clause-hidden
+returns-in-Ok-clause-hidden c = (same_mark _ _ _ _ _ _ c.complete-completed.ensures.unlisted).2
+
+pub returns-in-Err-clause-hidden : goal.returns-in-Err-clause-hidden
+returns-in-Err-clause-hidden c = (same_mark _ _ _ _ _ _ c.complete-completed.ensures.unlisted).2
