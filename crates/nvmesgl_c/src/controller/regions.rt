@@ -7,9 +7,7 @@ ghost use Rattle.nvmesgl_c.specs.Regions.{hidden_in, memory_of, pages_of, table_
 
 use crate::controller::code::code_of_refusal;
 use crate::words::code::DONE;
-use crate::words::{
-    Answer, CRegion, LentRegions, LentRegionsRecord, pages_in, touching, walked,
-};
+use crate::words::{Answer, CRegion, LentRegions, LentRegionsRecord, pages_in, touching, walked};
 use arrayvec::ArrayVec;
 use controller_core::{Controller, ControllerStep};
 
