@@ -1,0 +1,30 @@
+-- What is told of a text, line after line.
+use Rattle.std.proofs.Common.{◌≡◌, ℕ, Result, Ok, Err, List, [], ◌∷◌, ◌++◌, refl, sym, ap, ◌∙◌}
+use Rattle.script_cli.specs.Transcripts.{all_told, line_read, lines_said, next_number, read_above, told_line, told_of, with_above, with_below, Below, IsFaultOf, LineText, ToldText}
+use Rattle.script_cli.specs.declared.transcripts.fault.TranscriptFault.{TranscriptFault}
+use Rattle.script_cli.specs.declared.transcripts.fault.TranscriptFault.TheVariants as fault
+use Rattle.script_cli.specs.declared.script.Line.TheVariants as line
+
+-- the lines of the script so far, the last of them with the answers that follow, and the lines below these
+abbrev pub told_with : List ToldText → ToldText → Result Below TranscriptFault → Result (List ToldText) TranscriptFault
+told_with front last (Ok below) = Ok (front ++ with_below last below)
+told_with front last (Err why) = Err why
+
+pub begins : (below : Result Below TranscriptFault) → told_with [] (told_line 0 line.Nothing []) below ≡ all_told below
+begins (Ok below) = refl
+begins (Err why) = refl
+
+-- one line more
+pub goes_on : (front front' : List ToldText) (last last' : ToldText) (number : ℕ) (what : LineText) (below : Result Below TranscriptFault)
+    → ((b : Below) → front' ++ with_below last' b ≡ front ++ with_below last (with_above number what b))
+    → told_with front' last' below ≡ told_with front last (read_above number (Ok what) below)
+goes_on front front' last last' number what (Ok below) same = ap (λ (l : List ToldText). Ok l) (same below)
+goes_on front front' last last' number what (Err why) same = refl
+
+-- a fault is that of all lines
+pub is_fault : (meant : Result LineText TranscriptFault) (why : TranscriptFault) (front : List ToldText) (last : ToldText) (number : ℕ) (below : Result Below TranscriptFault) (all : Result (List ToldText) TranscriptFault)
+    → IsFaultOf meant why → told_with front last (read_above number meant below) ≡ all → IsFaultOf all why
+is_fault meant (fault.Line n f) front last number below all found same = sym same ∙ ap (λ (m : Result LineText TranscriptFault). told_with front last (read_above number m below)) found
+is_fault meant (fault.BadOptions n) front last number below all found same = sym same ∙ ap (λ (m : Result LineText TranscriptFault). told_with front last (read_above number m below)) found
+is_fault meant fault.TooLong front last number below all found same = sym same ∙ ap (λ (m : Result LineText TranscriptFault). told_with front last (read_above number m below)) found
+is_fault meant fault.Memory front last number below all found same = tt
