@@ -4,3 +4,4 @@ pub mod Runs
 pub mod Options
 pub mod ToldLines
 pub mod DifferenceLaws
+pub mod Answers

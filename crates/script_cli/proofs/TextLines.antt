@@ -1,6 +1,6 @@
 -- The lines of a text, as they come one after the other.
 use Rattle.std.proofs.Common.{arith, ◌≡◌, ◌<◌, ◌-◌, ◌==◌, ◌&&◌, ℕ, Bool, true, false, Some, None, List, [], ◌∷◌, length, take, get_or, refl, sym, ap, ◌∙◌, subst, suc, if◌then◌else◌}
-use Rattle.std.proofs.lemmas.{Bool.{true≢false, and_parts}, Iterator.{YieldsList}, Iterator.Splits.{YieldsList-from_lines}, List.Splits.{length-slice_split}}
+use Rattle.std.proofs.lemmas.{Bool.{true≢false, and_parts, ne_eqb}, Iterator.{YieldsList}, Iterator.Splits.{YieldsList-from_lines}, List.Splits.{length-slice_split}}
 use Rattle.std.specs.{Borrow.Bor, List.{onto_first, slice_split}, Str.Iter.{lines_rest, lines_steps}, Str.Lines.{lines_of_parts, strip_carriage_return}}
 use Rattle.std.specs.Str.Lines as std
 use Rattle.std.specs.declared.str.Lines.{Lines}
@@ -32,7 +32,10 @@ parts_cons x [] some = absurd (omega arith)
 parts_cons x (y ∷ more) some = refl
 
 front_of_parts : (b c : ℕ) (y : List ℕ) (more : List (List ℕ)) → lines_of_parts ((b ∷ c ∷ y) ∷ more) ≡ onto_first b (lines_of_parts ((c ∷ y) ∷ more))
-front_of_parts b c y [] = refl
+front_of_parts b c y [] =
+    let long : (length (b ∷ c ∷ y) == 0) ≡ false = ne_eqb (length (b ∷ c ∷ y)) 0 (λ e. omega arith) in
+    let some : (length (c ∷ y) == 0) ≡ false = ne_eqb (length (c ∷ y)) 0 (λ e. omega arith) in
+    ap (λ (v : Bool). if v then [] else (b ∷ c ∷ y) ∷ []) long ∙ ap (λ (v : Bool). onto_first b (if v then [] else (c ∷ y) ∷ [])) (sym some)
 front_of_parts b c y (z ∷ zs) = ap (λ (l : List ℕ). l ∷ lines_of_parts (z ∷ zs)) (strip_front b c y)
 
 front_onto : (b c : ℕ) (ps : List (List ℕ)) → lines_of_parts (onto_first b (onto_first c ps)) ≡ onto_first b (lines_of_parts (onto_first c ps))

@@ -1,6 +1,7 @@
 -- What is told of a text, line after line.
 use Rattle.std.proofs.Common.{◌≡◌, ℕ, Result, Ok, Err, List, [], ◌∷◌, ◌++◌, refl, sym, ap, ◌∙◌}
-use Rattle.script_cli.specs.Transcripts.{all_told, line_read, lines_said, next_number, read_above, told_line, told_of, with_above, with_below, Below, IsFaultOf, LineText, ToldText}
+use Rattle.std.proofs.lemmas.List.{append-nil}
+use Rattle.script_cli.specs.Transcripts.{all_told, line_read, lines_said, next_number, read_above, told_line, told_of, with_above, with_below, AnswerText, Below, IsFaultOf, LineText, ToldText}
 use Rattle.script_cli.specs.declared.transcripts.fault.TranscriptFault.{TranscriptFault}
 use Rattle.script_cli.specs.declared.transcripts.fault.TranscriptFault.TheVariants as fault
 use Rattle.script_cli.specs.declared.script.Line.TheVariants as line
@@ -20,6 +21,24 @@ pub goes_on : (front front' : List ToldText) (last last' : ToldText) (number : �
     → told_with front' last' below ≡ told_with front last (read_above number (Ok what) below)
 goes_on front front' last last' number what (Ok below) same = ap (λ (l : List ToldText). Ok l) (same below)
 goes_on front front' last last' number what (Err why) same = refl
+
+pub starts : (front : List ToldText) (last : ToldText) (bytes : List (List ℕ)) → front ≡ [] → last ≡ told_line 0 line.Nothing [] → told_with front last (lines_said 1 bytes) ≡ told_of bytes
+starts front last bytes e f = (λ i. told_with (e i) (f i) (lines_said 1 bytes)) ∙ begins (lines_said 1 bytes)
+
+pub one_more : (front front' : List ToldText) (last last' : ToldText) (number number' : ℕ) (meant : Result LineText TranscriptFault) (what : LineText) (more : List (List ℕ)) (all : Result (List ToldText) TranscriptFault)
+    → told_with front last (read_above number meant (lines_said (next_number number) more)) ≡ all → meant ≡ Ok what → number' ≡ next_number number
+    → ((b : Below) → front' ++ with_below last' b ≡ front ++ with_below last (with_above number what b))
+    → told_with front' last' (lines_said number' more) ≡ all
+one_more front front' last last' number number' meant what more all before found next same =
+    (λ i. told_with front' last' (lines_said (next i) more)) ∙ goes_on front front' last last' number what (lines_said (next_number number) more) same
+    ∙ (λ i. told_with front last (read_above number (sym found i) (lines_said (next_number number) more))) ∙ before
+
+-- no line is left
+pub ends : (front : List ToldText) (last : ToldText) (number : ℕ) (left : List (List ℕ)) (all : Result (List ToldText) TranscriptFault)
+    → left ≡ [] → told_with front last (lines_said number left) ≡ all → all ≡ Ok (front ++ last ∷ [])
+ends front last number left all none before =
+    sym before ∙ (λ i. told_with front last (lines_said number (none i)))
+    ∙ ap (λ (answers : List AnswerText). Ok (front ++ record last { answers = answers } ∷ [])) (append-nil last.answers)
 
 -- a fault is that of all lines
 pub is_fault : (meant : Result LineText TranscriptFault) (why : TranscriptFault) (front : List ToldText) (last : ToldText) (number : ℕ) (below : Result Below TranscriptFault) (all : Result (List ToldText) TranscriptFault)

@@ -85,7 +85,7 @@ fn different(
     wanted: Option<&str>,
     came: Option<&str>,
 ) -> Result<Option<Difference>, AllocError>
-    ensures { IfOk result (λ found. option_map difference_text found ≡ differs number (option_map (λ text. text.now) wanted) (option_map (λ text. text.now) came)) }
+    ensures { IfOk result (λ found. option_map difference_text found ≡ differs number (option_map (λ text. text.now) wanted.entry) (option_map (λ text. text.now) came.entry)) }
 {
     Ok(Some(Difference {
         number,
@@ -96,7 +96,7 @@ fn different(
 
 /// A text of one's own.
 fn owned(alloc: Global, text: Option<&str>) -> Result<Option<String>, AllocError>
-    ensures { IfOk result (λ made. option_map string_bytes made ≡ option_map (λ text. text.now) text) }
+    ensures { IfOk result (λ made. option_map string_bytes made ≡ option_map (λ text. text.now) text.entry) }
 {
     match text {
         Some(text) => Ok(Some(String::from_str(alloc, text)?)),

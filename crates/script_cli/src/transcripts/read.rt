@@ -1,10 +1,10 @@
 //! How a transcript is read.
 
-ghost use Rattle.std.specs.Prelude.{◌≡◌, ◌++◌, ◌∷◌, [], IfOk, MatchOption, MatchResult, Ok, Some, None, map, option_map, string_bytes, ℕ, true};
-ghost use Rattle.script_cli.specs.Lines.{is_blank, is_solid, lines, onward};
+ghost use Rattle.std.specs.Prelude.{◌≡◌, ◌++◌, [], IfOk, MatchResult, Ok, map, option_map, string_bytes};
+ghost use Rattle.script_cli.specs.Lines.{is_solid, lines, onward};
 ghost use Rattle.script_cli.specs.Grammar.{line_of};
 ghost use Rattle.script_cli.specs.Options.{over as spec_over};
-ghost use Rattle.script_cli.specs.Transcripts.{answer_of as spec_answer_of, behind_sign, line_read as spec_line_read, no_answer, script_line as spec_script_line, line_text, told_line, told_of, told_text, transcript_of, with_above, with_below, with_line_above, Below, IsFaultOf, LineText};
+ghost use Rattle.script_cli.specs.Transcripts.{answer_of as spec_answer_of, behind_blank as spec_behind_blank, behind_sign, line_read as spec_line_read, no_answer, script_line as spec_script_line, line_text, told_line, told_of, told_text, transcript_of, with_above, with_below, with_line_above, Below, IsFaultOf, LineText};
 
 use crate::fault::LineError;
 use crate::grammar::read_line;
@@ -76,7 +76,7 @@ impl Transcript {
 
 /// What stands behind a blank.
 fn behind_blank(text: &str) -> Option<&str>
-    ensures { MatchOption result (onward is_solid text.now ≡ text.now) (λ behind. (blank : ℕ) × (is_blank blank ≡ true) × (text.now ≡ blank ∷ behind.now)) }
+    ensures { option_map (λ behind. behind.now) result ≡ spec_behind_blank text.now }
 {
     match text.strip_prefix(' ') {
         Some(behind) => Some(behind),
@@ -85,6 +85,7 @@ fn behind_blank(text: &str) -> Option<&str>
 }
 
 /// A text without the blanks at its front.
+#[tactic(auto, using(crate::proofs::Answers::goes_behind, crate::proofs::Answers::is_shorter, crate::proofs::Answers::stands))]
 fn unindented(text: &str) -> &str
     ensures { result.now ≡ onward is_solid text.now }
 {
