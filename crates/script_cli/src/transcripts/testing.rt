@@ -156,7 +156,7 @@ pub fn compared(
     printed: &[String],
     options: Option<&str>,
 ) -> Result<Outcome, AllocError>
-    ensures { IfOk result (λ outcome. IsComparedAs text.now (difference_of (map told_text told.now) (map string_bytes printed.now)) (is_some options) outcome) }
+    ensures { IfOk result (λ outcome. IsComparedAs text.now (difference_of (map told_text told.now) (map string_bytes printed.now)) (is_some options.entry) outcome) }
 {
     let difference = first_of_all(alloc, told, printed)?;
     if difference.is_none() && options.is_none() {

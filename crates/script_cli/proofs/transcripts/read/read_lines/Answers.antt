@@ -15,14 +15,14 @@ loop-line-init c =
 
 pub returns-in-Err : goal.returns-in-Err
 returns-in-Err c =
-    let step = next_line c.in-Some.line c.loop-line.invariant.0 c.loop-line.invariant.1 c.in-Some.ensures.steps in
+    let step = next_line {t = c.next.new.self} c.in-Some.line c.loop-line.invariant.0 c.loop-line.invariant.1 c.in-Some.ensures.steps in
     is_fault (line_read c.loop-line.number c.in-Some.line.now) c.in-Err.fault (map told_text c.loop-line.told.items) (told_text c.loop-line.last) c.loop-line.number
     (lines_said (next_number c.loop-line.number) step.0) (told_of (lines c.args.text.now)) c.in-Err.ensures
     ((λ i. told_with (map told_text c.loop-line.told.items) (told_text c.loop-line.last) (lines_said c.loop-line.number (sym step.1 i))) ∙ c.loop-line.invariant.2)
 
 pub loop-line-preserved : goal.loop-line-preserved
 loop-line-preserved c =
-    let step = next_line c.in-Some.line c.loop-line.invariant.0 c.loop-line.invariant.1 c.in-Some.ensures.steps in (
+    let step = next_line {t = c.next.new.self} c.in-Some.line c.loop-line.invariant.0 c.loop-line.invariant.1 c.in-Some.ensures.steps in (
       step.0,
       step.2,
       one_more (map told_text c.loop-line.told.items) (map told_text c.add.new.told.items) (told_text c.loop-line.last) (told_text c.in-Ok-add.last) c.loop-line.number c.saturating_add-number.result
