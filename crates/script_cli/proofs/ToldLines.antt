@@ -1,7 +1,8 @@
 -- What is told of a text, line after line.
-use Rattle.std.proofs.Common.{◌≡◌, ℕ, Result, Ok, Err, List, [], ◌∷◌, ◌++◌, refl, sym, ap, ◌∙◌}
+use Rattle.std.proofs.Common.{codes, false, if◌then◌else◌, ◌≡◌, ℕ, Result, Ok, Err, List, [], ◌∷◌, ◌++◌, refl, sym, ap, ◌∙◌}
 use Rattle.std.proofs.lemmas.List.{append-nil}
-use Rattle.script_cli.specs.Transcripts.{all_told, line_read, lines_said, next_number, read_above, told_line, told_of, with_above, with_below, AnswerText, Below, IsFaultOf, LineText, ToldText}
+use Rattle.script_cli.specs.{Grammar.line_of, Options.begins_with}
+use Rattle.script_cli.specs.Transcripts.{all_told, line_read, lines_said, next_number, no_answer, options_line, read_above, script_line, told_line, told_of, with_above, with_below, AnswerText, Below, IsFaultOf, LineText, ToldText}
 use Rattle.script_cli.specs.declared.transcripts.fault.TranscriptFault.{TranscriptFault}
 use Rattle.script_cli.specs.declared.transcripts.fault.TranscriptFault.TheVariants as fault
 use Rattle.script_cli.specs.declared.script.Line.TheVariants as line
@@ -47,3 +48,7 @@ is_fault meant (fault.Line n f) front last number below all found same = sym sam
 is_fault meant (fault.BadOptions n) front last number below all found same = sym same ∙ ap (λ (m : Result LineText TranscriptFault). told_with front last (read_above number m below)) found
 is_fault meant fault.TooLong front last number below all found same = sym same ∙ ap (λ (m : Result LineText TranscriptFault). told_with front last (read_above number m below)) found
 is_fault meant fault.Memory front last number below all found same = tt
+
+-- a line that does not say options
+pub is_of_script : (number : ℕ) (bytes : List ℕ) → begins_with (codes "# options:") bytes ≡ false → no_answer number bytes ≡ script_line number (line_of bytes)
+is_of_script number bytes none = λ i. if none i then options_line number else script_line number (line_of bytes)

@@ -140,13 +140,15 @@ fn script_line(alloc: Global, number: u32, line: &str) -> Result<Line, Transcrip
 fn other_line(alloc: Global, number: u32, line: &str) -> Result<Line, TranscriptFault>
     ensures { MatchResult result (λ what. no_answer number line.now ≡ Ok (LineText.a_line what)) (IsFaultOf (no_answer number line.now)) }
 {
-    if !line.as_bytes().starts_with(OPTIONS.as_bytes()) {
-        return script_line(alloc, number, line);
-    }
-    if number == 1 {
-        Ok(Line::Nothing)
-    } else {
-        Err(TranscriptFault::BadOptions { number })
+    match line.as_bytes().strip_prefix(OPTIONS.as_bytes()) {
+        None => script_line(alloc, number, line),
+        Some(_) => {
+            if number == 1 {
+                Ok(Line::Nothing)
+            } else {
+                Err(TranscriptFault::BadOptions { number })
+            }
+        }
     }
 }
 
