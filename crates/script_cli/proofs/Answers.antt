@@ -1,6 +1,6 @@
 -- Lines that are answers.
-use Rattle.std.proofs.Common.{arith, ◌≡◌, ◌≢◌, ◌<◌, ◌==◌, ◌||◌, ℕ, Bool, true, false, Option, Some, None, MatchOption, List, [], ◌∷◌, length, option_map, refl, sym, ap, ◌∙◌}
-use Rattle.std.proofs.lemmas.Bool.{eqb-true, true≢false}
+use Rattle.std.proofs.Common.{arith, ◌≡◌, ◌≢◌, ◌<◌, ◌==◌, ℕ, Bool, true, false, Option, Some, None, MatchOption, List, [], ◌∷◌, length, option_map, refl, sym, ap}
+use Rattle.std.proofs.lemmas.Bool.{eqb-true}
 use Rattle.std.specs.{Borrow.Bor}
 use Rattle.script_cli.specs.Lines.{is_blank, is_solid, onward}
 use Rattle.script_cli.specs.Transcripts.{behind_blank, behind_indent, behind_sign}

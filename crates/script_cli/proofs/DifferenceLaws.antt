@@ -1,5 +1,5 @@
 -- Where answers and printed lines differ, and that there is no difference exactly where they are the same.
-use Rattle.std.proofs.Common.{◌≡◌, ◌↔◌, ℕ, Bool, true, false, not, IsNone, Option, Some, None, List, [], ◌∷◌, map, refl, sym, ap, ◌∙◌, if◌then◌else◌}
+use Rattle.std.proofs.Common.{◌≡◌, ◌↔◌, ℕ, Bool, true, false, not, IsNone, Option, Some, None, List, [], ◌∷◌, map, refl, sym, ◌∙◌, if◌then◌else◌}
 use Rattle.std.proofs.lemmas.{Bool.{true≢false}, Slice.Eq.{bytes_eq-Decides}}
 use Rattle.std.specs.Str.{bytes_eq}
 use Rattle.script_cli.specs.Differences.{difference_below, differs, DifferenceText, NoneIfSame}

@@ -2,7 +2,7 @@
 use Rattle.std.proofs.Common.{codes, false, if◌then◌else◌, ◌≡◌, ℕ, Result, Ok, Err, List, [], ◌∷◌, ◌++◌, refl, sym, ap, ◌∙◌}
 use Rattle.std.proofs.lemmas.List.{append-nil}
 use Rattle.script_cli.specs.{Grammar.line_of, Options.begins_with}
-use Rattle.script_cli.specs.Transcripts.{all_told, line_read, lines_said, next_number, no_answer, options_line, read_above, script_line, told_line, told_of, with_above, with_below, AnswerText, Below, IsFaultOf, LineText, ToldText}
+use Rattle.script_cli.specs.Transcripts.{all_told, lines_said, next_number, no_answer, options_line, read_above, script_line, told_line, told_of, with_above, with_below, AnswerText, Below, IsFaultOf, LineText, ToldText}
 use Rattle.script_cli.specs.declared.transcripts.fault.TranscriptFault.{TranscriptFault}
 use Rattle.script_cli.specs.declared.transcripts.fault.TranscriptFault.TheVariants as fault
 use Rattle.script_cli.specs.declared.script.Line.TheVariants as line

@@ -25,12 +25,7 @@ pub struct Options {
 }
 
 /// Puts an option, unless its number is the usual one.
-fn put_unusual(
-    line: &mut String,
-    name: &str,
-    number: u32,
-    usual: u32,
-) -> Result<(), AllocError>
+fn put_unusual(line: &mut String, name: &str, number: u32, usual: u32) -> Result<(), AllocError>
     ensures { OnOk result (string_bytes line.new ≡ string_bytes line.old ++ unless_usual name.now number usual) }
 {
     if number == usual {

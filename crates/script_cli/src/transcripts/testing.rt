@@ -131,9 +131,10 @@ fn first_of_all(
 {
     let mut left = told;
     let mut texts = printed;
-    while let (Some((told, others)), Some((came, more))) =
-        (left.split_first(), texts.split_first())
-    {
+    while let (Some((told, others)), Some((came, more))) = (
+        left.split_first(),
+        texts.split_first(),
+    ) {
         let found = first_difference(alloc, told, came)?;
         if found.is_some() {
             return Ok(found);

@@ -1,5 +1,5 @@
 -- Each printed line is the next answer, or differs from it.
-use Rattle.std.proofs.Common.{rules, ◌≡◌, ◌∷◌, [], ◌∙◌, not, true, false, ℕ, List, Some, None, Option, IfOk, map, option_map, ap, string_bytes, subst, sym}
+use Rattle.std.proofs.Common.{rules, ◌≡◌, [], ◌∙◌, not, true, false, ℕ, List, Some, Option, IfOk, map, option_map, ap, string_bytes, subst, sym}
 use Rattle.std.proofs.lemmas.List.{nil_from_length}
 use Rattle.std.specs.{Str.bytes_eq, Str.Iter.lines_rest}
 use Rattle.script_cli.proofs.{DifferenceLaws.{another, as_told, not_false, not_true, too_many}, TextLines.{all_lines, next_line}}
@@ -30,13 +30,13 @@ returns-then-ne c =
     let step = next_line {t = c.next.new.self} c.in-Some.came c.loop-came.invariant.0 c.loop-came.invariant.1 c.in-Some.ensures.steps in
     let other : not (bytes_eq c.as_str-wanted.result.now c.in-Some.came.now) ≡ true = cc in
     let differ : bytes_eq (string_bytes c.in-Some-split_first.answer.now.text) c.in-Some.came.now ≡ false =
-        ap (λ (t : List ℕ). bytes_eq t c.in-Some.came.now) (sym c.as_str-wanted.ensures.value) ∙ not_true (bytes_eq c.as_str-wanted.result.now c.in-Some.came.now) other in
+    ap (λ (t : List ℕ). bytes_eq t c.in-Some.came.now) (sym c.as_str-wanted.ensures.value) ∙ not_true (bytes_eq c.as_str-wanted.result.now c.in-Some.came.now) other in
     record {
       first =
           subst (λ (d : Option DifferenceText). IfOk c.different-then-ne.result (λ found. option_map difference_text found ≡ d))
           (ap (λ (t : List ℕ). differs c.in-Some-split_first.answer.now.number (Some t) (Some c.in-Some.came.now)) c.as_str-wanted.ensures.value
           ∙ another c.loop-came.number (map answer_text c.loop-came.answers.now) c.in-Some.came.now c.loop-came.invariant.0 step.0 (first_difference (told_text c.args.told.now) (lines c.args.printed.now)) step.1 c.loop-came.invariant.2
-            (answer_text c.in-Some-split_first.answer.now) (map answer_text c.in-Some-split_first.rest.now) (ap (map answer_text) c.in-Some-split_first.ensures.cases.0) differ)
+          (answer_text c.in-Some-split_first.answer.now) (map answer_text c.in-Some-split_first.rest.now) (ap (map answer_text) c.in-Some-split_first.ensures.cases.0) differ)
           c.different-then-ne.ensures;
     }
 
@@ -45,9 +45,9 @@ loop-came-preserved c =
     let step = next_line {t = c.next.new.self} c.in-Some.came c.loop-came.invariant.0 c.loop-came.invariant.1 c.in-Some.ensures.steps in
     let alike : not (bytes_eq c.as_str-wanted.result.now c.in-Some.came.now) ≡ false = cc in
     let same : bytes_eq (string_bytes c.in-Some-split_first.answer.now.text) c.in-Some.came.now ≡ true =
-        ap (λ (t : List ℕ). bytes_eq t c.in-Some.came.now) (sym c.as_str-wanted.ensures.value) ∙ not_false (bytes_eq c.as_str-wanted.result.now c.in-Some.came.now) alike in (
+    ap (λ (t : List ℕ). bytes_eq t c.in-Some.came.now) (sym c.as_str-wanted.ensures.value) ∙ not_false (bytes_eq c.as_str-wanted.result.now c.in-Some.came.now) alike in (
       step.0,
       step.2,
       as_told c.loop-came.number (map answer_text c.loop-came.answers.now) c.in-Some.came.now c.loop-came.invariant.0 step.0 (first_difference (told_text c.args.told.now) (lines c.args.printed.now)) step.1 c.loop-came.invariant.2
-      (answer_text c.in-Some-split_first.answer.now) (map answer_text c.in-Some-split_first.rest.now) (ap (map answer_text) c.in-Some-split_first.ensures.cases.0) same,
+          (answer_text c.in-Some-split_first.answer.now) (map answer_text c.in-Some-split_first.rest.now) (ap (map answer_text) c.in-Some-split_first.ensures.cases.0) same,
     )

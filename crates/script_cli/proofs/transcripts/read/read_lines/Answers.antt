@@ -1,5 +1,5 @@
 -- Each line goes on from those above it.
-use Rattle.std.proofs.{Common.{◌≡◌, ◌∷◌, ◌++◌, [], List, map, Ok, sym, ap, ◌∙◌}, lemmas.List.map-append}
+use Rattle.std.proofs.{Common.{◌≡◌, ◌∷◌, ◌++◌, [], map, Ok, sym, ap, ◌∙◌}, lemmas.List.map-append}
 use Rattle.std.specs.Str.Iter.{lines_rest}
 use Rattle.script_cli.proofs.{TextLines.{all_lines, next_line, no_line}, ToldLines.{ends, is_fault, one_more, starts, told_with}}
 use Rattle.script_cli.specs.{Lines.lines, Transcripts.{line_read, line_text, lines_said, next_number, told_of, told_text}}
@@ -26,9 +26,9 @@ loop-line-preserved c =
       step.0,
       step.2,
       one_more (map told_text c.loop-line.told.items) (map told_text c.add.new.told.items) (told_text c.loop-line.last) (told_text c.in-Ok-add.last) c.loop-line.number c.saturating_add-number.result
-      (line_read c.loop-line.number c.in-Some.line.now) (line_text c.in-Ok.read) step.0 (told_of (lines c.args.text.now))
-      ((λ i. told_with (map told_text c.loop-line.told.items) (told_text c.loop-line.last) (lines_said c.loop-line.number (sym step.1 i))) ∙ c.loop-line.invariant.2)
-      c.in-Ok.ensures c.saturating_add-number.ensures c.in-Ok-add.ensures,
+          (line_read c.loop-line.number c.in-Some.line.now) (line_text c.in-Ok.read) step.0 (told_of (lines c.args.text.now))
+          ((λ i. told_with (map told_text c.loop-line.told.items) (told_text c.loop-line.last) (lines_said c.loop-line.number (sym step.1 i))) ∙ c.loop-line.invariant.2)
+          c.in-Ok.ensures c.saturating_add-number.ensures c.in-Ok-add.ensures,
     )
 
 pub returns-in-Ok-push : goal.returns-in-Ok-push

@@ -2,7 +2,7 @@
 use Rattle.std.proofs.Common.{arith, ◌≡◌, ◌+◌, [], length, min, ap, ◌∙◌, zero-add}
 use Rattle.std.specs.Str.Iter.{lines_rest}
 use Rattle.script_cli.proofs.TextLines.{all_lines, next_line, no_line}
-use Rattle.script_cli.specs.{Lines.lines, Outcomes.line_count}
+use Rattle.script_cli.specs.{Lines.lines}
 use Rattle.script_cli.proofs.transcripts.testing.count_lines.Goals as goal
 
 pub loop-line-init : goal.loop-line-init
