@@ -1,5 +1,5 @@
 -- The options that the first line of a script says.
-use Rattle.std.specs.{Prelude.{ℕ, ◌==◌, ◌≤◌, ◌&&◌, Bool, false, true, nat_le, Option, Some, None, List, [], ◌∷◌, ◌++◌, codes, drop, length, option_and_then, option_map, take, unwrap_or, if◌then◌else◌}, Fmt.decimal, Str.bytes_eq}
+use Rattle.std.specs.{Prelude.{ℕ, ◌==◌, ◌≤◌, ◌&&◌, Bool, false, true, nat_le, Option, Some, None, List, [], ◌∷◌, ◌++◌, codes, drop, length, option_and_then, option_map, take, unwrap_or, if◌then◌else◌}, Fmt.decimal, Str.{bytes_eq, Lossy.utf8_valid_len}}
 use Rattle.script_cli.specs.{Lines.{before, first_line, onward, words}, Pieces.number32}
 use Rattle.script_cli.specs.declared.transcripts.options.{Options.Options, SaidOptions.SaidOptions, ScriptKind.{ScriptKind, TheVariants.{Jobs, Steps}}}
 
@@ -64,6 +64,51 @@ said_from kind (Some name) said (word ∷ rest) = option_and_then (λ more. said
 -- what a line says: nothing, unless it begins with `# options:`, or that its words are no options
 abbrev pub said_on : ScriptKind → List ℕ → Option SaidOptions
 said_on kind line = if begins_with (codes "# options:") line then said_from kind None nothing_said (words (drop 10 line)) else Some nothing_said
+
+-- an option of words: its name, and what stands for its number, if something does
+abbrev pub NamedOption : Type 0
+NamedOption = List ℕ × Option (List ℕ)
+
+abbrev pub option_of_word : List ℕ → List ℕ → (Option (List ℕ) → List NamedOption) → List NamedOption
+option_of_word word [] rest = rest (Some (unhyphened word))
+option_of_word word (equals ∷ digits) rest = (unhyphened (before is_equals word), Some digits) ∷ rest None
+
+-- the options of words, where what stands for the number of one is perhaps wanted
+abbrev pub options_among : Option (List ℕ) → List (List ℕ) → List NamedOption
+options_among None [] = []
+options_among (Some name) [] = (name, None) ∷ []
+options_among None (word ∷ rest) = option_of_word word (onward is_equals word) (λ name. options_among name rest)
+options_among (Some name) (word ∷ rest) = (name, Some word) ∷ options_among None rest
+
+-- bytes that are a text
+abbrev pub if_text : List ℕ → Option (List ℕ)
+if_text bytes = if utf8_valid_len bytes == length bytes then Some bytes else None
+
+-- the path of an image, if an option names one
+abbrev pub image_path : List ℕ → Option (List ℕ) → Option (List ℕ)
+image_path name None = None
+image_path name (Some path) = if bytes_eq name (codes "image") then if_text path else None
+
+abbrev pub SaidWithImage : Type 0
+SaidWithImage = SaidOptions × Option (List ℕ)
+
+-- one option more, by the path that it names: an image where none was said before, or else an option of a script of steps
+abbrev pub with_image : SaidOptions → Option (List ℕ) → List ℕ → Option (List ℕ) → Option (List ℕ) → Option SaidWithImage
+with_image said None name number (Some path) = Some (said, Some path)
+with_image said (Some image) name number (Some path) = None
+with_image said image name number None = option_map (λ more. (more, image)) (with_option Steps said name (option_and_then number32 number))
+
+abbrev pub with_named : SaidWithImage → NamedOption → Option SaidWithImage
+with_named so_far next = with_image so_far.0 so_far.1 next.0 next.1 (image_path next.0 next.1)
+
+-- what options say, and the path of an image among them, after what was said
+abbrev pub said_with_image : SaidWithImage → List NamedOption → Option SaidWithImage
+said_with_image so_far [] = Some so_far
+said_with_image so_far (next ∷ rest) = option_and_then (λ more. said_with_image more rest) (with_named so_far next)
+
+-- what words say, and the path of an image
+abbrev pub words_said : List (List ℕ) → Option SaidWithImage
+words_said all = said_with_image (nothing_said, None) (options_among None all)
 
 -- these options, but for those that are said
 abbrev pub over : SaidOptions → Options → Options

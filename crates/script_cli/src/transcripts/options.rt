@@ -1,8 +1,8 @@
 //! The options of a script or a transcript.
 
-ghost use Rattle.std.specs.Prelude.{◌≡◌, ◌≤◌, ◌<◌, [], ◌∷◌, ◌++◌, IfOk, IfSome, OnOk, string_bytes, MatchOption, MatchResult, None, Some, ℕ, length, option_and_then, unwrap_or};
-ghost use Rattle.script_cli.specs.Lines.{before, onward};
-ghost use Rattle.script_cli.specs.Options.{AreFew, is_equals, nothing_said, few as spec_few, jobs_options_in, once as spec_once, options_in, options_line, over as spec_over, said_from, said_on, unhyphened as spec_unhyphened, unless_usual, with_option};
+ghost use Rattle.std.specs.Prelude.{◌≡◌, ◌≤◌, ◌<◌, [], ◌∷◌, ◌++◌, IfOk, IfSome, OnOk, string_bytes, MatchOption, MatchResult, None, Some, ℕ, length, option_and_then, option_map, unwrap_or};
+ghost use Rattle.script_cli.specs.Lines.{before, onward, words};
+ghost use Rattle.script_cli.specs.Options.{AreFew, is_equals, nothing_said, few as spec_few, if_text, image_path, jobs_options_in, once as spec_once, options_among, options_in, options_line, over as spec_over, said_from, said_on, unhyphened as spec_unhyphened, unless_usual, with_named, with_option, words_said};
 ghost use Rattle.script_cli.specs.Pieces.{number32 as spec_number32};
 
 use crate::lines::split_line;
@@ -200,6 +200,7 @@ fn split_equals(word: &[u8]) -> Option<(&[u8], &[u8])>
 fn take_option<'a>(words: &mut Words<'a>) -> Option<Said<'a>>
     ensures said { MatchOption result (words.old ≡ []) (λ said. (kind : ScriptKind) (before : SaidOptions) → said_from kind None before words.old ≡ option_and_then (λ more. said_from kind None more words.new) (with_option kind before said.name.now (option_and_then (λ n. spec_number32 n.now) said.number))) }
     ensures fewer { IfSome result (λ said. length words.new < length words.old) }
+    ensures named { MatchOption result (words.old ≡ []) (λ said. options_among None words.old ≡ (said.name.now, option_map (λ n. n.now) said.number) ∷ options_among None words.new) }
 {
     let word = words.take_first()?;
     if let Some((name, number)) = split_equals(word) {
@@ -227,11 +228,29 @@ impl<'a> Said<'a> {
     }
 
     /// The path of an image, if it names one.
-    fn image(&self) -> Option<&'a str> {
-        if self.name != "image".as_bytes() {
-            return None;
+    fn image(&self) -> Option<&'a str>
+        ensures { option_map (λ path. path.now) result ≡ image_path self.now.name.now (option_map (λ n. n.now) self.now.number) }
+    {
+        match self.number {
+            None => None,
+            Some(path) => {
+                if self.name == "image".as_bytes() {
+                    text_in(path)
+                } else {
+                    None
+                }
+            }
         }
-        std::str::from_utf8(self.number?).ok()
+    }
+}
+
+/// The text that bytes are, if they are one.
+fn text_in(bytes: &[u8]) -> Option<&str>
+    ensures { option_map (λ text. text.now) result ≡ if_text bytes.now }
+{
+    match std::str::from_utf8(bytes) {
+        Ok(text) => Some(text),
+        Err(_) => None,
     }
 }
 
@@ -345,29 +364,51 @@ impl SaidOptions {
         }
     }
 
+    /// One option more, or the path of an image.
+    fn with_image<'a>(
+        self,
+        image: Option<&'a str>,
+        next: &Said<'a>,
+    ) -> Result<(SaidOptions, Option<&'a str>), WhyBad>
+        requires few { AreFew self.submitters }
+        ensures few { IfOk result (λ said. AreFew said.0.submitters) }
+        ensures said { MatchResult result (λ said. with_named (self, option_map (λ path. path.now) image.entry) (next.now.name.now, option_map (λ n. n.now) next.now.number) ≡ Some (said.0, option_map (λ path. path.now) said.1)) (λ why. with_named (self, option_map (λ path. path.now) image.entry) (next.now.name.now, option_map (λ n. n.now) next.now.number) ≡ None) }
+    {
+        match (next.image(), image) {
+            (Some(path), None) => Ok((self, Some(path))),
+            (Some(_), Some(_)) => Err(WhyBad::Twice),
+            (None, image) => match self.with(ScriptKind::Steps, next.name, next.value()) {
+                Ok(said) => Ok((said, image)),
+                Err(why) => Err(why),
+            },
+        }
+    }
+
     /// What words say, each option as `--NAME N`, `--NAME=N` or `NAME=N`, and the path of an image, as `image=PATH`.
     ///
     /// # Errors
     ///
     /// The first word that says none.
-    pub fn of_words(text: &str) -> Result<(SaidOptions, Option<&str>), BadOption<'_>> {
+    pub fn of_words(text: &str) -> Result<(SaidOptions, Option<&str>), BadOption<'_>>
+        ensures { MatchResult result (λ said. words_said (words text.now) ≡ Some (said.0, option_map (λ path. path.now) said.1)) (λ bad. words_said (words text.now) ≡ None) }
+    {
         let mut words = Words::of(text.as_bytes());
         let mut said = SaidOptions::NONE;
         let mut image = None;
         let mut before = 0usize;
         while let Some(next) = take_option(&mut words) {
-            let word = next.word;
-            let taken = match (next.image(), image) {
-                (Some(path), None) => {
-                    image = Some(path);
-                    Ok(said)
+            match said.with_image(image, &next) {
+                Ok((more, path)) => {
+                    said = more;
+                    image = path;
                 }
-                (Some(_), Some(_)) => Err(WhyBad::Twice),
-                (None, _) => said.with(ScriptKind::Steps, next.name, next.value()),
-            };
-            match taken {
-                Ok(more) => said = more,
-                Err(why) => return Err(BadOption { word, before, why }),
+                Err(why) => {
+                    return Err(BadOption {
+                        word: next.word,
+                        before,
+                        why,
+                    });
+                }
             }
             before = before.saturating_add(next.words);
         }
