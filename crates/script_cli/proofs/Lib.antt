@@ -1,3 +1,7 @@
 pub mod Texts
+pub mod TextLines
 pub mod Runs
 pub mod Options
+pub mod ToldLines
+pub mod DifferenceLaws
+pub mod Answers

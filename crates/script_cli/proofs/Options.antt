@@ -1,7 +1,7 @@
 -- Options that words say, from one word to the next.
 use Rattle.std.proofs.Common.{◌≡◌, ℕ, Bool, true, false, ◌&&◌, Option, Some, None, List, [], ◌∷◌, refl, if◌then◌else◌, option_and_then, option_map, MatchOption, subst, sym}
 use Rattle.std.specs.{Borrow.Bor, Prelude.codes, Str.bytes_eq}
-use Rattle.script_cli.specs.{Lines.{before, onward}, Options.{few, has_submitters, is_equals, once, said_from, unhyphened, with_option}, Pieces.number32}
+use Rattle.script_cli.specs.{Lines.{before, onward}, Options.{has_submitters, is_equals, once, said_from, unhyphened, with_option}, Pieces.number32}
 use Rattle.script_cli.specs.declared.transcripts.options.{SaidOptions.SaidOptions, ScriptKind.ScriptKind}
 
 -- an option with its number in the same word

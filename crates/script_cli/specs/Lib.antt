@@ -1,3 +1,5 @@
+pub mod Benches
+pub mod Differences
 pub mod Faults
 pub mod Grammar
 pub mod Inputs
@@ -5,11 +7,15 @@ pub mod Lines
 pub mod Loads
 pub mod Numbers
 pub mod Options
+pub mod Outcomes
 pub mod Owners
 pub mod Patterns
 pub mod Pieces
+pub mod Progress
+pub mod Ranges
 pub mod Replies
 pub mod Runs
 pub mod Scripts
+pub mod Transcripts
 pub mod Verbs
 pub mod Worked

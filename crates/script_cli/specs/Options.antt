@@ -1,5 +1,5 @@
 -- The options that the first line of a script says.
-use Rattle.std.specs.{Prelude.{ℕ, ◌==◌, ◌≤◌, ◌&&◌, Bool, false, true, nat_le, Option, Some, None, List, [], ◌∷◌, codes, drop, length, option_and_then, option_map, take, unwrap_or, if◌then◌else◌}, Str.bytes_eq}
+use Rattle.std.specs.{Prelude.{ℕ, ◌==◌, ◌≤◌, ◌&&◌, Bool, false, true, nat_le, Option, Some, None, List, [], ◌∷◌, ◌++◌, codes, drop, length, option_and_then, option_map, take, unwrap_or, if◌then◌else◌}, Fmt.decimal, Str.bytes_eq}
 use Rattle.script_cli.specs.{Lines.{before, first_line, onward, words}, Pieces.number32}
 use Rattle.script_cli.specs.declared.transcripts.options.{Options.Options, SaidOptions.SaidOptions, ScriptKind.{ScriptKind, TheVariants.{Jobs, Steps}}}
 
@@ -84,3 +84,16 @@ options_in usual text = option_map (λ said. over said usual) (said_on Steps (fi
 -- what a script of jobs is played over, and by how many submitters
 abbrev pub jobs_options_in : Options → ℕ → List ℕ → Option (Options × ℕ)
 jobs_options_in usual submitters text = option_map (λ said. (over said usual, unwrap_or said.submitters submitters)) (said_on Jobs (first_line text))
+
+-- an option, unless its number is the usual one
+abbrev pub unless_usual : List ℕ → ℕ → ℕ → List ℕ
+unless_usual name number usual = if number == usual then [] else codes " --" ++ (name ++ (codes " " ++ decimal number))
+
+-- the line that says options, each that is not the usual one
+abbrev pub options_line : Options → Options → List ℕ
+options_line usual options =
+    codes "# options:" ++ (unless_usual (codes "pages") options.config.pages usual.config.pages
+    ++ (unless_usual (codes "queues") options.config.queues usual.config.queues
+    ++ (unless_usual (codes "entries") options.config.entries usual.config.entries
+    ++ (unless_usual (codes "segment") options.config.segment usual.config.segment
+    ++ unless_usual (codes "blocks") options.blocks usual.blocks))))

@@ -43,7 +43,7 @@ pub use reply::{
     append_reply, fill_fault_name, put_gathered, put_not_filled, refusal_name, rejected_name,
     request_fault_name,
 };
-pub use run::{Played, first_owners, play_step, play_steps, put_owners, run_steps};
+pub use run::{Played, first_owners, open_bench, play_step, play_steps, put_owners, run_steps};
 pub use saving::{not_written, replace_file, write_out};
 pub use script::{Line, MAX_LINES, MAX_SCRIPT, Numbered, Script, read_script};
 pub use verb::{CommandVerb, QueueVerb, VERBS, Verb};

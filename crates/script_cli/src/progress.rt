@@ -1,6 +1,8 @@
 //! How far a long run is, on standard error, while it lasts.
 
-ghost use Rattle.std.specs.Prelude.{◌≡◌, ◌*◌, ◌/◌, max, min};
+ghost use Rattle.std.specs.Prelude.{◌≡◌, ◌*◌, ◌/◌, OnErr, OnOk, max, min};
+ghost use Rattle.std.specs.Duration.{as_nanos};
+ghost use Rattle.script_cli.specs.Progress.{begun, told_at};
 
 use std::alloc::{AllocError, Global};
 use std::rt::Clock;
@@ -10,7 +12,9 @@ use std::time::{Duration, Instant};
 const EVERY: u64 = 200_000_000;
 
 /// The nanoseconds of a duration.
-pub fn nanos_of(duration: Duration) -> u64 {
+pub fn nanos_of(duration: Duration) -> u64
+    ensures { result ≡ min (as_nanos duration) 18446744073709551615 }
+{
     duration
         .as_secs()
         .saturating_mul(1_000_000_000)
@@ -102,15 +106,19 @@ impl Standing {
 /// A line on standard error that says how far a run is, where that is a terminal.
 #[derive(Clone, Copy)]
 pub struct Progress {
-    shows: bool,
-    shown: bool,
+    /// Whether there is such a line at all.
+    pub shows: bool,
+    /// Whether it was told yet.
+    pub shown: bool,
     /// When the next line comes, in nanoseconds since the load began.
-    next: u64,
+    pub next: u64,
 }
 
 impl Progress {
     /// No line yet, and none at all where it does not show.
-    pub fn new(shows: bool) -> Progress {
+    pub fn new(shows: bool) -> Progress
+        ensures { result ≡ begun shows }
+    {
         Progress {
             shows,
             shown: false,
@@ -119,18 +127,25 @@ impl Progress {
     }
 
     /// Says how far the run is, at most every fifth of a second.
+    ///
+    /// # Errors
+    ///
+    /// Where memory is refused. Then nothing was told.
     pub fn tell<R: Eprint>(
         &mut self,
         rt: &R,
         alloc: Global,
         standing: Standing,
-    ) -> Result<(), AllocError> {
+    ) -> Result<(), AllocError>
+        ensures told { OnOk result (self.new ≡ told_at standing.nanos self.old) }
+        ensures refused { OnErr result (self.new ≡ self.old) }
+    {
         if !self.shows || standing.nanos < self.next {
             return Ok(());
         }
+        let text = standing.text(alloc)?;
         self.next = standing.nanos.saturating_add(EVERY);
         self.shown = true;
-        let text = standing.text(alloc)?;
         // Where standard error is closed, nothing is told.
         let _ = eprint!(rt; "\r{text:<72}");
         Ok(())

@@ -44,8 +44,12 @@ fn load<R: Read>(alloc: Global, reader: &mut R) -> Result<Script, RunFault>
     }
 }
 
-/// Opens a bench.
-fn open(alloc: Global, config: Config, image: Image) -> Result<Bench, RunFault>
+/// Opens a bench over this image.
+///
+/// # Errors
+///
+/// A configuration that is out of range, or [`RunFault::Memory`]. The image is gone then.
+pub fn open_bench(alloc: Global, config: Config, image: Image) -> Result<Bench, RunFault>
     ensures fits { IfOk result (λ bench. refusal_of_config config ≡ None) }
     ensures opened { IfOk result (λ bench. bench.table ≡ table (opening_of config image)) }
     ensures image { IsImage image }
@@ -178,7 +182,7 @@ pub fn play_steps<R: Read, W: Write>(
     ensures failed { IfErr result (λ fault. EndsWith (R.remaining reader.old) config image (W.contents writer.old) (W.contents writer.new) fault) }
 {
     let script = load(alloc, reader)?;
-    let mut bench = open(alloc, config, image)?;
+    let mut bench = open_bench(alloc, config, image)?;
     match play(alloc, &mut bench, script, writer) {
         Ok(unwell) => Ok(Played { bench, unwell }),
         Err(fault) => {

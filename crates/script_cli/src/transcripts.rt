@@ -36,7 +36,7 @@ mod testing;
 mod update;
 
 pub use bench::OnBench;
-pub use difference::Difference;
+pub use difference::{Difference, law_of_differences};
 pub use fault::{OpeningFault, TranscriptFault};
 pub use heap::{reply_in, step_in};
 pub use options::{BadOption, OPTIONS, Options, SaidOptions, ScriptKind, WhyBad};

@@ -1,5 +1,11 @@
 //! Steps on a bench.
 
+ghost use Rattle.std.specs.Prelude.{◌≡◌, ◌*◌, IfErr, IfOk, None, replicate};
+ghost use Rattle.host_core.specs.Opening.{refusal_of_config};
+ghost use Rattle.machine_model.specs.Script.{table};
+ghost use Rattle.script_cli.specs.Benches.{MakesNoZeros, OpensNoBench};
+ghost use Rattle.step_core.specs.Opening.{opening_of};
+
 use crate::transcripts::fault::OpeningFault;
 use crate::transcripts::heap::{reply_in, step_in};
 use crate::transcripts::options::Options;
@@ -11,9 +17,24 @@ use world_bench::Bench;
 
 /// A bench, in any heap.
 pub struct OnBench<A: Allocator = Global> {
-    alloc: Global,
-    heap: A,
-    bench: Bench<A>,
+    /// Where the replies stand that are handed out.
+    pub alloc: Global,
+    /// Where all else stands.
+    pub heap: A,
+    /// The bench. The values of steps that are made on it stand in its heap.
+    pub bench: Bench<A>,
+}
+
+/// An image of zero blocks.
+fn zeros<A: Allocator>(heap: A, blocks: u32) -> Result<Image<A>, ImageFault>
+    ensures zeros { IfOk result (λ image. image ≡ replicate (512 * blocks) 0) }
+    ensures refused { IfErr result (λ why. MakesNoZeros blocks why) }
+{
+    match Image::zeroed(heap, blocks) {
+        Ok(image) => Ok(image),
+        Err(ImageError::BadLength) => Err(ImageFault::BadLength),
+        Err(ImageError::Memory) => Err(ImageFault::Memory),
+    }
 }
 
 impl<A: Allocator + Copy> OnBench<A> {
@@ -22,46 +43,20 @@ impl<A: Allocator + Copy> OnBench<A> {
     /// # Errors
     ///
     /// Where the image or the opening is refused.
-    pub fn open(alloc: Global, heap: A, options: Options) -> Result<OnBench<A>, OpeningFault> {
-        let image = match Image::zeroed(heap, options.blocks) {
+    pub fn open(alloc: Global, heap: A, options: Options) -> Result<OnBench<A>, OpeningFault>
+        ensures fits { IfOk result (λ made. refusal_of_config options.config ≡ None) }
+        ensures opened { IfOk result (λ made. made.bench ≡ record { table = table (opening_of options.config (replicate (512 * options.blocks) 0)); touches = 0 }) }
+        ensures heap { IfOk result (λ made. made.heap ≡ heap) }
+        ensures refused { IfErr result (λ why. OpensNoBench options why) }
+    {
+        let image = match zeros(heap, options.blocks) {
             Ok(image) => image,
-            Err(ImageError::BadLength) => return Err(OpeningFault::Image(ImageFault::BadLength)),
-            Err(ImageError::Memory) => return Err(OpeningFault::Image(ImageFault::Memory)),
+            Err(why) => return Err(OpeningFault::Image(why)),
         };
         match Bench::open(heap, options.config, image) {
             Ok(bench) => Ok(OnBench { alloc, heap, bench }),
             Err(refused) => Err(OpeningFault::World(not_opened(refused.why))),
         }
-    }
-
-    /// Where the replies stand that are handed out.
-    pub fn alloc(&self) -> Global {
-        self.alloc
-    }
-
-    /// Where all else stands.
-    pub fn heap(&self) -> A {
-        self.heap
-    }
-
-    /// The bench.
-    pub fn bench(&self) -> &Bench<A> {
-        &self.bench
-    }
-
-    /// The bench, to make steps whose values stand in its heap.
-    pub fn bench_mut(&mut self) -> &mut Bench<A> {
-        &mut self.bench
-    }
-
-    /// Ends the bench.
-    pub fn end(self) {
-        let OnBench {
-            alloc: _,
-            heap: _,
-            bench,
-        } = self;
-        let _ended = bench.end();
     }
 }
 

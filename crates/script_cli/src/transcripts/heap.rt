@@ -1,10 +1,14 @@
 //! Steps and replies whose values stand in another heap.
 
+ghost use Rattle.std.specs.Prelude.{◌≡◌, IfOk};
+
 use std::alloc::{AllocError, Allocator};
 use step_core::{Bytes, Reply, ReplyIn, Step, StepIn};
 
 /// The bytes once more, in a heap.
-fn bytes_in<A: Allocator, B: Allocator>(heap: A, bytes: &Bytes<B>) -> Result<Bytes<A>, AllocError> {
+fn bytes_in<A: Allocator, B: Allocator>(heap: A, bytes: &Bytes<B>) -> Result<Bytes<A>, AllocError>
+    ensures { IfOk result (λ made. made ≡ bytes.now) }
+{
     Ok(Bytes::from_vec(Vec::from_slice(heap, bytes.as_slice())?))
 }
 
@@ -13,7 +17,9 @@ fn bytes_in<A: Allocator, B: Allocator>(heap: A, bytes: &Bytes<B>) -> Result<Byt
 /// # Errors
 ///
 /// Where memory is refused.
-pub fn step_in<A: Allocator + Copy>(heap: A, step: &Step) -> Result<StepIn<A>, AllocError> {
+pub fn step_in<A: Allocator + Copy>(heap: A, step: &Step) -> Result<StepIn<A>, AllocError>
+    ensures { IfOk result (λ made. made ≡ step.now) }
+{
     Ok(match step {
         Step::Reserve { q, request } => Step::Reserve {
             q: *q,
@@ -58,7 +64,9 @@ pub fn step_in<A: Allocator + Copy>(heap: A, step: &Step) -> Result<StepIn<A>, A
 pub fn reply_in<A: Allocator, B: Allocator>(
     heap: A,
     reply: ReplyIn<B>,
-) -> Result<ReplyIn<A>, AllocError> {
+) -> Result<ReplyIn<A>, AllocError>
+    ensures { IfOk result (λ made. made ≡ reply) }
+{
     Ok(match reply {
         Reply::Gathered(bytes) => Reply::Gathered(bytes_in(heap, &bytes)?),
         Reply::Reserved {

@@ -1,8 +1,8 @@
 //! The options of a script or a transcript.
 
-ghost use Rattle.std.specs.Prelude.{◌≡◌, ◌≤◌, ◌<◌, [], ◌∷◌, IfOk, IfSome, MatchOption, MatchResult, None, Some, ℕ, length, option_and_then, unwrap_or};
+ghost use Rattle.std.specs.Prelude.{◌≡◌, ◌≤◌, ◌<◌, [], ◌∷◌, ◌++◌, IfOk, IfSome, OnOk, string_bytes, MatchOption, MatchResult, None, Some, ℕ, length, option_and_then, unwrap_or};
 ghost use Rattle.script_cli.specs.Lines.{before, onward};
-ghost use Rattle.script_cli.specs.Options.{AreFew, is_equals, nothing_said, few as spec_few, jobs_options_in, once as spec_once, options_in, over as spec_over, said_from, said_on, unhyphened as spec_unhyphened, with_option};
+ghost use Rattle.script_cli.specs.Options.{AreFew, is_equals, nothing_said, few as spec_few, jobs_options_in, once as spec_once, options_in, options_line, over as spec_over, said_from, said_on, unhyphened as spec_unhyphened, unless_usual, with_option};
 ghost use Rattle.script_cli.specs.Pieces.{number32 as spec_number32};
 
 use crate::lines::split_line;
@@ -24,6 +24,16 @@ pub struct Options {
     pub blocks: u32,
 }
 
+/// Puts an option, unless its number is the usual one.
+fn put_unusual(line: &mut String, name: &str, number: u32, usual: u32) -> Result<(), AllocError>
+    ensures { OnOk result (string_bytes line.new ≡ string_bytes line.old ++ unless_usual name.now number usual) }
+{
+    if number == usual {
+        return Ok(());
+    }
+    write!(line, " --{name} {number}")
+}
+
 impl Options {
     /// The usual ones, those of `nvmesgl steps`.
     pub const USUAL: Options = Options {
@@ -36,32 +46,21 @@ impl Options {
         blocks: 64,
     };
 
-    /// The numbers of these options, each under its name.
-    fn numbers(&self) -> [(&'static str, u32); 5] {
-        [
-            ("pages", self.config.pages),
-            ("queues", self.config.queues),
-            ("entries", self.config.entries),
-            ("segment", self.config.segment),
-            ("blocks", self.blocks),
-        ]
-    }
-
     /// The first line that says these options, each that is not the usual one, without its line feed.
     ///
     /// # Errors
     ///
     /// Where memory is refused.
-    pub fn line(&self, alloc: Global) -> Result<String, AllocError> {
+    pub fn line(&self, alloc: Global) -> Result<String, AllocError>
+        ensures { IfOk result (λ line. string_bytes line ≡ options_line Options.USUAL self.now) }
+    {
+        let (mine, usual) = (self.config, Options::USUAL.config);
         let mut line = String::from_str(alloc, OPTIONS)?;
-        let numbers = self.numbers();
-        let usual = Options::USUAL.numbers();
-        for (mine, other) in numbers.iter().zip(usual.iter()) {
-            let (name, number) = *mine;
-            if number != other.1 {
-                write!(line, " --{name} {number}")?;
-            }
-        }
+        put_unusual(&mut line, "pages", mine.pages, usual.pages)?;
+        put_unusual(&mut line, "queues", mine.queues, usual.queues)?;
+        put_unusual(&mut line, "entries", mine.entries, usual.entries)?;
+        put_unusual(&mut line, "segment", mine.segment, usual.segment)?;
+        put_unusual(&mut line, "blocks", self.blocks, Options::USUAL.blocks)?;
         Ok(line)
     }
 

@@ -1,5 +1,8 @@
 //! Which options lie outside of their ranges.
 
+ghost use Rattle.std.specs.Prelude.{◌≡◌, ◌++◌, IfOk, OnOk, map, string_bytes};
+ghost use Rattle.script_cli.specs.Ranges.{is_in_range, line_out_of_range, lines_out_of_range, ranged_text, sizes_of, zero_blocks_of};
+
 use crate::transcripts::options::Options;
 use std::alloc::{AllocError, Global};
 use std::fmt;
@@ -19,7 +22,9 @@ pub struct Ranged {
 
 impl Ranged {
     /// A number that was given for an option.
-    fn of(name: &'static str, value: u32, least: u32, most: u32) -> Ranged {
+    fn of(name: &'static str, value: u32, least: u32, most: u32) -> Ranged
+        ensures { ranged_text result ≡ record { name = name.now; value = value; least = least; most = most } }
+    {
         Ranged {
             name,
             value,
@@ -29,12 +34,19 @@ impl Ranged {
     }
 
     /// Whether it lies in its range.
-    pub fn is_good(&self) -> bool {
+    pub fn is_good(&self) -> bool
+        ensures { result ≡ is_in_range (ranged_text self.now) }
+    {
         self.least <= self.value && self.value <= self.most
     }
 }
 
 impl fmt::Display for Ranged {
+    ghost use Rattle.std.specs.Prelude.{Some};
+    ghost use Rattle.script_cli.specs.Ranges.{range_line, ranged_text};
+
+    ghost output = { λ ranged. Some (range_line (ranged_text ranged)) };
+
     fn fmt<W: fmt::Write>(&self, f: &mut fmt::Formatter<W>) -> fmt::Result {
         let Ranged {
             name,
@@ -48,7 +60,9 @@ impl fmt::Display for Ranged {
 
 impl Options {
     /// The numbers that a world is opened with.
-    pub fn sizes(&self) -> [Ranged; 4] {
+    pub fn sizes(&self) -> [Ranged; 4]
+        ensures { map ranged_text result ≡ sizes_of self.now }
+    {
         let config = self.config;
         [
             Ranged::of("pages", config.pages, 8, 65_536),
@@ -59,9 +73,21 @@ impl Options {
     }
 
     /// How many blocks an image of zeros has.
-    pub fn zero_blocks(&self) -> Ranged {
+    pub fn zero_blocks(&self) -> Ranged
+        ensures { ranged_text result ≡ zero_blocks_of self.now }
+    {
         Ranged::of("blocks", self.blocks, 1, 65_536)
     }
+}
+
+/// Puts a line for a number that lies outside of its range.
+fn put_out_of_range(text: &mut String, number: &Ranged) -> Result<(), AllocError>
+    ensures { OnOk result (string_bytes text.new ≡ string_bytes text.old ++ line_out_of_range (ranged_text number.now)) }
+{
+    if number.is_good() {
+        return Ok(());
+    }
+    write!(text, "{number}\n")
 }
 
 /// A line for each number that lies outside of its range.
@@ -69,12 +95,14 @@ impl Options {
 /// # Errors
 ///
 /// Where memory is refused.
-pub fn out_of_range(alloc: Global, numbers: &[Ranged]) -> Result<String, AllocError> {
+pub fn out_of_range(alloc: Global, numbers: &[Ranged]) -> Result<String, AllocError>
+    ensures { IfOk result (λ text. string_bytes text ≡ lines_out_of_range (map ranged_text numbers.now)) }
+{
     let mut text = String::new(alloc);
-    for number in numbers {
-        if !number.is_good() {
-            write!(text, "{number}\n")?;
-        }
+    let mut rest = numbers;
+    while let Some((number, others)) = rest.split_first() {
+        put_out_of_range(&mut text, number)?;
+        rest = others;
     }
     Ok(text)
 }

@@ -1,5 +1,10 @@
 //! A transcript is played over a bench of its own, and compared with its text.
 
+ghost use Rattle.std.specs.Prelude.{◌≡◌, ◌≤◌, ◌+◌, IfErr, IfOk, IsUtf8, is_some, length, map, min, option_map, string_bytes};
+ghost use Rattle.script_cli.specs.Differences.{difference_text};
+ghost use Rattle.script_cli.specs.Outcomes.{difference_of, feeds_in, line_count, placed as spec_placed, IsComparedAs, IsNoText};
+ghost use Rattle.script_cli.specs.Transcripts.{told_text};
+
 use crate::LineFault;
 use crate::transcripts::bench::OnBench;
 use crate::transcripts::difference::{Difference, first_difference};
@@ -36,42 +41,71 @@ pub enum Outcome {
     NotOpened(OpeningFault),
 }
 
-/// The fault of bytes that are no text: the line of the first byte that is none.
-fn not_text(bytes: &[u8], valid: usize) -> TranscriptFault {
+/// The number of the line that stands behind some bytes.
+fn line_behind(front: &[u8]) -> u32
+    ensures { result ≡ min (feeds_in front.now + 1) 4294967295 }
+{
     let mut number = 1u32;
-    for byte in bytes.iter().take(valid) {
+    let mut rest = front;
+    while let Some((byte, others)) = rest.split_first() {
         if *byte == b'\n' {
             number = number.saturating_add(1);
         }
+        rest = others;
     }
-    let fault = LineFault::NotAscii;
-    TranscriptFault::Line { number, fault }
+    number
 }
 
 /// The text of a transcript.
 ///
 /// # Errors
 ///
-/// Where it is too long or no text.
-pub fn text_of(bytes: &[u8]) -> Result<&str, TranscriptFault> {
+/// Where it is too long or no text; the fault of what is no text is that of the line of the first byte that is none.
+pub fn text_of(bytes: &[u8]) -> Result<&str, TranscriptFault>
+    ensures text { IfOk result (λ text. text.now ≡ bytes.now) }
+    ensures good { IfOk result (λ text. IsUtf8 bytes.now) }
+    ensures short { IfOk result (λ text. length bytes.now ≤ 16777216) }
+    ensures fault { IfErr result (λ why. IsNoText bytes.now why) }
+{
     if bytes.len() > MAX_TRANSCRIPT {
         return Err(TranscriptFault::TooLong);
     }
     match std::str::from_utf8(bytes) {
         Ok(text) => Ok(text),
-        Err(why) => Err(not_text(bytes, why.valid_up_to())),
+        Err(why) => Err(TranscriptFault::Line {
+            number: line_behind(&bytes[..why.valid_up_to()]),
+            fault: LineFault::NotAscii,
+        }),
     }
 }
 
+/// How many lines a text has.
+fn count_lines(text: &str) -> u32
+    ensures { result ≡ line_count text.now }
+{
+    let mut count = 0u32;
+    for _line in text.lines() {
+        count = count.saturating_add(1);
+    }
+    count
+}
+
 /// A difference, told at the last line of the text where it stands before any step, as of a text that has none.
-fn placed(difference: Difference, text: &str) -> Difference {
+fn placed(difference: Difference, text: &str) -> Difference
+    ensures { difference_text result ≡ spec_placed text.now (difference_text difference) }
+{
     if difference.number > 0 {
         return difference;
     }
-    let lines = u32::try_from(text.lines().count()).unwrap_or(u32::MAX);
+    let Difference {
+        number: _,
+        wanted,
+        came,
+    } = difference;
     Difference {
-        number: lines.max(1),
-        ..difference
+        number: count_lines(text).max(1),
+        wanted,
+        came,
     }
 }
 
@@ -92,12 +126,21 @@ fn first_of_all(
     alloc: Global,
     told: &[Told],
     printed: &[String],
-) -> Result<Option<Difference>, AllocError> {
-    for (told, came) in told.iter().zip(printed.iter()) {
+) -> Result<Option<Difference>, AllocError>
+    ensures { IfOk result (λ found. option_map difference_text found ≡ difference_of (map told_text told.now) (map string_bytes printed.now)) }
+{
+    let mut left = told;
+    let mut texts = printed;
+    while let (Some((told, others)), Some((came, more))) = (
+        left.split_first(),
+        texts.split_first(),
+    ) {
         let found = first_difference(alloc, told, came)?;
         if found.is_some() {
             return Ok(found);
         }
+        left = others;
+        texts = more;
     }
     Ok(None)
 }
@@ -113,19 +156,21 @@ pub fn compared(
     told: &[Told],
     printed: &[String],
     options: Option<&str>,
-) -> Result<Outcome, AllocError> {
+) -> Result<Outcome, AllocError>
+    ensures { IfOk result (λ outcome. IsComparedAs text.now (difference_of (map told_text told.now) (map string_bytes printed.now)) (is_some options.entry) outcome) }
+{
     let difference = first_of_all(alloc, told, printed)?;
     if difference.is_none() && options.is_none() {
         return Ok(Outcome::Agrees);
     }
     let updated = updated_text(alloc, text, options, told, printed)?;
-    Ok(match difference {
-        Some(difference) => Outcome::Differs {
+    match difference {
+        Some(difference) => Ok(Outcome::Differs {
             difference: placed(difference, text),
             updated,
-        },
-        None => Outcome::Unsaid { updated },
-    })
+        }),
+        None => Ok(Outcome::Unsaid { updated }),
+    }
 }
 
 /// Plays the text of a transcript over a bench of its own, to its end, and compares what is printed with what stands there. An option that the
@@ -149,7 +194,12 @@ pub fn test_transcript(alloc: Global, bytes: &[u8], usual: Options) -> Result<Ou
         Err(why) => return Ok(Outcome::NotOpened(why)),
     };
     let printed = printed(alloc, &mut bench, &transcript);
-    bench.end();
+    let OnBench {
+        alloc: _,
+        heap: _,
+        bench,
+    } = bench;
+    let _ended = bench.end();
     let line = options_line(alloc, &transcript, options)?;
     let line = line.as_ref().map(|line| line.as_str());
     compared(alloc, text, transcript.told(), &printed?, line)

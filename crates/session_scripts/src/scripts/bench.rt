@@ -43,7 +43,12 @@ impl<'t> Player for BenchPlayer<'t> {
         let BenchPlayer { transcript, wanted } = *self;
         let mut bench = OnBench::open(alloc, heap, transcript.options())?;
         let played = play_refused(alloc, &mut bench, transcript, growth, wanted);
-        bench.end();
+        let OnBench {
+            alloc: _,
+            heap: _,
+            bench,
+        } = bench;
+        let _ended = bench.end();
         let (end, left) = played?;
         end.see(wanted)?;
         Ok((end, left == 0))
@@ -105,7 +110,12 @@ impl<'t> Player for WithoutMemory<'t> {
         let WithoutMemory { transcript, wanted } = *self;
         let mut bench = OnBench::open(alloc, heap, transcript.options())?;
         let calls = play_without(alloc, &mut bench, transcript, wanted);
-        bench.end();
+        let OnBench {
+            alloc: _,
+            heap: _,
+            bench,
+        } = bench;
+        let _ended = bench.end();
         Ok((calls?, false))
     }
 }

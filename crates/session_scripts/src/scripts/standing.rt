@@ -78,19 +78,19 @@ impl<'h> Stands for OnBench<&'h Heap> {
         refusal: Refusal,
         step: &Step,
     ) -> Result<(Reply, Tally), AllocError> {
-        let heap = self.heap();
+        let heap = self.heap;
         let made = step_in(heap, step)?;
         heap.refuse(refusal);
-        let answer = self.bench_mut().step(made);
+        let answer = self.bench.step(made);
         let tally = heap.tally();
         heap.refuse(Refusal::Never);
-        Ok((reply_in(self.alloc(), answer)?, tally))
+        Ok((reply_in(self.alloc, answer)?, tally))
     }
 
     fn standing(&self, alloc: Global) -> Result<BenchStanding, AllocError> {
         Ok(BenchStanding {
             holdings: Holdings::of(alloc, self)?,
-            trusted: self.bench().trusted(),
+            trusted: self.bench.trusted(),
         })
     }
 }

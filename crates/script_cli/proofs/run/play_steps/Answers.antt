@@ -8,7 +8,7 @@ pub returns-in-Err-clause-failed : goal.returns-in-Err-clause-failed
 returns-in-Err-clause-failed g c =
     subst (λ (r : Result ℕ RunFault). IfErr r (λ why. EndsWith (g.R.Read.remaining c.args.reader.now) c.args.config c.args.image (g.W.Write.contents c.args.writer.now) (g.W.Write.contents c.play.new.writer) why)) c.in-Err.is (
     run_ends c.play.result (g.R.Read.remaining c.args.reader.now) c.args.config c.args.image (g.W.Write.contents c.args.writer.now) (g.W.Write.contents c.play.new.writer)
-    c.in_ok-script.script c.in_ok-script.ensures.script c.in_ok-bench.ensures.fits c.open.ensures.image
+    c.in_ok-script.script c.in_ok-script.ensures.script c.in_ok-bench.ensures.fits c.open_bench.ensures.image
     (subst
     (λ (t : Table). OnErr c.play.result (Gains (g.W.Write.contents c.args.writer.now) (g.W.Write.contents c.play.new.writer) (IsFrontOfFirst t c.in_ok-script.script)))
     c.in_ok-bench.ensures.opened c.play.ensures.cut)

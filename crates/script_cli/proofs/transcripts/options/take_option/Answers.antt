@@ -1,5 +1,5 @@
 -- What words say, by the option that is taken and by the words behind it.
-use Rattle.std.proofs.Common.{rules, ◌≡◌, ◌∷◌}
+use Rattle.std.proofs.Common.{◌≡◌, ◌∷◌}
 use Rattle.script_cli.proofs.Options.{joined_said, rest_said}
 use Rattle.script_cli.proofs.transcripts.options.take_option.Goals as goal
 
