@@ -2,7 +2,7 @@
  * nvmesgl: an NVMe host driver and a modelled controller over one pool of 4,096-byte pages, for C (C99) and C++.
  *
  * nvmesgl_*  both sides over one pool. A call is one step; the code says whether it was done, the answer what it told.
- * nvmectl_*  the controller alone over the caller's bytes: nvmectl.h.
+ * nvmectl_*  the controller alone over the caller's memory: nvmectl.h.
  * nvmehost_* the driver alone over a pool that any device may read and write: nvmehost.h.
  *
  * What C must keep, and nothing here checks:
@@ -33,9 +33,9 @@ extern "C" {
 /* Version --------------------------------------------------------------------------------------------------------- */
 
 /* The version of this header, and of the library that is linked. Versions 0.N may differ in any call and struct. */
-#define NVMESGL_VERSION "0.5.0"
+#define NVMESGL_VERSION "0.6.0"
 #define NVMESGL_VERSION_MAJOR 0
-#define NVMESGL_VERSION_MINOR 5
+#define NVMESGL_VERSION_MINOR 6
 #define NVMESGL_VERSION_PATCH 0
 const char *nvmesgl_version(void);
 

@@ -104,6 +104,7 @@ static void host_calls(nvmehost *h) {
 static void controller_calls(nvmectl *h) {
     nvmectl_options options = NVMECTL_OPTIONS;
     nvmectl_queue queues[2] = {{0, 1}, {2, 3}};
+    nvmectl_region region = {0, pool, sizeof pool};
     nvmectl_step step;
     nvmectl_job job;
     STRANGE(nvmectl_open(h, &options, queues, 2, NULL, 0));
@@ -114,6 +115,10 @@ static void controller_calls(nvmectl *h) {
     STRANGE(nvmectl_walk(h, 1, 0, pool, sizeof pool, &answer));
     STRANGE(nvmectl_complete(h, 1, 0, pool, sizeof pool, &answer));
     STRANGE(nvmectl_next(h, pool, sizeof pool, &step));
+    STRANGE(nvmectl_fetch_over(h, 1, &region, 1, &answer));
+    STRANGE(nvmectl_walk_over(h, 1, 0, &region, 1, &answer));
+    STRANGE(nvmectl_complete_over(h, 1, 0, &region, 1, &answer));
+    STRANGE(nvmectl_next_over(h, &region, 1, &step));
     STRANGE(nvmectl_command(h, 1, 0, &job));
     STRANGE(nvmectl_blocks(h, 0, block, 512));
     nvmectl_close(h);

@@ -22,6 +22,7 @@ int main(void) {
     STRUCT(nvmesgl_page_owner), FIELD(nvmesgl_page_owner, kind), FIELD(nvmesgl_page_owner, q), FIELD(nvmesgl_page_owner, cid), FIELD(nvmesgl_page_owner, reserved), END;
     STRUCT(nvmectl_options), FIELD(nvmectl_options, size), FIELD(nvmectl_options, entries), FIELD(nvmectl_options, blocks), FIELD(nvmectl_options, reserved), END;
     STRUCT(nvmectl_queue), FIELD(nvmectl_queue, sq), FIELD(nvmectl_queue, cq), END;
+    STRUCT(nvmectl_region), FIELD(nvmectl_region, addr), FIELD(nvmectl_region, bytes), FIELD(nvmectl_region, len), END;
     STRUCT(nvmectl_job), FIELD(nvmectl_job, units), FIELD(nvmectl_job, ended), FIELD(nvmectl_job, sct), FIELD(nvmectl_job, sc), FIELD(nvmectl_job, reserved), END;
     STRUCT(nvmectl_step), FIELD(nvmectl_step, kind), FIELD(nvmectl_step, q), FIELD(nvmectl_step, cid), FIELD(nvmectl_step, reserved), END;
     STRUCT(nvmehost), FIELD(nvmehost, at), FIELD(nvmehost, mark), END;

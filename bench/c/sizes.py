@@ -15,6 +15,7 @@ STRUCTS = {
     "nvmesgl_page_owner": _library.PageOwner,
     "nvmectl_options": controller.COptions,
     "nvmectl_queue": controller.CQueue,
+    "nvmectl_region": controller.CRegion,
     "nvmectl_job": controller.CJob,
     "nvmectl_step": controller.CStep,
     "nvmehost": _library.Handle,

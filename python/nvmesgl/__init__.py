@@ -16,5 +16,5 @@ whole command had done by then. A handle may be used by any thread, by one at a 
 from .machine import Completion, Counts, Machine
 from .words import Code, Kind, Owner, OwnerKind, Piece, Refused, Reserved, State, Status, Step, Walk
 
-__version__ = "0.5.0"
+__version__ = "0.6.0"
 __all__ = ["Code", "Completion", "Counts", "Kind", "Machine", "Owner", "OwnerKind", "Piece", "Refused", "Reserved", "State", "Status", "Step", "Walk"]

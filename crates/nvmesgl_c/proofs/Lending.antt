@@ -1,6 +1,7 @@
--- A call that was made over a pool, and a look over one, as what their exports say. The controller that is called stands in a box.
+-- A call that was made over a pool or over regions, and a look, as what their exports say. The controller that is called stands in a box.
 use Rattle.std.{proofs.Common.{◌≡◌, ℕ, ◌≤◌, ◌/◌, List, Option, Ok, length, sym, inl, subst, refl}, specs.List.slice_get}
-use Rattle.nvmesgl_c.specs.{ControllerCalls.Lent, ControllerKept.Kept, ControllerNext.{Sees, TellsNext, step_of}, declared.{controller.next.CStep.CStep, words.answer.Answer.Answer}}
+use Rattle.nvmesgl_c.specs.{ControllerCalls.Lent, ControllerKept.Kept, ControllerNext.{Sees, TellsNext, step_of}, ControllerOver.{LentOver, TellsNextOver}, Regions.{memory_of, pages_of}}
+use Rattle.nvmesgl_c.specs.declared.{controller.next.CStep.CStep, words.{answer.Answer.Answer, region.CRegion.CRegion}}
 use Rattle.controller_core.specs.{Contents.Contents, declared.look.ControllerStep.ControllerStep}
 use Rattle.page_memory.specs.Memory.{Memory}
 
@@ -16,3 +17,16 @@ pub looked_over : (old new : Kept) (k held : Contents) (pool pool' : List ℕ) (
 looked_over old new k held pool pool' step before told was same is fits kept sees tells =
     subst (λ (o : Kept). TellsNext o pool 0 before told new pool') (sym was)
     (inl (fits, refl, is, kept, step, subst (λ (h : Contents). Sees h (slice_get pool) step) same sees, tells))
+
+pub called_over : (Calls : Contents → ℕ → Memory → ℕ → Answer → Contents → Memory → Type 0) (old new : Kept) (k held k' : Contents) (regions regions' : List CRegion) (code : ℕ) (answer : Answer) →
+    old ≡ Ok k → held ≡ k → new ≡ Ok k' → Calls held (pages_of regions) (memory_of regions) code answer k' (memory_of regions') → LentOver Calls old regions code answer new regions'
+called_over Calls old new k held k' regions regions' code answer was same is called =
+    subst (λ (o : Kept). LentOver Calls o regions code answer new regions') (sym was)
+    (subst (λ (o : Kept). LentOver Calls (Ok k) regions code answer o regions') (sym is)
+    (subst (λ (h : Contents). Calls h (pages_of regions) (memory_of regions) code answer k' (memory_of regions')) same called))
+
+pub seen_over : (old new : Kept) (k held : Contents) (regions regions' : List CRegion) (step : Option ControllerStep) (before told : CStep) →
+    old ≡ Ok k → held ≡ k → new ≡ Ok k → memory_of regions' ≡ memory_of regions → Sees held (memory_of regions) step → told ≡ step_of step → TellsNextOver old regions 0 before told new regions'
+seen_over old new k held regions regions' step before told was same is kept sees tells =
+    subst (λ (o : Kept). TellsNextOver o regions 0 before told new regions') (sym was)
+    (refl, is, kept, step, subst (λ (h : Contents). Sees h (memory_of regions) step) same sees, tells)

@@ -2,6 +2,10 @@ pub mod HeldValues
 mod HeldSends
 pub mod Named
 pub mod Slices
+mod Tables
+mod Runs
+mod Unshown
+mod Marks
 mod Lending
 mod Seen
 mod Told

@@ -3,10 +3,10 @@ use Rattle.std.proofs.Common.{◌≡◌, ◌≢◌, inl, inr, ℕ, ◌+◌, ◌-
 use Rattle.std.{proofs.{Math.Path.fun_ext, lemmas.{Bool.cases_lt, Grind.common_steps, Option.{slice_get-get_or, slice_get_past}}}, specs.List.slice_get}
 use Rattle.page_memory.{proofs.Bytes.{bytes_held, missing_at, written_in, written_before, written_after}, specs.{Memory.{bytes_at, written}, Pages.with_bytes}}
 
-length_range : (xs : List ℕ) (at n : ℕ) → at + n ≤ length xs → length (take n (drop at xs)) ≡ n
+pub length_range : (xs : List ℕ) (at n : ℕ) → at + n ≤ length xs → length (take n (drop at xs)) ≡ n
 length_range xs at n fits = grind (arith, common_steps)
 
-get_range : (xs : List ℕ) (at n k : ℕ) → at + n ≤ length xs → k < n → get_or (take n (drop at xs)) k 0 ≡ get_or xs (at + k) 0
+pub get_range : (xs : List ℕ) (at n k : ℕ) → at + n ≤ length xs → k < n → get_or (take n (drop at xs)) k 0 ≡ get_or xs (at + k) 0
 get_range xs at n k fits low = grind (arith, common_steps)
 
 -- a range that lies in the slice
@@ -28,13 +28,13 @@ something o x e none = cc
 pub there_inside : (xs : List ℕ) (at n : ℕ) → at + n ≤ length xs → bytes_at (slice_get xs) at n ≢ None
 there_inside xs at n fits = something (bytes_at (slice_get xs) at n) (take n (drop at xs)) (read_inside xs at n fits)
 
-length_with : (xs new : List ℕ) (at : ℕ) → at + length new ≤ length xs → length (with_bytes xs at new) ≡ length xs
+pub length_with : (xs new : List ℕ) (at : ℕ) → at + length new ≤ length xs → length (with_bytes xs at new) ≡ length xs
 length_with xs new at fits = grind (arith, common_steps)
 
-get_with_in : (xs new : List ℕ) (at k : ℕ) → at + length new ≤ length xs → at ≤ k → k < at + length new → get_or (with_bytes xs at new) k 0 ≡ get_or new (k - at) 0
+pub get_with_in : (xs new : List ℕ) (at k : ℕ) → at + length new ≤ length xs → at ≤ k → k < at + length new → get_or (with_bytes xs at new) k 0 ≡ get_or new (k - at) 0
 get_with_in xs new at k fits low high = grind (arith, common_steps)
 
-get_with_before : (xs new : List ℕ) (at k : ℕ) → at + length new ≤ length xs → k < at → get_or (with_bytes xs at new) k 0 ≡ get_or xs k 0
+pub get_with_before : (xs new : List ℕ) (at k : ℕ) → at + length new ≤ length xs → k < at → get_or (with_bytes xs at new) k 0 ≡ get_or xs k 0
 get_with_before xs new at k fits low = grind (arith, common_steps)
 
 get_with_after : (xs new : List ℕ) (at k : ℕ) → at + length new ≤ length xs → at + length new ≤ k → k < length xs → get_or (with_bytes xs at new) k 0 ≡ get_or xs k 0

@@ -7,6 +7,7 @@ pub mod Requests
 pub mod Buffers
 pub mod Owners
 pub mod Named
+pub mod Regions
 pub mod MachineAnswers
 pub mod MachineCalls
 pub mod MachineCodes
@@ -20,6 +21,7 @@ pub mod ControllerCalls
 pub mod ControllerCodes
 pub mod ControllerLooks
 pub mod ControllerNext
+pub mod ControllerOver
 pub mod ControllerOptions
 pub mod ControllerOwned
 pub mod ControllerKept

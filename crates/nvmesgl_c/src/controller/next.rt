@@ -28,7 +28,7 @@ pub struct CStep {
 }
 
 /// A step, as C sees it.
-fn step_of(step: Option<ControllerStep>) -> CStep
+pub(crate) fn step_of(step: Option<ControllerStep>) -> CStep
     ensures { result ≡ next.step_of step }
 {
     let (kind, q, cid) = match step {

@@ -25,7 +25,7 @@ pub struct LentMemory<'a> {
 
 /// Adds the one or two pages of a range.
 pub(crate) fn touch(touched: &mut ArrayVec<PageNo, 4>, addr: u64, count: usize)
-    requires low { addr + count ≤ 268435456 }
+    requires low { addr + count ≤ 17592186044416 }
     requires some { 0 < count }
     requires room { length touched.old.items ≤ 2 }
     ensures { touched.new.items ≡ touched.old.items ++ pages_reached addr count }

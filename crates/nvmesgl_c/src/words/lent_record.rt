@@ -19,11 +19,11 @@ pub struct LentRecord<'a> {
 }
 
 impl<'a> Dma for LentRecord<'a> {
-    ghost use Rattle.std.specs.Prelude.{◌/◌, length};
+    ghost use Rattle.std.specs.Prelude.{◌/◌, length, slice_get};
     ghost use Rattle.nvmesgl_c.specs.Named.{named_memory};
 
     // the name of the borrow stands behind all addresses, since each count here has another use
-    ghost memory = { λ m. named_memory m.bytes.now m.bytes.ghost_name };
+    ghost memory = { λ m. named_memory (slice_get m.bytes.now) m.bytes.ghost_name };
 
     ghost reached = { λ m. m.touched.items };
 

@@ -1,0 +1,106 @@
+//! The calls that are lent regions of memory.
+
+ghost use Rattle.std.specs.Prelude.{◌≡◌};
+ghost use Rattle.nvmesgl_c.specs.ControllerKept.{kept_in};
+ghost use Rattle.nvmesgl_c.specs.ControllerCalls.{FetchesBy, WalksBy, CompletesBy};
+ghost use Rattle.nvmesgl_c.specs.ControllerOver.{LentOver, TellsNextOver};
+ghost use Rattle.nvmesgl_c.specs.Regions.{hidden_in, table_of};
+
+use crate::controller::handle::Handle;
+use crate::controller::next::{CStep, step_of};
+use crate::controller::regions::{complete, fetch, look, walk};
+use crate::words::code::DONE;
+use crate::words::{Answer, CRegion, nothing};
+use std::alloc::Global;
+
+/// The controller fetches an entry. Its identifier is told.
+#[unsafe(no_mangle)]
+pub extern "C" fn nvmectl_fetch_over(
+    alloc: Global,
+    handle: &mut Handle,
+    q: u16,
+    regions: &mut [CRegion<'_>],
+    answer: &mut Answer,
+) -> u32
+    ensures calls { LentOver (FetchesBy q) (kept_in handle.old) regions.old result answer.new (kept_in handle.new) regions.new }
+    ensures table { table_of regions.new ≡ table_of regions.old }
+    ensures hidden { hidden_in regions.new ≡ hidden_in regions.old }
+{
+    *answer = nothing();
+    let mut controller = match handle.take(alloc) {
+        Ok(controller) => controller,
+        Err(code) => return code,
+    };
+    let code = fetch(&mut controller, q, regions, answer);
+    handle.put(controller);
+    code
+}
+
+/// The controller does a unit of a command's list. How the list stands is told.
+#[unsafe(no_mangle)]
+pub extern "C" fn nvmectl_walk_over(
+    alloc: Global,
+    handle: &mut Handle,
+    q: u16,
+    cid: u16,
+    regions: &mut [CRegion<'_>],
+    answer: &mut Answer,
+) -> u32
+    ensures calls { LentOver (WalksBy q cid) (kept_in handle.old) regions.old result answer.new (kept_in handle.new) regions.new }
+    ensures table { table_of regions.new ≡ table_of regions.old }
+    ensures hidden { hidden_in regions.new ≡ hidden_in regions.old }
+{
+    *answer = nothing();
+    let mut controller = match handle.take(alloc) {
+        Ok(controller) => controller,
+        Err(code) => return code,
+    };
+    let code = walk(&mut controller, q, cid, regions, answer);
+    handle.put(controller);
+    code
+}
+
+/// The controller completes a command.
+#[unsafe(no_mangle)]
+pub extern "C" fn nvmectl_complete_over(
+    alloc: Global,
+    handle: &mut Handle,
+    q: u16,
+    cid: u16,
+    regions: &mut [CRegion<'_>],
+    answer: &mut Answer,
+) -> u32
+    ensures calls { LentOver (CompletesBy q cid) (kept_in handle.old) regions.old result answer.new (kept_in handle.new) regions.new }
+    ensures table { table_of regions.new ≡ table_of regions.old }
+    ensures hidden { hidden_in regions.new ≡ hidden_in regions.old }
+{
+    *answer = nothing();
+    let mut controller = match handle.take(alloc) {
+        Ok(controller) => controller,
+        Err(code) => return code,
+    };
+    let code = complete(&mut controller, q, cid, regions, answer);
+    handle.put(controller);
+    code
+}
+
+/// Tells what the controller can do, if there is anything. It does nothing.
+#[unsafe(no_mangle)]
+pub extern "C" fn nvmectl_next_over(
+    alloc: Global,
+    handle: &mut Handle,
+    regions: &mut [CRegion<'_>],
+    step: &mut CStep,
+) -> u32
+    ensures tells { TellsNextOver (kept_in handle.old) regions.old result step.old step.new (kept_in handle.new) regions.new }
+    ensures table { table_of regions.new ≡ table_of regions.old }
+    ensures hidden { hidden_in regions.new ≡ hidden_in regions.old }
+{
+    let controller = match handle.take(alloc) {
+        Ok(controller) => controller,
+        Err(code) => return code,
+    };
+    *step = step_of(look(&controller, regions));
+    handle.put(controller);
+    DONE
+}
