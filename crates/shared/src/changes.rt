@@ -1,5 +1,8 @@
 //! What threads wait for, and a condition variable for each.
 
+ghost use Rattle.std.specs.Prelude.{◌≡◌, ◌%◌, ◌^◌, ◌&&◌, ◌||◌, not, bit_xor};
+ghost use Rattle.shared.specs.Changes.{are_one, bit_of, is_told};
+
 use std::sync::Condvar;
 
 /// How many condition variables those share who wait for the end of a command.
@@ -24,9 +27,23 @@ pub enum Change {
 impl Change {
     /// The end of a command. Up to sixteen commands of one queue with the lowest identifiers have places of their own, and so have the commands
     /// with one identifier of up to sixteen queues.
-    pub fn end_of(q: u16, cid: u16) -> Change {
+    pub fn end_of(q: u16, cid: u16) -> Change
+        ensures { result ≡ Change.Ended (bit_xor q cid % 16) }
+    {
         Change::Ended {
             place: usize::from(q ^ cid) % PLACES,
+        }
+    }
+
+    /// The number whose one bit stands for it in [`Changes`].
+    fn bit(self) -> u32
+        ensures { result ≡ 2 ^ bit_of self }
+    {
+        match self {
+            Change::Room => Changes::ROOM.bits,
+            Change::Posted => Changes::POSTED.bits,
+            Change::Rung => Changes::RUNG.bits,
+            Change::Ended { place } => 1 << (place % PLACES),
         }
     }
 }
@@ -72,31 +89,33 @@ impl Changes {
     pub const ALL: Changes = Changes { bits: 0x7_ffff };
 
     /// One change.
-    pub fn of(change: Change) -> Changes {
-        match change {
-            Change::Room => Changes::ROOM,
-            Change::Posted => Changes::POSTED,
-            Change::Rung => Changes::RUNG,
-            Change::Ended { place } => Changes {
-                bits: 1 << (place % PLACES),
-            },
-        }
+    pub fn of(change: Change) -> Changes
+        ensures { (other : Change) → is_told result other ≡ are_one change other }
+    {
+        Changes { bits: change.bit() }
     }
 
     /// These and others.
-    pub fn and(self, others: Changes) -> Changes {
+    pub fn and(self, others: Changes) -> Changes
+        ensures { (change : Change) → is_told result change ≡ is_told self change || is_told others change }
+    {
         Changes {
             bits: self.bits | others.bits,
         }
     }
 
     /// Whether a change is among them.
-    pub fn has(self, change: Change) -> bool {
-        self.bits & Changes::of(change).bits != 0
+    pub fn has(self, change: Change) -> bool
+        ensures { result ≡ is_told self change }
+    {
+        self.bits & change.bit() != 0
     }
 
     /// Takes those out that are among others, and answers them.
-    pub(crate) fn take(&mut self, others: Changes) -> Changes {
+    pub(crate) fn take(&mut self, others: Changes) -> Changes
+        ensures taken { (change : Change) → is_told result change ≡ is_told self.old change && is_told others change }
+        ensures left { (change : Change) → is_told self.new change ≡ is_told self.old change && not (is_told others change) }
+    {
         let taken = Changes {
             bits: self.bits & others.bits,
         };

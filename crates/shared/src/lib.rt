@@ -15,6 +15,7 @@
 pub mod calls;
 mod changes;
 mod host;
+pub mod laws;
 mod lock;
 mod machine;
 mod serving;
