@@ -14,7 +14,7 @@ pub record Round : Type 0 where
   pub world : WorldContents
 
 -- Rounds, each of a book that opened over the world to which the one before led, and that was closed: from one state to another. Each job of a round was submitted with its own request
--- and bytes, and its end has what its command gathered; or a book of the round refused it.
+-- and bytes, and its end has what was gathered of a command that a book of the round collected under its receipt's queue and identifier; or a book of the round refused it.
 abbrev pub GoOn : State → List Round → State → Type 0
 GoOn before [] after = after ≡ before
 GoOn before (round ∷ rounds) after =

@@ -66,8 +66,8 @@ abbrev pub closing_text : List Owner → Counts → List ℕ
 closing_text owners counts = owners_text owners ++ counts_line counts
 
 -- Rounds of threads, the first over this opening, each other over the world to which the one before led, left a world with these owners and counts, and these jobs ended so. Each was
--- submitted with its own request and bytes, and its end has what its command gathered; or a book of its round refused it. Each command of theirs ended as its receipt in the report of
--- its round's book says, and the reports have no further receipt. The logs of all rounds have the steps of jobs alone, so that they are, one behind the other, one run of which the
+-- submitted with its own request and bytes, and its end has what was gathered of a command that a book of its round collected under its receipt's queue and identifier; or a book of its
+-- round refused it. Each command of theirs ended as its receipt in the report of its round's book says, and the reports have no further receipt. The logs of all rounds have the steps of jobs alone, so that they are, one behind the other, one run of which the
 -- machine's laws of trusted runs speak.
 pub record IsLeftFrom (opening : State) (image : List ℕ) (lists : List (List Job)) (ends : List (List JobEnd)) (owners : List Owner) (counts : Counts) : Type 0 where
   pub world : State

@@ -4,8 +4,10 @@ pub mod Histograms
 pub mod Layouts
 pub mod Lines
 pub mod Loaded
+pub mod Objects
 pub mod Picking
 pub mod Planning
 pub mod Rounds
 pub mod Tallies
 pub mod Statuses
+pub mod Summaries

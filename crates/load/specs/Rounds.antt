@@ -55,7 +55,8 @@ all_noted generations (plan ∷ plans) (ends ∷ lists) = all_noted (noted gener
 -- Rounds
 
 -- The commands of plans were done over a machine: a book that opened there was closed, whose log has the steps of jobs alone. The jobs of each submitter were those of its plan, on its queue: each was submitted
--- with its own request and bytes, and its end has what its command gathered; or a book of the round refused it. Each command has its end, which is the one that its receipt says, and there is no further receipt.
+-- with its own request and bytes, and its end has what was gathered of a command that a book of the round collected under its receipt's queue and identifier; or a book of the round refused it. Each command has
+-- its end, which is the one that its receipt says, and there is no further receipt.
 pub record AreDone (s : Setting) (before : State) (plans : List (List Planned)) (ends : List (List JobEnd)) (world : WorldContents) : Type 0 where
   pub lists : List (List Job)
   pub log : LogContents

@@ -6,12 +6,14 @@ use crate::tally::Tally;
 /// What a load came to, so far or at its end.
 #[derive(Clone, Copy)]
 pub struct Figures<'a> {
-    pub(crate) tally: Tally,
-    pub(crate) measured: &'a Measured,
+    /// How many commands ended how.
+    pub tally: Tally,
+    /// How long those took that ended with status 0:00.
+    pub measured: &'a Measured,
     /// The bytes of a command.
-    pub(crate) command_bytes: u64,
+    pub command_bytes: u64,
     /// How long its commands took in all, in nanoseconds.
-    pub(crate) nanos: u64,
+    pub nanos: u64,
 }
 
 /// Who is told, while a load runs, what it came to so far.

@@ -1,7 +1,7 @@
 //! How long commands took, in buckets.
 
-ghost use Rattle.std.specs.Prelude.{◌≡◌, ◌≤◌, ◌<◌, IfOk, length, replicate, vec_len};
-ghost use Rattle.load.specs.Histograms.{bucket_at, Counts, IsBucketOf, high_of as spec_high_of, rank_of as spec_rank_of};
+ghost use Rattle.std.specs.Prelude.{◌≡◌, ◌≤◌, ◌<◌, IfOk};
+ghost use Rattle.load.specs.Histograms.{bucket_at, HasOneMore, IsBucketOf, IsDeviationOf, high_of as spec_high_of, least_of, mean_of, no_numbers, percentile_of, rank_of as spec_rank_of};
 
 use std::alloc::{AllocError, Global};
 use std::marker::Model;
@@ -11,7 +11,7 @@ const BUCKETS: usize = 976;
 
 /// How often numbers came, each in a bucket whose ends lie a sixteenth apart at most.
 #[derive(Drop)]
-pub(crate) struct Histogram {
+pub struct Histogram {
     counts: Vec<u64>,
     many: u64,
     sum: u64,
@@ -22,11 +22,12 @@ pub(crate) struct Histogram {
 }
 
 impl Model for Histogram {
-    ghost use Rattle.std.specs.Prelude.{List, ℕ, ◌≡◌, vec_len};
+    ghost use Rattle.std.specs.Prelude.{◌≡◌, vec_len};
+    ghost use Rattle.load.specs.Histograms.{Numbers};
 
-    ghost Value = { List ℕ };
+    ghost Value = { Numbers };
 
-    ghost view = { λ h. h.counts.items };
+    ghost view = { λ h. record { counts = h.counts.items; many = h.many; sum = h.sum; squares = h.squares; least = h.least; most = h.most } };
 
     ghost invariant = { λ h. vec_len h.counts ≡ 976 };
 }
@@ -69,7 +70,7 @@ fn rank_of(many: u64, permille: u64) -> u64
 impl Histogram {
     /// No number.
     pub(crate) fn new(alloc: Global) -> Result<Histogram, AllocError>
-        ensures { IfOk result (λ histogram. histogram ≡ replicate 976 0) }
+        ensures { IfOk result (λ histogram. histogram ≡ no_numbers) }
     {
         Ok(Histogram {
             counts: vec![in alloc; 0; BUCKETS]?,
@@ -83,7 +84,7 @@ impl Histogram {
 
     /// Counts a number.
     pub(crate) fn add(&mut self, value: u64)
-        ensures { Counts self.old value self.new }
+        ensures { HasOneMore self.old value self.new }
     {
         let bucket = bucket_of(value);
         let counts = &mut self.counts;
@@ -97,27 +98,37 @@ impl Histogram {
     }
 
     /// How many numbers there are.
-    pub(crate) fn len(&self) -> u64 {
+    pub(crate) fn len(&self) -> u64
+        ensures { result ≡ self.now.many }
+    {
         self.many
     }
 
     /// The least number; 0 of none.
-    pub(crate) fn least(&self) -> u64 {
+    pub(crate) fn least(&self) -> u64
+        ensures { result ≡ least_of self.now }
+    {
         if self.many == 0 { 0 } else { self.least }
     }
 
     /// The greatest number; 0 of none.
-    pub(crate) fn most(&self) -> u64 {
+    pub(crate) fn most(&self) -> u64
+        ensures { result ≡ self.now.most }
+    {
         self.most
     }
 
     /// The mean; 0 of none.
-    pub(crate) fn mean(&self) -> u64 {
+    pub(crate) fn mean(&self) -> u64
+        ensures { result ≡ mean_of self.now }
+    {
         self.sum / self.many.max(1)
     }
 
     /// The standard deviation of a sample; 0 of fewer than two.
-    pub(crate) fn deviation(&self) -> u64 {
+    pub(crate) fn deviation(&self) -> u64
+        ensures { IsDeviationOf self.now result }
+    {
         if self.many < 2 {
             return 0;
         }
@@ -129,7 +140,7 @@ impl Histogram {
 
     /// The bucket of the number of this rank, counted from 1 in the numbers' order; one more than the last where there are fewer.
     fn bucket_at(&self, rank: u64) -> usize
-        ensures at { result ≡ bucket_at 0 self.now rank }
+        ensures at { result ≡ bucket_at 0 self.now.counts rank }
         ensures few { result ≤ 976 }
     {
         let mut left = rank;
@@ -145,6 +156,7 @@ impl Histogram {
     /// The number up to which so many thousandths lie, to a sixteenth.
     pub(crate) fn percentile(&self, permille: u64) -> u64
         requires { permille ≤ 1000 }
+        ensures { result ≡ percentile_of self.now permille }
     {
         let bucket = self.bucket_at(rank_of(self.many, permille));
         if bucket < BUCKETS {

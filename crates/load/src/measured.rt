@@ -9,9 +9,11 @@ use std::alloc::{AllocError, Global};
 
 /// How long commands with status 0:00 took, in nanoseconds.
 #[derive(Drop)]
-pub(crate) struct Measured {
-    pub(crate) reads: Histogram,
-    pub(crate) writes: Histogram,
+pub struct Measured {
+    /// Reads.
+    pub reads: Histogram,
+    /// Writes and Compares.
+    pub writes: Histogram,
 }
 
 impl Measured {

@@ -3,10 +3,8 @@
 ghost use Rattle.std.specs.Prelude.{◌≡◌};
 ghost use Rattle.load.specs.Tallies.{both, counted as spec_counted, is_good as spec_is_good};
 
-use serde::Serialize;
-
 /// How many commands ended how.
-#[derive(Clone, Copy, Debug, Serialize)]
+#[derive(Clone, Copy, Debug)]
 pub struct Tally {
     /// Commands that ended with status 0:00.
     pub done: u64,
