@@ -1,4 +1,10 @@
+pub mod FaultTexts
+pub mod Forms
 pub mod Found
+pub mod Grammars
+pub mod Layout
+pub mod Nearest
+pub mod Reading
 pub mod Slots
 pub mod Stored
 pub mod Ending
@@ -6,5 +12,10 @@ pub mod Fetched
 pub mod Taking
 pub mod Sparse
 pub mod Rules
+pub mod Runs
 pub mod Traces
 pub mod Words
+pub mod Objects
+pub mod PageObjects
+pub mod FaultObjects
+pub mod ReplyObjects

@@ -2,6 +2,9 @@
 //!
 //! A word is runs with commas between them. A run is hexadecimal digits, two for each byte, and, behind a star, how often these bytes stand there.
 
+ghost use Rattle.std.specs.Prelude.{◌≡◌, ◌≤◌, ◌+◌, ◌++◌, ◌<◌, ℕ, Some, List, length, IfSome, IfOk, IfErr, MatchResult, OnOk, vec_len};
+ghost use Rattle.texts.specs.Runs.{digit_bytes, times_said, run_parts, run_bytes, star_of, bytes_of_word, AreNone, IsNotPut, IsNoWord};
+
 use script_cli::{LineError, LineFault, words_of};
 use std::alloc::{AllocError, Global};
 
@@ -17,12 +20,22 @@ pub enum RunsFault {
 }
 
 impl From<AllocError> for RunsFault {
+    ghost use Rattle.std.specs.Prelude.{◌≡◌};
+    ghost use Rattle.texts.specs.declared.byte_runs.RunsFault.{RunsFault};
+
+    ghost from_gives = { λ _ fault. fault ≡ RunsFault.Memory };
+
     fn from(_refused: AllocError) -> Self {
         RunsFault::Memory
     }
 }
 
 impl From<LineError> for RunsFault {
+    ghost use Rattle.std.specs.Prelude.{◌≡◌};
+    ghost use Rattle.texts.specs.Runs.{fault_of_line};
+
+    ghost from_gives = { λ why fault. fault ≡ fault_of_line why };
+
     fn from(why: LineError) -> Self {
         match why {
             LineError::Fault(_) => RunsFault::NoRuns,
@@ -32,32 +45,59 @@ impl From<LineError> for RunsFault {
 }
 
 impl From<LineFault> for RunsFault {
+    ghost use Rattle.std.specs.Prelude.{◌≡◌};
+    ghost use Rattle.texts.specs.declared.byte_runs.RunsFault.{RunsFault};
+
+    ghost from_gives = { λ _ fault. fault ≡ RunsFault.NoRuns };
+
     fn from(_fault: LineFault) -> Self {
         RunsFault::NoRuns
     }
 }
 
 /// The bytes of hexadecimal digits.
-fn hex(alloc: Global, digits: &[u8]) -> Result<Vec<u8>, RunsFault> {
+fn hex(alloc: Global, digits: &[u8]) -> Result<Vec<u8>, RunsFault>
+    ensures { MatchResult result (λ bytes. digit_bytes digits.now ≡ Some bytes.items) (AreNone (digit_bytes digits.now)) }
+{
     let mut words = words_of(digits)?;
-    let bytes = words.bytes(alloc)?;
-    Ok(Vec::from_slice(alloc, bytes.as_slice())?)
+    Ok(words.bytes(alloc)?.into_vec())
 }
 
 /// How often the bytes of a run stand there.
-fn count(digits: &[u8]) -> Result<u32, RunsFault> {
+fn count(digits: &[u8]) -> Result<u32, RunsFault>
+    ensures { MatchResult result (λ times. times_said digits.now ≡ Some times) (AreNone (times_said digits.now)) }
+{
     let mut words = words_of(digits)?;
     Ok(words.number32()?)
 }
 
-/// Puts the bytes of hexadecimal digits so many times behind others.
-fn put_times(
-    alloc: Global,
-    out: &mut Vec<u8>,
-    digits: &[u8],
-    times: u32,
-    most: usize,
-) -> Result<(), RunsFault> {
+/// Where the star of a run stands.
+#[tactic(auto, unfolding(crate::specs::Runs::star_of))]
+fn star_in(run: &[u8]) -> Option<usize>
+    ensures star { result ≡ star_of run.now }
+    ensures inside { IfSome result (λ star. star < length run.now) }
+{
+    run.iter().position(|byte| *byte == b'*')
+}
+
+/// The digits of a run, and how often their bytes stand there.
+fn parts_of(run: &[u8]) -> Result<(&[u8], u32), RunsFault>
+    ensures { MatchResult result (λ parts. run_parts run.now ≡ Some (parts.0.now, parts.1)) (AreNone (run_parts run.now)) }
+{
+    match star_in(run) {
+        Some(star) => Ok((&run[..star], count(&run[star + 1..])?)),
+        None => Ok((run, 1)),
+    }
+}
+
+/// Puts the bytes of a run behind others.
+fn put_run(alloc: Global, out: &mut Vec<u8>, run: &[u8], most: usize) -> Result<(), RunsFault>
+    requires { vec_len out.old ≤ most }
+    ensures put { OnOk result ((bytes : List ℕ) × (run_bytes run.now ≡ Some bytes) × (out.new.items ≡ out.old.items ++ bytes)) }
+    ensures few { OnOk result (vec_len out.new ≤ most) }
+    ensures not_put { IfErr result (IsNotPut (run_bytes run.now) (vec_len out.old) most) }
+{
+    let (digits, times) = parts_of(run)?;
     let bytes = hex(alloc, digits)?;
     let room = most.saturating_sub(out.len());
     match bytes.len().checked_mul(times as usize) {
@@ -70,28 +110,9 @@ fn put_times(
     Ok(())
 }
 
-/// Puts the bytes of a run behind others.
-fn put_run(alloc: Global, out: &mut Vec<u8>, run: &[u8], most: usize) -> Result<(), RunsFault> {
-    let Some(star) = run.iter().position(|byte| *byte == b'*') else {
-        return put_times(alloc, out, run, 1, most);
-    };
-    let (digits, behind) = run.split_at(star);
-    let Some((_, number)) = behind.split_first() else {
-        return Err(RunsFault::NoRuns);
-    };
-    put_times(alloc, out, digits, count(number)?, most)
-}
-
 /// How many bytes a run is.
 fn run_len(run: &[u8]) -> Option<u64> {
-    let (digits, times) = match run.iter().position(|byte| *byte == b'*') {
-        Some(star) => {
-            let (digits, behind) = run.split_at(star);
-            let (_, number) = behind.split_first()?;
-            (digits, count(number).ok()?)
-        }
-        None => (run, 1),
-    };
+    let (digits, times) = parts_of(run).ok()?;
     (digits.len() as u64 / 2).checked_mul(u64::from(times))
 }
 
@@ -109,7 +130,11 @@ pub(crate) fn len_of(word: &[u8]) -> Option<u64> {
 /// # Errors
 ///
 /// Where the word is no bytes, or too many, or memory is refused.
-pub fn bytes_of(alloc: Global, word: &[u8], most: usize) -> Result<Vec<u8>, RunsFault> {
+pub fn bytes_of(alloc: Global, word: &[u8], most: usize) -> Result<Vec<u8>, RunsFault>
+    ensures bytes { IfOk result (λ bytes. bytes_of_word word.now ≡ Some bytes.items) }
+    ensures few { IfOk result (λ bytes. vec_len bytes ≤ most) }
+    ensures refused { IfErr result (IsNoWord word.now most) }
+{
     let mut out = Vec::new(alloc);
     for run in word.split(|byte| *byte == b',') {
         put_run(alloc, &mut out, run, most)?;

@@ -2,13 +2,15 @@
 //!
 //! [`put_reply_object`] tells what a step answered, [`put_owners_object`] and [`put_counts_object`] who owns the pages. Numbers of 64 bits are
 //! hexadecimal texts, since many programs read a number of JSON as one of 53 bits; bytes are hexadecimal digits, and a status is `SCT:SC`. A name is that of the
-//! lines of `nvmesgl steps`. No clause speaks of these texts.
+//! lines of `nvmesgl steps`. Each clause says the whole object; but the name of a status may be any.
 
 mod line;
+mod members;
 mod pages;
 mod steps;
 
 pub(crate) use line::hex_number;
 pub use line::{hex_bytes, put_object};
+pub(crate) use members::{put_number, put_text};
 pub use pages::{put_counts_object, put_owners_object};
 pub use steps::put_reply_object;

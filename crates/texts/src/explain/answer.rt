@@ -1,10 +1,10 @@
 //! Cases that are read and explained.
 
 use crate::explain::case::{Case, read_case};
+use crate::explain::case_json::put_objects;
 use crate::explain::command::explain;
 use crate::explain::fault::CaseFault;
 use crate::explain::files::folder_of;
-use crate::explain::json::put_objects;
 use crate::explain::text::put_explanation;
 use entry_codec::{Status, SubEntry};
 use std::alloc::{AllocError, AllocGlobal, Global};

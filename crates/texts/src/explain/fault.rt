@@ -1,5 +1,10 @@
 //! Why lines are no case.
 
+ghost use Rattle.std.specs.Prelude.{◌≡◌};
+ghost use Rattle.std.specs.Option.{option_map};
+ghost use Rattle.texts.specs.FaultObjects.{wrong_name};
+ghost use Rattle.texts.specs.FaultTexts.{unplaced_sentence};
+
 use std::{fmt, io};
 
 /// What is wrong with a line.
@@ -76,7 +81,9 @@ pub enum Wrong {
 
 impl Wrong {
     /// Its name.
-    pub(crate) fn name(self) -> &'static str {
+    pub(crate) fn name(self) -> &'static str
+        ensures { result.now ≡ wrong_name self }
+    {
         match self {
             Wrong::NoText => "BadLine",
             Wrong::NoKey => "UnknownWord",
@@ -216,7 +223,9 @@ pub enum CaseFault {
 
 impl CaseFault {
     /// A sentence for people of a fault that has no line.
-    pub(crate) fn sentence(self) -> Option<&'static str> {
+    pub(crate) fn sentence(self) -> Option<&'static str>
+        ensures { option_map (λ said. said.now) result ≡ unplaced_sentence self }
+    {
         match self {
             CaseFault::TooLong => Some("it has 1048576 bytes and 65536 lines at most."),
             CaseFault::NoEntry => Some("a line has the entry: `sqe`, and its 64 bytes."),

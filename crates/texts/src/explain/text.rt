@@ -1,5 +1,9 @@
 //! The lines of an explanation.
 
+ghost use Rattle.std.specs.Prelude.{IfOk, string_bytes};
+ghost use Rattle.std.specs.Option.{option_map};
+ghost use Rattle.texts.specs.FaultTexts.{IsSentence, IsTold};
+
 use crate::explain::case::Case;
 use crate::explain::cause::put_cause;
 use crate::explain::command::Explanation;
@@ -230,25 +234,37 @@ pub(crate) fn put_explanation(
     }
 }
 
+/// The sentence of a fault; none where memory was refused.
+fn sentence_of(alloc: Global, fault: CaseFault) -> Result<Option<String>, AllocError>
+    ensures { IfOk result (λ said. IsSentence fault (option_map string_bytes said)) }
+{
+    match (fault, fault.sentence()) {
+        (CaseFault::Line { wrong, .. }, _) => Ok(Some(wrong.to_string(alloc)?)),
+        (_, Some(sentence)) => Ok(Some(String::from_str(alloc, sentence)?)),
+        (_, None) => Ok(None),
+    }
+}
+
 /// What more is told of a fault: the line, a caret under the word, and a sentence.
 ///
 /// # Errors
 ///
 /// Where memory is refused.
-pub fn fault_lines(alloc: Global, text: &[u8], fault: CaseFault) -> Result<String, AllocError> {
+pub fn fault_lines(alloc: Global, text: &[u8], fault: CaseFault) -> Result<String, AllocError>
+    ensures { IfOk result (λ told. IsTold text.now fault (string_bytes told)) }
+{
     let mut out = String::new(alloc);
     if let CaseFault::Line {
         number,
         start,
         end,
-        wrong,
+        ..
     } = fault
     {
         let line = line_at(text, number).unwrap_or(&[]);
         put_line(&mut out, line, start, end)?;
-        write!(out, "{wrong}\n")?;
     }
-    if let Some(sentence) = fault.sentence() {
+    if let Some(sentence) = sentence_of(alloc, fault)? {
         write!(out, "{sentence}\n")?;
     }
     Ok(out)

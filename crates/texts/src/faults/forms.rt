@@ -1,5 +1,8 @@
 //! What follows a verb: the table of forms.
 
+ghost use Rattle.std.specs.Prelude.{◌≡◌, IfOk, string_bytes};
+ghost use Rattle.texts.specs.Forms.{form_of, pieces_follow, slot_name, slots_after};
+
 use script_cli::Verb;
 use std::alloc::{AllocError, Global};
 
@@ -48,7 +51,9 @@ static FORGE: [Slot; 3] = [Slot::Queue, Slot::CompletionSlot, Slot::EntryBytes];
 static RESERVE: [Slot; 4] = [Slot::Queue, Slot::Kind, Slot::FirstBlock, Slot::Blocks];
 
 /// The words that follow a verb, but for pieces.
-pub(crate) fn slots_of(verb: Verb) -> &'static [Slot] {
+pub(crate) fn slots_of(verb: Verb) -> &'static [Slot]
+    ensures { result.now ≡ slots_after verb }
+{
     match verb {
         Verb::Reserve => &RESERVE,
         Verb::Fill => &FILL,
@@ -60,8 +65,10 @@ pub(crate) fn slots_of(verb: Verb) -> &'static [Slot] {
 }
 
 /// Whether pieces follow behind these words.
-pub(crate) fn has_pieces(verb: Verb) -> bool {
-    verb == Verb::Reserve
+pub(crate) fn has_pieces(verb: Verb) -> bool
+    ensures { result ≡ pieces_follow verb }
+{
+    matches!(verb, Verb::Reserve)
 }
 
 /// The words that follow `job`, but for the bytes and the pieces.
@@ -77,7 +84,9 @@ pub(crate) fn slots_of_job(submitters: u16) -> [Slot; 5] {
 
 impl Slot {
     /// Its name in the forms of lines.
-    pub(crate) fn name(self) -> &'static str {
+    pub(crate) fn name(self) -> &'static str
+        ensures { result.now ≡ slot_name self }
+    {
         match self {
             Slot::Queue => "Q",
             Slot::Identifier => "CID",
@@ -114,7 +123,9 @@ impl Slot {
 }
 
 /// A verb and the names of the words that follow it.
-pub fn form_text(alloc: Global, verb: Verb) -> Result<String, AllocError> {
+pub fn form_text(alloc: Global, verb: Verb) -> Result<String, AllocError>
+    ensures { IfOk result (λ text. string_bytes text ≡ form_of verb) }
+{
     let mut out = String::from_str(alloc, verb.name())?;
     for slot in slots_of(verb) {
         out.push_str(" ")?;

@@ -1,7 +1,11 @@
 //! All that a script may say.
 
+ghost use Rattle.std.specs.Prelude.{◌≡◌, ◌++◌, IfOk, OnOk, map, string_bytes};
+ghost use Rattle.texts.specs.Grammars.{about_queue as spec_about_queue, about_command as spec_about_command, about as spec_about, verb_line, verb_lines, status_lines, grammar_of};
+
 use crate::faults::forms::form_text;
-use entry_codec::status_names::{NAMES, Named};
+use entry_codec::Status;
+use entry_codec::status_names::NAMES;
 use script_cli::{CommandVerb, QueueVerb, VERBS, Verb};
 use std::alloc::{AllocError, Global};
 
@@ -41,7 +45,9 @@ docs/SCRIPT.md in the repository has all of this in full.
 ";
 
 /// What the step of a verb on a queue does.
-fn about_queue(verb: QueueVerb) -> &'static str {
+fn about_queue(verb: QueueVerb) -> &'static str
+    ensures { result.now ≡ spec_about_queue verb }
+{
     match verb {
         QueueVerb::Ring => "tells the controller of what was submitted",
         QueueVerb::Reap => "takes a completion",
@@ -55,7 +61,9 @@ fn about_queue(verb: QueueVerb) -> &'static str {
 }
 
 /// What the step of a verb on a command does.
-fn about_command(verb: CommandVerb) -> &'static str {
+fn about_command(verb: CommandVerb) -> &'static str
+    ensures { result.now ≡ spec_about_command verb }
+{
     match verb {
         CommandVerb::Build => "lays the scatter-gather list",
         CommandVerb::Submit => "puts the command into its queue",
@@ -70,7 +78,9 @@ fn about_command(verb: CommandVerb) -> &'static str {
 }
 
 /// What the line of a verb does.
-fn about(verb: Verb) -> &'static str {
+fn about(verb: Verb) -> &'static str
+    ensures { result.now ≡ spec_about verb }
+{
     match verb {
         Verb::Reserve => "reserves a command and its pages",
         Verb::Fill => "writes the bytes of a Write or a Compare",
@@ -82,25 +92,51 @@ fn about(verb: Verb) -> &'static str {
     }
 }
 
+/// Puts the line of a verb: its form, and what it does.
+fn put_verb(alloc: Global, out: &mut String, verb: Verb) -> Result<(), AllocError>
+    ensures { OnOk result (string_bytes out.new ≡ string_bytes out.old ++ verb_line verb) }
+{
+    let form = form_text(alloc, verb)?;
+    let form = form.as_str();
+    let about = about(verb);
+    write!(out, "  {form:<35}  {about}\n")
+}
+
+/// Puts the lines of verbs.
+#[tactic(auto, unfolding(crate::specs::Grammars::verb_lines))]
+fn put_verbs(alloc: Global, out: &mut String, verbs: &[Verb]) -> Result<(), AllocError>
+    ensures { OnOk result (string_bytes out.new ≡ string_bytes out.old ++ verb_lines verbs.now) }
+{
+    for verb in verbs {
+        put_verb(alloc, out, *verb)?;
+    }
+    Ok(())
+}
+
+/// Puts the lines of statuses: their numbers and names.
+#[tactic(auto, unfolding(crate::specs::Grammars::status_lines))]
+fn put_statuses(out: &mut String, names: &[(Status, &str)]) -> Result<(), AllocError>
+    ensures { OnOk result (string_bytes out.new ≡ string_bytes out.old ++ status_lines (map (λ named. (named.0, named.1.now)) names.now)) }
+{
+    for (status, name) in names {
+        write!(out, "  {status} {name}\n")?;
+    }
+    Ok(())
+}
+
 /// All that a script may say: each verb of the parser's table, with its form, and then the line of a job, what the words
 /// are, and the names of statuses.
 ///
 /// # Errors
 ///
 /// Where memory is refused.
-pub fn grammar_text(alloc: Global) -> Result<String, AllocError> {
+pub fn grammar_text(alloc: Global) -> Result<String, AllocError>
+    ensures { IfOk result (λ text. string_bytes text ≡ grammar_of) }
+{
     let mut out = String::from_str(alloc, BEGINNING)?;
-    for verb in VERBS {
-        let form = form_text(alloc, verb)?;
-        let form = form.as_str();
-        let about = about(verb);
-        write!(out, "  {form:<35}  {about}\n")?;
-    }
+    put_verbs(alloc, &mut out, &VERBS)?;
     out.push_str(END)?;
-    for (status, _) in NAMES {
-        let named = Named(status);
-        write!(out, "  {named}\n")?;
-    }
+    put_statuses(&mut out, &NAMES)?;
     out.push_str(LAST)?;
     Ok(out)
 }

@@ -1,5 +1,8 @@
 //! Which word was meant.
 
+ghost use Rattle.std.specs.Prelude.{◌≡◌, IfNone, IfOk, IfSome, IsSome, MatchOption, map, string_bytes};
+ghost use Rattle.texts.specs.Nearest.{IsCompared, IsNearest, NoneIsNear, are_few as spec_are_few, in_lower_case};
+
 use std::alloc::{AllocError, Global};
 use strsim::osa_distance;
 
@@ -10,7 +13,10 @@ const MAX_WORD: usize = 32;
 const MAX_EDITS: usize = 2;
 
 /// A word in lower case; nothing where it is too long, or has a byte that is not ASCII.
-fn lower_case(alloc: Global, word: &[u8]) -> Result<Option<String>, AllocError> {
+fn lower_case(alloc: Global, word: &[u8]) -> Result<Option<String>, AllocError>
+    ensures compared { IfOk result (λ text. MatchOption text (¬ IsCompared word.now) (λ _. IsCompared word.now)) }
+    ensures text { IfOk result (λ text. IfSome text (λ text. string_bytes text ≡ in_lower_case word.now)) }
+{
     if word.len() > MAX_WORD || !word.is_ascii() {
         return Ok(None);
     }
@@ -22,7 +28,9 @@ fn lower_case(alloc: Global, word: &[u8]) -> Result<Option<String>, AllocError> 
 }
 
 /// Whether so many edits are few for a word of this length.
-fn are_few(edits: usize, len: usize) -> bool {
+fn are_few(edits: usize, len: usize) -> bool
+    ensures { result ≡ spec_are_few edits len }
+{
     edits <= MAX_EDITS && edits.saturating_mul(3) <= len
 }
 
@@ -36,7 +44,11 @@ pub fn nearest(
     alloc: Global,
     word: &[u8],
     names: &[&'static str],
-) -> Result<Option<&'static str>, AllocError> {
+) -> Result<Option<&'static str>, AllocError>
+    ensures compared { IfOk result (λ found. IsSome found → IsCompared word.now) }
+    ensures nearest { IfOk result (λ found. IfSome found (λ name. IsNearest (in_lower_case word.now) (map (λ name. name.now) names.now) name.now)) }
+    ensures none { IfOk result (λ found. IfNone found (IsCompared word.now → NoneIsNear (in_lower_case word.now) (map (λ name. name.now) names.now))) }
+{
     let Some(text) = lower_case(alloc, word)? else {
         return Ok(None);
     };

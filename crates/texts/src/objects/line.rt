@@ -1,6 +1,7 @@
 //! An object on a line, and what stands in it as hexadecimal digits.
 
 ghost use Rattle.std.specs.Prelude.{◌≡◌, ◌++◌, IfOk, OnOk, string_bytes};
+ghost use Rattle.texts.specs.Objects.{PutsObject};
 ghost use Rattle.texts.specs.Words.{hex_byte_text, hex_text};
 
 use serde::Serialize;
@@ -15,7 +16,9 @@ pub fn put_object<T: Serialize>(
     alloc: Global,
     out: &mut String,
     object: &T,
-) -> Result<(), AllocError> {
+) -> Result<(), AllocError>
+    ensures { OnOk result (PutsObject T.writes object.now (string_bytes out.old) (string_bytes out.new)) }
+{
     match serde_json::to_string(alloc, object) {
         Ok(text) => {
             out.push_str(text.as_str())?;

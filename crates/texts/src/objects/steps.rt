@@ -1,205 +1,228 @@
 //! What a step answered, as an object.
 
+ghost use Rattle.std.specs.Prelude.{◌≡◌, IfOk, OnOk, string_bytes};
+ghost use Rattle.serde_json.specs.Data.{no_members};
+ghost use Rattle.texts.specs.Objects.{Sends, events_of, members_events};
+ghost use Rattle.texts.specs.ReplyObjects.{PutsReply, SendsNamed, answer_members, detail_members, reaped_members, reaped_text as spec_reaped_text, reserved_members, status_members, text_of as spec_text_of, told_object, touched_members, walked_members, walked_text as spec_walked_text, why_members};
+
 use crate::objects::line::{hex_bytes, put_object};
+use crate::objects::members::{put_number, put_text};
 use controller_walk::WalkState;
 use entry_codec::Status;
 use entry_codec::status_names::name_of;
 use script_cli::{Verb, fill_fault_name, is_well, refusal_name, rejected_name, request_fault_name};
-use serde::Serialize;
+use serde::{Described, Serialize, Serializer};
 use std::alloc::{AllocError, Global};
 use step_core::{Reaped, Refusal, Reply, Touched};
 
-/// What a step answered. What an answer does not have is left out.
-#[derive(Drop, Serialize)]
-struct ReplyObject {
-    line: u32,
-    verb: &'static str,
-    /// Whether it was not refused, and has no other status than 0:00.
-    well: bool,
-    answer: &'static str,
-    #[serde(skip_serializing_if = "Option::is_none")]
-    q: Option<u16>,
-    #[serde(skip_serializing_if = "Option::is_none")]
-    cid: Option<u16>,
-    #[serde(skip_serializing_if = "Option::is_none")]
-    data: Option<u32>,
-    #[serde(skip_serializing_if = "Option::is_none")]
-    chain: Option<u32>,
-    #[serde(skip_serializing_if = "Option::is_none")]
-    status: Option<String>,
-    #[serde(skip_serializing_if = "Option::is_none")]
-    name: Option<&'static str>,
-    #[serde(skip_serializing_if = "Option::is_none")]
-    dw0: Option<u32>,
-    #[serde(skip_serializing_if = "Option::is_none")]
-    why: Option<&'static str>,
-    #[serde(skip_serializing_if = "Option::is_none")]
-    fault: Option<&'static str>,
-    #[serde(skip_serializing_if = "Option::is_none")]
-    need: Option<u32>,
-    #[serde(skip_serializing_if = "Option::is_none")]
-    free: Option<u32>,
-    #[serde(skip_serializing_if = "Option::is_none")]
-    touched: Option<Vec<u32>>,
-    #[serde(skip_serializing_if = "Option::is_none")]
-    bytes: Option<String>,
+/// Puts the members of a status, of which this is the text: that, and its name if it has one.
+fn put_status<S: Serializer>(out: &mut S, status: Status, text: &str) -> Result<(), S::Error>
+    ensures { OnOk result (SendsNamed (λ name. members_events (status_members text.now name no_members)) (S.written out.old) (S.written out.new)) }
+{
+    put_text(out, "status", text)?;
+    match name_of(status) {
+        Some(name) => put_text(out, "name", name),
+        None => Ok(()),
+    }
 }
 
-impl ReplyObject {
-    /// An object with an answer's name alone.
-    fn named(answer: &'static str) -> ReplyObject {
-        ReplyObject {
-            line: 0,
-            verb: "",
-            well: true,
-            answer,
-            q: None,
-            cid: None,
-            data: None,
-            chain: None,
-            status: None,
-            name: None,
-            dw0: None,
-            why: None,
-            fault: None,
-            need: None,
-            free: None,
-            touched: None,
-            bytes: None,
-        }
+/// Puts the member of the pages that a step touched.
+fn put_touched<S: Serializer>(out: &mut S, touched: &Touched) -> Result<(), S::Error>
+    ensures { OnOk result (Sends (members_events (touched_members touched.now)) (S.written out.old) (S.written out.new)) }
+{
+    let pages = touched.pages();
+    out.key("touched")?;
+    out.begin_seq(Some(pages.len()))?;
+    for page in pages {
+        out.u64(u64::from(page.0))?;
     }
+    out.end_seq()
+}
 
-    /// An object with a status.
-    fn ended(
-        alloc: Global,
-        answer: &'static str,
-        status: Status,
-    ) -> Result<ReplyObject, AllocError> {
-        Ok(ReplyObject {
-            status: Some(format!(in alloc; "{status}")?),
-            name: name_of(status),
-            ..ReplyObject::named(answer)
-        })
-    }
-
-    /// An object of a refusal.
-    fn refused(why: &'static str) -> ReplyObject {
-        ReplyObject {
-            why: Some(why),
-            ..ReplyObject::named("refused")
+/// Puts the members of what a walk found, of whose status this is the text.
+fn put_walked<S: Serializer>(out: &mut S, state: WalkState, text: &str) -> Result<(), S::Error>
+    ensures { OnOk result (SendsNamed (λ name. members_events (walked_members text.now name state no_members)) (S.written out.old) (S.written out.new)) }
+{
+    match state {
+        WalkState::More => put_text(out, "answer", "more"),
+        WalkState::End => put_text(out, "answer", "end"),
+        WalkState::Fault(status) => {
+            put_text(out, "answer", "fault")?;
+            put_status(out, status, text)
         }
     }
 }
 
-/// The numbers of the pages that a step touched.
-fn pages_of(alloc: Global, touched: &Touched) -> Result<Vec<u32>, AllocError> {
-    let mut pages = Vec::new(alloc);
-    for page in touched.pages() {
-        pages.push(page.0)?;
+/// Puts the members of what a reap found, of whose status this is the text.
+fn put_reaped<S: Serializer>(out: &mut S, found: &Reaped, text: &str) -> Result<(), S::Error>
+    ensures { OnOk result (SendsNamed (λ name. members_events (reaped_members text.now name found.now)) (S.written out.old) (S.written out.new)) }
+{
+    match *found {
+        Reaped::Empty => put_text(out, "answer", "empty"),
+        Reaped::Done { cid, status } => {
+            put_text(out, "answer", "done")?;
+            put_number(out, "cid", u64::from(cid))?;
+            put_status(out, status, text)
+        }
+        Reaped::AdminDone { cid, status, dw0 } => {
+            put_text(out, "answer", "admin")?;
+            put_number(out, "cid", u64::from(cid))?;
+            put_status(out, status, text)?;
+            put_number(out, "dw0", u64::from(dw0))
+        }
+        Reaped::Rejected(why) => {
+            put_text(out, "answer", "rejected")?;
+            put_text(out, "why", rejected_name(why))
+        }
     }
-    Ok(pages)
 }
 
-/// The object of what a reap found.
-fn reaped_object(alloc: Global, found: &Reaped) -> Result<ReplyObject, AllocError> {
-    Ok(match *found {
-        Reaped::Empty => ReplyObject::named("empty"),
-        Reaped::Done { cid, status } => ReplyObject {
-            cid: Some(cid),
-            ..ReplyObject::ended(alloc, "done", status)?
-        },
-        Reaped::AdminDone { cid, status, dw0 } => ReplyObject {
-            cid: Some(cid),
-            dw0: Some(dw0),
-            ..ReplyObject::ended(alloc, "admin", status)?
-        },
-        Reaped::Rejected(why) => ReplyObject {
-            why: Some(rejected_name(why)),
-            ..ReplyObject::named("rejected")
-        },
-    })
+/// Puts the members of a refusal with this name.
+fn put_why<S: Serializer>(out: &mut S, name: &str) -> Result<(), S::Error>
+    ensures { OnOk result (Sends (members_events (why_members name.now no_members)) (S.written out.old) (S.written out.new)) }
+{
+    put_text(out, "answer", "refused")?;
+    put_text(out, "why", name)
 }
 
-/// The object of what a walk found.
-fn walked_object(alloc: Global, state: WalkState) -> Result<ReplyObject, AllocError> {
-    Ok(match state {
-        WalkState::More => ReplyObject::named("more"),
-        WalkState::End => ReplyObject::named("end"),
-        WalkState::Fault(status) => ReplyObject::ended(alloc, "fault", status)?,
-    })
-}
-
-/// The object of a refusal, with what more it says.
-fn refused_object(why: Refusal) -> ReplyObject {
-    let object = ReplyObject::refused(refusal_name(why));
+/// Puts what more is said of a refusal.
+fn put_detail<S: Serializer>(out: &mut S, why: Refusal) -> Result<(), S::Error>
+    ensures { OnOk result (Sends (members_events (detail_members why)) (S.written out.old) (S.written out.new)) }
+{
     match why {
-        Refusal::Bad(fault) => ReplyObject {
-            fault: Some(request_fault_name(fault)),
-            ..object
-        },
-        Refusal::NoPages { need, free } => ReplyObject {
-            need: Some(need),
-            free: Some(free),
-            ..object
-        },
-        Refusal::NoRun { need } => ReplyObject {
-            need: Some(need),
-            ..object
-        },
-        _ => object,
+        Refusal::Bad(fault) => put_text(out, "fault", request_fault_name(fault)),
+        Refusal::NoPages { need, free } => {
+            put_number(out, "need", u64::from(need))?;
+            put_number(out, "free", u64::from(free))
+        }
+        Refusal::NoRun { need } => put_number(out, "need", u64::from(need)),
+        _ => Ok(()),
     }
 }
 
-/// The object, with the pages that a step touched.
-fn touching(
-    alloc: Global,
-    object: ReplyObject,
-    touched: &Touched,
-) -> Result<ReplyObject, AllocError> {
-    Ok(ReplyObject {
-        touched: Some(pages_of(alloc, touched)?),
-        ..object
-    })
+/// Puts the members of a command that was reserved.
+fn put_reserved<S: Serializer>(
+    out: &mut S,
+    q: u16,
+    cid: u16,
+    pages: u32,
+    chain: u32,
+) -> Result<(), S::Error>
+    ensures { OnOk result (Sends (members_events (reserved_members q cid pages chain)) (S.written out.old) (S.written out.new)) }
+{
+    put_text(out, "answer", "reserved")?;
+    put_number(out, "q", u64::from(q))?;
+    put_number(out, "cid", u64::from(cid))?;
+    put_number(out, "data", u64::from(pages))?;
+    put_number(out, "chain", u64::from(chain))
 }
 
-/// The object of an answer, without its line.
-fn answer_object(alloc: Global, reply: &Reply) -> Result<ReplyObject, AllocError> {
-    Ok(match reply {
+/// Puts the members of an answer, of whose status, or of whose bytes, this is the text.
+fn put_answer<S: Serializer>(out: &mut S, reply: &Reply, text: &str) -> Result<(), S::Error>
+    ensures { OnOk result (SendsNamed (λ name. members_events (answer_members text.now name reply.now)) (S.written out.old) (S.written out.new)) }
+{
+    match reply {
         Reply::Reserved {
             q,
             cid,
             data,
             chain,
-        } => ReplyObject {
-            q: Some(*q),
-            cid: Some(*cid),
-            data: Some(*data),
-            chain: Some(*chain),
-            ..ReplyObject::named("reserved")
-        },
-        Reply::Accepted => ReplyObject::named("ok"),
-        Reply::Fetched { cid, touched } => ReplyObject {
-            cid: Some(*cid),
-            ..touching(alloc, ReplyObject::named("fetched"), touched)?
-        },
-        Reply::Walked { state, touched } => {
-            touching(alloc, walked_object(alloc, *state)?, touched)?
+        } => put_reserved(out, *q, *cid, *data, *chain),
+        Reply::Accepted => put_text(out, "answer", "ok"),
+        Reply::Fetched { cid, touched } => {
+            put_text(out, "answer", "fetched")?;
+            put_number(out, "cid", u64::from(*cid))?;
+            put_touched(out, touched)
         }
-        Reply::Completed { touched } => touching(alloc, ReplyObject::named("ok"), touched)?,
-        Reply::Reaps(found) => reaped_object(alloc, found)?,
-        Reply::Collected(status) => ReplyObject::ended(alloc, "collected", *status)?,
-        Reply::Gathered(bytes) => ReplyObject {
-            bytes: Some(hex_bytes(alloc, bytes.as_slice())?),
-            ..ReplyObject::named("gathered")
-        },
-        Reply::Sent { cid } => ReplyObject {
-            cid: Some(*cid),
-            ..ReplyObject::named("sent")
-        },
-        Reply::NoValue => ReplyObject::refused("NoValue"),
-        Reply::NotFilled(why) => ReplyObject::refused(fill_fault_name(*why)),
-        Reply::Refused { why, .. } => refused_object(*why),
-    })
+        Reply::Walked { state, touched } => {
+            put_walked(out, *state, text)?;
+            put_touched(out, touched)
+        }
+        Reply::Completed { touched } => {
+            put_text(out, "answer", "ok")?;
+            put_touched(out, touched)
+        }
+        Reply::Reaps(found) => put_reaped(out, found, text),
+        Reply::Collected(status) => {
+            put_text(out, "answer", "collected")?;
+            put_status(out, *status, text)
+        }
+        Reply::Gathered(_) => {
+            put_text(out, "answer", "gathered")?;
+            put_text(out, "bytes", text)
+        }
+        Reply::Sent { cid } => {
+            put_text(out, "answer", "sent")?;
+            put_number(out, "cid", u64::from(*cid))
+        }
+        Reply::NoValue => put_why(out, "NoValue"),
+        Reply::NotFilled(why) => put_why(out, fill_fault_name(*why)),
+        Reply::Refused { why, .. } => {
+            put_why(out, refusal_name(*why))?;
+            put_detail(out, *why)
+        }
+    }
+}
+
+/// What a step answered. What an answer does not have is left out.
+#[derive(Drop)]
+struct ReplyObject<'a> {
+    line: u32,
+    verb: Verb,
+    reply: &'a Reply,
+    /// The text of its status, or of its bytes.
+    text: String,
+}
+
+impl Described for ReplyObject<'_> {
+    ghost writes = { λ it. SendsNamed (λ name. events_of (told_object it.line it.verb (string_bytes it.text) name it.reply.now)) };
+}
+
+impl Serialize for ReplyObject<'_> {
+    fn serialize<S: Serializer>(&self, out: &mut S) -> Result<(), S::Error> {
+        out.begin_map(None)?;
+        put_number(out, "line", u64::from(self.line))?;
+        put_text(out, "verb", self.verb.name())?;
+        out.key("well")?;
+        out.bool(is_well(self.reply))?;
+        put_answer(out, self.reply, self.text.as_str())?;
+        out.end_map()
+    }
+}
+
+/// The text of the status that a walk ended with; nothing of another walk.
+fn walked_text(alloc: Global, state: WalkState) -> Result<String, AllocError>
+    ensures { IfOk result (λ text. string_bytes text ≡ spec_walked_text state) }
+{
+    match state {
+        WalkState::More | WalkState::End => Ok(String::new(alloc)),
+        WalkState::Fault(status) => format!(in alloc; "{status}"),
+    }
+}
+
+/// The text of the status that a reap found; nothing where it found none.
+fn reaped_text(alloc: Global, found: &Reaped) -> Result<String, AllocError>
+    ensures { IfOk result (λ text. string_bytes text ≡ spec_reaped_text found.now) }
+{
+    match found {
+        Reaped::Empty | Reaped::Rejected(_) => Ok(String::new(alloc)),
+        Reaped::Done { status, .. } | Reaped::AdminDone { status, .. } => {
+            format!(in alloc; "{status}")
+        }
+    }
+}
+
+/// The text of an answer's status, or of its bytes; nothing of an answer that has neither.
+fn text_of(alloc: Global, reply: &Reply) -> Result<String, AllocError>
+    ensures { IfOk result (λ text. string_bytes text ≡ spec_text_of reply.now) }
+{
+    match reply {
+        Reply::Walked { state, .. } => walked_text(alloc, *state),
+        Reply::Reaps(found) => reaped_text(alloc, found),
+        Reply::Collected(status) => format!(in alloc; "{status}"),
+        Reply::Gathered(bytes) => hex_bytes(alloc, bytes.as_slice()),
+        _ => Ok(String::new(alloc)),
+    }
 }
 
 /// Puts the object of a step: the number of its line, its verb, and what it answered, by name.
@@ -213,12 +236,14 @@ pub fn put_reply_object(
     number: u32,
     verb: Verb,
     reply: &Reply,
-) -> Result<(), AllocError> {
+) -> Result<(), AllocError>
+    ensures { OnOk result (PutsReply number verb reply.now (string_bytes out.old) (string_bytes out.new)) }
+{
     let object = ReplyObject {
         line: number,
-        verb: verb.name(),
-        well: is_well(reply),
-        ..answer_object(alloc, reply)?
+        verb,
+        reply,
+        text: text_of(alloc, reply)?,
     };
     put_object(alloc, out, &object)
 }

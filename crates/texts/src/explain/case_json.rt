@@ -56,18 +56,6 @@ struct EndObject {
     more: Option<String>,
 }
 
-/// What is wrong with what was given.
-#[derive(Drop, Serialize)]
-struct FaultObject {
-    fault: &'static str,
-    #[serde(skip_serializing_if = "Option::is_none")]
-    line: Option<u32>,
-    #[serde(skip_serializing_if = "Option::is_none")]
-    column: Option<usize>,
-    #[serde(skip_serializing_if = "Option::is_none")]
-    sentence: Option<String>,
-}
-
 /// The fields of an entry that breaks a rule for them.
 #[derive(Drop, Serialize)]
 struct EntryObject {
@@ -208,51 +196,4 @@ pub(crate) fn put_objects(
         put_object(alloc, out, &RoundObject { again, left_out })?;
     }
     put_object(alloc, out, &end_object(alloc, case, explanation)?)
-}
-
-/// The object of a fault without a place.
-fn unplaced(
-    alloc: Global,
-    name: &'static str,
-    fault: CaseFault,
-) -> Result<FaultObject, AllocError> {
-    let sentence = match fault.sentence() {
-        Some(sentence) => Some(String::from_str(alloc, sentence)?),
-        None => None,
-    };
-    Ok(FaultObject {
-        fault: name,
-        line: None,
-        column: None,
-        sentence,
-    })
-}
-
-/// Puts the object of what is wrong with lines, or with the words of an entry: its name, where it stands, line and column from 1, and a sentence.
-///
-/// # Errors
-///
-/// Where memory is refused.
-pub fn put_fault_object(
-    alloc: Global,
-    out: &mut String,
-    fault: CaseFault,
-) -> Result<(), AllocError> {
-    let object = match fault {
-        CaseFault::Line {
-            number,
-            start,
-            end: _,
-            wrong,
-        } => FaultObject {
-            fault: wrong.name(),
-            line: Some(number),
-            column: Some(start.saturating_add(1)),
-            sentence: Some(format!(in alloc; "{wrong}")?),
-        },
-        CaseFault::TooLong => unplaced(alloc, "TooLong", fault)?,
-        CaseFault::NoEntry => unplaced(alloc, "NoEntry", fault)?,
-        CaseFault::Memory => unplaced(alloc, "Memory", fault)?,
-    };
-    put_object(alloc, out, &object)
 }
