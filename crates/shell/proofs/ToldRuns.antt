@@ -2,11 +2,12 @@
 use Rattle.std.proofs.Common.{◌≡◌, ◌+◌, ◌⊎◌, ℕ, Option, Some, None, Result, Ok, Err, List, [], ◌∷◌, ◌++◌, arith, inl, inr, min, refl, subst, sym}
 use Rattle.std.{proofs.lemmas.Grind.common_steps, specs.{Io.KnownBytes.{Appends, Keeps}, Prelude.{IfErr, OnErr}}}
 use Rattle.host_core.specs.{Opening.refusal_of_config, declared.config.Config.Config}
-use Rattle.machine_model.specs.Script.{Table, table}
+use Rattle.machine_model.specs.{Claims.counts_of, Script.{Table, table}}
 use Rattle.script_cli.{proofs.{Texts.appends_more}, specs.{Faults.fault_of_script, Inputs.{Gains, IsFront}}}
-use Rattle.script_cli.specs.{Runs.{last_line}, Scripts.{IsReading, script_of}, declared.{fault.{RunFault.RunFault, ScriptFault.ScriptFault}, script.Numbered.Numbered}}
+use Rattle.script_cli.specs.{Owners.counts_line, Scripts.{IsReading, script_of}, declared.{fault.{RunFault.RunFault, ScriptFault.ScriptFault}, script.Numbered.Numbered}}
 use Rattle.step_core.specs.Opening.{opening_of}
-use Rattle.shell.specs.Told.{Ends, EndsTold, IsFrontOfTold, IsToldTo, Tells, TellsLine, Told}
+use Rattle.texts.specs.{Objects.line_of, PageObjects.counts_object}
+use Rattle.shell.specs.Told.{Ends, EndsTold, IsFrontOfTold, IsToldTo, TellsCounts, TellsLine, Told}
 use Rattle.shell.specs.declared.told.Telling.{Telling, TheVariants.{Objects, Traces}}
 use Rattle.script_cli.specs.declared.fault.RunFault.TheVariants as run
 use Rattle.script_cli.specs.declared.fault.ScriptFault.TheVariants as fault
@@ -39,13 +40,9 @@ told_more telling t done mid counted next text more new sum a b c (so_far, is, (
 
 -- Where a run was cut off: between lines, inside what is told of a line, and inside the counts
 
--- whatever is printed may be told as it is
-as_printed : (telling : Telling) (said : List ℕ) → Tells telling said said
-as_printed Traces said = ([], grind (arith, common_steps))
-as_printed Objects said = tt
-
 there_is_an_end : (telling : Telling) (left : List Numbered) (last : Table) → (end : List ℕ) × Ends telling left last end
-there_is_an_end telling [] last = (last_line [] last, as_printed telling (last_line [] last))
+there_is_an_end Traces [] last = (counts_line (counts_of last.world.host), refl)
+there_is_an_end Objects [] last = (line_of (counts_object (counts_of last.world.host)), refl)
 there_is_an_end telling (next ∷ rest) last = ([], refl)
 
 pub cut_between : (telling : Telling) (t : Table) (script done left : List Numbered) (mid : Table) (counted : ℕ) (a b : Option (List ℕ))
@@ -76,13 +73,13 @@ cut_inside telling t script done left mid counted next text more new a b c split
     )
 
 pub cut_at_the_end : (telling : Telling) (t : Table) (script : List Numbered) (last : Table) (counted : ℕ) (end : List ℕ) (a b c : Option (List ℕ))
-    → HasTold telling t script last counted a b → Tells telling (last_line [] last) end → Gains b c (IsFrontOf end) → Gains a c (IsFrontOfTold telling t script)
+    → HasTold telling t script last counted a b → TellsCounts telling (counts_of last.world.host) end → Gains b c (IsFrontOf end) → Gains a c (IsFrontOfTold telling t script)
 cut_at_the_end telling t script last counted end a b c (so_far, is, (told, run, first)) tells (front, (rest, joined), second) =
     (told ++ front, (script, [], last, told, end, so_far, grind (arith, common_steps), run, tells, (rest, grind (arith, common_steps))), appends_more a b c told front first second)
 
 -- all was written
 pub whole : (telling : Telling) (t : Table) (script : List Numbered) (last : Table) (counted : ℕ) (end : List ℕ) (a b c : Option (List ℕ))
-    → HasTold telling t script last counted a b → Tells telling (last_line [] last) end → Appends b c end → Gains a c (IsToldTo telling last counted t script)
+    → HasTold telling t script last counted a b → TellsCounts telling (counts_of last.world.host) end → Appends b c end → Gains a c (IsToldTo telling last counted t script)
 whole telling t script last counted end a b c (unwell, is, (told, run, first)) tells second =
     (told ++ end, (told, end, unwell, run, tells, refl, is), appends_more a b c told end first second)
 

@@ -1,3 +1,4 @@
+pub mod DotWords
 pub mod Pages
 pub mod Rings
 pub mod Told

@@ -1,5 +1,8 @@
 //! The words with a dot.
 
+ghost use Rattle.std.specs.Prelude.{◌≡◌, ◌≢◌, MatchOption};
+ghost use Rattle.shell.specs.DotWords.{form_of_word, name_of_word};
+
 /// A word with a dot: what a line begins with that is no step.
 #[derive(Clone, Copy, Debug, PartialEq, Eq)]
 pub enum DotWord {
@@ -59,7 +62,10 @@ pub const DOT_WORDS: [DotWord; 16] = [
 
 impl DotWord {
     /// The word.
-    pub fn name(self) -> &'static str {
+    #[tactic(auto, unfolding(crate::specs::DotWords::name_of_word))]
+    pub fn name(self) -> &'static str
+        ensures { result.now ≡ name_of_word self }
+    {
         match self {
             DotWord::Help => ".help",
             DotWord::Explain => ".explain",
@@ -81,7 +87,10 @@ impl DotWord {
     }
 
     /// The word and its arguments.
-    pub fn form(self) -> &'static str {
+    #[tactic(auto, unfolding(crate::specs::DotWords::name_of_word))]
+    pub fn form(self) -> &'static str
+        ensures { result.now ≡ form_of_word self }
+    {
         match self {
             DotWord::Help => ".help [VERB]",
             DotWord::Explain => ".explain NAME",
@@ -125,7 +134,14 @@ impl DotWord {
     }
 
     /// The one that a word is.
-    pub fn named(word: &str) -> Option<DotWord> {
-        DOT_WORDS.iter().copied().find(|dot| dot.name() == word)
+    pub fn named(word: &str) -> Option<DotWord>
+        ensures { MatchOption result ((dot : DotWord) → name_of_word dot ≢ word.now) (λ dot. name_of_word dot ≡ word.now) }
+    {
+        for dot in DOT_WORDS {
+            if dot.name() == word {
+                return Some(dot);
+            }
+        }
+        None
     }
 }

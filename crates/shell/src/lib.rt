@@ -13,6 +13,7 @@ mod fault;
 mod files;
 mod hand;
 mod help;
+pub mod laws;
 mod lines;
 mod looks;
 mod meanings;

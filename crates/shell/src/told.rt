@@ -1,23 +1,19 @@
 //! A script that is played, with more told of each step than `steps` tells, or in another form.
 
-ghost use Rattle.std.specs.Prelude.{◌≡◌, ◌⊎◌, [], List, ℕ, None, Err, Ok, OnErr, OnOk, Some, IfErr, IfOk, string_bytes};
-ghost use Rattle.host_core.specs.Opening.{refusal_of_config};
+ghost use Rattle.std.specs.Prelude.{◌≡◌, ◌⊎◌, [], Err, Ok, OnErr, OnOk, Some, IfErr, IfOk, string_bytes};
 ghost use Rattle.machine_model.specs.Claims.{counts_of};
-ghost use Rattle.machine_model.specs.Script.{table};
 ghost use Rattle.script_cli.specs.Faults.{fault_of_script};
-ghost use Rattle.script_cli.specs.Inputs.{Gains, IsFront};
-ghost use Rattle.script_cli.specs.Owners.{counts_line};
-ghost use Rattle.script_cli.specs.Runs.{IsNoOpening, PrintsAnswer, Writes};
+ghost use Rattle.script_cli.specs.Inputs.{Gains};
+ghost use Rattle.script_cli.specs.Runs.{Writes};
 ghost use Rattle.script_cli.specs.Scripts.{IsReading, script_of};
 ghost use Rattle.script_cli.specs.declared.fault.RunFault.TheVariants as run;
 ghost use Rattle.script_cli.specs.declared.fault.ScriptFault.{ScriptFault};
 ghost use Rattle.script_cli.specs.declared.script.Line.TheVariants as line;
-ghost use Rattle.step_core.specs.Opening.{opening_of};
-ghost use Rattle.shell.specs.Told.{EndsTold, IsFrontOfTold, IsToldTo, TellsAnswer, TellsLine, Tells};
+ghost use Rattle.shell.specs.Told.{EndsTold, IsFrontOfTold, IsToldTo, TellsAnswer, TellsCounts, TellsLine};
 
 use script_cli::{
     Line, Numbered, Played, RunFault, Script, Verb, append_counts, first_owners, flush, is_well,
-    not_opened, play_step, put, put_owners, read_script, script_at_fault,
+    open_bench, play_step, put, put_owners, read_script, script_at_fault,
 };
 use std::alloc::{AllocError, Global};
 use std::io::Write;
@@ -54,7 +50,7 @@ impl Teller {
         out: &mut String,
     ) -> Result<Reply, AllocError>
         requires empty { string_bytes out.old ≡ [] }
-        ensures { IfOk result (λ reply. (said : List ℕ) × PrintsAnswer bench.old.table number step reply said bench.new.table × IsFront said (string_bytes out.new)) }
+        ensures { IfOk result (λ reply. TellsAnswer Telling.Traces bench.old.table number step reply (string_bytes out.new) bench.new.table) }
     {
         let traced = Traced::of(&step);
         let reply = play_step(bench, number, step, out)?;
@@ -127,7 +123,7 @@ impl Teller {
     /// Puts the counts of a bench into an empty text.
     fn tell_counts(self, bench: &Bench, out: &mut String) -> Result<(), AllocError>
         requires empty { string_bytes out.old ≡ [] }
-        ensures { OnOk result (Tells self.telling (counts_line (counts_of bench.now.table.world.host)) (string_bytes out.new)) }
+        ensures { OnOk result (TellsCounts self.telling (counts_of bench.now.table.world.host) (string_bytes out.new)) }
     {
         match self.telling {
             Telling::Traces => append_counts(out, bench.counts()),
@@ -173,18 +169,6 @@ fn script_in(alloc: Global, text: &[u8]) -> Result<Script, RunFault>
     }
 }
 
-/// Opens a bench.
-fn open(alloc: Global, config: Config, image: Image) -> Result<Bench, RunFault>
-    ensures fits { IfOk result (λ bench. refusal_of_config config ≡ None) }
-    ensures opened { IfOk result (λ bench. bench.table ≡ table (opening_of config image)) }
-    ensures fault { IfErr result (λ fault. IsNoOpening config fault) }
-{
-    match Bench::open(alloc, config, image) {
-        Ok(bench) => Ok(bench),
-        Err(refused) => Err(not_opened(refused.why)),
-    }
-}
-
 /// Plays a script over a world that it opens, and writes more of each step than its answer, or its answer in another form. The bench is as the last step
 /// left it.
 ///
@@ -204,7 +188,7 @@ pub fn tell_steps<W: Write>(
     ensures failed { IfErr result (λ fault. EndsTold telling (Some text.now) config image (W.contents writer.old) (W.contents writer.new) fault) }
 {
     let script = script_in(alloc, text)?;
-    let mut bench = open(alloc, config, image)?;
+    let mut bench = open_bench(alloc, config, image)?;
     let teller = Teller {
         alloc,
         telling,
