@@ -1,16 +1,17 @@
 //! Submitters with several jobs in flight, run by threads: over a pool so small that they wait, and with refused jobs between.
 
-ghost use Rattle.std.specs.Prelude.{◌≤◌};
+ghost use Rattle.std.specs.Prelude.{◌≡◌, ◌≤◌, vec_len, IfOk};
 
 use crate::looks::{counts, see};
 use crate::part::USUAL;
 use desk::runs::{Outcome, is_done, job, play_at};
-use driver_threads::{Job, JobEnd, JobRefusal, Open, Server};
+use driver_threads::{Gate, GateClosed, Job, JobEnd, JobRefusal, Open, Point, Server};
 use entry_codec::Status;
 use io_commands::Kind;
 use std::alloc::{AllocError, Global};
 use std::process::Abort;
 use std::sync::Wait;
+use std::sync::atomic::{AtomicU32, Ordering};
 use std::test::Fail;
 use std::thread::Threads;
 use step_core::Config;
@@ -250,6 +251,62 @@ fn submitters_wait_for_room_with_nothing_in_flight(rt: HostRuntime) -> Result<()
     for server in [Server::Ringer, Server::Controller] {
         run_mixed(&rt, rt.alloc(), SMALL, 8, 10, 4, server)?;
         run_mixed(&rt, rt.alloc(), SMALL, 16, 5, 16, server)?;
+    }
+    Ok(())
+}
+
+/// Counts how many commands of the one submitter are in flight, and how many were at most.
+#[derive(Drop)]
+struct Counting {
+    now: AtomicU32,
+    most: AtomicU32,
+}
+
+impl Gate for Counting {
+    fn at(&self, _worker: u16, point: Point) -> Result<(), GateClosed> {
+        match point {
+            Point::Reserved => {}
+            Point::Submitted => {
+                let now = self.now.fetch_add(1, Ordering::SeqCst).saturating_add(1);
+                self.most.fetch_max(now, Ordering::SeqCst);
+            }
+            Point::Released => {
+                self.now.fetch_sub(1, Ordering::SeqCst);
+            }
+        }
+        Ok(())
+    }
+}
+
+/// Six Reads of one submitter.
+fn six_reads(alloc: Global) -> Result<Vec<Vec<Job>>, AllocError>
+    ensures { IfOk result (λ lists. vec_len lists ≡ 1) }
+{
+    let mut jobs = Vec::new(alloc);
+    for _ in 0..6 {
+        jobs.push(job(alloc, 1, Kind::Read, 0, 1, &[])?)?;
+    }
+    let mut lists = Vec::new(alloc);
+    lists.push(jobs)?;
+    Ok(lists)
+}
+
+/// A submitter has as many commands in flight as it may, and three at most, since there are no more identifiers.
+#[test]
+fn as_many_are_in_flight_as_may_be(rt: HostRuntime) -> Result<(), Fail> {
+    for depth in [1usize, 2, 3, 16] {
+        for server in [Server::Ringer, Server::Controller] {
+            let gate = Counting {
+                now: AtomicU32::new(0),
+                most: AtomicU32::new(0),
+            };
+            let alloc = rt.alloc();
+            let lists = six_reads(alloc)?;
+            let outcome = play_at(&rt, alloc, USUAL, 64, lists, depth, server, &gate)?;
+            see(&rt, &outcome.report.submissions, &6);
+            let most = depth.min(3) as u32;
+            see(&rt, &gate.most.load(Ordering::SeqCst), &most);
+        }
     }
     Ok(())
 }

@@ -92,7 +92,12 @@ fn first_difference(
     let heap = LocalHeap::new(alloc, bytes)?;
     let mut bench = OnBench::open(alloc, &heap, transcript.options())?;
     let found = play(alloc, &mut bench, transcript);
-    bench.end();
+    let OnBench {
+        alloc: _,
+        heap: _,
+        bench,
+    } = bench;
+    let _ended = bench.end();
     see(rt, &heap.used(), &0);
     Ok(found?)
 }
@@ -116,7 +121,12 @@ fn opens(rt: &impl Abort, alloc: Global, bytes: usize) -> Result<bool, Fail> {
     let heap = LocalHeap::new(alloc, bytes)?;
     let opens = match OnBench::open(alloc, &heap, transcript.options()) {
         Ok(bench) => {
-            bench.end();
+            let OnBench {
+                alloc: _,
+                heap: _,
+                bench,
+            } = bench;
+            let _ended = bench.end();
             true
         }
         Err(fault) => {

@@ -17,7 +17,11 @@ mod fixed_heap;
 #[cfg(test)]
 mod heap;
 #[cfg(test)]
+mod host_sleepers;
+#[cfg(test)]
 mod jobs;
+#[cfg(test)]
+mod large_hosts;
 #[cfg(test)]
 mod lists;
 #[cfg(test)]

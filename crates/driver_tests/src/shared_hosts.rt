@@ -141,7 +141,13 @@ fn see_done<R: Abort>(rt: &R, reply: &Reply) {
 }
 
 /// Reserves a command for one block, with a page for its bytes, and answers its identifier.
-fn reserved<R: Abort>(rt: &R, alloc: Global, bench: &mut HostBench, kind: Kind, block: u64) -> u16 {
+pub(crate) fn reserved<R: Abort>(
+    rt: &R,
+    alloc: Global,
+    bench: &mut HostBench,
+    kind: Kind,
+    block: u64,
+) -> u16 {
     let piece = Piece::Data {
         offset: 0,
         len: 512,

@@ -21,9 +21,13 @@ mod expecting;
 #[cfg(test)]
 mod first_script;
 #[cfg(test)]
+mod job_rounds;
+#[cfg(test)]
 mod job_runs;
 #[cfg(test)]
 mod largest;
+#[cfg(test)]
+mod load_figures;
 #[cfg(test)]
 mod missing;
 #[cfg(test)]

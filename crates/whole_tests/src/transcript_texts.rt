@@ -10,7 +10,12 @@ fn difference_of(alloc: Global, text: &str) -> Result<String, Fail> {
     let transcript = read_transcript(alloc, text)?;
     let mut bench = OnBench::open(alloc, alloc, transcript.options())?;
     let found = play(alloc, &mut bench, &transcript);
-    bench.end();
+    let OnBench {
+        alloc: _,
+        heap: _,
+        bench,
+    } = bench;
+    let _ended = bench.end();
     match found? {
         Some(difference) => Ok(format!(in alloc; "{difference}")?),
         None => Ok(String::from_str(alloc, "none")?),
