@@ -1,16 +1,14 @@
 /* A controller over regions beside one over a pool: regions SEED CALLS. The bytes of the pool lie cut into regions at arbitrary places, in an arbitrary order, with
  * empty ones among them, and behind them in the table others that overlap them: each call of the one answers what the call of the other answers, all bytes are the
  * same afterwards, those that are overlapped stay, and so does the table. First some tables by hand. */
-#include "arbitrary.h"
-#include "nvmectl.h"
+#include "entries.h"
 
 #include <stdio.h>
 #include <stdlib.h>
 #include <string.h>
 
-enum { PAGE = 4096, PAGES = 24, POOL = PAGES * PAGE, BLOCKS = 16, ENTRIES = 4, QUEUES = 3, PIECES = 9, HIDDEN = 3 };
+enum { PIECES = 9, HIDDEN = 3 };
 
-static const nvmectl_queue queues[QUEUES] = {{0, 1}, {2, 3}, {4, 5}};
 static uint8_t pool[POOL], before[POOL], kept[HIDDEN][POOL];
 static nvmectl by_pool = NVMECTL_CLOSED, by_regions = NVMECTL_CLOSED;
 static nvmectl_region table[PIECES + HIDDEN], table_before[PIECES + HIDDEN];
@@ -24,10 +22,6 @@ static void fail(const char *why, uint32_t code) {
 
 static void want(const char *what, int holds) {
     if (!holds) fail(what, 0);
-}
-
-static void put(uint8_t *at, uint64_t value, int bytes) {
-    for (int i = 0; i < bytes; i++) at[i] = (uint8_t)(value >> 8 * i);
 }
 
 static void open_at(nvmectl *handle, const nvmectl_queue *pages, size_t count) {
@@ -127,42 +121,6 @@ static void by_hand(void) {
 
 /* Arbitrary ones ---------------------------------------------------------------------------------------------------- */
 
-/* A descriptor: of data mostly, with what is wrong with it now and then. */
-static void describe(uint8_t *at, unsigned depth) {
-    static const unsigned lengths[] = {512, 512, 512, 1024, 256, 0, 700, 4096};
-    unsigned type = below(8) == 0 ? below(16) : depth < 3 && below(3) == 0 ? 2 + below(2) : below(6) == 0;
-    memset(at, 0, 16);
-    put(at, below(40) == 0 ? UINT64_C(0xFFFFFFFFFFFFFFF0) : below(PAGES) * PAGE + (below(2) == 0 ? 0 : 8 * below(512)), 8);
-    put(at + 8, type == 2 || type == 3 ? 16 * below(6) : lengths[below(8)], 4);
-    at[15] = (uint8_t)(type << 4);
-}
-
-static void entry(unsigned q) {
-    uint8_t *at = pool + 2 * q * PAGE + 64 * below(ENTRIES);
-    memset(at, 0, 64);
-    put(at + 2, below(4), 2);
-    if (q == 0) {
-        static const unsigned opcodes[] = {0, 1, 4, 5, 8, 6};
-        unsigned named = 1 + below(QUEUES);
-        at[0] = (uint8_t)opcodes[below(6)];
-        put(at + 24, (uint64_t)below(PAGES + 2) * PAGE, 8);
-        put(at + 40, at[0] == 8 ? named | below(4) << 16 : named | (ENTRIES - 1) << 16, 4);
-        put(at + 44, at[0] == 1 ? 1 | named << 16 : 1, 4);
-        return;
-    }
-    at[0] = (uint8_t)(below(3) == 0 ? 5 : 1 + below(2));
-    at[1] = 0x40;
-    put(at + 4, 1, 4);
-    describe(at + 24, 0);
-    put(at + 40, below(BLOCKS), 8);
-    put(at + 48, below(3), 2);
-}
-
-static void spell(void) {
-    uint8_t *at = pool + (6 + below(PAGES - 6)) * PAGE;
-    for (unsigned i = 0; i < 6; i++) describe(at + 16 * i, i);
-}
-
 /* What the guest wrote into the pool stands in the regions too. */
 static void copy_pool(void) {
     for (size_t i = 0; i < pieces; i++)
@@ -254,8 +212,8 @@ int main(int argc, char **argv) {
     cut();
     for (unsigned long left = strtoul(argv[2], NULL, 10); left != 0; left--) {
         unsigned what = below(64);
-        if (what < 10) entry(below(16) == 0 ? 0 : below(QUEUES)), copy_pool();
-        else if (what < 14) spell(), copy_pool();
+        if (what < 10) entry(pool, below(16) == 0 ? 0 : below(QUEUES)), copy_pool();
+        else if (what < 14) spell(pool), copy_pool();
         else if (what < 22) doorbell(nvmectl_tail);
         else if (what < 32) doorbell(nvmectl_head);
         else if (what < 34) cut();
