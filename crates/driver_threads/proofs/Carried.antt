@@ -4,14 +4,14 @@ use Rattle.std.proofs.Common.{◌≡◌, ℕ, Option, Some, None, Result, Ok, Er
 use Rattle.std.proofs.lemmas.List.{append-nil, append_assoc, length-append, map-append}
 use Rattle.std.specs.{List.AllZip}
 use Rattle.entry_codec.specs.declared.status.Status.{Status}
-use Rattle.io_commands.specs.{Asked.Request, Drafts.DraftContents, Values.{TicketContents, gathered_from}}
+use Rattle.io_commands.specs.{Asked.Request, Drafts.DraftContents, Values.{FinishedContents, TicketContents, gathered_from}}
 use Rattle.io_commands.specs.declared.request.{Kind.{Kind, TheVariants.{Read, Write, Compare}}}
 use Rattle.machine_model.specs.{State.State, Step.IsReserved}
 use Rattle.driver_book.specs.{Calls.{receipt, settled, status_at}, Entries.asked_of, History.accepted, State.{SeatContents}, declared.report.{Asked.Asked, Receipt.Receipt}}
-use Rattle.driver_threads.proofs.UnderWay.{await_length, await_push, host_answers, none_is, none_open, settled_oldest, status_is}
-use Rattle.driver_threads.specs.{Ends.{Agree, AwaitEach, status_of, statuses_of}, Sharing.{Made, Submitted}, Values.{Job, JobEnd}}
+use Rattle.driver_threads.proofs.UnderWay.{await_length, await_push, collected_with, host_answers, none_open, settled_oldest, status_is}
+use Rattle.driver_threads.specs.{Ends.{Agree, AwaitEach, status_of, statuses_of, ticket_of, unreleased_of}, Sharing.{Made, Released, Submitted}, Values.{Job, JobEnd}}
 use Rattle.driver_threads.specs.Jobs.{AllWent, AreSubmitted, IsEnded, IsSubmitted, RefusesJob, WentSo, prepared, with_bytes_of}
-use Rattle.driver_threads.specs.JobSteps.{Carries, CarriesOn, GivesUp, HoldsOfEach}
+use Rattle.driver_threads.specs.JobSteps.{Carries, HoldsOfEach, IsCollected, IsEndOf}
 use Rattle.driver_threads.specs.declared.jobs.{JobEnd.TheVariants.{Done, Refused as JobEndRefused}, JobRefusal.JobRefusal}
 
 -- What a book answers
@@ -81,9 +81,9 @@ submitted_more opening seat (j ∷ jobs) (x ∷ receipts) job r all one = (all.0
 
 -- What a submitter carries
 
-pub carries_none : (opening : State) (seat : SeatContents) (ends : List JobEnd) (tickets : List TicketContents) → seat.receipts ≡ [] → ends ≡ [] → tickets ≡ [] → Carries opening seat ends tickets []
+pub carries_none : (opening : State) (seat : SeatContents) (ends : List JobEnd) (tickets : List TicketContents) → seat.receipts ≡ [] → ends ≡ [] → tickets ≡ [] → Carries opening seat ends None tickets []
 carries_none opening seat ends tickets no_receipts no_ends no_tickets =
-    rw (no_ends, no_tickets) (record { done = []; flying = []; ended = []; awaited = []; jobs_are = refl; receipts_are = no_receipts; went = tt; submitted = tt; await = tt })
+    rw (no_ends, no_tickets) (record { done = []; flying = []; ended = []; awaited = []; jobs_are = refl; receipts_are = no_receipts; went = tt; submitted = tt; await = tt; collects = tt })
 
 none_flying : (opening : State) (seat : ℕ) (done flying jobs : List Job) (ended awaited receipts : List Receipt) (ends : List JobEnd) → jobs ≡ done ++ flying → receipts ≡ ended ++ awaited
     → WentSo opening seat done ended ends → AreSubmitted opening seat flying awaited → AwaitEach awaited [] → WentSo opening seat jobs receipts ends
@@ -91,38 +91,55 @@ none_flying opening seat done [] jobs ended [] receipts ends jobs_are are went s
 none_flying opening seat done (j ∷ flying) jobs ended [] receipts ends jobs_are are went submitted await = absurd submitted
 none_flying opening seat done flying jobs ended (r ∷ awaited) receipts ends jobs_are are went submitted await = absurd await
 
--- once nothing is in flight, all of them went so
-pub carries_landed : (opening : State) (seat : SeatContents) (ends : List JobEnd) (tickets : List TicketContents) (n : ℕ) (jobs : List Job) → n ≡ length tickets → n ≡ 0
-    → Carries opening seat ends tickets jobs → WentSo opening seat.number jobs seat.receipts ends
-carries_landed opening seat ends tickets n jobs long none c =
-    none_flying opening seat.number c.done c.flying jobs c.ended c.awaited seat.receipts ends c.jobs_are c.receipts_are c.went c.submitted
-    (subst (AwaitEach c.awaited) (none_is tickets n long none) c.await)
+-- once no command is unreleased, all of them went so
+pub carries_landed : (opening : State) (seat : SeatContents) (ends : List JobEnd) (collected : Option FinishedContents) (tickets : List TicketContents) (jobs : List Job) → unreleased_of collected tickets ≡ []
+    → Carries opening seat ends collected tickets jobs → WentSo opening seat.number jobs seat.receipts ends
+carries_landed opening seat ends collected tickets jobs none c =
+    none_flying opening seat.number c.done c.flying jobs c.ended c.awaited seat.receipts ends c.jobs_are c.receipts_are c.went c.submitted (subst (AwaitEach c.awaited) none c.await)
 
--- a job is refused while nothing is in flight
-pub carries_refused : (opening : State) (seat : SeatContents) (ends : List JobEnd) (tickets : List TicketContents) (n : ℕ) (jobs : List Job) (job : Job) (why : JobRefusal) → n ≡ length tickets → n ≡ 0
-    → Carries opening seat ends tickets jobs → RefusesJob opening job why → Carries opening seat (ends ++ JobEndRefused why ∷ []) tickets (jobs ++ job ∷ [])
-carries_refused opening seat ends tickets n jobs job why long none c refuses =
-    rw (none_is tickets n long none)
-    (record {
+-- a job is refused while no command is unreleased
+pub carries_refused : (opening : State) (seat : SeatContents) (ends : List JobEnd) (collected : Option FinishedContents) (tickets : List TicketContents) (jobs : List Job) (job : Job) (why : JobRefusal)
+    → unreleased_of collected tickets ≡ [] → Carries opening seat ends collected tickets jobs → RefusesJob opening job why → Carries opening seat (ends ++ JobEndRefused why ∷ []) collected tickets (jobs ++ job ∷ [])
+carries_refused opening seat ends collected tickets jobs job why none c refuses =
+    let await : AwaitEach [] [] = tt in
+    record {
       done = jobs ++ job ∷ [];
       flying = [];
       ended = seat.receipts;
       awaited = [];
       jobs_are = sym (append-nil (jobs ++ job ∷ []));
       receipts_are = sym (append-nil seat.receipts);
-      went = went_refused opening seat.number jobs seat.receipts ends job why (carries_landed opening seat ends tickets n jobs long none c) refuses;
+      went = went_refused opening seat.number jobs seat.receipts ends job why (carries_landed opening seat ends collected tickets jobs none c) refuses;
       submitted = tt;
-      await = tt;
-    })
+      await = subst (AwaitEach []) (sym none) await;
+      collects = c.collects;
+    }
 
-abbrev pub ticket_of : DraftContents → TicketContents
-ticket_of d = record { q = d.q; cid = d.cid }
+-- the oldest command in flight was collected
+pub carries_collected : (opening : State) (seat : SeatContents) (ends : List JobEnd) (t : TicketContents) (tickets : List TicketContents) (command : FinishedContents) (jobs : List Job)
+    → (command.q ≡ t.q) × (command.cid ≡ t.cid) → Made opening None (events.Collect t.q t.cid) (events.Collects command) → Carries opening seat ends None (t ∷ tickets) jobs
+    → Carries opening seat ends (Some command) tickets jobs
+carries_collected opening seat ends t tickets command jobs same made c = record {
+  done = c.done;
+  flying = c.flying;
+  ended = c.ended;
+  awaited = c.awaited;
+  jobs_are = c.jobs_are;
+  receipts_are = c.receipts_are;
+  went = c.went;
+  submitted = c.submitted;
+  await = subst (λ (u : TicketContents). AwaitEach c.awaited (u ∷ tickets)) (sym (collected_with t command same)) c.await;
+  collects = subst (λ (u : TicketContents). Made opening None (events.Collect u.q u.cid) (events.Collects command)) (sym (collected_with t command same)) made;
+}
+
+abbrev pub ticket_for : DraftContents → TicketContents
+ticket_for d = record { q = d.q; cid = d.cid }
 
 -- a job is submitted with the draft that was reserved for it
 pub carries_launched : (opening : State) (seat next : SeatContents) (ends : List JobEnd) (tickets : List TicketContents) (jobs : List Job) (job : Job) (d : DraftContents) (t : TicketContents)
     → Made opening None (events.Reserve job.q job.request) (events.Reserved d) → Submitted opening seat (prepared job.bytes d) (Ok t) next
-    → t ≡ ticket_of (prepared job.bytes d)
-    → Carries opening seat ends tickets jobs → Carries opening next ends (tickets ++ t ∷ []) (jobs ++ job ∷ [])
+    → t ≡ ticket_for (prepared job.bytes d)
+    → Carries opening seat ends None tickets jobs → Carries opening next ends None (tickets ++ t ∷ []) (jobs ++ job ∷ [])
 carries_launched opening seat next ends tickets jobs job d t made sub is c =
     let p : DraftContents = prepared job.bytes d in
     let number : ℕ = accepted sub.old.log in
@@ -156,26 +173,30 @@ carries_launched opening seat next ends tickets jobs job d t made sub is c =
       went = subst (λ (n : ℕ). WentSo opening n c.done c.ended ends) (sym same) c.went;
       submitted = subst (λ (n : ℕ). AreSubmitted opening n (c.flying ++ job ∷ []) (c.awaited ++ got)) (sym same) (submitted_more opening seat.number c.flying c.awaited job (receipt number t.q t.cid asked None) c.submitted as_ticket);
       await = await_push c.awaited tickets number asked t c.await;
+      collects = tt;
     }
 
-oldest_went : (opening : State) (seat next : SeatContents) (done flying jobs : List Job) (ended awaited : List Receipt) (ends : List JobEnd) (t : TicketContents) (tickets : List TicketContents) (place : ℕ) (end : JobEnd)
-    → place ≡ length seat.receipts - length (t ∷ tickets) → GivesUp opening seat t.q t.cid place end next
-    → jobs ≡ done ++ flying → seat.receipts ≡ ended ++ awaited → WentSo opening seat.number done ended ends → AreSubmitted opening seat.number flying awaited → AwaitEach awaited (t ∷ tickets)
-    → Carries opening next (ends ++ end ∷ []) tickets jobs
-oldest_went opening seat next done flying jobs ended [] ends t tickets place end at up jobs_are are went submitted await = absurd await
-oldest_went opening seat next done [] jobs ended (r ∷ awaited) ends t tickets place end at up jobs_are are went submitted await = absurd submitted
-oldest_went opening seat next done (job ∷ flying) jobs ended (r ∷ awaited) ends t tickets place end at up jobs_are are went submitted await =
-    let host = up.released.old.world.host in
-    let status : Option Status = status_at host t.q t.cid in
-    let told : Receipt = receipt r.number t.q t.cid r.asked status in
+-- the command that was collected was released: the end of its job is that of the command
+pub record IsReleased (opening : State) (seat : SeatContents) (command : FinishedContents) (place : ℕ) (end : JobEnd) (next : SeatContents) : Type 0 where
+  pub collected : IsCollected opening command
+  pub released : Released opening seat command {A = Unit {0}} (Ok tt) next
+  pub end_is : IsEndOf command next.receipts place end
+
+oldest_went : (opening : State) (seat next : SeatContents) (done flying jobs : List Job) (ended awaited : List Receipt) (ends : List JobEnd) (command : FinishedContents) (tickets : List TicketContents) (place : ℕ) (end : JobEnd)
+    → place ≡ length seat.receipts - length (ticket_of command ∷ tickets) → IsReleased opening seat command place end next
+    → jobs ≡ done ++ flying → seat.receipts ≡ ended ++ awaited → WentSo opening seat.number done ended ends → AreSubmitted opening seat.number flying awaited → AwaitEach awaited (ticket_of command ∷ tickets)
+    → Carries opening next (ends ++ end ∷ []) None tickets jobs
+oldest_went opening seat next done flying jobs ended [] ends command tickets place end at up jobs_are are went submitted await = absurd await
+oldest_went opening seat next done [] jobs ended (r ∷ awaited) ends command tickets place end at up jobs_are are went submitted await = absurd submitted
+oldest_went opening seat next done (job ∷ flying) jobs ended (r ∷ awaited) ends command tickets place end at up jobs_are are went submitted await =
+    let status : Option Status = status_at up.released.old.world.host command.q command.cid in
+    let told : Receipt = receipt r.number command.q command.cid r.asked status in
     let same : next.number ≡ seat.number = ap (λ (s : SeatContents). s.number) up.released.settles in
-    let was : seat.receipts ≡ ended ++ receipt r.number t.q t.cid r.asked None ∷ awaited = are ∙ ap (λ (r : Receipt). ended ++ r ∷ awaited) await.0 in
+    let was : seat.receipts ≡ ended ++ receipt r.number command.q command.cid r.asked None ∷ awaited = are ∙ ap (λ (r : Receipt). ended ++ r ∷ awaited) await.0 in
     let is : next.receipts ≡ ended ++ told ∷ awaited =
     ap (λ (s : SeatContents). s.receipts) up.released.settles
-    ∙ ap (λ (q : ℕ). settled q up.command.cid (status_at host q up.command.cid) seat.receipts) up.queue
-    ∙ ap (λ (cid : ℕ). settled t.q cid (status_at host t.q cid) seat.receipts) up.identifier
-    ∙ ap (settled t.q t.cid status) was
-    ∙ settled_oldest t.q t.cid r.number r.asked status ended awaited (none_open ended ends (went_agree opening seat.number done ended ends went)) in
+    ∙ ap (settled command.q command.cid status) was
+    ∙ settled_oldest command.q command.cid r.number r.asked status ended awaited (none_open ended ends (went_agree opening seat.number done ended ends went)) in
     let long : length seat.receipts ≡ length ended + length (r ∷ awaited) = ap length are ∙ length-append ended (r ∷ awaited) in
     let as_many : length awaited ≡ length tickets = await_length awaited tickets await.1 in
     let here : place ≡ length ended = omega (arith, at, long, as_many) in
@@ -194,9 +215,9 @@ oldest_went opening seat next done (job ∷ flying) jobs ended (r ∷ awaited) e
       queue = sym (ap (λ (r : Receipt). r.q) await.0) ∙ submitted.0.queue;
       identifier = sym (ap (λ (r : Receipt). r.cid) await.0) ∙ submitted.0.identifier;
     } in
-    let gave_up : IsEnded opening seat.number told (gathered_from up.command) =
+    let gave_up : IsEnded opening seat.number told (gathered_from command) =
     record {
-      command = up.command;
+      command = command;
       collected = up.collected;
       gathered = refl;
       old = up.released.old;
@@ -205,8 +226,8 @@ oldest_went opening seat next done (job ∷ flying) jobs ended (r ∷ awaited) e
       does = up.released.does;
       status = refl;
     } in
-    let more : WentSo opening seat.number (done ++ job ∷ []) (ended ++ told ∷ []) (ends ++ Done up.end_is.status (gathered_from up.command) ∷ []) =
-    went_more opening seat.number done ended ends job told up.end_is.status (gathered_from up.command) went of_job gave_up said in
+    let more : WentSo opening seat.number (done ++ job ∷ []) (ended ++ told ∷ []) (ends ++ Done up.end_is.status (gathered_from command) ∷ []) =
+    went_more opening seat.number done ended ends job told up.end_is.status (gathered_from command) went of_job gave_up said in
     record {
       done = done ++ job ∷ [];
       flying = flying;
@@ -217,13 +238,16 @@ oldest_went opening seat next done (job ∷ flying) jobs ended (r ∷ awaited) e
       went = rw (same, up.end_is.end_is) more;
       submitted = rw same submitted.1;
       await = await.1;
+      collects = tt;
     }
 
--- the oldest command in flight ended
-pub carries_ended : (opening : State) (seat next : SeatContents) (ends : List JobEnd) (t : TicketContents) (tickets : List TicketContents) (jobs : List Job) (place : ℕ) (end : JobEnd)
-    → place ≡ length seat.receipts - length (t ∷ tickets) → GivesUp opening seat t.q t.cid place end next → Carries opening seat ends (t ∷ tickets) jobs → Carries opening next (ends ++ end ∷ []) tickets jobs
-carries_ended opening seat next ends t tickets jobs place end at up c =
-    oldest_went opening seat next c.done c.flying jobs c.ended c.awaited ends t tickets place end at up c.jobs_are c.receipts_are c.went c.submitted c.await
+-- the command that was collected was released
+pub carries_released : (opening : State) (seat next : SeatContents) (ends : List JobEnd) (command : FinishedContents) (tickets : List TicketContents) (jobs : List Job) (place : ℕ) (end : JobEnd)
+    → place ≡ length seat.receipts - length (ticket_of command ∷ tickets) → Released opening seat command {A = Unit {0}} (Ok tt) next → IsEndOf command next.receipts place end
+    → Carries opening seat ends (Some command) tickets jobs → Carries opening next (ends ++ end ∷ []) None tickets jobs
+carries_released opening seat next ends command tickets jobs place end at released end_is c =
+    let up : IsReleased opening seat command place end next = record { collected = c.collects; released = released; end_is = end_is } in
+    oldest_went opening seat next c.done c.flying jobs c.ended c.awaited ends command tickets place end at up c.jobs_are c.receipts_are c.went c.submitted c.await
 
 -- The jobs of all submitters
 
@@ -303,9 +327,9 @@ handed_all opening Holds lists results yielded reports ends all long first went 
     went lists (fits_all Holds lists yielded long (subst (λ rs. HoldsOfEach Holds lists rs) (sym all) first))
 
 -- a submission that was refused left the seat as it was, but for room
-pub carries_same : (opening : State) (seat next : SeatContents) (ends : List JobEnd) (tickets : List TicketContents) (jobs : List Job) → next.receipts ≡ seat.receipts → next.number ≡ seat.number
-    → Carries opening seat ends tickets jobs → Carries opening next ends tickets jobs
-carries_same opening seat next ends tickets jobs receipts number c = record {
+pub carries_same : (opening : State) (seat next : SeatContents) (ends : List JobEnd) (collected : Option FinishedContents) (tickets : List TicketContents) (jobs : List Job) → next.receipts ≡ seat.receipts
+    → next.number ≡ seat.number → Carries opening seat ends collected tickets jobs → Carries opening next ends collected tickets jobs
+carries_same opening seat next ends collected tickets jobs receipts number c = record {
   done = c.done;
   flying = c.flying;
   ended = c.ended;
@@ -315,21 +339,32 @@ carries_same opening seat next ends tickets jobs receipts number c = record {
   went = rw number c.went;
   submitted = rw number c.submitted;
   await = c.await;
+  collects = c.collects;
 }
 
 pub passed_on : {T E : Type 0} (r : Result T E) (P : E → Type 0) (e : E) → IsErrAnd r (λ x. x ≡ e) → P e → IfErr r P
 passed_on (Ok v) P e same holds = tt
 passed_on (Err x) P e same holds = rw same holds
 
+-- as many are told in other words
+pub told_so : {T E : Type 0} (r : Result T E) (many all told : ℕ) → all ≡ told → OnOk r (many ≡ all) → OnOk r (many ≡ told)
+told_so (Ok v) many all told is same = same ∙ is
+told_so (Err e) many all told is same = tt
+
+pub fewer_so : {T E : Type 0} (r : Result T E) (many all told : ℕ) → all ≡ told → OnErr r (many < all) → OnErr r (many < told)
+fewer_so (Ok v) many all told is fewer = tt
+fewer_so (Err e) many all told is fewer = omega (arith, is, fewer)
+
 pub at_most : {T E : Type 0} (r : Result T E) (many all : ℕ) → OnOk r (many ≡ all) → OnErr r (many < all) → many ≤ all
 at_most (Ok v) many all same fewer = omega (arith, same)
 at_most (Err e) many all same fewer = omega (arith, fewer)
 
 -- where all have ended, all of them went so
-pub landed_so : {T E : Type 0} (r : Result T E) (opening : State) (seat next : SeatContents) (ends later : List JobEnd) (tickets left : List TicketContents) (jobs : List Job) (n : ℕ) → n ≡ length left
-    → OnOk r (n ≡ 0) → OnOk r (CarriesOn opening seat ends tickets next later left) → Carries opening seat ends tickets jobs → OnOk r (WentSo opening next.number jobs next.receipts later)
-landed_so (Ok v) opening seat next ends later tickets left jobs n long none on c = carries_landed opening next later left n jobs long none (on jobs c)
-landed_so (Err e) opening seat next ends later tickets left jobs n long none on c = tt
+pub landed_so : {T E : Type 0} (r : Result T E) (opening : State) (seat next : SeatContents) (ends later : List JobEnd) (collected left : Option FinishedContents) (tickets fewer : List TicketContents) (jobs : List Job)
+    → OnOk r (unreleased_of left fewer ≡ []) → OnOk r ((js : List Job) → Carries opening seat ends collected tickets js → Carries opening next later left fewer js) → Carries opening seat ends collected tickets jobs
+    → OnOk r (WentSo opening next.number jobs next.receipts later)
+landed_so (Ok v) opening seat next ends later collected left tickets fewer jobs none on c = carries_landed opening next later left fewer jobs none (on jobs c)
+landed_so (Err e) opening seat next ends later collected left tickets fewer jobs none on c = tt
 
 pub under_condition : {T E : Type 0} (A B : Type 0) (r : Result T E) → (A → OnOk r B) → OnOk r (A → B)
 under_condition A B (Ok v) f = f

@@ -1,6 +1,6 @@
 -- A submitter under way: commands are taken into flight, and the oldest ones end.
 use Rattle.machine_model.specs.Events as events
-use Rattle.std.proofs.Common.{◌≡◌, ℕ, ◌==◌, Bool, true, false, ◌||◌, Option, Some, None, Result, Ok, Err, find, IfOk, MatchBool, refl, ap, sym, ◌∙◌, ◌+◌, ◌<◌, OnOk, OnErr, List, [], ◌∷◌, ◌++◌, length, position, arith, eq-eqb, ◌-◌, ◌≤◌, suc, zero, map, get_or, subst}
+use Rattle.std.proofs.Common.{◌≡◌, ℕ, ◌==◌, Bool, true, false, ◌||◌, Option, Some, None, Result, Ok, Err, find, IfOk, MatchBool, refl, ap, sym, ◌∙◌, ◌+◌, ◌<◌, OnOk, OnErr, List, [], ◌∷◌, ◌++◌, length, position, arith, eq-eqb, ◌-◌, ◌≤◌, suc, zero, map, get_or, subst, IsErrAnd}
 use Rattle.std.proofs.{Math.Seq.{get_or-append_seam, set-append_seam}, lemmas.{Bool.{eqb-true, or_parts}, Iterator.Adapters.position_from-zero}}
 use Rattle.std.{proofs.lemmas.{List.{append-nil, length-append, append_assoc, length-map, map-append}, Option.slice_get-get_or}, specs.Bool.OnTrue}
 use Rattle.std.specs.{List.{list_any, position_from}, Option.{option_map, option_map_or}, Prelude.{option_and_then, is_none, slice_get, slice_set}}
@@ -12,7 +12,7 @@ use Rattle.io_commands.specs.{Asked.Request, Values.{FinishedContents, TicketCon
 use Rattle.machine_model.specs.{State.{State, Record, is_at}, Step.{finished_from, asked_by, pages_with_bytes}}
 use Rattle.step_core.specs.{Opening.opening_of, Replies.collect_reply}
 use Rattle.host_core.specs.{Opening.refusal_of_config, declared.{config.Config.Config, refused.Refused.Refused}}
-use Rattle.driver_threads.specs.{Behind.{added, behind}, Ends.{ends_of, statuses_of, status_of, Agree, AwaitEach, Awaits, EndsWith, IsUnderWay}, Runs.RanFrom}
+use Rattle.driver_threads.specs.{Behind.{added, behind}, Ends.{ends_of, statuses_of, status_of, ticket_of, unreleased_of, Agree, AwaitEach, Awaits, EndsWith, IsUnderWay}, Runs.RanFrom}
 use Rattle.driver_threads.specs.{Values.JobEnd, declared.jobs.{JobEnd.TheVariants.{Done, Refused as JobEndRefused}, JobRefusal.JobRefusal}}
 use Rattle.block_image.specs.Blocks.{IsImage}
 use Rattle.page_memory.proofs.Lists.{found_is}
@@ -119,6 +119,11 @@ agree_more old new ends e agree more = more ∙ ap (λ (xs : List (Option Status
 pub agree_refused : (receipts : List Receipt) (ends : List JobEnd) (why : JobRefusal) → Agree receipts ends → Agree receipts (ends ++ JobEndRefused why ∷ [])
 agree_refused receipts ends why agree = agree ∙ sym (ends_push ends (JobEndRefused why) ∙ append-nil (ends_of ends))
 
+-- what is refused is not accepted
+pub not_ok : {T E : Type 0} (r : Result T E) (P : E → Type 0) (A : Type 0) → IsErrAnd r P → OnOk r A
+not_ok (Ok x) P A is = absurd is
+not_ok (Err e) P A is = tt
+
 -- where each of the jobs has its end, none was cut off
 pub all_carried : {T E : Type 0} (r : Result T E) (many before jobs : ℕ) {A : Type 0} → before ≡ 0 → OnErr r (many < before + jobs) → OnOk r A → many ≡ jobs → A
 all_carried (Ok x) many before jobs none fewer agree same = agree
@@ -126,11 +131,7 @@ all_carried (Err e) many before jobs none fewer agree same = absurd (omega (arit
 
 -- A submitter under way: commands are taken into flight, and the oldest ones end.
 
--- Nothing is in flight
-
-pub none_is : (tickets : List TicketContents) (n : ℕ) → n ≡ length tickets → n ≡ 0 → tickets ≡ []
-none_is [] n long none = refl
-none_is (t ∷ tickets) n long none = absurd (omega (arith, long, none))
+-- Nothing is unreleased
 
 pub begins : (receipts : List Receipt) (ends : List JobEnd) (tickets : List TicketContents) → receipts ≡ [] → ends ≡ [] → tickets ≡ [] → IsUnderWay receipts ends tickets
 begins receipts ends tickets no_receipts no_ends no_tickets = rw (no_receipts, no_ends, no_tickets) (record { ended = []; awaited = []; receipts_are = refl; agree = refl; await = tt })
@@ -139,8 +140,18 @@ all_ended_under_way : (awaited ended receipts : List Receipt) (ends : List JobEn
 all_ended_under_way [] ended receipts ends are agree await = ap statuses_of (are ∙ append-nil ended) ∙ agree
 all_ended_under_way (r ∷ awaited) ended receipts ends are agree await = absurd await
 
-pub landed : (receipts : List Receipt) (ends : List JobEnd) (tickets : List TicketContents) (n : ℕ) → n ≡ length tickets → n ≡ 0 → IsUnderWay receipts ends tickets → Agree receipts ends
-landed receipts ends tickets n long none u = all_ended_under_way u.awaited u.ended receipts ends u.receipts_are u.agree (rw (sym (none_is tickets n long none)) u.await)
+pub landed : (receipts : List Receipt) (ends : List JobEnd) (tickets : List TicketContents) → tickets ≡ [] → IsUnderWay receipts ends tickets → Agree receipts ends
+landed receipts ends tickets none u = all_ended_under_way u.awaited u.ended receipts ends u.receipts_are u.agree (subst (AwaitEach u.awaited) none u.await)
+
+pub none_left : {A : Type 0} (xs : List A) (n : ℕ) → n ≡ length xs → n ≡ 0 → xs ≡ []
+none_left [] n long none = refl
+none_left (x ∷ xs) n long none = absurd (omega (arith, long, none))
+
+-- so where the last command was released
+pub landed_ok : {T E : Type 0} (r : Result T E) (receipts : List Receipt) (ends : List JobEnd) (collected : Option FinishedContents) (tickets : List TicketContents) → tickets ≡ [] → OnOk r (collected ≡ None)
+    → OnOk r (IsUnderWay receipts ends (unreleased_of collected tickets)) → OnOk r (Agree receipts ends)
+landed_ok (Ok x) receipts ends collected tickets none settled u = landed receipts ends tickets none (subst (λ (o : Option FinishedContents). IsUnderWay receipts ends (unreleased_of o tickets)) settled u)
+landed_ok (Err e) receipts ends collected tickets none settled u = tt
 
 -- One command more
 
@@ -161,6 +172,10 @@ launched receipts new ends tickets t u (number, asked, awaits) =
     }
 
 -- The oldest one
+
+-- a command that was collected with a ticket has that one
+pub collected_with : (t : TicketContents) (command : FinishedContents) → (command.q ≡ t.q) × (command.cid ≡ t.cid) → ticket_of command ≡ t
+collected_with t command (queue, identifier) = rw (queue, identifier) refl
 
 pub await_length : (awaited : List Receipt) (tickets : List TicketContents) → AwaitEach awaited tickets → length awaited ≡ length tickets
 await_length [] [] await = refl
@@ -212,6 +227,11 @@ oldest_ends (r ∷ awaited) ended receipts new ends t tickets place end are agre
       agree = agree_more ended (ended ++ told ∷ []) ends end agree more;
       await = await.1;
     }
+
+-- a command that was collected is the oldest one that is not released
+pub with_collected : (receipts : List Receipt) (ends : List JobEnd) (collected : Option FinishedContents) (tickets : List TicketContents) (command : FinishedContents) → collected ≡ Some command
+    → IsUnderWay receipts ends (unreleased_of collected tickets) → IsUnderWay receipts ends (ticket_of command ∷ tickets)
+with_collected receipts ends collected tickets command is u = subst (λ (o : Option FinishedContents). IsUnderWay receipts ends (unreleased_of o tickets)) is u
 
 -- the oldest command in flight ended
 pub one_ended : (receipts new : List Receipt) (ends : List JobEnd) (t : TicketContents) (tickets : List TicketContents) (place : ℕ) (end : JobEnd)

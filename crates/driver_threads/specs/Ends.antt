@@ -1,7 +1,7 @@
 -- How jobs ended, beside the receipts of their submitter's seat.
 use Rattle.std.specs.Prelude.{◌≡◌, ℕ, Bool, true, false, Option, Some, None, List, [], ◌∷◌, ◌++◌, map, slice_get, option_and_then}
 use Rattle.entry_codec.specs.declared.status.Status.{Status}
-use Rattle.io_commands.specs.Values.{TicketContents}
+use Rattle.io_commands.specs.Values.{FinishedContents, TicketContents}
 use Rattle.driver_book.specs.{Calls.{receipt, settled}, declared.report.{Asked.Asked, Receipt.Receipt}}
 use Rattle.driver_threads.specs.{Values.JobEnd, declared.{jobs.JobEnd.TheVariants.{Done, Refused}, waits.Halt.Halt}}
 use Rattle.driver_threads.specs.declared.waits.Halt.TheVariants as halt
@@ -42,8 +42,17 @@ AwaitEach [] [] = Unit {0}
 AwaitEach (r ∷ receipts) (t ∷ tickets) = (r ≡ receipt r.number t.q t.cid r.asked None) × AwaitEach receipts tickets
 AwaitEach receipts tickets = ⊥
 
--- A submitter is under way: its receipts are those of the commands that ended, which agree with the ends of its jobs so far, and then those of
--- the commands in flight, which have these tickets.
+-- the ticket with which a command was collected
+abbrev pub ticket_of : FinishedContents → TicketContents
+ticket_of command = record { q = command.q; cid = command.cid }
+
+-- the tickets of the commands that are not released yet: of the one that was collected, where there is one, and of those in flight
+abbrev pub unreleased_of : Option FinishedContents → List TicketContents → List TicketContents
+unreleased_of None tickets = tickets
+unreleased_of (Some command) tickets = ticket_of command ∷ tickets
+
+-- A submitter is under way: its receipts are those of the commands that were released, which agree with the ends of its jobs so far, and then
+-- those of the commands that are not released yet, which have these tickets.
 pub record IsUnderWay (receipts : List Receipt) (ends : List JobEnd) (tickets : List TicketContents) : Type 0 where
   pub ended : List Receipt
   pub awaited : List Receipt

@@ -1,6 +1,6 @@
 -- What the functions of a submitter say of one job and of those that it has in flight, from its reservation to its end.
 use Rattle.std.specs.List.{AllZip}
-use Rattle.std.specs.Prelude.{take, ◌≡◌, ◌≢◌, ◌⊎◌, ◌<◌, length, sum_by, ℕ, Some, None, List, [], ◌∷◌, ◌++◌, Ok}
+use Rattle.std.specs.Prelude.{take, ◌≡◌, ◌≢◌, ◌⊎◌, ◌<◌, length, sum_by, ℕ, Option, Some, None, IfSome, List, ◌++◌}
 use Rattle.entry_codec.specs.declared.status.Status.{Status}
 use Rattle.io_commands.specs.{Asked.Request, Drafts.DraftContents, Values.{FinishedContents, TicketContents, gathered_from}}
 use Rattle.io_commands.specs.{DataBytes.data_length, declared.request.Kind.TheVariants.Read}
@@ -9,7 +9,7 @@ use Rattle.machine_model.specs.Events as events
 use Rattle.machine_model.specs.declared.words.Refusal.TheVariants as refusal
 use Rattle.driver_threads.specs.declared.jobs.JobRefusal.TheVariants as why
 use Rattle.driver_book.specs.{State.SeatContents, declared.report.Receipt.Receipt}
-use Rattle.driver_threads.specs.{Ends.{AwaitEach, status_of}, Jobs.{AreSubmitted, RefusesDraft, RefusesJob, WentSo}, Sharing.{Made, Released}, Values.{Job, JobEnd}}
+use Rattle.driver_threads.specs.{Ends.{AwaitEach, status_of, unreleased_of}, Jobs.{AreSubmitted, RefusesDraft, WentSo}, Sharing.Made, Values.{Job, JobEnd}}
 use Rattle.driver_threads.specs.declared.{jobs.{JobEnd.TheVariants.Done, JobRefusal.JobRefusal}, waits.{Halt.Halt, Reservation.Reservation}}
 use Rattle.driver_threads.specs.declared.waits.Halt.TheVariants as halt
 use Rattle.driver_threads.specs.declared.waits.Reservation.TheVariants as reservation
@@ -47,19 +47,13 @@ pub record IsEndOf (command : FinishedContents) (receipts : List Receipt) (place
   pub end_is : end ≡ Done status (gathered_from command)
   pub told : status_of receipts place ≡ Some status
 
--- The command with this identifier was given up: some book of this opening collected it, some book released it for this seat, and the end is
--- that of the command.
-pub record GivesUp (opening : State) (seat : SeatContents) (q cid place : ℕ) (end : JobEnd) (next : SeatContents) : Type 0 where
-  pub command : FinishedContents
-  pub collected : Made opening None (events.Collect q cid) (events.Collects command)
-  pub queue : command.q ≡ q
-  pub identifier : command.cid ≡ cid
-  pub released : Released opening seat command {A = Unit {0}} (Ok tt) next
-  pub end_is : IsEndOf command next.receipts place end
+-- some book of this opening collected this command
+abbrev pub IsCollected : State → FinishedContents → Type 0
+IsCollected opening command = Made opening None (events.Collect command.q command.cid) (events.Collects command)
 
--- A submitter carries these jobs: the first of them went so, with the first receipts, and have these ends; the others are in flight, and have the
--- other receipts and these tickets.
-pub record Carries (opening : State) (seat : SeatContents) (ends : List JobEnd) (tickets : List TicketContents) (jobs : List Job) : Type 0 where
+-- A submitter carries these jobs: the first of them went so, with the first receipts, and have these ends; the others were submitted and are not
+-- released yet, and have the other receipts and these tickets: the first of them was collected, where a command is, and the rest are in flight.
+pub record Carries (opening : State) (seat : SeatContents) (ends : List JobEnd) (collected : Option FinishedContents) (tickets : List TicketContents) (jobs : List Job) : Type 0 where
   pub done : List Job
   pub flying : List Job
   pub ended : List Receipt
@@ -68,19 +62,8 @@ pub record Carries (opening : State) (seat : SeatContents) (ends : List JobEnd) 
   pub receipts_are : seat.receipts ≡ ended ++ awaited
   pub went : WentSo opening seat.number done ended ends
   pub submitted : AreSubmitted opening seat.number flying awaited
-  pub await : AwaitEach awaited tickets
-
--- whatever a submitter carried, it goes on to carry
-abbrev pub CarriesOn : State → SeatContents → List JobEnd → List TicketContents → SeatContents → List JobEnd → List TicketContents → Type 0
-CarriesOn opening seat ends tickets next later flying = (jobs : List Job) → Carries opening seat ends tickets jobs → Carries opening next later flying jobs
-
--- and one job more
-abbrev pub CarriesAlso : State → SeatContents → List JobEnd → List TicketContents → Job → SeatContents → List JobEnd → List TicketContents → Type 0
-CarriesAlso opening seat ends tickets job next later flying = (jobs : List Job) → Carries opening seat ends tickets jobs → Carries opening next later flying (jobs ++ job ∷ [])
-
--- and any job more that is refused for this cause
-abbrev pub CarriesRefused : State → SeatContents → List JobEnd → List TicketContents → JobRefusal → SeatContents → List JobEnd → List TicketContents → Type 0
-CarriesRefused opening seat ends tickets cause next later flying = (job : Job) → RefusesJob opening job cause → CarriesAlso opening seat ends tickets job next later flying
+  pub await : AwaitEach awaited (unreleased_of collected tickets)
+  pub collects : IfSome collected (IsCollected opening)
 
 -- What threads give back
 

@@ -5,3 +5,4 @@ pub mod Runs
 pub mod Behind
 pub mod Jobs
 pub mod JobSteps
+pub mod Flights

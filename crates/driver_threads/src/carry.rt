@@ -1,19 +1,19 @@
 //! What a submitter does for one job.
 
-ghost use Rattle.std.specs.Prelude.{◌≡◌, true, false, Ok, IfOk, IfErr, OnOk};
+ghost use Rattle.std.specs.Prelude.{◌≡◌, true, false, Ok, IfOk, IfErr, OnOk, OnErr};
 ghost use Rattle.std.specs.List.{list_any};
-ghost use Rattle.std.specs.Sync.Mutex.{mutex_guard_value};
 ghost use Rattle.driver_book.specs.Calls.{is_open_for};
 ghost use Rattle.driver_threads.specs.Ends.{status_of as spec_status_of, Awaits, EndsWith, refuses};
-ghost use Rattle.driver_threads.specs.JobSteps.{GivesUp, IsEndOf, IsRefusal, IsTooLong, Refusing, TakesItNoMore, TakesNoMore};
+ghost use Rattle.driver_threads.specs.JobSteps.{IsEndOf, IsRefusal, IsTooLong, Refusing, TakesItNoMore, TakesNoMore};
 ghost use Rattle.driver_threads.specs.Jobs.{prepared as spec_prepared};
 ghost use Rattle.driver_threads.specs.Sharing.{Released, Submitted};
+ghost use Rattle.io_commands.specs.Values.{gathered_from};
 
 use crate::gate::{Gate, Point};
 use crate::jobs::{JobEnd, JobEndIn, JobRefusal};
 use crate::shared::Shared;
 use crate::waits::Halt;
-use driver_book::{LogBrand, Receipt, Seat};
+use driver_book::{Book, LogBrand, Receipt, Seat};
 use entry_codec::Status;
 use io_commands::{Draft, FillFault, Finished, Ticket};
 use std::alloc::Allocator;
@@ -67,7 +67,7 @@ fn prepare<A: Allocator + Copy>(alloc: A, draft: &mut Draft<A>, bytes: &[u8]) ->
 }
 
 /// Gives a draft up: a refused job leaves nothing, and who stops spends what he holds.
-fn give_up<L: LogBrand, A: Allocator + Copy, R: Wait>(
+pub(crate) fn give_up<L: LogBrand, A: Allocator + Copy, R: Wait>(
     rt: &R,
     shared: &Shared<L, A>,
     draft: Draft<A>,
@@ -120,39 +120,27 @@ fn halt_of(why: Refusal) -> Halt
     }
 }
 
-/// Submits a draft for a seat and rings its queue, while the lock is held once. Where who rings serves, it does so in the same hold.
-pub(crate) fn submitted<L: LogBrand, A: Allocator + Copy, R: Wait>(
-    rt: &R,
-    shared: &Shared<L, A>,
+/// Submits a draft for a seat. One that is refused comes back, with what stops its job.
+pub(crate) fn submitted<L: LogBrand, A: Allocator + Copy>(
+    book: &mut Book<L, A>,
     seat: &mut Seat<L, A>,
     draft: Draft<A>,
-) -> Result<Ticket, Halt>
+) -> Result<Ticket, (Draft<A>, Halt)>
     ensures receipt { IfOk result (λ ticket. Awaits seat.old.receipts ticket seat.new.receipts) }
-    ensures refused { IfErr result (λ halt. refuses halt ≡ true → seat.new.receipts ≡ seat.old.receipts) }
     ensures submitted { IfOk result (λ ticket. Submitted L.opening seat.old draft (Ok ticket) seat.new) }
     ensures ticket { IfOk result (λ ticket. ticket ≡ record { q = draft.q; cid = draft.cid }) }
-    ensures cause { IfErr result (Refusing (TakesItNoMore L.opening draft)) }
+    ensures same { OnErr result (seat.new.receipts ≡ seat.old.receipts) }
+    ensures cause { IfErr result (λ refused. Refusing (TakesItNoMore L.opening draft) refused.1) }
     ensures seat { seat.new.number ≡ seat.old.number }
 {
-    let q = draft.q();
-    let mut locked = shared.lock(rt);
-    let ticket = match locked.book.submit(seat, draft) {
-        Ok(ticket) => ticket,
-        Err(refused) => {
-            drop(locked);
-            return Err(give_up(rt, shared, refused.value, halt_of(refused.why)));
-        }
-    };
-    if matches!(locked.book.ring(q), Err(Refusal::Memory)) {
-        drop(locked);
-        drop(ticket.apart());
-        return Err(Halt::Memory);
+    prove!({
+        book.check();
+        true
+    });
+    match book.submit(seat, draft) {
+        Ok(ticket) => Ok(ticket),
+        Err(refused) => Err((refused.value, halt_of(refused.why))),
     }
-    if shared.leave_rung(locked).is_err() {
-        drop(ticket.apart());
-        return Err(Halt::Memory);
-    }
-    Ok(ticket)
 }
 
 /// The status of the receipt at a place.
@@ -162,27 +150,26 @@ fn status_of(receipts: &[Receipt], place: usize) -> Option<Status>
     receipts.get(place).and_then(|receipt| receipt.status)
 }
 
-/// Gathers what a finished command brought, and releases it. No lock is held while it gathers. The command ended as the receipt at this place
-/// of the seat's says.
-fn released<L: LogBrand, A: Allocator + Copy, R: Wait>(
-    rt: &R,
-    alloc: A,
-    shared: &Shared<L, A>,
+/// Releases a finished command for a seat. The job's end has these bytes, and the status that the receipt at this place has then.
+pub(crate) fn released<L: LogBrand, A: Allocator + Copy>(
+    book: &mut Book<L, A>,
     seat: &mut Seat<L, A>,
-    finished: Finished<A>,
+    command: Finished<A>,
+    bytes: Vec<u8, A>,
     place: usize,
 ) -> Result<JobEndIn<A>, Halt>
-    requires { list_any (is_open_for finished.q finished.cid) seat.old.receipts ≡ true }
-    ensures settled { IfOk result (λ end. EndsWith seat.old.receipts finished.q finished.cid place end seat.new.receipts) }
-    ensures released { OnOk result (Released L.opening seat.old finished {A = Unit {0}} (Ok tt) seat.new) }
-    ensures end { IfOk result (IsEndOf finished seat.new.receipts place) }
+    requires open { list_any (is_open_for command.q command.cid) seat.old.receipts ≡ true }
+    requires bytes { bytes.items ≡ gathered_from command }
+    ensures settled { IfOk result (λ end. EndsWith seat.old.receipts command.q command.cid place end seat.new.receipts) }
+    ensures released { OnOk result (Released L.opening seat.old command {A = Unit {0}} (Ok tt) seat.new) }
+    ensures end { IfOk result (IsEndOf command seat.new.receipts place) }
     ensures halted { IfErr result (λ halt. refuses halt ≡ false) }
 {
-    let Ok(bytes) = finished.gather(alloc) else {
-        drop(finished.apart());
-        return Err(Halt::Memory);
-    };
-    if let Err(refused) = shared.release(rt, seat, finished) {
+    prove!({
+        book.check();
+        true
+    });
+    if let Err(refused) = book.release(seat, command) {
         drop(refused.value.apart());
         return Err(Halt::Memory);
     }
@@ -193,26 +180,4 @@ fn released<L: LogBrand, A: Allocator + Copy, R: Wait>(
         }),
         None => Err(Halt::Stopped),
     }
-}
-
-/// Finishes a command: waits for its end, collects, gathers, releases. It ended as the receipt at this place of the seat's says.
-///
-/// # Errors
-///
-/// Where the workers are told to stop, somebody else has collected the command, or memory is refused. The ticket is spent.
-pub(crate) fn finished<L: LogBrand, A: Allocator + Copy, R: Wait>(
-    rt: &R,
-    alloc: A,
-    shared: &Shared<L, A>,
-    seat: &mut Seat<L, A>,
-    ticket: Ticket,
-    place: usize,
-) -> Result<JobEndIn<A>, Halt>
-    requires { list_any (is_open_for ticket.q ticket.cid) seat.old.receipts ≡ true }
-    ensures settled { IfOk result (λ end. EndsWith seat.old.receipts ticket.q ticket.cid place end seat.new.receipts) }
-    ensures gives_up { IfOk result (λ end. GivesUp L.opening seat.old ticket.q ticket.cid place end seat.new) }
-    ensures halted { IfErr result (λ halt. refuses halt ≡ false) }
-{
-    let command = shared.collect_when_ended(rt, ticket)?;
-    released(rt, alloc, shared, seat, command, place)
 }

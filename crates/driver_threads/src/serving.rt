@@ -218,25 +218,14 @@ impl<L: LogBrand, A: Allocator + Copy> Shared<L, A> {
         if steps.short { Err(AllocError) } else { Ok(()) }
     }
 
-    /// Gives the lock back behind a ring: where a submitter that rang serves, it does so before. Whoever waits for what is left is woken.
-    ///
-    /// # Errors
-    ///
-    /// Where memory is refused as it serves or reaps.
-    pub(crate) fn leave_rung(
-        &self,
-        locked: MutexGuard<'_, Locked<L, A>>,
-    ) -> Result<(), AllocError> {
-        let mut locked = locked;
+    /// Rings a queue. Where a submitter that rang serves, it does so too.
+    pub(crate) fn ring_and_serve(&self, book: &mut Book<L, A>, q: u16) -> Steps {
+        if matches!(book.ring(q), Err(Refusal::Memory)) {
+            return NO_STEPS.with(Err(Refusal::Memory));
+        }
         match self.server {
-            Server::Ringer => {
-                let steps = serve_and_reap(&mut locked.book);
-                self.leave_behind(locked, steps)
-            }
-            Server::Controller => {
-                self.leave(locked, Changes::RUNG);
-                Ok(())
-            }
+            Server::Ringer => serve_and_reap(book),
+            Server::Controller => A_RING,
         }
     }
 }

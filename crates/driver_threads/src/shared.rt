@@ -92,6 +92,21 @@ impl<L: LogBrand, A: Allocator + Copy> Shared<L, A> {
         self.condvars.notify(told);
     }
 
+    /// Goes on with the lock that is held since a command was released. Where somebody waits for room, they are woken first, and the lock is free
+    /// meanwhile.
+    pub(crate) fn tell_of_room<'a, R: Wait>(
+        &'a self,
+        rt: &R,
+        locked: MutexGuard<'a, Locked<L, A>>,
+    ) -> MutexGuard<'a, Locked<L, A>> {
+        if locked.awaited.has(Change::Room) {
+            self.leave(locked, Changes::ROOM);
+            self.lock(rt)
+        } else {
+            locked
+        }
+    }
+
     /// Makes a seat, with the next number and no receipts.
     ///
     /// # Errors

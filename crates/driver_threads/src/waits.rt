@@ -8,14 +8,16 @@ ghost use Rattle.driver_threads.specs.Jobs.{RefusesRequest};
 ghost use Rattle.driver_threads.specs.Sharing.{Made};
 ghost use Rattle.machine_model.specs.Events as events;
 
+use crate::carry::Watch;
 use crate::changes::Change;
+use crate::gate::{Gate, Point};
 use crate::jobs::JobRefusal;
 use crate::serving::{MOST_OF_A_WORKER, reap_some, serve_some};
-use crate::shared::Shared;
+use crate::shared::{Locked, Shared};
 use driver_book::{Book, LogBrand};
 use io_commands::{Draft, Finished, Request, Ticket};
 use std::alloc::{AllocError, Allocator};
-use std::sync::Wait;
+use std::sync::{MutexGuard, Wait};
 use step_core::Refusal;
 
 /// Why a submitter does not go on with a job.
@@ -110,13 +112,60 @@ fn reserved<L: LogBrand, A: Allocator + Copy>(
     }
 }
 
+/// Reserves for a request where that need not wait, and hands it back where it has to.
+///
+/// # Errors
+///
+/// Where the request is refused, the workers are told to stop, or memory is refused. The request is dropped.
+fn reserved_or_later<L: LogBrand, A: Allocator + Copy>(
+    book: &mut Book<L, A>,
+    q: u16,
+    request: Request<A>,
+) -> Result<Reservation<A>, Halt>
+    ensures reservation { IfOk result (IsReservation L.opening q request) }
+    ensures refused { IfErr result (Refusing (RefusesRequest L.opening q request)) }
+{
+    match turn_of(book, q, &request)? {
+        Turn::Free => Ok(Reservation::Now(reserved(book, q, request)?)),
+        Turn::Later => Ok(Reservation::Later(request)),
+    }
+}
+
+/// Reserves for a request where that need not wait, and hands it back where it has to. Where the lock is held since a command was released,
+/// that is done in the same hold, unless somebody waits for room: then they are told first.
+///
+/// # Errors
+///
+/// Where the request is refused, the workers are told to stop, or memory is refused. The request is dropped.
+pub(crate) fn reserve_behind<'a, L: LogBrand, A: Allocator + Copy, G: Gate, R: Wait>(
+    rt: &R,
+    shared: &'a Shared<L, A>,
+    watch: &mut Watch<G>,
+    released: Option<MutexGuard<'a, Locked<L, A>>>,
+    q: u16,
+    request: Request<A>,
+) -> Result<Reservation<A>, Halt>
+    ensures reservation { IfOk result (IsReservation L.opening q request) }
+    ensures refused { IfErr result (Refusing (RefusesRequest L.opening q request)) }
+{
+    let Some(locked) = released else {
+        let mut locked = shared.lock(rt);
+        return reserved_or_later(&mut locked.book, q, request);
+    };
+    let mut locked = shared.tell_of_room(rt, locked);
+    let reservation = reserved_or_later(&mut locked.book, q, request);
+    drop(locked);
+    watch.pass(Point::Released);
+    reservation
+}
+
 /// Collects a command that has ended.
 ///
 /// # Errors
 ///
 /// Where somebody else has collected it, or memory is refused. The ticket is spent.
 #[tactic(auto, using(crate::proofs::UnderWay::collects_command))]
-fn collected<L: LogBrand, A: Allocator + Copy>(
+pub(crate) fn collected<L: LogBrand, A: Allocator + Copy>(
     book: &mut Book<L, A>,
     ticket: Ticket,
 ) -> Result<Finished<A>, Halt>
@@ -141,27 +190,6 @@ fn collected<L: LogBrand, A: Allocator + Copy>(
 }
 
 impl<L: LogBrand, A: Allocator + Copy> Shared<L, A> {
-    /// Reserves for a request where that need not wait, and hands it back where it has to.
-    ///
-    /// # Errors
-    ///
-    /// Where the request is refused, the workers are told to stop, or memory is refused. The request is dropped.
-    pub(crate) fn reserve_now<R: Wait>(
-        &self,
-        rt: &R,
-        q: u16,
-        request: Request<A>,
-    ) -> Result<Reservation<A>, Halt>
-        ensures reservation { IfOk result (IsReservation L.opening q request) }
-        ensures refused { IfErr result (Refusing (RefusesRequest L.opening q request)) }
-    {
-        let mut locked = self.lock(rt);
-        match turn_of(&locked.book, q, &request)? {
-            Turn::Free => Ok(Reservation::Now(reserved(&mut locked.book, q, request)?)),
-            Turn::Later => Ok(Reservation::Later(request)),
-        }
-    }
-
     /// Reserves for a request, and waits as long as identifiers or pages are wanting that others hold.
     ///
     /// # Errors

@@ -76,7 +76,9 @@ pub fn submitter<L: LogBrand, A: Allocator + Copy, G: Gate, R: Wait>(
     let mut watch = Watch::new(gate, worker);
     let mut flight = Flight {
         seat,
+        collected: None,
         tickets,
+        enough: depth,
         ends,
     };
     let carried = flight.carry_all(rt, alloc, shared, &mut watch, jobs);

@@ -1,15 +1,15 @@
--- each command that is finished has its end
-use Rattle.std.{proofs.Common.{◌≡◌, ◌+◌, vec_len}, specs.VecDeque.{deque_len, deque_capacity}}
-use Rattle.driver_threads.specs.{Ends.IsUnderWay, JobSteps.CarriesOn}
+-- each command that is released has its end
+use Rattle.std.{proofs.Common.{◌≡◌}, specs.VecDeque.{deque_len, deque_capacity}}
+use Rattle.driver_threads.specs.Flights.{CarriesOn, IsFlying, begun}
 use Rattle.driver_threads.proofs.flight.Flight.finish_all.Given as goal
 
-abbrev pub invariant-loop-alloc : goal.invariant-loop-alloc
-invariant-loop-alloc g l = record {
-  under_way : IsUnderWay l.self.seat.receipts l.self.ends.items l.self.tickets.items;
-  all : vec_len l.self.ends + deque_len l.self.tickets ≡ vec_len l.initial.self.ends + deque_len l.initial.self.tickets;
-  carries : CarriesOn g.L.LogBrand.opening l.initial.self.seat l.initial.self.ends.items l.initial.self.tickets.items l.self.seat l.self.ends.items l.self.tickets.items;
+abbrev pub invariant-loop-self : goal.invariant-loop-self
+invariant-loop-self g l = record {
+  flying : IsFlying l.self;
+  all : begun l.self ≡ begun l.initial.self;
+  carries : CarriesOn g.L.LogBrand.opening l.initial.self l.self;
   places : deque_capacity l.self.tickets ≡ deque_capacity l.initial.self.tickets;
 }
 
-abbrev pub decreases-loop-alloc : goal.decreases-loop-alloc
-decreases-loop-alloc g l = deque_len l.self.tickets
+abbrev pub decreases-loop-self : goal.decreases-loop-self
+decreases-loop-self g l = deque_len l.self.tickets

@@ -1,29 +1,15 @@
--- The command that was submitted is the youngest in flight.
-use Rattle.std.proofs.Common.{◌≡◌, ◌∙◌, Ok, ap, subst}
-use Rattle.io_commands.specs.Drafts.{DraftContents}
-use Rattle.driver_threads.{proofs.{Carried.{carries_launched, carries_same, passed_on, ticket_of}, UnderWay.launched}, specs.{Jobs.prepared, Sharing.Submitted}}
+-- The command that was submitted is one of those that are carried.
+use Rattle.driver_threads.proofs.Carried.{passed_on}
 use Rattle.driver_threads.proofs.flight.Flight.launch.Goals as goal
 
-pub returns-clause-under_way : goal.returns-clause-under_way
-returns-clause-under_way g c =
-    let flight = c.reserve.new.self in
-    rw c.push_back_reserved.ensures.items
-    (launched flight.seat.receipts c.submitted.new.seat.receipts flight.ends.items flight.tickets.items c.in_ok-ticket.ticket c.in_ok-draft.ensures.under_way c.in_ok-ticket.ensures.receipt)
+pub returns-in_err-draft-clause-carries_refused : goal.returns-in_err-draft-clause-carries_refused
+returns-in_err-draft-clause-carries_refused g c = passed_on c.from_residual.result _ c.in_err-draft.field-0.0 c.from_residual.ensures.1 c.in_err-draft.ensures.carries_refused
+
+pub returns-in_err-submit-clause-carries_refused : goal.returns-in_err-submit-clause-carries_refused
+returns-in_err-submit-clause-carries_refused g c =
+    passed_on c.from_residual-in_err-submit.result _ c.in_err-submit.field-0.0 c.from_residual-in_err-submit.ensures.1
+    (λ refuses jobs carries. c.in_err-submit.ensures.carries_refused refuses jobs (c.in_ok-draft.ensures.carries jobs carries))
 
 pub returns-clause-carries : goal.returns-clause-carries
 returns-clause-carries g c jobs carries =
-    let flight = c.reserve.new.self in
-    let ready : c.in_ok-draft-2.draft ≡ prepared c.args.job.bytes c.in_ok-draft.draft = c.in_ok-draft-2.ensures.prepared in
-    let sent : Submitted g.L.LogBrand.opening flight.seat (prepared c.args.job.bytes c.in_ok-draft.draft) (Ok c.in_ok-ticket.ticket) c.submitted.new.seat =
-    subst (λ (d : DraftContents). Submitted g.L.LogBrand.opening flight.seat d (Ok c.in_ok-ticket.ticket) c.submitted.new.seat) ready c.in_ok-ticket.ensures.submitted in
-    let is = c.in_ok-ticket.ensures.ticket ∙ ap (λ (d : DraftContents). ticket_of d) ready in
-    rw c.push_back_reserved.ensures.items
-    (carries_launched g.L.LogBrand.opening flight.seat c.submitted.new.seat flight.ends.items flight.tickets.items jobs c.args.job c.in_ok-draft.draft c.in_ok-ticket.ticket c.in_ok-draft.ensures.made sent is
-    (c.in_ok-draft.ensures.carries jobs carries))
-
-pub returns-in_err-ticket-clause-carries_refused : goal.returns-in_err-ticket-clause-carries_refused
-returns-in_err-ticket-clause-carries_refused g c =
-    let flight = c.reserve.new.self in
-    passed_on c.from_residual-in_err-ticket.result _ c.in_err-ticket.field-0.0 c.from_residual-in_err-ticket.ensures.1
-    (λ refuses jobs carries. carries_same g.L.LogBrand.opening flight.seat c.submitted.new.seat flight.ends.items flight.tickets.items jobs (c.in_err-ticket.ensures.refused refuses) c.in_err-ticket.ensures.seat
-    (c.in_ok-draft.ensures.carries jobs carries))
+    c.in_ok-submit.ensures.carries c.args.job c.in_ok-draft.draft c.in_ok-draft.ensures.made c.in_ok-draft-2.ensures.prepared jobs (c.in_ok-draft.ensures.carries jobs carries)

@@ -1,16 +1,17 @@
--- each command that is finished has its end
-use Rattle.std.{proofs.Common.{◌≡◌, ◌+◌, ◌≤◌, vec_len}, specs.VecDeque.{deque_len, deque_capacity}}
-use Rattle.driver_threads.specs.{Ends.IsUnderWay, JobSteps.CarriesOn}
+-- each command that is released has its end
+use Rattle.std.{proofs.Common.{◌≡◌, ◌≤◌, None}, specs.VecDeque.{deque_len, deque_capacity}}
+use Rattle.driver_threads.specs.Flights.{CarriesOn, IsFlying, begun}
 use Rattle.driver_threads.proofs.flight.Flight.reserve.Given as goal
 
 abbrev pub invariant-loop-alloc : goal.invariant-loop-alloc
 invariant-loop-alloc g l = record {
-  under_way : IsUnderWay l.self.seat.receipts l.self.ends.items l.self.tickets.items;
-  all : vec_len l.self.ends + deque_len l.self.tickets ≡ vec_len l.initial.self.ends + deque_len l.initial.self.tickets;
-  fewer : deque_len l.self.tickets ≤ deque_len l.initial.self.tickets;
-  carries : CarriesOn g.L.LogBrand.opening l.initial.self.seat l.initial.self.ends.items l.initial.self.tickets.items l.self.seat l.self.ends.items l.self.tickets.items;
+  flying : IsFlying l.self;
+  all : begun l.self ≡ begun l.fn.self;
+  none : l.self.collected ≡ None;
+  fewer : deque_len l.self.tickets ≤ deque_len l.fn.self.tickets;
+  carries : CarriesOn g.L.LogBrand.opening l.fn.self l.self;
   same : l.request ≡ l.fn.request;
-  places : deque_capacity l.self.tickets ≡ deque_capacity l.initial.self.tickets;
+  places : deque_capacity l.self.tickets ≡ deque_capacity l.fn.self.tickets;
 }
 
 abbrev pub decreases-loop-alloc : goal.decreases-loop-alloc
