@@ -14,10 +14,24 @@ taken : (b : Bool) (x one : Part) (f : Part → List Part) (ws : List Part) → 
 taken true x one f ws e = let same : x ≡ one = cc in ap f same
 taken false x one f ws e = absurd cc
 
--- two that join are counted as the one that they become
+apart : (b : Bool) (x : Part) (zs ws : List Part) → None ≡ (if b then Some x else None) → (if b then zs else ws) ≡ ws
+apart true x zs ws e = absurd cc
+apart false x zs ws e = refl
+
+-- two that join are as the one that they become
+pub joined_as_one : (last next one : Part) (parts : List Part) → Some one ≡ (if joins last next then Some (both last next) else None) → joined (last ∷ next ∷ parts) ≡ joined (one ∷ parts)
+joined_as_one last next one parts is =
+    from_list last (next ∷ parts) ∙ taken (joins last next) (both last next) one (λ (x : Part). joined_from x parts) (last ∷ joined_from next parts) is ∙ sym (from_list one parts)
+
+-- where two do not join, the first stands for itself
+pub joined_apart : (last next : Part) (parts : List Part) → None ≡ (if joins last next then Some (both last next) else None) → joined (last ∷ next ∷ parts) ≡ last ∷ joined (next ∷ parts)
+joined_apart last next parts is =
+    from_list last (next ∷ parts) ∙ apart (joins last next) (both last next) (joined_from (both last next) parts) (last ∷ joined_from next parts) is
+    ∙ ap (λ (xs : List Part). last ∷ xs) (sym (from_list next parts))
+
+-- and so counted
 pub counted_as_one : (last next one : Part) (parts : List Part) → Some one ≡ (if joins last next then Some (both last next) else None) → length (joined (last ∷ next ∷ parts)) ≡ length (joined (one ∷ parts))
-counted_as_one last next one parts is =
-    ap length (from_list last (next ∷ parts) ∙ taken (joins last next) (both last next) one (λ (x : Part). joined_from x parts) (last ∷ joined_from next parts) is ∙ sym (from_list one parts))
+counted_as_one last next one parts is = ap length (joined_as_one last next one parts is)
 
 -- How many parts pieces are in consecutive pages, counted piece by piece.
 

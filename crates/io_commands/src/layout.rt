@@ -1,9 +1,7 @@
 //! The parts of a command in its pages, and its chain laid in them.
 
-ghost use Rattle.std.specs.Prelude.{◌≡◌, ◌≤◌, ◌+◌, ◌*◌, ◌++◌, length, take, drop, vec_len, IfOk, false};
-ghost use Rattle.std.specs.Vec.{vec_capacity};
-ghost use Rattle.std.specs.List.{list_any};
-ghost use Rattle.io_commands.specs.Requests.{crosses_page, joined_parts, parts_of as spec_parts_of};
+ghost use Rattle.std.specs.Prelude.{◌≡◌, ◌≤◌, ◌<◌, ◌+◌, ◌*◌, ◌++◌, ◌∷◌, [], length, take, drop, IfOk, IfSome, MatchOption};
+ghost use Rattle.io_commands.specs.Requests.{joined_parts, parts_of};
 ghost use Rattle.io_commands.specs.Values.{numbers_of as spec_numbers_of, IsGood, data_part, chain_part};
 ghost use Rattle.io_commands.specs.Least.{pages_with};
 ghost use Rattle.sgl_descriptor.specs.declared.Part.TheVariants as part;
@@ -13,7 +11,7 @@ ghost use Rattle.io_commands.specs.Drafts.{laid};
 
 use crate::request::{Piece, Request};
 use page_memory::{Page, PageNo};
-use sgl_chain::{Chain, Part, Segment, join_parts};
+use sgl_chain::{Chain, Part, Segment, join};
 use std::alloc::{AllocError, Allocator};
 
 /// The part that data is in its page.
@@ -24,46 +22,22 @@ pub(crate) fn data_in(page: PageNo, offset: u32, len: u32) -> Part
     Part::Data { addr, len }
 }
 
-/// Appends the parts of pieces, each data piece in its page.
-fn push_parts<A: Allocator, B: Allocator>(
-    pieces: &[Piece],
-    pages: &[Page<B>],
-    out: &mut Vec<Part, A>,
-)
-    requires inside { list_any crosses_page pieces.now ≡ false }
-    requires room { vec_len out.old + length pieces.now ≤ vec_capacity out.old }
-    ensures { out.new.items ≡ out.old.items ++ spec_parts_of pieces.now (spec_numbers_of pages.now) }
+/// The part of the first piece, with the pieces and the pages behind it; `None` where there is no piece, or no page for it.
+fn first_part<'a, B: Allocator>(
+    pieces: &'a [Piece],
+    pages: &'a [Page<B>],
+) -> Option<(Part, &'a [Piece], &'a [Page<B>])>
+    ensures first { MatchOption result (parts_of pieces.now (spec_numbers_of pages.now) ≡ []) (λ next. parts_of pieces.now (spec_numbers_of pages.now) ≡ next.0 ∷ parts_of next.1.now (spec_numbers_of next.2.now)) }
+    ensures fewer { IfSome result (λ next. length next.1.now < length pieces.now) }
 {
-    let Some((piece, others)) = pieces.split_first() else {
-        return;
-    };
+    let (piece, others) = pieces.split_first()?;
     match *piece {
-        Piece::Bucket { len } => {
-            out.push_reserved(Part::Bucket { len });
-            push_parts(others, pages, out);
-        }
+        Piece::Bucket { len } => Some((Part::Bucket { len }, others, pages)),
         Piece::Data { offset, len } => {
-            let Some((page, behind)) = pages.split_first() else {
-                return;
-            };
-            out.push_reserved(data_in(page.number(), offset, len));
-            push_parts(others, behind, out);
+            let (page, behind) = pages.split_first()?;
+            Some((data_in(page.number(), offset, len), others, behind))
         }
     }
-}
-
-/// The parts of pieces, each data piece in its page.
-fn parts_of<A: Allocator, B: Allocator>(
-    alloc: A,
-    pieces: &[Piece],
-    pages: &[Page<B>],
-) -> Result<Vec<Part, A>, AllocError>
-    requires inside { list_any crosses_page pieces.now ≡ false }
-    ensures { IfOk result (λ parts. parts.items ≡ spec_parts_of pieces.now (spec_numbers_of pages.now)) }
-{
-    let mut parts = Vec::with_capacity(alloc, pieces.len())?;
-    push_parts(pieces, pages, &mut parts);
-    Ok(parts)
 }
 
 /// The numbers of pages.
@@ -109,21 +83,35 @@ pub(crate) fn lay_all<A: Allocator, B: Allocator>(
 }
 
 impl<P: Allocator> Request<P> {
-    /// The parts of the request in its data pages, one page for each data piece; neighbours that join are one.
+    /// The parts of the request in its data pages, one page for each data piece; neighbours that join are one. It takes memory once.
     ///
     /// # Errors
     ///
     /// Where memory is refused.
-    pub fn parts_in<A: Allocator + Clone, B: Allocator>(
+    pub fn parts_in<A: Allocator, B: Allocator>(
         &self,
         alloc: A,
         pages: &[Page<B>],
     ) -> Result<Vec<Part, A>, AllocError>
-        requires good { IsGood self.now }
         ensures { IfOk result (λ parts. parts.items ≡ joined_parts self.now.pieces (spec_numbers_of pages.now)) }
     {
-        let parts = parts_of(alloc.clone()?, self.pieces(), pages)?;
-        join_parts(alloc, parts.as_slice())
+        let mut parts = Vec::with_capacity(alloc, self.pieces().len())?;
+        let Some((mut last, mut pieces, mut pages)) = first_part(self.pieces(), pages) else {
+            return Ok(parts);
+        };
+        while let Some((part, others, behind)) = first_part(pieces, pages) {
+            match join(last, part) {
+                Some(one) => last = one,
+                None => {
+                    parts.push_reserved(last);
+                    last = part;
+                }
+            }
+            pieces = others;
+            pages = behind;
+        }
+        parts.push_reserved(last);
+        Ok(parts)
     }
 }
 

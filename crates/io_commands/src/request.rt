@@ -144,6 +144,19 @@ impl<A: Allocator> Pieces<A> {
         }
     }
 
+    /// No piece yet, with room for so many.
+    ///
+    /// # Errors
+    ///
+    /// Where memory is refused.
+    pub fn with_capacity(alloc: A, room: usize) -> Result<Self, AllocError>
+        ensures { IfOk result (λ made. made ≡ []) }
+    {
+        Ok(Pieces {
+            pieces: Vec::with_capacity(alloc, room)?,
+        })
+    }
+
     /// Puts a piece behind the others.
     ///
     /// # Errors
@@ -165,7 +178,7 @@ impl<A: Allocator> Pieces<A> {
     pub fn from_slice(alloc: A, pieces: &[Piece]) -> Result<Self, AllocError>
         ensures { IfOk result (λ made. made ≡ pieces.now) }
     {
-        let mut made = Pieces::new(alloc);
+        let mut made = Pieces::with_capacity(alloc, pieces.len())?;
         for piece in pieces {
             made.push(*piece)?;
         }
@@ -187,9 +200,21 @@ impl<A: Allocator> Pieces<A> {
     pub fn copied<B: Allocator>(&self, alloc: B) -> Result<Pieces<B>, AllocError>
         ensures { IfOk result (λ pieces. pieces ≡ self.now) }
     {
-        Ok(Pieces {
-            pieces: Vec::from_slice(alloc, &self.pieces)?,
-        })
+        self.copied_into(Pieces::new(alloc))
+    }
+
+    /// The same pieces once more, in the place of others, whose memory they take. More is asked for only where that is too little.
+    ///
+    /// # Errors
+    ///
+    /// Where memory is refused.
+    pub fn copied_into<B: Allocator>(&self, room: Pieces<B>) -> Result<Pieces<B>, AllocError>
+        ensures { IfOk result (λ pieces. pieces ≡ self.now) }
+    {
+        let Pieces { mut pieces } = room;
+        pieces.clear();
+        pieces.extend_from_slice(&self.pieces)?;
+        Ok(Pieces { pieces })
     }
 
     /// How many data pages the pieces take.
@@ -260,11 +285,22 @@ impl<A: Allocator> Request<A> {
     pub fn copied<B: Allocator>(&self, alloc: B) -> Result<Request<B>, AllocError>
         ensures { IfOk result (λ request. request ≡ self.now) }
     {
+        self.copied_into(Pieces::new(alloc))
+    }
+
+    /// The same request once more, its pieces in the place of others ([`Pieces::copied_into`]).
+    ///
+    /// # Errors
+    ///
+    /// Where memory is refused.
+    pub fn copied_into<B: Allocator>(&self, room: Pieces<B>) -> Result<Request<B>, AllocError>
+        ensures { IfOk result (λ request. request ≡ self.now) }
+    {
         Ok(Request {
             kind: self.kind,
             slba: self.slba,
             blocks: self.blocks,
-            pieces: self.pieces.copied(alloc)?,
+            pieces: self.pieces.copied_into(room)?,
         })
     }
 

@@ -1,6 +1,6 @@
 -- Joined parts: how a list of them grows, what they keep, and that none of them join any more.
-use Rattle.std.proofs.Common.{arith, ◌∙◌, sym, ap, refl, ◌≡◌, ◌≤◌, ◌<◌, ◌+◌, ◌++◌, ℕ, zero, suc, Bool, true, false, if◌then◌else◌, Some, None, List, [], ◌∷◌, length, drop, get_or, append_assoc, subst, map}
-use Rattle.std.proofs.{lemmas.{Bool.Decides.nat_tests, List.{drop_more, map-append, Concat.flat_map-cons}}}
+use Rattle.std.proofs.Common.{arith, ◌∙◌, sym, ap, refl, ◌≡◌, ◌≤◌, ◌+◌, ◌++◌, ℕ, zero, suc, Bool, true, false, if◌then◌else◌, List, [], ◌∷◌, length, append_assoc, subst, map}
+use Rattle.std.proofs.{lemmas.{Bool.Decides.nat_tests, List.{map-append, Concat.flat_map-cons}}}
 use Rattle.std.specs.List.{range_with_len}
 use Rattle.sgl_descriptor.{proofs.Counts.length-targets, specs.{Targets.{Target, Place, targets, targets_of_part, counted_in}, declared.Direction.Direction}}
 use Rattle.sgl_descriptor.specs.declared.Part.{Part, TheVariants.{Data, Bucket}}
@@ -54,35 +54,6 @@ from_first part (next ∷ parts) =
 
 pub from_list : (part : Part) (parts : List Part) → joined (part ∷ parts) ≡ joined_from part parts
 from_list part parts = first_and_left part parts ∙ from_first part parts
-
--- one turn of the loop: two parts become one, or the first is put behind those that are done
-taken : (b : Bool) (x one : Part) (f : Part → List Part) (ws : List Part) → (if b then Some x else None) ≡ Some one → (if b then f x else ws) ≡ f one
-taken true x one f ws e = let same : x ≡ one = cc in ap f same
-taken false x one f ws e = absurd cc
-
-not_taken : (b : Bool) (x : Part) (zs ws : List Part) → (if b then Some x else None) ≡ None → (if b then zs else ws) ≡ ws
-not_taken true x zs ws e = absurd cc
-not_taken false x zs ws e = refl
-
-pub joined_on : (done : List Part) (last one : Part) (xs parts : List Part) (i : ℕ) → i < length xs →
-    (if joins last (get_or xs i (Data 0 0)) then Some (both last (get_or xs i (Data 0 0))) else None) ≡ Some one →
-    done ++ joined_from last (drop i xs) ≡ joined parts → done ++ joined_from one (drop (i + 1) xs) ≡ joined parts
-joined_on done last one xs parts i lt took h =
-    let next : Part = get_or xs i (Data 0 0) in
-    let behind : List Part = drop (i + 1) xs in
-    let turn : joined_from last (drop i xs) ≡ joined_from one behind =
-    ap (joined_from last) (drop_more xs i (Data 0 0) lt) ∙ taken (joins last next) (both last next) one (λ (x : Part). joined_from x behind) (last ∷ joined_from next behind) took in
-    ap (λ (zs : List Part). done ++ zs) (sym turn) ∙ h
-
-pub joined_apart : (done : List Part) (last : Part) (xs parts : List Part) (i : ℕ) → i < length xs →
-    (if joins last (get_or xs i (Data 0 0)) then Some (both last (get_or xs i (Data 0 0))) else None) ≡ None →
-    done ++ joined_from last (drop i xs) ≡ joined parts → (done ++ last ∷ []) ++ joined_from (get_or xs i (Data 0 0)) (drop (i + 1) xs) ≡ joined parts
-joined_apart done last xs parts i lt took h =
-    let next : Part = get_or xs i (Data 0 0) in
-    let behind : List Part = drop (i + 1) xs in
-    let turn : joined_from last (drop i xs) ≡ last ∷ joined_from next behind =
-    ap (joined_from last) (drop_more xs i (Data 0 0) lt) ∙ not_taken (joins last next) (both last next) (joined_from (both last next) behind) (last ∷ joined_from next behind) took in
-    append_assoc done (last ∷ []) (joined_from next behind) ∙ ap (λ (zs : List Part). done ++ zs) (sym turn) ∙ h
 
 -- What joined parts keep of a list, and that none of them join any more.
 

@@ -7,7 +7,7 @@
 //! Last Segment descriptor names. Of more parts, one less than the segment size stand in the first segment, with the
 //! link to the segments of the rest in its last place, and a Segment descriptor names that segment.
 //!
-//! [`join_parts`] makes one part of neighbours that join, before a chain is built of them: `specs/Joining.antt`.
+//! [`join`] makes one part of two neighbours that join, before a chain is built of them: `specs/Joining.antt`.
 //!
 //! `specs/Chains.antt` says which descriptors each segment has, and `specs/Spells.antt` what a list of segments says
 //! over a memory. [`Chain::build`] ensures that a chain whose segments are laid in its pages, in whatever memory, spells exactly
@@ -21,6 +21,6 @@ mod segment;
 pub mod worked;
 
 pub use chain::{BuildFault, Chain, MAX_PARTS, pages_needed};
-pub use joining::{join, join_parts};
+pub use joining::join;
 pub use segment::{Descs, Segment};
 pub use sgl_descriptor::Part;
