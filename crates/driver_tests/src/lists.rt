@@ -91,6 +91,6 @@ fn a_list_of_steps_is_run_or_none_is_done(rt: HostRuntime) -> Result<(), Fail> {
             Some(_) => wanted = wanted.saturating_add(1),
         }
     }
-    see(&rt, &(not_run, wanted), &(1, 16));
+    see(&rt, &(not_run, wanted), &(1, 13));
     Ok(())
 }

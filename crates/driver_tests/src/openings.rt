@@ -57,7 +57,7 @@ fn open_twice<R: Abort>(rt: &R, alloc: Global, config: Config, growth: u64) -> R
 /// Each growth of an opening is refused: memory is wanted and the image comes back, with which a bench then opens.
 #[test]
 fn an_opening_wants_memory(rt: HostRuntime) -> Result<(), Fail> {
-    for (config, wanted) in [(USUAL, 31), (TWO_QUEUES, 41)] {
+    for (config, wanted) in [(USUAL, 34), (TWO_QUEUES, 44)] {
         let mut growths: u64 = 0;
         for growth in 1..MANY {
             if !open_twice(&rt, rt.alloc(), config, growth)? {

@@ -142,6 +142,6 @@ fn a_stranger_is_told_without_memory(rt: HostRuntime) -> Result<(), Fail> {
         }
         growths = growth;
     }
-    see(&rt, &growths, &5);
+    see(&rt, &growths, &4);
     Ok(())
 }

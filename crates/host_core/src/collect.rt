@@ -17,6 +17,7 @@ use crate::host::Host;
 use crate::moving::move_out;
 use crate::record::Record;
 use crate::refused::Refused;
+use crate::spare::Spares;
 use crate::tables::HostTables;
 use entry_codec::Status;
 use io_commands::{Finished, Request, Ticket};
@@ -41,13 +42,17 @@ struct Room<A: Allocator> {
 }
 
 /// Room for what a held command hands over.
-fn room_for<A: Allocator + Copy>(alloc: A, held: &Held<'_, A>) -> Result<Room<A>, AllocError>
+fn room_for<A: Allocator + Copy>(
+    spares: &mut Spares<A>,
+    alloc: A,
+    held: &Held<'_, A>,
+) -> Result<Room<A>, AllocError>
     ensures same { IfOk result (λ room. (room.request ≡ held.now.request.now) × (room.status ≡ held.now.status)) }
     ensures room { IfOk result (λ room. (room.pages.items ≡ []) × (vec_len room.pages ≡ 0) × (held.now.pages ≤ vec_capacity room.pages)) }
 {
-    let pages = Vec::with_capacity(alloc, held.pages)?;
+    let pages = spares.pages.with_room(alloc, held.pages)?;
     Ok(Room {
-        request: held.request.copied(alloc)?,
+        request: held.request.copied_into(spares.pieces(alloc))?,
         status: held.status,
         pages,
     })
@@ -136,11 +141,12 @@ impl<A: Allocator + Copy> Host<A> {
         ensures over { IsOver self.new store.new.pages }
         ensures back { IfErr result (λ r. r.value ≡ ticket) }
     {
+        let alloc = self.parts.alloc;
         let held = match self.parts.check_collect(ticket.q(), ticket.cid()) {
             Ok(held) => held,
             Err(why) => return Err(Refused { value: ticket, why }),
         };
-        let room = match room_for(self.parts.alloc, &held) {
+        let room = match room_for(&mut self.spares, alloc, &held) {
             Ok(room) => room,
             Err(_) => {
                 return Err(Refused {

@@ -1,5 +1,6 @@
 //! The host: each event but a reset is one step of the machine with no controller.
 
+use crate::spare::Spares;
 use crate::tables::HostTables;
 use std::alloc::{Allocator, Global};
 use std::marker::Model;
@@ -8,6 +9,8 @@ use std::marker::Model;
 #[derive(Drop)]
 pub struct Host<A: Allocator = Global> {
     pub(crate) parts: HostTables<A>,
+    /// The lists of commands that are over. Contracts see nothing of them.
+    pub(crate) spares: Spares<A>,
 }
 
 impl<A: Allocator> Model for Host<A> {

@@ -39,6 +39,7 @@ mod rights;
 mod ring;
 mod rings;
 mod send;
+mod spare;
 mod submit;
 mod tables;
 mod view;

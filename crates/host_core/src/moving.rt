@@ -56,13 +56,13 @@ pub(crate) fn zero_run<A: Allocator>(store: &mut Store<A>, first: PageNo, count:
     }
 }
 
-/// Moves pages in, with their bytes.
-pub(crate) fn move_in<A: Allocator>(store: &mut Store<A>, pages: Vec<Page<A>, A>)
-    requires { CanPut pages.items store.old.pages }
-    ensures pages { store.new.pages ≡ with_pages pages.items store.old.pages }
+/// Moves the pages of a list in, with their bytes.
+pub(crate) fn move_in<A: Allocator>(store: &mut Store<A>, pages: &mut Vec<Page<A>, A>)
+    requires { CanPut pages.old.items store.old.pages }
+    ensures pages { store.new.pages ≡ with_pages pages.old.items store.old.pages }
     ensures touches { TouchesBy 0 store.old store.new }
 {
-    for page in pages {
+    for page in pages.drain(..) {
         store.put(page);
     }
 }

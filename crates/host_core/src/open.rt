@@ -15,6 +15,7 @@ use crate::config::Config;
 use crate::host::Host;
 use crate::queue::Queue;
 use crate::record::Record;
+use crate::spare::Spares;
 use crate::tables::HostTables;
 use machine_model::words::{HostState, OpenRefusal};
 use page_ledger::{Ledger, Owner};
@@ -51,6 +52,10 @@ impl<A: Allocator + Copy> Host<A> {
             Some(why) => return Err(why),
             None => {}
         }
+        let commands = config.queues.saturating_mul(config.entries) as usize;
+        let Ok(spares) = Spares::open(alloc, commands) else {
+            return Err(OpenRefusal::Memory);
+        };
         match open_tables(alloc, config) {
             Ok((store, ledger, records, queues)) => Ok(Opened {
                 host: Host {
@@ -62,6 +67,7 @@ impl<A: Allocator + Copy> Host<A> {
                         records,
                         queues,
                     },
+                    spares,
                 },
                 store,
             }),

@@ -14,10 +14,12 @@ use crate::compare::are_whole;
 use crate::host::Host;
 use crate::moving::move_in;
 use crate::queue::Queue;
+use crate::record::Record;
 use crate::refused::Refused;
+use crate::spare::Spares;
 use crate::tables::HostTables;
 use io_commands::{Draft, Finished};
-use machine_model::words::Refusal;
+use machine_model::words::{Refusal, Work};
 use page_memory::{Page, Store};
 use queue_pair::HostPair;
 use std::alloc::Allocator;
@@ -39,9 +41,33 @@ pub(crate) fn unclaim<A: Allocator>(queues: &mut Vec<Queue<HostPair<A>>, A>, q: 
     free_claimed(&mut queues[usize::from(q)], cid);
 }
 
+/// Keeps the lists of a command that is over.
+fn keep_lists<A: Allocator>(spares: &mut Spares<A>, entry: Record<A>, pages: Vec<Page<A>, A>) {
+    let Record {
+        work,
+        data_pages,
+        chain_pages,
+        ..
+    } = entry;
+    spares.numbers.keep(chain_pages);
+    spares.numbers.keep(data_pages);
+    spares.pages.keep(pages);
+    match work {
+        Work::Io(request) => spares.keep_pieces(request.pieces),
+        Work::Management(_) => {}
+    }
+}
+
 impl<A: Allocator> HostTables<A> {
-    /// Ends a command: its pages come in, and are free, and so is its identifier.
-    fn commit_end(&mut self, store: &mut Store<A>, q: u16, cid: u16, pages: Vec<Page<A>, A>)
+    /// Ends a command: its pages come in, and are free, and so is its identifier. Its lists are kept.
+    fn commit_end(
+        &mut self,
+        store: &mut Store<A>,
+        spares: &mut Spares<A>,
+        q: u16,
+        cid: u16,
+        pages: Vec<Page<A>, A>,
+    )
         requires whole { IsWhole (tables_of self.old store.old.pages) }
         requires brings { Brings (tables_of self.old store.old.pages) q cid pages.items }
         ensures ended { tables_of self.new store.new.pages ≡ spec_ended q cid pages.items (tables_of self.old store.old.pages) }
@@ -51,7 +77,9 @@ impl<A: Allocator> HostTables<A> {
         self.ledger
             .give_back_pages(q, cid, &entry.data_pages, &entry.chain_pages);
         unclaim(&mut self.queues, q, cid);
-        move_in(store, pages);
+        let mut pages = pages;
+        move_in(store, &mut pages);
+        keep_lists(spares, entry, pages);
     }
 }
 
@@ -76,8 +104,9 @@ impl<A: Allocator> Host<A> {
             });
         }
         let parts = draft.apart();
+        self.spares.keep_pieces(parts.request.pieces);
         self.parts
-            .commit_end(store, parts.q, parts.cid, parts.pages);
+            .commit_end(store, &mut self.spares, parts.q, parts.cid, parts.pages);
         Ok(())
     }
 
@@ -112,8 +141,9 @@ impl<A: Allocator> Host<A> {
             });
         }
         let parts = finished.apart();
+        self.spares.keep_pieces(parts.request.pieces);
         self.parts
-            .commit_end(store, parts.q, parts.cid, parts.pages);
+            .commit_end(store, &mut self.spares, parts.q, parts.cid, parts.pages);
         Ok(())
     }
 }

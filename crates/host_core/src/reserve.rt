@@ -17,6 +17,7 @@ use crate::place::{Grant, pages_wanted, place_command};
 use crate::queues::{claim, host_state, is_deleting, next_identifier, takes_no_io};
 use crate::record::Record;
 use crate::refused::Refused;
+use crate::spare::Spares;
 use crate::tables::HostTables;
 use io_commands::{Draft, Request};
 use machine_model::words::{Phase, Refusal, Work};
@@ -35,6 +36,7 @@ struct Room<A: Allocator> {
 
 /// Lists for a command with so many pages, and a copy of its request.
 fn make_room<A: Allocator + Copy>(
+    spares: &mut Spares<A>,
     alloc: A,
     request: &Request<A>,
     front: u32,
@@ -46,11 +48,11 @@ fn make_room<A: Allocator + Copy>(
     ensures pages { IfOk result (λ room. (room.pages.items ≡ []) × (vec_len room.pages + (front + back) ≤ vec_capacity room.pages)) }
     ensures request { IfOk result (λ room. room.request ≡ request.now) }
 {
-    let pages = Vec::with_capacity(alloc, (front + back) as usize)?;
-    let request = request.copied(alloc)?;
+    let pages = spares.pages.with_room(alloc, (front + back) as usize)?;
+    let request = request.copied_into(spares.pieces(alloc))?;
     Ok(Room {
-        front: Vec::with_capacity(alloc, front as usize)?,
-        back: Vec::with_capacity(alloc, back as usize)?,
+        front: spares.numbers.with_room(alloc, front as usize)?,
+        back: spares.numbers.with_room(alloc, back as usize)?,
         pages,
         request,
     })
@@ -159,7 +161,8 @@ impl<A: Allocator + Copy> Host<A> {
                 });
             }
         };
-        let room = match make_room(self.parts.alloc, &request, grant.front, grant.back) {
+        let alloc = self.parts.alloc;
+        let room = match make_room(&mut self.spares, alloc, &request, grant.front, grant.back) {
             Ok(room) => room,
             Err(_) => {
                 return Err(Refused {

@@ -16,6 +16,7 @@ use crate::host::Host;
 use crate::moving::move_in;
 use crate::queues::is_live;
 use crate::refused::Refused;
+use crate::spare::Spares;
 use crate::tables::HostTables;
 use entry_codec::SubEntry;
 use io_commands::{Draft, Ticket};
@@ -46,18 +47,26 @@ impl<A: Allocator> HostTables<A> {
         Ok(entry)
     }
 
-    /// Submits a draft: its pages come in, its command is submitted, and its entry is posted.
-    fn commit_submit(&mut self, store: &mut Store<A>, draft: Draft<A>, entry: SubEntry) -> Ticket
+    /// Submits a draft: its pages come in, its command is submitted, and its entry is posted. Its lists are kept.
+    fn commit_submit(
+        &mut self,
+        store: &mut Store<A>,
+        spares: &mut Spares<A>,
+        draft: Draft<A>,
+        entry: SubEntry,
+    ) -> Ticket
         requires whole { IsWhole (tables_of self.old store.old.pages) }
         requires ready { IsReady (tables_of self.old store.old.pages) draft entry }
         ensures submits { Submits (tables_of self.old store.old.pages) draft entry (tables_of self.new store.new.pages) }
         ensures ticket { result ≡ record { q = draft.q; cid = draft.cid } }
         ensures touches { TouchesBy 1 store.old store.new }
     {
-        let parts = draft.apart();
-        move_in(store, parts.pages);
+        let mut parts = draft.apart();
+        move_in(store, &mut parts.pages);
         self.mark_submitted(parts.q, parts.cid);
         self.post(store, parts.q, entry);
+        spares.pages.keep(parts.pages);
+        spares.keep_pieces(parts.request.pieces);
         Ticket::make(parts.q, parts.cid)
     }
 }
@@ -88,6 +97,9 @@ impl<A: Allocator> Host<A> {
             Ok(entry) => entry,
             Err(why) => return Err(Refused { value: draft, why }),
         };
-        Ok(self.parts.commit_submit(store, draft, entry))
+        Ok(
+            self.parts
+                .commit_submit(store, &mut self.spares, draft, entry),
+        )
     }
 }

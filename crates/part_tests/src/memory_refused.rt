@@ -1,7 +1,7 @@
 //! The calls of either side that want memory, each with every one of its growths refused in turn: the answer is want of memory, nothing
 //! changed, no byte leaked, and the same call then succeeds.
 
-use crate::driver::{Driver, opened, submit};
+use crate::driver::{Driver, opened, reserved};
 use crate::expecting::{same, same_at};
 use crate::guest::{DATA, ENTRIES, QUEUES, io_entry};
 use crate::guest_memory::GuestMemory;
@@ -16,8 +16,8 @@ use machine_model::words::{OpenRefusal, Refusal as HostRefusal};
 use page_memory::{Dma, TouchRecord};
 use std::alloc::Global;
 use std::process::Abort;
-use test_support::Refusal::{Never, Nth};
-use test_support::Refusing;
+use test_support::Refusal::{Never, Nth, NthOn};
+use test_support::{Refusal as Refused, Refusing};
 
 type Heap = Refusing<Global>;
 
@@ -113,16 +113,64 @@ fn refused_in_turn<'a>(
     0
 }
 
+/// Submits a Read of one block while memory is refused like this. A host that is refused all memory keeps no lists of it.
+fn submit<'a>(rt: &impl Abort, heap: &'a Heap, driver: &mut Driver<&'a Heap>, refusal: Refused) {
+    heap.refuse(Never);
+    let request = of_blocks(heap, Kind::Read, 1).expect(rt, "a request");
+    let mut held = reserved(rt, driver, request);
+    assert!(rt; held.draft.build(heap).is_ok());
+    heap.refuse(refusal);
+    same(rt, driver.submit(held).ok(), Some((1, 0)));
+    heap.refuse(Never);
+}
+
 #[test]
 fn a_host_wants_memory(rt: HostRuntime) {
     let heap = Refusing::new(rt.alloc());
     assert!(rt; openings_refused(&rt, &heap) > 16);
     heap.refuse(Never);
     let mut driver = opened(&rt, &heap);
-    submit(&rt, &mut driver, &heap, 0);
+    submit(&rt, &heap, &mut driver, NthOn(1));
     driver.scribble(3, 0, &completion(1, 1, 0, SUCCESS));
     assert!(rt; driver.reap(1).is_ok());
     assert!(rt; refused_in_turn(&rt, &heap, &mut driver, false) > 0);
     assert!(rt; refused_in_turn(&rt, &heap, &mut driver, true) > 0);
     drop(driver);
+}
+
+/// Carries a Read of one block to its end, in the slots of this number, and releases it. In the steps of the host memory is refused like this.
+fn carry<'a>(
+    rt: &impl Abort,
+    heap: &'a Heap,
+    driver: &mut Driver<&'a Heap>,
+    slot: u8,
+    refusal: Refused,
+) {
+    heap.refuse(Never);
+    let request = of_blocks(heap, Kind::Read, 1).expect(rt, "a request");
+    heap.refuse(refusal);
+    let mut held = reserved(rt, driver, request);
+    heap.refuse(Never);
+    assert!(rt; held.draft.build(heap).is_ok());
+    heap.refuse(refusal);
+    same(rt, driver.submit(held).ok(), Some((1, 0)));
+    let posted = completion(1, slot.saturating_add(1), 0, SUCCESS);
+    driver.scribble(3, 16 * usize::from(slot), &posted);
+    assert!(rt; driver.reap(1).is_ok());
+    let Ok(held) = driver.collect(1, 0) else {
+        panic!(rt; "it is collected");
+    };
+    assert!(rt; driver.release(held).is_ok());
+}
+
+/// A command takes the lists of one that is over: but for its request and its list it takes no memory.
+#[test]
+fn a_host_keeps_lists(rt: HostRuntime) {
+    let heap = Refusing::new(rt.alloc());
+    let mut driver = opened(&rt, &heap);
+    carry(&rt, &heap, &mut driver, 0, Never);
+    carry(&rt, &heap, &mut driver, 1, NthOn(1));
+    same(&rt, heap.tally().refused, 0);
+    drop(driver);
+    same(&rt, heap.tally().blocks, 0);
 }

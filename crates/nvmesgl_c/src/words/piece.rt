@@ -72,7 +72,9 @@ fn made_of(alloc: Global, pieces: &[CPiece]) -> Result<Pieces, NoPieces>
     if has_no_piece(pieces) {
         return Err(NoPieces::BadPiece);
     }
-    let mut made = Pieces::new(alloc);
+    let Ok(mut made) = Pieces::with_capacity(alloc, pieces.len()) else {
+        return Err(NoPieces::Memory);
+    };
     for piece in pieces {
         match made.push(piece_of(*piece)) {
             Ok(()) => {}

@@ -20,7 +20,7 @@ const PAGE: usize = 4_096;
 fn pieces_for(alloc: Global, len: usize) -> Result<Pieces, AllocError>
     ensures { IfOk result (λ made. made ≡ requests.pieces_of_length len) }
 {
-    let mut pieces = Pieces::new(alloc);
+    let mut pieces = Pieces::with_capacity(alloc, len / PAGE + 1)?;
     for _ in 0..len / PAGE {
         pieces.push(Piece::Data {
             offset: 0,

@@ -49,7 +49,7 @@ returns g c =
     let made = cancel_made t new d w c.has_draft.ensures.proper belongs left in
     record {
       step = step_at t new c.args.self.now (events.Cancel d) events.Accepted c.self.view_is made.step;
-      touches = search rules;
+      touches = c.commit_end.ensures.touches;
       over = made.whole.over;
-      back = search rules;
+      back = tt;
     }

@@ -22,8 +22,11 @@ returns-in-Err-room_for-clause-step g c =
     let w : IsWhole t = whole_at (tables_of c.self.inside.parts []) c.args.self.now c.args.store.now.pages c.self.view_is c.self.invariant c.requires in
     let stands : StandsAt t c.args.ticket.q c.args.ticket.cid =
     subst (λ (q : ℕ). StandsAt t q c.args.ticket.cid) c.q.ensures (subst (λ (cid : ℕ). StandsAt t c.q.result cid) c.cid.ensures (c.in-Ok.ensures.stands c.args.store.now.pages w)) in
-    stays_at t c.args.self.now (events.Collect c.args.ticket.q c.args.ticket.cid) (events.Refused refusal.Memory []) c.self.view_is
+    step_at t t c.args.self.now (events.Collect c.args.ticket.q c.args.ticket.cid) (events.Refused refusal.Memory []) c.self.view_is
     (host_step t t (events.Collect c.args.ticket.q c.args.ticket.cid) (events.Refused refusal.Memory []) refl tt ((refl, collect-nothing t c.args.ticket.q c.args.ticket.cid stands, refl), refl))
+
+pub invariant_of-self : goal.invariant_of-self
+invariant_of-self g c = c.self.invariant
 
 pub commit_collect-requires-clause-whole : goal.commit_collect-requires-clause-whole
 commit_collect-requires-clause-whole g c =
@@ -52,8 +55,8 @@ commit_collect-requires-clause-space g c = λ entry at.
     let here = found-at t c.q.result c.cid.result c.apart-q.result.0 c.apart-q.result.1 entry (c.apart-q.ensures.queue ∙ sym c.q.ensures) (c.apart-q.ensures.identifier ∙ sym c.cid.ensures) at in
     omega (arith, c.in-Ok.ensures.pages c.args.store.now.pages w entry here, c.in-Ok-room_for.ensures.room.2)
 
-pub invariant_of-self : goal.invariant_of-self
-invariant_of-self g c = host_of (tables_of c.commit_collect.new.self []) c.commit_collect.new.store.pages c.commit_collect.ensures.whole
+pub invariant_of-self-2 : goal.invariant_of-self-2
+invariant_of-self-2 g c = host_of (tables_of c.commit_collect.new.self []) c.commit_collect.new.store.pages c.commit_collect.ensures.whole
 
 pub returns-clause-step : goal.returns-clause-step
 returns-clause-step g c =

@@ -6,18 +6,18 @@ use Rattle.host_core.proofs.host.Host.open.Goals as goal
 pub overflow_cast-result : goal.overflow_cast-result
 overflow_cast-result g c = (fits_word c.args.config (sym c.in-None.ensures)).0
 
-pub overflow_cast-result-in-Ok : goal.overflow_cast-result-in-Ok
-overflow_cast-result-in-Ok g c = (fits_word c.args.config (sym c.in-None.ensures)).1
+pub overflow_cast-result-in-Ok-open_tables : goal.overflow_cast-result-in-Ok-open_tables
+overflow_cast-result-in-Ok-open_tables g c = (fits_word c.args.config (sym c.in-None.ensures)).1
 
 pub invariant_of-result : goal.invariant_of-result
 invariant_of-result g c =
-    (opens_made c.args.config c.in-Ok.ledger c.in-Ok.records c.in-Ok.queues.items (sym c.in-None.ensures) c.in-Ok.ensures.owners c.in-Ok.ensures.granted c.in-Ok.ensures.records c.in-Ok.ensures.queues).host
+    (opens_made c.args.config c.in-Ok-open_tables.ledger c.in-Ok-open_tables.records c.in-Ok-open_tables.queues.items (sym c.in-None.ensures) c.in-Ok-open_tables.ensures.owners c.in-Ok-open_tables.ensures.granted c.in-Ok-open_tables.ensures.records c.in-Ok-open_tables.ensures.queues).host
 
-pub returns-in-Ok-clause-host : goal.returns-in-Ok-clause-host
-returns-in-Ok-clause-host g c =
-    (opens_made c.args.config c.in-Ok.ledger c.in-Ok.records c.in-Ok.queues.items (sym c.in-None.ensures) c.in-Ok.ensures.owners c.in-Ok.ensures.granted c.in-Ok.ensures.records c.in-Ok.ensures.queues).view
+pub returns-in-Ok-open_tables-clause-host : goal.returns-in-Ok-open_tables-clause-host
+returns-in-Ok-open_tables-clause-host g c =
+    (opens_made c.args.config c.in-Ok-open_tables.ledger c.in-Ok-open_tables.records c.in-Ok-open_tables.queues.items (sym c.in-None.ensures) c.in-Ok-open_tables.ensures.owners c.in-Ok-open_tables.ensures.granted c.in-Ok-open_tables.ensures.records c.in-Ok-open_tables.ensures.queues).view
 
-pub returns-in-Ok-clause-over : goal.returns-in-Ok-clause-over
-returns-in-Ok-clause-over g c =
-    let made = opens_made c.args.config c.in-Ok.ledger c.in-Ok.records c.in-Ok.queues.items (sym c.in-None.ensures) c.in-Ok.ensures.owners c.in-Ok.ensures.granted c.in-Ok.ensures.records c.in-Ok.ensures.queues in
-    subst (λ (pages : Pages). IsOver (view_of (tables_made c.args.config c.in-Ok.ledger c.in-Ok.records c.in-Ok.queues.items)) pages) (sym c.in-Ok.ensures.pages) made.over
+pub returns-in-Ok-open_tables-clause-over : goal.returns-in-Ok-open_tables-clause-over
+returns-in-Ok-open_tables-clause-over g c =
+    let made = opens_made c.args.config c.in-Ok-open_tables.ledger c.in-Ok-open_tables.records c.in-Ok-open_tables.queues.items (sym c.in-None.ensures) c.in-Ok-open_tables.ensures.owners c.in-Ok-open_tables.ensures.granted c.in-Ok-open_tables.ensures.records c.in-Ok-open_tables.ensures.queues in
+    subst (λ (pages : Pages). IsOver (view_of (tables_made c.args.config c.in-Ok-open_tables.ledger c.in-Ok-open_tables.records c.in-Ok-open_tables.queues.items)) pages) (sym c.in-Ok-open_tables.ensures.pages) made.over

@@ -62,7 +62,7 @@ returns g c =
     let made = release_made t new d w (subst (λ (ps : PagesOut). ArePages ps) c.pages.ensures c.are_whole.ensures.whole) belongs left in
     record {
       step = step_at t new c.args.self.now (events.Release d) events.Accepted c.self.view_is made.step;
-      touches = search rules;
+      touches = c.commit_end.ensures.touches;
       over = made.whole.over;
-      back = search rules;
+      back = tt;
     }

@@ -28,8 +28,11 @@ returns-in-Err-make_room-clause-step g c =
     let t : Tables = tables_of c.self.inside.parts c.args.store.now.pages in
     let w : IsWhole t = whole_at (tables_of c.self.inside.parts []) c.args.self.now c.args.store.now.pages c.self.view_is c.self.invariant c.requires in
     let grants : Grants t c.args.q c.args.request c.in-Ok.grant.cid c.in-Ok.grant.front c.in-Ok.grant.back = c.in-Ok.ensures.granted c.args.store.now.pages w in
-    stays_at t c.args.self.now (events.Reserve c.args.q c.args.request) (events.Refused refusal.Memory []) c.self.view_is
+    step_at t t c.args.self.now (events.Reserve c.args.q c.args.request) (events.Refused refusal.Memory []) c.self.view_is
     (host_step t t (events.Reserve c.args.q c.args.request) (events.Refused refusal.Memory []) refl fits (refuses-memory (state_of t) c.args.q c.args.request grants.none, refl))
+
+pub invariant_of-self : goal.invariant_of-self
+invariant_of-self g c = c.self.invariant
 
 pub commit_reserve-requires-clause-whole : goal.commit_reserve-requires-clause-whole
 commit_reserve-requires-clause-whole g c =
@@ -39,8 +42,8 @@ pub commit_reserve-requires-clause-granted : goal.commit_reserve-requires-clause
 commit_reserve-requires-clause-granted g c =
     c.in-Ok.ensures.granted c.args.store.now.pages (whole_at (tables_of c.self.inside.parts []) c.args.self.now c.args.store.now.pages c.self.view_is c.self.invariant c.requires)
 
-pub invariant_of-self : goal.invariant_of-self
-invariant_of-self g c =
+pub invariant_of-self-2 : goal.invariant_of-self-2
+invariant_of-self-2 g c =
     let fits : FitsRequest c.args.request = search rules in
     let t : Tables = tables_of c.self.inside.parts c.args.store.now.pages in
     let w : IsWhole t = whole_at (tables_of c.self.inside.parts []) c.args.self.now c.args.store.now.pages c.self.view_is c.self.invariant c.requires in
@@ -64,7 +67,7 @@ returns g c =
           (grant-lowest t w c.args.q c.in-Ok.grant.cid c.args.request c.in-Ok.grant.front c.in-Ok.grant.back grants));
       pages = subst (λ (v : HostView). HasPlacedPages v.host c.commit_reserve.result) c.self.view_is
           (placed_pages t c.args.q c.in-Ok.grant.cid c.args.request c.in-Ok.grant.front c.in-Ok.grant.back c.commit_reserve.result grants c.commit_reserve.ensures.draft);
-      touches = search rules;
+      touches = c.commit_reserve.ensures.touches;
       over = made.whole.over;
-      back = search rules;
+      back = tt;
     }

@@ -35,8 +35,8 @@ returns g c =
     let made = submit_made t new c.args.draft c.in-Ok.entry w (c.in-Ok.ensures.ready c.args.store.now.pages w) c.commit_submit.ensures.submits in
     record {
       step = step_at t new c.args.self.now (events.Submit c.args.draft) events.Accepted c.self.view_is made.step;
-      touches = search rules;
+      touches = c.commit_submit.ensures.touches;
       over = made.whole.over;
-      back = search rules;
-      ticket = search rules;
+      back = tt;
+      ticket = c.commit_submit.ensures.ticket;
     }
