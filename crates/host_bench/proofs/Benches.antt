@@ -8,7 +8,7 @@ use Rattle.host_bench.specs.declared.call.Call.TheVariants as call
 use Rattle.std.proofs.Common.{◌≡◌, ◌+◌, ◌-◌, Option, [], refl, ap, ap₂, sym, subst, ℕ, true, false, Some, None, List, ◌∷◌, ◌++◌, length, ◌==◌, ◌&&◌, ◌∙◌, ◌≢◌, ◌*◌, ◌<◌, ◌≤◌, inl, inr, is_some, arith, Result, Ok, Err, OnOk, OnErr, slice_get, option_map}
 use Rattle.std.proofs.lemmas.{Bool.{cases_lt, true_from_ne_false}, List.{append-nil, Elements.filter_map-append}, Option.slice_get-get_or}
 use Rattle.std.specs.{Option.option_and_then, List.list_any}
-use Rattle.host_bench.proofs.KeptRows.{goes_on, opens_tied, drafts_named, tickets_named, finished_named, named_there, place_free, put_back, put_same, put_next, reserved, row_dropped, renewed, followed, ended, found_at, changed_at, changed_other, taken_at, taken_other}
+use Rattle.host_bench.proofs.KeptRows.{goes_on, opens_tied, drafts_named, tickets_named, finished_named, named_there, place_free, put_back, put_same, put_next, reserved, row_dropped, renewed, followed, ended, found_at, changed_at, changed_other, taken_at, taken_other, with_same, with_twice}
 use Rattle.host_core.proofs.Openings.{length-queues_from}
 use Rattle.host_core.{proofs.{Lists.same_pages, Outstanding.collected_named}, specs.Alone.{HostView, alone, HasPlacedPages, IsLowest}}
 use Rattle.host_bench.specs.Calls.{reset_alone, Does, Fills, Builds, Submits, Cancels, Collects, Gathers, Releases}
@@ -16,7 +16,7 @@ use Rattle.host_bench.specs.CommandValues.{IsBench, table_with, as_draft, as_tic
 use Rattle.host_core.specs.Firsts.{with_first}
 use Rattle.host_core.specs.Opening.{opened_pages, opened_view}
 use Rattle.host_core.specs.Resetting.{host_reset, pages_reset}
-use Rattle.host_bench.specs.BenchTables.{FillsDraft, BuildsDraft, opened_alone}
+use Rattle.host_bench.specs.BenchTables.{FillsDraft, BuildsDraft, BuildsRow, opened_alone}
 use Rattle.host_bench.specs.Pool.{Keeps}
 use Rattle.host_bench.specs.Reach.{WritesData, WritesDraft, draft_data_at, with_data}
 use Rattle.host_bench.specs.Values.{Reply}
@@ -238,6 +238,32 @@ module _ {A : Type 0} where
           rw (found_draft, says) (step, ap (table_with world) stays),
           subst (IsBench world) (sym stays) (goes_on s (events.Cancel d) (events.Refused why []) world old step (λ k n. refl) b),
         )
+
+  -- A draft is built where it stands, or there is none
+
+  abbrev pub with_new : Values A → ℕ → ℕ → Option (CommandValue A) → Values A
+  with_new values q cid new = record values { rows = with_value values.rows q cid new }
+
+  builds_none : (s : State) (values : Values A) (q cid : ℕ) (row new : Option (CommandValue A)) (answer : Reply) → IsBench s values → value_at values.rows q cid ≡ Some row → as_draft row ≡ None → answer ≡ reply.NoValue → new ≡ row
+      → Builds (table_with s values) q cid (draft_of q cid (table_with s values).drafts) answer (table_with s (with_new values q cid new)) × IsBench s (with_new values q cid new)
+  builds_none s values q cid row new answer b at none says is =
+      let stays : with_new values q cid new ≡ values = rw (is, with_same values.rows q cid row at) refl in (
+        subst (λ (v : Values A). Builds (table_with s values) q cid (draft_of q cid (table_with s values).drafts) answer (table_with s v)) (sym stays)
+            (rw (says, draft_at s values q cid b ∙ ap (option_and_then as_draft) at ∙ none) (refl, refl)),
+        subst (IsBench s) (sym stays) b,
+      )
+
+  pub builds_there : (s : State) (values : Values A) (q cid : ℕ) (row new : Option (CommandValue A)) (answer : Reply) → IsBench s values → value_at values.rows q cid ≡ Some row → BuildsRow row (as_draft row) answer new
+      → Builds (table_with s values) q cid (draft_of q cid (table_with s values).drafts) answer (table_with s (with_new values q cid new)) × IsBench s (with_new values q cid new)
+  builds_there s values q cid None new answer b at is = builds_none s values q cid None new answer b at refl is.0 is.1
+  builds_there s values q cid (Some (value.Ticket ticket)) new answer b at is = builds_none s values q cid (Some (value.Ticket ticket)) new answer b at refl is.0 is.1
+  builds_there s values q cid (Some (value.Finished f)) new answer b at is = builds_none s values q cid (Some (value.Finished f)) new answer b at refl is.0 is.1
+  builds_there s values q cid (Some (value.Draft d)) new answer b at is =
+      let mid : Values A = with_new values q cid None in
+      let out : IsOut values q cid (value.Draft d) mid = record { there = at; left = refl } in
+      let left : with_new values q cid new ≡ record mid { rows = with_value mid.rows q cid (Some (value.Draft is.0)) } =
+      rw (is.2, with_twice values.rows q cid None (Some (value.Draft is.0))) refl in
+      (builds s values mid q cid d b out answer is.0 (with_new values q cid new) is.1 left, builds_kept s values mid q cid d b out answer is.0 (with_new values q cid new) is.1 left)
 
   -- A ticket is collected
 

@@ -1,10 +1,12 @@
 -- A host over its pages and the values that the bench keeps, as a table.
-use Rattle.std.specs.{Prelude.{◌≡◌, ℕ, None, Some, List}}
+use Rattle.std.specs.{Prelude.{◌≡◌, ℕ, None, Some, List, Option}}
 use Rattle.io_commands.specs.{Drafts.{DraftContents, built}}
 use Rattle.machine_model.specs.{Script.{Table, fill_fault, filled_draft}, State.{State}}
 use Rattle.host_core.specs.Alone.{IsOver, alone}
 use Rattle.host_core.specs.Opening.{opened_pages, opened_view}
 use Rattle.host_bench.specs.CommandValues.{table_with, IsBench}
+use Rattle.host_bench.specs.declared.values.CommandValue.{CommandValue}
+use Rattle.host_bench.specs.declared.values.CommandValue.TheVariants as value
 use Rattle.host_bench.specs.Values.{Reply}
 use Rattle.host_core.specs.declared.config.Config.{Config}
 use Rattle.host_bench.specs.declared.bench_tables.BenchTables.{BenchTables}
@@ -38,3 +40,8 @@ abbrev pub BuildsDraft : DraftContents → Reply → DraftContents → Type 0
 BuildsDraft d reply.Accepted new = new ≡ built d
 BuildsDraft d (reply.Refused refusal.Memory) new = new ≡ d
 BuildsDraft d answer new = ⊥
+
+-- so of a row, whose draft stays there
+abbrev pub BuildsRow : {A : Type 0} → Option (CommandValue A) → Option DraftContents → Reply → Option (CommandValue A) → Type 0
+BuildsRow row None answer new = (answer ≡ reply.NoValue) × (new ≡ row)
+BuildsRow row (Some d) answer new = (left : DraftContents) × BuildsDraft d answer left × (new ≡ Some (value.Draft left))

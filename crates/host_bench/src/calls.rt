@@ -12,7 +12,7 @@ ghost use Rattle.std.specs.Fn.{FnOnceReturnsAtMut};
 
 use crate::bench_tables::BenchTables;
 use crate::call::{Bytes, Call, CallIn, Reply, ReplyIn};
-use crate::fill::{build_draft, fill_draft, no_memory, write_draft};
+use crate::fill::{build_row, fill_draft, no_memory, write_draft};
 use crate::values::{
     CommandValue, drop_row, finished_in, put_back, put_next, take_draft, take_finished, take_ticket,
 };
@@ -103,12 +103,11 @@ impl<A: Allocator + Copy> BenchTables<A> {
         ensures over { IsOver self.new.host self.new.store.pages }
         ensures kept { IsBench (state_of self.new) self.new.values }
     {
-        let Some(mut draft) = take_draft(&mut self.values, q, cid) else {
-            return Reply::NoValue;
-        };
-        let reply = build_draft(&mut draft, self.alloc);
-        put_back(&mut self.values, q, cid, CommandValue::Draft(draft));
-        reply
+        let alloc = self.alloc;
+        match self.values.get_mut(q, cid) {
+            Some(row) => build_row(row, alloc),
+            None => Reply::NoValue,
+        }
     }
 
     /// Submits a draft, and keeps its ticket.

@@ -4,9 +4,11 @@ ghost use Rattle.std.specs.Prelude.{◌≡◌, List, slice_get};
 ghost use Rattle.std.specs.Fn.{FnOnceReturnsAtMut};
 ghost use Rattle.std.specs.Option.{option_map};
 ghost use Rattle.host_bench.specs.Reach.{WritesDraft};
-ghost use Rattle.host_bench.specs.BenchTables.{BuildsDraft, FillsDraft};
+ghost use Rattle.host_bench.specs.BenchTables.{BuildsDraft, BuildsRow, FillsDraft};
+ghost use Rattle.host_bench.specs.CommandValues.{as_draft};
 
 use crate::call::{Reply, ReplyIn};
+use crate::values::CommandValue;
 use io_commands::Draft;
 use machine_model::words::Refusal;
 use std::alloc::Allocator;
@@ -44,11 +46,24 @@ pub(crate) fn write_draft<A: Allocator, T, F: FnOnce(&mut [u8]) -> T>(
 }
 
 /// Builds a draft.
-pub(crate) fn build_draft<A: Allocator + Clone>(draft: &mut Draft<A>, alloc: A) -> ReplyIn<A>
+fn build_draft<A: Allocator + Clone>(draft: &mut Draft<A>, alloc: A) -> ReplyIn<A>
     ensures { BuildsDraft draft.old result draft.new }
 {
     match draft.build(alloc) {
         Ok(()) => Reply::Accepted,
         Err(_) => no_memory(),
+    }
+}
+
+/// Builds the draft in a row.
+pub(crate) fn build_row<A: Allocator + Clone>(
+    row: &mut Option<CommandValue<A>>,
+    alloc: A,
+) -> ReplyIn<A>
+    ensures { BuildsRow row.old (as_draft row.old) result row.new }
+{
+    match row {
+        Some(CommandValue::Draft(draft)) => build_draft(draft, alloc),
+        _ => Reply::NoValue,
     }
 }
