@@ -1,7 +1,8 @@
 //! The parts, each alone, with what no clause says of them: pages, bytes, rings, owners and tables; chains, requests, drafts, walks and jobs; and each side.
 //!
 //! The controller stands over a guest's memory, fed with entries by hand, as an emulator uses it (begin with `first_read`), and the host over pages in which
-//! anyone writes, as a driver calls it (begin with `hostile_memory`). There are tests alone, so that they do not prove the parts once more.
+//! anyone writes, as a driver calls it (begin with `hostile_memory`). Both together are in `worlds`. There are tests alone, so that they do not prove the
+//! parts once more.
 #![tactic(auto)]
 
 #[cfg(test)]
@@ -64,3 +65,5 @@ mod texts;
 mod walks;
 #[cfg(test)]
 mod watched;
+#[cfg(test)]
+mod worlds;

@@ -1,6 +1,6 @@
 //! A reset behind each step of a command, by lines of scripts with what each must answer behind an arrow.
 
-use crate::desk::{Desk, at_rest};
+use crate::worlds::desk::{Desk, at_rest};
 use script_cli::{Line, Verb, append_reply, read_script};
 use std::alloc::Global;
 use std::process::Abort;

@@ -1,12 +1,12 @@
 //! Two hundred times ten thousand arbitrary steps, with forged completions among them, and then a reset.
 
-use crate::desk::{Desk, at_rest};
-use crate::moves::any_step;
-use crate::notes::Tally;
-use crate::requests::BLOCKS;
-use crate::rings::{COMMANDS, ENTRIES, Rings, Stage};
-use crate::sets::all_sets;
-use crate::told::Told;
+use crate::worlds::desk::{Desk, at_rest};
+use crate::worlds::moves::any_step;
+use crate::worlds::notes::Tally;
+use crate::worlds::requests::BLOCKS;
+use crate::worlds::rings::{COMMANDS, ENTRIES, Rings, Stage};
+use crate::worlds::sets::all_sets;
+use crate::worlds::told::Told;
 use entry_codec::Status;
 use machine_model::words::Reaped;
 use std::alloc::Global;

@@ -1,7 +1,7 @@
 //! What the answers of a bench tell: how far its commands have come, where its rings are, and what became of completions.
 
-use crate::rings::{Rings, Stage};
-use crate::told::Told;
+use crate::worlds::rings::{Rings, Stage};
+use crate::worlds::told::Told;
 use machine_model::words::Reaped;
 use step_core::Step;
 

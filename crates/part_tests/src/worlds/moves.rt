@@ -2,11 +2,11 @@
 
 ghost use Rattle.std.specs.Prelude.{◌<◌};
 
-use crate::desk::Desk;
-use crate::notes::Notes;
-use crate::requests::{BLOCKS, SHAPES, bytes, request};
-use crate::rings::{COMMANDS, ENTRIES, Rings, Stage};
-use crate::told::Told;
+use crate::worlds::desk::Desk;
+use crate::worlds::notes::Notes;
+use crate::worlds::requests::{BLOCKS, SHAPES, bytes, request};
+use crate::worlds::rings::{COMMANDS, ENTRIES, Rings, Stage};
+use crate::worlds::told::Told;
 use entry_codec::{ComEntry, Status};
 use io_commands::Kind;
 use std::alloc::{AllocError, Global};

@@ -1,7 +1,7 @@
 //! A bench whose pages are recounted after each step.
 
-use crate::notes::{Noted, Notes, Tally};
-use crate::told::Told;
+use crate::worlds::notes::{Noted, Notes, Tally};
+use crate::worlds::told::Told;
 use block_image::Image;
 use page_ledger::{Counts, Owner};
 use page_memory::{Half, PageNo};

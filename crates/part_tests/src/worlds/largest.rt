@@ -1,8 +1,8 @@
 //! The largest world: 65,536 pages, 64 queues of 1,024 entries, and commands of the most blocks in the most pieces, with two descriptors a
 //! segment: 1,024 data pages and 1,023 of the chain.
 
-use crate::desk::Desk;
-use crate::sets::carry;
+use crate::worlds::desk::Desk;
+use crate::worlds::sets::carry;
 use block_image::Image;
 use entry_codec::Status;
 use io_commands::{Kind, Piece, Pieces, Request};

@@ -2,10 +2,10 @@
 
 ghost use Rattle.std.specs.Prelude.{◌<◌};
 
-use crate::desk::{Desk, at_rest};
-use crate::requests::{SHAPES, request};
-use crate::rings::{COMMANDS, ENTRIES};
-use crate::told::Told;
+use crate::worlds::desk::{Desk, at_rest};
+use crate::worlds::requests::{SHAPES, request};
+use crate::worlds::rings::{COMMANDS, ENTRIES};
+use crate::worlds::told::Told;
 use entry_codec::Status;
 use io_commands::Kind;
 use machine_model::words::{Reaped, Refusal};

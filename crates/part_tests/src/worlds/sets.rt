@@ -1,8 +1,8 @@
 //! Commands that are carried through: each kind, which all end as they must.
 
-use crate::desk::Desk;
-use crate::requests::{BLOCKS, SHAPES, Shape, bytes, request};
-use crate::told::Told;
+use crate::worlds::desk::Desk;
+use crate::worlds::requests::{BLOCKS, SHAPES, Shape, bytes, request};
+use crate::worlds::told::Told;
 use controller_walk::WalkState;
 use entry_codec::Status;
 use io_commands::{Kind, Request};
