@@ -1,9 +1,9 @@
 //! A book is closed, or is not.
 
 use crate::looks::{Told, counts, see, tell};
-use desk::Desk;
 use driver_book::{CloseFault, FullLogBrand, Report};
 use entry_codec::Status;
+use session_scripts::desk::Desk;
 use std::process::Abort;
 use std::sync::Wait;
 

@@ -1,10 +1,10 @@
 //! Sixteen submitters over a pool so small that they wait for pages and for identifiers.
 
 use crate::looks::{counts, see};
-use desk::runs::{Outcome, is_done, job, play};
 use driver_threads::{Job, JobEnd, Open};
 use entry_codec::Status;
 use io_commands::Kind;
+use session_scripts::desk::runs::{Outcome, is_done, job, play};
 use std::alloc::{AllocError, Global};
 use std::process::Abort;
 use std::test::Fail;

@@ -4,10 +4,10 @@ ghost use Rattle.std.specs.Prelude.{◌≡◌, ◌≤◌, vec_len, IfOk};
 
 use crate::looks::{counts, see};
 use crate::part::USUAL;
-use desk::runs::{Outcome, is_done, job, play_at};
 use driver_threads::{Gate, GateClosed, Job, JobEnd, JobRefusal, Open, Point, Server};
 use entry_codec::Status;
 use io_commands::Kind;
+use session_scripts::desk::runs::{Outcome, is_done, job, play_at};
 use std::alloc::{AllocError, Global};
 use std::process::Abort;
 use std::sync::Wait;

@@ -5,11 +5,13 @@ ghost use Rattle.std.specs.Prelude.{◌≡◌, ◌≤◌, vec_len, IfOk};
 
 use crate::looks::see;
 use crate::part::USUAL;
-use desk::runs::{Outcome, is_done, job, play};
-use desk::two_submitters::{ON_ONE_QUEUE, is_as_wanted, two_lists, writes_and_reads};
 use driver_threads::{Gate, GateClosed, Job, Open, Point, RunFault};
 use entry_codec::Status;
 use io_commands::Kind;
+use session_scripts::desk::runs::{Outcome, is_done, job, play};
+use session_scripts::desk::two_submitters::{
+    ON_ONE_QUEUE, is_as_wanted, two_lists, writes_and_reads,
+};
 use std::alloc::{AllocError, Global};
 use std::process::Abort;
 use std::sync::Wait;

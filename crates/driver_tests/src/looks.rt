@@ -2,11 +2,11 @@
 
 ghost use Rattle.std.specs.Prelude.{◌≡◌, ◌≤◌, length};
 
-use desk::Value;
 use driver_book::{FullLogBrand, Receipt, Seat};
 use entry_codec::Status;
 use io_commands::Finished;
 use page_ledger::Counts;
+use session_scripts::desk::Value;
 use std::fmt::Debug;
 use std::process::Abort;
 

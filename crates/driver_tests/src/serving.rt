@@ -5,11 +5,11 @@ ghost use Rattle.step_core.specs.Opening.{opening_of};
 
 use crate::looks::see;
 use block_image::Image;
-use desk::runs::{is_done, job};
 use driver_book::{Log, LogBrand, ShownStep};
 use driver_threads::{Job, JobEnds, Open, Ran, Server, run_threads};
 use entry_codec::Status;
 use io_commands::Kind;
+use session_scripts::desk::runs::{is_done, job};
 use std::alloc::{AllocError, Global};
 use std::marker::Brand;
 use std::process::Abort;

@@ -7,12 +7,12 @@ use crate::looks::{counts, see};
 use crate::opening::end;
 use crate::part::{USUAL, opened};
 use block_image::Image;
-use desk::runs::job;
 use driver_book::{Full, FullLogBrand, LogBrand};
 use driver_threads::{
     Job, JobEnd, JobRefusal, Open, Shared, Worked, controller, poller, submitter,
 };
 use io_commands::Kind;
+use session_scripts::desk::runs::job;
 use std::alloc::Global;
 use std::marker::Brand;
 use std::process::Abort;

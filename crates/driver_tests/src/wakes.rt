@@ -6,15 +6,15 @@ ghost use Rattle.step_core.specs.Opening.{opening_of};
 use crate::looks::see;
 use crate::part::{USUAL, opened, play_text};
 use block_image::Image;
-use desk::runs::{is_done, job};
-use desk::values::draft_of;
-use desk::{Access, Desk, Value};
 use driver_book::{Full, FullLogBrand, LogBrand};
 use driver_threads::{
     Gate, GateClosed, Job, JobEnd, JobRefusal, Point, Shared, Worked, poller, submitter,
 };
 use entry_codec::Status;
 use io_commands::Kind;
+use session_scripts::desk::runs::{is_done, job};
+use session_scripts::desk::values::draft_of;
+use session_scripts::desk::{Access, Desk, Value};
 use std::alloc::{AllocError, Global};
 use std::marker::Brand;
 use std::process::Abort;

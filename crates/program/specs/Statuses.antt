@@ -5,8 +5,8 @@ use Rattle.program.specs.declared.{fault.{BytesFault.BytesFault, Fault.Fault}, t
 use Rattle.script_cli.specs.Faults.{status_of_image, status_of_run}
 use Rattle.program.specs.declared.fault.BytesFault.TheVariants as bytes
 use Rattle.program.specs.declared.fault.Fault.TheVariants as fault
-use Rattle.texts.specs.declared.explain.fault.CaseFault.{CaseFault}
-use Rattle.texts.specs.declared.explain.fault.CaseFault.TheVariants as case_fault
+use Rattle.views.specs.declared.explain.fault.CaseFault.{CaseFault}
+use Rattle.views.specs.declared.explain.fault.CaseFault.TheVariants as case_fault
 
 -- of transcripts: 3 where a file was not written, else 4 where one differs, else 1 where one is at fault
 abbrev pub status_of_tally : Tally → ℕ

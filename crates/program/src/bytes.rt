@@ -12,10 +12,10 @@ use script_cli::RunFault;
 use std::alloc::{AllocError, AllocGlobal, Global};
 use std::io::{Read, Write};
 use std::rt::Files;
-use texts::explain::{
+use texts::faults::nearest;
+use views::explain::{
     Answer, CaseFault, Layout, Shown, explain_text, fault_lines, put_fault_object, show,
 };
-use texts::faults::nearest;
 
 /// An object, if there was memory for it.
 fn fault_object(alloc: Global, fault: CaseFault) -> Result<String, AllocError> {

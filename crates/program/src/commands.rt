@@ -31,9 +31,9 @@ use std::process::ExitCode;
 use std::rt::{Clock, Files};
 use std::sync::Wait;
 use std::thread::Threads;
-use texts::draw::draw_steps;
-use texts::explain::Layout;
 use texts::faults::{Grammar, grammar_text};
+use views::draw::draw_steps;
+use views::explain::Layout;
 use world_bench::Bench;
 
 /// Which of the standard files are terminals.

@@ -14,7 +14,7 @@ use load::LoadFault;
 use script_cli::{ImageFault, RunFault};
 use std::alloc::{AllocGlobal, Global};
 use std::{fmt, io};
-use texts::explain::CaseFault;
+use views::explain::CaseFault;
 
 /// Why bytes that were pasted in did not end well.
 #[derive(Clone, Copy, Debug, PartialEq, Eq)]

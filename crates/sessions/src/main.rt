@@ -8,9 +8,11 @@
 //! `growths` refuses each growth of a draft that visits another book, and of a run of threads. What must be printed stands in `stdout`.
 #![tactic(auto)]
 
+mod cases;
 mod typed;
 
-use session_scripts::{Scores, play_case, play_lines, play_script, print_sum, refuse_growths};
+use cases::{play_case, play_lines};
+use session_scripts::{Scores, play_script, print_sum, refuse_growths};
 use std::alloc::AllocGlobal;
 use std::env::Env;
 use std::io;

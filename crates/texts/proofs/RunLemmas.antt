@@ -1,8 +1,8 @@
 -- Bytes that stand there so often, and the bytes of runs, one after the other.
-use Rattle.std.proofs.Common.{arith, ◌≡◌, ◌≤◌, ◌+◌, ◌*◌, ◌++◌, ◌∷◌, ◌∙◌, ℕ, zero, suc, List, [], Option, Some, None, ap, sym, refl, subst, length, append_assoc, length-append, option_and_then, ◌<◌, add-one, drop, drop-cons, get_or}
+use Rattle.std.proofs.Common.{arith, ◌≡◌, ◌≤◌, ◌+◌, ◌*◌, ◌^◌, ◌++◌, ◌∷◌, ◌∙◌, ℕ, zero, suc, List, [], Option, Some, None, ap, sym, refl, subst, length, append_assoc, length-append, option_and_then, ◌<◌, add-one, drop, drop-cons, get_or}
 use Rattle.std.proofs.lemmas.List.{append-nil}
 use Rattle.std.specs.Option.{option_map}
-use Rattle.texts.specs.Runs.{IsNoWord, IsNotPut, bytes_of_runs, digit_bytes, front_of_runs, front_of_word, repeated, run_bytes, run_parts, runs_of, then_front}
+use Rattle.texts.specs.Runs.{IsNoWord, IsNotPut, IsUncounted, bytes_of_runs, digit_bytes, front_of_runs, front_of_word, len_of_runs, repeated, run_bytes, run_len, run_parts, runs_of, then_front}
 use Rattle.texts.specs.declared.byte_runs.RunsFault.{RunsFault, TheVariants.{NoRuns, TooMany, Memory}}
 
 -- Runs
@@ -75,3 +75,54 @@ pub next_run : (all : List (List ℕ)) (n : ℕ) (run : List ℕ) → (n < lengt
 next_run all n run (inside, is) =
     let cut : drop n all ≡ get_or all n run ∷ drop (suc n) all = drop-cons all n run inside in
     rw add-one (cut ∙ ap (λ (first : List ℕ). first ∷ drop (suc n) all) (sym is))
+
+-- Counts
+
+-- some first runs of all have so many bytes, and these are left
+pub record Counts (all rest : List (List ℕ)) (len : ℕ) : Type 0 where
+  pub counted : len_of_runs all ≡ option_map (λ more. len + more) (len_of_runs rest)
+
+pub none_counted : (all : List (List ℕ)) → Counts all all 0
+none_counted all = record { counted = same (len_of_runs all) }
+  where
+    same : (len : Option ℕ) → len ≡ option_map (λ more. 0 + more) len
+    same None = refl
+    same (Some len) = ap Some (omega arith)
+
+all_counted_by : ℕ → Option ℕ → Option ℕ → Option ℕ
+all_counted_by len rest run = option_map (λ more. len + more) (option_and_then (λ n. option_map (λ more. n + more) rest) run)
+
+by_run : (all rest : List (List ℕ)) (run : List ℕ) (len : ℕ) (found : Option ℕ) → Counts all (run ∷ rest) len → run_len run ≡ found → len_of_runs all ≡ all_counted_by len (len_of_runs rest) found
+unfolding all_counted_by
+by_run all rest run len found so_far said = so_far.counted ∙ ap (all_counted_by len (len_of_runs rest)) said
+
+pub one_counted : (all rest : List (List ℕ)) (run : List ℕ) (len more : ℕ) → Counts all (run ∷ rest) len → run_len run ≡ Some more → Counts all rest (len + more)
+unfolding all_counted_by
+one_counted all rest run len more so_far said = record { counted = by_run all rest run len (Some more) so_far said ∙ joined (len_of_runs rest) }
+  where
+    joined : (rest : Option ℕ) → option_map (λ behind. len + behind) (option_map (λ behind. more + behind) rest) ≡ option_map (λ behind. (len + more) + behind) rest
+    joined None = refl
+    joined (Some behind) = ap Some (omega arith)
+
+pub all_counted : (all : List (List ℕ)) (len : ℕ) → Counts all [] len → len_of_runs all ≡ Some len
+all_counted all len so_far = so_far.counted ∙ ap Some (omega arith)
+
+many_left : (all rest : List (List ℕ)) (len : ℕ) → Counts all rest len → 2 ^ 64 ≤ len → IsUncounted (len_of_runs all)
+many_left all rest len so_far many = subst IsUncounted (sym so_far.counted) (more (len_of_runs rest))
+  where
+    more : (rest : Option ℕ) → IsUncounted (option_map (λ behind. len + behind) rest)
+    more None = tt
+    more (Some behind) = omega (arith, many)
+
+-- a run that is one too many for a number of 64 bits
+pub too_many_counted : (all rest : List (List ℕ)) (run : List ℕ) (len more : ℕ) → Counts all (run ∷ rest) len → run_len run ≡ Some more → 2 ^ 64 ≤ len + more → IsUncounted (len_of_runs all)
+too_many_counted all rest run len more so_far said many = many_left all rest (len + more) (one_counted all rest run len more so_far said) many
+
+-- a run that is not counted ends the count
+pub uncounted : (all rest : List (List ℕ)) (run : List ℕ) (len : ℕ) → Counts all (run ∷ rest) len → IsUncounted (run_len run) → IsUncounted (len_of_runs all)
+unfolding all_counted_by
+uncounted all rest run len so_far not_said = by (run_len run) refl not_said
+  where
+    by : (found : Option ℕ) → run_len run ≡ found → IsUncounted found → IsUncounted (len_of_runs all)
+    by None said many = subst IsUncounted (sym (by_run all rest run len None so_far said)) tt
+    by (Some more) said many = too_many_counted all rest run len more so_far said (omega (arith, many))

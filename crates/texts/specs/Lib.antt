@@ -1,4 +1,3 @@
-pub mod FaultTexts
 pub mod Forms
 pub mod Found
 pub mod Grammars
@@ -6,16 +5,10 @@ pub mod Layout
 pub mod Nearest
 pub mod Reading
 pub mod Slots
-pub mod Stored
-pub mod Ending
-pub mod Fetched
-pub mod Taking
-pub mod Sparse
-pub mod Rules
 pub mod Runs
 pub mod Traces
 pub mod Words
+pub mod Fields
 pub mod Objects
 pub mod PageObjects
-pub mod FaultObjects
 pub mod ReplyObjects

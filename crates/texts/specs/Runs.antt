@@ -1,7 +1,7 @@
 -- Which bytes a typed word is: runs with commas between them. A run is hexadecimal digits, two for each byte, and, behind a star, how often
 -- these bytes stand there.
 use Rattle.std.specs.{List.slice_split, Option.option_map}
-use Rattle.std.specs.Prelude.{◌≡◌, ◌≤◌, ◌<◌, ◌+◌, ◌^◌, ◌==◌, ◌++◌, ℕ, zero, suc, Bool, Option, Some, None, Result, Ok, Err, List, [], ◌∷◌, length, take, drop, position, option_and_then}
+use Rattle.std.specs.Prelude.{◌≡◌, ◌≤◌, ◌<◌, ◌+◌, ◌*◌, ◌/◌, ◌^◌, ◌==◌, ◌++◌, ℕ, zero, suc, Bool, Option, Some, None, Result, Ok, Err, List, [], ◌∷◌, length, take, drop, position, option_and_then}
 use Rattle.script_cli.specs.Grammar.{Words, ◌>>=◌, hex_word, number_word, words_of}
 use Rattle.script_cli.specs.declared.fault.{LineError.LineError, LineFault.LineFault}
 use Rattle.script_cli.specs.declared.fault.LineError.TheVariants as line_error
@@ -73,6 +73,26 @@ front_of_runs (run ∷ rest) = then_front (front_of_runs rest) (run_bytes run)
 
 abbrev pub front_of_word : List ℕ → List ℕ
 front_of_word word = front_of_runs (runs_of word)
+
+-- Counts
+
+-- how many bytes the digits of a run are, as often as they stand there
+unfoldable pub run_len : List ℕ → Option ℕ
+run_len run = option_map (λ parts. length parts.0 / 2 * parts.1) (run_parts run)
+
+-- how many bytes runs are, added up; none where one of them does not say how often its bytes stand there
+abbrev pub len_of_runs : List (List ℕ) → Option ℕ
+len_of_runs [] = Some 0
+len_of_runs (run ∷ rest) = option_and_then (λ len. option_map (λ more. len + more) (len_of_runs rest)) (run_len run)
+
+-- HOW MANY BYTES a word is
+abbrev pub len_of_word : List ℕ → Option ℕ
+len_of_word word = len_of_runs (runs_of word)
+
+-- no number is told: there is none, or it has more than 64 bits
+abbrev pub IsUncounted : Option ℕ → Type 0
+IsUncounted None = Unit {0}
+IsUncounted (Some len) = 2 ^ 64 ≤ len
 
 -- Refusals
 

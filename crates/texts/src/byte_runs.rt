@@ -2,8 +2,9 @@
 //!
 //! A word is runs with commas between them. A run is hexadecimal digits, two for each byte, and, behind a star, how often these bytes stand there.
 
-ghost use Rattle.std.specs.Prelude.{◌≡◌, ◌≤◌, ◌+◌, ◌++◌, ◌<◌, ℕ, Some, List, length, IfSome, IfOk, IfErr, MatchResult, OnOk, vec_len};
-ghost use Rattle.texts.specs.Runs.{digit_bytes, times_said, run_parts, run_bytes, star_of, bytes_of_word, AreNone, IsNotPut, IsNoWord};
+ghost use Rattle.std.specs.Prelude.{◌≡◌, ◌≤◌, ◌+◌, ◌++◌, ◌<◌, ℕ, Some, List, length, IfSome, IfOk, IfErr, MatchOption, MatchResult, OnOk, vec_len};
+ghost use Rattle.texts.specs.Runs.{digit_bytes, times_said, run_parts, run_bytes, star_of, bytes_of_word, len_of_word, run_len as spec_run_len, AreNone, IsNotPut, IsNoWord, IsUncounted};
+ghost use Rattle.texts.specs.declared.byte_runs.RunsFault.{RunsFault};
 
 use script_cli::{LineError, LineFault, words_of};
 use std::alloc::{AllocError, Global};
@@ -65,7 +66,8 @@ fn hex(alloc: Global, digits: &[u8]) -> Result<Vec<u8>, RunsFault>
 
 /// How often the bytes of a run stand there.
 fn count(digits: &[u8]) -> Result<u32, RunsFault>
-    ensures { MatchResult result (λ times. times_said digits.now ≡ Some times) (AreNone (times_said digits.now)) }
+    ensures times { MatchResult result (λ times. times_said digits.now ≡ Some times) (AreNone (times_said digits.now)) }
+    ensures none { IfErr result (λ fault. fault ≡ RunsFault.NoRuns) }
 {
     let mut words = words_of(digits)?;
     Ok(words.number32()?)
@@ -82,7 +84,8 @@ fn star_in(run: &[u8]) -> Option<usize>
 
 /// The digits of a run, and how often their bytes stand there.
 fn parts_of(run: &[u8]) -> Result<(&[u8], u32), RunsFault>
-    ensures { MatchResult result (λ parts. run_parts run.now ≡ Some (parts.0.now, parts.1)) (AreNone (run_parts run.now)) }
+    ensures parts { MatchResult result (λ parts. run_parts run.now ≡ Some (parts.0.now, parts.1)) (AreNone (run_parts run.now)) }
+    ensures none { IfErr result (λ fault. fault ≡ RunsFault.NoRuns) }
 {
     match star_in(run) {
         Some(star) => Ok((&run[..star], count(&run[star + 1..])?)),
@@ -110,14 +113,19 @@ fn put_run(alloc: Global, out: &mut Vec<u8>, run: &[u8], most: usize) -> Result<
     Ok(())
 }
 
-/// How many bytes a run is.
-fn run_len(run: &[u8]) -> Option<u64> {
+/// How many bytes a run is, where that is a number of 64 bits.
+#[tactic(auto, unfolding(crate::specs::Runs::run_len))]
+fn run_len(run: &[u8]) -> Option<u64>
+    ensures { MatchOption result (IsUncounted (spec_run_len run.now)) (λ len. spec_run_len run.now ≡ Some len) }
+{
     let (digits, times) = parts_of(run).ok()?;
     (digits.len() as u64 / 2).checked_mul(u64::from(times))
 }
 
-/// How many bytes a word is, if they can be counted: as many as its runs have.
-pub(crate) fn len_of(word: &[u8]) -> Option<u64> {
+/// How many bytes a word is, where that is a number of 64 bits: those of its runs, which need not be hexadecimal.
+pub fn len_of(word: &[u8]) -> Option<u64>
+    ensures { MatchOption result (IsUncounted (len_of_word word.now)) (λ len. len_of_word word.now ≡ Some len) }
+{
     let mut len = 0u64;
     for run in word.split(|byte| *byte == b',') {
         len = len.checked_add(run_len(run)?)?;

@@ -2,10 +2,7 @@
 #![tactic(auto)]
 
 pub mod byte_runs;
-pub mod draw;
-pub mod explain;
 pub mod faults;
 pub mod noted;
 pub mod objects;
-pub mod sparse_memory;
 pub mod traces;

@@ -3,12 +3,12 @@
 ghost use Rattle.std.specs.Prelude.{◌≡◌};
 ghost use Rattle.step_core.specs.Opening.{opening_of};
 
+use crate::desk::{Access, Desk};
 use crate::scripts::fault::Wrong;
 use crate::scripts::player::Player;
 use crate::scripts::refused::{End, play_refused};
 use crate::scripts::standing::{DeskIn, DeskStanding, Heap, Stands};
 use crate::scripts::way::Way;
-use desk::{Access, Desk};
 use driver_book::{Book, CloseFault, Full, FullLogBrand, LogBrand};
 use driver_threads::Shared;
 use script_cli::transcripts::Transcript;

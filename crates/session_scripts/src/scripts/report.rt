@@ -4,6 +4,10 @@ use crate::scripts::standing::DeskStanding;
 use driver_book::{CloseFault, Receipt};
 use std::io;
 
+/// So many growths of a run of threads are told at most: how many there are depends on which commands are outstanding at one time, as a host keeps the
+/// lists of those that are over.
+const MOST_TOLD: u64 = 100;
+
 /// How much was played.
 #[derive(Clone, Copy, Debug, Default)]
 pub struct Scores {
@@ -92,7 +96,8 @@ pub fn print_sum<R: Print>(rt: &R, sum: Scores) -> io::Result<()> {
 
 /// Prints the growths of what is no script: of a run of threads, and of a draft that visits another book.
 pub fn print_runs<R: Print>(rt: &R, threads: u64, visit: u64) -> io::Result<()> {
+    let told = threads.min(MOST_TOLD);
     println!(rt;
-        "{threads} growths refused in a run of threads, {visit} of a draft at another book"
+        "{told} growths or more refused in a run of threads, {visit} of a draft at another book"
     )
 }

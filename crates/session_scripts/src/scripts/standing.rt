@@ -1,6 +1,6 @@
 //! How things stand: on a bench, and at a desk with a book.
 
-use desk::{Desk, Value};
+use crate::desk::{Desk, Value};
 use driver_book::{CloseFault, FullLogBrand, Receipt};
 use script_cli::transcripts::{OnBench, StepMaker, reply_in, step_in};
 use std::alloc::{AllocError, Allocator, Global};

@@ -1,11 +1,11 @@
 //! Two submitters, a poller and a controller in threads, over a heap that refuses one growth.
 
+use crate::desk::runs::{Outcome, play};
+use crate::desk::two_submitters::{ON_ONE_QUEUE, is_as_wanted, two_lists};
 use crate::scripts::fault::{Fault, Wrong};
 use crate::scripts::player::{MANY, see_empty};
 use crate::scripts::standing::Heap;
 use crate::scripts::way::Way;
-use desk::runs::{Outcome, play};
-use desk::two_submitters::{ON_ONE_QUEUE, is_as_wanted, two_lists};
 use driver_threads::{Open, RunFault};
 use script_cli::transcripts::Options;
 use std::alloc::{Allocator, Global};

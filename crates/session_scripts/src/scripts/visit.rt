@@ -3,13 +3,13 @@
 ghost use Rattle.std.specs.Prelude.{◌≡◌};
 ghost use Rattle.step_core.specs.Opening.{opening_of};
 
+use crate::desk::{Access, Desk};
 use crate::scripts::book::opened;
 use crate::scripts::fault::Wrong;
 use crate::scripts::player::Player;
 use crate::scripts::refused::play_refused;
 use crate::scripts::standing::{DeskIn, Heap};
 use crate::scripts::way::Way;
-use desk::{Access, Desk};
 use driver_book::{Full, FullLogBrand, LogBrand};
 use script_cli::transcripts::{Options, read_transcript};
 use std::alloc::{AllocError, Global};

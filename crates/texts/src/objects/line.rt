@@ -2,7 +2,7 @@
 
 ghost use Rattle.std.specs.Prelude.{◌≡◌, ◌++◌, IfOk, OnOk, string_bytes};
 ghost use Rattle.texts.specs.Objects.{PutsObject};
-ghost use Rattle.texts.specs.Words.{hex_byte_text, hex_text};
+ghost use Rattle.texts.specs.Words.{hex_byte_text, hex_number_text, hex_text};
 
 use serde::Serialize;
 use std::alloc::{AllocError, Global};
@@ -33,7 +33,9 @@ pub fn put_object<T: Serialize>(
 /// # Errors
 ///
 /// Where memory is refused.
-pub(crate) fn hex_number(alloc: Global, number: u64) -> Result<String, AllocError> {
+pub fn hex_number(alloc: Global, number: u64) -> Result<String, AllocError>
+    ensures { IfOk result (λ text. string_bytes text ≡ hex_number_text number) }
+{
     format!(in alloc; "0x{number:X}")
 }
 

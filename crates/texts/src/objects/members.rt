@@ -7,7 +7,11 @@ ghost use Rattle.texts.specs.Objects.{Sends, lone, members_events};
 use serde::Serializer;
 
 /// Puts a member that is a number.
-pub(crate) fn put_number<S: Serializer>(out: &mut S, name: &str, value: u64) -> Result<(), S::Error>
+///
+/// # Errors
+///
+/// Where `out` answers one.
+pub fn put_number<S: Serializer>(out: &mut S, name: &str, value: u64) -> Result<(), S::Error>
     ensures { OnOk result (Sends (members_events (lone name.now (number (unsigned value)))) (S.written out.old) (S.written out.new)) }
 {
     out.key(name)?;
@@ -15,7 +19,11 @@ pub(crate) fn put_number<S: Serializer>(out: &mut S, name: &str, value: u64) -> 
 }
 
 /// Puts a member that is a text.
-pub(crate) fn put_text<S: Serializer>(out: &mut S, name: &str, value: &str) -> Result<(), S::Error>
+///
+/// # Errors
+///
+/// Where `out` answers one.
+pub fn put_text<S: Serializer>(out: &mut S, name: &str, value: &str) -> Result<(), S::Error>
     ensures { OnOk result (Sends (members_events (lone name.now (string value.now))) (S.written out.old) (S.written out.new)) }
 {
     out.key(name)?;

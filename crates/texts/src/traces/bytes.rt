@@ -34,8 +34,8 @@ pub(crate) fn sixty_four_at(bench: &mut Bench, addr: u64) -> Option<[u8; 64]>
     Some(bytes)
 }
 
-/// Puts a byte.
-fn put_byte(out: &mut String, byte: u8) -> Result<(), AllocError>
+/// Puts a byte, behind a space.
+pub(crate) fn put_byte(out: &mut String, byte: u8) -> Result<(), AllocError>
     ensures { OnOk result (string_bytes out.new ≡ string_bytes out.old ++ byte_text byte) }
 {
     write!(out, " {byte:02X}")

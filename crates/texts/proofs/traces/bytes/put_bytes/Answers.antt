@@ -1,5 +1,5 @@
 use Rattle.std.proofs.Common.{rules, ◌<◌, length, string_bytes}
-use Rattle.texts.proofs.Telling.{row_put, all_put}
+use Rattle.texts.proofs.RowTexts.{row_put, all_put}
 use Rattle.texts.proofs.traces.bytes.put_bytes.Goals as goal
 
 pub loop-row-preserved : goal.loop-row-preserved

@@ -1,9 +1,0 @@
-use Rattle.std.specs.Prelude.{true}
-use Rattle.step_core.specs.Opening.{opening_of}
-use Rattle.desk.proofs.runs.play_at.Given as goal
-
-abbrev pub ghosts-outcome_of-L-Ledger : goal.ghosts-outcome_of-L-Ledger
-ghosts-outcome_of-L-Ledger g a = record { name = a.blank.name; parts = a.blank.parts }
-
-abbrev pub ghosts-outcome_of-L-LogBrand : goal.ghosts-outcome_of-L-LogBrand
-ghosts-outcome_of-L-LogBrand g a = record { opening = opening_of a.config a.image; jobs_alone = true }

@@ -1,0 +1,101 @@
+//! Arbitrary lines.
+
+use std::alloc::{AllocError, AllocGlobal, Global};
+use std::io;
+use std::rt::Files;
+use test_support::Numbers;
+use views::explain::{CaseReader, Layout, Shown, Stop, show};
+
+/// How many lines are read.
+const LINES: u32 = 100_000;
+
+/// Words of which lines are made: those that begin a line, numbers, bytes, and some that stand nowhere.
+const WORDS: [&[u8]; 28] = [
+    b"page",
+    b"page",
+    b"block",
+    b"block",
+    b"sqe",
+    b"out",
+    b"pages",
+    b"blocks",
+    b"#",
+    b"0",
+    b"7",
+    b"15",
+    b"16",
+    b"63",
+    b"64",
+    b"4294967296",
+    b"00",
+    b"ABCD",
+    b"00*16",
+    b"00*4096",
+    b"00*4097",
+    b"01*2,02",
+    b"*",
+    b"0",
+    b"\xC3\xA9",
+    b"\t",
+    b"@list.bytes",
+    b"@",
+];
+
+/// Puts a word, or a byte.
+fn put_word(line: &mut Vec<u8>, numbers: &mut Numbers) -> Result<(), AllocError> {
+    if numbers.below(8) == 0 {
+        let [byte] = numbers.bytes::<1>();
+        return Ok(line.push(byte)?);
+    }
+    let word = WORDS.get(numbers.below(28) as usize).unwrap_or(&WORDS[0]);
+    Ok(line.extend_from_slice(word)?)
+}
+
+/// A line of some words.
+fn line(alloc: Global, numbers: &mut Numbers) -> Result<Vec<u8>, AllocError> {
+    let mut line = Vec::new(alloc);
+    for _ in 0..numbers.below(5) {
+        put_word(&mut line, numbers)?;
+        line.push(b' ')?;
+    }
+    Ok(line)
+}
+
+/// What a line is shown as.
+fn shown_as(numbers: &mut Numbers) -> Shown {
+    match numbers.below(3) {
+        0 => Shown::Submission,
+        1 => Shown::Completion,
+        _ => Shown::Descriptor,
+    }
+}
+
+/// Reads arbitrary lines, and tells how many were good.
+fn read_lines<R: AllocGlobal + Files>(rt: &R) -> Result<String, AllocError> {
+    let alloc = rt.alloc();
+    let mut numbers = Numbers::new(1);
+    let mut reader = CaseReader::begin(alloc, "cases/")?;
+    let mut taken = 0u32;
+    let mut decoded = 0u32;
+    for number in 1..=LINES {
+        let line = line(alloc, &mut numbers)?;
+        match reader.line(rt, number, &line) {
+            Ok(()) => taken = taken.saturating_add(1),
+            Err(Stop::Memory) => return Err(AllocError),
+            Err(Stop::At(..) | Stop::Before(..)) => {}
+        }
+        let shown = shown_as(&mut numbers);
+        let lines = show(rt, shown, &line, Layout::Lines).is_ok();
+        let objects = show(rt, shown, &line, Layout::Objects).is_ok();
+        if lines && objects {
+            decoded = decoded.saturating_add(1);
+        }
+    }
+    format!(in alloc; "{LINES} lines: {taken} are taken, {decoded} decoded")
+}
+
+/// Reads arbitrary lines, and prints how many were good.
+pub fn play_lines<R: AllocGlobal + Files + Print>(rt: &R) -> io::Result<()> {
+    let told = read_lines(rt)?;
+    println!(rt; "{told}")
+}

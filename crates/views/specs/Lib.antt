@@ -1,0 +1,9 @@
+pub mod FaultTexts
+pub mod Stored
+pub mod Ending
+pub mod Fetched
+pub mod Taking
+pub mod Sparse
+pub mod Rules
+pub mod Words
+pub mod FaultObjects
