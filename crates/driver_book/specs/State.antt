@@ -18,6 +18,13 @@ pub record BookContents : Type 0 where
   pub stopping : Bool
   pub room : Room
 
+-- A book of this opening: its log is that of a run that leads from there to the world as it is, and the world is sound, so each page has one
+-- owner, the counts add up, and the identifiers of a queue are distinct.
+pub record IsBookOf (opening : State) (book : BookContents) : Type 0 where
+  pub opens : book.opening ≡ opening
+  pub legal : LeadsTo opening book.log book.world
+  pub sound : IsSound book.world
+
 -- A seat: its number, its receipts, and how many more of them it takes before their list has to grow.
 pub record SeatContents : Type 0 where
   pub number : ℕ

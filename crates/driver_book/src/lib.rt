@@ -34,6 +34,7 @@ mod keep;
 pub mod laws;
 mod log;
 mod look;
+mod machine;
 mod note;
 mod report;
 mod seat;

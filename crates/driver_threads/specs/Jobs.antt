@@ -3,8 +3,8 @@ use Rattle.std.specs.Prelude.{◌≡◌, ◌≢◌, ◌⊎◌, ◌<◌, ◌-◌,
 use Rattle.io_commands.specs.{Asked.Request, Drafts.{DraftContents, built}, DataBytes.{PagesOut, data_length, filled}, Least.least_pages, Values.{FinishedContents, gathered_from}}
 use Rattle.io_commands.specs.declared.request.Kind.{Kind, TheVariants.{Read, Write, Compare}}
 use Rattle.machine_model.specs.{Claims.counts_of, Refusals.refusal_of, State.State}
-use Rattle.driver_book.specs.{Calls.{Does, status_at}, Entries.asked_of, History.accepted, State.BookContents, declared.report.Receipt.Receipt}
-use Rattle.driver_threads.specs.{Sharing.{IsBookOf, Made}, Values.{Job, JobEnd}}
+use Rattle.driver_book.specs.{Calls.{Does, status_at}, Entries.asked_of, History.accepted, State.{BookContents, IsBookOf}, declared.report.Receipt.Receipt}
+use Rattle.driver_threads.specs.{Sharing.Made, Values.{Job, JobEnd}}
 use Rattle.driver_threads.specs.declared.jobs.{JobEnd.TheVariants.{Done, Refused}, JobRefusal.JobRefusal}
 use Rattle.driver_threads.specs.declared.jobs.JobRefusal.TheVariants as why
 use Rattle.machine_model.specs.Events as events

@@ -1,20 +1,13 @@
 -- What a call of a shared book says: that some book of this opening, whose log leads from there to its world, did it.
 use Rattle.std.specs.{List.Contains, Prelude.{◌≡◌, ℕ, ◌<◌, ◌≤◌, Bool, true, [], Option, Some, None, List, length, Result, MatchOption}}
 use Rattle.io_commands.specs.{Drafts.DraftContents, Values.{FinishedContents, TicketContents}}
-use Rattle.machine_model.specs.{Agreeing.SidesAgree, Claims.{claims_of, counts_of, IsSound}, Events.{Event, Reply}, State.State}
+use Rattle.machine_model.specs.{Agreeing.SidesAgree, Claims.{claims_of, counts_of}, Events.{Event, Reply}, State.State}
 use Rattle.page_ledger.specs.{Counting.total, declared.owner.{Counts.Counts, Owner.Owner}}
-use Rattle.driver_book.specs.{Calls.{Does, Receives, Settles}, Close.{AllStand, IsDone, RefusesClose, Reports, receipts_of}, History.{LeadsTo, accepted}}
-use Rattle.driver_book.specs.{Reports.Report, State.{BookContents, SeatContents}, declared.report.CloseFault.CloseFault}
+use Rattle.driver_book.specs.{Calls.{Does, Receives, Settles}, Close.{AllStand, IsDone, RefusesClose, Reports, receipts_of}, History.accepted}
+use Rattle.driver_book.specs.{Reports.Report, State.{BookContents, IsBookOf, SeatContents}, declared.report.CloseFault.CloseFault}
 use Rattle.step_core.specs.{Replies.accept_reply, Touching.StaysAllowed}
 use Rattle.host_core.specs.declared.refused.Refused.{Refused}
 use Rattle.machine_model.specs.Events as events
-
--- A book of this opening: its log is that of a run that leads from there to the world as it is, and the world is sound, so each page has one
--- owner, the counts add up, and the identifiers of a queue are distinct.
-pub record IsBookOf (opening : State) (book : BookContents) : Type 0 where
-  pub opens : book.opening ≡ opening
-  pub legal : LeadsTo opening book.log book.world
-  pub sound : IsSound book.world
 
 -- some book of this opening made this step
 pub record Made (opening : State) (seat : Option ℕ) (e : Event) (r : Reply) : Type 0 where

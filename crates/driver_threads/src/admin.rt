@@ -5,9 +5,9 @@ ghost use Rattle.driver_threads.specs.Sharing.{Made, Recovers};
 ghost use Rattle.machine_model.specs.Events as events;
 ghost use Rattle.step_core.specs.Replies.{ring_reply, send_reply};
 
-use crate::changes::Changes;
-use crate::shared::Shared;
+use crate::book_lock::Shared;
 use driver_book::FullLogBrand;
+use shared::Changes;
 use std::alloc::Allocator;
 use std::sync::Wait;
 use step_core::Refusal;
@@ -21,7 +21,7 @@ impl<L: FullLogBrand, A: Allocator + Copy> Shared<L, A> {
     pub fn abort<R: Wait>(&self, rt: &R, q: u16, cid: u16) -> Result<u16, Refusal>
         ensures { Made L.opening None (events.Abort q cid) (send_reply result) }
     {
-        self.lock(rt).book.abort(q, cid)
+        self.lock.lock(rt).machine.abort(q, cid)
     }
 
     /// [`driver_book::Book::delete_sq`].
@@ -32,10 +32,8 @@ impl<L: FullLogBrand, A: Allocator + Copy> Shared<L, A> {
     pub fn delete_sq<R: Wait>(&self, rt: &R, q: u16) -> Result<u16, Refusal>
         ensures { Made L.opening None (events.DeleteSq q) (send_reply result) }
     {
-        let mut locked = self.lock(rt);
-        let answer = locked.book.delete_sq(q);
-        self.leave(locked, Changes::ROOM);
-        answer
+        self.lock
+            .with(rt, Changes::ROOM, q, |book, q| book.delete_sq(q))
     }
 
     /// [`driver_book::Book::delete_cq`].
@@ -46,7 +44,7 @@ impl<L: FullLogBrand, A: Allocator + Copy> Shared<L, A> {
     pub fn delete_cq<R: Wait>(&self, rt: &R, q: u16) -> Result<u16, Refusal>
         ensures { Made L.opening None (events.DeleteCq q) (send_reply result) }
     {
-        self.lock(rt).book.delete_cq(q)
+        self.lock.lock(rt).machine.delete_cq(q)
     }
 
     /// [`driver_book::Book::create_cq`].
@@ -57,10 +55,8 @@ impl<L: FullLogBrand, A: Allocator + Copy> Shared<L, A> {
     pub fn create_cq<R: Wait>(&self, rt: &R, q: u16) -> Result<u16, Refusal>
         ensures { Made L.opening None (events.CreateCq q) (send_reply result) }
     {
-        let mut locked = self.lock(rt);
-        let answer = locked.book.create_cq(q);
-        self.leave(locked, Changes::ROOM);
-        answer
+        self.lock
+            .with(rt, Changes::ROOM, q, |book, q| book.create_cq(q))
     }
 
     /// [`driver_book::Book::create_sq`].
@@ -71,10 +67,8 @@ impl<L: FullLogBrand, A: Allocator + Copy> Shared<L, A> {
     pub fn create_sq<R: Wait>(&self, rt: &R, q: u16) -> Result<u16, Refusal>
         ensures { Made L.opening None (events.CreateSq q) (send_reply result) }
     {
-        let mut locked = self.lock(rt);
-        let answer = locked.book.create_sq(q);
-        self.leave(locked, Changes::ROOM);
-        answer
+        self.lock
+            .with(rt, Changes::ROOM, q, |book, q| book.create_sq(q))
     }
 
     /// [`driver_book::Book::retire`].
@@ -85,10 +79,8 @@ impl<L: FullLogBrand, A: Allocator + Copy> Shared<L, A> {
     pub fn retire<R: Wait>(&self, rt: &R, q: u16) -> Result<(), Refusal>
         ensures { Made L.opening None (events.Retire q) (ring_reply result) }
     {
-        let mut locked = self.lock(rt);
-        let answer = locked.book.retire(q);
-        self.leave(locked, Changes::ALL);
-        answer
+        self.lock
+            .with(rt, Changes::ALL, q, |book, q| book.retire(q))
     }
 
     /// [`driver_book::Book::forge`].
@@ -99,10 +91,12 @@ impl<L: FullLogBrand, A: Allocator + Copy> Shared<L, A> {
     pub fn forge<R: Wait>(&self, rt: &R, q: u16, slot: u16, bytes: [u8; 16]) -> Result<(), Refusal>
         ensures { Made L.opening None (events.Forge q slot bytes) (ring_reply result) }
     {
-        let mut locked = self.lock(rt);
-        let answer = locked.book.forge(q, slot, bytes);
-        self.leave(locked, Changes::WRITTEN);
-        answer
+        self.lock.with(
+            rt,
+            Changes::NONE,
+            (q, slot, bytes),
+            |book, (q, slot, bytes)| book.forge(q, slot, bytes),
+        )
     }
 
     /// [`driver_book::Book::reset`]. Whoever waits is woken: a submitter whose command the reset ended goes on as behind a reap.
@@ -114,9 +108,7 @@ impl<L: FullLogBrand, A: Allocator + Copy> Shared<L, A> {
         ensures step { Made L.opening None events.Reset (ring_reply result) }
         ensures recovers { OnOk result (Recovers L.opening) }
     {
-        let mut locked = self.lock(rt);
-        let answer = locked.book.reset();
-        self.leave(locked, Changes::ALL);
-        answer
+        self.lock
+            .with(rt, Changes::ALL, (), |book, ()| book.reset())
     }
 }

@@ -2,16 +2,15 @@
 
 ghost use Rattle.std.specs.Prelude.{◌≡◌, true, false, Ok, IfOk, IfErr, OnOk};
 ghost use Rattle.std.specs.List.{list_any};
-ghost use Rattle.std.specs.Sync.Mutex.{mutex_guard_value};
 ghost use Rattle.driver_book.specs.Calls.{is_open_for};
 ghost use Rattle.driver_threads.specs.Ends.{status_of as spec_status_of, Awaits, EndsWith, refuses};
 ghost use Rattle.driver_threads.specs.JobSteps.{GivesUp, IsEndOf, IsRefusal, IsTooLong, Refusing, TakesItNoMore, TakesNoMore};
 ghost use Rattle.driver_threads.specs.Jobs.{prepared as spec_prepared};
 ghost use Rattle.driver_threads.specs.Sharing.{Released, Submitted};
 
+use crate::book_lock::Shared;
 use crate::gate::{Gate, Point};
 use crate::jobs::{JobEnd, JobEndIn, JobRefusal};
-use crate::shared::Shared;
 use crate::waits::Halt;
 use driver_book::{LogBrand, Receipt, Seat};
 use entry_codec::Status;
@@ -135,15 +134,15 @@ pub(crate) fn submitted<L: LogBrand, A: Allocator + Copy, R: Wait>(
     ensures seat { seat.new.number ≡ seat.old.number }
 {
     let q = draft.q();
-    let mut locked = shared.lock(rt);
-    let ticket = match locked.book.submit(seat, draft) {
+    let mut locked = shared.lock.lock(rt);
+    let ticket = match locked.machine.submit(seat, draft) {
         Ok(ticket) => ticket,
         Err(refused) => {
             drop(locked);
             return Err(give_up(rt, shared, refused.value, halt_of(refused.why)));
         }
     };
-    if matches!(locked.book.ring(q), Err(Refusal::Memory)) {
+    if matches!(locked.machine.ring(q), Err(Refusal::Memory)) {
         drop(locked);
         drop(ticket.apart());
         return Err(Halt::Memory);

@@ -4,9 +4,9 @@ ghost use Rattle.driver_threads.specs.Sharing.{Served};
 ghost use Rattle.machine_model.specs.Events as events;
 ghost use Rattle.step_core.specs.Replies.{complete_reply, fetch_reply, walk_reply};
 
-use crate::changes::Changes;
-use crate::shared::Shared;
+use crate::book_lock::Shared;
 use driver_book::LogBrand;
+use shared::Changes;
 use std::alloc::Allocator;
 use std::sync::Wait;
 use step_core::{Completed, Fetched, StepRefused, Walked};
@@ -20,10 +20,8 @@ impl<L: LogBrand, A: Allocator + Copy> Shared<L, A> {
     pub fn fetch<R: Wait>(&self, rt: &R, q: u16) -> Result<Fetched, StepRefused>
         ensures { Served L.opening (events.Fetch q) (fetch_reply result) }
     {
-        let mut locked = self.lock(rt);
-        let answer = locked.book.fetch(q);
-        self.leave(locked, Changes::WRITTEN);
-        answer
+        self.lock
+            .with(rt, Changes::NONE, q, |book, q| book.fetch(q))
     }
 
     /// [`driver_book::Book::walk`].
@@ -34,10 +32,12 @@ impl<L: LogBrand, A: Allocator + Copy> Shared<L, A> {
     pub fn walk<R: Wait>(&self, rt: &R, q: u16, cid: u16) -> Result<Walked, StepRefused>
         ensures { Served L.opening (events.Walk q cid) (walk_reply result) }
     {
-        let mut locked = self.lock(rt);
-        let answer = locked.book.walk(q, cid);
-        self.leave(locked, Changes::WRITTEN);
-        answer
+        self.lock.with(
+            rt,
+            Changes::NONE,
+            (q, cid),
+            |book, (q, cid)| book.walk(q, cid),
+        )
     }
 
     /// [`driver_book::Book::complete`].
@@ -48,9 +48,11 @@ impl<L: LogBrand, A: Allocator + Copy> Shared<L, A> {
     pub fn complete<R: Wait>(&self, rt: &R, q: u16, cid: u16) -> Result<Completed, StepRefused>
         ensures { Served L.opening (events.Complete q cid) (complete_reply result) }
     {
-        let mut locked = self.lock(rt);
-        let answer = locked.book.complete(q, cid);
-        self.leave(locked, Changes::WRITTEN);
-        answer
+        self.lock.with(
+            rt,
+            Changes::NONE,
+            (q, cid),
+            |book, (q, cid)| book.complete(q, cid),
+        )
     }
 }

@@ -8,10 +8,10 @@ ghost use Rattle.driver_threads.specs.Jobs.{RefusesJob, RefusesRequest, WentSo};
 ghost use Rattle.driver_threads.specs.Sharing.{Made};
 ghost use Rattle.machine_model.specs.Events as events;
 
+use crate::book_lock::Shared;
 use crate::carry::{Watch, finished, prepared, submitted};
 use crate::gate::{Gate, Point};
 use crate::jobs::{Job, JobEnd, JobEndIn, JobIn, JobRefusal};
-use crate::shared::Shared;
 use crate::waits::{Halt, Reservation};
 use driver_book::{LogBrand, Seat};
 use io_commands::{Draft, Request, Ticket};

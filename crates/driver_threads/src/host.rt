@@ -7,11 +7,10 @@ ghost use Rattle.driver_threads.specs.Sharing.{Made, Submitted, Released};
 ghost use Rattle.machine_model.specs.Events as events;
 ghost use Rattle.step_core.specs.Replies.{reserve_reply, accept_reply, collect_reply, ring_reply, reap_reply};
 
-use crate::changes::Changes;
-use crate::serving::changed_by;
-use crate::shared::Shared;
+use crate::book_lock::Shared;
 use driver_book::{LogBrand, Seat};
 use io_commands::{Draft, Finished, Request, Ticket};
+use shared::Changes;
 use std::alloc::Allocator;
 use std::sync::Wait;
 use step_core::{Reaped, Refusal, Refused};
@@ -31,7 +30,7 @@ impl<L: LogBrand, A: Allocator + Copy> Shared<L, A> {
         ensures step { Made L.opening None (events.Reserve q request) (reserve_reply result) }
         ensures back { IfErr result (λ r. r.value ≡ request) }
     {
-        self.lock(rt).book.reserve(q, request)
+        self.lock.lock(rt).machine.reserve(q, request)
     }
 
     /// [`driver_book::Book::submit`]. The seat's receipt for the command has no status yet, which is what [`Shared::release`] owes.
@@ -50,7 +49,7 @@ impl<L: LogBrand, A: Allocator + Copy> Shared<L, A> {
         ensures ticket { IfOk result (λ ticket. ticket ≡ record { q = draft.q; cid = draft.cid }) }
         ensures awaits { IfOk result (λ ticket. list_any (is_open_for ticket.q ticket.cid) seat.new.receipts ≡ true) }
     {
-        self.lock(rt).book.submit(seat, draft)
+        self.lock.lock(rt).machine.submit(seat, draft)
     }
 
     /// [`driver_book::Book::cancel`].
@@ -62,10 +61,8 @@ impl<L: LogBrand, A: Allocator + Copy> Shared<L, A> {
         ensures step { Made L.opening None (events.Cancel draft) (accept_reply result) }
         ensures back { IfErr result (λ r. r.value ≡ draft) }
     {
-        let mut locked = self.lock(rt);
-        let answer = locked.book.cancel(draft);
-        self.leave(locked, Changes::ROOM);
-        answer
+        self.lock
+            .with(rt, Changes::ROOM, draft, |book, draft| book.cancel(draft))
     }
 
     /// [`driver_book::Book::ring`].
@@ -76,10 +73,7 @@ impl<L: LogBrand, A: Allocator + Copy> Shared<L, A> {
     pub fn ring<R: Wait>(&self, rt: &R, q: u16) -> Result<(), Refusal>
         ensures { Made L.opening None (events.Ring q) (ring_reply result) }
     {
-        let mut locked = self.lock(rt);
-        let answer = locked.book.ring(q);
-        self.leave(locked, Changes::RUNG);
-        answer
+        self.lock.with(rt, Changes::NONE, q, |book, q| book.ring(q))
     }
 
     /// [`driver_book::Book::reap`].
@@ -90,13 +84,9 @@ impl<L: LogBrand, A: Allocator + Copy> Shared<L, A> {
     pub fn reap<R: Wait>(&self, rt: &R, q: u16) -> Result<Reaped, Refusal>
         ensures { Made L.opening None (events.Reap q) (reap_reply result) }
     {
-        let mut locked = self.lock(rt);
-        let answer = locked.book.reap(q);
-        let changes = match &answer {
-            Ok(what) => changed_by(q, what),
-            Err(_) => Changes::NONE,
-        };
-        self.leave(locked, changes);
+        let mut locked = self.lock.lock(rt);
+        let answer = locked.machine.reap(q);
+        self.lock.leave(locked, Changes::of_reap(q, &answer));
         answer
     }
 
@@ -110,7 +100,7 @@ impl<L: LogBrand, A: Allocator + Copy> Shared<L, A> {
         ensures back { IfErr result (λ r. r.value ≡ ticket) }
         ensures command { IfOk result (λ finished. (finished.q ≡ ticket.q) × (finished.cid ≡ ticket.cid)) }
     {
-        self.lock(rt).book.collect(ticket)
+        self.lock.lock(rt).machine.collect(ticket)
     }
 
     /// [`driver_book::Book::release`].
@@ -128,9 +118,9 @@ impl<L: LogBrand, A: Allocator + Copy> Shared<L, A> {
         ensures step { Released L.opening seat.old finished result seat.new }
         ensures back { IfErr result (λ r. r.value ≡ finished) }
     {
-        let mut locked = self.lock(rt);
-        let answer = locked.book.release(seat, finished);
-        self.leave(locked, Changes::ROOM);
+        let mut locked = self.lock.lock(rt);
+        let answer = locked.machine.release(seat, finished);
+        self.lock.leave(locked, Changes::ROOM);
         answer
     }
 }

@@ -19,8 +19,8 @@
 #![tactic(auto)]
 
 mod admin;
+mod book_lock;
 mod carry;
-mod changes;
 mod controller_calls;
 mod flight;
 mod gate;
@@ -28,13 +28,12 @@ mod host;
 mod jobs;
 mod run;
 mod serving;
-mod shared;
 mod waits;
 mod workers;
 
+pub use book_lock::Shared;
 pub use gate::{Gate, GateClosed, Open, Point};
 pub use jobs::{Job, JobEnd, JobEndIn, JobEnds, JobIn, JobRefusal, Ran, Round, RunFault};
 pub use run::{run_round, run_threads};
 pub use serving::Server;
-pub use shared::Shared;
 pub use workers::{Worked, controller, poller, submitter};

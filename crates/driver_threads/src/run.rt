@@ -11,10 +11,10 @@ ghost use Rattle.driver_threads.specs.Jobs.{AllWent, WentSo};
 ghost use Rattle.driver_threads.specs.Runs.{EndsRound, IsAfterOpening, RanFrom, RefusesRun};
 ghost use Rattle.step_core.specs.Opening.{opening_of};
 
+use crate::book_lock::Shared;
 use crate::gate::Gate;
 use crate::jobs::{JobEndIn, JobEnds, JobIn, Ran, Round, RunFault};
 use crate::serving::Server;
-use crate::shared::Shared;
 use crate::workers::{Worked, controller, poller, submitter};
 use block_image::Image;
 use driver_book::{Book, CloseFault, ClosedLog, LogBrand, Seat};

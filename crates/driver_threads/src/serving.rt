@@ -1,11 +1,11 @@
 //! Steps of the controller and reaps, as many as are made while the lock is held once, and who makes them.
 
-use crate::changes::{Change, Changes};
-use crate::shared::{Locked, Shared};
+use crate::book_lock::Shared;
 use driver_book::{Book, LogBrand};
+use shared::{Changes, Locked};
 use std::alloc::{AllocError, Allocator};
 use std::sync::MutexGuard;
-use step_core::{ControllerStep, Reaped, Refusal, WalkState};
+use step_core::{ControllerStep, Refusal, WalkState};
 
 /// Who serves in a run of threads. It makes the same steps whoever that is.
 #[derive(Clone, Copy, Debug, PartialEq, Eq)]
@@ -28,7 +28,7 @@ const MOST_OF_A_RINGER: u32 = 64;
 pub(crate) struct Steps {
     /// Whether there was any.
     pub(crate) any: bool,
-    /// What they may have changed.
+    /// What reaps may have changed. What a step of the controller changed the lock sees.
     changes: Changes,
     /// Whether memory was refused to the last one.
     short: bool,
@@ -41,48 +41,14 @@ const NO_STEPS: Steps = Steps {
     short: false,
 };
 
-/// The ring of a queue.
-const A_RING: Steps = Steps {
-    any: true,
-    changes: Changes::RUNG,
-    short: false,
-};
-
 impl Steps {
-    /// These, and one more that came to this end.
-    fn with(self, end: Result<Changes, Refusal>) -> Steps {
-        match end {
-            Ok(changes) => Steps {
-                any: true,
-                changes: self.changes.and(changes),
-                short: false,
-            },
-            Err(why) => Steps {
-                any: true,
-                changes: self.changes,
-                short: matches!(why, Refusal::Memory),
-            },
-        }
-    }
-
-    /// These, and others behind them.
-    fn then(self, others: Steps) -> Steps {
+    /// These, and one more that may have changed this, and why it was refused if it was.
+    fn with(self, changes: Changes, refusal: Option<Refusal>) -> Steps {
         Steps {
-            any: self.any || others.any,
-            changes: self.changes.and(others.changes),
-            short: others.short,
+            any: true,
+            changes: self.changes.and(changes),
+            short: matches!(refusal, Some(Refusal::Memory)),
         }
-    }
-}
-
-/// What a reap may have changed: its command ended, and there may be room in its queue for a completion. An admin command that ended may have
-/// changed a queue.
-pub(crate) fn changed_by(q: u16, what: &Reaped) -> Changes {
-    match what {
-        Reaped::Done { cid, .. } => { Changes::of(Change::end_of(q, *cid)).and(Changes::RUNG) }
-        Reaped::AdminDone { .. } => Changes::ALL,
-        Reaped::Rejected(_) => Changes::RUNG,
-        Reaped::Empty => Changes::NONE,
     }
 }
 
@@ -96,11 +62,8 @@ pub(crate) fn reap_some<L: LogBrand, A: Allocator + Copy>(
         let Some(q) = book.next_completion() else {
             break;
         };
-        let end = match book.reap(q) {
-            Ok(what) => Ok(changed_by(q, &what)),
-            Err(why) => Err(why),
-        };
-        steps = steps.with(end);
+        let answer = book.reap(q);
+        steps = steps.with(Changes::of_reap(q, &answer), answer.err());
         if steps.short {
             break;
         }
@@ -108,47 +71,33 @@ pub(crate) fn reap_some<L: LogBrand, A: Allocator + Copy>(
     steps
 }
 
-/// A step of the controller that was made.
-#[derive(Clone, Copy)]
-struct Served {
-    /// What it may have changed, or why it was refused. Once something was forged, a fetch and a unit of a list too may write where completions
-    /// stand.
-    end: Result<Changes, Refusal>,
-    /// The next step of its command, where its answer tells that one.
-    next: Option<ControllerStep>,
-}
-
-/// Does a unit of a command's list. Behind it comes the next unit while the walk goes on, and then the completion.
-fn walk<L: LogBrand, A: Allocator + Copy>(book: &mut Book<L, A>, q: u16, cid: u16) -> Served {
-    let (end, next) = match book.walk(q, cid) {
-        Ok(walked) => match walked.state {
-            WalkState::More => (Ok(Changes::POSTED), Some(ControllerStep::Walk { q, cid })),
-            WalkState::End | WalkState::Fault(_) => {
-                (
-                    Ok(Changes::POSTED),
-                    Some(ControllerStep::Complete { q, cid }),
-                )
-            }
-        },
-        Err(refused) => (Err(refused.why), None),
-    };
-    Served { end, next }
-}
-
-/// Does a step of the controller.
-fn serve<L: LogBrand, A: Allocator + Copy>(book: &mut Book<L, A>, step: ControllerStep) -> Served {
-    let end = match step {
+/// Does a step of the controller, and answers the next one of its command where that is known: behind a unit of a list the next unit while the walk
+/// goes on, and then the completion.
+///
+/// # Errors
+///
+/// Why it was refused.
+fn serve<L: LogBrand, A: Allocator + Copy>(
+    book: &mut Book<L, A>,
+    step: ControllerStep,
+) -> Result<Option<ControllerStep>, Refusal> {
+    match step {
         ControllerStep::Fetch { q } => match book.fetch(q) {
-            Ok(_) => Ok(Changes::POSTED),
+            Ok(_) => Ok(None),
             Err(refused) => Err(refused.why),
         },
-        ControllerStep::Walk { q, cid } => return walk(book, q, cid),
+        ControllerStep::Walk { q, cid } => match book.walk(q, cid) {
+            Ok(walked) => Ok(Some(match walked.state {
+                WalkState::More => step,
+                WalkState::End | WalkState::Fault(_) => ControllerStep::Complete { q, cid },
+            })),
+            Err(refused) => Err(refused.why),
+        },
         ControllerStep::Complete { q, cid } => match book.complete(q, cid) {
-            Ok(_) => Ok(Changes::POSTED),
+            Ok(_) => Ok(None),
             Err(refused) => Err(refused.why),
         },
-    };
-    Served { end, next: None }
+    }
 }
 
 /// Does what the controller can do, so many steps at most. A command whose list is begun is walked and completed without a look for each step.
@@ -166,38 +115,26 @@ pub(crate) fn serve_some<L: LogBrand, A: Allocator + Copy>(
         let Some(step) = next else {
             break;
         };
-        let served = serve(book, step);
-        steps = steps.with(served.end);
+        let (refusal, behind) = match serve(book, step) {
+            Ok(behind) => (None, behind),
+            Err(why) => (Some(why), None),
+        };
+        steps = steps.with(Changes::NONE, refusal);
         if steps.short {
             break;
         }
-        told = served.next;
+        told = behind;
     }
     steps
 }
 
 /// Does what the controller can do once a submitter rang, and then reaps what there is.
 fn serve_and_reap<L: LogBrand, A: Allocator + Copy>(book: &mut Book<L, A>) -> Steps {
-    let steps = A_RING.then(serve_some(book, MOST_OF_A_RINGER));
+    let steps = serve_some(book, MOST_OF_A_RINGER);
     if steps.short {
         return steps;
     }
-    steps.then(reap_some(book, MOST_OF_A_RINGER))
-}
-
-/// Leaves out what the poller or the controller would be told in vain, since there is nothing to reap, or nothing that can be done.
-fn of_use<L: LogBrand, A: Allocator + Copy>(
-    locked: &mut Locked<L, A>,
-    changes: Changes,
-) -> Changes {
-    let mut changes = changes;
-    if locked.awaited.has(Change::Posted) && locked.book.next_completion().is_none() {
-        changes = changes.without(Changes::POSTED);
-    }
-    if locked.awaited.has(Change::Rung) && locked.book.next_step().is_none() {
-        changes = changes.without(Changes::RUNG);
-    }
-    changes
+    reap_some(book, MOST_OF_A_RINGER)
 }
 
 impl<L: LogBrand, A: Allocator + Copy> Shared<L, A> {
@@ -209,12 +146,10 @@ impl<L: LogBrand, A: Allocator + Copy> Shared<L, A> {
     /// Where memory was refused to the last step.
     pub(crate) fn leave_behind(
         &self,
-        locked: MutexGuard<'_, Locked<L, A>>,
+        locked: MutexGuard<'_, Locked<Book<L, A>>>,
         steps: Steps,
     ) -> Result<(), AllocError> {
-        let mut locked = locked;
-        let changes = of_use(&mut locked, steps.changes);
-        self.leave(locked, changes);
+        self.lock.leave(locked, steps.changes);
         if steps.short { Err(AllocError) } else { Ok(()) }
     }
 
@@ -225,18 +160,13 @@ impl<L: LogBrand, A: Allocator + Copy> Shared<L, A> {
     /// Where memory is refused as it serves or reaps.
     pub(crate) fn leave_rung(
         &self,
-        locked: MutexGuard<'_, Locked<L, A>>,
+        locked: MutexGuard<'_, Locked<Book<L, A>>>,
     ) -> Result<(), AllocError> {
         let mut locked = locked;
-        match self.server {
-            Server::Ringer => {
-                let steps = serve_and_reap(&mut locked.book);
-                self.leave_behind(locked, steps)
-            }
-            Server::Controller => {
-                self.leave(locked, Changes::RUNG);
-                Ok(())
-            }
-        }
+        let steps = match self.server {
+            Server::Ringer => serve_and_reap(&mut locked.machine),
+            Server::Controller => NO_STEPS,
+        };
+        self.leave_behind(locked, steps)
     }
 }

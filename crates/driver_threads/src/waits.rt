@@ -8,12 +8,12 @@ ghost use Rattle.driver_threads.specs.Jobs.{RefusesRequest};
 ghost use Rattle.driver_threads.specs.Sharing.{Made};
 ghost use Rattle.machine_model.specs.Events as events;
 
-use crate::changes::Change;
+use crate::book_lock::Shared;
 use crate::jobs::JobRefusal;
 use crate::serving::{MOST_OF_A_WORKER, reap_some, serve_some};
-use crate::shared::Shared;
 use driver_book::{Book, LogBrand};
 use io_commands::{Draft, Finished, Request, Ticket};
+use shared::Change;
 use std::alloc::{AllocError, Allocator};
 use std::sync::Wait;
 use step_core::Refusal;
@@ -155,9 +155,9 @@ impl<L: LogBrand, A: Allocator + Copy> Shared<L, A> {
         ensures reservation { IfOk result (IsReservation L.opening q request) }
         ensures refused { IfErr result (Refusing (RefusesRequest L.opening q request)) }
     {
-        let mut locked = self.lock(rt);
-        match turn_of(&locked.book, q, &request)? {
-            Turn::Free => Ok(Reservation::Now(reserved(&mut locked.book, q, request)?)),
+        let mut locked = self.lock.lock(rt);
+        match turn_of(&locked.machine, q, &request)? {
+            Turn::Free => Ok(Reservation::Now(reserved(&mut locked.machine, q, request)?)),
             Turn::Later => Ok(Reservation::Later(request)),
         }
     }
@@ -176,14 +176,14 @@ impl<L: LogBrand, A: Allocator + Copy> Shared<L, A> {
         ensures made { IfOk result (λ draft. Made L.opening None (events.Reserve q request) (events.Reserved draft)) }
         ensures refused { IfErr result (Refusing (RefusesRequest L.opening q request)) }
     {
-        let mut locked = self.lock(rt);
+        let mut locked = self.lock.lock(rt);
         for _ in rt.forever() {
-            match turn_of(&locked.book, q, &request)? {
+            match turn_of(&locked.machine, q, &request)? {
                 Turn::Free => break,
-                Turn::Later => locked = self.wait(rt, locked, Change::Room),
+                Turn::Later => locked = self.lock.wait(rt, locked, Change::Room),
             }
         }
-        reserved(&mut locked.book, q, request)
+        reserved(&mut locked.machine, q, request)
     }
 
     /// Waits until a command has ended, and collects it.
@@ -201,21 +201,21 @@ impl<L: LogBrand, A: Allocator + Copy> Shared<L, A> {
         ensures halted { IfErr result (λ halt. refuses halt ≡ false) }
     {
         let (q, cid) = (ticket.q(), ticket.cid());
-        let mut locked = self.lock(rt);
+        let mut locked = self.lock.lock(rt);
         for _ in rt.forever() {
-            if locked.book.stopping() {
+            if locked.machine.stopping() {
                 drop(locked);
                 drop(ticket.apart());
                 return Err(Halt::Stopped);
             }
-            match locked.book.collect_refusal(q, cid) {
+            match locked.machine.collect_refusal(q, cid) {
                 Some(Refusal::NotYet) => {
-                    locked = self.wait(rt, locked, Change::end_of(q, cid));
+                    locked = self.lock.wait(rt, locked, Change::end_of(q, cid));
                 }
                 _ => break,
             }
         }
-        collected(&mut locked.book, ticket)
+        collected(&mut locked.machine, ticket)
     }
 
     /// Waits until queues have completions, and reaps them. False once the workers are told to stop.
@@ -224,17 +224,17 @@ impl<L: LogBrand, A: Allocator + Copy> Shared<L, A> {
     ///
     /// Where memory is refused.
     pub(crate) fn reap_next<R: Wait>(&self, rt: &R) -> Result<bool, AllocError> {
-        let mut locked = self.lock(rt);
+        let mut locked = self.lock.lock(rt);
         for _ in rt.forever() {
-            if locked.book.stopping() {
+            if locked.machine.stopping() {
                 break;
             }
-            let steps = reap_some(&mut locked.book, MOST_OF_A_WORKER);
+            let steps = reap_some(&mut locked.machine, MOST_OF_A_WORKER);
             if steps.any {
                 self.leave_behind(locked, steps)?;
                 return Ok(true);
             }
-            locked = self.wait(rt, locked, Change::Posted);
+            locked = self.lock.wait(rt, locked, Change::Posted);
         }
         Ok(false)
     }
@@ -245,17 +245,17 @@ impl<L: LogBrand, A: Allocator + Copy> Shared<L, A> {
     ///
     /// Where memory is refused.
     pub(crate) fn serve_next<R: Wait>(&self, rt: &R) -> Result<bool, AllocError> {
-        let mut locked = self.lock(rt);
+        let mut locked = self.lock.lock(rt);
         for _ in rt.forever() {
-            if locked.book.stopping() {
+            if locked.machine.stopping() {
                 break;
             }
-            let steps = serve_some(&mut locked.book, MOST_OF_A_WORKER);
+            let steps = serve_some(&mut locked.machine, MOST_OF_A_WORKER);
             if steps.any {
                 self.leave_behind(locked, steps)?;
                 return Ok(true);
             }
-            locked = self.wait(rt, locked, Change::Rung);
+            locked = self.lock.wait(rt, locked, Change::Rung);
         }
         Ok(false)
     }

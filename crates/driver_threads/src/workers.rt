@@ -4,11 +4,11 @@ ghost use Rattle.std.specs.Prelude.{◌≡◌, ◌≤◌, vec_len, IfSome};
 ghost use Rattle.driver_threads.specs.Ends.{Agree};
 ghost use Rattle.driver_threads.specs.Jobs.{WentSo};
 
+use crate::book_lock::Shared;
 use crate::carry::Watch;
 use crate::flight::Flight;
 use crate::gate::Gate;
 use crate::jobs::{JobEndIn, JobIn};
-use crate::shared::Shared;
 use crate::waits::Halt;
 use driver_book::{LogBrand, Seat};
 use std::alloc::{AllocError, Allocator, Global};

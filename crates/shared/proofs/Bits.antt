@@ -1,7 +1,7 @@
 -- The bits of a set of changes.
-use Rattle.std.proofs.Common.{◌≡◌, refl, sym, ap, ◌∙◌, ℕ, zero, suc, ◌-◌, ◌*◌, ◌%◌, ◌^◌, ◌<◌, ◌⊎◌, inl, inr, not, ◌&&◌, ◌||◌, ◌==◌, min, max, bit_and, bit_or, arith, w32, pow_pos, zero-mul}
+use Rattle.std.proofs.Common.{◌≡◌, refl, sym, ap, ◌∙◌, ℕ, zero, suc, ◌-◌, ◌*◌, ◌%◌, ◌^◌, ◌<◌, ◌⊎◌, inl, inr, true, not, ◌&&◌, ◌||◌, ◌==◌, min, max, bit_and, bit_or, arith, w32, pow_pos, zero-mul}
 use Rattle.std.proofs.lemmas.Bool.{Decides.eqb_tells, ne_eqb}
-use Rattle.std.proofs.lemmas.Nat.Bits.{and_pow, bit_at-lt, bit_at_and, bit_at_not, bit_at_or, bit_at-pow_other, bit_at-pow_same}
+use Rattle.std.proofs.lemmas.Nat.Bits.{and_pow, bit_at-lt, bit_at_ones, bit_at_and, bit_at_not, bit_at_or, bit_at-pow_other, bit_at-pow_same}
 use Rattle.std.specs.Int.{bit_at}
 use Rattle.shared.specs.Changes.{are_one, bit_of}
 use Rattle.shared.specs.declared.changes.{Change.Change, Change.TheVariants.{Room, Posted, Rung, Ended}}
@@ -59,6 +59,10 @@ bit_of_below Room = omega arith
 bit_of_below Posted = omega arith
 bit_of_below Rung = omega arith
 bit_of_below (Ended place) = omega arith
+
+-- each change is among all
+pub told_by_all : (change : Change) → (bit_at 524287 (bit_of change) == 1) ≡ true
+told_by_all change = ap (λ bit. bit == 1) (bit_at_ones 19 (bit_of change) (bit_of_below change))
 
 -- either, both, and one without the other, of two bits
 pub either_bit : (a b i : ℕ) → (bit_at (bit_or a b) i == 1) ≡ (bit_at a i == 1) || (bit_at b i == 1)

@@ -1,9 +1,10 @@
 //! What threads wait for, and a condition variable for each.
 
 ghost use Rattle.std.specs.Prelude.{◌≡◌, ◌%◌, ◌^◌, ◌&&◌, ◌||◌, not, bit_xor};
-ghost use Rattle.shared.specs.Changes.{are_one, bit_of, is_told};
+ghost use Rattle.shared.specs.Changes.{are_one, bit_of, is_of_reap, is_told};
 
 use std::sync::Condvar;
+use step_core::{Reaped, Refusal};
 
 /// How many condition variables those share who wait for the end of a command.
 const PLACES: usize = 16;
@@ -54,7 +55,7 @@ impl Change {
 /// | What is done | Its changes |
 /// |---|---|
 /// | `cancel`, `release`, `delete_sq`, `create_cq`, `create_sq` | [`Changes::ROOM`] |
-/// | `reap` of an I/O queue | [`Changes::ENDED`], or of one command the [`Change::end_of`] it; of a host also [`Changes::RUNG`], as a head doorbell is told |
+/// | `reap` of an I/O queue | [`Changes::ENDED`], or behind it [`Changes::of_reap`]; of a host also [`Changes::RUNG`], as a head doorbell is told |
 /// | `reap` of queue 0, `retire`, `reset` | [`Changes::ALL`] |
 /// | `ring` of a host, where a thread of yours plays the device | [`Changes::RUNG`] |
 /// | an interrupt of a device that writes by itself | [`Changes::POSTED`] |
@@ -93,6 +94,18 @@ impl Changes {
         ensures { (other : Change) → is_told result other ≡ are_one change other }
     {
         Changes { bits: change.bit() }
+    }
+
+    /// What a reap of a queue may have changed that was answered so: its command ended. An admin command that ended may have changed a queue.
+    #[tactic(auto, using(crate::proofs::Bits::told_by_all))]
+    pub fn of_reap(q: u16, answer: &Result<Reaped, Refusal>) -> Changes
+        ensures { (change : Change) → is_told result change ≡ is_of_reap q answer.now change }
+    {
+        match answer {
+            Ok(Reaped::Done { cid, .. }) => Changes::of(Change::end_of(q, *cid)),
+            Ok(Reaped::AdminDone { .. }) => Changes::ALL,
+            Ok(Reaped::Rejected(_) | Reaped::Empty) | Err(_) => Changes::NONE,
+        }
     }
 
     /// These and others.

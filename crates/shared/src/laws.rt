@@ -6,6 +6,7 @@ ghost use Rattle.shared.specs.Changes.{are_one, is_end, is_told};
 use crate::changes::{Change, Changes};
 
 /// What the constants of [`Changes`] have: none, all, each end, and just one each.
+#[tactic(auto, using(crate::proofs::Bits::told_by_all))]
 pub fn constants_name_their_changes()
     ensures none { (change : Change) → is_told Changes.NONE change ≡ false }
     ensures all { (change : Change) → is_told Changes.ALL change ≡ true }

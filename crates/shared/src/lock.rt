@@ -1,13 +1,16 @@
 //! A machine under a lock.
 
+ghost use Rattle.std.specs.Sync.Mutex.{mutex_guard_value};
+
 use crate::changes::{Change, Changes, Condvars};
 use crate::machine::Machine;
 use std::sync::{Mutex, MutexGuard, Wait};
 
 /// What stands under the lock.
 #[derive(Drop)]
-pub(crate) struct Locked<M: Machine + Drop> {
-    pub(crate) machine: M,
+pub struct Locked<M: Drop> {
+    /// The machine. Who has the lock leaves it in its place.
+    pub machine: M,
     pub(crate) stopping: bool,
     /// What somebody waits for who was not told since.
     awaited: Changes,
@@ -18,8 +21,8 @@ pub(crate) struct Locked<M: Machine + Drop> {
 /// A closure that has the machine makes steps of it and looks at it, and leaves it in its place: it must not put another one there, which other threads
 /// would then take for this one. No clause forbids that.
 #[derive(Drop)]
-pub struct Shared<M: Machine + Drop> {
-    pub(crate) locked: Mutex<Locked<M>>,
+pub struct Shared<M: Drop> {
+    locked: Mutex<Locked<M>>,
     condvars: Condvars,
 }
 
@@ -36,21 +39,41 @@ impl<M: Machine + Drop> Shared<M> {
         }
     }
 
+    /// Takes the lock, for several steps in one hold, or for a step whose changes are known behind it. Who drops what this hands out, in the place of
+    /// [`Shared::leave`], wakes nobody.
+    pub fn lock<R: Wait>(&self, rt: &R) -> MutexGuard<'_, Locked<M>>
+        ensures { M.is (mutex_guard_value result).machine }
+    {
+        let locked = self.locked.lock(rt);
+        prove!({
+            locked.machine.confirm();
+            true
+        });
+        locked
+    }
+
     /// Sleeps until a change is told. The lock is free meanwhile, and whoever takes it before finds that this change is awaited.
-    pub(crate) fn wait<'a, R: Wait>(
+    pub fn wait<'a, R: Wait>(
         &self,
         rt: &R,
         locked: MutexGuard<'a, Locked<M>>,
         change: Change,
-    ) -> MutexGuard<'a, Locked<M>> {
+    ) -> MutexGuard<'a, Locked<M>>
+        ensures { M.is (mutex_guard_value result).machine }
+    {
         let mut locked = locked;
         locked.awaited = locked.awaited.and(Changes::of(change));
-        self.condvars.at(change).wait(rt, locked)
+        let locked = self.condvars.at(change).wait(rt, locked);
+        prove!({
+            locked.machine.confirm();
+            true
+        });
+        locked
     }
 
     /// Gives the lock back, and wakes those who wait for these changes, for a completion where one is there, or for the controller where it can do
     /// something.
-    pub(crate) fn leave(&self, locked: MutexGuard<'_, Locked<M>>, changes: Changes) {
+    pub fn leave(&self, locked: MutexGuard<'_, Locked<M>>, changes: Changes) {
         let mut locked = locked;
         let mut changes = changes;
         if locked.awaited.has(Change::Posted) && locked.machine.can_reap() {
@@ -97,7 +120,7 @@ impl<M: Machine + Drop> Shared<M> {
         requires { F.IsAlwaysCallable act }
         ensures { (old : _) × (new : _) × M.is old.now × F.post act old value result new }
     {
-        self.act_on(self.locked.lock(rt), changes, value, act)
+        self.act_on(self.lock(rt), changes, value, act)
     }
 
     /// Does so once the machine is ready for it, or the workers are told to stop. Whether it is ready is asked before the thread sleeps, and after each
@@ -115,7 +138,7 @@ impl<M: Machine + Drop> Shared<M> {
         requires acts { F.IsAlwaysCallable act }
         ensures { (old : _) × (new : _) × M.is old.now × F.post act old value result new }
     {
-        let mut locked = self.locked.lock(rt);
+        let mut locked = self.lock(rt);
         for _ in rt.forever() {
             if locked.stopping || ready(&mut locked.machine, &value) {
                 break;
@@ -127,14 +150,14 @@ impl<M: Machine + Drop> Shared<M> {
 
     /// Tells the workers to stop: whoever waits is woken, and waits no more.
     pub fn stop<R: Wait>(&self, rt: &R) {
-        let mut locked = self.locked.lock(rt);
+        let mut locked = self.lock(rt);
         locked.stopping = true;
         self.leave(locked, Changes::ALL);
     }
 
     /// Whether the workers are told to stop.
     pub fn stopping<R: Wait>(&self, rt: &R) -> bool {
-        self.locked.lock(rt).stopping
+        self.lock(rt).stopping
     }
 
     /// The machine, once nobody shares it.

@@ -43,15 +43,6 @@ pub enum ServedStep {
     },
 }
 
-/// What a reap of a queue changed that the lock does not see: which command ended. An admin command that ended may have changed a queue.
-fn changed_by_reaping(q: u16, answer: &Result<Reaped, Refusal>) -> Changes {
-    match answer {
-        Ok(Reaped::Done { cid, .. }) => Changes::of(Change::end_of(q, *cid)),
-        Ok(Reaped::AdminDone { .. }) => Changes::ALL,
-        Ok(Reaped::Rejected(_) | Reaped::Empty) | Err(_) => Changes::NONE,
-    }
-}
-
 /// Does a step of the controller.
 fn serve<A: Allocator + Copy>(world: &mut World<A>, step: ControllerStep) -> ServedStep
     ensures event { event_of result ≡ event_of_step step }
@@ -80,7 +71,7 @@ impl<A: Allocator + Copy> Shared<World<A>> {
     pub fn reap_next<R: Wait>(&self, rt: &R) -> Option<(u16, Result<Reaped, Refusal>)>
         ensures { IfSome result (λ reap. ReapedNext reap.0 (reap_reply reap.1)) }
     {
-        let mut locked = self.locked.lock(rt);
+        let mut locked = self.lock(rt);
         for _ in rt.forever() {
             if locked.stopping {
                 break;
@@ -91,7 +82,7 @@ impl<A: Allocator + Copy> Shared<World<A>> {
             });
             if let Some(q) = locked.machine.next_completion() {
                 let answer = locked.machine.reap(q);
-                self.leave(locked, changed_by_reaping(q, &answer));
+                self.leave(locked, Changes::of_reap(q, &answer));
                 return Some((q, answer));
             }
             locked = self.wait(rt, locked, Change::Posted);
@@ -103,7 +94,7 @@ impl<A: Allocator + Copy> Shared<World<A>> {
     pub fn serve_next<R: Wait>(&self, rt: &R) -> Option<ServedStep>
         ensures { IfSome result (λ served. ServedNext (event_of served) (reply_of served)) }
     {
-        let mut locked = self.locked.lock(rt);
+        let mut locked = self.lock(rt);
         for _ in rt.forever() {
             if locked.stopping {
                 break;

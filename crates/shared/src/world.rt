@@ -67,7 +67,7 @@ impl<A: Allocator + Copy> Shared<World<A>> {
         ensures step { Stepped (events.Reserve q request) (reserve_reply result) }
         ensures back { IfErr result (λ r. r.value ≡ request) }
     {
-        let mut locked = self.locked.lock(rt);
+        let mut locked = self.lock(rt);
         for _ in rt.forever() {
             if locked.stopping || !waits_for_room(&locked.machine, q, &request) {
                 break;
@@ -93,7 +93,7 @@ impl<A: Allocator + Copy> Shared<World<A>> {
         ensures back { IfErr result (λ r. r.value ≡ ticket) }
     {
         let (q, cid) = (ticket.q(), ticket.cid());
-        let mut locked = self.locked.lock(rt);
+        let mut locked = self.lock(rt);
         for _ in rt.forever() {
             if locked.stopping || !waits_for_end(&locked.machine, q, cid) {
                 break;

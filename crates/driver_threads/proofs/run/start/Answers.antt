@@ -4,7 +4,7 @@ use Rattle.step_core.proofs.step.Bytes.TheSendSync as bytes
 use Rattle.io_commands.proofs.request.Pieces.TheSendSync as pieces
 use Rattle.io_commands.proofs.request.RequestOf.TheSendSync as requests
 use Rattle.driver_threads.proofs.jobs.Job.TheSendSync as jobs
-use Rattle.driver_threads.proofs.shared.Shared.TheSendSync as books
+use Rattle.driver_threads.proofs.book_lock.Shared.TheSendSync as books
 use Rattle.driver_threads.proofs.run.Post.TheSendSync as posts
 use Rattle.driver_threads.proofs.run.Returned.TheSendSync as returned
 use Rattle.driver_threads.proofs.run.start.Goals as goal

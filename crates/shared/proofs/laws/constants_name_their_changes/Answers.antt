@@ -1,12 +1,8 @@
 use Rattle.std.proofs.Common.{refl, ap, ◌%◌, ◌==◌, arith}
 use Rattle.std.proofs.lemmas.Nat.Bits.{bit_at_ones}
-use Rattle.shared.specs.Changes.{bit_of}
 use Rattle.shared.specs.declared.changes.Change.TheVariants.{Room, Posted, Rung, Ended}
-use Rattle.shared.proofs.Bits.{bit_of_below, one_change}
+use Rattle.shared.proofs.Bits.{one_change}
 use Rattle.shared.proofs.laws.constants_name_their_changes.Goals as goal
-
-pub returns-clause-all : goal.returns-clause-all
-returns-clause-all c change = ap (λ bit. bit == 1) (bit_at_ones 19 (bit_of change) (bit_of_below change))
 
 pub returns-clause-ended : goal.returns-clause-ended
 returns-clause-ended c Room = refl

@@ -1,5 +1,0 @@
-use Rattle.driver_threads.proofs.UnderWay.{collects_command}
-use Rattle.driver_threads.proofs.shared.Shared.collect.Goals as goal
-
-pub returns-clause-command : goal.returns-clause-command
-returns-clause-command g c = collects_command c.deref_mut.result.now.book c.collect.new.self c.args.ticket.q c.args.ticket.cid c.collect.result c.collect.ensures.step
