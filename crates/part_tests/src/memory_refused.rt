@@ -1,7 +1,7 @@
 //! The calls of either side that want memory, each with every one of its growths refused in turn: the answer is want of memory, nothing
 //! changed, no byte leaked, and the same call then succeeds.
 
-use crate::driver::{Driver, opened, reserved};
+use crate::driver::{Driver, opened, reserved, submit};
 use crate::expecting::{same, same_at};
 use crate::guest::{DATA, ENTRIES, QUEUES, io_entry};
 use crate::guest_memory::GuestMemory;
@@ -113,28 +113,21 @@ fn refused_in_turn<'a>(
     0
 }
 
-/// Submits a Read of one block while memory is refused like this. A host that is refused all memory keeps no lists of it.
-fn submit<'a>(rt: &impl Abort, heap: &'a Heap, driver: &mut Driver<&'a Heap>, refusal: Refused) {
-    heap.refuse(Never);
-    let request = of_blocks(heap, Kind::Read, 1).expect(rt, "a request");
-    let mut held = reserved(rt, driver, request);
-    assert!(rt; held.draft.build(heap).is_ok());
-    heap.refuse(refusal);
-    same(rt, driver.submit(held).ok(), Some((1, 0)));
-    heap.refuse(Never);
-}
-
+/// The command that is reserved after another was submitted takes the lists that this one left.
 #[test]
 fn a_host_wants_memory(rt: HostRuntime) {
     let heap = Refusing::new(rt.alloc());
     assert!(rt; openings_refused(&rt, &heap) > 16);
     heap.refuse(Never);
     let mut driver = opened(&rt, &heap);
-    submit(&rt, &heap, &mut driver, NthOn(1));
+    submit(&rt, &mut driver, &heap, 0);
+    let request = of_blocks(&heap, Kind::Read, 1).expect(&rt, "a request");
+    let other = reserved(&rt, &mut driver, request);
     driver.scribble(3, 0, &completion(1, 1, 0, SUCCESS));
     assert!(rt; driver.reap(1).is_ok());
     assert!(rt; refused_in_turn(&rt, &heap, &mut driver, false) > 0);
     assert!(rt; refused_in_turn(&rt, &heap, &mut driver, true) > 0);
+    assert!(rt; driver.cancel(other).is_ok());
     drop(driver);
 }
 
