@@ -1,13 +1,13 @@
 -- What blocks and slots hold.
 use Rattle.std.specs.{Int.{w32, to_le_bytes}, Prelude.{ℕ, ◌+◌, ◌*◌, ◌^◌, ◌==◌, zero, suc, List, [], ◌++◌, if◌then◌else◌}}
 use Rattle.block_image.specs.Blocks.{blocks_at}
-use Rattle.rand_core.specs.{Steps.{steps_u32, stream_of}, Stream.fill_bytes}
-use Rattle.rand_pcg.specs.{Lcg.{increment_of, started}, Pcg.{multiplier_64, pcg32}}
+use Rattle.rand_core.specs.{Steps.{steps_u64_low, stream_of}, Stream.fill_bytes}
+use Rattle.rand_pcg.specs.{Lcg.{increment_of, started}, Pcg.{multiplier_128, pcg64}}
 use Rattle.load.specs.declared.layout.Layout.{Layout}
 
--- so many bytes of the generator PCG32 at this state, on this stream
+-- so many bytes of the generator PCG64 at this state, on this stream
 abbrev pub random_bytes : ℕ → ℕ → ℕ → List ℕ
-random_bytes many state stream = (fill_bytes many (stream_of (steps_u32 pcg32) (started 64 multiplier_64 state (increment_of 64 stream)))).0
+random_bytes many state stream = (fill_bytes many (stream_of (steps_u64_low pcg64) (started 128 multiplier_128 state (increment_of 128 stream)))).0
 
 -- a block as it is after so many writes: its number, how often it was written, and bytes made of both and of the seed
 unfoldable pub block_bytes : ℕ → ℕ → ℕ → List ℕ

@@ -5,7 +5,7 @@ ghost use Rattle.load.specs.Content.{block_bytes, slot_content, written};
 
 use crate::layout::Layout;
 use rand_core::Rng;
-use rand_pcg::Pcg32;
+use rand_pcg::Pcg64;
 use std::alloc::{AllocError, Global};
 
 /// Puts the bytes of a block as it is after so many writes: its number, how often it was written, and bytes made of both and of the seed.
@@ -13,8 +13,8 @@ use std::alloc::{AllocError, Global};
 fn put_block(out: &mut Vec<u8>, seed: u32, block: u32, generation: u32) -> Result<(), AllocError>
     ensures { OnOk result (out.new.items ≡ out.old.items ++ block_bytes seed block generation) }
 {
-    let state = (u64::from(seed) << 32) + u64::from(generation);
-    let mut words = Pcg32::new(state, u64::from(block));
+    let state = (u128::from(seed) << 32) + u128::from(generation);
+    let mut words = Pcg64::new(state, u128::from(block));
     let mut rest = [0u8; 504];
     words.fill_bytes(&mut rest);
     out.extend_from_slice(&block.to_le_bytes())?;
