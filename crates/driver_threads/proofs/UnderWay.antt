@@ -12,8 +12,8 @@ use Rattle.io_commands.specs.{Asked.Request, Values.{FinishedContents, TicketCon
 use Rattle.machine_model.specs.{State.{State, Record, is_at}, Step.{finished_from, asked_by, pages_with_bytes}}
 use Rattle.step_core.specs.{Opening.opening_of, Replies.collect_reply}
 use Rattle.host_core.specs.{Opening.refusal_of_config, declared.{config.Config.Config, refused.Refused.Refused}}
-use Rattle.driver_threads.specs.{Behind.{added, behind}, Ends.{ends_of, statuses_of, status_of, Agree, AwaitEach, Awaits, EndsWith, IsUnderWay}, Runs.RanFrom}
-use Rattle.driver_threads.specs.{Values.JobEnd, declared.jobs.{JobEnd.TheVariants.{Done, Refused as JobEndRefused}, JobRefusal.JobRefusal}}
+use Rattle.driver_threads.specs.{Behind.{added, behind}, Ends.{ends_of, statuses_of, status_of, Agree, AwaitEach, Awaits, EndsWith, FlyingOf, IsUnderWay}, Runs.RanFrom}
+use Rattle.driver_threads.specs.{Values.EndOf, declared.jobs.{JobEnd.TheVariants.{Done, Refused as JobEndRefused}, JobRefusal.JobRefusal}}
 use Rattle.block_image.specs.Blocks.{IsImage}
 use Rattle.page_memory.proofs.Lists.{found_is}
 
@@ -59,13 +59,13 @@ collects_command old new q cid (Err r) does = tt
 
 -- Ends
 
-pub ends_push : (ends : List JobEnd) (e : JobEnd) → ends_of (ends ++ e ∷ []) ≡ ends_of ends ++ ends_of (e ∷ [])
+pub ends_push : {K : Type 0} (ends : List (EndOf K)) (e : EndOf K) → ends_of (ends ++ e ∷ []) ≡ ends_of ends ++ ends_of (e ∷ [])
 ends_push [] (Done status bytes) = refl
 ends_push [] (JobEndRefused why) = refl
 ends_push (Done status bytes ∷ ends) e = ap (λ (xs : List (Option Status)). Some status ∷ xs) (ends_push ends e)
 ends_push (JobEndRefused why ∷ ends) e = ends_push ends e
 
-all_ended : (ends : List JobEnd) → list_any is_none (ends_of ends) ≡ false
+all_ended : {K : Type 0} (ends : List (EndOf K)) → list_any is_none (ends_of ends) ≡ false
 all_ended [] = refl
 all_ended (Done status bytes ∷ ends) = all_ended ends
 all_ended (JobEndRefused why ∷ ends) = all_ended ends
@@ -75,7 +75,7 @@ open_statuses [] = refl
 open_statuses (r ∷ receipts) = rw (open_statuses receipts) refl
 
 -- receipts that agree with ends have their statuses
-pub none_open : (receipts : List Receipt) (ends : List JobEnd) → Agree receipts ends → list_any (λ (r : Receipt). is_none r.status) receipts ≡ false
+pub none_open : {K : Type 0} (receipts : List Receipt) (ends : List (EndOf K)) → Agree receipts ends → list_any (λ (r : Receipt). is_none r.status) receipts ≡ false
 none_open receipts ends agree = open_statuses receipts ∙ ap (λ (xs : List (Option Status)). list_any is_none xs) agree ∙ all_ended ends
 
 -- Receipts
@@ -112,11 +112,11 @@ statuses_push [] r = refl
 statuses_push (x ∷ old) r = ap (λ (xs : List (Option Status)). x.status ∷ xs) (statuses_push old r)
 
 -- one job more ended ..
-pub agree_more : (old new : List Receipt) (ends : List JobEnd) (e : JobEnd) → Agree old ends → statuses_of new ≡ statuses_of old ++ ends_of (e ∷ []) → Agree new (ends ++ e ∷ [])
+pub agree_more : {K : Type 0} (old new : List Receipt) (ends : List (EndOf K)) (e : EndOf K) → Agree old ends → statuses_of new ≡ statuses_of old ++ ends_of (e ∷ []) → Agree new (ends ++ e ∷ [])
 agree_more old new ends e agree more = more ∙ ap (λ (xs : List (Option Status)). xs ++ ends_of (e ∷ [])) agree ∙ sym (ends_push ends e)
 
 -- .. or was refused
-pub agree_refused : (receipts : List Receipt) (ends : List JobEnd) (why : JobRefusal) → Agree receipts ends → Agree receipts (ends ++ JobEndRefused why ∷ [])
+pub agree_refused : {K : Type 0} (receipts : List Receipt) (ends : List (EndOf K)) (why : JobRefusal) → Agree receipts ends → Agree receipts (ends ++ JobEndRefused why ∷ [])
 agree_refused receipts ends why agree = agree ∙ sym (ends_push ends (JobEndRefused why) ∙ append-nil (ends_of ends))
 
 -- where each of the jobs has its end, none was cut off
@@ -128,51 +128,51 @@ all_carried (Err e) many before jobs none fewer agree same = absurd (omega (arit
 
 -- Nothing is in flight
 
-pub none_is : (tickets : List TicketContents) (n : ℕ) → n ≡ length tickets → n ≡ 0 → tickets ≡ []
+pub none_is : {D : Type 0} (flying : List (FlyingOf D)) (n : ℕ) → n ≡ length flying → n ≡ 0 → flying ≡ []
 none_is [] n long none = refl
-none_is (t ∷ tickets) n long none = absurd (omega (arith, long, none))
+none_is (f ∷ flying) n long none = absurd (omega (arith, long, none))
 
-pub begins : (receipts : List Receipt) (ends : List JobEnd) (tickets : List TicketContents) → receipts ≡ [] → ends ≡ [] → tickets ≡ [] → IsUnderWay receipts ends tickets
-begins receipts ends tickets no_receipts no_ends no_tickets = rw (no_receipts, no_ends, no_tickets) (record { ended = []; awaited = []; receipts_are = refl; agree = refl; await = tt })
+pub begins : {D K : Type 0} (receipts : List Receipt) (ends : List (EndOf K)) (flying : List (FlyingOf D)) → receipts ≡ [] → ends ≡ [] → flying ≡ [] → IsUnderWay receipts ends flying
+begins receipts ends flying no_receipts no_ends no_tickets = rw (no_receipts, no_ends, no_tickets) (record { ended = []; awaited = []; receipts_are = refl; agree = refl; await = tt })
 
-all_ended_under_way : (awaited ended receipts : List Receipt) (ends : List JobEnd) → receipts ≡ ended ++ awaited → Agree ended ends → AwaitEach awaited [] → Agree receipts ends
-all_ended_under_way [] ended receipts ends are agree await = ap statuses_of (are ∙ append-nil ended) ∙ agree
-all_ended_under_way (r ∷ awaited) ended receipts ends are agree await = absurd await
+all_ended_under_way : {K : Type 0} (D : Type 0) (awaited ended receipts : List Receipt) (ends : List (EndOf K)) → receipts ≡ ended ++ awaited → Agree ended ends → AwaitEach {D = D} awaited [] → Agree receipts ends
+all_ended_under_way D [] ended receipts ends are agree await = ap statuses_of (are ∙ append-nil ended) ∙ agree
+all_ended_under_way D (r ∷ awaited) ended receipts ends are agree await = absurd await
 
-pub landed : (receipts : List Receipt) (ends : List JobEnd) (tickets : List TicketContents) (n : ℕ) → n ≡ length tickets → n ≡ 0 → IsUnderWay receipts ends tickets → Agree receipts ends
-landed receipts ends tickets n long none u = all_ended_under_way u.awaited u.ended receipts ends u.receipts_are u.agree (rw (sym (none_is tickets n long none)) u.await)
+pub landed : {D K : Type 0} (receipts : List Receipt) (ends : List (EndOf K)) (flying : List (FlyingOf D)) (n : ℕ) → n ≡ length flying → n ≡ 0 → IsUnderWay receipts ends flying → Agree receipts ends
+landed {D} receipts ends flying n long none u = all_ended_under_way D u.awaited u.ended receipts ends u.receipts_are u.agree (rw (sym (none_is flying n long none)) u.await)
 
 -- One command more
 
-pub await_push : (awaited : List Receipt) (tickets : List TicketContents) (number : ℕ) (asked : Asked) (t : TicketContents) → AwaitEach awaited tickets → AwaitEach (awaited ++ receipt number t.q t.cid asked None ∷ []) (tickets ++ t ∷ [])
-await_push [] [] number asked t await = (refl, tt)
-await_push [] (u ∷ tickets) number asked t await = absurd await
-await_push (r ∷ awaited) [] number asked t await = absurd await
-await_push (r ∷ awaited) (u ∷ tickets) number asked t await = (await.0, await_push awaited tickets number asked t await.1)
+pub await_push : {D : Type 0} (awaited : List Receipt) (flying : List (FlyingOf D)) (number : ℕ) (asked : Asked) (f : FlyingOf D) → AwaitEach awaited flying → AwaitEach (awaited ++ receipt number f.ticket.q f.ticket.cid asked None ∷ []) (flying ++ f ∷ [])
+await_push [] [] number asked f await = (refl, tt)
+await_push [] (u ∷ flying) number asked f await = absurd await
+await_push (r ∷ awaited) [] number asked f await = absurd await
+await_push (r ∷ awaited) (u ∷ flying) number asked f await = (await.0, await_push awaited flying number asked f await.1)
 
-pub launched : (receipts new : List Receipt) (ends : List JobEnd) (tickets : List TicketContents) (t : TicketContents) → IsUnderWay receipts ends tickets → Awaits receipts t new → IsUnderWay new ends (tickets ++ t ∷ [])
-launched receipts new ends tickets t u (number, asked, awaits) =
-    let one : List Receipt = receipt number t.q t.cid asked None ∷ [] in record {
+pub launched : {D K : Type 0} (receipts new : List Receipt) (ends : List (EndOf K)) (flying : List (FlyingOf D)) (f : FlyingOf D) → IsUnderWay receipts ends flying → Awaits receipts f.ticket new → IsUnderWay new ends (flying ++ f ∷ [])
+launched receipts new ends flying f u (number, asked, awaits) =
+    let one : List Receipt = receipt number f.ticket.q f.ticket.cid asked None ∷ [] in record {
       ended = u.ended;
       awaited = u.awaited ++ one;
       receipts_are = awaits ∙ ap (λ (rs : List Receipt). rs ++ one) u.receipts_are ∙ append_assoc u.ended u.awaited one;
       agree = u.agree;
-      await = await_push u.awaited tickets number asked t u.await;
+      await = await_push u.awaited flying number asked f u.await;
     }
 
 -- The oldest one
 
-pub await_length : (awaited : List Receipt) (tickets : List TicketContents) → AwaitEach awaited tickets → length awaited ≡ length tickets
+pub await_length : {D : Type 0} (awaited : List Receipt) (flying : List (FlyingOf D)) → AwaitEach awaited flying → length awaited ≡ length flying
 await_length [] [] await = refl
-await_length [] (u ∷ tickets) await = absurd await
+await_length [] (u ∷ flying) await = absurd await
 await_length (r ∷ awaited) [] await = absurd await
-await_length (r ∷ awaited) (u ∷ tickets) await = ap suc (await_length awaited tickets await.1)
+await_length (r ∷ awaited) (u ∷ flying) await = ap suc (await_length awaited flying await.1)
 
 -- a seat has a receipt for each command in flight
-pub in_flight_fit : (receipts : List Receipt) (ends : List JobEnd) (tickets : List TicketContents) → IsUnderWay receipts ends tickets → length tickets ≤ length receipts
-in_flight_fit receipts ends tickets u =
+pub in_flight_fit : {D K : Type 0} (receipts : List Receipt) (ends : List (EndOf K)) (flying : List (FlyingOf D)) → IsUnderWay receipts ends flying → length flying ≤ length receipts
+in_flight_fit receipts ends flying u =
     let long : length receipts ≡ length u.ended + length u.awaited = ap length u.receipts_are ∙ length-append u.ended u.awaited in
-    let same : length u.awaited ≡ length tickets = await_length u.awaited tickets u.await in
+    let same : length u.awaited ≡ length flying = await_length u.awaited flying u.await in
     omega (arith, long, same)
 
 or_true : (b : Bool) → (b || true) ≡ true
@@ -183,25 +183,25 @@ is_open : (number q cid : ℕ) (asked : Asked) (ended awaited : List Receipt) �
 is_open number q cid asked [] awaited = rw (eq-eqb q q refl, eq-eqb cid cid refl) refl
 is_open number q cid asked (r ∷ ended) awaited = rw (is_open number q cid asked ended awaited) (or_true (is_open_for q cid r))
 
-oldest_open : (awaited ended receipts : List Receipt) (t : TicketContents) (tickets : List TicketContents) → receipts ≡ ended ++ awaited → AwaitEach awaited (t ∷ tickets) → list_any (is_open_for t.q t.cid) receipts ≡ true
-oldest_open [] ended receipts t tickets are await = absurd await
-oldest_open (r ∷ awaited) ended receipts t tickets are await =
-    ap (list_any (is_open_for t.q t.cid)) (are ∙ ap (λ (r : Receipt). ended ++ r ∷ awaited) await.0) ∙ is_open r.number t.q t.cid r.asked ended awaited
+oldest_open : {D : Type 0} (awaited ended receipts : List Receipt) (f : FlyingOf D) (flying : List (FlyingOf D)) → receipts ≡ ended ++ awaited → AwaitEach awaited (f ∷ flying) → list_any (is_open_for f.ticket.q f.ticket.cid) receipts ≡ true
+oldest_open [] ended receipts f flying are await = absurd await
+oldest_open (r ∷ awaited) ended receipts f flying are await =
+    ap (list_any (is_open_for f.ticket.q f.ticket.cid)) (are ∙ ap (λ (r : Receipt). ended ++ r ∷ awaited) await.0) ∙ is_open r.number f.ticket.q f.ticket.cid r.asked ended awaited
 
 -- the seat awaits the oldest command in flight
-pub oldest_is_open : (receipts : List Receipt) (ends : List JobEnd) (t : TicketContents) (tickets : List TicketContents) → IsUnderWay receipts ends (t ∷ tickets) → list_any (is_open_for t.q t.cid) receipts ≡ true
-oldest_is_open receipts ends t tickets u = oldest_open u.awaited u.ended receipts t tickets u.receipts_are u.await
+pub oldest_is_open : {D K : Type 0} (receipts : List Receipt) (ends : List (EndOf K)) (f : FlyingOf D) (flying : List (FlyingOf D)) → IsUnderWay receipts ends (f ∷ flying) → list_any (is_open_for f.ticket.q f.ticket.cid) receipts ≡ true
+oldest_is_open receipts ends f flying u = oldest_open u.awaited u.ended receipts f flying u.receipts_are u.await
 
-oldest_ends : (awaited ended receipts new : List Receipt) (ends : List JobEnd) (t : TicketContents) (tickets : List TicketContents) (place : ℕ) (end : JobEnd)
-    → receipts ≡ ended ++ awaited → Agree ended ends → AwaitEach awaited (t ∷ tickets) → place ≡ length receipts - length (t ∷ tickets) → EndsWith receipts t.q t.cid place end new
-    → IsUnderWay new (ends ++ end ∷ []) tickets
-oldest_ends [] ended receipts new ends t tickets place end are agree await at ends_with = absurd await
-oldest_ends (r ∷ awaited) ended receipts new ends t tickets place end are agree await at (status, settles, tells) =
-    let told : Receipt = receipt r.number t.q t.cid r.asked status in
-    let was : receipts ≡ ended ++ receipt r.number t.q t.cid r.asked None ∷ awaited = are ∙ ap (λ (r : Receipt). ended ++ r ∷ awaited) await.0 in
-    let is : new ≡ ended ++ told ∷ awaited = settles ∙ ap (settled t.q t.cid status) was ∙ settled_oldest t.q t.cid r.number r.asked status ended awaited (none_open ended ends agree) in
+oldest_ends : {D K : Type 0} (awaited ended receipts new : List Receipt) (ends : List (EndOf K)) (f : FlyingOf D) (flying : List (FlyingOf D)) (place : ℕ) (end : EndOf K)
+    → receipts ≡ ended ++ awaited → Agree ended ends → AwaitEach awaited (f ∷ flying) → place ≡ length receipts - length (f ∷ flying) → EndsWith receipts f.ticket.q f.ticket.cid place end new
+    → IsUnderWay new (ends ++ end ∷ []) flying
+oldest_ends [] ended receipts new ends f flying place end are agree await at ends_with = absurd await
+oldest_ends (r ∷ awaited) ended receipts new ends f flying place end are agree await at (status, settles, tells) =
+    let told : Receipt = receipt r.number f.ticket.q f.ticket.cid r.asked status in
+    let was : receipts ≡ ended ++ receipt r.number f.ticket.q f.ticket.cid r.asked None ∷ awaited = are ∙ ap (λ (r : Receipt). ended ++ r ∷ awaited) await.0 in
+    let is : new ≡ ended ++ told ∷ awaited = settles ∙ ap (settled f.ticket.q f.ticket.cid status) was ∙ settled_oldest f.ticket.q f.ticket.cid r.number r.asked status ended awaited (none_open ended ends agree) in
     let long : length receipts ≡ length ended + length (r ∷ awaited) = ap length are ∙ length-append ended (r ∷ awaited) in
-    let same : length awaited ≡ length tickets = await_length awaited tickets await.1 in
+    let same : length awaited ≡ length flying = await_length awaited flying await.1 in
     let here : place ≡ length ended = omega (arith, at, long, same) in
     let as_told : status_of new place ≡ status = ap (λ (rs : List Receipt). status_of rs place) is ∙ ap (status_of (ended ++ told ∷ awaited)) here ∙ status_is ended awaited told in
     let more : statuses_of (ended ++ told ∷ []) ≡ statuses_of ended ++ ends_of (end ∷ []) =
@@ -214,13 +214,13 @@ oldest_ends (r ∷ awaited) ended receipts new ends t tickets place end are agre
     }
 
 -- the oldest command in flight ended
-pub one_ended : (receipts new : List Receipt) (ends : List JobEnd) (t : TicketContents) (tickets : List TicketContents) (place : ℕ) (end : JobEnd)
-    → IsUnderWay receipts ends (t ∷ tickets) → place ≡ length receipts - length (t ∷ tickets) → EndsWith receipts t.q t.cid place end new → IsUnderWay new (ends ++ end ∷ []) tickets
-one_ended receipts new ends t tickets place end u at ends_with = oldest_ends u.awaited u.ended receipts new ends t tickets place end u.receipts_are u.agree u.await at ends_with
+pub one_ended : {D K : Type 0} (receipts new : List Receipt) (ends : List (EndOf K)) (f : FlyingOf D) (flying : List (FlyingOf D)) (place : ℕ) (end : EndOf K)
+    → IsUnderWay receipts ends (f ∷ flying) → place ≡ length receipts - length (f ∷ flying) → EndsWith receipts f.ticket.q f.ticket.cid place end new → IsUnderWay new (ends ++ end ∷ []) flying
+one_ended receipts new ends f flying place end u at ends_with = oldest_ends u.awaited u.ended receipts new ends f flying place end u.receipts_are u.agree u.await at ends_with
 
 -- a job was refused
-pub one_refused : (receipts : List Receipt) (ends : List JobEnd) (tickets : List TicketContents) (why : JobRefusal) → IsUnderWay receipts ends tickets → IsUnderWay receipts (ends ++ JobEndRefused why ∷ []) tickets
-one_refused receipts ends tickets why u = record {
+pub one_refused : {D K : Type 0} (receipts : List Receipt) (ends : List (EndOf K)) (flying : List (FlyingOf D)) (why : JobRefusal) → IsUnderWay receipts ends flying → IsUnderWay receipts (ends ++ JobEndRefused why ∷ []) flying
+one_refused receipts ends flying why u = record {
   ended = u.ended;
   awaited = u.awaited;
   receipts_are = u.receipts_are;

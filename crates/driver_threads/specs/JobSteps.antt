@@ -1,15 +1,15 @@
 -- What the functions of a submitter say of one job and of those that it has in flight, from its reservation to its end.
 use Rattle.std.specs.List.{AllZip}
-use Rattle.std.specs.Prelude.{take, ◌≡◌, ◌≢◌, ◌⊎◌, ◌<◌, length, sum_by, ℕ, Some, None, List, [], ◌∷◌, ◌++◌, Ok}
+use Rattle.std.specs.Prelude.{take, ◌≡◌, ◌≢◌, ◌⊎◌, ◌<◌, length, sum_by, map, ℕ, Some, None, List, [], ◌∷◌, ◌++◌, Ok}
 use Rattle.entry_codec.specs.declared.status.Status.{Status}
-use Rattle.io_commands.specs.{Asked.Request, Drafts.DraftContents, Values.{FinishedContents, TicketContents, gathered_from}}
+use Rattle.io_commands.specs.{Asked.Request, Drafts.DraftContents, Values.{FinishedContents}}
 use Rattle.io_commands.specs.{DataBytes.data_length, declared.request.Kind.TheVariants.Read}
 use Rattle.machine_model.specs.{State.State, declared.words.Refusal.Refusal}
 use Rattle.machine_model.specs.Events as events
 use Rattle.machine_model.specs.declared.words.Refusal.TheVariants as refusal
 use Rattle.driver_threads.specs.declared.jobs.JobRefusal.TheVariants as why
 use Rattle.driver_book.specs.{State.SeatContents, declared.report.Receipt.Receipt}
-use Rattle.driver_threads.specs.{Ends.{AwaitEach, status_of}, Jobs.{AreSubmitted, RefusesDraft, RefusesJob, WentSo}, Sharing.{Made, Released}, Values.{Job, JobEnd}}
+use Rattle.driver_threads.specs.{Ends.{AwaitEach, FlyingOf, status_of}, Jobs.{AreSubmitted, BytesOf, KeepsOf, RefusesDraft, RefusesJob, WentBy}, Sharing.{Made, Released}, Values.{EndOf, JobOf}}
 use Rattle.driver_threads.specs.declared.{jobs.{JobEnd.TheVariants.Done, JobRefusal.JobRefusal}, waits.{Halt.Halt, Reservation.Reservation}}
 use Rattle.driver_threads.specs.declared.waits.Halt.TheVariants as halt
 use Rattle.driver_threads.specs.declared.waits.Reservation.TheVariants as reservation
@@ -41,46 +41,56 @@ abbrev pub IsReservation : {A : Type 0} → State → ℕ → Request → Reserv
 IsReservation opening q request (reservation.Now draft) = Made opening None (events.Reserve q request) (events.Reserved draft)
 IsReservation opening q request (reservation.Later later) = later ≡ request
 
--- the end of a job whose command is this one: what was gathered of it, and the status of the receipt at this place
-pub record IsEndOf (command : FinishedContents) (receipts : List Receipt) (place : ℕ) (end : JobEnd) : Type 0 where
+-- the end of a job with these data whose command is this one: what was kept of it, and the status of the receipt at this place
+pub record IsEndOf {D K : Type 0} (Keeps : KeepsOf D K) (given : D) (command : FinishedContents) (receipts : List Receipt) (place : ℕ) (end : EndOf K) : Type 0 where
   pub status : Status
-  pub end_is : end ≡ Done status (gathered_from command)
+  pub kept : K
+  pub end_is : end ≡ Done status kept
+  pub keeps : Keeps given command kept
   pub told : status_of receipts place ≡ Some status
 
 -- The command with this identifier was given up: some book of this opening collected it, some book released it for this seat, and the end is
 -- that of the command.
-pub record GivesUp (opening : State) (seat : SeatContents) (q cid place : ℕ) (end : JobEnd) (next : SeatContents) : Type 0 where
+pub record GivesUp {D K : Type 0} (Keeps : KeepsOf D K) (opening : State) (seat : SeatContents) (q cid : ℕ) (given : D) (place : ℕ) (end : EndOf K) (next : SeatContents) : Type 0 where
   pub command : FinishedContents
   pub collected : Made opening None (events.Collect q cid) (events.Collects command)
   pub queue : command.q ≡ q
   pub identifier : command.cid ≡ cid
   pub released : Released opening seat command {A = Unit {0}} (Ok tt) next
-  pub end_is : IsEndOf command next.receipts place end
+  pub end_is : IsEndOf Keeps given command next.receipts place end
+
+-- the data of these jobs
+abbrev pub data_of : {D : Type 0} → List (JobOf D) → List D
+data_of jobs = map (λ job. job.bytes) jobs
 
 -- A submitter carries these jobs: the first of them went so, with the first receipts, and have these ends; the others are in flight, and have the
--- other receipts and these tickets.
-pub record Carries (opening : State) (seat : SeatContents) (ends : List JobEnd) (tickets : List TicketContents) (jobs : List Job) : Type 0 where
-  pub done : List Job
-  pub flying : List Job
+-- other receipts.
+pub record Carries {D K : Type 0} (bytes_of : BytesOf D) (Keeps : KeepsOf D K) (opening : State) (seat : SeatContents) (ends : List (EndOf K)) (flying : List (FlyingOf D)) (jobs : List (JobOf D)) : Type 0 where
+  pub done : List (JobOf D)
+  pub left : List (JobOf D)
   pub ended : List Receipt
   pub awaited : List Receipt
-  pub jobs_are : jobs ≡ done ++ flying
+  pub jobs_are : jobs ≡ done ++ left
   pub receipts_are : seat.receipts ≡ ended ++ awaited
-  pub went : WentSo opening seat.number done ended ends
-  pub submitted : AreSubmitted opening seat.number flying awaited
-  pub await : AwaitEach awaited tickets
+  pub went : WentBy bytes_of Keeps opening seat.number done ended ends
+  pub submitted : AreSubmitted bytes_of opening seat.number left awaited
+  pub given : data_of left ≡ map (λ f. f.given) flying
+  pub await : AwaitEach awaited flying
 
 -- whatever a submitter carried, it goes on to carry
-abbrev pub CarriesOn : State → SeatContents → List JobEnd → List TicketContents → SeatContents → List JobEnd → List TicketContents → Type 0
-CarriesOn opening seat ends tickets next later flying = (jobs : List Job) → Carries opening seat ends tickets jobs → Carries opening next later flying jobs
+abbrev pub CarriesOn : {D K : Type 0} → BytesOf D → KeepsOf D K → State → SeatContents → List (EndOf K) → List (FlyingOf D) → SeatContents → List (EndOf K) → List (FlyingOf D) → Type 0
+CarriesOn {D} bytes_of Keeps opening seat ends flying next later still =
+    (jobs : List (JobOf D)) → Carries bytes_of Keeps opening seat ends flying jobs → Carries bytes_of Keeps opening next later still jobs
 
 -- and one job more
-abbrev pub CarriesAlso : State → SeatContents → List JobEnd → List TicketContents → Job → SeatContents → List JobEnd → List TicketContents → Type 0
-CarriesAlso opening seat ends tickets job next later flying = (jobs : List Job) → Carries opening seat ends tickets jobs → Carries opening next later flying (jobs ++ job ∷ [])
+abbrev pub CarriesAlso : {D K : Type 0} → BytesOf D → KeepsOf D K → State → SeatContents → List (EndOf K) → List (FlyingOf D) → JobOf D → SeatContents → List (EndOf K) → List (FlyingOf D) → Type 0
+CarriesAlso {D} bytes_of Keeps opening seat ends flying job next later still =
+    (jobs : List (JobOf D)) → Carries bytes_of Keeps opening seat ends flying jobs → Carries bytes_of Keeps opening next later still (jobs ++ job ∷ [])
 
 -- and any job more that is refused for this cause
-abbrev pub CarriesRefused : State → SeatContents → List JobEnd → List TicketContents → JobRefusal → SeatContents → List JobEnd → List TicketContents → Type 0
-CarriesRefused opening seat ends tickets cause next later flying = (job : Job) → RefusesJob opening job cause → CarriesAlso opening seat ends tickets job next later flying
+abbrev pub CarriesRefused : {D K : Type 0} → BytesOf D → KeepsOf D K → State → SeatContents → List (EndOf K) → List (FlyingOf D) → JobRefusal → SeatContents → List (EndOf K) → List (FlyingOf D) → Type 0
+CarriesRefused {D} bytes_of Keeps opening seat ends flying cause next later still =
+    (job : JobOf D) → RefusesJob bytes_of opening job cause → CarriesAlso bytes_of Keeps opening seat ends flying job next later still
 
 -- What threads give back
 

@@ -4,7 +4,7 @@ use Rattle.io_commands.specs.{Asked.Request, Drafts.{DraftContents, built}, Data
 use Rattle.io_commands.specs.declared.request.Kind.{Kind, TheVariants.{Read, Write, Compare}}
 use Rattle.machine_model.specs.{Claims.counts_of, Refusals.refusal_of, State.State}
 use Rattle.driver_book.specs.{Calls.{Does, status_at}, Entries.asked_of, History.accepted, State.{BookContents, IsBookOf}, declared.report.Receipt.Receipt}
-use Rattle.driver_threads.specs.{Sharing.Made, Values.{Job, JobEnd}}
+use Rattle.driver_threads.specs.{Sharing.Made, Values.{EndOf, Job, JobEnd, JobOf}}
 use Rattle.driver_threads.specs.declared.jobs.{JobEnd.TheVariants.{Done, Refused}, JobRefusal.JobRefusal}
 use Rattle.driver_threads.specs.declared.jobs.JobRefusal.TheVariants as why
 use Rattle.machine_model.specs.Events as events
@@ -26,28 +26,45 @@ with_bytes_of Compare bytes d = record d { data_pages = padded d.request bytes d
 abbrev pub prepared : List ℕ → DraftContents → DraftContents
 prepared bytes d = built (with_bytes_of d.request.kind bytes d)
 
+-- What the data of a job are
+
+-- the bytes that data stand for
+abbrev pub BytesOf : Type 0 → Type 0
+BytesOf D = D → List ℕ
+
+-- that an end may keep this value of a finished command, for these data
+abbrev pub KeepsOf : Type 0 → Type 0 → Type 1
+KeepsOf D K = D → FinishedContents → K → Type 0
+
+-- data that are the bytes themselves, and ends that keep all that was gathered
+abbrev pub themselves : BytesOf (List ℕ)
+themselves bytes = bytes
+
+abbrev pub KeepsGathered : KeepsOf (List ℕ) (List ℕ)
+KeepsGathered given command kept = kept ≡ gathered_from command
+
 -- The command of a job
 
 -- A job was submitted: some book of this opening reserved its request on its queue, and some book accepted, for this seat, the draft so
 -- reserved with the job's bytes. The receipt has the number of that submission, what the job asks for, its queue and the draft's identifier.
-pub record IsSubmitted (opening : State) (seat : ℕ) (job : Job) (r : Receipt) : Type 0 where
+pub record IsSubmitted {D : Type 0} (bytes_of : BytesOf D) (opening : State) (seat : ℕ) (job : JobOf D) (r : Receipt) : Type 0 where
   pub draft : DraftContents
   pub reserved : Made opening None (events.Reserve job.q job.request) (events.Reserved draft)
   pub old : BookContents
   pub new : BookContents
   pub of : IsBookOf opening old
-  pub does : Does old (Some seat) (events.Submit (prepared job.bytes draft)) events.Accepted new
+  pub does : Does old (Some seat) (events.Submit (prepared (bytes_of job.bytes) draft)) events.Accepted new
   pub number : r.number ≡ accepted old.log
   pub asked : r.asked ≡ asked_of job.request
   pub queue : r.q ≡ job.q
   pub identifier : r.cid ≡ draft.cid
 
--- The command of a receipt was given up: some book of this opening collected it, these bytes were gathered from it, and some book released it for
--- this seat; the receipt has the status that it had then.
-pub record IsEnded (opening : State) (seat : ℕ) (r : Receipt) (bytes : List ℕ) : Type 0 where
+-- The command of a receipt was given up: some book of this opening collected it, this was kept of it for the data of its job, and some book
+-- released it for this seat; the receipt has the status that it had then.
+pub record IsEnded {D K : Type 0} (Keeps : KeepsOf D K) (opening : State) (seat : ℕ) (given : D) (r : Receipt) (kept : K) : Type 0 where
   pub command : FinishedContents
   pub collected : Made opening None (events.Collect r.q r.cid) (events.Collects command)
-  pub gathered : bytes ≡ gathered_from command
+  pub keeps : Keeps given command kept
   pub old : BookContents
   pub new : BookContents
   pub of : IsBookOf opening old
@@ -91,41 +108,46 @@ pub record RefusesDraft (opening : State) (d : DraftContents) : Type 0 where
   pub refuses : RefusesToSubmit book d
 
 -- a job that was reserved is refused for its own bytes, or where its queue takes its draft no more
-abbrev pub RefusesReserved : State → Job → DraftContents → JobRefusal → Type 0
-RefusesReserved opening job draft why.WrongLength = (job.request.kind ≢ Read) × (sum_by data_length job.request.pieces < length job.bytes)
-RefusesReserved opening job draft why.QueueGone = RefusesDraft opening (prepared job.bytes draft)
-RefusesReserved opening job draft cause = ⊥
+abbrev pub RefusesReserved : {D : Type 0} → BytesOf D → State → JobOf D → DraftContents → JobRefusal → Type 0
+RefusesReserved bytes_of opening job draft why.WrongLength = (job.request.kind ≢ Read) × (sum_by data_length job.request.pieces < length (bytes_of job.bytes))
+RefusesReserved bytes_of opening job draft why.QueueGone = RefusesDraft opening (prepared (bytes_of job.bytes) draft)
+RefusesReserved bytes_of opening job draft cause = ⊥
 
 -- some book of this opening reserved the job's request, and what was reserved is refused
-pub record IsRefusedOnceReserved (opening : State) (job : Job) (cause : JobRefusal) : Type 0 where
+pub record IsRefusedOnceReserved {D : Type 0} (bytes_of : BytesOf D) (opening : State) (job : JobOf D) (cause : JobRefusal) : Type 0 where
   pub draft : DraftContents
   pub reserved : Made opening None (events.Reserve job.q job.request) (events.Reserved draft)
-  pub refuses : RefusesReserved opening job draft cause
+  pub refuses : RefusesReserved bytes_of opening job draft cause
 
 -- A JOB IS REFUSED for what a book of this opening answers to its request, or, once that is reserved, for its own bytes or for what a book
 -- answers to its draft.
-abbrev pub RefusesJob : State → Job → JobRefusal → Type 0
-RefusesJob opening job cause = RefusesRequest opening job.q job.request cause ⊎ IsRefusedOnceReserved opening job cause
+abbrev pub RefusesJob : {D : Type 0} → BytesOf D → State → JobOf D → JobRefusal → Type 0
+RefusesJob bytes_of opening job cause = RefusesRequest opening job.q job.request cause ⊎ IsRefusedOnceReserved bytes_of opening job cause
 
 -- All jobs of a submitter
 
 -- HOW THE JOBS WENT, in their order, beside the receipts of their seat and their ends: a refused job has no receipt; each other one has the next
--- receipt, was submitted with it, and ended with what was gathered of its command.
-abbrev pub WentSo : State → ℕ → List Job → List Receipt → List JobEnd → Type 0
-WentSo opening seat [] [] [] = Unit {0}
-WentSo opening seat (job ∷ jobs) receipts (Refused cause ∷ ends) = RefusesJob opening job cause × WentSo opening seat jobs receipts ends
-WentSo opening seat (job ∷ jobs) (r ∷ receipts) (Done status bytes ∷ ends) =
-    IsSubmitted opening seat job r × IsEnded opening seat r bytes × (r.status ≡ Some status) × WentSo opening seat jobs receipts ends
-WentSo opening seat jobs receipts ends = ⊥
+-- receipt, was submitted with it, and ended with what was kept of its command.
+abbrev pub WentBy : {D K : Type 0} → BytesOf D → KeepsOf D K → State → ℕ → List (JobOf D) → List Receipt → List (EndOf K) → Type 0
+WentBy bytes_of Keeps opening seat [] [] [] = Unit {0}
+WentBy bytes_of Keeps opening seat (job ∷ jobs) receipts (Refused cause ∷ ends) = RefusesJob bytes_of opening job cause × WentBy bytes_of Keeps opening seat jobs receipts ends
+WentBy bytes_of Keeps opening seat (job ∷ jobs) (r ∷ receipts) (Done status kept ∷ ends) =
+    IsSubmitted bytes_of opening seat job r × IsEnded Keeps opening seat job.bytes r kept × (r.status ≡ Some status) × WentBy bytes_of Keeps opening seat jobs receipts ends
+WentBy bytes_of Keeps opening seat jobs receipts ends = ⊥
 
 -- those in flight: each has its receipt, and was submitted with it
-abbrev pub AreSubmitted : State → ℕ → List Job → List Receipt → Type 0
-AreSubmitted opening seat [] [] = Unit {0}
-AreSubmitted opening seat (job ∷ jobs) (r ∷ receipts) = IsSubmitted opening seat job r × AreSubmitted opening seat jobs receipts
-AreSubmitted opening seat jobs receipts = ⊥
+abbrev pub AreSubmitted : {D : Type 0} → BytesOf D → State → ℕ → List (JobOf D) → List Receipt → Type 0
+AreSubmitted bytes_of opening seat [] [] = Unit {0}
+AreSubmitted bytes_of opening seat (job ∷ jobs) (r ∷ receipts) = IsSubmitted bytes_of opening seat job r × AreSubmitted bytes_of opening seat jobs receipts
+AreSubmitted bytes_of opening seat jobs receipts = ⊥
 
 -- so the jobs of all submitters, each with a seat of its own
+abbrev pub AllWentBy : {D K : Type 0} → BytesOf D → KeepsOf D K → State → List (List (JobOf D)) → List (List Receipt) → List (List (EndOf K)) → Type 0
+AllWentBy bytes_of Keeps opening [] [] [] = Unit {0}
+AllWentBy bytes_of Keeps opening (jobs ∷ lists) (receipts ∷ reports) (ends ∷ later) =
+    ((seat : ℕ) × WentBy bytes_of Keeps opening seat jobs receipts ends) × AllWentBy bytes_of Keeps opening lists reports later
+AllWentBy bytes_of Keeps opening lists reports later = ⊥
+
+-- jobs with their bytes, whose ends have all that was gathered
 abbrev pub AllWent : State → List (List Job) → List (List Receipt) → List (List JobEnd) → Type 0
-AllWent opening [] [] [] = Unit {0}
-AllWent opening (jobs ∷ lists) (receipts ∷ reports) (ends ∷ later) = ((seat : ℕ) × WentSo opening seat jobs receipts ends) × AllWent opening lists reports later
-AllWent opening lists reports later = ⊥
+AllWent opening lists reports ends = AllWentBy themselves KeepsGathered opening lists reports ends

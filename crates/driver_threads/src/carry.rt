@@ -9,15 +9,16 @@ ghost use Rattle.driver_threads.specs.Jobs.{prepared as spec_prepared};
 ghost use Rattle.driver_threads.specs.Sharing.{Released, Submitted};
 
 use crate::book_lock::Shared;
+use crate::data::{Data, Unfilled};
 use crate::gate::{Gate, Point};
-use crate::jobs::{JobEnd, JobEndIn, JobRefusal};
+use crate::jobs::{JobEnd, JobRefusal};
 use crate::waits::Halt;
 use driver_book::{LogBrand, Receipt, Seat};
 use entry_codec::Status;
-use io_commands::{Draft, FillFault, Finished, Ticket};
+use io_commands::{Draft, Finished, Ticket};
 use std::alloc::Allocator;
 use std::sync::Wait;
-use step_core::{Bytes, Refusal};
+use step_core::Refusal;
 
 /// A submitter's gate, and whether it was closed once.
 #[derive(Drop)]
@@ -50,14 +51,19 @@ impl<'a, G: Gate> Watch<'a, G> {
     }
 }
 
-/// Fills a draft with the bytes, and with zeros behind them, where it is a source, and builds it. No lock is held.
-fn prepare<A: Allocator + Copy>(alloc: A, draft: &mut Draft<A>, bytes: &[u8]) -> Result<(), Halt>
-    ensures prepared { OnOk result (draft.new ≡ spec_prepared bytes.now draft.old) }
-    ensures refused { IfErr result (Refusing (IsTooLong bytes.now draft.old.request)) }
+/// Fills a draft with the data of its job, where it is a source, and builds it. No lock is held.
+fn prepare<A: Allocator + Copy, K, D: Data<K, A>>(
+    alloc: A,
+    draft: &mut Draft<A>,
+    given: &D,
+) -> Result<(), Halt>
+    ensures prepared { OnOk result (draft.new ≡ spec_prepared (D.bytes given.now) draft.old) }
+    ensures refused { IfErr result (Refusing (IsTooLong (D.bytes given.now) draft.old.request)) }
 {
-    match draft.fill_padded(bytes) {
-        Ok(()) | Err(FillFault::NotASource) => {}
-        Err(FillFault::WrongLength) => return Err(Halt::Refused(JobRefusal::WrongLength)),
+    match given.fill(alloc, draft) {
+        Ok(()) => {}
+        Err(Unfilled::WrongLength) => return Err(Halt::Refused(JobRefusal::WrongLength)),
+        Err(Unfilled::Memory) => return Err(Halt::Memory),
     }
     match draft.build(alloc) {
         Ok(()) => Ok(()),
@@ -90,18 +96,18 @@ fn give_up<L: LogBrand, A: Allocator + Copy, R: Wait>(
 }
 
 /// Fills a draft and builds it, or gives it up. No lock is held.
-pub(crate) fn prepared<L: LogBrand, A: Allocator + Copy, R: Wait>(
+pub(crate) fn prepared<L: LogBrand, A: Allocator + Copy, K, D: Data<K, A>, R: Wait>(
     rt: &R,
     alloc: A,
     shared: &Shared<L, A>,
     draft: Draft<A>,
-    bytes: Bytes<A>,
+    given: &D,
 ) -> Result<Draft<A>, Halt>
-    ensures prepared { IfOk result (λ ready. ready ≡ spec_prepared bytes draft) }
-    ensures refused { IfErr result (Refusing (IsTooLong bytes draft.request)) }
+    ensures prepared { IfOk result (λ ready. ready ≡ spec_prepared (D.bytes given.now) draft) }
+    ensures refused { IfErr result (Refusing (IsTooLong (D.bytes given.now) draft.request)) }
 {
     let mut draft = draft;
-    match prepare(alloc, &mut draft, bytes.as_slice()) {
+    match prepare(alloc, &mut draft, given) {
         Ok(()) => Ok(draft),
         Err(halt) => Err(give_up(rt, shared, draft, halt)),
     }
@@ -161,23 +167,24 @@ fn status_of(receipts: &[Receipt], place: usize) -> Option<Status>
     receipts.get(place).and_then(|receipt| receipt.status)
 }
 
-/// Gathers what a finished command brought, and releases it. No lock is held while it gathers. The command ended as the receipt at this place
-/// of the seat's says.
-fn released<L: LogBrand, A: Allocator + Copy, R: Wait>(
+/// Keeps what the data of a job want of its finished command, and releases it. No lock is held while they look at it. The command ended as
+/// the receipt at this place of the seat's says.
+fn released<L: LogBrand, A: Allocator + Copy, K: Drop, D: Data<K, A>, R: Wait>(
     rt: &R,
     alloc: A,
     shared: &Shared<L, A>,
     seat: &mut Seat<L, A>,
     finished: Finished<A>,
+    given: D,
     place: usize,
-) -> Result<JobEndIn<A>, Halt>
+) -> Result<JobEnd<K>, Halt>
     requires { list_any (is_open_for finished.q finished.cid) seat.old.receipts ≡ true }
     ensures settled { IfOk result (λ end. EndsWith seat.old.receipts finished.q finished.cid place end seat.new.receipts) }
     ensures released { OnOk result (Released L.opening seat.old finished {A = Unit {0}} (Ok tt) seat.new) }
-    ensures end { IfOk result (IsEndOf finished seat.new.receipts place) }
+    ensures end { IfOk result (IsEndOf D.keeps given finished seat.new.receipts place) }
     ensures halted { IfErr result (λ halt. refuses halt ≡ false) }
 {
-    let Ok(bytes) = finished.gather(alloc) else {
+    let Ok(kept) = given.keep(alloc, &finished) else {
         drop(finished.apart());
         return Err(Halt::Memory);
     };
@@ -188,30 +195,32 @@ fn released<L: LogBrand, A: Allocator + Copy, R: Wait>(
     match status_of(seat.receipts(), place) {
         Some(status) => Ok(JobEnd::Done {
             status,
-            bytes: Bytes::from_vec(bytes),
+            bytes: kept,
         }),
         None => Err(Halt::Stopped),
     }
 }
 
-/// Finishes a command: waits for its end, collects, gathers, releases. It ended as the receipt at this place of the seat's says.
+/// Finishes a command: waits for its end, collects, keeps what its job's data want of it, releases. It ended as the receipt at this place of the
+/// seat's says.
 ///
 /// # Errors
 ///
 /// Where the workers are told to stop, somebody else has collected the command, or memory is refused. The ticket is spent.
-pub(crate) fn finished<L: LogBrand, A: Allocator + Copy, R: Wait>(
+pub(crate) fn finished<L: LogBrand, A: Allocator + Copy, K: Drop, D: Data<K, A> + Drop, R: Wait>(
     rt: &R,
     alloc: A,
     shared: &Shared<L, A>,
     seat: &mut Seat<L, A>,
     ticket: Ticket,
+    given: D,
     place: usize,
-) -> Result<JobEndIn<A>, Halt>
+) -> Result<JobEnd<K>, Halt>
     requires { list_any (is_open_for ticket.q ticket.cid) seat.old.receipts ≡ true }
     ensures settled { IfOk result (λ end. EndsWith seat.old.receipts ticket.q ticket.cid place end seat.new.receipts) }
-    ensures gives_up { IfOk result (λ end. GivesUp L.opening seat.old ticket.q ticket.cid place end seat.new) }
+    ensures gives_up { IfOk result (λ end. GivesUp D.keeps L.opening seat.old ticket.q ticket.cid given place end seat.new) }
     ensures halted { IfErr result (λ halt. refuses halt ≡ false) }
 {
     let command = shared.collect_when_ended(rt, ticket)?;
-    released(rt, alloc, shared, seat, command, place)
+    released(rt, alloc, shared, seat, command, given, place)
 }

@@ -4,14 +4,15 @@ ghost use Rattle.std.specs.Prelude.{◌≡◌, ◌+◌, ◌-◌, ◌<◌, ◌≤
 ghost use Rattle.std.specs.VecDeque.{deque_len, deque_capacity};
 ghost use Rattle.driver_threads.specs.Ends.{Agree, IsUnderWay, refuses};
 ghost use Rattle.driver_threads.specs.JobSteps.{Carries, CarriesAlso, CarriesOn, CarriesRefused, Refusing};
-ghost use Rattle.driver_threads.specs.Jobs.{RefusesJob, RefusesRequest, WentSo};
+ghost use Rattle.driver_threads.specs.Jobs.{RefusesJob, RefusesRequest, WentBy};
 ghost use Rattle.driver_threads.specs.Sharing.{Made};
 ghost use Rattle.machine_model.specs.Events as events;
 
 use crate::book_lock::Shared;
 use crate::carry::{Watch, finished, prepared, submitted};
+use crate::data::Data;
 use crate::gate::{Gate, Point};
-use crate::jobs::{Job, JobEnd, JobEndIn, JobIn, JobRefusal};
+use crate::jobs::{Job, JobEnd, JobRefusal};
 use crate::waits::{Halt, Reservation};
 use driver_book::{LogBrand, Seat};
 use io_commands::{Draft, Request, Ticket};
@@ -19,16 +20,22 @@ use std::alloc::Allocator;
 use std::collections::VecDeque;
 use std::sync::Wait;
 
-/// A submitter's seat, the commands that it has in flight, and how its jobs ended so far.
-pub(crate) struct Flight<L: LogBrand, A: Allocator> {
-    pub(crate) seat: Seat<L, A>,
-    /// The tickets of the commands in flight, the oldest first. There is a place for each command that may be in flight.
-    pub(crate) tickets: VecDeque<Ticket, A>,
-    /// How its jobs ended, in their order.
-    pub(crate) ends: Vec<JobEndIn<A>, A>,
+/// A command in flight: its ticket, and the data of its job.
+pub(crate) struct Flying<D> {
+    pub(crate) ticket: Ticket,
+    pub(crate) given: D,
 }
 
-impl<L: LogBrand, A: Allocator + Copy> Flight<L, A> {
+/// A submitter's seat, the commands that it has in flight, and how its jobs ended so far.
+pub(crate) struct Flight<L: LogBrand, A: Allocator, D, K> {
+    pub(crate) seat: Seat<L, A>,
+    /// The commands in flight, the oldest first. There is a place for each command that may be in flight.
+    pub(crate) flying: VecDeque<Flying<D>, A>,
+    /// How its jobs ended, in their order.
+    pub(crate) ends: Vec<JobEnd<K>, A>,
+}
+
+impl<L: LogBrand, A: Allocator + Copy, K: Drop, D: Data<K, A> + Drop> Flight<L, A, D, K> {
     /// Finishes the oldest command in flight, where there is one, and notes how its job ended.
     ///
     /// # Errors
@@ -41,24 +48,25 @@ impl<L: LogBrand, A: Allocator + Copy> Flight<L, A> {
         shared: &Shared<L, A>,
         watch: &mut Watch<G>,
     ) -> Result<(), Halt>
-        requires { IsUnderWay self.old.seat.receipts self.old.ends.items self.old.tickets.items }
-        ensures under_way { OnOk result (IsUnderWay self.new.seat.receipts self.new.ends.items self.new.tickets.items) }
-        ensures carries { OnOk result (CarriesOn L.opening self.old.seat self.old.ends.items self.old.tickets.items self.new.seat self.new.ends.items self.new.tickets.items) }
-        ensures all { OnOk result (vec_len self.new.ends + deque_len self.new.tickets ≡ vec_len self.old.ends + deque_len self.old.tickets) }
-        ensures one { OnOk result (deque_len self.new.tickets ≡ deque_len self.old.tickets - 1) }
-        ensures fewer { OnErr result (vec_len self.new.ends < vec_len self.old.ends + deque_len self.old.tickets) }
+        requires { IsUnderWay self.old.seat.receipts self.old.ends.items self.old.flying.items }
+        ensures under_way { OnOk result (IsUnderWay self.new.seat.receipts self.new.ends.items self.new.flying.items) }
+        ensures carries { OnOk result (CarriesOn D.bytes D.keeps L.opening self.old.seat self.old.ends.items self.old.flying.items self.new.seat self.new.ends.items self.new.flying.items) }
+        ensures all { OnOk result (vec_len self.new.ends + deque_len self.new.flying ≡ vec_len self.old.ends + deque_len self.old.flying) }
+        ensures one { OnOk result (deque_len self.new.flying ≡ deque_len self.old.flying - 1) }
+        ensures fewer { OnErr result (vec_len self.new.ends < vec_len self.old.ends + deque_len self.old.flying) }
         ensures halted { IfErr result (λ halt. refuses halt ≡ false) }
-        ensures places { deque_capacity self.new.tickets ≡ deque_capacity self.old.tickets }
+        ensures places { deque_capacity self.new.flying ≡ deque_capacity self.old.flying }
     {
-        let place = self.seat.receipts().len() - self.tickets.len();
-        let Some(ticket) = self.tickets.pop_front() else {
+        let place = self.seat.receipts().len() - self.flying.len();
+        let Some(oldest) = self.flying.pop_front() else {
             return Ok(());
         };
+        let Flying { ticket, given } = oldest;
         if self.ends.reserve(1).is_err() {
             drop(ticket.apart());
             return Err(Halt::Memory);
         }
-        let end = finished(rt, alloc, shared, &mut self.seat, ticket, place)?;
+        let end = finished(rt, alloc, shared, &mut self.seat, ticket, given, place)?;
         self.ends.push_reserved(end);
         watch.pass(Point::Released);
         Ok(())
@@ -76,16 +84,16 @@ impl<L: LogBrand, A: Allocator + Copy> Flight<L, A> {
         shared: &Shared<L, A>,
         watch: &mut Watch<G>,
     ) -> Result<(), Halt>
-        requires { IsUnderWay self.old.seat.receipts self.old.ends.items self.old.tickets.items }
-        ensures under_way { OnOk result (IsUnderWay self.new.seat.receipts self.new.ends.items self.new.tickets.items) }
-        ensures carries { OnOk result (CarriesOn L.opening self.old.seat self.old.ends.items self.old.tickets.items self.new.seat self.new.ends.items self.new.tickets.items) }
-        ensures all { OnOk result (vec_len self.new.ends ≡ vec_len self.old.ends + deque_len self.old.tickets) }
-        ensures none { OnOk result (deque_len self.new.tickets ≡ 0) }
+        requires { IsUnderWay self.old.seat.receipts self.old.ends.items self.old.flying.items }
+        ensures under_way { OnOk result (IsUnderWay self.new.seat.receipts self.new.ends.items self.new.flying.items) }
+        ensures carries { OnOk result (CarriesOn D.bytes D.keeps L.opening self.old.seat self.old.ends.items self.old.flying.items self.new.seat self.new.ends.items self.new.flying.items) }
+        ensures all { OnOk result (vec_len self.new.ends ≡ vec_len self.old.ends + deque_len self.old.flying) }
+        ensures none { OnOk result (deque_len self.new.flying ≡ 0) }
         ensures agree { OnOk result (Agree self.new.seat.receipts self.new.ends.items) }
-        ensures fewer { OnErr result (vec_len self.new.ends < vec_len self.old.ends + deque_len self.old.tickets) }
-        ensures places { deque_capacity self.new.tickets ≡ deque_capacity self.old.tickets }
+        ensures fewer { OnErr result (vec_len self.new.ends < vec_len self.old.ends + deque_len self.old.flying) }
+        ensures places { deque_capacity self.new.flying ≡ deque_capacity self.old.flying }
     {
-        while !self.tickets.is_empty() {
+        while !self.flying.is_empty() {
             self.finish_oldest(rt, alloc, shared, watch)?;
         }
         Ok(())
@@ -103,16 +111,16 @@ impl<L: LogBrand, A: Allocator + Copy> Flight<L, A> {
         shared: &Shared<L, A>,
         watch: &mut Watch<G>,
     ) -> Result<(), Halt>
-        requires under_way { IsUnderWay self.old.seat.receipts self.old.ends.items self.old.tickets.items }
-        requires places { 0 < deque_capacity self.old.tickets }
-        ensures under_way { OnOk result (IsUnderWay self.new.seat.receipts self.new.ends.items self.new.tickets.items) }
-        ensures carries { OnOk result (CarriesOn L.opening self.old.seat self.old.ends.items self.old.tickets.items self.new.seat self.new.ends.items self.new.tickets.items) }
-        ensures all { OnOk result (vec_len self.new.ends + deque_len self.new.tickets ≡ vec_len self.old.ends + deque_len self.old.tickets) }
-        ensures place { OnOk result (deque_len self.new.tickets < deque_capacity self.new.tickets) }
-        ensures fewer { OnErr result (vec_len self.new.ends < vec_len self.old.ends + deque_len self.old.tickets) }
-        ensures places { deque_capacity self.new.tickets ≡ deque_capacity self.old.tickets }
+        requires under_way { IsUnderWay self.old.seat.receipts self.old.ends.items self.old.flying.items }
+        requires places { 0 < deque_capacity self.old.flying }
+        ensures under_way { OnOk result (IsUnderWay self.new.seat.receipts self.new.ends.items self.new.flying.items) }
+        ensures carries { OnOk result (CarriesOn D.bytes D.keeps L.opening self.old.seat self.old.ends.items self.old.flying.items self.new.seat self.new.ends.items self.new.flying.items) }
+        ensures all { OnOk result (vec_len self.new.ends + deque_len self.new.flying ≡ vec_len self.old.ends + deque_len self.old.flying) }
+        ensures place { OnOk result (deque_len self.new.flying < deque_capacity self.new.flying) }
+        ensures fewer { OnErr result (vec_len self.new.ends < vec_len self.old.ends + deque_len self.old.flying) }
+        ensures places { deque_capacity self.new.flying ≡ deque_capacity self.old.flying }
     {
-        if self.tickets.len() < self.tickets.capacity() {
+        if self.flying.len() < self.flying.capacity() {
             return Ok(());
         }
         self.finish_oldest(rt, alloc, shared, watch)
@@ -132,21 +140,21 @@ impl<L: LogBrand, A: Allocator + Copy> Flight<L, A> {
         q: u16,
         request: Request<A>,
     ) -> Result<Draft<A>, Halt>
-        requires { IsUnderWay self.old.seat.receipts self.old.ends.items self.old.tickets.items }
-        ensures under_way { OnOk result (IsUnderWay self.new.seat.receipts self.new.ends.items self.new.tickets.items) }
-        ensures carries { OnOk result (CarriesOn L.opening self.old.seat self.old.ends.items self.old.tickets.items self.new.seat self.new.ends.items self.new.tickets.items) }
+        requires { IsUnderWay self.old.seat.receipts self.old.ends.items self.old.flying.items }
+        ensures under_way { OnOk result (IsUnderWay self.new.seat.receipts self.new.ends.items self.new.flying.items) }
+        ensures carries { OnOk result (CarriesOn D.bytes D.keeps L.opening self.old.seat self.old.ends.items self.old.flying.items self.new.seat self.new.ends.items self.new.flying.items) }
         ensures made { IfOk result (λ draft. Made L.opening None (events.Reserve q request) (events.Reserved draft)) }
-        ensures carries_refused { IfErr result (λ halt. refuses halt ≡ true → CarriesOn L.opening self.old.seat self.old.ends.items self.old.tickets.items self.new.seat self.new.ends.items self.new.tickets.items) }
+        ensures carries_refused { IfErr result (λ halt. refuses halt ≡ true → CarriesOn D.bytes D.keeps L.opening self.old.seat self.old.ends.items self.old.flying.items self.new.seat self.new.ends.items self.new.flying.items) }
         ensures cause { IfErr result (Refusing (RefusesRequest L.opening q request)) }
-        ensures all { OnOk result (vec_len self.new.ends + deque_len self.new.tickets ≡ vec_len self.old.ends + deque_len self.old.tickets) }
-        ensures refused { IfErr result (λ halt. refuses halt ≡ true → IsUnderWay self.new.seat.receipts self.new.ends.items self.new.tickets.items) }
-        ensures all_refused { IfErr result (λ halt. refuses halt ≡ true → vec_len self.new.ends + deque_len self.new.tickets ≡ vec_len self.old.ends + deque_len self.old.tickets) }
-        ensures most { vec_len self.new.ends ≤ vec_len self.old.ends + deque_len self.old.tickets }
-        ensures fewer { OnOk result (deque_len self.new.tickets ≤ deque_len self.old.tickets) }
-        ensures places { deque_capacity self.new.tickets ≡ deque_capacity self.old.tickets }
+        ensures all { OnOk result (vec_len self.new.ends + deque_len self.new.flying ≡ vec_len self.old.ends + deque_len self.old.flying) }
+        ensures refused { IfErr result (λ halt. refuses halt ≡ true → IsUnderWay self.new.seat.receipts self.new.ends.items self.new.flying.items) }
+        ensures all_refused { IfErr result (λ halt. refuses halt ≡ true → vec_len self.new.ends + deque_len self.new.flying ≡ vec_len self.old.ends + deque_len self.old.flying) }
+        ensures most { vec_len self.new.ends ≤ vec_len self.old.ends + deque_len self.old.flying }
+        ensures fewer { OnOk result (deque_len self.new.flying ≤ deque_len self.old.flying) }
+        ensures places { deque_capacity self.new.flying ≡ deque_capacity self.old.flying }
     {
         let mut request = request;
-        while !self.tickets.is_empty() {
+        while !self.flying.is_empty() {
             match shared.reserve_now(rt, q, request)? {
                 Reservation::Now(draft) => return Ok(draft),
                 Reservation::Later(later) => request = later,
@@ -167,26 +175,29 @@ impl<L: LogBrand, A: Allocator + Copy> Flight<L, A> {
         alloc: A,
         shared: &Shared<L, A>,
         watch: &mut Watch<G>,
-        job: JobIn<A>,
+        job: Job<Request<A>, D>,
     ) -> Result<(), Halt>
-        requires under_way { IsUnderWay self.old.seat.receipts self.old.ends.items self.old.tickets.items }
-        requires place { deque_len self.old.tickets < deque_capacity self.old.tickets }
-        ensures under_way { OnOk result (IsUnderWay self.new.seat.receipts self.new.ends.items self.new.tickets.items) }
-        ensures carries { OnOk result (CarriesAlso L.opening self.old.seat self.old.ends.items self.old.tickets.items job self.new.seat self.new.ends.items self.new.tickets.items) }
-        ensures carries_refused { IfErr result (λ halt. refuses halt ≡ true → CarriesOn L.opening self.old.seat self.old.ends.items self.old.tickets.items self.new.seat self.new.ends.items self.new.tickets.items) }
-        ensures cause { IfErr result (Refusing (RefusesJob L.opening job)) }
-        ensures all { OnOk result (vec_len self.new.ends + deque_len self.new.tickets ≡ vec_len self.old.ends + deque_len self.old.tickets + 1) }
-        ensures refused { IfErr result (λ halt. refuses halt ≡ true → IsUnderWay self.new.seat.receipts self.new.ends.items self.new.tickets.items) }
-        ensures all_refused { IfErr result (λ halt. refuses halt ≡ true → vec_len self.new.ends + deque_len self.new.tickets ≡ vec_len self.old.ends + deque_len self.old.tickets) }
-        ensures most { vec_len self.new.ends ≤ vec_len self.old.ends + deque_len self.old.tickets }
-        ensures places { deque_capacity self.new.tickets ≡ deque_capacity self.old.tickets }
+        requires under_way { IsUnderWay self.old.seat.receipts self.old.ends.items self.old.flying.items }
+        requires place { deque_len self.old.flying < deque_capacity self.old.flying }
+        ensures under_way { OnOk result (IsUnderWay self.new.seat.receipts self.new.ends.items self.new.flying.items) }
+        ensures carries { OnOk result (CarriesAlso D.bytes D.keeps L.opening self.old.seat self.old.ends.items self.old.flying.items job self.new.seat self.new.ends.items self.new.flying.items) }
+        ensures carries_refused { IfErr result (λ halt. refuses halt ≡ true → CarriesOn D.bytes D.keeps L.opening self.old.seat self.old.ends.items self.old.flying.items self.new.seat self.new.ends.items self.new.flying.items) }
+        ensures cause { IfErr result (Refusing (RefusesJob D.bytes L.opening job)) }
+        ensures all { OnOk result (vec_len self.new.ends + deque_len self.new.flying ≡ vec_len self.old.ends + deque_len self.old.flying + 1) }
+        ensures refused { IfErr result (λ halt. refuses halt ≡ true → IsUnderWay self.new.seat.receipts self.new.ends.items self.new.flying.items) }
+        ensures all_refused { IfErr result (λ halt. refuses halt ≡ true → vec_len self.new.ends + deque_len self.new.flying ≡ vec_len self.old.ends + deque_len self.old.flying) }
+        ensures most { vec_len self.new.ends ≤ vec_len self.old.ends + deque_len self.old.flying }
+        ensures places { deque_capacity self.new.flying ≡ deque_capacity self.old.flying }
     {
         let Job { q, request, bytes } = job;
         let draft = self.reserve(rt, alloc, shared, watch, q, request)?;
         watch.pass(Point::Reserved);
-        let draft = prepared(rt, alloc, shared, draft, bytes)?;
+        let draft = prepared(rt, alloc, shared, draft, &bytes)?;
         let ticket = submitted(rt, shared, &mut self.seat, draft)?;
-        self.tickets.push_back_reserved(ticket);
+        self.flying.push_back_reserved(Flying {
+            ticket,
+            given: bytes,
+        });
         watch.pass(Point::Submitted);
         Ok(())
     }
@@ -204,12 +215,12 @@ impl<L: LogBrand, A: Allocator + Copy> Flight<L, A> {
         watch: &mut Watch<G>,
         why: JobRefusal,
     ) -> Result<(), Halt>
-        requires { IsUnderWay self.old.seat.receipts self.old.ends.items self.old.tickets.items }
-        ensures under_way { OnOk result (IsUnderWay self.new.seat.receipts self.new.ends.items self.new.tickets.items) }
-        ensures carries { OnOk result (CarriesRefused L.opening self.old.seat self.old.ends.items self.old.tickets.items why self.new.seat self.new.ends.items self.new.tickets.items) }
-        ensures all { OnOk result (vec_len self.new.ends + deque_len self.new.tickets ≡ vec_len self.old.ends + deque_len self.old.tickets + 1) }
-        ensures fewer { OnErr result (vec_len self.new.ends ≤ vec_len self.old.ends + deque_len self.old.tickets) }
-        ensures places { deque_capacity self.new.tickets ≡ deque_capacity self.old.tickets }
+        requires { IsUnderWay self.old.seat.receipts self.old.ends.items self.old.flying.items }
+        ensures under_way { OnOk result (IsUnderWay self.new.seat.receipts self.new.ends.items self.new.flying.items) }
+        ensures carries { OnOk result (CarriesRefused D.bytes D.keeps L.opening self.old.seat self.old.ends.items self.old.flying.items why self.new.seat self.new.ends.items self.new.flying.items) }
+        ensures all { OnOk result (vec_len self.new.ends + deque_len self.new.flying ≡ vec_len self.old.ends + deque_len self.old.flying + 1) }
+        ensures fewer { OnErr result (vec_len self.new.ends ≤ vec_len self.old.ends + deque_len self.old.flying) }
+        ensures places { deque_capacity self.new.flying ≡ deque_capacity self.old.flying }
     {
         self.finish_all(rt, alloc, shared, watch)?;
         if self.ends.reserve(1).is_err() {
@@ -230,15 +241,15 @@ impl<L: LogBrand, A: Allocator + Copy> Flight<L, A> {
         alloc: A,
         shared: &Shared<L, A>,
         watch: &mut Watch<G>,
-        job: JobIn<A>,
+        job: Job<Request<A>, D>,
     ) -> Result<(), Halt>
-        requires under_way { IsUnderWay self.old.seat.receipts self.old.ends.items self.old.tickets.items }
-        requires places { 0 < deque_capacity self.old.tickets }
-        ensures under_way { OnOk result (IsUnderWay self.new.seat.receipts self.new.ends.items self.new.tickets.items) }
-        ensures carries { OnOk result (CarriesAlso L.opening self.old.seat self.old.ends.items self.old.tickets.items job self.new.seat self.new.ends.items self.new.tickets.items) }
-        ensures all { OnOk result (vec_len self.new.ends + deque_len self.new.tickets ≡ vec_len self.old.ends + deque_len self.old.tickets + 1) }
-        ensures fewer { OnErr result (vec_len self.new.ends ≤ vec_len self.old.ends + deque_len self.old.tickets) }
-        ensures places { deque_capacity self.new.tickets ≡ deque_capacity self.old.tickets }
+        requires under_way { IsUnderWay self.old.seat.receipts self.old.ends.items self.old.flying.items }
+        requires places { 0 < deque_capacity self.old.flying }
+        ensures under_way { OnOk result (IsUnderWay self.new.seat.receipts self.new.ends.items self.new.flying.items) }
+        ensures carries { OnOk result (CarriesAlso D.bytes D.keeps L.opening self.old.seat self.old.ends.items self.old.flying.items job self.new.seat self.new.ends.items self.new.flying.items) }
+        ensures all { OnOk result (vec_len self.new.ends + deque_len self.new.flying ≡ vec_len self.old.ends + deque_len self.old.flying + 1) }
+        ensures fewer { OnErr result (vec_len self.new.ends ≤ vec_len self.old.ends + deque_len self.old.flying) }
+        ensures places { deque_capacity self.new.flying ≡ deque_capacity self.old.flying }
     {
         self.make_place(rt, alloc, shared, watch)?;
         match self.launch(rt, alloc, shared, watch, job) {
@@ -259,16 +270,16 @@ impl<L: LogBrand, A: Allocator + Copy> Flight<L, A> {
         alloc: A,
         shared: &Shared<L, A>,
         watch: &mut Watch<G>,
-        jobs: Vec<JobIn<A>, A>,
+        jobs: Vec<Job<Request<A>, D>, A>,
     ) -> Result<(), Halt>
-        requires under_way { IsUnderWay self.old.seat.receipts self.old.ends.items self.old.tickets.items }
-        requires none { deque_len self.old.tickets ≡ 0 }
-        requires places { 0 < deque_capacity self.old.tickets }
+        requires under_way { IsUnderWay self.old.seat.receipts self.old.ends.items self.old.flying.items }
+        requires none { deque_len self.old.flying ≡ 0 }
+        requires places { 0 < deque_capacity self.old.flying }
         ensures all { OnOk result (vec_len self.new.ends ≡ vec_len self.old.ends + vec_len jobs) }
         ensures fewer { OnErr result (vec_len self.new.ends < vec_len self.old.ends + vec_len jobs) }
         ensures most { vec_len self.new.ends ≤ vec_len self.old.ends + vec_len jobs }
         ensures agree { OnOk result (Agree self.new.seat.receipts self.new.ends.items) }
-        ensures went { OnOk result (Carries L.opening self.old.seat self.old.ends.items self.old.tickets.items [] → WentSo L.opening self.new.seat.number jobs.items self.new.seat.receipts self.new.ends.items) }
+        ensures went { OnOk result (Carries D.bytes D.keeps L.opening self.old.seat self.old.ends.items self.old.flying.items [] → WentBy D.bytes D.keeps L.opening self.new.seat.number jobs.items self.new.seat.receipts self.new.ends.items) }
     {
         for job in jobs {
             self.carry(rt, alloc, shared, watch, job)?;
@@ -277,19 +288,20 @@ impl<L: LogBrand, A: Allocator + Copy> Flight<L, A> {
     }
 
     /// The seat, and how the jobs ended. What is still in flight is given up.
-    pub(crate) fn land(self) -> (Seat<L, A>, Vec<JobEndIn<A>, A>)
+    pub(crate) fn land(self) -> (Seat<L, A>, Vec<JobEnd<K>, A>)
         ensures seat { result.0 ≡ self.seat }
         ensures ends { result.1 ≡ self.ends }
     {
         let Flight {
             seat,
-            mut tickets,
+            mut flying,
             ends,
         } = self;
-        while let Some(ticket) = tickets.pop_front() {
+        while let Some(left) = flying.pop_front() {
+            let Flying { ticket, given: _ } = left;
             drop(ticket.apart());
         }
-        tickets.destroy_empty();
+        flying.destroy_empty();
         (seat, ends)
     }
 }

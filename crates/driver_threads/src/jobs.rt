@@ -18,8 +18,8 @@ pub struct Job<R = Request, B = Bytes> {
     pub q: u16,
     /// What is asked for.
     pub request: R,
-    /// The data of a Write or a Compare; where it is shorter than the data pieces, zeros stand behind it. A Read has none, and what
-    /// stands here of it is not looked at.
+    /// The data of a Write or a Compare, or what makes them ([`Data`](crate::Data)); where they are shorter than the data pieces, zeros stand
+    /// after them. A Read has none, and what stands here of it is not written.
     pub bytes: B,
 }
 
@@ -33,7 +33,8 @@ pub enum JobEnd<B = Bytes> {
     Done {
         /// How the command ended.
         status: Status,
-        /// What it gathered: a Read's data pieces joined in order, and nothing of a Write or a Compare.
+        /// What it gathered: a Read's data pieces joined in order, and nothing of a Write or a Compare. Where the job's data keep
+        /// something else ([`Data`](crate::Data)), that.
         bytes: B,
     },
     /// It was refused, and left nothing.
@@ -70,10 +71,10 @@ pub enum JobRefusal {
 }
 
 /// Adds ends of a submitter behind those that it has, or as those of the next submitter.
-fn add_ends<A: Allocator>(
-    lists: &mut Vec<Vec<JobEndIn<A>, A>, A>,
+fn add_ends<A: Allocator, K: Drop>(
+    lists: &mut Vec<Vec<JobEnd<K>, A>, A>,
     submitter: usize,
-    later: Vec<JobEndIn<A>, A>,
+    later: Vec<JobEnd<K>, A>,
 ) -> Result<(), AllocError>
     requires { submitter ≤ vec_len lists.old }
     ensures { OnOk result (map (λ list. list.items) lists.new.items ≡ added (map (λ list. list.items) lists.old.items) submitter later.items) }
@@ -88,9 +89,9 @@ fn add_ends<A: Allocator>(
 }
 
 /// Adds ends of submitters: each submitter's behind those that it has.
-fn add_all<A: Allocator>(
-    lists: &mut Vec<Vec<JobEndIn<A>, A>, A>,
-    later: Vec<Vec<JobEndIn<A>, A>, A>,
+fn add_all<A: Allocator, K: Drop>(
+    lists: &mut Vec<Vec<JobEnd<K>, A>, A>,
+    later: Vec<Vec<JobEnd<K>, A>, A>,
 ) -> Result<(), AllocError>
     ensures { OnOk result (map (λ list. list.items) lists.new.items ≡ behind (map (λ list. list.items) lists.old.items) (map (λ list. list.items) later.items)) }
 {
@@ -104,22 +105,22 @@ fn add_all<A: Allocator>(
 
 /// How the jobs of submitters ended, one list for each submitter. Contracts see these lists.
 #[derive(Debug, Drop)]
-pub struct JobEnds<A: Allocator = Global> {
-    lists: Vec<Vec<JobEndIn<A>, A>, A>,
+pub struct JobEnds<A: Allocator = Global, K = Bytes<A>> {
+    lists: Vec<Vec<JobEnd<K>, A>, A>,
 }
 
-impl<A: Allocator> Model for JobEnds<A> {
+impl<A: Allocator, K> Model for JobEnds<A, K> {
     ghost use Rattle.std.specs.Prelude.{List, map};
-    ghost use Rattle.driver_threads.specs.Values.{JobEnd};
+    ghost use Rattle.driver_threads.specs.Values.{EndOf};
 
-    ghost Value = { List (List JobEnd) };
+    ghost Value = { List (List (EndOf K)) };
 
     ghost view = { λ e. map (λ list. list.items) e.lists.items };
 }
 
-impl<A: Allocator> JobEnds<A> {
+impl<A: Allocator, K: Drop> JobEnds<A, K> {
     /// These lists.
-    pub(crate) fn of(lists: Vec<Vec<JobEndIn<A>, A>, A>) -> Self
+    pub(crate) fn of(lists: Vec<Vec<JobEnd<K>, A>, A>) -> Self
         ensures { result ≡ map (λ list. list.items) lists.items }
     {
         JobEnds { lists }
@@ -139,14 +140,14 @@ impl<A: Allocator> JobEnds<A> {
     /// # Errors
     ///
     /// Where memory is refused. Some of them may then stand there.
-    pub fn append(&mut self, later: JobEnds<A>) -> Result<(), AllocError>
+    pub fn append(&mut self, later: JobEnds<A, K>) -> Result<(), AllocError>
         ensures { OnOk result (self.new ≡ behind self.old later) }
     {
         add_all(&mut self.lists, later.lists)
     }
 
     /// The lists, one for each submitter, in their order.
-    pub fn as_slice(&self) -> &[Vec<JobEndIn<A>, A>]
+    pub fn as_slice(&self) -> &[Vec<JobEnd<K>, A>]
         ensures { map (λ list. list.items) result.now ≡ self.now }
     {
         &self.lists
@@ -155,18 +156,18 @@ impl<A: Allocator> JobEnds<A> {
 
 /// What a run of threads leaves.
 #[derive(Drop)]
-pub struct Ran<L: LogBrand, A: Allocator = Global> {
+pub struct Ran<L: LogBrand, A: Allocator = Global, K = Bytes<A>> {
     /// What the book said as it was closed.
     pub report: ReportIn<A>,
     /// How the jobs ended.
-    pub jobs: JobEnds<A>,
+    pub jobs: JobEnds<A, K>,
     /// The book.
     pub book: Book<L, A>,
 }
 
 /// What a round of jobs over a world that was there leaves.
 #[derive(Drop)]
-pub struct Round<A: Allocator = Global> {
+pub struct Round<A: Allocator = Global, K = Bytes<A>> {
     /// The log of its book.
     pub log: Log<A>,
     /// What the book said as it was closed.
@@ -174,7 +175,7 @@ pub struct Round<A: Allocator = Global> {
     /// The world to which the log leads.
     pub world: World<A>,
     /// How the jobs ended.
-    pub jobs: JobEnds<A>,
+    pub jobs: JobEnds<A, K>,
 }
 
 /// Why a run of threads failed.

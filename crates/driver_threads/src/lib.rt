@@ -22,6 +22,7 @@ mod admin;
 mod book_lock;
 mod carry;
 mod controller_calls;
+mod data;
 mod flight;
 mod gate;
 mod host;
@@ -32,6 +33,7 @@ mod waits;
 mod workers;
 
 pub use book_lock::Shared;
+pub use data::{Data, Unfilled};
 pub use gate::{Gate, GateClosed, Open, Point};
 pub use jobs::{Job, JobEnd, JobEndIn, JobEnds, JobIn, JobRefusal, Ran, Round, RunFault};
 pub use run::{run_round, run_threads};

@@ -7,17 +7,19 @@ ghost use Rattle.driver_book.specs.Laws.{IsTrustedLog};
 ghost use Rattle.driver_book.specs.State.{AreOfJobs};
 ghost use Rattle.driver_threads.specs.Ends.{Agree, AllAgree, ends_of, statuses_of};
 ghost use Rattle.driver_threads.specs.JobSteps.{HoldsOfEach};
-ghost use Rattle.driver_threads.specs.Jobs.{AllWent, WentSo};
+ghost use Rattle.driver_threads.specs.Jobs.{AllWentBy, WentBy};
 ghost use Rattle.driver_threads.specs.Runs.{EndsRound, IsAfterOpening, RanFrom, RefusesRun};
 ghost use Rattle.step_core.specs.Opening.{opening_of};
 
 use crate::book_lock::Shared;
+use crate::data::Data;
 use crate::gate::Gate;
-use crate::jobs::{JobEndIn, JobEnds, JobIn, Ran, Round, RunFault};
+use crate::jobs::{Job, JobEnd, JobEnds, Ran, Round, RunFault};
 use crate::serving::Server;
 use crate::workers::{Worked, controller, poller, submitter};
 use block_image::Image;
 use driver_book::{Book, CloseFault, ClosedLog, LogBrand, Seat};
+use io_commands::Request;
 use std::alloc::{AllocError, Allocator};
 use std::snapshot::Snapshot;
 use std::sync::Wait;
@@ -49,30 +51,30 @@ fn fault_of(failure: Failure) -> RunFault
 
 /// The jobs of a submitter, each with its end, and its seat.
 #[derive(Drop)]
-struct Carried<L: LogBrand, A: Allocator> {
+struct Carried<L: LogBrand, A: Allocator, K> {
     seat: Seat<L, A>,
-    ends: Vec<JobEndIn<A>, A>,
+    ends: Vec<JobEnd<K>, A>,
     ghost agree: { Agree seat.receipts ends.items },
 }
 
 /// What the thread of a submitter gives back.
 #[derive(Drop)]
-struct Returned<L: LogBrand, A: Allocator> {
+struct Returned<L: LogBrand, A: Allocator, K> {
     /// What it carried through, or why one of its jobs has no end.
-    carried: Result<Carried<L, A>, Failure>,
+    carried: Result<Carried<L, A, K>, Failure>,
     /// Whether a gate was closed to it.
     closed: bool,
 }
 
 /// That what the thread of a submitter carried through are these jobs.
 #[derive(Drop)]
-struct JobsOf<A: Allocator>(Snapshot<Vec<JobIn<A>, A>>);
+struct JobsOf<A: Allocator, D>(Snapshot<Vec<Job<Request<A>, D>, A>>);
 
-impl<L: LogBrand, A: Allocator> Promise<Returned<L, A>> for JobsOf<A> {
+impl<L: LogBrand, A: Allocator, K, D: Data<K, A>> Promise<Returned<L, A, K>> for JobsOf<A, D> {
     ghost use Rattle.std.specs.Prelude.{IfOk};
-    ghost use Rattle.driver_threads.specs.Jobs.{WentSo};
+    ghost use Rattle.driver_threads.specs.Jobs.{WentBy};
 
-    ghost kept_by = { λ p r. IfOk r.carried (λ carried. WentSo L.opening carried.seat.number p.0.value.items carried.seat.receipts carried.ends.items) };
+    ghost kept_by = { λ p r. IfOk r.carried (λ carried. WentBy D.bytes D.keeps L.opening carried.seat.number p.0.value.items carried.seat.receipts carried.ends.items) };
 }
 
 /// How long each list is.
@@ -98,11 +100,11 @@ fn as_long_as<T: Drop, A: Allocator + Copy>(
 }
 
 /// What a submitter carried through. A job without an end was cut off or not begun, as memory was refused to a worker.
-fn all_carried<L: LogBrand, A: Allocator>(
+fn all_carried<L: LogBrand, A: Allocator, K: Drop>(
     seat: Option<Seat<L, A>>,
-    ends: Vec<JobEndIn<A>, A>,
+    ends: Vec<JobEnd<K>, A>,
     jobs: usize,
-) -> Result<Carried<L, A>, Failure>
+) -> Result<Carried<L, A, K>, Failure>
     requires { vec_len ends ≡ jobs → IfSome seat (λ seat. Agree seat.receipts ends.items) }
     ensures all { IfOk result (λ carried. vec_len ends ≡ jobs) }
     ensures seat { IfOk result (λ carried. seat ≡ Some carried.seat) }
@@ -134,15 +136,15 @@ struct Post {
 }
 
 /// Does the jobs of a submitter.
-fn submit_all<L: LogBrand, A: Allocator + Copy, G: Gate, R: Wait>(
+fn submit_all<L: LogBrand, A: Allocator + Copy, G: Gate, R: Wait, K: Drop, D: Data<K, A> + Drop>(
     rt: &R,
     alloc: A,
     shared: &Shared<L, A>,
     gate: &G,
     post: Post,
-    jobs: Vec<JobIn<A>, A>,
-) -> Returned<L, A>
-    ensures { IfOk result.carried (λ carried. WentSo L.opening carried.seat.number jobs.items carried.seat.receipts carried.ends.items) }
+    jobs: Vec<Job<Request<A>, D>, A>,
+) -> Returned<L, A, K>
+    ensures { IfOk result.carried (λ carried. WentBy D.bytes D.keeps L.opening carried.seat.number jobs.items carried.seat.receipts carried.ends.items) }
 {
     let Post { worker, depth } = post;
     let many = jobs.len();
@@ -159,17 +161,17 @@ fn submit_all<L: LogBrand, A: Allocator + Copy, G: Gate, R: Wait>(
 }
 
 /// A submitter that is still to be joined, and whose jobs these are.
-type Submitting<L, A> = PromisedHandle<Returned<L, A>, JobsOf<A>>;
+type Submitting<L, A, K, D> = PromisedHandle<Returned<L, A, K>, JobsOf<A, D>>;
 
 /// Joins the submitters, and puts what they give back into a list that has room for it.
-fn join_all<L: LogBrand, A: Allocator, R: Threads>(
+fn join_all<L: LogBrand, A: Allocator, R: Threads, K: Drop, D: Data<K, A>>(
     rt: &R,
-    submitters: Vec<Submitting<L, A>, A>,
-    room: Vec<Returned<L, A>, A>,
-) -> Vec<Returned<L, A>, A>
+    submitters: Vec<Submitting<L, A, K, D>, A>,
+    room: Vec<Returned<L, A, K>, A>,
+) -> Vec<Returned<L, A, K>, A>
     requires room { vec_len submitters ≤ vec_capacity room }
     requires empty { room.items ≡ [] }
-    ensures { AllZip (λ handle returned. IfOk returned.carried (λ carried. WentSo L.opening carried.seat.number handle.promise.0.value.items carried.seat.receipts carried.ends.items)) submitters.items result.items }
+    ensures { AllZip (λ handle returned. IfOk returned.carried (λ carried. WentBy D.bytes D.keeps L.opening carried.seat.number handle.promise.0.value.items carried.seat.receipts carried.ends.items)) submitters.items result.items }
 {
     let mut workers = room;
     for handle in submitters {
@@ -179,10 +181,10 @@ fn join_all<L: LogBrand, A: Allocator, R: Threads>(
 }
 
 /// Room for so many submitters, and for what they give back.
-fn room_for<L: LogBrand, A: Allocator + Copy>(
+fn room_for<L: LogBrand, A: Allocator + Copy, K: Drop, D: Data<K, A>>(
     alloc: A,
     many: usize,
-) -> Result<(Vec<Submitting<L, A>, A>, Vec<Returned<L, A>, A>), Failure>
+) -> Result<(Vec<Submitting<L, A, K, D>, A>, Vec<Returned<L, A, K>, A>), Failure>
     ensures none { IfOk result (λ lists. (lists.0.items ≡ []) × (lists.1.items ≡ [])) }
     ensures room { IfOk result (λ lists. (many ≤ vec_capacity lists.0) × (many ≤ vec_capacity lists.1)) }
 {
@@ -203,6 +205,8 @@ fn start<
     G: Gate + Sync,
     R: Wait + Sync,
     E,
+    K: Drop + Send + 's,
+    D: Data<K, A> + Drop + Send + 's,
 >(
     scope: &'s Scope<'s, E>,
     rt: &'s R,
@@ -210,15 +214,15 @@ fn start<
     shared: &'s Shared<L, A>,
     gate: &'s G,
     post: Post,
-    jobs: Vec<JobIn<A>, A>,
-) -> Option<Submitting<L, A>>
+    jobs: Vec<Job<Request<A>, D>, A>,
+) -> Option<Submitting<L, A, K, D>>
     ensures { IfSome result (λ submitter. submitter.promise.0.value ≡ jobs) }
 {
     let promise = JobsOf(Snapshot::of(&jobs));
     match scope.spawn_with(
         promise,
-        move || -> Returned<L, A>
-            ensures { IfOk result.carried (λ carried. WentSo L.opening carried.seat.number jobs.items carried.seat.receipts carried.ends.items) }
+        move || -> Returned<L, A, K>
+            ensures { IfOk result.carried (λ carried. WentBy D.bytes D.keeps L.opening carried.seat.number jobs.items carried.seat.receipts carried.ends.items) }
         { submit_all(rt, alloc, shared, gate, post, jobs) },
     ) {
         Ok(submitter) => Some(submitter),
@@ -238,16 +242,18 @@ fn start_all<
     G: Gate + Sync,
     R: Wait + Sync,
     E,
+    K: Drop + Send + 's,
+    D: Data<K, A> + Drop + Send + 's,
 >(
     scope: &'s Scope<'s, E>,
     rt: &'s R,
     alloc: A,
     shared: &'s Shared<L, A>,
     gate: &'s G,
-    jobs: Vec<Vec<JobIn<A>, A>, A>,
+    jobs: Vec<Vec<Job<Request<A>, D>, A>, A>,
     depth: Depth,
-    room: Vec<Submitting<L, A>, A>,
-) -> Result<Vec<Submitting<L, A>, A>, Vec<Submitting<L, A>, A>>
+    room: Vec<Submitting<L, A, K, D>, A>,
+) -> Result<Vec<Submitting<L, A, K, D>, A>, Vec<Submitting<L, A, K, D>, A>>
     requires room { vec_len jobs ≤ vec_capacity room }
     requires empty { room.items ≡ [] }
     ensures started { IfOk result (λ started. (later : _) × (map (λ submitter. submitter.promise.0.value.items) started.items ++ later ≡ map (λ list. list.items) jobs.items)) }
@@ -271,21 +277,23 @@ fn run_submitters<
     A: Allocator + Copy + Send + Sync,
     G: Gate + Sync,
     R: Threads + Wait + Sync,
+    K: Drop + Send,
+    D: Data<K, A> + Drop + Send,
 >(
     rt: &R,
     alloc: A,
     shared: &Shared<L, A>,
     gate: &G,
-    jobs: Vec<Vec<JobIn<A>, A>, A>,
+    jobs: Vec<Vec<Job<Request<A>, D>, A>, A>,
     depth: Depth,
-) -> Result<Vec<Returned<L, A>, A>, Failure>
-    ensures { IfOk result (λ workers. HoldsOfEach (λ list returned. IfOk returned.carried (λ carried. WentSo L.opening carried.seat.number list carried.seat.receipts carried.ends.items)) (map (λ list. list.items) jobs.items) workers.items) }
+) -> Result<Vec<Returned<L, A, K>, A>, Failure>
+    ensures { IfOk result (λ workers. HoldsOfEach (λ list returned. IfOk returned.carried (λ carried. WentBy D.bytes D.keeps L.opening carried.seat.number list carried.seat.receipts carried.ends.items)) (map (λ list. list.items) jobs.items) workers.items) }
 {
     thread::scope(
         thread::scope_env(),
         rt,
-        move |scope| -> Result<Vec<Returned<L, A>, A>, Failure>
-            ensures { IfOk result (λ workers. HoldsOfEach (λ list returned. IfOk returned.carried (λ carried. WentSo L.opening carried.seat.number list carried.seat.receipts carried.ends.items)) (map (λ list. list.items) jobs.items) workers.items) }
+        move |scope| -> Result<Vec<Returned<L, A, K>, A>, Failure>
+            ensures { IfOk result (λ workers. HoldsOfEach (λ list returned. IfOk returned.carried (λ carried. WentBy D.bytes D.keeps L.opening carried.seat.number list carried.seat.receipts carried.ends.items)) (map (λ list. list.items) jobs.items) workers.items) }
         {
             let (submitters, room) = room_for(alloc, jobs.len())?;
             match start_all(scope, rt, alloc, shared, gate, jobs, depth, submitters) {
@@ -306,21 +314,23 @@ fn run_workers<
     A: Allocator + Copy + Send + Sync,
     G: Gate + Sync,
     R: Threads + Wait + Sync,
+    K: Drop + Send,
+    D: Data<K, A> + Drop + Send,
 >(
     rt: &R,
     alloc: A,
     shared: &Shared<L, A>,
     gate: &G,
-    jobs: Vec<Vec<JobIn<A>, A>, A>,
+    jobs: Vec<Vec<Job<Request<A>, D>, A>, A>,
     depth: Depth,
-) -> Result<Vec<Returned<L, A>, A>, Failure>
-    ensures { IfOk result (λ workers. HoldsOfEach (λ list returned. IfOk returned.carried (λ carried. WentSo L.opening carried.seat.number list carried.seat.receipts carried.ends.items)) (map (λ list. list.items) jobs.items) workers.items) }
+) -> Result<Vec<Returned<L, A, K>, A>, Failure>
+    ensures { IfOk result (λ workers. HoldsOfEach (λ list returned. IfOk returned.carried (λ carried. WentBy D.bytes D.keeps L.opening carried.seat.number list carried.seat.receipts carried.ends.items)) (map (λ list. list.items) jobs.items) workers.items) }
 {
     thread::scope(
         thread::scope_env(),
         rt,
-        |scope| -> Result<Vec<Returned<L, A>, A>, Failure>
-            ensures { IfOk result (λ workers. HoldsOfEach (λ list returned. IfOk returned.carried (λ carried. WentSo L.opening carried.seat.number list carried.seat.receipts carried.ends.items)) (map (λ list. list.items) jobs.items) workers.items) }
+        |scope| -> Result<Vec<Returned<L, A, K>, A>, Failure>
+            ensures { IfOk result (λ workers. HoldsOfEach (λ list returned. IfOk returned.carried (λ carried. WentBy D.bytes D.keeps L.opening carried.seat.number list carried.seat.receipts carried.ends.items)) (map (λ list. list.items) jobs.items) workers.items) }
         {
             let polls = scope.spawn(move || poller(rt, shared));
             let serves = scope.spawn(move || controller(rt, shared));
@@ -339,7 +349,7 @@ fn run_workers<
 }
 
 /// The least worker to whom a gate was closed, where none was left out for want of memory.
-fn first_closed<L: LogBrand, A: Allocator>(workers: &[Returned<L, A>]) -> Option<u16> {
+fn first_closed<L: LogBrand, A: Allocator, K>(workers: &[Returned<L, A, K>]) -> Option<u16> {
     (0..16u16)
         .zip(workers)
         .find(|(_, returned)| returned.closed)
@@ -348,20 +358,20 @@ fn first_closed<L: LogBrand, A: Allocator>(workers: &[Returned<L, A>]) -> Option
 
 /// What submitters hand in: their seats, and how their jobs ended.
 #[derive(Drop)]
-struct HandedIn<L: LogBrand, A: Allocator> {
+struct HandedIn<L: LogBrand, A: Allocator, K> {
     seats: Vec<Seat<L, A>, A>,
-    lists: Vec<Vec<JobEndIn<A>, A>, A>,
+    lists: Vec<Vec<JobEnd<K>, A>, A>,
 }
 
 /// Takes what the submitters hand in, whose lists of jobs are so long.
-fn handed_in<L: LogBrand, A: Allocator + Copy>(
+fn handed_in<L: LogBrand, A: Allocator + Copy, K: Drop, D: Data<K, A>>(
     alloc: A,
-    workers: Vec<Returned<L, A>, A>,
+    workers: Vec<Returned<L, A, K>, A>,
     jobs: &[usize],
-) -> Result<HandedIn<L, A>, Failure>
+) -> Result<HandedIn<L, A, K>, Failure>
     ensures long { IfOk result (λ hand. map (λ list. length list.items) hand.lists.items ≡ jobs.now) }
     ensures agree { IfOk result (λ hand. map (λ seat. statuses_of seat.receipts) hand.seats.items ≡ map (λ list. ends_of list.items) hand.lists.items) }
-    ensures went { IfOk result (λ hand. (lists : _) → HoldsOfEach (λ list returned. IfOk returned.carried (λ carried. WentSo L.opening carried.seat.number list carried.seat.receipts carried.ends.items)) lists workers.items → length lists ≡ length jobs.now → AllWent L.opening lists (map (λ seat. seat.receipts) hand.seats.items) (map (λ list. list.items) hand.lists.items)) }
+    ensures went { IfOk result (λ hand. (lists : _) → HoldsOfEach (λ list returned. IfOk returned.carried (λ carried. WentBy D.bytes D.keeps L.opening carried.seat.number list carried.seat.receipts carried.ends.items)) lists workers.items → length lists ≡ length jobs.now → AllWentBy D.bytes D.keeps L.opening lists (map (λ seat. seat.receipts) hand.seats.items) (map (λ list. list.items) hand.lists.items)) }
 {
     let mut seats = Vec::new(alloc);
     let mut lists = Vec::new(alloc);
@@ -386,10 +396,10 @@ fn unclosed(why: CloseFault) -> Failure {
 }
 
 /// Closes a book with what the submitters handed in.
-fn close<L: LogBrand, A: Allocator + Copy>(
+fn close<L: LogBrand, A: Allocator + Copy, K: Drop>(
     book: Book<L, A>,
-    hand: HandedIn<L, A>,
-) -> Result<Ran<L, A>, Failure>
+    hand: HandedIn<L, A, K>,
+) -> Result<Ran<L, A, K>, Failure>
     requires agree { map (λ seat. statuses_of seat.receipts) hand.seats.items ≡ map (λ list. ends_of list.items) hand.lists.items }
     ensures closed { IfOk result (λ ran. RanFrom L.opening ran.report ran.book) }
     ensures ends { IfOk result (λ ran. map length ran.jobs ≡ map (λ list. length list.items) hand.lists.items) }
@@ -415,10 +425,10 @@ fn close<L: LogBrand, A: Allocator + Copy>(
 }
 
 /// Closes a book with what the submitters handed in, and gives its log and its world.
-fn carry_on<L: LogBrand, A: Allocator + Copy>(
+fn carry_on<L: LogBrand, A: Allocator + Copy, K: Drop>(
     book: Book<L, A>,
-    hand: HandedIn<L, A>,
-) -> Result<Round<A>, Failure>
+    hand: HandedIn<L, A, K>,
+) -> Result<Round<A, K>, Failure>
     requires agree { map (λ seat. statuses_of seat.receipts) hand.seats.items ≡ map (λ list. ends_of list.items) hand.lists.items }
     ensures ended { IfOk result (λ round. EndsRound L.opening round.log round.report round.world) }
     ensures ends { IfOk result (λ round. map length round.jobs ≡ map (λ list. length list.items) hand.lists.items) }
@@ -452,17 +462,19 @@ fn work_over<
     A: Allocator + Copy + Send + Sync,
     G: Gate + Sync,
     R: Threads + Wait + Sync,
+    K: Drop + Send,
+    D: Data<K, A> + Drop + Send,
 >(
     rt: &R,
     alloc: A,
     shared: Shared<L, A>,
     gate: &G,
-    jobs: Vec<Vec<JobIn<A>, A>, A>,
+    jobs: Vec<Vec<Job<Request<A>, D>, A>, A>,
     depth: Depth,
-) -> Result<(Book<L, A>, HandedIn<L, A>), Failure>
+) -> Result<(Book<L, A>, HandedIn<L, A, K>), Failure>
     ensures long { IfOk result (λ done. map (λ list. length list.items) done.1.lists.items ≡ map (λ list. length list.items) jobs.items) }
     ensures agree { IfOk result (λ done. map (λ seat. statuses_of seat.receipts) done.1.seats.items ≡ map (λ list. ends_of list.items) done.1.lists.items) }
-    ensures went { IfOk result (λ done. AllWent L.opening (map (λ list. list.items) jobs.items) (map (λ seat. seat.receipts) done.1.seats.items) (map (λ list. list.items) done.1.lists.items)) }
+    ensures went { IfOk result (λ done. AllWentBy D.bytes D.keeps L.opening (map (λ list. list.items) jobs.items) (map (λ seat. seat.receipts) done.1.seats.items) (map (λ list. list.items) done.1.lists.items)) }
 {
     let Ok(many) = lengths(alloc, &jobs) else {
         return Err(Failure::Memory);
@@ -471,7 +483,7 @@ fn work_over<
     if let Some(worker) = first_closed(&workers) {
         return Err(Failure::GateClosed { worker });
     }
-    let hand = handed_in(alloc, workers, &many)?;
+    let hand = handed_in::<L, A, K, D>(alloc, workers, &many)?;
     Ok((shared.end(), hand))
 }
 
@@ -481,18 +493,20 @@ fn run_over<
     A: Allocator + Copy + Send + Sync,
     G: Gate + Sync,
     R: Threads + Wait + Sync,
+    K: Drop + Send,
+    D: Data<K, A> + Drop + Send,
 >(
     rt: &R,
     alloc: A,
     shared: Shared<L, A>,
     gate: &G,
-    jobs: Vec<Vec<JobIn<A>, A>, A>,
+    jobs: Vec<Vec<Job<Request<A>, D>, A>, A>,
     depth: Depth,
-) -> Result<Ran<L, A>, Failure>
+) -> Result<Ran<L, A, K>, Failure>
     ensures closed { IfOk result (λ ran. RanFrom L.opening ran.report ran.book) }
     ensures all_jobs { IfOk result (λ ran. map length ran.jobs ≡ map (λ list. length list.items) jobs.items) }
     ensures agree { IfOk result (λ ran. AllAgree ran.report.receipts ran.jobs) }
-    ensures went { IfOk result (λ ran. AllWent L.opening (map (λ list. list.items) jobs.items) ran.report.receipts ran.jobs) }
+    ensures went { IfOk result (λ ran. AllWentBy D.bytes D.keeps L.opening (map (λ list. list.items) jobs.items) ran.report.receipts ran.jobs) }
     ensures jobs { IfOk result (λ ran. OnTrue L.jobs_alone (AreOfJobs ran.book.log)) }
 {
     let (book, hand) = work_over(rt, alloc, shared, gate, jobs, depth)?;
@@ -505,18 +519,20 @@ fn round_over<
     A: Allocator + Copy + Send + Sync,
     G: Gate + Sync,
     R: Threads + Wait + Sync,
+    K: Drop + Send,
+    D: Data<K, A> + Drop + Send,
 >(
     rt: &R,
     alloc: A,
     shared: Shared<L, A>,
     gate: &G,
-    jobs: Vec<Vec<JobIn<A>, A>, A>,
+    jobs: Vec<Vec<Job<Request<A>, D>, A>, A>,
     depth: Depth,
-) -> Result<Round<A>, Failure>
+) -> Result<Round<A, K>, Failure>
     ensures ended { IfOk result (λ round. EndsRound L.opening round.log round.report round.world) }
     ensures all_jobs { IfOk result (λ round. map length round.jobs ≡ map (λ list. length list.items) jobs.items) }
     ensures agree { IfOk result (λ round. AllAgree round.report.receipts round.jobs) }
-    ensures went { IfOk result (λ round. AllWent L.opening (map (λ list. list.items) jobs.items) round.report.receipts round.jobs) }
+    ensures went { IfOk result (λ round. AllWentBy D.bytes D.keeps L.opening (map (λ list. list.items) jobs.items) round.report.receipts round.jobs) }
     ensures jobs { IfOk result (λ round. OnTrue L.jobs_alone (AreOfJobs round.log.entries)) }
 {
     let (book, hand) = work_over(rt, alloc, shared, gate, jobs, depth)?;
@@ -542,17 +558,19 @@ pub fn run_threads<
     A: Allocator + Copy + Send + Sync,
     G: Gate + Sync,
     R: Threads + Wait + Sync,
+    K: Drop + Send,
+    D: Data<K, A> + Drop + Send,
 >(
     rt: &R,
     alloc: A,
     config: Config,
     image: Image<A>,
-    jobs: Vec<Vec<JobIn<A>, A>, A>,
+    jobs: Vec<Vec<Job<Request<A>, D>, A>, A>,
     depth: usize,
     server: Server,
     gate: &G,
     blank: Blank,
-) -> Result<Ran<L, A>, RunFault>
+) -> Result<Ran<L, A, K>, RunFault>
     requires name { blank.name ≡ L.name }
     requires parts { blank.parts ≡ L.parts }
     requires number { blank.parts ≡ 65536 }
@@ -564,7 +582,7 @@ pub fn run_threads<
     ensures ran { IfOk result (λ ran. RanFrom (opening_of config image) ran.report ran.book) }
     ensures all_jobs { IfOk result (λ ran. map length ran.jobs ≡ map (λ list. length list.items) jobs.items) }
     ensures agree { IfOk result (λ ran. AllAgree ran.report.receipts ran.jobs) }
-    ensures went { IfOk result (λ ran. AllWent (opening_of config image) (map (λ list. list.items) jobs.items) ran.report.receipts ran.jobs) }
+    ensures went { IfOk result (λ ran. AllWentBy D.bytes D.keeps (opening_of config image) (map (λ list. list.items) jobs.items) ran.report.receipts ran.jobs) }
     ensures jobs { IfOk result (λ ran. OnTrue L.jobs_alone (AreOfJobs ran.book.log)) }
     ensures trusted { IfOk result (λ ran. OnTrue L.jobs_alone (IsTrustedLog image ran.book.log ran.book.world)) }
     ensures refused { IfErr result (RefusesRun config) }
@@ -607,16 +625,18 @@ pub fn run_round<
     A: Allocator + Copy + Send + Sync,
     G: Gate + Sync,
     R: Threads + Wait + Sync,
+    K: Drop + Send,
+    D: Data<K, A> + Drop + Send,
 >(
     rt: &R,
     alloc: A,
     world: World<A>,
-    jobs: Vec<Vec<JobIn<A>, A>, A>,
+    jobs: Vec<Vec<Job<Request<A>, D>, A>, A>,
     depth: usize,
     server: Server,
     gate: &G,
     blank: Blank,
-) -> Result<Round<A>, RunFault>
+) -> Result<Round<A, K>, RunFault>
     requires name { blank.name ≡ L.name }
     requires parts { blank.parts ≡ L.parts }
     requires number { blank.parts ≡ 65536 }
@@ -628,7 +648,7 @@ pub fn run_round<
     ensures ended { IfOk result (λ round. EndsRound world.state round.log round.report round.world) }
     ensures all_jobs { IfOk result (λ round. map length round.jobs ≡ map (λ list. length list.items) jobs.items) }
     ensures agree { IfOk result (λ round. AllAgree round.report.receipts round.jobs) }
-    ensures went { IfOk result (λ round. AllWent world.state (map (λ list. list.items) jobs.items) round.report.receipts round.jobs) }
+    ensures went { IfOk result (λ round. AllWentBy D.bytes D.keeps world.state (map (λ list. list.items) jobs.items) round.report.receipts round.jobs) }
     ensures jobs { IfOk result (λ round. OnTrue L.jobs_alone (AreOfJobs round.log.entries)) }
     ensures refused { IfErr result IsAfterOpening }
 {

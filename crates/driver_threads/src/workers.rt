@@ -2,28 +2,31 @@
 
 ghost use Rattle.std.specs.Prelude.{◌≡◌, ◌≤◌, vec_len, IfSome};
 ghost use Rattle.driver_threads.specs.Ends.{Agree};
-ghost use Rattle.driver_threads.specs.Jobs.{WentSo};
+ghost use Rattle.driver_threads.specs.Jobs.{WentBy};
 
 use crate::book_lock::Shared;
 use crate::carry::Watch;
+use crate::data::Data;
 use crate::flight::Flight;
 use crate::gate::Gate;
-use crate::jobs::{JobEndIn, JobIn};
+use crate::jobs::{Job, JobEnd};
 use crate::waits::Halt;
 use driver_book::{LogBrand, Seat};
+use io_commands::Request;
 use std::alloc::{AllocError, Allocator, Global};
 use std::collections::VecDeque;
 use std::sync::Wait;
 use std::sync::ledger::Ledger;
+use step_core::Bytes;
 
 /// What a submitter gives back.
 #[derive(Drop)]
-pub struct Worked<L: Ledger, A: Allocator = Global> {
+pub struct Worked<L: Ledger, A: Allocator = Global, K = Bytes<A>> {
     /// Its seat; none where no more seats were to be had.
     pub seat: Option<Seat<L, A>>,
     /// How its jobs ended, in their order. It has fewer than there were jobs only where the workers were told to stop, somebody else collected
     /// one of its commands, or it got no seat.
-    pub ends: Vec<JobEndIn<A>, A>,
+    pub ends: Vec<JobEnd<K>, A>,
     /// Whether a gate was closed to it.
     pub closed: bool,
     /// Whether memory was refused to it.
@@ -37,23 +40,23 @@ pub struct Worked<L: Ledger, A: Allocator = Global> {
 ///
 /// Each job that is not refused was reserved with its own request on its own queue. Its draft was submitted from this seat with the job's bytes in the
 /// data pieces, and zeros after them; of a Read it was submitted as it was reserved. The receipt has the number of that submission. The command of that
-/// receipt was collected and released, and the bytes of the job's end are those that were gathered from it. A job is refused only for what the book
-/// answered to its request or its draft, or where it has more bytes than its data pieces take.
+/// receipt was collected and released, and the job's end has what its data keep of it: of bytes those that were gathered from it. A job is refused
+/// only for what the book answered to its request or its draft, or where it has more bytes than its data pieces take.
 #[tactic(auto, using(crate::proofs::UnderWay::begins))]
-pub fn submitter<L: LogBrand, A: Allocator + Copy, G: Gate, R: Wait>(
+pub fn submitter<L: LogBrand, A: Allocator + Copy, G: Gate, R: Wait, K: Drop, D: Data<K, A> + Drop>(
     rt: &R,
     alloc: A,
     shared: &Shared<L, A>,
     gate: &G,
     worker: u16,
-    jobs: Vec<JobIn<A>, A>,
+    jobs: Vec<Job<Request<A>, D>, A>,
     depth: usize,
-) -> Worked<L, A>
+) -> Worked<L, A, K>
     requires at_least_one { 1 ≤ depth }
     requires at_most { depth ≤ 256 }
     ensures most { vec_len result.ends ≤ vec_len jobs }
     ensures agree { vec_len result.ends ≡ vec_len jobs → IfSome result.seat (λ seat. Agree seat.receipts result.ends.items) }
-    ensures went { vec_len result.ends ≡ vec_len jobs → IfSome result.seat (λ seat. WentSo L.opening seat.number jobs.items seat.receipts result.ends.items) }
+    ensures went { vec_len result.ends ≡ vec_len jobs → IfSome result.seat (λ seat. WentBy D.bytes D.keeps L.opening seat.number jobs.items seat.receipts result.ends.items) }
 {
     let ends = Vec::new(alloc);
     let Ok(seat) = shared.seat(rt) else {
@@ -64,7 +67,7 @@ pub fn submitter<L: LogBrand, A: Allocator + Copy, G: Gate, R: Wait>(
             short: false,
         };
     };
-    let Ok(tickets) = VecDeque::with_capacity(alloc, depth) else {
+    let Ok(flying) = VecDeque::with_capacity(alloc, depth) else {
         shared.stop(rt);
         return Worked {
             seat: Some(seat),
@@ -74,11 +77,7 @@ pub fn submitter<L: LogBrand, A: Allocator + Copy, G: Gate, R: Wait>(
         };
     };
     let mut watch = Watch::new(gate, worker);
-    let mut flight = Flight {
-        seat,
-        tickets,
-        ends,
-    };
+    let mut flight = Flight { seat, flying, ends };
     let carried = flight.carry_all(rt, alloc, shared, &mut watch, jobs);
     let short = carried == Err(Halt::Memory);
     if short {

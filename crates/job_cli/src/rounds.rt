@@ -27,7 +27,7 @@ use std::rt::Clock;
 use std::sync::Wait;
 use std::sync::ledger::Blank;
 use std::thread::Threads;
-use step_core::World;
+use step_core::{Bytes, World};
 
 /// How jobs are done.
 #[derive(Clone, Copy, Debug, PartialEq, Eq)]
@@ -185,7 +185,7 @@ fn one_round<R: Threads + Wait + Sync>(
     ensures fault { IfErr result IsWanting }
 {
     let blank = Blank::new(65536);
-    match run_round::<Brand, Global, Open, R>(
+    match run_round::<Brand, Global, Open, R, Bytes, Bytes>(
         rt,
         alloc,
         world,

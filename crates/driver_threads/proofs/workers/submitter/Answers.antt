@@ -12,4 +12,4 @@ returns-clause-agree g c =
 pub returns-clause-went : goal.returns-clause-went
 returns-clause-went g c =
     rw (c.land-seat.ensures.ends, c.land-seat.ensures.seat)
-    (λ same. all_carried c.carry_all-carried.result _ _ _ c.new-ends.ensures.len c.carry_all-carried.ensures.fewer c.carry_all-carried.ensures.went same (carries_none _ _ _ _ (ap (λ (s : SeatContents). s.receipts) c.in-Ok.ensures.seat.next) c.new-ends.ensures.items c.in-Ok-with_capacity.ensures.items))
+    (λ same. all_carried c.carry_all-carried.result _ _ _ c.new-ends.ensures.len c.carry_all-carried.ensures.fewer c.carry_all-carried.ensures.went same (carries_none g.D.Data.bytes g.D.Data.keeps _ _ _ _ (ap (λ (s : SeatContents). s.receipts) c.in-Ok.ensures.seat.next) c.new-ends.ensures.items c.in-Ok-with_capacity.ensures.items))

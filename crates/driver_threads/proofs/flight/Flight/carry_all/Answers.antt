@@ -1,6 +1,6 @@
 -- One job more is carried; at the end all of them went so.
-use Rattle.std.proofs.{Common.{◌≡◌, ◌∙◌, arith, rules, sym, subst, List}, lemmas.{Grind.common_steps, Iterator.{Adapters.YieldsList-from_vec, Consumers.YieldsList-end}}}
-use Rattle.driver_threads.{proofs.Carried.{at_most, landed_so, same_items, under_condition}, specs.{JobSteps.Carries, Values.Job}}
+use Rattle.std.proofs.{Common.{◌≡◌, ◌∙◌, arith, rules, sym, subst}, lemmas.{Grind.common_steps, Iterator.{Adapters.YieldsList-from_vec, Consumers.YieldsList-end}}}
+use Rattle.driver_threads.{proofs.Carried.{at_most, landed_so, same_items, under_condition}, specs.JobSteps.Carries}
 use Rattle.driver_threads.proofs.flight.Flight.carry_all.Goals as goal
 
 pub loop-job-preserved : goal.loop-job-preserved
@@ -25,5 +25,5 @@ returns-clause-went g c =
     let all : c.loop-job.yielded ≡ c.args.jobs.items = sym (same_items c.loop-job.yielded) ∙ ended.0 in
     under_condition _ _ c.finish_all.result
     (λ start.
-    landed_so c.finish_all.result g.L.LogBrand.opening flight.seat next.seat flight.ends.items next.ends.items flight.tickets.items next.tickets.items c.args.jobs.items _ next.tickets.ok.0 c.finish_all.ensures.none
-    c.finish_all.ensures.carries (subst (λ (jobs : List Job). Carries g.L.LogBrand.opening flight.seat flight.ends.items flight.tickets.items jobs) all (c.loop-job.invariant.carries start)))
+    landed_so g.D.Data.bytes g.D.Data.keeps c.finish_all.result g.L.LogBrand.opening flight.seat next.seat flight.ends.items next.ends.items flight.flying.items next.flying.items c.args.jobs.items _ next.flying.ok.0 c.finish_all.ensures.none
+    c.finish_all.ensures.carries (subst (λ jobs. Carries g.D.Data.bytes g.D.Data.keeps g.L.LogBrand.opening flight.seat flight.ends.items flight.flying.items jobs) all (c.loop-job.invariant.carries start)))

@@ -5,9 +5,9 @@ use Rattle.driver_threads.proofs.flight.Flight.carry_all.Given as goal
 
 abbrev pub invariant-loop-job : goal.invariant-loop-job
 invariant-loop-job g l = record {
-  under_way : IsUnderWay l.self.seat.receipts l.self.ends.items l.self.tickets.items;
-  all : vec_len l.self.ends + deque_len l.self.tickets ≡ vec_len l.initial.self.ends + length l.yielded;
+  under_way : IsUnderWay l.self.seat.receipts l.self.ends.items l.self.flying.items;
+  all : vec_len l.self.ends + deque_len l.self.flying ≡ vec_len l.initial.self.ends + length l.yielded;
   left : length l.yielded + into_iter_len l.job-iterator ≡ vec_len l.fn.jobs;
-  carries : Carries g.L.LogBrand.opening l.initial.self.seat l.initial.self.ends.items l.initial.self.tickets.items [] → Carries g.L.LogBrand.opening l.self.seat l.self.ends.items l.self.tickets.items l.yielded;
-  places : deque_capacity l.self.tickets ≡ deque_capacity l.initial.self.tickets;
+  carries : Carries g.D.Data.bytes g.D.Data.keeps g.L.LogBrand.opening l.initial.self.seat l.initial.self.ends.items l.initial.self.flying.items [] → Carries g.D.Data.bytes g.D.Data.keeps g.L.LogBrand.opening l.self.seat l.self.ends.items l.self.flying.items l.yielded;
+  places : deque_capacity l.self.flying ≡ deque_capacity l.initial.self.flying;
 }

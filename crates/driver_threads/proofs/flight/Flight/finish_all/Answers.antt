@@ -6,5 +6,5 @@ use Rattle.driver_threads.proofs.flight.Flight.finish_all.Goals as goal
 pub returns-clause-agree : goal.returns-clause-agree
 returns-clause-agree g c =
     let flight = c.loop-alloc.self in
-    let none : deque_len flight.tickets ≡ 0 = first_of (search rules, grind (arith, nat_tests)) in
-    landed flight.seat.receipts flight.ends.items flight.tickets.items (deque_len flight.tickets) flight.tickets.ok.0 none c.loop-alloc.invariant.under_way
+    let none : deque_len flight.flying ≡ 0 = first_of (search rules, grind (arith, nat_tests)) in
+    landed flight.seat.receipts flight.ends.items flight.flying.items (deque_len flight.flying) flight.flying.ok.0 none c.loop-alloc.invariant.under_way

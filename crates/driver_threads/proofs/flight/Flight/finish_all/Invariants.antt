@@ -5,11 +5,11 @@ use Rattle.driver_threads.proofs.flight.Flight.finish_all.Given as goal
 
 abbrev pub invariant-loop-alloc : goal.invariant-loop-alloc
 invariant-loop-alloc g l = record {
-  under_way : IsUnderWay l.self.seat.receipts l.self.ends.items l.self.tickets.items;
-  all : vec_len l.self.ends + deque_len l.self.tickets ≡ vec_len l.initial.self.ends + deque_len l.initial.self.tickets;
-  carries : CarriesOn g.L.LogBrand.opening l.initial.self.seat l.initial.self.ends.items l.initial.self.tickets.items l.self.seat l.self.ends.items l.self.tickets.items;
-  places : deque_capacity l.self.tickets ≡ deque_capacity l.initial.self.tickets;
+  under_way : IsUnderWay l.self.seat.receipts l.self.ends.items l.self.flying.items;
+  all : vec_len l.self.ends + deque_len l.self.flying ≡ vec_len l.initial.self.ends + deque_len l.initial.self.flying;
+  carries : CarriesOn g.D.Data.bytes g.D.Data.keeps g.L.LogBrand.opening l.initial.self.seat l.initial.self.ends.items l.initial.self.flying.items l.self.seat l.self.ends.items l.self.flying.items;
+  places : deque_capacity l.self.flying ≡ deque_capacity l.initial.self.flying;
 }
 
 abbrev pub decreases-loop-alloc : goal.decreases-loop-alloc
-decreases-loop-alloc g l = deque_len l.self.tickets
+decreases-loop-alloc g l = deque_len l.self.flying
