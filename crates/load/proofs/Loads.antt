@@ -4,10 +4,9 @@ use Rattle.std.proofs.Math.{ListN.get_or-append, Nat.{add-mul, mul-add, mul-le-m
 use Rattle.std.{proofs.lemmas.{Bool.{cases_lt, le-ltb, lt-ltb}, List.{length-append, length-map, map-append, append-nil}}, specs.Io.KnownBytes.{Appends, Keeps}}
 use Rattle.std.specs.Prelude.{slice_index_or}
 use Rattle.load.specs.{Content.{block_bytes, blocks_bytes}, Histograms.{IsBucketOf, low_of}, Lines.{IsLineFront, line_text}, Planning.{full_pieces, pieces_of}}
-use Rattle.load.specs.{Tallies.{both, no_tally, tallies_from, tally_from}, declared.{plan.Planned.Planned, tally.Tally.Tally}}
+use Rattle.load.specs.{Tallies.{TaskEnd, both, no_tally, tallies_from, tally_from}, declared.{plan.Planned.Planned, tally.Tally.Tally}}
 use Rattle.script_cli.specs.declared.workload.Pattern.{Pattern}
 use Rattle.io_commands.specs.declared.request.Piece.{Piece, TheVariants.Data}
-use Rattle.driver_threads.specs.Values.{JobEnd}
 use Rattle.script_cli.{proofs.Texts.{appends_none, keeps_then}, specs.Inputs.{Gains, IsFront}}
 
 -- The bytes of blocks, one after the other.
@@ -171,23 +170,23 @@ page_pushed old new rest blocks pushed more is =
 -- Commands are counted one after the other.
 
 -- where no command is left, or none has an end, no more is counted
-pub all_counted : (wanted : Planned → Option (List ℕ)) (tally : Tally) (ps : List Planned) (es : List JobEnd) → (ps ≡ []) ⊎ (es ≡ []) → tally_from wanted tally ps es ≡ tally
-all_counted wanted tally ps es (inl none) = rw none refl
-all_counted wanted tally [] es (inr none) = refl
-all_counted wanted tally (p ∷ ps) es (inr none) = rw none refl
+pub all_counted : (tally : Tally) (ps : List Planned) (es : List TaskEnd) → (ps ≡ []) ⊎ (es ≡ []) → tally_from tally ps es ≡ tally
+all_counted tally ps es (inl none) = rw none refl
+all_counted tally [] es (inr none) = refl
+all_counted tally (p ∷ ps) es (inr none) = rw none refl
 
 -- the next submitter of those that are left
-pub one_list_counted : {V W : Type 0} (plan_of : V → List Planned) (ends_of : W → List JobEnd) (wanted : Planned → Option (List ℕ)) (old new : Tally) (ps qs : List V) (es fs : List W)
-    (p : V) (e : W) → ps ≡ p ∷ qs → es ≡ e ∷ fs → new ≡ both old (tally_from wanted no_tally (plan_of p) (ends_of e))
-    → tallies_from wanted new (map plan_of qs) (map ends_of fs) ≡ tallies_from wanted old (map plan_of ps) (map ends_of es)
-one_list_counted plan_of ends_of wanted old new ps qs es fs p e first second is = rw (first, second, is) refl
+pub one_list_counted : {V W : Type 0} (plan_of : V → List Planned) (ends_of : W → List TaskEnd) (old new : Tally) (ps qs : List V) (es fs : List W)
+    (p : V) (e : W) → ps ≡ p ∷ qs → es ≡ e ∷ fs → new ≡ both old (tally_from no_tally (plan_of p) (ends_of e))
+    → tallies_from new (map plan_of qs) (map ends_of fs) ≡ tallies_from old (map plan_of ps) (map ends_of es)
+one_list_counted plan_of ends_of old new ps qs es fs p e first second is = rw (first, second, is) refl
 
 -- where no submitter is left, or none has ends, no more is counted
-pub all_lists_counted : {V W : Type 0} (plan_of : V → List Planned) (ends_of : W → List JobEnd) (wanted : Planned → Option (List ℕ)) (tally : Tally) (ps : List V) (es : List W)
-    → (ps ≡ []) ⊎ (es ≡ []) → tallies_from wanted tally (map plan_of ps) (map ends_of es) ≡ tally
-all_lists_counted plan_of ends_of wanted tally ps es (inl none) = rw none refl
-all_lists_counted plan_of ends_of wanted tally [] es (inr none) = refl
-all_lists_counted plan_of ends_of wanted tally (p ∷ ps) es (inr none) = rw none refl
+pub all_lists_counted : {V W : Type 0} (plan_of : V → List Planned) (ends_of : W → List TaskEnd) (tally : Tally) (ps : List V) (es : List W)
+    → (ps ≡ []) ⊎ (es ≡ []) → tallies_from tally (map plan_of ps) (map ends_of es) ≡ tally
+all_lists_counted plan_of ends_of tally ps es (inl none) = rw none refl
+all_lists_counted plan_of ends_of tally [] es (inr none) = refl
+all_lists_counted plan_of ends_of tally (p ∷ ps) es (inr none) = rw none refl
 
 -- What is written of a load that did not run to its end.
 

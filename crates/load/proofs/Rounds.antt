@@ -2,11 +2,10 @@
 use Rattle.std.proofs.Common.{◌≡◌, ◌∙◌, ◌⊎◌, ℕ, ◌+◌, ◌-◌, ◌<◌, ◌==◌, suc, Bool, true, false, if◌then◌else◌, Option, List, [], ◌∷◌, ◌++◌, arith, ap, append_assoc, sym, inl, inr, refl, subst, drop, length, map, replicate, take, ◌*◌}
 use Rattle.std.proofs.lemmas.{Bool.ne_eqb, List.{append-nil, drop_all, ext_get_or, get_or-map, length-map, take_all}}
 use Rattle.std.specs.Prelude.{slice_index}
-use Rattle.driver_threads.specs.Values.{Job, JobEnd}
 use Rattle.io_commands.specs.declared.request.Kind.TheVariants as kind
-use Rattle.load.specs.{Course.{AreJobs, commands_left, queue_of}, Loaded.{setting_of, standing_of, start}, Planning.{job_for, planned_at}}
+use Rattle.load.specs.{Course.{AreJobs, commands_left, queue_of}, Loaded.{setting_of, standing_of, start}, Planning.{TaskJob, job_for, planned_at}}
 use Rattle.load.specs.Rounds.{GoOn, GoesOn, IsReadOf, IsRoundOf, ReadOn, ReadsOn, Round, Setting, Standing, after, all_noted, commands_of, noted, reads_from, reads_of}
-use Rattle.load.specs.Tallies.{both, counted, no_tally, sum_of, tallies_from, wanted_of}
+use Rattle.load.specs.Tallies.{TaskEnd, both, counted, no_tally, sum_of, tallies_from}
 use Rattle.load.specs.declared.{content.Content.Content, course.Course.Course, layout.Layout.Layout, plan.Planned.Planned, tally.Tally.Tally}
 use Rattle.machine_model.specs.State.{State}
 use Rattle.script_cli.specs.declared.workload.Load.{Load}
@@ -77,18 +76,18 @@ read_on_by s other from before rounds at standing next reached read same some re
 -- How often slots were written
 
 -- where no command is left, or none has an end, nothing is noted
-pub none_noted : (generations : List ℕ) (ps : List Planned) (es : List JobEnd) → (ps ≡ []) ⊎ (es ≡ []) → noted generations ps es ≡ generations
+pub none_noted : (generations : List ℕ) (ps : List Planned) (es : List TaskEnd) → (ps ≡ []) ⊎ (es ≡ []) → noted generations ps es ≡ generations
 none_noted generations ps es (inl none) = rw none refl
 none_noted generations [] es (inr none) = refl
 none_noted generations (p ∷ ps) es (inr none) = rw none refl
 
 -- the next submitter of those that are left
-pub one_list_noted : {V W : Type 0} (plan_of : V → List Planned) (ends_of : W → List JobEnd) (old new : List ℕ) (ps qs : List V) (es fs : List W) (p : V) (e : W) → ps ≡ p ∷ qs → es ≡ e ∷ fs
+pub one_list_noted : {V W : Type 0} (plan_of : V → List Planned) (ends_of : W → List TaskEnd) (old new : List ℕ) (ps qs : List V) (es fs : List W) (p : V) (e : W) → ps ≡ p ∷ qs → es ≡ e ∷ fs
     → new ≡ noted old (plan_of p) (ends_of e) → all_noted new (map plan_of qs) (map ends_of fs) ≡ all_noted old (map plan_of ps) (map ends_of es)
 one_list_noted plan_of ends_of old new ps qs es fs p e first second is = rw (first, second, is) refl
 
 -- where no submitter is left, or none has ends, nothing is noted
-pub no_lists_noted : {V W : Type 0} (plan_of : V → List Planned) (ends_of : W → List JobEnd) (generations : List ℕ) (ps : List V) (es : List W) → (ps ≡ []) ⊎ (es ≡ [])
+pub no_lists_noted : {V W : Type 0} (plan_of : V → List Planned) (ends_of : W → List TaskEnd) (generations : List ℕ) (ps : List V) (es : List W) → (ps ≡ []) ⊎ (es ≡ [])
     → all_noted generations (map plan_of ps) (map ends_of es) ≡ generations
 no_lists_noted plan_of ends_of generations ps es (inl none) = rw none refl
 no_lists_noted plan_of ends_of generations [] es (inr none) = refl
@@ -132,13 +131,13 @@ read_left generations at end old whole more none is =
 -- The jobs of plans
 
 -- as many jobs as commands
-pub jobs_long : (layout : Layout) (seed queues : ℕ) (plans : List (List Planned)) (lists : List (List Job)) → AreJobs layout seed queues plans lists → map length lists ≡ map length plans
-jobs_long layout seed queues plans lists jobs =
+pub jobs_long : (layout : Layout) (seed : ℕ) (content : Option Content) (queues : ℕ) (plans : List (List Planned)) (lists : List (List TaskJob)) → AreJobs layout seed content queues plans lists → map length lists ≡ map length plans
+jobs_long layout seed content queues plans lists jobs =
     ext_get_or 0 (map length lists) (map length plans) (length-map lists length ∙ jobs.all ∙ sym (length-map plans length))
     (λ i below.
     let less : i < length lists = omega (arith, below, length-map lists length) in
     let under : i < length plans = omega (arith, less, jobs.all) in
-    get_or-map length lists i [] 0 less ∙ ap length (jobs.each i [] [] less) ∙ length-map _ (job_for layout seed (queue_of queues i)) ∙ sym (get_or-map length plans i [] 0 under))
+    get_or-map length lists i [] 0 less ∙ ap length (jobs.each i [] [] less) ∙ length-map _ (job_for layout seed content (queue_of queues i)) ∙ sym (get_or-map length plans i [] 0 under))
 
 -- One round more
 
@@ -152,7 +151,7 @@ same_standing c d m n noted machine told =
 
 -- where plans were done, and their ends noted and counted, a round stands behind where the load stood
 pub stands_after : (s : Setting) (of_load : Bool) (before : Standing) (round : Round) (c : Course) → c.generations.items ≡ all_noted before.generations round.plans round.ends
-    → c.tally ≡ both before.tally (counted of_load (tallies_from (wanted_of s.layout s.content) no_tally round.plans round.ends)) → standing_of c round.world.state ≡ after s of_load before round
+    → c.tally ≡ both before.tally (counted of_load (tallies_from no_tally round.plans round.ends)) → standing_of c round.world.state ≡ after s of_load before round
 stands_after s of_load before round c noted told =
     ap (λ (x : List ℕ). place x round.world.state c.tally) noted ∙ ap (place (all_noted before.generations round.plans round.ends) round.world.state) told
 

@@ -1,9 +1,8 @@
 -- From round to round.
 use Rattle.std.specs.Int.{div_ceil}
 use Rattle.std.specs.Prelude.{◌≡◌, ℕ, ◌+◌, ◌-◌, ◌*◌, ◌/◌, ◌%◌, ◌^◌, ◌<◌, Option, Some, None, List, length, map, max, min, nat_lt, slice_index_or, if◌then◌else◌}
-use Rattle.load.specs.{Planning.{IsPlanOf, job_for}, declared.{layout.Layout.Layout, plan.Planned.Planned}}
+use Rattle.load.specs.{Planning.{IsPlanOf, TaskJob, job_for}, declared.{content.Content.Content, layout.Layout.Layout, plan.Planned.Planned}}
 use Rattle.script_cli.specs.declared.workload.Load.{Load}
-use Rattle.driver_threads.specs.Values.{Job}
 
 -- how many of so many commands a submitter does: as many as each other, or one more
 abbrev pub share_of : ℕ → ℕ → ℕ → ℕ
@@ -19,9 +18,9 @@ abbrev pub queue_of : ℕ → ℕ → ℕ
 queue_of queues submitter = 1 + submitter % queues
 
 -- each submitter has the jobs of its plan, for its queue
-pub record AreJobs (layout : Layout) (seed queues : ℕ) (plans : List (List Planned)) (lists : List (List Job)) : Type 0 where
+pub record AreJobs (layout : Layout) (seed : ℕ) (content : Option Content) (queues : ℕ) (plans : List (List Planned)) (lists : List (List TaskJob)) : Type 0 where
   pub all : length lists ≡ length plans
-  pub each : (s : ℕ) (d : List Job) (e : List Planned) → s < length lists → slice_index_or lists s d ≡ map (job_for layout seed (queue_of queues s)) (slice_index_or plans s e)
+  pub each : (s : ℕ) (d : List TaskJob) (e : List Planned) → s < length lists → slice_index_or lists s d ≡ map (job_for layout seed content (queue_of queues s)) (slice_index_or plans s e)
 
 -- the entries that a command leaves in a log at most, where no step of it is refused: eight, and three for each page of its data
 abbrev pub entries_for : ℕ → ℕ

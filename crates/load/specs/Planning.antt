@@ -1,8 +1,8 @@
 -- The commands of a round.
-use Rattle.std.specs.Prelude.{◌≡◌, ℕ, ◌+◌, ◌-◌, ◌*◌, ◌/◌, ◌^◌, ◌<◌, zero, suc, List, [], ◌∷◌, All, map, min, slice_index}
-use Rattle.driver_threads.specs.Values.{Job}
+use Rattle.std.specs.Prelude.{◌≡◌, ℕ, ◌+◌, ◌-◌, ◌*◌, ◌/◌, ◌^◌, ◌<◌, zero, suc, Option, List, [], ◌∷◌, All, map, min, slice_index}
+use Rattle.driver_threads.specs.{Jobs.BytesOf, Values.JobOf}
 use Rattle.io_commands.specs.declared.request.{Kind.Kind, Piece.{Piece, TheVariants.Data}}
-use Rattle.load.specs.{Content.written, Picking.ArePicked, declared.{layout.Layout.Layout, plan.Planned.Planned}}
+use Rattle.load.specs.{Content.written, Picking.ArePicked, declared.{content.Content.Content, layout.Layout.Layout, plan.Planned.Planned}}
 use Rattle.io_commands.specs.declared.request.Kind.TheVariants as kind
 
 -- a Write makes one more of the writes of a slot, as far as a number of 32 bits goes
@@ -43,10 +43,25 @@ data_of layout seed planned kind.Read = []
 data_of layout seed planned kind.Write = written layout seed planned.slot planned.generation
 data_of layout seed planned kind.Compare = []
 
--- the job of a command
-abbrev pub job_for : Layout → ℕ → ℕ → Planned → Job
-job_for layout seed q planned = record {
+-- what a command's data are made of, and what they are compared with, where Reads are compared
+pub record TaskContents : Type 0 where
+  pub layout : Layout
+  pub seed : ℕ
+  pub content : Option Content
+  pub planned : Planned
+
+-- the bytes that they stand for
+abbrev pub bytes_for : BytesOf TaskContents
+bytes_for task = data_of task.layout task.seed task.planned task.planned.kind
+
+-- a job of a command
+abbrev pub TaskJob : Type 0
+TaskJob = JobOf TaskContents
+
+-- the job of a command, with what its data are made of and compared with
+abbrev pub job_for : Layout → ℕ → Option Content → ℕ → Planned → TaskJob
+job_for layout seed content q planned = record {
   q = q;
   request = record { kind = planned.kind; slba = planned.slot * layout.slot_blocks; blocks = layout.slot_blocks; pieces = pieces_of layout.slot_blocks };
-  bytes = data_of layout seed planned planned.kind;
+  bytes = record { layout = layout; seed = seed; content = content; planned = planned };
 }

@@ -1,9 +1,9 @@
 -- Rounds of a load, each over the world to which the one before led.
 use Rattle.std.specs.Prelude.{◌≡◌, ◌≤◌, ◌<◌, ◌+◌, ◌-◌, ◌*◌, ◌/◌, ◌==◌, zero, suc, ℕ, Bool, true, false, Option, List, [], ◌∷◌, length, map, max, min, slice_index, slice_index_or, slice_set, if◌then◌else◌}
 use Rattle.driver_book.specs.{Entries.LogContents, Reports.Report, State.AreOfJobs}
-use Rattle.driver_threads.specs.{Ends.AllAgree, Jobs.AllWent, Runs.EndsRound, Values.{Job, JobEnd}, declared.jobs.JobEnd.TheVariants.{Done}}
+use Rattle.driver_threads.specs.{Ends.AllAgree, Jobs.AllWentBy, Runs.EndsRound, declared.jobs.JobEnd.TheVariants.{Done}}
 use Rattle.io_commands.specs.declared.request.Kind.{Kind}
-use Rattle.load.specs.{Course.{AreJobs, ArePlans, commands_left}, Planning.planned_at, Tallies.{both, counted, no_tally, sum_of, tallies_from, wanted_of}}
+use Rattle.load.specs.{Course.{AreJobs, ArePlans, commands_left}, Planning.{TaskJob, bytes_for, planned_at}, Tallies.{KeepsFound, TaskEnd, both, counted, no_tally, sum_of, tallies_from}}
 use Rattle.load.specs.declared.{content.Content.Content, layout.Layout.Layout, plan.Planned.Planned, tally.Tally.Tally}
 use Rattle.machine_model.specs.State.{State}
 use Rattle.script_cli.specs.{Replies.is_success, declared.workload.Load.Load}
@@ -27,27 +27,27 @@ pub record Standing : Type 0 where
 -- a round: its commands, how they ended, and the world that they left
 pub record Round : Type 0 where
   pub plans : List (List Planned)
-  pub ends : List (List JobEnd)
+  pub ends : List (List TaskEnd)
   pub world : WorldContents
 
 -- How often slots were written
 
 -- a command wrote its slot
-abbrev pub wrote : Kind → JobEnd → Bool
-wrote kind.Write (Done status bytes) = is_success status
+abbrev pub wrote : Kind → TaskEnd → Bool
+wrote kind.Write (Done status kept) = is_success status
 wrote other what = false
 
-abbrev pub noted_one : List ℕ → Planned → JobEnd → List ℕ
+abbrev pub noted_one : List ℕ → Planned → TaskEnd → List ℕ
 noted_one generations p end = if wrote p.kind end then slice_set generations p.slot p.generation else generations
 
 -- behind the commands of a submitter
-abbrev pub noted : List ℕ → List Planned → List JobEnd → List ℕ
+abbrev pub noted : List ℕ → List Planned → List TaskEnd → List ℕ
 noted generations [] ends = generations
 noted generations (p ∷ plan) [] = generations
 noted generations (p ∷ plan) (end ∷ ends) = noted (noted_one generations p end) plan ends
 
 -- behind those of all submitters
-abbrev pub all_noted : List ℕ → List (List Planned) → List (List JobEnd) → List ℕ
+abbrev pub all_noted : List ℕ → List (List Planned) → List (List TaskEnd) → List ℕ
 all_noted generations [] lists = generations
 all_noted generations (plan ∷ plans) [] = generations
 all_noted generations (plan ∷ plans) (ends ∷ lists) = all_noted (noted generations plan ends) plans lists
@@ -55,15 +55,15 @@ all_noted generations (plan ∷ plans) (ends ∷ lists) = all_noted (noted gener
 -- Rounds
 
 -- The commands of plans were done over a machine: a book that opened there was closed, whose log has the steps of jobs alone. The jobs of each submitter were those of its plan, on its queue: each was submitted
--- with its own request and bytes, and its end has what was gathered of a command that a book of the round collected under its receipt's queue and identifier; or a book of the round refused it. Each command has
--- its end, which is the one that its receipt says, and there is no further receipt.
-pub record AreDone (s : Setting) (before : State) (plans : List (List Planned)) (ends : List (List JobEnd)) (world : WorldContents) : Type 0 where
-  pub lists : List (List Job)
+-- with its own request and bytes, and its end has what is found of the bytes that were gathered from a command that a book of the round collected under its receipt's queue and identifier, by what the job's slot
+-- must hold; or a book of the round refused it. Each command has its end, which is the one that its receipt says, and there is no further receipt.
+pub record AreDone (s : Setting) (before : State) (plans : List (List Planned)) (ends : List (List TaskEnd)) (world : WorldContents) : Type 0 where
+  pub lists : List (List TaskJob)
   pub log : LogContents
   pub report : Report
   pub ended : EndsRound before log report world
-  pub are_jobs : AreJobs s.layout s.seed s.queues plans lists
-  pub went : AllWent before lists report.receipts ends
+  pub are_jobs : AreJobs s.layout s.seed s.content s.queues plans lists
+  pub went : AllWentBy bytes_for KeepsFound before lists report.receipts ends
   pub all : map length ends ≡ map length plans
   pub agree : AllAgree report.receipts ends
   pub jobs : AreOfJobs log.entries
@@ -81,7 +81,7 @@ abbrev pub after : Setting → Bool → Standing → Round → Standing
 after s of_load before round = record {
   generations = all_noted before.generations round.plans round.ends;
   machine = round.world.state;
-  tally = both before.tally (counted of_load (tallies_from (wanted_of s.layout s.content) no_tally round.plans round.ends));
+  tally = both before.tally (counted of_load (tallies_from no_tally round.plans round.ends));
 }
 
 -- so many commands at most are planned, and done

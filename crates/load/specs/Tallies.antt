@@ -1,8 +1,9 @@
 -- How many commands ended how.
-use Rattle.std.specs.{Prelude.{ℕ, ◌+◌, ◌-◌, ◌^◌, ◌==◌, ◌&&◌, Bool, true, false, Option, Some, None, List, [], ◌∷◌, min, if◌then◌else◌}, Str.bytes_eq}
-use Rattle.driver_threads.specs.{Values.JobEnd, declared.jobs.JobEnd.TheVariants.{Done, Refused}}
-use Rattle.io_commands.specs.declared.request.Kind.{Kind}
-use Rattle.load.specs.{Content.slot_content, declared.{content.Content.Content, layout.Layout.Layout, plan.Planned.Planned, tally.Tally.Tally}}
+use Rattle.std.specs.{Prelude.{◌≡◌, ℕ, ◌+◌, ◌-◌, ◌^◌, ◌==◌, ◌&&◌, Bool, true, false, Option, Some, None, List, [], ◌∷◌, min, if◌then◌else◌}, Str.bytes_eq}
+use Rattle.driver_threads.specs.{Jobs.KeepsOf, Values.EndOf, declared.jobs.JobEnd.TheVariants.{Done, Refused}}
+use Rattle.io_commands.specs.{Values.gathered_from, declared.request.Kind.Kind}
+use Rattle.load.specs.{Content.slot_content, Planning.TaskContents, declared.{content.Content.Content, layout.Layout.Layout, plan.Planned.Planned, task.Found.Found, tally.Tally.Tally}}
+use Rattle.load.specs.declared.task.Found.TheVariants as found
 use Rattle.script_cli.specs.Replies.{is_success}
 use Rattle.io_commands.specs.declared.request.Kind.TheVariants as kind
 
@@ -37,27 +38,41 @@ abbrev pub wanted_of : Layout → Option Content → Planned → Option (List �
 wanted_of layout None planned = None
 wanted_of layout (Some content) planned = wanted_by planned.kind (slot_content layout content.seed content.first.items planned.slot planned.generation)
 
--- a command with status 0:00 that brought these bytes, of which these are wanted
-abbrev pub compared : Option (List ℕ) → List ℕ → Tally
-compared None brought = record no_tally { done = 1 }
-compared (Some wanted) brought = if bytes_eq brought wanted then record no_tally { done = 1; verified = 1 } else record no_tally { done = 1; differ = 1 }
+-- what is found of a command that brought these bytes, where these are wanted
+abbrev pub found_of : Option (List ℕ) → List ℕ → Found
+found_of None brought = found.NotCompared
+found_of (Some wanted) brought = if bytes_eq brought wanted then found.Same else found.Differs
+
+-- an end keeps what is found of what was gathered from its command
+abbrev pub KeepsFound : KeepsOf TaskContents Found
+KeepsFound task command kept = kept ≡ found_of (wanted_of task.layout task.content task.planned) (gathered_from command)
+
+-- an end of a command
+abbrev pub TaskEnd : Type 0
+TaskEnd = EndOf Found
+
+-- a command with status 0:00 of which this is found
+abbrev pub compared : Found → Tally
+compared found.NotCompared = record no_tally { done = 1 }
+compared found.Same = record no_tally { done = 1; verified = 1 }
+compared found.Differs = record no_tally { done = 1; differ = 1 }
 
 -- one command
-abbrev pub of_end : Option (List ℕ) → JobEnd → Tally
-of_end wanted (Refused why) = record no_tally { refused = 1 }
-of_end wanted (Done status bytes) = if is_success status then compared wanted bytes else record no_tally { failed = 1 }
+abbrev pub of_end : TaskEnd → Tally
+of_end (Refused why) = record no_tally { refused = 1 }
+of_end (Done status kept) = if is_success status then compared kept else record no_tally { failed = 1 }
 
 -- commands and their ends, in order, counted to those before
-abbrev pub tally_from : (Planned → Option (List ℕ)) → Tally → List Planned → List JobEnd → Tally
-tally_from wanted tally [] ends = tally
-tally_from wanted tally (planned ∷ plan) [] = tally
-tally_from wanted tally (planned ∷ plan) (end ∷ ends) = tally_from wanted (both tally (of_end (wanted planned) end)) plan ends
+abbrev pub tally_from : Tally → List Planned → List TaskEnd → Tally
+tally_from tally [] ends = tally
+tally_from tally (planned ∷ plan) [] = tally
+tally_from tally (planned ∷ plan) (end ∷ ends) = tally_from (both tally (of_end end)) plan ends
 
 -- the commands of submitters and their ends, submitter by submitter, counted to those before
-abbrev pub tallies_from : (Planned → Option (List ℕ)) → Tally → List (List Planned) → List (List JobEnd) → Tally
-tallies_from wanted tally [] lists = tally
-tallies_from wanted tally (plan ∷ plans) [] = tally
-tallies_from wanted tally (plan ∷ plans) (ends ∷ lists) = tallies_from wanted (both tally (tally_from wanted no_tally plan ends)) plans lists
+abbrev pub tallies_from : Tally → List (List Planned) → List (List TaskEnd) → Tally
+tallies_from tally [] lists = tally
+tallies_from tally (plan ∷ plans) [] = tally
+tallies_from tally (plan ∷ plans) (ends ∷ lists) = tallies_from (both tally (tally_from no_tally plan ends)) plans lists
 
 -- what is counted of a round: of reads behind the load none is done
 abbrev pub counted : Bool → Tally → Tally

@@ -1,11 +1,11 @@
 //! What goes on from round to round.
 
 ghost use Rattle.load.specs.Planning.{IsInside};
-ghost use Rattle.std.specs.Prelude.{◌≡◌, ◌≤◌, ◌<◌, ◌*◌, ◌/◌, All, IfOk, IfSome, OnOk, length, map, max, min, replicate, vec_len};
+ghost use Rattle.std.specs.Prelude.{◌≡◌, ◌≤◌, ◌<◌, ◌*◌, ◌/◌, All, IfOk, IfSome, length, map, max, min, replicate, vec_len};
 ghost use Rattle.std.proofs.Props.{props};
 ghost use Rattle.load.specs.Course.{AreJobs, ArePlans, commands_for as spec_commands_for, share_of as spec_share_of};
 ghost use Rattle.load.specs.Rounds.{AreReads, all_noted};
-ghost use Rattle.load.specs.Tallies.{both, counted, no_tally, tallies_from, wanted_of};
+ghost use Rattle.load.specs.Tallies.{both, counted, no_tally, tallies_from};
 ghost use Rattle.script_cli.specs.Loads.{FitsLoad};
 
 use crate::bad::Bad;
@@ -17,7 +17,8 @@ use crate::measured::Measured;
 use crate::picks::Picks;
 use crate::plan::{Planned, jobs_of, plan_some, reads_of};
 use crate::tally::Tally;
-use driver_threads::{Job, JobEnds, Server};
+use crate::task::{TaskEnds, TaskJob};
+use driver_threads::Server;
 use script_cli::workload::Load;
 use std::alloc::{AllocError, Global};
 
@@ -196,15 +197,15 @@ impl Course {
         self.layout.slots.min(many.max(1) as usize)
     }
 
-    /// The jobs of a round. A submitter has one queue, and submitters share queues where there are fewer.
+    /// The jobs of a round, for which no bytes are made yet. A submitter has one queue, and submitters share queues where there are fewer.
     pub(crate) fn jobs(
         &self,
         alloc: Global,
         plans: &[Vec<Planned>],
-    ) -> Result<Vec<Vec<Job>>, AllocError>
+    ) -> Result<Vec<Vec<TaskJob<'_>>>, AllocError>
         requires all { length plans.now ≡ self.now.layout.submitters }
         requires inside { All (λ plan. All (IsInside self.now.layout) plan.items) plans.now }
-        ensures jobs { IfOk result (λ lists. AreJobs self.now.layout self.now.seed self.now.queues (map (λ plan. plan.items) plans.now) (map (λ list. list.items) lists.items)) }
+        ensures jobs { IfOk result (λ lists. AreJobs self.now.layout self.now.seed self.now.content self.now.queues (map (λ plan. plan.items) plans.now) (map (λ list. list.items) lists.items)) }
         ensures some { IfOk result (λ lists. 1 ≤ vec_len lists) }
         ensures few { IfOk result (λ lists. vec_len lists ≤ 16) }
     {
@@ -212,37 +213,32 @@ impl Course {
         for submitter in 0..self.layout.submitters {
             let plan = plans[usize::from(submitter)].as_slice();
             let q = 1 + submitter % self.queues;
-            lists.push(jobs_of(alloc, self.layout, self.seed, q, plan)?)?;
+            lists.push(jobs_of(alloc, self.layout, self.seed, &self.content, q, plan)?)?;
         }
         Ok(lists)
     }
 
     /// Looks at how the commands of a round ended, and notes what they wrote.
-    pub(crate) fn look(
-        &mut self,
-        alloc: Global,
-        plans: &[Vec<Planned>],
-        ends: &JobEnds,
-    ) -> Result<Tally, AllocError>
+    pub(crate) fn look(&mut self, plans: &[Vec<Planned>], ends: &TaskEnds) -> Tally
         requires inside { All (λ plan. All (IsInside self.old.layout) plan.items) plans.now }
-        ensures told { IfOk result (λ tally. tally ≡ tallies_from (wanted_of self.old.layout self.old.content) no_tally (map (λ plan. plan.items) plans.now) ends.now) }
+        ensures told { result ≡ tallies_from no_tally (map (λ plan. plan.items) plans.now) ends.now }
         ensures layout { self.new.layout ≡ self.old.layout }
         ensures seed { self.new.seed ≡ self.old.seed }
         ensures queues { self.new.queues ≡ self.old.queues }
         ensures round { self.new.round ≡ self.old.round }
         ensures content { self.new.content ≡ self.old.content }
         ensures tally { self.new.tally ≡ self.old.tally }
-        ensures noted { OnOk result (self.new.generations.items ≡ all_noted self.old.generations.items (map (λ plan. plan.items) plans.now) ends.now) }
+        ensures noted { self.new.generations.items ≡ all_noted self.old.generations.items (map (λ plan. plan.items) plans.now) ends.now }
     {
         let layout = self.layout;
         let mut tally = Tally::NONE;
         for (plan, list) in plans.iter().zip(ends.as_slice()) {
-            let looked = look_at(alloc, layout, &self.content, plan, list)?;
+            let looked = look_at(layout, plan, list);
             tally = tally.and(looked.tally);
             self.bad = self.bad.or(looked.bad);
             note_writes(&mut self.generations, plan, list);
         }
-        Ok(tally)
+        tally
     }
 
     /// Counts commands of the load, or reads behind them.
@@ -259,7 +255,7 @@ impl Course {
     }
 
     /// Counts how long the commands of a round took.
-    pub(crate) fn measure(&mut self, plans: &[Vec<Planned>], ends: &JobEnds, times: &[Vec<u64>])
+    pub(crate) fn measure(&mut self, plans: &[Vec<Planned>], ends: &TaskEnds, times: &[Vec<u64>])
         ensures layout { self.new.layout ≡ self.old.layout }
         ensures seed { self.new.seed ≡ self.old.seed }
         ensures queues { self.new.queues ≡ self.old.queues }

@@ -2,7 +2,7 @@
 
 use crate::histogram::Histogram;
 use crate::plan::Planned;
-use driver_threads::JobEnd;
+use crate::task::TaskEnd;
 use io_commands::Kind;
 use script_cli::is_success;
 use std::alloc::{AllocError, Global};
@@ -26,10 +26,10 @@ impl Measured {
     }
 
     /// Counts how long the commands of a submitter took, of which those that were not refused are told, in their order.
-    pub(crate) fn add(&mut self, plan: &[Planned], ends: &[JobEnd], took: &[u64]) {
+    pub(crate) fn add(&mut self, plan: &[Planned], ends: &[TaskEnd], took: &[u64]) {
         let mut rest = took;
         for (planned, end) in plan.iter().zip(ends) {
-            let JobEnd::Done { status, .. } = end else {
+            let TaskEnd::Done { status, .. } = end else {
                 continue;
             };
             let Some((nanos, behind)) = rest.split_first() else {

@@ -1,16 +1,16 @@
 //! The commands of a round.
 
-ghost use Rattle.std.specs.Prelude.{◌≡◌, ◌≤◌, ◌<◌, ◌+◌, ◌*◌, All, IfOk, length, map};
+ghost use Rattle.std.specs.Prelude.{◌≡◌, ◌≤◌, ◌<◌, ◌+◌, ◌*◌, All, IfOk, IfSome, length, map, vec_len};
 ghost use Rattle.load.specs.Planning.{IsInside, IsPlanOf, job_for, pieces_of, planned_at};
 ghost use Rattle.load.specs.Rounds.{reads_from};
 
-use crate::content::written_slot;
+use crate::content::Content;
 use crate::layout::Layout;
 use crate::picks::Picks;
+use crate::task::{Task, TaskJob};
 use driver_threads::Job;
 use io_commands::{Kind, Piece, Pieces, Request};
 use std::alloc::{AllocError, Global};
-use step_core::Bytes;
 
 /// A command of a round.
 #[derive(Clone, Copy)]
@@ -107,20 +107,18 @@ fn pieces_of(alloc: Global, blocks: u32) -> Result<Pieces, AllocError>
 }
 
 /// The job of a command.
-fn job_of(
+fn job_of<'a>(
     alloc: Global,
     layout: Layout,
     seed: u32,
+    content: &'a Option<Content>,
     q: u16,
     planned: Planned,
-) -> Result<Job, AllocError>
-    requires { IsInside layout planned }
-    ensures { IfOk result (λ job. job ≡ job_for layout seed q planned) }
+) -> Result<TaskJob<'a>, AllocError>
+    requires inside { IsInside layout planned }
+    requires whole { IfSome content.now (λ c. vec_len c.first ≡ 512 * layout.blocks) }
+    ensures { IfOk result (λ job. job ≡ job_for layout seed content.now q planned) }
 {
-    let bytes = match planned.kind {
-        Kind::Write => written_slot(alloc, layout, seed, planned.slot, planned.generation)?,
-        Kind::Read | Kind::Compare => Vec::new(alloc),
-    };
     Ok(Job {
         q,
         request: Request {
@@ -129,24 +127,26 @@ fn job_of(
             blocks: layout.slot_blocks,
             pieces: pieces_of(alloc, layout.slot_blocks)?,
         },
-        bytes: Bytes::from_vec(bytes),
+        bytes: Task::new(layout, seed, content, planned),
     })
 }
 
 /// The jobs of a submitter's commands.
-pub(crate) fn jobs_of(
+pub(crate) fn jobs_of<'a>(
     alloc: Global,
     layout: Layout,
     seed: u32,
+    content: &'a Option<Content>,
     q: u16,
     plan: &[Planned],
-) -> Result<Vec<Job>, AllocError>
-    requires { All (IsInside layout) plan.now }
-    ensures { IfOk result (λ jobs. jobs.items ≡ map (job_for layout seed q) plan.now) }
+) -> Result<Vec<TaskJob<'a>>, AllocError>
+    requires inside { All (IsInside layout) plan.now }
+    requires whole { IfSome content.now (λ c. vec_len c.first ≡ 512 * layout.blocks) }
+    ensures { IfOk result (λ jobs. jobs.items ≡ map (job_for layout seed content.now q) plan.now) }
 {
     let mut jobs = Vec::with_capacity(alloc, plan.len())?;
     for planned in plan {
-        jobs.push(job_of(alloc, layout, seed, q, *planned)?)?;
+        jobs.push(job_of(alloc, layout, seed, content, q, *planned)?)?;
     }
     Ok(jobs)
 }

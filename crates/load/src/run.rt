@@ -7,15 +7,15 @@ ghost use Rattle.script_cli.specs.Loads.{FitsLoad};
 ghost use Rattle.load.specs.Course.{commands_left as spec_commands_left};
 ghost use Rattle.driver_book.specs.State.{AreOfJobs};
 ghost use Rattle.driver_threads.specs.Ends.{AllAgree};
-ghost use Rattle.driver_threads.specs.Jobs.{AllWent};
+ghost use Rattle.driver_threads.specs.Jobs.{AllWentBy};
 ghost use Rattle.driver_threads.specs.Runs.{EndsRound};
 ghost use Rattle.load.specs.Layouts.{IsLayoutFor, too_few};
 ghost use Rattle.load.specs.declared.fault.LoadFault.TheVariants.{TooFewBlocks};
 ghost use Rattle.load.specs.Lines.{IsLineFront, Tells, line_text};
 ghost use Rattle.load.specs.Loaded.{HasRun, IsFirst, IsReadAgain, IsSettingFor, setting_of, standing_of, start};
-ghost use Rattle.load.specs.Planning.{IsInside};
+ghost use Rattle.load.specs.Planning.{IsInside, bytes_for};
 ghost use Rattle.load.specs.Rounds.{AreDone, GoesOn, HasGoneOn, HasReadAgain, ReadsOn, all_noted, commands_of as spec_commands_of};
-ghost use Rattle.load.specs.Tallies.{no_tally, tallies_from, wanted_of};
+ghost use Rattle.load.specs.Tallies.{KeepsFound, no_tally, tallies_from};
 ghost use Rattle.step_core.specs.Opening.{opening_of};
 ghost use Rattle.script_cli.specs.Inputs.{Gains, IsFront};
 
@@ -29,9 +29,10 @@ use crate::plan::Planned;
 use crate::progress::Interval;
 use crate::ran::Ran;
 use crate::tally::Tally;
+use crate::task::{Found, Task, TaskEnds, TaskJob};
 use crate::timing::Timing;
 use block_image::Image;
-use driver_threads::{Gate, Job, JobEnds, Open, Round, Server, run_round};
+use driver_threads::{Gate, Open, Round, Server, run_round};
 use script_cli::progress::{Progress, Standing, Stopwatch};
 use script_cli::workload::{Load, OutputFormat, Pattern};
 use script_cli::{RunFault, flush, not_opened, put};
@@ -49,24 +50,26 @@ fn play<G: Gate + Sync, R: Threads + Wait + Sync>(
     rt: &R,
     alloc: Global,
     world: World,
-    jobs: Vec<Vec<Job>>,
+    jobs: Vec<Vec<TaskJob<'_>>>,
     depth: usize,
     server: Server,
     gate: &G,
     blank: Blank,
-) -> Result<Round, LoadFault>
+) -> Result<Round<Global, Found>, LoadFault>
     requires number { blank.parts ≡ 65536 }
     requires some { 1 ≤ vec_len jobs }
     requires few { vec_len jobs ≤ 16 }
     requires some_depth { 1 ≤ depth }
     requires little_depth { depth ≤ 256 }
     ensures ended { IfOk result (λ round. EndsRound world.state round.log round.report round.world) }
-    ensures all_jobs { IfOk result (λ round. map length round.jobs ≡ map (λ list. length list.items) jobs.items) }
+    ensures all_jobs { IfOk result (λ round. map length round.jobs ≡ map (λ list. length list.items) jobs.entry.items) }
     ensures agree { IfOk result (λ round. AllAgree round.report.receipts round.jobs) }
-    ensures went { IfOk result (λ round. AllWent world.state (map (λ list. list.items) jobs.items) round.report.receipts round.jobs) }
+    ensures went { IfOk result (λ round. AllWentBy bytes_for KeepsFound world.state (map (λ list. list.items) jobs.entry.items) round.report.receipts round.jobs) }
     ensures jobs { IfOk result (λ round. AreOfJobs round.log.entries) }
 {
-    match run_round::<Brand, Global, G, R>(rt, alloc, world, jobs, depth, server, gate, blank) {
+    match run_round::<Brand, Global, G, R, Found, Task<'_>>(
+        rt, alloc, world, jobs, depth, server, gate, blank,
+    ) {
         Ok(round) => Ok(round),
         Err(why) => Err(LoadFault::Round(why)),
     }
@@ -76,7 +79,7 @@ fn play<G: Gate + Sync, R: Threads + Wait + Sync>(
 #[derive(Drop)]
 struct Left {
     world: World,
-    ends: JobEnds,
+    ends: TaskEnds,
     /// How many ended how.
     tally: Tally,
 }
@@ -96,7 +99,7 @@ fn run_plans<G: Gate + Sync, R: Threads + Wait + Sync>(
     requires some_depth { 1 ≤ depth }
     requires little_depth { depth ≤ 256 }
     ensures done { IfOk result (λ left. AreDone (setting_of course.old) world.state (map (λ plan. plan.items) plans.now) left.ends left.world) }
-    ensures told { IfOk result (λ left. left.tally ≡ tallies_from (wanted_of course.old.layout course.old.content) no_tally (map (λ plan. plan.items) plans.now) left.ends) }
+    ensures told { IfOk result (λ left. left.tally ≡ tallies_from no_tally (map (λ plan. plan.items) plans.now) left.ends) }
     ensures noted { IfOk result (λ left. course.new.generations.items ≡ all_noted course.old.generations.items (map (λ plan. plan.items) plans.now) left.ends) }
     ensures setting { setting_of course.new ≡ setting_of course.old }
     ensures tally { course.new.tally ≡ course.old.tally }
@@ -109,7 +112,7 @@ fn run_plans<G: Gate + Sync, R: Threads + Wait + Sync>(
         jobs: ends,
         ..
     } = play(rt, alloc, world, jobs, depth, server, gate, blank)?;
-    let tally = course.look(alloc, plans, &ends)?;
+    let tally = course.look(plans, &ends);
     Ok(Left { world, ends, tally })
 }
 

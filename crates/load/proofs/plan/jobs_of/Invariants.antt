@@ -4,4 +4,4 @@ use Rattle.load.specs.Planning.{job_for}
 use Rattle.load.proofs.plan.jobs_of.Given as goal
 
 abbrev pub invariant-loop-planned : goal.invariant-loop-planned
-invariant-loop-planned l = l.jobs.items ≡ map (job_for l.layout l.seed l.q) (take l.planned-index l.plan)
+invariant-loop-planned l = l.jobs.items ≡ map (job_for l.layout l.seed l.content l.q) (take l.planned-index l.plan)

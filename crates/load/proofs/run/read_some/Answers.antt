@@ -1,7 +1,7 @@
 -- The reads that were planned were run, noted and counted.
 use Rattle.std.proofs.Common.{◌∙◌, Global, List, Vec, ap, ap₂, false, map, subst, ℕ}
 use Rattle.load.{proofs.Rounds.{same_setting, stands_after}, specs.{Loaded.{setting_of, standing_of}, Rounds.{AreDone, Round, all_noted}}}
-use Rattle.load.specs.{Tallies.{both, counted, no_tally, tallies_from, wanted_of}, declared.{plan.Planned.Planned, tally.Tally.Tally}}
+use Rattle.load.specs.{Tallies.{both, counted, no_tally, tallies_from}, declared.{plan.Planned.Planned, tally.Tally.Tally}}
 use Rattle.load.proofs.run.read_some.Goals as goal
 
 pub returns-clause-done : goal.returns-clause-done
@@ -14,7 +14,7 @@ returns-clause-done g c =
     let same = ap (λ (ps : List (Vec Planned Global)). map (λ plan. plan.items) ps) c.deref.ensures.value in
     let noted =
     ap (λ (v : Vec ℕ Global). v.items) c.count.ensures.generations ∙ (ran.noted ∙ ap (λ (ps : List (List Planned)). all_noted old.generations.items ps ends) same) in
-    let come = ran.told ∙ ap (λ (ps : List (List Planned)). tallies_from (wanted_of old.layout old.content) no_tally ps ends) same in
+    let come = ran.told ∙ ap (λ (ps : List (List Planned)). tallies_from no_tally ps ends) same in
     let told = c.count.ensures.counted ∙ ap₂ (λ (before new : Tally). both before (counted false new)) ran.tally come in
     record {
       round = round;

@@ -17,7 +17,7 @@ returns-clause-done g c =
       ended = ran.ended;
       are_jobs = c.in_ok-jobs.ensures.jobs;
       went = ran.went;
-      all = ran.all_jobs ∙ (sym (map-map length (λ list. list.items) jobs) ∙ jobs_long course.layout course.seed course.queues plans (map (λ list. list.items) jobs) c.in_ok-jobs.ensures.jobs);
+      all = ran.all_jobs ∙ (sym (map-map length (λ list. list.items) jobs) ∙ jobs_long course.layout course.seed course.content course.queues plans (map (λ list. list.items) jobs) c.in_ok-jobs.ensures.jobs);
       agree = ran.agree;
       jobs = ran.jobs;
     }

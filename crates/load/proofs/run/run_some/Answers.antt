@@ -1,7 +1,7 @@
 -- The commands that were planned were run, noted and counted.
-use Rattle.std.proofs.Common.{◌∙◌, Global, List, Option, Vec, ap, ap₂, map, subst, true, ℕ}
+use Rattle.std.proofs.Common.{◌∙◌, Global, List, Vec, ap, ap₂, map, subst, true, ℕ}
 use Rattle.load.{proofs.Rounds.{same_setting, stands_after}, specs.{Loaded.{setting_of, standing_of}, Rounds.{AreDone, Round, Setting, Standing, all_noted, commands_of}}}
-use Rattle.load.specs.{Tallies.{both, counted, no_tally, tallies_from, wanted_of}, declared.{content.Content.Content, layout.Layout.Layout, plan.Planned.Planned, tally.Tally.Tally}}
+use Rattle.load.specs.{Tallies.{both, counted, no_tally, tallies_from}, declared.{plan.Planned.Planned, tally.Tally.Tally}}
 use Rattle.load.proofs.run.run_some.Goals as goal
 
 pub returns-clause-done : goal.returns-clause-done
@@ -20,9 +20,7 @@ returns-clause-done g c =
     ∙ (ran.noted
     ∙ (ap (λ (ps : List (List Planned)). all_noted c.plan.new.self.generations.items ps ends) same ∙ ap (λ (v : Vec ℕ Global). all_noted v.items plans ends) planned.generations)) in
     let come =
-    ran.told
-    ∙ (ap (λ (ps : List (List Planned)). tallies_from (wanted_of c.plan.new.self.layout c.plan.new.self.content) no_tally ps ends) same
-    ∙ ap₂ (λ (layout : Layout) (content : Option Content). tallies_from (wanted_of layout content) no_tally plans ends) planned.layout planned.content) in
+    ran.told ∙ ap (λ (ps : List (List Planned)). tallies_from no_tally ps ends) same in
     let told =
     c.measure.ensures.tally
     ∙ (c.count.ensures.counted ∙ ap₂ (λ (old new : Tally). both old (counted true new)) (ran.tally ∙ planned.tally) come) in

@@ -1,6 +1,6 @@
 -- the submitters that are left are counted behind those that came; the slots and what they held at first stay
 use Rattle.std.{proofs.Common.{◌≡◌, map}, specs.{Iterator.Adapters.{zip_first, zip_second}, Slice.Iter.iter_rest}}
-use Rattle.load.specs.{Rounds.all_noted, Tallies.{no_tally, tallies_from, wanted_of}}
+use Rattle.load.specs.{Rounds.all_noted, Tallies.{no_tally, tallies_from}}
 use Rattle.load.proofs.course.Course.look.Given as goal
 
 abbrev pub invariant-loop-plan : goal.invariant-loop-plan
@@ -17,7 +17,7 @@ invariant-loop-plan l = record {
       all_noted l.self.generations.items (map (λ plan. plan.items) (iter_rest (zip_first l.plan-iterator))) (map (λ list. list.items) (iter_rest (zip_second l.plan-iterator)))
       ≡ all_noted l.fn.self.generations.items (map (λ plan. plan.items) l.plans) l.ends;
   told :
-      tallies_from (wanted_of l.layout l.fn.self.content) l.tally (map (λ plan. plan.items) (iter_rest (zip_first l.plan-iterator)))
+      tallies_from l.tally (map (λ plan. plan.items) (iter_rest (zip_first l.plan-iterator)))
       (map (λ list. list.items) (iter_rest (zip_second l.plan-iterator)))
-      ≡ tallies_from (wanted_of l.layout l.fn.self.content) no_tally (map (λ plan. plan.items) l.plans) l.ends;
+      ≡ tallies_from no_tally (map (λ plan. plan.items) l.plans) l.ends;
 }
