@@ -1,7 +1,6 @@
 //! The host reaps a completion.
 
 ghost use Rattle.std.specs.Prelude.{◌≡◌, ◌<◌, [], true, false, Some, IfOk, IfErr, length, slice_get};
-ghost use Rattle.io_commands.specs.Jobs.{is_success as succeeds};
 ghost use Rattle.machine_model.specs.Events as events;
 ghost use Rattle.machine_model.specs.Step.{reaped_entry};
 ghost use Rattle.page_memory.specs.Pages.{Pages};
@@ -54,18 +53,11 @@ fn hear_completion<A: Allocator>(queue: &mut Queue<HostPair<A>>, sqhd: u16)
     queue.host.accept_head(sqhd).unwrap();
 }
 
-/// Whether a status is Successful Completion.
-fn is_success(status: Status) -> bool
-    ensures { result ≡ succeeds status }
-{
-    status.sct == 0 && status.sc == 0
-}
-
 /// What the host knows of a queue once the deletion of its submission side has ended.
 fn deleted(status: Status) -> HostState
     ensures { result ≡ state_deleted status }
 {
-    if is_success(status) {
+    if status.is_success() {
         HostState::Deleting { noted: true }
     } else {
         HostState::Live
@@ -156,19 +148,19 @@ impl<A: Allocator> HostTables<A> {
             AdminKind::Abort { q: _, cid: _ } => {}
             AdminKind::DeleteSq { q } => note(&mut self.queues, q, deleted(status)),
             AdminKind::DeleteCq { q } => {
-                if is_success(status) && has_cq_alone(host_state(&self.queues, q)) {
+                if status.is_success() && has_cq_alone(host_state(&self.queues, q)) {
                     self.give_back_completion(q);
                 }
             }
             AdminKind::CreateCq { q, .. } => {
-                if is_success(status) {
+                if status.is_success() {
                     note(&mut self.queues, q, HostState::HalfMade);
                 } else {
                     self.give_back_completion(q);
                 }
             }
             AdminKind::CreateSq { q, .. } => {
-                if is_success(status) {
+                if status.is_success() {
                     note(&mut self.queues, q, HostState::Live);
                 } else {
                     self.give_back_submission(q, HostState::HalfMade);

@@ -1,9 +1,9 @@
 -- How many commands ended how.
 use Rattle.std.specs.{Prelude.{ℕ, ◌+◌, ◌-◌, ◌^◌, ◌==◌, ◌&&◌, Bool, true, false, Option, Some, None, List, [], ◌∷◌, min, if◌then◌else◌}, Str.bytes_eq}
 use Rattle.driver_threads.specs.{Values.JobEnd, declared.jobs.JobEnd.TheVariants.{Done, Refused}}
+use Rattle.entry_codec.specs.Status.{is_success}
 use Rattle.io_commands.specs.declared.request.Kind.{Kind}
 use Rattle.load.specs.{Content.slot_content, declared.{content.Content.Content, layout.Layout.Layout, plan.Planned.Planned, tally.Tally.Tally}}
-use Rattle.script_cli.specs.Replies.{is_success}
 use Rattle.io_commands.specs.declared.request.Kind.TheVariants as kind
 
 abbrev pub no_tally : Tally

@@ -12,7 +12,6 @@ use crate::plan::Planned;
 use crate::tally::Tally;
 use driver_threads::JobEnd;
 use io_commands::Kind;
-use script_cli::is_success;
 use std::alloc::{AllocError, Global};
 
 /// What commands came to: how many ended how, and the first that did not end well.
@@ -52,7 +51,7 @@ fn of_end(wanted: &Option<Vec<u8>>, end: &JobEnd) -> Tally
             ..Tally::NONE
         },
         JobEnd::Done { status, bytes } => {
-            if !is_success(*status) {
+            if !status.is_success() {
                 return Tally {
                     failed: 1,
                     ..Tally::NONE
@@ -121,7 +120,7 @@ fn wrote(kind: Kind, end: &JobEnd) -> bool
     ensures { result ≡ spec_wrote kind end.now }
 {
     match (kind, end) {
-        (Kind::Write, JobEnd::Done { status, .. }) => is_success(*status),
+        (Kind::Write, JobEnd::Done { status, .. }) => status.is_success(),
         _ => false,
     }
 }
