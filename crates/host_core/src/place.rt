@@ -11,7 +11,7 @@ ghost use Rattle.host_core.specs.Commands.{first_placed, then_placed};
 
 use io_commands::Request;
 use page_ledger::{Ledger, NoPages, Owner, Role};
-use page_memory::PageNo;
+use page_memory::{MAX_PAGES, PageNo};
 use std::alloc::Allocator;
 
 /// What a request gets: an identifier, and so many pages for its data and for its chain.
@@ -101,7 +101,7 @@ fn place<A: Allocator>(ledger: &mut Ledger<A>, owner: Owner, count: u32, into: &
     if count == 0 {
         return;
     }
-    prove!(ledger.pages() <= 65_536);
+    prove!(ledger.pages() <= MAX_PAGES);
     match ledger.grant_run(owner, count) {
         Some(first) => {
             for i in 0..count {
