@@ -326,15 +326,12 @@ cq_stays st far = grind (arith, far)
 pub sq_with_cq : (st : HostState) → has_sq st ≡ true → has_cq st ≡ true
 sq_with_cq = tells has_sq has_cq refl
 
--- a queue that is live, in service or reaped isn't being made
+-- a queue that is live or reaped isn't being made
 pub live_in_use : (st : HostState) → is_live st ≡ true → is_making st ≡ false
 live_in_use = denies is_live is_making refl
 
 pub reaped_in_use : (st : HostState) → is_reaped st ≡ true → is_making st ≡ false
 reaped_in_use = denies is_reaped is_making refl
-
-pub service_in_use : (st : HostState) → in_service st ≡ true → is_making st ≡ false
-service_in_use = denies in_service is_making refl
 
 -- Every event of the host leaves a queue no page of a half that the host has not.
 

@@ -38,10 +38,6 @@ abbrev pub is_asked : HostState → Bool
 is_asked (Deleting noted) = not noted
 is_asked state = false
 
-abbrev pub is_retired : HostState → Bool
-is_retired Retired = true
-is_retired state = false
-
 abbrev pub is_gone : HostState → Bool
 is_gone Gone = true
 is_gone state = false
