@@ -12,10 +12,10 @@ use Rattle.admin_commands.specs.Entries.{named_queue, named_command, named_base,
 use Rattle.admin_commands.specs.Verdicts.{decision, is_live, is_absent, is_io_queue, half_fault, abort_verdict, delete_sq_verdict, delete_cq_verdict, create_cq_verdict, create_sq_verdict}
 use Rattle.admin_commands.specs.declared.AdminVerdict.{AdminVerdict, TheVariants.{Answer, AbortJob, StopQueue, DropCompletion, MakeCompletion, MakeSubmission}}
 use Rattle.admin_commands.specs.declared.DeviceView.{DeviceView}
-use Rattle.entry_codec.specs.declared.{admin_opcode.TheConstants.{ABORT, DELETE_IO_SQ, DELETE_IO_CQ, CREATE_IO_CQ}, status.Status.Status}
+use Rattle.entry_codec.specs.{Status.is_success, declared.{admin_opcode.TheConstants.{ABORT, DELETE_IO_SQ, DELETE_IO_CQ, CREATE_IO_CQ}, status.Status.Status}}
 use Rattle.entry_codec.specs.declared.status.TheConstants.Status.{SUCCESS, INVALID_OPCODE, INVALID_FIELD, INVALID_QUEUE_IDENTIFIER, INVALID_QUEUE_SIZE, INVALID_QUEUE_DELETION, COMPLETION_QUEUE_INVALID, DATA_TRANSFER_ERROR, DATA_SGL_LENGTH_INVALID, ABORT_REQUESTED, ABORTED_SQ_DELETION}
 use Rattle.entry_codec.specs.declared.submission.SubEntry.{SubEntry}
-use Rattle.io_commands.specs.Jobs.{is_success, course_of_walk, verdict_of, JobContents, job_course}
+use Rattle.io_commands.specs.Jobs.{course_of_walk, verdict_of, JobContents, job_course}
 use Rattle.page_memory.proofs.Lists.{all-map, all-at, all-found}
 use Rattle.slot_table.proofs.{Rows.none_is, Walks.eqb-turned}
 use Rattle.page_memory.specs.{Memory.{Memory, bytes_at}, declared.page.Half.{Half, TheVariants.{Submission, Completion}}}

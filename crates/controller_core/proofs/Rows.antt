@@ -13,9 +13,9 @@ use Rattle.std.{proofs.lemmas.{Option.{none-some, slice_get_read}}}
 use Rattle.std.specs.{Option.{is_some}, Result.{OnOk}, Str.bytes_eq}
 use Rattle.admin_commands.specs.Entries.{named_queue}
 use Rattle.block_image.specs.Blocks.{block_count, blocks_at}
-use Rattle.io_commands.specs.{Ends.FitsVerdict, Jobs.{status_by, status_after, is_success, kind_of_opcode, first_block, block_number}}
+use Rattle.io_commands.specs.{Ends.FitsVerdict, Jobs.{status_by, status_after, kind_of_opcode, first_block, block_number}}
 use Rattle.io_commands.specs.declared.request.Kind.{Kind, TheVariants.{Compare}}
-use Rattle.entry_codec.specs.{Completion.IsComEntry, declared.status.Status.Status}
+use Rattle.entry_codec.specs.{Completion.IsComEntry, Status.is_success, declared.status.Status.Status}
 use Rattle.entry_codec.specs.declared.status.TheConstants.Status.{SUCCESS, COMPARE_FAILURE}
 use Rattle.entry_codec.specs.declared.submission.SubEntry.{SubEntry}
 use Rattle.page_memory.{proofs.Lists.{some_is, all-filter, all-found, found_is}, specs.Memory.{Memory}}

@@ -2,8 +2,8 @@
 use Rattle.std.specs.{List.list_any, Option.option_map_or}
 use Rattle.std.specs.Prelude.{◌≡◌, ℕ, ◌==◌, ◌&&◌, ◌||◌, ◌++◌, Bool, false, not, Option, Some, None, List, [], ◌∷◌, filter, find, length, is_none, slice_get, if◌then◌else◌}
 use Rattle.admin_commands.specs.{Entries.named_queue, declared.SqState.TheVariants.Absent}
-use Rattle.entry_codec.specs.{Completion.IsComEntry, declared.{admin_opcode.TheConstants.DELETE_IO_SQ, status.Status.Status}}
-use Rattle.io_commands.specs.Jobs.{finished_status, finished_image, is_success}
+use Rattle.entry_codec.specs.{Completion.IsComEntry, Status.is_success, declared.{admin_opcode.TheConstants.DELETE_IO_SQ, status.Status.Status}}
+use Rattle.io_commands.specs.Jobs.{finished_status, finished_image}
 use Rattle.page_memory.specs.Memory.{Memory}
 use Rattle.controller_core.specs.Posting.{post_refusal_at, completion_by, memory_posted, page_posted, with_posted}
 use Rattle.controller_core.specs.Contents.{Contents, FetchedCommand, Work, change, entry_of_work, verdict_of_work, dw0_of_work, is_command, is_deletion}

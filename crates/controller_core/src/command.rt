@@ -1,7 +1,7 @@
 //! What the controller has fetched and not completed.
 
 ghost use Rattle.std.specs.Prelude.{◌≡◌};
-ghost use Rattle.controller_core.specs.Contents.{entry_of_work, verdict_of_work, is_command};
+ghost use Rattle.controller_core.specs.Contents.{entry_of_work, verdict_of_work};
 
 use entry_codec::{Status, SubEntry};
 use io_commands::Job;
@@ -55,14 +55,5 @@ impl<A: Allocator> Work<Job<A>> {
             Work::Io(job) => job.verdict(),
             Work::Admin { status, .. } => Some(*status),
         }
-    }
-}
-
-impl<A: Allocator> FetchedCommand<Job<A>> {
-    /// Whether it is the command of this identifier of a queue.
-    pub fn is_named(&self, q: u16, cid: u16) -> bool
-        ensures { result ≡ is_command q cid self.now }
-    {
-        self.q == q && self.work.entry().cid == cid
     }
 }

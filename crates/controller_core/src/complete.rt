@@ -14,7 +14,6 @@ use crate::controller::Controller;
 use crate::post::post_at;
 use crate::queue::ControllerQueue;
 use crate::refusal::Refusal;
-use crate::waiting::is_success;
 use admin_commands::{SqState, queue_of};
 use block_image::Image;
 use entry_codec::admin_opcode::DELETE_IO_SQ;
@@ -27,7 +26,7 @@ use std::alloc::Allocator;
 fn deletes(entry: &SubEntry, status: Status) -> bool
     ensures { result ≡ is_deletion entry.now status }
 {
-    entry.opcode == DELETE_IO_SQ && is_success(status)
+    entry.opcode == DELETE_IO_SQ && status.is_success()
 }
 
 /// Leaves nothing of a queue's submission side, where there is such a queue.

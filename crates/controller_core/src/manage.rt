@@ -1,9 +1,9 @@
 //! What an entry of queue 0 does as it is fetched.
 
-ghost use Rattle.std.specs.Prelude.{◌≡◌, ◌<◌, ◌≤◌, ◌^◌, ◌*◌, find, false, is_none, length};
+ghost use Rattle.std.specs.Prelude.{◌≡◌, ◌<◌, ◌≤◌, find, false, is_none, length};
 ghost use Rattle.std.specs.Option.{option_map_or};
-ghost use Rattle.controller_core.specs.Contents.{change, verdict_of_work, is_command};
-ghost use Rattle.controller_core.specs.Managing.{view_for, stopped_work, stopped_with_queue, stopping, with_completion, with_submission, without_completion, status_of_verdict, dw0_of_verdict, commands_after, queues_after, NamesPages};
+ghost use Rattle.controller_core.specs.Contents.{verdict_of_work, is_command};
+ghost use Rattle.controller_core.specs.Managing.{view_for, stopped_work, stopped_with_queue, status_of_verdict, dw0_of_verdict, commands_after, queues_after, NamesPages};
 
 use crate::command::{FetchedCommand, Work};
 use crate::commands::Commands;
@@ -77,48 +77,6 @@ impl<A: Allocator> FetchedCommand<Job<A>> {
     }
 }
 
-/// Fetches nothing more from a queue, where there is such a queue.
-#[tactic(auto, using(crate::proofs::Lists::change_at, crate::proofs::Lists::change_past))]
-fn stop_queue<A: Allocator>(queues: &mut Vec<ControllerQueue, A>, q: u16)
-    ensures { queues.new.items ≡ change q stopping queues.old.items }
-{
-    if usize::from(q) < queues.len() {
-        queues[usize::from(q)].state = SqState::Stopping;
-    }
-}
-
-/// Drops the completion side of a queue, where there is such a queue.
-#[tactic(auto, using(crate::proofs::Lists::change_at, crate::proofs::Lists::change_past))]
-fn drop_completion<A: Allocator>(queues: &mut Vec<ControllerQueue, A>, q: u16)
-    ensures { queues.new.items ≡ change q without_completion queues.old.items }
-{
-    if usize::from(q) < queues.len() {
-        queues[usize::from(q)].cq_there = false;
-    }
-}
-
-/// Makes the completion side of a queue, where there is such a queue: its ring begins at an address, and both rings are empty.
-#[tactic(auto, using(crate::proofs::Lists::change_at, crate::proofs::Lists::change_past))]
-fn make_completion<A: Allocator>(queues: &mut Vec<ControllerQueue, A>, q: u16, base: u64)
-    requires { base < 4096 * 2 ^ 32 }
-    ensures { queues.new.items ≡ change q (with_completion base) queues.old.items }
-{
-    if usize::from(q) < queues.len() {
-        queues[usize::from(q)].renew_completion(base);
-    }
-}
-
-/// Makes the submission side of a queue, where there is such a queue: its ring begins at an address, and both rings are empty.
-#[tactic(auto, using(crate::proofs::Lists::change_at, crate::proofs::Lists::change_past))]
-fn make_submission<A: Allocator>(queues: &mut Vec<ControllerQueue, A>, q: u16, base: u64)
-    requires { base < 4096 * 2 ^ 32 }
-    ensures { queues.new.items ≡ change q (with_submission base) queues.old.items }
-{
-    if usize::from(q) < queues.len() {
-        queues[usize::from(q)].renew_submission(base);
-    }
-}
-
 /// How a command ends that has this verdict: its status, and the command specific double word of its completion.
 pub(crate) fn end_of(verdict: AdminVerdict) -> (Status, u32)
     ensures status { result.0 ≡ status_of_verdict verdict }
@@ -130,7 +88,8 @@ pub(crate) fn end_of(verdict: AdminVerdict) -> (Status, u32)
     }
 }
 
-/// Does what the verdict of a command of this identifier says.
+/// Does what the verdict of a command of this identifier says, to a queue where there is such a queue.
+#[tactic(auto, using(crate::proofs::Lists::change_at, crate::proofs::Lists::change_past))]
 pub(crate) fn act<A: Allocator>(
     queues: &mut Vec<ControllerQueue, A>,
     commands: &mut Commands<A>,
@@ -146,10 +105,24 @@ pub(crate) fn act<A: Allocator>(
         AdminVerdict::AbortJob { q, cid } => commands.abort(q, cid, abort),
         AdminVerdict::StopQueue { q } => {
             commands.stop_queue(q);
-            stop_queue(queues, q);
+            if usize::from(q) < queues.len() {
+                queues[usize::from(q)].state = SqState::Stopping;
+            }
         }
-        AdminVerdict::DropCompletion { q } => drop_completion(queues, q),
-        AdminVerdict::MakeCompletion { q, base } => make_completion(queues, q, base),
-        AdminVerdict::MakeSubmission { q, base } => make_submission(queues, q, base),
+        AdminVerdict::DropCompletion { q } => {
+            if usize::from(q) < queues.len() {
+                queues[usize::from(q)].cq_there = false;
+            }
+        }
+        AdminVerdict::MakeCompletion { q, base } => {
+            if usize::from(q) < queues.len() {
+                queues[usize::from(q)].renew_completion(base);
+            }
+        }
+        AdminVerdict::MakeSubmission { q, base } => {
+            if usize::from(q) < queues.len() {
+                queues[usize::from(q)].renew_submission(base);
+            }
+        }
     }
 }

@@ -2,15 +2,14 @@
 
 ghost use Rattle.std.specs.Prelude.{◌≡◌, Some, find};
 ghost use Rattle.std.specs.List.{list_any};
-ghost use Rattle.io_commands.specs.Jobs.{is_success as succeeds};
 ghost use Rattle.controller_core.specs.Completing.{is_abort_of, waits_among, has_success as work_succeeds};
 ghost use Rattle.controller_core.specs.Contents.{AreAwaited, entry_of, entry_of_work, is_command};
 
 use crate::command::{FetchedCommand, Work};
 use crate::commands::Commands;
 use admin_commands::{command_of, queue_of};
+use entry_codec::SubEntry;
 use entry_codec::admin_opcode::DELETE_IO_SQ;
-use entry_codec::{Status, SubEntry};
 use io_commands::Job;
 use std::alloc::Allocator;
 
@@ -24,19 +23,12 @@ fn is_abort(waiting: Option<u16>, cid: u16) -> bool
     }
 }
 
-/// Whether a status is Successful Completion.
-pub(crate) fn is_success(status: Status) -> bool
-    ensures { result ≡ succeeds status }
-{
-    status.sct == 0 && status.sc == 0
-}
-
 /// Whether a command ended with success.
 fn has_success<A: Allocator>(work: &Work<Job<A>>) -> bool
     ensures { result ≡ work_succeeds work.now }
 {
     match work.verdict() {
-        Some(status) => is_success(status),
+        Some(status) => status.is_success(),
         None => false,
     }
 }

@@ -1,7 +1,7 @@
 //! The status of a completion.
 
 ghost use Rattle.std.specs.Prelude.{◌≡◌, true, false, codes};
-ghost use Rattle.entry_codec.specs.Status.{status_halfword, status_text};
+ghost use Rattle.entry_codec.specs.Status.{is_success, status_halfword, status_text};
 
 use std::fmt;
 
@@ -53,6 +53,13 @@ impl Status {
     pub const INVALID_QUEUE_DELETION: Status = Status { sct: 1, sc: 0x0C };
     /// Compare Failure (Media and Data Integrity Errors).
     pub const COMPARE_FAILURE: Status = Status { sct: 2, sc: 0x85 };
+
+    /// Whether it is Successful Completion.
+    pub fn is_success(self) -> bool
+        ensures { result ≡ is_success self }
+    {
+        self.sct == 0 && self.sc == 0
+    }
 }
 
 /// `SCT:SC`: the type in decimal, the code as two upper case hexadecimal digits, as `2:85` or `0:0D` (own).

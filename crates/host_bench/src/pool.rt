@@ -5,7 +5,7 @@ ghost use Rattle.page_memory.specs.Memory.{bytes_at, written};
 ghost use Rattle.page_memory.specs.Pages.{byte_at, IsPool};
 ghost use Rattle.host_bench.specs.Pool.{Keeps};
 
-use page_memory::{Dma, Store, TouchRecord, Unreadable};
+use page_memory::{Dma, MAX_PAGES, Store, TouchRecord, Unreadable};
 use std::alloc::Allocator;
 
 /// Fills the buffer with the bytes of a store from an address on. No page changes.
@@ -24,7 +24,7 @@ pub(crate) fn read<A: Allocator>(
 {
     store.clear();
     let answer = store.read(addr, into);
-    prove!(store.pages() <= 65_536);
+    prove!(store.pages() <= MAX_PAGES);
     answer
 }
 
@@ -45,6 +45,6 @@ pub(crate) fn write<A: Allocator>(
 {
     store.clear();
     let answer = store.write(addr, bytes);
-    prove!(store.pages() <= 65_536);
+    prove!(store.pages() <= MAX_PAGES);
     answer
 }

@@ -391,12 +391,12 @@ pub record Reads (q cid : ℕ) (r : Request) (a b : PagesOut) (q' cid' : ℕ) (r
   pub queue : q' ≡ q
   pub identifier : cid' ≡ cid
   pub request : r' ≡ r
-  pub front : a' ≡ a
-  pub back : b' ≡ b
+  pub data_pages : a' ≡ a
+  pub chain_pages : b' ≡ b
 
 pub read_has : (records : List Record) (ended' : Bool) (q cid : ℕ) (r : Request) (a b : PagesOut) (q' cid' : ℕ) (r' : Request) (a' b' : PagesOut) → Reads q cid r a b q' cid' r' a' b'
     → has_record records ended' q' cid' r' (numbers_of a') (numbers_of b') ≡ has_record records ended' q cid r (numbers_of a) (numbers_of b)
-read_has records ended' q cid r a b q' cid' r' a' b' reads = rw (reads.queue, reads.identifier, reads.request, reads.front, reads.back) refl
+read_has records ended' q cid r a b q' cid' r' a' b' reads = rw (reads.queue, reads.identifier, reads.request, reads.data_pages, reads.chain_pages) refl
 
 both-pages : (a b : PagesOut) → ArePages (a ++ b) → ArePages a × ArePages b
 both-pages a b are =
@@ -446,14 +446,14 @@ release_made t new f whole are belongs is =
     let brings = release_brings t f none in
     rw is (ends t f.q f.cid pages (events.Release f) whole are brings refl (both-pages f.data_pages f.chain_pages are) (none, tt, ended_exact t f.q f.cid pages whole brings))
 
-pub reads_from : (q cid : ℕ) (r : Request) (a b : PagesOut) (q' cid' : ℕ) (r' : Request) (ps : PagesOut) (k : ℕ) (front back : PagesOut) → q' ≡ q → cid' ≡ cid → r' ≡ r → ps ≡ a ++ b → k ≡ length a
-    → front ≡ take k ps → back ≡ drop k ps → Reads q cid r a b q' cid' r' front back
-reads_from q cid r a b q' cid' r' ps k front back eq ec er ep ek ef eb = record {
+pub reads_from : (q cid : ℕ) (r : Request) (a b : PagesOut) (q' cid' : ℕ) (r' : Request) (ps : PagesOut) (k : ℕ) (data_pages chain_pages : PagesOut) → q' ≡ q → cid' ≡ cid → r' ≡ r → ps ≡ a ++ b → k ≡ length a
+    → data_pages ≡ take k ps → chain_pages ≡ drop k ps → Reads q cid r a b q' cid' r' data_pages chain_pages
+reads_from q cid r a b q' cid' r' ps k data_pages chain_pages eq ec er ep ek ef eb = record {
   queue = eq;
   identifier = ec;
   request = er;
-  front = ef ∙ (ap (take k) ep ∙ take_at a b k (sym ek));
-  back = eb ∙ (ap (drop k) ep ∙ drop_at a b k (sym ek));
+  data_pages = ef ∙ (ap (take k) ep ∙ take_at a b k (sym ek));
+  chain_pages = eb ∙ (ap (drop k) ep ∙ drop_at a b k (sym ek));
 }
 
 -- a command's end, by the values that a moved value was taken apart into

@@ -200,13 +200,13 @@ length-zeroed ps = length-map ps (λ p. (p, zero_page))
 all-zeroed : (ps : List ℕ) → All (λ (page : ℕ × List ℕ). page.1 ≡ zero_page) (zeroed_pages ps)
 all-zeroed ps = All-map (λ (page : ℕ × List ℕ). page.1 ≡ zero_page) (λ p. (p, zero_page)) ps (λ k d l. refl)
 
-pub front-size : (t : Tables) (q : ℕ) (r : Request) (cid m n : ℕ) → Grants t q r cid m n → length (first_placed t.owners m) ≡ m
-front-size t q r cid m n grants = length_placed (free_pages t.owners) m (let e = grants.enough in omega arith)
+pub data-size : (t : Tables) (q : ℕ) (r : Request) (cid m n : ℕ) → Grants t q r cid m n → length (first_placed t.owners m) ≡ m
+data-size t q r cid m n grants = length_placed (free_pages t.owners) m (let e = grants.enough in omega arith)
 
-pub back-size : (t : Tables) (q : ℕ) (r : Request) (cid m n : ℕ) → Grants t q r cid m n → length (then_placed t.owners m n) ≡ n
-back-size t q r cid m n grants =
+pub chain-size : (t : Tables) (q : ℕ) (r : Request) (cid m n : ℕ) → Grants t q r cid m n → length (then_placed t.owners m n) ≡ n
+chain-size t q r cid m n grants =
     length_placed (without_numbers (first_placed t.owners m) (free_pages t.owners)) n
-    (omega (arith, length_left (first_placed t.owners m) (free_pages t.owners) (λ p. placed_times p (free_pages t.owners) m) (free-once t.owners), front-size t q r cid m n grants, grants.enough))
+    (omega (arith, length_left (first_placed t.owners m) (free_pages t.owners) (λ p. placed_times p (free_pages t.owners) m) (free-once t.owners), data-size t q r cid m n grants, grants.enough))
 
 -- the numbers of its data pages are where its data is placed
 data-numbers : (t : Tables) (q : ℕ) (r : Request) (cid m n : ℕ) → Grants t q r cid m n → numbers_of (zeroed_pages (first_placed t.owners m)) ≡ data_placed (free_pages t.owners) r.pieces
@@ -222,8 +222,8 @@ new_draft_fits t q r cid m n grants =
       request = refl;
       segment = refl;
       identifier = grants.fresh;
-      data_pages = length-zeroed a ∙ (front-size t q r cid m n grants ∙ grants.for_data);
-      chain_pages = length-zeroed b ∙ (back-size t q r cid m n grants ∙ (grants.for_chain ∙ ap (λ (ps : List ℕ). pages_needed (length (joined_parts r.pieces ps)) t.segment) (sym (data-numbers t q r cid m n grants))));
+      data_pages = length-zeroed a ∙ (data-size t q r cid m n grants ∙ grants.for_data);
+      chain_pages = length-zeroed b ∙ (chain-size t q r cid m n grants ∙ (grants.for_chain ∙ ap (λ (ps : List ℕ). pages_needed (length (joined_parts r.pieces ps)) t.segment) (sym (data-numbers t q r cid m n grants))));
       free = λ p. subst (λ (ps : List ℕ). times p ps ≡ (if is_among ps p && is_among (free_pages t.owners) p then 1 else 0))
           (sym (ap₂ (λ (x y : List ℕ). x ++ y) (zeroed_numbers a) (zeroed_numbers b))) (are-free t.owners m n p);
       zero = All-append (λ (page : ℕ × List ℕ). page.1 ≡ zero_page) (zeroed_pages a) (zeroed_pages b) (all-zeroed a) (all-zeroed b);
@@ -236,7 +236,7 @@ made_parts : (t : Tables) (q : ℕ) (r : Request) (cid m n : ℕ) → Grants t q
 made_parts t q r cid m n grants pages is =
     let a = zeroed_pages (first_placed t.owners m) in
     let b = zeroed_pages (then_placed t.owners m n) in
-    let size : length a ≡ data_count r.pieces = length-zeroed (first_placed t.owners m) ∙ (front-size t q r cid m n grants ∙ grants.for_data) in
+    let size : length a ≡ data_count r.pieces = length-zeroed (first_placed t.owners m) ∙ (data-size t q r cid m n grants ∙ grants.for_data) in
     (ap (data_part r) is ∙ take_at a b (data_count r.pieces) size, ap (chain_part r) is ∙ drop_at a b (data_count r.pieces) size)
 
 -- as it is made of one list of pages
@@ -253,7 +253,7 @@ pub made_size : (t : Tables) (q : ℕ) (r : Request) (cid m n : ℕ) → Grants 
 made_size t q r cid m n grants pages is =
     let a = first_placed t.owners m in
     let b = then_placed t.owners m n in
-    omega (arith, ap length is, length-append (zeroed_pages a) (zeroed_pages b), length-zeroed a, length-zeroed b, front-size t q r cid m n grants, back-size t q r cid m n grants)
+    omega (arith, ap length is, length-append (zeroed_pages a) (zeroed_pages b), length-zeroed a, length-zeroed b, data-size t q r cid m n grants, chain-size t q r cid m n grants)
 
 -- they are as many as its chain takes there
 pub made_pages : (t : Tables) (q : ℕ) (r : Request) (cid m n : ℕ) → Grants t q r cid m n → (pages : PagesOut)

@@ -152,9 +152,9 @@ pub record Asked (t : Tables) (q : ℕ) (r : Request) : Type 0 where
 pub wanted-placed : (free : List ℕ) (segment : ℕ) (pieces : List Piece) → data_count pieces ≤ length free → wanted_of free segment pieces ≡ data_count pieces + chain_wanted free segment pieces
 wanted-placed free segment pieces room = ap (λ (b : Bool). if b then least_pages pieces segment else data_count pieces + chain_wanted free segment pieces) (le-ltb (length free) (data_count pieces) room)
 
-pub granted : (t : Tables) (q : ℕ) (r : Request) (cid front back : ℕ) → IsWhole t → (asked : Asked t q r) → position not asked.queue.host.claimed ≡ Some cid
-    → front ≡ data_count r.pieces → back ≡ chain_wanted (free_pages t.owners) t.segment r.pieces → front + back ≤ length (free_pages t.owners) → Grants t q r cid front back
-granted t q r cid front back whole asked next ef eb enough = record {
+pub granted : (t : Tables) (q : ℕ) (r : Request) (cid data_pages chain_pages : ℕ) → IsWhole t → (asked : Asked t q r) → position not asked.queue.host.claimed ≡ Some cid
+    → data_pages ≡ data_count r.pieces → chain_pages ≡ chain_wanted (free_pages t.owners) t.segment r.pieces → data_pages + chain_pages ≤ length (free_pages t.owners) → Grants t q r cid data_pages chain_pages
+granted t q r cid data_pages chain_pages whole asked next ef eb enough = record {
   none = refuses-nothing (state_of t) q r asked.takes asked.stays asked.good (next-left t whole q cid asked.queue asked.at next)
       (omega (arith, wanted-placed (free_pages t.owners) t.segment r.pieces (omega (arith, ef, enough)), ef, eb, enough));
   good = asked.good;
@@ -173,5 +173,5 @@ next-lowest t w q cid queue at next lower l =
     let within : lower < length queue.host.claimed = omega (arith, l, found_within queue.host.claimed cid next) in
     sym (outstanding-among (view_of t).host q lower) ∙ some_is (sym (claims.told lower within) ∙ lower_claimed queue.host.claimed cid lower next l)
 
-pub grant-lowest : (t : Tables) → IsWhole t → (q cid : ℕ) (r : Request) (front back : ℕ) → Grants t q r cid front back → IsLowest (view_of t).host q cid
-grant-lowest t w q cid r front back grants = let there = queue-here t.queues q grants.there in next-lowest t w q cid there.0 there.1 (grants.next there.0 there.1)
+pub grant-lowest : (t : Tables) → IsWhole t → (q cid : ℕ) (r : Request) (data_pages chain_pages : ℕ) → Grants t q r cid data_pages chain_pages → IsLowest (view_of t).host q cid
+grant-lowest t w q cid r data_pages chain_pages grants = let there = queue-here t.queues q grants.there in next-lowest t w q cid there.0 there.1 (grants.next there.0 there.1)

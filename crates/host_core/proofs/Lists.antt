@@ -40,12 +40,6 @@ get-at q [] x l e = absurd (omega arith)
 get-at {A = A} zero (z ∷ xs) x l e = ap (λ (w : A). Some w) (sym e)
 get-at (suc q) (z ∷ xs) x l e = get-at q xs x (omega arith) e
 
--- changes that are the same where the member stands
-pub change-agree : {A : Type 0} (k : ℕ) (f g : A → A) (xs : List A) (x : A) → slice_get xs k ≡ Some x → f x ≡ g x → change k f xs ≡ change k g xs
-change-agree k f g [] x at e = refl
-change-agree zero f g (y ∷ xs) x at e = let same : y ≡ x = cc in ap (λ z. z ∷ xs) (ap f same ∙ e ∙ ap g (sym same))
-change-agree (suc k) f g (y ∷ xs) x at e = ap (λ ys. y ∷ ys) (change-agree k f g xs x at e)
-
 -- Lists that are compared.
 
 pub pieces-differ : (a b : List Piece) → length a ≢ length b → same_pieces a b ≡ false

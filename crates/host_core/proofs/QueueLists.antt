@@ -67,9 +67,9 @@ none-away : (owners : List Owner) (q : ℕ) (half : Half) (p : ℕ) → owner_at
     → list_any (λ r. is_away r && is_among (pages_of r) p) rs ≡ false
 none-away owners q half p mine [] h = refl
 none-away owners q half p mine (r ∷ rs) h =
-    let front = not-among owners q half p mine _ (λ e. cc) r.data_pages h.0.data_pages in
-    let back = not-among owners q half p mine _ (λ e. cc) r.chain_pages h.0.chain_pages in
-    rw (list_any-append (λ k. k == p) r.data_pages r.chain_pages, front, back) (or_from (is_away r && false) _ (and_right (is_away r) false refl) (none-away owners q half p mine rs h.1))
+    let no_data = not-among owners q half p mine _ (λ e. cc) r.data_pages h.0.data_pages in
+    let no_chain = not-among owners q half p mine _ (λ e. cc) r.chain_pages h.0.chain_pages in
+    rw (list_any-append (λ k. k == p) r.data_pages r.chain_pages, no_data, no_chain) (or_from (is_away r && false) _ (and_right (is_away r) false refl) (none-away owners q half p mine rs h.1))
 
 pub queue_page-in : (t : Tables) → IsWhole t → (q : ℕ) (half : Half) (p : ℕ) → owner_at t.owners p ≡ Some (owner.Queue q half) → is_in t.pages p ≡ true
 queue_page-in t w q half p mine =

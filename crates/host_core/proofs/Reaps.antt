@@ -9,8 +9,8 @@ use Rattle.std.proofs.Common.{is_some, is_none, ◌&&◌, ◌≡◌, ℕ, ◌<�
 use Rattle.std.{proofs.lemmas.{Bool.{not-false, true≢false, and_parts, and_right, cond_both, false_from_ne_true}, List.length-map}, specs.List.{AllByRecursion}}
 use Rattle.std.specs.Option.{option_map_or}
 use Rattle.admin_commands.specs.declared.AdminKind.{AdminKind, TheVariants.{Abort, DeleteSq, DeleteCq, CreateCq, CreateSq}}
-use Rattle.entry_codec.specs.declared.{completion.ComEntry.ComEntry, status.{Status.Status, TheConstants.Status.ABORTED_SQ_DELETION}}
-use Rattle.io_commands.specs.{Asked.Request, Jobs.is_success}
+use Rattle.entry_codec.specs.{Status.is_success, declared.{completion.ComEntry.ComEntry, status.{Status.Status, TheConstants.Status.ABORTED_SQ_DELETION}}}
+use Rattle.io_commands.specs.Asked.{Request}
 use Rattle.machine_model.{proofs.Kept.{sq_with_cq, deleted_has_sq}, specs.{After.{change, held, after_retire, lost}, Claims.OwnsFit}}
 use Rattle.machine_model.specs.Refusals.{refusal_of, has_cq_alone, is_submitted, is_reaped, host_queue, is_deleted, is_live, has_cq}
 use Rattle.machine_model.specs.State.{HostQueue, Record, is_at, with_record, without_record, State, pages_of}

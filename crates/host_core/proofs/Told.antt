@@ -5,7 +5,7 @@ use Rattle.machine_model.specs.Events as events
 use Rattle.machine_model.specs.declared.words.Refusal.TheVariants as refusal
 use Rattle.admin_commands.specs.declared.AdminKind.TheVariants as kinds
 use Rattle.std.proofs.Common.{◌≡◌, ℕ, suc, ◌+◌, ◌<◌, ◌≤◌, ◌==◌, nat_lt, le-ltb, find, option_map, Bool, true, false, not, ◌||◌, Some, None, List, [], ◌∷◌, ◌++◌, length, map, flat_map, filter, sum_by, slice_get, refl, ap, ap₂, sym, ◌∙◌, arith, subst, eqb-true, eq-eqb, lt-ltb, length-append, if◌then◌else◌, ◌&&◌, MatchBool, inl, inr}
-use Rattle.std.proofs.lemmas.{Bool.{true≢false, cases_Bool, cond_both, or_left, or_right}, List.{take-append-drop, Sums.sum_by-cons}}
+use Rattle.std.proofs.lemmas.{Bool.{cases_Bool, cond_both, or_left, or_right}, List.{take-append-drop, Sums.sum_by-cons}}
 use Rattle.std.specs.{List.{AllByRecursion, Contains}, Option.option_map_or}
 use Rattle.machine_model.proofs.{Counting.{one, times-cons, times-append, times-filter, times-pages, held_once, length_of_all}, Headline.firsts}
 use Rattle.machine_model.specs.{After.after, Claims.{claimed, claims_of, claims_of_queues, claims_of_record, counts_of}, Events.{Event, Reply}}
@@ -16,7 +16,7 @@ use Rattle.page_ledger.specs.{Owners.{is_owned_at, owner_at, pages_from, pages_o
 use Rattle.page_ledger.specs.declared.owner.{Owner.{Owner, TheVariants.{Free, Queue, Command}}, Role.TheVariants.{Data, Chain}}
 use Rattle.page_memory.specs.{Pages.{Pages, Contents}, declared.page.Half.{Half, TheVariants.{Submission, Completion}}}
 use Rattle.host_core.{specs.{Alone.{HostView, alone}, Laws.{shown, LeavesJust, LeavesOne, RefusesJust, WritesLeaveOver}}, proofs.PageOwners.free-owner}
-use Rattle.host_core.specs.{Sending.{sending, creating, grants_none}, Tables.{Tables, state_of, host_queue_of, sq_pages_of, cq_pages_of}}
+use Rattle.host_core.specs.{Sending.{sending, creating}, Tables.{Tables, state_of, host_queue_of, sq_pages_of, cq_pages_of}}
 use Rattle.host_core.specs.{Touching.{TouchesBy, refused_touches, sent_touches}, Whole.{HaveOwner, TellsCommand, TellsQueue, IsHost}}
 use Rattle.host_core.specs.Rights.{owner_of}
 use Rattle.admin_commands.specs.declared.AdminKind.{AdminKind}
@@ -315,12 +315,7 @@ pub creating_refused : (half : Half) (q : ℕ) (why : Refusal) → refused_touch
 creating_refused Completion q why = refl
 creating_refused Submission q why = refl
 
--- one that is sent touches the page of its entry, and the pages of the half that is granted with it
-pub sending_sent : (n : ℕ) (kind : AdminKind) → grants_none kind ≡ true → sent_touches n (sending kind) ≡ 1
-sending_sent n (kinds.CreateCq q k base) plain = absurd (true≢false (sym plain))
-sending_sent n (kinds.CreateSq q k base) plain = absurd (true≢false (sym plain))
-sending_sent n kind plain = refl
-
+-- a creation that is sent touches the page of its entry, and the pages of the half that is granted with it
 pub creating_sent : (n : ℕ) (half : Half) (q : ℕ) → sent_touches n (creating half q) ≡ half_pages n half + 1
 creating_sent n Completion q = refl
 creating_sent n Submission q = refl

@@ -92,21 +92,21 @@ ClaimsNext queues q cid = (queue : Queue) → slice_get queues q ≡ Some queue 
 
 -- so many pages where they are placed first, and so many of those that are left
 abbrev pub first_placed : List Owner → ℕ → List ℕ
-first_placed owners front = placed (free_pages owners) front
+first_placed owners data_pages = placed (free_pages owners) data_pages
 
-abbrev pub then_placed : List Owner → (front back : ℕ) → List ℕ
-then_placed owners front back = placed (without_numbers (first_placed owners front) (free_pages owners)) back
+abbrev pub then_placed : List Owner → (data_pages chain_pages : ℕ) → List ℕ
+then_placed owners data_pages chain_pages = placed (without_numbers (first_placed owners data_pages) (free_pages owners)) chain_pages
 
 -- What a request gets, where nothing is against it: an identifier and so many pages for its data and for its chain.
-pub record Grants (t : Tables) (q : ℕ) (r : Request) (cid front back : ℕ) : Type 0 where
+pub record Grants (t : Tables) (q : ℕ) (r : Request) (cid data_pages chain_pages : ℕ) : Type 0 where
   pub none : refusal_of (state_of t) (events.Reserve q r) ≡ None
   pub good : IsGood r
   pub there : q < length t.queues
   pub next : ClaimsNext t.queues q cid
   pub fresh : IsNewIdentifier (state_of t) q cid
-  pub for_data : front ≡ data_count r.pieces
-  pub for_chain : back ≡ chain_wanted (free_pages t.owners) t.segment r.pieces
-  pub enough : front + back ≤ length (free_pages t.owners)
+  pub for_data : data_pages ≡ data_count r.pieces
+  pub for_chain : chain_pages ≡ chain_wanted (free_pages t.owners) t.segment r.pieces
+  pub enough : data_pages + chain_pages ≤ length (free_pages t.owners)
 
 -- An identifier of a queue is claimed.
 abbrev pub Claims : List Queue → ℕ → ℕ → Type 0
@@ -114,8 +114,8 @@ Claims queues q cid = (queue : Queue) → slice_get queues q ≡ Some queue → 
 
 -- a draft that was just reserved
 abbrev pub new_draft : ℕ → ℕ → Request → List ℕ → List ℕ → ℕ → DraftContents
-new_draft q cid request front back segment =
-    record { q = q; cid = cid; request = request; data_pages = zeroed_pages front; chain_pages = zeroed_pages back; segment = segment; entry = None }
+new_draft q cid request data_numbers chain_numbers segment =
+    record { q = q; cid = cid; request = request; data_pages = zeroed_pages data_numbers; chain_pages = zeroed_pages chain_numbers; segment = segment; entry = None }
 
 -- the phase of the commands that a draft or a finished command belongs to
 abbrev pub phase_of_end : Bool → Phase → Bool
@@ -123,14 +123,14 @@ phase_of_end true = is_collected
 phase_of_end false = is_drafted
 
 -- A command's record is that of a moved value with these pages.
-pub record Belongs (records : List Record) (ended : Bool) (q cid : ℕ) (request : Request) (front back : List ℕ) : Type 0 where
+pub record Belongs (records : List Record) (ended : Bool) (q cid : ℕ) (request : Request) (data_pages chain_pages : List ℕ) : Type 0 where
   pub entry : Record
   pub was : find (is_at q cid) records ≡ Some entry
-  pub is : is_of (phase_of_end ended) request front back entry ≡ true
+  pub is : is_of (phase_of_end ended) request data_pages chain_pages entry ≡ true
 
 -- whether some record is
 abbrev pub has_record : List Record → Bool → ℕ → ℕ → Request → List ℕ → List ℕ → Bool
-has_record records ended q cid request front back = option_map_or (is_of (phase_of_end ended) request front back) (find (is_at q cid) records) false
+has_record records ended q cid request data_pages chain_pages = option_map_or (is_of (phase_of_end ended) request data_pages chain_pages) (find (is_at q cid) records) false
 
 -- the same of a draft
 abbrev pub BelongsToDraft : List Record → DraftContents → Type 0

@@ -1,8 +1,7 @@
 -- The host reaps a completion.
 use Rattle.std.specs.{Option.option_map_or, Prelude.{◌≡◌, ℕ, ◌<◌, ◌&&◌, Bool, true, false, Option, Some, None, List, find, slice_get, if◌then◌else◌, not}}
 use Rattle.admin_commands.specs.declared.AdminKind.{AdminKind, TheVariants.{Abort, DeleteSq, DeleteCq, CreateCq, CreateSq}}
-use Rattle.entry_codec.specs.declared.{completion.ComEntry.ComEntry, status.Status.Status}
-use Rattle.io_commands.specs.Jobs.{is_success}
+use Rattle.entry_codec.specs.{Status.is_success, declared.{completion.ComEntry.ComEntry, status.Status.Status}}
 use Rattle.machine_model.specs.{After.{change, held}, Refusals.{has_cq_alone, is_reaped, seen_entry}, State.{Record, is_at, with_record, without_record}}
 use Rattle.machine_model.specs.{Step.Step, Work.Work, declared.words.HostState.{HostState, TheVariants.{Live, Deleting, Gone, HalfMade}}}
 use Rattle.machine_model.specs.declared.words.{Phase.TheVariants.Submitted, Reaped.Reaped, Work.TheVariants.{Io, Management}}

@@ -61,8 +61,8 @@ fn room_for<A: Allocator + Copy>(
 /// Takes a command's pages out.
 fn take_pages<A: Allocator>(store: &mut Store<A>, entry: &Record<A>, into: &mut Vec<Page<A>, A>)
     requires room { (into.old.items ≡ []) × (vec_len into.old ≡ 0) × (length entry.now.data_pages + length entry.now.chain_pages ≤ vec_capacity into.old) }
-    requires front { CanTake entry.now.data_pages store.old.pages }
-    requires back { CanTake entry.now.chain_pages (without_pages entry.now.data_pages store.old.pages) }
+    requires data_pages { CanTake entry.now.data_pages store.old.pages }
+    requires chain_pages { CanTake entry.now.chain_pages (without_pages entry.now.data_pages store.old.pages) }
     ensures pages { store.new.pages ≡ without_pages entry.now.chain_pages (without_pages entry.now.data_pages store.old.pages) }
     ensures touches { TouchesBy (length entry.now.data_pages + length entry.now.chain_pages) store.old store.new }
     ensures items { into.new.items ≡ taken_pages entry.now.data_pages store.old.pages ++ taken_pages entry.now.chain_pages (without_pages entry.now.data_pages store.old.pages) }

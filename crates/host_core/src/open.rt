@@ -19,7 +19,7 @@ use crate::spare::Spares;
 use crate::tables::HostTables;
 use machine_model::words::{HostState, OpenRefusal};
 use page_ledger::{Ledger, Owner};
-use page_memory::{Half, OpenFault, PageNo, Store};
+use page_memory::{Half, MAX_PAGES, OpenFault, PageNo, Store};
 use queue_pair::{HostPair, half_pages};
 use slot_table::SlotTable;
 use std::alloc::{AllocError, Allocator};
@@ -98,7 +98,7 @@ fn is_within_limits(config: Config) -> bool
     ensures { result ≡ is_config config.pages config.queues config.entries config.segment }
 {
     8 <= config.pages
-        && config.pages <= 65_536
+        && config.pages <= MAX_PAGES
         && 1 <= config.queues
         && config.queues <= 64
         && 2 <= config.entries

@@ -11,15 +11,15 @@ ghost use Rattle.host_core.specs.Commands.{first_placed, then_placed};
 
 use io_commands::Request;
 use page_ledger::{Ledger, NoPages, Owner, Role};
-use page_memory::PageNo;
+use page_memory::{MAX_PAGES, PageNo};
 use std::alloc::Allocator;
 
 /// What a request gets: an identifier, and so many pages for its data and for its chain.
 #[derive(Clone, Copy)]
 pub(crate) struct Grant {
     pub(crate) cid: u16,
-    pub(crate) front: u32,
-    pub(crate) back: u32,
+    pub(crate) data_pages: u32,
+    pub(crate) chain_pages: u32,
 }
 
 /// How many chain pages a good request takes whose data has the lowest free pages. Their list stands on the stack, which costs more to
@@ -28,18 +28,18 @@ pub(crate) struct Grant {
 fn scattered_chain<A: Allocator, B: Allocator>(
     ledger: &Ledger<A>,
     request: &Request<B>,
-    front: u32,
+    data_pages: u32,
     segment: u16,
 ) -> u32
     requires good { IsGood request.now }
-    requires front { front ≡ data_count request.now.pieces }
-    requires enough { front ≤ length (free_pages ledger.now) }
+    requires data_pages { data_pages ≡ data_count request.now.pieces }
+    requires enough { data_pages ≤ length (free_pages ledger.now) }
     requires low { 2 ≤ segment }
     requires high { segment ≤ 256 }
-    ensures count { result ≡ pages_needed (length (joined_parts request.now.pieces (take front (free_pages ledger.now)))) segment }
+    ensures count { result ≡ pages_needed (length (joined_parts request.now.pieces (take data_pages (free_pages ledger.now)))) segment }
     ensures few { result ≤ pages_needed (length request.now.pieces) segment }
 {
-    request.chain_pages(&ledger.lowest_free(front), segment)
+    request.chain_pages(&ledger.lowest_free(data_pages), segment)
 }
 
 /// How many pages a good request wants: those of its placement, which in a run are the fewest that it can take; and the fewest where
@@ -54,13 +54,13 @@ fn need_of<A: Allocator, B: Allocator>(
     requires high { segment ≤ 256 }
     ensures { result ≡ wanted_of (free_pages ledger.now) segment request.now.pieces }
 {
-    let front = request.data_pages() as u32;
-    if front == 0 || ledger.counts().free_pages < front {
+    let data_pages = request.data_pages() as u32;
+    if data_pages == 0 || ledger.counts().free_pages < data_pages {
         return request.least_pages(segment);
     }
-    match ledger.lowest_run(front) {
+    match ledger.lowest_run(data_pages) {
         Some(_) => request.least_pages(segment),
-        None => front + scattered_chain(ledger, request, front, segment),
+        None => data_pages + scattered_chain(ledger, request, data_pages, segment),
     }
 }
 
@@ -74,8 +74,8 @@ pub(crate) fn pages_wanted<A: Allocator, B: Allocator>(
     requires good { IsGood request.now }
     requires low { 2 ≤ segment }
     requires high { segment ≤ 256 }
-    ensures front { IfOk result (λ pages. pages.0 ≡ data_count request.now.pieces) }
-    ensures back { IfOk result (λ pages. pages.1 ≡ chain_wanted (free_pages ledger.now) segment request.now.pieces) }
+    ensures data_pages { IfOk result (λ pages. pages.0 ≡ data_count request.now.pieces) }
+    ensures chain_pages { IfOk result (λ pages. pages.1 ≡ chain_wanted (free_pages ledger.now) segment request.now.pieces) }
     ensures enough { IfOk result (λ pages. pages.0 + pages.1 ≤ length (free_pages ledger.now)) }
     ensures need { IfErr result (λ e. e.need ≡ wanted_of (free_pages ledger.now) segment request.now.pieces) }
     ensures free { IfErr result (λ e. e.free ≡ length (free_pages ledger.now)) }
@@ -86,8 +86,8 @@ pub(crate) fn pages_wanted<A: Allocator, B: Allocator>(
     if free < need {
         return Err(NoPages { need, free });
     }
-    let front = request.data_pages() as u32;
-    Ok((front, need - front))
+    let data_pages = request.data_pages() as u32;
+    Ok((data_pages, need - data_pages))
 }
 
 /// Places so many pages: the lowest run of free pages where there is one, else the lowest free pages, get the owner.
@@ -101,7 +101,7 @@ fn place<A: Allocator>(ledger: &mut Ledger<A>, owner: Owner, count: u32, into: &
     if count == 0 {
         return;
     }
-    prove!(ledger.pages() <= 65_536);
+    prove!(ledger.pages() <= MAX_PAGES);
     match ledger.grant_run(owner, count) {
         Some(first) => {
             for i in 0..count {
@@ -117,15 +117,15 @@ pub(crate) fn place_command<A: Allocator>(
     ledger: &mut Ledger<A>,
     q: u16,
     grant: Grant,
-    front: &mut Vec<PageNo, A>,
-    back: &mut Vec<PageNo, A>,
+    data_numbers: &mut Vec<PageNo, A>,
+    chain_numbers: &mut Vec<PageNo, A>,
 )
-    requires enough { grant.front + grant.back ≤ length (free_pages ledger.old) }
-    requires front_room { (front.old.items ≡ []) × (vec_len front.old + grant.front ≤ vec_capacity front.old) }
-    requires back_room { (back.old.items ≡ []) × (vec_len back.old + grant.back ≤ vec_capacity back.old) }
-    ensures front { front.new.items ≡ first_placed ledger.old grant.front }
-    ensures back { back.new.items ≡ then_placed ledger.old grant.front grant.back }
-    ensures owners { ledger.new ≡ with_owner (with_owner ledger.old front.new.items (Owner.Command q grant.cid Role.Data)) back.new.items (Owner.Command q grant.cid Role.Chain) }
+    requires enough { grant.data_pages + grant.chain_pages ≤ length (free_pages ledger.old) }
+    requires data_room { (data_numbers.old.items ≡ []) × (vec_len data_numbers.old + grant.data_pages ≤ vec_capacity data_numbers.old) }
+    requires chain_room { (chain_numbers.old.items ≡ []) × (vec_len chain_numbers.old + grant.chain_pages ≤ vec_capacity chain_numbers.old) }
+    ensures data_numbers { data_numbers.new.items ≡ first_placed ledger.old grant.data_pages }
+    ensures chain_numbers { chain_numbers.new.items ≡ then_placed ledger.old grant.data_pages grant.chain_pages }
+    ensures owners { ledger.new ≡ with_owner (with_owner ledger.old data_numbers.new.items (Owner.Command q grant.cid Role.Data)) chain_numbers.new.items (Owner.Command q grant.cid Role.Chain) }
 {
     let cid = grant.cid;
     let for_data = Owner::Command {
@@ -133,11 +133,11 @@ pub(crate) fn place_command<A: Allocator>(
         cid,
         role: Role::Data,
     };
-    place(ledger, for_data, grant.front, front);
+    place(ledger, for_data, grant.data_pages, data_numbers);
     let for_chain = Owner::Command {
         q,
         cid,
         role: Role::Chain,
     };
-    place(ledger, for_chain, grant.back, back);
+    place(ledger, for_chain, grant.chain_pages, chain_numbers);
 }

@@ -12,7 +12,7 @@ ghost use Rattle.host_core.specs.Touching.{TouchesBy};
 
 use crate::tables::HostTables;
 use entry_codec::SubEntry;
-use page_memory::{Store, TouchRecord};
+use page_memory::{MAX_PAGES, Store, TouchRecord};
 use queue_pair::HostPair;
 use std::alloc::Allocator;
 
@@ -46,6 +46,6 @@ impl<A: Allocator> HostTables<A> {
     {
         store.clear();
         self.queues[usize::from(q)].host.post(store, entry).unwrap();
-        prove!(store.pages() <= 65_536);
+        prove!(store.pages() <= MAX_PAGES);
     }
 }

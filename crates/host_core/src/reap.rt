@@ -1,7 +1,6 @@
 //! The host reaps a completion.
 
 ghost use Rattle.std.specs.Prelude.{◌≡◌, ◌<◌, [], true, false, Some, IfOk, IfErr, length, slice_get};
-ghost use Rattle.io_commands.specs.Jobs.{is_success as succeeds};
 ghost use Rattle.machine_model.specs.Events as events;
 ghost use Rattle.machine_model.specs.Step.{reaped_entry};
 ghost use Rattle.page_memory.specs.Pages.{Pages};
@@ -38,15 +37,15 @@ pub struct Reap {
     pub head: Option<u16>,
 }
 
-/// Takes the completion at a queue's head.
+/// Moves a queue's completion head past one completion.
 fn take_completion<A: Allocator>(queue: &mut Queue<HostPair<A>>)
     ensures { queue.new ≡ with_completion_taken queue.old }
 {
     queue.host.advance();
 }
 
-/// Takes the completion at a queue's head, and learns the controller's submission head from it.
-fn hear_completion<A: Allocator>(queue: &mut Queue<HostPair<A>>, sqhd: u16)
+/// Moves a queue's completion head past one completion, and the submission head that is known to the one that it tells.
+fn accept_completion<A: Allocator>(queue: &mut Queue<HostPair<A>>, sqhd: u16)
     requires { is_in_range queue.old.host.entries queue.old.host.ring.known_head queue.old.host.ring.tail sqhd ≡ true }
     ensures { queue.new ≡ with_completion_heard sqhd queue.old }
 {
@@ -54,18 +53,11 @@ fn hear_completion<A: Allocator>(queue: &mut Queue<HostPair<A>>, sqhd: u16)
     queue.host.accept_head(sqhd).unwrap();
 }
 
-/// Whether a status is Successful Completion.
-fn is_success(status: Status) -> bool
-    ensures { result ≡ succeeds status }
-{
-    status.sct == 0 && status.sc == 0
-}
-
 /// What the host knows of a queue once the deletion of its submission side has ended.
 fn deleted(status: Status) -> HostState
     ensures { result ≡ state_deleted status }
 {
-    if is_success(status) {
+    if status.is_success() {
         HostState::Deleting { noted: true }
     } else {
         HostState::Live
@@ -95,21 +87,21 @@ impl<A: Allocator> HostTables<A> {
         }
     }
 
-    /// Takes the completion at a queue's head.
-    fn consume(&mut self, q: u16)
+    /// Passes over the completion at a queue's head, which is for no command.
+    fn reject(&mut self, q: u16)
         requires { q < length self.old.queues.items }
         ensures { Becomes self.old (consumed q) self.new }
     {
         take_completion(&mut self.queues[usize::from(q)]);
     }
 
-    /// Takes the completion of a command at a queue's head.
-    fn hear(&mut self, q: u16, entry: ComEntry)
+    /// Takes the completion at a queue's head, which is for a command, and learns the submission head from it.
+    fn accept(&mut self, q: u16, entry: ComEntry)
         requires there { q < length self.old.queues.items }
         requires head { FitsHead self.old.queues.items q entry.sqhd }
         ensures { Becomes self.old (heard q entry.sqhd) self.new }
     {
-        hear_completion(&mut self.queues[usize::from(q)], entry.sqhd);
+        accept_completion(&mut self.queues[usize::from(q)], entry.sqhd);
     }
 
     /// Takes the completion of a command, and notes how the command ended.
@@ -118,7 +110,7 @@ impl<A: Allocator> HostTables<A> {
         requires head { FitsHead self.old.queues.items q entry.sqhd }
         ensures { Becomes self.old (ended_with q entry.sqhd entry.cid entry.status) self.new }
     {
-        self.hear(q, entry);
+        self.accept(q, entry);
         self.hold(q, entry.cid, entry.status);
     }
 
@@ -129,7 +121,7 @@ impl<A: Allocator> HostTables<A> {
         requires claimed { Claims self.old.queues.items q entry.cid }
         ensures { Becomes self.old (over q entry.sqhd entry.cid) self.new }
     {
-        self.hear(q, entry);
+        self.accept(q, entry);
         self.forget(q, entry.cid);
         unclaim(&mut self.queues, q, entry.cid);
     }
@@ -156,19 +148,19 @@ impl<A: Allocator> HostTables<A> {
             AdminKind::Abort { q: _, cid: _ } => {}
             AdminKind::DeleteSq { q } => note(&mut self.queues, q, deleted(status)),
             AdminKind::DeleteCq { q } => {
-                if is_success(status) && has_cq_alone(host_state(&self.queues, q)) {
+                if status.is_success() && has_cq_alone(host_state(&self.queues, q)) {
                     self.give_back_completion(q);
                 }
             }
             AdminKind::CreateCq { q, .. } => {
-                if is_success(status) {
+                if status.is_success() {
                     note(&mut self.queues, q, HostState::HalfMade);
                 } else {
                     self.give_back_completion(q);
                 }
             }
             AdminKind::CreateSq { q, .. } => {
-                if is_success(status) {
+                if status.is_success() {
                     note(&mut self.queues, q, HostState::Live);
                 } else {
                     self.give_back_submission(q, HostState::HalfMade);
@@ -205,8 +197,8 @@ impl<A: Allocator> HostTables<A> {
         }
     }
 
-    /// Takes the completion at a queue's head, and ends the command that it is for.
-    fn take(&mut self, q: u16, entry: ComEntry) -> Reaped
+    /// Decides whether the completion at a queue's head ends a command or is rejected.
+    fn end_or_reject(&mut self, q: u16, entry: ComEntry) -> Reaped
         requires host { IsHost (tables_of self.old []) }
         requires there { lacks_completion (slice_get self.old.queues.items q) ≡ false }
         ensures reaps { (pages : Pages) → IsWhole (tables_of self.old pages) → seen_at (tables_of self.old pages) q ≡ Some entry → ReapsTo (tables_of self.old pages) q result (tables_of self.new pages) }
@@ -216,7 +208,7 @@ impl<A: Allocator> HostTables<A> {
         match self.find_completed(q, entry) {
             Ok(kind) => self.end(q, entry, kind),
             Err(why) => {
-                self.consume(q);
+                self.reject(q);
                 Reaped::Rejected(why)
             }
         }
@@ -253,7 +245,7 @@ impl<A: Allocator> Host<A> {
                 head: None,
             });
         };
-        let found = self.parts.take(q, entry);
+        let found = self.parts.end_or_reject(q, entry);
         let head = self.parts.queues[usize::from(q)].host.head_value();
         Ok(Reap {
             found,

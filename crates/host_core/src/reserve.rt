@@ -28,31 +28,32 @@ use std::alloc::{AllocError, Allocator};
 /// The lists that a command fills, made before anything changes.
 #[derive(Drop)]
 struct Room<A: Allocator> {
-    front: Vec<PageNo, A>,
-    back: Vec<PageNo, A>,
+    data_numbers: Vec<PageNo, A>,
+    chain_numbers: Vec<PageNo, A>,
     pages: Vec<Page<A>, A>,
     request: Request<A>,
 }
 
-/// Lists for a command with so many pages, and a copy of its request.
+/// Lists for a command that gets so many pages, and a copy of its request.
 fn make_room<A: Allocator + Copy>(
     spares: &mut Spares<A>,
     alloc: A,
     request: &Request<A>,
-    front: u32,
-    back: u32,
+    grant: Grant,
 ) -> Result<Room<A>, AllocError>
-    requires { front + back ≤ 65536 }
-    ensures front { IfOk result (λ room. (room.front.items ≡ []) × (vec_len room.front + front ≤ vec_capacity room.front)) }
-    ensures back { IfOk result (λ room. (room.back.items ≡ []) × (vec_len room.back + back ≤ vec_capacity room.back)) }
-    ensures pages { IfOk result (λ room. (room.pages.items ≡ []) × (vec_len room.pages + (front + back) ≤ vec_capacity room.pages)) }
+    requires { grant.data_pages + grant.chain_pages ≤ 65536 }
+    ensures data_numbers { IfOk result (λ room. (room.data_numbers.items ≡ []) × (vec_len room.data_numbers + grant.data_pages ≤ vec_capacity room.data_numbers)) }
+    ensures chain_numbers { IfOk result (λ room. (room.chain_numbers.items ≡ []) × (vec_len room.chain_numbers + grant.chain_pages ≤ vec_capacity room.chain_numbers)) }
+    ensures pages { IfOk result (λ room. (room.pages.items ≡ []) × (vec_len room.pages + (grant.data_pages + grant.chain_pages) ≤ vec_capacity room.pages)) }
     ensures request { IfOk result (λ room. room.request ≡ request.now) }
 {
-    let pages = spares.pages.with_room(alloc, (front + back) as usize)?;
+    let pages = spares
+        .pages
+        .with_room(alloc, (grant.data_pages + grant.chain_pages) as usize)?;
     let request = request.copied_into(spares.pieces(alloc))?;
     Ok(Room {
-        front: spares.numbers.with_room(alloc, front as usize)?,
-        back: spares.numbers.with_room(alloc, back as usize)?,
+        data_numbers: spares.numbers.with_room(alloc, grant.data_pages as usize)?,
+        chain_numbers: spares.numbers.with_room(alloc, grant.chain_pages as usize)?,
         pages,
         request,
     })
@@ -62,7 +63,7 @@ impl<A: Allocator + Copy> HostTables<A> {
     /// What a request gets, or the first cause against it.
     pub(crate) fn check_reserve(&self, q: u16, request: &Request<A>) -> Result<Grant, Refusal>
         requires { IsHost (tables_of self.now []) }
-        ensures granted { IfOk result (λ g. Over self.now (λ t. Grants t q request.now g.cid g.front g.back)) }
+        ensures granted { IfOk result (λ g. Over self.now (λ t. Grants t q request.now g.cid g.data_pages g.chain_pages)) }
         ensures refused { IfErr result (λ why. Over self.now (λ t. Refuses (state_of t) (events.Reserve q request.now) why [])) }
     {
         let state = host_state(&self.queues, q);
@@ -80,7 +81,11 @@ impl<A: Allocator + Copy> HostTables<A> {
             return Err(Refusal::NoIdentifier);
         };
         match pages_wanted(&self.ledger, request, self.segment) {
-            Ok((front, back)) => Ok(Grant { cid, front, back }),
+            Ok((data_pages, chain_pages)) => Ok(Grant {
+                cid,
+                data_pages,
+                chain_pages,
+            }),
             Err(NoPages { need, free }) => Err(Refusal::NoPages { need, free }),
         }
     }
@@ -95,30 +100,36 @@ impl<A: Allocator + Copy> HostTables<A> {
         room: Room<A>,
     ) -> Draft<A>
         requires whole { IsWhole (tables_of self.old store.old.pages) }
-        requires granted { Grants (tables_of self.old store.old.pages) q request grant.cid grant.front grant.back }
-        requires front { (room.front.items ≡ []) × (vec_len room.front + grant.front ≤ vec_capacity room.front) }
-        requires back { (room.back.items ≡ []) × (vec_len room.back + grant.back ≤ vec_capacity room.back) }
-        requires pages { (room.pages.items ≡ []) × (vec_len room.pages + (grant.front + grant.back) ≤ vec_capacity room.pages) }
+        requires granted { Grants (tables_of self.old store.old.pages) q request grant.cid grant.data_pages grant.chain_pages }
+        requires data_numbers { (room.data_numbers.items ≡ []) × (vec_len room.data_numbers + grant.data_pages ≤ vec_capacity room.data_numbers) }
+        requires chain_numbers { (room.chain_numbers.items ≡ []) × (vec_len room.chain_numbers + grant.chain_pages ≤ vec_capacity room.chain_numbers) }
+        requires pages { (room.pages.items ≡ []) × (vec_len room.pages + (grant.data_pages + grant.chain_pages) ≤ vec_capacity room.pages) }
         requires request { room.request ≡ request }
-        ensures draft { result ≡ new_draft q grant.cid request (first_placed self.old.ledger grant.front) (then_placed self.old.ledger grant.front grant.back) self.old.segment }
+        ensures draft { result ≡ new_draft q grant.cid request (first_placed self.old.ledger grant.data_pages) (then_placed self.old.ledger grant.data_pages grant.chain_pages) self.old.segment }
         ensures new { tables_of self.new store.new.pages ≡ reserved result (tables_of self.old store.old.pages) }
         ensures touches { TouchesBy (length result.data_pages + length result.chain_pages) store.old store.new }
     {
         let Room {
-            mut front,
-            mut back,
+            mut data_numbers,
+            mut chain_numbers,
             mut pages,
             request: kept,
         } = room;
-        place_command(&mut self.ledger, q, grant, &mut front, &mut back);
-        move_out_zeroed(store, &front, &mut pages);
-        move_out_zeroed(store, &back, &mut pages);
+        place_command(
+            &mut self.ledger,
+            q,
+            grant,
+            &mut data_numbers,
+            &mut chain_numbers,
+        );
+        move_out_zeroed(store, &data_numbers, &mut pages);
+        move_out_zeroed(store, &chain_numbers, &mut pages);
         claim(&mut self.queues, q, grant.cid);
         let record = Record {
             phase: Phase::Drafted,
             work: Work::Io(kept),
-            data_pages: front,
-            chain_pages: back,
+            data_pages: data_numbers,
+            chain_pages: chain_numbers,
             status: None,
         };
         self.add_record(q, grant.cid, record);
@@ -162,7 +173,7 @@ impl<A: Allocator + Copy> Host<A> {
             }
         };
         let alloc = self.parts.alloc;
-        let room = match make_room(&mut self.spares, alloc, &request, grant.front, grant.back) {
+        let room = match make_room(&mut self.spares, alloc, &request, grant) {
             Ok(room) => room,
             Err(_) => {
                 return Err(Refused {

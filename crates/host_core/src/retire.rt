@@ -17,7 +17,7 @@ use crate::queues::{host_state, is_deleted, note};
 use crate::tables::HostTables;
 use entry_codec::ComEntry;
 use machine_model::words::{HostState, Refusal};
-use page_memory::{Half, Store, TouchRecord};
+use page_memory::{Half, MAX_PAGES, Store, TouchRecord};
 use queue_pair::half_pages;
 use std::alloc::Allocator;
 
@@ -32,7 +32,7 @@ impl<A: Allocator> HostTables<A> {
     {
         store.clear();
         let seen = self.queues[usize::from(q)].host.peek(store);
-        prove!(store.pages() <= 65_536);
+        prove!(store.pages() <= MAX_PAGES);
         seen
     }
 

@@ -2,3 +2,4 @@ pub mod Building
 pub mod Fewest
 pub mod Padding
 pub mod Lending
+pub mod Comparing

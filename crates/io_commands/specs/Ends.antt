@@ -1,7 +1,6 @@
 -- How commands may end.
 use Rattle.std.specs.Prelude.{◌<◌, ◌==◌, ◌&&◌, Bool, Option, IfSome}
-use Rattle.entry_codec.specs.declared.{admin_opcode.TheConstants.DELETE_IO_SQ, status.Status.Status, submission.SubEntry.SubEntry}
-use Rattle.io_commands.specs.Jobs.{is_success}
+use Rattle.entry_codec.specs.{Status.is_success, declared.{admin_opcode.TheConstants.DELETE_IO_SQ, status.Status.Status, submission.SubEntry.SubEntry}}
 
 -- a status that a completion can carry
 abbrev pub FitsVerdict : Option Status → Type 0

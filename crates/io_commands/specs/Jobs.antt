@@ -1,11 +1,11 @@
 -- What the controller makes of an entry of an I/O queue: its field checks, its data, and how it ends (NVM Command Set
 -- Specification 1.0, Compare, Read and Write).
-use Rattle.std.specs.Prelude.{◌≡◌, ◌↔◌, ◌≤◌, ◌+◌, ◌*◌, ◌-◌, ◌/◌, ◌%◌, ◌^◌, ◌==◌, ◌||◌, ◌&&◌, ℕ, Bool, false, not, nat_lt, is_none, IsSome, List, [], ◌∷◌, length, replicate, Option, Some, None, if◌then◌else◌}
+use Rattle.std.specs.Prelude.{◌≡◌, ◌↔◌, ◌≤◌, ◌+◌, ◌*◌, ◌-◌, ◌/◌, ◌%◌, ◌^◌, ◌==◌, ◌||◌, ℕ, Bool, false, not, nat_lt, is_none, IsSome, List, [], ◌∷◌, length, replicate, Option, Some, None, if◌then◌else◌}
 use Rattle.std.specs.Str.{bytes_eq}
 use Rattle.block_image.specs.Blocks.{blocks_at, with_blocks}
 use Rattle.controller_walk.specs.{Units.{Course, Closes, course_of_list, first_passing}, declared.walk.{Walk.Walk, WalkState.WalkState}}
 use Rattle.controller_walk.specs.declared.walk.WalkState.TheVariants.{More, End, Fault}
-use Rattle.entry_codec.specs.declared.{io_opcode.TheConstants.{READ, WRITE, COMPARE}, status.Status.Status}
+use Rattle.entry_codec.specs.{Status.is_success, declared.{io_opcode.TheConstants.{READ, WRITE, COMPARE}, status.Status.Status}}
 use Rattle.entry_codec.specs.declared.status.TheConstants.Status.{SUCCESS, INVALID_OPCODE, INVALID_FIELD, INVALID_NAMESPACE, LBA_OUT_OF_RANGE, COMPARE_FAILURE}
 use Rattle.entry_codec.specs.declared.submission.SubEntry.{SubEntry}
 use Rattle.page_memory.specs.Memory.{Memory}
@@ -130,9 +130,6 @@ IsJobBy blocks e bytes verdict (Some w) = IsServed blocks e bytes verdict w
 -- what holds of every job
 abbrev pub IsJob : JobContents → Type 0
 IsJob job = IsJobBy job.blocks job.entry job.bytes job.verdict job.walk
-
-abbrev pub is_success : Status → Bool
-is_success status = (status.sct == 0) && (status.sc == 0)
 
 -- how a command ends whose data was moved: a Compare fails where a byte differs
 abbrev pub status_by : List ℕ → SubEntry → List ℕ → Option Kind → Status

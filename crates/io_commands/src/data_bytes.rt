@@ -3,6 +3,7 @@
 ghost use Rattle.std.specs.Prelude.{◌≡◌, ◌<◌, ◌≤◌, ◌+◌, ◌-◌, ◌++◌, length, take, drop, replicate, sum_by, vec_len, OnOk, OnErr, false};
 ghost use Rattle.std.specs.Vec.{vec_capacity};
 ghost use Rattle.std.specs.List.{list_any};
+ghost use Rattle.std.specs.Str.{bytes_eq};
 ghost use Rattle.page_memory.specs.Pages.{with_bytes};
 ghost use Rattle.io_commands.specs.Requests.{crosses_page, data_count};
 ghost use Rattle.io_commands.specs.DataBytes.{data_length, filled, gathered};
@@ -105,6 +106,32 @@ pub(crate) fn push_data<A: Allocator, B: Allocator>(
             let start = offset as usize;
             out.extend_from_slice(&page.bytes()[start..start + len as usize])?;
             push_data(others, behind, out)
+        }
+    }
+}
+
+/// Whether bytes are those of the data pieces, one piece after the other. It copies none.
+#[tactic(auto, using(crate::proofs::Comparing::parts_equal, crate::proofs::Comparing::shorter_differs))]
+pub(crate) fn holds<A: Allocator>(pieces: &[Piece], pages: &[Page<A>], bytes: &[u8]) -> bool
+    requires inside { list_any crosses_page pieces.now ≡ false }
+    requires enough { data_count pieces.now ≤ length pages.now }
+    ensures { result ≡ bytes_eq (gathered pieces.now pages.now) bytes.now }
+{
+    let Some((piece, others)) = pieces.split_first() else {
+        return bytes.is_empty();
+    };
+    match *piece {
+        Piece::Bucket { .. } => holds(others, pages, bytes),
+        Piece::Data { offset, len } => {
+            let Some((page, behind)) = pages.split_first() else {
+                return bytes.is_empty();
+            };
+            let from = offset as usize;
+            let here = &page.bytes()[from..from + len as usize];
+            match bytes.split_at_checked(here.len()) {
+                Some((first, rest)) => here == first && holds(others, behind, rest),
+                None => false,
+            }
         }
     }
 }

@@ -1,12 +1,13 @@
 //! A command that has ended, with its pages taken out again.
 
 ghost use Rattle.std.specs.Prelude.{◌≡◌, ◌<◌, ◌≤◌, ◌++◌, length, IfOk, OnErr, []};
+ghost use Rattle.std.specs.Str.{bytes_eq};
 ghost use Rattle.io_commands.specs.Requests.{data_count};
 ghost use Rattle.io_commands.specs.DataBytes.{gathered};
 ghost use Rattle.io_commands.specs.Lent.{bytes_of};
 ghost use Rattle.io_commands.specs.Values.{IsGood, data_part, chain_part, gathered_from, gathered_length};
 
-use crate::data_bytes::push_data;
+use crate::data_bytes::{holds, push_data};
 use crate::request::{Kind, Request};
 use entry_codec::Status;
 use page_memory::Page;
@@ -150,6 +151,19 @@ impl<A: Allocator> Finished<A> {
                 Ok(bytes)
             }
             Kind::Write | Kind::Compare => Ok(Vec::new(alloc)),
+        }
+    }
+
+    /// Whether these are the bytes that [`Finished::gather`] would bring. It takes no memory, and copies nothing.
+    pub fn brings(&self, bytes: &[u8]) -> bool
+        ensures { result ≡ bytes_eq (gathered_from self.now) bytes.now }
+    {
+        match self.request.kind {
+            Kind::Read => {
+                let data = self.request.pieces.data_pages();
+                holds(self.request.pieces.as_slice(), &self.pages[..data], bytes)
+            }
+            Kind::Write | Kind::Compare => bytes.is_empty(),
         }
     }
 

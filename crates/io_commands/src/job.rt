@@ -8,7 +8,7 @@ ghost use Rattle.io_commands.specs.Requests.{opcode_of};
 ghost use Rattle.io_commands.specs.declared.request.Kind.{Kind};
 ghost use Rattle.io_commands.specs.Jobs.{IsJob, kind_of_opcode, first_block as spec_first_block, block_number as spec_block_number, need_of_entry, direction_of_entry, io_fault, NoFaultIsPassing, first_bytes as spec_first_bytes, bytes_after_check, BeginsWalk, job_course, left_of_walk, verdict_of, finished_status, finished_image, status_after, image_after, entry_over};
 
-use crate::request::{Kind, MAX_BLOCKS};
+use crate::request::{Kind, MAX_COMMAND_BLOCKS};
 use block_image::{BLOCK_SIZE, Image};
 use controller_walk::{Walk, WalkState};
 use entry_codec::{Status, SubEntry, io_opcode};
@@ -82,7 +82,7 @@ fn checked(entry: &SubEntry, blocks: u32) -> Result<Kind, Status>
         return Err(Status::INVALID_FIELD);
     }
     let number = block_number(entry);
-    if number > MAX_BLOCKS {
+    if number > MAX_COMMAND_BLOCKS {
         return Err(Status::INVALID_FIELD);
     }
     if number > blocks || first_block(entry) > u64::from(blocks - number) {

@@ -15,7 +15,7 @@ use thiserror::Error;
 pub const MAX_PIECES: usize = 1_024;
 
 /// The most blocks that a command moves (own).
-pub const MAX_BLOCKS: u32 = 2_048;
+pub const MAX_COMMAND_BLOCKS: u32 = 2_048;
 
 /// Which I/O command (NVM Command Set 1.0, opcodes).
 #[derive(Clone, Copy, Debug, PartialEq, Eq)]
@@ -350,7 +350,7 @@ impl<A: Allocator> Request<A> {
         if crosses {
             return Err(RequestFault::CrossesPage);
         }
-        if self.blocks == 0 || self.blocks > MAX_BLOCKS {
+        if self.blocks == 0 || self.blocks > MAX_COMMAND_BLOCKS {
             return Err(RequestFault::BadCount);
         }
         if counted != 512 * u64::from(self.blocks) {

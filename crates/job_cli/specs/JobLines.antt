@@ -1,9 +1,10 @@
 -- The text of how jobs ended.
 use Rattle.std.specs.{Fmt.decimal, Prelude.{ℕ, ◌+◌, Bool, false, not, List, [], ◌∷◌, ◌++◌, codes, count_by, min}}
 use Rattle.driver_threads.specs.{Values.JobEnd, declared.jobs.JobRefusal.JobRefusal}
+use Rattle.entry_codec.specs.Status.{is_success}
 use Rattle.entry_codec.specs.Status.{status_text}
 use Rattle.io_commands.specs.declared.{draft.FillFault.TheVariants.WrongLength, request.Kind.{Kind, TheVariants.{Read, Write, Compare}}}
-use Rattle.script_cli.specs.Replies.{gathered_text, is_success, request_fault_name, fill_fault_name}
+use Rattle.script_cli.specs.Replies.{gathered_text, request_fault_name, fill_fault_name}
 use Rattle.driver_threads.specs.declared.jobs.JobEnd.TheVariants as end
 use Rattle.driver_threads.specs.declared.jobs.JobRefusal.TheVariants as refusal
 

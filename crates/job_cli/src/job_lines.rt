@@ -8,7 +8,7 @@ ghost use Rattle.script_cli.specs.Replies.{gathered_text, request_fault_name as 
 use driver_threads::{JobEnd, JobEnds, JobRefusal};
 use entry_codec::Status;
 use io_commands::{FillFault, Kind, RequestFault};
-use script_cli::{is_success, put_gathered, put_not_filled, request_fault_name};
+use script_cli::{put_gathered, put_not_filled, request_fault_name};
 use std::alloc::AllocError;
 use step_core::Bytes;
 
@@ -94,7 +94,7 @@ pub(crate) fn is_well_end(end: &JobEnd) -> bool
     ensures { result ≡ spec_is_well_end end.now }
 {
     match end {
-        JobEnd::Done { status, .. } => is_success(*status),
+        JobEnd::Done { status, .. } => status.is_success(),
         JobEnd::Refused(_) => false,
     }
 }

@@ -2,11 +2,12 @@
 use Rattle.std.specs.Prelude.{◌≡◌, ◌≤◌, ◌<◌, ◌+◌, ◌-◌, ◌*◌, ◌/◌, ◌==◌, zero, suc, ℕ, Bool, true, false, Option, List, [], ◌∷◌, length, map, max, min, slice_index, slice_index_or, slice_set, if◌then◌else◌}
 use Rattle.driver_book.specs.{Entries.LogContents, Reports.Report, State.AreOfJobs}
 use Rattle.driver_threads.specs.{Ends.AllAgree, Jobs.AllWentBy, Runs.EndsRound, declared.jobs.JobEnd.TheVariants.{Done}}
+use Rattle.entry_codec.specs.Status.{is_success}
 use Rattle.io_commands.specs.declared.request.Kind.{Kind}
 use Rattle.load.specs.{Course.{AreJobs, ArePlans, commands_left}, Planning.{TaskJob, bytes_for, planned_at}, Tallies.{KeepsFound, TaskEnd, both, counted, no_tally, sum_of, tallies_from}}
 use Rattle.load.specs.declared.{content.Content.Content, layout.Layout.Layout, plan.Planned.Planned, tally.Tally.Tally}
 use Rattle.machine_model.specs.State.{State}
-use Rattle.script_cli.specs.{Replies.is_success, declared.workload.Load.Load}
+use Rattle.script_cli.specs.declared.workload.Load.{Load}
 use Rattle.step_core.specs.World.{WorldContents}
 use Rattle.io_commands.specs.declared.request.Kind.TheVariants as kind
 

@@ -1,10 +1,10 @@
 -- How many commands ended how.
 use Rattle.std.specs.{Prelude.{◌≡◌, ℕ, ◌+◌, ◌-◌, ◌^◌, ◌==◌, ◌&&◌, Bool, true, false, Option, Some, None, List, [], ◌∷◌, min, if◌then◌else◌}, Str.bytes_eq}
 use Rattle.driver_threads.specs.{Jobs.KeepsOf, Values.EndOf, declared.jobs.JobEnd.TheVariants.{Done, Refused}}
+use Rattle.entry_codec.specs.Status.{is_success}
 use Rattle.io_commands.specs.{Values.gathered_from, declared.request.Kind.Kind}
 use Rattle.load.specs.{Content.slot_content, Planning.TaskContents, declared.{content.Content.Content, layout.Layout.Layout, plan.Planned.Planned, task.Found.Found, tally.Tally.Tally}}
 use Rattle.load.specs.declared.task.Found.TheVariants as found
-use Rattle.script_cli.specs.Replies.{is_success}
 use Rattle.io_commands.specs.declared.request.Kind.TheVariants as kind
 
 abbrev pub no_tally : Tally

@@ -11,7 +11,6 @@ use crate::plan::Planned;
 use crate::tally::Tally;
 use crate::task::{Found, TaskEnd};
 use io_commands::Kind;
-use script_cli::is_success;
 
 /// What commands came to: how many ended how, and the first that did not end well.
 #[derive(Clone, Copy)]
@@ -48,7 +47,7 @@ fn of_end(end: &TaskEnd) -> Tally
             ..Tally::NONE
         },
         TaskEnd::Done { status, bytes } => {
-            if !is_success(*status) {
+            if !status.is_success() {
                 return Tally {
                     failed: 1,
                     ..Tally::NONE
@@ -98,7 +97,7 @@ fn wrote(kind: Kind, end: &TaskEnd) -> bool
     ensures { result ≡ spec_wrote kind end.now }
 {
     match (kind, end) {
-        (Kind::Write, TaskEnd::Done { status, .. }) => is_success(*status),
+        (Kind::Write, TaskEnd::Done { status, .. }) => status.is_success(),
         _ => false,
     }
 }

@@ -4,7 +4,6 @@ use crate::histogram::Histogram;
 use crate::plan::Planned;
 use crate::task::TaskEnd;
 use io_commands::Kind;
-use script_cli::is_success;
 use std::alloc::{AllocError, Global};
 
 /// How long commands with status 0:00 took, in nanoseconds.
@@ -36,7 +35,7 @@ impl Measured {
                 return;
             };
             rest = behind;
-            if !is_success(*status) {
+            if !status.is_success() {
                 continue;
             }
             match planned.kind {

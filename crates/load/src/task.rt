@@ -127,8 +127,7 @@ impl Data<Found, Global> for Task<'_> {
         let Some(wanted) = self.wanted(alloc)? else {
             return Ok(Found::NotCompared);
         };
-        let brought = finished.gather(alloc)?;
-        if brought.as_slice() == wanted.as_slice() {
+        if finished.brings(&wanted) {
             Ok(Found::Same)
         } else {
             Ok(Found::Differs)

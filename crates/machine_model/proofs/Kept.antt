@@ -4,8 +4,8 @@ use Rattle.machine_model.specs.Events as events
 use Rattle.std.proofs.Common.{◌≡◌, ℕ, zero, suc, ◌==◌, Bool, true, false, ◌||◌, Option, Some, None, List, [], ◌∷◌, ◌++◌, map, slice_get, if◌then◌else◌, refl, ap, sym, ◌∙◌, arith, eq-eqb, subst, not, ◌&&◌, ◌+◌, ◌≤◌, nat_lt, length, filter, eqb-true, ltb-false}
 use Rattle.std.{proofs.lemmas.Bool.{true≢false, not-false, or_parts, eqb-false}, specs.{List.AllByRecursion, Option.option_map_or}}
 use Rattle.admin_commands.specs.declared.AdminKind.{AdminKind, TheVariants.{Abort, DeleteSq, DeleteCq, CreateCq, CreateSq}}
-use Rattle.entry_codec.specs.declared.{completion.ComEntry.ComEntry, status.Status.Status}
-use Rattle.io_commands.specs.{Asked.Request, Jobs.is_success}
+use Rattle.entry_codec.specs.{Status.is_success, declared.{completion.ComEntry.ComEntry, status.Status.Status}}
+use Rattle.io_commands.specs.Asked.{Request}
 use Rattle.page_memory.specs.declared.page.Half.TheVariants.{Submission, Completion}
 use Rattle.queue_pair.specs.{Memory.half_pages, Rings.{HostRing, next_tail, next_head, knowing}}
 use Rattle.machine_model.proofs.Counting.{one, all_changed, total, total-append, total-map, total-filter}
@@ -326,15 +326,12 @@ cq_stays st far = grind (arith, far)
 pub sq_with_cq : (st : HostState) → has_sq st ≡ true → has_cq st ≡ true
 sq_with_cq = tells has_sq has_cq refl
 
--- a queue that is live, in service or reaped isn't being made
+-- a queue that is live or reaped isn't being made
 pub live_in_use : (st : HostState) → is_live st ≡ true → is_making st ≡ false
 live_in_use = denies is_live is_making refl
 
 pub reaped_in_use : (st : HostState) → is_reaped st ≡ true → is_making st ≡ false
 reaped_in_use = denies is_reaped is_making refl
-
-pub service_in_use : (st : HostState) → in_service st ≡ true → is_making st ≡ false
-service_in_use = denies in_service is_making refl
 
 -- Every event of the host leaves a queue no page of a half that the host has not.
 

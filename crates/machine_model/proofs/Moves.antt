@@ -9,8 +9,8 @@ use Rattle.machine_model.specs.Refusals.{served_queue, front_completion, entry_o
 use Rattle.machine_model.specs.State.{State, PostedCompletion, HostQueue, HostState, Live, Deleting, Gone, MakingCq, HalfMade, MakingSq, Record, Phase, Drafted, Submitted, Collected, record_at, with_record, without_record, pages_of}
 use Rattle.machine_model.specs.Step.{IsController, IsReserved, IsNewIdentifier, finished_from, reaped, fits_ring}
 use Rattle.admin_commands.specs.{Entries.admin_entry, declared.AdminKind.{AdminKind, TheVariants.{Abort, DeleteSq, DeleteCq, CreateCq, CreateSq}}}
-use Rattle.entry_codec.specs.{Submission.submission_bytes, declared.{completion.ComEntry.ComEntry, status.Status.Status, submission.SubEntry.SubEntry}}
-use Rattle.io_commands.specs.{Asked.Request, Drafts.DraftContents, Jobs.is_success, Values.{FinishedContents, numbers_of}}
+use Rattle.entry_codec.specs.{Status.is_success, Submission.submission_bytes, declared.{completion.ComEntry.ComEntry, status.Status.Status, submission.SubEntry.SubEntry}}
+use Rattle.io_commands.specs.{Asked.Request, Drafts.DraftContents, Values.{FinishedContents, numbers_of}}
 use Rattle.page_memory.specs.{Pages.{Pages, with_page_bytes}, declared.page.Half.{Half, TheVariants.{Submission, Completion}}}
 use Rattle.queue_pair.specs.{Memory.half_pages, Rings.next_tail}
 use Rattle.page_ledger.specs.Owners.{pages_from}

@@ -3,7 +3,7 @@ use Rattle.machine_model.specs.Events as events
 use Rattle.std.proofs.Common.{◌≡◌, ℕ, ◌+◌, ◌/◌, ◌%◌, ◌==◌, nat_lt, nat_le, Bool, true, false, not, ◌&&◌, ◌||◌, Option, Some, if◌then◌else◌, refl, map, sym, subst, arith, zero, suc, take, drop, None, List, [], ◌∷◌, length, is_some, slice_set, option_and_then, ap, ◌∙◌, length-set, ◌++◌, find, ap₂, nat_eq, MatchBool}
 use Rattle.std.{proofs.lemmas.{Bool.{true≢false, not-false, or_parts, and_parts, ne_eqb}, List.map-append}, specs.Cmp.Lexicographic.{pointwise, same_text}}
 use Rattle.std.specs.{List.AllByRecursion, Option.option_map_or}
-use Rattle.entry_codec.specs.{Completion.completion_bytes}
+use Rattle.entry_codec.specs.{Completion.completion_bytes, Status.is_success}
 use Rattle.entry_codec.specs.declared.{admin_opcode.TheConstants.{ABORT, DELETE_IO_SQ, DELETE_IO_CQ, CREATE_IO_CQ, CREATE_IO_SQ}, status.Status.Status}
 use Rattle.entry_codec.specs.declared.status.TheConstants.Status.{SUCCESS, INVALID_OPCODE, INVALID_FIELD, ABORT_REQUESTED, INVALID_QUEUE_IDENTIFIER, INVALID_QUEUE_SIZE, INVALID_QUEUE_DELETION, COMPLETION_QUEUE_INVALID, COMMAND_ID_CONFLICT}
 use Rattle.entry_codec.specs.declared.submission.SubEntry.{SubEntry}
@@ -11,7 +11,7 @@ use Rattle.admin_commands.specs.Entries.{named_queue, named_command, named_size,
 use Rattle.admin_commands.specs.Verdicts.{is_absent, is_live as is_running, is_io_queue, half_fault, abort_verdict, delete_sq_verdict, delete_cq_verdict, create_cq_verdict, create_sq_verdict}
 use Rattle.admin_commands.specs.declared.{AdminVerdict.{AdminVerdict, TheVariants.{Answer, MakeCompletion, MakeSubmission}}, DeviceView.DeviceView}
 use Rattle.admin_commands.specs.declared.SqState.TheVariants.{Stopping}
-use Rattle.io_commands.specs.{Asked.Request, Jobs.{is_success}, Values.numbers_of}
+use Rattle.io_commands.specs.{Asked.Request, Values.numbers_of}
 use Rattle.page_memory.specs.{Pages.{Pages, page_at, with_page_bytes, with_bytes}, declared.page.Half.{Half, TheVariants.{Submission, Completion}}}
 use Rattle.queue_pair.specs.{Memory.half_pages}
 use Rattle.machine_model.specs.After.{acted, managed, decided, on_job, on_controller, on_served_queue, stopped, dropped, completion_made, submission_made, sq_state, cq_there, walks, view_of, on_memory, after_fetch, after_walk, after_complete, with_posted_completion, post_phase, taken_off, moved, deletion_done, after}

@@ -2,9 +2,8 @@
 use Rattle.std.proofs.Common.{◌≡◌, ℕ, ◌+◌, ◌<◌, ◌≤◌, ◌==◌, Bool, true, false, not, Some, List, [], ◌∷◌, ◌++◌, map, filter, find, refl, ap, sym, ◌∙◌, arith, eqb-true, eq-eqb, inl, inr, ◌&&◌}
 use Rattle.std.{proofs.lemmas.Bool.{true≢false, and_parts, cases_Bool}, specs.{List.AllByRecursion}}
 use Rattle.admin_commands.specs.{Entries.{admin_entry, named_queue}, declared.AdminKind.AdminKind}
-use Rattle.entry_codec.specs.declared.{admin_opcode.TheConstants.{DELETE_IO_SQ, DELETE_IO_CQ, CREATE_IO_CQ, CREATE_IO_SQ}, status.Status.Status}
+use Rattle.entry_codec.specs.{Status.is_success, declared.{admin_opcode.TheConstants.{DELETE_IO_SQ, DELETE_IO_CQ, CREATE_IO_CQ, CREATE_IO_SQ}, status.Status.Status}}
 use Rattle.entry_codec.specs.declared.submission.SubEntry.{SubEntry}
-use Rattle.io_commands.specs.Jobs.{is_success}
 use Rattle.machine_model.proofs.{Counting.{one, total, total-append, total_without, total-filter, here}}
 use Rattle.machine_model.specs.{Commands.{Management}, State.{Record, Job, PostedCompletion, is_at, without_record}}
 use Rattle.page_memory.proofs.Lists.{all-all, all-append, found_is, all-found, all-filter}

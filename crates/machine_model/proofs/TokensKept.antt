@@ -3,9 +3,9 @@ use Rattle.machine_model.specs.After as a
 use Rattle.std.proofs.Common.{◌≡◌, ℕ, zero, suc, ◌+◌, ◌<◌, ◌≤◌, ◌==◌, Bool, true, false, not, ◌&&◌, Option, Some, None, List, [], ◌∷◌, ◌++◌, length, slice_get, refl, ap, sym, ◌∙◌, arith, subst, eqb-true, eq-eqb, ◌-◌, map}
 use Rattle.std.{proofs.lemmas.Bool.{true≢false, eqb-false}, specs.{List.AllByRecursion, Option.option_map_or}}
 use Rattle.admin_commands.specs.{Entries.named_queue, Verdicts.is_absent, declared.AdminKind.AdminKind}
-use Rattle.entry_codec.specs.declared.{admin_opcode.TheConstants.{DELETE_IO_CQ, CREATE_IO_CQ, CREATE_IO_SQ}, status.Status.Status}
+use Rattle.entry_codec.specs.{Status.is_success, declared.{admin_opcode.TheConstants.{DELETE_IO_CQ, CREATE_IO_CQ, CREATE_IO_SQ}, status.Status.Status}}
 use Rattle.entry_codec.specs.declared.{status.TheConstants.Status.ABORTED_SQ_DELETION, submission.SubEntry.SubEntry}
-use Rattle.io_commands.specs.{Asked.Request, Jobs.is_success}
+use Rattle.io_commands.specs.Asked.{Request}
 use Rattle.machine_model.proofs.{Counting.{one, total-append, total, get_changed, get_other}, Owned.lost_by, Sound.small}
 use Rattle.machine_model.proofs.Tokens.{gone_at, there_at, Named, Fewer, is_kind, succeeds, unmade, completed_well, done_well, deletes_sq, deletes_cq, creates_cq, creates_sq, failing, succeeding}
 use Rattle.machine_model.specs.After.{change, dropped, completion_made, submission_made}

@@ -10,11 +10,11 @@ use Rattle.admin_commands.specs.declared.AdminVerdict.TheVariants.{Answer as Ans
 use Rattle.admin_commands.specs.declared.{DeviceView.DeviceView, SqState.{SqState, TheVariants.{Absent, Live as Running, Stopping}}}
 use Rattle.block_image.specs.Blocks.{block_count}
 use Rattle.sgl_descriptor.specs.declared.Direction.{Direction, TheVariants.{Destination, Source}}
-use Rattle.entry_codec.specs.{Completion.completion_bytes, Submission.submission_bytes, declared.admin_opcode.TheConstants.DELETE_IO_SQ}
+use Rattle.entry_codec.specs.{Completion.completion_bytes, Status.is_success, Submission.submission_bytes, declared.admin_opcode.TheConstants.DELETE_IO_SQ}
 use Rattle.entry_codec.specs.declared.{completion.ComEntry.ComEntry, status.Status.Status}
 use Rattle.entry_codec.specs.declared.status.TheConstants.Status.{SUCCESS, COMMAND_ID_CONFLICT, ABORT_REQUESTED, ABORTED_SQ_DELETION}
 use Rattle.entry_codec.specs.declared.submission.SubEntry.{SubEntry}
-use Rattle.io_commands.specs.{Drafts.DraftContents, Jobs.{io_fault, bytes_after_check, need_of_entry, direction_of_entry, verdict_of, is_success}}
+use Rattle.io_commands.specs.{Drafts.DraftContents, Jobs.{io_fault, bytes_after_check, need_of_entry, direction_of_entry, verdict_of}}
 use Rattle.io_commands.specs.Values.{numbers_of}
 use Rattle.page_memory.specs.{Pages.{Pages, page_at, with_page_bytes, with_bytes}, declared.page.Half.{Half, TheVariants.{Submission, Completion}}}
 use Rattle.machine_model.specs.{Commands.{Work, Io, Management}, Events.{Event, Reply, Reaped}, Memory.{without_pages, with_pages, zeroed_pages, memory_of}}

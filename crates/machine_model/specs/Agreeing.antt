@@ -2,8 +2,7 @@
 use Rattle.std.specs.{List.AllByRecursion, Option.option_map_or}
 use Rattle.std.specs.Prelude.{◌≡◌, ℕ, ◌+◌, ◌-◌, ◌%◌, ◌<◌, ◌≤◌, ◌==◌, Bool, true, false, not, ◌&&◌, Option, Some, None, option_and_then, List, [], ◌∷◌, length, find, slice_get, if◌then◌else◌}
 use Rattle.admin_commands.specs.{Entries.admin_entry, Verdicts.is_absent, declared.AdminKind.{AdminKind, TheVariants.{DeleteSq, DeleteCq, CreateCq, CreateSq}}}
-use Rattle.entry_codec.specs.declared.{status.Status.Status, submission.SubEntry.SubEntry}
-use Rattle.io_commands.specs.Jobs.{is_success}
+use Rattle.entry_codec.specs.{Status.is_success, declared.{status.Status.Status, submission.SubEntry.SubEntry}}
 use Rattle.page_memory.specs.{Pages.Pages, declared.page.Half.TheVariants.{Submission, Completion}}
 use Rattle.queue_pair.specs.{Memory.half_pages, Rings.fresh_host_ring, Slots.distance}
 use Rattle.machine_model.specs.{Claims.IsSound, Commands.{Work, Io, Management}, Positions.StandsInRings}

@@ -1,8 +1,9 @@
 -- The image of a run, and what a read gives.
 use Rattle.std.specs.{Option.option_map_or, Prelude.{ℕ, ◌==◌, Bool, true, false, ◌&&◌, Option, List, [], ◌∷◌, ◌++◌, find, if◌then◌else◌}}
 use Rattle.block_image.specs.Blocks.{blocks_at, with_blocks}
+use Rattle.entry_codec.specs.Status.{is_success}
 use Rattle.sgl_descriptor.specs.{Targets.{Target, Place, Discarded, targets}, declared.Direction.TheVariants.Destination}
-use Rattle.io_commands.specs.{Asked.Request, DataBytes.gathered, Drafts.DraftContents, Jobs.is_success, Requests.parts_of, declared.request.Kind.Kind}
+use Rattle.io_commands.specs.{Asked.Request, DataBytes.gathered, Drafts.DraftContents, Requests.parts_of, declared.request.Kind.Kind}
 use Rattle.io_commands.specs.declared.request.Kind.TheVariants.{Write}
 use Rattle.machine_model.specs.{After.final_status, Events.{Event, Reply}, Refusals.job_at, State.State}
 use Rattle.machine_model.specs.Events as events

@@ -4,10 +4,10 @@ use Rattle.std.specs.Prelude.{ℕ, ◌+◌, ◌*◌, ◌-◌, ◌/◌, ◌%◌, 
 use Rattle.machine_model.specs.{Commands.{Work, Io, Management}, Events.{Event, Refusal}, Memory.is_in, Placement.{wanted_of, first_of_run}}
 use Rattle.machine_model.specs.State.{State, HostQueue, HostState, Live, Deleting, Retired, Gone, MakingCq, HalfMade, MakingSq, ServedQueue, Record, Phase, Drafted, Submitted, Held, Collected, Job, PostedCompletion, record_at, outstanding_on}
 use Rattle.page_memory.specs.{Pages.{Pages, page_at}, declared.page.Half.{Half, TheVariants.{Submission, Completion}}}
-use Rattle.entry_codec.specs.{Completion.completion_of, declared.{admin_opcode.TheConstants.DELETE_IO_SQ, completion.ComEntry.ComEntry}}
+use Rattle.entry_codec.specs.{Completion.completion_of, Status.is_success, declared.{admin_opcode.TheConstants.DELETE_IO_SQ, completion.ComEntry.ComEntry}}
 use Rattle.entry_codec.specs.declared.submission.SubEntry.{SubEntry}
 use Rattle.admin_commands.specs.{Entries.named_queue, Verdicts.is_live as is_running, declared.AdminKind.TheVariants.{DeleteSq, DeleteCq, CreateCq, CreateSq}}
-use Rattle.io_commands.specs.{Asked.Request, Jobs.is_success, Requests.fault_of, Values.numbers_of, declared.request.Kind.Kind}
+use Rattle.io_commands.specs.{Asked.Request, Requests.fault_of, Values.numbers_of, declared.request.Kind.Kind}
 use Rattle.io_commands.specs.declared.request.{Kind.TheVariants.{Read, Write, Compare}, Piece.{Piece, TheVariants.{Data, Bucket}}, RequestFault.RequestFault}
 use Rattle.controller_walk.specs.Units.{first_passing}
 use Rattle.queue_pair.specs.{Memory.{with_phase, half_pages}, Slots.{is_full, moved}}
@@ -37,10 +37,6 @@ is_deleted state = false
 abbrev pub is_asked : HostState → Bool
 is_asked (Deleting noted) = not noted
 is_asked state = false
-
-abbrev pub is_retired : HostState → Bool
-is_retired Retired = true
-is_retired state = false
 
 abbrev pub is_gone : HostState → Bool
 is_gone Gone = true

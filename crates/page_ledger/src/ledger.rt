@@ -10,7 +10,7 @@ ghost use Rattle.page_ledger.specs.Runs.{lowest_run as spec_lowest_run};
 
 use crate::owner::{Counts, Group, NoPages, Owner};
 use arrayvec::ArrayVec;
-use page_memory::{Half, OpenFault, PageNo};
+use page_memory::{Half, MAX_PAGES, OpenFault, PageNo};
 use slot_table::BitList;
 use std::alloc::{Allocator, Global};
 use std::marker::Model;
@@ -46,7 +46,7 @@ impl<A: Allocator + Clone> Ledger<A> {
         ensures free { IfOk result (λ ledger. ledger ≡ replicate pages Owner.Free) }
         ensures bad_size { (result ≡ Err OpenFault.BadSize) ↔ ((pages < 8) ⊎ (65536 < pages)) }
     {
-        if pages < 8 || 65_536 < pages {
+        if pages < 8 || MAX_PAGES < pages {
             return Err(OpenFault::BadSize);
         }
         let owners = Vec::from_elem(alloc.clone()?, Owner::Free, pages as usize)?;

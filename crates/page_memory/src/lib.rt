@@ -20,4 +20,4 @@ mod store;
 pub use dma::{Dma, TouchRecord, Unreadable};
 pub use flat::FlatMemory;
 pub use page::{Half, PAGE_BYTES, Page, PageNo};
-pub use store::{OpenFault, Store};
+pub use store::{MAX_PAGES, OpenFault, Store};

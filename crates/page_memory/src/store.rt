@@ -13,6 +13,9 @@ use std::alloc::{AllocError, Allocator, Global};
 use std::marker::Model;
 use thiserror::Error;
 
+/// The most pages that a pool has (own).
+pub const MAX_PAGES: u32 = 65_536;
+
 /// Why a store was not opened.
 #[derive(Clone, Copy, Debug, PartialEq, Eq, Error)]
 pub enum OpenFault {
@@ -81,7 +84,7 @@ impl<A: Allocator + Clone> Store<A> {
         ensures unlisted { IfOk result (λ store. store.unlisted ≡ 0) }
         ensures bad_size { (result ≡ Err OpenFault.BadSize) ↔ ((pages < 8) ⊎ (65536 < pages)) }
     {
-        if !(8..=65_536).contains(&pages) {
+        if !(8..=MAX_PAGES).contains(&pages) {
             return Err(OpenFault::BadSize);
         }
         let all = zeroed_pages(alloc, pages)?;

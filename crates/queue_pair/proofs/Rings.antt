@@ -349,23 +349,11 @@ pub not_not : (b : Bool) → not (not b) ≡ b
 not_not true = refl
 not_not false = refl
 
-pub phase_before : (tail slot : ℕ) (phase : Bool) → slot < tail → phase_of_slot tail phase slot ≡ phase
-phase_before tail slot phase h = grind (arith, nat_tests)
-
 pub phase_from : (tail slot : ℕ) (phase : Bool) → tail ≤ slot → phase_of_slot tail phase slot ≡ not phase
 phase_from tail slot phase h = grind (arith, nat_tests)
 
 pub expected_ahead : (head tail : ℕ) (phase : Bool) → head ≤ tail → expected_phase head tail phase ≡ phase
 expected_ahead head tail phase h = grind (arith, nat_tests)
-
-pub expected_behind : (head tail : ℕ) (phase : Bool) → tail < head → expected_phase head tail phase ≡ not phase
-expected_behind head tail phase h = grind (arith, nat_tests)
-
-pub phase_turns : (n slot : ℕ) (phase : Bool) → slot + 1 ≡ n → next_phase n slot phase ≡ not phase
-phase_turns n slot phase h = grind (arith, nat_tests)
-
-pub phase_stays : (n slot : ℕ) (phase : Bool) → slot + 1 ≢ n → next_phase n slot phase ≡ phase
-phase_stays n slot phase h = grind (arith, nat_tests)
 
 -- the phase of a slot after the controller's move: the slot that it wrote has its phase, and no other turned
 after_move_same : (n tail : ℕ) (phase : Bool) → tail < n → phase_of_slot (next_slot n tail) (next_phase n tail phase) tail ≡ phase

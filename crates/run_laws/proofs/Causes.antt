@@ -15,11 +15,11 @@ use Rattle.std.specs.{Option.{option_map_or, option_map}, Prelude.unwrap_or, Str
 use Rattle.controller_walk.specs.{Laws.after_units, Units.{Course, Closes, Does, verdict, Act, Stays, Reads, Moves}, Walks.answer}
 use Rattle.controller_walk.specs.declared.walk.WalkState.{WalkState, TheVariants.End}
 use Rattle.sgl_descriptor.specs.{Spelling.spelling, declared.Direction.{Direction, TheVariants.{Destination, Source}}}
-use Rattle.entry_codec.specs.declared.{admin_opcode.TheConstants.{ABORT, DELETE_IO_SQ}, io_opcode.TheConstants.COMPARE, status.Status.Status}
+use Rattle.entry_codec.specs.{Status.is_success, declared.{admin_opcode.TheConstants.{ABORT, DELETE_IO_SQ}, io_opcode.TheConstants.COMPARE, status.Status.Status}}
 use Rattle.entry_codec.specs.declared.status.TheConstants.Status.{SUCCESS, ABORT_REQUESTED, ABORTED_SQ_DELETION, LBA_OUT_OF_RANGE, COMPARE_FAILURE}
 use Rattle.entry_codec.specs.declared.submission.SubEntry.{SubEntry}
 use Rattle.io_commands.specs.{Asked.Request, Drafts.io_entry}
-use Rattle.io_commands.specs.Jobs.{is_success, verdict_of, io_fault, bytes_after_check, first_block, block_number, need_of_entry, kind_of_opcode, direction_of_entry}
+use Rattle.io_commands.specs.Jobs.{verdict_of, io_fault, bytes_after_check, first_block, block_number, need_of_entry, kind_of_opcode, direction_of_entry}
 use Rattle.io_commands.specs.{Values.IsGood, declared.request.Kind.{Kind, TheVariants.{Write, Read, Compare}}}
 use Rattle.run_laws.specs.Statuses.{fetches, aborts, deletes, since_fetch, fetches_by, managed_entry, status_by, has_cause, passes_image, is_compare, every_status_has_its_cause}
 use Rattle.two_sides.proofs.{Along.{Carried, Before, keeps, made_of, run_before}, Commands.{in_hand_is, Walking, walking}}

@@ -4,8 +4,9 @@ use Rattle.std.proofs.Common.{◌≡◌, ℕ, ◌+◌, ◌-◌, ◌==◌, Bool, 
 use Rattle.std.proofs.lemmas.Bool.{true≢false, or_parts, cases_Bool, not-true as not_any}
 use Rattle.std.proofs.lemmas.List.Elements.{All-head, All-tail, All-append, All-take, All-drop, All-replicate, All-nil, All-cons}
 use Rattle.std.specs.{List.{AllByRecursion, list_any}}
+use Rattle.entry_codec.specs.Status.{is_success}
 use Rattle.page_memory.specs.Pages.{Pages, zero_page}
-use Rattle.io_commands.specs.{Asked.Request, DataBytes.{PagesOut, gathered}, Drafts.DraftContents, Jobs.is_success, Values.numbers_of}
+use Rattle.io_commands.specs.{Asked.Request, DataBytes.{PagesOut, gathered}, Drafts.DraftContents, Values.numbers_of}
 use Rattle.io_commands.specs.declared.request.Piece.{Piece, TheVariants.{Data, Bucket}}
 use Rattle.machine_model.{proofs.HostLeaves.ids_of, specs.{Claims.OwnsFit, Events.{Event, Reply}, Image.{Made, is_draft, draft_of, submitted_by}}}
 use Rattle.machine_model.specs.{Opening.opening, State.{is_at, State, Record, pages_of}, Step.{zeroed, pages_with_bytes, Step}}

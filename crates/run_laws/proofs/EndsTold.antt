@@ -6,9 +6,9 @@ use Rattle.std.proofs.lemmas.{Bool.{true≢false, and_parts, ne_eqb, cases_Bool,
 use Rattle.std.specs.{List.{AllByRecursion, list_any}, Option.option_map_or}
 use Rattle.admin_commands.specs.{Entries.{admin_entry, named_queue}, Verdicts.is_absent, declared.AdminKind.AdminKind}
 use Rattle.admin_commands.specs.declared.{AdminKind.TheVariants.{Abort, DeleteSq, DeleteCq, CreateCq, CreateSq}, SqState.TheVariants.Stopping}
-use Rattle.entry_codec.specs.declared.{admin_opcode.TheConstants.DELETE_IO_SQ, completion.ComEntry.ComEntry, status.Status.Status}
+use Rattle.entry_codec.specs.{Status.is_success, declared.{admin_opcode.TheConstants.DELETE_IO_SQ, completion.ComEntry.ComEntry, status.Status.Status}}
 use Rattle.entry_codec.specs.declared.{status.TheConstants.Status.{COMMAND_ID_CONFLICT, ABORTED_SQ_DELETION}, submission.SubEntry.SubEntry}
-use Rattle.io_commands.specs.{Asked.Request, Jobs.is_success}
+use Rattle.io_commands.specs.Asked.{Request}
 use Rattle.page_memory.specs.declared.page.Half.TheVariants.{Submission, Completion}
 use Rattle.queue_pair.specs.Rings.{HostRing, next_tail, next_head, knowing}
 use Rattle.machine_model.proofs.{Counting.{one, total}, HostLeaves.ids_of, Kept.{asked_as_heard, ring_at, deleted_serves}}

@@ -7,11 +7,11 @@ use Rattle.std.proofs.lemmas.{Bool.{true≢false, and_parts, cases_Bool, eqb-fal
 use Rattle.std.{proofs.lemmas.Option.slice_get-get_or, specs.{List.list_any, Option.{option_map_or, option_map}, Prelude.unwrap_or, Str.bytes_eq}}
 use Rattle.block_image.specs.Blocks.{blocks_at}
 use Rattle.sgl_descriptor.specs.{Spelling.spelling, declared.Direction.TheVariants.Source}
-use Rattle.entry_codec.specs.declared.{io_opcode.TheConstants.COMPARE, status.Status.Status}
+use Rattle.entry_codec.specs.{Status.is_success, declared.{io_opcode.TheConstants.COMPARE, status.Status.Status}}
 use Rattle.entry_codec.specs.declared.status.TheConstants.Status.{SUCCESS, COMPARE_FAILURE, ABORT_REQUESTED, ABORTED_SQ_DELETION, LBA_OUT_OF_RANGE}
 use Rattle.entry_codec.specs.declared.submission.SubEntry.{SubEntry}
 use Rattle.io_commands.specs.{Asked.Request, DataBytes.gathered, Drafts.{DraftContents, io_entry, FitsDraft, HoldsPages, BuiltDraftsSpell}}
-use Rattle.io_commands.specs.{Jobs.{is_success, verdict_of, direction_of_entry, direction_by, kind_of_opcode, first_block, block_number}, Requests.direction_of}
+use Rattle.io_commands.specs.{Jobs.{verdict_of, direction_of_entry, direction_by, kind_of_opcode, first_block, block_number}, Requests.direction_of}
 use Rattle.io_commands.specs.{Values.{IsGood, numbers_of}, declared.request.Kind.{Kind, TheVariants.{Compare}}}
 use Rattle.machine_model.proofs.{Counting.times-cons, HostLeaves.ids_of, Steps.{managed_by, Accepts, same_lists, permitted}}
 use Rattle.machine_model.{proofs.Tokens.{is_job as is_job_tokens}, specs.{After.final_status, Events.{Event, Reply}}}

@@ -10,10 +10,10 @@ use Rattle.sgl_descriptor.{proofs.Counts.length-targets, specs.{Spelling.{spelli
 use Rattle.sgl_descriptor.specs.declared.{Direction.{Direction, TheVariants.{Destination, Source}}, Part.Part}
 use Rattle.controller_walk.{proofs.Along.{list_moves_along, list_moves_all}, specs.{Along.{taken, MovesByte}, Laws.after_units}}
 use Rattle.controller_walk.specs.{Units.{units, Act, Course, Closes, Does}, Walks.answer}
-use Rattle.entry_codec.specs.declared.status.{Status.Status}
+use Rattle.entry_codec.specs.{Status.is_success, declared.status.Status.Status}
 use Rattle.entry_codec.specs.declared.submission.SubEntry.{SubEntry}
 use Rattle.io_commands.specs.{Asked.Request, DataBytes.{PagesOut, gathered}, Drafts.DraftContents}
-use Rattle.io_commands.specs.Jobs.{need_of_entry, direction_of_entry, is_success, verdict_of, io_fault, bytes_after_check}
+use Rattle.io_commands.specs.Jobs.{need_of_entry, direction_of_entry, verdict_of, io_fault, bytes_after_check}
 use Rattle.io_commands.specs.{Requests.{direction_of, parts_of}, Values.numbers_of}
 use Rattle.machine_model.proofs.{Cases.none_some, Counting.held_once, HostLeaves.ids_of, Moves.{draft_found, draft_lives, posts, posted_is}}
 use Rattle.machine_model.{proofs.{Owned.in_record, Steps.{Accepts, pages_match, same_lists}}, specs.{After.course_of, Events.{Event, Reply}}}

@@ -13,9 +13,9 @@ use Rattle.admin_commands.specs.{Entries.{named_queue, named_command, admin_entr
 use Rattle.admin_commands.specs.declared.SqState.TheVariants.{Absent, Stopping}
 use Rattle.controller_walk.specs.Units.{Act}
 use Rattle.sgl_descriptor.specs.declared.Direction.{Direction}
-use Rattle.entry_codec.specs.declared.{completion.ComEntry.ComEntry, status.Status.Status}
+use Rattle.entry_codec.specs.{Status.is_success, declared.{completion.ComEntry.ComEntry, status.Status.Status}}
 use Rattle.entry_codec.specs.declared.{status.TheConstants.Status.{SUCCESS, ABORT_REQUESTED, ABORTED_SQ_DELETION}, submission.SubEntry.SubEntry}
-use Rattle.io_commands.specs.{Asked.Request, Drafts.DraftContents, Jobs.{is_success, verdict_of, io_fault, bytes_after_check, direction_of_entry}}
+use Rattle.io_commands.specs.{Asked.Request, Drafts.DraftContents, Jobs.{verdict_of, io_fault, bytes_after_check, direction_of_entry}}
 use Rattle.io_commands.specs.Values.{numbers_of}
 use Rattle.two_sides.proofs.Commands.{Walking, walking}
 use Rattle.two_sides.proofs.ControllerMoves.{unit_bytes, unit_done, walk_is, fetch_by, complete_by, posts_completion, posted_completion, finished, cleared, walk_by}

@@ -5,7 +5,7 @@ use Rattle.std.specs.Option.{option_map_or}
 use Rattle.machine_model.proofs.{Headline.steps_keep, Moves.{HostMoves, ReapTells, host_moves, named as told, sent_record, drafted_record, creates_cq, creates_sq, sends, grants_cq, grants_sq, half_from}, Steps.{Accepts, kept_anyway, part_left}}
 use Rattle.machine_model.specs.{Events.{Event, Reply}, Refusals.is_submitted, State.{State, HostQueue, Record, is_at, record_at, with_record, without_record}, Step.{HostPart, IsController}}
 use Rattle.admin_commands.specs.declared.AdminKind.TheVariants.{Abort, DeleteSq, DeleteCq, CreateCq, CreateSq}
-use Rattle.entry_codec.specs.declared.status.Status.{Status}
+use Rattle.entry_codec.specs.{Status.is_success, declared.status.Status.Status}
 use Rattle.machine_model.specs.After as a
 use Rattle.machine_model.specs.declared.words.Reaped.{Reaped}
 use Rattle.machine_model.specs.declared.words.Reaped.TheVariants as reaped
@@ -14,7 +14,6 @@ use Rattle.machine_model.specs.{Claims.IsSound, Work.Work}
 use Rattle.machine_model.specs.declared.words.Work.TheVariants.{Management}
 use Rattle.machine_model.specs.declared.words.HostState.TheVariants.{Deleting, Live}
 use Rattle.entry_codec.specs.declared.completion.ComEntry.{ComEntry}
-use Rattle.io_commands.specs.Jobs.{is_success}
 use Rattle.queue_pair.specs.Rings.{next_tail, next_head, knowing}
 use Rattle.page_ledger.specs.Owners.{is_among}
 use Rattle.page_memory.specs.declared.page.Half.TheVariants.{Submission, Completion}

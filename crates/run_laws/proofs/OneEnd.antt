@@ -24,9 +24,9 @@ use Rattle.two_sides.proofs.{JobLaws.not_zero as positive, NeverFull.{stood_on, 
 use Rattle.two_sides.proofs.{Provided.{sent_found, all_of}, Served.{Stood, completions_at}, Standing.seen_trusted}
 use Rattle.two_sides.proofs.TiedAll.{Grounds, ring_in, pair_at}
 use Rattle.admin_commands.specs.{Entries.{admin_entry, named_queue}, declared.{AdminKind.TheVariants.{Abort, DeleteSq, DeleteCq}, SqState.TheVariants.Stopping}}
-use Rattle.entry_codec.specs.declared.{completion.ComEntry.ComEntry, status.{Status.Status, TheConstants.Status.ABORTED_SQ_DELETION}}
+use Rattle.entry_codec.specs.{Status.is_success, declared.{completion.ComEntry.ComEntry, status.{Status.Status, TheConstants.Status.ABORTED_SQ_DELETION}}}
 use Rattle.entry_codec.specs.declared.submission.SubEntry.{SubEntry}
-use Rattle.io_commands.specs.{Drafts.DraftContents, Jobs.is_success, Values.FinishedContents}
+use Rattle.io_commands.specs.{Drafts.DraftContents, Values.FinishedContents}
 use Rattle.page_memory.specs.declared.page.Half.TheVariants.{Submission, Completion}
 use Rattle.run_laws.proofs.Moves.{queues_walk, RecordsMove, records_event}
 use Rattle.run_laws.specs.Ends.{completions_of, front, reaps_answer_the_front, nothing_conflicts, submits_by, submits, ends_by, ends_are_told_once, commands_are_collected_once, submitted_commands_end_once}

@@ -4,9 +4,9 @@ use Rattle.machine_model.specs.Events as events
 use Rattle.std.proofs.Common.{◌≡◌, ◌⊎◌, inl, inr, ℕ, ◌==◌, nat_lt, Bool, true, false, not, ◌&&◌, ◌||◌, Option, Some, None, List, [], ◌∷◌, ◌++◌, option_and_then, refl, ap, ap₂, sym, ◌∙◌, arith, subst, eqb-true, zero, suc, length, replicate, eq-eqb}
 use Rattle.std.proofs.lemmas.Bool.{true≢false, and_parts, not-false, or_left, or_right, not-true, Decides.nat_tests}
 use Rattle.std.{proofs.lemmas.List.{append_assoc, length-replicate}, specs.{List.{list_any, AllByRecursion}, Option.{option_map_or, option_map}}}
-use Rattle.entry_codec.specs.declared.{status.Status.Status}
+use Rattle.entry_codec.specs.{Status.is_success, declared.status.Status.Status}
 use Rattle.entry_codec.specs.declared.status.TheConstants.Status.{SUCCESS, ABORT_REQUESTED, ABORTED_SQ_DELETION, LBA_OUT_OF_RANGE, COMPARE_FAILURE}
-use Rattle.io_commands.specs.{Asked.Request, DataBytes.{PagesOut, gathered}, Drafts.DraftContents, Jobs.is_success, Requests.parts_of}
+use Rattle.io_commands.specs.{Asked.Request, DataBytes.{PagesOut, gathered}, Drafts.DraftContents, Requests.parts_of}
 use Rattle.io_commands.specs.{Values.{FinishedContents, numbers_of}, declared.request.Kind.TheVariants.Read}
 use Rattle.machine_model.proofs.{HostLeaves.ids_of, Sound.{named, status_in}, Steps.{Accepts, permitted, first_fails, rest_fails}}
 use Rattle.machine_model.specs.{Claims.OwnsFit, Events.{Event, Reply}, Image.{Made, draft_of, image_after, undiscarded}}

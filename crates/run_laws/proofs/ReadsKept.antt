@@ -11,10 +11,10 @@ use Rattle.page_memory.specs.{Memory.page_of, Pages.{Pages, page_at, byte_at}}
 use Rattle.sgl_descriptor.{proofs.Counts.length-targets, specs.{Spelling.spelling, Targets.{Target, Place, targets, counted_in}, declared.Direction.Direction}}
 use Rattle.sgl_descriptor.specs.declared.Direction.TheVariants.{Destination}
 use Rattle.controller_walk.{proofs.Along.list_moves_all, specs.{Along.MovesByte, Units.{units, Course}}}
-use Rattle.entry_codec.specs.declared.status.{Status.Status, TheConstants.Status.{SUCCESS}}
+use Rattle.entry_codec.specs.{Status.is_success, declared.status.{Status.Status, TheConstants.Status.SUCCESS}}
 use Rattle.entry_codec.specs.declared.submission.SubEntry.{SubEntry}
 use Rattle.io_commands.{proofs.Building.carries_entry, specs.{Asked.Request, Drafts.{DraftContents, io_entry}}}
-use Rattle.io_commands.specs.Jobs.{is_success, verdict_of, io_fault, bytes_after_check, need_of_entry, direction_of_entry, direction_by, kind_of_opcode, first_block, block_number}
+use Rattle.io_commands.specs.Jobs.{verdict_of, io_fault, bytes_after_check, need_of_entry, direction_of_entry, direction_by, kind_of_opcode, first_block, block_number}
 use Rattle.io_commands.specs.{Requests.{parts_of, direction_of}, Values.numbers_of, declared.request.Kind.{Kind, TheVariants.Read}}
 use Rattle.machine_model.proofs.{Cases.none_some, Counting.held_once, Owned.{in_record, in_queue}, Steps.{Accepts, pages_match}}
 use Rattle.machine_model.specs.{After.{course_of, final_status}, Agreeing.unfetched_count, Claims.OwnsFit, Events.{Event, Reply}}

@@ -17,9 +17,9 @@ use Rattle.page_memory.specs.Pages.{Pages, page_at, with_bytes, with_page_bytes}
 use Rattle.sgl_descriptor.specs.{Spelling.{spelling, descriptor_of}, Targets.{Target, Place, targets}, declared.Direction.{Direction, TheVariants.Destination}}
 use Rattle.controller_walk.{proofs.Along.{list_moves_along, list_moves_all}, specs.Along.{MovesByte, taken}}
 use Rattle.controller_walk.specs.{Units.{Act, Stays, Reads, Moves, Course, Does, units}, declared.walk.WalkState.WalkState}
-use Rattle.entry_codec.specs.declared.{status.{Status.Status, TheConstants.Status.ABORTED_SQ_DELETION}}
+use Rattle.entry_codec.specs.{Status.is_success, declared.{status.{Status.Status, TheConstants.Status.ABORTED_SQ_DELETION}}}
 use Rattle.entry_codec.specs.declared.submission.SubEntry.{SubEntry}
-use Rattle.io_commands.specs.{Asked.Request, Drafts.DraftContents, Jobs.{need_of_entry, direction_of_entry, is_success}, Requests.{parts_of, direction_of}}
+use Rattle.io_commands.specs.{Asked.Request, Drafts.DraftContents, Jobs.{need_of_entry, direction_of_entry}, Requests.{parts_of, direction_of}}
 use Rattle.io_commands.specs.{Values.numbers_of, declared.request.Kind.TheVariants.Read}
 use Rattle.two_sides.proofs.{Along.{Carried, Before, keeps, made_of, run_before}, Commands.{nobody, Walking, walking, no_job}}
 use Rattle.two_sides.proofs.{ControllerMoves.{unit_memory, walk_is}, NeverFull.stood_at_opening, PlacesKept.{drafted_not, reaped_completion}, PoolBytes.host_jobs}

@@ -4,11 +4,11 @@ use Rattle.machine_model.specs.After as a
 use Rattle.std.proofs.Common.{◌≡◌, ◌⊎◌, inl, inr, ℕ, ◌==◌, Bool, true, false, not, ◌&&◌, Option, Some, None, List, [], ◌∷◌, ◌++◌, if◌then◌else◌, refl, ap, ap₂, sym, ◌∙◌, subst, eqb-true, eq-eqb, unwrap_or, ◌+◌, map, filter, find, is_some, is_none, arith}
 use Rattle.std.{proofs.lemmas.{Bool.{true≢false, and_parts, not-true, cases_Bool}, List.append_assoc}, specs.List.{AllByRecursion, list_any}}
 use Rattle.std.specs.{Option.{option_map, option_map_or}}
-use Rattle.entry_codec.specs.{Completion.{completion_bytes, completion_of}, Submission.{submission_bytes, submission_of}}
+use Rattle.entry_codec.specs.{Completion.{completion_bytes, completion_of}, Status.is_success, Submission.{submission_bytes, submission_of}}
 use Rattle.entry_codec.specs.declared.{admin_opcode.TheConstants.DELETE_IO_SQ, status.Status.Status}
 use Rattle.entry_codec.specs.declared.status.TheConstants.Status.{SUCCESS, COMMAND_ID_CONFLICT, ABORT_REQUESTED, ABORTED_SQ_DELETION}
 use Rattle.entry_codec.specs.declared.submission.SubEntry.{SubEntry}
-use Rattle.io_commands.specs.{Jobs.{is_success, verdict_of, direction_of_entry}}
+use Rattle.io_commands.specs.Jobs.{verdict_of, direction_of_entry}
 use Rattle.machine_model.{proofs.{Steps.{Accepts, managed_by, permitted}, Tokens.is_job}, specs.{After.final_status, Events.{Event, Reply}}}
 use Rattle.machine_model.specs.{Image.Made, Opening.opening, Refusals.{job_at, next_rung, conflicts, refusal_of}, Script.{played, left_by}}
 use Rattle.machine_model.specs.{State.{State, Job, Controller}, Step.{resets, Step, Refuses}, Trusted.{TrustedRun, Steps, forges_by}, WorkedReads.ordinary}

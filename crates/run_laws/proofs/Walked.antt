@@ -4,7 +4,7 @@ use Rattle.machine_model.specs.After as a
 use Rattle.std.proofs.Common.{◌≡◌, ℕ, ◌+◌, ◌==◌, Bool, true, false, ◌&&◌, Some, List, [], ◌∷◌, ◌++◌, length, filter, slice_get, if◌then◌else◌, refl, ap, sym, ◌∙◌, arith, eqb-true, eq-eqb, ◌/◌, ◌%◌, not, Option, None, map, find, take, drop, is_some, is_none, subst, inl, inr}
 use Rattle.std.{proofs.lemmas.Bool.{true≢false, and_parts, or_parts, cases_Bool, not-true}, specs.List.{AllByRecursion, list_any}}
 use Rattle.std.specs.Option.{option_map_or}
-use Rattle.entry_codec.specs.declared.{admin_opcode.TheConstants.DELETE_IO_SQ, status.Status.Status}
+use Rattle.entry_codec.specs.{Status.is_success, declared.{admin_opcode.TheConstants.DELETE_IO_SQ, status.Status.Status}}
 use Rattle.entry_codec.specs.declared.{status.TheConstants.Status.{COMMAND_ID_CONFLICT, ABORT_REQUESTED, ABORTED_SQ_DELETION}, submission.SubEntry.SubEntry}
 use Rattle.machine_model.{proofs.{Steps.{managed_by, permitted, exact}, Tokens.is_job}, specs.{Events.{Event, Reply}, Image.Made}}
 use Rattle.machine_model.specs.{Opening.opening, Refusals.{next_rung, job_at, conflicts}, State.{State, Job, Controller}, Step.{Step, resets, unit_answered}}
@@ -19,7 +19,7 @@ use Rattle.two_sides.proofs.{PlacesKept.in_hand, Provided.all_in, Served.Stood, 
 use Rattle.admin_commands.specs.{Entries.{named_queue, named_command}, declared.SqState.TheVariants.Absent}
 use Rattle.controller_walk.specs.{Units.{Act, Stays, Reads, Moves}, Walks.is_more, declared.walk.WalkState.WalkState}
 use Rattle.sgl_descriptor.specs.declared.Direction.{Direction, TheVariants.{Destination, Source}}
-use Rattle.io_commands.specs.Jobs.{is_success, verdict_of, direction_of_entry}
+use Rattle.io_commands.specs.Jobs.{verdict_of, direction_of_entry}
 use Rattle.page_memory.specs.Pages.{with_page_bytes, with_bytes}
 use Rattle.slot_table.proofs.Rows.{option_is}
 use Rattle.page_memory.proofs.Lists.{found_is, all-found}

@@ -3,9 +3,9 @@ use Rattle.std.specs.{List.list_any, Prelude.{◌≡◌, ℕ, zero, suc, Bool, t
 use Rattle.std.specs.Str.{bytes_eq}
 use Rattle.block_image.specs.Blocks.{blocks_at}
 use Rattle.sgl_descriptor.specs.{Targets.{Target, Place, Discarded, targets}, declared.Direction.TheVariants.Destination}
-use Rattle.io_commands.specs.{Asked.Request, DataBytes.gathered, Drafts.DraftContents, Jobs.is_success, Requests.parts_of}
+use Rattle.io_commands.specs.{Asked.Request, DataBytes.gathered, Drafts.DraftContents, Requests.parts_of}
 use Rattle.io_commands.specs.{Values.{FinishedContents, numbers_of}, declared.request.Kind.TheVariants.{Read, Write, Compare}}
-use Rattle.entry_codec.specs.declared.status.Status.{Status}
+use Rattle.entry_codec.specs.{Status.is_success, declared.status.Status.Status}
 use Rattle.entry_codec.specs.declared.status.TheConstants.Status.{SUCCESS, ABORT_REQUESTED, ABORTED_SQ_DELETION, LBA_OUT_OF_RANGE, COMPARE_FAILURE}
 use Rattle.machine_model.specs.{Events.{Event, Reply}, Image.{Made, image_after, read_of, draft_of}, State.State, Status.same_status}
 use Rattle.machine_model.specs.Trusted.{TrustedRun, drafts_of}

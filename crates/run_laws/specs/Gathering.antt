@@ -1,7 +1,8 @@
 -- What a bench gathers: bytes of the commands that it submitted and collected.
 use Rattle.std.specs.{List.list_any, Prelude.{◌≡◌, ℕ, IsTrue, not, Some, List, ◌∷◌, ◌++◌, ◌==◌, ◌&&◌, Bool, false}}
+use Rattle.entry_codec.specs.Status.{is_success}
 use Rattle.sgl_descriptor.specs.{Targets.targets, declared.Direction.TheVariants.Destination}
-use Rattle.io_commands.specs.{Jobs.is_success, Requests.parts_of, Values.{gathered_from, numbers_of}}
+use Rattle.io_commands.specs.{Requests.parts_of, Values.{gathered_from, numbers_of}}
 use Rattle.machine_model.specs.{Events.Event, Image.{Made, draft_of, read_of}, Script.{Table, finished_at}}
 use Rattle.run_laws.specs.Blocks.{is_read, blocks_of_request, partly}
 use Rattle.run_laws.specs.{Submitted.{CollectedCommand, FetchedCommand, was_fetched, bytes_drafted, image_at_fetch}, Values.{Done, made_by, TrustedBench}}

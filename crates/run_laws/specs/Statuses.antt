@@ -2,12 +2,12 @@
 use Rattle.std.specs.{List.list_any, Option.{option_map, option_map_or}}
 use Rattle.std.specs.Prelude.{◌≡◌, ℕ, ◌+◌, ◌==◌, nat_lt, Bool, false, ◌&&◌, ◌||◌, IsTrue, Option, Some, None, List, [], ◌∷◌, ◌++◌, if◌then◌else◌}
 use Rattle.admin_commands.specs.Entries.{named_queue, named_command}
-use Rattle.entry_codec.specs.declared.{admin_opcode.TheConstants.{ABORT, DELETE_IO_SQ}, io_opcode.TheConstants.COMPARE, status.Status.Status}
+use Rattle.entry_codec.specs.{Status.is_success, declared.{admin_opcode.TheConstants.{ABORT, DELETE_IO_SQ}, io_opcode.TheConstants.COMPARE, status.Status.Status}}
 use Rattle.entry_codec.specs.declared.status.TheConstants.Status.{ABORT_REQUESTED, ABORTED_SQ_DELETION, LBA_OUT_OF_RANGE, COMPARE_FAILURE}
 use Rattle.entry_codec.specs.declared.submission.SubEntry.{SubEntry}
 use Rattle.machine_model.specs.{After.{final_status, walks, image_blocks}, Events.{Event, Reply}, Image.Made, Refusals.{job_at, next_rung}, State.{State, Job}}
 use Rattle.machine_model.specs.{Status.same_status, Trusted.TrustedRun}
-use Rattle.io_commands.specs.Jobs.{first_block, block_number, is_success}
+use Rattle.io_commands.specs.Jobs.{first_block, block_number}
 use Rattle.machine_model.specs.Events as events
 
 -- What a step is

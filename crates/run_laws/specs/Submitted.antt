@@ -1,8 +1,8 @@
 -- What a command gives back, said of the run from its own submission to its collection.
 use Rattle.std.specs.{List.list_any, Prelude.{◌≡◌, ℕ, Bool, not, IsTrue, is_some, Some, List, [], ◌∷◌, ◌++◌, All}}
 use Rattle.sgl_descriptor.specs.{Spelling.spelling, Targets.targets, declared.Direction.TheVariants.Destination}
-use Rattle.entry_codec.specs.declared.status.TheConstants.Status.{ABORTED_SQ_DELETION}
-use Rattle.io_commands.specs.{Asked.Request, DataBytes.gathered, Drafts.{DraftContents, draft_first}, Jobs.is_success, Requests.{parts_of, joined_parts}}
+use Rattle.entry_codec.specs.{Status.is_success, declared.status.TheConstants.Status.ABORTED_SQ_DELETION}
+use Rattle.io_commands.specs.{Asked.Request, DataBytes.gathered, Drafts.{DraftContents, draft_first}, Requests.{parts_of, joined_parts}}
 use Rattle.io_commands.specs.Values.{FinishedContents, numbers_of}
 use Rattle.page_memory.specs.Pages.{byte_at}
 use Rattle.sgl_chain.specs.Spells.{Spells}

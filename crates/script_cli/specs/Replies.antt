@@ -1,7 +1,7 @@
 -- The text of what a step answered.
-use Rattle.std.specs.{Fmt.{decimal, digit_glyph}, Prelude.{ℕ, ◌+◌, ◌/◌, ◌%◌, ◌==◌, ◌&&◌, Bool, true, false, List, [], ◌∷◌, ◌++◌, codes, if◌then◌else◌}}
+use Rattle.std.specs.{Fmt.{decimal, digit_glyph}, Prelude.{ℕ, ◌+◌, ◌/◌, ◌%◌, ◌==◌, Bool, true, false, List, [], ◌∷◌, ◌++◌, codes, if◌then◌else◌}}
 use Rattle.controller_walk.specs.declared.walk.WalkState.{WalkState, TheVariants.{More, End, Fault}}
-use Rattle.entry_codec.specs.{Status.status_text, declared.status.Status.Status}
+use Rattle.entry_codec.specs.Status.{is_success, status_text}
 use Rattle.io_commands.specs.declared.{draft.FillFault.{FillFault, TheVariants.{NotASource, WrongLength}}, request.RequestFault.RequestFault}
 use Rattle.io_commands.specs.declared.request.RequestFault.TheVariants.{TooManyPieces, EmptyPiece, CrossesPage, BadCount, LengthMismatch}
 use Rattle.machine_model.specs.declared.words.{Reaped.{Reaped, TheVariants.{Empty, Done, AdminDone, Rejected}}, Refusal.Refusal, RejectedFor.RejectedFor}
@@ -128,10 +128,6 @@ abbrev pub reply_line : ℕ → Verb → Reply → List ℕ
 reply_line number verb what = decimal number ++ (codes " " ++ (verb_text verb ++ (codes " " ++ (answer_text what ++ (10 ∷ [])))))
 
 -- Which answers are well
-
--- the status 0:00
-abbrev pub is_success : Status → Bool
-is_success status = (status.sct == 0) && (status.sc == 0)
 
 -- no completion was rejected, and none has another status
 abbrev pub is_well_reaped : Reaped → Bool

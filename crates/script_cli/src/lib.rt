@@ -47,5 +47,5 @@ pub use run::{Played, first_owners, open_bench, play_step, play_steps, put_owner
 pub use saving::{not_written, replace_file, write_out};
 pub use script::{Line, MAX_LINES, MAX_SCRIPT, Numbered, Script, read_script};
 pub use verb::{CommandVerb, QueueVerb, VERBS, Verb};
-pub use well::{is_success, is_well};
+pub use well::is_well;
 pub use words::Words;

@@ -1,18 +1,10 @@
 //! Which answers are well.
 
 ghost use Rattle.std.specs.Prelude.{◌≡◌};
-ghost use Rattle.script_cli.specs.Replies.{is_success as spec_is_success, is_well as spec_is_well, is_well_reaped as spec_is_well_reaped, is_well_walk as spec_is_well_walk};
+ghost use Rattle.script_cli.specs.Replies.{is_well as spec_is_well, is_well_reaped as spec_is_well_reaped, is_well_walk as spec_is_well_walk};
 
 use controller_walk::WalkState;
-use entry_codec::Status;
 use step_core::{Reaped, Reply};
-
-/// Whether a status is 0:00.
-pub fn is_success(status: Status) -> bool
-    ensures { result ≡ spec_is_success status }
-{
-    status.sct == 0 && status.sc == 0
-}
 
 /// Whether a reap found nothing, or a completion with the status 0:00.
 fn is_well_reaped(what: &Reaped) -> bool
@@ -20,7 +12,7 @@ fn is_well_reaped(what: &Reaped) -> bool
 {
     match *what {
         Reaped::Empty => true,
-        Reaped::Done { status, .. } | Reaped::AdminDone { status, .. } => is_success(status),
+        Reaped::Done { status, .. } | Reaped::AdminDone { status, .. } => status.is_success(),
         Reaped::Rejected(_) => false,
     }
 }
@@ -31,7 +23,7 @@ fn is_well_walk(state: WalkState) -> bool
 {
     match state {
         WalkState::More | WalkState::End => true,
-        WalkState::Fault(status) => is_success(status),
+        WalkState::Fault(status) => status.is_success(),
     }
 }
 
@@ -42,7 +34,7 @@ pub fn is_well(reply: &Reply) -> bool
     match reply {
         Reply::Walked { state, .. } => is_well_walk(*state),
         Reply::Reaps(what) => is_well_reaped(what),
-        Reply::Collected(status) => is_success(*status),
+        Reply::Collected(status) => status.is_success(),
         Reply::NoValue | Reply::NotFilled(_) | Reply::Refused { .. } => false,
         _ => true,
     }

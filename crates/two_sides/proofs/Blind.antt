@@ -1,10 +1,9 @@
 -- What the host's events leave at the host does not hang on the controller's part.
 use Rattle.std.proofs.Common.{◌≡◌, ℕ, Bool, true, false, not, ◌&&◌, ◌||◌, Option, Some, None, List, [], ◌∷◌, ◌++◌, map, MatchBool, if◌then◌else◌, refl, ap, sym, ◌∙◌, subst, arith, zero}
 use Rattle.std.{proofs.lemmas.Bool.true≢false, specs.Option.{option_map_or, option_map}}
-use Rattle.entry_codec.specs.{Submission.submission_bytes, declared.{completion.ComEntry.ComEntry, status.Status.Status, submission.SubEntry.SubEntry}}
+use Rattle.entry_codec.specs.{Status.is_success, Submission.submission_bytes, declared.{completion.ComEntry.ComEntry, status.Status.Status, submission.SubEntry.SubEntry}}
 use Rattle.admin_commands.specs.{Entries.admin_entry, declared.AdminKind.{AdminKind, TheVariants.{Abort, DeleteSq, DeleteCq, CreateCq, CreateSq}}}
 use Rattle.page_memory.specs.{Pages.{Pages, with_page_bytes}, declared.page.Half.TheVariants.{Submission, Completion}}
-use Rattle.io_commands.specs.Jobs.{is_success}
 use Rattle.machine_model.specs.{Events.{Event, Reply}, Memory.{with_pages, without_pages}}
 use Rattle.machine_model.specs.Refusals.{host_queue, seen_entry, refusal_of, slot_page, slot_offset, has_cq_alone}
 use Rattle.machine_model.specs.State.{State, Controller, HostQueue, record_at, with_record, without_record, pages_of}

@@ -14,9 +14,9 @@ use Rattle.machine_model.specs.Weights.{one, total}
 use Rattle.admin_commands.specs.{Entries.named_queue, Verdicts.is_absent, declared.SqState.TheVariants.{Absent, Stopping}}
 use Rattle.controller_walk.specs.Units.{Act, Stays, Reads, Moves}
 use Rattle.sgl_descriptor.specs.declared.Direction.{Direction, TheVariants.{Destination, Source}}
-use Rattle.entry_codec.specs.{Completion.completion_bytes, declared.{admin_opcode.TheConstants.DELETE_IO_SQ, completion.ComEntry.ComEntry}}
+use Rattle.entry_codec.specs.{Completion.completion_bytes, Status.is_success, declared.{admin_opcode.TheConstants.DELETE_IO_SQ, completion.ComEntry.ComEntry}}
 use Rattle.entry_codec.specs.declared.{status.{Status.Status, TheConstants.Status.COMMAND_ID_CONFLICT}, submission.SubEntry.SubEntry}
-use Rattle.io_commands.specs.Jobs.{is_success, verdict_of, direction_of_entry}
+use Rattle.io_commands.specs.Jobs.{verdict_of, direction_of_entry}
 use Rattle.page_memory.specs.{Pages.{Pages, with_bytes, with_page_bytes}, declared.page.Half.TheVariants.{Submission, Completion}}
 use Rattle.queue_pair.{proofs.Rings.next_below, specs.{Members.change, Memory.half_pages, Rings.{HostRing, fresh_host_ring, next_tail, next_head, knowing}}}
 use Rattle.two_sides.specs.Provided.{each_step_stays_in_rings, every_run_stays_in_rings}

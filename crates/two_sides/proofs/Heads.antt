@@ -20,13 +20,12 @@ use Rattle.machine_model.specs.{Step.{HostPart, host_part, IsController}, Weight
 use Rattle.machine_model.specs.declared.words.{HostState.TheVariants.{Live, Deleting, MakingSq}, Phase.TheVariants.Held, Work.TheVariants.Management}
 use Rattle.admin_commands.specs.{Entries.{admin_entry, named_queue}, declared.AdminKind.{AdminKind, TheVariants.{Abort, DeleteSq, DeleteCq, CreateSq}}}
 use Rattle.admin_commands.specs.declared.SqState.TheVariants.{Stopping}
-use Rattle.entry_codec.specs.declared.{completion.ComEntry.ComEntry, status.{Status.Status, TheConstants.Status.ABORTED_SQ_DELETION}}
+use Rattle.entry_codec.specs.{Status.is_success, declared.{completion.ComEntry.ComEntry, status.{Status.Status, TheConstants.Status.ABORTED_SQ_DELETION}}}
 use Rattle.entry_codec.specs.declared.submission.SubEntry.{SubEntry}
 use Rattle.two_sides.proofs.ControllerMoves.{fetch_by, walk_by, posts_completion, finished, cleared, complete_by}
 use Rattle.two_sides.proofs.PlacesKept.{sent_is, held_not, PlacesIn, places_event, running_not_past, sent_not, InHand, in_hand, first_is}
 use Rattle.two_sides.proofs.{Provided.{In, all_map, all_append, in_found}, Served.Stood, Standing.{list_at, list_same, admin_zero}}
 use Rattle.two_sides.proofs.TiedAll.{Grounds, pair_at, ring_in, zero_lives}
-use Rattle.io_commands.specs.Jobs.{is_success}
 use Rattle.page_memory.specs.declared.page.Half.TheVariants.{Submission, Completion}
 use Rattle.page_memory.proofs.Lists.{found_is, all-filter}
 

@@ -16,9 +16,8 @@ use Rattle.machine_model.specs.declared.words.{HostState.{HostState, TheVariants
 use Rattle.machine_model.specs.{declared.words.Work.TheVariants.Management, Memory.memory_of}
 use Rattle.admin_commands.specs.{Verdicts.is_absent, declared.AdminKind.TheVariants.{DeleteSq, DeleteCq, CreateCq, CreateSq, Abort}}
 use Rattle.controller_core.specs.{Contents.Contents, declared.queue.ControllerQueue.ControllerQueue}
-use Rattle.entry_codec.specs.declared.{completion.ComEntry.ComEntry, status.Status.Status}
+use Rattle.entry_codec.specs.{Status.is_success, declared.{completion.ComEntry.ComEntry, status.Status.Status}}
 use Rattle.host_core.specs.{Alone.{HostView, HostStep, alone}, Ringing.{head_of, head_rung}}
-use Rattle.io_commands.specs.Jobs.{is_success}
 use Rattle.two_sides.proofs.{Agreed.stood_of, CompletionPosts.{Follows, IsTaken, completion_follows, known_follows, sees, taken, takes}}
 use Rattle.two_sides.proofs.Assembling.{Ties, host_refused, host_stepped, into, refuses, refuse_as_machine, cancel_ties, collect_ties, release_ties, reserve_ties, ring_ties, left_bare}
 use Rattle.two_sides.proofs.{Frames.{host_stands, known, IsKnown, reaped_ring}, Blind.bare}

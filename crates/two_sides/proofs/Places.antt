@@ -26,9 +26,9 @@ use Rattle.two_sides.proofs.{PoolBytes.completions_stand, Standing.{admin_zero, 
 use Rattle.two_sides.specs.Laws.{tails_are_heard, heads_are_heard}
 use Rattle.two_sides.specs.Sides.{Sides, state_of, posted_completion, completions_between, served_queue_of, present, unfetched_between, job_of, served_queues_of}
 use Rattle.two_sides.specs.{Stepping.completions_are_seen, Ties.{has_ring, IsWorld, RingsStand, AllQueuesStand, QueueStands}}
-use Rattle.entry_codec.specs.{Completion.completion_of, declared.{completion.ComEntry.ComEntry, status.Status.Status}}
+use Rattle.entry_codec.specs.{Completion.completion_of, Status.is_success, declared.{completion.ComEntry.ComEntry, status.Status.Status}}
 use Rattle.block_image.specs.Blocks.{block_count}
-use Rattle.io_commands.specs.Jobs.{JobContents, is_success}
+use Rattle.io_commands.specs.Jobs.{JobContents}
 use Rattle.slot_table.proofs.Rows.{option_is}
 use Rattle.page_memory.proofs.Lists.{found_is, then-map, found_at, all-found}
 use Rattle.host_core.proofs.Identifiers.{queue-here}

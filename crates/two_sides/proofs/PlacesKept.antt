@@ -18,9 +18,9 @@ use Rattle.machine_model.specs.{Step.{HostPart, IsController, reaped}, Weights.{
 use Rattle.machine_model.specs.declared.words.{Phase.{Phase, TheVariants.Held}, Reaped.Reaped, Work.TheVariants.Management}
 use Rattle.admin_commands.specs.{Entries.{named_queue, named_command, admin_entry}, Verdicts.is_live as is_running, declared.AdminKind.AdminKind}
 use Rattle.admin_commands.specs.declared.{AdminKind.TheVariants.{Abort, DeleteSq, DeleteCq, CreateSq}, SqState.TheVariants.{Absent, Stopping}}
-use Rattle.entry_codec.specs.declared.{completion.ComEntry.ComEntry, status.Status.Status}
+use Rattle.entry_codec.specs.{Status.is_success, declared.{completion.ComEntry.ComEntry, status.Status.Status}}
 use Rattle.entry_codec.specs.declared.{status.TheConstants.Status.{COMMAND_ID_CONFLICT, ABORT_REQUESTED, ABORTED_SQ_DELETION}, submission.SubEntry.SubEntry}
-use Rattle.io_commands.{proofs.Building.carries_entry, specs.Jobs.{io_fault, bytes_after_check, is_success}}
+use Rattle.io_commands.{proofs.Building.carries_entry, specs.Jobs.{io_fault, bytes_after_check}}
 use Rattle.queue_pair.specs.{Members.change, Rings.{HostRing, next_tail, next_head, knowing}}
 use Rattle.two_sides.proofs.ControllerMoves.{posts_completion, posted_completion, unit_done, finished, cleared, fetch_by, walk_by, complete_by}
 use Rattle.two_sides.proofs.{Standing.{list_same, more_at, less_at, past_same, past_other, past_here}, Tied.{stopped_q, deleted_is_gone}}

@@ -16,8 +16,8 @@ use Rattle.machine_model.specs.{Weights.{one, total, here}, Work.Work, declared.
 use Rattle.machine_model.specs.declared.words.{HostState.TheVariants.{Live, Deleting, Retired, MakingCq, HalfMade, MakingSq}, Phase.TheVariants.Held}
 use Rattle.machine_model.specs.declared.words.Work.TheVariants.{Io, Management}
 use Rattle.admin_commands.specs.declared.AdminKind.{AdminKind, TheVariants.{Abort, DeleteSq, DeleteCq, CreateCq, CreateSq}}
-use Rattle.entry_codec.specs.declared.{completion.ComEntry.ComEntry, status.TheConstants.Status.ABORTED_SQ_DELETION}
-use Rattle.io_commands.specs.{Asked.Request, Jobs.is_success, Requests.{data_count, joined_parts}, Values.numbers_of}
+use Rattle.entry_codec.specs.{Status.is_success, declared.{completion.ComEntry.ComEntry, status.TheConstants.Status.ABORTED_SQ_DELETION}}
+use Rattle.io_commands.specs.{Asked.Request, Requests.{data_count, joined_parts}, Values.numbers_of}
 use Rattle.page_ledger.specs.Owners.{pages_from}
 use Rattle.page_memory.specs.declared.page.Half.{Half, TheVariants.{Submission, Completion}}
 use Rattle.queue_pair.specs.{Members.change, Memory.half_pages, Rings.{HostRing, next_tail, next_head, knowing}}

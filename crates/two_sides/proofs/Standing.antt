@@ -19,10 +19,10 @@ use Rattle.machine_model.specs.declared.words.{Refusal.Refusal, Work.TheVariants
 use Rattle.queue_pair.specs.Members.{change}
 use Rattle.entry_codec.specs.declared.{admin_opcode.TheConstants.{ABORT, DELETE_IO_SQ, DELETE_IO_CQ, CREATE_IO_CQ, CREATE_IO_SQ}, completion.ComEntry.ComEntry}
 use Rattle.entry_codec.specs.declared.status.{Status.Status, TheConstants.Status.{SUCCESS, COMMAND_ID_CONFLICT, ABORT_REQUESTED, ABORTED_SQ_DELETION}}
-use Rattle.entry_codec.specs.declared.submission.SubEntry.{SubEntry}
+use Rattle.entry_codec.specs.{Status.is_success, declared.submission.SubEntry.SubEntry}
 use Rattle.admin_commands.specs.{Entries.{admin_entry, named_queue, named_command}, Verdicts.is_live as is_running, declared.AdminKind.AdminKind}
 use Rattle.admin_commands.specs.declared.{AdminKind.TheVariants.{Abort, DeleteSq, DeleteCq, CreateCq, CreateSq}, SqState.TheVariants.Stopping}
-use Rattle.io_commands.specs.{Asked.Request, Jobs.{is_success, io_fault, bytes_after_check}}
+use Rattle.io_commands.specs.{Asked.Request, Jobs.{io_fault, bytes_after_check}}
 use Rattle.two_sides.{proofs.ControllerMoves.{posted_completion, unit_done, finished, cleared, clears, fetch_by, walk_by, complete_by}, specs.MachineLaws.admin_places}
 use Rattle.slot_table.proofs.Rows.{option_is}
 use Rattle.page_memory.proofs.Lists.{found_is, all-found}

@@ -18,9 +18,9 @@ use Rattle.machine_model.specs.{Step.{HostPart, host_part, IsController}, Weight
 use Rattle.machine_model.specs.declared.words.HostState.TheVariants.{Live, Deleting, Gone, MakingCq, HalfMade, MakingSq}
 use Rattle.admin_commands.specs.{Entries.{named_queue, named_command, admin_entry}, Verdicts.{is_absent, is_live as is_running}, declared.AdminKind.AdminKind}
 use Rattle.admin_commands.specs.declared.{AdminKind.TheVariants.{Abort, DeleteSq, DeleteCq}, SqState.TheVariants.Stopping}
-use Rattle.entry_codec.specs.declared.{admin_opcode.TheConstants.DELETE_IO_SQ, completion.ComEntry.ComEntry, status.Status.Status}
+use Rattle.entry_codec.specs.{Status.is_success, declared.{admin_opcode.TheConstants.DELETE_IO_SQ, completion.ComEntry.ComEntry, status.Status.Status}}
 use Rattle.entry_codec.specs.declared.{status.TheConstants.Status.{SUCCESS, ABORT_REQUESTED, ABORTED_SQ_DELETION}, submission.SubEntry.SubEntry}
-use Rattle.io_commands.specs.Jobs.{is_success, io_fault, bytes_after_check}
+use Rattle.io_commands.specs.Jobs.{io_fault, bytes_after_check}
 use Rattle.queue_pair.specs.{Members.change, Memory.half_pages, Rings.{next_tail, next_head, knowing, HostRing}}
 use Rattle.two_sides.proofs.ControllerMoves.{paired_at, found_counts, Tied, Tie, Fit, tie_jobs, tie_less, tie_completed, tie_stop, tie_drop, tie_completion, tie_submission, tie_kill, stays_false, tie_host, tie_ring, tie_posted, pair_moves, unit_done, cleared, fetch_by, walk_by, complete_by}
 use Rattle.two_sides.proofs.Standing.{runs_there, verdict_there, final_admin}

@@ -4,8 +4,7 @@ use Rattle.machine_model.specs.Events as events
 use Rattle.std.proofs.Common.{◌≡◌, ℕ, zero, suc, ◌+◌, ◌<◌, ◌≤◌, ◌==◌, Bool, true, false, not, ◌||◌, Option, Some, None, List, [], length, replicate, slice_get, is_some, is_none, if◌then◌else◌, eqb-true, refl, ap, sym, ◌∙◌, arith, subst, ◌∷◌}
 use Rattle.std.{proofs.lemmas.Bool.{true≢false, and_parts, or_parts}, specs.Option.option_map_or}
 use Rattle.page_memory.specs.declared.page.Half.TheVariants.{Submission, Completion}
-use Rattle.entry_codec.specs.declared.completion.ComEntry.{ComEntry}
-use Rattle.io_commands.specs.Jobs.{is_success}
+use Rattle.entry_codec.specs.{Status.is_success, declared.completion.ComEntry.ComEntry}
 use Rattle.queue_pair.specs.{Members.change, Memory.half_pages, Rings.{next_tail, next_head, knowing}}
 use Rattle.machine_model.proofs.Headline.{in_limits, limits_say, holds_at_opening, fits_pool, taken_at_opening}
 use Rattle.machine_model.proofs.{HostLeaves.host_leaves, Kept.{submissions_awaited, zero_host, zero_opened}}

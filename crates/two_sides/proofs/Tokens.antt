@@ -5,10 +5,10 @@ use Rattle.std.proofs.Common.{◌≡◌, inl, inr, ℕ, zero, suc, ◌+◌, ◌-
 use Rattle.std.{proofs.lemmas.Bool.{true≢false, and_parts, cases_Bool}, specs.{List.AllByRecursion, Option.option_map_or}}
 use Rattle.admin_commands.specs.{Entries.{named_queue, named_command, admin_entry}, Verdicts.is_absent, declared.AdminKind.AdminKind}
 use Rattle.admin_commands.specs.declared.{AdminKind.TheVariants.{Abort, DeleteSq, DeleteCq, CreateCq, CreateSq}, SqState.TheVariants.Stopping}
-use Rattle.entry_codec.specs.declared.{admin_opcode.TheConstants.{ABORT, DELETE_IO_SQ, DELETE_IO_CQ, CREATE_IO_SQ}, completion.ComEntry.ComEntry}
+use Rattle.entry_codec.specs.{Status.is_success, declared.{admin_opcode.TheConstants.{ABORT, DELETE_IO_SQ, DELETE_IO_CQ, CREATE_IO_SQ}, completion.ComEntry.ComEntry}}
 use Rattle.entry_codec.specs.declared.status.{Status.Status, TheConstants.Status.{SUCCESS, COMMAND_ID_CONFLICT, ABORT_REQUESTED, ABORTED_SQ_DELETION}}
 use Rattle.entry_codec.specs.declared.submission.SubEntry.{SubEntry}
-use Rattle.io_commands.specs.Jobs.{is_success, io_fault, bytes_after_check}
+use Rattle.io_commands.specs.Jobs.{io_fault, bytes_after_check}
 use Rattle.machine_model.proofs.{Counting.{total-append, total-filter, total_without}, Kept.{making_cq_as_heard, ring_after}}
 use Rattle.machine_model.proofs.Moves.{asked_is, host_moves, sends, sent_record, drafted_record, half_from, creates_cq as creates_cq_moves, creates_sq as creates_sq_moves, IsHeard, completion_heard}
 use Rattle.machine_model.proofs.{Owned.{Awaited, awaited_at, awaits, was_awaited, HoldsPart, at_same, no_waiting, no_admin_completions}, Sound.unused}

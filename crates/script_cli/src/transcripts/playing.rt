@@ -5,11 +5,9 @@ ghost use Rattle.std.specs.Prelude.{◌≤◌, length, IfOk};
 use crate::transcripts::difference::{Difference, first_difference};
 use crate::transcripts::read::{Told, Transcript};
 use crate::{Line, Verb, append_counts, append_owners, append_reply};
+use page_memory::MAX_PAGES;
 use std::alloc::{AllocError, Global};
 use step_core::{Counts, Owner, PageNo, Reply, Step};
-
-/// The most pages that a pool has.
-const MOST_PAGES: u32 = 65_536;
 
 /// What makes steps, over a pool of pages.
 pub trait StepMaker {
@@ -32,13 +30,13 @@ fn owners<M: StepMaker>(alloc: Global, maker: &M) -> Result<Vec<Owner>, AllocErr
     ensures few { IfOk result (λ owners. length owners.items ≤ 65536) }
 {
     let mut owners = Vec::new(alloc);
-    for p in 0..MOST_PAGES {
+    for p in 0..MAX_PAGES {
         match maker.owner(PageNo(p)) {
             Some(owner) => owners.push(owner)?,
             None => break,
         }
     }
-    owners.truncate(MOST_PAGES as usize);
+    owners.truncate(MAX_PAGES as usize);
     Ok(owners)
 }
 

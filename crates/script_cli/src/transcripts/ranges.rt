@@ -4,6 +4,7 @@ ghost use Rattle.std.specs.Prelude.{◌≡◌, ◌++◌, IfOk, OnOk, map, string
 ghost use Rattle.script_cli.specs.Ranges.{is_in_range, line_out_of_range, lines_out_of_range, ranged_text, sizes_of, zero_blocks_of};
 
 use crate::transcripts::options::Options;
+use page_memory::MAX_PAGES;
 use std::alloc::{AllocError, Global};
 use std::fmt;
 
@@ -65,7 +66,7 @@ impl Options {
     {
         let config = self.config;
         [
-            Ranged::of("pages", config.pages, 8, 65_536),
+            Ranged::of("pages", config.pages, 8, MAX_PAGES),
             Ranged::of("queues", config.queues, 1, 64),
             Ranged::of("entries", config.entries, 2, 1_024),
             Ranged::of("segment", config.segment, 2, 256),

@@ -2,6 +2,7 @@
 
 use crate::desk::{Desk, Value};
 use driver_book::{CloseFault, FullLogBrand, Receipt};
+use page_memory::MAX_PAGES;
 use script_cli::transcripts::{OnBench, StepMaker, reply_in, step_in};
 use std::alloc::{AllocError, Allocator, Global};
 use std::sync::Wait;
@@ -13,9 +14,6 @@ pub type Heap = Refusing<Global>;
 
 /// A desk with a driver in such a heap.
 pub type DeskIn<'h, L, R> = Desk<'h, L, R, &'h Heap>;
-
-/// The most pages that a pool has.
-const MOST_PAGES: u32 = 65_536;
 
 /// What makes steps in a heap that refuses, and shows how it stands.
 pub trait Stands: StepMaker {
@@ -48,7 +46,7 @@ impl Holdings {
     /// Those of what makes steps.
     pub fn of<M: StepMaker>(alloc: Global, maker: &M) -> Result<Holdings, AllocError> {
         let mut owners = Vec::new(alloc);
-        for p in 0..MOST_PAGES {
+        for p in 0..MAX_PAGES {
             match maker.owner(PageNo(p)) {
                 Some(owner) => owners.push(owner)?,
                 None => break,
@@ -166,7 +164,7 @@ fn bytes_of<A: Allocator>(
     pool: &[Owner],
 ) -> Result<Vec<u8>, AllocError> {
     let mut bytes = Vec::new(alloc);
-    for (_, p) in pool.iter().zip(0..MOST_PAGES) {
+    for (_, p) in pool.iter().zip(0..MAX_PAGES) {
         put_page(&mut bytes, values, PageNo(p))?;
     }
     Ok(bytes)

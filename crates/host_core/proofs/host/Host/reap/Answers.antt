@@ -24,32 +24,32 @@ index-requires g c =
     let t : Tables = tables_of c.self.inside.parts c.args.store.now.pages in
     let w : IsWhole t = whole_at (tables_of c.self.inside.parts []) c.args.self.now c.args.store.now.pages c.self.view_is c.self.invariant c.requires in
     let there : lacks_completion (slice_get t.queues c.args.q) ≡ false = sym (rw c.deref.ensures.value at c.has_no_completion.ensures) ∙ c.if-has_no_completion.false in
-    let inside : c.args.q < length c.take-found.new.self.queues.items =
-    subst (λ (n : ℕ). c.args.q < n) (sym c.take-found.ensures.many) (completion-inside t.queues c.args.q there) in
-    omega (arith, c.from.ensures, inside, c.take-found.new.self.queues.ok)
+    let inside : c.args.q < length c.end_or_reject-found.new.self.queues.items =
+    subst (λ (n : ℕ). c.args.q < n) (sym c.end_or_reject-found.ensures.many) (completion-inside t.queues c.args.q there) in
+    omega (arith, c.from.ensures, inside, c.end_or_reject-found.new.self.queues.ok)
 
 pub invariant_of-self : goal.invariant_of-self
 invariant_of-self g c =
     let t : Tables = tables_of c.self.inside.parts c.args.store.now.pages in
     let w : IsWhole t = whole_at (tables_of c.self.inside.parts []) c.args.self.now c.args.store.now.pages c.self.view_is c.self.invariant c.requires in
-    let new : Tables = tables_of c.take-found.new.self c.args.store.now.pages in
-    let made = c.take-found.ensures.reaps c.args.store.now.pages w c.in-Some.ensures.seen in
-    host_of (tables_of c.take-found.new.self []) c.args.store.now.pages made.whole
+    let new : Tables = tables_of c.end_or_reject-found.new.self c.args.store.now.pages in
+    let made = c.end_or_reject-found.ensures.reaps c.args.store.now.pages w c.in-Some.ensures.seen in
+    host_of (tables_of c.end_or_reject-found.new.self []) c.args.store.now.pages made.whole
 
 pub returns : goal.returns
 returns g c =
     let t : Tables = tables_of c.self.inside.parts c.args.store.now.pages in
     let w : IsWhole t = whole_at (tables_of c.self.inside.parts []) c.args.self.now c.args.store.now.pages c.self.view_is c.self.invariant c.requires in
-    let new : Tables = tables_of c.take-found.new.self c.args.store.now.pages in
-    let made = c.take-found.ensures.reaps c.args.store.now.pages w c.in-Some.ensures.seen in
+    let new : Tables = tables_of c.end_or_reject-found.new.self c.args.store.now.pages in
+    let made = c.end_or_reject-found.ensures.reaps c.args.store.now.pages w c.in-Some.ensures.seen in
     let there : lacks_completion (slice_get t.queues c.args.q) ≡ false = sym (rw c.deref.ensures.value at c.has_no_completion.ensures) ∙ c.if-has_no_completion.false in
-    let inside : c.args.q < length c.take-found.new.self.queues.items =
-    subst (λ (n : ℕ). c.args.q < n) (sym c.take-found.ensures.many) (completion-inside t.queues c.args.q there) in
-    let bare : Tables = tables_of c.take-found.new.self [] in
+    let inside : c.args.q < length c.end_or_reject-found.new.self.queues.items =
+    subst (λ (n : ℕ). c.args.q < n) (sym c.end_or_reject-found.ensures.many) (completion-inside t.queues c.args.q there) in
+    let bare : Tables = tables_of c.end_or_reject-found.new.self [] in
     record {
-      step = subst (λ (pages : Pages). HostStep c.args.self.now c.args.store.now.pages (events.Reap c.args.q) (events.Reaps c.take-found.result) (view_of new) pages) (sym c.see.ensures.same)
-          (step_at t new c.args.self.now (events.Reap c.args.q) (events.Reaps c.take-found.result) c.self.view_is made.step);
-      head = sym (c.take-found.ensures.taken (view_of new)
+      step = subst (λ (pages : Pages). HostStep c.args.self.now c.args.store.now.pages (events.Reap c.args.q) (events.Reaps c.end_or_reject-found.result) (view_of new) pages) (sym c.see.ensures.same)
+          (step_at t new c.args.self.now (events.Reap c.args.q) (events.Reaps c.end_or_reject-found.result) c.self.view_is made.step);
+      head = sym (c.end_or_reject-found.ensures.taken (view_of new)
           ∙ (head-told bare c.args.q c.index.result.now (queue-at bare c.args.q c.from.result c.index.result.now inside c.from.ensures c.index.ensures)
           ∙ ap (λ (n : ℕ). Some n) (sym c.head_value-head.ensures.head)));
       touches = search rules;

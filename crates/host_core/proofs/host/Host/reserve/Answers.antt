@@ -19,7 +19,7 @@ pub make_room-requires : goal.make_room-requires
 make_room-requires g c =
     let t : Tables = tables_of c.self.inside.parts c.args.store.now.pages in
     let w : IsWhole t = whole_at (tables_of c.self.inside.parts []) c.args.self.now c.args.store.now.pages c.self.view_is c.self.invariant c.requires in
-    let grants : Grants t c.args.q c.args.request c.in-Ok.grant.cid c.in-Ok.grant.front c.in-Ok.grant.back = c.in-Ok.ensures.granted c.args.store.now.pages w in
+    let grants : Grants t c.args.q c.args.request c.in-Ok.grant.cid c.in-Ok.grant.data_pages c.in-Ok.grant.chain_pages = c.in-Ok.ensures.granted c.args.store.now.pages w in
     omega (arith, grants.enough, w.over.size, w.over.pool.few)
 
 pub returns-in-Err-make_room-clause-step : goal.returns-in-Err-make_room-clause-step
@@ -27,7 +27,7 @@ returns-in-Err-make_room-clause-step g c =
     let fits : FitsRequest c.args.request = search rules in
     let t : Tables = tables_of c.self.inside.parts c.args.store.now.pages in
     let w : IsWhole t = whole_at (tables_of c.self.inside.parts []) c.args.self.now c.args.store.now.pages c.self.view_is c.self.invariant c.requires in
-    let grants : Grants t c.args.q c.args.request c.in-Ok.grant.cid c.in-Ok.grant.front c.in-Ok.grant.back = c.in-Ok.ensures.granted c.args.store.now.pages w in
+    let grants : Grants t c.args.q c.args.request c.in-Ok.grant.cid c.in-Ok.grant.data_pages c.in-Ok.grant.chain_pages = c.in-Ok.ensures.granted c.args.store.now.pages w in
     step_at t t c.args.self.now (events.Reserve c.args.q c.args.request) (events.Refused refusal.Memory []) c.self.view_is
     (host_step t t (events.Reserve c.args.q c.args.request) (events.Refused refusal.Memory []) refl fits (refuses-memory (state_of t) c.args.q c.args.request grants.none, refl))
 
@@ -47,9 +47,9 @@ invariant_of-self-2 g c =
     let fits : FitsRequest c.args.request = search rules in
     let t : Tables = tables_of c.self.inside.parts c.args.store.now.pages in
     let w : IsWhole t = whole_at (tables_of c.self.inside.parts []) c.args.self.now c.args.store.now.pages c.self.view_is c.self.invariant c.requires in
-    let grants : Grants t c.args.q c.args.request c.in-Ok.grant.cid c.in-Ok.grant.front c.in-Ok.grant.back = c.in-Ok.ensures.granted c.args.store.now.pages w in
+    let grants : Grants t c.args.q c.args.request c.in-Ok.grant.cid c.in-Ok.grant.data_pages c.in-Ok.grant.chain_pages = c.in-Ok.ensures.granted c.args.store.now.pages w in
     let new : Tables = tables_of c.commit_reserve.new.self c.commit_reserve.new.store.pages in
-    let made = reserve_made t new c.args.q c.in-Ok.grant.cid c.args.request c.in-Ok.grant.front c.in-Ok.grant.back c.commit_reserve.result w fits grants c.commit_reserve.ensures.draft c.commit_reserve.ensures.new in
+    let made = reserve_made t new c.args.q c.in-Ok.grant.cid c.args.request c.in-Ok.grant.data_pages c.in-Ok.grant.chain_pages c.commit_reserve.result w fits grants c.commit_reserve.ensures.draft c.commit_reserve.ensures.new in
     host_of (tables_of c.commit_reserve.new.self []) c.commit_reserve.new.store.pages made.whole
 
 pub returns : goal.returns
@@ -57,16 +57,16 @@ returns g c =
     let fits : FitsRequest c.args.request = search rules in
     let t : Tables = tables_of c.self.inside.parts c.args.store.now.pages in
     let w : IsWhole t = whole_at (tables_of c.self.inside.parts []) c.args.self.now c.args.store.now.pages c.self.view_is c.self.invariant c.requires in
-    let grants : Grants t c.args.q c.args.request c.in-Ok.grant.cid c.in-Ok.grant.front c.in-Ok.grant.back = c.in-Ok.ensures.granted c.args.store.now.pages w in
+    let grants : Grants t c.args.q c.args.request c.in-Ok.grant.cid c.in-Ok.grant.data_pages c.in-Ok.grant.chain_pages = c.in-Ok.ensures.granted c.args.store.now.pages w in
     let new : Tables = tables_of c.commit_reserve.new.self c.commit_reserve.new.store.pages in
-    let made = reserve_made t new c.args.q c.in-Ok.grant.cid c.args.request c.in-Ok.grant.front c.in-Ok.grant.back c.commit_reserve.result w fits grants c.commit_reserve.ensures.draft c.commit_reserve.ensures.new in
+    let made = reserve_made t new c.args.q c.in-Ok.grant.cid c.args.request c.in-Ok.grant.data_pages c.in-Ok.grant.chain_pages c.commit_reserve.result w fits grants c.commit_reserve.ensures.draft c.commit_reserve.ensures.new in
     record {
       step = step_at t new c.args.self.now (events.Reserve c.args.q c.args.request) (events.Reserved c.commit_reserve.result) c.self.view_is made.step;
       identifier = subst (λ (v : HostView). IsLowest v.host c.args.q c.commit_reserve.result.cid) c.self.view_is
           (subst (λ (k : ℕ). IsLowest (view_of t).host c.args.q k) (sym (ap (λ (d : DraftContents). d.cid) c.commit_reserve.ensures.draft))
-          (grant-lowest t w c.args.q c.in-Ok.grant.cid c.args.request c.in-Ok.grant.front c.in-Ok.grant.back grants));
+          (grant-lowest t w c.args.q c.in-Ok.grant.cid c.args.request c.in-Ok.grant.data_pages c.in-Ok.grant.chain_pages grants));
       pages = subst (λ (v : HostView). HasPlacedPages v.host c.commit_reserve.result) c.self.view_is
-          (placed_pages t c.args.q c.in-Ok.grant.cid c.args.request c.in-Ok.grant.front c.in-Ok.grant.back c.commit_reserve.result grants c.commit_reserve.ensures.draft);
+          (placed_pages t c.args.q c.in-Ok.grant.cid c.args.request c.in-Ok.grant.data_pages c.in-Ok.grant.chain_pages c.commit_reserve.result grants c.commit_reserve.ensures.draft);
       touches = c.commit_reserve.ensures.touches;
       over = made.whole.over;
       back = tt;

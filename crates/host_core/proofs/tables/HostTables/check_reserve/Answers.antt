@@ -37,8 +37,8 @@ returns-in-Ok-pages_wanted-clause-granted g c = λ pages w.
     let there = queue_there t q takes in
     let next = c.in-Some.ensures there.0 (ap (λ (qs : List Queue). slice_get qs q) c.deref-2.ensures.value ∙ there.1) in
     let asked : Asked t q c.args.request.now = record { queue = there.0; at = there.1; takes = takes; stays = stays; good = sym c.in-Ok.ensures } in
-    granted t q c.args.request.now c.in-Some.cid c.in-Ok-pages_wanted.front c.in-Ok-pages_wanted.back w asked (sym next)
-    c.in-Ok-pages_wanted.ensures.front c.in-Ok-pages_wanted.ensures.back c.in-Ok-pages_wanted.ensures.enough
+    granted t q c.args.request.now c.in-Some.cid c.in-Ok-pages_wanted.data_pages c.in-Ok-pages_wanted.chain_pages w asked (sym next)
+    c.in-Ok-pages_wanted.ensures.data_pages c.in-Ok-pages_wanted.ensures.chain_pages c.in-Ok-pages_wanted.ensures.enough
 
 pub pages_wanted-requires-clause-low : goal.pages_wanted-requires-clause-low
 pages_wanted-requires-clause-low g c = omega arith

@@ -10,14 +10,14 @@ use Rattle.host_core.specs.Tables.{Tables}
 use Rattle.host_core.proofs.tables.HostTables.commit_collect.Goals as goal
 use Rattle.machine_model.proofs.Cases.{none_some}
 
-pub take_pages-requires-clause-front : goal.take_pages-requires-clause-front
-take_pages-requires-clause-front g c =
+pub take_pages-requires-clause-data_pages : goal.take_pages-requires-clause-data_pages
+take_pages-requires-clause-data_pages g c =
     let t : Tables = tables_of c.args.self.now c.args.store.now.pages in
     let same : record_of c.args.q c.args.cid c.unwrap-entry.result.now ≡ c.requires.stands.entry = row-is c.args.self.now.records.rows c.args.q c.args.cid (sym c.get_mut.ensures.value ∙ ap option_copied_mut c.unwrap-entry.ensures) c.requires.stands.was in
     subst (λ (x : Record). CanTake x.data_pages t.pages) (sym same) (held_can_take t c.args.q c.args.cid c.requires.whole c.requires.stands).0
 
-pub take_pages-requires-clause-back : goal.take_pages-requires-clause-back
-take_pages-requires-clause-back g c =
+pub take_pages-requires-clause-chain_pages : goal.take_pages-requires-clause-chain_pages
+take_pages-requires-clause-chain_pages g c =
     let t : Tables = tables_of c.args.self.now c.args.store.now.pages in
     let same : record_of c.args.q c.args.cid c.unwrap-entry.result.now ≡ c.requires.stands.entry = row-is c.args.self.now.records.rows c.args.q c.args.cid (sym c.get_mut.ensures.value ∙ ap option_copied_mut c.unwrap-entry.ensures) c.requires.stands.was in
     subst (λ (x : Record). CanTake x.chain_pages (without_pages x.data_pages t.pages)) (sym same) (held_can_take t c.args.q c.args.cid c.requires.whole c.requires.stands).1
@@ -57,13 +57,13 @@ returns g c =
     let kept = with-row rows c.args.q c.args.cid collected c.unwrap-entry.result.now c.collect.new.self (rw c.unwrap-entry.ensures at c.get_mut.ensures.distinct) (sym c.get_mut.ensures.value ∙ ap option_copied_mut c.unwrap-entry.ensures) (c.collect.ensures c.args.q c.args.cid) in
     let left = changed-rows c.args.self.now marked (with_record c.args.q c.args.cid collected) kept c.take_pages.new.store.pages ∙ collected_tables t c.args.q c.args.cid c.take_pages.new.store.pages c.requires.stands pages in
     let made = collect_made t new c.args.q c.args.cid c.args.room.request c.args.room.status c.take_pages.new.into.items c.make.result c.requires.whole c.requires.stands told.0 told.1 items c.make.ensures left in
-    let front = c.unwrap-entry.result.now.data_pages in
-    let back = c.unwrap-entry.result.now.chain_pages in
-    let behind = without_pages front t.pages in
-    let many = ap length c.take_pages.ensures.items ∙ length-append (taken_pages front t.pages) (taken_pages back behind) in
+    let data_pages = c.unwrap-entry.result.now.data_pages in
+    let chain_pages = c.unwrap-entry.result.now.chain_pages in
+    let rest = without_pages data_pages t.pages in
+    let many = ap length c.take_pages.ensures.items ∙ length-append (taken_pages data_pages t.pages) (taken_pages chain_pages rest) in
     let parts = ap (λ (f : FinishedContents). length f.data_pages + length f.chain_pages) c.make.ensures ∙ both_parts c.args.room.request c.take_pages.new.into.items in
     record {
       step = made.step;
       whole = made.whole;
-      touches = omega (arith, c.take_pages.ensures.touches, many, length-taken front t.pages, length-taken back behind, parts);
+      touches = omega (arith, c.take_pages.ensures.touches, many, length-taken data_pages t.pages, length-taken chain_pages rest, parts);
     }

@@ -7,7 +7,7 @@ invariant_of-result g c =
     let free : c.in_ok-owners.owners.items ≡ replicate c.args.pages Free = c.in_ok-owners.ensures.items_if_clones_equal (λ _ same. same) in
     let size : length c.in_ok-owners.owners.items ≡ c.args.pages = ap length free ∙ length-replicate c.args.pages Free in (
       rw size (omega (arith, c.if-pages-lt8.false)),
-      rw size (omega (arith, c.if-pages-gt65536.false)),
+      rw size (omega arith),
       sym (ap counts_of free ∙ counts-free c.args.pages),
       c.in_ok-open.ensures ∙ (sym (flags-free c.args.pages) ∙ ap (map is_free) (sym free)),
     )

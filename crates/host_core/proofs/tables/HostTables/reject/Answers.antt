@@ -1,5 +1,5 @@
 use Rattle.host_core.{proofs.QueueLists.queue-written, specs.{Parts.tables_of, Reaping.with_completion_taken}}
-use Rattle.host_core.proofs.tables.HostTables.consume.Goals as goal
+use Rattle.host_core.proofs.tables.HostTables.reject.Goals as goal
 
 pub returns : goal.returns
 returns g c = λ pages.
