@@ -3,7 +3,7 @@ use Rattle.std.proofs.Common.{◌≡◌, ◌∙◌, ℕ, ◌+◌, ◌-◌, ◌<�
 use Rattle.std.proofs.Math.{ListN.get_or-append, Nat.{add-mul, mul-add, mul-le-mul_right, pow-suc}, Seq.get_or-append_seam}
 use Rattle.std.{proofs.lemmas.{Bool.{cases_lt, le-ltb, lt-ltb}, List.{length-append, length-map, map-append, append-nil}}, specs.Io.KnownBytes.{Appends, Keeps}}
 use Rattle.std.specs.Prelude.{slice_index_or}
-use Rattle.load.specs.{Content.{block_bytes, blocks_bytes}, Histograms.{IsBucketOf, low_of}, Lines.{IsLineFront, line_text}, Planning.{full_pieces, pieces_of}}
+use Rattle.load.specs.{Content.{block_bytes, blocks_bytes, rows}, Histograms.{IsBucketOf, low_of}, Lines.{IsLineFront, line_text}, Planning.{full_pieces, pieces_of}}
 use Rattle.load.specs.{Tallies.{TaskEnd, both, no_tally, tallies_from, tally_from}, declared.{plan.Planned.Planned, tally.Tally.Tally}}
 use Rattle.script_cli.specs.declared.workload.Pattern.{Pattern}
 use Rattle.io_commands.specs.declared.request.Piece.{Piece, TheVariants.Data}
@@ -25,6 +25,25 @@ block_put seed generation at end old new whole more put is =
     ap (λ (bs : List ℕ). bs ++ blocks_bytes seed generation (at + 1) (end - (at + 1))) put
     ∙ append_assoc old (block_bytes seed at generation) (blocks_bytes seed generation (at + 1) (end - (at + 1)))
     ∙ ap (λ (bs : List ℕ). old ++ bs) (sym (next_block seed generation at end more)) ∙ is
+
+-- The rows of a block.
+
+-- the next row of those that are left
+next_row : (row : List ℕ) (at : ℕ) → at < 7 → rows row at (7 - at) ≡ at ∷ row ++ rows row (at + 1) (7 - (at + 1))
+next_row row at more =
+    let left : 7 - at ≡ suc (7 - (at + 1)) = omega arith in
+    ap (rows row at) left
+
+-- a row behind the bytes so far
+pub row_put : (row : List ℕ) (at : ℕ) (old mid new whole : List ℕ) → at < 7 → mid ≡ old ++ at ∷ [] → new ≡ mid ++ row
+    → old ++ rows row at (7 - at) ≡ whole → new ++ rows row (at + 1) (7 - (at + 1)) ≡ whole
+row_put row at old mid new whole more pushed put is =
+    let left : List ℕ = rows row (at + 1) (7 - (at + 1)) in
+    ap (λ (bs : List ℕ). bs ++ left) put
+    ∙ append_assoc mid row left
+    ∙ ap (λ (bs : List ℕ). bs ++ (row ++ left)) pushed
+    ∙ append_assoc old (at ∷ []) (row ++ left)
+    ∙ ap (λ (bs : List ℕ). old ++ bs) (sym (next_row row at more)) ∙ is
 
 -- The buckets of numbers.
 

@@ -1,25 +1,36 @@
 //! What blocks hold.
 
 ghost use Rattle.std.specs.Prelude.{◌≡◌, ◌<◌, ◌*◌, ◌++◌, IfOk, OnOk, vec_len};
-ghost use Rattle.load.specs.Content.{block_bytes, slot_content, written};
+ghost use Rattle.load.specs.Content.{block_bytes, rows, slot_content, written};
 
 use crate::layout::Layout;
 use rand_core::Rng;
 use rand_pcg::Pcg64;
 use std::alloc::{AllocError, Global};
 
-/// Puts the bytes of a block as it is after so many writes: its number, how often it was written, and bytes made of both and of the seed.
+/// Puts the rows of a block: the same bytes in each, after the row's number.
+fn put_rows(out: &mut Vec<u8>, row: &[u8; 71]) -> Result<(), AllocError>
+    ensures { OnOk result (out.new.items ≡ out.old.items ++ rows row.now 0 7) }
+{
+    for number in 0..7u8 {
+        out.push(number)?;
+        out.extend_from_slice(row)?;
+    }
+    Ok(())
+}
+
+/// Puts the bytes of a block as it is after so many writes: its number, how often it was written, and rows of bytes made of both and of the seed.
 #[tactic(auto, unfolding(crate::specs::Content::block_bytes))]
 fn put_block(out: &mut Vec<u8>, seed: u32, block: u32, generation: u32) -> Result<(), AllocError>
     ensures { OnOk result (out.new.items ≡ out.old.items ++ block_bytes seed block generation) }
 {
     let state = (u128::from(seed) << 32) + u128::from(generation);
     let mut words = Pcg64::new(state, u128::from(block));
-    let mut rest = [0u8; 504];
-    words.fill_bytes(&mut rest);
+    let mut row = [0u8; 71];
+    words.fill_bytes(&mut row);
     out.extend_from_slice(&block.to_le_bytes())?;
     out.extend_from_slice(&generation.to_le_bytes())?;
-    out.extend_from_slice(&rest)
+    put_rows(out, &row)
 }
 
 /// The bytes of a slot that was written so often, once at least.
