@@ -5,7 +5,7 @@ use Rattle.two_sides.specs.Histories as histories
 use Rattle.step_core.specs.declared.step.Step.TheVariants as step
 use Rattle.machine_model.specs.Step as machine
 use Rattle.machine_model.specs.declared.words.Refusal.TheVariants as refusal
-use Rattle.std.proofs.Common.{◌≡◌, ℕ, Bool, true, false, true≢false, not, IsTrue, None, List, [], ◌∷◌, ◌++◌, map, if◌then◌else◌, refl, sym, ap, ◌∙◌, subst, ◌+◌, ◌≤◌, length, drop, Option, Some, arith, length-append, ◌⊎◌, inr, ◌||◌, cond, Result, Ok, Err, is_ok, OnOk, IfOk, IfErr}
+use Rattle.std.proofs.Common.{◌≡◌, ℕ, Bool, true, false, true≢false, not, IsTrue, None, List, [], ◌∷◌, ◌++◌, map, if◌then◌else◌, refl, sym, ap, ◌∙◌, subst, ◌+◌, ◌≤◌, length, drop, Option, Some, slice_get, zero, suc, ◌<◌, arith, length-append, ◌⊎◌, inr, ◌||◌, cond, Result, Ok, Err, is_ok, OnOk, IfOk, IfErr}
 use Rattle.std.proofs.lemmas.{List.{take-append-le, map-append, take_all, drop_at, append-nil, Sums.sum_by_push}}
 use Rattle.std.{proofs.lemmas.Slice.between_is, specs.{Bool.OnTrue, List.list_any, Option.option_map, Prelude.{is_some, MatchBool}}}
 use Rattle.machine_model.{proofs.Headline.steps_keep, specs.{Claims.IsSound, Events.Event, Image.Made, Refusals.refusal_of, State.State}}
@@ -17,7 +17,7 @@ use Rattle.step_core.specs.Values.{Step, Reply as Answer, Reply}
 use Rattle.driver_book.specs.Calls.{noted, entries, Does, WantsMemoryFor, MayWorldWant, most_of, most_pages}
 use Rattle.driver_book.specs.Entries.{Entry, LoggedDraft, answered, Room, LogContents, Takes, Lacks}
 use Rattle.driver_book.specs.History.{asked, told, draft_of, TellsOf, LeadsTo, entry_of, is_submission, is_accepted, accepted}
-use Rattle.driver_book.specs.Keeping.{KeptRequest, KeptStep, KeptDraft, Kept, part_of, shown_request, shown_step, shown_draft, shown, FitsIn, StepFits, DraftFits, EntryFits, AllFit}
+use Rattle.driver_book.specs.Keeping.{KeptRequest, KeptStep, KeptDraft, Kept, part_of, request_of, shown_request, shown_step, shown_draft, shown, draft_at, bare_step, HasNoRequest, FitsIn, StepFits, DraftFits, PlaceFits, EntryFits, AllFit, AllDraftsFit, Stands, most_places}
 use Rattle.driver_book.specs.Laws.{IsEntryOf, is_forgery, entries_name_allowed_pages, logs_are_trusted_runs, logs_of_jobs_are_trusted_runs, pieces_are_one_history, resets, is_reset, since_reset, trusted_ends_are_unforged}
 use Rattle.driver_book.specs.{State.{is_of_jobs, AreOfJobs, BookContents, IsBook, is_seated, AreSeated}, declared.entry.Span.Span}
 use Rattle.host_core.specs.{Opening.refusal_of_config, declared.{config.Config.Config, refused.Refused.Refused}}
@@ -25,6 +25,7 @@ use Rattle.block_image.specs.Blocks.{IsImage}
 use Rattle.io_commands.{proofs.Building.joined_parts_few, specs.{Asked.Request, Drafts.DraftContents, Requests.{data_count, joined_parts}}}
 use Rattle.io_commands.specs.{Values.{TicketContents, numbers_of}, declared.request.Piece.Piece}
 use Rattle.sgl_chain.proofs.Spelled.{needed_few}
+use Rattle.page_memory.proofs.Lists.{all-at}
 
 -- Logs, and the runs that they tell of.
 
@@ -180,52 +181,117 @@ fits_more n m s fits more = (fits.0, omega (arith, fits.1, more))
 request_longer : (xs ys : List Piece) (r : KeptRequest) → FitsIn (length xs) r.pieces → shown_request (xs ++ ys) r ≡ shown_request xs r
 request_longer xs ys r fits = rw (part_longer xs ys r.pieces fits) refl
 
-step_longer : (xs ys : List Piece) (s : KeptStep) → StepFits (length xs) s → shown_step (xs ++ ys) s ≡ shown_step xs s
-step_longer xs ys (step.Reserve q r) fits = rw (request_longer xs ys r fits) refl
-step_longer xs ys s fits = refl
-
-draft_longer : (xs ys : List Piece) (ps qs : List ℕ) (d : Option KeptDraft) → DraftFits (length xs) (length ps) d
-    → option_map (shown_draft (xs ++ ys) (ps ++ qs)) d ≡ option_map (shown_draft xs ps) d
-draft_longer xs ys ps qs None fits = refl
-draft_longer xs ys ps qs (Some d) fits =
+draft_longer : (xs ys : List Piece) (ps qs : List ℕ) (d : KeptDraft) → DraftFits (length xs) (length ps) d → shown_draft (xs ++ ys) (ps ++ qs) d ≡ shown_draft xs ps d
+draft_longer xs ys ps qs d fits =
     rw (request_longer xs ys d.request fits.0, part_longer ps qs d.data_pages fits.1, part_longer ps qs d.chain_pages fits.2) refl
 
-entry_longer : (xs ys : List Piece) (ps qs : List ℕ) (k : Kept) → EntryFits (length xs) (length ps) k → shown (xs ++ ys) (ps ++ qs) k ≡ shown xs ps k
-entry_longer xs ys ps qs k fits = rw (step_longer xs ys k.step fits.0, draft_longer xs ys ps qs k.draft fits.1) refl
+-- what stands at a place of a list stands there in a longer one
+place_longer : (ds es : List KeptDraft) (place : ℕ) → place < length ds → slice_get (ds ++ es) place ≡ slice_get ds place
+place_longer [] es place less = absurd (omega arith)
+place_longer (d ∷ ds) es zero less = refl
+place_longer (d ∷ ds) es (suc place) less = place_longer ds es place (omega (arith, less))
 
-all_longer : (xs ys : List Piece) (ps qs : List ℕ) (kept : List Kept) → AllFit (length xs) (length ps) kept
-    → map (shown (xs ++ ys) (ps ++ qs)) kept ≡ map (shown xs ps) kept
-all_longer xs ys ps qs [] fit = refl
-all_longer xs ys ps qs (k ∷ kept) fit = rw (entry_longer xs ys ps qs k fit.0, all_longer xs ys ps qs kept fit.1) refl
+-- and the one behind it
+pub place_behind : (ds : List KeptDraft) (d : KeptDraft) (place : ℕ) → place ≡ length ds → slice_get (ds ++ d ∷ []) place ≡ Some d
+place_behind ds d place is = ap (λ (i : ℕ). slice_get (ds ++ d ∷ []) i) is ∙ go ds
+  where
+    go : (xs : List KeptDraft) → slice_get (xs ++ d ∷ []) (length xs) ≡ Some d
+    go [] = refl
+    go (x ∷ xs) = go xs
+
+-- the draft at a place fits
+pub fits_at : (n p : ℕ) (ds : List KeptDraft) (place : ℕ) (d : KeptDraft) → AllDraftsFit n p ds → slice_get ds place ≡ Some d → DraftFits n p d
+fits_at n p ds place d fit at = all-at (DraftFits n p) ds place d at fit
+
+request_at_longer : (xs ys : List Piece) (ps : List ℕ) (ds es : List KeptDraft) (place : ℕ) → AllDraftsFit (length xs) (length ps) ds → place < length ds
+    → request_of (xs ++ ys) (slice_get (ds ++ es) place) ≡ request_of xs (slice_get ds place)
+request_at_longer xs ys ps ds es place fit less = ap (request_of (xs ++ ys)) (place_longer ds es place less) ∙ go (slice_get ds place) refl
+  where
+    go : (o : Option KeptDraft) → slice_get ds place ≡ o → request_of (xs ++ ys) o ≡ request_of xs o
+    go None at = refl
+    go (Some d) at = request_longer xs ys d.request (fits_at (length xs) (length ps) ds place d fit at).0
+
+draft_at_longer : (xs ys : List Piece) (ps qs : List ℕ) (ds es : List KeptDraft) (at : Option ℕ) → AllDraftsFit (length xs) (length ps) ds → PlaceFits (length ds) at
+    → option_map (shown_draft (xs ++ ys) (ps ++ qs)) (draft_at (ds ++ es) at) ≡ option_map (shown_draft xs ps) (draft_at ds at)
+draft_at_longer xs ys ps qs ds es None fit less = refl
+draft_at_longer xs ys ps qs ds es (Some place) fit less = ap (option_map (shown_draft (xs ++ ys) (ps ++ qs))) (place_longer ds es place less) ∙ go (slice_get ds place) refl
+  where
+    go : (o : Option KeptDraft) → slice_get ds place ≡ o → option_map (shown_draft (xs ++ ys) (ps ++ qs)) o ≡ option_map (shown_draft xs ps) o
+    go None at = refl
+    go (Some d) at = ap (λ (x : LoggedDraft). Some x) (draft_longer xs ys ps qs d (fits_at (length xs) (length ps) ds place d fit at))
+
+step_longer : (xs ys : List Piece) (ps : List ℕ) (ds es : List KeptDraft) (s : KeptStep) → AllDraftsFit (length xs) (length ps) ds → StepFits (length ds) s
+    → shown_step (xs ++ ys) (ds ++ es) s ≡ shown_step xs ds s
+step_longer xs ys ps ds es (step.Reserve q place) fit less = rw (request_at_longer xs ys ps ds es place fit less) refl
+step_longer xs ys ps ds es s fit less = refl
+
+entry_longer : (xs ys : List Piece) (ps qs : List ℕ) (ds es : List KeptDraft) (k : Kept) → AllDraftsFit (length xs) (length ps) ds → EntryFits (length ds) k
+    → shown (xs ++ ys) (ps ++ qs) (ds ++ es) k ≡ shown xs ps ds k
+entry_longer xs ys ps qs ds es k fit fits = rw (step_longer xs ys ps ds es k.step fit fits.0, draft_at_longer xs ys ps qs ds es k.draft fit fits.1) refl
+
+all_longer : (xs ys : List Piece) (ps qs : List ℕ) (ds es : List KeptDraft) (kept : List Kept) → AllDraftsFit (length xs) (length ps) ds → AllFit (length ds) kept
+    → map (shown (xs ++ ys) (ps ++ qs) (ds ++ es)) kept ≡ map (shown xs ps ds) kept
+all_longer xs ys ps qs ds es [] fit fits = refl
+all_longer xs ys ps qs ds es (k ∷ kept) fit fits = rw (entry_longer xs ys ps qs ds es k fit fits.0, all_longer xs ys ps qs ds es kept fit fits.1) refl
 
 step_fits_more : (n m : ℕ) (s : KeptStep) → StepFits n s → n ≤ m → StepFits m s
-step_fits_more n m (step.Reserve q r) fits more = fits_more n m r.pieces fits more
+step_fits_more n m (step.Reserve q place) fits more = omega (arith, fits, more)
 step_fits_more n m s fits more = tt
 
-draft_fits_more : (n m p q : ℕ) (d : Option KeptDraft) → DraftFits n p d → n ≤ m → p ≤ q → DraftFits m q d
-draft_fits_more n m p q None fits more further = tt
-draft_fits_more n m p q (Some d) fits more further = (fits_more n m d.request.pieces fits.0 more, fits_more p q d.data_pages fits.1 further, fits_more p q d.chain_pages fits.2 further)
+place_fits_more : (n m : ℕ) (place : Option ℕ) → PlaceFits n place → n ≤ m → PlaceFits m place
+place_fits_more n m None fits more = tt
+place_fits_more n m (Some place) fits more = omega (arith, fits, more)
+
+draft_fits_more : (n m p q : ℕ) (d : KeptDraft) → DraftFits n p d → n ≤ m → p ≤ q → DraftFits m q d
+draft_fits_more n m p q d fits more further = (fits_more n m d.request.pieces fits.0 more, fits_more p q d.data_pages fits.1 further, fits_more p q d.chain_pages fits.2 further)
+
+-- a request without pages, wherever pages stand
+pub without_draft_fits : (n p : ℕ) (d : KeptDraft) → DraftFits n 0 d → DraftFits n p d
+without_draft_fits n p d fits = draft_fits_more n n 0 p d fits (omega arith) (omega arith)
 
 -- in longer lists, with one more
-pub all_fit_more : (n m p q : ℕ) (kept : List Kept) (k : Kept) → AllFit n p kept → n ≤ m → p ≤ q → EntryFits m q k → AllFit m q (kept ++ k ∷ [])
-all_fit_more n m p q [] k fit more further fits = (fits, tt)
-all_fit_more n m p q (x ∷ kept) k fit more further fits =
-    ((step_fits_more n m x.step fit.0.0 more, draft_fits_more n m p q x.draft fit.0.1 more further), all_fit_more n m p q kept k fit.1 more further fits)
+all_fit_more : (n m : ℕ) (kept : List Kept) (k : Kept) → AllFit n kept → n ≤ m → EntryFits m k → AllFit m (kept ++ k ∷ [])
+all_fit_more n m [] k fit more fits = (fits, tt)
+all_fit_more n m (x ∷ kept) k fit more fits =
+    ((step_fits_more n m x.step fit.0.0 more, place_fits_more n m x.draft fit.0.1 more), all_fit_more n m kept k fit.1 more fits)
+
+drafts_fit_more : (n m p q : ℕ) (ds others : List KeptDraft) → AllDraftsFit n p ds → n ≤ m → p ≤ q → AllDraftsFit m q others → AllDraftsFit m q (ds ++ others)
+drafts_fit_more n m p q [] others fit more further fits = fits
+drafts_fit_more n m p q (x ∷ ds) others fit more further fits = (draft_fits_more n m p q x fit.0 more further, drafts_fit_more n m p q ds others fit.1 more further fits)
 
 -- what is kept of a log with one entry more
-pub kept_more : (xs xs2 more : List Piece) (ps ps2 further : List ℕ) (kept : List Kept) (k : Kept) → AllFit (length xs) (length ps) kept → xs2 ≡ xs ++ more → ps2 ≡ ps ++ further
-    → map (shown xs2 ps2) (kept ++ k ∷ []) ≡ map (shown xs ps) kept ++ shown xs2 ps2 k ∷ []
-kept_more xs xs2 more ps ps2 further kept k fit pieces pages =
-    let same : map (shown xs2 ps2) kept ≡ map (shown xs ps) kept = rw (pieces, pages) (all_longer xs more ps further kept fit) in
-    map-append (shown xs2 ps2) kept (k ∷ []) ∙ ap (λ (es : List Entry). es ++ shown xs2 ps2 k ∷ []) same
+pub kept_more : (xs xs2 more : List Piece) (ps ps2 further : List ℕ) (ds ds2 others : List KeptDraft) (kept : List Kept) (k : Kept) → Stands xs ps ds kept
+    → xs2 ≡ xs ++ more → ps2 ≡ ps ++ further → ds2 ≡ ds ++ others
+    → map (shown xs2 ps2 ds2) (kept ++ k ∷ []) ≡ map (shown xs ps ds) kept ++ shown xs2 ps2 ds2 k ∷ []
+kept_more xs xs2 more ps ps2 further ds ds2 others kept k stands pieces pages drafts =
+    let same : map (shown xs2 ps2 ds2) kept ≡ map (shown xs ps ds) kept = rw (pieces, pages, drafts) (all_longer xs more ps further ds others kept stands.drafts_fit stands.entries_fit) in
+    map-append (shown xs2 ps2 ds2) kept (k ∷ []) ∙ ap (λ (es : List Entry). es ++ shown xs2 ps2 ds2 k ∷ []) same
 
 -- and that it stands in its lists
-pub fit_more : (xs xs2 more : List Piece) (ps ps2 further : List ℕ) (kept : List Kept) (k : Kept) → AllFit (length xs) (length ps) kept → xs2 ≡ xs ++ more → ps2 ≡ ps ++ further
-    → EntryFits (length xs2) (length ps2) k → AllFit (length xs2) (length ps2) (kept ++ k ∷ [])
-fit_more xs xs2 more ps ps2 further kept k fit pieces pages fits =
+pub stands_more : (xs xs2 more : List Piece) (ps ps2 further : List ℕ) (ds ds2 others : List KeptDraft) (kept : List Kept) (k : Kept) → Stands xs ps ds kept
+    → xs2 ≡ xs ++ more → ps2 ≡ ps ++ further → ds2 ≡ ds ++ others
+    → length xs2 ≤ most_places → length ps2 ≤ most_places → length ds2 ≤ most_places
+    → AllDraftsFit (length xs2) (length ps2) others → EntryFits (length ds2) k → Stands xs2 ps2 ds2 (kept ++ k ∷ [])
+stands_more xs xs2 more ps ps2 further ds ds2 others kept k stands pieces pages drafts few1 few2 few3 fits here =
     let longer : length xs ≤ length xs2 = omega (arith, ap length pieces, length-append xs more) in
     let long : length ps ≤ length ps2 = omega (arith, ap length pages, length-append ps further) in
-    all_fit_more (length xs) (length xs2) (length ps) (length ps2) kept k fit longer long fits
+    let further_on : length ds ≤ length ds2 = omega (arith, ap length drafts, length-append ds others) in
+    record {
+      entries_fit = all_fit_more (length ds) (length ds2) kept k stands.entries_fit further_on here;
+      drafts_fit = subst (λ (x : List KeptDraft). AllDraftsFit (length xs2) (length ps2) x) (sym drafts) (drafts_fit_more (length xs) (length xs2) (length ps) (length ps2) ds others stands.drafts_fit longer long fits);
+      few_pieces = few1;
+      few_pages = few2;
+      few_drafts = few3;
+    }
+
+-- an entry without a request, in any lists
+pub bare_shown : (xs : List Piece) (ds : List KeptDraft) (s : KeptStep) → HasNoRequest s → shown_step xs ds s ≡ bare_step s
+bare_shown xs ds (step.Reserve q place) none = absurd none
+bare_shown xs ds s none = refl
+
+pub bare_fits : (n : ℕ) (s : KeptStep) → HasNoRequest s → StepFits n s
+bare_fits n (step.Reserve q place) none = absurd none
+bare_fits n s none = tt
 
 -- a draft of which the parts were put behind the lists
 pub kept_draft : (ps : List Piece) (q0 q1 q2 : List ℕ) (d : KeptDraft) (request : Request) (first second : List ℕ) → shown_request ps d.request ≡ request → q1 ≡ q0 ++ first → q2 ≡ q1 ++ second
@@ -248,16 +314,25 @@ answered_last answer (x ∷ []) e = refl
 answered_last answer (x ∷ (y ∷ es)) e = rw (answered_last answer (y ∷ es) e) refl
 
 -- a kept list without its last, and with the last as another
-pub kept_last : (xs : List Piece) (ps : List ℕ) (all kept : List Kept) (k other : Kept) (answer : Reply) → all ≡ kept ++ k ∷ [] → shown xs ps other ≡ (let e : Entry = record (shown xs ps k) { answer = answer } in e)
-    → map (shown xs ps) (kept ++ other ∷ []) ≡ answered answer (map (shown xs ps) all)
-kept_last xs ps all kept k other answer is shows =
-    map-append (shown xs ps) kept (other ∷ []) ∙ ap (λ (e : Entry). map (shown xs ps) kept ++ e ∷ []) shows ∙ sym (answered_last answer (map (shown xs ps) kept) (shown xs ps k))
-    ∙ ap (λ (es : List Entry). answered answer es) (sym (map-append (shown xs ps) kept (k ∷ [])) ∙ ap (λ (ks : List Kept). map (shown xs ps) ks) (sym is))
+pub kept_last : (xs : List Piece) (ps : List ℕ) (ds : List KeptDraft) (all kept : List Kept) (k other : Kept) (answer : Reply) → all ≡ kept ++ k ∷ []
+    → shown xs ps ds other ≡ (let e : Entry = record (shown xs ps ds k) { answer = answer } in e)
+    → map (shown xs ps ds) (kept ++ other ∷ []) ≡ answered answer (map (shown xs ps ds) all)
+kept_last xs ps ds all kept k other answer is shows =
+    map-append (shown xs ps ds) kept (other ∷ []) ∙ ap (λ (e : Entry). map (shown xs ps ds) kept ++ e ∷ []) shows ∙ sym (answered_last answer (map (shown xs ps ds) kept) (shown xs ps ds k))
+    ∙ ap (λ (es : List Entry). answered answer es) (sym (map-append (shown xs ps ds) kept (k ∷ [])) ∙ ap (λ (ks : List Kept). map (shown xs ps ds) ks) (sym is))
 
-pub fit_last : (n p : ℕ) (all kept : List Kept) (k other : Kept) → all ≡ kept ++ k ∷ [] → AllFit n p all → (EntryFits n p k → EntryFits n p other) → AllFit n p (kept ++ other ∷ [])
-fit_last n p all kept k other is fit same = go kept (subst (λ (ks : List Kept). AllFit n p ks) is fit)
+pub stands_last : (xs : List Piece) (ps : List ℕ) (ds : List KeptDraft) (all kept : List Kept) (k other : Kept) → all ≡ kept ++ k ∷ [] → Stands xs ps ds all
+    → (EntryFits (length ds) k → EntryFits (length ds) other) → Stands xs ps ds (kept ++ other ∷ [])
+stands_last xs ps ds all kept k other is stands same =
+    record {
+      entries_fit = go kept (subst (λ (ks : List Kept). AllFit (length ds) ks) is stands.entries_fit);
+      drafts_fit = stands.drafts_fit;
+      few_pieces = stands.few_pieces;
+      few_pages = stands.few_pages;
+      few_drafts = stands.few_drafts;
+    }
   where
-    go : (ks : List Kept) → AllFit n p (ks ++ k ∷ []) → AllFit n p (ks ++ other ∷ [])
+    go : (ks : List Kept) → AllFit (length ds) (ks ++ k ∷ []) → AllFit (length ds) (ks ++ other ∷ [])
     go [] f = (same f.0, tt)
     go (x ∷ ks) f = (f.0, go ks f.1)
 
@@ -396,7 +471,7 @@ none_of_jobs false = tt
 -- a book as it opens
 pub empty_book : (alone : Bool) {o w : State} {log : List Entry} {tally parts ledger : ℕ}
     → IsSound w → w ≡ o → log ≡ [] → tally ≡ 0 → parts ≡ ledger → ledger ≡ 65536 → IsBook alone o w log tally 0 parts 0 0 ledger
-empty_book alone sound opens none zero all number = rw (none, zero) (record {
+empty_book alone sound opens none no_tally all number = rw (none, no_tally) (record {
   legal = opens;
   sound = sound;
   counted = refl;

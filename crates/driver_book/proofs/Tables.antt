@@ -8,7 +8,7 @@ use Rattle.entry_codec.specs.declared.status.{Status.Status, TheConstants.Status
 use Rattle.io_commands.specs.declared.request.Piece.{Piece}
 use Rattle.machine_model.specs.declared.words.Reaped.TheVariants.{Done}
 use Rattle.driver_book.specs.Close.{same_seat, has, stands, accepted_of, held, first_of, status_by, queue_in, identifier_in, AllStand, IsMissing}
-use Rattle.driver_book.specs.{Entries.{Entry, LoggedDraft, asked_in}, History.{accepted, is_accepted, is_submission}, Keeping.{Kept, KeptStep, shown, shown_step}, Passes.is_known, State.{SeatContents, is_seated, AreSeated}}
+use Rattle.driver_book.specs.{Entries.{Entry, LoggedDraft, asked_in}, History.{accepted, is_accepted, is_submission}, Keeping.{Kept, KeptDraft, KeptStep, draft_at, shown, shown_draft, shown_step}, Passes.is_known, State.{SeatContents, is_seated, AreSeated}}
 use Rattle.driver_book.specs.Submissions.{submitted_by, submission_of, ended_by, end_of, given_by}
 use Rattle.driver_book.specs.Table.{count_of, with_count, AreCounted, AreWithin, AreBelow, StandFrom, IsMissingFrom, earlier, EndTable, status_in, with_single, IsFrom, Tells}
 use Rattle.driver_book.specs.declared.{entry.{EndAt.{EndAt, TheVariants.{Nothing, One, Queue, All}}, Submission.Submission}, ends.End.End, report.Asked.Asked}
@@ -21,20 +21,43 @@ use Rattle.step_core.specs.declared.step.Reply.TheVariants as reply
 -- What an entry ended
 
 -- what a kept step ended is what the step that it stands for ended
-shown_end : (pieces : List Piece) (s : KeptStep) (a : Reply) → ended_by (shown_step pieces s) a ≡ ended_by s a
-shown_end pieces (step.Reap q) (reply.Reaps (Done cid status)) = refl
-shown_end pieces (step.Reap q) a = refl
-shown_end pieces (step.Retire q) reply.Accepted = refl
-shown_end pieces (step.Retire q) a = refl
-shown_end pieces step.Reset reply.Accepted = refl
-shown_end pieces step.Reset a = refl
-shown_end pieces s a = refl
+shown_end : (pieces : List Piece) (drafts : List KeptDraft) (s : KeptStep) (a : Reply) → ended_by (shown_step pieces drafts s) a ≡ ended_by s a
+shown_end pieces drafts (step.Reap q) (reply.Reaps (Done cid status)) = refl
+shown_end pieces drafts (step.Reap q) a = refl
+shown_end pieces drafts (step.Retire q) reply.Accepted = refl
+shown_end pieces drafts (step.Retire q) a = refl
+shown_end pieces drafts step.Reset reply.Accepted = refl
+shown_end pieces drafts step.Reset a = refl
+shown_end pieces drafts s a = refl
 
-pub kept_end : (pieces : List Piece) (pages : List ℕ) (kept : List Kept) (i : ℕ) (x : Kept) → i < length kept → x ≡ get_or kept i x
-    → option_map end_of (slice_get (map (shown pieces pages) kept) i) ≡ Some (ended_by x.step x.answer)
-kept_end pieces pages kept i x less here =
+-- what is shown of a kept entry at a place
+kept_at : {X : Type 0} (f : Kept → X) (kept : List Kept) (i : ℕ) (x : Kept) → i < length kept → x ≡ get_or kept i x → slice_get (map f kept) i ≡ Some (f x)
+kept_at f kept i x less here =
     let at : slice_get kept i ≡ Some x = slice_get-get_or kept i x less ∙ ap (λ (k : Kept). Some k) (sym here) in
-    ap (option_map end_of) (slice_get-map (shown pieces pages) kept i ∙ ap (option_map (shown pieces pages)) at) ∙ ap (λ (e : EndAt). Some e) (shown_end pieces x.step x.answer)
+    slice_get-map f kept i ∙ ap (option_map f) at
+
+pub kept_end : (pieces : List Piece) (pages : List ℕ) (drafts : List KeptDraft) (kept : List Kept) (i : ℕ) (x : Kept) → i < length kept → x ≡ get_or kept i x
+    → option_map end_of (slice_get (map (shown pieces pages drafts) kept) i) ≡ Some (ended_by x.step x.answer)
+kept_end pieces pages drafts kept i x less here =
+    ap (option_map end_of) (kept_at (shown pieces pages drafts) kept i x less here) ∙ ap (λ (e : EndAt). Some e) (shown_end pieces drafts x.step x.answer)
+
+-- so with the submission that it tells of
+
+shown_asked : (pieces : List Piece) (pages : List ℕ) (o : Option KeptDraft) → asked_in (option_map (shown_draft pieces pages) o) ≡ asked_in o
+shown_asked pieces pages None = refl
+shown_asked pieces pages (Some d) = refl
+
+shown_submission : (pieces : List Piece) (pages : List ℕ) (drafts : List KeptDraft) (seat : Option ℕ) (s : KeptStep) (a : Reply) (o : Option KeptDraft)
+    → submitted_by seat (shown_step pieces drafts s) a (option_map (shown_draft pieces pages) o) ≡ submitted_by seat s a o
+shown_submission pieces pages drafts seat (step.Submit q cid) reply.Accepted o = rw (shown_asked pieces pages o) refl
+shown_submission pieces pages drafts seat (step.Submit q cid) a o = refl
+shown_submission pieces pages drafts seat s a o = refl
+
+pub kept_submission : (pieces : List Piece) (pages : List ℕ) (drafts : List KeptDraft) (kept : List Kept) (i : ℕ) (x : Kept) → i < length kept → x ≡ get_or kept i x
+    → option_map submission_of (slice_get (map (shown pieces pages drafts) kept) i) ≡ Some (submitted_by x.seat x.step x.answer (draft_at drafts x.draft))
+kept_submission pieces pages drafts kept i x less here =
+    ap (option_map submission_of) (kept_at (shown pieces pages drafts) kept i x less here)
+    ∙ ap (λ (o : Option Submission). Some o) (shown_submission pieces pages drafts x.seat x.step x.answer (draft_at drafts x.draft))
 
 given : (q cid : ℕ) (what : Step) (answer : Reply) → status_by q cid what answer ≡ given_by q cid (ended_by what answer)
 given q cid (step.Reap of) (reply.Reaps (Done ended status)) = refl

@@ -35,10 +35,10 @@ pub struct LoggedDraft<R, P> {
 }
 
 /// Which part of a list: from a place on, to before another.
-#[derive(Clone, Copy, Debug)]
-pub struct Span {
-    pub(crate) start: usize,
-    pub(crate) end: usize,
+#[derive(Clone, Copy)]
+pub(crate) struct Span {
+    pub(crate) start: u32,
+    pub(crate) end: u32,
 }
 
 /// What stands in a log where a step or an answer has bytes: none. Contracts see the empty list.
@@ -55,17 +55,27 @@ impl Model for NoBytes {
     ghost inverse = { λ _. record {} };
 }
 
-/// A request as a log keeps it.
+/// A request as a log keeps it: its pieces are a part of the log's list of pieces.
 pub(crate) type KeptRequest = RequestOf<Span>;
 
-/// A draft as a log keeps it.
+/// A draft as a log keeps it, or a request of which no draft came, which has no pages.
 pub(crate) type KeptDraft = LoggedDraft<KeptRequest, Span>;
 
-/// An entry as a log keeps it: its request and its pages are parts of the log's lists.
-pub(crate) type KeptEntry = Entry<KeptRequest, NoBytes, Span>;
+/// A step as a log keeps it: a request is a place in the log's list of drafts.
+pub type KeptStep = Step<u32, NoBytes>;
 
-/// A step as a log keeps it.
-pub type KeptStep = Step<RequestOf<Span>, NoBytes>;
+/// An entry as a log keeps it.
+#[derive(Drop)]
+pub(crate) struct KeptEntry {
+    /// The number of the seat that made the step, if one did.
+    pub(crate) seat: Option<u16>,
+    /// The place of its draft in the log's list of drafts, if it has one.
+    pub(crate) draft: Option<u32>,
+    /// The step.
+    pub(crate) step: KeptStep,
+    /// What it answered.
+    pub(crate) answer: Reply<NoBytes>,
+}
 
 /// What the draft of an entry asks for, where it has one.
 pub(crate) fn asked_in<P, Q>(draft: &Option<LoggedDraft<RequestOf<P>, Q>>) -> Option<Asked>

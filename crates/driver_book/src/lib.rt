@@ -13,9 +13,9 @@
 //! out, but for the request of [`Book::least_pages`]. It is [`Global`](std::alloc::Global) where none is named.
 //!
 //! The log is a [`Log`], a value of its own: it keeps an [`Entry`] for each step, who made it, the step, what it answered, and of a reservation and a submission
-//! what the draft was. The pieces of all requests stand in one list, behind one another, and the page numbers of all drafts in another; an entry
-//! names its part of them. So an entry takes no memory of its own: the three lists grow by [`Log::make_room`], and an entry that has room
-//! is written without more memory.
+//! what the draft was. Requests and drafts stand in a list of their own, the pieces of all requests in one list, behind one another, and the page
+//! numbers of all drafts in another; an entry names places of them. So an entry takes no memory of its own: the four lists grow by
+//! [`Log::make_room`], and an entry that has room is written without more memory.
 //!
 //! `specs/History.antt` says where a log leads, `specs/Entries.antt` what contracts see of it, `specs/Keeping.antt` how entries are kept, `specs/Calls.antt` what the
 //! calls do, `specs/Close.antt` what it is to close a book.
@@ -44,7 +44,7 @@ mod two_passes;
 pub use book::{Book, BookRefused, FullLogBrand, LogBrand};
 pub use carry::{CarryRefused, ClosedLog};
 pub use close::CloseRefused;
-pub use entry::{Entry, KeptStep, LoggedDraft, NoBytes, Span};
+pub use entry::{Entry, KeptStep, LoggedDraft, NoBytes};
 pub use full::Full;
 pub use log::Log;
 pub use report::{Asked, CloseFault, NoSeat, Receipt, Receipts, Report, ReportIn};

@@ -1,16 +1,17 @@
 //! The log itself.
 
-ghost use Rattle.std.specs.Prelude.{◌≡◌, ◌+◌, ◌<◌, ◌^◌, ◌++◌, ◌∷◌, [], ◌==◌, None, Some, false, OnOk, OnErr, IfSome, IfNone, length, slice_get};
+ghost use Rattle.std.specs.Prelude.{◌≡◌, ◌+◌, ◌<◌, ◌≤◌, ◌^◌, ◌++◌, ◌∷◌, [], ◌==◌, None, Some, false, OnOk, OnErr, IfSome, IfNone, length, slice_get};
 ghost use Rattle.std.specs.Option.{option_map};
 ghost use Rattle.driver_book.specs.Entries.{Entry as AnEntry};
 ghost use Rattle.machine_model.specs.Events as events;
 ghost use Rattle.driver_book.specs.History.{entry, entry_of};
 ghost use Rattle.driver_book.specs.Submissions.{submitted_by, submission_of, ended_by, end_of};
-ghost use Rattle.driver_book.specs.Keeping.{HasNoRequest, bare_step, may_end as may_end_step};
-ghost use Rattle.driver_book.specs.Entries.{IsNoLess, Takes, Lacks, left, answered};
+ghost use Rattle.driver_book.specs.Keeping.{HasNoRequest, PlaceFits, bare_step, draft_at, may_end as may_end_step};
+ghost use Rattle.driver_book.specs.Entries.{IsNoLess, Takes, Lacks, asked_in, left, answered};
 
-use crate::entry::{EndAt, Entry, KeptDraft, KeptEntry, KeptStep, NoBytes, Submission, asked_in};
-use crate::keep::{keep_draft, keep_request, same_request};
+use crate::entry::{EndAt, KeptDraft, KeptEntry, KeptStep, NoBytes, Submission};
+use crate::keep::{keep_draft, keep_without_draft, put_draft, reserve_places};
+use crate::report::Asked;
 use crate::shown::{ShownEntry, shown_entry};
 use io_commands::{Draft, Piece, Request};
 use machine_model::words::Reaped;
@@ -24,20 +25,23 @@ use step_core::{Reply, Step};
 #[derive(Drop)]
 pub struct Log<A: Allocator = Global> {
     kept: Vec<KeptEntry, A>,
+    drafts: Vec<KeptDraft, A>,
     pieces: Vec<Piece, A>,
     pages: Vec<PageNo, A>,
+    /// How many more entries have room, each with a draft.
+    entries_left: usize,
 }
 
 impl<A: Allocator> Model for Log<A> {
-    ghost use Rattle.std.specs.Prelude.{◌-◌, length, map, vec_len, vec_capacity};
+    ghost use Rattle.std.specs.Prelude.{◌+◌, ◌-◌, ◌≤◌, map, vec_len, vec_capacity};
     ghost use Rattle.driver_book.specs.Entries.{LogContents};
-    ghost use Rattle.driver_book.specs.Keeping.{shown, AllFit};
+    ghost use Rattle.driver_book.specs.Keeping.{places, shown, Stands};
 
     ghost Value = { LogContents };
 
-    ghost view = { λ l. record { entries = map (shown l.pieces.items l.pages.items) l.kept.items; room = record { entries = vec_capacity l.kept - vec_len l.kept; pieces = vec_capacity l.pieces - vec_len l.pieces; pages = vec_capacity l.pages - vec_len l.pages } } };
+    ghost view = { λ l. record { entries = map (shown l.pieces.items l.pages.items l.drafts.items) l.kept.items; room = record { entries = l.entries_left; pieces = places (vec_capacity l.pieces) - vec_len l.pieces; pages = places (vec_capacity l.pages) - vec_len l.pages } } };
 
-    ghost invariant = { λ l. AllFit (length l.pieces.items) (length l.pages.items) l.kept.items };
+    ghost invariant = { λ l. Stands l.pieces.items l.pages.items l.drafts.items l.kept.items × (vec_len l.kept + l.entries_left ≤ vec_capacity l.kept) × (vec_len l.drafts + l.entries_left ≤ places (vec_capacity l.drafts)) };
 }
 
 impl<A: Allocator + Copy> Log<A> {
@@ -47,8 +51,10 @@ impl<A: Allocator + Copy> Log<A> {
     {
         Log {
             kept: Vec::new(alloc),
+            drafts: Vec::new(alloc),
             pieces: Vec::new(alloc),
             pages: Vec::new(alloc),
+            entries_left: 0,
         }
     }
 }
@@ -60,22 +66,29 @@ fn may_end(step: &KeptStep) -> bool
     matches!(step, Step::Reap { .. } | Step::Retire { .. } | Step::Reset)
 }
 
-/// The submission that a step is, where it was accepted, with what its draft asks for.
-fn submission_in(
-    seat: Option<u16>,
-    step: &KeptStep,
-    answer: &Reply<NoBytes>,
-    draft: &Option<KeptDraft>,
-) -> Option<Submission>
-    ensures { result ≡ submitted_by seat step.now answer.now draft.now }
+/// What the draft at a place asks for, where an entry has one.
+fn asked_at(drafts: &[KeptDraft], place: Option<u32>) -> Option<Asked>
+    requires { PlaceFits (length drafts.now) place }
+    ensures { result ≡ asked_in (draft_at drafts.now place) }
 {
-    match step {
-        Step::Submit { q, cid } => match answer {
+    match place {
+        Some(place) => Some(Asked::of(&drafts[place as usize].request)),
+        None => None,
+    }
+}
+
+/// The submission that the step of an entry is, where it was accepted, with what its draft asks for.
+fn submission_in(entry: &KeptEntry, drafts: &[KeptDraft]) -> Option<Submission>
+    requires { PlaceFits (length drafts.now) entry.now.draft }
+    ensures { result ≡ submitted_by entry.now.seat entry.now.step entry.now.answer (draft_at drafts.now entry.now.draft) }
+{
+    match &entry.step {
+        Step::Submit { q, cid } => match &entry.answer {
             Reply::Accepted => Some(Submission {
-                seat,
+                seat: entry.seat,
                 q: *q,
                 cid: *cid,
-                asked: asked_in(draft),
+                asked: asked_at(drafts, entry.draft),
             }),
             _ => None,
         },
@@ -109,20 +122,40 @@ fn end_in(step: &KeptStep, answer: &Reply<NoBytes>) -> EndAt
 }
 
 impl<A: Allocator> Log<A> {
+    /// Makes room for one entry and its draft.
+    fn make_room_for_entry(&mut self) -> Result<(), AllocError>
+        ensures room { OnOk result (0 < self.new.room.entries) }
+        ensures full { OnErr result (self.old.room.entries ≡ 0) }
+        ensures no_less { self.old.room.entries ≤ self.new.room.entries }
+        ensures pieces { self.new.room.pieces ≡ self.old.room.pieces }
+        ensures pages { self.new.room.pages ≡ self.old.room.pages }
+        ensures same { self.new.entries ≡ self.old.entries }
+    {
+        if self.entries_left > 0 {
+            return Ok(());
+        }
+        self.kept.reserve(1)?;
+        reserve_places(&mut self.drafts, 1)?;
+        let drafts_left = self.drafts.capacity().min(u32::MAX as usize) - self.drafts.len();
+        self.entries_left = drafts_left.min(self.kept.capacity() - self.kept.len());
+        Ok(())
+    }
+
     /// Makes room for one entry, with so many pieces of requests and so many page numbers of drafts.
     ///
     /// # Errors
     ///
-    /// Where memory is refused. The entries stay; one of the three had too little room. What room there was is there still.
+    /// Where memory is refused, or a list would have 2^32 elements. The entries stay; one of the three had too little room. What room there
+    /// was is there still.
     pub fn make_room(&mut self, pieces: usize, pages: usize) -> Result<(), AllocError>
         ensures room { OnOk result (Takes self.new.room pieces pages) }
         ensures full { OnErr result (Lacks self.old.room pieces pages) }
         ensures no_less { IsNoLess self.old.room self.new.room }
         ensures same { self.new.entries ≡ self.old.entries }
     {
-        self.kept.reserve(1)?;
-        self.pieces.reserve(pieces)?;
-        self.pages.reserve(pages)?;
+        self.make_room_for_entry()?;
+        reserve_places(&mut self.pieces, pieces)?;
+        reserve_places(&mut self.pages, pages)?;
         Ok(())
     }
 
@@ -133,11 +166,12 @@ impl<A: Allocator> Log<A> {
         ensures entries { self.new.entries ≡ self.old.entries ++ entry seat (bare_step step) answer None ∷ [] }
         ensures room { self.new.room ≡ left self.old.room 0 0 }
     {
-        self.kept.push_reserved(Entry {
+        self.entries_left -= 1;
+        self.kept.push_reserved(KeptEntry {
             seat,
+            draft: None,
             step,
             answer,
-            draft: None,
         });
     }
 
@@ -153,12 +187,14 @@ impl<A: Allocator> Log<A> {
         ensures entries { self.new.entries ≡ self.old.entries ++ entry seat (Step.Reserve q request.now) answer None ∷ [] }
         ensures room { self.new.room ≡ left self.old.room (length request.now.pieces) 0 }
     {
-        let request = keep_request(&mut self.pieces, request);
-        self.kept.push_reserved(Entry {
+        let kept = keep_without_draft(&mut self.pieces, request);
+        let place = put_draft(&mut self.drafts, kept);
+        self.entries_left -= 1;
+        self.kept.push_reserved(KeptEntry {
             seat,
-            step: Step::Reserve { q, request },
-            answer,
             draft: None,
+            step: Step::Reserve { q, request: place },
+            answer,
         });
     }
 
@@ -169,14 +205,16 @@ impl<A: Allocator> Log<A> {
         ensures room { self.new.room ≡ left self.old.room (length draft.now.request.pieces) (length draft.now.data_pages + length draft.now.chain_pages) }
     {
         let kept = keep_draft(&mut self.pieces, &mut self.pages, draft);
-        self.kept.push_reserved(Entry {
+        let place = put_draft(&mut self.drafts, kept);
+        self.entries_left -= 1;
+        self.kept.push_reserved(KeptEntry {
             seat,
+            draft: Some(place),
             step: Step::Reserve {
                 q: draft.q(),
-                request: same_request(&kept.request),
+                request: place,
             },
             answer: Reply::reserved(draft),
-            draft: Some(kept),
         });
     }
 
@@ -189,14 +227,16 @@ impl<A: Allocator> Log<A> {
         ensures few { length self.new.entries < 2 ^ 63 }
     {
         let kept = keep_draft(&mut self.pieces, &mut self.pages, draft);
-        self.kept.push_reserved(Entry {
+        let place = put_draft(&mut self.drafts, kept);
+        self.entries_left -= 1;
+        self.kept.push_reserved(KeptEntry {
             seat,
+            draft: Some(place),
             step: Step::Submit {
                 q: draft.q(),
                 cid: draft.cid(),
             },
             answer: Reply::Accepted,
-            draft: Some(kept),
         });
     }
 
@@ -206,7 +246,7 @@ impl<A: Allocator> Log<A> {
         ensures room { self.new.room ≡ self.old.room }
     {
         if let Some(last) = self.kept.pop() {
-            self.kept.push_reserved(Entry { answer, ..last });
+            self.kept.push_reserved(KeptEntry { answer, ..last });
         }
     }
 
@@ -229,7 +269,7 @@ impl<A: Allocator> Log<A> {
         requires { index < length self.now.entries }
         ensures { slice_get self.now.entries index ≡ Some result }
     {
-        shown_entry(&self.pieces, &self.pages, &self.kept[index])
+        shown_entry(&self.pieces, &self.pages, &self.drafts, &self.kept[index])
     }
 
     /// The entry at a place, counted from 0, where its step may end submitted commands: a reap, a retirement or a reset.
@@ -250,8 +290,7 @@ impl<A: Allocator> Log<A> {
         requires { index < length self.now.entries }
         ensures { option_map submission_of (slice_get self.now.entries index) ≡ Some result }
     {
-        let entry = &self.kept[index];
-        submission_in(entry.seat, &entry.step, &entry.answer, &entry.draft)
+        submission_in(&self.kept[index], &self.drafts)
     }
 
     /// Which submitted commands the step of the entry at a place ended, counted from 0.

@@ -1,7 +1,7 @@
 //! Entries as a log shows them.
 
 ghost use Rattle.std.specs.Prelude.{◌≡◌, length};
-ghost use Rattle.driver_book.specs.Keeping.{part_of, shown_request as spec_shown_request, shown_step as spec_shown_step, shown_draft as spec_shown_draft, shown as spec_shown, FitsIn, StepFits, EntryFits};
+ghost use Rattle.driver_book.specs.Keeping.{part_of, shown_request as spec_shown_request, shown_step as spec_shown_step, shown_draft as spec_shown_draft, shown as spec_shown, FitsIn, DraftFits, StepFits, EntryFits, PiecesFit, AllDraftsFit};
 
 use crate::entry::{
     Entry, KeptDraft, KeptEntry, KeptRequest, KeptStep, LoggedDraft, NoBytes, Span,
@@ -75,7 +75,7 @@ fn shown_request<'a>(pieces: &'a [Piece], request: &KeptRequest) -> RequestOf<Pi
         slba: request.slba,
         blocks: request.blocks,
         pieces: PieceList {
-            pieces: &pieces[span.start..span.end],
+            pieces: &pieces[span.start as usize..span.end as usize],
         },
     }
 }
@@ -86,19 +86,20 @@ fn shown_pages<'a>(pages: &'a [PageNo], span: Span) -> PageNumbers<'a>
     ensures { result ≡ part_of pages.now span }
 {
     PageNumbers {
-        pages: &pages[span.start..span.end],
+        pages: &pages[span.start as usize..span.end as usize],
     }
 }
 
-/// A step whose request stands in a list of pieces.
-fn shown_step<'a>(pieces: &'a [Piece], step: &KeptStep) -> ShownStep<'a>
-    requires { StepFits (length pieces.now) step.now }
-    ensures { result ≡ spec_shown_step pieces.now step.now }
+/// A step whose request stands in a list of drafts, and its pieces in one of those.
+fn shown_step<'a>(pieces: &'a [Piece], drafts: &[KeptDraft], step: &KeptStep) -> ShownStep<'a>
+    requires step { StepFits (length drafts.now) step.now }
+    requires pieces { PiecesFit (length pieces.now) drafts.now }
+    ensures { result ≡ spec_shown_step pieces.now drafts.now step.now }
 {
     match step {
         Step::Reserve { q, request } => Step::Reserve {
             q: *q,
-            request: shown_request(pieces, request),
+            request: shown_request(pieces, &drafts[*request as usize].request),
         },
         Step::Fill { q, cid, bytes } => Step::Fill {
             q: *q,
@@ -172,15 +173,13 @@ fn shown_answer(answer: &Reply<NoBytes>) -> Reply<NoBytes>
     }
 }
 
-/// A draft whose request and pages stand in these lists.
+/// A draft whose pieces and pages stand in these lists.
 fn shown_draft<'a>(
     pieces: &'a [Piece],
     pages: &'a [PageNo],
     draft: &KeptDraft,
 ) -> LoggedDraft<RequestOf<PieceList<'a>>, PageNumbers<'a>>
-    requires request { FitsIn (length pieces.now) draft.now.request.pieces }
-    requires data { FitsIn (length pages.now) draft.now.data_pages }
-    requires chain { FitsIn (length pages.now) draft.now.chain_pages }
+    requires { DraftFits (length pieces.now) (length pages.now) draft.now }
     ensures { result ≡ spec_shown_draft pieces.now pages.now draft.now }
 {
     LoggedDraft {
@@ -190,22 +189,24 @@ fn shown_draft<'a>(
     }
 }
 
-/// An entry whose requests and pages stand in these lists.
+/// An entry whose request and draft stand in these lists.
 pub(crate) fn shown_entry<'a>(
     pieces: &'a [Piece],
     pages: &'a [PageNo],
+    drafts: &[KeptDraft],
     kept: &KeptEntry,
 ) -> ShownEntry<'a>
-    requires { EntryFits (length pieces.now) (length pages.now) kept.now }
-    ensures { result ≡ spec_shown pieces.now pages.now kept.now }
+    requires entry { EntryFits (length drafts.now) kept.now }
+    requires drafts { AllDraftsFit (length pieces.now) (length pages.now) drafts.now }
+    ensures { result ≡ spec_shown pieces.now pages.now drafts.now kept.now }
 {
-    let draft = match &kept.draft {
-        Some(draft) => Some(shown_draft(pieces, pages, draft)),
+    let draft = match kept.draft {
+        Some(place) => Some(shown_draft(pieces, pages, &drafts[place as usize])),
         None => None,
     };
     Entry {
         seat: kept.seat,
-        step: shown_step(pieces, &kept.step),
+        step: shown_step(pieces, drafts, &kept.step),
         answer: shown_answer(&kept.answer),
         draft,
     }
