@@ -1,7 +1,7 @@
 use Rattle.std.proofs.Common.{arith}
 use Rattle.nvmesgl_c.proofs.{Named.{same_name, same_memory}, Marks.same_mark, Runs.past_none, Seen.sees_named}
 use Rattle.nvmesgl_c.specs.Regions.{memory_of}
-use Rattle.nvmesgl_c.proofs.controller.regions.look_over.Goals as goal
+use Rattle.nvmesgl_c.proofs.controller.regions.look.Goals as goal
 
 pub returns-clause-same : goal.returns-clause-same
 returns-clause-same c = (same_mark _ _ _ _ _ _ (same_name _ _ _ _ c.next_step.ensures.memory)).0
@@ -14,8 +14,8 @@ returns-clause-hidden c = (same_mark _ _ _ _ _ _ (same_name _ _ _ _ c.next_step.
 
 pub returns-clause-kept : goal.returns-clause-kept
 returns-clause-kept c =
-    same_memory (memory_of c.next_step.new.dma.regions.now) (memory_of c.args.memory.now.regions.now) _ _ (λ k high. past_none c.next_step.new.dma.regions.now k (omega (arith, high)))
-    (λ k high. past_none c.args.memory.now.regions.now k (omega (arith, high))) c.next_step.ensures.memory
+    same_memory (memory_of c.next_step.new.dma.lent.regions.now) (memory_of c.args.memory.now.lent.regions.now) _ _ (λ k high. past_none c.next_step.new.dma.lent.regions.now k (omega (arith, high)))
+    (λ k high. past_none c.args.memory.now.lent.regions.now k (omega (arith, high))) c.next_step.ensures.memory
 
 pub returns-clause-sees : goal.returns-clause-sees
-returns-clause-sees c = sees_named c.args.controller.now (memory_of c.args.memory.now.regions.now) _ c.next_step.result c.next_step.ensures.possible c.next_step.ensures.rest
+returns-clause-sees c = sees_named c.args.controller.now (memory_of c.args.memory.now.lent.regions.now) _ c.next_step.result c.next_step.ensures.possible c.next_step.ensures.rest
