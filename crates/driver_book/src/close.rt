@@ -4,7 +4,7 @@ ghost use Rattle.std.specs.Prelude.{◌≡◌, ℕ, ◌+◌, ◌<◌, ◌≤◌,
 ghost use Rattle.std.specs.List.{list_any};
 ghost use Rattle.machine_model.specs.Claims.{IsSound};
 ghost use Rattle.machine_model.specs.Status.{same_status as same_statuses};
-ghost use Rattle.machine_model.specs.Refusals.{same_kind};
+ghost use Rattle.machine_model.specs.Refusals.{same_flags, same_kind};
 ghost use Rattle.driver_book.specs.History.{LeadsTo, accepted, is_accepted, is_submission as is_step_of_submission};
 ghost use Rattle.driver_book.specs.State.{AreSeated};
 ghost use Rattle.driver_book.specs.Close.{status_by, held, same_seat, accepted_of, fits_status, same_asked, fits_asked, queue_in, identifier_in, is_receipt_of, has, stands, AllStand, IsMissing, receipts_of, has_open, IsDone, RefusesClose, Reports};
@@ -18,7 +18,7 @@ use crate::seat::Seat;
 use crate::two_passes::first_missing;
 use crate::{Log, NoBytes, ShownEntry, ShownStep};
 use entry_codec::Status;
-use io_commands::Kind;
+use io_commands::{Flags, Kind};
 use machine_model::words::Reaped;
 use std::alloc::{Allocator, Global};
 use std::sync::ledger::{Ledger, Share};
@@ -145,11 +145,22 @@ fn is_same_kind(a: Kind, b: Kind) -> bool
     }
 }
 
+/// Whether two commands have the same flags.
+fn is_same_flags(a: Flags, b: Flags) -> bool
+    ensures { result ≡ same_flags a b }
+{
+    a.force_unit_access == b.force_unit_access && a.limited_retry == b.limited_retry
+}
+
 /// Whether two commands ask for the same, apart from their pieces.
 fn is_same_asked(a: Asked, b: Asked) -> bool
     ensures { result ≡ same_asked a b }
 {
-    is_same_kind(a.kind, b.kind) && a.slba == b.slba && a.blocks == b.blocks
+    is_same_kind(a.kind, b.kind)
+        && a.nsid == b.nsid
+        && is_same_flags(a.flags, b.flags)
+        && a.slba == b.slba
+        && a.blocks == b.blocks
 }
 
 /// Whether this is what the draft of an entry asks for.

@@ -9,7 +9,7 @@ use driver_threads::{
     Gate, Job, JobEnd, JobEndIn, JobEnds, JobIn, Ran, RunFault, Server, run_threads,
 };
 use entry_codec::Status;
-use io_commands::{Kind, Piece, Pieces, Request};
+use io_commands::{Flags, Kind, Piece, Pieces, Request};
 use page_ledger::Owner;
 use page_memory::PageNo;
 use std::alloc::{AllocError, Allocator, Global};
@@ -166,6 +166,8 @@ pub fn job<A: Allocator + Copy>(
         q,
         request: Request {
             kind,
+            nsid: 1,
+            flags: Flags::NONE,
             slba,
             blocks,
             pieces: pieces(alloc, blocks)?,
