@@ -1,3 +1,4 @@
 pub mod Runs
 pub mod StandsInReceipts
 pub mod Tables
+pub mod Latest

@@ -21,12 +21,12 @@ use entry_codec::Status;
 use io_commands::Kind;
 use machine_model::words::Reaped;
 use std::alloc::{Allocator, Global};
-use std::sync::ledger::{Ledger, Share};
+use std::sync::ledger::Share;
 use step_core::{Reply, Step};
 
 /// A book that was not closed: why, and the seats that were handed in. Nothing changed.
 #[derive(Drop)]
-pub struct CloseRefused<L: Ledger, A: Allocator = Global> {
+pub struct CloseRefused<L: LogBrand, A: Allocator = Global> {
     /// Why.
     pub why: CloseFault,
     /// The seats, as they were handed in.
@@ -214,7 +214,7 @@ fn is_wanted(receipt: Option<Receipt>, wanted: Wanted) -> bool
 }
 
 /// Whether a seat has this number, and at this place the receipt that is wanted.
-fn has_receipt<L: Ledger, A: Allocator>(
+fn has_receipt<L: LogBrand, A: Allocator>(
     holder: &Seat<L, A>,
     seat: Option<u16>,
     place: usize,
@@ -227,7 +227,7 @@ fn has_receipt<L: Ledger, A: Allocator>(
 }
 
 /// Whether some seat has this number, and at this place the receipt that is wanted.
-pub(crate) fn any_has<L: Ledger, A: Allocator>(
+pub(crate) fn any_has<L: LogBrand, A: Allocator>(
     seats: &[Seat<L, A>],
     seat: Option<u16>,
     place: usize,
@@ -240,7 +240,7 @@ pub(crate) fn any_has<L: Ledger, A: Allocator>(
 
 /// Whether the submission at `index` of the log, which is the one of this number, and the one at this place of its seat, stands in the
 /// receipts.
-fn does_stand<L: Ledger, A: Allocator>(
+fn does_stand<L: LogBrand, A: Allocator>(
     log: &Log<A>,
     seats: &[Seat<L, A>],
     index: usize,
@@ -268,7 +268,7 @@ fn does_stand<L: Ledger, A: Allocator>(
 }
 
 /// Goes through the first entries of a log, with the place of one seat: where its first submission stands that is in no receipt.
-fn missing_of<L: Ledger, A: Allocator>(
+fn missing_of<L: LogBrand, A: Allocator>(
     log: &Log<A>,
     seats: &[Seat<L, A>],
     seat: u16,
@@ -298,14 +298,14 @@ fn missing_of<L: Ledger, A: Allocator>(
 }
 
 /// Whether a seat of this number was handed in.
-fn has_seat<L: Ledger, A: Allocator>(seats: &[Seat<L, A>], seat: Option<u16>) -> bool
+fn has_seat<L: LogBrand, A: Allocator>(seats: &[Seat<L, A>], seat: Option<u16>) -> bool
     ensures { result ≡ is_known seats.now seat }
 {
     seats.iter().any(|s| is_same_seat(Some(s.number), seat))
 }
 
 /// How far the accepted submissions of a log are of seats that were handed in.
-fn known_until<L: Ledger, A: Allocator>(log: &Log<A>, seats: &[Seat<L, A>]) -> usize
+fn known_until<L: LogBrand, A: Allocator>(log: &Log<A>, seats: &[Seat<L, A>]) -> usize
     ensures within { result ≤ length log.now.entries }
     ensures known { AreKnown log.now.entries seats.now result }
     ensures missing { result < length log.now.entries → IsMissingAt log.now.entries seats.now result }
@@ -323,7 +323,7 @@ fn known_until<L: Ledger, A: Allocator>(log: &Log<A>, seats: &[Seat<L, A>]) -> u
 
 /// The first accepted submission that stands in no receipt: its seat and its number. Apart from the search for statuses, the log is gone
 /// through once for the seats' numbers, and then once for each seat, up to the first that is missing so far. It takes no memory.
-pub(crate) fn missing<L: Ledger, A: Allocator>(
+pub(crate) fn missing<L: LogBrand, A: Allocator>(
     log: &Log<A>,
     seats: &[Seat<L, A>],
 ) -> Option<(u16, u64)>
@@ -346,21 +346,21 @@ pub(crate) fn missing<L: Ledger, A: Allocator>(
 }
 
 /// Whether a receipt of a seat has no status.
-fn has_open_receipt<L: Ledger, A: Allocator>(seat: &Seat<L, A>) -> bool
+fn has_open_receipt<L: LogBrand, A: Allocator>(seat: &Seat<L, A>) -> bool
     ensures { result ≡ list_any (λ (r : AReceipt). is_none r.status) seat.now.receipts }
 {
     seat.receipts.iter().any(|r| r.status.is_none())
 }
 
 /// Whether some receipt has no status.
-fn any_open<L: Ledger, A: Allocator>(seats: &[Seat<L, A>]) -> bool
+fn any_open<L: LogBrand, A: Allocator>(seats: &[Seat<L, A>]) -> bool
     ensures { result ≡ has_open seats.now }
 {
     seats.iter().any(|s| has_open_receipt(s))
 }
 
 /// Takes the shares of seats, and their receipts.
-fn take_in<L: Ledger, A: Allocator>(
+fn take_in<L: LogBrand, A: Allocator>(
     rest: &mut Share<L>,
     seats: Vec<Seat<L, A>, A>,
     lists: &mut Vec<Vec<Receipt, A>, A>,
@@ -378,6 +378,7 @@ fn take_in<L: Ledger, A: Allocator>(
             share,
             receipts,
             settled: _,
+            known: _,
         } = seat;
         rest.merge(share);
         lists.push_reserved(receipts);
@@ -440,7 +441,7 @@ impl<L: LogBrand, A: Allocator + Copy> Book<L, A> {
         self.tally.audit(&mut self.rest);
         self.out = 0;
         Ok(Report {
-            submissions: self.submissions,
+            submissions: self.submissions.len(),
             counts: self.world.counts(),
             receipts: Receipts::of(lists),
         })

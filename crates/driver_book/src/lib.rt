@@ -39,9 +39,10 @@ mod note;
 mod report;
 mod seat;
 mod shown;
+mod submissions;
 mod two_passes;
 
-pub use book::{Book, BookRefused, FullLogBrand, LogBrand};
+pub use book::{BlankBook, Book, BookRefused, FullLogBrand, LogBrand};
 pub use carry::{CarryRefused, ClosedLog};
 pub use close::CloseRefused;
 pub use entry::{Entry, KeptStep, LoggedDraft, NoBytes};
@@ -50,3 +51,4 @@ pub use log::Log;
 pub use report::{Asked, CloseFault, NoSeat, Receipt, Receipts, Report, ReportIn};
 pub use seat::Seat;
 pub use shown::{PageNumbers, PieceList, ShownEntry, ShownStep};
+pub use submissions::UnnamedDrafts;

@@ -19,6 +19,7 @@ ghost use Rattle.load.specs.Tallies.{KeepsFound, no_tally, tallies_from};
 ghost use Rattle.step_core.specs.Opening.{opening_of};
 ghost use Rattle.script_cli.specs.Inputs.{Gains, IsFront};
 
+use driver_book::BlankBook;
 use crate::content::Content;
 use crate::course::Course;
 use crate::fault::LoadFault;
@@ -41,7 +42,6 @@ use std::io::Write;
 use std::marker::Brand;
 use std::rt::Clock;
 use std::sync::Wait;
-use std::sync::ledger::Blank;
 use std::thread::Threads;
 use step_core::{Config, World};
 
@@ -54,9 +54,10 @@ fn play<G: Gate + Sync, R: Threads + Wait + Sync>(
     depth: usize,
     server: Server,
     gate: &G,
-    blank: Blank,
+    blank: BlankBook,
 ) -> Result<Round<Global, Found>, LoadFault>
-    requires number { blank.parts ≡ 65536 }
+    requires number { blank.ledger.parts ≡ 65536 }
+    requires list { blank.drafts ≡ L.list }
     requires some { 1 ≤ vec_len jobs }
     requires few { vec_len jobs ≤ 16 }
     requires some_depth { 1 ≤ depth }
@@ -106,7 +107,7 @@ fn run_plans<G: Gate + Sync, R: Threads + Wait + Sync>(
 {
     let jobs = course.jobs(alloc, plans)?;
     let server = course.server();
-    let blank = Blank::new(65536);
+    let blank = BlankBook::new();
     let Round {
         world,
         jobs: ends,

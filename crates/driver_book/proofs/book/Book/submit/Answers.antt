@@ -2,8 +2,8 @@ use Rattle.std.proofs.Common.{◌⊎◌, ◌∷◌, [], inl, ◌-◌, vec_capaci
 use Rattle.std.proofs.lemmas.List.Sums.{count_by-le-length}
 use Rattle.io_commands.specs.Asked.{Request}
 use Rattle.step_core.specs.Replies.{accept_reply}
-use Rattle.driver_book.proofs.Runs.{accepts_book, does_in, keeps_jobs, refused_submission, submission_entries, submission_written, lacks_as, takes_no_memory, wants_room}
-use Rattle.driver_book.{proofs.StandsInReceipts.{receives_in, receives_none, settled_appended}, specs.Calls.{LacksRoomToSubmit, AreReceiptsFull}}
+use Rattle.driver_book.proofs.Runs.{accepts_book, draft_refused, draft_taken, keeps_jobs, refused_submission, submission_entries, submission_written, submits_in, lacks_as, takes_no_memory, wants_room}
+use Rattle.driver_book.{proofs.StandsInReceipts.{receives_in, receives_none, settled_appended}, specs.Calls.{LacksRoomToSubmit, AreReceiptsFull, HasNoTable}}
 use Rattle.driver_book.specs.{History.{is_accepted, entry_of}, State.BookContents}
 use Rattle.machine_model.specs.Events as events
 use Rattle.driver_book.proofs.book.Book.submit.Goals as goal
@@ -20,11 +20,11 @@ invariant_of-self-else-is_ok g c =
 pub returns-else-is_ok-clause-step : goal.returns-else-is_ok-clause-step
 returns-else-is_ok-clause-step g c =
     rw (← c.seat.view_is)
-    (does_in c.self.view_is _ _ _ _ (Some c.seat.inside.number) (events.Submit c.args.draft) (accept_reply c.submit-answer.result) c.submit-answer.ensures.step (submission_entries (Some c.seat.inside.number) c.self.inside.world.state c.submit-answer.new.self.state c.args.draft c.submit-answer.result c.self.inside.log.entries c.push_submission.new.self c.note_refused.new.log c.submit-answer.ensures.step (rw (c.push_submission.ensures.entries, c.make_room.ensures.same) refl) c.note_refused.ensures.accepted c.note_refused.ensures.refused))
+    (submits_in c.self.view_is _ _ _ _ _ _ (Some c.seat.inside.number) c.args.draft c.submit-answer.result c.submit-answer.ensures.step (draft_refused _ c.args.draft c.submit-answer.result (sym c.is_ok.ensures.value ∙ c.if-is_ok.false)) (submission_entries (Some c.seat.inside.number) c.self.inside.world.state c.submit-answer.new.self.state c.args.draft c.submit-answer.result c.self.inside.log.entries c.push_submission.new.self c.note_refused.new.log c.submit-answer.ensures.step (rw (c.push_submission.ensures.entries, c.make_room.ensures.same) refl) c.note_refused.ensures.accepted c.note_refused.ensures.refused))
 
 pub returns-else-is_ok-clause-memory : goal.returns-else-is_ok-clause-memory
 returns-else-is_ok-clause-memory g c =
-    takes_no_memory (LacksRoomToSubmit c.args.self.now c.args.draft ⊎ AreReceiptsFull c.args.seat.now) c.self.inside.world.state c.submit-answer.new.self.state (events.Submit c.args.draft) (accept_reply c.submit-answer.result) refl c.submit-answer.ensures.step
+    takes_no_memory (LacksRoomToSubmit c.args.self.now c.args.draft ⊎ AreReceiptsFull c.args.seat.now ⊎ HasNoTable c.args.self.now) c.self.inside.world.state c.submit-answer.new.self.state (events.Submit c.args.draft) (accept_reply c.submit-answer.result) refl c.submit-answer.ensures.step
 
 pub returns-in_default-clause-memory : goal.returns-in_default-clause-memory
 returns-in_default-clause-memory g c =
@@ -34,7 +34,7 @@ returns-in_default-clause-memory g c =
 pub returns-then-is_ok-clause-step : goal.returns-then-is_ok-clause-step
 returns-then-is_ok-clause-step g c =
     rw (← c.seat.view_is)
-    (does_in c.self.view_is _ _ _ _ (Some c.seat.inside.number) (events.Submit c.args.draft) (accept_reply c.submit-answer.result) c.submit-answer.ensures.step (submission_entries (Some c.seat.inside.number) c.self.inside.world.state c.submit-answer.new.self.state c.args.draft c.submit-answer.result c.self.inside.log.entries c.push_submission.new.self c.note_refused.new.log c.submit-answer.ensures.step (rw (c.push_submission.ensures.entries, c.make_room.ensures.same) refl) c.note_refused.ensures.accepted c.note_refused.ensures.refused))
+    (submits_in c.self.view_is _ _ _ _ _ _ (Some c.seat.inside.number) c.args.draft c.submit-answer.result c.submit-answer.ensures.step (draft_taken _ c.args.draft c.submit-answer.result (sym c.is_ok.ensures.value ∙ c.if-is_ok.true)) (submission_entries (Some c.seat.inside.number) c.self.inside.world.state c.submit-answer.new.self.state c.args.draft c.submit-answer.result c.self.inside.log.entries c.push_submission.new.self c.note_refused.new.log c.submit-answer.ensures.step (rw (c.push_submission.ensures.entries, c.make_room.ensures.same) refl) c.note_refused.ensures.accepted c.note_refused.ensures.refused))
 
 pub returns-then-is_ok-clause-receipt : goal.returns-then-is_ok-clause-receipt
 returns-then-is_ok-clause-receipt g c =
@@ -43,7 +43,7 @@ returns-then-is_ok-clause-receipt g c =
 
 pub returns-then-is_ok-clause-memory : goal.returns-then-is_ok-clause-memory
 returns-then-is_ok-clause-memory g c =
-    takes_no_memory (LacksRoomToSubmit c.args.self.now c.args.draft ⊎ AreReceiptsFull c.args.seat.now) c.self.inside.world.state c.submit-answer.new.self.state (events.Submit c.args.draft) (accept_reply c.submit-answer.result) refl c.submit-answer.ensures.step
+    takes_no_memory (LacksRoomToSubmit c.args.self.now c.args.draft ⊎ AreReceiptsFull c.args.seat.now ⊎ HasNoTable c.args.self.now) c.self.inside.world.state c.submit-answer.new.self.state (events.Submit c.args.draft) (accept_reply c.submit-answer.result) refl c.submit-answer.ensures.step
 
 pub returns-else-is_ok-clause-receipt : goal.returns-else-is_ok-clause-receipt
 returns-else-is_ok-clause-receipt g c =

@@ -1,0 +1,3 @@
+pub mod Cells
+pub mod Chains
+pub mod Steps
