@@ -5,10 +5,10 @@ use Rattle.two_sides.specs.Histories as histories
 use Rattle.step_core.specs.declared.step.Step.TheVariants as step
 use Rattle.machine_model.specs.Step as machine
 use Rattle.machine_model.specs.declared.words.Refusal.TheVariants as refusal
-use Rattle.std.proofs.Common.{◌≡◌, ℕ, Bool, true, false, true≢false, not, IsTrue, None, List, [], ◌∷◌, ◌++◌, map, if◌then◌else◌, refl, sym, ap, ◌∙◌, subst, ◌+◌, ◌≤◌, length, drop, Option, Some, slice_get, zero, suc, ◌<◌, arith, length-append, ◌⊎◌, inr, ◌||◌, cond, Result, Ok, Err, is_ok, OnOk, IfOk, IfErr}
+use Rattle.std.proofs.Common.{◌≡◌, ℕ, Bool, true, false, true≢false, not, IsTrue, None, List, [], ◌∷◌, ◌++◌, map, if◌then◌else◌, refl, sym, ap, ◌∙◌, subst, ◌+◌, ◌≤◌, length, drop, Option, Some, slice_get, zero, suc, ◌<◌, arith, length-append, append_assoc, ◌⊎◌, inr, ◌||◌, cond, Result, Ok, Err, is_ok, OnOk, IfOk, IfErr}
 use Rattle.std.proofs.lemmas.{List.{take-append-le, map-append, take_all, drop_at, append-nil, Sums.sum_by_push}}
 use Rattle.std.{proofs.lemmas.Slice.between_is, specs.{Bool.OnTrue, List.list_any, Option.option_map, Prelude.{is_some, MatchBool}}}
-use Rattle.machine_model.{proofs.Headline.steps_keep, specs.{Claims.IsSound, Events.Event, Image.Made, Refusals.refusal_of, State.State}}
+use Rattle.machine_model.{proofs.Headline.steps_keep, specs.{Claims.IsSound, Events.Event, Image.{Made, submitted_by}, Refusals.refusal_of, State.State}}
 use Rattle.machine_model.specs.{Trusted.{Steps, TrustedRun}, declared.words.Refusal.Refusal}
 use Rattle.two_sides.proofs.{Agreed.{opens_in_order, order_kept, agreed_stays}, Along.trusted_end, PoolBytes.ends_unforged as trusted_unforged}
 use Rattle.two_sides.specs.InOrder.{IsInOrder}
@@ -16,7 +16,7 @@ use Rattle.step_core.{proofs.Order.same_forgery, specs.{Going.forges_by, Opening
 use Rattle.step_core.specs.Values.{Step, Reply as Answer, Reply}
 use Rattle.driver_book.specs.Calls.{noted, entries, Does, WantsMemoryFor, MayWorldWant, most_of, most_pages}
 use Rattle.driver_book.specs.Entries.{Entry, LoggedDraft, answered, Room, LogContents, Takes, Lacks}
-use Rattle.driver_book.specs.History.{asked, told, draft_of, TellsOf, LeadsTo, entry_of, is_submission, is_accepted, accepted}
+use Rattle.driver_book.specs.History.{asked, told, draft_of, with_draft, TellsOf, LeadsBy, LeadsTo, entry_of, is_submission, is_accepted, accepted}
 use Rattle.driver_book.specs.Keeping.{KeptRequest, KeptStep, KeptDraft, Kept, part_of, request_of, shown_request, shown_step, shown_draft, shown, draft_at, bare_step, HasNoRequest, FitsIn, StepFits, DraftFits, PlaceFits, EntryFits, AllFit, AllDraftsFit, Stands, most_places}
 use Rattle.driver_book.specs.Laws.{IsEntryOf, is_forgery, entries_name_allowed_pages, logs_are_trusted_runs, logs_of_jobs_are_trusted_runs, pieces_are_one_history, resets, is_reset, since_reset, trusted_ends_are_unforged}
 use Rattle.driver_book.specs.{State.{is_of_jobs, AreOfJobs, BookContents, IsBook, is_seated, AreSeated}, declared.entry.Span.Span}
@@ -29,10 +29,40 @@ use Rattle.page_memory.proofs.Lists.{all-at}
 
 -- Logs, and the runs that they tell of.
 
+-- the draft of a single step
+first_taken : (e : Event) (r : events.Reply) → with_draft [] e r ≡ submitted_by e r ++ []
+first_taken (events.Submit d) events.Accepted = refl
+first_taken e r = refl
+
+-- what comes behind others, and what stands before
+taken_first : (first later : List DraftContents) (e : Event) (r : events.Reply) → with_draft (first ++ later) e r ≡ first ++ with_draft later e r
+taken_first first later (events.Submit d) events.Accepted = append_assoc first later (d ∷ [])
+taken_first first later e r = refl
+
+-- a step that is no accepted submission has no draft
+no_draft : (drafts : List DraftContents) (e : Event) (r : events.Reply) → is_submission (asked e) (told r) ≡ false → with_draft drafts e r ≡ drafts
+no_draft drafts (events.Submit d) events.Accepted other = absurd (true≢false other)
+no_draft drafts e r other = refl
+
 -- one step more
 pub leads_further : (old mid new : State) (log : List Entry) (e : Entry) → LeadsTo old log mid → TellsOf mid e new → LeadsTo old (log ++ e ∷ []) new
 leads_further old mid new [] e same tells = (new, subst (λ (s : State). TellsOf s e new) same tells, refl)
 leads_further old mid new (first ∷ log) e (next, made, rest) tells = (next, made, leads_further next mid new log e rest tells)
+
+-- so with its drafts
+leads_by_further : (old mid new : State) (log : List Entry) (drafts : List DraftContents) (e : Entry) → LeadsBy old log drafts mid → (tells : TellsOf mid e new)
+    → LeadsBy old (log ++ e ∷ []) (with_draft drafts tells.event tells.answer) new
+leads_by_further old mid new [] drafts e (same, none) tells = rw none (go same tells)
+  where
+    go : mid ≡ old → (t : TellsOf mid e new) → LeadsBy old (e ∷ []) (with_draft [] t.event t.answer) new
+    go is t = subst (λ (s : State). LeadsBy s (e ∷ []) (with_draft [] t.event t.answer) new) is (new, t, [], first_taken t.event t.answer, (refl, refl))
+leads_by_further old mid new (first ∷ log) drafts e (next, made, later, are, rest) tells =
+    (next, made, with_draft later tells.event tells.answer, ap (λ (ds : List DraftContents). with_draft ds tells.event tells.answer) are ∙ taken_first (submitted_by made.event made.answer) later tells.event tells.answer, leads_by_further next mid new log later e rest tells)
+
+-- and without them
+abbrev pub leads_of : (old new : State) (log : List Entry) (drafts : List DraftContents) → LeadsBy old log drafts new → LeadsTo old log new
+leads_of old new [] drafts by = by.0
+leads_of old new (e ∷ log) drafts (next, made, later, are, rest) = (next, made, leads_of next new log later rest)
 
 -- one log behind the other
 pub leads_on : pieces_are_one_history
@@ -65,11 +95,11 @@ entries_stay config image before e after world opens is_image leads = go (leads_
         }
 
 -- the steps of a log as they were made
-abbrev made_by : (old new : State) (log : List Entry) → LeadsTo old log new → List Made
+abbrev pub made_by : (old new : State) (log : List Entry) → LeadsTo old log new → List Made
 made_by old new [] same = []
 made_by old new (e ∷ log) (next, tells, rest) = record { before = old; event = tells.event; reply = tells.answer } ∷ made_by next new log rest
 
-steps_by : (old new : State) (log : List Entry) (leads : LeadsTo old log new) → Steps old (made_by old new log leads) new
+pub steps_by : (old new : State) (log : List Entry) (leads : LeadsTo old log new) → Steps old (made_by old new log leads) new
 steps_by old new [] same = same
 steps_by old new (e ∷ log) (next, tells, rest) = (refl, next, tells.step, steps_by next new log rest)
 
@@ -86,7 +116,7 @@ drafts_by old new [] same = refl
 drafts_by old new (e ∷ log) (next, tells, rest) = rw (tells.drafts, drafts_by next new log rest) refl
 
 -- an entry is an accepted forgery where the step is of which it tells
-forged_by : (old new : State) (log : List Entry) (leads : LeadsTo old log new) → list_any is_forgery log ≡ list_any laws.is_forgery (made_by old new log leads)
+pub forged_by : (old new : State) (log : List Entry) (leads : LeadsTo old log new) → list_any is_forgery log ≡ list_any laws.is_forgery (made_by old new log leads)
 forged_by old new [] same = refl
 forged_by old new (e ∷ log) (next, tells, rest) = rw (tells.asks, tells.tells, same_forgery tells.event tells.answer, forged_by next new log rest) refl
 
@@ -384,14 +414,16 @@ not_accepted None b isnt = ap not isnt
 -- Books
 
 -- an entry that is no accepted submission
-book_step : {b : Bool} {o w v : State} {log : List Entry} {tally subs parts out made ledger : ℕ} (seat : Option ℕ) (e : Event) (r : events.Reply)
-    → IsBook b o w log tally subs parts out made ledger → machine.Step w e r v → Admits b e → is_submission (asked e) (told r) ≡ false
-    → IsBook b o v (log ++ entry_of seat e r ∷ []) tally subs parts out made ledger
-book_step {b = alone} {o = o} {w = w} {v = v} {log = log} seat e r b step takes other =
+book_step : {b : Bool} {o w v : State} {log : List Entry} {drafts : List DraftContents} {tally parts out made ledger : ℕ} (seat : Option ℕ) (e : Event) (r : events.Reply)
+    → IsBook b o w log drafts tally parts out made ledger → machine.Step w e r v → Admits b e → is_submission (asked e) (told r) ≡ false
+    → IsBook b o v (log ++ entry_of seat e r ∷ []) drafts tally parts out made ledger
+book_step {b = alone} {o = o} {w = w} {v = v} {log = log} {drafts = drafts} seat e r b step takes other =
     let written : Entry = entry_of seat e r in
     let same : accepted (log ++ written ∷ []) ≡ accepted log = accepted_other log written other in
     record {
       legal = leads_further o w v log written b.legal (record { event = e; answer = r; asks = refl; tells = refl; drafts = refl; step = step });
+      submitted = subst (λ (ds : List DraftContents). LeadsBy o (log ++ written ∷ []) ds v) (no_draft drafts e r other)
+          (leads_by_further o w v log drafts written b.submitted (record { event = e; answer = r; asks = refl; tells = refl; drafts = refl; step = step }));
       sound = steps_keep w e r v step b.sound;
       counted = same ∙ b.counted;
       numbered = b.numbered ∙ sym same;
@@ -404,17 +436,18 @@ book_step {b = alone} {o = o} {w = w} {v = v} {log = log} seat e r b step takes 
     }
 
 -- an accepted submission of a seat that is counted
-book_accept : {b : Bool} {o w v : State} {log : List Entry} {tally more subs parts out made ledger : ℕ} (seat : ℕ) (d : DraftContents)
-    → IsBook b o w log tally subs parts out made ledger → machine.Step w (events.Submit d) events.Accepted v → more ≡ tally + 1
-    → IsBook b o v (log ++ entry_of (Some seat) (events.Submit d) events.Accepted ∷ []) more (subs + 1) parts out made ledger
-book_accept {b = alone} {o = o} {w = w} {v = v} {log = log} seat d b step counted =
+book_accept : {b : Bool} {o w v : State} {log : List Entry} {drafts : List DraftContents} {tally more parts out made ledger : ℕ} (seat : ℕ) (d : DraftContents)
+    → IsBook b o w log drafts tally parts out made ledger → machine.Step w (events.Submit d) events.Accepted v → more ≡ tally + 1
+    → IsBook b o v (log ++ entry_of (Some seat) (events.Submit d) events.Accepted ∷ []) (drafts ++ d ∷ []) more parts out made ledger
+book_accept {b = alone} {o = o} {w = w} {v = v} {log = log} {drafts = drafts} seat d b step counted =
     let written : Entry = entry_of (Some seat) (events.Submit d) events.Accepted in
     let one : accepted (log ++ written ∷ []) ≡ accepted log + 1 = accepted_more log written refl in
     record {
       legal = leads_further o w v log written b.legal (record { event = events.Submit d; answer = events.Accepted; asks = refl; tells = refl; drafts = refl; step = step });
+      submitted = leads_by_further o w v log drafts written b.submitted (record { event = events.Submit d; answer = events.Accepted; asks = refl; tells = refl; drafts = refl; step = step });
       sound = steps_keep w (events.Submit d) events.Accepted v step b.sound;
       counted = one ∙ ap (λ (n : ℕ). n + 1) b.counted ∙ sym counted;
-      numbered = ap (λ (n : ℕ). n + 1) b.numbered ∙ sym one;
+      numbered = length-append drafts (d ∷ []) ∙ ap (λ (n : ℕ). n + 1) b.numbered ∙ sym one;
       seated = seated_push log written b.seated refl;
       jobs = taken_push alone (Some seat) (events.Submit d) events.Accepted log b.jobs (takes_jobs alone (events.Submit d) refl);
       shares = b.shares;
@@ -424,17 +457,22 @@ book_accept {b = alone} {o = o} {w = w} {v = v} {log = log} seat d b step counte
     }
 
 -- What a step leaves is a book of the log with what was written of it: nothing, where memory was refused.
-pub keeps_book : {b : Bool} {o w v : State} {log now : List Entry} {tally subs parts out made ledger : ℕ} (seat : Option ℕ) (e : Event) (r : events.Reply)
-    → IsBook b o w log tally subs parts out made ledger → machine.Step w e r v → Admits b e → is_submission (asked e) (told r) ≡ false
-    → now ≡ log ++ entries seat (asked e) (draft_of e r) (noted r) → IsBook b o v now tally subs parts out made ledger
+pub keeps_book : {b : Bool} {o w v : State} {log now : List Entry} {drafts : List DraftContents} {tally parts out made ledger : ℕ} (seat : Option ℕ) (e : Event) (r : events.Reply)
+    → IsBook b o w log drafts tally parts out made ledger → machine.Step w e r v → Admits b e → is_submission (asked e) (told r) ≡ false
+    → now ≡ log ++ entries seat (asked e) (draft_of e r) (noted r) → IsBook b o v now drafts tally parts out made ledger
 keeps_book {log = log} seat e (events.Refused refusal.Memory pages) b step takes other is = rw (is ∙ append-nil log, step.2) b
 keeps_book seat e (events.Refused why pages) b step takes other is = rw is (book_step seat e (events.Refused why pages) b step takes other)
 keeps_book seat e r b step takes other is = rw is (book_step seat e r b step takes other)
 
+-- the same drafts
+pub of_drafts : {b : Bool} {o w : State} {log : List Entry} {drafts after : List DraftContents} {tally parts out made ledger : ℕ}
+    → IsBook b o w log drafts tally parts out made ledger → after ≡ drafts → IsBook b o w log after tally parts out made ledger
+of_drafts b same = rw same b
+
 -- so does a step of jobs, which every driver takes
-pub keeps_jobs : {b : Bool} {o w v : State} {log now : List Entry} {tally subs parts out made ledger : ℕ} (seat : Option ℕ) (e : Event) (r : events.Reply)
-    → IsBook b o w log tally subs parts out made ledger → machine.Step w e r v → is_of_jobs (asked e) ≡ true → is_submission (asked e) (told r) ≡ false
-    → now ≡ log ++ entries seat (asked e) (draft_of e r) (noted r) → IsBook b o v now tally subs parts out made ledger
+pub keeps_jobs : {b : Bool} {o w v : State} {log now : List Entry} {drafts : List DraftContents} {tally parts out made ledger : ℕ} (seat : Option ℕ) (e : Event) (r : events.Reply)
+    → IsBook b o w log drafts tally parts out made ledger → machine.Step w e r v → is_of_jobs (asked e) ≡ true → is_submission (asked e) (told r) ≡ false
+    → now ≡ log ++ entries seat (asked e) (draft_of e r) (noted r) → IsBook b o v now drafts tally parts out made ledger
 keeps_jobs {b = alone} seat e r b step jobs other is = keeps_book seat e r b step (takes_jobs alone e jobs) other is
 
 reserved_by : (s : State) (q : ℕ) (request : Request) (d : DraftContents) → machine.Permits s (events.Reserve q request) (events.Reserved d) → machine.IsReserved s q request d
@@ -452,10 +490,10 @@ not_refused s q request d permits = go (s.trusted || true) permits
     go false p = absurd p
 
 -- so does an accepted submission, where it is counted, ..
-pub accepts_book : {b : Bool} {o w v : State} {log now : List Entry} {tally more subs parts out made ledger : ℕ} (seat : ℕ) (d : DraftContents) (answer : Result TicketContents (Refused DraftContents))
-    → is_ok answer ≡ true → IsBook b o w log tally subs parts out made ledger → machine.Step w (events.Submit d) (accept_reply answer) v
+pub accepts_book : {b : Bool} {o w v : State} {log now : List Entry} {drafts : List DraftContents} {tally more parts out made ledger : ℕ} (seat : ℕ) (d : DraftContents) (answer : Result TicketContents (Refused DraftContents))
+    → is_ok answer ≡ true → IsBook b o w log drafts tally parts out made ledger → machine.Step w (events.Submit d) (accept_reply answer) v
     → now ≡ log ++ entry_of (Some seat) (events.Submit d) (accept_reply answer) ∷ [] → more ≡ tally + 1
-    → IsBook b o v now more (subs + 1) parts out made ledger
+    → IsBook b o v now (drafts ++ d ∷ []) more parts out made ledger
 accepts_book seat d (Ok ticket) ok b step is counted = rw is (book_accept seat d b step counted)
 accepts_book seat d (Err r) ok b step is counted = absurd (true≢false (sym ok))
 
@@ -469,10 +507,11 @@ none_of_jobs true = tt
 none_of_jobs false = tt
 
 -- a book as it opens
-pub empty_book : (alone : Bool) {o w : State} {log : List Entry} {tally parts ledger : ℕ}
-    → IsSound w → w ≡ o → log ≡ [] → tally ≡ 0 → parts ≡ ledger → ledger ≡ 65536 → IsBook alone o w log tally 0 parts 0 0 ledger
-empty_book alone sound opens none no_tally all number = rw (none, no_tally) (record {
+pub empty_book : (alone : Bool) {o w : State} {log : List Entry} {drafts : List DraftContents} {tally parts ledger : ℕ}
+    → IsSound w → w ≡ o → log ≡ [] → drafts ≡ [] → tally ≡ 0 → parts ≡ ledger → ledger ≡ 65536 → IsBook alone o w log drafts tally parts 0 0 ledger
+empty_book alone sound opens none no_drafts no_tally all number = rw (none, no_drafts, no_tally) (record {
   legal = opens;
+  submitted = (opens, refl);
   sound = sound;
   counted = refl;
   numbered = refl;
@@ -486,30 +525,56 @@ empty_book alone sound opens none no_tally all number = rw (none, no_tally) (rec
 
 -- What the calls do
 
+memory_submits_nothing : (e : Event) (pages : List ℕ) → is_submission (asked e) (told (events.Refused refusal.Memory pages)) ≡ false
+memory_submits_nothing (events.Submit d) pages = refl
+memory_submits_nothing e pages = refl
+
 -- where something was written
-made : (old new : BookContents) (v : State) (now : List Entry) (room : Room) (touches : ℕ) (seat : Option ℕ) (e : Event) (r : events.Reply) → machine.Step old.world e r v
-    → now ≡ old.log ++ entry_of seat e r ∷ [] → new ≡ record old { world = v; log = now; room = room; touches = touches }
-    → machine.Step old.world e r new.world × (new ≡ record old { world = new.world; log = old.log ++ entry_of seat e r ∷ []; room = new.room; touches = new.touches })
-made old new v now room touches seat e r step is left = rw (left, is) (step, refl)
+made : (old new : BookContents) (v : State) (now : List Entry) (room : Room) (touches : ℕ) (drafts : List DraftContents) (tabled : Bool) (seat : Option ℕ) (e : Event) (r : events.Reply) → machine.Step old.world e r v
+    → drafts ≡ with_draft old.drafts e r → now ≡ old.log ++ entry_of seat e r ∷ [] → new ≡ record old { world = v; log = now; room = room; touches = touches; drafts = drafts; tabled = tabled }
+    → machine.Step old.world e r new.world × (new ≡ record old { world = new.world; log = old.log ++ entry_of seat e r ∷ []; room = new.room; touches = new.touches; drafts = with_draft old.drafts e r; tabled = new.tabled })
+made old new v now room touches drafts tabled seat e r step are is left = rw (left, is, are) (step, refl)
 
-does : (old new : BookContents) (v : State) (now : List Entry) (room : Room) (touches : ℕ) (seat : Option ℕ) (e : Event) (r : events.Reply) → machine.Step old.world e r v
-    → now ≡ old.log ++ entries seat (asked e) (draft_of e r) (noted r) → new ≡ record old { world = v; log = now; room = room; touches = touches }
+does : (old new : BookContents) (v : State) (now : List Entry) (room : Room) (touches : ℕ) (drafts : List DraftContents) (tabled : Bool) (seat : Option ℕ) (e : Event) (r : events.Reply) → machine.Step old.world e r v
+    → drafts ≡ with_draft old.drafts e r → now ≡ old.log ++ entries seat (asked e) (draft_of e r) (noted r) → new ≡ record old { world = v; log = now; room = room; touches = touches; drafts = drafts; tabled = tabled }
     → Does old seat e r new
-does old new v now room touches seat e (events.Refused refusal.Memory pages) step is left =
-    let same : new ≡ record old { room = room; touches = touches }
+does old new v now room touches drafts tabled seat e (events.Refused refusal.Memory pages) step are is left =
+    let same : new ≡ record old { room = room; touches = touches; tabled = tabled }
     = left
-    ∙ ap (λ (w : State). let x : BookContents = record old { world = w; log = now; room = room; touches = touches } in x) step.2
-    ∙ ap (λ (l : List Entry). let x : BookContents = record old { log = l; room = room; touches = touches } in x) (is ∙ append-nil old.log) in
+    ∙ ap (λ (w : State). let x : BookContents = record old { world = w; log = now; room = room; touches = touches; drafts = drafts; tabled = tabled } in x) step.2
+    ∙ ap (λ (l : List Entry). let x : BookContents = record old { log = l; room = room; touches = touches; drafts = drafts; tabled = tabled } in x) (is ∙ append-nil old.log)
+    ∙ ap (λ (ds : List DraftContents). let x : BookContents = record old { room = room; touches = touches; drafts = ds; tabled = tabled } in x) (are ∙ no_draft old.drafts e (events.Refused refusal.Memory pages) (memory_submits_nothing e pages)) in
     rw same refl
-does old new v now room touches seat e (events.Refused why pages) step is left = made old new v now room touches seat e (events.Refused why pages) step is left
-does old new v now room touches seat e r step is left = made old new v now room touches seat e r step is left
+does old new v now room touches drafts tabled seat e (events.Refused why pages) step are is left = made old new v now room touches drafts tabled seat e (events.Refused why pages) step are is left
+does old new v now room touches drafts tabled seat e r step are is left = made old new v now room touches drafts tabled seat e r step are is left
 
--- so with the contents of a book that was opened
+-- so with the contents of a book that was opened, of a step that is no accepted submission
 pub does_in : {at old : BookContents} → at ≡ old → (v : State) (now : List Entry) (room : Room) (touches : ℕ) (seat : Option ℕ) (e : Event) (r : events.Reply) → machine.Step at.world e r v
+    → is_submission (asked e) (told r) ≡ false
     → now ≡ at.log ++ entries seat (asked e) (draft_of e r) (noted r) → Does old seat e r (let new : BookContents = record at { world = v; log = now; room = room; touches = touches } in new)
-does_in {at = at} same v now room touches seat e r step is =
+does_in {at = at} same v now room touches seat e r step other is =
     let new : BookContents = record at { world = v; log = now; room = room; touches = touches } in
-    rw (← same) (does at new v now room touches seat e r step is refl)
+    rw (← same) (does at new v now room touches at.drafts at.tabled seat e r step (sym (no_draft at.drafts e r other)) is refl)
+
+-- and of a submission, accepted or not
+pub submits_in : {at old : BookContents} → at ≡ old → (v : State) (now : List Entry) (room : Room) (touches : ℕ) (drafts : List DraftContents) (tabled : Bool) (seat : Option ℕ) (d : DraftContents) (answer : Result TicketContents (Refused DraftContents))
+    → machine.Step at.world (events.Submit d) (accept_reply answer) v → drafts ≡ with_draft at.drafts (events.Submit d) (accept_reply answer)
+    → now ≡ at.log ++ entries seat (asked (events.Submit d)) (draft_of (events.Submit d) (accept_reply answer)) (noted (accept_reply answer))
+    → Does old seat (events.Submit d) (accept_reply answer) (let new : BookContents = record at { world = v; log = now; room = room; touches = touches; drafts = drafts; tabled = tabled } in new)
+submits_in {at = at} same v now room touches drafts tabled seat d answer step are is =
+    let new : BookContents = record at { world = v; log = now; room = room; touches = touches; drafts = drafts; tabled = tabled } in
+    rw (← same) (does at new v now room touches drafts tabled seat (events.Submit d) (accept_reply answer) step are is refl)
+
+-- the drafts of an accepted submission, and of a refused one
+pub draft_taken : (drafts : List DraftContents) (d : DraftContents) (answer : Result TicketContents (Refused DraftContents)) → is_ok answer ≡ true
+    → drafts ++ d ∷ [] ≡ with_draft drafts (events.Submit d) (accept_reply answer)
+draft_taken drafts d (Ok ticket) ok = refl
+draft_taken drafts d (Err r) ok = absurd (true≢false (sym ok))
+
+pub draft_refused : (drafts : List DraftContents) (d : DraftContents) (answer : Result TicketContents (Refused DraftContents)) → is_ok answer ≡ false
+    → drafts ≡ with_draft drafts (events.Submit d) (accept_reply answer)
+draft_refused drafts d (Ok ticket) isnt = absurd (true≢false isnt)
+draft_refused drafts d (Err r) isnt = refl
 
 -- a fact of the world inside a book
 pub touches_in : {at old : BookContents} → at ≡ old → (e : Event) (r : events.Reply) → StaysAllowed at.world e r → StaysAllowed old.world e r

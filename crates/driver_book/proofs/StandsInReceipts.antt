@@ -22,10 +22,10 @@ use Rattle.page_memory.proofs.Lists.{all-at}
 
 -- a seat with one receipt more
 pub receives_in : {at old : SeatContents} {here log : List Entry} → at ≡ old → here ≡ log → (d : DraftContents) (result : Result TicketContents (Refused DraftContents))
-    → is_ok result ≡ true → (receipts : List Receipt) (spare : ℕ) → receipts ≡ at.receipts ++ receipt (accepted here) d.q d.cid (asked_of d.request) None ∷ []
-    → Receives log old d result (let new : SeatContents = record at { receipts = receipts; spare = spare } in new)
-receives_in same logs d (Ok ticket) ok receipts spare is = rw (← same, ← logs, is) refl
-receives_in same logs d (Err r) ok receipts spare is = absurd (true≢false (sym ok))
+    → is_ok result ≡ true → (receipts : List Receipt) (spare : ℕ) (known : List DraftContents) → receipts ≡ at.receipts ++ receipt (accepted here) d.q d.cid (asked_of d.request) None ∷ []
+    → Receives log old d result (let new : SeatContents = record at { receipts = receipts; spare = spare; known = known } in new)
+receives_in same logs d (Ok ticket) ok receipts spare known is = rw (← same, ← logs, is) refl
+receives_in same logs d (Err r) ok receipts spare known is = absurd (true≢false (sym ok))
 
 -- and where it is refused, the seat has none more
 pub receives_none : {at old : SeatContents} (log : List Entry) → at ≡ old → (d : DraftContents) (result : Result TicketContents (Refused DraftContents))
@@ -496,15 +496,16 @@ wanted zero made none is = absurd (true≢false (sym (subst IsOk is (none refl))
 wanted (suc n) made none is = omega arith
 
 -- once as many seats as are out were handed in, all parts of the ledger are back
-pub all_parts_back : {b : Bool} {o w : State} {log : List Entry} {tally subs parts out made ledger : ℕ} → IsBook b o w log tally subs parts out made ledger
+pub all_parts_back : {b : Bool} {o w : State} {log : List Entry} {drafts : List DraftContents} {tally parts out made ledger : ℕ} → IsBook b o w log drafts tally parts out made ledger
     → (n joined : ℕ) → out ≤ n → joined ≡ parts + n → (0 < n → joined ≤ ledger) → joined ≡ ledger
 all_parts_back b zero joined all is bound = omega (arith, b.shares, b.all_parts, all, is)
 all_parts_back b (suc n) joined all is bound = omega (arith, b.shares, b.all_parts, all, is, bound (omega arith))
 
-pub closes_book : {b : Bool} {o w : State} {log : List Entry} {tally total subs parts joined out made ledger : ℕ} → IsBook b o w log tally subs parts out made ledger
-    → total ≡ tally → joined ≡ ledger → IsBook b o w log total subs joined 0 made ledger
+pub closes_book : {b : Bool} {o w : State} {log : List Entry} {drafts : List DraftContents} {tally total parts joined out made ledger : ℕ} → IsBook b o w log drafts tally parts out made ledger
+    → total ≡ tally → joined ≡ ledger → IsBook b o w log drafts total joined 0 made ledger
 closes_book b same back = record {
   legal = b.legal;
+  submitted = b.submitted;
   sound = b.sound;
   counted = omega (arith, b.counted, same);
   numbered = b.numbered;

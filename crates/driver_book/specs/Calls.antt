@@ -1,9 +1,10 @@
 -- What the calls of a book do: each makes one step of the world, and writes it down, but for one that answers `Memory`.
-use Rattle.std.specs.Prelude.{◌≡◌, ℕ, ◌+◌, ◌==◌, ◌&&◌, Bool, is_none, Option, Some, None, option_and_then, Result, Ok, Err, List, [], ◌∷◌, ◌++◌, length, position, slice_set, slice_index_or}
+use Rattle.std.specs.Prelude.{◌≡◌, ℕ, ◌+◌, ◌==◌, ◌&&◌, Bool, false, is_none, Option, Some, None, option_and_then, Result, Ok, Err, List, [], ◌∷◌, ◌++◌, length, position, slice_get, slice_set, slice_index_or}
+use mathlib.Core.List.{IsPrefix}
 use Rattle.entry_codec.specs.declared.status.Status.{Status}
-use Rattle.io_commands.specs.{Asked.Request, Drafts.DraftContents, Requests.data_count, Values.{FinishedContents, TicketContents}, declared.request.Kind.TheVariants.Read}
+use Rattle.io_commands.specs.{Asked.Request, Drafts.DraftContents, Requests.data_count, Values.{FinishedContents, TicketContents}, declared.request.{Kind.TheVariants.Read, TheConstants.Flags.NONE}}
 use Rattle.machine_model.specs.{Events.Event, Refusals.refusal_of, State.{State, Host, record_at}, declared.words.Refusal.Refusal}
-use Rattle.driver_book.specs.{Entries.{Entry, LoggedDraft, Lacks, asked_of}, History.{told, entry, entry_of, accepted}, State.{BookContents, SeatContents}}
+use Rattle.driver_book.specs.{Entries.{Entry, LoggedDraft, Lacks, asked_of}, History.{told, entry, entry_of, accepted, with_draft}, State.{BookContents, SeatContents}}
 use Rattle.driver_book.specs.declared.report.{Asked.Asked, Receipt.Receipt}
 use Rattle.host_core.specs.declared.refused.Refused.{Refused}
 use Rattle.step_core.specs.Values.{Reply, Step}
@@ -21,12 +22,12 @@ abbrev pub entries : Option ℕ → Step → Option LoggedDraft → Option Reply
 entries seat what draft None = []
 entries seat what draft (Some answer) = entry seat what answer draft ∷ []
 
--- A call that answers want of memory leaves the book as it was. Any other is one step of the world, and the last entry of the log. The log
--- may have got room in either case, and pages may have been touched.
+-- A call that answers want of memory leaves the book as it was. Any other is one step of the world, and the last entry of the log; a submission
+-- that is accepted is the last one. The log may have got room in either case, and pages may have been touched.
 abbrev pub Does : BookContents → Option ℕ → Event → events.Reply → BookContents → Type 0
-Does old seat e (events.Refused refusal.Memory touched) new = new ≡ record old { room = new.room; touches = new.touches }
+Does old seat e (events.Refused refusal.Memory touched) new = new ≡ record old { room = new.room; touches = new.touches; tabled = new.tabled }
 Does old seat e r new =
-    machine.Step old.world e r new.world × (new ≡ record old { world = new.world; log = old.log ++ entry_of seat e r ∷ []; room = new.room; touches = new.touches })
+    machine.Step old.world e r new.world × (new ≡ record old { world = new.world; log = old.log ++ entry_of seat e r ∷ []; room = new.room; touches = new.touches; drafts = with_draft old.drafts e r; tabled = new.tabled })
 
 -- Why memory was wanted
 
@@ -55,6 +56,10 @@ LacksRoomToReserve book q r = Lacks book.room (length r.pieces) (most_pages book
 abbrev pub LacksRoomToSubmit : BookContents → DraftContents → Type 0
 LacksRoomToSubmit book d = Lacks book.room (length d.request.pieces) (length d.data_pages + length d.chain_pages)
 
+-- the book has no table of the last submissions yet
+abbrev pub HasNoTable : BookContents → Type 0
+HasNoTable book = book.tabled ≡ false
+
 -- so with the list of a seat's receipts
 abbrev pub AreReceiptsFull : SeatContents → Type 0
 AreReceiptsFull seat = seat.spare ≡ 0
@@ -70,8 +75,13 @@ receipt number q cid asked status = record { number = number; q = q; cid = cid; 
 
 -- a seat has a receipt more for an accepted submission
 abbrev pub Receives : List Entry → SeatContents → DraftContents → Result TicketContents (Refused DraftContents) → SeatContents → Type 0
-Receives log old d (Ok ticket) new = new ≡ record old { receipts = old.receipts ++ receipt (accepted log) d.q d.cid (asked_of d.request) None ∷ []; spare = new.spare }
+Receives log old d (Ok ticket) new = new ≡ record old { receipts = old.receipts ++ receipt (accepted log) d.q d.cid (asked_of d.request) None ∷ []; spare = new.spare; known = new.known }
 Receives log old d (Err r) new = new ≡ record old { spare = new.spare }
+
+-- and knows all submissions up to that one, which has the receipt's number; those that it knew come first
+abbrev pub Learns : List Entry → SeatContents → DraftContents → Result TicketContents (Refused DraftContents) → SeatContents → Type 0
+Learns log old d (Ok ticket) new = IsPrefix old.known new.known × (slice_get new.known (accepted log) ≡ Some d)
+Learns log old d (Err r) new = new.known ≡ old.known
 
 -- a receipt for this command, without a status yet
 abbrev pub is_open_for : ℕ → ℕ → Receipt → Bool
@@ -79,7 +89,7 @@ is_open_for q cid r = (r.q == q) && (r.cid == cid) && is_none r.status
 
 -- what stands for a receipt behind the end of a list
 abbrev pub no_receipt : Receipt
-no_receipt = receipt 0 0 0 (record { kind = Read; slba = 0; blocks = 0 }) None
+no_receipt = receipt 0 0 0 (record { kind = Read; nsid = 0; flags = NONE; slba = 0; blocks = 0 }) None
 
 abbrev pub settled_at : Option ℕ → Option Status → List Receipt → List Receipt
 settled_at None status receipts = receipts

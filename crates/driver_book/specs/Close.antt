@@ -2,7 +2,7 @@
 use Rattle.std.specs.List.{list_any}
 use Rattle.std.specs.Prelude.{◌≡◌, ◌⊎◌, ℕ, ◌+◌, ◌<◌, ◌≤◌, ◌==◌, ◌&&◌, Bool, true, false, Option, Some, None, is_none, List, [], ◌∷◌, length, map, count_by, slice_get, take, drop, sum_by, if◌then◌else◌}
 use Rattle.entry_codec.specs.declared.status.{Status.Status, TheConstants.Status.ABORTED_SQ_DELETION}
-use Rattle.machine_model.specs.{Claims.counts_of, Refusals.same_kind, Status.same_status, declared.words.Reaped.TheVariants.Done}
+use Rattle.machine_model.specs.{Claims.counts_of, Refusals.{same_flags, same_kind}, Status.same_status, declared.words.Reaped.TheVariants.Done}
 use Rattle.driver_book.specs.{Entries.{Entry, asked_in}, History.{is_accepted, accepted}, Reports.Report, State.{BookContents, SeatContents}}
 use Rattle.driver_book.specs.declared.report.{CloseFault.{CloseFault, TheVariants.{Missing, SeatOut, StillOut, Memory}}, Asked.Asked, Receipt.Receipt}
 use Rattle.step_core.specs.Values.{Reply, Step}
@@ -54,9 +54,9 @@ abbrev pub identifier_in : Step → ℕ
 identifier_in (step.Submit q cid) = cid
 identifier_in what = 0
 
--- the same kind, first block and number of blocks
+-- the same kind, namespace, flags, first block and number of blocks
 abbrev pub same_asked : Asked → Asked → Bool
-same_asked a b = same_kind a.kind b.kind && (a.slba == b.slba) && (a.blocks == b.blocks)
+same_asked a b = same_kind a.kind b.kind && (a.nsid == b.nsid) && same_flags a.flags b.flags && (a.slba == b.slba) && (a.blocks == b.blocks)
 
 -- what the draft of an entry asks for; an entry without a draft fits nothing
 abbrev pub fits_asked : Asked → Option Asked → Bool

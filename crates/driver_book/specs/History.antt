@@ -1,7 +1,7 @@
 -- A log, and the run of the machine that it tells of.
-use Rattle.std.specs.Prelude.{◌≡◌, ℕ, List, [], ◌∷◌, Option, Some, None, Bool, true, false, count_by}
+use Rattle.std.specs.Prelude.{◌≡◌, ℕ, ◌+◌, List, [], ◌∷◌, ◌++◌, Option, Some, None, Bool, true, false, count_by}
 use Rattle.io_commands.specs.{Drafts.DraftContents, Values.numbers_of}
-use Rattle.machine_model.specs.{Events.Event, State.State}
+use Rattle.machine_model.specs.{Events.Event, Image.{is_draft, submitted_by}, State.State}
 use Rattle.step_core.specs.Values.{Reply, Step}
 use Rattle.driver_book.specs.Entries.{Entry, LoggedDraft}
 use Rattle.machine_model.specs.Events as events
@@ -47,6 +47,29 @@ pub record TellsOf (old : State) (e : Entry) (new : State) : Type 0 where
 abbrev pub LeadsTo : State → List Entry → State → Type 0
 LeadsTo old [] new = new ≡ old
 LeadsTo old (e ∷ log) new = (mid : State) × TellsOf old e mid × LeadsTo mid log new
+
+-- Which drafts were submitted, with all their bytes
+
+-- those so far, and that of an accepted submission
+abbrev pub with_draft : List DraftContents → Event → events.Reply → List DraftContents
+with_draft drafts (events.Submit d) events.Accepted = drafts ++ d ∷ []
+with_draft drafts e r = drafts
+
+-- A log leads from one state to another, and these are the drafts of its accepted submissions.
+abbrev pub LeadsBy : State → List Entry → List DraftContents → State → Type 0
+LeadsBy old [] drafts new = (new ≡ old) × (drafts ≡ [])
+LeadsBy old (e ∷ log) drafts new =
+    (mid : State) × (step : TellsOf old e mid) × (later : List DraftContents) × (drafts ≡ submitted_by step.event step.answer ++ later) × LeadsBy mid log later new
+
+abbrev pub after_first : Option ℕ → Bool → Option ℕ
+after_first (Some n) first = Some (n + 1)
+after_first None true = Some 0
+after_first None false = None
+
+-- the place of the last draft of a queue and identifier
+abbrev pub last_place : ℕ → ℕ → List DraftContents → Option ℕ
+last_place q cid [] = None
+last_place q cid (d ∷ drafts) = after_first (last_place q cid drafts) (is_draft q cid d)
 
 -- an accepted submission
 abbrev pub is_submission : Step → Reply → Bool

@@ -2,6 +2,7 @@
 -- of their pages in a third, of which each names its part.
 use Rattle.std.specs.{List.AllByRecursion, Option.option_map, Prelude.{ℕ, ◌≤◌, ◌<◌, min, Bool, true, false, List, [], Option, Some, None, length, slice_get, slice_range}}
 use Rattle.io_commands.specs.{Asked.Request, declared.request.{Kind.TheVariants.Read, Piece.Piece}}
+use Rattle.io_commands.specs.declared.request.TheConstants.Flags.{NONE}
 use Rattle.step_core.specs.Values.{Step}
 use Rattle.driver_book.specs.{Entries.{Entry, LoggedDraft}, declared.entry.Span.Span}
 use Rattle.io_commands.specs.declared.request.RequestOf as declared_request
@@ -36,11 +37,11 @@ abbrev pub part_of : {X : Type 0} → List X → Span → List X
 part_of xs s = slice_range xs s.start s.end
 
 abbrev pub shown_request : List Piece → KeptRequest → Request
-shown_request pieces r = record { kind = r.kind; slba = r.slba; blocks = r.blocks; pieces = part_of pieces r.pieces }
+shown_request pieces r = record { kind = r.kind; nsid = r.nsid; flags = r.flags; slba = r.slba; blocks = r.blocks; pieces = part_of pieces r.pieces }
 
 -- the request of a draft; where there is none, one that asks for nothing
 abbrev pub request_of : List Piece → Option KeptDraft → Request
-request_of pieces None = record { kind = Read; slba = 0; blocks = 0; pieces = [] }
+request_of pieces None = record { kind = Read; nsid = 1; flags = NONE; slba = 0; blocks = 0; pieces = [] }
 request_of pieces (Some d) = shown_request pieces d.request
 
 abbrev pub shown_step : List Piece → List KeptDraft → KeptStep → Step

@@ -10,3 +10,5 @@ pub mod Seats
 pub mod Entries
 pub mod Keeping
 pub mod History
+pub mod Latest
+pub mod KnownLists

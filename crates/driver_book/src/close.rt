@@ -4,7 +4,7 @@ ghost use Rattle.std.specs.Prelude.{◌≡◌, ℕ, ◌+◌, ◌<◌, ◌≤◌,
 ghost use Rattle.std.specs.List.{list_any};
 ghost use Rattle.machine_model.specs.Claims.{IsSound};
 ghost use Rattle.machine_model.specs.Status.{same_status as same_statuses};
-ghost use Rattle.machine_model.specs.Refusals.{same_kind};
+ghost use Rattle.machine_model.specs.Refusals.{same_flags, same_kind};
 ghost use Rattle.driver_book.specs.History.{LeadsTo, accepted, is_accepted, is_submission as is_step_of_submission};
 ghost use Rattle.driver_book.specs.State.{AreSeated};
 ghost use Rattle.driver_book.specs.Close.{status_by, held, same_seat, accepted_of, fits_status, same_asked, fits_asked, queue_in, identifier_in, is_receipt_of, has, stands, AllStand, IsMissing, receipts_of, has_open, IsDone, RefusesClose, Reports};
@@ -18,15 +18,15 @@ use crate::seat::Seat;
 use crate::two_passes::first_missing;
 use crate::{Log, NoBytes, ShownEntry, ShownStep};
 use entry_codec::Status;
-use io_commands::Kind;
+use io_commands::{Flags, Kind};
 use machine_model::words::Reaped;
 use std::alloc::{Allocator, Global};
-use std::sync::ledger::{Ledger, Share};
+use std::sync::ledger::Share;
 use step_core::{Reply, Step};
 
 /// A book that was not closed: why, and the seats that were handed in. Nothing changed.
 #[derive(Drop)]
-pub struct CloseRefused<L: Ledger, A: Allocator = Global> {
+pub struct CloseRefused<L: LogBrand, A: Allocator = Global> {
     /// Why.
     pub why: CloseFault,
     /// The seats, as they were handed in.
@@ -145,11 +145,22 @@ fn is_same_kind(a: Kind, b: Kind) -> bool
     }
 }
 
+/// Whether two commands have the same flags.
+fn is_same_flags(a: Flags, b: Flags) -> bool
+    ensures { result ≡ same_flags a b }
+{
+    a.force_unit_access == b.force_unit_access && a.limited_retry == b.limited_retry
+}
+
 /// Whether two commands ask for the same, apart from their pieces.
 fn is_same_asked(a: Asked, b: Asked) -> bool
     ensures { result ≡ same_asked a b }
 {
-    is_same_kind(a.kind, b.kind) && a.slba == b.slba && a.blocks == b.blocks
+    is_same_kind(a.kind, b.kind)
+        && a.nsid == b.nsid
+        && is_same_flags(a.flags, b.flags)
+        && a.slba == b.slba
+        && a.blocks == b.blocks
 }
 
 /// Whether this is what the draft of an entry asks for.
@@ -214,7 +225,7 @@ fn is_wanted(receipt: Option<Receipt>, wanted: Wanted) -> bool
 }
 
 /// Whether a seat has this number, and at this place the receipt that is wanted.
-fn has_receipt<L: Ledger, A: Allocator>(
+fn has_receipt<L: LogBrand, A: Allocator>(
     holder: &Seat<L, A>,
     seat: Option<u16>,
     place: usize,
@@ -227,7 +238,7 @@ fn has_receipt<L: Ledger, A: Allocator>(
 }
 
 /// Whether some seat has this number, and at this place the receipt that is wanted.
-pub(crate) fn any_has<L: Ledger, A: Allocator>(
+pub(crate) fn any_has<L: LogBrand, A: Allocator>(
     seats: &[Seat<L, A>],
     seat: Option<u16>,
     place: usize,
@@ -240,7 +251,7 @@ pub(crate) fn any_has<L: Ledger, A: Allocator>(
 
 /// Whether the submission at `index` of the log, which is the one of this number, and the one at this place of its seat, stands in the
 /// receipts.
-fn does_stand<L: Ledger, A: Allocator>(
+fn does_stand<L: LogBrand, A: Allocator>(
     log: &Log<A>,
     seats: &[Seat<L, A>],
     index: usize,
@@ -268,7 +279,7 @@ fn does_stand<L: Ledger, A: Allocator>(
 }
 
 /// Goes through the first entries of a log, with the place of one seat: where its first submission stands that is in no receipt.
-fn missing_of<L: Ledger, A: Allocator>(
+fn missing_of<L: LogBrand, A: Allocator>(
     log: &Log<A>,
     seats: &[Seat<L, A>],
     seat: u16,
@@ -298,14 +309,14 @@ fn missing_of<L: Ledger, A: Allocator>(
 }
 
 /// Whether a seat of this number was handed in.
-fn has_seat<L: Ledger, A: Allocator>(seats: &[Seat<L, A>], seat: Option<u16>) -> bool
+fn has_seat<L: LogBrand, A: Allocator>(seats: &[Seat<L, A>], seat: Option<u16>) -> bool
     ensures { result ≡ is_known seats.now seat }
 {
     seats.iter().any(|s| is_same_seat(Some(s.number), seat))
 }
 
 /// How far the accepted submissions of a log are of seats that were handed in.
-fn known_until<L: Ledger, A: Allocator>(log: &Log<A>, seats: &[Seat<L, A>]) -> usize
+fn known_until<L: LogBrand, A: Allocator>(log: &Log<A>, seats: &[Seat<L, A>]) -> usize
     ensures within { result ≤ length log.now.entries }
     ensures known { AreKnown log.now.entries seats.now result }
     ensures missing { result < length log.now.entries → IsMissingAt log.now.entries seats.now result }
@@ -323,7 +334,7 @@ fn known_until<L: Ledger, A: Allocator>(log: &Log<A>, seats: &[Seat<L, A>]) -> u
 
 /// The first accepted submission that stands in no receipt: its seat and its number. Apart from the search for statuses, the log is gone
 /// through once for the seats' numbers, and then once for each seat, up to the first that is missing so far. It takes no memory.
-pub(crate) fn missing<L: Ledger, A: Allocator>(
+pub(crate) fn missing<L: LogBrand, A: Allocator>(
     log: &Log<A>,
     seats: &[Seat<L, A>],
 ) -> Option<(u16, u64)>
@@ -346,21 +357,21 @@ pub(crate) fn missing<L: Ledger, A: Allocator>(
 }
 
 /// Whether a receipt of a seat has no status.
-fn has_open_receipt<L: Ledger, A: Allocator>(seat: &Seat<L, A>) -> bool
+fn has_open_receipt<L: LogBrand, A: Allocator>(seat: &Seat<L, A>) -> bool
     ensures { result ≡ list_any (λ (r : AReceipt). is_none r.status) seat.now.receipts }
 {
     seat.receipts.iter().any(|r| r.status.is_none())
 }
 
 /// Whether some receipt has no status.
-fn any_open<L: Ledger, A: Allocator>(seats: &[Seat<L, A>]) -> bool
+fn any_open<L: LogBrand, A: Allocator>(seats: &[Seat<L, A>]) -> bool
     ensures { result ≡ has_open seats.now }
 {
     seats.iter().any(|s| has_open_receipt(s))
 }
 
 /// Takes the shares of seats, and their receipts.
-fn take_in<L: Ledger, A: Allocator>(
+fn take_in<L: LogBrand, A: Allocator>(
     rest: &mut Share<L>,
     seats: Vec<Seat<L, A>, A>,
     lists: &mut Vec<Vec<Receipt, A>, A>,
@@ -378,6 +389,7 @@ fn take_in<L: Ledger, A: Allocator>(
             share,
             receipts,
             settled: _,
+            known: _,
         } = seat;
         rest.merge(share);
         lists.push_reserved(receipts);
@@ -440,7 +452,7 @@ impl<L: LogBrand, A: Allocator + Copy> Book<L, A> {
         self.tally.audit(&mut self.rest);
         self.out = 0;
         Ok(Report {
-            submissions: self.submissions,
+            submissions: self.submissions.len(),
             counts: self.world.counts(),
             receipts: Receipts::of(lists),
         })

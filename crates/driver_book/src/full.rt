@@ -1,6 +1,7 @@
 //! A book's brand as another one, whose book takes every step.
 
 use crate::book::{FullLogBrand, LogBrand};
+use crate::known_list::Naming;
 use std::marker::PhantomData;
 use std::sync::ledger::Ledger;
 
@@ -12,6 +13,10 @@ impl<L: LogBrand> Ledger for Full<L> {
     ghost name = { L.name };
 
     ghost parts = { L.parts };
+}
+
+impl<L: LogBrand> Naming for Full<L> {
+    ghost list = { L.list };
 }
 
 impl<L: LogBrand> LogBrand for Full<L> {

@@ -80,6 +80,8 @@ fn keep_request<A: Allocator, B: Allocator>(
 {
     RequestOf {
         kind: request.kind,
+        nsid: request.nsid,
+        flags: request.flags,
         slba: request.slba,
         blocks: request.blocks,
         pieces: keep_pieces(list, request.pieces()),

@@ -4,7 +4,7 @@ ghost use Rattle.std.specs.Prelude.{◌≡◌, map};
 ghost use Rattle.driver_book.specs.Entries.{asked_of};
 
 use entry_codec::Status;
-use io_commands::{Kind, RequestOf};
+use io_commands::{Flags, Kind, RequestOf};
 use page_ledger::Counts;
 use std::alloc::{Allocator, Global};
 use std::marker::Model;
@@ -17,8 +17,12 @@ pub struct Asked {
     pub slba: u64,
     /// How many blocks it moves.
     pub blocks: u32,
+    /// Its namespace.
+    pub nsid: u32,
     /// Which I/O command.
     pub kind: Kind,
+    /// Its flags.
+    pub flags: Flags,
 }
 
 impl Asked {
@@ -28,6 +32,8 @@ impl Asked {
     {
         Asked {
             kind: request.kind,
+            nsid: request.nsid,
+            flags: request.flags,
             slba: request.slba,
             blocks: request.blocks,
         }

@@ -4,7 +4,7 @@ ghost use Rattle.std.specs.Prelude.{◌≡◌, ◌⊎◌, ◌≤◌, ◌<◌, �
 ghost use Rattle.std.specs.List.{list_any};
 ghost use Rattle.machine_model.specs.Events as events;
 ghost use Rattle.step_core.specs.Replies.{accept_reply};
-ghost use Rattle.driver_book.specs.Calls.{Does, Receives, Settles, WantsMemoryFor, IsLogFull, LacksRoomToSubmit, AreReceiptsFull, is_open_for as is_open_receipt, settled as settled_receipts};
+ghost use Rattle.driver_book.specs.Calls.{Does, Receives, Settles, WantsMemoryFor, IsLogFull, LacksRoomToSubmit, AreReceiptsFull, HasNoTable, Learns, is_open_for as is_open_receipt, settled as settled_receipts};
 ghost use Rattle.step_core.specs.Touching.{Touches};
 ghost use Rattle.driver_book.specs.Seats.{AreSettled, is_without_status};
 
@@ -12,47 +12,52 @@ use crate::book::{Book, LogBrand};
 use crate::host::unlogged;
 use crate::note::{ended, note, note_refused};
 use crate::report::{Asked, Receipt};
+use crate::submissions::Known;
 use entry_codec::Status;
 use io_commands::{Draft, Finished, Ticket};
 use std::alloc::{Allocator, Global};
 use std::marker::Model;
-use std::sync::ledger::{Ledger, Share};
+use std::snapshot::Snapshot;
+use std::sync::ledger::Share;
 use step_core::{Refused, Step};
 
 /// A seat at a book, with its receipts. It may be dropped, which [`Book::close`] finds out.
 #[derive(Drop)]
-pub struct Seat<L: Ledger, A: Allocator = Global> {
+pub struct Seat<L: LogBrand, A: Allocator = Global> {
     pub(crate) number: u16,
     pub(crate) share: Share<L>,
     pub(crate) receipts: Vec<Receipt, A>,
     /// How many receipts at the head of the list have a status: a search begins behind them.
     pub(crate) settled: usize,
+    /// The submissions of the book up to its own last one, or as it was made.
+    pub(crate) known: Known<L, A>,
 }
 
-impl<L: Ledger, A: Allocator> Model for Seat<L, A> {
+impl<L: LogBrand, A: Allocator> Model for Seat<L, A> {
     ghost use Rattle.std.specs.Prelude.{◌≡◌, ◌-◌, length, vec_len, vec_capacity};
     ghost use Rattle.driver_book.specs.State.{SeatContents};
     ghost use Rattle.driver_book.specs.Seats.{AreSettled};
 
     ghost Value = { SeatContents };
 
-    ghost view = { λ s. record { number = s.number; receipts = s.receipts.items; spare = vec_capacity s.receipts - vec_len s.receipts } };
+    ghost view = { λ s. record { number = s.number; receipts = s.receipts.items; spare = vec_capacity s.receipts - vec_len s.receipts; known = s.known } };
 
     ghost invariant = { λ s. (s.share.parts ≡ 1) × (s.share.amount ≡ length s.receipts.items) × AreSettled s.settled s.receipts.items };
 }
 
-impl<L: Ledger, A: Allocator> Seat<L, A> {
+impl<L: LogBrand, A: Allocator> Seat<L, A> {
     /// A seat without receipts.
-    pub(crate) fn new(alloc: A, number: u16, share: Share<L>) -> Self
+    pub(crate) fn new(alloc: A, number: u16, share: Share<L>, known: Known<L, A>) -> Self
         requires parts { share.parts ≡ 1 }
         requires amount { share.amount ≡ 0 }
-        ensures { result ≡ record { number = number; receipts = []; spare = 0 } }
+        ensures { result ≡ record { number = number; receipts = []; spare = 0; known = known } }
     {
         Seat {
             number,
             share,
             receipts: Vec::new(alloc),
             settled: 0,
+            known,
         }
     }
 
@@ -147,8 +152,9 @@ impl<L: LogBrand, A: Allocator + Copy> Book<L, A> {
     ///
     /// # Errors
     ///
-    /// As there; the draft is handed back. `Memory` where the log cannot grow, for an entry with the draft's pieces and page numbers, or
-    /// the seat's receipts cannot: of book and seat only the spare room of these lists may differ then.
+    /// As there; the draft is handed back. `Memory` where the log cannot grow, for an entry with the draft's pieces and page numbers, the
+    /// seat's receipts cannot, or the book has no table of its submissions yet and cannot make it: of book and seat only the spare room of
+    /// these lists, and the table, may differ then.
     pub fn submit(
         &mut self,
         seat: &mut Seat<L, A>,
@@ -157,9 +163,10 @@ impl<L: LogBrand, A: Allocator + Copy> Book<L, A> {
         ensures step { Does self.old (Some seat.old.number) (events.Submit draft) (accept_reply result) self.new }
         ensures touches { Touches self.old.world.entries self.old.touches (events.Submit draft) (accept_reply result) self.new.touches }
         ensures receipt { Receives self.old.log seat.old draft result seat.new }
+        ensures known { Learns self.old.log seat.old draft result seat.new }
         ensures back { IfErr result (λ r. r.value ≡ draft) }
         ensures ticket { IfOk result (λ ticket. ticket ≡ record { q = draft.q; cid = draft.cid }) }
-        ensures memory { WantsMemoryFor (LacksRoomToSubmit self.old draft ⊎ AreReceiptsFull seat.old) (accept_reply result) }
+        ensures memory { WantsMemoryFor (LacksRoomToSubmit self.old draft ⊎ AreReceiptsFull seat.old ⊎ HasNoTable self.old) (accept_reply result) }
     {
         let pieces = draft.request().pieces().len();
         let Ok(()) = self.log.make_room(pieces, draft.pages().len()) else {
@@ -168,22 +175,30 @@ impl<L: LogBrand, A: Allocator + Copy> Book<L, A> {
         let Ok(()) = seat.receipts.reserve(1) else {
             return Err(unlogged(draft));
         };
+        let (queues, entries) = (self.world.queue_count(), self.world.entries());
+        let Ok(()) = self.submissions.make_table(self.alloc, queues, entries) else {
+            return Err(unlogged(draft));
+        };
+        self.submissions.begin_with(&seat.known);
         let (q, cid) = (draft.q(), draft.cid());
+        let submitted = Snapshot::of(&draft);
         let asked = Asked::of(draft.request());
         self.log.push_submission(Some(seat.number), &draft);
         let answer = self.world.submit(draft);
         note_refused(&mut self.log, &answer);
-        if answer.is_ok() {
-            self.tally.add(&mut seat.share, 1);
-            seat.receipts.push_reserved(Receipt {
-                number: self.submissions,
-                q,
-                cid,
-                asked,
-                status: None,
-            });
-            self.submissions += 1;
+        if answer.is_err() {
+            return answer;
         }
+        self.tally.add(&mut seat.share, 1);
+        seat.receipts.push_reserved(Receipt {
+            number: self.submissions.len(),
+            q,
+            cid,
+            asked,
+            status: None,
+        });
+        self.submissions.push(q, cid, &submitted);
+        seat.known = self.submissions.known();
         answer
     }
 

@@ -72,6 +72,8 @@ fn shown_request<'a>(pieces: &'a [Piece], request: &KeptRequest) -> RequestOf<Pi
     let span = request.pieces;
     RequestOf {
         kind: request.kind,
+        nsid: request.nsid,
+        flags: request.flags,
         slba: request.slba,
         blocks: request.blocks,
         pieces: PieceList {

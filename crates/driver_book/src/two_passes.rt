@@ -10,12 +10,12 @@ ghost use Rattle.driver_book.specs.Submissions.{submission_of};
 ghost use Rattle.driver_book.specs.Table.{count_of, with_count, status_in, AreCounted, AreWithin, AreBelow, Tells};
 
 use crate::Log;
+use crate::book::LogBrand;
 use crate::close::{Wanted, any_has, missing};
 use crate::ends::Ends;
 use crate::entry::Submission;
 use crate::seat::Seat;
 use std::alloc::{AllocError, Allocator};
-use std::sync::ledger::Ledger;
 
 /// How many cells the table may have for each entry of the log.
 const CELLS_AN_ENTRY: usize = 16;
@@ -36,7 +36,7 @@ struct Counted<A: Allocator> {
 }
 
 /// A number that is above those of all seats.
-fn above_all<L: Ledger, A: Allocator>(seats: &[Seat<L, A>]) -> usize
+fn above_all<L: LogBrand, A: Allocator>(seats: &[Seat<L, A>]) -> usize
     ensures { AreBelow seats.now result }
 {
     let mut end = 0;
@@ -92,7 +92,7 @@ impl Bounds {
 
 impl<A: Allocator + Copy> Counted<A> {
     /// Those of a whole log, each by the numbers of these seats; and the bounds of the log's submissions.
-    fn of_log<L: Ledger>(
+    fn of_log<L: LogBrand>(
         alloc: A,
         log: &Log<A>,
         seats: &[Seat<L, A>],
@@ -168,7 +168,12 @@ impl<A: Allocator> Counted<A> {
     }
 
     /// Whether the submission behind those that were counted stands in the receipts, where the entries behind it say this of ends.
-    fn does_stand<L: Ledger>(&self, made: Submission, ends: &Ends<A>, seats: &[Seat<L, A>]) -> bool
+    fn does_stand<L: LogBrand>(
+        &self,
+        made: Submission,
+        ends: &Ends<A>,
+        seats: &[Seat<L, A>],
+    ) -> bool
         requires queue { made.q < length ends.now.retired }
         requires identifier { made.cid < ends.now.identifiers }
         ensures { result ≡ list_any (has made.seat (count_of self.now.of_seats.items made.seat) self.now.number made.q made.cid made.asked (status_in ends.now made.q made.cid)) seats.now }
@@ -191,7 +196,7 @@ impl<A: Allocator> Counted<A> {
 
 /// Goes back through a log whose submissions were counted: the first accepted submission that stands in no receipt, its seat and its
 /// number.
-fn first_behind<L: Ledger, A: Allocator>(
+fn first_behind<L: LogBrand, A: Allocator>(
     log: &Log<A>,
     seats: &[Seat<L, A>],
     counted: Counted<A>,
@@ -221,7 +226,7 @@ fn first_behind<L: Ledger, A: Allocator>(
 }
 
 /// The first accepted submission that stands in no receipt, by two passes through the log.
-fn in_two_passes<L: Ledger, A: Allocator + Copy>(
+fn in_two_passes<L: LogBrand, A: Allocator + Copy>(
     alloc: A,
     log: &Log<A>,
     seats: &[Seat<L, A>],
@@ -243,7 +248,7 @@ fn in_two_passes<L: Ledger, A: Allocator + Copy>(
 
 /// The first accepted submission that stands in no receipt: its seat and its number. It takes memory for its tables; where that is refused, or
 /// they would be too large, the log is gone through for each seat.
-pub(crate) fn first_missing<L: Ledger, A: Allocator + Copy>(
+pub(crate) fn first_missing<L: LogBrand, A: Allocator + Copy>(
     alloc: A,
     log: &Log<A>,
     seats: &[Seat<L, A>],

@@ -3,7 +3,8 @@
 use crate::looks::see;
 use entry_codec::Status;
 use host_bench::{
-    Call, Config, HostBench, Kind, Owner, PageNo, Piece, Pieces, Reaped, Reply, Request, Role,
+    Call, Config, Flags, HostBench, Kind, Owner, PageNo, Piece, Pieces, Reaped, Reply, Request,
+    Role,
 };
 use std::alloc::{AllocError, Global};
 use std::process::Abort;
@@ -34,6 +35,8 @@ fn longest(alloc: Global) -> Result<Request, AllocError> {
     }
     Ok(Request {
         kind: Kind::Read,
+        nsid: 1,
+        flags: Flags::NONE,
         slba: 0,
         blocks: 1_024,
         pieces,

@@ -6,7 +6,7 @@ ghost use Rattle.step_core.specs.Opening.{opening_of};
 use crate::looks::see;
 use crate::part::{USUAL, opened};
 use block_image::Image;
-use driver_book::LogBrand;
+use driver_book::{BlankBook, LogBrand};
 use driver_threads::Shared;
 use page_ledger::Owner;
 use page_memory::{Half, PageNo};
@@ -14,7 +14,6 @@ use std::alloc::Global;
 use std::marker::Brand;
 use std::process::Abort;
 use std::sync::Wait;
-use std::sync::ledger::Blank;
 use step_core::Config;
 
 /// Whose some pages are: one of a queue, a free one, and one that is not there.
@@ -34,11 +33,12 @@ fn look_behind_lock<L: LogBrand, R: Abort + Wait>(
     alloc: Global,
     config: Config,
     image: Image,
-    blank: Blank,
+    blank: BlankBook,
 )
-    requires name { blank.name ≡ L.name }
-    requires parts { blank.parts ≡ L.parts }
-    requires number { blank.parts ≡ 65536 }
+    requires name { blank.ledger.name ≡ L.name }
+    requires parts { blank.ledger.parts ≡ L.parts }
+    requires number { blank.ledger.parts ≡ 65536 }
+    requires list { blank.drafts.name ≡ L.list }
     requires opening { L.opening ≡ opening_of config image }
 {
     let shared = Shared::new(opened::<L, R>(rt, alloc, config, image, blank));
@@ -61,5 +61,5 @@ pub(crate) fn end<L: LogBrand>(shared: Shared<L>) -> usize {
 fn a_shared_book_shows_itself(rt: HostRuntime) {
     let alloc = rt.alloc();
     let image = Image::zeroed(alloc, 64).expect(&rt, "an image");
-    look_behind_lock::<Brand, HostRuntime>(&rt, alloc, USUAL, image, Blank::new(65536));
+    look_behind_lock::<Brand, HostRuntime>(&rt, alloc, USUAL, image, BlankBook::new());
 }

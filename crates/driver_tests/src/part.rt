@@ -6,7 +6,7 @@ ghost use Rattle.step_core.specs.Opening.{opening_of};
 use crate::closes::{close, close_all, close_each, keep_back, stay_open};
 use crate::looks::{Told, alter, has_receipts, see};
 use block_image::Image;
-use driver_book::{Book, CloseFault, Full, FullLogBrand, LogBrand};
+use driver_book::{BlankBook, Book, CloseFault, Full, FullLogBrand, LogBrand};
 use driver_threads::Shared;
 use entry_codec::Status;
 use script_cli::transcripts::read_transcript;
@@ -15,7 +15,6 @@ use std::alloc::{Allocator, Global};
 use std::marker::Brand;
 use std::process::Abort;
 use std::sync::Wait;
-use std::sync::ledger::Blank;
 use step_core::Config;
 
 /// A part of a run at a desk. The last seat acts: it submits and releases.
@@ -91,11 +90,12 @@ pub(crate) fn opened<L: LogBrand, R: Abort>(
     alloc: Global,
     config: Config,
     image: Image,
-    blank: Blank,
+    blank: BlankBook,
 ) -> Book<L>
-    requires name { blank.name ≡ L.name }
-    requires parts { blank.parts ≡ L.parts }
-    requires number { blank.parts ≡ 65536 }
+    requires name { blank.ledger.name ≡ L.name }
+    requires parts { blank.ledger.parts ≡ L.parts }
+    requires number { blank.ledger.parts ≡ 65536 }
+    requires list { blank.drafts.name ≡ L.list }
     requires opening { L.opening ≡ opening_of config image }
 {
     match Book::<L>::open(alloc, config, image, blank) {
@@ -110,12 +110,13 @@ fn through_book<L: LogBrand, R: Abort + Wait>(
     alloc: Global,
     config: Config,
     image: Image,
-    blank: Blank,
+    blank: BlankBook,
     parts: &[Part],
 ) -> usize
-    requires name { blank.name ≡ L.name }
-    requires parts { blank.parts ≡ L.parts }
-    requires number { blank.parts ≡ 65536 }
+    requires name { blank.ledger.name ≡ L.name }
+    requires parts { blank.ledger.parts ≡ L.parts }
+    requires number { blank.ledger.parts ≡ 65536 }
+    requires list { blank.drafts.name ≡ L.list }
     requires opening { L.opening ≡ opening_of config image }
 {
     let book = opened::<Full<L>, R>(rt, alloc, config, image, blank);
@@ -130,12 +131,13 @@ fn behind_lock<L: LogBrand, R: Abort + Wait>(
     alloc: Global,
     config: Config,
     image: Image,
-    blank: Blank,
+    blank: BlankBook,
     parts: &[Part],
 ) -> usize
-    requires name { blank.name ≡ L.name }
-    requires parts { blank.parts ≡ L.parts }
-    requires number { blank.parts ≡ 65536 }
+    requires name { blank.ledger.name ≡ L.name }
+    requires parts { blank.ledger.parts ≡ L.parts }
+    requires number { blank.ledger.parts ≡ 65536 }
+    requires list { blank.drafts.name ≡ L.list }
     requires opening { L.opening ≡ opening_of config image }
 {
     let shared = Shared::new(opened::<Full<L>, R>(rt, alloc, config, image, blank));
@@ -156,9 +158,9 @@ pub(crate) const USUAL: Config = Config {
 /// entries then, where that is told.
 pub(crate) fn run<R: Abort + Wait>(rt: &R, alloc: Global, parts: &[Part], entries: Option<usize>) {
     let image = Image::zeroed(alloc, 64).expect(rt, "an image");
-    let through = through_book::<Brand, R>(rt, alloc, USUAL, image, Blank::new(65536), parts);
+    let through = through_book::<Brand, R>(rt, alloc, USUAL, image, BlankBook::new(), parts);
     let image = Image::zeroed(alloc, 64).expect(rt, "an image");
-    let behind = behind_lock::<Brand, R>(rt, alloc, USUAL, image, Blank::new(65536), parts);
+    let behind = behind_lock::<Brand, R>(rt, alloc, USUAL, image, BlankBook::new(), parts);
     see(rt, &behind, &through);
     see(rt, &through, &entries.unwrap_or(through));
 }

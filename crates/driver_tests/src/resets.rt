@@ -7,7 +7,7 @@ use crate::looks::{Told, counts, see, tell};
 use crate::opening::end;
 use crate::part::{USUAL, opened};
 use block_image::Image;
-use driver_book::{Full, FullLogBrand, LogBrand, Seat};
+use driver_book::{BlankBook, Full, FullLogBrand, LogBrand, Seat};
 use driver_threads::{Job, Shared};
 use entry_codec::Status;
 use io_commands::{Kind, Request, Ticket};
@@ -17,7 +17,6 @@ use std::marker::Brand;
 use std::process::Abort;
 use std::sync::Wait;
 use std::sync::atomic::{AtomicBool, Ordering};
-use std::sync::ledger::Blank;
 use std::test::Fail;
 use std::thread;
 use std::thread::Threads;
@@ -158,11 +157,12 @@ fn read_and_reset<L: LogBrand + Send + Sync, R: Abort + Threads + Wait + Sync>(
     config: Config,
     image: Image,
     request: Request,
-    blank: Blank,
+    blank: BlankBook,
 )
-    requires name { blank.name ≡ L.name }
-    requires parts { blank.parts ≡ L.parts }
-    requires number { blank.parts ≡ 65536 }
+    requires name { blank.ledger.name ≡ L.name }
+    requires parts { blank.ledger.parts ≡ L.parts }
+    requires number { blank.ledger.parts ≡ 65536 }
+    requires list { blank.drafts.name ≡ L.list }
     requires opening { L.opening ≡ opening_of config image }
 {
     let shared = Shared::new(opened::<Full<L>, R>(rt, alloc, config, image, blank));
@@ -184,6 +184,6 @@ fn another_thread_resets(rt: HostRuntime) -> Result<(), Fail> {
         request,
         bytes: _,
     } = job(alloc, 1, Kind::Read, 0, 1, &[])?;
-    read_and_reset::<Brand, HostRuntime>(&rt, alloc, USUAL, image, request, Blank::new(65536));
+    read_and_reset::<Brand, HostRuntime>(&rt, alloc, USUAL, image, request, BlankBook::new());
     Ok(())
 }

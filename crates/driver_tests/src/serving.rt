@@ -5,7 +5,7 @@ ghost use Rattle.step_core.specs.Opening.{opening_of};
 
 use crate::looks::see;
 use block_image::Image;
-use driver_book::{Log, LogBrand, ShownStep};
+use driver_book::{BlankBook, Log, LogBrand, ShownStep};
 use driver_threads::{Job, JobEnds, Open, Ran, Server, run_threads};
 use entry_codec::Status;
 use io_commands::Kind;
@@ -14,7 +14,6 @@ use std::alloc::{AllocError, Global};
 use std::marker::Brand;
 use std::process::Abort;
 use std::sync::Wait;
-use std::sync::ledger::Blank;
 use std::thread::Threads;
 use step_core::{Config, Step};
 
@@ -182,12 +181,13 @@ fn see_served<L: LogBrand + Send + Sync, R: Abort + Threads + Wait + Sync>(
     alloc: Global,
     config: Config,
     image: Image,
-    blank: Blank,
+    blank: BlankBook,
     reads: &Reads,
 )
-    requires name { blank.name ≡ L.name }
-    requires parts { blank.parts ≡ L.parts }
-    requires number { blank.parts ≡ 65536 }
+    requires name { blank.ledger.name ≡ L.name }
+    requires parts { blank.ledger.parts ≡ L.parts }
+    requires number { blank.ledger.parts ≡ 65536 }
+    requires list { blank.drafts.name ≡ L.list }
     requires opening { L.opening ≡ opening_of config image }
 {
     let jobs = lists(alloc, reads).expect(rt, "memory");
@@ -212,7 +212,7 @@ fn see_served<L: LogBrand + Send + Sync, R: Abort + Threads + Wait + Sync>(
 /// Runs the Reads.
 fn run<R: Abort + Threads + Wait + Sync>(rt: &R, alloc: Global, reads: &Reads) {
     let image = Image::zeroed(alloc, 64).expect(rt, "an image");
-    see_served::<Brand, R>(rt, alloc, ROOMY, image, Blank::new(65536), reads);
+    see_served::<Brand, R>(rt, alloc, ROOMY, image, BlankBook::new(), reads);
 }
 
 #[test]

@@ -4,7 +4,8 @@ ghost use Rattle.std.specs.Prelude.{◌<◌, IfOk};
 
 use entry_codec::{ComEntry, Status, SubEntry, io_opcode};
 use host_bench::{
-    Call, Config, HostBench, Kind, Piece, Pieces, Reaped, Refusal, Reply, Request, Unreadable,
+    Call, Config, Flags, HostBench, Kind, Piece, Pieces, Reaped, Refusal, Reply, Request,
+    Unreadable,
 };
 use sgl_descriptor::Descriptor;
 use shared::{Change, Changes, Machine, Shared};
@@ -157,6 +158,8 @@ pub(crate) fn reserved<R: Abort>(
     };
     let request = Request {
         kind,
+        nsid: 1,
+        flags: Flags::NONE,
         slba: block,
         blocks: 1,
         pieces,

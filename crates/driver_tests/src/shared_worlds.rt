@@ -2,7 +2,7 @@
 
 use block_image::Image;
 use entry_codec::Status;
-use io_commands::{Draft, Finished, Kind, Piece, Pieces, Request, Ticket};
+use io_commands::{Draft, Finished, Flags, Kind, Piece, Pieces, Request, Ticket};
 use page_ledger::{Counts, Owner};
 use page_memory::PageNo;
 use shared::{Change, Changes, ServedStep, Shared, calls};
@@ -54,6 +54,8 @@ pub(crate) fn read_of<A: Allocator>(alloc: A, blocks: u32) -> Result<Request<A>,
     }
     Ok(Request {
         kind: Kind::Read,
+        nsid: 1,
+        flags: Flags::NONE,
         slba: 0,
         blocks,
         pieces,

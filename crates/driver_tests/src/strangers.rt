@@ -3,7 +3,7 @@
 use crate::heap::{Heap, MANY};
 use crate::looks::see;
 use crate::part::USUAL;
-use io_commands::{Kind, Piece, Pieces};
+use io_commands::{Flags, Kind, Piece, Pieces};
 use page_ledger::Counts;
 use std::alloc::{AllocError, Global};
 use std::process::Abort;
@@ -27,6 +27,8 @@ fn request(heap: &Heap) -> Result<Request<&Heap>, AllocError> {
     };
     Ok(Request {
         kind: Kind::Read,
+        nsid: 1,
+        flags: Flags::NONE,
         slba: 0,
         blocks: 1,
         pieces: Pieces::from_slice(heap, &[block])?,

@@ -7,13 +7,12 @@ use crate::closing::READ;
 use crate::heap::{Heap, zeros};
 use crate::looks::{see, see_at};
 use crate::part::{USUAL, play_text};
-use driver_book::{Book, CloseFault, Full, FullLogBrand, LogBrand};
+use driver_book::{BlankBook, Book, CloseFault, Full, FullLogBrand, LogBrand};
 use session_scripts::desk::{Access, Desk};
 use std::alloc::Global;
 use std::marker::Brand;
 use std::process::Abort;
 use std::sync::Wait;
-use std::sync::ledger::Blank;
 use std::test::Fail;
 use step_core::{Config, Image};
 use test_support::{Refusal, Refusing};
@@ -60,11 +59,12 @@ fn close_without_tables<'h, L: LogBrand, R: Abort + Wait>(
     heap: &'h Heap,
     config: Config,
     image: Image<&'h Heap>,
-    blank: Blank,
+    blank: BlankBook<&'h Heap>,
 )
-    requires name { blank.name ≡ L.name }
-    requires parts { blank.parts ≡ L.parts }
-    requires number { blank.parts ≡ 65536 }
+    requires name { blank.ledger.name ≡ L.name }
+    requires parts { blank.ledger.parts ≡ L.parts }
+    requires number { blank.ledger.parts ≡ 65536 }
+    requires list { blank.drafts.name ≡ L.list }
     requires opening { L.opening ≡ opening_of config image }
 {
     let book = match Book::<Full<L>, &'h Heap>::open(heap, config, image, blank) {
@@ -89,7 +89,7 @@ fn a_book_is_closed_without_tables(rt: HostRuntime) -> Result<(), Fail> {
     let alloc = rt.alloc();
     let heap = Refusing::new(alloc);
     let image = zeros(&heap)?;
-    let blank = Blank::new(65536);
+    let blank = BlankBook::new();
     close_without_tables::<Brand, HostRuntime>(&rt, alloc, &heap, USUAL, image, blank);
     see(&rt, &heap.tally().blocks, &0);
     Ok(())

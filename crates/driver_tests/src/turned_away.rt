@@ -7,7 +7,7 @@ use crate::looks::{counts, see};
 use crate::opening::end;
 use crate::part::{USUAL, opened};
 use block_image::Image;
-use driver_book::{Full, FullLogBrand, LogBrand};
+use driver_book::{BlankBook, Full, FullLogBrand, LogBrand};
 use driver_threads::{
     Job, JobEnd, JobRefusal, Open, Shared, Worked, controller, poller, submitter,
 };
@@ -17,7 +17,6 @@ use std::alloc::Global;
 use std::marker::Brand;
 use std::process::Abort;
 use std::sync::Wait;
-use std::sync::ledger::Blank;
 use std::test::Fail;
 use step_core::Config;
 
@@ -61,11 +60,12 @@ fn turn_away<L: LogBrand, R: Abort + Wait>(
     alloc: Global,
     config: Config,
     image: Image,
-    blank: Blank,
+    blank: BlankBook,
 )
-    requires name { blank.name ≡ L.name }
-    requires parts { blank.parts ≡ L.parts }
-    requires number { blank.parts ≡ 65536 }
+    requires name { blank.ledger.name ≡ L.name }
+    requires parts { blank.ledger.parts ≡ L.parts }
+    requires number { blank.ledger.parts ≡ 65536 }
+    requires list { blank.drafts.name ≡ L.list }
     requires opening { L.opening ≡ opening_of config image }
 {
     let shared = Shared::new(opened::<Full<L>, R>(rt, alloc, config, image, blank));
@@ -79,6 +79,6 @@ fn turn_away<L: LogBrand, R: Abort + Wait>(
 fn workers_are_turned_away(rt: HostRuntime) -> Result<(), Fail> {
     let alloc = rt.alloc();
     let image = Image::zeroed(alloc, 64)?;
-    turn_away::<Brand, HostRuntime>(&rt, alloc, USUAL, image, Blank::new(65536));
+    turn_away::<Brand, HostRuntime>(&rt, alloc, USUAL, image, BlankBook::new());
     Ok(())
 }

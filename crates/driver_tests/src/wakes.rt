@@ -6,7 +6,7 @@ ghost use Rattle.step_core.specs.Opening.{opening_of};
 use crate::looks::see;
 use crate::part::{USUAL, opened, play_text};
 use block_image::Image;
-use driver_book::{Full, FullLogBrand, LogBrand};
+use driver_book::{BlankBook, Full, FullLogBrand, LogBrand};
 use driver_threads::{
     Gate, GateClosed, Job, JobEnd, JobRefusal, Point, Shared, Worked, poller, submitter,
 };
@@ -20,7 +20,6 @@ use std::marker::Brand;
 use std::process::Abort;
 use std::sync::Wait;
 use std::sync::atomic::{AtomicBool, Ordering};
-use std::sync::ledger::Blank;
 use std::thread;
 use std::thread::Threads;
 use std::time::{Clock, Duration};
@@ -566,12 +565,13 @@ fn wake<L: LogBrand + Send + Sync, R: Abort + Threads + Wait + Clock + Sync>(
     alloc: Global,
     config: Config,
     image: Image,
-    blank: Blank,
+    blank: BlankBook,
     waking: &Waking,
 )
-    requires name { blank.name ≡ L.name }
-    requires parts { blank.parts ≡ L.parts }
-    requires number { blank.parts ≡ 65536 }
+    requires name { blank.ledger.name ≡ L.name }
+    requires parts { blank.ledger.parts ≡ L.parts }
+    requires number { blank.ledger.parts ≡ 65536 }
+    requires list { blank.drafts.name ≡ L.list }
     requires opening { L.opening ≡ opening_of config image }
 {
     let shared = Shared::new(opened::<Full<L>, R>(rt, alloc, config, image, blank));
@@ -588,7 +588,7 @@ fn wake<L: LogBrand + Send + Sync, R: Abort + Threads + Wait + Clock + Sync>(
 fn run<R: Abort + Threads + Wait + Clock + Sync>(rt: &R, alloc: Global, waking: &Waking) {
     for _ in 0..ROUNDS {
         let image = Image::zeroed(alloc, 64).expect(rt, "an image");
-        wake::<Brand, R>(rt, alloc, TWO_QUEUES, image, Blank::new(65536), waking);
+        wake::<Brand, R>(rt, alloc, TWO_QUEUES, image, BlankBook::new(), waking);
     }
 }
 

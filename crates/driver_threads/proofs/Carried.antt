@@ -7,11 +7,14 @@ use Rattle.entry_codec.specs.declared.status.Status.{Status}
 use Rattle.io_commands.specs.{Asked.Request, Drafts.DraftContents, Values.{TicketContents}}
 use Rattle.io_commands.specs.declared.request.{Kind.{Kind, TheVariants.{Read, Write, Compare}}}
 use Rattle.machine_model.specs.{State.State, Step.IsReserved}
-use Rattle.driver_book.specs.{Calls.{receipt, settled, status_at}, Entries.asked_of, History.accepted, State.{SeatContents}, declared.report.{Asked.Asked, Receipt.Receipt}}
+use Rattle.driver_book.specs.{Calls.{Does, receipt, settled, status_at}, Entries.asked_of, History.accepted, State.{SeatContents}, declared.report.{Asked.Asked, Receipt.Receipt}}
+use Rattle.driver_book.proofs.Latest.{same_beginning, stands_on}
+use Rattle.std.specs.Prelude.{slice_get}
+use mathlib.Core.List.{IsPrefix}
 use Rattle.driver_threads.proofs.UnderWay.{await_length, await_push, host_answers, none_is, none_open, settled_oldest, status_is}
 use Rattle.driver_threads.specs.{Ends.{Agree, AwaitEach, FlyingOf, status_of, statuses_of}, Sharing.{Made, Submitted}, Values.{EndOf, JobOf}}
 use Rattle.driver_threads.specs.Jobs.{AllWentBy, AreSubmitted, BytesOf, IsEnded, IsSubmitted, KeepsOf, RefusesJob, WentBy, prepared, with_bytes_of}
-use Rattle.driver_threads.specs.JobSteps.{Carries, CarriesOn, GivesUp, HoldsOfEach, data_of}
+use Rattle.driver_threads.specs.JobSteps.{Carries, CarriesOn, GivesUp, HoldsOfEach, data_of, number_of}
 use Rattle.driver_threads.specs.declared.jobs.{JobEnd.TheVariants.{Done, Refused as JobEndRefused}, JobRefusal.JobRefusal}
 
 -- What a book answers
@@ -51,7 +54,7 @@ went_agree bytes_of Keeps opening seat (job ∷ jobs) (r ∷ receipts) (Done sta
     ap (λ (s : Option Status). s ∷ statuses_of receipts) went.2 ∙ ap (λ (xs : List (Option Status)). Some status ∷ xs) (went_agree bytes_of Keeps opening seat jobs receipts ends went.3)
 
 went_more : {D K : Type 0} (bytes_of : BytesOf D) (Keeps : KeepsOf D K) (opening : State) (seat : ℕ) (jobs : List (JobOf D)) (receipts : List Receipt) (ends : List (EndOf K)) (job : JobOf D) (r : Receipt) (status : Status) (kept : K)
-    → WentBy bytes_of Keeps opening seat jobs receipts ends → IsSubmitted bytes_of opening seat job r → IsEnded Keeps opening seat job.bytes r kept → r.status ≡ Some status
+    → WentBy bytes_of Keeps opening seat jobs receipts ends → (submitted : IsSubmitted bytes_of opening seat job r) → IsEnded Keeps opening seat job.bytes r (prepared (bytes_of job.bytes) submitted.draft) kept → r.status ≡ Some status
     → WentBy bytes_of Keeps opening seat (jobs ++ job ∷ []) (receipts ++ r ∷ []) (ends ++ Done status kept ∷ [])
 went_more bytes_of Keeps opening seat [] [] [] job r status kept went submitted ended told = (submitted, ended, told, tt)
 went_more bytes_of Keeps opening seat [] [] (e ∷ ends) job r status kept went submitted ended told = absurd went
@@ -72,12 +75,43 @@ went_refused bytes_of Keeps opening seat (j ∷ jobs) receipts (JobEndRefused w 
 went_refused bytes_of Keeps opening seat (j ∷ jobs) [] (Done s b ∷ ends) job why went refuses = absurd went
 went_refused bytes_of Keeps opening seat (j ∷ jobs) (x ∷ receipts) (Done s b ∷ ends) job why went refuses = (went.0, went.1, went.2, went_refused bytes_of Keeps opening seat jobs receipts ends job why went.3 refuses)
 
-submitted_more : {D : Type 0} (bytes_of : BytesOf D) (opening : State) (seat : ℕ) (jobs : List (JobOf D)) (receipts : List Receipt) (job : JobOf D) (r : Receipt)
-    → AreSubmitted bytes_of opening seat jobs receipts → IsSubmitted bytes_of opening seat job r → AreSubmitted bytes_of opening seat (jobs ++ job ∷ []) (receipts ++ r ∷ [])
-submitted_more bytes_of opening seat [] [] job r all one = (one, tt)
-submitted_more bytes_of opening seat [] (x ∷ receipts) job r all one = absurd all
-submitted_more bytes_of opening seat (j ∷ jobs) [] job r all one = absurd all
-submitted_more bytes_of opening seat (j ∷ jobs) (x ∷ receipts) job r all one = (all.0, submitted_more bytes_of opening seat jobs receipts job r all.1 one)
+submitted_more : {D : Type 0} (bytes_of : BytesOf D) (opening : State) (seat : SeatContents) (jobs : List (JobOf D)) (receipts : List Receipt) (job : JobOf D) (r : Receipt)
+    → AreSubmitted bytes_of opening seat jobs receipts → (one : IsSubmitted bytes_of opening seat.number job r) → slice_get seat.known r.number ≡ Some (prepared (bytes_of job.bytes) one.draft)
+    → AreSubmitted bytes_of opening seat (jobs ++ job ∷ []) (receipts ++ r ∷ [])
+submitted_more bytes_of opening seat [] [] job r all one known = (one, known, tt)
+submitted_more bytes_of opening seat [] (x ∷ receipts) job r all one known = absurd all
+submitted_more bytes_of opening seat (j ∷ jobs) [] job r all one known = absurd all
+submitted_more bytes_of opening seat (j ∷ jobs) (x ∷ receipts) job r all one known = (all.0, all.1, submitted_more bytes_of opening seat jobs receipts job r all.2 one known)
+
+-- a seat of the same number
+of_number : {D : Type 0} (bytes_of : BytesOf D) (opening : State) (seat next : ℕ) (job : JobOf D) (r : Receipt) → next ≡ seat → IsSubmitted bytes_of opening seat job r → IsSubmitted bytes_of opening next job r
+of_number bytes_of opening seat next job r same s = record {
+  draft = s.draft;
+  reserved = s.reserved;
+  old = s.old;
+  new = s.new;
+  of = s.of;
+  does = subst (λ (n : ℕ). Does s.old (Some n) (events.Submit (prepared (bytes_of job.bytes) s.draft)) events.Accepted s.new) (sym same) s.does;
+  number = s.number;
+  asked = s.asked;
+  queue = s.queue;
+  identifier = s.identifier;
+}
+
+-- a seat that knows more
+known_on : {D : Type 0} (bytes_of : BytesOf D) (opening : State) (seat next : SeatContents) (jobs : List (JobOf D)) (receipts : List Receipt) → next.number ≡ seat.number → IsPrefix seat.known next.known
+    → AreSubmitted bytes_of opening seat jobs receipts → AreSubmitted bytes_of opening next jobs receipts
+unfolding of_number
+known_on bytes_of opening seat next [] [] same knows all = tt
+known_on bytes_of opening seat next [] (x ∷ receipts) same knows all = absurd all
+known_on bytes_of opening seat next (j ∷ jobs) [] same knows all = absurd all
+known_on bytes_of opening seat next (j ∷ jobs) (x ∷ receipts) same knows all =
+    (of_number bytes_of opening seat.number next.number j x same all.0, stands_on seat.known next.known x.number (prepared (bytes_of j.bytes) all.0.draft) knows all.1, known_on bytes_of opening seat next jobs receipts same knows all.2)
+
+-- the number of a receipt behind others
+number_behind : (ended awaited : List Receipt) (r : Receipt) → number_of (ended ++ r ∷ awaited) (length ended) ≡ r.number
+number_behind [] awaited r = refl
+number_behind (x ∷ ended) awaited r = number_behind ended awaited r
 
 -- What a submitter carries
 
@@ -86,9 +120,9 @@ pub carries_none : {D K : Type 0} (bytes_of : BytesOf D) (Keeps : KeepsOf D K) (
 carries_none bytes_of Keeps opening seat ends flying no_receipts no_ends none_flying =
     rw (no_ends, none_flying) (record { done = []; left = []; ended = []; awaited = []; jobs_are = refl; receipts_are = no_receipts; went = tt; submitted = tt; given = refl; await = tt })
 
-none_left : {D K : Type 0} (bytes_of : BytesOf D) (Keeps : KeepsOf D K) (opening : State) (seat : ℕ) (done left jobs : List (JobOf D)) (ended awaited receipts : List Receipt) (ends : List (EndOf K))
+none_left : {D K : Type 0} (bytes_of : BytesOf D) (Keeps : KeepsOf D K) (opening : State) (seat : SeatContents) (done left jobs : List (JobOf D)) (ended awaited receipts : List Receipt) (ends : List (EndOf K))
     → jobs ≡ done ++ left → receipts ≡ ended ++ awaited
-    → WentBy bytes_of Keeps opening seat done ended ends → AreSubmitted bytes_of opening seat left awaited → AwaitEach {D = D} awaited [] → WentBy bytes_of Keeps opening seat jobs receipts ends
+    → WentBy bytes_of Keeps opening seat.number done ended ends → AreSubmitted bytes_of opening seat left awaited → AwaitEach {D = D} awaited [] → WentBy bytes_of Keeps opening seat.number jobs receipts ends
 none_left bytes_of Keeps opening seat done [] jobs ended [] receipts ends jobs_are are went submitted await = rw (jobs_are, are, append-nil done, append-nil ended) went
 none_left bytes_of Keeps opening seat done (j ∷ left) jobs ended [] receipts ends jobs_are are went submitted await = absurd submitted
 none_left bytes_of Keeps opening seat done left jobs ended (r ∷ awaited) receipts ends jobs_are are went submitted await = absurd await
@@ -97,7 +131,7 @@ none_left bytes_of Keeps opening seat done left jobs ended (r ∷ awaited) recei
 pub carries_landed : {D K : Type 0} (bytes_of : BytesOf D) (Keeps : KeepsOf D K) (opening : State) (seat : SeatContents) (ends : List (EndOf K)) (flying : List (FlyingOf D)) (n : ℕ) (jobs : List (JobOf D))
     → n ≡ length flying → n ≡ 0 → Carries bytes_of Keeps opening seat ends flying jobs → WentBy bytes_of Keeps opening seat.number jobs seat.receipts ends
 carries_landed bytes_of Keeps opening seat ends flying n jobs long none c =
-    none_left bytes_of Keeps opening seat.number c.done c.left jobs c.ended c.awaited seat.receipts ends c.jobs_are c.receipts_are c.went c.submitted
+    none_left bytes_of Keeps opening seat c.done c.left jobs c.ended c.awaited seat.receipts ends c.jobs_are c.receipts_are c.went c.submitted
     (subst (AwaitEach c.awaited) (none_is flying n long none) c.await)
 
 -- a job is refused while nothing is in flight
@@ -133,22 +167,21 @@ carries_launched {D} bytes_of Keeps opening seat next ends flying jobs job d t m
     let number : ℕ = accepted sub.old.log in
     let asked : Asked = asked_of p.request in
     let same : next.number ≡ seat.number = ap (λ (s : SeatContents). s.number) sub.receives in
-    let one : IsSubmitted bytes_of opening seat.number job (receipt number p.q p.cid asked None) =
+    let q_is : t.q ≡ p.q = ap (λ (t : TicketContents). t.q) is in
+    let cid_is : t.cid ≡ p.cid = ap (λ (t : TicketContents). t.cid) is in
+    let one : IsSubmitted bytes_of opening next.number job (receipt number t.q t.cid asked None) =
     record {
       draft = d;
       reserved = made;
       old = sub.old;
       new = sub.new;
       of = sub.of;
-      does = sub.does;
+      does = subst (λ (n : ℕ). Does sub.old (Some n) (events.Submit p) events.Accepted sub.new) (sym same) sub.does;
       number = refl;
       asked = ap asked_of (same_request d.request.kind (bytes_of job.bytes) d ∙ (reserved_as_asked opening job.q job.request d made).1);
-      queue = same_queue d.request.kind (bytes_of job.bytes) d ∙ (reserved_as_asked opening job.q job.request d made).0;
-      identifier = same_identifier d.request.kind (bytes_of job.bytes) d;
+      queue = q_is ∙ same_queue d.request.kind (bytes_of job.bytes) d ∙ (reserved_as_asked opening job.q job.request d made).0;
+      identifier = cid_is ∙ same_identifier d.request.kind (bytes_of job.bytes) d;
     } in
-    let q_is : t.q ≡ p.q = ap (λ (t : TicketContents). t.q) is in
-    let cid_is : t.cid ≡ p.cid = ap (λ (t : TicketContents). t.cid) is in
-    let as_ticket : IsSubmitted bytes_of opening seat.number job (receipt number t.q t.cid asked None) = rw (q_is, cid_is) one in
     let got : List Receipt = receipt number t.q t.cid asked None ∷ [] in
     let receipts : next.receipts ≡ seat.receipts ++ got = ap (λ (s : SeatContents). s.receipts) sub.receives ∙ ap (λ (q : ℕ). seat.receipts ++ receipt number q p.cid asked None ∷ []) (sym q_is) ∙ ap (λ (cid : ℕ). seat.receipts ++ receipt number t.q cid asked None ∷ []) (sym cid_is) in
     record {
@@ -160,8 +193,7 @@ carries_launched {D} bytes_of Keeps opening seat next ends flying jobs job d t m
       receipts_are = receipts ∙ ap (λ (rs : List Receipt). rs ++ got) c.receipts_are ∙ append_assoc c.ended c.awaited got;
       went = subst (λ (n : ℕ). WentBy bytes_of Keeps opening n c.done c.ended ends) (sym same) c.went;
       submitted =
-          subst (λ (n : ℕ). AreSubmitted bytes_of opening n (c.left ++ job ∷ []) (c.awaited ++ got)) (sym same)
-          (submitted_more bytes_of opening seat.number c.left c.awaited job (receipt number t.q t.cid asked None) c.submitted as_ticket);
+          submitted_more bytes_of opening next c.left c.awaited job (receipt number t.q t.cid asked None) (known_on bytes_of opening seat next c.left c.awaited same sub.learns.0 c.submitted) one sub.learns.1;
       given = map-append (λ (j : JobOf D). j.bytes) c.left (job ∷ []) ∙ ap (λ (ds : List D). ds ++ job.bytes ∷ []) c.given ∙ sym (map-append (λ (f : FlyingOf D). f.given) flying (f ∷ []));
       await = await_push c.awaited flying number asked f c.await;
     }
@@ -178,7 +210,7 @@ others (x ∷ xs) = xs
 oldest_went : {D K : Type 0} (bytes_of : BytesOf D) (Keeps : KeepsOf D K) (opening : State) (seat next : SeatContents) (done left jobs : List (JobOf D)) (ended awaited : List Receipt) (ends : List (EndOf K))
     (f : FlyingOf D) (flying : List (FlyingOf D)) (place : ℕ) (end : EndOf K)
     → place ≡ length seat.receipts - length (f ∷ flying) → GivesUp Keeps opening seat f.ticket.q f.ticket.cid f.given place end next
-    → jobs ≡ done ++ left → seat.receipts ≡ ended ++ awaited → WentBy bytes_of Keeps opening seat.number done ended ends → AreSubmitted bytes_of opening seat.number left awaited
+    → jobs ≡ done ++ left → seat.receipts ≡ ended ++ awaited → WentBy bytes_of Keeps opening seat.number done ended ends → AreSubmitted bytes_of opening seat left awaited
     → data_of left ≡ f.given ∷ map (λ f. f.given) flying → AwaitEach awaited (f ∷ flying) → Carries bytes_of Keeps opening next (ends ++ end ∷ []) flying jobs
 oldest_went bytes_of Keeps opening seat next done left jobs ended [] ends f flying place end at up jobs_are are went submitted given await = absurd await
 oldest_went bytes_of Keeps opening seat next done [] jobs ended (r ∷ awaited) ends f flying place end at up jobs_are are went submitted given await = absurd submitted
@@ -214,10 +246,17 @@ oldest_went {D} bytes_of Keeps opening seat next done (job ∷ left) jobs ended 
       identifier = sym (ap (λ (r : Receipt). r.cid) await.0) ∙ submitted.0.identifier;
     } in
     let of_data : job.bytes ≡ f.given = ap (first_or f.given) given in
-    let gave_up : IsEnded Keeps opening seat.number job.bytes told up.end_is.kept =
+    let numbers : number_of seat.receipts place ≡ r.number =
+    ap (λ (rs : List Receipt). number_of rs place) was ∙ ap (number_of (ended ++ receipt r.number t.q t.cid r.asked None ∷ awaited)) here ∙ number_behind ended awaited (receipt r.number t.q t.cid r.asked None) in
+    let gave_up : IsEnded Keeps opening seat.number job.bytes told (prepared (bytes_of job.bytes) submitted.0.draft) up.end_is.kept =
     record {
       command = up.command;
-      collected = up.collected;
+      before = up.collected.old;
+      after = up.collected.new;
+      is = up.collected.of;
+      collects = up.collected.does;
+      numbered = stands_on seat.known up.collected.old.drafts r.number (prepared (bytes_of job.bytes) submitted.0.draft) up.collected.knows submitted.1;
+      latest = up.collected.latest ∙ ap (λ (n : ℕ). Some n) numbers;
       keeps = subst (λ (d : D). Keeps d up.command up.end_is.kept) (sym of_data) up.end_is.keeps;
       old = up.released.old;
       new = up.released.new;
@@ -235,7 +274,7 @@ oldest_went {D} bytes_of Keeps opening seat next done (job ∷ left) jobs ended 
       jobs_are = jobs_are ∙ sym (append_assoc done (job ∷ []) left);
       receipts_are = is ∙ sym (append_assoc ended (told ∷ []) awaited);
       went = rw (same, up.end_is.end_is) more;
-      submitted = rw same submitted.1;
+      submitted = known_on bytes_of opening seat next left awaited same (same_beginning seat.known next.known (ap (λ (s : SeatContents). s.known) up.released.settles)) submitted.2;
       given = ap others given;
       await = await.1;
     }
@@ -325,9 +364,9 @@ handed_all bytes_of Keeps opening Holds lists results yielded reports ends all l
     went lists (fits_all Holds lists yielded long (subst (λ rs. HoldsOfEach Holds lists rs) (sym all) first))
 
 -- a submission that was refused left the seat as it was, but for room
-pub carries_same : {D K : Type 0} (bytes_of : BytesOf D) (Keeps : KeepsOf D K) (opening : State) (seat next : SeatContents) (ends : List (EndOf K)) (flying : List (FlyingOf D)) (jobs : List (JobOf D)) → next.receipts ≡ seat.receipts → next.number ≡ seat.number
+pub carries_same : {D K : Type 0} (bytes_of : BytesOf D) (Keeps : KeepsOf D K) (opening : State) (seat next : SeatContents) (ends : List (EndOf K)) (flying : List (FlyingOf D)) (jobs : List (JobOf D)) → next.receipts ≡ seat.receipts → next.number ≡ seat.number → next.known ≡ seat.known
     → Carries bytes_of Keeps opening seat ends flying jobs → Carries bytes_of Keeps opening next ends flying jobs
-carries_same bytes_of Keeps opening seat next ends flying jobs receipts number c = record {
+carries_same bytes_of Keeps opening seat next ends flying jobs receipts number known c = record {
   done = c.done;
   left = c.left;
   ended = c.ended;
@@ -335,7 +374,7 @@ carries_same bytes_of Keeps opening seat next ends flying jobs receipts number c
   jobs_are = c.jobs_are;
   receipts_are = receipts ∙ c.receipts_are;
   went = rw number c.went;
-  submitted = rw number c.submitted;
+  submitted = known_on bytes_of opening seat next c.left c.awaited number (same_beginning seat.known next.known known) c.submitted;
   given = c.given;
   await = c.await;
 }

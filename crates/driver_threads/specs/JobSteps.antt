@@ -1,6 +1,6 @@
 -- What the functions of a submitter say of one job and of those that it has in flight, from its reservation to its end.
 use Rattle.std.specs.List.{AllZip}
-use Rattle.std.specs.Prelude.{take, ◌≡◌, ◌≢◌, ◌⊎◌, ◌<◌, length, sum_by, map, ℕ, Some, None, List, [], ◌∷◌, ◌++◌, Ok}
+use Rattle.std.specs.Prelude.{take, ◌≡◌, ◌≢◌, ◌⊎◌, ◌<◌, length, slice_get, sum_by, map, ℕ, Option, Some, None, List, [], ◌∷◌, ◌++◌, Ok}
 use Rattle.entry_codec.specs.declared.status.Status.{Status}
 use Rattle.io_commands.specs.{Asked.Request, Drafts.DraftContents, Values.{FinishedContents}}
 use Rattle.io_commands.specs.{DataBytes.data_length, declared.request.Kind.TheVariants.Read}
@@ -9,7 +9,7 @@ use Rattle.machine_model.specs.Events as events
 use Rattle.machine_model.specs.declared.words.Refusal.TheVariants as refusal
 use Rattle.driver_threads.specs.declared.jobs.JobRefusal.TheVariants as why
 use Rattle.driver_book.specs.{State.SeatContents, declared.report.Receipt.Receipt}
-use Rattle.driver_threads.specs.{Ends.{AwaitEach, FlyingOf, status_of}, Jobs.{AreSubmitted, BytesOf, KeepsOf, RefusesDraft, RefusesJob, WentBy}, Sharing.{Made, Released}, Values.{EndOf, JobOf}}
+use Rattle.driver_threads.specs.{Ends.{AwaitEach, FlyingOf, status_of}, Jobs.{AreSubmitted, BytesOf, KeepsOf, RefusesDraft, RefusesJob, WentBy}, Sharing.{Collected, Made, Released}, Values.{EndOf, JobOf}}
 use Rattle.driver_threads.specs.declared.{jobs.{JobEnd.TheVariants.Done, JobRefusal.JobRefusal}, waits.{Halt.Halt, Reservation.Reservation}}
 use Rattle.driver_threads.specs.declared.waits.Halt.TheVariants as halt
 use Rattle.driver_threads.specs.declared.waits.Reservation.TheVariants as reservation
@@ -41,6 +41,10 @@ abbrev pub IsReservation : {A : Type 0} → State → ℕ → Request → Reserv
 IsReservation opening q request (reservation.Now draft) = Made opening None (events.Reserve q request) (events.Reserved draft)
 IsReservation opening q request (reservation.Later later) = later ≡ request
 
+abbrev pub number_or : Option Receipt → ℕ
+number_or None = 0
+number_or (Some r) = r.number
+
 -- the end of a job with these data whose command is this one: what was kept of it, and the status of the receipt at this place
 pub record IsEndOf {D K : Type 0} (Keeps : KeepsOf D K) (given : D) (command : FinishedContents) (receipts : List Receipt) (place : ℕ) (end : EndOf K) : Type 0 where
   pub status : Status
@@ -49,11 +53,15 @@ pub record IsEndOf {D K : Type 0} (Keeps : KeepsOf D K) (given : D) (command : F
   pub keeps : Keeps given command kept
   pub told : status_of receipts place ≡ Some status
 
--- The command with this identifier was given up: some book of this opening collected it, some book released it for this seat, and the end is
--- that of the command.
+-- the number of the receipt at a place
+abbrev pub number_of : List Receipt → ℕ → ℕ
+number_of receipts place = number_or (slice_get receipts place)
+
+-- The command with this identifier was given up: some book of this opening collected it, as that of the receipt at this place, some book released
+-- it for this seat, and the end is that of the command.
 pub record GivesUp {D K : Type 0} (Keeps : KeepsOf D K) (opening : State) (seat : SeatContents) (q cid : ℕ) (given : D) (place : ℕ) (end : EndOf K) (next : SeatContents) : Type 0 where
   pub command : FinishedContents
-  pub collected : Made opening None (events.Collect q cid) (events.Collects command)
+  pub collected : Collected opening seat (number_of seat.receipts place) q cid command
   pub queue : command.q ≡ q
   pub identifier : command.cid ≡ cid
   pub released : Released opening seat command {A = Unit {0}} (Ok tt) next
@@ -73,7 +81,7 @@ pub record Carries {D K : Type 0} (bytes_of : BytesOf D) (Keeps : KeepsOf D K) (
   pub jobs_are : jobs ≡ done ++ left
   pub receipts_are : seat.receipts ≡ ended ++ awaited
   pub went : WentBy bytes_of Keeps opening seat.number done ended ends
-  pub submitted : AreSubmitted bytes_of opening seat.number left awaited
+  pub submitted : AreSubmitted bytes_of opening seat left awaited
   pub given : data_of left ≡ map (λ f. f.given) flying
   pub await : AwaitEach awaited flying
 

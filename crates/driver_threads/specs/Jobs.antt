@@ -1,9 +1,9 @@
 -- What a submitter does for its jobs: which steps some books of its opening made for each, with which receipt, and how it ended.
-use Rattle.std.specs.Prelude.{◌≡◌, ◌≢◌, ◌⊎◌, ◌<◌, ◌-◌, ℕ, Some, None, List, [], ◌∷◌, ◌++◌, length, replicate, sum_by}
+use Rattle.std.specs.Prelude.{◌≡◌, ◌≢◌, ◌⊎◌, ◌<◌, ◌-◌, ℕ, Some, None, List, [], ◌∷◌, ◌++◌, length, replicate, slice_get, sum_by}
 use Rattle.io_commands.specs.{Asked.Request, Drafts.{DraftContents, built}, DataBytes.{PagesOut, data_length, filled}, Least.least_pages, Values.{FinishedContents, gathered_from}}
 use Rattle.io_commands.specs.declared.request.Kind.{Kind, TheVariants.{Read, Write, Compare}}
 use Rattle.machine_model.specs.{Claims.counts_of, Refusals.refusal_of, State.State}
-use Rattle.driver_book.specs.{Calls.{Does, status_at}, Entries.asked_of, History.accepted, State.{BookContents, IsBookOf}, declared.report.Receipt.Receipt}
+use Rattle.driver_book.specs.{Calls.{Does, status_at}, Entries.asked_of, History.{accepted, last_place}, State.{BookContents, IsBookOf, SeatContents}, declared.report.Receipt.Receipt}
 use Rattle.driver_threads.specs.{Sharing.Made, Values.{EndOf, Job, JobEnd, JobOf}}
 use Rattle.driver_threads.specs.declared.jobs.{JobEnd.TheVariants.{Done, Refused}, JobRefusal.JobRefusal}
 use Rattle.driver_threads.specs.declared.jobs.JobRefusal.TheVariants as why
@@ -59,11 +59,17 @@ pub record IsSubmitted {D : Type 0} (bytes_of : BytesOf D) (opening : State) (se
   pub queue : r.q ≡ job.q
   pub identifier : r.cid ≡ draft.cid
 
--- The command of a receipt was given up: some book of this opening collected it, this was kept of it for the data of its job, and some book
--- released it for this seat; the receipt has the status that it had then.
-pub record IsEnded {D K : Type 0} (Keeps : KeepsOf D K) (opening : State) (seat : ℕ) (given : D) (r : Receipt) (kept : K) : Type 0 where
+-- The command of a receipt was given up: some book of this opening collected it, whose submission of the receipt's number has this draft and was
+-- the last of its queue and identifier; this was kept of it for the data of its job, and some book released it for this seat; the receipt has the
+-- status that it had then.
+pub record IsEnded {D K : Type 0} (Keeps : KeepsOf D K) (opening : State) (seat : ℕ) (given : D) (r : Receipt) (submitted : DraftContents) (kept : K) : Type 0 where
   pub command : FinishedContents
-  pub collected : Made opening None (events.Collect r.q r.cid) (events.Collects command)
+  pub before : BookContents
+  pub after : BookContents
+  pub is : IsBookOf opening before
+  pub collects : Does before None (events.Collect r.q r.cid) (events.Collects command) after
+  pub numbered : slice_get before.drafts r.number ≡ Some submitted
+  pub latest : last_place r.q r.cid before.drafts ≡ Some r.number
   pub keeps : Keeps given command kept
   pub old : BookContents
   pub new : BookContents
@@ -132,13 +138,14 @@ abbrev pub WentBy : {D K : Type 0} → BytesOf D → KeepsOf D K → State → �
 WentBy bytes_of Keeps opening seat [] [] [] = Unit {0}
 WentBy bytes_of Keeps opening seat (job ∷ jobs) receipts (Refused cause ∷ ends) = RefusesJob bytes_of opening job cause × WentBy bytes_of Keeps opening seat jobs receipts ends
 WentBy bytes_of Keeps opening seat (job ∷ jobs) (r ∷ receipts) (Done status kept ∷ ends) =
-    IsSubmitted bytes_of opening seat job r × IsEnded Keeps opening seat job.bytes r kept × (r.status ≡ Some status) × WentBy bytes_of Keeps opening seat jobs receipts ends
+    (s : IsSubmitted bytes_of opening seat job r) × IsEnded Keeps opening seat job.bytes r (prepared (bytes_of job.bytes) s.draft) kept × (r.status ≡ Some status) × WentBy bytes_of Keeps opening seat jobs receipts ends
 WentBy bytes_of Keeps opening seat jobs receipts ends = ⊥
 
--- those in flight: each has its receipt, and was submitted with it
-abbrev pub AreSubmitted : {D : Type 0} → BytesOf D → State → ℕ → List (JobOf D) → List Receipt → Type 0
+-- those in flight: each has its receipt, and was submitted with it, as the seat knows
+abbrev pub AreSubmitted : {D : Type 0} → BytesOf D → State → SeatContents → List (JobOf D) → List Receipt → Type 0
 AreSubmitted bytes_of opening seat [] [] = Unit {0}
-AreSubmitted bytes_of opening seat (job ∷ jobs) (r ∷ receipts) = IsSubmitted bytes_of opening seat job r × AreSubmitted bytes_of opening seat jobs receipts
+AreSubmitted bytes_of opening seat (job ∷ jobs) (r ∷ receipts) =
+    (s : IsSubmitted bytes_of opening seat.number job r) × (slice_get seat.known r.number ≡ Some (prepared (bytes_of job.bytes) s.draft)) × AreSubmitted bytes_of opening seat jobs receipts
 AreSubmitted bytes_of opening seat jobs receipts = ⊥
 
 -- so the jobs of all submitters, each with a seat of its own

@@ -1,9 +1,10 @@
 -- What a call of a shared book says: that some book of this opening, whose log leads from there to its world, did it.
 use Rattle.std.specs.{List.Contains, Prelude.{◌≡◌, ℕ, ◌<◌, ◌≤◌, Bool, true, [], Option, Some, None, List, length, Result, MatchOption}}
+use mathlib.Core.List.{IsPrefix}
 use Rattle.io_commands.specs.{Drafts.DraftContents, Values.{FinishedContents, TicketContents}}
 use Rattle.machine_model.specs.{Agreeing.SidesAgree, Claims.{claims_of, counts_of}, Events.{Event, Reply}, State.State}
 use Rattle.page_ledger.specs.{Counting.total, declared.owner.{Counts.Counts, Owner.Owner}}
-use Rattle.driver_book.specs.{Calls.{Does, Receives, Settles}, Close.{AllStand, IsDone, RefusesClose, Reports, receipts_of}, History.accepted}
+use Rattle.driver_book.specs.{Calls.{Does, Learns, Receives, Settles}, Close.{AllStand, IsDone, RefusesClose, Reports, receipts_of}, History.{accepted, last_place}}
 use Rattle.driver_book.specs.{Reports.Report, State.{BookContents, IsBookOf, SeatContents}, declared.report.CloseFault.CloseFault}
 use Rattle.step_core.specs.{Replies.accept_reply, Touching.StaysAllowed}
 use Rattle.host_core.specs.declared.refused.Refused.{Refused}
@@ -24,6 +25,16 @@ pub record Served (opening : State) (e : Event) (r : Reply) : Type 0 where
   pub does : Does old None e r new
   pub allowed : StaysAllowed old.world e r
 
+-- It collected the command of this seat's submission of this number: its submissions begin with those that the seat knows, and this one was the
+-- last of the queue and identifier.
+pub record Collected (opening : State) (seat : SeatContents) (number q cid : ℕ) (f : FinishedContents) : Type 0 where
+  pub old : BookContents
+  pub new : BookContents
+  pub of : IsBookOf opening old
+  pub does : Does old None (events.Collect q cid) (events.Collects f) new
+  pub knows : IsPrefix seat.known old.drafts
+  pub latest : last_place q cid old.drafts ≡ Some number
+
 -- and gave the seat a receipt, where the submission was accepted
 pub record Submitted (opening : State) (seat : SeatContents) (d : DraftContents) (result : Result TicketContents (Refused DraftContents)) (next : SeatContents) : Type 0 where
   pub old : BookContents
@@ -31,6 +42,7 @@ pub record Submitted (opening : State) (seat : SeatContents) (d : DraftContents)
   pub of : IsBookOf opening old
   pub does : Does old (Some seat.number) (events.Submit d) (accept_reply result) new
   pub receives : Receives old.log seat d result next
+  pub learns : Learns old.log seat d result next
 
 -- and gave the seat's receipt its status, where the command was released
 pub record Released (opening : State) (seat : SeatContents) (f : FinishedContents) {A : Type 0} (result : Result A (Refused FinishedContents)) (next : SeatContents) : Type 0 where
@@ -53,7 +65,7 @@ pub record Seated (opening : State) (seat : SeatContents) : Type 0 where
   pub book : BookContents
   pub of : IsBookOf opening book
   pub room : book.made < 65535
-  pub next : seat ≡ record { number = book.made; receipts = []; spare = 0 }
+  pub next : seat ≡ record { number = book.made; receipts = []; spare = 0; known = book.drafts }
 
 -- some book of this opening has made all its seats
 pub record GivesNoSeat (opening : State) : Type 0 where

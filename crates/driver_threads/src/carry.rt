@@ -4,7 +4,7 @@ ghost use Rattle.std.specs.Prelude.{◌≡◌, true, false, Ok, IfOk, IfErr, OnO
 ghost use Rattle.std.specs.List.{list_any};
 ghost use Rattle.driver_book.specs.Calls.{is_open_for};
 ghost use Rattle.driver_threads.specs.Ends.{status_of as spec_status_of, Awaits, EndsWith, refuses};
-ghost use Rattle.driver_threads.specs.JobSteps.{GivesUp, IsEndOf, IsRefusal, IsTooLong, Refusing, TakesItNoMore, TakesNoMore};
+ghost use Rattle.driver_threads.specs.JobSteps.{GivesUp, IsEndOf, IsRefusal, IsTooLong, Refusing, TakesItNoMore, TakesNoMore, number_of as spec_number_of};
 ghost use Rattle.driver_threads.specs.Jobs.{prepared as spec_prepared};
 ghost use Rattle.driver_threads.specs.Sharing.{Released, Submitted};
 
@@ -134,6 +134,7 @@ pub(crate) fn submitted<L: LogBrand, A: Allocator + Copy, R: Wait>(
 ) -> Result<Ticket, Halt>
     ensures receipt { IfOk result (λ ticket. Awaits seat.old.receipts ticket seat.new.receipts) }
     ensures refused { IfErr result (λ halt. refuses halt ≡ true → seat.new.receipts ≡ seat.old.receipts) }
+    ensures known { IfErr result (λ halt. refuses halt ≡ true → seat.new.known ≡ seat.old.known) }
     ensures submitted { IfOk result (λ ticket. Submitted L.opening seat.old draft (Ok ticket) seat.new) }
     ensures ticket { IfOk result (λ ticket. ticket ≡ record { q = draft.q; cid = draft.cid }) }
     ensures cause { IfErr result (Refusing (TakesItNoMore L.opening draft)) }
@@ -158,6 +159,16 @@ pub(crate) fn submitted<L: LogBrand, A: Allocator + Copy, R: Wait>(
         return Err(Halt::Memory);
     }
     Ok(ticket)
+}
+
+/// The number of the receipt at a place.
+fn number_of(receipts: &[Receipt], place: usize) -> u64
+    ensures { result ≡ spec_number_of receipts.now place }
+{
+    match receipts.get(place) {
+        Some(receipt) => receipt.number,
+        None => 0,
+    }
 }
 
 /// The status of the receipt at a place.
@@ -206,7 +217,8 @@ fn released<L: LogBrand, A: Allocator + Copy, K: Drop, D: Data<K, A>, R: Wait>(
 ///
 /// # Errors
 ///
-/// Where the workers are told to stop, somebody else has collected the command, or memory is refused. The ticket is spent.
+/// Where the workers are told to stop, the ticket is not that of the receipt, somebody else has collected the command, or memory is refused. The
+/// ticket is spent.
 pub(crate) fn finished<L: LogBrand, A: Allocator + Copy, K: Drop, D: Data<K, A> + Drop, R: Wait>(
     rt: &R,
     alloc: A,
@@ -221,6 +233,7 @@ pub(crate) fn finished<L: LogBrand, A: Allocator + Copy, K: Drop, D: Data<K, A> 
     ensures gives_up { IfOk result (λ end. GivesUp D.keeps L.opening seat.old ticket.q ticket.cid given place end seat.new) }
     ensures halted { IfErr result (λ halt. refuses halt ≡ false) }
 {
-    let command = shared.collect_when_ended(rt, ticket)?;
+    let number = number_of(seat.receipts(), place);
+    let command = shared.collect_when_ended(rt, seat, number, ticket)?;
     released(rt, alloc, shared, seat, command, given, place)
 }

@@ -18,12 +18,11 @@ use crate::jobs::{Job, JobEnd, JobEnds, Ran, Round, RunFault};
 use crate::serving::Server;
 use crate::workers::{Worked, controller, poller, submitter};
 use block_image::Image;
-use driver_book::{Book, CloseFault, ClosedLog, LogBrand, Seat};
+use driver_book::{BlankBook, Book, CloseFault, ClosedLog, LogBrand, Seat};
 use io_commands::Request;
 use std::alloc::{AllocError, Allocator};
 use std::snapshot::Snapshot;
 use std::sync::Wait;
-use std::sync::ledger::Blank;
 use std::thread;
 use std::thread::{JoinHandle, Promise, PromisedHandle, Scope, Threads};
 use step_core::{Config, OpenRefusal, World};
@@ -569,11 +568,12 @@ pub fn run_threads<
     depth: usize,
     server: Server,
     gate: &G,
-    blank: Blank,
+    blank: BlankBook<A>,
 ) -> Result<Ran<L, A, K>, RunFault>
-    requires name { blank.name ≡ L.name }
-    requires parts { blank.parts ≡ L.parts }
-    requires number { blank.parts ≡ 65536 }
+    requires name { blank.ledger.name ≡ L.name }
+    requires parts { blank.ledger.parts ≡ L.parts }
+    requires number { blank.ledger.parts ≡ 65536 }
+    requires list { blank.drafts.name ≡ L.list }
     requires opening { L.opening ≡ opening_of config image }
     requires some { 1 ≤ vec_len jobs }
     requires few { vec_len jobs ≤ 16 }
@@ -635,11 +635,12 @@ pub fn run_round<
     depth: usize,
     server: Server,
     gate: &G,
-    blank: Blank,
+    blank: BlankBook<A>,
 ) -> Result<Round<A, K>, RunFault>
-    requires name { blank.name ≡ L.name }
-    requires parts { blank.parts ≡ L.parts }
-    requires number { blank.parts ≡ 65536 }
+    requires name { blank.ledger.name ≡ L.name }
+    requires parts { blank.ledger.parts ≡ L.parts }
+    requires number { blank.ledger.parts ≡ 65536 }
+    requires list { blank.drafts.name ≡ L.list }
     requires opening { L.opening ≡ world.state }
     requires some { 1 ≤ vec_len jobs }
     requires few { vec_len jobs ≤ 16 }

@@ -5,13 +5,13 @@ ghost use Rattle.std.specs.Prelude.{◌≡◌, true, false, None, IfOk, IfErr};
 ghost use Rattle.driver_threads.specs.Ends.{refuses};
 ghost use Rattle.driver_threads.specs.JobSteps.{IsReservation, Refusing};
 ghost use Rattle.driver_threads.specs.Jobs.{RefusesRequest};
-ghost use Rattle.driver_threads.specs.Sharing.{Made};
+ghost use Rattle.driver_threads.specs.Sharing.{Collected, Made};
 ghost use Rattle.machine_model.specs.Events as events;
 
 use crate::book_lock::Shared;
 use crate::jobs::JobRefusal;
 use crate::serving::{MOST_OF_A_WORKER, reap_some, serve_some};
-use driver_book::{Book, LogBrand};
+use driver_book::{Book, LogBrand, Seat};
 use io_commands::{Draft, Finished, Request, Ticket};
 use shared::Change;
 use std::alloc::{AllocError, Allocator};
@@ -110,24 +110,31 @@ fn reserved<L: LogBrand, A: Allocator + Copy>(
     }
 }
 
-/// Collects a command that has ended.
+/// Collects a command that has ended, of the submission of this number of a seat.
 ///
 /// # Errors
 ///
-/// Where somebody else has collected it, or memory is refused. The ticket is spent.
+/// Where the ticket is that of another submission, somebody else has collected the command, or memory is refused. The ticket is spent.
 #[tactic(auto, using(crate::proofs::UnderWay::collects_command))]
 fn collected<L: LogBrand, A: Allocator + Copy>(
     book: &mut Book<L, A>,
+    seat: &Seat<L, A>,
+    number: u64,
     ticket: Ticket,
 ) -> Result<Finished<A>, Halt>
     ensures command { IfOk result (λ finished. (finished.q ≡ ticket.q) × (finished.cid ≡ ticket.cid)) }
-    ensures made { IfOk result (λ finished. Made L.opening None (events.Collect ticket.q ticket.cid) (events.Collects finished)) }
+    ensures made { IfOk result (λ finished. Collected L.opening seat.now number ticket.q ticket.cid finished) }
     ensures halted { IfErr result (λ halt. refuses halt ≡ false) }
 {
     prove!({
         book.check();
         true
     });
+    book.knows(seat);
+    if !book.is_latest(ticket.q(), ticket.cid(), number) {
+        drop(ticket.apart());
+        return Err(Halt::Stopped);
+    }
     match book.collect(ticket) {
         Ok(finished) => Ok(finished),
         Err(refused) => {
@@ -186,18 +193,21 @@ impl<L: LogBrand, A: Allocator + Copy> Shared<L, A> {
         reserved(&mut locked.machine, q, request)
     }
 
-    /// Waits until a command has ended, and collects it.
+    /// Waits until the command of a seat's submission of this number has ended, and collects it.
     ///
     /// # Errors
     ///
-    /// Where the workers are told to stop, somebody else has collected the command, or memory is refused. The ticket is spent.
+    /// Where the workers are told to stop, the ticket is that of another submission, somebody else has collected the command, or memory is
+    /// refused. The ticket is spent.
     pub(crate) fn collect_when_ended<R: Wait>(
         &self,
         rt: &R,
+        seat: &Seat<L, A>,
+        number: u64,
         ticket: Ticket,
     ) -> Result<Finished<A>, Halt>
         ensures command { IfOk result (λ finished. (finished.q ≡ ticket.q) × (finished.cid ≡ ticket.cid)) }
-        ensures made { IfOk result (λ finished. Made L.opening None (events.Collect ticket.q ticket.cid) (events.Collects finished)) }
+        ensures made { IfOk result (λ finished. Collected L.opening seat.now number ticket.q ticket.cid finished) }
         ensures halted { IfErr result (λ halt. refuses halt ≡ false) }
     {
         let (q, cid) = (ticket.q(), ticket.cid());
@@ -215,7 +225,7 @@ impl<L: LogBrand, A: Allocator + Copy> Shared<L, A> {
                 _ => break,
             }
         }
-        collected(&mut locked.machine, ticket)
+        collected(&mut locked.machine, seat, number, ticket)
     }
 
     /// Waits until queues have completions, and reaps them. False once the workers are told to stop.

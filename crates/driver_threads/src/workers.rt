@@ -16,12 +16,11 @@ use io_commands::Request;
 use std::alloc::{AllocError, Allocator, Global};
 use std::collections::VecDeque;
 use std::sync::Wait;
-use std::sync::ledger::Ledger;
 use step_core::Bytes;
 
 /// What a submitter gives back.
 #[derive(Drop)]
-pub struct Worked<L: Ledger, A: Allocator = Global, K = Bytes<A>> {
+pub struct Worked<L: LogBrand, A: Allocator = Global, K = Bytes<A>> {
     /// Its seat; none where no more seats were to be had.
     pub seat: Option<Seat<L, A>>,
     /// How its jobs ended, in their order. It has fewer than there were jobs only where the workers were told to stop, somebody else collected

@@ -2,7 +2,7 @@
 
 use crate::device::Device;
 use host_bench::{
-    Bytes, Call, HostBench, Kind, Piece, Pieces, Reaped, Reply, Request, Status, Unreadable,
+    Bytes, Call, Flags, HostBench, Kind, Piece, Pieces, Reaped, Reply, Request, Status, Unreadable,
 };
 use std::alloc::{AllocError, Global};
 use std::fmt;
@@ -82,6 +82,8 @@ impl<D: Device> Driver<D> {
         };
         let request = Request {
             kind,
+            nsid: 1,
+            flags: Flags::NONE,
             slba: block,
             blocks: 1,
             pieces: Pieces::from_slice(self.alloc, &[piece])?,

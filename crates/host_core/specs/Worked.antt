@@ -2,14 +2,14 @@
 -- block into page 4 was submitted to the I/O queue as its first entry, and waits for its completion.
 use Rattle.std.specs.Prelude.{[], ◌∷◌, None, Some, replicate, true}
 use Rattle.entry_codec.specs.{Completion.completion_bytes, declared.{completion.ComEntry.ComEntry, status.TheConstants.Status.SUCCESS}}
-use Rattle.io_commands.specs.{Asked.Request, declared.request.{Kind.TheVariants.Read, Piece.TheVariants.Data}}
+use Rattle.io_commands.specs.{Asked.Request, declared.request.{Kind.TheVariants.Read, Piece.TheVariants.Data, TheConstants.Flags.NONE}}
 use Rattle.machine_model.specs.{State.{HostQueue, Record}, declared.words.{HostState.TheVariants.Live, Phase.TheVariants.Submitted, Work.TheVariants.Io}}
 use Rattle.page_memory.specs.Pages.{Pages, with_page_bytes, zero_page}
 use Rattle.queue_pair.specs.Rings.{fresh_host_ring}
 use Rattle.host_core.specs.Alone.{HostView}
 
 abbrev pub one_block : Request
-one_block = record { kind = Read; slba = 0; blocks = 1; pieces = Data 0 512 ∷ [] }
+one_block = record { kind = Read; nsid = 1; flags = NONE; slba = 0; blocks = 1; pieces = Data 0 512 ∷ [] }
 
 abbrev pub admin_queue : HostQueue
 admin_queue = record { state = Live; ring = fresh_host_ring; sq_pages = 0 ∷ []; cq_pages = 1 ∷ [] }

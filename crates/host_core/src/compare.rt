@@ -4,13 +4,13 @@ ghost use Rattle.std.specs.Prelude.{◌≡◌, ℕ, length, nat_eq, true};
 ghost use Rattle.std.specs.Cmp.Lexicographic.{pointwise};
 ghost use Rattle.io_commands.specs.Values.{numbers_of};
 ghost use Rattle.machine_model.specs.Proper.{ArePages, IsProperDraft};
-ghost use Rattle.machine_model.specs.Refusals.{is_of, asks_for as spec_asks_for, same_kind as spec_same_kind, same_piece as spec_same_piece, same_pieces as spec_same_pieces, same_request as spec_same_request};
+ghost use Rattle.machine_model.specs.Refusals.{is_of, asks_for as spec_asks_for, same_flags as spec_same_flags, same_kind as spec_same_kind, same_piece as spec_same_piece, same_pieces as spec_same_pieces, same_request as spec_same_request};
 ghost use Rattle.host_core.specs.Commands.{phase_of_end, has_drafted, has_record as spec_has_record};
 ghost use Rattle.host_core.specs.Parts.{record_of, records_of};
 
 use crate::record::Record;
 use crate::tables::HostTables;
-use io_commands::{Draft, Kind, Piece, Request};
+use io_commands::{Draft, Flags, Kind, Piece, Request};
 use machine_model::words::Work;
 use page_memory::{PAGE_BYTES, Page, PageNo};
 use std::alloc::Allocator;
@@ -24,6 +24,13 @@ fn same_kind(a: Kind, b: Kind) -> bool
             true,
         (Kind::Read | Kind::Write | Kind::Compare, _) => false,
     }
+}
+
+/// Whether two commands have the same flags.
+fn same_flags(a: Flags, b: Flags) -> bool
+    ensures { result ≡ spec_same_flags a b }
+{
+    a.force_unit_access == b.force_unit_access && a.limited_retry == b.limited_retry
 }
 
 /// Whether two pieces are the same.
@@ -65,6 +72,8 @@ fn same_request<A: Allocator>(a: &Request<A>, b: &Request<A>) -> bool
     ensures { result ≡ spec_same_request a.now b.now }
 {
     same_kind(a.kind, b.kind)
+        && a.nsid == b.nsid
+        && same_flags(a.flags, b.flags)
         && a.slba == b.slba
         && a.blocks == b.blocks
         && same_pieces(a.pieces.as_slice(), b.pieces.as_slice())

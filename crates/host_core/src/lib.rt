@@ -50,7 +50,7 @@ pub use data_place::DataPlace;
 pub use doorbell::Doorbell;
 pub use entry_codec::Status;
 pub use host::Host;
-pub use io_commands::{FillFault, Kind, Piece, Pieces, Request, RequestFault};
+pub use io_commands::{FillFault, Flags, Kind, Piece, Pieces, Request, RequestFault};
 pub use machine_model::words::{HostState, OpenRefusal, Reaped, Refusal, RejectedFor};
 pub use open::Opened;
 pub use page_ledger::{Counts, Owner, Role};

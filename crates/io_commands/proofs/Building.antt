@@ -1,6 +1,6 @@
 -- What building a draft rests on, and what its entry and pages say.
 use Rattle.sgl_descriptor.specs.declared.Part.TheVariants as part
-use Rattle.std.proofs.Common.{◌≡◌, ℕ, suc, List, [], ◌∷◌, refl, ap, length, arith, ◌≤◌, ◌<◌, ◌+◌, ◌*◌, zero, ◌++◌, Some, None, subst, ◌∙◌, take, drop, length-append, Option, sym, ◌-◌, ◌^◌, Bool, true, false, nat_le, All, if◌then◌else◌}
+use Rattle.std.proofs.Common.{◌≡◌, ℕ, suc, List, [], ◌∷◌, refl, ap, length, arith, ◌≤◌, ◌<◌, ◌+◌, ◌*◌, zero, ◌++◌, Some, None, subst, ◌∙◌, take, drop, length-append, Option, sym, ◌-◌, ◌^◌, ◌%◌, Bool, true, false, nat_le, All, if◌then◌else◌}
 use Rattle.std.proofs.{Math.Seq.{take-append_seam, drop-append_seam}, lemmas.{Bool.Decides.nat_tests, Grind.common_steps}}
 use Rattle.std.proofs.lemmas.List.{length-map, length-drop, length-take-le, get_or_append_left, length-take, Elements.{All-head, All-tail, All-nil, All-cons}}
 use Rattle.sgl_descriptor.specs.{Spelling.Fits, Targets.descriptor_of_part, declared.{Descriptor.Descriptor, Part.Part}}
@@ -8,8 +8,8 @@ use Rattle.sgl_chain.{proofs.Joins.{joined_few, joined_from, from_list}, specs.C
 use Rattle.sgl_chain.specs.{Joining.{joined, joins, both}, Laws.LaidChainsSpell, Spells.{Holds, IsLaid, SpellsWhereLaid}}
 use Rattle.page_memory.specs.{Memory.Memory, Pages.with_bytes}
 use Rattle.io_commands.specs.{Asked.Request, DataBytes.{PagesOut, filled}}
-use Rattle.io_commands.specs.Drafts.{laid, DraftContents, IsDraft, built, draft_segments, draft_parts, draft_first, draft_entry, HoldsPages, SpellsItsParts, IsBuiltIfAny, IsBuilt, DraftsCarryTheirEntry, BuiltDraftsSpell}
-use Rattle.io_commands.specs.{Requests.{fault_of, data_count, parts_of, joined_parts, FitsPiece}, Values.{numbers_of, IsGood}, declared.request.Kind.Kind}
+use Rattle.io_commands.specs.Drafts.{laid, io_entry, DraftContents, IsDraft, built, draft_segments, draft_parts, draft_first, draft_entry, HoldsPages, SpellsItsParts, IsBuiltIfAny, IsBuilt, DraftsCarryTheirEntry, BuiltDraftsSpell}
+use Rattle.io_commands.specs.{Jobs.block_number, Requests.{fault_of, flag_bits, data_count, parts_of, joined_parts, FitsPiece}, Values.{numbers_of, IsGood}, declared.request.{Flags.Flags, Kind.Kind}}
 use Rattle.io_commands.specs.declared.request.Piece.{Piece, TheVariants.{Data, Bucket}}
 use Rattle.entry_codec.specs.declared.submission.SubEntry.{SubEntry}
 
@@ -209,6 +209,36 @@ segments_few s (page ∷ pages) parts = few_of (nat_le (length parts) s) _ _ _ (
 
 pub few_pieces : (kind : Kind) (blocks : ℕ) (pieces : List Piece) → fault_of kind blocks pieces ≡ None → length pieces ≤ 1024
 few_pieces kind blocks pieces h = grind (arith, nat_tests)
+
+-- and moves 1 to 2,048 blocks
+pub some_blocks : (kind : Kind) (blocks : ℕ) (pieces : List Piece) → fault_of kind blocks pieces ≡ None → 0 < blocks
+some_blocks kind blocks pieces h = grind (arith, nat_tests)
+
+pub few_blocks : (kind : Kind) (blocks : ℕ) (pieces : List Piece) → fault_of kind blocks pieces ≡ None → blocks ≤ 2048
+few_blocks kind blocks pieces h = grind (arith, nat_tests)
+
+-- so its entry names its blocks: the bits of its flags lie above those of their number
+blocks_below : (a b : Bool) (n : ℕ) → n < 65536 → (n + ((if a then 2 ^ 30 else 0) + (if b then 2 ^ 31 else 0))) % 65536 ≡ n
+blocks_below true true n few = omega (arith, few)
+blocks_below true false n few = omega (arith, few)
+blocks_below false true n few = omega (arith, few)
+blocks_below false false n few = omega (arith, few)
+
+pub entry_blocks : (cid : ℕ) (r : Request) (sgl1 : List ℕ) → IsGood r → block_number (io_entry cid r sgl1) ≡ r.blocks
+entry_blocks cid r sgl1 good =
+    let some = some_blocks r.kind r.blocks r.pieces good in
+    let few = few_blocks r.kind r.blocks r.pieces good in
+    omega (arith, blocks_below r.flags.force_unit_access r.flags.limited_retry (r.blocks - 1) (omega (arith, some, few)), some)
+
+-- and they leave room for that number
+flags_below : (a b : Bool) → (if a then 2 ^ 30 else 0) + (if b then 2 ^ 31 else 0) ≤ 2 ^ 30 + 2 ^ 31
+flags_below true true = omega arith
+flags_below true false = omega arith
+flags_below false true = omega arith
+flags_below false false = omega arith
+
+pub flags_fit : (flags : Flags) → flag_bits flags ≤ 2 ^ 30 + 2 ^ 31
+flags_fit flags = flags_below flags.force_unit_access flags.limited_retry
 
 -- the fields of a draft's parts fit their types
 abbrev FitsPart : Part → Type 0

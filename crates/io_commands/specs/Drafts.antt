@@ -1,10 +1,10 @@
 -- Drafts: a command that is being prepared outside the store.
-use Rattle.std.specs.Prelude.{◌≡◌, ◌≤◌, ◌<◌, ◌*◌, ◌-◌, ◌/◌, ◌%◌, ◌^◌, ℕ, Option, None, Some, List, [], ◌∷◌, length, All}
+use Rattle.std.specs.Prelude.{◌≡◌, ◌≤◌, ◌<◌, ◌+◌, ◌*◌, ◌-◌, ◌/◌, ◌%◌, ◌^◌, ℕ, Option, None, Some, List, [], ◌∷◌, length, All}
 use Rattle.sgl_descriptor.specs.{Spelling.spelling, declared.{Descriptor.Descriptor, Part.Part}}
 use Rattle.sgl_chain.specs.{Chains.{pages_needed, first_of, segments_on, segment_bytes}, Spells.{Spells, Holds}}
 use Rattle.page_memory.specs.{Memory.Memory, Pages.with_bytes}
 use Rattle.entry_codec.specs.declared.submission.SubEntry.{SubEntry}
-use Rattle.io_commands.specs.{Asked.Request, DataBytes.PagesOut, Requests.{opcode_of, data_count, joined_parts, FitsRequest}, Values.{numbers_of, IsGood}}
+use Rattle.io_commands.specs.{Asked.Request, DataBytes.PagesOut, Requests.{opcode_of, flag_bits, data_count, joined_parts, FitsRequest}, Values.{numbers_of, IsGood}}
 
 -- a draft: its pages with their bytes, one for each data piece and those of the chain, and its entry once it is built
 pub record DraftContents : Type 0 where
@@ -24,12 +24,12 @@ io_entry cid request sgl1 =
       fuse = 0;
       psdt = 1;
       cid = cid;
-      nsid = 1;
+      nsid = request.nsid;
       mptr = 0;
       sgl1 = sgl1;
       cdw10 = request.slba % 4294967296;
       cdw11 = request.slba / 4294967296;
-      cdw12 = request.blocks - 1;
+      cdw12 = request.blocks - 1 + flag_bits request.flags;
       cdw13 = 0;
       cdw14 = 0;
       cdw15 = 0;

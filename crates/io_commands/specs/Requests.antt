@@ -1,11 +1,11 @@
 -- What a host asks for: which blocks, in which direction, and the pieces of memory that take part.
 use Rattle.std.specs.List.{list_any}
-use Rattle.std.specs.Prelude.{ℕ, ◌+◌, ◌*◌, ◌^◌, ◌<◌, ◌==◌, nat_lt, Bool, true, false, ◌||◌, not, Option, List, [], ◌∷◌, length, sum_by, count_by, All}
+use Rattle.std.specs.Prelude.{ℕ, ◌+◌, ◌*◌, ◌^◌, ◌<◌, ◌==◌, nat_lt, Bool, true, false, ◌||◌, not, Option, List, [], ◌∷◌, length, sum_by, count_by, All, if◌then◌else◌}
 use Rattle.controller_walk.specs.Units.{first_passing}
 use Rattle.sgl_descriptor.specs.declared.{Direction.{Direction, TheVariants.{Destination, Source}}, Part.Part}
 use Rattle.sgl_chain.specs.Joining.{joined}
 use Rattle.entry_codec.specs.declared.io_opcode.TheConstants.{READ, WRITE, COMPARE}
-use Rattle.io_commands.specs.{Asked.Request, declared.request.{Kind.{Kind, TheVariants.{Read, Write, Compare}}, Piece.{Piece, TheVariants.{Data, Bucket}}}}
+use Rattle.io_commands.specs.{Asked.Request, declared.request.{Flags.Flags, Kind.{Kind, TheVariants.{Read, Write, Compare}}, Piece.{Piece, TheVariants.{Data, Bucket}}}}
 use Rattle.io_commands.specs.declared.request.RequestFault.{RequestFault, TheVariants.{TooManyPieces, EmptyPiece, CrossesPage, BadCount, LengthMismatch}}
 use Rattle.sgl_descriptor.specs.declared.Part.TheVariants as part
 
@@ -19,6 +19,10 @@ abbrev pub opcode_of : Kind → ℕ
 opcode_of Read = READ
 opcode_of Write = WRITE
 opcode_of Compare = COMPARE
+
+-- the bits of a command's flags in CDW12: Force Unit Access is bit 30, Limited Retry bit 31
+abbrev pub flag_bits : Flags → ℕ
+flag_bits flags = (if flags.force_unit_access then 2 ^ 30 else 0) + (if flags.limited_retry then 2 ^ 31 else 0)
 
 abbrev pub is_empty_piece : Piece → Bool
 is_empty_piece (Data offset len) = len == 0
@@ -74,6 +78,7 @@ FitsPiece (Data offset len) = (offset < 2 ^ 32) × (len < 2 ^ 32)
 FitsPiece (Bucket len) = len < 2 ^ 32
 
 pub record FitsRequest (request : Request) : Type 0 where
+  pub nsid : request.nsid < 2 ^ 32
   pub slba : request.slba < 2 ^ 64
   pub blocks : request.blocks < 2 ^ 32
   pub pieces : All FitsPiece request.pieces

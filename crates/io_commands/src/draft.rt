@@ -268,9 +268,11 @@ impl<A: Allocator> Draft<A> {
 }
 
 /// The entry that the driver sends for a request (NVM Command Set 1.0, Read, Write and Compare): SGLs in the data pointer
-/// (PSDT 01b), namespace 1, the first block in CDW10 and CDW11, the number of blocks less one in CDW12; all else zero (own).
+/// (PSDT 01b), the request's namespace, the first block in CDW10 and CDW11, in CDW12 the number of blocks less one and the
+/// flags; all else zero (own).
 fn io_entry<A: Allocator>(cid: u16, request: &Request<A>, sgl1: [u8; 16]) -> SubEntry
-    requires { 0 < request.now.blocks }
+    requires some { 0 < request.now.blocks }
+    requires few { request.now.blocks ≤ 2048 }
     ensures { result ≡ spec_io_entry cid request.now sgl1 }
 {
     SubEntry {
@@ -278,12 +280,12 @@ fn io_entry<A: Allocator>(cid: u16, request: &Request<A>, sgl1: [u8; 16]) -> Sub
         fuse: 0,
         psdt: 1,
         cid,
-        nsid: 1,
+        nsid: request.nsid,
         mptr: 0,
         sgl1,
         cdw10: (request.slba % (1 << 32)) as u32,
         cdw11: (request.slba >> 32) as u32,
-        cdw12: request.blocks - 1,
+        cdw12: request.blocks - 1 + request.flags.bits(),
         cdw13: 0,
         cdw14: 0,
         cdw15: 0,

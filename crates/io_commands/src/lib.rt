@@ -18,6 +18,6 @@ pub use draft::{Draft, DraftParts, FillFault};
 pub use finished::{Finished, FinishedParts};
 pub use job::{Job, begin_job, block_number, finish_job, first_block, first_bytes, kind_of};
 pub use request::{
-    Kind, MAX_COMMAND_BLOCKS, MAX_PIECES, Piece, Pieces, Request, RequestFault, RequestOf,
+    Flags, Kind, MAX_COMMAND_BLOCKS, MAX_PIECES, Piece, Pieces, Request, RequestFault, RequestOf,
 };
 pub use ticket::Ticket;

@@ -3,7 +3,7 @@
 ghost use Rattle.std.specs.Prelude.{◌≡◌, ◌≤◌, ◌∷◌, ◌++◌, [], length, sum_by, All, IfOk, OnOk, OnErr, Ok};
 ghost use Rattle.std.specs.Result.{result_err};
 ghost use Rattle.io_commands.specs.DataBytes.{data_length};
-ghost use Rattle.io_commands.specs.Requests.{direction_of, opcode_of, is_empty_piece, crosses_page as spec_crosses_page, is_data as spec_is_data, counted_length, data_count, fault_of, FitsPiece, FitsRequest};
+ghost use Rattle.io_commands.specs.Requests.{direction_of, opcode_of, is_empty_piece, crosses_page as spec_crosses_page, is_data as spec_is_data, counted_length, data_count, fault_of, flag_bits, FitsPiece, FitsRequest};
 
 use entry_codec::io_opcode;
 use sgl_descriptor::Direction;
@@ -48,6 +48,32 @@ impl Kind {
             Kind::Write => io_opcode::WRITE,
             Kind::Compare => io_opcode::COMPARE,
         }
+    }
+}
+
+/// The flags of a command (NVM Command Set Specification 1.0, Read, Write and Compare, CDW12).
+#[derive(Clone, Copy, Debug, PartialEq, Eq)]
+pub struct Flags {
+    /// The command ends once its data is in non-volatile media, or comes from there (FUA, bit 30).
+    pub force_unit_access: bool,
+    /// The controller makes only a limited effort to try again where it fails (LR, bit 31).
+    pub limited_retry: bool,
+}
+
+impl Flags {
+    /// No flag is set.
+    pub const NONE: Flags = Flags {
+        force_unit_access: false,
+        limited_retry: false,
+    };
+
+    /// Their bits in CDW12.
+    pub fn bits(self) -> u32
+        ensures { result ≡ flag_bits self }
+    {
+        let force_unit_access = if self.force_unit_access { 1 << 30 } else { 0 };
+        let limited_retry = if self.limited_retry { 1 << 31 } else { 0 };
+        force_unit_access + limited_retry
     }
 }
 
@@ -265,6 +291,10 @@ pub enum RequestFault {
 pub struct RequestOf<P> {
     /// Which command.
     pub kind: Kind,
+    /// The namespace; 1 is the first.
+    pub nsid: u32,
+    /// The flags.
+    pub flags: Flags,
     /// The first block.
     pub slba: u64,
     /// How many blocks.
@@ -298,6 +328,8 @@ impl<A: Allocator> Request<A> {
     {
         Ok(Request {
             kind: self.kind,
+            nsid: self.nsid,
+            flags: self.flags,
             slba: self.slba,
             blocks: self.blocks,
             pieces: self.pieces.copied_into(room)?,

@@ -11,7 +11,7 @@ use Rattle.job_cli.specs.JobRuns.{is_of, jobs_for, AreListsOf, end_of, all_ended
 use Rattle.job_cli.specs.Jobs.{numbered_job, with_job, jobs_from, jobs_in, jobs_of, IsReadAs, head_words, data_words, job_words, some_job, job_of_words, job_of_line, at_line, then_jobs}
 use Rattle.job_cli.specs.declared.{job_runs.Heading.Heading, jobs.JobLine.JobLine}
 use Rattle.script_cli.{proofs.{Runs.{number_fits, then_fits, whatever_fits}, Texts.{appends_more, same_if_short}}, specs.Faults.fault_of_script}
-use Rattle.script_cli.specs.{Grammar.{Words, number_word, kind_word, pieces_from, begins_comment, words_of}, Inputs.{AreFirstOf, Gains, IsFront}, Lines.lines}
+use Rattle.script_cli.specs.{Grammar.{Words, number_word, kind_word, request_words, begins_comment, words_of}, Inputs.{AreFirstOf, Gains, IsFront}, Lines.lines}
 use Rattle.script_cli.specs.{Runs.AreOwners, declared.fault.{LineFault.{LineFault, TheVariants.{UnknownVerb, TooManyLines}}}}
 use Rattle.script_cli.specs.declared.fault.ScriptFault.{ScriptFault}
 use Rattle.driver_threads.{proofs.UnderWay.{behind_none, behind_long}, specs.{Behind.behind, Ends.{AllAgree, ends_of, statuses_of}, Jobs.AllWent}}
@@ -72,7 +72,7 @@ unfolding job_words
 job_below n number ws =
     then_fits (λ r. r.0.submitter < n) (IsBelow n) (head_words n ws) _ (head_below n ws) λ head low.
     whatever_fits (IsBelow n) (data_words head.0.kind head.1) _ λ bytes.
-    whatever_fits (IsBelow n) (pieces_from [] bytes.1) _ λ pieces.
+    whatever_fits (IsBelow n) (request_words head.0.kind head.0.slba head.0.blocks bytes.1) _ λ request.
     low
 
 some_below : (n : ℕ) (r : Result JobLine LineFault) → IfOk r (IsBelow n) → IfOk (some_job r) (IsJobBelow n)

@@ -1,7 +1,7 @@
 -- What a script of jobs is, or its first fault. Its lines and words are cut, and stand for values, as those of a script of steps.
 use Rattle.std.specs.{Prelude.{ℕ, ◌^◌, ◌+◌, ◌≡◌, nat_lt, Option, Some, None, Result, Ok, Err, List, [], ◌∷◌, ◌++◌, length, codes, if◌then◌else◌}, Str.bytes_eq}
-use Rattle.io_commands.specs.declared.request.{Kind.{Kind, TheVariants.{Read, Write, Compare}}, Piece.Piece}
-use Rattle.script_cli.specs.{Grammar.{Words, ◌>>=◌, number_word, kind_word, hex_word, pieces_from, request_of, begins_comment, words_of}, Lines.lines}
+use Rattle.io_commands.specs.{Asked.Request, declared.request.{Kind.{Kind, TheVariants.{Read, Write, Compare}}, Piece.Piece}}
+use Rattle.script_cli.specs.{Grammar.{Words, ◌>>=◌, number_word, kind_word, hex_word, request_of, request_words, begins_comment, words_of}, Lines.lines}
 use Rattle.script_cli.specs.declared.fault.{LineFault.{LineFault, TheVariants.{UnknownVerb, TooManyLines}}, ScriptFault.ScriptFault}
 use Rattle.job_cli.specs.declared.jobs.{JobHead.JobHead, JobLine.JobLine}
 use Rattle.script_cli.specs.declared.fault.ScriptFault.TheVariants as fault
@@ -27,17 +27,20 @@ data_words Read ws = Ok ([], ws)
 data_words Write ws = hex_word ws
 data_words Compare ws = hex_word ws
 
+abbrev pub job_of : ℕ → JobHead → Request → List ℕ → JobLine
+job_of number head request bytes = record { number = number; submitter = head.submitter; job = record { q = head.q; request = request; bytes = bytes } }
+
+-- the job of a request of namespace 1, without flags
 abbrev pub job : ℕ → JobHead → List Piece → List ℕ → JobLine
-job number head pieces bytes =
-    record { number = number; submitter = head.submitter; job = record { q = head.q; request = request_of head.kind head.slba head.blocks pieces; bytes = bytes } }
+job number head pieces bytes = job_of number head (request_of head.kind head.slba head.blocks pieces) bytes
 
 -- what follows `job` in the line of this number, where there are so many submitters
 unfoldable pub job_words : ℕ → ℕ → Words → Result JobLine LineFault
 job_words submitters number ws = do
   head ← head_words submitters ws
   bytes ← data_words head.0.kind head.1
-  pieces ← pieces_from [] bytes.1
-  Ok (job number head.0 pieces bytes.0)
+  request ← request_words head.0.kind head.0.slba head.0.blocks bytes.1
+  Ok (job_of number head.0 request bytes.0)
 
 abbrev pub some_job : Result JobLine LineFault → Result (Option JobLine) LineFault
 some_job (Ok found) = Ok (Some found)

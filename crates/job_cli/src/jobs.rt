@@ -5,9 +5,9 @@ ghost use Rattle.script_cli.specs.Grammar.{IsErrorOf, IsReadFrom};
 ghost use Rattle.job_cli.specs.Jobs.{head_words, data_words, job_words, job_of_line, job_of_words, numbered_job as spec_numbered_job, with_job, jobs_in, jobs_of, IsReadAs};
 
 use driver_threads::Job;
-use io_commands::{Kind, Request};
+use io_commands::Kind;
 use script_cli::{
-    LineError, LineFault, MAX_LINES, MAX_SCRIPT, ScriptFault, Words, begins_comment, pieces,
+    LineError, LineFault, MAX_LINES, MAX_SCRIPT, ScriptFault, Words, begins_comment, read_request,
     split_line, words_of,
 };
 use std::alloc::{AllocError, Global};
@@ -108,13 +108,7 @@ fn job_line(
 {
     let head = job_head(submitters, words)?;
     let bytes = job_bytes(alloc, head.kind, words)?;
-    let pieces = pieces(alloc, words)?;
-    let request = Request {
-        kind: head.kind,
-        slba: head.slba,
-        blocks: head.blocks,
-        pieces,
-    };
+    let request = read_request(alloc, head.kind, head.slba, head.blocks, words)?;
     Ok(JobLine {
         number,
         submitter: head.submitter,
@@ -215,7 +209,7 @@ fn read_job_lines(alloc: Global, text: &[u8], submitters: u16) -> Result<JobScri
 }
 
 /// Reads a script of jobs for so many submitters: `job S Q read SLBA BLOCKS PIECE..`, and `job S Q KIND SLBA BLOCKS HEX PIECE..` where
-/// KIND is `write` or `compare`, with S below their number.
+/// KIND is `write` or `compare`, with S below their number. Behind the pieces may stand what [`read_request`] reads there.
 ///
 /// # Errors
 ///

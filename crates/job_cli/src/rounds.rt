@@ -16,6 +16,7 @@ ghost use Rattle.std.specs.Io.KnownBytes.{Appends};
 use crate::fault::not_run;
 use crate::job_runs::Orders;
 use crate::telling::{Form, write_ended};
+use driver_book::BlankBook;
 use driver_threads::{Job, JobEnds, Open, Round, Server, run_round};
 use script_cli::RunFault;
 use script_cli::progress::{Progress, Standing, Stopwatch};
@@ -25,7 +26,6 @@ use std::io::Write;
 use std::marker::Brand;
 use std::rt::Clock;
 use std::sync::Wait;
-use std::sync::ledger::Blank;
 use std::thread::Threads;
 use step_core::{Bytes, World};
 
@@ -184,7 +184,7 @@ fn one_round<R: Threads + Wait + Sync>(
     ensures jobs { IfOk result (λ round. AreOfJobs round.log.entries) }
     ensures fault { IfErr result IsWanting }
 {
-    let blank = Blank::new(65536);
+    let blank = BlankBook::new();
     match run_round::<Brand, Global, Open, R, Bytes, Bytes>(
         rt,
         alloc,

@@ -1,6 +1,6 @@
 //! Worked lines of jobs, and of how they ended. Each function computes some.
 
-ghost use Rattle.std.specs.Prelude.{◌≡◌, ℕ, List, ◌<◌, length, None, Some, Ok, Err, [], ◌∷◌, ◌++◌, codes, replicate};
+ghost use Rattle.std.specs.Prelude.{◌≡◌, ℕ, List, ◌<◌, length, true, false, None, Some, Ok, Err, [], ◌∷◌, ◌++◌, codes, replicate};
 ghost use Rattle.driver_threads.specs.declared.jobs.JobEnd.TheVariants as end;
 ghost use Rattle.driver_threads.specs.declared.jobs.JobRefusal.TheVariants as refusal;
 ghost use Rattle.entry_codec.specs.declared.status.TheConstants.Status.{SUCCESS, COMPARE_FAILURE};
@@ -8,24 +8,26 @@ ghost use Rattle.io_commands.specs.declared.request.Kind.TheVariants as kind;
 ghost use Rattle.io_commands.specs.declared.request.Piece.TheVariants as piece;
 ghost use Rattle.io_commands.specs.declared.request.RequestFault.TheVariants as request;
 ghost use Rattle.job_cli.specs.JobLines.{job_text};
-ghost use Rattle.job_cli.specs.Jobs.{head, job, job_of_line, jobs_of};
+ghost use Rattle.job_cli.specs.Jobs.{head, job, job_of, job_of_line, jobs_of};
+ghost use Rattle.script_cli.specs.Grammar.{request_of, with_options};
 ghost use Rattle.script_cli.specs.Worked.{fed, all_fed};
 ghost use Rattle.script_cli.specs.declared.fault.LineFault.TheVariants as fault;
 ghost use Rattle.script_cli.specs.declared.fault.ScriptFault.TheVariants as script_fault;
 
 /// Some good lines, where there are two submitters.
-#[tactic(auto, unfolding(script_cli::specs::Grammar::number_word, script_cli::specs::Grammar::kind_word, script_cli::specs::Grammar::hex_word, script_cli::specs::Grammar::pieces_from, crate::specs::Jobs::head_words, crate::specs::Jobs::data_words, crate::specs::Jobs::job_words))]
+#[tactic(auto, unfolding(script_cli::specs::Grammar::number_word, script_cli::specs::Grammar::kind_word, script_cli::specs::Grammar::hex_word, script_cli::specs::Grammar::pieces_from, script_cli::specs::Grammar::nothing_more, crate::specs::Jobs::head_words, crate::specs::Jobs::data_words, crate::specs::Jobs::job_words))]
 pub fn lines_are_jobs()
     ensures read { job_of_line 2 1 (codes "job 1 1 read 8 1 0+512") ≡ Ok (Some (job 1 (head 1 1 kind.Read 8 1) (piece.Data 0 512 ∷ []) [])) }
     ensures write { job_of_line 2 3 (codes "job 0 1 write 2 1 A2 0+512") ≡ Ok (Some (job 3 (head 0 1 kind.Write 2 1) (piece.Data 0 512 ∷ []) (162 ∷ []))) }
     ensures compare { job_of_line 2 3 (codes "job 0 1 compare 2 1 A2b0 0+256 4096+256") ≡ Ok (Some (job 3 (head 0 1 kind.Compare 2 1) (piece.Data 0 256 ∷ piece.Data 4096 256 ∷ []) (162 ∷ 176 ∷ []))) }
+    ensures options { job_of_line 2 1 (codes "job 0 1 write 0 1 A2 0+512 nsid 2 fua") ≡ Ok (Some (job_of 1 (head 0 1 kind.Write 0 1) (with_options (request_of kind.Write 0 1 (piece.Data 0 512 ∷ [])) 2 true false) (162 ∷ []))) }
     ensures no_piece { job_of_line 2 1 (codes "job 0 1 read 0 1") ≡ Ok (Some (job 1 (head 0 1 kind.Read 0 1) [] [])) }
     ensures comment { job_of_line 2 1 (codes " # job") ≡ Ok None }
     ensures empty { job_of_line 2 1 [] ≡ Ok None }
 {}
 
 /// The first fault of a line, where there are two submitters, and once where there are 16.
-#[tactic(auto, unfolding(script_cli::specs::Grammar::number_word, script_cli::specs::Grammar::kind_word, script_cli::specs::Grammar::hex_word, script_cli::specs::Grammar::pieces_from, crate::specs::Jobs::head_words, crate::specs::Jobs::data_words, crate::specs::Jobs::job_words))]
+#[tactic(auto, unfolding(script_cli::specs::Grammar::number_word, script_cli::specs::Grammar::kind_word, script_cli::specs::Grammar::hex_word, script_cli::specs::Grammar::pieces_from, script_cli::specs::Grammar::nothing_more, crate::specs::Jobs::head_words, crate::specs::Jobs::data_words, crate::specs::Jobs::job_words))]
 pub fn job_lines_have_first_faults()
     ensures step { job_of_line 2 1 (codes "ring 1") ≡ Err fault.UnknownVerb }
     ensures owners { job_of_line 2 1 (codes "owners") ≡ Err fault.UnknownVerb }
@@ -40,12 +42,13 @@ pub fn job_lines_have_first_faults()
     ensures piece_for_bytes { job_of_line 2 1 (codes "job 1 1 write 0 1 0+512") ≡ Err fault.BadHex }
     ensures hex_before_piece { job_of_line 2 1 (codes "job 1 1 compare 0 1 ABC 0+") ≡ Err fault.BadHex }
     ensures bytes_of_a_read { job_of_line 2 1 (codes "job 1 1 read 0 1 A2 0+512") ≡ Err fault.BadPiece }
+    ensures flags_in_order { job_of_line 2 1 (codes "job 1 1 read 0 1 0+512 lr fua") ≡ Err fault.ExtraWord }
     ensures high { job_of_line 2 1 (codes "raed " ++ 200 ∷ []) ≡ Err fault.NotAscii }
     ensures long_line { (line : List ℕ) → 16384 < length line → job_of_line 2 1 line ≡ Err fault.LongLine }
 {}
 
 /// Whole scripts, where there are two submitters.
-#[tactic(auto, unfolding(script_cli::specs::Grammar::number_word, script_cli::specs::Grammar::kind_word, script_cli::specs::Grammar::hex_word, script_cli::specs::Grammar::pieces_from, crate::specs::Jobs::head_words, crate::specs::Jobs::data_words, crate::specs::Jobs::job_words))]
+#[tactic(auto, unfolding(script_cli::specs::Grammar::number_word, script_cli::specs::Grammar::kind_word, script_cli::specs::Grammar::hex_word, script_cli::specs::Grammar::pieces_from, script_cli::specs::Grammar::nothing_more, crate::specs::Jobs::head_words, crate::specs::Jobs::data_words, crate::specs::Jobs::job_words))]
 pub fn job_scripts_are_read()
     ensures empty { jobs_of 2 [] ≡ Ok [] }
     ensures numbers { jobs_of 2 (all_fed (codes "# first" ∷ codes "job 1 1 read 0 1" ∷ [] ∷ codes "job 0 1 read 0 1" ∷ [])) ≡ Ok (job 2 (head 1 1 kind.Read 0 1) [] [] ∷ job 4 (head 0 1 kind.Read 0 1) [] [] ∷ []) }

@@ -1,7 +1,7 @@
 -- The commands of a round.
 use Rattle.std.specs.Prelude.{◌≡◌, ℕ, ◌+◌, ◌-◌, ◌*◌, ◌/◌, ◌^◌, ◌<◌, zero, suc, Option, List, [], ◌∷◌, All, map, min, slice_index}
 use Rattle.driver_threads.specs.{Jobs.BytesOf, Values.JobOf}
-use Rattle.io_commands.specs.declared.request.{Kind.Kind, Piece.{Piece, TheVariants.Data}}
+use Rattle.io_commands.specs.declared.request.{Kind.Kind, Piece.{Piece, TheVariants.Data}, TheConstants.Flags.NONE}
 use Rattle.load.specs.{Content.written, Picking.ArePicked, declared.{content.Content.Content, layout.Layout.Layout, plan.Planned.Planned}}
 use Rattle.io_commands.specs.declared.request.Kind.TheVariants as kind
 
@@ -62,6 +62,6 @@ TaskJob = JobOf TaskContents
 abbrev pub job_for : Layout → ℕ → Option Content → ℕ → Planned → TaskJob
 job_for layout seed content q planned = record {
   q = q;
-  request = record { kind = planned.kind; slba = planned.slot * layout.slot_blocks; blocks = layout.slot_blocks; pieces = pieces_of layout.slot_blocks };
+  request = record { kind = planned.kind; nsid = 1; flags = NONE; slba = planned.slot * layout.slot_blocks; blocks = layout.slot_blocks; pieces = pieces_of layout.slot_blocks };
   bytes = record { layout = layout; seed = seed; content = content; planned = planned };
 }

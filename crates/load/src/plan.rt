@@ -9,7 +9,7 @@ use crate::layout::Layout;
 use crate::picks::Picks;
 use crate::task::{Task, TaskJob};
 use driver_threads::Job;
-use io_commands::{Kind, Piece, Pieces, Request};
+use io_commands::{Flags, Kind, Piece, Pieces, Request};
 use std::alloc::{AllocError, Global};
 
 /// A command of a round.
@@ -123,6 +123,8 @@ fn job_of<'a>(
         q,
         request: Request {
             kind: planned.kind,
+            nsid: 1,
+            flags: Flags::NONE,
             slba: u64::from(layout.first_block(planned.slot)),
             blocks: layout.slot_blocks,
             pieces: pieces_of(alloc, layout.slot_blocks)?,

@@ -32,6 +32,7 @@ use crate::tally::Tally;
 use crate::task::{Found, Task, TaskEnds, TaskJob};
 use crate::timing::Timing;
 use block_image::Image;
+use driver_book::BlankBook;
 use driver_threads::{Gate, Open, Round, Server, run_round};
 use script_cli::progress::{Progress, Standing, Stopwatch};
 use script_cli::workload::{Load, OutputFormat, Pattern};
@@ -41,7 +42,6 @@ use std::io::Write;
 use std::marker::Brand;
 use std::rt::Clock;
 use std::sync::Wait;
-use std::sync::ledger::Blank;
 use std::thread::Threads;
 use step_core::{Config, World};
 
@@ -54,9 +54,9 @@ fn play<G: Gate + Sync, R: Threads + Wait + Sync>(
     depth: usize,
     server: Server,
     gate: &G,
-    blank: Blank,
+    blank: BlankBook,
 ) -> Result<Round<Global, Found>, LoadFault>
-    requires number { blank.parts ≡ 65536 }
+    requires number { blank.ledger.parts ≡ 65536 }
     requires some { 1 ≤ vec_len jobs }
     requires few { vec_len jobs ≤ 16 }
     requires some_depth { 1 ≤ depth }
@@ -106,7 +106,7 @@ fn run_plans<G: Gate + Sync, R: Threads + Wait + Sync>(
 {
     let jobs = course.jobs(alloc, plans)?;
     let server = course.server();
-    let blank = Blank::new(65536);
+    let blank = BlankBook::new();
     let Round {
         world,
         jobs: ends,

@@ -1,5 +1,5 @@
 -- Which refusal an event meets: the first cause that holds, in the order of the checks.
-use Rattle.std.specs.{Cmp.Lexicographic.pointwise, List.list_any, Option.{option_map, option_map_or}}
+use Rattle.std.specs.{Bool.beq, Cmp.Lexicographic.pointwise, List.list_any, Option.{option_map, option_map_or}}
 use Rattle.std.specs.Prelude.{ℕ, ◌+◌, ◌*◌, ◌-◌, ◌/◌, ◌%◌, ◌==◌, nat_lt, nat_le, Bool, true, false, ◌&&◌, ◌||◌, not, Option, Some, None, List, [], ◌∷◌, length, find, is_some, is_none, slice_get, slice_index, slice_range, option_and_then, if◌then◌else◌, nat_eq}
 use Rattle.machine_model.specs.{Commands.{Work, Io, Management}, Events.{Event, Refusal}, Memory.is_in, Placement.{wanted_of, first_of_run}}
 use Rattle.machine_model.specs.State.{State, HostQueue, HostState, Live, Deleting, Retired, Gone, MakingCq, HalfMade, MakingSq, ServedQueue, Record, Phase, Drafted, Submitted, Held, Collected, Job, PostedCompletion, record_at, outstanding_on}
@@ -7,7 +7,7 @@ use Rattle.page_memory.specs.{Pages.{Pages, page_at}, declared.page.Half.{Half, 
 use Rattle.entry_codec.specs.{Completion.completion_of, Status.is_success, declared.{admin_opcode.TheConstants.DELETE_IO_SQ, completion.ComEntry.ComEntry}}
 use Rattle.entry_codec.specs.declared.submission.SubEntry.{SubEntry}
 use Rattle.admin_commands.specs.{Entries.named_queue, Verdicts.is_live as is_running, declared.AdminKind.TheVariants.{DeleteSq, DeleteCq, CreateCq, CreateSq}}
-use Rattle.io_commands.specs.{Asked.Request, Requests.fault_of, Values.numbers_of, declared.request.Kind.Kind}
+use Rattle.io_commands.specs.{Asked.Request, Requests.fault_of, Values.numbers_of, declared.request.{Flags.Flags, Kind.Kind}}
 use Rattle.io_commands.specs.declared.request.{Kind.TheVariants.{Read, Write, Compare}, Piece.{Piece, TheVariants.{Data, Bucket}}, RequestFault.RequestFault}
 use Rattle.controller_walk.specs.Units.{first_passing}
 use Rattle.queue_pair.specs.{Memory.{with_phase, half_pages}, Slots.{is_full, moved}}
@@ -142,8 +142,12 @@ same_kind Write Write = true
 same_kind Compare Compare = true
 same_kind a b = false
 
+abbrev pub same_flags : Flags → Flags → Bool
+same_flags a b = beq a.force_unit_access b.force_unit_access && beq a.limited_retry b.limited_retry
+
 abbrev pub same_request : Request → Request → Bool
-same_request a b = same_kind a.kind b.kind && (a.slba == b.slba) && (a.blocks == b.blocks) && same_pieces a.pieces b.pieces
+same_request a b =
+    same_kind a.kind b.kind && (a.nsid == b.nsid) && same_flags a.flags b.flags && (a.slba == b.slba) && (a.blocks == b.blocks) && same_pieces a.pieces b.pieces
 
 abbrev pub asks_for : Request → Work → Bool
 asks_for request (Io r) = same_request request r

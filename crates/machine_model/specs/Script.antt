@@ -9,15 +9,16 @@ use Rattle.page_ledger.specs.Owners.{is_among, pages_from}
 use Rattle.controller_walk.specs.{Units.{touched as pages_touched, first_passing}, declared.walk.WalkState.WalkState}
 use Rattle.io_commands.specs.{Asked.Request, DataBytes.{data_length, filled}, Drafts.{DraftContents, built}}
 use Rattle.io_commands.specs.{Values.{FinishedContents, numbers_of, gathered_from}, declared.draft.FillFault.{FillFault, TheVariants.{NotASource, WrongLength}}}
-use Rattle.io_commands.specs.declared.request.{Kind.{Kind, TheVariants.Read}, Piece.Piece}
+use Rattle.io_commands.specs.declared.request.{Kind.{Kind, TheVariants.Read}, Piece.Piece, TheConstants.Flags.NONE}
 use Rattle.page_memory.specs.Pages.{page_at}
 use Rattle.entry_codec.specs.declared.status.Status.{Status}
 use Rattle.machine_model.specs.Events as events
 
--- A script's lines
+-- A script's lines: a command is reserved of namespace 1 and without flags, or as a request asks for it
 
 pub data Line : Type 0 where
   reserve : (q : ℕ) → (kind : Kind) → (slba blocks : ℕ) → List Piece → Line
+  ask : (q : ℕ) → Request → Line
   fill : (q cid : ℕ) → List ℕ → Line
   build : (q cid : ℕ) → Line
   submit : (q cid : ℕ) → Line
@@ -152,11 +153,14 @@ abbrev pub with_kept : {X : Type 0} → Option X → (X → Table × Said × Opt
 with_kept None f t = (t, no_value, None)
 with_kept (Some x) f t = f x
 
-abbrev pub line : Table → Line → Table × Said × Option Made
-line t (reserve q kind slba blocks pieces) =
-    let r : Request = record { kind = kind; slba = slba; blocks = blocks; pieces = pieces } in
+abbrev pub asked : Table → ℕ → Request → Table × Said × Option Made
+asked t q r =
     let d = chosen t.world q r in
     stepped t (events.Reserve q r) (events.Reserved d) (reserved q d.cid (numbers_of d.data_pages) (numbers_of d.chain_pages)) (λ t'. record t' { drafts = d ∷ t'.drafts })
+
+abbrev pub line : Table → Line → Table × Said × Option Made
+line t (reserve q kind slba blocks pieces) = asked t q (record { kind = kind; nsid = 1; flags = NONE; slba = slba; blocks = blocks; pieces = pieces })
+line t (ask q r) = asked t q r
 line t (fill q cid bytes) =
     with_kept (draft_of q cid t.drafts)
     (λ d. elim (fill_fault bytes d) [

@@ -2,11 +2,11 @@
 use Rattle.std.specs.{Option.option_map, Prelude.{ℕ, List, [], ◌∷◌, ◌++◌, replicate, Option, slice_get, true, false}}
 use Rattle.controller_walk.specs.declared.walk.WalkState.TheVariants.{More, End}
 use Rattle.machine_model.specs.After.{on_ring}
-use Rattle.machine_model.specs.Script.{Line, Said, Table, defaults, played, left_by, carried, reserve, fill, build, submit, cancel, ring, fetch, walk, complete, reap, collect, gather, release, abort, retire, ok, reserved, fetched, walked, completed, reaps, held, refused, not_filled, no_value}
+use Rattle.machine_model.specs.Script.{Line, Said, Table, defaults, played, left_by, carried, reserve, ask, fill, build, submit, cancel, ring, fetch, walk, complete, reap, collect, gather, release, abort, retire, ok, reserved, fetched, walked, completed, reaps, held, refused, not_filled, no_value}
 use Rattle.machine_model.specs.WorkedReads.{ordinary}
 use Rattle.io_commands.specs.declared.{draft.FillFault.TheVariants.{NotASource, WrongLength}, request.Kind.{Kind, TheVariants.{Read, Compare, Write}}}
 use Rattle.io_commands.specs.declared.request.{Piece.TheVariants.Data, RequestFault.TheVariants.LengthMismatch}
-use Rattle.entry_codec.specs.declared.status.TheConstants.Status.{SUCCESS, COMPARE_FAILURE, LBA_OUT_OF_RANGE}
+use Rattle.entry_codec.specs.declared.status.TheConstants.Status.{SUCCESS, COMPARE_FAILURE, INVALID_NAMESPACE, LBA_OUT_OF_RANGE}
 use Rattle.queue_pair.specs.Rings.{HostRing}
 use Rattle.machine_model.specs.Events as events
 
@@ -70,6 +70,16 @@ abbrev pub read_past_image_said : List Said
 read_past_image_said =
     reserved 1 0 (4 ∷ []) [] ∷ ok ∷ ok ∷ ok ∷ fetched 0 (2 ∷ []) ∷ refused events.Nothing ∷ completed (3 ∷ []) ∷ reaps (events.Done 0 LBA_OUT_OF_RANGE) ∷ held LBA_OUT_OF_RANGE ∷ ok
     ∷ reserved 1 0 (4 ∷ []) [] ∷ []
+
+-- a Read of namespace 2, with both flags and past the image: the namespace is told first
+abbrev pub read_of_namespace_2 : List Line
+read_of_namespace_2 =
+    ask 1 (record { kind = Read; nsid = 2; flags = record { force_unit_access = true; limited_retry = true }; slba = 63; blocks = 2; pieces = Data 0 1024 ∷ [] })
+    ∷ build 1 0 ∷ submit 1 0 ∷ ring 1 ∷ fetch 1 ∷ walk 1 0 ∷ complete 1 0 ∷ reap 1 ∷ collect 1 0 ∷ []
+
+abbrev pub read_of_namespace_2_said : List Said
+read_of_namespace_2_said =
+    reserved 1 0 (4 ∷ []) [] ∷ ok ∷ ok ∷ ok ∷ fetched 0 (2 ∷ []) ∷ refused events.Nothing ∷ completed (3 ∷ []) ∷ reaps (events.Done 0 INVALID_NAMESPACE) ∷ held INVALID_NAMESPACE ∷ []
 
 -- twelve pieces need thirteen pages, of which twelve are free; eleven pieces take all
 abbrev pub pages_run_out : List Line

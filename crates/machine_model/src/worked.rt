@@ -3,7 +3,7 @@
 //! A world has 16 pages, one I/O queue of 4 entries and an image of 64 blocks of zeros where a run does not say otherwise.
 #![tactic(auto, unfolding(page_memory::specs::Pages::zero_page, sgl_descriptor::specs::Spelling::descriptor_of, entry_codec::specs::Submission::submission_bytes, entry_codec::specs::Submission::submission_of, entry_codec::specs::Completion::completion_bytes, entry_codec::specs::Completion::completion_of, controller_walk::specs::Units::moving, controller_walk::specs::Units::from_place, page_memory::specs::Memory::bytes_at))]
 
-ghost use Rattle.std.specs.Prelude.{◌≡◌, [], ◌∷◌, Some, true, length};
+ghost use Rattle.std.specs.Prelude.{◌≡◌, [], ◌∷◌, Some, false, true, length};
 ghost use Rattle.machine_model.specs.Events as events;
 ghost use Rattle.machine_model.specs.Opening as opens;
 ghost use Rattle.machine_model.specs.Script.{played, left_by, made_by, all_allowed, free_of, build};
@@ -70,6 +70,7 @@ pub fn worked_queues()
     ensures identifiers_run_out { played ordinary queues.identifiers_run_out ≡ queues.identifiers_run_out_said }
     ensures two_compares { played ordinary queues.two_compares ≡ queues.two_compares_said }
     ensures read_past_image { played ordinary queues.read_past_image ≡ queues.read_past_image_said }
+    ensures read_of_namespace_2 { played ordinary queues.read_of_namespace_2 ≡ queues.read_of_namespace_2_said }
     ensures pages_run_out { played ordinary queues.pages_run_out ≡ queues.pages_run_out_said }
     ensures stranger { queues.stranger ≡ (script.refused events.Stranger ∷ script.ok ∷ []) }
     ensures refusals_in_order { played ordinary queues.refusals_in_order ≡ queues.refusals_in_order_said }
@@ -155,6 +156,10 @@ pub fn worked_images()
     ensures built_of_three { laws.IsBuiltOfThree }
     ensures segments_named { laws.SegmentsNamed }
     ensures far_entry { laws.far_entry_read ≡ laws.far_entry }
+    ensures no_flag { laws.cdw12_with false false ≡ 7 }
+    ensures force_unit_access { laws.cdw12_with true false ≡ 0x40000007 }
+    ensures limited_retry { laws.cdw12_with false true ≡ 0x80000007 }
+    ensures both_flags { laws.cdw12_with true true ≡ 0xC0000007 }
 {}
 
 /// Drafts that nobody but their maker can make: one whose entry has another identifier, and one with segments of another

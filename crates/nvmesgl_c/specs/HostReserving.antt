@@ -1,7 +1,7 @@
 -- A reservation: the command, and its tag.
 use Rattle.std.specs.List.{list_any}
 use Rattle.std.specs.Prelude.{◌≡◌, ◌⊎◌, ℕ, Bool, true, false, Option, Some, None, Result, Ok, Err, List, map}
-use Rattle.io_commands.specs.{Asked.Request, declared.request.Kind.Kind}
+use Rattle.io_commands.specs.{Asked.Request, declared.request.{Kind.Kind, TheConstants.Flags.NONE}}
 use Rattle.machine_model.specs.Script.{Table}
 use Rattle.host_bench.specs.{Calls.Does, Values.Reply}
 use Rattle.nvmesgl_c.specs.{HostAnswers.told, HostCalls.Refuses, HostCodes.code_of_reply, HostKept.{Kept, code_in}, HostTags.IsTagged, Requests.{is_no_piece, kind_of, looked_at, piece_of}}
@@ -53,7 +53,7 @@ pub record SaysReserved (t : Kept) (q : ℕ) (request : Request) (tag code : ℕ
 abbrev pub ReservesPieces : Bool → Kind → Kept → ℕ → ℕ → ℕ → List CPiece → ℕ → ℕ → Answer → Kept → Type 0
 ReservesPieces true k t q slba blocks pieces tag code answer new = Refuses t 56 code answer new
 ReservesPieces false k t q slba blocks pieces tag code answer new =
-    SaysReserved t q (record { kind = k; slba = slba; blocks = blocks; pieces = map piece_of pieces }) tag code answer new ⊎ Refuses t 15 code answer new
+    SaysReserved t q (record { kind = k; nsid = 1; flags = NONE; slba = slba; blocks = blocks; pieces = map piece_of pieces }) tag code answer new ⊎ Refuses t 15 code answer new
 
 abbrev pub ReservesKind : Option Kind → Kept → ℕ → ℕ → ℕ → List CPiece → ℕ → ℕ → Answer → Kept → Type 0
 ReservesKind None t q slba blocks pieces tag code answer new = Refuses t 4 code answer new

@@ -1,7 +1,7 @@
 -- What each call answers, and what it leaves of the bench that a handle keeps.
 use Rattle.std.specs.List.{list_any}
 use Rattle.std.specs.Prelude.{◌≡◌, ◌⊎◌, ◌<◌, ◌++◌, ℕ, Bool, true, false, Option, Some, None, Result, Ok, Err, List, length, drop, map, take}
-use Rattle.io_commands.specs.{declared.request.Kind.Kind}
+use Rattle.io_commands.specs.declared.request.{Kind.Kind, TheConstants.Flags.NONE}
 use Rattle.nvmesgl_c.specs.{Answers.nothing, MachineAnswers.told, MachineCodes.code_of_reply, MachineKept.{Kept, code_in}, Requests.{is_no_piece, kind_of, piece_of}, declared.words.answer.Answer.Answer}
 use Rattle.nvmesgl_c.specs.declared.words.piece.CPiece.{CPiece}
 use Rattle.step_core.specs.{Bench.Does, Values.{Step, Reply}}
@@ -39,7 +39,7 @@ looked_at bytes = take 1048577 bytes
 abbrev pub ReservesPieces : Bool → Kind → Kept → ℕ → ℕ → ℕ → List CPiece → ℕ → Answer → Kept → Type 0
 ReservesPieces true k t q slba blocks pieces code answer new = Refuses t 56 code answer new
 ReservesPieces false k t q slba blocks pieces code answer new =
-    SaysOrWants t (step.Reserve q (record { kind = k; slba = slba; blocks = blocks; pieces = map piece_of pieces })) code answer new
+    SaysOrWants t (step.Reserve q (record { kind = k; nsid = 1; flags = NONE; slba = slba; blocks = blocks; pieces = map piece_of pieces })) code answer new
 
 -- a reservation of a kind of command
 abbrev pub ReservesKind : Option Kind → Kept → ℕ → ℕ → ℕ → List CPiece → ℕ → Answer → Kept → Type 0

@@ -1,7 +1,7 @@
 -- What C asks for: kinds by number, and pieces.
 use Rattle.std.specs.List.{list_any}
 use Rattle.std.specs.Prelude.{◌≡◌, ◌++◌, ◌==◌, ◌/◌, ◌%◌, ℕ, zero, suc, nat_lt, Bool, true, false, Option, Some, None, List, [], ◌∷◌, replicate, take, if◌then◌else◌}
-use Rattle.io_commands.specs.{Asked.Request, declared.request.{Kind.Kind, Piece.Piece}}
+use Rattle.io_commands.specs.{Asked.Request, declared.request.{Kind.Kind, Piece.Piece, TheConstants.Flags.NONE}}
 use Rattle.nvmesgl_c.specs.declared.words.piece.{CPiece.CPiece, NoPieces.{NoPieces, TheVariants.{BadPiece, Memory}}}
 use Rattle.io_commands.specs.declared.request.Kind.TheVariants as kind
 use Rattle.io_commands.specs.declared.request.Piece.TheVariants as piece
@@ -40,4 +40,4 @@ pieces_of_length n =
     replicate (n / 4096) (piece.Data 0 4096) ++ (if n % 4096 == 0 then [] else (piece.Data 0 (n % 4096) ∷ []))
 
 abbrev pub request_of : Kind → ℕ → ℕ → Request
-request_of kind slba n = record { kind = kind; slba = slba; blocks = n / 512; pieces = pieces_of_length n }
+request_of kind slba n = record { kind = kind; nsid = 1; flags = NONE; slba = slba; blocks = n / 512; pieces = pieces_of_length n }

@@ -1,6 +1,6 @@
 //! Requests and pages as the tests ask for them.
 
-use io_commands::{Kind, Piece, Pieces, Request};
+use io_commands::{Flags, Kind, Piece, Pieces, Request};
 use page_memory::{Page, PageNo, Store};
 use std::alloc::{AllocError, Global};
 use std::process::Abort;
@@ -30,6 +30,8 @@ impl Asked {
         }
         Ok(Request {
             kind: self.kind,
+            nsid: 1,
+            flags: Flags::NONE,
             slba: 0,
             blocks: self.blocks,
             pieces,

@@ -1,6 +1,6 @@
 //! Requests.
 
-use io_commands::{Kind, Piece, Pieces, Request};
+use io_commands::{Flags, Kind, Piece, Pieces, Request};
 use std::alloc::{AllocError, Allocator};
 
 /// A request of so many blocks from block 0 on, each in a page of its own.
@@ -18,6 +18,8 @@ pub(crate) fn of_blocks<A: Allocator>(
     }
     Ok(Request {
         kind,
+        nsid: 1,
+        flags: Flags::NONE,
         slba: 0,
         blocks,
         pieces,

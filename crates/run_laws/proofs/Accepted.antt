@@ -1,7 +1,7 @@
 -- Which events are accepted.
 use Rattle.machine_model.specs.Events as events
 use Rattle.machine_model.specs.After as a
-use Rattle.std.proofs.Common.{◌≡◌, ℕ, suc, ◌≤◌, Bool, true, false, ◌&&◌, List, [], ◌∷◌, ◌++◌, length, if◌then◌else◌, refl, ap, arith, ◌⊎◌, inl, inr, ◌+◌, nat_lt, not, ◌||◌, Option, Some, None, is_some, is_none, MatchBool, ap₂, sym, ◌∙◌, subst, ◌==◌, map, eqb-true}
+use Rattle.std.proofs.Common.{◌≡◌, ℕ, ◌≤◌, Bool, true, false, ◌&&◌, List, [], ◌∷◌, ◌++◌, length, if◌then◌else◌, refl, ap, arith, ◌⊎◌, inl, inr, ◌+◌, nat_lt, not, ◌||◌, Option, Some, None, is_some, is_none, MatchBool, ap₂, sym, ◌∙◌, subst, ◌==◌, map, eqb-true}
 use Rattle.std.proofs.lemmas.{Bool.{true≢false, not-true, and_parts, Decides.nat_tests}, List.Elements.{All-nil, All-cons, All-append}}
 use Rattle.std.specs.{List.AllByRecursion, Option.{option_map, option_and_then}}
 use Rattle.page_ledger.specs.Owners.{is_among}

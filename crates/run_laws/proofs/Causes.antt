@@ -9,25 +9,25 @@ use Rattle.machine_model.specs.Refusals.{is_submitted, next_rung, job_at, is_job
 use Rattle.machine_model.specs.{Standing.{unfetched_at, HasEntry, StandsAs, CommandStands}, State.{State, ServedQueue, Record, Job, is_at, pages_of}}
 use Rattle.machine_model.specs.{Status.same_status, Step.{IsController, resets, Step}, Trusted.TrustedRun, Weights.{one, total}, Work.Work}
 use Rattle.machine_model.specs.declared.words.{Refusal.Refusal, Work.TheVariants.{Io, Management}}
-use Rattle.std.proofs.Common.{◌≡◌, ℕ, zero, suc, ◌+◌, ◌≤◌, ◌==◌, nat_lt, Bool, true, false, ◌&&◌, ◌||◌, Option, Some, None, List, [], ◌∷◌, ◌++◌, length, if◌then◌else◌, refl, ap, sym, ◌∙◌, arith, subst, eqb-true, eq-eqb, inl, inr, not, map, filter, find, is_some, is_none, ◌/◌}
-use Rattle.std.{proofs.lemmas.{Bool.{true≢false, and_parts, cases_Bool, Decides.nat_tests}, List.length-replicate}, specs.List.{AllByRecursion, list_any}}
+use Rattle.std.proofs.Common.{◌≡◌, ℕ, zero, suc, ◌+◌, ◌≤◌, ◌==◌, nat_lt, Bool, true, false, ◌&&◌, ◌||◌, Option, Some, None, List, [], ◌∷◌, ◌++◌, length, if◌then◌else◌, refl, ap, ap₂, sym, ◌∙◌, arith, subst, eqb-true, eq-eqb, inl, inr, not, map, filter, find, is_some, is_none, ◌/◌}
+use Rattle.std.{proofs.lemmas.{Bool.{true≢false, and_parts, cases_Bool, not-false, Decides.nat_tests}, List.length-replicate}, specs.List.{AllByRecursion, list_any}}
 use Rattle.std.specs.{Option.{option_map_or, option_map}, Prelude.unwrap_or, Str.bytes_eq}
 use Rattle.controller_walk.specs.{Laws.after_units, Units.{Course, Closes, Does, verdict, Act, Stays, Reads, Moves}, Walks.answer}
 use Rattle.controller_walk.specs.declared.walk.WalkState.{WalkState, TheVariants.End}
 use Rattle.sgl_descriptor.specs.{Spelling.spelling, declared.Direction.{Direction, TheVariants.{Destination, Source}}}
 use Rattle.entry_codec.specs.{Status.is_success, declared.{admin_opcode.TheConstants.{ABORT, DELETE_IO_SQ}, io_opcode.TheConstants.COMPARE, status.Status.Status}}
-use Rattle.entry_codec.specs.declared.status.TheConstants.Status.{SUCCESS, ABORT_REQUESTED, ABORTED_SQ_DELETION, LBA_OUT_OF_RANGE, COMPARE_FAILURE}
+use Rattle.entry_codec.specs.declared.status.TheConstants.Status.{SUCCESS, ABORT_REQUESTED, ABORTED_SQ_DELETION, INVALID_NAMESPACE, LBA_OUT_OF_RANGE, COMPARE_FAILURE}
 use Rattle.entry_codec.specs.declared.submission.SubEntry.{SubEntry}
-use Rattle.io_commands.specs.{Asked.Request, Drafts.io_entry}
+use Rattle.io_commands.{proofs.Building.{entry_blocks, few_blocks}, specs.{Asked.Request, Drafts.io_entry}}
 use Rattle.io_commands.specs.Jobs.{verdict_of, io_fault, bytes_after_check, first_block, block_number, need_of_entry, kind_of_opcode, direction_of_entry}
-use Rattle.io_commands.specs.{Values.IsGood, declared.request.Kind.{Kind, TheVariants.{Write, Read, Compare}}}
-use Rattle.run_laws.specs.Statuses.{fetches, aborts, deletes, since_fetch, fetches_by, managed_entry, status_by, has_cause, passes_image, is_compare, every_status_has_its_cause}
+use Rattle.io_commands.specs.{Values.IsGood, Requests.opcode_of, declared.request.Kind.{Kind, TheVariants.{Write, Read, Compare}}}
+use Rattle.run_laws.specs.Statuses.{fetches, aborts, deletes, since_fetch, fetches_by, managed_entry, status_by, has_cause, misses_namespace, passes_image, is_compare, every_status_has_its_cause}
 use Rattle.two_sides.proofs.{Along.{Carried, Before, keeps, made_of, run_before}, Commands.{in_hand_is, Walking, walking}}
 use Rattle.two_sides.proofs.{ControllerMoves.{unit_bytes, unit_done, finished, fetch_of, walk_by, complete_by}, JobLaws.{moved_length, blocks_put, not_zero}}
 use Rattle.two_sides.proofs.{NeverFull.{one_job, stood_on, stood_at_opening}, PlacesKept.{InHand, first_is, running_not_past, in_hand}}
 use Rattle.two_sides.proofs.PoolBytes.{host_jobs, host_image}
 use Rattle.two_sides.proofs.Provided.{sent_found, all_map, all_append, all_of, all_in_both, only_found}
-use Rattle.two_sides.proofs.Served.{Stood, good_is, course_ends}
+use Rattle.two_sides.proofs.Served.{Stood, course_ends}
 use Rattle.admin_commands.specs.{Entries.{named_queue, named_command}, declared.SqState.TheVariants.Stopping}
 use Rattle.page_memory.specs.Pages.{with_bytes}
 use Rattle.block_image.specs.Blocks.{blocks_at}
@@ -60,7 +60,13 @@ cause earlier blocks j st =
     is_success st
     || (same_status st ABORT_REQUESTED && list_any (aborts j.q j.entry.cid) (since_fetch j.q j.entry.cid earlier))
     || (same_status st ABORTED_SQ_DELETION && list_any (deletes j.q) (since_fetch j.q j.entry.cid earlier))
+    || (same_status st INVALID_NAMESPACE && not (j.entry.nsid == 1))
     || (same_status st LBA_OUT_OF_RANGE && nat_lt blocks (first_block j.entry + block_number j.entry))
+
+pub same_is : (a b : Status) → same_status a b ≡ true → a ≡ b
+same_is a b h =
+    let parts = and_parts (a.sct == b.sct) (a.sc == b.sc) h in
+    ap₂ (λ (x y : ℕ). record { sct = x; sc = y }) (eqb-true a.sct b.sct parts.0) (eqb-true a.sc b.sc parts.1)
 
 -- no verdict yet, or that of a walk that ended well
 abbrev pub goes_well : Option Status → Bool
@@ -70,6 +76,8 @@ goes_well (Some st) = is_success st
 pub record Caused (earlier : List Made) (blocks : ℕ) (j : Job) : Type 0 where
   pub fetched : list_any (fetches j.q j.entry.cid) earlier ≡ true
   pub cause : (st : Status) → j.verdict ≡ Some st → cause earlier blocks j st ≡ true
+  -- what goes well is of namespace 1
+  pub namespace : goes_well j.verdict ≡ true → j.entry.nsid ≡ 1
   -- a Write that goes well has all its bytes, and its blocks lie in the image
   pub whole : kind_of_opcode j.entry.opcode ≡ Some Write → goes_well j.verdict ≡ true → length j.bytes ≡ need_of_entry j.entry
   pub inside : kind_of_opcode j.entry.opcode ≡ Some Write → goes_well j.verdict ≡ true → first_block j.entry + block_number j.entry ≤ blocks
@@ -83,8 +91,8 @@ AllCaused earlier blocks js = AllByRecursion (CausedIfIo earlier blocks) js
 both_on : (a b b' : Bool) → (b ≡ true → b' ≡ true) → (a && b) ≡ true → (a && b') ≡ true
 both_on a b b' f h = grind arith
 
-four_on : (a b b' c c' d : Bool) → (b ≡ true → b' ≡ true) → (c ≡ true → c' ≡ true) → (a || b || c || d) ≡ true → (a || b' || c' || d) ≡ true
-four_on a b b' c c' d f g h = grind arith
+five_on : (a b b' c c' d e : Bool) → (b ≡ true → b' ≡ true) → (c ≡ true → c' ≡ true) → (a || b || c || d || e) ≡ true → (a || b' || c' || d || e) ≡ true
+five_on a b b' c c' d e f g h = grind arith
 
 -- a step that is no fetch of the command
 pub caused_on : (earlier : List Made) (blocks : ℕ) (j : Job) (m : Made) → fetches j.q j.entry.cid m ≡ false → Caused earlier blocks j → Caused (earlier ++ m ∷ []) blocks j
@@ -93,13 +101,14 @@ caused_on earlier blocks j m far h = record {
   cause = λ st e.
       let since = since_more j.q j.entry.cid earlier m h.fetched far in
       let l = since_fetch j.q j.entry.cid earlier in
-      four_on (is_success st) (same_status st ABORT_REQUESTED && list_any (aborts j.q j.entry.cid) l) (same_status st ABORT_REQUESTED && list_any (aborts j.q j.entry.cid) (since_fetch j.q j.entry.cid (earlier ++ m ∷ [])))
+      five_on (is_success st) (same_status st ABORT_REQUESTED && list_any (aborts j.q j.entry.cid) l) (same_status st ABORT_REQUESTED && list_any (aborts j.q j.entry.cid) (since_fetch j.q j.entry.cid (earlier ++ m ∷ [])))
       (same_status st ABORTED_SQ_DELETION && list_any (deletes j.q) l) (same_status st ABORTED_SQ_DELETION && list_any (deletes j.q) (since_fetch j.q j.entry.cid (earlier ++ m ∷ [])))
-      (same_status st LBA_OUT_OF_RANGE && nat_lt blocks (first_block j.entry + block_number j.entry))
+      (same_status st INVALID_NAMESPACE && not (j.entry.nsid == 1)) (same_status st LBA_OUT_OF_RANGE && nat_lt blocks (first_block j.entry + block_number j.entry))
       (both_on (same_status st ABORT_REQUESTED) (list_any (aborts j.q j.entry.cid) l) (list_any (aborts j.q j.entry.cid) (since_fetch j.q j.entry.cid (earlier ++ m ∷ [])))
       (λ z. ap (list_any (aborts j.q j.entry.cid)) since ∙ any_longer (aborts j.q j.entry.cid) l m z))
       (both_on (same_status st ABORTED_SQ_DELETION) (list_any (deletes j.q) l) (list_any (deletes j.q) (since_fetch j.q j.entry.cid (earlier ++ m ∷ [])))
       (λ z. ap (list_any (deletes j.q)) since ∙ any_longer (deletes j.q) l m z)) (h.cause st e);
+  namespace = h.namespace;
   whole = h.whole;
   inside = h.inside;
 }
@@ -117,6 +126,7 @@ caused_abort earlier blocks j m id far is h = record {
       let any : list_any (aborts j.q j.entry.cid) (since_fetch j.q j.entry.cid (earlier ++ m ∷ [])) ≡ true =
       ap (list_any (aborts j.q j.entry.cid)) (since_more j.q j.entry.cid earlier m h.fetched far) ∙ any_last (aborts j.q j.entry.cid) (since_fetch j.q j.entry.cid earlier) m is in
       subst (λ (x : Status). cause (earlier ++ m ∷ []) blocks (record j { verdict = Some ABORT_REQUESTED; waiting_abort = Some id }) x ≡ true) (some_is e) (rw any refl);
+  namespace = λ w. absurd (true≢false (sym w));
   whole = λ k w. absurd (true≢false (sym w));
   inside = λ k w. absurd (true≢false (sym w));
 }
@@ -129,17 +139,31 @@ caused_stop earlier blocks j m far is h = record {
       let any : list_any (deletes j.q) (since_fetch j.q j.entry.cid (earlier ++ m ∷ [])) ≡ true =
       ap (list_any (deletes j.q)) (since_more j.q j.entry.cid earlier m h.fetched far) ∙ any_last (deletes j.q) (since_fetch j.q j.entry.cid earlier) m is in
       subst (λ (x : Status). cause (earlier ++ m ∷ []) blocks (record j { verdict = Some ABORTED_SQ_DELETION }) x ≡ true) (some_is e) (rw any refl);
+  namespace = λ w. absurd (true≢false (sym w));
   whole = λ k w. absurd (true≢false (sym w));
   inside = λ k w. absurd (true≢false (sym w));
 }
 
--- The field checks of a good request's entry find nothing but blocks beyond the image
+-- The field checks of a good request's entry find nothing but another namespace, and blocks beyond the image
 
 abbrev range_fault : ℕ → SubEntry → Option Status
 range_fault blocks e = if nat_lt blocks (first_block e + block_number e) then Some LBA_OUT_OF_RANGE else None
 
-good_fault : (blocks cid : ℕ) (r : Request) (sgl1 : List ℕ) → IsGood r → io_fault blocks (io_entry cid r sgl1) ≡ range_fault blocks (io_entry cid r sgl1)
-good_fault blocks cid r sgl1 good = grind (arith, good_is, nat_tests)
+abbrev entry_fault : ℕ → SubEntry → Option Status
+entry_fault blocks e = if not (e.nsid == 1) then Some INVALID_NAMESPACE else range_fault blocks e
+
+known_kind : (kind : Kind) → is_none (kind_of_opcode (opcode_of kind)) ≡ false
+known_kind Read = refl
+known_kind Write = refl
+known_kind Compare = refl
+
+at_most_2048 : (n : ℕ) → n ≤ 2048 → nat_lt 2048 n ≡ false
+at_most_2048 n few = grind (arith, nat_tests, few)
+
+good_fault : (blocks cid : ℕ) (r : Request) (sgl1 : List ℕ) → IsGood r → io_fault blocks (io_entry cid r sgl1) ≡ entry_fault blocks (io_entry cid r sgl1)
+good_fault blocks cid r sgl1 good =
+    let few = at_most_2048 (block_number (io_entry cid r sgl1)) (subst (λ (n : ℕ). n ≤ 2048) (sym (entry_blocks cid r sgl1 good)) (few_blocks r.kind r.blocks r.pieces good)) in
+    rw (known_kind r.kind, few) refl
 
 -- the entry in hand is that of a good request
 pub record HandGood (e : SubEntry) : Type 0 where
@@ -176,25 +200,45 @@ hand_good s stood q e other hand =
 pub caused_begun : (earlier : List Made) (blocks : ℕ) (image : List ℕ) (q : ℕ) (e : SubEntry) (m : Made) → HandGood e → fetches q e.cid m ≡ true
     → Caused (earlier ++ m ∷ []) blocks (a.new_job q e (io_fault blocks e) 0 (bytes_after_check image e (io_fault blocks e)))
 caused_begun earlier blocks image q e m hand is =
-    let fault = subst (λ (x : SubEntry). io_fault blocks x ≡ range_fault blocks x) (sym hand.is) (good_fault blocks e.cid hand.request hand.sgl1 hand.good) in
-    elim (cases_Bool (nat_lt blocks (first_block e + block_number e))) [
-      | inl n ↦
-          let is_fault : io_fault blocks e ≡ Some LBA_OUT_OF_RANGE = fault ∙ ap (λ (b : Bool). if b then Some LBA_OUT_OF_RANGE else None) n in
-          rw is_fault (record {
-            fetched = any_last (fetches q e.cid) earlier m is;
-            cause = λ st v. subst (λ (x : Status). cause (earlier ++ m ∷ []) blocks (a.new_job q e (Some LBA_OUT_OF_RANGE) 0 []) x ≡ true) (some_is v) (rw n refl);
-            whole = λ k w. absurd (true≢false (sym w));
-            inside = λ k w. absurd (true≢false (sym w));
-          })
-      | inr n ↦
-          let no_fault : io_fault blocks e ≡ None = fault ∙ ap (λ (b : Bool). if b then Some LBA_OUT_OF_RANGE else None) n in
-          rw no_fault (record {
-            fetched = any_last (fetches q e.cid) earlier m is;
-            cause = λ st v. absurd (none_some v);
-            whole = λ k w. (rw k (length-replicate (need_of_entry e) 0));
-            inside = λ k w. (grind (arith, nat_tests, n));
-          })
-    ]
+    elim (cases_Bool (not (e.nsid == 1))) [ inl other ↦ elsewhere other | inr one ↦ there one ]
+  where
+    fault : io_fault blocks e ≡ entry_fault blocks e
+    fault = subst (λ (x : SubEntry). io_fault blocks x ≡ entry_fault blocks x) (sym hand.is) (good_fault blocks e.cid hand.request hand.sgl1 hand.good)
+
+    elsewhere : not (e.nsid == 1) ≡ true → Caused (earlier ++ m ∷ []) blocks (a.new_job q e (io_fault blocks e) 0 (bytes_after_check image e (io_fault blocks e)))
+    elsewhere other =
+        let is_fault : io_fault blocks e ≡ Some INVALID_NAMESPACE = fault ∙ ap (λ (b : Bool). if b then Some INVALID_NAMESPACE else range_fault blocks e) other in
+        rw is_fault (record {
+          fetched = any_last (fetches q e.cid) earlier m is;
+          cause = λ st v. subst (λ (x : Status). cause (earlier ++ m ∷ []) blocks (a.new_job q e (Some INVALID_NAMESPACE) 0 []) x ≡ true) (some_is v) (rw other refl);
+          namespace = λ w. absurd (true≢false (sym w));
+          whole = λ k w. absurd (true≢false (sym w));
+          inside = λ k w. absurd (true≢false (sym w));
+        })
+
+    there : not (e.nsid == 1) ≡ false → Caused (earlier ++ m ∷ []) blocks (a.new_job q e (io_fault blocks e) 0 (bytes_after_check image e (io_fault blocks e)))
+    there one =
+        let range : io_fault blocks e ≡ range_fault blocks e = fault ∙ ap (λ (b : Bool). if b then Some INVALID_NAMESPACE else range_fault blocks e) one in
+        elim (cases_Bool (nat_lt blocks (first_block e + block_number e))) [
+          | inl n ↦
+              let is_fault : io_fault blocks e ≡ Some LBA_OUT_OF_RANGE = range ∙ ap (λ (b : Bool). if b then Some LBA_OUT_OF_RANGE else None) n in
+              rw is_fault (record {
+                fetched = any_last (fetches q e.cid) earlier m is;
+                cause = λ st v. subst (λ (x : Status). cause (earlier ++ m ∷ []) blocks (a.new_job q e (Some LBA_OUT_OF_RANGE) 0 []) x ≡ true) (some_is v) (rw n refl);
+                namespace = λ w. absurd (true≢false (sym w));
+                whole = λ k w. absurd (true≢false (sym w));
+                inside = λ k w. absurd (true≢false (sym w));
+              })
+          | inr n ↦
+              let no_fault : io_fault blocks e ≡ None = range ∙ ap (λ (b : Bool). if b then Some LBA_OUT_OF_RANGE else None) n in
+              rw no_fault (record {
+                fetched = any_last (fetches q e.cid) earlier m is;
+                cause = λ st v. absurd (none_some v);
+                namespace = λ w. eqb-true e.nsid 1 (not-false (e.nsid == 1) one);
+                whole = λ k w. (rw k (length-replicate (need_of_entry e) 0));
+                inside = λ k w. (grind (arith, nat_tests, n));
+              })
+        ]
 
 -- A walk whose list ends well answers no fault
 
@@ -333,6 +377,7 @@ walk_keeps earlier s q cid m far none stood h =
         record {
           fetched = k.fetched;
           cause = λ st v. subst (λ (x : Status). cause (earlier ++ m ∷ []) (a.image_blocks s) j x ≡ true) (sym (answers_well (j.units_done + 1) (course_of s j) (course_ends s stood j w.list) st v)) refl;
+          namespace = λ x. k.namespace well;
           whole = λ kind x. len kind (k.whole kind well);
           inside = λ kind x. k.inside kind well;
         }
@@ -439,11 +484,8 @@ traced_before image = run_before Traced (keeps Traced traced_carried) image (λ 
 
 -- What a completion gives
 
-five : (a b c d e : Bool) → (a || b || c || d) ≡ true → (a || b || c || d || e) ≡ true
-five a b c d e h = grind arith
-
-last_of : (a b c d : Bool) → (a || b || c || d || true) ≡ true
-last_of a b c d = grind arith
+six : (a b c d e f : Bool) → (a || b || c || d || e) ≡ true → (a || b || c || d || e || f) ≡ true
+six a b c d e f h = ap (λ (x : Bool). x || f) h
 
 pub compare_opcode : (opcode : ℕ) → kind_of_opcode opcode ≡ Some Compare → (opcode == COMPARE) ≡ true
 compare_opcode opcode h = grind arith
@@ -459,22 +501,24 @@ job_status earlier m q cid j other e jq jc some c =
     range : passes_image m q cid ≡ nat_lt (a.image_blocks m.before) (first_block j.entry + block_number j.entry)
     range = ap (λ (o : Option Job). option_map_or (λ j. nat_lt (a.image_blocks m.before) (first_block j.entry + block_number j.entry)) o false) e
 
+    namespace : misses_namespace m q cid ≡ not (j.entry.nsid == 1)
+    namespace = ap (λ (o : Option Job). option_map_or (λ j. not (j.entry.nsid == 1)) o false) e
+
     compares : is_compare m q cid ≡ (j.entry.opcode == COMPARE)
     compares = ap (λ (o : Option Job). option_map_or (λ j. j.entry.opcode == COMPARE) o false) e
 
     -- a verdict that is no success
     failed : (v : Status) → cause earlier (a.image_blocks m.before) j v ≡ true → has_cause earlier m q cid v ≡ true
     failed v h =
-        five (is_success v) (same_status v ABORT_REQUESTED && list_any (aborts q cid) (since_fetch q cid earlier)) (same_status v ABORTED_SQ_DELETION && list_any (deletes q) (since_fetch q cid earlier))
-        (same_status v LBA_OUT_OF_RANGE && passes_image m q cid) (same_status v COMPARE_FAILURE && is_compare m q cid)
-        (rw range (subst (λ (k : ℕ). (is_success v || (same_status v ABORT_REQUESTED && list_any (aborts k cid) (since_fetch k cid earlier)) || (same_status v ABORTED_SQ_DELETION && list_any (deletes k) (since_fetch k cid earlier))
-        || (same_status v LBA_OUT_OF_RANGE && nat_lt (a.image_blocks m.before) (first_block j.entry + block_number j.entry))) ≡ true) jq
+        six (is_success v) (same_status v ABORT_REQUESTED && list_any (aborts q cid) (since_fetch q cid earlier)) (same_status v ABORTED_SQ_DELETION && list_any (deletes q) (since_fetch q cid earlier))
+        (same_status v INVALID_NAMESPACE && misses_namespace m q cid) (same_status v LBA_OUT_OF_RANGE && passes_image m q cid) (same_status v COMPARE_FAILURE && is_compare m q cid)
+        (rw (range, namespace) (subst (λ (k : ℕ). (is_success v || (same_status v ABORT_REQUESTED && list_any (aborts k cid) (since_fetch k cid earlier)) || (same_status v ABORTED_SQ_DELETION && list_any (deletes k) (since_fetch k cid earlier))
+        || (same_status v INVALID_NAMESPACE && not (j.entry.nsid == 1)) || (same_status v LBA_OUT_OF_RANGE && nat_lt (a.image_blocks m.before) (first_block j.entry + block_number j.entry))) ≡ true) jq
         (subst (λ (n : ℕ). (is_success v || (same_status v ABORT_REQUESTED && list_any (aborts j.q n) (since_fetch j.q n earlier)) || (same_status v ABORTED_SQ_DELETION && list_any (deletes j.q) (since_fetch j.q n earlier))
-        || (same_status v LBA_OUT_OF_RANGE && nat_lt (a.image_blocks m.before) (first_block j.entry + block_number j.entry))) ≡ true) jc h)))
+        || (same_status v INVALID_NAMESPACE && not (j.entry.nsid == 1)) || (same_status v LBA_OUT_OF_RANGE && nat_lt (a.image_blocks m.before) (first_block j.entry + block_number j.entry))) ≡ true) jc h)))
 
     differs : kind_of_opcode j.entry.opcode ≡ Some Compare → has_cause earlier m q cid COMPARE_FAILURE ≡ true
-    differs k = rw (compares ∙ compare_opcode j.entry.opcode k) (last_of (is_success COMPARE_FAILURE) (same_status COMPARE_FAILURE ABORT_REQUESTED && list_any (aborts q cid) (since_fetch q cid earlier))
-        (same_status COMPARE_FAILURE ABORTED_SQ_DELETION && list_any (deletes q) (since_fetch q cid earlier)) (same_status COMPARE_FAILURE LBA_OUT_OF_RANGE && passes_image m q cid))
+    differs k = rw (compares ∙ compare_opcode j.entry.opcode k) refl
 
     by_kind : (k : Option Kind) → kind_of_opcode j.entry.opcode ≡ k → has_cause earlier m q cid (jobs.status_by m.before.controller.image j.entry j.bytes k) ≡ true
     by_kind None e = refl

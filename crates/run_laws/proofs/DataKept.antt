@@ -2,7 +2,7 @@
 use Rattle.machine_model.specs.After as a
 use Rattle.machine_model.specs.Events as events
 use Rattle.std.proofs.Common.{◌≡◌, ℕ, Bool, true, false, List, [], ◌∷◌, refl, ap, sym, ◌∙◌, subst, ◌==◌, nat_eq, ◌&&◌, ◌||◌, Some, eqb-true, eq-eqb, arith, Option, None, ◌++◌, inl, inr}
-use Rattle.std.{proofs.lemmas.Bool.{or_parts, true≢false, and_parts}, specs.{Cmp.Lexicographic.pointwise, List.{list_any, AllByRecursion}}}
+use Rattle.std.{proofs.lemmas.Bool.{or_parts, true≢false, and_parts, and_from}, specs.{Cmp.Lexicographic.pointwise, List.{list_any, AllByRecursion}}}
 use Rattle.std.specs.Option.{option_map, option_and_then, option_map_or}
 use Rattle.machine_model.proofs.{Counting.{one, total}, HostLeaves.ids_of, Sound.{named, reaped_submitted}}
 use Rattle.machine_model.{proofs.{Steps.{Accepts, same_lists, permitted, exact}, Tokens.is_job}, specs.{Claims.OwnsFit, Events.{Event, Reply}}}
@@ -118,7 +118,11 @@ not_sent d id other is = true≢false (sym (eq-eqb d.q 0 (sym (eqb-true 0 d.q (a
 -- a record that a submission finds is not of another identifier
 pub submit_clash : (s : State) (d : DraftContents) (e : Event) (reply : Reply) → Going s e reply → submits d.q d.cid (record { before = s; event = e; reply = reply }) ≡ false
     → (x : DraftContents) (r : Record) → e ≡ events.Submit x → record_at s.host x.q x.cid ≡ Some r → is_at d.q d.cid r ≡ true → ⊥
-submit_clash s d e reply g far x r is found at = grind (arith, ids_of, submits_far)
+submit_clash s d e reply g far x r is found at =
+    let ids = ids_of s x.q x.cid r found in
+    let same = and_parts (r.q == d.q) (r.cid == d.cid) at in
+    let clash = and_from (x.q == d.q) (x.cid == d.cid) (eq-eqb x.q d.q (sym ids.0 ∙ eqb-true r.q d.q same.0)) (eq-eqb x.cid d.cid (sym ids.1 ∙ eqb-true r.cid d.cid same.1)) in
+    true≢false (sym clash ∙ submits_far s d e reply g far x is)
 
 -- a record that a reap holds was submitted
 pub reaped_on : (s : State) (q cid : ℕ) (r : Record) → named (reaped s q) ≡ Some cid → record_at s.host q cid ≡ Some r → is_submitted r.phase ≡ true

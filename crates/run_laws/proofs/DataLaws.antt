@@ -136,7 +136,7 @@ run_at_fetch : (f : FetchedCommand) → TrustedRun f.command.image (f.command.be
 run_at_fetch f = subst (λ (made : List Made). TrustedRun f.command.image (made ++ f.command.collected ∷ f.command.later) f.command.end) (whole f) f.command.run
 
 -- the draft is the latest one of its identifier
-drafts_append : (xs ys : List Made) → drafts_of (xs ++ ys) ≡ drafts_of ys ++ drafts_of xs
+pub drafts_append : (xs ys : List Made) → drafts_of (xs ++ ys) ≡ drafts_of ys ++ drafts_of xs
 drafts_append [] ys = sym (append-nil (drafts_of ys))
 drafts_append (x ∷ xs) ys = ap (λ (ds : List DraftContents). ds ++ submitted_by x.event x.reply) (drafts_append xs ys) ∙ append_assoc (drafts_of ys) (drafts_of xs) (submitted_by x.event x.reply)
 
@@ -148,7 +148,7 @@ pub still_latest : (q cid : ℕ) (made : List Made) (rest : List DraftContents) 
 still_latest q cid [] rest h = refl
 still_latest q cid (m ∷ made) rest h = grind (arith, still_latest q cid made (submitted_by m.event m.reply ++ rest), append_assoc, none_later)
 
-latest : (c : CollectedCommand) → draft_of c.finished.q c.finished.cid (drafts_of (c.before ++ c.submitted ∷ c.between)) ≡ Some c.draft
+pub latest : (c : CollectedCommand) → draft_of c.finished.q c.finished.cid (drafts_of (c.before ++ c.submitted ∷ c.between)) ≡ Some c.draft
 latest c = grind (arith, eq-eqb, drafts_append, append_assoc, still_latest, not_any)
 
 none_behind : (f : FetchedCommand) → not (list_any (fetches f.command.finished.q f.command.finished.cid) f.after_fetch) ≡ true

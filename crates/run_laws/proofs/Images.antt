@@ -2,32 +2,32 @@
 use Rattle.io_commands.specs.Jobs as jobs
 use Rattle.machine_model.specs.After as a
 use Rattle.machine_model.specs.Events as events
-use Rattle.std.proofs.Common.{◌≡◌, ℕ, ◌==◌, Bool, true, false, Option, Some, None, List, [], ◌∷◌, ◌++◌, is_some, if◌then◌else◌, refl, ap, sym, ◌∙◌, arith, subst, eqb-true, append-nil, append_assoc, ◌+◌, not, ◌&&◌, ◌||◌, ap₂, inl, inr, ◌*◌, ◌<◌, ◌≤◌, length, slice_set, option_and_then, eq-eqb, length-set}
-use Rattle.std.proofs.lemmas.{Bool.{true≢false, and_parts, cases_Bool, eqb-false}, List.{Elements.{All-head, All-tail}, Folds.list_any-append}}
+use Rattle.std.proofs.Common.{◌≡◌, ℕ, ◌==◌, Bool, true, false, nat_lt, Option, Some, None, List, [], ◌∷◌, ◌++◌, is_some, if◌then◌else◌, refl, ap, sym, ◌∙◌, arith, subst, eqb-true, append-nil, append_assoc, ◌+◌, not, ◌&&◌, ◌||◌, ap₂, inl, inr, ◌*◌, ◌<◌, ◌≤◌, length, slice_set, option_and_then, eq-eqb, length-set}
+use Rattle.std.proofs.lemmas.{Bool.{true≢false, and_parts, cases_Bool, not-true, eqb-false}, List.{Elements.{All-head, All-tail}, Folds.list_any-append}}
 use Rattle.std.{proofs.lemmas.Option.slice_get-get_or, specs.{List.list_any, Option.{option_map_or, option_map}, Prelude.unwrap_or, Str.bytes_eq}}
 use Rattle.block_image.specs.Blocks.{blocks_at}
 use Rattle.sgl_descriptor.specs.{Spelling.spelling, declared.Direction.TheVariants.Source}
 use Rattle.entry_codec.specs.{Status.is_success, declared.{io_opcode.TheConstants.COMPARE, status.Status.Status}}
-use Rattle.entry_codec.specs.declared.status.TheConstants.Status.{SUCCESS, COMPARE_FAILURE, ABORT_REQUESTED, ABORTED_SQ_DELETION, LBA_OUT_OF_RANGE}
+use Rattle.entry_codec.specs.declared.status.TheConstants.Status.{SUCCESS, COMPARE_FAILURE, ABORT_REQUESTED, ABORTED_SQ_DELETION, INVALID_NAMESPACE, LBA_OUT_OF_RANGE}
 use Rattle.entry_codec.specs.declared.submission.SubEntry.{SubEntry}
-use Rattle.io_commands.specs.{Asked.Request, DataBytes.gathered, Drafts.{DraftContents, io_entry, FitsDraft, HoldsPages, BuiltDraftsSpell}}
+use Rattle.io_commands.{proofs.Building.entry_blocks, specs.{Asked.Request, DataBytes.gathered, Drafts.{DraftContents, io_entry, FitsDraft, HoldsPages, BuiltDraftsSpell}}}
 use Rattle.io_commands.specs.{Jobs.{verdict_of, direction_of_entry, direction_by, kind_of_opcode, first_block, block_number}, Requests.direction_of}
-use Rattle.io_commands.specs.{Values.{IsGood, numbers_of}, declared.request.Kind.{Kind, TheVariants.{Compare}}}
+use Rattle.io_commands.specs.{Values.numbers_of, declared.request.Kind.{Kind, TheVariants.{Compare}}}
 use Rattle.machine_model.proofs.{Counting.times-cons, HostLeaves.ids_of, Steps.{managed_by, Accepts, same_lists, permitted}}
 use Rattle.machine_model.{proofs.Tokens.{is_job as is_job_tokens}, specs.{After.final_status, Events.{Event, Reply}}}
 use Rattle.machine_model.specs.{Image.{Made, draft_of, submitted_by, written_by, succeeds, image_by, image_from}, Memory.with_pages, Opening.opening}
 use Rattle.machine_model.specs.{Proper.{IsProper, IsPage, ArePages}, Refusals.{refusal_of, job_at, is_job}, State.{State, Controller, Job, is_at}}
 use Rattle.machine_model.specs.{Status.same_status, Step.{Step, times}, Trusted.{TrustedRun, drafts_of, Steps, forges_by, is_forgery}, Weights.one}
 use Rattle.machine_model.specs.declared.words.Refusal.{Refusal}
-use Rattle.run_laws.proofs.Causes.{goes_well, cause, CausedIfIo, has_verdict, Traced, traced_before, statuses_have_causes, compare_opcode}
+use Rattle.run_laws.proofs.Causes.{goes_well, cause, Caused, CausedIfIo, has_verdict, Traced, traced_before, statuses_have_causes, compare_opcode, same_is}
 use Rattle.run_laws.proofs.Known.{OfDraft, OfDraftIfIo, JobKnown, RecordKnown, Known, known_on, all_carried}
-use Rattle.run_laws.specs.{Blocks.{the_image_is_the_runs, blocks_of_request, compares_tell_equality}, Built.{built_drafts_spell_in_store, LieIn, AreDistinct}}
-use Rattle.run_laws.specs.Statuses.{status_by, has_cause, is_compare}
+use Rattle.run_laws.specs.{Blocks.{the_image_is_the_runs, blocks_of_request, compared, compares_tell_equality}, Built.{built_drafts_spell_in_store, LieIn, AreDistinct}}
+use Rattle.run_laws.specs.Statuses.{aborts, deletes, since_fetch, status_by, has_cause, is_compare}
 use Rattle.run_laws.specs.Walked.{compares_by_their_drafts, compare_failures_are_of_compares}
 use Rattle.two_sides.proofs.Along.{Carried, AtOpenings, Before, keeps, made_of, run_along, run_before, unforged_run, trusted_end}
 use Rattle.two_sides.proofs.{ControllerMoves.{fetch_by, walk_by}, JobLaws.not_zero as positive, NeverFull.{stood_on, stood_at_opening}}
 use Rattle.two_sides.proofs.{PoolBytes.{host_image, trusted_or_reset, unforged_step}, Provided.in_found}
-use Rattle.two_sides.proofs.{Served.{Stood, JobList, job_list, good_is}, Standing.controller-completed}
+use Rattle.two_sides.proofs.{Served.{Stood, JobList, job_list}, Standing.controller-completed}
 use Rattle.two_sides.specs.Histories.{openings_have_histories, steps_make_histories}
 use Rattle.sgl_chain.specs.Spells.{Holds}
 use Rattle.page_memory.{proofs.Bytes.{byte_in, slice_get-set_other, slice_get-set_same}, specs.Pages.{Pages, page_at, byte_at}}
@@ -229,14 +229,16 @@ bytes_swap xs ys = go (bytes_eq xs ys) refl (bytes_eq ys xs) refl
     go false e true f = absurd (true≢false (sym (turned ys xs f) ∙ e))
     go false e false f = e ∙ sym f
 
-pub entry_blocks : (cid : ℕ) (r : Request) (sgl1 : List ℕ) → IsGood r → block_number (io_entry cid r sgl1) ≡ r.blocks
-entry_blocks cid r sgl1 good = let g = good_is r good in omega (arith, g.some, g.few)
+none_of_three : (s a x b y n c z : Bool) → s ≡ false → (s || (a && x) || (b && y) || n || (c && z)) ≡ true → not (a || b || c) ≡ true → n ≡ true
+none_of_three s a x b y n c z failed h fine = grind arith
 
-one_of_three : (s a x b y c z : Bool) → s ≡ false → (s || (a && x) || (b && y) || (c && z)) ≡ true → (a || b || c) ≡ true
-one_of_three s a x b y c z f h = grind arith
-
-cause_of_three : (done : List Made) (blocks : ℕ) (j : Job) (v : Status) → is_success v ≡ false → cause done blocks j v ≡ true → (same_status v ABORT_REQUESTED || same_status v ABORTED_SQ_DELETION || same_status v LBA_OUT_OF_RANGE) ≡ true
-cause_of_three done blocks j v failed h = grind (arith, one_of_three)
+-- the cause that is left where a command was neither stopped nor beyond the image
+namespace_left : (done : List Made) (blocks : ℕ) (j : Job) (v : Status) → is_success v ≡ false → cause done blocks j v ≡ true
+    → not (same_status v ABORT_REQUESTED || same_status v ABORTED_SQ_DELETION || same_status v LBA_OUT_OF_RANGE) ≡ true → (same_status v INVALID_NAMESPACE && not (j.entry.nsid == 1)) ≡ true
+namespace_left done blocks j v failed h fine =
+    none_of_three (is_success v) (same_status v ABORT_REQUESTED) (list_any (aborts j.q j.entry.cid) (since_fetch j.q j.entry.cid done)) (same_status v ABORTED_SQ_DELETION)
+    (list_any (deletes j.q) (since_fetch j.q j.entry.cid done)) (same_status v INVALID_NAMESPACE && not (j.entry.nsid == 1)) (same_status v LBA_OUT_OF_RANGE) (nat_lt blocks (first_block j.entry + block_number j.entry))
+    failed h fine
 
 pub compare_kind : (opcode : ℕ) (k : Kind) → (opcode == COMPARE) ≡ true → kind_of_opcode opcode ≡ Some k → k ≡ Compare
 compare_kind opcode k is h = let h' : kind_of_opcode COMPARE ≡ Some k = subst (λ (n : ℕ). kind_of_opcode n ≡ Some k) (eqb-true opcode COMPARE is) h in sym (some_is h')
@@ -244,7 +246,7 @@ compare_kind opcode k is h = let h' : kind_of_opcode COMPARE ≡ Some k = subst 
 told : (done : List Made) (drafts : List DraftContents) (s : State) (q cid : ℕ) (j : Job) (d : DraftContents) → Traced done s → Known drafts s → job_at s q cid ≡ Some j → refusal_of s (events.Complete q cid) ≡ None
     → (j.entry.opcode == COMPARE) ≡ true → draft_of q cid drafts ≡ Some d
     → not (same_status (final_status s j) ABORT_REQUESTED || same_status (final_status s j) ABORTED_SQ_DELETION || same_status (final_status s j) LBA_OUT_OF_RANGE) ≡ true
-    → final_status s j ≡ (if bytes_eq (gathered d.request.pieces d.data_pages) (blocks_of_request d.request s.controller.image) then SUCCESS else COMPARE_FAILURE)
+    → final_status s j ≡ compared d s.controller.image
 told done drafts s q cid j d traced known at none compare latest fine = elim (cases_Bool (j.q == 0)) [
   | inl z ↦ absurd (no_draft (sym (subst (λ (n : ℕ). draft_of n cid drafts ≡ None) (sym (eqb-true j.q 0 z) ∙ its_queue) (known.no_admin cid)) ∙ latest))
   | inr z ↦ (elim (option_is j.verdict) [ inl is ↦ let some = rw is at (has_verdict s q cid j none at) in absurd (true≢false (sym some)) | inr (v, is) ↦ io z v is ])
@@ -253,8 +255,7 @@ told done drafts s q cid j d traced known at none compare latest fine = elim (ca
     its_queue : j.q ≡ q
     its_queue = eqb-true j.q q (and_parts (j.q == q) (j.entry.cid == cid) (found_is (is_job q cid) s.controller.jobs j at)).0
 
-    io : (other : (j.q == 0) ≡ false) → (v : Status) → j.verdict ≡ Some v
-        → final_status s j ≡ (if bytes_eq (gathered d.request.pieces d.data_pages) (blocks_of_request d.request s.controller.image) then SUCCESS else COMPARE_FAILURE)
+    io : (other : (j.q == 0) ≡ false) → (v : Status) → j.verdict ≡ Some v → final_status s j ≡ compared d s.controller.image
     io other v is = by (is_success v) refl
       where
         k : JobDraft drafts s q cid j
@@ -272,10 +273,17 @@ told done drafts s q cid j d traced known at none compare latest fine = elim (ca
         request : k.list.request ≡ d.request
         request = sym k.of.asked ∙ ap (λ (x : DraftContents). x.request) same
 
-        by : (b : Bool) → is_success v ≡ b → final_status s j ≡ (if bytes_eq (gathered d.request.pieces d.data_pages) (blocks_of_request d.request s.controller.image) then SUCCESS else COMPARE_FAILURE)
+        caused : Caused done (a.image_blocks s) j
+        caused = all-found (CausedIfIo done (a.image_blocks s)) (is_job q cid) s.controller.jobs j at traced.caused other
+
+        namespace : j.entry.nsid ≡ d.request.nsid
+        namespace = ap (λ (e : SubEntry). e.nsid) k.list.entry ∙ ap (λ (r : Request). r.nsid) request
+
+        by : (b : Bool) → is_success v ≡ b → final_status s j ≡ compared d s.controller.image
         by true ok =
             let bytes : j.bytes ≡ gathered d.request.pieces d.data_pages =
             k.bytes (ap direction_of kind) v is ok ∙ ap (λ (r : Request). gathered r.pieces k.of.draft.data_pages) request ∙ ap (λ (x : DraftContents). gathered d.request.pieces x.data_pages) same in
+            let there : (d.request.nsid == 1) ≡ true = eq-eqb d.request.nsid 1 (sym namespace ∙ caused.namespace (ap goes_well is ∙ ok)) in
             let first : first_block j.entry ≡ d.request.slba = k.block ∙ ap (λ (r : Request). r.slba) request in
             let count : block_number j.entry ≡ d.request.blocks =
             ap block_number k.list.entry ∙ entry_blocks k.list.command.cid k.list.request (spelling k.list.list.first) k.list.sized.good ∙ ap (λ (r : Request). r.blocks) request in
@@ -285,11 +293,14 @@ told done drafts s q cid j d traced known at none compare latest fine = elim (ca
             ∙ ap (λ (n : ℕ). if bytes_eq (blocks_at s.controller.image d.request.slba n) j.bytes then SUCCESS else COMPARE_FAILURE) count
             ∙ ap (λ (bs : List ℕ). if bytes_eq (blocks_at s.controller.image d.request.slba d.request.blocks) bs then SUCCESS else COMPARE_FAILURE) bytes
             ∙ ap (λ (b : Bool). if b then SUCCESS else COMPARE_FAILURE) (bytes_swap (blocks_at s.controller.image d.request.slba d.request.blocks) (gathered d.request.pieces d.data_pages))
+            ∙ ap (λ (b : Bool). if b then (if bytes_eq (gathered d.request.pieces d.data_pages) (blocks_of_request d.request s.controller.image) then SUCCESS else COMPARE_FAILURE) else INVALID_NAMESPACE) (sym there)
         by false failed =
             let st : final_status s j ≡ v = final ∙ ap (λ (b : Bool). if b then jobs.status_by s.controller.image j.entry j.bytes (kind_of_opcode j.entry.opcode) else v) failed in
-            let c = all-found (CausedIfIo done (a.image_blocks s)) (is_job q cid) s.controller.jobs j at traced.caused other in
-            let three : (same_status v ABORT_REQUESTED || same_status v ABORTED_SQ_DELETION || same_status v LBA_OUT_OF_RANGE) ≡ true = cause_of_three done (a.image_blocks s) j v failed (c.cause v is) in
-            absurd (true≢false (sym fine ∙ ap (λ (x : Status). not (same_status x ABORT_REQUESTED || same_status x ABORTED_SQ_DELETION || same_status x LBA_OUT_OF_RANGE)) st ∙ ap not three))
+            let rest = subst (λ (x : Status). not (same_status x ABORT_REQUESTED || same_status x ABORTED_SQ_DELETION || same_status x LBA_OUT_OF_RANGE) ≡ true) st fine in
+            let left = and_parts (same_status v INVALID_NAMESPACE) (not (j.entry.nsid == 1)) (namespace_left done (a.image_blocks s) j v failed (caused.cause v is) rest) in
+            let elsewhere : (d.request.nsid == 1) ≡ false = ap (λ (n : ℕ). n == 1) (sym namespace) ∙ not-true (j.entry.nsid == 1) left.1 in
+            st ∙ same_is v INVALID_NAMESPACE left.0
+            ∙ ap (λ (b : Bool). if b then (if bytes_eq (gathered d.request.pieces d.data_pages) (blocks_of_request d.request s.controller.image) then SUCCESS else COMPARE_FAILURE) else INVALID_NAMESPACE) (sym elsewhere)
 
     no_draft : None ≡ Some d → ⊥
     no_draft e = cc
@@ -297,7 +308,7 @@ told done drafts s q cid j d traced known at none compare latest fine = elim (ca
 given : (done : List Made) (drafts : List DraftContents) (s : State) (e : Event) (reply : Reply) (new : State) (q cid : ℕ) (st : Status) (d : DraftContents) → Step s e reply new → s.trusted ≡ true → Traced done s → Known drafts s
     → status_by s e reply q cid ≡ Some st → option_map_or (λ (j : Job). j.entry.opcode == COMPARE) (job_at s q cid) false ≡ true → draft_of q cid drafts ≡ Some d
     → not (same_status st ABORT_REQUESTED || same_status st ABORTED_SQ_DELETION || same_status st LBA_OUT_OF_RANGE) ≡ true
-    → st ≡ (if bytes_eq (gathered d.request.pieces d.data_pages) (blocks_of_request d.request s.controller.image) then SUCCESS else COMPARE_FAILURE)
+    → st ≡ compared d s.controller.image
 given done drafts s (events.Complete q' cid') (events.Completed touched) new q cid st d step t traced known status compare latest fine = elim (cases_Bool ((q' == q) && (cid' == cid))) [
   | inl is ↦
       let g = rw is at status in
@@ -309,7 +320,7 @@ given done drafts s (events.Complete q' cid') (events.Completed touched) new q c
 ]
   where
     at : (o : Option Job) → job_at s q cid ≡ o → refusal_of s (events.Complete q cid) ≡ None → option_map (final_status s) o ≡ Some st → option_map_or (λ (j : Job). j.entry.opcode == COMPARE) o false ≡ true
-        → st ≡ (if bytes_eq (gathered d.request.pieces d.data_pages) (blocks_of_request d.request s.controller.image) then SUCCESS else COMPARE_FAILURE)
+        → st ≡ compared d s.controller.image
     at None e none g c = absurd cc
     at (Some j) e none g c =
         let same : final_status s j ≡ st = some_is g in

@@ -6,7 +6,7 @@ use Rattle.two_sides.specs.Histories as histories
 use Rattle.machine_model.specs.Trusted as laws
 use Rattle.step_core.specs.declared.step.Reply.TheVariants as reply
 use Rattle.std.proofs.Common.{◌≡◌, Option, Some, None, List, [], ◌∷◌, ◌++◌, refl, ap, ◌∙◌, ℕ, ◌==◌, Bool, true, false, ◌&&◌, ◌||◌, sym, subst, eqb-true, append_assoc, eq-eqb, if◌then◌else◌, ap₂, not, append-nil, inl, inr, arith}
-use Rattle.std.{proofs.lemmas.Bool.{true≢false, and_parts, or_right, or_parts}, specs.{List.{AllByRecursion, list_any}, Option.option_map, Str.bytes_eq}}
+use Rattle.std.{proofs.lemmas.Bool.{true≢false, and_parts, or_right, or_parts}, specs.{List.{AllByRecursion, list_any}, Option.option_map}}
 use Rattle.machine_model.specs.{After.final_status, Events.Event, Image.{Made, is_draft, submitted_by, image_after, draft_of}, Opening.opening, Refusals.job_at}
 use Rattle.machine_model.specs.{Script.{Table, is_ticket, is_finished, table, finished_at}, State.State}
 use Rattle.machine_model.specs.{Step.{finished_from, asked_by, pages_with_bytes, resets}, Trusted.{Steps, TrustedRun}}
@@ -17,13 +17,12 @@ use Rattle.host_core.proofs.Outstanding.{collected_named}
 use Rattle.host_core.specs.Firsts.{without_first}
 use Rattle.run_laws.proofs.{DataLaws.{bytes_kept, successes_fetched, prefix_given, blocks_given}, Images.{images_are_runs, compares_told}}
 use Rattle.run_laws.proofs.Standing.{Stands, releases_by, step_stands, not_again, collected_stands, Few, none_last, few_more, few_without, gone, any_without, all_without, any_on, any_last, any_of_more, HasLast, split_last}
-use Rattle.run_laws.specs.{Blocks.{collected_of, blocks_of_request, is_read}, DraftBlocks.{benches_write_their_blocks, benches_compare_their_blocks}}
+use Rattle.run_laws.specs.{Blocks.{collected_of, compared, is_read}, DraftBlocks.{benches_write_their_blocks, benches_compare_their_blocks}}
 use Rattle.run_laws.specs.Gathering.{collects, collects_by, IsOfSteps, KeepsCommand, GathersCommand, gathered_bytes_are_of_collected_commands, GathersRead, gathered_reads_have_their_blocks}
 use Rattle.run_laws.specs.{Statuses.{status_by, fetches}, Submitted.{submits, CollectedCommand, FetchedCommand, was_fetched, bytes_collected}}
 use Rattle.run_laws.specs.Values.{Done, made_by, is_forgery, is_reset, resets_by, since_reset, Goes, benches_have_tables, TrustedBench, benches_make_runs_of_their_values, benches_of_trusted_worlds_are_unforged}
 use Rattle.io_commands.specs.{DataBytes.gathered, Drafts.DraftContents, Values.{FinishedContents, gathered_from}}
 use Rattle.two_sides.proofs.{Along.{unforged_front, unforged_run, cut}, PoolBytes.ends_unforged}
-use Rattle.entry_codec.specs.declared.status.TheConstants.Status.{SUCCESS, COMPARE_FAILURE}
 use Rattle.std.proofs.lemmas.Bool.{cases_Bool}
 use Rattle.page_memory.proofs.Lists.{all-append, found_is, all-found}
 
@@ -452,7 +451,7 @@ compares_told_by_steps image earlier later d end status draft b c fine =
     let its = completion c.q c.cid d c.touched c.what c.answer in
     let m = made_at d.before.world (events.Complete c.q c.cid) (events.Completed its.touched) in
     let run = subst (λ (l : List Made). TrustedRun image l end.world) (made_by-append earlier (d ∷ later) ∙ ap (λ (l : List Made). made_by earlier ++ l) (its.first (made_by later))) (makes_run image (earlier ++ d ∷ later) end b) in
-    subst (λ (bytes : List ℕ). status ≡ (if bytes_eq (gathered draft.request.pieces draft.data_pages) (blocks_of_request draft.request bytes) then SUCCESS else COMPARE_FAILURE))
+    subst (λ (bytes : List ℕ). status ≡ compared draft bytes)
     (image_then image (made_by earlier) m (made_by later) end.world run)
     (compares_told image (made_by earlier) (made_by later) m end.world c.q c.cid status draft run (own_status d.before.world c.q c.cid its.touched ∙ c.status_is) c.draft_is c.is_compare fine)
 

@@ -22,3 +22,4 @@ pub mod DraftsStand
 pub mod WorkedBench
 pub mod Reachable
 pub mod NamedRights
+pub mod JobTies

@@ -2,7 +2,7 @@
 use Rattle.machine_model.specs.After as a
 use Rattle.machine_model.specs.Events as events
 use Rattle.io_commands.specs.Jobs as jobs
-use Rattle.std.proofs.Common.{◌≡◌, ℕ, suc, ◌+◌, ◌%◌, ◌<◌, ◌≤◌, ◌==◌, Bool, true, false, not, ◌||◌, Some, List, [], ◌∷◌, length, take, slice_get, if◌then◌else◌, refl, ap, sym, ◌∙◌, arith, subst, inl, inr, ◌*◌, ◌/◌, nat_lt, ◌&&◌, Option, None, ◌++◌, is_some, eqb-true, eq-eqb}
+use Rattle.std.proofs.Common.{◌≡◌, ℕ, ◌+◌, ◌%◌, ◌<◌, ◌≤◌, ◌==◌, Bool, true, false, not, ◌||◌, Some, List, [], ◌∷◌, length, take, slice_get, if◌then◌else◌, refl, ap, sym, ◌∙◌, arith, subst, inl, inr, ◌*◌, ◌/◌, nat_lt, ◌&&◌, Option, None, ◌++◌, is_some, eqb-true, eq-eqb}
 use Rattle.std.{proofs.lemmas.{Bool.{true≢false, cases_Bool, and_parts, and_from, Decides.nat_tests}, Grind.common_steps}, specs.List.AllByRecursion}
 use Rattle.std.specs.{Option.{option_and_then, option_map_or}, Prelude.unwrap_or}
 use Rattle.page_ledger.specs.Owners.{is_among}
@@ -13,18 +13,18 @@ use Rattle.sgl_descriptor.specs.declared.Direction.TheVariants.{Destination}
 use Rattle.controller_walk.{proofs.Along.list_moves_all, specs.{Along.MovesByte, Units.{units, Course}}}
 use Rattle.entry_codec.specs.{Status.is_success, declared.status.{Status.Status, TheConstants.Status.SUCCESS}}
 use Rattle.entry_codec.specs.declared.submission.SubEntry.{SubEntry}
-use Rattle.io_commands.{proofs.Building.carries_entry, specs.{Asked.Request, Drafts.{DraftContents, io_entry}}}
+use Rattle.io_commands.{proofs.Building.{carries_entry, entry_blocks}, specs.{Asked.Request, Drafts.{DraftContents, io_entry}}}
 use Rattle.io_commands.specs.Jobs.{verdict_of, io_fault, bytes_after_check, need_of_entry, direction_of_entry, direction_by, kind_of_opcode, first_block, block_number}
 use Rattle.io_commands.specs.{Requests.{parts_of, direction_of}, Values.numbers_of, declared.request.Kind.{Kind, TheVariants.Read}}
 use Rattle.machine_model.proofs.{Cases.none_some, Counting.held_once, Owned.{in_record, in_queue}, Steps.{Accepts, pages_match}}
 use Rattle.machine_model.specs.{After.{course_of, final_status}, Agreeing.unfetched_count, Claims.OwnsFit, Events.{Event, Reply}}
 use Rattle.machine_model.specs.{Image.{draft_of, submitted_by}, Memory.memory_of, Proper.IsProper}
-use Rattle.machine_model.specs.Refusals.{is_submitted, is_held, next_rung, refusal_of, job_at, is_job}
+use Rattle.machine_model.specs.Refusals.{is_drafted, is_submitted, is_held, next_rung, refusal_of, job_at, is_job}
 use Rattle.machine_model.specs.Standing.{IsSized, StandsAs, CommandStands, unfetched_at, HasEntry}
 use Rattle.machine_model.specs.{State.{State, Record, Job, PostedCompletion, is_at, record_at, pages_of, ServedQueue}, Weights.{total, one}, Work.Work}
-use Rattle.machine_model.specs.declared.words.{Work.TheVariants.{Io, Management}}
+use Rattle.machine_model.specs.declared.words.{Phase.Phase, Work.TheVariants.{Io, Management}}
 use Rattle.run_laws.proofs.Carrying.{Stands, reach, target_in, list_ordered, all_reached, Received, received_still}
-use Rattle.run_laws.proofs.{Causes.{goes_well, none_found, has_verdict}, Images.{entry_kind, entry_block, entry_blocks}}
+use Rattle.run_laws.proofs.{Causes.{goes_well, none_found, has_verdict}, Images.{entry_kind, entry_block}}
 use Rattle.run_laws.proofs.Known.{same_draft, submit_record, course_stays, fault_fails}
 use Rattle.run_laws.{proofs.Moves.{takes, JobsMove, jobs_event, begun_job, QueueMove, queues_event}, specs.Statuses.fetches_by}
 use Rattle.two_sides.proofs.{Commands.{Walking, walk_writes, in_hand_is}, Heads.no_conflict as not_conflicting}
@@ -180,9 +180,20 @@ places_stay m m' r request sized same i p target =
 
 -- The identifier of a record that stays
 
+-- a drafted command is neither submitted nor held
+drafted_rests : (ph : Phase) → is_drafted ph ≡ true → (is_submitted ph || is_held ph) ≡ false
+drafted_rests ph h = grind arith
+
 -- no draft of it is submitted
 pub no_draft : (s : State) (e : Event) (reply : Reply) → Accepts s e reply → (r : Record) → Member s r → (is_submitted r.phase || is_held r.phase) ≡ true → (d : DraftContents) → e ≡ events.Submit d → ((d.q == r.q) && (d.cid == r.cid)) ≡ false
-no_draft s e reply ok r m stays d is = grind (arith, submit_record, and_from, eq-eqb, eqb-true, pages_match)
+no_draft s e reply ok r m stays d is = elim (cases_Bool ((d.q == r.q) && (d.cid == r.cid))) [
+  | inl same ↦
+      let ids = and_parts (d.q == r.q) (d.cid == r.cid) same in
+      let x = submit_record s d (subst (λ (y : Event). refusal_of s y ≡ None) is ok.0) in
+      let one : r ≡ x.0 = m.only d.q d.cid x.0 x.1 (and_from (r.q == d.q) (r.cid == d.cid) (eq-eqb r.q d.q (sym (eqb-true d.q r.q ids.0))) (eq-eqb r.cid d.cid (sym (eqb-true d.cid r.cid ids.1)))) in
+      absurd (true≢false (sym stays ∙ ap (λ (y : Record). is_submitted y.phase || is_held y.phase) one ∙ drafted_rests x.0.phase (pages_match is_drafted d.request d.data_pages d.chain_pages x.0 x.2).1))
+  | inr other ↦ other
+]
 
 -- where an entry of it is in hand, it is submitted
 pub in_hand_sent : (s : State) → Stood s → (r : Record) → Member s r → (q : ℕ) (e : SubEntry) → InHand s q e → q ≡ r.q → e.cid ≡ r.cid → is_submitted r.phase ≡ true

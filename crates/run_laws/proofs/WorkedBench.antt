@@ -59,7 +59,7 @@ is_image : IsImage (replicate 32768 0)
 is_image = record { whole = ap (λ (n : ℕ). n % 512) (length-replicate {A = ℕ} 32768 0); some = omega (arith, length-replicate {A = ℕ} 32768 0); few = omega (arith, length-replicate {A = ℕ} 32768 0) }
 
 fits : (offset slba : ℕ) → offset < 2 ^ 32 → slba < 2 ^ 64 → FitsRequest (write_at slba (Data offset 512 ∷ []))
-fits offset slba low few = record { slba = few; blocks = omega arith; pieces = All-cons FitsPiece (Data offset 512) [] (low, omega arith) (All-nil FitsPiece) }
+fits offset slba low few = record { nsid = omega arith; slba = few; blocks = omega arith; pieces = All-cons FitsPiece (Data offset 512) [] (low, omega arith) (All-nil FitsPiece) }
 
 one_free : (k p : ℕ) (is_free : ℕ → Bool) → is_free k ≡ true → machine.times p (k ∷ []) ≡ (if ((k == p) || false) && is_free p then 1 else 0)
 one_free k p is_free free = grind (arith, eqb-true)

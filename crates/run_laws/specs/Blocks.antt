@@ -1,12 +1,12 @@
 -- What becomes of blocks where nothing was forged: the image is the run's, Compares tell equality, and Reads gather from the image at their fetch.
-use Rattle.std.specs.{List.list_any, Prelude.{◌≡◌, ℕ, zero, suc, Bool, true, false, ◌||◌, not, IsTrue, Option, Some, None, List, [], ◌∷◌, ◌++◌, if◌then◌else◌}}
+use Rattle.std.specs.{List.list_any, Prelude.{◌≡◌, ℕ, zero, suc, ◌==◌, Bool, true, false, ◌||◌, not, IsTrue, Option, Some, None, List, [], ◌∷◌, ◌++◌, if◌then◌else◌}}
 use Rattle.std.specs.Str.{bytes_eq}
 use Rattle.block_image.specs.Blocks.{blocks_at}
 use Rattle.sgl_descriptor.specs.{Targets.{Target, Place, Discarded, targets}, declared.Direction.TheVariants.Destination}
 use Rattle.io_commands.specs.{Asked.Request, DataBytes.gathered, Drafts.DraftContents, Requests.parts_of}
 use Rattle.io_commands.specs.{Values.{FinishedContents, numbers_of}, declared.request.Kind.TheVariants.{Read, Write, Compare}}
 use Rattle.entry_codec.specs.{Status.is_success, declared.status.Status.Status}
-use Rattle.entry_codec.specs.declared.status.TheConstants.Status.{SUCCESS, ABORT_REQUESTED, ABORTED_SQ_DELETION, LBA_OUT_OF_RANGE, COMPARE_FAILURE}
+use Rattle.entry_codec.specs.declared.status.TheConstants.Status.{SUCCESS, ABORT_REQUESTED, ABORTED_SQ_DELETION, INVALID_NAMESPACE, LBA_OUT_OF_RANGE, COMPARE_FAILURE}
 use Rattle.machine_model.specs.{Events.{Event, Reply}, Image.{Made, image_after, read_of, draft_of}, State.State, Status.same_status}
 use Rattle.machine_model.specs.Trusted.{TrustedRun, drafts_of}
 use Rattle.run_laws.specs.Statuses.{status_given, fetches, is_compare}
@@ -33,16 +33,23 @@ abbrev pub the_image_is_the_runs : Type 0
 the_image_is_the_runs =
     (image : List ℕ) (made : List Made) (end : State) → TrustedRun image made end → end.controller.image ≡ image_after image made
 
--- A compare succeeds exactly where the blocks are then its draft's bytes
+-- What a compare ends with that was neither stopped nor beyond the image: in namespace 1, the only one, it succeeds exactly where the blocks
+-- are then its draft's bytes
 abbrev pub blocks_of_request : Request → List ℕ → List ℕ
 blocks_of_request r image = blocks_at image r.slba r.blocks
+
+abbrev pub compared : DraftContents → List ℕ → Status
+compared d image =
+    if d.request.nsid == 1
+    then (if bytes_eq (gathered d.request.pieces d.data_pages) (blocks_of_request d.request image) then SUCCESS else COMPARE_FAILURE)
+    else INVALID_NAMESPACE
 
 abbrev pub compares_tell_equality : Type 0
 compares_tell_equality =
     (image : List ℕ) (earlier later : List Made) (m : Made) (end : State) (q cid : ℕ) (st : Status) (d : DraftContents) → TrustedRun image (earlier ++ m ∷ later) end
     → status_given m q cid ≡ Some st → IsTrue (is_compare m q cid) → draft_of q cid (drafts_of earlier) ≡ Some d
     → IsTrue (not (same_status st ABORT_REQUESTED || same_status st ABORTED_SQ_DELETION || same_status st LBA_OUT_OF_RANGE))
-    → st ≡ (if bytes_eq (gathered d.request.pieces d.data_pages) (blocks_of_request d.request m.before.controller.image) then SUCCESS else COMPARE_FAILURE)
+    → st ≡ compared d m.before.controller.image
 
 -- A read that was stopped: the blocks' bytes for so many counted bytes, and the draft's own for the rest. Its draft is the latest
 -- before it was collected: a command that was never fetched may stand behind one of its identifier that was (`worked_never_fetched`).

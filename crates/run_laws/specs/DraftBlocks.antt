@@ -1,10 +1,10 @@
 -- What a bench's Writes change and its Compares tell, said of the drafts that it kept as it submitted them.
-use Rattle.std.specs.{Option.option_map, Prelude.{◌≡◌, ℕ, ◌||◌, not, IsTrue, Some, List, ◌∷◌, ◌++◌, if◌then◌else◌}, Str.bytes_eq}
+use Rattle.std.specs.{Option.option_map, Prelude.{◌≡◌, ℕ, ◌||◌, not, IsTrue, Some, List, ◌∷◌, ◌++◌}}
 use Rattle.entry_codec.specs.declared.status.Status.{Status}
-use Rattle.entry_codec.specs.declared.status.TheConstants.Status.{SUCCESS, ABORT_REQUESTED, ABORTED_SQ_DELETION, LBA_OUT_OF_RANGE, COMPARE_FAILURE}
-use Rattle.io_commands.specs.{DataBytes.gathered, Drafts.DraftContents, declared.request.Kind.TheVariants.Compare}
+use Rattle.entry_codec.specs.declared.status.TheConstants.Status.{ABORT_REQUESTED, ABORTED_SQ_DELETION, LBA_OUT_OF_RANGE}
+use Rattle.io_commands.specs.{Drafts.DraftContents, declared.request.Kind.TheVariants.Compare}
 use Rattle.machine_model.specs.{After.final_status, Image.{draft_of, image_after}, Refusals.job_at, Script.Table, Status.same_status, Trusted.drafts_of}
-use Rattle.run_laws.specs.{Blocks.blocks_of_request, Values.{Done, TrustedBench, made_by}}
+use Rattle.run_laws.specs.{Blocks.compared, Values.{Done, TrustedBench, made_by}}
 use Rattle.step_core.specs.declared.step.Reply.TheVariants as reply
 use Rattle.step_core.specs.declared.step.Step.TheVariants as step
 
@@ -31,10 +31,11 @@ pub record CompletesCompare (earlier : List Done) (d : Done) (status : Status) (
   pub draft_is : draft_of q cid (drafts_submitted earlier) ≡ Some draft
   pub is_compare : draft.request.kind ≡ Compare
 
--- where it ended by its data, it succeeds exactly where its blocks are then its draft's bytes
+-- where it was neither stopped nor beyond the image, it ends as that draft says: in namespace 1 it succeeds exactly where its blocks are then the
+-- draft's bytes
 abbrev pub benches_compare_their_blocks : Type 0
 benches_compare_their_blocks =
     (image : List ℕ) (earlier later : List Done) (d : Done) (end : Table) (status : Status) (draft : DraftContents) → TrustedBench image (earlier ++ d ∷ later) end
     → CompletesCompare earlier d status draft
     → IsTrue (not (same_status status ABORT_REQUESTED || same_status status ABORTED_SQ_DELETION || same_status status LBA_OUT_OF_RANGE))
-    → status ≡ (if bytes_eq (gathered draft.request.pieces draft.data_pages) (blocks_of_request draft.request (image_after_steps image earlier)) then SUCCESS else COMPARE_FAILURE)
+    → status ≡ compared draft (image_after_steps image earlier)

@@ -17,3 +17,4 @@ pub mod Drafts
 pub mod WorkedDrafts
 pub mod Reach
 pub mod Named
+pub mod JobTies

@@ -1,14 +1,13 @@
 -- What walk steps answer, and how many a job has done; and what a Compare tells.
 use Rattle.std.specs.List.{list_any}
-use Rattle.std.specs.Prelude.{◌≡◌, ℕ, nat_lt, ◌==◌, Bool, false, ◌&&◌, ◌||◌, not, IsTrue, Some, List, ◌∷◌, ◌++◌, length, filter, is_none, if◌then◌else◌}
-use Rattle.std.specs.Str.{bytes_eq}
+use Rattle.std.specs.Prelude.{◌≡◌, ℕ, nat_lt, ◌==◌, Bool, false, ◌&&◌, ◌||◌, not, IsTrue, Some, List, ◌∷◌, ◌++◌, length, filter, is_none}
 use Rattle.controller_walk.specs.{Walks.is_more, declared.walk.WalkState.WalkState}
 use Rattle.entry_codec.specs.declared.status.Status.{Status}
-use Rattle.entry_codec.specs.declared.status.TheConstants.Status.{SUCCESS, ABORT_REQUESTED, ABORTED_SQ_DELETION, LBA_OUT_OF_RANGE, COMPARE_FAILURE}
-use Rattle.io_commands.specs.{DataBytes.gathered, Drafts.DraftContents, declared.request.Kind.TheVariants.Compare}
+use Rattle.entry_codec.specs.declared.status.TheConstants.Status.{ABORT_REQUESTED, ABORTED_SQ_DELETION, LBA_OUT_OF_RANGE, COMPARE_FAILURE}
+use Rattle.io_commands.specs.{Drafts.DraftContents, declared.request.Kind.TheVariants.Compare}
 use Rattle.machine_model.specs.{Events.{Event, Reply}, Image.{Made, draft_of}, Refusals.job_at, State.{State, Job}, Status.same_status, Step.Step}
 use Rattle.machine_model.specs.Trusted.{TrustedRun, is_reset, drafts_of}
-use Rattle.run_laws.specs.{Blocks.blocks_of_request, Statuses.{since_fetch, status_given}}
+use Rattle.run_laws.specs.{Blocks.compared, Statuses.{since_fetch, status_given}}
 use Rattle.machine_model.specs.Events as events
 
 abbrev pub walks_by : ℕ → ℕ → Event → Reply → Bool
@@ -66,13 +65,13 @@ only_the_last_walk_ends =
     → TrustedRun image (before ++ walked ∷ between ++ again ∷ later) end
     → IsTrue (ends_walk q cid walked) → IsTrue (walks_of q cid again) → IsTrue (list_any (ends_job q cid) between)
 
--- a Compare, as its draft says, that ended by its data succeeds exactly where its blocks are then its draft's bytes
+-- a Compare, as its draft says, that was neither stopped nor beyond the image ends as its draft says, too
 abbrev pub compares_by_their_drafts : Type 0
 compares_by_their_drafts =
     (image : List ℕ) (earlier later : List Made) (m : Made) (end : State) (q cid : ℕ) (st : Status) (d : DraftContents) → TrustedRun image (earlier ++ m ∷ later) end
     → status_given m q cid ≡ Some st → draft_of q cid (drafts_of earlier) ≡ Some d → d.request.kind ≡ Compare
     → IsTrue (not (same_status st ABORT_REQUESTED || same_status st ABORTED_SQ_DELETION || same_status st LBA_OUT_OF_RANGE))
-    → st ≡ (if bytes_eq (gathered d.request.pieces d.data_pages) (blocks_of_request d.request m.before.controller.image) then SUCCESS else COMPARE_FAILURE)
+    → st ≡ compared d m.before.controller.image
 
 -- and no other command fails as a Compare: the latest draft of a command that does is one
 abbrev pub compare_failures_are_of_compares : Type 0

@@ -18,9 +18,9 @@ pub fn law_of_walks()
     ensures ends { only_the_last_walk_ends }
 {}
 
-/// Where nothing was forged, a command whose draft is a Compare, and that ended neither by an Abort or a deletion nor for blocks
-/// beyond the image, succeeds exactly where its blocks are then its draft's bytes, and else fails as a Compare. No other command
-/// fails so.
+/// Where nothing was forged, a command whose draft is a Compare of namespace 1, and that ended neither by an Abort or a deletion
+/// nor for blocks beyond the image, succeeds exactly where its blocks are then its draft's bytes, and else fails as a Compare. No
+/// other command fails so, and one of another namespace ends for that.
 pub fn law_of_drafted_compares()
     ensures compares { compares_by_their_drafts }
     ensures failures { compare_failures_are_of_compares }

@@ -50,9 +50,9 @@ pub fn law_of_writes()
     ensures { benches_write_their_blocks }
 {}
 
-/// Where nothing was forged, a Compare that a step completes, neither by an Abort or a deletion nor for blocks beyond the image, succeeds
-/// exactly where its blocks are then the bytes of the draft that the bench kept as it submitted it, and else fails as a Compare. The image is
-/// then the opening's, changed by the Writes before.
+/// Where nothing was forged, a Compare of namespace 1 that a step completes, neither by an Abort or a deletion nor for blocks beyond the
+/// image, succeeds exactly where its blocks are then the bytes of the draft that the bench kept as it submitted it, and else fails as a
+/// Compare. One of another namespace ends for that. The image is then the opening's, changed by the Writes before.
 pub fn law_of_compares()
     ensures { benches_compare_their_blocks }
 {}

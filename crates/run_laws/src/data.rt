@@ -1,6 +1,13 @@
 //! What a command's pages and lists hold, between its submission and its collection. Each function does nothing.
 
+ghost use Rattle.run_laws.specs.JobTies.{collected_commands_are_of_their_submissions};
 ghost use Rattle.run_laws.specs.Submitted.{collected_commands_were_submitted, requests_stay, data_pages_stay, chain_pages_stay, unfetched_commands_keep_their_data, unfetched_commands_keep_the_drafts_bytes, unfetched_commands_were_deleted, successful_commands_were_fetched, drafts_of_reserve_are_zero, unfetched_commands_of_zeros_gather_zeros, fetched_commands_have_their_fetch, commands_are_fetched_once, fetched_reads_give_a_prefix, successful_reads_give_their_blocks, chains_are_the_drafts};
+
+/// A command that is collected where the submission of this number was the last one of its queue and identifier was submitted with the draft of
+/// that number; so the laws of collected commands speak of the jobs of threads.
+pub fn law_of_jobs()
+    ensures { collected_commands_are_of_their_submissions }
+{}
 
 /// Where nothing was forged, a command that is collected was submitted, and has the request and the pages of the draft that was.
 pub fn law_of_kept_commands()

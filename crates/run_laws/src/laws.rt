@@ -27,8 +27,8 @@ pub fn law_of_built_drafts()
 
 /// Where nothing was forged, each status of an I/O command has its cause.
 ///
-/// It is success; or an Abort of the command, or the deletion of its queue, fetched since the command was; or blocks beyond
-/// the image; or a Compare that found a difference.
+/// It is success; or an Abort of the command, or the deletion of its queue, fetched since the command was; or another namespace
+/// than 1; or blocks beyond the image; or a Compare that found a difference.
 pub fn law_of_statuses()
     ensures { every_status_has_its_cause }
 {}
@@ -41,8 +41,8 @@ pub fn law_of_images()
     ensures { the_image_is_the_runs }
 {}
 
-/// Where nothing was forged, a Compare that ended neither by an Abort or a deletion nor for blocks beyond the image succeeds exactly
-/// where its blocks are then its draft's bytes, and else fails as a Compare.
+/// Where nothing was forged, a Compare of namespace 1 that ended neither by an Abort or a deletion nor for blocks beyond the image
+/// succeeds exactly where its blocks are then its draft's bytes, and else fails as a Compare. One of another namespace ends for that.
 pub fn law_of_compares()
     ensures { compares_tell_equality }
 {}

@@ -1,4 +1,5 @@
 pub mod Texts
+pub mod Pieces
 pub mod TextLines
 pub mod Runs
 pub mod Options

@@ -7,17 +7,17 @@ use Rattle.step_core.specs.declared.step.Step.TheVariants as step
 use Rattle.script_cli.specs.declared.fault.RunFault.TheVariants as run
 use Rattle.std.proofs.Common.{◌≡◌, ◌<◌, ◌+◌, ◌^◌, ◌==◌, ◌&&◌, ℕ, Bool, true, false, nat_lt, nat_le, Option, Some, None, Result, Ok, Err, List, [], ◌∷◌, ◌++◌, length, option_and_then, if◌then◌else◌, refl, subst, eqb-true, ltb-true, arith, zero, suc, map, slice_get, ap, lt-ltb, append_assoc, sym, ◌∙◌, ◌⊎◌, inl, inr, take, min}
 use Rattle.std.{proofs.lemmas.{Grind.common_steps, List.Elements.{All-nil, All-push, Contains-append_right}}, specs.Io.KnownBytes.{Appends, Keeps}}
-use Rattle.std.specs.{List.Contains, Prelude.{All, IfOk, OnOk, OnErr, IfErr}}
-use Rattle.io_commands.specs.{Requests.FitsPiece, declared.request.Piece.{Piece, TheVariants.{Data, Bucket}}}
+use Rattle.std.specs.{List.Contains, Prelude.{All, IfOk, OnOk, OnErr, IfErr, codes}}
+use Rattle.io_commands.specs.{Requests.{FitsPiece, FitsRequest}, declared.request.{Kind.Kind, Piece.{Piece, TheVariants.{Data, Bucket}}}}
 use Rattle.two_sides.proofs.Provided.{all_append}
 use Rattle.script_cli.{proofs.Texts.{same_if_short, appends_more, keeps_then}, specs.Faults.fault_of_script}
-use Rattle.script_cli.specs.Grammar.{Words, ◌>>=◌, value_or, wanted, number_word, kind_word, hex_word, sixteen_bytes_word, nothing_more, with_piece, pieces_from, reserve_line, fill_line, forge_line, queue_line, command_line, verb_line, begins_comment, known_verb_line, line_of_words, words_of, line_of}
+use Rattle.script_cli.specs.Grammar.{Words, ◌>>=◌, value_or, wanted, number_word, kind_word, hex_word, sixteen_bytes_word, namespace_word, named_word, nsid_words, begins_option, nothing_more, with_piece, pieces_from, request_words, reserve_line, fill_line, forge_line, queue_line, command_line, verb_line, begins_comment, known_verb_line, line_of_words, words_of, line_of}
 use Rattle.script_cli.specs.{Inputs.{IsFront, AreFirstOf, Gains}, Lines.{lines, before, onward}}
 use Rattle.script_cli.specs.{Numbers.{digits_from, if_below, number, hex, if_sixteen, sixteen_bytes}, Owners.owners_text}
 use Rattle.script_cli.specs.{Pieces.{number32, is_plus, data_of, data_piece, bucket_piece, piece}, Replies.reply_line}
 use Rattle.script_cli.specs.Runs.{IsFitLine, AreFitLines, AreOwners, PrintsLine, Prints, unwell_by, last_line, IsFrontOfFirst, IsCutText, HasScript, IsRunText, IsRunTo, HasFault, IsNoScript, EndsWith, Writes}
 use Rattle.script_cli.specs.Scripts.{numbered_line, numbered, with_line, then_lines, script_from, script_of, IsReading}
-use Rattle.script_cli.specs.{Verbs.{verb_named, queue_step, command_step, verb_of}, declared.fault.LineFault.{LineFault, TheVariants.TooManyLines}}
+use Rattle.script_cli.specs.{Verbs.{verb_named, queue_step, command_step, verb_of}, declared.fault.LineFault.{LineFault, TheVariants.{TooManyLines, BadNumber}}}
 use Rattle.script_cli.specs.declared.{fault.{RunFault.RunFault, ScriptFault.ScriptFault}, script.{Line.Line, Numbered.Numbered}, verb.CommandVerb.CommandVerb}
 use Rattle.script_cli.specs.declared.verb.{QueueVerb.QueueVerb, Verb.{Verb, TheVariants.{Reserve, Fill, Forge, Reset, Owners, OnQueue, OnCommand}}}
 use Rattle.machine_model.specs.{Claims.{claims_of, IsSound}, Script.{Table, table}, State.State, Step.times}
@@ -100,15 +100,20 @@ bytes_fit : (ws : Words) → IfOk (sixteen_bytes_word ws) (λ r. length r.0 ≡ 
 unfolding sixteen_bytes_word
 bytes_fit ws = word_fits (λ (bytes : List ℕ). length bytes ≡ 16) _ sixteen_bytes ws (λ word. sixteen (hex word))
 
-pieces_fit : (so_far : List Piece) (ws : Words) → All FitsPiece so_far → IfOk (pieces_from so_far ws) (All FitsPiece)
+pieces_fit : (so_far : List Piece) (ws : Words) → All FitsPiece so_far → IfOk (pieces_from so_far ws) (λ r. All FitsPiece r.0)
 unfolding pieces_from
 pieces_fit so_far [] fit = fit
-pieces_fit so_far (word ∷ rest) fit = go (piece word) (piece_fits word) (λ more fits. pieces_fit more rest fits)
+pieces_fit so_far (word ∷ rest) fit = by (begins_option word) (go (piece word) (piece_fits word) (λ more fits. pieces_fit more rest fits))
   where
-    go : (o : Option Piece) → ((p : Piece) → o ≡ Some p → FitsPiece p) → ((more : List Piece) → All FitsPiece more → IfOk (pieces_from more rest) (All FitsPiece))
-        → IfOk (with_piece so_far (λ pieces. pieces_from pieces rest) o) (All FitsPiece)
+    go : (o : Option Piece) → ((p : Piece) → o ≡ Some p → FitsPiece p) → ((more : List Piece) → All FitsPiece more → IfOk (pieces_from more rest) (λ r. All FitsPiece r.0))
+        → IfOk (with_piece so_far (λ pieces. pieces_from pieces rest) o) (λ r. All FitsPiece r.0)
     go None fits onward = tt
     go (Some p) fits onward = onward (so_far ++ (p ∷ [])) (All-push FitsPiece so_far p fit (fits p refl))
+
+    by : (b : Bool) → IfOk (with_piece so_far (λ pieces. pieces_from pieces rest) (piece word)) (λ r. All FitsPiece r.0)
+        → IfOk (if b then Ok (so_far, word ∷ rest) else with_piece so_far (λ pieces. pieces_from pieces rest) (piece word)) (λ r. All FitsPiece r.0)
+    by true onward = fit
+    by false onward = onward
 
 -- what holds of a word is known where the words after it are read
 pub then_fits : {A B : Type 0} (P : A → Type 0) (Q : B → Type 0) (r : Result A LineFault) (next : A → Result B LineFault) → IfOk r P → ((a : A) → P a → IfOk (next a) Q) → IfOk (r >>= next) Q
@@ -119,10 +124,37 @@ pub whatever_fits : {A B : Type 0} (Q : B → Type 0) (r : Result A LineFault) (
 whatever_fits Q (Ok a) next onward = onward a
 whatever_fits Q (Err fault) next onward = tt
 
-no_more_fits : (ws : Words) (what : Line) → IsFitLine what → IfOk (nothing_more ws what) IsFitLine
+ended_fits : {A : Type 0} (P : A → Type 0) (ws : Words) (what : A) → P what → IfOk (nothing_more ws what) P
 unfolding nothing_more
-no_more_fits [] what fit = fit
-no_more_fits (word ∷ rest) what fit = tt
+ended_fits P [] what fit = fit
+ended_fits P (word ∷ rest) what fit = tt
+
+no_more_fits : (ws : Words) (what : Line) → IsFitLine what → IfOk (nothing_more ws what) IsFitLine
+no_more_fits ws what fit = ended_fits IsFitLine ws what fit
+
+-- a namespace, where one is named
+
+namespace_fits : (ws : Words) → IfOk (namespace_word ws) (λ r. r.0 < 2 ^ 32)
+namespace_fits ws = then_fits (λ n. n.0 < 2 ^ 32) (λ n. n.0 < 2 ^ 32) (number_word (2 ^ 32) ws) _ (number_fits (2 ^ 32) ws) λ n few. go (n.0 == 0) n few
+  where
+    go : (b : Bool) (n : ℕ × Words) → n.0 < 2 ^ 32 → IfOk (if b then Err BadNumber else Ok n) (λ r. r.0 < 2 ^ 32)
+    go true n few = tt
+    go false n few = few
+
+nsid_fits : (ws : Words) → IfOk (nsid_words ws) (λ r. r.0 < 2 ^ 32)
+nsid_fits ws = whatever_fits (λ r. r.0 < 2 ^ 32) (named_word (codes "nsid") ws) _ λ named. go named.0 named.1
+  where
+    go : (b : Bool) (rest : Words) → IfOk (if b then namespace_word rest else Ok (1, rest)) (λ r. r.0 < 2 ^ 32)
+    go true rest = namespace_fits rest
+    go false rest = omega arith
+
+request_fits : (kind : Kind) (slba blocks : ℕ) (ws : Words) → slba < 2 ^ 64 → blocks < 2 ^ 32 → IfOk (request_words kind slba blocks ws) FitsRequest
+request_fits kind slba blocks ws low few =
+    then_fits (λ r. All FitsPiece r.0) FitsRequest (pieces_from [] ws) _ (pieces_fit [] ws (All-nil FitsPiece)) λ pieces fit.
+    then_fits (λ n. n.0 < 2 ^ 32) FitsRequest (nsid_words pieces.1) _ (nsid_fits pieces.1) λ nsid named.
+    whatever_fits FitsRequest (named_word (codes "fua") nsid.1) _ λ fua.
+    whatever_fits FitsRequest (named_word (codes "lr") fua.1) _ λ lr.
+    ended_fits FitsRequest lr.1 _ (record { nsid = named; slba = low; blocks = few; pieces = fit })
 
 -- Lines by their verbs
 
@@ -132,8 +164,8 @@ reserve_fits ws =
     whatever_fits IsFitLine (kind_word q.1) _ λ kind.
     then_fits (λ n. n.0 < 2 ^ 64) IsFitLine (number_word (2 ^ 64) kind.1) _ (number_fits (2 ^ 64) kind.1) λ slba low.
     then_fits (λ n. n.0 < 2 ^ 32) IsFitLine (number_word (2 ^ 32) slba.1) _ (number_fits (2 ^ 32) slba.1) λ blocks few.
-    then_fits (All FitsPiece) IsFitLine (pieces_from [] blocks.1) _ (pieces_fit [] blocks.1 (All-nil FitsPiece)) λ pieces fit.
-    record { slba = low; blocks = few; pieces = fit }
+    then_fits FitsRequest IsFitLine (request_words kind.0 slba.0 blocks.0 blocks.1) _ (request_fits kind.0 slba.0 blocks.0 blocks.1 low few) λ request fit.
+    fit
 
 fill_fits : (ws : Words) → IfOk (fill_line ws) IsFitLine
 fill_fits ws =

@@ -1,8 +1,8 @@
 -- What a line of a script is, or its first fault. A word that is wanted is taken from the words that are left; what a definition of such
 -- a word gives is the word's value, and the words after it.
 use Rattle.std.specs.{List.list_any, Str.bytes_eq}
-use Rattle.std.specs.Prelude.{ℕ, ◌≡◌, ◌^◌, ◌==◌, ◌||◌, nat_lt, nat_le, codes, Bool, false, Option, Some, None, Result, Ok, Err, List, [], ◌∷◌, ◌++◌, length, if◌then◌else◌}
-use Rattle.io_commands.specs.{Asked.Request, declared.request.{Kind.Kind, Piece.Piece}}
+use Rattle.std.specs.Prelude.{ℕ, ◌≡◌, ◌^◌, ◌==◌, ◌||◌, nat_lt, nat_le, codes, Bool, true, false, Option, Some, None, Result, Ok, Err, List, [], ◌∷◌, ◌++◌, length, if◌then◌else◌}
+use Rattle.io_commands.specs.{Asked.Request, declared.request.{Kind.Kind, Piece.Piece, TheConstants.Flags.NONE}}
 use Rattle.script_cli.specs.{Lines.words, Numbers.{number, hex, sixteen_bytes, kind}, Pieces.piece, Verbs.{verb_named, queue_step, command_step}}
 use Rattle.script_cli.specs.declared.fault.{LineError.LineError, LineFault.LineFault}
 use Rattle.script_cli.specs.declared.fault.LineFault.TheVariants.{LongLine, NotAscii, UnknownVerb, MissingWord, BadKind, BadNumber, BadHex, BadPiece, ExtraWord}
@@ -42,22 +42,61 @@ hex_word ws = wanted BadHex hex ws
 unfoldable pub sixteen_bytes_word : Words → Result (List ℕ × Words) LineFault
 sixteen_bytes_word ws = wanted BadHex sixteen_bytes ws
 
--- the line, where no word is left
-unfoldable pub nothing_more : Words → Line → Result Line LineFault
+-- what is read, where no word is left
+unfoldable pub nothing_more : {A : Type 0} → Words → A → Result A LineFault
 nothing_more [] what = Ok what
 nothing_more (word ∷ rest) what = Err ExtraWord
 
-abbrev pub with_piece : List Piece → (List Piece → Result (List Piece) LineFault) → Option Piece → Result (List Piece) LineFault
+-- a namespace is no 0
+abbrev pub namespace_word : Words → Result (ℕ × Words) LineFault
+namespace_word ws = do
+  n ← number_word (2 ^ 32) ws
+  if n.0 == 0 then Err BadNumber else Ok n
+
+-- whether the next word is this one, and the words after it
+abbrev pub named_word : List ℕ → Words → Result (Bool × Words) LineFault
+named_word name [] = Ok (false, [])
+named_word name (word ∷ rest) = if bytes_eq word name then Ok (true, rest) else Ok (false, word ∷ rest)
+
+-- the namespace that is named, or else 1
+abbrev pub nsid_words : Words → Result (ℕ × Words) LineFault
+nsid_words ws = do
+  named ← named_word (codes "nsid") ws
+  if named.0 then namespace_word named.1 else Ok (1, named.1)
+
+-- a word that stands behind the pieces
+abbrev pub begins_option : List ℕ → Bool
+begins_option word = bytes_eq word (codes "nsid") || bytes_eq word (codes "fua") || bytes_eq word (codes "lr")
+
+abbrev pub ends_pieces : Words → Bool
+ends_pieces [] = true
+ends_pieces (word ∷ rest) = begins_option word
+
+abbrev pub with_piece : List Piece → (List Piece → Result (List Piece × Words) LineFault) → Option Piece → Result (List Piece × Words) LineFault
 with_piece so_far rest None = Err BadPiece
 with_piece so_far rest (Some p) = rest (so_far ++ (p ∷ []))
 
--- the pieces that all words left go on to, from the pieces so far
-unfoldable pub pieces_from : List Piece → Words → Result (List Piece) LineFault
-pieces_from so_far [] = Ok so_far
-pieces_from so_far (word ∷ rest) = with_piece so_far (λ pieces. pieces_from pieces rest) (piece word)
+-- the pieces that words go on to, from the pieces so far, and the words behind the pieces
+unfoldable pub pieces_from : List Piece → Words → Result (List Piece × Words) LineFault
+pieces_from so_far [] = Ok (so_far, [])
+pieces_from so_far (word ∷ rest) =
+    if begins_option word then Ok (so_far, word ∷ rest) else with_piece so_far (λ pieces. pieces_from pieces rest) (piece word)
 
+-- a request of namespace 1, without flags
 abbrev pub request_of : Kind → ℕ → ℕ → List Piece → Request
-request_of kind slba blocks pieces = record { kind = kind; slba = slba; blocks = blocks; pieces = pieces }
+request_of kind slba blocks pieces = record { kind = kind; nsid = 1; flags = NONE; slba = slba; blocks = blocks; pieces = pieces }
+
+abbrev pub with_options : Request → ℕ → Bool → Bool → Request
+with_options request nsid fua lr = record request { nsid = nsid; flags = record { force_unit_access = fua; limited_retry = lr } }
+
+-- a request, by the words that follow its number of blocks: its pieces, and then perhaps its namespace and its flags
+abbrev pub request_words : Kind → ℕ → ℕ → Words → Result Request LineFault
+request_words kind slba blocks ws = do
+  pieces ← pieces_from [] ws
+  nsid ← nsid_words pieces.1
+  fua ← named_word (codes "fua") nsid.1
+  lr ← named_word (codes "lr") fua.1
+  nothing_more lr.1 (with_options (request_of kind slba blocks pieces.0) nsid.0 fua.0 lr.0)
 
 abbrev pub reserve_line : Words → Result Line LineFault
 reserve_line ws = do
@@ -65,8 +104,8 @@ reserve_line ws = do
   kind ← kind_word q.1
   slba ← number_word (2 ^ 64) kind.1
   blocks ← number_word (2 ^ 32) slba.1
-  pieces ← pieces_from [] blocks.1
-  Ok (line.Step (step.Reserve q.0 (request_of kind.0 slba.0 blocks.0 pieces)))
+  request ← request_words kind.0 slba.0 blocks.0 blocks.1
+  Ok (line.Step (step.Reserve q.0 request))
 
 abbrev pub fill_line : Words → Result Line LineFault
 fill_line ws = do

@@ -1,16 +1,16 @@
 //! The lines of a script, by their words.
 
-ghost use Rattle.std.specs.Prelude.{◌≡◌, []};
+ghost use Rattle.std.specs.Prelude.{◌≡◌, [], Ok, MatchResult};
 ghost use Rattle.std.specs.List.{list_any};
 ghost use Rattle.script_cli.specs.declared.verb.Verb.TheVariants.{Owners, Reset};
-ghost use Rattle.script_cli.specs.Grammar.{pieces_from, reserve_line as spec_reserve_line, fill_line as spec_fill_line, forge_line as spec_forge_line, queue_line as spec_queue_line, command_line as spec_command_line, verb_line as spec_verb_line, line_of_words, begins_comment as spec_begins_comment, begins_with_hash as spec_begins_with_hash, is_high, words_of as spec_words_of, line_of, IsReadFrom};
+ghost use Rattle.script_cli.specs.Grammar.{pieces_from, request_words, begins_option as spec_begins_option, reserve_line as spec_reserve_line, fill_line as spec_fill_line, forge_line as spec_forge_line, queue_line as spec_queue_line, command_line as spec_command_line, verb_line as spec_verb_line, line_of_words, begins_comment as spec_begins_comment, begins_with_hash as spec_begins_with_hash, is_high, words_of as spec_words_of, line_of, IsErrorOf, IsReadFrom};
 
 use crate::fault::{LineError, LineFault};
 use crate::script::Line;
 use crate::values::piece;
 use crate::verb::{CommandVerb, QueueVerb, Verb};
 use crate::words::Words;
-use io_commands::{Pieces, Request};
+use io_commands::{Flags, Kind, Pieces, Request};
 use std::alloc::Global;
 use step_core::Step;
 
@@ -20,19 +20,67 @@ const MAX_LINE: usize = 16_384;
 /// What an answer stands behind.
 const ANSWER: &str = ">";
 
-/// The pieces that all words left are.
-#[tactic(auto, unfolding(crate::specs::Grammar::pieces_from))]
-pub fn pieces(alloc: Global, words: &mut Words<'_>) -> Result<Pieces, LineError>
-    ensures { IsReadFrom (pieces_from [] words.old) result }
+/// The word behind which the namespace of a request stands.
+pub const NSID: &str = "nsid";
+
+/// The word of Force Unit Access.
+pub const FUA: &str = "fua";
+
+/// The word of Limited Retry.
+pub const LR: &str = "lr";
+
+/// Whether a word stands behind the pieces of a request.
+pub fn begins_option(word: &[u8]) -> bool
+    ensures { result ≡ spec_begins_option word.now }
+{
+    word == NSID.as_bytes() || word == FUA.as_bytes() || word == LR.as_bytes()
+}
+
+/// Takes the pieces of a request.
+#[tactic(auto, using(crate::proofs::Pieces::pieces_end, crate::proofs::Pieces::piece_next, crate::proofs::Pieces::no_piece))]
+fn pieces(alloc: Global, words: &mut Words<'_>) -> Result<Pieces, LineError>
+    ensures { MatchResult result (λ pieces. pieces_from [] words.old ≡ Ok (pieces, words.new)) (IsErrorOf (pieces_from [] words.old)) }
 {
     let mut pieces = Pieces::new(alloc);
-    while let Some(word) = words.take_first() {
+    while let Some(word) = words.take_before_options() {
         let Some(next) = piece(word) else {
             return Err(LineError::Fault(LineFault::BadPiece));
         };
         pieces.push(next)?;
     }
     Ok(pieces)
+}
+
+/// A request, by the words that follow its number of blocks: its pieces, and then perhaps its namespace and its flags.
+///
+/// # Errors
+///
+/// The first fault of the words, or [`LineError::Memory`] where memory is refused.
+pub fn read_request(
+    alloc: Global,
+    kind: Kind,
+    slba: u64,
+    blocks: u32,
+    words: &mut Words<'_>,
+) -> Result<Request, LineError>
+    ensures { IsReadFrom (request_words kind slba blocks words.old) result }
+{
+    let pieces = pieces(alloc, words)?;
+    let nsid = words.nsid()?;
+    let force_unit_access = words.take_named(FUA);
+    let limited_retry = words.take_named(LR);
+    words.end()?;
+    Ok(Request {
+        kind,
+        nsid,
+        flags: Flags {
+            force_unit_access,
+            limited_retry,
+        },
+        slba,
+        blocks,
+        pieces,
+    })
 }
 
 /// A verb of a queue and the words after it.
@@ -100,13 +148,7 @@ fn reserve_line(alloc: Global, words: &mut Words<'_>) -> Result<Line, LineError>
     let kind = words.kind()?;
     let slba = words.number64()?;
     let blocks = words.number32()?;
-    let pieces = pieces(alloc, words)?;
-    let request = Request {
-        kind,
-        slba,
-        blocks,
-        pieces,
-    };
+    let request = read_request(alloc, kind, slba, blocks, words)?;
     Ok(Line::Step(Step::Reserve { q, request }))
 }
 

@@ -34,7 +34,7 @@ pub mod workload;
 pub use fault::{
     LineError, LineFault, NotClosed, RunFault, ScriptFault, not_opened, script_at_fault,
 };
-pub use grammar::{begins_comment, pieces, words_of};
+pub use grammar::{FUA, LR, NSID, begins_comment, begins_option, read_request, words_of};
 pub use input::{ImageFault, ReadFault, read_first, read_image};
 pub use lines::split_line;
 pub use output::{flush, put};
@@ -46,6 +46,7 @@ pub use reply::{
 pub use run::{Played, first_owners, open_bench, play_step, play_steps, put_owners, run_steps};
 pub use saving::{not_written, replace_file, write_out};
 pub use script::{Line, MAX_LINES, MAX_SCRIPT, Numbered, Script, read_script};
+pub use values::piece;
 pub use verb::{CommandVerb, QueueVerb, VERBS, Verb};
 pub use well::is_well;
 pub use words::Words;

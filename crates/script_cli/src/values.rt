@@ -168,7 +168,7 @@ fn data(word: &[u8]) -> Option<Piece>
 }
 
 /// The piece that a word is.
-pub(crate) fn piece(word: &[u8]) -> Option<Piece>
+pub fn piece(word: &[u8]) -> Option<Piece>
     ensures { result ≡ spec_piece word.now }
 {
     let (first, others) = word.split_first()?;

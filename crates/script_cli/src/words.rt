@@ -1,13 +1,15 @@
 //! The words of a line.
 
-ghost use Rattle.std.specs.Prelude.{◌≡◌, ◌≤◌, ◌^◌, ◌∷◌, [], length, Ok, Err, MatchOption, MatchResult};
+ghost use Rattle.std.specs.Prelude.{◌≡◌, ◌≤◌, ◌^◌, ◌∷◌, [], length, true, false, Ok, Err, MatchOption, MatchResult};
 ghost use Rattle.std.specs.List.{position_or_len};
-ghost use Rattle.script_cli.specs.Grammar.{number_word, kind_word, hex_word, sixteen_bytes_word, nothing_more, IsErrorOf};
+ghost use Rattle.script_cli.specs.Grammar.{number_word, kind_word, hex_word, sixteen_bytes_word, namespace_word, named_word, nsid_words, begins_option as spec_begins_option, ends_pieces, nothing_more, IsErrorOf};
 ghost use Rattle.script_cli.specs.Lines.{is_blank as spec_is_blank, is_solid, words};
 ghost use Rattle.script_cli.specs.declared.fault.LineFault.TheVariants.{MissingWord};
 ghost use Rattle.script_cli.specs.declared.script.Line.{Line};
+ghost use Rattle.io_commands.specs.Asked.{Request};
 
 use crate::fault::{LineError, LineFault};
+use crate::grammar::{NSID, begins_option};
 use crate::values::{bytes, kind, number_below, number16, number32, number64, sixteen_bytes};
 use io_commands::Kind;
 use std::alloc::Global;
@@ -89,6 +91,32 @@ impl<'a> Words<'a> {
         self.rest = rest;
         Some(word)
     }
+
+    /// Takes the next word, if it does not stand behind the pieces of a request.
+    pub(crate) fn take_before_options(&mut self) -> Option<&'a [u8]>
+        ensures { MatchOption result ((self.new ≡ self.old) × (ends_pieces self.old ≡ true)) (λ word. (self.old ≡ word.now ∷ self.new) × (spec_begins_option word.now ≡ false)) }
+    {
+        let (word, rest) = split_word(self.rest)?;
+        if begins_option(word) {
+            return None;
+        }
+        self.rest = rest;
+        Some(word)
+    }
+
+    /// Takes the next word, if it is this one.
+    pub(crate) fn take_named(&mut self, name: &str) -> bool
+        ensures { named_word name.now self.old ≡ Ok (result, self.new) }
+    {
+        let Some((word, rest)) = split_word(self.rest) else {
+            return false;
+        };
+        if word != name.as_bytes() {
+            return false;
+        }
+        self.rest = rest;
+        true
+    }
 }
 
 impl<'a> Words<'a> {
@@ -124,6 +152,28 @@ impl<'a> Words<'a> {
     {
         let word = self.wanted()?;
         number32(word).ok_or(LineFault::BadNumber)
+    }
+
+    /// Takes the number of a namespace, which is not 0.
+    pub fn namespace(&mut self) -> Result<u32, LineFault>
+        ensures { MatchResult result (λ n. namespace_word self.old ≡ Ok (n, self.new)) (λ fault. namespace_word self.old ≡ Err fault) }
+    {
+        let n = self.number32()?;
+        if n == 0 {
+            return Err(LineFault::BadNumber);
+        }
+        Ok(n)
+    }
+
+    /// Takes the namespace of a request, which is 1 where none is named.
+    pub(crate) fn nsid(&mut self) -> Result<u32, LineFault>
+        ensures { MatchResult result (λ n. nsid_words self.old ≡ Ok (n, self.new)) (λ fault. nsid_words self.old ≡ Err fault) }
+    {
+        if self.take_named(NSID) {
+            self.namespace()
+        } else {
+            Ok(1)
+        }
     }
 
     /// Takes a number of 64 bits.
@@ -165,7 +215,8 @@ impl<'a> Words<'a> {
     /// Sees that no word is left.
     #[tactic(auto, unfolding(crate::specs::Grammar::nothing_more))]
     pub(crate) fn end(&mut self) -> Result<(), LineFault>
-        ensures { MatchResult result (λ u. (what : Line) → nothing_more self.old what ≡ Ok what) (λ fault. (what : Line) → nothing_more self.old what ≡ Err fault) }
+        ensures of_lines { MatchResult result (λ u. (what : Line) → nothing_more self.old what ≡ Ok what) (λ fault. (what : Line) → nothing_more self.old what ≡ Err fault) }
+        ensures of_requests { MatchResult result (λ u. (what : Request) → nothing_more self.old what ≡ Ok what) (λ fault. (what : Request) → nothing_more self.old what ≡ Err fault) }
     {
         match self.take_first() {
             Some(_) => Err(LineFault::ExtraWord),

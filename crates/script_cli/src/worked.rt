@@ -1,9 +1,9 @@
 //! Worked words and lines of scripts. Each function computes some.
 
-ghost use Rattle.std.specs.Prelude.{◌≡◌, ◌<◌, ℕ, List, length, ◌^◌, Some, None, Ok, Err, [], ◌∷◌, ◌++◌, codes};
+ghost use Rattle.std.specs.Prelude.{◌≡◌, ◌<◌, ℕ, List, length, ◌^◌, true, false, Some, None, Ok, Err, [], ◌∷◌, ◌++◌, codes};
 ghost use Rattle.io_commands.specs.declared.request.Kind.TheVariants as kind;
 ghost use Rattle.io_commands.specs.declared.request.Piece.TheVariants as piece;
-ghost use Rattle.script_cli.specs.Grammar.{line_of, request_of};
+ghost use Rattle.script_cli.specs.Grammar.{line_of, request_of, with_options};
 ghost use Rattle.script_cli.specs.Lines.{lines, words};
 ghost use Rattle.script_cli.specs.Numbers.{number, hex};
 ghost use Rattle.script_cli.specs.Scripts.{numbered, numbered_line, script_of, first_fault, steps_of_script};
@@ -53,6 +53,9 @@ pub fn lines_have_first_faults()
     ensures extra_word { line_of (codes "ring 1 2") ≡ Err fault.ExtraWord }
     ensures bad_kind { line_of (codes "reserve 1 rea") ≡ Err fault.BadKind }
     ensures bad_piece { line_of (codes "reserve 1 read 0 1 0+") ≡ Err fault.BadPiece }
+    ensures no_namespace { line_of (codes "reserve 1 read 0 1 0+512 nsid") ≡ Err fault.MissingWord }
+    ensures namespace_0 { line_of (codes "reserve 1 read 0 1 0+512 nsid 0") ≡ Err fault.BadNumber }
+    ensures namespace_too_large { line_of (codes "reserve 1 read 0 1 0+512 nsid 4294967296") ≡ Err fault.BadNumber }
     ensures odd_hex { line_of (codes "fill 1 0 ABC") ≡ Err fault.BadHex }
     ensures short_forge { line_of (codes "forge 1 0 00") ≡ Err fault.BadHex }
     ensures jobs { line_of (codes "job 0 1 read 0 1 0+512") ≡ Err fault.UnknownVerb }
@@ -79,6 +82,10 @@ pub fn faults_have_an_order()
     ensures hex_before_extra_word { line_of (codes "fill 1 0 ABC 2") ≡ Err fault.BadHex }
     ensures number_before_piece { line_of (codes "reserve 1 read x 1 0+") ≡ Err fault.BadNumber }
     ensures first_piece { line_of (codes "reserve 1 read 0 1 0+512 512") ≡ Err fault.BadPiece }
+    ensures flags_in_order { line_of (codes "reserve 1 read 0 1 0+512 lr fua") ≡ Err fault.ExtraWord }
+    ensures flag_twice { line_of (codes "reserve 1 read 0 1 0+512 fua fua") ≡ Err fault.ExtraWord }
+    ensures namespace_before_flags { line_of (codes "reserve 1 read 0 1 0+512 fua nsid 2") ≡ Err fault.ExtraWord }
+    ensures piece_behind_flag { line_of (codes "reserve 1 read 0 1 0+512 fua 0+512") ≡ Err fault.ExtraWord }
     ensures return_in_word { line_of (codes "ring 1" ++ 13 ∷ []) ≡ Err fault.BadNumber }
     ensures lone_return { line_of (13 ∷ []) ≡ Err fault.UnknownVerb }
 {}
@@ -96,6 +103,10 @@ pub fn lines_are_steps()
     ensures pieces { line_of (codes "reserve 1 read 0 2 0+512 x512") ≡ Ok (line.Step (step.Reserve 1 (request_of kind.Read 0 2 (piece.Data 0 512 ∷ piece.Bucket 512 ∷ [])))) }
     ensures late_write { line_of (codes "reserve 1 write 5 1 0+512") ≡ Ok (line.Step (step.Reserve 1 (request_of kind.Write 5 1 (piece.Data 0 512 ∷ [])))) }
     ensures at_the_end { line_of (codes "reserve 1 read 63 2 0+1024") ≡ Ok (line.Step (step.Reserve 1 (request_of kind.Read 63 2 (piece.Data 0 1024 ∷ [])))) }
+    ensures all_options { line_of (codes "reserve 1 read 0 1 0+512 nsid 2 fua lr") ≡ Ok (line.Step (step.Reserve 1 (with_options (request_of kind.Read 0 1 (piece.Data 0 512 ∷ [])) 2 true true))) }
+    ensures largest_namespace { line_of (codes "reserve 1 read 0 1 0+512 nsid 4294967295") ≡ Ok (line.Step (step.Reserve 1 (with_options (request_of kind.Read 0 1 (piece.Data 0 512 ∷ [])) 4294967295 false false))) }
+    ensures force_unit_access { line_of (codes "reserve 1 read 0 1 0+512 fua") ≡ Ok (line.Step (step.Reserve 1 (with_options (request_of kind.Read 0 1 (piece.Data 0 512 ∷ [])) 1 true false))) }
+    ensures limited_retry { line_of (codes "reserve 1 read 0 1 lr") ≡ Ok (line.Step (step.Reserve 1 (with_options (request_of kind.Read 0 1 []) 1 false true))) }
     ensures fill { line_of (codes "fill 1 0 ABCD") ≡ Ok (line.Step (step.Fill 1 0 (171 ∷ 205 ∷ []))) }
     ensures abort { line_of (codes "abort 1 0") ≡ Ok (line.Step (step.Abort 1 0)) }
     ensures delete_cq { line_of (codes "delete_cq 1") ≡ Ok (line.Step (step.DeleteCq 1)) }

@@ -6,7 +6,7 @@ use entry_codec::status_names::Named;
 use script_cli::{CommandVerb, QueueVerb, Verb, put_gathered};
 use std::alloc::{AllocError, Global};
 use step_core::{
-    Bytes, FillFault, Kind, Piece, Pieces, Reaped, Refusal, Reply, Request, Status, Step,
+    Bytes, FillFault, Flags, Kind, Piece, Pieces, Reaped, Refusal, Reply, Request, Status, Step,
 };
 use texts::traces::Traced;
 
@@ -48,6 +48,8 @@ impl Hand<'_> {
         let pieces = pieces_of(self.alloc, blocks)?;
         let request = Request {
             kind,
+            nsid: 1,
+            flags: Flags::NONE,
             slba,
             blocks,
             pieces,

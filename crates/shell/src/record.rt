@@ -1,9 +1,9 @@
 //! What a session did, kept as a transcript.
 
 use script_cli::transcripts::{MAX_TRANSCRIPT, Options};
-use script_cli::{Verb, append_counts, append_reply};
+use script_cli::{FUA, LR, NSID, Verb, append_counts, append_reply};
 use std::alloc::{AllocError, Global};
-use step_core::{Counts, Kind, Piece, Reply, Request, Step};
+use step_core::{Counts, Flags, Kind, Piece, Reply, Request, Step};
 
 /// The most bytes that a line of a script can fill any draft with: two digits each, behind `fill 65535 65535 `.
 const MOST_FILLED: usize = 8_183;
@@ -29,6 +29,20 @@ fn put_hex(out: &mut String, bytes: &[u8]) -> Result<(), AllocError> {
     Ok(())
 }
 
+/// Puts the words of a namespace and of flags, as far as they differ from 1 and from none.
+fn put_options(out: &mut String, nsid: u32, flags: Flags) -> Result<(), AllocError> {
+    if nsid != 1 {
+        write!(out, " {NSID} {nsid}")?;
+    }
+    if flags.force_unit_access {
+        write!(out, " {FUA}")?;
+    }
+    if flags.limited_retry {
+        write!(out, " {LR}")?;
+    }
+    Ok(())
+}
+
 /// Puts the words of a request.
 fn put_request(out: &mut String, request: &Request) -> Result<(), AllocError> {
     let (kind, slba, blocks) = (kind_name(request.kind), request.slba, request.blocks);
@@ -39,7 +53,7 @@ fn put_request(out: &mut String, request: &Request) -> Result<(), AllocError> {
             Piece::Bucket { len } => write!(out, " x{len}")?,
         }
     }
-    Ok(())
+    put_options(out, request.nsid, request.flags)
 }
 
 /// Puts the words behind the verb of a step.

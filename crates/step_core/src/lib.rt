@@ -40,7 +40,8 @@ pub use ended::{Ended, Leftover};
 pub use entry_codec::Status;
 pub use host_core::{Config, QueueMemory, Refused, Right, Run, Runs};
 pub use io_commands::{
-    Draft, FillFault, Finished, Kind, Piece, Pieces, Request, RequestFault, RequestOf, Ticket,
+    Draft, FillFault, Finished, Flags, Kind, Piece, Pieces, Request, RequestFault, RequestOf,
+    Ticket,
 };
 pub use machine_model::words::{HostState, OpenRefusal, Phase, Reaped, Refusal, RejectedFor};
 pub use open::OpenRefused;

@@ -56,13 +56,6 @@ impl<A: Allocator + Copy> World<A> {
         self.host.status_of(q, cid)
     }
 
-    /// How many queues there are, queue 0 among them.
-    fn queue_count(&self) -> u16
-        ensures { result ≡ length self.now.state.host.queues }
-    {
-        self.host.queue_count()
-    }
-
     /// Whether [`World::reap`] would take a completion from the queue. It makes no step, and touches one page at most.
     pub fn has_completion(&mut self, q: u16) -> bool
         ensures answer { result ≡ spec_has_completion self.old.state q }

@@ -38,6 +38,20 @@ impl<A: Allocator> World<A> {
         self.host.pages()
     }
 
+    /// How many queues there are, queue 0 among them.
+    pub fn queue_count(&self) -> u16
+        ensures { result ≡ length self.now.state.host.queues }
+    {
+        self.host.queue_count()
+    }
+
+    /// How many entries each ring has.
+    pub fn entries(&self) -> u16
+        ensures { result ≡ self.now.state.entries }
+    {
+        self.host.entries()
+    }
+
     /// The image as it is.
     pub fn image(&self) -> &Image<A>
         ensures { result.now ≡ self.now.state.controller.image }

@@ -8,10 +8,9 @@ ghost use Rattle.step_core.specs.Opening.{opening_of};
 use crate::fault::Fault;
 use crate::reads::{Done, Shape, request};
 use block_image::Image;
-use driver_book::{Book, LogBrand, Seat};
+use driver_book::{BlankBook, Book, LogBrand, Seat};
 use io_commands::{Draft, Finished, Request, Ticket};
 use std::alloc::{AllocError, Global};
-use std::sync::ledger::Blank;
 use step_core::{Config, ControllerStep};
 
 /// The work that threads do outside of the lock for a Read: its request is made, its list is built, and its bytes are gathered.
@@ -239,11 +238,12 @@ pub fn read_alone<L: LogBrand>(
     shape: Shape,
     times: u32,
     image: Image,
-    blank: Blank,
+    blank: BlankBook,
 ) -> Result<Done, Fault>
-    requires name { blank.name ≡ L.name }
-    requires parts { blank.parts ≡ L.parts }
-    requires number { blank.parts ≡ 65536 }
+    requires name { blank.ledger.name ≡ L.name }
+    requires parts { blank.ledger.parts ≡ L.parts }
+    requires number { blank.ledger.parts ≡ 65536 }
+    requires list { blank.drafts.name ≡ L.list }
     requires opening { L.opening ≡ opening_of config image }
 {
     let outside = Outside { alloc, times };

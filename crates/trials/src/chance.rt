@@ -3,7 +3,7 @@
 ghost use Rattle.std.specs.Prelude.{◌≤◌};
 
 use crate::random::SplitMix64;
-use io_commands::{Kind, Piece, Pieces, Request};
+use io_commands::{Flags, Kind, Piece, Pieces, Request};
 use std::alloc::{AllocError, Global};
 use step_core::Config;
 
@@ -101,6 +101,8 @@ pub fn request(alloc: Global, random: &mut SplitMix64) -> Result<Request, AllocE
     };
     Ok(Request {
         kind,
+        nsid: 1,
+        flags: Flags::NONE,
         slba,
         // A few requests have no blocks, or too many.
         blocks: match random.up_to(63) {

@@ -5,7 +5,7 @@ ghost use Rattle.std.specs.Prelude.{◌≡◌, IfOk};
 use crate::fault::Fault;
 use crate::heap::Used;
 use crate::stage::STAGES;
-use io_commands::{Kind, Piece, Pieces, RequestOf};
+use io_commands::{Flags, Kind, Piece, Pieces, RequestOf};
 use linked_list_allocator::LocalHeap;
 use std::alloc::AllocError;
 use step_core::{Reply, Step, StepIn};
@@ -22,6 +22,8 @@ fn reserve<'a>(heap: &'a LocalHeap, block: u16) -> Result<StepIn<&'a LocalHeap>,
         q: 1,
         request: RequestOf {
             kind: Kind::Read,
+            nsid: 1,
+            flags: Flags::NONE,
             slba: u64::from(block),
             blocks: 1,
             pieces,

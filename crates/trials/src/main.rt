@@ -42,6 +42,7 @@ mod values;
 use alone::read_alone;
 use asked::{Asked, Way};
 use block_image::Image;
+use driver_book::BlankBook;
 use fault::Fault;
 use heap::use_heap;
 use hostile::try_steps;
@@ -53,7 +54,6 @@ use std::env::Env;
 use std::marker::Brand;
 use std::process::ExitCode;
 use std::sync::Wait;
-use std::sync::ledger::Blank;
 use std::thread::Threads;
 use threaded::read_in_threads;
 
@@ -110,10 +110,10 @@ fn carry_reads<R: AllocGlobal + Print + Threads + Wait + Sync>(
     };
     let done = match way {
         Way::Threads { depth } => {
-            read_in_threads::<Brand, R>(rt, alloc, ROOMY, shape, depth, image, Blank::new(65536))?
+            read_in_threads::<Brand, R>(rt, alloc, ROOMY, shape, depth, image, BlankBook::new())?
         }
         Way::Alone { times } => {
-            read_alone::<Brand>(alloc, ROOMY, shape, times, image, Blank::new(65536))?
+            read_alone::<Brand>(alloc, ROOMY, shape, times, image, BlankBook::new())?
         }
     };
     print_numbers(

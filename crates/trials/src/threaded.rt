@@ -6,12 +6,11 @@ ghost use Rattle.step_core.specs.Opening.{opening_of};
 use crate::fault::Fault;
 use crate::reads::{Done, MOST_DEPTH, Shape, request};
 use block_image::Image;
-use driver_book::LogBrand;
+use driver_book::{BlankBook, LogBrand};
 use driver_threads::{Job, JobEnd, JobEnds, Open, Ran, Server, run_threads};
 use entry_codec::Status;
 use std::alloc::{AllocError, Global};
 use std::sync::Wait;
-use std::sync::ledger::Blank;
 use std::thread::Threads;
 use step_core::{Bytes, Config};
 
@@ -66,11 +65,12 @@ pub fn read_in_threads<L: LogBrand + Send + Sync, R: Threads + Wait + Sync>(
     shape: Shape,
     depth: u32,
     image: Image,
-    blank: Blank,
+    blank: BlankBook,
 ) -> Result<Done, Fault>
-    requires name { blank.name ≡ L.name }
-    requires parts { blank.parts ≡ L.parts }
-    requires number { blank.parts ≡ 65536 }
+    requires name { blank.ledger.name ≡ L.name }
+    requires parts { blank.ledger.parts ≡ L.parts }
+    requires number { blank.ledger.parts ≡ 65536 }
+    requires list { blank.drafts.name ≡ L.list }
     requires opening { L.opening ≡ opening_of config image }
 {
     let jobs = all_jobs(alloc, shape)?;

@@ -6,7 +6,7 @@ use Rattle.admin_commands.specs.declared.{AdminKind.AdminKind, SqState.SqState}
 use Rattle.entry_codec.{proofs.SubmissionLemmas.round_trip, specs.Bytes.IsBytes}
 use Rattle.entry_codec.specs.{Submission.{FitsSubmission, IsSubEntry, command_words, submission_bytes, submission_of}, declared.completion.ComEntry.ComEntry}
 use Rattle.entry_codec.specs.declared.submission.SubEntry.{SubEntry}
-use Rattle.io_commands.{proofs.Building.carries_entry, specs.Drafts.{DraftContents, draft_first}}
+use Rattle.io_commands.{proofs.Building.{carries_entry, few_blocks, flags_fit}, specs.Drafts.{DraftContents, draft_first}}
 use Rattle.machine_model.specs.{Memory.memory_of, Proper.IsProperDraft, Refusals.{slot_page, slot_offset}}
 use Rattle.machine_model.specs.State.{HostQueue, ServedQueue}
 use Rattle.sgl_descriptor.specs.{Spelling.{spelling, descriptor_bytes}, declared.Descriptor.Descriptor}
@@ -77,12 +77,12 @@ draft_typed d entry proper cid built =
       typed = record {
         opcode = grind arith;
         cid = cid;
-        nsid = omega arith;
+        nsid = request.nsid;
         mptr = omega arith;
         sgl1 = spelled_in_bytes (draft_first d);
         cdw10 = omega arith;
         cdw11 = omega (arith, request.slba);
-        cdw12 = omega (arith, request.blocks);
+        cdw12 = omega (arith, few_blocks d.request.kind d.request.blocks d.request.pieces proper.draft.good, flags_fit d.request.flags);
         cdw13 = omega arith;
         cdw14 = omega arith;
         cdw15 = omega arith;

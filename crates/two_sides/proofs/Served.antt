@@ -1,19 +1,19 @@
 -- What is served was submitted.
 use Rattle.machine_model.specs.Events as events
 use Rattle.machine_model.specs.declared.words.Refusal.TheVariants as refusal
-use Rattle.std.proofs.Common.{◌≡◌, ℕ, ◌+◌, ◌*◌, ◌%◌, ◌<◌, ◌≤◌, ◌==◌, nat_lt, true, false, not, ◌||◌, Option, Some, None, List, [], ◌∷◌, length, is_some, slice_index, All, refl, sym, ◌∙◌, arith, subst, eq-eqb, ◌-◌, ◌^◌, ◌⊎◌, inl, inr, Bool, if◌then◌else◌, zero, suc, ◌++◌, slice_get, find, ap, eqb-true, ltb-true, nat_le, ◌&&◌, slice_set, length-set, IfSome, MatchBool}
+use Rattle.std.proofs.Common.{◌≡◌, ℕ, ◌+◌, ◌*◌, ◌%◌, ◌<◌, ◌≤◌, ◌==◌, nat_lt, true, false, not, ◌||◌, Option, Some, None, List, [], ◌∷◌, length, is_some, slice_index, All, refl, ap₂, sym, ◌∙◌, arith, subst, eq-eqb, ◌-◌, ◌^◌, ◌⊎◌, inl, inr, Bool, if◌then◌else◌, zero, suc, ◌++◌, slice_get, find, ap, eqb-true, ltb-true, nat_le, ◌&&◌, slice_set, length-set, IfSome, MatchBool}
 use Rattle.std.proofs.lemmas.{Bool.{or_left, or_right, or_parts, cases_lt, true≢false, and_parts, cases_Bool, not-false, Decides.nat_tests}, Grind.common_steps}
 use Rattle.std.proofs.lemmas.{List.{Elements.{All-head, All-tail, All-nil, All-cons}, Sums.sum_by-cons}, Option.{slice_get-get_or, slice_get_within}}
-use Rattle.std.specs.{List.{AllByRecursion, list_any}, Option.option_map_or, Prelude.{option_map, option_and_then}}
+use Rattle.std.specs.{Bool.beq, List.{AllByRecursion, list_any}, Option.option_map_or, Prelude.{option_map, option_and_then}}
 use Rattle.page_ledger.specs.Owners.{is_among}
 use Rattle.page_memory.{proofs.Bytes.{byte_in, length-zero_page}, specs.{Memory.{page_of, Memory}, Pages.{Pages, page_at, byte_at, zero_page, AreWhole}}}
 use Rattle.sgl_descriptor.{proofs.Spells.reads_itself, specs.{Spelling.{Fits, spelling, descriptor_of}, Targets.{counted_in, descriptor_of_part, targets}}}
 use Rattle.sgl_descriptor.specs.declared.{Descriptor.TheVariants.{Segment, LastSegment}, Part.{Part, TheVariants.Data as PartData}}
-use Rattle.io_commands.{proofs.Building.{joined_parts_few, built_drafts_spell, few_pieces}, specs.Asked.Request}
+use Rattle.io_commands.{proofs.Building.{entry_blocks, joined_parts_few, built_drafts_spell, few_pieces}, specs.Asked.Request}
 use Rattle.io_commands.specs.Drafts.{io_entry, DraftContents, HoldsPages, draft_first, draft_parts, IsDraft, IsBuiltIfAny}
 use Rattle.io_commands.specs.Jobs.{direction_of_entry, need_of_entry}
 use Rattle.io_commands.specs.Requests.{parts_of, data_count, is_empty_piece, crosses_page, counted_length, counted_lengths, direction_of, FitsPiece, joined_parts, FitsRequest, fault_of}
-use Rattle.io_commands.specs.{Values.{IsGood, numbers_of, FinishedContents}, declared.request.{Kind.{Kind, TheVariants.{Read, Write, Compare}}, Piece.Piece}}
+use Rattle.io_commands.specs.{Values.{IsGood, numbers_of, FinishedContents}, declared.request.{Flags.Flags, Kind.{Kind, TheVariants.{Read, Write, Compare}}, Piece.Piece}}
 use Rattle.io_commands.specs.declared.request.{Piece.TheVariants.{Data, Bucket}, RequestFault.RequestFault}
 use Rattle.io_commands.specs.declared.request.RequestFault.TheVariants.{TooManyPieces, EmptyPiece, CrossesPage, BadCount, LengthMismatch}
 use Rattle.machine_model.proofs.Counting.{times-append, held_once, times-cons}
@@ -21,7 +21,7 @@ use Rattle.machine_model.proofs.Owned.{in_record, is_out, taken, none_here, in_i
 use Rattle.machine_model.{proofs.Steps.{first_fails, rest_fails, in_store, length-in_store, found}, specs.After.course_of}
 use Rattle.machine_model.specs.{Claims.{OwnsFit, IsSound}, Memory.{memory_of, with_pages, is_in}, Proper.{IsPage, ArePages, IsProperDraft}}
 use Rattle.machine_model.specs.Reached.{on_pages, LiesIn, IsThere, only, CourseIn, AreApart, IsListIn}
-use Rattle.machine_model.specs.Refusals.{is_submitted, same_piece, same_pieces, same_kind, same_request, refusal_of, no_io_queue, in_state, is_deleting, no_identifier, pages_wanted, record_is, is_held}
+use Rattle.machine_model.specs.Refusals.{is_submitted, same_piece, same_pieces, same_kind, same_flags, same_request, refusal_of, no_io_queue, in_state, is_deleting, no_identifier, pages_wanted, record_is, is_held}
 use Rattle.machine_model.specs.{Standing.{IsSized, ListStands, StandsAs, CommandStands, HasUnitLeft}, State.{State, Record, Job, is_at, record_at, pages_of}}
 use Rattle.machine_model.specs.{Step.{times, IsReserved, AnswersAnything, asked_by, finished_from, pages_with_bytes, zeroed}, Weights.{one, total}, Work.Work}
 use Rattle.machine_model.specs.declared.words.{Phase.TheVariants.{Drafted, Submitted, Held, Collected}, Refusal.Refusal, Work.TheVariants.{Io, Management}}
@@ -70,7 +70,7 @@ pub entry_direction : (cid : ℕ) (r : Request) (sgl1 : List ℕ) → direction_
 entry_direction cid r sgl1 = grind arith
 
 pub entry_need : (cid : ℕ) (r : Request) (sgl1 : List ℕ) → IsGood r → need_of_entry (io_entry cid r sgl1) ≡ 512 * r.blocks
-entry_need cid r sgl1 good = let g = good_is r good in omega (arith, g.some, g.few)
+entry_need cid r sgl1 good = ap (λ (n : ℕ). 512 * n) (entry_blocks cid r sgl1 good)
 
 -- The parts of its pieces
 
@@ -391,15 +391,32 @@ lists_same x y h = absurd (true≢false (sym h))
 kinds_same : (a b : Kind) → same_kind a b ≡ true → a ≡ b
 kinds_same a b h = grind arith
 
+bools_same : (x y : Bool) → beq x y ≡ true → x ≡ y
+bools_same x y h = grind arith
+
+flags_same : (a b : Flags) → same_flags a b ≡ true → a ≡ b
+flags_same a b h =
+    let parts = and_parts (beq a.force_unit_access b.force_unit_access) (beq a.limited_retry b.limited_retry) h in
+    ap₂ (λ (x y : Bool). let flags : Flags = record { force_unit_access = x; limited_retry = y } in flags)
+    (bools_same a.force_unit_access b.force_unit_access parts.0) (bools_same a.limited_retry b.limited_retry parts.1)
+
 pub requests_same : (a b : Request) → same_request a b ≡ true → a ≡ b
 requests_same a b h =
-    let of : Kind → ℕ → ℕ → List Piece → Request = λ k s n ps. record { kind = k; slba = s; blocks = n; pieces = ps } in
-    let made : (k k' : Kind) (s s' n n' : ℕ) (ps ps' : List Piece) → k ≡ k' → s ≡ s' → n ≡ n' → ps ≡ ps' → of k s n ps ≡ of k' s' n' ps' = λ k k' s s' n n' ps ps' ek es en ep.
-    rw (ek, es, en, ep) refl in
-    let abc_d = and_parts (same_kind a.kind b.kind && (a.slba == b.slba) && (a.blocks == b.blocks)) (same_pieces a.pieces b.pieces) h in
-    let ab_c = and_parts (same_kind a.kind b.kind && (a.slba == b.slba)) (a.blocks == b.blocks) abc_d.0 in
-    let a_b = and_parts (same_kind a.kind b.kind) (a.slba == b.slba) ab_c.0 in
-    made a.kind b.kind a.slba b.slba a.blocks b.blocks a.pieces b.pieces (kinds_same a.kind b.kind a_b.0) (eqb-true a.slba b.slba a_b.1) (eqb-true a.blocks b.blocks ab_c.1) (lists_same a.pieces b.pieces abc_d.1)
+    let of : Kind → ℕ → Flags → ℕ → ℕ → List Piece → Request = λ k i f s n ps. record { kind = k; nsid = i; flags = f; slba = s; blocks = n; pieces = ps } in
+    let made : (k k' : Kind) (i i' : ℕ) (f f' : Flags) (s s' n n' : ℕ) (ps ps' : List Piece) → k ≡ k' → i ≡ i' → f ≡ f' → s ≡ s' → n ≡ n' → ps ≡ ps' → of k i f s n ps ≡ of k' i' f' s' n' ps' =
+    λ k k' i i' f f' s s' n n' ps ps' ek ei ef es en ep. rw (ek, ei, ef, es, en, ep) refl in
+    let kind = same_kind a.kind b.kind in
+    let nsid = a.nsid == b.nsid in
+    let flags = same_flags a.flags b.flags in
+    let slba = a.slba == b.slba in
+    let blocks = a.blocks == b.blocks in
+    let to_blocks = and_parts (kind && nsid && flags && slba && blocks) (same_pieces a.pieces b.pieces) h in
+    let to_slba = and_parts (kind && nsid && flags && slba) blocks to_blocks.0 in
+    let to_flags = and_parts (kind && nsid && flags) slba to_slba.0 in
+    let to_nsid = and_parts (kind && nsid) flags to_flags.0 in
+    let first = and_parts kind nsid to_nsid.0 in
+    made a.kind b.kind a.nsid b.nsid a.flags b.flags a.slba b.slba a.blocks b.blocks a.pieces b.pieces (kinds_same a.kind b.kind first.0) (eqb-true a.nsid b.nsid first.1) (flags_same a.flags b.flags to_nsid.1)
+    (eqb-true a.slba b.slba to_flags.1) (eqb-true a.blocks b.blocks to_slba.1) (lists_same a.pieces b.pieces to_blocks.1)
 
 -- A descriptor whose fields fit is read back
 

@@ -9,9 +9,10 @@ use test_support::Seen;
 use texts::faults::{Grammar, find, form_text};
 
 /// A line of each form of `steps`.
-const STEPS: [&str; 9] = [
+const STEPS: [&str; 10] = [
     "reserve 1 read 18446744073709551615 4294967295 0+512 x512 4095+1",
     "reserve 0 compare 0 1",
+    "reserve 1 read 0 1 0+512 nsid 4294967295 fua lr",
     "\tfill 65535 0 00aBcD",
     "forge 1 3 00112233445566778899AABBCCDDEEFF",
     "build 1 0",
@@ -22,15 +23,16 @@ const STEPS: [&str; 9] = [
 ];
 
 /// A line of each form of `threads`, for three submitters.
-const JOBS: [&str; 4] = [
+const JOBS: [&str; 5] = [
     "job 2 1 read 18446744073709551615 4294967295 0+512 x512 4095+1",
     "job 0 1 write 0 1 00aBcD 0+512",
     " job 1 1 compare 0 1 AB",
+    "job 0 1 write 0 1 AB 0+512 nsid 2 lr",
     "# a comment",
 ];
 
 /// Words that may stand where another is wanted.
-const WORDS: [&[u8]; 24] = [
+const WORDS: [&[u8]; 27] = [
     b"0",
     b"3",
     b"65535",
@@ -51,6 +53,9 @@ const WORDS: [&[u8]; 24] = [
     b"read",
     b"job",
     b"ring",
+    b"nsid",
+    b"fua",
+    b"lr",
     b"#",
     b"1\r",
     b"\xC3\xA9",

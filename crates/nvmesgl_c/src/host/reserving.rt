@@ -12,7 +12,7 @@ use crate::host::handle::Handle;
 use crate::host::tagged::{Tagged, give};
 use crate::words::code::{BAD_PIECE, MEMORY, NO_KIND};
 use crate::words::{Answer, CPiece, NoPieces, kind_of, pieces_of};
-use host_bench::{Call, Refusal, Reply, Request};
+use host_bench::{Call, Flags, Refusal, Reply, Request};
 use std::alloc::Global;
 
 /// The identifier of a command that was reserved.
@@ -91,6 +91,8 @@ pub extern "C" fn nvmehost_reserve_tagged(
     };
     let request = Request {
         kind,
+        nsid: 1,
+        flags: Flags::NONE,
         slba,
         blocks,
         pieces,

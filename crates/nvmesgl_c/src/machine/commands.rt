@@ -12,7 +12,7 @@ use crate::machine::steps::{do_step, refuse, say};
 use crate::words::code::{BAD_PIECE, MEMORY, NO_KIND, TOO_SHORT};
 use crate::words::{Answer, CPiece, NoPieces, kind_of, pieces_of};
 use std::alloc::Global;
-use step_core::{Bytes, Reply, Request, Step};
+use step_core::{Bytes, Flags, Reply, Request, Step};
 
 /// Reserves a command. Its identifier and how many pages it has are told.
 #[unsafe(no_mangle)]
@@ -38,6 +38,8 @@ pub extern "C" fn nvmesgl_reserve(
     };
     let request = Request {
         kind,
+        nsid: 1,
+        flags: Flags::NONE,
         slba,
         blocks,
         pieces,

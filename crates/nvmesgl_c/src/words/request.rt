@@ -3,7 +3,7 @@
 ghost use Rattle.std.specs.Prelude.{◌≡◌, ◌≤◌, IfOk};
 ghost use Rattle.nvmesgl_c.specs.Requests as requests;
 
-use io_commands::{Kind, Piece, Pieces, Request};
+use io_commands::{Flags, Kind, Piece, Pieces, Request};
 use std::alloc::{AllocError, Global};
 
 /// The most bytes that a command moves.
@@ -49,6 +49,8 @@ pub fn request_for(alloc: Global, kind: Kind, slba: u64, len: usize) -> Result<R
     let pieces = pieces_for(alloc, len)?;
     Ok(Request {
         kind,
+        nsid: 1,
+        flags: Flags::NONE,
         slba,
         blocks: (len / 512) as u32,
         pieces,

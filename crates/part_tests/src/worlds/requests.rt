@@ -1,6 +1,6 @@
 //! Requests of several shapes, and bytes for them.
 
-use io_commands::{Kind, Piece, Pieces, Request};
+use io_commands::{Flags, Kind, Piece, Pieces, Request};
 use std::alloc::{AllocError, Global};
 
 /// The blocks of the image.
@@ -67,6 +67,8 @@ pub(crate) fn request(
 ) -> Result<Request, AllocError> {
     Ok(Request {
         kind,
+        nsid: 1,
+        flags: Flags::NONE,
         slba: u64::from(slba),
         blocks: shape.blocks,
         pieces: Pieces::from_slice(alloc, shape.pieces)?,

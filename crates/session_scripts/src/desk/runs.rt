@@ -4,18 +4,17 @@ ghost use Rattle.std.specs.Prelude.{◌≡◌, ◌≤◌, vec_len};
 ghost use Rattle.step_core.specs.Opening.{opening_of};
 
 use block_image::Image;
-use driver_book::{Book, LogBrand, ReportIn};
+use driver_book::{BlankBook, Book, LogBrand, ReportIn};
 use driver_threads::{
     Gate, Job, JobEnd, JobEndIn, JobEnds, JobIn, Ran, RunFault, Server, run_threads,
 };
 use entry_codec::Status;
-use io_commands::{Kind, Piece, Pieces, Request};
+use io_commands::{Flags, Kind, Piece, Pieces, Request};
 use page_ledger::Owner;
 use page_memory::PageNo;
 use std::alloc::{AllocError, Allocator, Global};
 use std::marker::Brand;
 use std::sync::Wait;
-use std::sync::ledger::Blank;
 use std::thread::Threads;
 use step_core::{Bytes, Config, Reply};
 
@@ -72,11 +71,12 @@ fn outcome_of<
     depth: usize,
     server: Server,
     gate: &G,
-    blank: Blank,
+    blank: BlankBook<A>,
 ) -> Result<Outcome<A>, RunFault>
-    requires name { blank.name ≡ L.name }
-    requires parts { blank.parts ≡ L.parts }
-    requires number { blank.parts ≡ 65536 }
+    requires name { blank.ledger.name ≡ L.name }
+    requires parts { blank.ledger.parts ≡ L.parts }
+    requires number { blank.ledger.parts ≡ 65536 }
+    requires list { blank.drafts.name ≡ L.list }
     requires opening { L.opening ≡ opening_of config image }
     requires some { 1 ≤ vec_len jobs }
     requires few { vec_len jobs ≤ 16 }
@@ -122,7 +122,7 @@ pub fn play_at<A: Allocator + Copy + Send + Sync, G: Gate + Sync, R: Threads + W
         depth,
         server,
         gate,
-        Blank::new(65536),
+        BlankBook::new(),
     )
 }
 
@@ -166,6 +166,8 @@ pub fn job<A: Allocator + Copy>(
         q,
         request: Request {
             kind,
+            nsid: 1,
+            flags: Flags::NONE,
             slba,
             blocks,
             pieces: pieces(alloc, blocks)?,

@@ -9,13 +9,12 @@ use crate::scripts::player::Player;
 use crate::scripts::refused::{End, play_refused};
 use crate::scripts::standing::{DeskIn, DeskStanding, Heap, Stands};
 use crate::scripts::way::Way;
-use driver_book::{Book, CloseFault, Full, FullLogBrand, LogBrand};
+use driver_book::{BlankBook, Book, CloseFault, Full, FullLogBrand, LogBrand};
 use driver_threads::Shared;
 use script_cli::transcripts::Transcript;
 use std::alloc::{Allocator, Global};
 use std::marker::Brand;
 use std::sync::Wait;
-use std::sync::ledger::Blank;
 use step_core::{Config, Image, OpenRefusal};
 use test_support::Refusal;
 
@@ -64,11 +63,12 @@ pub fn opened<L: FullLogBrand, A: Allocator + Copy>(
     heap: A,
     config: Config,
     image: Image<A>,
-    blank: Blank,
+    blank: BlankBook<A>,
 ) -> Result<Book<L, A>, Wrong>
-    requires name { blank.name ≡ L.name }
-    requires parts { blank.parts ≡ L.parts }
-    requires number { blank.parts ≡ 65536 }
+    requires name { blank.ledger.name ≡ L.name }
+    requires parts { blank.ledger.parts ≡ L.parts }
+    requires number { blank.ledger.parts ≡ 65536 }
+    requires list { blank.drafts.name ≡ L.list }
     requires opening { L.opening ≡ opening_of config image }
 {
     let refused = match Book::<L, A>::open(heap, config, image, blank) {
@@ -140,12 +140,13 @@ fn play_in<'t, 'h, L: LogBrand, R: Wait>(
     heap: &'h Heap,
     config: Config,
     image: Image<&'h Heap>,
-    blank: Blank,
+    blank: BlankBook<&'h Heap>,
     growth: u64,
 ) -> Result<(BookEnd, u64), Wrong>
-    requires name { blank.name ≡ L.name }
-    requires parts { blank.parts ≡ L.parts }
-    requires number { blank.parts ≡ 65536 }
+    requires name { blank.ledger.name ≡ L.name }
+    requires parts { blank.ledger.parts ≡ L.parts }
+    requires number { blank.ledger.parts ≡ 65536 }
+    requires list { blank.drafts.name ≡ L.list }
     requires opening { L.opening ≡ opening_of config image }
 {
     heap.refuse(Refusal::Nth(growth));
@@ -175,7 +176,7 @@ fn play_once<'t, 'h, R: Wait>(
 ) -> Result<(BookEnd, u64), Wrong> {
     let options = run.transcript.options();
     let image = Image::zeroed(heap, options.blocks)?;
-    let blank = Blank::new(65536);
+    let blank = BlankBook::new();
     play_in::<Brand, R>(run, rt, alloc, heap, options.config, image, blank, growth)
 }
 

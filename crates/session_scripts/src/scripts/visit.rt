@@ -10,12 +10,11 @@ use crate::scripts::player::Player;
 use crate::scripts::refused::play_refused;
 use crate::scripts::standing::{DeskIn, Heap};
 use crate::scripts::way::Way;
-use driver_book::{Full, FullLogBrand, LogBrand};
+use driver_book::{BlankBook, Full, FullLogBrand, LogBrand};
 use script_cli::transcripts::{Options, read_transcript};
 use std::alloc::{AllocError, Global};
 use std::marker::Brand;
 use std::sync::Wait;
-use std::sync::ledger::Blank;
 use step_core::{Config, Image};
 
 /// A draft is built at its own book.
@@ -82,12 +81,13 @@ fn play_away<'h, L: FullLogBrand, M: LogBrand, R: Wait>(
     home: &mut DeskIn<'h, L, R>,
     config: Config,
     image: Image<&'h Heap>,
-    blank: Blank,
+    blank: BlankBook<&'h Heap>,
     growth: u64,
 ) -> Result<u64, Wrong>
-    requires name { blank.name ≡ M.name }
-    requires parts { blank.parts ≡ M.parts }
-    requires number { blank.parts ≡ 65536 }
+    requires name { blank.ledger.name ≡ M.name }
+    requires parts { blank.ledger.parts ≡ M.parts }
+    requires number { blank.ledger.parts ≡ 65536 }
+    requires list { blank.drafts.name ≡ M.list }
     requires opening { M.opening ≡ opening_of config image }
 {
     let book = opened::<Full<M>, &'h Heap>(heap, config, image, blank)?;
@@ -104,16 +104,17 @@ fn play_home<'h, L: LogBrand, R: Wait>(
     heap: &'h Heap,
     config: Config,
     image: Image<&'h Heap>,
-    blank: Blank,
+    blank: BlankBook<&'h Heap>,
     growth: u64,
 ) -> Result<u64, Wrong>
-    requires name { blank.name ≡ L.name }
-    requires parts { blank.parts ≡ L.parts }
-    requires number { blank.parts ≡ 65536 }
+    requires name { blank.ledger.name ≡ L.name }
+    requires parts { blank.ledger.parts ≡ L.parts }
+    requires number { blank.ledger.parts ≡ 65536 }
+    requires list { blank.drafts.name ≡ L.list }
     requires opening { L.opening ≡ opening_of config image }
 {
     let other_image = Image::zeroed(heap, Options::USUAL.blocks)?;
-    let other_blank = Blank::new(65536);
+    let other_blank = BlankBook::new();
     let book = opened::<Full<L>, &'h Heap>(heap, config, image, blank)?;
     let mut home = Desk::new(rt, alloc, heap, Access::Book(book));
     let left = play_away::<Full<L>, Brand, R>(
@@ -137,7 +138,7 @@ fn visit_once<'h, R: Wait>(
 ) -> Result<u64, Wrong> {
     let Options { config, blocks } = Options::USUAL;
     let image = Image::zeroed(heap, blocks)?;
-    let blank = Blank::new(65536);
+    let blank = BlankBook::new();
     play_home::<Brand, R>(rt, alloc, heap, config, image, blank, growth)
 }
 

@@ -6,7 +6,10 @@ ghost use Rattle.texts.specs.Found.{IsErrorIn, IsIn};
 use crate::faults::forms::{Grammar, Slot, has_pieces, slots_of, slots_of_job};
 use crate::faults::words::{Place, word_from};
 use io_commands::Kind;
-use script_cli::{LineError, LineFault, Verb, Words, begins_comment, pieces, words_of};
+use script_cli::{
+    FUA, LR, LineError, LineFault, NSID, Verb, Words, begins_comment, begins_option, piece,
+    words_of,
+};
 use std::alloc::{AllocError, Global};
 
 /// The word with which the line of a job begins.
@@ -30,6 +33,8 @@ pub enum Wanted {
     Piece,
     /// Nothing more, behind what this verb takes.
     Nothing(Verb),
+    /// Nothing more, behind the request of a job.
+    NothingOfJob,
 }
 
 /// What is at fault in a line, and where.
@@ -92,6 +97,7 @@ fn is_good(alloc: Global, slot: Slot, words: &mut Words<'_>) -> Result<bool, All
         Slot::Kind => words.kind().is_ok(),
         Slot::FirstBlock => words.number64().is_ok(),
         Slot::Blocks => words.number32().is_ok(),
+        Slot::Namespace => words.namespace().is_ok(),
         Slot::Bytes => was_read(words.bytes(alloc))?,
         Slot::EntryBytes => was_read(words.sixteen_bytes(alloc))?,
         Slot::Submitter(submitters) => words.number_below(submitters).is_ok(),
@@ -108,6 +114,7 @@ fn fault_of(slot: Slot) -> LineFault {
         | Slot::CompletionSlot
         | Slot::FirstBlock
         | Slot::Blocks
+        | Slot::Namespace
         | Slot::Submitter(_) => LineFault::BadNumber,
     }
 }
@@ -161,41 +168,85 @@ fn words_after(alloc: Global, line: &[u8], at: usize, slots: &[Slot]) -> Result<
     Ok(at)
 }
 
-/// Whether a word is a piece, as the parser reads it.
-pub(crate) fn is_piece(alloc: Global, word: &[u8]) -> Result<bool, AllocError> {
-    match words_of(word) {
-        Ok(mut words) => was_read(pieces(alloc, &mut words)),
-        Err(_) => Ok(false),
-    }
-}
-
-/// Looks at the pieces that follow a place, to the end of the line.
-fn pieces_after(alloc: Global, line: &[u8], at: usize) -> Result<(), FindError>
+/// Looks at the pieces that follow a place, and answers where the last one ends.
+fn pieces_after(line: &[u8], at: usize) -> Result<usize, Found>
     requires { at ≤ length line.now }
-    ensures { IfErr result (IsErrorIn (length line.now)) }
+    ensures next { IfOk result (λ next. next ≤ length line.now) }
+    ensures found { IfErr result (IsIn (length line.now)) }
 {
     let mut at = at;
     'words: for _ in 0..line.len() {
         let Some(place) = word_from(line, at) else {
-            return Ok(());
+            return Ok(at);
         };
-        if !is_piece(alloc, &line[place.start..place.end])? {
-            return Err(FindError::Found(at_fault(LineFault::BadPiece, place, Wanted::Piece)));
+        let word = &line[place.start..place.end];
+        if begins_option(word) {
+            return Ok(at);
+        }
+        if piece(word).is_none() {
+            return Err(at_fault(LineFault::BadPiece, place, Wanted::Piece));
         }
         at = place.end;
     }
-    Ok(())
+    Ok(at)
+}
+
+/// Where a word ends, if it is the one that follows a place.
+fn named_after(line: &[u8], at: usize, name: &str) -> Option<usize>
+    requires { at ≤ length line.now }
+    ensures { IfSome result (λ next. next ≤ length line.now) }
+{
+    let place = word_from(line, at)?;
+    if &line[place.start..place.end] != name.as_bytes() {
+        return None;
+    }
+    Some(place.end)
+}
+
+/// Looks at the namespace that may follow a place, and answers where it ends.
+fn namespace_after(alloc: Global, line: &[u8], at: usize) -> Result<usize, FindError>
+    requires { at ≤ length line.now }
+    ensures next { IfOk result (λ next. next ≤ length line.now) }
+    ensures error { IfErr result (IsErrorIn (length line.now)) }
+{
+    match named_after(line, at, NSID) {
+        Some(next) => word_after(alloc, line, next, Slot::Namespace),
+        None => Ok(at),
+    }
+}
+
+/// Where a flag ends, if it follows a place; else that place.
+fn flag_after(line: &[u8], at: usize, name: &str) -> usize
+    requires { at ≤ length line.now }
+    ensures { result ≤ length line.now }
+{
+    match named_after(line, at, name) {
+        Some(next) => next,
+        None => at,
+    }
 }
 
 /// Sees that no word follows a place.
-fn end_after(line: &[u8], at: usize, verb: Verb) -> Result<(), Found>
+fn end_after(line: &[u8], at: usize, wanted: Wanted) -> Result<(), Found>
     requires { at ≤ length line.now }
     ensures { IfErr result (IsIn (length line.now)) }
 {
     match word_from(line, at) {
-        Some(place) => Err(at_fault(LineFault::ExtraWord, place, Wanted::Nothing(verb))),
+        Some(place) => Err(at_fault(LineFault::ExtraWord, place, wanted)),
         None => Ok(()),
     }
+}
+
+/// Looks at what follows the number of blocks of a request, to the end of the line.
+fn request_after(alloc: Global, line: &[u8], at: usize, wanted: Wanted) -> Result<(), FindError>
+    requires { at ≤ length line.now }
+    ensures { IfErr result (IsErrorIn (length line.now)) }
+{
+    let at = pieces_after(line, at)?;
+    let at = namespace_after(alloc, line, at)?;
+    let at = flag_after(line, at, FUA);
+    let at = flag_after(line, at, LR);
+    Ok(end_after(line, at, wanted)?)
 }
 
 /// Looks at what follows a verb of steps.
@@ -204,10 +255,11 @@ fn step_after(alloc: Global, line: &[u8], at: usize, verb: Verb) -> Result<(), F
     ensures { IfErr result (IsErrorIn (length line.now)) }
 {
     let at = words_after(alloc, line, at, slots_of(verb))?;
+    let wanted = Wanted::Nothing(verb);
     if has_pieces(verb) {
-        pieces_after(alloc, line, at)
+        request_after(alloc, line, at, wanted)
     } else {
-        Ok(end_after(line, at, verb)?)
+        Ok(end_after(line, at, wanted)?)
     }
 }
 
@@ -234,7 +286,7 @@ fn job_after(alloc: Global, line: &[u8], at: usize, submitters: u16) -> Result<(
     if !is_read(line, at) {
         next = word_after(alloc, line, next, Slot::Bytes)?;
     }
-    pieces_after(alloc, line, next)
+    request_after(alloc, line, next, Wanted::NothingOfJob)
 }
 
 /// Where the first byte that is not ASCII stands.

@@ -30,6 +30,8 @@ pub enum Slot {
     FirstBlock,
     /// How many blocks.
     Blocks,
+    /// A namespace.
+    Namespace,
     /// Bytes.
     Bytes,
     /// The 16 bytes of a completion entry.
@@ -94,6 +96,7 @@ impl Slot {
             Slot::Kind => "KIND",
             Slot::FirstBlock => "SLBA",
             Slot::Blocks => "BLOCKS",
+            Slot::Namespace => "N",
             Slot::Bytes | Slot::EntryBytes => "HEX",
             Slot::Submitter(_) => "S",
         }
@@ -108,6 +111,7 @@ impl Slot {
             Slot::Kind => "read, write or compare",
             Slot::FirstBlock => "the first block, 0 to 18446744073709551615",
             Slot::Blocks => "how many blocks, 0 to 4294967295",
+            Slot::Namespace => "a namespace, 1 to 4294967295",
             Slot::Bytes => "bytes, of two hexadecimal digits each",
             Slot::EntryBytes => "16 bytes, of two hexadecimal digits each",
             Slot::Submitter(submitters) => {

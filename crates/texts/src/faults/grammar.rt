@@ -32,6 +32,9 @@ A script of `nvmesgl threads` has one job on each line:
   HEX     bytes, two hexadecimal digits each; zeros stand behind those of a command
   SLOT    a slot of a completion queue
 
+Behind the pieces of `reserve` and `job` may stand, in this order: `nsid N`, the namespace, where it
+is not 1; `fua`, for Force Unit Access; and `lr`, for Limited Retry.
+
 Numbers are decimal. Words are separated by blanks. A line whose first word begins with `#` is a
 comment.
 

@@ -1,10 +1,10 @@
 //! What is wrong with a word, in a sentence.
 
-use crate::faults::finding::{Found, JOB, Wanted, is_piece};
+use crate::faults::finding::{Found, JOB, Wanted};
 use crate::faults::forms::{Grammar, Slot, form_text};
 use crate::faults::layout::Shown;
 use crate::faults::near::nearest;
-use script_cli::{LineFault, VERBS, Verb};
+use script_cli::{LineFault, VERBS, Verb, piece};
 use std::alloc::{AllocError, Global};
 
 /// The kinds of commands.
@@ -12,6 +12,10 @@ const KINDS: [&str; 3] = ["read", "write", "compare"];
 
 /// The words with which the line of a job may begin.
 const JOBS: [&str; 1] = ["job"];
+
+/// What is wrong with a word that follows those of a request.
+const BEHIND_PIECES: &str =
+    "this word is one too many: behind the pieces stand 'nsid N', 'fua' and 'lr', each once and in this order.";
 
 /// The most digits of a number.
 const MAX_DIGITS: usize = 20;
@@ -63,6 +67,8 @@ fn put_bad_number(out: &mut String, word: &[u8], slot: Slot) -> Result<(), Alloc
         write!(out, "'{shown}' is no decimal number: {name} is ")?;
     } else if word.len() > MAX_DIGITS {
         return write!(out, "'{shown}' has more than {MAX_DIGITS} digits.");
+    } else if word.iter().all(|byte| *byte == b'0') {
+        write!(out, "{shown} is too small: {name} is ")?;
     } else {
         write!(out, "{shown} is too large: {name} is ")?;
     }
@@ -104,7 +110,7 @@ fn put_bad_word(
     slot: Slot,
 ) -> Result<(), AllocError> {
     match slot {
-        Slot::Bytes if grammar != Grammar::Steps && is_piece(alloc, word)? => {
+        Slot::Bytes if grammar != Grammar::Steps && piece(word).is_some() => {
             let shown = Shown(word);
             write!(
                 out,
@@ -136,6 +142,9 @@ fn put_extra(out: &mut String, alloc: Global, word: &[u8], verb: Verb) -> Result
     }
     if verb == Verb::Fill {
         return out.push_str("this word is one too many: HEX is one word, without blanks.");
+    }
+    if verb == Verb::Reserve {
+        return out.push_str(BEHIND_PIECES);
     }
     let form = form_text(alloc, verb)?;
     write!(out, "this word is one too many: the form is '{form}'.")
@@ -184,5 +193,6 @@ pub(crate) fn put_sentence(
             )
         }
         Wanted::Nothing(verb) => put_extra(out, alloc, word, verb),
+        Wanted::NothingOfJob => out.push_str(BEHIND_PIECES),
     }
 }

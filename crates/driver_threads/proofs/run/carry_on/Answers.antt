@@ -1,6 +1,6 @@
 -- The ends of a round are told as lists of ends, which are as long as the lists that hold them.
 use Rattle.std.{proofs.{Common.{ap, length, map, subst, sym, ◌∙◌}, lemmas.Simd.map-map}, specs.Bool.OnTrue}
-use Rattle.driver_book.specs.{Entries.LogContents, History.LeadsTo, State.{AreOfJobs, SeatContents}}
+use Rattle.driver_book.specs.{Entries.LogContents, History.{LeadsBy, LeadsTo}, State.{AreOfJobs, SeatContents}}
 use Rattle.driver_threads.specs.Ends.{ends_of, statuses_of}
 use Rattle.machine_model.specs.State.{State}
 use Rattle.driver_threads.proofs.run.carry_on.Goals as goal
@@ -23,6 +23,7 @@ returns-in-Ok-clause-ended g c = record {
     of = record {
       opens = c.in-Ok.ensures.opening;
       legal = subst (λ (opening : State). LeadsTo opening c.args.book.log c.args.book.world) c.in-Ok.ensures.opening c.in-Ok.ensures.legal;
+      submitted = subst (λ (opening : State). LeadsBy opening c.args.book.log c.args.book.drafts c.args.book.world) c.check.ensures.opening c.check.ensures.submitted;
       sound = c.in-Ok.ensures.sound;
     };
     stand = c.in-Ok.ensures.stand;

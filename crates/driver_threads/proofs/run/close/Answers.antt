@@ -1,6 +1,6 @@
 -- The ends of a run are told as lists of ends, which are as long as the lists that hold them.
 use Rattle.std.proofs.{Common.{ap, length, map, subst, ◌∙◌}, lemmas.Simd.map-map}
-use Rattle.driver_book.specs.{History.LeadsTo, State.SeatContents}
+use Rattle.driver_book.specs.{History.{LeadsBy, LeadsTo}, State.SeatContents}
 use Rattle.driver_threads.specs.Ends.{ends_of, statuses_of}
 use Rattle.machine_model.specs.State.{State}
 use Rattle.driver_threads.proofs.run.close.Goals as goal
@@ -23,6 +23,7 @@ returns-in-Ok-clause-closed g c = record {
     of = record {
       opens = c.in-Ok.ensures.opening;
       legal = subst (λ (opening : State). LeadsTo opening c.args.book.log c.args.book.world) c.in-Ok.ensures.opening c.in-Ok.ensures.legal;
+      submitted = subst (λ (opening : State). LeadsBy opening c.args.book.log c.args.book.drafts c.args.book.world) c.check.ensures.opening c.check.ensures.submitted;
       sound = c.in-Ok.ensures.sound;
     };
     stand = c.in-Ok.ensures.stand;

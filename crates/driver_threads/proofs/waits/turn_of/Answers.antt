@@ -1,6 +1,6 @@
 -- The book that was looked at refuses the request.
 use Rattle.std.proofs.Common.{◌-◌, ℕ, ap, length, subst, ◌∙◌}
-use Rattle.driver_book.specs.History.{LeadsTo}
+use Rattle.driver_book.specs.History.{LeadsBy, LeadsTo}
 use Rattle.machine_model.specs.State.{State}
 use Rattle.page_ledger.specs.declared.owner.Counts.{Counts}
 use Rattle.driver_threads.proofs.waits.turn_of.Goals as goal
@@ -16,6 +16,7 @@ returns-else-need-pool g c =
                 record {
                   opens = c.check.ensures.opening;
                   legal = subst (λ (opening : State). LeadsTo opening book.log book.world) c.check.ensures.opening c.check.ensures.legal;
+                  submitted = subst (λ (opening : State). LeadsBy opening book.log book.drafts book.world) c.check.ensures.opening c.check.ensures.submitted;
                   sound = c.check.ensures.sound;
                 };
             refuses =

@@ -3,7 +3,10 @@ use Rattle.std.proofs.Common.{true}
 use Rattle.job_cli.proofs.rounds.one_round.Given as goal
 
 abbrev pub ghosts-run_round-L-Ledger : goal.ghosts-run_round-L-Ledger
-ghosts-run_round-L-Ledger g a = record { name = a.blank.name; parts = a.blank.parts }
+ghosts-run_round-L-Ledger g a = record { name = a.blank.ledger.name; parts = a.blank.ledger.parts }
+
+abbrev pub ghosts-run_round-L-Naming : goal.ghosts-run_round-L-Naming
+ghosts-run_round-L-Naming g a = record { list = a.blank.drafts.name }
 
 abbrev pub ghosts-run_round-L-LogBrand : goal.ghosts-run_round-L-LogBrand
 ghosts-run_round-L-LogBrand g a = record { opening = a.world.state; jobs_alone = true }

@@ -95,7 +95,7 @@ returns-clause-done g c =
 
 pub returns-clause-report : goal.returns-clause-report
 returns-clause-report g c = record {
-  submissions = c.self.invariant.numbered ∙ ap (λ (b : BookContents). accepted b.log) c.self.view_is;
+  submissions = c.len-3.ensures ∙ c.self.invariant.numbered ∙ ap (λ (b : BookContents). accepted b.log) c.self.view_is;
   counts = c.counts.ensures.counts ∙ ap (λ (b : BookContents). counts_of b.world.host) c.self.view_is;
   receipts = c.of.ensures ∙ c.take_in.ensures.lists;
 }

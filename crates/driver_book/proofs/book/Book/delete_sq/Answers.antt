@@ -8,4 +8,4 @@ pub invariant_of-self-2 : goal.invariant_of-self-2
 invariant_of-self-2 g c = keeps_book None (events.DeleteSq c.args.q) (send_reply c.delete_sq-answer.result) c.self.invariant c.delete_sq-answer.ensures.step (takes_any _ (events.DeleteSq c.args.q) (g.met.L.FullLogBrand.takes_all)) refl (rw (c.note.ensures, c.make_room.ensures.same, c.sent.ensures) refl)
 
 pub returns-clause-step : goal.returns-clause-step
-returns-clause-step g c = does_in c.self.view_is _ _ _ _ None (events.DeleteSq c.args.q) (send_reply c.delete_sq-answer.result) c.delete_sq-answer.ensures.step (rw (c.note.ensures, c.make_room.ensures.same, c.sent.ensures) refl)
+returns-clause-step g c = does_in c.self.view_is _ _ _ _ None (events.DeleteSq c.args.q) (send_reply c.delete_sq-answer.result) c.delete_sq-answer.ensures.step refl (rw (c.note.ensures, c.make_room.ensures.same, c.sent.ensures) refl)

@@ -8,4 +8,4 @@ pub invariant_of-self-2 : goal.invariant_of-self-2
 invariant_of-self-2 g c = keeps_book None (events.Forge c.args.q c.args.slot c.args.bytes) (ring_reply c.forge-answer.result) c.self.invariant c.forge-answer.ensures.step (takes_any _ (events.Forge c.args.q c.args.slot c.args.bytes) (g.met.L.FullLogBrand.takes_all)) refl (rw (c.note.ensures, c.make_room.ensures.same, c.done.ensures) refl)
 
 pub returns-clause-step : goal.returns-clause-step
-returns-clause-step g c = does_in c.self.view_is _ _ _ _ None (events.Forge c.args.q c.args.slot c.args.bytes) (ring_reply c.forge-answer.result) c.forge-answer.ensures.step (rw (c.note.ensures, c.make_room.ensures.same, c.done.ensures) refl)
+returns-clause-step g c = does_in c.self.view_is _ _ _ _ None (events.Forge c.args.q c.args.slot c.args.bytes) (ring_reply c.forge-answer.result) c.forge-answer.ensures.step refl (rw (c.note.ensures, c.make_room.ensures.same, c.done.ensures) refl)

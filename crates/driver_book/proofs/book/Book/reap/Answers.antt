@@ -8,4 +8,4 @@ pub invariant_of-self-2 : goal.invariant_of-self-2
 invariant_of-self-2 g c = keeps_jobs None (events.Reap c.args.q) (reap_reply c.reap-answer.result) c.self.invariant c.reap-answer.ensures.step refl refl (rw (c.note.ensures, c.make_room.ensures.same, c.reaped.ensures) refl)
 
 pub returns-clause-step : goal.returns-clause-step
-returns-clause-step g c = does_in c.self.view_is _ _ _ _ None (events.Reap c.args.q) (reap_reply c.reap-answer.result) c.reap-answer.ensures.step (rw (c.note.ensures, c.make_room.ensures.same, c.reaped.ensures) refl)
+returns-clause-step g c = does_in c.self.view_is _ _ _ _ None (events.Reap c.args.q) (reap_reply c.reap-answer.result) c.reap-answer.ensures.step refl (rw (c.note.ensures, c.make_room.ensures.same, c.reaped.ensures) refl)

@@ -14,7 +14,7 @@ invariant_of-self-2 g c =
 pub returns-clause-step : goal.returns-clause-step
 returns-clause-step g c =
     rw (← c.seat.view_is)
-    (does_in c.self.view_is _ _ _ _ (Some c.seat.inside.number) (events.Release c.args.finished) (accept_reply c.release-answer.result) c.release-answer.ensures.step
+    (does_in c.self.view_is _ _ _ _ (Some c.seat.inside.number) (events.Release c.args.finished) (accept_reply c.release-answer.result) c.release-answer.ensures.step refl
     (rw (c.note.ensures, c.make_room.ensures.same, c.q-q.ensures, c.cid-cid.ensures, c.ended.ensures) refl))
 
 pub returns-clause-memory : goal.returns-clause-memory

@@ -18,7 +18,7 @@ invariant_of-self-2 g c =
 
 pub returns-clause-step : goal.returns-clause-step
 returns-clause-step g c =
-    does_in c.self.view_is _ _ _ _ None (events.Reserve c.args.q c.args.request) (reserve_reply c.reserve-answer.result) c.reserve-answer.ensures.step
+    does_in c.self.view_is _ _ _ _ None (events.Reserve c.args.q c.args.request) (reserve_reply c.reserve-answer.result) c.reserve-answer.ensures.step refl
     (reservation_written c.self.inside.world.state c.reserve-answer.new.self.state c.args.q c.args.request c.reserve-answer.result c.self.inside.log.entries c.make_room.new.self.entries c.note_reservation.new.log.entries c.reserve-answer.ensures.step c.reserve-answer.ensures.back c.make_room.ensures.same c.note_reservation.ensures.draft c.note_reservation.ensures.request)
 
 pub returns-clause-memory : goal.returns-clause-memory

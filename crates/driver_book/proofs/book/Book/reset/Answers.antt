@@ -7,4 +7,4 @@ pub invariant_of-self-2 : goal.invariant_of-self-2
 invariant_of-self-2 g c = keeps_book None events.Reset events.Accepted c.self.invariant c.reset.ensures.step (takes_any _ events.Reset (g.met.L.FullLogBrand.takes_all)) refl (rw (c.note.ensures, c.make_room.ensures.same) refl)
 
 pub returns-clause-step : goal.returns-clause-step
-returns-clause-step g c = does_in c.self.view_is _ _ _ _ None events.Reset events.Accepted c.reset.ensures.step (rw (c.note.ensures, c.make_room.ensures.same) refl)
+returns-clause-step g c = does_in c.self.view_is _ _ _ _ None events.Reset events.Accepted c.reset.ensures.step refl (rw (c.note.ensures, c.make_room.ensures.same) refl)

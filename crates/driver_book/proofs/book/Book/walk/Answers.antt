@@ -8,7 +8,7 @@ pub invariant_of-self-2 : goal.invariant_of-self-2
 invariant_of-self-2 g c = keeps_jobs None (events.Walk c.args.q c.args.cid) (walk_reply c.walk-answer.result) c.self.invariant c.walk-answer.ensures.step refl refl (rw (c.note.ensures, c.make_room.ensures.same, c.walked.ensures) refl)
 
 pub returns-clause-step : goal.returns-clause-step
-returns-clause-step g c = does_in c.self.view_is _ _ _ _ None (events.Walk c.args.q c.args.cid) (walk_reply c.walk-answer.result) c.walk-answer.ensures.step (rw (c.note.ensures, c.make_room.ensures.same, c.walked.ensures) refl)
+returns-clause-step g c = does_in c.self.view_is _ _ _ _ None (events.Walk c.args.q c.args.cid) (walk_reply c.walk-answer.result) c.walk-answer.ensures.step refl (rw (c.note.ensures, c.make_room.ensures.same, c.walked.ensures) refl)
 
 pub returns-clause-touches : goal.returns-clause-touches
 returns-clause-touches g c = touches_in c.self.view_is (events.Walk c.args.q c.args.cid) (walk_reply c.walk-answer.result) c.walk-answer.ensures.touches

@@ -25,5 +25,5 @@ pub returns-in_err-ticket-clause-carries_refused : goal.returns-in_err-ticket-cl
 returns-in_err-ticket-clause-carries_refused g c =
     let flight = c.reserve.new.self in
     passed_on c.from_residual-in_err-ticket.result _ c.in_err-ticket.field-0.0 c.from_residual-in_err-ticket.ensures.1
-    (λ refuses jobs carries. carries_same g.D.Data.bytes g.D.Data.keeps g.L.LogBrand.opening flight.seat c.submitted.new.seat flight.ends.items flight.flying.items jobs (c.in_err-ticket.ensures.refused refuses) c.in_err-ticket.ensures.seat
+    (λ refuses jobs carries. carries_same g.D.Data.bytes g.D.Data.keeps g.L.LogBrand.opening flight.seat c.submitted.new.seat flight.ends.items flight.flying.items jobs (c.in_err-ticket.ensures.refused refuses) c.in_err-ticket.ensures.seat (c.in_err-ticket.ensures.known refuses)
     (c.in_ok-draft.ensures.carries jobs carries))

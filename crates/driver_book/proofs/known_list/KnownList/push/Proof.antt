@@ -1,0 +1,48 @@
+-- `push` lengthens the list by what it is lent.
+use Rattle.std.proofs.Common.{List, [], ◌∷◌, ◌++◌, refl}
+use mir.Syntax.{a_type, dcons, dnil, named}
+use mir.Val.{Val, vunit, vptr}
+use mir.MapTy.{inst_fn}
+use base.Logic.{SProp, emp}
+use base.Fml.{Fml, ftrue, fsep, flft}
+use types.Kit.{‵, raw, ◌⊛◌, later, ◌$◌, ◌∵◌, !, qed, by, move, keep, split, fsplit, fsplit3, fjoin, fjoin3, use1, await, feq_i}
+use types.Run.{unit_lit, of_opd, returns, enter}
+use types.ByLocal.{alloc_all, pass_all, free_all, look_at, sets}
+use contract.Monad.{fact_i}
+use contract.Running.{tables}
+use denote.Exit.{yes}
+use denote.RattleType.{RattleType, owns}
+use denote.Signature.{types_at, plain}
+use denote.Builtin.{RefOf}
+use denote.Ref.{mut_vals, mut_Tells, shr_vals, shr_Tells}
+use denote.Steps.{nothing, opens, closes}
+use denote.Param.{param, bounded}
+use denote.Triple.Walked.{Stays, stay_dropped, stay_ref, walk_of, Goes-dropped, Goes-ref}
+use Rattle.atomic_table.proofs.Walks.{proved}
+use Rattle.logbook.proofs.Fields.{ends}
+use Rattle.driver_book.specs.KnownLists.{grows}
+use Rattle.driver_book.proofs.Growth as steps
+use Rattle.driver_book.specs.contracts.known_list.KnownList as KnownList
+use Rattle.driver_book.specs.contracts.known_list.KnownList.push.{ended, clauses}
+use Rattle.driver_book.specs.contracts.known_list.KnownList.push.Key.{name as #self}
+use Rattle.driver_book.proofs.known_list.KnownList.push.Statement.{statement}
+use Rattle.driver_book.proofs.known_list.KnownList.push.Code as code
+
+pub push_spec : {M : Type 1} → statement M
+push_spec 𝓤 𝓛 𝓜 𝓡 wired E N _ _ g d _ =
+    let H = 𝓛.H in let 𝓣 = tables 𝓤 H 𝓜 𝓡 𝓡.env in let E' : RattleType = param 0 E in let N' : RattleType = param 1 N in let En = ended E N g d in
+    let inst = bounded (a_type ∷ a_type ∷ []) (E, (N, tt)) (dcons d dnil) in let fn = inst_fn inst code.function in let c = clauses E N g d 𝓛 𝓜.mem 𝓡.returns in
+    let cv = E'.coded in let L : RattleType = KnownList.the_row E' N' g in
+    let hs : Stays En.signature.params En.kept = (stay_ref (0 ∷ []) tt (plain (λ _. L)), (stay_dropped (RefOf (1 ∷ []) tt (plain (λ _. E')) (λ _. tt)) yes, tt)) in
+    proved 𝓛 En hs c 𝓜 𝓡 (Goes-ref 𝓛 4 0 tt (plain (λ _. L)), (Goes-dropped 𝓛 4 (RefOf (1 ∷ []) tt (plain (λ _. E')) (λ _. tt)) yes (λ κs x f. refl), tt)) (#self inst) fn (code.unfolded 𝓤 H 𝓜 𝓡 wired (E, (N, tt)) d)
+    (λ κs. (mut_vals, (shr_vals, tt))) (λ κs. (mut_Tells (named 0) κs.0 L, (shr_Tells (named 1) κs.1.0 E', tt))) (λ κs qs bounds a gh are.
+    let me = a.0.now in let entry = a.1.0.now in let new : L.Denot = record { marker = record {}; entries = me.entries ++ entry ∷ [] } in let u : Val = vptr a.0.ref_ptr.0 a.0.ref_ptr.1 in let v : Val = vptr a.1.0.ref_ptr.0 a.1.0.ref_ptr.1 in
+    let y : (walk_of 𝓛 En hs c).Ghost = ((κs, qs, bounds, a, (u ∷ [], (v ∷ [], tt))), gh) in let Post : Val → SProp 𝓤 = (walk_of 𝓛 En hs c).post y in
+    let toks : Fml = fsep (flft κs.0 qs.0) (fsep (flft κs.1.0 qs.1.0) (fsep (flft κs.1.1.0 qs.1.1.0) (fsep (flft κs.1.1.1.0 qs.1.1.1.0) ftrue))) in
+    qed 𝓛 ((‵ toks ⊛ ‵ (owns (types_at En.signature.params κs) a y.0.4)) ∷ raw ((c κs a).requires gh) ∷ []) ∵ keep ! (0 ∷ []) $ split ! $
+    fsplit ! $ move ! (1 ∷ []) $ fsplit ! $ move ! (3 ∷ []) $ fsplit ! $ fsplit3 ! $ keep ! (1 ∷ 2 ∷ 6 ∷ 4 ∷ 5 ∷ []) $
+    enter ! 𝓣.C 𝓣.Λ fn (u ∷ v ∷ []) Post $ alloc_all ! (λ l. pass_all ! refl ((tt, tt), ((tt, tt), tt)) $ opens ! tt L a.0.ref_ptr.0 a.0.ref_ptr.1 (λ vs. move ! (1 ∷ []) $ fsplit ! $ move ! (1 ∷ []) $
+    use1 𝓛 (later (‵ (grows cv.code g.list new.entries))) (steps.pushes cv 𝓛 g.list me.entries entry) $ await ! tt $ move ! (1 ∷ 0 ∷ []) $ fjoin ! $ move ! (1 ∷ 0 ∷ 2 ∷ 3 ∷ 4 ∷ []) $ closes ! tt L new vs a.0.ref_ptr.0 a.0.ref_ptr.1 $
+    sets ! (of_opd ! (unit_lit !)) refl (tt, tt) $ feq_i ! (List Val) (vunit ∷ []) (vunit ∷ []) refl $
+    move ! (4 ∷ 5 ∷ []) $ fjoin ! $ move ! (4 ∷ 0 ∷ []) $ fjoin ! $ nothing ! $ nothing ! $ fjoin ! $ feq_i ! (List Val) (u ∷ []) (u ∷ []) refl $ move ! (0 ∷ 4 ∷ 5 ∷ []) $ fjoin3 ! $ fjoin ! $
+    returns ! (look_at ! 0 refl) $ free_all ! refl $ keep ! (1 ∷ 0 ∷ 2 ∷ []) $ by ! (ends 𝓛 En hs c y vunit tt (new, (tt, tt)) (tt, (tt, tt)) (fact_i 𝓤 _ (emp 𝓤) refl)))))
